@@ -1,0 +1,103 @@
+-- Texts put together: one behind another, one moved by a multiple of eight, one behind a gap.
+use Rattle.std.proofs.Common.{◌≡◌, ◌+◌, ◌%◌, ◌⊎◌, ◌++◌, ℕ, Bool, IsTrue, Option, List, [], ◌∷◌, length, inl, inr, refl, sym, ap, subst, ◌∙◌, arith, ⊎_elim, append_assoc}
+use Rattle.std.proofs.lemmas.List.{append-nil}
+use Rattle.dspec_record.specs.Record.{Record}
+use Rattle.dspec_record.specs.declared.field.Shape.{Shape}
+use Rattle.dspec_buffer.specs.Extent.{align_of}
+use Rattle.dspec_buffer.specs.BufferText.{IsGap, BufferText}
+use Rattle.dspec_buffer.proofs.SchemaLaws.{SchemaLaws}
+use Rattle.dspec_buffer.proofs.Texts.{text_facts}
+use Rattle.dspec_buffer.proofs.Nexts.{next_long}
+
+multiple : (o k g a : ℕ) → (a ≡ 4) ⊎ (a ≡ 8) → k % 8 ≡ 0 → (o + g) % a ≡ 0 → (k + o + g) % a ≡ 0
+multiple o k g a (inl e) h m =
+    let m' : (o + g) % 4 ≡ 0 = subst (λ b. (o + g) % b ≡ 0) e m in
+    let done : (k + o + g) % 4 ≡ 0 = omega arith in
+    subst (λ b. (k + o + g) % b ≡ 0) (sym e) done
+multiple o k g a (inr e) h m =
+    let m' : (o + g) % 8 ≡ 0 = subst (λ b. (o + g) % b ≡ 0) e m in
+    let done : (k + o + g) % 8 ≡ 0 = omega arith in
+    subst (λ b. (k + o + g) % b ≡ 0) (sym e) done
+
+moved_gap : (o k : ℕ) (g : List ℕ) → k % 8 ≡ 0 → IsGap o g → IsGap (k + o) g
+moved_gap o k g h i = ⊎_elim inl (λ p. inr (p.0, let q : o % 8 ≡ 4 = p.1 in omega arith)) i
+
+module _ (shape : ℕ → Option Shape) (accepted : Record → Bool) (text : Record → List ℕ) (laws : SchemaLaws shape accepted text) where
+  -- one text behind another
+  pub glued : (o : ℕ) (x y : List ℕ) (rs qs : List Record) → BufferText shape accepted text o x rs → BufferText shape accepted text (o + length x) y qs → BufferText shape accepted text o (x ++ y) (rs ++ qs)
+  glued o x y [] qs h k =
+      let n : o + length x ≡ o = let l : length x ≡ 0 = ap length h in omega arith in
+      subst (λ z. BufferText shape accepted text o z qs) (sym (ap (λ z. z ++ y) h)) (subst (λ m. BufferText shape accepted text m y qs) n k)
+  glued o x y (r ∷ rs) qs (g, (rest, (s, h))) k =
+      let e : x ++ y ≡ g ++ (text r ++ (rest ++ y)) =
+      ap (λ z. z ++ y) s.bytes_are ∙ append_assoc g (text r ++ rest) y ∙ ap (λ z. g ++ z) (append_assoc (text r) rest y) in
+      let l = next_long shape accepted text laws o x g r rest s in
+      let n : o + length x ≡ o + length g + length (text r) + length rest = omega arith in
+      (g, (rest ++ y, (record { is_accepted = s.is_accepted; is_gap = s.is_gap; aligned = s.aligned; bytes_are = e }, glued (o + length g + length (text r)) rest y rs qs h (subst (λ m. BufferText shape accepted text m y qs) n k))))
+
+  -- a text moved by a multiple of eight is the text of the same records
+  pub moved : (k o : ℕ) (x : List ℕ) (rs : List Record) → k % 8 ≡ 0 → BufferText shape accepted text o x rs → BufferText shape accepted text (k + o) x rs
+  moved k o x [] m h = h
+  moved k o x (r ∷ rs) m (g, (rest, (s, h))) =
+      let t = text_facts shape accepted text laws r s.is_accepted in
+      let n : k + (o + length g + length (text r)) ≡ k + o + length g + length (text r) = omega arith in (
+        g,
+        (
+          rest,
+          (
+            record {
+              is_accepted = s.is_accepted;
+              is_gap = moved_gap o k g m s.is_gap;
+              aligned = multiple o k (length g) (align_of shape r) t.aligned m s.aligned;
+              bytes_are = s.bytes_are;
+            },
+            subst (λ m. BufferText shape accepted text m rest rs) n (moved k (o + length g + length (text r)) rest rs m h),
+          ),
+        ),
+      )
+
+  -- a text of some records may stand behind a gap
+  pub behind_gap : (o : ℕ) (gap x : List ℕ) (r : Record) (rs : List Record) → IsGap o gap → BufferText shape accepted text (o + length gap) x (r ∷ rs) → BufferText shape accepted text o (gap ++ x) (r ∷ rs)
+  behind_gap o gap x r rs (inl e) h =
+      let n : o + length gap ≡ o = let l : length gap ≡ 0 = ap length e in omega arith in
+      subst (λ z. BufferText shape accepted text o z (r ∷ rs)) (sym (ap (λ z. z ++ x) e)) (subst (λ m. BufferText shape accepted text m x (r ∷ rs)) n h)
+  behind_gap o gap x r rs (inr e) (g, (rest, (s, h))) =
+      let l : length gap ≡ 4 = ap length e.0 in
+      let at : o % 8 ≡ 4 = e.1 in
+      let none : g ≡ [] = ⊎_elim (λ p. p) (λ p. let q : (o + length gap) % 8 ≡ 4 = p.1 in absurd (omega arith)) s.is_gap in
+      let ng : length g ≡ 0 = ap length none in
+      let n : o + length gap + length g ≡ o + length gap = omega arith in
+      let bytes : gap ++ x ≡ gap ++ (text r ++ rest) = ap (λ z. gap ++ z) (s.bytes_are ∙ ap (λ z. z ++ (text r ++ rest)) none) in (
+        gap,
+        (
+          rest,
+          (
+            record {
+              is_accepted = s.is_accepted;
+              is_gap = inr e;
+              aligned = subst (λ m. m % align_of shape r ≡ 0) n s.aligned;
+              bytes_are = bytes;
+            },
+            subst (λ m. BufferText shape accepted text (m + length (text r)) rest rs) n h,
+          ),
+        ),
+      )
+
+  -- the text of one record, at a multiple of its alignment
+  pub alone : (o : ℕ) (r : Record) → IsTrue (accepted r) → o % align_of shape r ≡ 0 → BufferText shape accepted text o (text r) (r ∷ [])
+  alone o r h m =
+      let n : o ≡ o + 0 = omega arith in (
+        [],
+        (
+          [],
+          (
+            record {
+              is_accepted = h;
+              is_gap = inl refl;
+              aligned = subst (λ k. k % align_of shape r ≡ 0) n m;
+              bytes_are = sym (append-nil (text r));
+            },
+            refl,
+          ),
+        ),
+      )

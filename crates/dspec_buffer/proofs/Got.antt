@@ -1,0 +1,54 @@
+-- What a schema reads at the front of bytes, as a reader at some place answers it.
+use Rattle.std.proofs.Common.{◌≡◌, ◌≢◌, ◌+◌, ◌-◌, ◌%◌, ◌<◌, ◌++◌, ℕ, Bool, Option, Some, None, Err, List, length, drop, inl, inr, sym, ap, subst, ◌∙◌, arith, ⊎_elim, length-append, length-drop}
+use Rattle.std.proofs.lemmas.Bool.Decides.{eqb_tells}
+use Rattle.std.proofs.lemmas.List.{take-append-drop, drop-drop}
+use Rattle.dspec_record.specs.Record.{Record}
+use Rattle.dspec_record.specs.Reading.{front_epid, NamesShape, BeginsWith, Answers}
+use Rattle.dspec_record.specs.declared.field.Shape.{Shape}
+use Rattle.dspec_record.specs.declared.reading.ReadKind.{ReadKind}
+use Rattle.dspec_record.specs.declared.reading.ReadKind.TheVariants.{Truncated, UnknownEpid, Misaligned, GapNotZero, Padding}
+use Rattle.dspec_buffer.specs.Faults.{FaultHere}
+use Rattle.dspec_buffer.specs.ReadingOn.{NoGapAt, StandsHere}
+use Rattle.dspec_buffer.proofs.SchemaLaws.{SchemaLaws}
+use Rattle.dspec_buffer.proofs.Texts.{text_facts}
+
+module _ (shape : ℕ → Option Shape) (accepted : Record → Bool) (text : Record → List ℕ) (laws : SchemaLaws shape accepted text) where
+  -- an alignment is never 0
+  pub align_positive : (e : ℕ) (h : Shape) → shape e ≡ Some h → 0 < h.align
+  align_positive e h k =
+      ⊎_elim (λ p. let q : h.align ≡ 4 = p in omega arith) (λ p. let q : h.align ≡ 8 = p in omega arith) (laws.shapes_fit e h k).aligned
+
+  -- an EPID that has a shape isn't 0
+  pub shape_named : (e : ℕ) (h : Shape) → shape e ≡ Some h → e ≢ 0
+  shape_named e h k z = let n : shape e ≡ None = ap shape z ∙ laws.zero_has_none in cc
+
+  -- where nothing is misaligned, an EPID that has a shape stands at a multiple of its alignment
+  named_aligned : (at : ℕ) (left : List ℕ) (h : Shape) → ¬ FaultHere shape accepted text Misaligned at left → NamesShape shape left h → at % h.align ≡ 0
+  named_aligned at left h fine n = ⊎_elim (λ p. p.1) (λ p. absurd (fine (h, (n, p.1)))) (eqb_tells (at % h.align) 0)
+
+  pub got_record : (b : List ℕ) (at : ℕ) (r : Record) (n : ℕ) → at < length b → ¬ FaultHere shape accepted text Misaligned at (drop at b) → BeginsWith accepted text (drop at b) r n → StandsHere shape accepted text b at r (at + n)
+  got_record b at r n in' fine h =
+      let t = text_facts shape accepted text laws r h.is_accepted in
+      let bytes : drop at b ≡ text r ++ drop n (drop at b) = sym (take-append-drop n (drop at b)) ∙ ap (λ z. z ++ drop n (drop at b)) h.front in
+      let long : length (drop at b) ≡ length (text r) + length (drop n (drop at b)) = ap length bytes ∙ length-append (text r) (drop n (drop at b)) in
+      let l : length (drop at b) ≡ length b - at = length-drop at b in
+      let size = h.size in
+      let least = t.least in
+      let e : front_epid (drop at b) ≡ r.epid = ap front_epid bytes ∙ t.epid (drop n (drop at b)) in
+      let names : NamesShape shape (drop at b) t.shape_is =
+      record { four = omega arith; epid = λ z. t.named (sym e ∙ z); has_shape = ap shape e ∙ t.has_shape } in
+      record {
+        is_accepted = h.is_accepted;
+        aligned = subst (λ m. at % m ≡ 0) t.shape_align (named_aligned at (drop at b) t.shape_is fine names);
+        bytes_are = bytes ∙ ap (λ z. text r ++ z) (drop-drop n at b);
+        next_is = ap (λ m. at + m) h.size;
+        within = omega arith;
+      }
+
+  pub got_fault : (k : ReadKind) (at : ℕ) (left : List ℕ) → 0 < length left → NoGapAt at left → ¬ FaultHere shape accepted text Misaligned at left → Answers shape accepted text left (Err k) → FaultHere shape accepted text k at left
+  got_fault Truncated at left in' gap fine (inl f) = inl (in', f)
+  got_fault Truncated at left in' gap fine (inr f) = inr (f.0, ((f.1, named_aligned at left f.0 fine f.1), f.2))
+  got_fault Padding at left in' gap fine f = (f.0, f.1, gap f.0 f.1)
+  got_fault UnknownEpid at left in' gap fine f = f
+  got_fault Misaligned at left in' gap fine f = absurd f
+  got_fault GapNotZero at left in' gap fine f = (f.0, ((f.1, named_aligned at left f.0 fine f.1), f.2))

@@ -1,0 +1,11 @@
+-- The laws of a schema, as lemmas over plain functions take them.
+use Rattle.std.specs.Prelude.{◌≡◌, ◌++◌, ℕ, Bool, IsTrue, List, Option, Some, None}
+use Rattle.dspec_record.specs.Record.{Record}
+use Rattle.dspec_record.specs.Reading.{IsShape, IsTextOf}
+use Rattle.dspec_record.specs.declared.field.Shape.{Shape}
+
+pub record SchemaLaws (shape : ℕ → Option Shape) (accepted : Record → Bool) (text : Record → List ℕ) : Type 0 where
+  pub zero_has_none : shape 0 ≡ None
+  pub shapes_fit : (e : ℕ) (h : Shape) → shape e ≡ Some h → IsShape h
+  pub texts_fit : (r : Record) → IsTrue (accepted r) → IsTextOf shape r (text r)
+  pub texts_differ : (q r : Record) (x y : List ℕ) → IsTrue (accepted q) → IsTrue (accepted r) → text q ++ x ≡ text r ++ y → q ≡ r

@@ -1,0 +1,16 @@
+use Rattle.std.proofs.Common.{ap, arith}
+use Rattle.dspec_buffer.proofs.SchemaLaws.{SchemaLaws}
+use Rattle.dspec_buffer.proofs.Keeping.{offset_is}
+use Rattle.dspec_buffer.proofs.byte_buffer.ByteBufferTraceBuffer.offset.Goals as goal
+
+pub returns-clause-extent : goal.returns-clause-extent
+returns-clause-extent g c = λ s ps h.
+    let laws : SchemaLaws (g.S.Schema.shape_of s) (g.S.Schema.accepted s) (g.S.Schema.text s) = record {
+      zero_has_none = g.met.S.Schema.zero_has_none s;
+      shapes_fit = g.met.S.Schema.shapes_fit s;
+      texts_fit = g.met.S.Schema.texts_fit s;
+      texts_differ = g.met.S.Schema.texts_differ s;
+    } in
+    let within = c.self.invariant.within in
+    let long = c.self.inside.bytes.ok.0 in
+    offset_is (g.S.Schema.shape_of s) (g.S.Schema.accepted s) (g.S.Schema.text s) laws c.args.self.now c.self.inside.offset c.self.inside.bytes.items ps (ap (λ b. b.text) c.self.view_is) (omega arith) h

@@ -1,0 +1,97 @@
+use Rattle.std.proofs.Common.{◌≡◌, Some, true, false, ap, sym, ◌∙◌, arith, length, take, replicate, ◌++◌, ◌-◌}
+use Rattle.dspec_buffer.specs.Extent.{one, extent, padded, piece_align}
+use Rattle.dspec_buffer.proofs.SchemaLaws.{SchemaLaws}
+use Rattle.dspec_buffer.proofs.Texts.{text_facts}
+use Rattle.dspec_buffer.proofs.Fitting.{refuses, admits, placed, laid_back}
+use Rattle.dspec_buffer.proofs.Keeping.{offset_is, fits_says, shape_says, kept, accepted_alone}
+use Rattle.dspec_buffer.proofs.byte_buffer.ByteBufferTraceBuffer.push.Goals as goal
+
+pub place_for-requires-clause-aligned : goal.place_for-requires-clause-aligned
+place_for-requires-clause-aligned g c =
+    let s = c.args.schema.now in
+    (g.met.S.Schema.shapes_fit s c.epid.result c.unwrap-shape.result (sym c.shape.ensures ∙ c.unwrap-shape.ensures)).aligned
+
+pub pad-requires-clause-gap : goal.pad-requires-clause-gap
+pad-requires-clause-gap g c =
+    let s = c.args.schema.now in
+    let fit = g.met.S.Schema.shapes_fit s c.epid.result c.unwrap-shape.result (sym c.shape.ensures ∙ c.unwrap-shape.ensures) in
+    let with_epid = fit.with_epid in
+    (placed c.self.inside.offset c.unwrap-shape.result.align c.unwrap-shape.result.size c.in-Some.place c.self.invariant.words fit.aligned fit.whole_words (λ z. omega arith) c.in-Some.ensures.0).step
+
+pub returns-in_default-clause-answer : goal.returns-in_default-clause-answer
+returns-in_default-clause-answer g c = λ ps h.
+    let s = c.args.schema.now in
+    let laws : SchemaLaws (g.S.Schema.shape_of s) (g.S.Schema.accepted s) (g.S.Schema.text s) = record {
+      zero_has_none = g.met.S.Schema.zero_has_none s;
+      shapes_fit = g.met.S.Schema.shapes_fit s;
+      texts_fit = g.met.S.Schema.texts_fit s;
+      texts_differ = g.met.S.Schema.texts_differ s;
+    } in
+    let within = c.self.invariant.within in
+    let long = c.self.inside.bytes.ok.0 in
+    let at = offset_is (g.S.Schema.shape_of s) (g.S.Schema.accepted s) (g.S.Schema.text s) laws c.args.self.now c.self.inside.offset c.self.inside.bytes.items ps (ap (λ b. b.text) c.self.view_is) (omega arith) h in
+    let named : g.S.Schema.shape_of s c.args.rec.now.epid ≡ Some c.unwrap-shape.result = ap (g.S.Schema.shape_of s) (sym c.epid.ensures) ∙ sym c.shape.ensures ∙ c.unwrap-shape.ensures in
+    let says = shape_says (g.S.Schema.shape_of s) c.args.rec.now c.unwrap-shape.result named in
+    let fit = g.met.S.Schema.shapes_fit s c.args.rec.now.epid c.unwrap-shape.result named in
+    let with_epid = fit.with_epid in
+    fits_says (g.S.Schema.shape_of s) (one c.args.rec.now) ps c.self.inside.offset c.unwrap-shape.result.align c.unwrap-shape.result.size c.size.result c.args.self.now.size false at says.1 says.0 c.size.ensures
+    (refuses c.self.inside.offset c.unwrap-shape.result.align c.unwrap-shape.result.size c.size.result (λ z. omega arith) c.in_default.ensures)
+
+pub invariant_of-self : goal.invariant_of-self
+invariant_of-self g c =
+    let s = c.args.schema.now in
+    let fit = g.met.S.Schema.shapes_fit s c.epid.result c.unwrap-shape.result (sym c.shape.ensures ∙ c.unwrap-shape.ensures) in
+    let with_epid = fit.with_epid in
+    let p = placed c.self.inside.offset c.unwrap-shape.result.align c.unwrap-shape.result.size c.in-Some.place c.self.invariant.words fit.aligned fit.whole_words (λ z. omega arith) c.in-Some.ensures.0 in
+    let above = p.above in
+    let limit : c.size.result ≡ c.args.self.now.size = c.size.ensures in
+    let size = ap (λ b. b.size) c.self.view_is in
+    let within = c.in-Some.ensures.1 in
+    let counted = c.self.invariant.counted in
+    record { within = omega arith; words = p.words; bounded = c.self.invariant.bounded; counted = omega arith }
+
+pub returns-clause-answer : goal.returns-clause-answer
+returns-clause-answer g c = λ ps h.
+    let s = c.args.schema.now in
+    let laws : SchemaLaws (g.S.Schema.shape_of s) (g.S.Schema.accepted s) (g.S.Schema.text s) = record {
+      zero_has_none = g.met.S.Schema.zero_has_none s;
+      shapes_fit = g.met.S.Schema.shapes_fit s;
+      texts_fit = g.met.S.Schema.texts_fit s;
+      texts_differ = g.met.S.Schema.texts_differ s;
+    } in
+    let within = c.self.invariant.within in
+    let long = c.self.inside.bytes.ok.0 in
+    let at = offset_is (g.S.Schema.shape_of s) (g.S.Schema.accepted s) (g.S.Schema.text s) laws c.args.self.now c.self.inside.offset c.self.inside.bytes.items ps (ap (λ b. b.text) c.self.view_is) (omega arith) h in
+    let named : g.S.Schema.shape_of s c.args.rec.now.epid ≡ Some c.unwrap-shape.result = ap (g.S.Schema.shape_of s) (sym c.epid.ensures) ∙ sym c.shape.ensures ∙ c.unwrap-shape.ensures in
+    let says = shape_says (g.S.Schema.shape_of s) c.args.rec.now c.unwrap-shape.result named in
+    let fit = g.met.S.Schema.shapes_fit s c.args.rec.now.epid c.unwrap-shape.result named in
+    let with_epid = fit.with_epid in
+    fits_says (g.S.Schema.shape_of s) (one c.args.rec.now) ps c.self.inside.offset c.unwrap-shape.result.align c.unwrap-shape.result.size c.size.result c.args.self.now.size true at says.1 says.0 c.size.ensures
+    (admits c.self.inside.offset c.unwrap-shape.result.align c.unwrap-shape.result.size c.size.result c.in-Some.place (λ z. omega arith) c.in-Some.ensures.0 c.in-Some.ensures.1)
+
+pub returns-clause-kept : goal.returns-clause-kept
+returns-clause-kept g c = λ ps h.
+    let s = c.args.schema.now in
+    let laws : SchemaLaws (g.S.Schema.shape_of s) (g.S.Schema.accepted s) (g.S.Schema.text s) = record {
+      zero_has_none = g.met.S.Schema.zero_has_none s;
+      shapes_fit = g.met.S.Schema.shapes_fit s;
+      texts_fit = g.met.S.Schema.texts_fit s;
+      texts_differ = g.met.S.Schema.texts_differ s;
+    } in
+    let within = c.self.invariant.within in
+    let long = c.self.inside.bytes.ok.0 in
+    let at = offset_is (g.S.Schema.shape_of s) (g.S.Schema.accepted s) (g.S.Schema.text s) laws c.args.self.now c.self.inside.offset c.self.inside.bytes.items ps (ap (λ b. b.text) c.self.view_is) (omega arith) h in
+    let named : g.S.Schema.shape_of s c.args.rec.now.epid ≡ Some c.unwrap-shape.result = ap (g.S.Schema.shape_of s) (sym c.epid.ensures) ∙ sym c.shape.ensures ∙ c.unwrap-shape.ensures in
+    let says = shape_says (g.S.Schema.shape_of s) c.args.rec.now c.unwrap-shape.result named in
+    let fit = g.met.S.Schema.shapes_fit s c.args.rec.now.epid c.unwrap-shape.result named in
+    let with_epid = fit.with_epid in
+    let t = text_facts (g.S.Schema.shape_of s) (g.S.Schema.accepted s) (g.S.Schema.text s) laws c.args.rec.now c.requires in
+    let size = ap (λ b. b.size) c.self.view_is in
+    let limit = c.size.ensures in
+    let fitting = c.in-Some.ensures.1 in
+    let slice = c.as_mut_slice-bytes.ensures.len in
+    let written : length c.put.new.out ≡ c.unwrap-shape.result.size = ap length c.put.ensures ∙ t.size ∙ says.0 in
+    let back = laid_back c.self.inside.offset c.unwrap-shape.result.align c.in-Some.place c.unwrap-shape.result.size c.self.inside.bytes.len c.self.inside.bytes.items c.self.inside.bytes.items c.pad.new.bytes c.put.new.out c.self.invariant.words fit.aligned c.in-Some.ensures.0 (λ z. omega arith) written (omega arith) (omega arith) (c.pad.ensures ∙ ap (λ z. take c.self.inside.offset z ++ replicate (c.in-Some.place - c.self.inside.offset) 0) c.as_mut_slice-bytes.ensures.value) in
+    kept (g.S.Schema.shape_of s) (g.S.Schema.accepted s) (g.S.Schema.text s) laws c.args.self.now _ (one c.args.rec.now) ps h (accepted_alone (g.S.Schema.shape_of s) (g.S.Schema.accepted s) (g.S.Schema.text s) laws c.args.rec.now c.requires)
+    (back ∙ ap (λ z. z ++ padded c.self.inside.offset c.unwrap-shape.result.align c.put.new.out) (ap (λ b. b.text) c.self.view_is) ∙ ap (λ z. c.args.self.now.text ++ padded z c.unwrap-shape.result.align c.put.new.out) at ∙ ap (λ z. c.args.self.now.text ++ padded (extent (g.S.Schema.shape_of s) ps) z c.put.new.out) (sym says.1) ∙ ap (λ z. c.args.self.now.text ++ padded (extent (g.S.Schema.shape_of s) ps) (piece_align (g.S.Schema.shape_of s) (one c.args.rec.now)) z) c.put.ensures)
+    (let count = ap (λ b. b.count) c.self.view_is in omega arith)

@@ -1,0 +1,73 @@
+use Rattle.std.proofs.Common.{◌≡◌, ◌++◌, ◌∷◌, [], Some, true, false, ap, sym, ◌∙◌, arith}
+use Rattle.dspec_buffer.specs.Extent.{one, extent, reserved, piece_align}
+use Rattle.dspec_buffer.proofs.Fitting.{refuses, admits, placed}
+use Rattle.dspec_buffer.proofs.Keeping.{fits_says, shape_says}
+use Rattle.dspec_buffer.proofs.Listing.{listed, one_accepted}
+use Rattle.dspec_buffer.proofs.list_buffer.ListBufferTraceBuffer.push.Goals as goal
+
+pub place_for-requires-clause-aligned : goal.place_for-requires-clause-aligned
+place_for-requires-clause-aligned g c =
+    let s = c.args.schema.now in
+    (g.met.S.Schema.shapes_fit s c.epid.result c.unwrap-shape.result (sym c.shape.ensures ∙ c.unwrap-shape.ensures)).aligned
+
+pub unwrap-requires : goal.unwrap-requires
+unwrap-requires g c =
+    let s = c.args.schema.now in
+    let fit = g.met.S.Schema.shapes_fit s c.epid.result c.unwrap-shape.result (sym c.shape.ensures ∙ c.unwrap-shape.ensures) in
+    let with_epid = fit.with_epid in
+    let p = placed c.self.inside.offset c.unwrap-shape.result.align c.unwrap-shape.result.size c.in-Some.place c.self.invariant.words fit.aligned fit.whole_words (λ z. omega arith) c.in-Some.ensures.0 in
+    let above = p.above in
+    let fitting = c.in-Some.ensures.1 in
+    let counted = c.self.invariant.counted in
+    let room = c.self.invariant.room in
+    c.push.ensures.succeeds (omega arith)
+
+pub invariant_of-self : goal.invariant_of-self
+invariant_of-self g c =
+    let s = c.args.schema.now in
+    let fit = g.met.S.Schema.shapes_fit s c.epid.result c.unwrap-shape.result (sym c.shape.ensures ∙ c.unwrap-shape.ensures) in
+    let with_epid = fit.with_epid in
+    let p = placed c.self.inside.offset c.unwrap-shape.result.align c.unwrap-shape.result.size c.in-Some.place c.self.invariant.words fit.aligned fit.whole_words (λ z. omega arith) c.in-Some.ensures.0 in
+    let above = p.above in
+    let fitting = c.in-Some.ensures.1 in
+    let counted = c.self.invariant.counted in
+    let room = c.self.invariant.room in
+    let more = c.push.ensures.upper_bound in
+    let grown = c.push.ensures.capacity in
+    record { within = fitting; words = p.words; bounded = c.self.invariant.bounded; counted = omega arith; room = omega arith }
+
+pub returns-in_default-clause-answer : goal.returns-in_default-clause-answer
+returns-in_default-clause-answer g c = λ ps h.
+    let s = c.args.schema.now in
+    let named : g.S.Schema.shape_of s c.args.rec.now.epid ≡ Some c.unwrap-shape.result = ap (g.S.Schema.shape_of s) (sym c.epid.ensures) ∙ sym c.shape.ensures ∙ c.unwrap-shape.ensures in
+    let says = shape_says (g.S.Schema.shape_of s) c.args.rec.now c.unwrap-shape.result named in
+    let fit = g.met.S.Schema.shapes_fit s c.args.rec.now.epid c.unwrap-shape.result named in
+    let with_epid = fit.with_epid in
+    let at = ap (λ b. b.offset) c.self.view_is ∙ h.offset_is in
+    fits_says (g.S.Schema.shape_of s) (one c.args.rec.now) ps c.self.inside.offset c.unwrap-shape.result.align c.unwrap-shape.result.size c.self.inside.size c.args.self.now.size false at says.1 says.0 (ap (λ b. b.size) c.self.view_is)
+    (refuses c.self.inside.offset c.unwrap-shape.result.align c.unwrap-shape.result.size c.self.inside.size (λ z. omega arith) c.in_default.ensures)
+
+pub returns-clause-answer : goal.returns-clause-answer
+returns-clause-answer g c = λ ps h.
+    let s = c.args.schema.now in
+    let named : g.S.Schema.shape_of s c.args.rec.now.epid ≡ Some c.unwrap-shape.result = ap (g.S.Schema.shape_of s) (sym c.epid.ensures) ∙ sym c.shape.ensures ∙ c.unwrap-shape.ensures in
+    let says = shape_says (g.S.Schema.shape_of s) c.args.rec.now c.unwrap-shape.result named in
+    let fit = g.met.S.Schema.shapes_fit s c.args.rec.now.epid c.unwrap-shape.result named in
+    let with_epid = fit.with_epid in
+    let at = ap (λ b. b.offset) c.self.view_is ∙ h.offset_is in
+    fits_says (g.S.Schema.shape_of s) (one c.args.rec.now) ps c.self.inside.offset c.unwrap-shape.result.align c.unwrap-shape.result.size c.self.inside.size c.args.self.now.size true at says.1 says.0 (ap (λ b. b.size) c.self.view_is)
+    (admits c.self.inside.offset c.unwrap-shape.result.align c.unwrap-shape.result.size c.self.inside.size c.in-Some.place (λ z. omega arith) c.in-Some.ensures.0 c.in-Some.ensures.1)
+
+pub returns-clause-kept : goal.returns-clause-kept
+returns-clause-kept g c = λ ps h.
+    let s = c.args.schema.now in
+    let named : g.S.Schema.shape_of s c.args.rec.now.epid ≡ Some c.unwrap-shape.result = ap (g.S.Schema.shape_of s) (sym c.epid.ensures) ∙ sym c.shape.ensures ∙ c.unwrap-shape.ensures in
+    let says = shape_says (g.S.Schema.shape_of s) c.args.rec.now c.unwrap-shape.result named in
+    let fit = g.met.S.Schema.shapes_fit s c.args.rec.now.epid c.unwrap-shape.result named in
+    let with_epid = fit.with_epid in
+    let at = ap (λ b. b.offset) c.self.view_is ∙ h.offset_is in
+    let p = placed c.self.inside.offset c.unwrap-shape.result.align c.unwrap-shape.result.size c.in-Some.place c.self.invariant.words fit.aligned fit.whole_words (λ z. omega arith) c.in-Some.ensures.0 in
+    let items = rw c.unwrap.ensures at c.push.ensures.items in
+    listed (g.S.Schema.shape_of s) (g.S.Schema.accepted s) c.args.self.now _ (one c.args.rec.now) ps h (one_accepted (g.S.Schema.shape_of s) (g.S.Schema.accepted s) c.args.rec.now c.requires)
+    (items ∙ ap (λ b. b.kept ++ c.args.rec.now ∷ []) c.self.view_is)
+    (p.end_is ∙ ap (λ z. reserved z c.unwrap-shape.result.align c.unwrap-shape.result.size) at ∙ ap (λ z. reserved (extent (g.S.Schema.shape_of s) ps) z c.unwrap-shape.result.size) (sym says.1) ∙ ap (λ z. reserved (extent (g.S.Schema.shape_of s) ps) (piece_align (g.S.Schema.shape_of s) (one c.args.rec.now)) z) (sym says.0))

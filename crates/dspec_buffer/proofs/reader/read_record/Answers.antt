@@ -1,0 +1,42 @@
+use Rattle.std.proofs.Common.{Err, subst, refl, drop, arith, length-drop}
+use Rattle.std.proofs.lemmas.List.{take_rest}
+use Rattle.dspec_record.specs.Reading.{Answers}
+use Rattle.dspec_record.specs.declared.reading.ReadKind.TheVariants.{Misaligned}
+use Rattle.dspec_buffer.specs.Faults.{FaultHere}
+use Rattle.dspec_buffer.proofs.SchemaLaws.{SchemaLaws}
+use Rattle.dspec_buffer.proofs.Got.{got_record, got_fault}
+use Rattle.dspec_buffer.proofs.reader.read_record.Goals as goal
+
+pub returns-in-Err : goal.returns-in-Err
+returns-in-Err g c =
+    let s = c.args.schema.now in
+    let laws : SchemaLaws (g.S.Schema.shape_of s) (g.S.Schema.accepted s) (g.S.Schema.text s) = record {
+      zero_has_none = g.met.S.Schema.zero_has_none s;
+      shapes_fit = g.met.S.Schema.shapes_fit s;
+      texts_fit = g.met.S.Schema.texts_fit s;
+      texts_differ = g.met.S.Schema.texts_differ s;
+    } in
+    let rest = take_rest c.args.text.now c.args.at in
+    let told = rw rest at c.is_misaligned.ensures in
+    let no_fault = c.if-is_misaligned.false in
+    let fine : ¬ FaultHere (g.S.Schema.shape_of s) (g.S.Schema.accepted s) (g.S.Schema.text s) Misaligned c.args.at (drop c.args.at c.args.text.now) =
+    λ f. let yes_fault = told.1 f in cc in
+    let long = length-drop c.args.at c.args.text.now in
+    let within = c.requires.within in
+    (refl, got_fault (g.S.Schema.shape_of s) (g.S.Schema.accepted s) (g.S.Schema.text s) laws c.in-Err.kind c.args.at (drop c.args.at c.args.text.now) (omega arith) c.requires.no_gap fine (subst (λ z. Answers (g.S.Schema.shape_of s) (g.S.Schema.accepted s) (g.S.Schema.text s) z (Err c.in-Err.kind)) rest c.in-Err.ensures))
+
+pub returns : goal.returns
+returns g c =
+    let s = c.args.schema.now in
+    let laws : SchemaLaws (g.S.Schema.shape_of s) (g.S.Schema.accepted s) (g.S.Schema.text s) = record {
+      zero_has_none = g.met.S.Schema.zero_has_none s;
+      shapes_fit = g.met.S.Schema.shapes_fit s;
+      texts_fit = g.met.S.Schema.texts_fit s;
+      texts_differ = g.met.S.Schema.texts_differ s;
+    } in
+    let rest = take_rest c.args.text.now c.args.at in
+    let told = rw rest at c.is_misaligned.ensures in
+    let no_fault = c.if-is_misaligned.false in
+    let fine : ¬ FaultHere (g.S.Schema.shape_of s) (g.S.Schema.accepted s) (g.S.Schema.text s) Misaligned c.args.at (drop c.args.at c.args.text.now) =
+    λ f. let yes_fault = told.1 f in cc in
+    got_record (g.S.Schema.shape_of s) (g.S.Schema.accepted s) (g.S.Schema.text s) laws c.args.text.now c.args.at c.in-Ok.found.0 c.in-Ok.found.1 c.requires.within fine (rw rest at c.in-Ok.ensures)

@@ -1,0 +1,11 @@
+pub mod Extent
+pub mod BufferText
+pub mod Faults
+pub mod ReadingOn
+pub mod Walking
+pub mod Stored
+pub mod ByteFields
+pub mod Listed
+pub mod ListFields
+pub mod Remaining
+pub mod Laws

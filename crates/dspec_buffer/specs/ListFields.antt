@@ -1,0 +1,16 @@
+-- How a `ListBuffer` holds what contracts see of it.
+use Rattle.std.specs.Prelude.{◌≡◌, ◌≤◌, ◌*◌, ◌%◌, ◌^◌, vec_len, vec_capacity}
+use Rattle.dspec_buffer.specs.Listed.{Listed}
+use Rattle.dspec_buffer.specs.declared.list_buffer.ListBuffer.TheInside.{Inside}
+
+abbrev pub listed_of : Inside → Listed
+listed_of b = record { kept = b.records.items; offset = b.offset; size = b.size }
+
+-- the offset is a whole number of words within the size, no record is smaller than a word, and there is room for
+-- as many records as there are words
+pub record IsListed (b : Inside) : Type 0 where
+  pub within : b.offset ≤ b.size
+  pub words : b.offset % 4 ≡ 0
+  pub bounded : b.size ≤ 2 ^ 20
+  pub counted : 4 * vec_len b.records ≤ b.offset
+  pub room : b.size ≤ 4 * vec_capacity b.records

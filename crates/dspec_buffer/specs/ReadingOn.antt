@@ -1,0 +1,58 @@
+-- One step of reading: past a padding word, and over one record.
+use Rattle.std.specs.Prelude.{◌≡◌, ◌≢◌, ◌<◌, ◌≤◌, ◌+◌, ◌%◌, ◌⊎◌, ℕ, Bool, IsTrue, List, ◌++◌, length, drop, Option, Some, None, Result, Ok, Err}
+use Rattle.dspec_record.specs.Record.{Record}
+use Rattle.dspec_record.specs.Reading.{front_epid}
+use Rattle.dspec_record.specs.declared.field.Shape.{Shape}
+use Rattle.dspec_buffer.specs.Extent.{align_of}
+use Rattle.dspec_buffer.specs.BufferText.{IsGap, StandsNext}
+use Rattle.dspec_buffer.specs.Faults.{FaultHere}
+use Rattle.dspec_buffer.specs.declared.read_fault.ReadFault.{ReadFault}
+
+-- no padding word that could be skipped stands at this place
+abbrev pub NoGapAt : ℕ → List ℕ → Type 0
+NoGapAt at bytes = 4 ≤ length bytes → front_epid bytes ≡ 0 → (at % 8 ≢ 4) ⊎ (length bytes ≡ 4)
+
+-- between these two places there is a gap, and no more of it behind
+pub record SkipsGap (bytes : List ℕ) (place at : ℕ) : Type 0 where
+  pub gap : List ℕ
+  pub is_gap : IsGap place gap
+  pub bytes_are : drop place bytes ≡ gap ++ drop at bytes
+  pub at_is : at ≡ place + length gap
+  pub goes_on : place < length bytes → at < length bytes
+  pub no_more : NoGapAt at (drop at bytes)
+
+module _ (shape : ℕ → Option Shape) (accepted : Record → Bool) (text : Record → List ℕ) where
+  -- the text of this record stands between these two places
+  pub record StandsHere (bytes : List ℕ) (at : ℕ) (r : Record) (next : ℕ) : Type 0 where
+    pub is_accepted : IsTrue (accepted r)
+    pub aligned : at % align_of shape r ≡ 0
+    pub bytes_are : drop at bytes ≡ text r ++ drop next bytes
+    pub next_is : next ≡ at + length (text r)
+    pub within : next ≤ length bytes
+
+  -- a record at a place, or the fault there
+  abbrev pub ReadsHere : List ℕ → ℕ → Result (Record × ℕ) ReadFault → Type 0
+  ReadsHere bytes at (Ok (r, next)) = StandsHere bytes at r next
+  ReadsHere bytes at (Err fault) = (fault.at ≡ at) × FaultHere shape accepted text fault.kind at (drop at bytes)
+
+  -- behind a gap this record stands, up to `next`
+  pub record NextIs (bytes : List ℕ) (place : ℕ) (r : Record) (next : ℕ) : Type 0 where
+    pub gap : List ℕ
+    pub stands : StandsNext shape accepted text place (drop place bytes) gap r (drop next bytes)
+    pub next_is : next ≡ place + length gap + length (text r)
+    pub within : next ≤ length bytes
+
+  -- behind a gap there is this fault
+  pub record FaultIs (bytes : List ℕ) (place : ℕ) (fault : ReadFault) : Type 0 where
+    pub gap : List ℕ
+    pub left : List ℕ
+    pub is_gap : IsGap place gap
+    pub bytes_are : drop place bytes ≡ gap ++ left
+    pub place_is : fault.at ≡ place + length gap
+    pub fault_here : FaultHere shape accepted text fault.kind fault.at left
+
+  -- the next record from a place on, the end of the text, or a fault
+  abbrev pub ReadsNext : List ℕ → ℕ → Result (Option (Record × ℕ)) ReadFault → Type 0
+  ReadsNext bytes place (Ok None) = place ≡ length bytes
+  ReadsNext bytes place (Ok (Some (r, next))) = NextIs bytes place r next
+  ReadsNext bytes place (Err fault) = FaultIs bytes place fault

@@ -1,0 +1,126 @@
+use crate::TraceBuffer;
+use crate::reader::next_of_text;
+use crate::reserving::{pad, place_for};
+use dspec_record::{Rec, Schema};
+use std::alloc::{AllocError, Global};
+use std::marker::Model;
+
+/// A buffer of bytes, as a consumer reads it: the text of its pieces up to the offset. Bytes behind the offset are
+/// left over from before the last `clear`, and never read.
+#[derive(Drop)]
+pub struct ByteBuffer {
+    bytes: Vec<u8>,
+    offset: u32,
+    count: u32,
+}
+
+impl Model for ByteBuffer {
+    ghost use Rattle.dspec_buffer.specs.Stored.{Stored};
+
+    ghost Value = { Stored };
+
+    ghost use Rattle.dspec_buffer.specs.ByteFields.{stored_of, IsInside};
+
+    ghost view = { stored_of };
+
+    ghost invariant = { IsInside };
+}
+
+impl ByteBuffer {
+    ghost use Rattle.std.specs.Prelude.{◌≡◌};
+
+    /// The text of the pieces.
+    pub fn bytes(&self) -> &[u8]
+        ensures { result.now ≡ self.now.text }
+    {
+        &self.bytes[..self.offset as usize]
+    }
+
+    /// The size in bytes that `make` was asked for.
+    pub fn size(&self) -> u32
+        ensures { result ≡ self.now.size }
+    {
+        self.bytes.len() as u32
+    }
+}
+
+impl<S: Schema> TraceBuffer<S> for ByteBuffer {
+    ghost use Rattle.std.proofs.Common.{refl, inl};
+    ghost use Rattle.dspec_buffer.specs.Stored.{HasPieces, HasAhead};
+    ghost use Rattle.dspec_buffer.specs.Walking.{IsAhead};
+
+    ghost capacity = { λ b. b.size };
+
+    ghost has = { λ b s ps. HasPieces (S.shape_of s) (S.accepted s) (S.text s) b ps };
+
+    ghost has_ahead = { λ b s place rs.
+        IsAhead (HasPieces (S.shape_of s) (S.accepted s) (S.text s) b)
+        (HasAhead (S.shape_of s) (S.accepted s) (S.text s) b.text) place rs };
+
+    ghost begins = { λ b s ps h. inl (ps, (h, refl, refl)) };
+
+    fn make(alloc: Global, size: u32) -> Result<Self, AllocError> {
+        Ok(ByteBuffer {
+            bytes: vec![in alloc; 0; size as usize]?,
+            offset: 0,
+            count: 0,
+        })
+    }
+
+    fn fits(&self, align: u32, size: u32) -> bool {
+        size == 0 || place_for(self.offset, self.size(), align, size).is_some()
+    }
+
+    fn push(&mut self, schema: &S, rec: &Rec) -> bool {
+        let shape = schema.shape(rec.epid()).unwrap();
+        let Some(place) = place_for(self.offset, self.size(), shape.align, shape.size) else {
+            return false;
+        };
+        let end = place + shape.size;
+        let bytes = self.bytes.as_mut_slice();
+        pad(bytes, self.offset as usize, place as usize);
+        schema.put(rec, &mut bytes[place as usize..end as usize]);
+        self.offset = end;
+        self.count += 1;
+        true
+    }
+
+    fn push_block(&mut self, other: &Self) -> bool {
+        let offset = self.offset;
+        let size = other.offset;
+        if size == 0 {
+            return true;
+        }
+        let Some(place) = place_for(offset, self.size(), 8, size) else {
+            return false;
+        };
+        let end = place + size;
+        let bytes = self.bytes.as_mut_slice();
+        pad(bytes, offset as usize, place as usize);
+        bytes[place as usize..end as usize].copy_from_slice(other.bytes());
+        self.offset = end;
+        self.count += other.count;
+        true
+    }
+
+    fn clear(&mut self) {
+        self.offset = 0;
+        self.count = 0;
+    }
+
+    fn offset(&self) -> u32 {
+        self.offset
+    }
+
+    fn count(&self) -> u32 {
+        self.count
+    }
+
+    fn is_empty(&self) -> bool {
+        self.count == 0
+    }
+
+    fn next(&self, schema: &S, place: usize) -> Option<(Rec, usize)> {
+        next_of_text(schema, self.bytes(), place)
+    }
+}

@@ -1,0 +1,29 @@
+//! Buffers of records: reservation, two implementations, and the reader of a stored text.
+//!
+//! A record is reserved at a multiple of its alignment, a block (the whole text of a speculative buffer) at a
+//! multiple of eight, and either fits whole or changes nothing. What pieces a buffer has, how far they reach and
+//! which bytes they make stands in `specs/Extent.antt`; every buffer keeps the clauses and the law of the trait
+//! `TraceBuffer`. Which records some bytes are the text of stands in `specs/BufferText.antt`, which knows nothing
+//! of buffers; `read_all` reads exactly those, and names the fault of anything else (`specs/Faults.antt`). That no
+//! bytes are read in two ways, and that what was pushed is read back, are clauses of the functions in `laws`. The
+//! crate stands on `dspec_record`, and only the two `make` take memory.
+#![tactic(auto)]
+
+mod byte_buffer;
+pub mod laws;
+mod list_buffer;
+mod read_fault;
+mod reader;
+mod records;
+mod reserving;
+mod trace_buffer;
+
+pub use byte_buffer::ByteBuffer;
+pub use list_buffer::ListBuffer;
+pub use read_fault::ReadFault;
+pub use reader::read_all;
+pub use records::Records;
+pub use trace_buffer::TraceBuffer;
+
+#[cfg(test)]
+mod tests;

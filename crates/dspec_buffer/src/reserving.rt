@@ -1,0 +1,37 @@
+ghost use Rattle.std.specs.Prelude.{◌≡◌, ◌≤◌, ◌<◌, ◌+◌, ◌-◌, ◌%◌, ◌^◌, ◌⊎◌, ◌++◌, length, take, replicate, MatchOption};
+ghost use Rattle.dspec_record.specs.Layout.{rounded_up, after};
+
+/// The bytes of a padding word.
+const PADDING: [u8; 4] = [0; 4];
+
+/// Where a piece stands that is reserved behind `offset`, if it ends within `limit`.
+pub(crate) fn place_for(offset: u32, limit: u32, align: u32, size: u32) -> Option<u32>
+    requires aligned { (align ≡ 4) ⊎ (align ≡ 8) }
+    requires whole_words { offset % 4 ≡ 0 }
+    requires within { offset ≤ 2 ^ 20 }
+    ensures { MatchOption result (limit < after offset align size)
+        (λ place. (place ≡ rounded_up offset align) × (place + size ≤ limit)) }
+{
+    // offsets are whole words, so that only a piece that wants eight bytes can want padding
+    let place = if align == 8 && offset % 8 != 0 {
+        offset + 4
+    } else {
+        offset
+    };
+    if u64::from(place) + u64::from(size) <= u64::from(limit) {
+        Some(place)
+    } else {
+        None
+    }
+}
+
+/// Writes the padding word between `from` and `to`, if there is room for one.
+pub(crate) fn pad(bytes: &mut [u8], from: usize, to: usize)
+    requires gap { (to ≡ from) ⊎ (to ≡ from + 4) }
+    requires within { to ≤ length bytes.old }
+    ensures { take to bytes.new ≡ take from bytes.old ++ replicate (to - from) 0 }
+{
+    if from < to {
+        bytes[from..to].copy_from_slice(&PADDING);
+    }
+}

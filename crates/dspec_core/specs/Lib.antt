@@ -1,0 +1,10 @@
+pub mod Ranges
+pub mod Records
+pub mod Extent
+pub mod History
+pub mod Legal
+pub mod Reports
+pub mod Fates
+pub mod Headline
+pub mod Whole
+pub mod Shown

@@ -1,0 +1,86 @@
+ghost use Rattle.std.specs.Prelude.{◌≡◌, ℕ, []};
+ghost use Rattle.dspec_core.specs.declared.outcome.PlayFault.TheVariants as play_fault;
+ghost use Rattle.dspec_core.specs.Reports.{report};
+
+use crate::calls::{Actor, Answer, Op};
+use crate::config::StartFault;
+use crate::deed::Deed;
+use crate::record::Rec;
+use crate::series::Series;
+use std::alloc::AllocError;
+
+/// The counts of one CPU. Each offered record is in exactly one of accepted, dropped, specdropped, lost, discarded,
+/// void and held; the others count events.
+#[derive(Clone, Copy, Debug, PartialEq, Eq)]
+pub struct Report {
+    pub offered: u64,
+    pub accepted: u64,
+    pub dropped: u64,
+    pub specdropped: u64,
+    pub lost: u64,
+    pub discarded: u64,
+    pub void: u64,
+    pub held: u64,
+    pub drops: u64,
+    pub unavailable: u64,
+    pub busy: u64,
+    pub stopped: u64,
+    pub worn: u64,
+}
+
+impl Report {
+    /// The report of a CPU that has made no call.
+    pub fn zero() -> Self
+        ensures { (c : ℕ) → result ≡ report c 0 [] }
+    {
+        Report {
+            offered: 0,
+            accepted: 0,
+            dropped: 0,
+            specdropped: 0,
+            lost: 0,
+            discarded: 0,
+            void: 0,
+            held: 0,
+            drops: 0,
+            unavailable: 0,
+            busy: 0,
+            stopped: 0,
+            worn: 0,
+        }
+    }
+}
+
+/// What a closed session leaves: the deeds in order of time, and for each CPU its accepted records and its report.
+#[derive(Debug, Drop)]
+pub struct Close {
+    pub deeds: Series<Deed>,
+    pub accepted: Series<Series<Rec>>,
+    pub reports: Series<Report>,
+}
+
+/// What a play leaves: its close, and each ended call with its answer, in order of ending.
+#[derive(Debug, Drop)]
+pub struct Outcome {
+    pub close: Close,
+    pub answers: Series<(Actor, Op, Answer)>,
+}
+
+/// Why a play is refused. Turns are counted from 0.
+#[derive(Clone, Copy, Debug, PartialEq, Eq)]
+pub enum PlayFault {
+    Setup(StartFault),
+    NoSuchActor(usize),
+    Busy(usize),
+    IdleStep(usize),
+    BadRecord(usize),
+    Memory,
+}
+
+impl From<AllocError> for PlayFault {
+    ghost from_gives = { λ _ fault. fault ≡ play_fault.Memory };
+
+    fn from(_: AllocError) -> Self {
+        PlayFault::Memory
+    }
+}

@@ -1,0 +1,14 @@
+pub mod Ranges
+pub mod FateTests
+pub mod History
+pub mod Own
+pub mod Legal
+pub mod Reports
+pub mod Fates
+pub mod Headline
+pub mod Play
+pub mod Coherent
+pub mod Turns
+pub mod Whole
+pub mod Bounds
+pub mod SoloRule

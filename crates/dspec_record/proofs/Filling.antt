@@ -1,0 +1,32 @@
+-- An `Enabling` that is made of a list of fields, and `Enablings` with one row more.
+use Rattle.std.proofs.Common.{◌≡◌, ◌≤◌, ◌<◌, ◌-◌, ◌+◌, ◌++◌, ℕ, List, [], length, take, drop, set, replicate, refl, sym, ◌∙◌, ap, arith}
+use Rattle.std.proofs.lemmas.List.{length-append, length-drop, length-set, take_at, drop_at, drop-replicate, length-replicate, drop-drop, drop-set-lt}
+use Rattle.dspec_record.specs.Layout.{layout}
+use Rattle.dspec_record.specs.EnablingFields.{IsLaidOut}
+use Rattle.dspec_record.specs.EnablingRows.{IsFilled}
+use Rattle.dspec_record.specs.declared.field.Field.{Field}
+use Rattle.dspec_record.specs.declared.field.Field.TheVariants.{One}
+
+-- fields copied over the first of eight places
+pub IsLaidOut-copied : (fs : List Field) → length fs ≤ 8 → IsLaidOut (record { fields = fs ++ drop (length fs) (replicate 8 One); len = length fs; shape = layout fs })
+IsLaidOut-copied fs few =
+    let held : List Field = fs ++ drop (length fs) (replicate 8 One) in
+    let back : take (length fs) held ≡ fs = take_at fs (drop (length fs) (replicate 8 One)) (length fs) refl in
+    record {
+      eight = omega (arith, length-append fs (drop (length fs) (replicate 8 One)), length-drop (length fs) (replicate 8 One), length-replicate 8 One);
+      few = few;
+      rest = drop_at fs (drop (length fs) (replicate 8 One)) (length fs) refl ∙ drop-replicate (length fs) 8 One;
+      shape = ap layout (sym back);
+    }
+
+pub IsFilled-push : (rows : List (List Field)) (count : ℕ) (fs : List Field) → IsFilled (record { rows = rows; count = count }) → count < 64 → IsFilled (record { rows = set rows count fs; count = count + 1 })
+IsFilled-push rows count fs is room =
+    let none : List Field = [] in
+    let past : count < count + 1 = omega arith in
+    let left : 64 - count - 1 ≡ 64 - (count + 1) = omega arith in
+    record {
+      places = length-set rows count fs ∙ is.places;
+      few = omega arith;
+      rest = drop-set-lt (count + 1) rows count fs past ∙ sym (drop-drop 1 count rows) ∙ ap (drop 1) is.rest
+          ∙ drop-replicate 1 (64 - count) none ∙ ap (λ n. replicate n none) left;
+    }

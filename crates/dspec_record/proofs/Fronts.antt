@@ -1,0 +1,27 @@
+-- The EPID at the front of some bytes, as a number and as its four bytes.
+use Rattle.std.proofs.Common.{◌≡◌, ◌≤◌, ◌<◌, ◌^◌, ℕ, zero, suc, List, [], ◌∷◌, length, take, get_or, sym, arith}
+use Rattle.std.proofs.lemmas.List.{length-take-le}
+use Rattle.std.proofs.lemmas.Nat.{le_bytes_4}
+use Rattle.dspec_record.specs.RecordText.{little_endian}
+use Rattle.dspec_record.specs.Reading.{front_epid}
+use Rattle.dspec_record.specs.Laws.ReadsBack.{front_epid-take}
+
+take-small : (n : ℕ) (bytes : List ℕ) → ((i : ℕ) → get_or bytes i 0 < 256) → (i : ℕ) → get_or (take n bytes) i 0 < 256
+take-small zero bytes small i = omega arith
+take-small (suc n) [] small i = omega arith
+take-small (suc n) (b ∷ bytes) small zero = small 0
+take-small (suc n) (b ∷ bytes) small (suc i) = take-small n bytes (λ k. small (suc k)) i
+
+-- the number has the bytes
+pub little_endian-front_epid : (bytes : List ℕ) → 4 ≤ length bytes → ((i : ℕ) → get_or bytes i 0 < 256) → take 4 bytes ≡ little_endian 4 (front_epid bytes)
+little_endian-front_epid bytes long small =
+    let four : length (take 4 bytes) ≡ 4 = length-take-le 4 bytes long in
+    sym (le_bytes_4 (take 4 bytes) (front_epid bytes) four (take-small 4 bytes small) (sym (front_epid-take bytes)))
+
+pub front_epid-lt : (bytes : List ℕ) → ((i : ℕ) → get_or bytes i 0 < 256) → front_epid bytes < 2 ^ 32
+front_epid-lt bytes small =
+    let b0 : get_or bytes 0 0 < 256 = small 0 in
+    let b1 : get_or bytes 1 0 < 256 = small 1 in
+    let b2 : get_or bytes 2 0 < 256 = small 2 in
+    let b3 : get_or bytes 3 0 < 256 = small 3 in
+    omega arith

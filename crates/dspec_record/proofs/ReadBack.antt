@@ -1,0 +1,176 @@
+-- A record while its text is read.
+use Rattle.std.proofs.Common.{◌≡◌, ◌≤◌, ◌<◌, ◌+◌, ◌-◌, ◌++◌, ◌^◌, ◌&&◌, ℕ, ltb, IsTrue, List, [], ◌∷◌, length, take, drop, set, get_or, replicate, sym, ◌∙◌, ap, subst, arith, refl}
+use Rattle.std.proofs.lemmas.List.{append_assoc, append-nil, take_at, drop_at, drop_more, take_more_set, length-replicate, drop-drop, length-append, length-take, length-drop, take-append-drop, drop-take, take-take, take_rest, drop_all}
+use Rattle.std.proofs.lemmas.Bool.{lt-ltb}
+use Rattle.dspec_record.specs.Record.{Record}
+use Rattle.dspec_record.specs.Layout.{width, rounded_up, after, fields_start, fields_end, layout}
+use Rattle.dspec_record.specs.RecordText.{little_endian, gap, header_text, fields_text, record_text, fits, IsRead}
+use Rattle.dspec_record.specs.Laws.Layouts.{rounded_up-ge, fields_end-ge, layout-IsShape}
+use Rattle.dspec_record.specs.Laws.Texts.{both, length-little_endian}
+use Rattle.dspec_record.specs.declared.field.Field.{Field}
+use Rattle.dspec_record.specs.declared.field.Field.TheVariants.{One, Four}
+
+-- the first values are read, up to `end`: with any further values the text goes on as theirs does, and any
+-- record that has the text has further values whose text is what is left
+pub record IsReading (all : List Field) (epid : ℕ) (text : List ℕ) (end : ℕ) (read : List ℕ) (n : ℕ) (fs : List Field) : Type 0 where
+  pub so_far : (vs : List ℕ) → header_text (record { epid = epid; values = vs }) ++ fields_text fields_start all (read ++ vs) ≡ take end text ++ fields_text end fs vs
+  pub fit : (vs : List ℕ) → fits all (read ++ vs) ≡ fits fs vs
+  pub still : (r : Record) → IsTrue (fits all r.values) → text ≡ record_text all r → IsTrue (fits fs (drop n r.values)) × (drop end text ≡ fields_text end fs (drop n r.values))
+  pub exact : rounded_up (fields_end end fs) 4 ≡ length text
+  pub short : length text ≤ 128
+
+pub IsReading-start : (fs : List Field) (epid : ℕ) (text : List ℕ) → length fs ≤ 8 → length text ≡ (layout fs).size → take 4 text ≡ little_endian 4 epid → IsReading fs epid text fields_start [] 0 fs
+IsReading-start fs epid text few long front = record {
+  so_far = λ vs. ap (λ h. h ++ fields_text fields_start fs vs) (sym front);
+  fit = λ vs. refl;
+  still = λ r h is. (h, ap (drop 4) is ∙ drop_at (header_text r) (fields_text fields_start fs r.values) 4 refl);
+  exact = sym long;
+  short = omega (arith, (layout-IsShape fs few).bounded);
+}
+
+pub IsReading-room : (all : List Field) (epid : ℕ) (text : List ℕ) (end : ℕ) (read : List ℕ) (n : ℕ) (f : Field) (fs : List Field) → IsReading all epid text end read n (f ∷ fs) → after end (width f) (width f) ≤ length text
+IsReading-room all epid text end read n f fs w =
+    let next : ℕ = after end (width f) (width f) in
+    omega (arith, w.exact, fields_end-ge next fs, rounded_up-ge Four (fields_end next fs))
+
+pub IsReading-near : (all : List Field) (epid : ℕ) (text : List ℕ) (end : ℕ) (read : List ℕ) (n : ℕ) (fs : List Field) → IsReading all epid text end read n fs → end ≤ length text
+IsReading-near all epid text end read n fs w =
+    omega (arith, w.exact, fields_end-ge end fs, rounded_up-ge Four (fields_end end fs))
+
+take-add : (n m : ℕ) (xs : List ℕ) → take n xs ++ take m (drop n xs) ≡ take (n + m) xs
+take-add n m xs =
+    sym (ap (λ p. p ++ take m (drop n xs)) (take-take n (n + m) xs (omega arith)))
+    ∙ sym (ap (λ q. take n (take (n + m) xs) ++ q) (drop-take n m xs))
+    ∙ take-append-drop n (take (n + m) xs)
+
+-- what is read of one field: zeros in its gap, and the value's bytes behind them
+pub record HasField (text : List ℕ) (end : ℕ) (f : Field) (v : ℕ) : Type 0 where
+  pub zeros : take (rounded_up end (width f) - end) (drop end text) ≡ gap end (width f)
+  pub value : little_endian (width f) v ≡ take (width f) (drop (rounded_up end (width f)) text)
+  pub holds : v < 256 ^ width f
+
+HasField-taken : (text : List ℕ) (end : ℕ) (f : Field) (v : ℕ) → HasField text end f v → take (after end (width f) (width f)) text ≡ take end text ++ (gap end (width f) ++ little_endian (width f) v)
+HasField-taken text end f v h =
+    let place : ℕ = rounded_up end (width f) in
+    let low : end ≤ place = rounded_up-ge f end in
+    let to_place : end + (place - end) ≡ place = omega arith in
+    sym (take-add place (width f) text)
+    ∙ ap (λ p. p ++ take (width f) (drop place text)) (ap (λ n. take n text) (sym to_place) ∙ sym (take-add end (place - end) text))
+    ∙ ap (λ p. take end text ++ p ++ take (width f) (drop place text)) h.zeros
+    ∙ ap (λ q. take end text ++ gap end (width f) ++ q) (sym h.value)
+    ∙ append_assoc (take end text) (gap end (width f)) (little_endian (width f) v)
+
+four_parts : (a b c x : List ℕ) → a ++ (b ++ (c ++ x)) ≡ a ++ (b ++ c) ++ x
+four_parts a b c x = simp append_assoc
+
+-- what is left of a text whose next field is `f`
+left-more : (text : List ℕ) (end : ℕ) (f : Field) (fs : List Field) (ws : List ℕ) → IsTrue (fits (f ∷ fs) ws) → drop end text ≡ fields_text end (f ∷ fs) ws → IsTrue (fits fs (drop 1 ws)) × (drop (after end (width f) (width f)) text ≡ fields_text (after end (width f) (width f)) fs (drop 1 ws))
+left-more text end f fs [] h is = absurd (cc)
+left-more text end f fs (u ∷ us) h is =
+    let next : ℕ = after end (width f) (width f) in
+    let hole : List ℕ = gap end (width f) in
+    let bytes : List ℕ = little_endian (width f) u in
+    let zero_byte : ℕ = 0 in
+    let low : end ≤ rounded_up end (width f) = rounded_up-ge f end in
+    let past : end + (rounded_up end (width f) - end + width f) ≡ next = omega arith in
+    let long : length (hole ++ bytes) ≡ rounded_up end (width f) - end + width f =
+    omega (arith, length-append hole bytes, length-replicate (rounded_up end (width f) - end) zero_byte, length-little_endian f u) in (
+      (both (ltb u (256 ^ width f)) (fits fs us) h).1,
+      ap (λ n. drop n text) (sym past)
+          ∙ sym (drop-drop (rounded_up end (width f) - end + width f) end text)
+          ∙ ap (drop (rounded_up end (width f) - end + width f)) (is ∙ sym (append_assoc hole bytes (fields_text next fs us)))
+          ∙ drop_at (hole ++ bytes) (fields_text next fs us) (rounded_up end (width f) - end + width f) long,
+    )
+
+left-gap : (text : List ℕ) (end : ℕ) (f : Field) (fs : List Field) (ws : List ℕ) → IsTrue (fits (f ∷ fs) ws) → drop end text ≡ fields_text end (f ∷ fs) ws → take (rounded_up end (width f) - end) (drop end text) ≡ gap end (width f)
+left-gap text end f fs [] h is = absurd (cc)
+left-gap text end f fs (u ∷ us) h is =
+    let zero_byte : ℕ = 0 in
+    ap (take (rounded_up end (width f) - end)) is
+    ∙ take_at (gap end (width f)) (little_endian (width f) u ++ fields_text (after end (width f) (width f)) fs us) (rounded_up end (width f) - end) (length-replicate (rounded_up end (width f) - end) zero_byte)
+
+pub IsReading-more : (all : List Field) (epid : ℕ) (text : List ℕ) (end : ℕ) (read : List ℕ) (n : ℕ) (f : Field) (fs : List Field) (v : ℕ) → IsReading all epid text end read n (f ∷ fs) → HasField text end f v → IsReading all epid text (after end (width f) (width f)) (read ++ v ∷ []) (n + 1) fs
+IsReading-more all epid text end read n f fs v w h =
+    let next : ℕ = after end (width f) (width f) in
+    let one : (vs : List ℕ) → read ++ v ∷ [] ++ vs ≡ read ++ v ∷ vs = λ vs. append_assoc read (v ∷ []) vs in
+    record {
+      so_far = λ vs.
+          ap (λ xs. header_text (record { epid = epid; values = vs }) ++ fields_text fields_start all xs) (one vs)
+          ∙ w.so_far (v ∷ vs)
+          ∙ four_parts (take end text) (gap end (width f)) (little_endian (width f) v) (fields_text next fs vs)
+          ∙ ap (λ xs. xs ++ fields_text next fs vs) (sym (HasField-taken text end f v h));
+      fit = λ vs.
+          ap (fits all) (one vs) ∙ w.fit (v ∷ vs)
+          ∙ ap (λ b. b && fits fs vs) (lt-ltb v (256 ^ width f) h.holds);
+      still = λ r fit is.
+          let was = w.still r fit is in
+          let now = left-more text end f fs (drop n r.values) was.0 was.1 in
+          let Left : List ℕ → Type 0 = λ ws. IsTrue (fits fs ws) × (drop next text ≡ fields_text next fs ws) in
+          subst Left (drop-drop 1 n r.values) now;
+      exact = w.exact;
+      short = w.short;
+    }
+
+pub IsReading-end : (all : List Field) (epid : ℕ) (text : List ℕ) (end : ℕ) (read : List ℕ) (n : ℕ) → IsReading all epid text end read n [] → drop end text ≡ gap end 4 → IsRead all epid text (record { epid = epid; values = read })
+IsReading-end all epid text end read n w zeros =
+    let whole : read ++ [] ≡ read = append-nil read in
+    record {
+      epid_is = refl;
+      fit = sym (ap (fits all) whole) ∙ w.fit [];
+      text_is =
+          sym (ap (λ xs. little_endian 4 epid ++ fields_text fields_start all xs) whole)
+          ∙ w.so_far [] ∙ ap (λ zs. take end text ++ zs) (sym zeros) ∙ take-append-drop end text;
+    }
+
+at_field : (all : List Field) (epid : ℕ) (text : List ℕ) (end : ℕ) (read : List ℕ) (i : ℕ) → i < length all → IsReading all epid text end read i (drop i all) → IsReading all epid text end read i (get_or all i One ∷ drop (i + 1) all)
+at_field all epid text end read i within w =
+    let Left : List Field → Type 0 = λ fs. IsReading all epid text end read i fs in
+    subst Left (drop_more all i One within) w
+
+-- the next field ends within the text
+pub next-within : (all : List Field) (epid : ℕ) (text : List ℕ) (end : ℕ) (read : List ℕ) (i place w : ℕ) → i < length all → IsReading all epid text end read i (drop i all) → place ≡ rounded_up end (width (get_or all i One)) → w ≡ width (get_or all i One) → place + w ≤ length text
+next-within all epid text end read i place w within inv at wide =
+    omega (arith, at, wide, IsReading-room all epid text end read i (get_or all i One) (drop (i + 1) all) (at_field all epid text end read i within inv))
+
+gap-is : (text : List ℕ) (end place : ℕ) → end ≤ place → place ≤ length text → length (take (place - end) (drop end text)) ≡ place - end
+gap-is text end place low high = omega (arith, length-take (place - end) (drop end text), length-drop end text)
+
+-- one iteration: the gap from `end` to `place` is zero, and `v` has the `w` bytes behind it
+pub IsReading-next : (all : List Field) (epid : ℕ) (text : List ℕ) (end : ℕ) (values : List ℕ) (i place w v : ℕ) → i < length all → i < length values → IsReading all epid text end (take i values) i (drop i all) → place ≡ rounded_up end (width (get_or all i One)) → w ≡ width (get_or all i One) → take (place - end) (drop end text) ≡ replicate (length (take (place - end) (drop end text))) 0 → v < 256 ^ width (get_or all i One) → little_endian (width (get_or all i One)) v ≡ take (place + w - place) (drop place text) → IsReading all epid text (place + w) (take (i + 1) (set values i v)) (i + 1) (drop (i + 1) all)
+IsReading-next all epid text end values i place w v within stored inv at wide zeros holds written =
+    let f : Field = get_or all i One in
+    let low : end ≤ rounded_up end (width f) = rounded_up-ge f end in
+    let room : place + w ≤ length text = next-within all epid text end (take i values) i place w within inv at wide in
+    let has : HasField text end f v = record {
+      zeros = ap (λ p. take (p - end) (drop end text)) (sym at) ∙ zeros
+          ∙ ap (λ n. replicate n 0) (gap-is text end place (omega arith) (omega arith)) ∙ ap (λ p. replicate (p - end) 0) at;
+      value = written ∙ ap (λ n. take n (drop place text)) (omega arith) ∙ ap (λ p. take (width f) (drop p text)) at;
+      holds = holds;
+    } in
+    let next : after end (width f) (width f) ≡ place + w = omega (arith, at, wide) in
+    let more : IsReading all epid text (after end (width f) (width f)) (take i values ++ v ∷ []) (i + 1) (drop (i + 1) all) =
+    IsReading-more all epid text end (take i values) i f (drop (i + 1) all) v (at_field all epid text end (take i values) i within inv) has in
+    let At : ℕ → Type 0 = λ e. IsReading all epid text e (take i values ++ v ∷ []) (i + 1) (drop (i + 1) all) in
+    let Read : List ℕ → Type 0 = λ vs. IsReading all epid text (place + w) vs (i + 1) (drop (i + 1) all) in
+    subst Read (sym (take_more_set values i v stored)) (subst At next more)
+
+no_more : (all : List Field) (epid : ℕ) (text : List ℕ) (end : ℕ) (read : List ℕ) (i : ℕ) → length all ≤ i → IsReading all epid text end read i (drop i all) → IsReading all epid text end read i []
+no_more all epid text end read i past w =
+    let Left : List Field → Type 0 = λ fs. IsReading all epid text end read i fs in
+    subst Left (drop_all i all past) w
+
+rest-is : (text : List ℕ) (end : ℕ) → end ≤ length text → length (take (length text - end) (drop end text)) ≡ length text - end
+rest-is text end high = gap-is text end (length text) high (omega arith)
+
+-- the bytes behind the last field
+rest-zero : (text : List ℕ) (end : ℕ) → end ≤ length text → rounded_up end 4 ≡ length text → take (length text - end) (drop end text) ≡ replicate (length (take (length text - end) (drop end text))) 0 → drop end text ≡ gap end 4
+rest-zero text end high exact zeros =
+    sym (take_rest text end) ∙ zeros ∙ ap (λ n. replicate n 0) (rest-is text end high) ∙ ap (λ n. replicate (n - end) 0) (sym exact)
+
+pub IsReading-whole : (all : List Field) (epid : ℕ) (text : List ℕ) (end : ℕ) (values : List ℕ) (i : ℕ) → length all ≡ i → IsReading all epid text end (take i values) i (drop i all) → take (length text - end) (drop end text) ≡ replicate (length (take (length text - end) (drop end text))) 0 → IsRead all epid text (record { epid = epid; values = take (length all) values })
+IsReading-whole all epid text end values i past w zeros =
+    let done : IsReading all epid text end (take i values) i [] = no_more all epid text end (take i values) i (omega arith) w in
+    let Read : ℕ → Type 0 = λ n. IsRead all epid text (record { epid = epid; values = take n values }) in
+    subst Read (sym past) (
+    IsReading-end all epid text end (take i values) i done (
+    rest-zero text end (IsReading-near all epid text end (take i values) i [] done) done.exact zeros))

@@ -1,0 +1,29 @@
+-- The fields of an `Enabling` and of `Enablings` follow from the lists that they hold.
+use Rattle.std.proofs.Common.{◌≡◌, ◌≤◌, ◌-◌, ◌++◌, List, [], length, take, replicate, sym, arith}
+use Rattle.std.proofs.lemmas.List.{length-take-le}
+use Rattle.dspec_record.specs.EnablingFields.{fields_of, IsLaidOut}
+use Rattle.dspec_record.specs.EnablingFields as laid
+use Rattle.dspec_record.specs.EnablingRows.{rows_of, IsFilled}
+use Rattle.dspec_record.specs.EnablingRows as filled
+use Rattle.dspec_record.specs.Laws.Padding.{padded}
+use Rattle.dspec_record.specs.declared.field.Field.{Field}
+use Rattle.dspec_record.specs.declared.field.Field.TheVariants.{One}
+use Rattle.dspec_record.specs.declared.enabling.Enabling.TheInside as one
+use Rattle.dspec_record.specs.declared.enabling.Enablings.TheInside as all
+
+pub inside_of-fields_of : (a : one.Inside) → IsLaidOut a → laid.inside_of (fields_of a) ≡ a
+inside_of-fields_of a p =
+    let few : a.len ≤ length a.fields = omega arith in
+    let len : length (take a.len a.fields) ≡ a.len = length-take-le a.len a.fields few in
+    let fields : fields_of a ++ replicate (8 - length (fields_of a)) One ≡ a.fields =
+    padded a.fields a.len 8 One p.eight p.few p.rest in
+    λ i. record { fields = fields i; len = len i; shape = sym p.shape i }
+
+pub inside_of-rows_of : (a : all.Inside) → IsFilled a → filled.inside_of (rows_of a) ≡ a
+inside_of-rows_of a p =
+    let few : a.count ≤ length a.rows = omega arith in
+    let len : length (take a.count a.rows) ≡ a.count = length-take-le a.count a.rows few in
+    let none : List Field = [] in
+    let rows : rows_of a ++ replicate (64 - length (rows_of a)) none ≡ a.rows =
+    padded a.rows a.count 64 none p.places p.few p.rest in
+    λ i. record { rows = rows i; count = len i }

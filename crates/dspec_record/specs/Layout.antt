@@ -1,0 +1,42 @@
+-- Where the fields of a record stand: every field at the first multiple of its width behind the field
+-- before it, counted from the record's start.
+use Rattle.std.specs.Prelude.{ℕ, ◌+◌, ◌-◌, ◌*◌, ◌/◌, Bool, true, false, List, [], ◌∷◌, if◌then◌else◌}
+use Rattle.std.specs.List.{list_any}
+use Rattle.dspec_record.specs.declared.field.Field.{Field}
+use Rattle.dspec_record.specs.declared.field.Field.TheVariants.{One, Two, Four, Eight}
+use Rattle.dspec_record.specs.declared.field.Shape.{Shape}
+
+-- in bytes
+abbrev pub width : Field → ℕ
+width One = 1
+width Two = 2
+width Four = 4
+width Eight = 8
+
+-- the first multiple of `a` that isn't below `o`
+abbrev pub rounded_up : ℕ → ℕ → ℕ
+rounded_up o a = (o + (a - 1)) / a * a
+
+-- `o` rounded up to a multiple of `a`, plus `n`
+abbrev pub after : ℕ → ℕ → ℕ → ℕ
+after o a n = rounded_up o a + n
+
+-- where the fields begin: behind the EPID
+abbrev pub fields_start : ℕ
+fields_start = 4
+
+-- where these fields end, laid one behind the other from `start` on
+abbrev pub fields_end : ℕ → List Field → ℕ
+fields_end start [] = start
+fields_end start (f ∷ fs) = fields_end (after start (width f) (width f)) fs
+
+abbrev pub is_eight : Field → Bool
+is_eight Eight = true
+is_eight _ = false
+
+-- the size and the alignment of a record with these fields
+abbrev pub layout : List Field → Shape
+layout fs = record {
+  size = rounded_up (fields_end fields_start fs) 4;
+  align = if list_any is_eight fs then 8 else 4;
+}

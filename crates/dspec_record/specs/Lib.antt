@@ -1,0 +1,9 @@
+pub mod Record
+pub mod RecordFields
+pub mod Layout
+pub mod RecordText
+pub mod Reading
+pub mod Schemas
+pub mod EnablingFields
+pub mod EnablingRows
+pub mod Laws

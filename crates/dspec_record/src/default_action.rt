@@ -1,0 +1,52 @@
+use crate::codec::read_epid;
+use crate::{ReadKind, Rec, Schema, Shape};
+
+/// The default action (Solaris Dynamic Tracing Guide, "Speculative Tracing"): every EPID but zero, alone,
+/// in 4 bytes.
+#[derive(Debug, Clone, Copy, PartialEq, Eq)]
+pub struct DefaultAction;
+
+impl Schema for DefaultAction {
+    ghost use Rattle.dspec_record.specs.Schemas.{default_fields, table_shape, table_accepts, table_text};
+    ghost use Rattle.dspec_record.specs.Laws.Tables.{default_fields-IsLimited, table-shapes_fit, table-texts_fit, table-texts_differ, table-reads_back};
+    ghost use Rattle.std.specs.Prelude.{refl};
+
+    ghost shape_of = { λ _. table_shape default_fields };
+
+    ghost accepted = { λ _. table_accepts default_fields };
+
+    ghost text = { λ _. table_text default_fields };
+
+    ghost zero_has_none = { λ _. refl };
+
+    ghost shapes_fit = { λ _. table-shapes_fit default_fields default_fields-IsLimited };
+
+    ghost texts_fit = { λ _. table-texts_fit default_fields };
+
+    ghost texts_differ = { λ _. table-texts_differ default_fields };
+
+    ghost reads_back = { λ _. table-reads_back default_fields refl default_fields-IsLimited };
+
+    fn shape(&self, epid: u32) -> Option<Shape> {
+        match epid {
+            0 => None,
+            _ => Some(Shape { size: 4, align: 4 }),
+        }
+    }
+
+    fn accepts(&self, rec: &Rec) -> bool {
+        rec.epid() != 0 && rec.values().is_empty()
+    }
+
+    fn put(&self, rec: &Rec, out: &mut [u8]) {
+        out.copy_from_slice(&rec.epid().to_le_bytes());
+    }
+
+    fn get(&self, bytes: &[u8]) -> Result<(Rec, usize), ReadKind> {
+        let epid = read_epid(bytes)?;
+        let Some(rec) = Rec::new(epid, &[]) else {
+            unreachable!()
+        };
+        Ok((rec, 4))
+    }
+}

@@ -1,0 +1,30 @@
+//! Records, their layouts and the codec between records and bytes.
+//!
+//! A record is an enabled probe identifier (EPID) and a list of values; a schema says which records
+//! there are and how each one stands in a buffer. The crate promises that `put` writes exactly the text of
+//! a record, that `get` reads exactly what `put` writes, and that it names the fault of anything else. What a
+//! layout and a text are stands in `specs/Layout.antt` and `specs/RecordText.antt`, what `get` answers in
+//! `specs/Reading.antt`, and how the two schemas of the crate come from these in `specs/Schemas.antt`. The laws
+//! that every schema keeps are those of the trait `Schema`. The crate stands on std alone, and no call of it
+//! takes memory.
+#![tactic(auto)]
+
+mod codec;
+mod default_action;
+mod enabled;
+mod enabling;
+pub mod field;
+mod layout;
+pub mod reading;
+pub mod record;
+pub mod schema;
+
+pub use default_action::DefaultAction;
+pub use enabling::{Enablings, SchemaFault};
+pub use field::{Field, Shape};
+pub use reading::ReadKind;
+pub use record::Rec;
+pub use schema::Schema;
+
+#[cfg(test)]
+mod tests;

@@ -1,0 +1,14 @@
+/// Why bytes can't be read as a record.
+#[derive(Debug, Clone, Copy, PartialEq, Eq)]
+pub enum ReadKind {
+    /// There are fewer bytes than the EPID, or than the record needs.
+    Truncated,
+    /// No record has this EPID.
+    UnknownEpid,
+    /// The record doesn't begin at a multiple of its alignment. Only a reader of whole buffers answers this.
+    Misaligned,
+    /// A byte between two fields, or behind the last one, isn't zero.
+    GapNotZero,
+    /// The EPID is zero, which is a padding word and no record.
+    Padding,
+}

@@ -1,0 +1,59 @@
+ghost use Rattle.std.specs.Prelude.{◌≡◌, ℕ, Bool, IsTrue, List, length, Option, Some, None, ◌++◌, Result, Ok};
+ghost use Rattle.dspec_record.specs.Record.{Record};
+ghost use Rattle.dspec_record.specs.Reading.{IsShape, IsTextOf, Answers};
+ghost use Rattle.dspec_record.specs.declared.reading.ReadKind.{ReadKind};
+ghost use Rattle.dspec_record.specs.declared.field.Shape.{Shape};
+
+use crate::{ReadKind, Rec, Shape};
+
+/// Which records there are, and how they stand in a buffer. A buffer knows no more of a schema than
+/// these clauses and the laws below them say.
+pub trait Schema: Copy {
+    /// The shape of the records with this EPID, if there are any.
+    ghost shape_of: { Self → ℕ → Option Shape };
+
+    /// Whether a record is one of the schema's.
+    ghost accepted: { Self → Record → Bool };
+
+    /// The bytes of an accepted record.
+    ghost text: { Self → Record → List ℕ };
+
+    /// The shape of the records with this EPID; None where there are none, as for EPID 0.
+    fn shape(&self, epid: u32) -> Option<Shape>
+        ensures { result ≡ shape_of self.now epid };
+
+    /// Whether the EPID has a shape, there is a value for each of its fields, and each fits its width.
+    fn accepts(&self, rec: &Rec) -> bool
+        ensures { result ≡ accepted self.now rec.now };
+
+    /// Writes an accepted record into a slice of exactly its size.
+    fn put(&self, rec: &Rec, out: &mut [u8])
+        requires accepted { IsTrue (accepted self.now rec.now) }
+        requires exact { length out.old ≡ length (text self.now rec.now) }
+        ensures { out.new ≡ text self.now rec.now };
+
+    /// The record at the front and its size in bytes, or the first fault in this order: Truncated for fewer
+    /// bytes than an EPID, Padding for EPID 0, UnknownEpid, Truncated for fewer bytes than the shape's size,
+    /// GapNotZero where these are no accepted record's text. Misaligned is never answered.
+    fn get(&self, bytes: &[u8]) -> Result<(Rec, usize), ReadKind>
+        ensures { Answers (shape_of self.now) (accepted self.now) (text self.now) bytes.now result };
+
+    /// EPID 0 has no shape, so that four zero bytes are no record.
+    ghost zero_has_none: { (s : Self) → shape_of s 0 ≡ None };
+
+    /// Sizes and alignments stay within what a buffer can reserve.
+    ghost shapes_fit: { (s : Self) (e : ℕ) (h : Shape) → shape_of s e ≡ Some h → IsShape h };
+
+    /// The text of an accepted record has the size of its EPID's shape, and begins with that EPID.
+    ghost texts_fit: { (s : Self) (r : Record) → IsTrue (accepted s r) → IsTextOf (shape_of s) r (text s r) };
+
+    /// Bytes begin with the text of one accepted record at most.
+    ghost texts_differ: { (s : Self) (q r : Record) (x y : List ℕ) → IsTrue (accepted s q) → IsTrue (accepted s r)
+        → text s q ++ x ≡ text s r ++ y → q ≡ r };
+
+    /// What reading answers where an accepted record's text is at the front, whatever follows: that record.
+    ghost reads_back: { (s : Self) (r : Record) (rest : List ℕ) (answer : Result (Record × ℕ) ReadKind)
+        → IsTrue (accepted s r)
+        → Answers (shape_of s) (accepted s) (text s) (text s r ++ rest) answer
+        → answer ≡ Ok (r, length (text s r)) };
+}

@@ -1,0 +1,4 @@
+pub mod Code
+pub mod Word
+pub mod SpecId
+pub mod Tables

@@ -1,0 +1,23 @@
+ghost use Rattle.std.specs.Prelude.{◌≡◌};
+ghost use Rattle.dspec_word.specs.Word.{CanBeReleased};
+ghost use Rattle.dspec_word.specs.Tables.{commit_at};
+
+use crate::{Act, Code, SpecId, Word};
+
+/// What `commit` does at the word of the identifier's slot. `mine`: the CPU is a caller of this
+/// speculation. Where no other CPU can hold records, the slot goes the short way over Committing.
+pub fn commit_at(word: Word, id: SpecId, mine: bool) -> Act
+    requires { CanBeReleased word }
+    ensures { result ≡ commit_at word id mine }
+{
+    if word.issue() != id.issue() {
+        return Act::Void;
+    }
+    match word.code() {
+        Code::Active => Act::Attempt(word.with_code(Code::Committing)),
+        Code::ActiveOne if mine => Act::Attempt(word.with_code(Code::Committing)),
+        Code::ActiveOne => Act::Attempt(word.with_code(Code::CommittingMany)),
+        Code::ActiveMany => Act::Attempt(word.with_code(Code::CommittingMany)),
+        Code::Inactive | Code::Committing | Code::CommittingMany | Code::Discarding => Act::Void,
+    }
+}

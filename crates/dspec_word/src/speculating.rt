@@ -1,0 +1,23 @@
+ghost use Rattle.std.specs.Prelude.{◌≡◌};
+ghost use Rattle.dspec_word.specs.Word.{CanBeReleased};
+ghost use Rattle.dspec_word.specs.Tables.{speculate_at};
+
+use crate::{Act, Code, SpecId, Word};
+
+/// What `speculate` does at the word of the identifier's slot. `mine`: the CPU is a caller of this
+/// speculation. The second caller makes it one of several CPUs, which no later call takes back.
+pub fn speculate_at(word: Word, id: SpecId, mine: bool) -> Act
+    requires { CanBeReleased word }
+    ensures { result ≡ speculate_at word id mine }
+{
+    if word.issue() != id.issue() {
+        return Act::Void;
+    }
+    match word.code() {
+        Code::Active => Act::Attempt(word.with_code(Code::ActiveOne)),
+        Code::ActiveOne if mine => Act::Granted,
+        Code::ActiveOne => Act::Attempt(word.with_code(Code::ActiveMany)),
+        Code::ActiveMany => Act::Granted,
+        Code::Inactive | Code::Committing | Code::CommittingMany | Code::Discarding => Act::Void,
+    }
+}

@@ -1,0 +1,5 @@
+mod Growing
+mod LineLemmas
+mod Numbers
+mod Printable
+mod ScheduleLemmas
