@@ -16,7 +16,7 @@ returns-in-Ok-clause-ok c =
         deeds = subst Deeds c.as_slice.ensures.value c.in-Ok.ensures.deeds;
         answers = subst Answered c.as_slice.ensures.value c.in-Ok.ensures.answers;
         accepted = c.in-Ok.ensures.accepted;
-        reports = c.in-Ok.ensures.reports
+        reports = c.in-Ok.ensures.reports;
       };
-      whole = c.in_ok-printed-in-Ok.ensures
+      whole = c.in_ok-printed-in-Ok.ensures;
     }
