@@ -1,5 +1,5 @@
 -- The ranges of a configuration.
-use Rattle.std.specs.Prelude.{ℕ, ◌+◌, ◌*◌, ◌^◌, ◌%◌, ◌==◌, nat_le, Bool, true, false, not, ◌&&◌, if◌then◌else◌, Option, Some, None}
+use Rattle.std.specs.Prelude.{ℕ, ◌^◌, ◌%◌, ◌==◌, nat_le, Bool, not, ◌&&◌, if◌then◌else◌, Option, Some, None}
 use Rattle.dspec_core.specs.declared.config.Config.{Config}
 use Rattle.dspec_core.specs.declared.config.StartFault.{StartFault}
 use Rattle.dspec_core.specs.declared.config.StartFault.TheVariants.{Cpus, Specs, BufSize, SpecSize, Issues, Calls}
@@ -14,7 +14,7 @@ is_size n = is_between 8 1048576 n && (n % 8 == 0)
 -- the first field out of its range
 abbrev pub start_fault : Config → Option StartFault
 start_fault k =
-    if not (is_between 1 1 k.cpus) then Some Cpus else
+    if not (is_between 1 16 k.cpus) then Some Cpus else
     (if not (is_between 1 32 k.nspec) then Some Specs else
     (if not (is_size k.bufsize) then Some BufSize else
     (if not (is_size k.specsize) then Some SpecSize else

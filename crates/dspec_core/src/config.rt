@@ -41,13 +41,13 @@ fn is_buffer_size(bytes: u32) -> bool
 }
 
 impl Config {
-    /// Looks at the fields in order, and refuses the first that is out of range: one CPU, 1 to 32 speculations,
+    /// Looks at the fields in order, and refuses the first that is out of range: 1 to 16 CPUs, 1 to 32 speculations,
     /// two buffer sizes, 1 to 2^57 issues and 1 to 2^62 calls. It never answers Memory.
     pub fn check(&self) -> Result<(), StartFault>
         ensures accepted { IsOk result ↔ (start_fault self.now ≡ None) }
         ensures refused { IfErr result (λ fault. start_fault self.now ≡ Some fault) }
     {
-        if self.cpus != 1 {
+        if self.cpus < 1 || self.cpus > 16 {
             return Err(StartFault::Cpus);
         }
         if self.nspec < 1 || self.nspec > 32 {

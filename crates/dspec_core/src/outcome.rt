@@ -1,12 +1,11 @@
-ghost use Rattle.std.specs.Prelude.{◌≡◌, ℕ, []};
+ghost use Rattle.std.specs.Prelude.{◌≡◌};
 ghost use Rattle.dspec_core.specs.declared.outcome.PlayFault.TheVariants as play_fault;
-ghost use Rattle.dspec_core.specs.Reports.{report};
 
 use crate::calls::{Actor, Answer, Op};
 use crate::config::StartFault;
 use crate::deed::Deed;
-use crate::record::Rec;
 use crate::series::Series;
+use dspec_record::Rec;
 use std::alloc::AllocError;
 
 /// The counts of one CPU. Each offered record is in exactly one of accepted, dropped, specdropped, lost, discarded,
@@ -26,29 +25,6 @@ pub struct Report {
     pub busy: u64,
     pub stopped: u64,
     pub worn: u64,
-}
-
-impl Report {
-    /// The report of a CPU that has made no call.
-    pub fn zero() -> Self
-        ensures { (c : ℕ) → result ≡ report c 0 [] }
-    {
-        Report {
-            offered: 0,
-            accepted: 0,
-            dropped: 0,
-            specdropped: 0,
-            lost: 0,
-            discarded: 0,
-            void: 0,
-            held: 0,
-            drops: 0,
-            unavailable: 0,
-            busy: 0,
-            stopped: 0,
-            worn: 0,
-        }
-    }
 }
 
 /// What a closed session leaves: the deeds in order of time, and for each CPU its accepted records and its report.

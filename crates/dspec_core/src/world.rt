@@ -1,134 +1,268 @@
-ghost use Rattle.std.specs.Prelude.{◌≡◌, ◌+◌, ◌≤◌, ◌<◌, ◌^◌, ◌-◌, ◌∷◌, [], ◌++◌, min, true, false, None, IfOk, if◌then◌else◌};
-ghost use Rattle.dspec_core.specs.declared.calls.CpuOp.TheVariants as cpu_op;
-ghost use Rattle.dspec_core.specs.declared.calls.Turn.TheVariants.{RunCpu};
-ghost use Rattle.dspec_core.specs.declared.calls.Answer.TheVariants as answer;
-ghost use Rattle.dspec_core.specs.declared.deed.TraceFate.TheVariants as fate;
-ghost use Rattle.dspec_core.specs.declared.deed.Deed.TheVariants as deed;
-ghost use Rattle.dspec_core.specs.Extent.{after, fits};
-ghost use Rattle.dspec_core.specs.History.{active, stream};
+ghost use Rattle.std.specs.Prelude.{◌≡◌, ◌≢◌, ◌<◌, ◌+◌, ℕ, true, false, None, Some, IfOk, IfErr, OnOk, OnErr, reverse};
+ghost use Rattle.dspec_core.specs.declared.calls.Actor.{Actor};
+ghost use Rattle.dspec_core.specs.declared.config.StartFault.TheVariants as start;
+ghost use Rattle.dspec_core.specs.declared.refusal.StepFault.TheVariants as refusal;
+ghost use Rattle.dspec_core.specs.declared.refusal.Stepped.TheVariants as stepped;
+ghost use Rattle.dspec_core.specs.Bounds.{steps_limit};
+ghost use Rattle.dspec_core.specs.Calls.{begin_consumer_fault, begin_cpu_fault, call_of, idle_step_fault, is_about, is_actor, is_idle, is_of, steps_of, told_step};
+ghost use Rattle.dspec_core.specs.Closes.{reports, streams};
+ghost use Rattle.dspec_core.specs.Coherent.{the_caller};
+ghost use Rattle.dspec_core.specs.Headline.{Headline};
+ghost use Rattle.dspec_core.specs.Legal.{IsLegal};
+ghost use Rattle.dspec_core.specs.Own.{stream, taken};
+ghost use Rattle.dspec_core.specs.Promised.{HasHeadline};
 ghost use Rattle.dspec_core.specs.Ranges.{start_fault};
 ghost use Rattle.dspec_core.specs.Reports.{report};
-ghost use Rattle.dspec_core.specs.Whole.{is_worn, entered, answer_of};
-ghost use Rattle.dspec_core.specs.Shown.{IsShown, history};
+ghost use Rattle.dspec_core.specs.Turns.{at_start, begin_consumer, begin_cpu, closing, step};
 
-use crate::calls::Traced;
-use crate::config::Config;
-use crate::deed::{Deed, TraceFate};
+use crate::calls::{Actor, Answer, ConsumerOp, CpuOp, Op};
+use crate::config::{Config, StartFault};
+use crate::deed::Deed;
+use crate::machine::Machine;
 use crate::outcome::{Close, Report};
-use crate::record::{DefaultAction, Rec};
-use crate::series::Series;
+use crate::refusal::{BeginFault, StepFault, Stepped};
+use dspec_buffer::TraceBuffer;
+use dspec_record::{Rec, Schema};
 use std::alloc::{AllocError, Global};
+use std::marker::Model;
 
-/// A session with one CPU, as its deeds left it.
+/// A session as its atomic steps left it, which contracts see as its schema, its deeds and the calls in flight.
 #[derive(Drop)]
-pub struct World {
-    pub config: Config,
-    pub deeds: Series<Deed>,
-    pub accepted: Series<Rec>,
-    pub offset: u32,
-    pub counts: Report,
+pub struct World<S: Schema, B: TraceBuffer<S>> {
+    machine: Machine<S, B>,
 }
 
-/// The place `offset` rounded up to a multiple of `align`, and `size` bytes behind it.
-fn place_after(offset: u32, align: u32, size: u32) -> u32
-    requires align { (0 < align) × (align ≤ 8) }
-    requires small { offset + size < 2 ^ 31 }
-    ensures { result ≡ after offset align size }
-{
-    (offset + (align - 1)) / align * align + size
+impl<S: Schema, B: TraceBuffer<S>> Model for World<S, B> {
+    ghost use Rattle.dspec_core.specs.Sessions.{Session};
+
+    ghost Value = { Session S };
+
+    ghost use Rattle.dspec_core.specs.Worlds.{IsKept, session_of};
+
+    ghost view = { λ w. session_of w.machine };
+
+    ghost invariant = { λ w. IsKept B.has B.capacity S.shape_of S.accepted w.machine };
 }
 
-impl World {
-    /// A session without deeds. Takes no memory.
-    pub fn new(alloc: Global, config: Config) -> Self
-        requires { start_fault config ≡ None }
-        ensures shown { IsShown result }
-        ensures config { result.config ≡ config }
-        ensures empty { history result ≡ [] }
-        ensures fresh { result.counts.worn ≡ 0 }
+impl<S: Schema, B: TraceBuffer<S>> World<S, B> {
+    /// A session before its first call, or the first of the configuration's faults; Memory only where it has none.
+    pub fn new(alloc: Global, config: Config, schema: S) -> Result<Self, StartFault>
+        ensures started { IfOk result (λ world. start_fault config ≡ None) }
+        ensures empty { IfOk result (λ world. world ≡ record { schema = schema; state = at_start config }) }
+        ensures promised { IfOk result (λ world. HasHeadline (S.shape_of world.schema) world.state) }
+        ensures refused { IfErr result (λ fault. fault ≢ start.Memory → start_fault config ≡ Some fault) }
+        ensures memory { IfErr result (λ fault. fault ≡ start.Memory → start_fault config ≡ None) }
     {
-        World {
-            config,
-            deeds: Series::new(alloc),
-            accepted: Series::new(alloc),
-            offset: 0,
-            counts: Report::zero(),
-        }
+        config.check()?;
+        let Ok(machine) = Machine::new(alloc, config, schema) else {
+            return Err(StartFault::Memory);
+        };
+        Ok(World { machine })
     }
 
-    fn keep(&mut self, rec: &Rec, end: u32) -> Result<(), AllocError>
-        requires shown { IsShown self.old }
-        requires open { is_worn self.old.config 0 (history self.old) ≡ false }
-        requires end { end ≡ after self.old.offset 4 4 }
-        requires fits { end ≤ self.old.config.bufsize }
-        ensures shown { IfOk result (λ _. IsShown self.new) }
-        ensures config { self.new.config ≡ self.old.config }
-        ensures entered { IfOk result (λ _. history self.new ≡ deed.Trace 0 rec.now fate.Kept ∷ history self.old) }
-        ensures worn { self.new.counts.worn ≡ self.old.counts.worn }
+    /// Begins a call of a CPU, which takes no atomic step, or answers why it can't, with nothing changed: NoSuchActor,
+    /// Busy, BadRecord, in that order.
+    pub fn begin_cpu(&mut self, cpu: u32, op: CpuOp) -> Result<(), BeginFault>
+        ensures allowed { OnOk result (begin_cpu_fault (S.accepted self.old.schema) cpu op self.old.state ≡ None) }
+        ensures begun { OnOk result (self.new ≡ record self.old { state = begin_cpu cpu op self.old.state }) }
+        ensures promised { HasHeadline (S.shape_of self.new.schema) self.new.state }
+        ensures refused { IfErr result (λ fault. begin_cpu_fault (S.accepted self.old.schema) cpu op self.old.state ≡ Some fault) }
+        ensures unchanged { OnErr result (self.new ≡ self.old) }
     {
-        self.deeds.push(Deed::Trace(0, *rec, TraceFate::Kept))?;
-        self.accepted.push(*rec)?;
-        self.offset = end;
-        self.counts.offered += 1;
-        self.counts.accepted += 1;
+        if cpu >= self.machine.config.cpus {
+            return Err(BeginFault::NoSuchActor);
+        }
+        if !self.is_idle(Actor::Cpu(cpu)) {
+            return Err(BeginFault::Busy);
+        }
+        if !self.is_accepted(&op) {
+            return Err(BeginFault::BadRecord);
+        }
+        self.machine.begin_cpu(cpu, op);
         Ok(())
     }
 
-    fn drop_record(&mut self, rec: &Rec) -> Result<(), AllocError>
-        requires shown { IsShown self.old }
-        requires open { is_worn self.old.config 0 (history self.old) ≡ false }
-        requires full { self.old.config.bufsize < after self.old.offset 4 4 }
-        ensures shown { IfOk result (λ _. IsShown self.new) }
-        ensures config { self.new.config ≡ self.old.config }
-        ensures entered { IfOk result (λ _. history self.new ≡ deed.Trace 0 rec.now fate.Dropped ∷ history self.old) }
-        ensures worn { self.new.counts.worn ≡ self.old.counts.worn }
+    // Whether the schema accepts the call's record, if it has one.
+    fn is_accepted(&self, op: &CpuOp) -> bool
+        ensures { result ≡ is_of (S.accepted self.now.schema) op.now }
     {
-        self.deeds.push(Deed::Trace(0, *rec, TraceFate::Dropped))?;
-        self.counts.offered += 1;
-        self.counts.dropped += 1;
-        self.counts.drops += 1;
+        match op {
+            CpuOp::Trace(rec) => self.machine.schema.accepts(rec),
+            CpuOp::Speculate(_, rec) => self.machine.schema.accepts(rec),
+            _ => true,
+        }
+    }
+
+    // Whether the CPU that the call is about, if it is about one, exists.
+    fn is_about(&self, op: &ConsumerOp) -> bool
+        ensures { result ≡ is_about self.now.state.config op.now }
+    {
+        match op {
+            ConsumerOp::Ask(cpu) => *cpu < self.machine.config.cpus,
+            ConsumerOp::Take(cpu) => *cpu < self.machine.config.cpus,
+            ConsumerOp::GiveBack(cpu) => *cpu < self.machine.config.cpus,
+            _ => true,
+        }
+    }
+
+    /// Begins a call of the consumer, which takes no atomic step, or answers why it can't, with nothing changed:
+    /// NoSuchActor where it names a CPU that there isn't, then Busy.
+    pub fn begin_consumer(&mut self, op: ConsumerOp) -> Result<(), BeginFault>
+        ensures allowed { OnOk result (begin_consumer_fault op self.old.state ≡ None) }
+        ensures begun { OnOk result (self.new ≡ record self.old { state = begin_consumer op self.old.state }) }
+        ensures promised { HasHeadline (S.shape_of self.new.schema) self.new.state }
+        ensures refused { IfErr result (λ fault. begin_consumer_fault op self.old.state ≡ Some fault) }
+        ensures unchanged { OnErr result (self.new ≡ self.old) }
+    {
+        if !self.is_about(&op) {
+            return Err(BeginFault::NoSuchActor);
+        }
+        if !self.is_idle(Actor::Consumer) {
+            return Err(BeginFault::Busy);
+        }
+        self.machine.begin_consumer(op);
         Ok(())
     }
 
-    /// A whole call of `trace` by CPU 0.
-    pub fn trace(&mut self, schema: DefaultAction, rec: &Rec) -> Result<Traced, AllocError>
-        requires { IsShown self.old }
-        ensures shown { IfOk result (λ _. IsShown self.new) }
-        ensures config { self.new.config ≡ self.old.config }
-        ensures entered { IfOk result (λ _. history self.new ≡ entered self.old.config (history self.old) (RunCpu 0 (cpu_op.Trace rec.now)) ++ history self.old) }
-        ensures answer { IfOk result (λ traced. answer.Traced traced ≡ answer_of (entered self.old.config (history self.old) (RunCpu 0 (cpu_op.Trace rec.now)))) }
-        ensures worn { IfOk result (λ _. self.new.counts.worn ≡ (if is_worn self.old.config 0 (history self.old) then min (self.old.counts.worn + 1) (2 ^ 64 - 1) else self.old.counts.worn)) }
+    /// Makes one atomic step of the actor's call in flight, or answers why it can't, with nothing changed: NoSuchActor,
+    /// IdleStep, Memory, in that order.
+    pub fn step(&mut self, actor: Actor) -> Result<Stepped, StepFault>
+        ensures allowed { IfOk result (λ _. idle_step_fault actor self.old.state ≡ None) }
+        ensures state { IfOk result (λ _. self.new ≡ record self.old { state = (step (S.shape_of self.old.schema) (S.accepted self.old.schema) actor self.old.state).state }) }
+        ensures told { IfOk result (λ told. told ≡ told_step (step (S.shape_of self.old.schema) (S.accepted self.old.schema) actor self.old.state).answer) }
+        ensures counted { IfOk result (λ told. told ≡ stepped.Going → steps_of actor self.new.state ≡ steps_of actor self.old.state + 1) }
+        ensures promised { HasHeadline (S.shape_of self.new.schema) self.new.state }
+        ensures refused { IfErr result (λ fault. fault ≢ refusal.Memory → idle_step_fault actor self.old.state ≡ Some fault) }
+        ensures memory { IfErr result (λ fault. fault ≡ refusal.Memory → idle_step_fault actor self.old.state ≡ None) }
+        ensures unchanged { OnErr result (self.new ≡ self.old) }
     {
-        if self.counts.offered >= self.config.max_calls {
-            self.counts.worn = self.counts.worn.saturating_add(1);
-            return Ok(Traced::Worn);
+        if !self.exists(actor) {
+            return Err(StepFault::NoSuchActor);
         }
-        let shape = schema.shape(rec);
-        let end = place_after(self.offset, shape.align, shape.size);
-        if end <= self.config.bufsize {
-            self.keep(rec, end)?;
-            Ok(Traced::Kept)
-        } else {
-            self.drop_record(rec)?;
-            Ok(Traced::Dropped)
+        if self.is_idle(actor) {
+            return Err(StepFault::IdleStep);
+        }
+        match self.advance(actor) {
+            Err(_) => Err(StepFault::Memory),
+            Ok(None) => Ok(Stepped::Going),
+            Ok(Some(answer)) => Ok(Stepped::Done(answer)),
         }
     }
 
-    /// Closes the session: all that was accepted counts as taken.
+    // Whether there is that actor.
+    fn exists(&self, actor: Actor) -> bool
+        ensures there { result ≡ is_actor self.now.state.config actor }
+        ensures promised { HasHeadline (S.shape_of self.now.schema) self.now.state }
+    {
+        let cpus = self.machine.config.cpus;
+        match actor {
+            Actor::Cpu(cpu) => cpu < cpus,
+            Actor::Consumer => true,
+        }
+    }
+
+    // One atomic step of the actor's call in flight, with the answer where it is the call's last.
+    fn advance(&mut self, actor: Actor) -> Result<Option<Answer>, AllocError>
+        requires actor { is_actor self.old.state.config actor ≡ true }
+        requires busy { is_idle actor self.old.state ≡ false }
+        ensures state { IfOk result (λ _. self.new ≡ record self.old { state = (step (S.shape_of self.old.schema) (S.accepted self.old.schema) actor self.old.state).state }) }
+        ensures answered { IfOk result (λ answer. answer ≡ (step (S.shape_of self.old.schema) (S.accepted self.old.schema) actor self.old.state).answer) }
+        ensures counted { IfOk result (λ answer. answer ≡ None → steps_of actor self.new.state ≡ steps_of actor self.old.state + 1) }
+        ensures promised { HasHeadline (S.shape_of self.new.schema) self.new.state }
+        ensures refused { OnErr result (self.new ≡ self.old) }
+    {
+        match actor {
+            Actor::Cpu(cpu) => self.machine.step_cpu(cpu),
+            Actor::Consumer => self.machine.step_consumer(),
+        }
+    }
+
+    /// Whether no call of the actor is in flight. Condition: the actor exists.
+    pub fn is_idle(&self, actor: Actor) -> bool
+        requires { is_actor self.now.state.config actor ≡ true }
+        ensures { result ≡ is_idle actor self.now.state }
+    {
+        match actor {
+            Actor::Cpu(cpu) => self.machine.sides[cpu as usize].caller.flight.is_none(),
+            Actor::Consumer => self.machine.consumer.flight.is_none(),
+        }
+    }
+
+    // The actor's call in flight.
+    pub(crate) fn call(&self, actor: Actor) -> Op
+        requires actor { is_actor self.now.state.config actor ≡ true }
+        requires busy { is_idle actor self.now.state ≡ false }
+        ensures { result ≡ call_of actor self.now.state }
+    {
+        match actor {
+            Actor::Cpu(cpu) => {
+                let flight = self.machine.sides[cpu as usize].caller.flight;
+                let Some(flight) = flight else { unreachable!() };
+                Op::Cpu(flight.op())
+            }
+            Actor::Consumer => {
+                let flight = self.machine.consumer.flight;
+                let Some(flight) = flight else { unreachable!() };
+                Op::Consumer(flight.op())
+            }
+        }
+    }
+
+    /// How many steps the actor's call in flight has made, a refused one not counted; 0 where none is in flight. It
+    /// stays below the call's bound. Condition: the actor exists.
+    pub fn steps(&self, actor: Actor) -> u32
+        requires { is_actor self.now.state.config actor ≡ true }
+        ensures made { result ≡ steps_of actor self.now.state }
+        ensures bounded { result < steps_limit actor self.now.state }
+    {
+        match actor {
+            Actor::Cpu(cpu) => self.machine.sides[cpu as usize].caller.steps,
+            Actor::Consumer => self.machine.consumer.steps,
+        }
+    }
+
+    /// The deeds so far, in order of time.
+    pub fn deeds(&self) -> &[Deed]
+        ensures deeds { result.now ≡ reverse self.now.state.deeds }
+        ensures promised { HasHeadline (S.shape_of self.now.schema) self.now.state }
+    {
+        self.machine.deeds.as_slice()
+    }
+
+    /// What the CPU's principal buffers accepted so far, in order. Condition: the CPU exists.
+    pub fn accepted(&self, cpu: u32) -> &[Rec]
+        requires { cpu < self.now.state.config.cpus }
+        ensures { result.now ≡ stream cpu self.now.state.deeds }
+    {
+        self.machine.sides[cpu as usize].accepted.as_slice()
+    }
+
+    /// What the consumer has taken from the CPU so far, in order. Condition: the CPU exists.
+    pub fn taken(&self, cpu: u32) -> &[Rec]
+        requires { cpu < self.now.state.config.cpus }
+        ensures { result.now ≡ taken (the_caller self.now.state.callers cpu).takes cpu self.now.state.deeds }
+    {
+        self.machine.sides[cpu as usize].taken.as_slice()
+    }
+
+    /// The CPU's counts so far. It takes one pass over the deeds. Condition: the CPU exists.
+    pub fn report(&self, cpu: u32) -> Report
+        requires { cpu < self.now.state.config.cpus }
+        ensures { result ≡ report self.now.state.config cpu (the_caller self.now.state.callers cpu).worn self.now.state.deeds }
+    {
+        self.machine.report(cpu)
+    }
+
+    /// Closes the session: settles, CPU by CPU and slot by slot upwards, what is decided and not acknowledged. All that
+    /// was accepted counts as taken then. A refused growth gives the world up. Condition: no call is in flight.
     pub fn finish(self, alloc: Global) -> Result<Close, AllocError>
-        requires { IsShown self }
-        ensures deeds { IfOk result (λ close. close.deeds ≡ self.deeds) }
-        ensures accepted { IfOk result (λ close. close.accepted ≡ stream 0 (history self) ∷ []) }
-        ensures reports { IfOk result (λ close. close.reports ≡ report 0 self.counts.worn (history self) ∷ []) }
+        requires idle { (actor : Actor) → is_actor self.state.config actor ≡ true → is_idle actor self.state ≡ true }
+        ensures deeds { IfOk result (λ close. close.deeds ≡ reverse (closing (S.shape_of self.schema) self.state.config self.state.deeds)) }
+        ensures accepted { IfOk result (λ close. close.accepted ≡ streams self.state.config (reverse close.deeds)) }
+        ensures reports { IfOk result (λ close. close.reports ≡ reports self.state.config (λ c. (the_caller self.state.callers c).worn) (reverse close.deeds)) }
+        ensures legal { IfOk result (λ close. IsLegal (S.shape_of self.schema) self.state.config (reverse close.deeds)) }
+        ensures headline { IfOk result (λ close. (c : ℕ) → Headline self.state.config c (reverse close.deeds)) }
     {
-        let mut accepted = Series::new(alloc);
-        accepted.push(self.accepted)?;
-        let mut reports = Series::new(alloc);
-        reports.push(self.counts)?;
-        Ok(Close {
-            deeds: self.deeds,
-            accepted,
-            reports,
-        })
+        self.machine.finish(alloc)
     }
 }

@@ -1,5 +1,7 @@
+mod EndLemmas
 mod Growing
 mod LineLemmas
-mod Numbers
-mod Printable
-mod ScheduleLemmas
+mod NumberLemmas
+mod PrintableLemmas
+mod ReadingLemmas
+mod StepLemmas

@@ -1,48 +1,98 @@
--- What the text of a schedule says.
-use Rattle.std.specs.Prelude.{ℕ, ◌≡◌, ◌==◌, not, Bool, List, [], ◌∷◌, length, map, filter, take, codes}
-use Rattle.std.specs.List.{slice_split, enumerate_from}
-use Rattle.std.specs.Str.Parse.{IsNumeral, digits_value}
+-- What the text of a schedule says, or which of its lines has the first fault.
+use Rattle.std.specs.Prelude.{ℕ, ◌+◌, ◌==◌, Bool, List, [], ◌∷◌, ◌++◌, length, if◌then◌else◌, bytes_eq, codes, Option, Some, None, unwrap_or, Result, Ok, Err}
+use Rattle.std.specs.List.{slice_split, list_all}
+use Rattle.dspec_record.specs.declared.field.Field.{Field}
 use Rattle.dspec_core.specs.declared.config.Config.{Config}
-use Rattle.dspec_core.specs.declared.calls.CpuOp.TheVariants.{Trace}
 use Rattle.dspec_core.specs.declared.calls.Turn.{Turn}
-use Rattle.dspec_core.specs.declared.calls.Turn.TheVariants.{RunCpu}
-use Rattle.specplay.specs.Words.{words_of}
+use Rattle.specplay.specs.declared.fault.LineKind.{LineKind}
+use Rattle.specplay.specs.declared.fault.LineKind.TheVariants.{NotPrintable, NoConfig}
+use Rattle.specplay.specs.Calls.{turn_of}
+use Rattle.specplay.specs.SetUp.{config_of, enabling_of}
+use Rattle.specplay.specs.Steps.{◌>>=◌, at_line}
+use Rattle.specplay.specs.Words.{is_printable, words_of}
 
--- a line's number, and its words
-abbrev pub Line : Type 0
-Line = ℕ × List (List ℕ)
+-- a schedule: its configuration with its line, its enablings where there are any, and its turns with their lines
+pub record Plan : Type 0 where
+  pub config : Config
+  pub config_line : ℕ
+  pub enablings : Option (List (List Field))
+  pub turns : List Turn
+  pub lines : List ℕ
 
-abbrev pub has_words : Line → Bool
-has_words line = not (length line.1 == 0)
+-- a schedule of a first line alone
+abbrev pub set_up : ℕ → Config → Plan
+set_up line k = record { config = k; config_line = line; enablings = None; turns = []; lines = [] }
 
--- the lines of a text that aren't skipped; all lines are numbered from 1, and a line feed (10) ends each
-abbrev pub lines_of : List (List ℕ) → List Line
-lines_of pieces = filter has_words (enumerate_from 1 (map words_of pieces))
+abbrev pub with_enablings : Plan → List (List Field) → Plan
+with_enablings p rows = record p { enablings = Some rows }
 
-abbrev pub lines_of_text : List ℕ → List Line
-lines_of_text text = lines_of (slice_split (λ byte. byte == 10) text)
+abbrev pub with_turn : Plan → ℕ → Turn → Plan
+with_turn p line turn = record p { turns = p.turns ++ turn ∷ []; lines = p.lines ++ line ∷ [] }
 
--- the two lists are as long as each other, and each element is related to the one at its place
-abbrev pub EachTo : {A B : Type 0} → (A → B → Type 0) → List A → List B → Type 0
-EachTo R [] [] = Unit {0}
-EachTo R [] (y ∷ ys) = ⊥
-EachTo R (x ∷ xs) [] = ⊥
-EachTo R (x ∷ xs) (y ∷ ys) = R x y × EachTo R xs ys
+abbrev pub has_no_turn : Plan → Bool
+has_no_turn p = length p.turns == 0
 
--- a word of decimal digits stands for its number
-abbrev pub IsNumber : List ℕ → ℕ → Type 0
-IsNumber word n = IsNumeral 10 word × (n ≡ digits_value 10 word)
+-- the schedule of the first line that isn't skipped, by its first word and those behind it
+unfoldable pub first_line_of : ℕ → List ℕ → List (List ℕ) → Result Plan LineKind
+first_line_of line first words = if bytes_eq first (codes "config") then (do
+  k ← config_of words
+  Ok (set_up line k)) else Err NoConfig
 
-abbrev pub AreNumbers : List (List ℕ) → List ℕ → Type 0
-AreNumbers words ns = EachTo IsNumber words ns
+-- the schedule with the enabling whose widths the words are
+unfoldable pub enabled_by : Plan → List (List ℕ) → Result Plan LineKind
+enabled_by p words = do
+  rows ← enabling_of (has_no_turn p) (unwrap_or p.enablings []) words
+  Ok (with_enablings p rows)
 
--- `config` and the six numbers of a configuration
-abbrev pub IsConfigLine : List (List ℕ) → Config → Type 0
-IsConfigLine words k = (numbers : List (List ℕ)) × (words ≡ codes "config" ∷ numbers)
-    × AreNumbers numbers (k.cpus ∷ k.nspec ∷ k.bufsize ∷ k.specsize ∷ k.max_issues ∷ k.max_calls ∷ [])
+-- the schedule with the turn of a line
+unfoldable pub turned_by : Plan → ℕ → List ℕ → List (List ℕ) → Result Plan LineKind
+turned_by p line first words = do
+  turn ← turn_of first words
+  Ok (with_turn p line turn)
 
--- `run`, a CPU, `trace`, and a record: its probe identifier and its values
-abbrev pub IsTurnLine : List (List ℕ) → Turn → Type 0
-IsTurnLine words (RunCpu c (Trace r)) = (cpu : List ℕ) × (operands : List (List ℕ))
-    × (words ≡ codes "run" ∷ cpu ∷ codes "trace" ∷ operands)
-    × IsNumber cpu c × AreNumbers operands (r.epid ∷ take r.len r.values)
+-- the schedule with what a later line says, by its first word and those behind it
+unfoldable pub later_line_of : Plan → ℕ → List ℕ → List (List ℕ) → Result Plan LineKind
+later_line_of p line first words = if bytes_eq first (codes "enable") then enabled_by p words else turned_by p line first words
+
+-- what was read so far, none before the configuration, with the words of one more line
+unfoldable pub words_read : Option Plan → ℕ → List (List ℕ) → Result (Option Plan) LineKind
+words_read so_far line [] = Ok so_far
+words_read None line (first ∷ words) = do
+  p ← first_line_of line first words
+  Ok (Some p)
+words_read (Some before) line (first ∷ words) = do
+  p ← later_line_of before line first words
+  Ok (Some p)
+
+-- the same with the bytes of one more line
+unfoldable pub line_read : Option Plan → ℕ → List ℕ → Result (Option Plan) LineKind
+line_read so_far line bytes = if list_all is_printable bytes then words_read so_far line (words_of bytes) else Err NotPrintable
+
+-- the same with more lines, of which the first has this number
+abbrev pub lines_read : Option Plan → ℕ → List (List ℕ) → Result (Option Plan) (ℕ × LineKind)
+lines_read so_far line [] = Ok so_far
+lines_read so_far line (bytes ∷ more) = do
+  after ← at_line line (line_read so_far line bytes)
+  lines_read after (line + 1) more
+
+-- without the last piece where that is empty
+abbrev pub without_empty_end : List (List ℕ) → List (List ℕ)
+without_empty_end [] = []
+without_empty_end ([] ∷ []) = []
+without_empty_end ((byte ∷ bytes) ∷ []) = (byte ∷ bytes) ∷ []
+without_empty_end (piece ∷ next ∷ more) = piece ∷ without_empty_end (next ∷ more)
+
+-- the lines of a text: a line feed (10) ends each, and the last may lack it
+abbrev pub lines_of : List ℕ → List (List ℕ)
+lines_of text = without_empty_end (slice_split (λ byte. byte == 10) text)
+
+-- a schedule has a configuration; where there is none, that is a fault behind the last line
+abbrev pub configured : ℕ → Option Plan → Result Plan (ℕ × LineKind)
+configured behind None = Err (behind, NoConfig)
+configured behind (Some p) = Ok p
+
+-- the schedule of a text, or the line and the kind of its first fault; lines are numbered from 1
+unfoldable pub schedule_of : List ℕ → Result Plan (ℕ × LineKind)
+schedule_of text = do
+  read ← lines_read None 1 (lines_of text)
+  configured (length (lines_of text) + 1) read

@@ -1,37 +1,68 @@
--- A schedule is what its text says, and what a run prints is the print of its play.
-use Rattle.std.specs.Prelude.{◌≡◌, ℕ, List, [], ◌∷◌, map, reverse, Option, Some, None}
+-- What the play of a schedule is, and what a run prints or tells of a text.
+use Rattle.std.specs.Prelude.{◌≡◌, ℕ, ◌⊎◌, List, reverse, Option, Some, None, Result, Ok, Err}
+use Rattle.dspec_record.specs.declared.field.Field.{Field}
+use Rattle.dspec_record.specs.Schemas.{FieldTable, default_fields, enabled, table_shape, table_accepts}
 use Rattle.dspec_core.specs.declared.outcome.Outcome.{Outcome}
-use Rattle.dspec_core.specs.Whole.{answers_of, deeds_of, reports, streams}
+use Rattle.dspec_core.specs.declared.outcome.PlayFault.{PlayFault}
+use Rattle.dspec_core.specs.Closes.{reports, streams}
+use Rattle.dspec_core.specs.Plays.{answers_of, deeds_of, play_fault, worn_count}
+use Rattle.specplay.specs.declared.fault.LineKind.{LineKind}
+use Rattle.specplay.specs.declared.fault.RunFault.{RunFault}
+use Rattle.specplay.specs.declared.fault.RunFault.TheVariants.{Line, Memory, TooLong, Read, Write}
 use Rattle.specplay.specs.declared.schedule.Schedule.{Schedule}
 use Rattle.specplay.specs.Printed.{printed_text}
-use Rattle.specplay.specs.Reading.{Line, lines_of_text, EachTo, IsConfigLine, IsTurnLine}
+use Rattle.specplay.specs.Reading.{Plan, schedule_of}
+use Rattle.specplay.specs.Runs.{told}
 
--- the first line sets up, and each later one is a turn
-pub record IsReading (first : Line) (later : List Line) (s : Schedule) : Type 0 where
-  pub config_number : s.config_line ≡ first.0
-  pub config_words : IsConfigLine first.1 s.config
-  pub turn_numbers : s.lines.items ≡ map (λ line. line.0) later
-  pub turn_words : EachTo (λ line turn. IsTurnLine line.1 turn) later s.turns.items
+-- what a schedule in memory holds
+abbrev pub plan_of : Schedule → Plan
+plan_of s = record { config = s.config; config_line = s.config_line; enablings = s.enablings; turns = s.turns.items; lines = s.lines.items }
 
--- what was read of the lines so far
-abbrev pub IsReadSoFar : List Line → Option Schedule → Type 0
-IsReadSoFar lines None = lines ≡ []
-IsReadSoFar lines (Some s) = (first : Line) × (later : List Line) × (lines ≡ first ∷ later) × IsReading first later s
+-- a fault of reading is out of memory, or the one that the text has
+abbrev pub IsReadingFault : {A : Type 0} → Result A (ℕ × LineKind) → RunFault → Type 0
+IsReadingFault read (Line line kind) = read ≡ Err (line, kind)
+IsReadingFault read Memory = Unit {0}
+IsReadingFault read TooLong = ⊥
+IsReadingFault read Read = ⊥
+IsReadingFault read Write = ⊥
 
-abbrev pub IsScheduleOf : List ℕ → Schedule → Type 0
-IsScheduleOf text s = IsReadSoFar (lines_of_text text) (Some s)
+-- which fields the records of a probe have: without an enabling, the default action's
+abbrev pub table_of : Option (List (List Field)) → FieldTable
+table_of None = default_fields
+table_of (Some rows) = enabled rows
+
+-- why a play of the schedule is refused
+abbrev pub fault_of : Plan → Option PlayFault
+fault_of p = play_fault (table_shape (table_of p.enablings)) (table_accepts (table_of p.enablings)) p.config p.turns
 
 -- the outcome is what the turns of the schedule play
-pub record IsPlayOf (s : Schedule) (outcome : Outcome) : Type 0 where
-  pub deeds : outcome.close.deeds ≡ reverse (deeds_of s.config s.turns.items)
-  pub answers : outcome.answers ≡ answers_of s.config s.turns.items
-  pub accepted : outcome.close.accepted ≡ streams s.config (reverse outcome.close.deeds)
-  pub reports : outcome.close.reports ≡ reports s.config outcome.answers (reverse outcome.close.deeds)
+pub record IsPlayOf (p : Plan) (outcome : Outcome) : Type 0 where
+  pub allowed : fault_of p ≡ None
+  pub deeds : outcome.close.deeds ≡ reverse (deeds_of (table_shape (table_of p.enablings)) (table_accepts (table_of p.enablings)) p.config p.turns)
+  pub answers : outcome.answers ≡ answers_of (table_shape (table_of p.enablings)) (table_accepts (table_of p.enablings)) p.config p.turns
+  pub accepted : outcome.close.accepted ≡ streams p.config (reverse outcome.close.deeds)
+  pub reports : outcome.close.reports ≡ reports p.config (worn_count outcome.answers) (reverse outcome.close.deeds)
 
 -- the text is a schedule, and what is printed is the outcome of its play
 pub record Prints (text printed : List ℕ) : Type 0 where
-  pub schedule : Schedule
+  pub plan : Plan
   pub outcome : Outcome
-  pub read : IsScheduleOf text schedule
-  pub play : IsPlayOf schedule outcome
+  pub read : schedule_of text ≡ Ok plan
+  pub play : IsPlayOf plan outcome
   pub whole : printed ≡ printed_text outcome
+
+-- the text is a schedule whose play is refused, and the refusal is told so
+pub record IsRefused (text : List ℕ) (told_as : RunFault) : Type 0 where
+  pub plan : Plan
+  pub fault : PlayFault
+  pub read : schedule_of text ≡ Ok plan
+  pub refused : fault_of plan ≡ Some fault
+  pub telling : told plan.config_line plan.lines fault ≡ told_as
+
+-- a line that is told is the one at which the text isn't a schedule, or the one at which its play is refused
+abbrev pub IsToldOf : List ℕ → RunFault → Type 0
+IsToldOf text (Line line kind) = (schedule_of text ≡ Err (line, kind)) ⊎ IsRefused text (Line line kind)
+IsToldOf text Memory = Unit {0}
+IsToldOf text TooLong = Unit {0}
+IsToldOf text Read = Unit {0}
+IsToldOf text Write = Unit {0}

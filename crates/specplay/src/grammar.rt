@@ -1,74 +1,182 @@
-ghost use Rattle.std.specs.Prelude.{◌≡◌, [], ◌∷◌, None, codes, map, take, IfOk};
-ghost use Rattle.dspec_core.specs.Ranges.{start_fault};
-ghost use Rattle.specplay.specs.Reading.{AreNumbers, IsConfigLine, IsTurnLine};
+ghost use Rattle.std.specs.Prelude.{◌≡◌, map};
+ghost use Rattle.std.specs.Result.{result_map_both};
+ghost use Rattle.specplay.specs.Calls.{actor_call_of, actor_of, begun_call, call_of, consumer_call_of, cpu_call_of, cpu_of, id_of, record_of, speculate_of, stepping_of, turn_of, whole_call};
+ghost use Rattle.specplay.specs.Words.{no_word, only_word};
 
 use crate::fault::LineKind;
 use crate::number::{number, small_number};
-use dspec_core::{Config, CpuOp, Rec, Turn};
+use dspec_core::{Actor, ConsumerOp, CpuOp, Turn};
+use dspec_record::Rec;
+use dspec_word::SpecId;
 
 /// The most values of a record.
 const MAX_VALUES: usize = 8;
 
-/// The configuration on a schedule's first line, whose first word is `config`.
-pub fn config_line(words: &[&str]) -> Result<Config, LineKind>
-    ensures words { IfOk result (IsConfigLine (map (λ word. word.now) words.now)) }
-    ensures checked { IfOk result (λ config. start_fault config ≡ None) }
+/// A call with its actor.
+#[derive(Clone, Copy, Debug, PartialEq, Eq)]
+pub enum Call {
+    Cpu(u32, CpuOp),
+    Consumer(ConsumerOp),
+}
+
+/// The turn of a line, by its first word and those behind it.
+#[tactic(auto, unfolding(crate::specs::Calls::turn_of))]
+pub fn turn(first: &str, words: &[&str]) -> Result<Turn, LineKind>
+    ensures { result ≡ turn_of first.now (map (λ word. word.now) words.now) }
 {
-    match words.split_first() {
-        Some((first, numbers)) if *first == "config" => {
-            let config = configuration(numbers)?;
-            config.check().map_err(LineKind::ConfigRefused)?;
-            Ok(config)
+    match first {
+        "run" => Ok(whole(named_call(words)?)),
+        "begin" => Ok(begun(named_call(words)?)),
+        "step" => Ok(Turn::Step(stepping(words)?)),
+        _ => Err(LineKind::UnknownWord),
+    }
+}
+
+/// The turn that makes a whole call.
+fn whole(call: Call) -> Turn
+    ensures { result ≡ whole_call call }
+{
+    match call {
+        Call::Cpu(cpu, op) => Turn::RunCpu(cpu, op),
+        Call::Consumer(op) => Turn::RunConsumer(op),
+    }
+}
+
+/// The turn that begins a call.
+fn begun(call: Call) -> Turn
+    ensures { result ≡ begun_call call }
+{
+    match call {
+        Call::Cpu(cpu, op) => Turn::BeginCpu(cpu, op),
+        Call::Consumer(op) => Turn::BeginConsumer(op),
+    }
+}
+
+/// An actor alone.
+#[tactic(auto, unfolding(crate::specs::Calls::stepping_of))]
+fn stepping(words: &[&str]) -> Result<Actor, LineKind>
+    ensures { result ≡ stepping_of (map (λ word. word.now) words.now) }
+{
+    let [who, rest @ ..] = words else {
+        return Err(LineKind::WordCount);
+    };
+    let actor = actor(who)?;
+    no_more(rest)?;
+    Ok(actor)
+}
+
+/// An actor, and a call of it.
+#[tactic(auto, unfolding(crate::specs::Calls::call_of))]
+fn named_call(words: &[&str]) -> Result<Call, LineKind>
+    ensures { result ≡ call_of (map (λ word. word.now) words.now) }
+{
+    let [who, operation, operands @ ..] = words else {
+        return Err(LineKind::WordCount);
+    };
+    let actor = actor(who)?;
+    call_by(actor, operation, operands)
+}
+
+/// A call of this actor: its operation, and what the operation takes.
+#[tactic(auto, unfolding(crate::specs::Calls::actor_call_of))]
+fn call_by(actor: Actor, operation: &str, operands: &[&str]) -> Result<Call, LineKind>
+    ensures { result ≡ actor_call_of actor operation.now (map (λ word. word.now) operands.now) }
+{
+    match actor {
+        Actor::Cpu(cpu) => Ok(Call::Cpu(cpu, cpu_call(operation, operands)?)),
+        Actor::Consumer => Ok(Call::Consumer(consumer_call(operation, operands)?)),
+    }
+}
+
+/// The consumer, or a CPU by its number.
+#[tactic(auto, unfolding(crate::specs::Calls::actor_of))]
+fn actor(word: &str) -> Result<Actor, LineKind>
+    ensures { result ≡ actor_of word.now }
+{
+    match word {
+        "consumer" => Ok(Actor::Consumer),
+        _ => Ok(Actor::Cpu(small_number(word)?)),
+    }
+}
+
+/// A call of a CPU: its operation, and what the operation takes.
+#[tactic(auto, unfolding(crate::specs::Calls::cpu_call_of))]
+fn cpu_call(operation: &str, operands: &[&str]) -> Result<CpuOp, LineKind>
+    ensures { result ≡ cpu_call_of operation.now (map (λ word. word.now) operands.now) }
+{
+    match operation {
+        "trace" => Ok(CpuOp::Trace(record(operands)?)),
+        "speculation" => {
+            no_more(operands)?;
+            Ok(CpuOp::Speculation)
         }
-        _ => Err(LineKind::NoConfig),
-    }
-}
-
-/// The configuration of six numbers, in the order of its fields.
-fn configuration(numbers: &[&str]) -> Result<Config, LineKind>
-    ensures { IfOk result (λ k. AreNumbers (map (λ word. word.now) numbers.now)
-        (k.cpus ∷ k.nspec ∷ k.bufsize ∷ k.specsize ∷ k.max_issues ∷ k.max_calls ∷ [])) }
-{
-    let [cpus, nspec, bufsize, specsize, issues, calls] = numbers else {
-        return Err(LineKind::WordCount);
-    };
-    Ok(Config {
-        cpus: small_number(cpus)?,
-        nspec: small_number(nspec)?,
-        bufsize: small_number(bufsize)?,
-        specsize: small_number(specsize)?,
-        max_issues: number(issues)?,
-        max_calls: number(calls)?,
-    })
-}
-
-/// The turn on a later line.
-pub fn turn_line(words: &[&str]) -> Result<Turn, LineKind>
-    ensures { IfOk result (IsTurnLine (map (λ word. word.now) words.now)) }
-{
-    match words.split_first() {
-        Some((first, call)) if *first == "run" => whole_call(call),
+        "speculate" => speculate(operands),
+        "commit" => Ok(CpuOp::Commit(id(only(operands)?)?)),
+        "discard" => Ok(CpuOp::Discard(id(only(operands)?)?)),
+        "service" => {
+            no_more(operands)?;
+            Ok(CpuOp::Service)
+        }
         _ => Err(LineKind::UnknownWord),
     }
 }
 
-/// A whole call: its actor, its operation, and what the operation takes.
-fn whole_call(words: &[&str]) -> Result<Turn, LineKind>
-    ensures { IfOk result (λ turn. IsTurnLine (codes "run" ∷ map (λ word. word.now) words.now) turn) }
+/// A call of the consumer: its operation, and what the operation takes.
+#[tactic(auto, unfolding(crate::specs::Calls::consumer_call_of))]
+fn consumer_call(operation: &str, operands: &[&str]) -> Result<ConsumerOp, LineKind>
+    ensures { result ≡ consumer_call_of operation.now (map (λ word. word.now) operands.now) }
 {
-    let [actor, operation, operands @ ..] = words else {
-        return Err(LineKind::WordCount);
-    };
-    let cpu = small_number(actor)?;
-    match *operation {
-        "trace" => Ok(Turn::RunCpu(cpu, CpuOp::Trace(record(operands)?))),
+    match operation {
+        "ask" => Ok(ConsumerOp::Ask(cpu(operands)?)),
+        "take" => Ok(ConsumerOp::Take(cpu(operands)?)),
+        "giveback" => Ok(ConsumerOp::GiveBack(cpu(operands)?)),
+        "clean" => {
+            no_more(operands)?;
+            Ok(ConsumerOp::Clean)
+        }
+        "stop" => {
+            no_more(operands)?;
+            Ok(ConsumerOp::Stop)
+        }
         _ => Err(LineKind::UnknownWord),
     }
+}
+
+/// The one CPU that a call of the consumer is about.
+#[tactic(auto, unfolding(crate::specs::Calls::cpu_of))]
+fn cpu(words: &[&str]) -> Result<u32, LineKind>
+    ensures { result ≡ cpu_of (map (λ word. word.now) words.now) }
+{
+    small_number(only(words)?)
+}
+
+/// What `speculate` takes: a speculation, and a record.
+#[tactic(auto, unfolding(crate::specs::Calls::speculate_of))]
+fn speculate(words: &[&str]) -> Result<CpuOp, LineKind>
+    ensures { result ≡ speculate_of (map (λ word. word.now) words.now) }
+{
+    let [first, rest @ ..] = words else {
+        return Err(LineKind::WordCount);
+    };
+    if rest.is_empty() || rest.len() > 1 + MAX_VALUES {
+        return Err(LineKind::WordCount);
+    }
+    let id = id(first)?;
+    Ok(CpuOp::Speculate(id, record(rest)?))
+}
+
+/// The speculation of a number.
+#[tactic(auto, unfolding(crate::specs::Calls::id_of))]
+fn id(word: &str) -> Result<SpecId, LineKind>
+    ensures { result ≡ id_of word.now }
+{
+    Ok(SpecId::from_raw(number(word)?))
 }
 
 /// A record: its probe identifier, and at most 8 values.
+#[tactic(auto, unfolding(crate::specs::Calls::record_of))]
 fn record(words: &[&str]) -> Result<Rec, LineKind>
-    ensures { IfOk result (λ rec. AreNumbers (map (λ word. word.now) words.now) (rec.epid ∷ take rec.len rec.values)) }
+    ensures { result ≡ record_of (map (λ word. word.now) words.now) }
 {
     let Some((epid, rest)) = words.split_first() else {
         return Err(LineKind::WordCount);
@@ -82,4 +190,27 @@ fn record(words: &[&str]) -> Result<Rec, LineKind>
         values[index] = number(word)?;
     }
     Rec::new(epid, &values[..rest.len()]).ok_or(LineKind::WordCount)
+}
+
+/// The only word.
+#[tactic(auto, unfolding(crate::specs::Words::only_word))]
+fn only<'a>(words: &[&'a str]) -> Result<&'a str, LineKind>
+    ensures { result_map_both (λ word. word.now) (λ kind. kind) result ≡ only_word (map (λ word. word.now) words.now) }
+{
+    match words {
+        [word] => Ok(*word),
+        _ => Err(LineKind::WordCount),
+    }
+}
+
+/// No word.
+#[tactic(auto, unfolding(crate::specs::Words::no_word))]
+fn no_more(words: &[&str]) -> Result<(), LineKind>
+    ensures { result ≡ no_word (map (λ word. word.now) words.now) }
+{
+    if words.is_empty() {
+        Ok(())
+    } else {
+        Err(LineKind::WordCount)
+    }
 }

@@ -2,9 +2,10 @@
 //! streams; its exit status and one line of standard error tell why it did not.
 //!
 //! It promises, for any reader and any writer (`runner::run`), that nothing is written before the whole play has
-//! succeeded, and that an input over the limit never succeeds (specs/Runs.antt). A number of a schedule is what its
-//! digits say (specs/Words.antt). How the lines are read and printed is shown by tests. Stands on `dspec_core`, whose
-//! `play` answers for the play itself.
+//! succeeded, and that an input over the limit never succeeds (specs/Runs.antt). What is written is the print of the
+//! play of the schedule that the input's bytes say, and a line that is told is the first one at which they say none, or
+//! the one whose turn the play refuses (specs/Reading.antt, specs/Schedules.antt). Stands on `dspec_core`, whose `play`
+//! answers for the play itself.
 #![tactic(auto)]
 
 mod fault;
@@ -14,6 +15,7 @@ mod number;
 mod printing;
 mod runner;
 mod schedule;
+mod setup;
 mod words;
 
 use fault::RunFault;

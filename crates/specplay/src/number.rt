@@ -1,6 +1,5 @@
-ghost use Rattle.std.specs.Prelude.{◌≡◌, ◌↔◌, ◌<◌, ◌^◌, IfErr, IsTrue, slice_index};
-ghost use Rattle.std.specs.Result.{OkIff};
-ghost use Rattle.std.specs.Str.Parse.{IsNumeral, digits_value};
+ghost use Rattle.std.specs.Prelude.{◌≡◌, ◌↔◌, IsTrue, slice_index, is_ok, map};
+ghost use Rattle.specplay.specs.Words.{numbers_of, small_number_of, wide_number_of};
 
 use crate::fault::LineKind;
 
@@ -13,8 +12,7 @@ fn has_plus(word: &str) -> bool
 
 /// The number that a word of decimal digits alone stands for, up to 64 bits.
 pub fn number(word: &str) -> Result<u64, LineKind>
-    ensures ok { OkIff result (IsNumeral 10 word.now × (digits_value 10 word.now < 2 ^ 64)) (digits_value 10 word.now) }
-    ensures err { IfErr result (λ kind. kind ≡ LineKind.BadNumber) }
+    ensures { result ≡ wide_number_of word.now }
 {
     if has_plus(word) {
         return Err(LineKind::BadNumber);
@@ -24,11 +22,22 @@ pub fn number(word: &str) -> Result<u64, LineKind>
 
 /// The same up to 32 bits, which a CPU, a probe identifier and the sizes of a configuration have.
 pub fn small_number(word: &str) -> Result<u32, LineKind>
-    ensures ok { OkIff result (IsNumeral 10 word.now × (digits_value 10 word.now < 2 ^ 32)) (digits_value 10 word.now) }
-    ensures err { IfErr result (λ kind. kind ≡ LineKind.BadNumber) }
+    ensures { result ≡ small_number_of word.now }
 {
     if has_plus(word) {
         return Err(LineKind::BadNumber);
     }
     word.parse::<u32>().map_err(|_| LineKind::BadNumber)
+}
+
+/// Whether all words are numbers of 64 bits.
+pub fn are_numbers(words: &[&str]) -> bool
+    ensures { result ≡ is_ok (numbers_of (map (λ word. word.now) words.now)) }
+{
+    for word in words {
+        if number(word).is_err() {
+            return false;
+        }
+    }
+    true
 }

@@ -1,13 +1,15 @@
-ghost use Rattle.std.specs.Prelude.{◌≡◌, ◌≢◌, ◌<◌, ℕ, List, length, IfErr, IfOk, IfSome, IsErrAnd, OnOk, string_bytes};
+ghost use Rattle.std.specs.Prelude.{◌≡◌, ◌≢◌, ◌<◌, List, ℕ, length, IfErr, IfOk, IfSome, IsErrAnd, OnOk, Some, string_bytes};
 ghost use Rattle.std.specs.Io.KnownBytes.{Appends};
+ghost use Rattle.dspec_core.specs.declared.outcome.PlayFault.TheVariants as failure;
 ghost use Rattle.specplay.specs.Runs.{IsInputFault, IsScheduleFault};
-ghost use Rattle.specplay.specs.Schedules.{Prints};
+ghost use Rattle.specplay.specs.Schedules.{IsPlayOf, IsToldOf, Prints, fault_of, plan_of};
 
 use crate::fault::RunFault;
 use crate::input::{MAX_INPUT, read_whole};
 use crate::printing::printed;
-use crate::schedule::read_schedule;
-use dspec_core::{DefaultAction, play};
+use crate::schedule::{Schedule, read_schedule};
+use dspec_core::{Outcome, PlayFault, play};
+use dspec_record::DefaultAction;
 use std::alloc::Global;
 use std::io::{Read, Write};
 
@@ -19,6 +21,7 @@ pub fn run<R: Read, W: Write>(alloc: Global, input: &mut R, output: &mut W) -> R
     ensures limit { result ≡ Err RunFault.TooLong → IfSome (R.remaining input.old) (λ known. MAX_INPUT < length known) }
     ensures printed { OnOk result (IfSome (R.remaining input.old) (λ text.
         (printed : List ℕ) × Prints text printed × Appends (W.contents output.old) (W.contents output.new) printed)) }
+    ensures told { IfErr result (λ fault. IfSome (R.remaining input.old) (λ text. IsToldOf text fault)) }
 {
     let text = read_whole(alloc, input)?;
     let printed = play_text(alloc, text.as_slice())?;
@@ -29,16 +32,24 @@ pub fn run<R: Read, W: Write>(alloc: Global, input: &mut R, output: &mut W) -> R
 fn play_text(alloc: Global, text: &[u8]) -> Result<String, RunFault>
     ensures ok { IfOk result (λ printed. Prints text.now (string_bytes printed)) }
     ensures faults { IfErr result IsScheduleFault }
+    ensures told { IfErr result (IsToldOf text.now) }
 {
     let schedule = read_schedule(alloc, text)?;
-    match play(
-        alloc,
-        &schedule.config,
-        DefaultAction,
-        schedule.turns.as_slice(),
-    ) {
+    match play_schedule(alloc, &schedule) {
         Ok(outcome) => Ok(printed(alloc, &outcome)?),
         Err(fault) => Err(schedule.blame(fault)),
+    }
+}
+
+/// Plays a schedule, with its enablings or with the default action.
+fn play_schedule(alloc: Global, schedule: &Schedule) -> Result<Outcome, PlayFault>
+    ensures played { IfOk result (IsPlayOf (plan_of schedule.now)) }
+    ensures refused { IfErr result (λ fault. fault ≢ failure.Memory → fault_of (plan_of schedule.now) ≡ Some fault) }
+{
+    let turns = schedule.turns.as_slice();
+    match schedule.enablings {
+        None => play(alloc, &schedule.config, DefaultAction, turns),
+        Some(enablings) => play(alloc, &schedule.config, enablings, turns),
     }
 }
 

@@ -1,21 +1,22 @@
-ghost use Rattle.std.specs.Prelude.{◌≡◌, ◌↔◌, All, map, IfOk, IfSome, IsNone, IsTrue};
-ghost use Rattle.specplay.specs.Words.{IsPrintable, pieces_of, words_of};
+ghost use Rattle.std.specs.Prelude.{◌≡◌, false, map, IfOk, IfSome, MatchOption, true};
+ghost use Rattle.std.specs.List.{list_all};
+ghost use Rattle.specplay.specs.Words.{is_printable, pieces_of, words_of};
 
 use std::alloc::{AllocError, Global};
 
 /// Whether the line has no byte but spaces and graphic characters of ASCII.
-fn is_printable(line: &[u8]) -> bool
-    ensures { IsTrue result ↔ All IsPrintable line.now }
+fn has_printable_bytes(line: &[u8]) -> bool
+    ensures { result ≡ list_all is_printable line.now }
 {
     line.iter().all(|byte| (b' '..=b'~').contains(byte))
 }
 
 /// The line as text; None where it isn't printable.
 pub fn printable_text(line: &[u8]) -> Option<&str>
-    ensures refused { IsNone result ↔ ¬ All IsPrintable line.now }
+    ensures told { MatchOption result (list_all is_printable line.now ≡ false) (λ _. list_all is_printable line.now ≡ true) }
     ensures same { IfSome result (λ text. text.now ≡ line.now) }
 {
-    if is_printable(line) {
+    if has_printable_bytes(line) {
         str::from_utf8(line).ok()
     } else {
         None

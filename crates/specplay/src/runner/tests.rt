@@ -1,6 +1,7 @@
 use super::*;
 use crate::fault::LineKind;
-use dspec_core::{Config, CpuOp, Rec, StartFault, Turn};
+use dspec_core::{Config, CpuOp, StartFault, Turn};
+use dspec_record::Rec;
 use std::io;
 use std::test::Fail;
 

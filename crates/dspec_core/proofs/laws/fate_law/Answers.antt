@@ -1,5 +1,5 @@
-use Rattle.dspec_core.proofs.LawLemmas.{headline}
+use Rattle.dspec_core.proofs.Headlines.{headline}
 use Rattle.dspec_core.proofs.laws.fate_law.Goals as goal
 
 pub returns : goal.returns
-returns c k h cpu legal = (headline cpu h).fates
+returns c shape k h cpu legal = (headline shape k cpu h legal).fates

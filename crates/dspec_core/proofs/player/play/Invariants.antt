@@ -1,5 +1,12 @@
-use Rattle.dspec_core.proofs.Playing.{IsSoFar}
+-- The turns that are played.
+use Rattle.std.proofs.Common.{◌≡◌}
+use Rattle.dspec_core.specs.Promised.{HasHeadline}
+use Rattle.dspec_core.proofs.PlayerRuns.{IsSoFar}
 use Rattle.dspec_core.proofs.player.play.Given as goal
 
 abbrev pub invariant-loop-number : goal.invariant-loop-number
-invariant-loop-number l = IsSoFar l.config l.turns l.number l.world l.answers
+invariant-loop-number g l =
+    IsSoFar (g.S.Schema.shape_of l.fn.schema) (g.S.Schema.accepted l.fn.schema) l.config l.turns l.number l.world.state l.answers
+    × (l.world.schema ≡ l.fn.schema)
+    × (l.world.state.config ≡ l.config)
+    × HasHeadline (g.S.Schema.shape_of l.world.schema) l.world.state

@@ -1,7 +1,6 @@
-use Rattle.std.proofs.Common.{◌≡◌, None, IfSome, map, length}
-use Rattle.dspec_core.specs.Ranges.{start_fault}
-use Rattle.specplay.specs.Reading.{lines_of}
-use Rattle.specplay.specs.Schedules.{IsReadSoFar}
+use Rattle.std.proofs.Common.{◌≡◌, ◌+◌, None, Ok, map, length, option_map, if◌then◌else◌}
+use Rattle.specplay.specs.Reading.{lines_read, without_empty_end}
+use Rattle.specplay.specs.Schedules.{plan_of}
 use Rattle.specplay.proofs.schedule.read_schedule.Given as goal
 
 abbrev pub invariant-loop-bytes : goal.invariant-loop-bytes
@@ -9,5 +8,5 @@ invariant-loop-bytes l =
     goal.iterator-loop-bytes.can_next l.bytes-iterator ×
     goal.iterator-loop-bytes.is_finite l.bytes-iterator ×
     (l.line ≡ length l.yielded) ×
-    IsReadSoFar (lines_of (map (λ bytes. bytes.now) l.yielded)) l.schedule ×
-    IfSome l.schedule (λ schedule. start_fault schedule.config ≡ None)
+    (lines_read None 1 (map (λ bytes. bytes.now) l.yielded) ≡ Ok (option_map plan_of l.schedule)) ×
+    (l.line + (if l.is_open then 1 else 0) ≡ length (without_empty_end (map (λ bytes. bytes.now) l.yielded)) + 1)

@@ -1,10 +1,8 @@
-use Rattle.std.proofs.Common.{ap, refl}
-use Rattle.dspec_core.proofs.Shows.{shown_at_first}
+-- What is promised, from coherence.
+use Rattle.std.proofs.Common.{refl}
+use Rattle.dspec_core.specs.Worlds.{session_of}
+use Rattle.dspec_core.proofs.PromiseKept.{promise_kept}
 use Rattle.dspec_core.proofs.world.World.new.Goals as goal
 
-pub returns-clause-shown : goal.returns-clause-shown
-returns-clause-shown c =
-    shown_at_first _ c.requires c.new.ensures c.new-2.ensures refl (c.zero.ensures 0)
-
-pub returns-clause-fresh : goal.returns-clause-fresh
-returns-clause-fresh c = ap (λ p. p.worn) (c.zero.ensures 0)
+pub returns-clause-promised : goal.returns-clause-promised
+returns-clause-promised g c = promise_kept g.S.Schema.shape_of c.in-Ok.machine (session_of c.in-Ok.machine) refl c.in-Ok.ensures.kept.coherent

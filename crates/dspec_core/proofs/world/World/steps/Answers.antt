@@ -1,0 +1,35 @@
+-- The steps stay below the bound of the call in flight.
+use Rattle.std.proofs.Common.{◌≡◌, ◌<◌, true, refl, sym, ap, subst}
+use Rattle.dspec_core.specs.declared.calls.Actor.{Actor}
+use Rattle.dspec_core.specs.declared.calls.Actor.TheVariants as actor
+use Rattle.dspec_core.specs.declared.flight.Caller.{Caller}
+use Rattle.dspec_core.specs.Bounds.{steps_limit}
+use Rattle.dspec_core.specs.Calls.{is_actor}
+use Rattle.dspec_core.specs.Coherent.{PlayState}
+use Rattle.dspec_core.specs.Machines.{state_of}
+use Rattle.dspec_core.proofs.MachineReads.{side_got}
+use Rattle.dspec_core.proofs.OneMore.{caller_there}
+use Rattle.dspec_core.proofs.StepCounts.{is_below, steps_below}
+use Rattle.dspec_core.proofs.world.World.steps.Goals as goal
+
+pub returns-in-Cpu-clause-bounded : goal.returns-in-Cpu-clause-bounded
+returns-in-Cpu-clause-bounded g c =
+    let m = c.self.inside.machine in
+    let a = c.in-Cpu.cpu in
+    let side = c.index.result.now in
+    let same : state_of m ≡ c.args.self.now.state = λ i. (c.self.view_is i).state in
+    let there : is_actor m.config (actor.Cpu a) ≡ true = subst (λ (x : Actor). is_actor m.config x ≡ true) c.in-Cpu.is (subst (λ (st : PlayState). is_actor st.config c.args.actor ≡ true) (sym same) c.requires) in
+    let low = steps_below (g.S.Schema.shape_of m.schema) (state_of m) (actor.Cpu a) c.self.invariant.coherent there in
+    let got = side_got g.B.TraceBuffer.has g.B.TraceBuffer.capacity m c.self.invariant.shown a side (is_below m.config a there) c.index.ensures in
+    let made = ap (λ (x : Caller). x.steps) (caller_there m.sides.items a side got) in
+    subst (λ (st : PlayState). side.caller.steps < steps_limit c.args.actor st) same
+    (subst (λ (x : Actor). side.caller.steps < steps_limit x (state_of m)) (sym c.in-Cpu.is)
+    (subst (λ n. n < steps_limit (actor.Cpu a) (state_of m)) made low))
+
+pub returns-in-Consumer-clause-bounded : goal.returns-in-Consumer-clause-bounded
+returns-in-Consumer-clause-bounded g c =
+    let m = c.self.inside.machine in
+    let same : state_of m ≡ c.args.self.now.state = λ i. (c.self.view_is i).state in
+    subst (λ (st : PlayState). m.consumer.steps < steps_limit c.args.actor st) same
+    (subst (λ (x : Actor). m.consumer.steps < steps_limit x (state_of m)) (sym c.in-Consumer.is)
+    (steps_below (g.S.Schema.shape_of m.schema) (state_of m) actor.Consumer c.self.invariant.coherent refl))

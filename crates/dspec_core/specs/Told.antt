@@ -1,0 +1,22 @@
+-- What a fate is told as, and which identifier an answer gives.
+use Rattle.dspec_word.specs.SpecId.{Speculation, no_speculation}
+use Rattle.dspec_core.specs.declared.calls.Decided.{Decided}
+use Rattle.dspec_core.specs.declared.calls.Decided.TheVariants as answer
+use Rattle.dspec_core.specs.declared.calls.Opening.{Opening}
+use Rattle.dspec_core.specs.declared.calls.Opening.TheVariants as opening
+use Rattle.dspec_core.specs.declared.deed.DecideFate.{DecideFate}
+use Rattle.dspec_core.specs.declared.deed.DecideFate.TheVariants.{Copied, Lost, Thrown, Void, Stopped}
+
+abbrev pub told : DecideFate → Decided
+told (Copied n) = answer.Copied n
+told (Lost n) = answer.Lost n
+told (Thrown n) = answer.Thrown n
+told Void = answer.Void
+told Stopped = answer.Stopped
+
+abbrev pub id_told : Opening → Speculation
+id_told (opening.Id id) = id
+id_told opening.Unavailable = no_speculation
+id_told opening.Busy = no_speculation
+id_told opening.Stopped = no_speculation
+id_told opening.Worn = no_speculation

@@ -1,5 +1,0 @@
-use Rattle.dspec_laws.proofs.Headlines.{headline}
-use Rattle.dspec_laws.proofs.laws.fate_law.Goals as goal
-
-pub returns : goal.returns
-returns c shape k h cpu legal = (headline shape k cpu h legal).fates
