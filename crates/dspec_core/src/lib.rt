@@ -26,6 +26,8 @@ mod series;
 mod side;
 mod starting;
 mod stepping;
+#[cfg(test)]
+mod tests;
 mod walking;
 mod world;
 
