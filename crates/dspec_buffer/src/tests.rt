@@ -338,3 +338,36 @@ fn damaged_texts(rt: HostRuntime) -> Result<(), Fail> {
     assert!(rt; reads(&schema, &text, &[first, first, second, last]));
     Ok(())
 }
+
+/// An empty buffer of this size, asked for once more where the growth was refused.
+fn asked_again<S: Schema, B: TraceBuffer<S>>(
+    rt: &(impl Abort + AllocGlobal),
+    schema: &S,
+    size: u32,
+) -> Result<B, AllocError> {
+    match buffer(rt, schema, size) {
+        Ok(buffer) => Ok(buffer),
+        Err(AllocError) => buffer(rt, schema, size),
+    }
+}
+
+/// Where a growth is refused, `make` answers so, and serves when it is asked again. None is refused in an ordinary run;
+/// `.ci/refused-growth` refuses each of the four in turn.
+#[test]
+fn refused_growth(rt: HostRuntime) -> Result<(), Fail> {
+    let schema = four_enablings()?;
+    let mut bytes: ByteBuffer = asked_again(&rt, &schema, 8)?;
+    assert_eq!(rt; bytes.size(), 8);
+    assert_eq!(rt; keep(&rt, &schema, &mut bytes, 4, &[9]), (true, 8));
+    assert_eq!(rt; bytes.bytes(), [4, 0, 0, 0, 9, 0, 0, 0].as_slice());
+    let mut list: ListBuffer = asked_again(&rt, &schema, 8)?;
+    assert_eq!(rt; keep(&rt, &schema, &mut list, 4, &[9]), (true, 8));
+    assert!(rt; walks(&schema, &list, &[rec(&rt, 4, &[9])]));
+    let mut bytes: ByteBuffer = asked_again(&rt, &DefaultAction, 16)?;
+    assert_eq!(rt; keep(&rt, &DefaultAction, &mut bytes, 7, &[]), (true, 4));
+    assert_eq!(rt; bytes.bytes(), [7, 0, 0, 0].as_slice());
+    let mut list: ListBuffer = asked_again(&rt, &DefaultAction, 16)?;
+    assert_eq!(rt; keep(&rt, &DefaultAction, &mut list, 7, &[]), (true, 4));
+    assert!(rt; walks(&DefaultAction, &list, &[rec(&rt, 7, &[])]));
+    Ok(())
+}
