@@ -1,12 +1,14 @@
-# Three short targets; README.md says what each takes.
-SCHEDULE = examples/three-traces.schedule
+# Short targets; README.md says what each takes.
+SCHEDULE = examples/tutorial/01-three-traces.schedule
 PROGRAM = crates/specplay/out/specplay
+BENCH = crates/bench/out/bench
+ROUNDS = 50
 
-.PHONY: play test examples build
+.PHONY: play test examples api mutants build bench bench-instructions build-bench
 
-# Plays one schedule. Building proves what the program stands on, so the first time takes minutes.
-play: build
-	@$(PROGRAM) < $(SCHEDULE)
+# Plays one schedule at once: with the proved program where it is built, else with the trial build of the same sources.
+play:
+	@sh .ci/play "$(SCHEDULE)"
 
 # Everything: all proofs from nothing, the must-fail edits, the tests, the program, and the corpus.
 test:
@@ -16,5 +18,29 @@ test:
 examples: build
 	@examples/check $(PROGRAM)
 
+# The list of public calls, docs/API.md, made from the sources; the gate compares it.
+api:
+	@sh .ci/api
+
+# The wrong bodies that the gate leaves out, each of which the prover must refuse; CRATES names some crates alone.
+mutants:
+	@sh .ci/mutants $(CRATES)
+
+# Proves what the program stands on, and builds it; where nothing has changed, it is kept. It gets the time at which the build
+# began, so that what was edited meanwhile is newer, and play doesn't take the program for proved.
 build:
-	@cd crates/specplay && rt run < ../../examples/empty-session.schedule > /dev/null
+	@mkdir -p crates/specplay/out && touch crates/specplay/out/begun
+	@cd crates/specplay && rt run < ../../examples/cases/empty-session.schedule > /dev/null
+	@touch -r crates/specplay/out/begun $(PROGRAM)
+
+# What a record costs, in nanoseconds on this machine. No check asks for it.
+bench: build-bench
+	@$(BENCH) times $(ROUNDS)
+
+# The same in instructions, where valgrind is installed.
+bench-instructions: build-bench
+	@crates/bench/instructions $(BENCH)
+
+build-bench:
+	@command -v rt > /dev/null || { echo "make bench needs rt, the toolchain's command" >&2; exit 1; }
+	@cd crates/bench && rt run > /dev/null

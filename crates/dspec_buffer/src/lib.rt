@@ -24,6 +24,3 @@ pub use read_fault::ReadFault;
 pub use reader::read_all;
 pub use records::Records;
 pub use trace_buffer::TraceBuffer;
-
-#[cfg(test)]
-mod tests;

@@ -60,8 +60,8 @@ impl<S: Schema> TraceBuffer<S> for ListBuffer {
     }
 
     fn push_block(&mut self, other: &Self) -> bool {
-        let offset = self.offset;
         let size = other.offset;
+        let offset = self.offset;
         if size == 0 {
             return true;
         }

@@ -1,4 +1,4 @@
-ghost use Rattle.std.specs.Prelude.{◌≡◌, ◌↔◌, IsTrue, if◌then◌else◌, nat_lt, ◌≤◌, ◌<◌, ◌+◌, ◌≢◌, ◌⊎◌, ℕ, List, [], length, drop, take, IfOk, IfErr, OnErr, Option, Some, None, MatchOption, MatchResult};
+ghost use Rattle.std.specs.Prelude.{◌≡◌, ◌↔◌, IsTrue, if◌then◌else◌, nat_lt, ◌≤◌, ◌<◌, ◌+◌, ◌%◌, ◌==◌, ◌≢◌, ◌⊎◌, ℕ, List, [], length, drop, take, IfOk, IfErr, OnErr, Option, Some, None, MatchOption, MatchResult};
 ghost use Rattle.dspec_record.specs.Record.{Record};
 ghost use Rattle.dspec_record.specs.Reading.{front_epid};
 ghost use Rattle.dspec_buffer.specs.BufferText.{BufferText};
@@ -11,6 +11,7 @@ use crate::{ReadFault, Records};
 use dspec_record::{ReadKind, Rec, Schema};
 
 /// The EPID at the front of these bytes, if there are four.
+#[inline(always)]
 fn epid_of(bytes: &[u8]) -> Option<u32>
     ensures { result ≡ (if nat_lt (length bytes.now) 4 then None else Some (front_epid bytes.now)) }
 {
@@ -21,6 +22,7 @@ fn epid_of(bytes: &[u8]) -> Option<u32>
 }
 
 /// The place behind the padding word that stands at `place`, if one may stand there and something follows it.
+#[inline(always)]
 fn skip_padding(text: &[u8], place: usize) -> usize
     requires { place ≤ length text.now }
     ensures { SkipsGap text.now place result }
@@ -32,7 +34,17 @@ fn skip_padding(text: &[u8], place: usize) -> usize
     }
 }
 
+/// Whether a place is a multiple of an alignment. 8 and 4 are told apart, since a division is slow.
+#[inline(always)]
+fn is_aligned(at: usize, align: u32) -> bool
+    requires { (align ≡ 4) ⊎ (align ≡ 8) }
+    ensures { result ≡ (at % align == 0) }
+{
+    if align == 8 { at % 8 == 0 } else { at % 4 == 0 }
+}
+
 /// Whether the EPID at the front of these bytes has a shape that may not stand at this place.
+#[inline(always)]
 fn is_misaligned<S: Schema>(schema: &S, bytes: &[u8], at: usize) -> bool
     ensures { IsTrue result ↔ FaultHere (S.shape_of schema.now) (S.accepted schema.now) (S.text schema.now) ReadKind.Misaligned at bytes.now }
 {
@@ -40,12 +52,13 @@ fn is_misaligned<S: Schema>(schema: &S, bytes: &[u8], at: usize) -> bool
         return false;
     };
     match schema.shape(epid) {
-        Some(shape) => at % shape.align as usize != 0,
+        Some(shape) => !is_aligned(at, shape.align),
         None => false,
     }
 }
 
 /// The record at a place that no padding word stands at, and the place behind it.
+#[inline(always)]
 fn read_record<S: Schema>(schema: &S, text: &[u8], at: usize) -> Result<(Rec, usize), ReadFault>
     requires within { at < length text.now }
     requires no_gap { NoGapAt at (drop at text.now) }
@@ -66,6 +79,9 @@ fn read_record<S: Schema>(schema: &S, text: &[u8], at: usize) -> Result<(Rec, us
 }
 
 /// The next record from a place on, which may stand behind a padding word, and the place behind it; None at the end.
+///
+/// It is inlined into each loop that calls it, so that the check of a text, which keeps no record, makes none.
+#[inline(always)]
 pub(crate) fn read_next<S: Schema>(
     schema: &S,
     text: &[u8],
@@ -82,6 +98,7 @@ pub(crate) fn read_next<S: Schema>(
 }
 
 /// The next record of bytes that are known to be a text from this place on, and the place behind it; None at the end.
+#[inline]
 pub(crate) fn next_of_text<S: Schema>(schema: &S, text: &[u8], place: usize) -> Option<(Rec, usize)>
     ensures { (rs : List Record) → HasAhead (S.shape_of schema.now) (S.accepted schema.now) (S.text schema.now) text.now place rs
         → Steps (HasAhead (S.shape_of schema.now) (S.accepted schema.now) (S.text schema.now) text.now) rs result }

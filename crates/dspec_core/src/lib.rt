@@ -1,48 +1,27 @@
 //! The pure core: what is done on every CPU and by the consumer, as one list of deeds, and a session that makes it step by
 //! atomic step.
 //!
-//! It promises that each begin and each step leaves what the definition of a play says (`specs/Play.antt`,
-//! `specs/Turns.antt`), that the list of deeds is legal throughout (`specs/Legal.antt`), that words, buffers and counts show
-//! it (`specs/Machines.antt`), and that the headline is true of it (`specs/Headline.antt`): `World` for every interleaving
-//! over any schema and any buffer, `play` for whole schedules over lists. Stands on `dspec_record`, `dspec_buffer` and
-//! `dspec_word`.
+//! It promises that each begin and each step leaves what the definition of a play says (`specs/Play.antt` and
+//! `specs/Turns.antt` of `dspec_play`), that the list of deeds is legal throughout (`specs/Legal.antt` of `dspec_deeds`), that
+//! words, buffers and counts show it (`specs/Machines.antt` of `dspec_machine`), and that the headline is true of it: `World`
+//! for every interleaving over any schema and any buffer, `play` for whole schedules over lists. Users name this crate alone:
+//! it gives what the three below it have.
 #![tactic(auto)]
 
-mod advancing;
-mod beginning;
-mod calls;
-mod config;
-mod deed;
-mod entering;
-mod finishing;
-mod flight;
-mod laws;
-mod machine;
-mod outcome;
 mod player;
-mod refusal;
-mod reporting;
-mod series;
-mod side;
-mod starting;
-mod stepping;
-#[cfg(test)]
-mod tests;
-mod walking;
 mod world;
 
-pub use calls::{
-    Actor, Answer, ConsumerOp, CpuOp, Decided, Op, Opening, Served, Spoken, Traced, Turn,
+pub use dspec_deeds::{
+    Actor, Answer, Config, ConsumerOp, CpuOp, DecideFate, Decided, Deed, Op, Opening, Report,
+    Served, SpeculateFate, Spoken, StartFault, TraceFate, Traced, Turn, acceptance_law, bare_shows,
+    batch_drops, common_part, fate_law, given_below, late_once, others_leave, own_marks, own_parts,
+    own_reads, own_report, own_sides, placed_seals, prefix_law, settled_once, weaving,
+    word_changes, woven_headline,
 };
-pub use config::{Config, StartFault};
-pub use deed::{DecideFate, Deed, SpeculateFate, TraceFate};
-pub use flight::{Caller, ConsumerFlight, ConsumerSide, CpuFlight, Spare};
-pub use laws::{
-    acceptance_law, bounded_steps, close_is_legal, fate_law, prefix_law, schedule_answers,
-    schedule_legality, solo_rule, whole_calls, whole_plays, whole_release,
+pub use dspec_play::{
+    BeginFault, Close, Outcome, PlayFault, Series, StepFault, Stepped, bounded_steps,
+    close_is_legal, schedule_answers, schedule_legality, solo_rule, whole_calls, whole_plays,
+    whole_release, worn_rule, woven_close,
 };
-pub use outcome::{Close, Outcome, PlayFault, Report};
 pub use player::play;
-pub use refusal::{BeginFault, StepFault, Stepped};
-pub use series::Series;
 pub use world::World;

@@ -1,21 +1,18 @@
 ghost use Rattle.std.specs.Prelude.{◌≡◌, ◌≢◌, ℕ, List, true, false, None, Some, IfOk, IfErr, OnOk, reverse};
-ghost use Rattle.dspec_core.specs.declared.outcome.PlayFault.TheVariants as failure;
-ghost use Rattle.dspec_core.specs.Bounds.{most_steps};
-ghost use Rattle.dspec_core.specs.Calls.{begin_consumer_fault, begin_cpu_fault, idle_step_fault, is_actor, is_idle};
-ghost use Rattle.dspec_core.specs.Closes.{reports, streams};
-ghost use Rattle.dspec_core.specs.Headline.{Headline};
-ghost use Rattle.dspec_core.specs.Legal.{IsLegal};
-ghost use Rattle.dspec_core.specs.Plays.{Ended, IsAt, Playing, all_ran, answers_of, begin_refusal, begun_consumer, begun_cpu, deeds_of, play_fault, ran, refusal, step_refusal, stepped, turned, worn_count};
-ghost use Rattle.dspec_core.specs.Promised.{HasHeadline};
-ghost use Rattle.dspec_core.specs.Ranges.{start_fault};
+ghost use Rattle.dspec_play.specs.declared.outcome.PlayFault.TheVariants as failure;
+ghost use Rattle.dspec_play.specs.Bounds.{most_steps};
+ghost use Rattle.dspec_play.specs.Calls.{begin_consumer_fault, begin_cpu_fault, idle_step_fault, is_actor, is_idle};
+ghost use Rattle.dspec_deeds.specs.Closes.{reports, streams};
+ghost use Rattle.dspec_deeds.specs.Headline.{Headline};
+ghost use Rattle.dspec_deeds.specs.Legal.{IsLegal};
+ghost use Rattle.dspec_play.specs.Plays.{Ended, IsAt, Playing, all_ran, answers_of, begin_refusal, begun_consumer, begun_cpu, deeds_of, play_fault, ran, refusal, step_refusal, stepped, turned, worn_count};
+ghost use Rattle.dspec_play.specs.Promised.{HasHeadline};
+ghost use Rattle.dspec_deeds.specs.Ranges.{start_fault};
 
-use crate::calls::{Actor, Answer, ConsumerOp, CpuOp, Op, Turn};
-use crate::config::{Config, StartFault};
-use crate::outcome::{Outcome, PlayFault};
-use crate::refusal::{BeginFault, Stepped};
-use crate::series::Series;
 use crate::world::World;
 use dspec_buffer::{ListBuffer, TraceBuffer};
+use dspec_deeds::{Actor, Answer, Config, ConsumerOp, CpuOp, Op, StartFault, Turn};
+use dspec_play::{BeginFault, Outcome, PlayFault, Series, Stepped};
 use dspec_record::Schema;
 use std::alloc::{AllocError, Global};
 
@@ -60,7 +57,7 @@ fn step_actor<S: Schema, B: TraceBuffer<S>>(
     requires exists { is_actor world.old.state.config actor ≡ true }
     requires busy { is_idle actor world.old.state ≡ false }
     ensures stepped { OnOk result ((p : Playing) → IsAt world.old.state answers.old p
-        → IsAt world.new.state answers.new (stepped (S.shape_of world.old.schema) (S.accepted world.old.schema) actor p)) }
+        → IsAt world.new.state answers.new (stepped (S.shape_of world.old.schema) actor p)) }
     ensures schema { world.new.schema ≡ world.old.schema }
     ensures config { world.new.state.config ≡ world.old.state.config }
     ensures promised { HasHeadline (S.shape_of world.new.schema) world.new.state }
@@ -90,7 +87,7 @@ fn run_actor<S: Schema, B: TraceBuffer<S>>(
     requires exists { is_actor config.now actor ≡ true }
     requires promised { HasHeadline (S.shape_of world.old.schema) world.old.state }
     ensures ran { OnOk result ((p : Playing) → IsAt world.old.state answers.old p
-        → IsAt world.new.state answers.new (ran (S.shape_of world.old.schema) (S.accepted world.old.schema) actor p)) }
+        → IsAt world.new.state answers.new (ran (S.shape_of world.old.schema) actor p)) }
     ensures schema { world.new.schema ≡ world.old.schema }
     ensures config { world.new.state.config ≡ world.old.state.config }
     ensures promised { HasHeadline (S.shape_of world.new.schema) world.new.state }
@@ -155,7 +152,7 @@ fn step_turn<S: Schema, B: TraceBuffer<S>>(
     requires promised { HasHeadline (S.shape_of world.old.schema) world.old.state }
     ensures allowed { OnOk result (idle_step_fault actor world.old.state ≡ None) }
     ensures stepped { OnOk result ((p : Playing) → IsAt world.old.state answers.old p
-        → IsAt world.new.state answers.new (stepped (S.shape_of world.old.schema) (S.accepted world.old.schema) actor p)) }
+        → IsAt world.new.state answers.new (stepped (S.shape_of world.old.schema) actor p)) }
     ensures schema { world.new.schema ≡ world.old.schema }
     ensures config { world.new.state.config ≡ world.old.state.config }
     ensures promised { HasHeadline (S.shape_of world.new.schema) world.new.state }
@@ -184,7 +181,7 @@ fn take_turn<S: Schema, B: TraceBuffer<S>>(
     requires promised { HasHeadline (S.shape_of world.old.schema) world.old.state }
     ensures allowed { OnOk result (refusal (S.shape_of world.old.schema) (S.accepted world.old.schema) number turn.now world.old.state ≡ None) }
     ensures turned { OnOk result ((p : Playing) → IsAt world.old.state answers.old p
-        → IsAt world.new.state answers.new (turned (S.shape_of world.old.schema) (S.accepted world.old.schema) turn.now p)) }
+        → IsAt world.new.state answers.new (turned (S.shape_of world.old.schema) turn.now p)) }
     ensures schema { world.new.schema ≡ world.old.schema }
     ensures config { world.new.state.config ≡ world.old.state.config }
     ensures promised { HasHeadline (S.shape_of world.new.schema) world.new.state }
@@ -218,7 +215,7 @@ fn run_all<S: Schema, B: TraceBuffer<S>>(
     requires fine { start_fault config.now ≡ None }
     requires promised { HasHeadline (S.shape_of world.old.schema) world.old.state }
     ensures ran { OnOk result ((p : Playing) → IsAt world.old.state answers.old p
-        → IsAt world.new.state answers.new (all_ran (S.shape_of world.old.schema) (S.accepted world.old.schema) p)) }
+        → IsAt world.new.state answers.new (all_ran (S.shape_of world.old.schema) p)) }
     ensures schema { world.new.schema ≡ world.old.schema }
     ensures config { world.new.state.config ≡ world.old.state.config }
     ensures promised { HasHeadline (S.shape_of world.new.schema) world.new.state }
@@ -231,7 +228,7 @@ fn run_all<S: Schema, B: TraceBuffer<S>>(
 
 /// Plays a schedule, turn by turn, then runs the calls still in flight to their ends, CPU 0's first and the consumer's
 /// last, and closes the session. The first turn that is refused ends it, with that turn's number; a refused growth of
-/// memory does too.
+/// memory does too. Memory only where the configuration has no fault.
 pub fn play<S: Schema>(
     alloc: Global,
     config: &Config,
@@ -240,9 +237,10 @@ pub fn play<S: Schema>(
 ) -> Result<Outcome, PlayFault>
     ensures played { IfOk result (λ _. play_fault (S.shape_of schema) (S.accepted schema) config.now turns.now ≡ None) }
     ensures refused { IfErr result (λ fault. fault ≢ failure.Memory → play_fault (S.shape_of schema) (S.accepted schema) config.now turns.now ≡ Some fault) }
+    ensures memory { IfErr result (λ fault. fault ≡ failure.Memory → start_fault config.now ≡ None) }
 
-    ensures deeds { IfOk result (λ outcome. outcome.close.deeds ≡ reverse (deeds_of (S.shape_of schema) (S.accepted schema) config.now turns.now)) }
-    ensures answers { IfOk result (λ outcome. outcome.answers ≡ answers_of (S.shape_of schema) (S.accepted schema) config.now turns.now) }
+    ensures deeds { IfOk result (λ outcome. outcome.close.deeds ≡ reverse (deeds_of (S.shape_of schema) config.now turns.now)) }
+    ensures answers { IfOk result (λ outcome. outcome.answers ≡ answers_of (S.shape_of schema) config.now turns.now) }
     ensures accepted { IfOk result (λ outcome. outcome.close.accepted ≡ streams config.now (reverse outcome.close.deeds)) }
     ensures reports { IfOk result (λ outcome. outcome.close.reports ≡ reports config.now (worn_count outcome.answers) (reverse outcome.close.deeds)) }
 

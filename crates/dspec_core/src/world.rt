@@ -1,27 +1,24 @@
 ghost use Rattle.std.specs.Prelude.{◌≡◌, ◌≢◌, ◌<◌, ◌+◌, ℕ, true, false, None, Some, IfOk, IfErr, OnOk, OnErr, reverse};
-ghost use Rattle.dspec_core.specs.declared.calls.Actor.{Actor};
-ghost use Rattle.dspec_core.specs.declared.config.StartFault.TheVariants as start;
-ghost use Rattle.dspec_core.specs.declared.refusal.StepFault.TheVariants as refusal;
-ghost use Rattle.dspec_core.specs.declared.refusal.Stepped.TheVariants as stepped;
-ghost use Rattle.dspec_core.specs.Bounds.{steps_limit};
-ghost use Rattle.dspec_core.specs.Calls.{begin_consumer_fault, begin_cpu_fault, call_of, idle_step_fault, is_about, is_actor, is_idle, is_of, steps_of, told_step};
-ghost use Rattle.dspec_core.specs.Closes.{reports, streams};
-ghost use Rattle.dspec_core.specs.Coherent.{the_caller};
-ghost use Rattle.dspec_core.specs.Headline.{Headline};
-ghost use Rattle.dspec_core.specs.Legal.{IsLegal};
-ghost use Rattle.dspec_core.specs.Own.{stream, taken};
-ghost use Rattle.dspec_core.specs.Promised.{HasHeadline};
-ghost use Rattle.dspec_core.specs.Ranges.{start_fault};
-ghost use Rattle.dspec_core.specs.Reports.{report};
-ghost use Rattle.dspec_core.specs.Turns.{at_start, begin_consumer, begin_cpu, closing, step};
+ghost use Rattle.dspec_deeds.specs.declared.calls.Actor.{Actor};
+ghost use Rattle.dspec_deeds.specs.declared.config.StartFault.TheVariants as start;
+ghost use Rattle.dspec_play.specs.declared.refusal.StepFault.TheVariants as refusal;
+ghost use Rattle.dspec_play.specs.declared.refusal.Stepped.TheVariants as stepped;
+ghost use Rattle.dspec_play.specs.Bounds.{steps_limit};
+ghost use Rattle.dspec_play.specs.Calls.{begin_consumer_fault, begin_cpu_fault, call_of, idle_step_fault, is_about, is_actor, is_idle, is_of, steps_of, told_step};
+ghost use Rattle.dspec_deeds.specs.Closes.{reports, streams, closing};
+ghost use Rattle.dspec_play.specs.Coherent.{the_caller};
+ghost use Rattle.dspec_deeds.specs.Headline.{Headline};
+ghost use Rattle.dspec_deeds.specs.Legal.{IsLegal};
+ghost use Rattle.dspec_deeds.specs.Own.{stream, taken};
+ghost use Rattle.dspec_play.specs.Promised.{HasHeadline};
+ghost use Rattle.dspec_deeds.specs.Ranges.{start_fault};
+ghost use Rattle.dspec_deeds.specs.Reports.{report};
+ghost use Rattle.dspec_play.specs.Turns.{at_start, begin_consumer, begin_cpu, step};
 
-use crate::calls::{Actor, Answer, ConsumerOp, CpuOp, Op};
-use crate::config::{Config, StartFault};
-use crate::deed::Deed;
-use crate::machine::Machine;
-use crate::outcome::{Close, Report};
-use crate::refusal::{BeginFault, StepFault, Stepped};
 use dspec_buffer::TraceBuffer;
+use dspec_deeds::{Actor, Answer, Config, ConsumerOp, CpuOp, Deed, Op, Report, StartFault};
+use dspec_machine::Machine;
+use dspec_play::{BeginFault, Close, StepFault, Stepped};
 use dspec_record::{Rec, Schema};
 use std::alloc::{AllocError, Global};
 use std::marker::Model;
@@ -33,11 +30,11 @@ pub struct World<S: Schema, B: TraceBuffer<S>> {
 }
 
 impl<S: Schema, B: TraceBuffer<S>> Model for World<S, B> {
-    ghost use Rattle.dspec_core.specs.Sessions.{Session};
+    ghost use Rattle.dspec_machine.specs.Sessions.{Session};
 
     ghost Value = { Session S };
 
-    ghost use Rattle.dspec_core.specs.Worlds.{IsKept, session_of};
+    ghost use Rattle.dspec_machine.specs.Worlds.{IsKept, session_of};
 
     ghost view = { λ w. session_of w.machine };
 
@@ -128,8 +125,8 @@ impl<S: Schema, B: TraceBuffer<S>> World<S, B> {
     /// IdleStep, Memory, in that order.
     pub fn step(&mut self, actor: Actor) -> Result<Stepped, StepFault>
         ensures allowed { IfOk result (λ _. idle_step_fault actor self.old.state ≡ None) }
-        ensures state { IfOk result (λ _. self.new ≡ record self.old { state = (step (S.shape_of self.old.schema) (S.accepted self.old.schema) actor self.old.state).state }) }
-        ensures told { IfOk result (λ told. told ≡ told_step (step (S.shape_of self.old.schema) (S.accepted self.old.schema) actor self.old.state).answer) }
+        ensures state { IfOk result (λ _. self.new ≡ record self.old { state = (step (S.shape_of self.old.schema) actor self.old.state).state }) }
+        ensures told { IfOk result (λ told. told ≡ told_step (step (S.shape_of self.old.schema) actor self.old.state).answer) }
         ensures counted { IfOk result (λ told. told ≡ stepped.Going → steps_of actor self.new.state ≡ steps_of actor self.old.state + 1) }
         ensures promised { HasHeadline (S.shape_of self.new.schema) self.new.state }
         ensures refused { IfErr result (λ fault. fault ≢ refusal.Memory → idle_step_fault actor self.old.state ≡ Some fault) }
@@ -165,8 +162,8 @@ impl<S: Schema, B: TraceBuffer<S>> World<S, B> {
     fn advance(&mut self, actor: Actor) -> Result<Option<Answer>, AllocError>
         requires actor { is_actor self.old.state.config actor ≡ true }
         requires busy { is_idle actor self.old.state ≡ false }
-        ensures state { IfOk result (λ _. self.new ≡ record self.old { state = (step (S.shape_of self.old.schema) (S.accepted self.old.schema) actor self.old.state).state }) }
-        ensures answered { IfOk result (λ answer. answer ≡ (step (S.shape_of self.old.schema) (S.accepted self.old.schema) actor self.old.state).answer) }
+        ensures state { IfOk result (λ _. self.new ≡ record self.old { state = (step (S.shape_of self.old.schema) actor self.old.state).state }) }
+        ensures answered { IfOk result (λ answer. answer ≡ (step (S.shape_of self.old.schema) actor self.old.state).answer) }
         ensures counted { IfOk result (λ answer. answer ≡ None → steps_of actor self.new.state ≡ steps_of actor self.old.state + 1) }
         ensures promised { HasHeadline (S.shape_of self.new.schema) self.new.state }
         ensures refused { OnErr result (self.new ≡ self.old) }

@@ -1,10 +1,24 @@
 -- The EPID at the front of some bytes, as a number and as its four bytes.
-use Rattle.std.proofs.Common.{◌≡◌, ◌≤◌, ◌<◌, ◌^◌, ℕ, zero, suc, List, [], ◌∷◌, length, take, get_or, sym, arith}
-use Rattle.std.proofs.lemmas.List.{length-take-le}
-use Rattle.std.proofs.lemmas.Nat.{le_bytes_4}
+use Rattle.std.proofs.Common.{◌≡◌, ◌≤◌, ◌<◌, ◌^◌, ℕ, zero, suc, List, [], ◌∷◌, length, take, get_or, sym, ◌∙◌, ap, arith}
+use Rattle.std.specs.Int.{w32, from_le_bytes}
+use Rattle.std.proofs.lemmas.List.{length-take-le, get_or-take}
+use Rattle.std.proofs.lemmas.Nat.{le_bytes_4, from_le_bytes-to_le_bytes_4}
 use Rattle.dspec_record.specs.RecordText.{little_endian}
 use Rattle.dspec_record.specs.Reading.{front_epid}
-use Rattle.dspec_record.specs.Laws.ReadsBack.{front_epid-take}
+
+-- only the first four bytes count for an EPID
+pub front_epid-take : (bytes : List ℕ) → front_epid (take 4 bytes) ≡ front_epid bytes
+front_epid-take bytes =
+    let at0 : get_or (take 4 bytes) 0 0 ≡ get_or bytes 0 0 = get_or-take 4 bytes 0 0 (omega arith) in
+    let at1 : get_or (take 4 bytes) 1 0 ≡ get_or bytes 1 0 = get_or-take 4 bytes 1 0 (omega arith) in
+    let at2 : get_or (take 4 bytes) 2 0 ≡ get_or bytes 2 0 = get_or-take 4 bytes 2 0 (omega arith) in
+    let at3 : get_or (take 4 bytes) 3 0 ≡ get_or bytes 3 0 = get_or-take 4 bytes 3 0 (omega arith) in
+    omega arith
+
+-- and they are the number that they write
+pub front_epid-is : (bytes : List ℕ) (e : ℕ) → e < 2 ^ 32 → take 4 bytes ≡ little_endian 4 e → front_epid bytes ≡ e
+front_epid-is bytes e fits is =
+    sym (front_epid-take bytes) ∙ ap (from_le_bytes w32) is ∙ from_le_bytes-to_le_bytes_4 e fits
 
 take-small : (n : ℕ) (bytes : List ℕ) → ((i : ℕ) → get_or bytes i 0 < 256) → (i : ℕ) → get_or (take n bytes) i 0 < 256
 take-small zero bytes small i = omega arith

@@ -1,6 +1,6 @@
 -- A record while its text is read.
-use Rattle.std.proofs.Common.{◌≡◌, ◌≤◌, ◌<◌, ◌+◌, ◌-◌, ◌++◌, ◌^◌, ◌&&◌, ℕ, ltb, IsTrue, List, [], ◌∷◌, length, take, drop, set, get_or, replicate, sym, ◌∙◌, ap, subst, arith, refl}
-use Rattle.std.proofs.lemmas.List.{append_assoc, append-nil, take_at, drop_at, drop_more, take_more_set, length-replicate, drop-drop, length-append, length-take, length-drop, take-append-drop, drop-take, take-take, take_rest, drop_all}
+use Rattle.std.proofs.Common.{◌≡◌, ◌≤◌, ◌<◌, ◌+◌, ◌-◌, ◌++◌, ◌^◌, ◌&&◌, ℕ, ltb, IsTrue, List, [], ◌∷◌, length, take, drop, get_or, replicate, sym, ◌∙◌, ap, subst, arith, refl}
+use Rattle.std.proofs.lemmas.List.{append_assoc, append-nil, take_at, drop_at, drop_more, length-replicate, drop-drop, length-append, length-take, length-drop, take-append-drop, drop-take, take-take, take_rest, drop_all}
 use Rattle.std.proofs.lemmas.Bool.{lt-ltb}
 use Rattle.dspec_record.specs.Record.{Record}
 use Rattle.dspec_record.specs.Layout.{width, rounded_up, after, fields_start, fields_end, layout}
@@ -136,11 +136,11 @@ gap-is : (text : List ℕ) (end place : ℕ) → end ≤ place → place ≤ len
 gap-is text end place low high = omega (arith, length-take (place - end) (drop end text), length-drop end text)
 
 -- one iteration: the gap from `end` to `place` is zero, and `v` has the `w` bytes behind it
-pub IsReading-next : (all : List Field) (epid : ℕ) (text : List ℕ) (end : ℕ) (values : List ℕ) (i place w v : ℕ) → i < length all → i < length values → IsReading all epid text end (take i values) i (drop i all) → place ≡ rounded_up end (width (get_or all i One)) → w ≡ width (get_or all i One) → take (place - end) (drop end text) ≡ replicate (length (take (place - end) (drop end text))) 0 → v < 256 ^ width (get_or all i One) → little_endian (width (get_or all i One)) v ≡ take (place + w - place) (drop place text) → IsReading all epid text (place + w) (take (i + 1) (set values i v)) (i + 1) (drop (i + 1) all)
-IsReading-next all epid text end values i place w v within stored inv at wide zeros holds written =
+pub IsReading-next : (all : List Field) (epid : ℕ) (text : List ℕ) (end : ℕ) (read : List ℕ) (i place w v : ℕ) → i < length all → IsReading all epid text end read i (drop i all) → place ≡ rounded_up end (width (get_or all i One)) → w ≡ width (get_or all i One) → take (place - end) (drop end text) ≡ replicate (length (take (place - end) (drop end text))) 0 → v < 256 ^ width (get_or all i One) → little_endian (width (get_or all i One)) v ≡ take (place + w - place) (drop place text) → IsReading all epid text (place + w) (read ++ v ∷ []) (i + 1) (drop (i + 1) all)
+IsReading-next all epid text end read i place w v within inv at wide zeros holds written =
     let f : Field = get_or all i One in
     let low : end ≤ rounded_up end (width f) = rounded_up-ge f end in
-    let room : place + w ≤ length text = next-within all epid text end (take i values) i place w within inv at wide in
+    let room : place + w ≤ length text = next-within all epid text end read i place w within inv at wide in
     let has : HasField text end f v = record {
       zeros = ap (λ p. take (p - end) (drop end text)) (sym at) ∙ zeros
           ∙ ap (λ n. replicate n 0) (gap-is text end place (omega arith) (omega arith)) ∙ ap (λ p. replicate (p - end) 0) at;
@@ -148,11 +148,19 @@ IsReading-next all epid text end values i place w v within stored inv at wide ze
       holds = holds;
     } in
     let next : after end (width f) (width f) ≡ place + w = omega (arith, at, wide) in
-    let more : IsReading all epid text (after end (width f) (width f)) (take i values ++ v ∷ []) (i + 1) (drop (i + 1) all) =
-    IsReading-more all epid text end (take i values) i f (drop (i + 1) all) v (at_field all epid text end (take i values) i within inv) has in
-    let At : ℕ → Type 0 = λ e. IsReading all epid text e (take i values ++ v ∷ []) (i + 1) (drop (i + 1) all) in
-    let Read : List ℕ → Type 0 = λ vs. IsReading all epid text (place + w) vs (i + 1) (drop (i + 1) all) in
-    subst Read (sym (take_more_set values i v stored)) (subst At next more)
+    let At : ℕ → Type 0 = λ e. IsReading all epid text e (read ++ v ∷ []) (i + 1) (drop (i + 1) all) in
+    subst At next (IsReading-more all epid text end read i f (drop (i + 1) all) v (at_field all epid text end read i within inv) has)
+
+-- a record with the text has zeros in the next gap
+pub IsReading-gap : (all : List Field) (epid : ℕ) (text : List ℕ) (end : ℕ) (read : List ℕ) (i place : ℕ) → i < length all → IsReading all epid text end read i (drop i all) → place ≡ rounded_up end (width (get_or all i One)) → (r : Record) → IsTrue (fits all r.values) → text ≡ record_text all r → take (place - end) (drop end text) ≡ replicate (length (take (place - end) (drop end text))) 0
+IsReading-gap all epid text end read i place within inv at r fit is =
+    let f : Field = get_or all i One in
+    let here : IsReading all epid text end read i (f ∷ drop (i + 1) all) = at_field all epid text end read i within inv in
+    let left = here.still r fit is in
+    let room : after end (width f) (width f) ≤ length text = IsReading-room all epid text end read i f (drop (i + 1) all) here in
+    let hole : take (place - end) (drop end text) ≡ gap end (width f) =
+    ap (λ p. take (p - end) (drop end text)) at ∙ left-gap text end f (drop (i + 1) all) (drop i r.values) left.0 left.1 in
+    hole ∙ ap (λ n. replicate n 0) (ap (λ p. p - end) (sym at) ∙ sym (gap-is text end place (omega (arith, rounded_up-ge f end)) (omega arith)))
 
 no_more : (all : List Field) (epid : ℕ) (text : List ℕ) (end : ℕ) (read : List ℕ) (i : ℕ) → length all ≤ i → IsReading all epid text end read i (drop i all) → IsReading all epid text end read i []
 no_more all epid text end read i past w =
@@ -167,10 +175,8 @@ rest-zero : (text : List ℕ) (end : ℕ) → end ≤ length text → rounded_up
 rest-zero text end high exact zeros =
     sym (take_rest text end) ∙ zeros ∙ ap (λ n. replicate n 0) (rest-is text end high) ∙ ap (λ n. replicate (n - end) 0) (sym exact)
 
-pub IsReading-whole : (all : List Field) (epid : ℕ) (text : List ℕ) (end : ℕ) (values : List ℕ) (i : ℕ) → length all ≡ i → IsReading all epid text end (take i values) i (drop i all) → take (length text - end) (drop end text) ≡ replicate (length (take (length text - end) (drop end text))) 0 → IsRead all epid text (record { epid = epid; values = take (length all) values })
-IsReading-whole all epid text end values i past w zeros =
-    let done : IsReading all epid text end (take i values) i [] = no_more all epid text end (take i values) i (omega arith) w in
-    let Read : ℕ → Type 0 = λ n. IsRead all epid text (record { epid = epid; values = take n values }) in
-    subst Read (sym past) (
-    IsReading-end all epid text end (take i values) i done (
-    rest-zero text end (IsReading-near all epid text end (take i values) i [] done) done.exact zeros))
+pub IsReading-whole : (all : List Field) (epid : ℕ) (text : List ℕ) (end : ℕ) (read : List ℕ) (i : ℕ) → length all ≡ i → IsReading all epid text end read i (drop i all) → take (length text - end) (drop end text) ≡ replicate (length (take (length text - end) (drop end text))) 0 → IsRead all epid text (record { epid = epid; values = read })
+IsReading-whole all epid text end read i past w zeros =
+    let done : IsReading all epid text end read i [] = no_more all epid text end read i (omega arith) w in
+    IsReading-end all epid text end read i done (
+    rest-zero text end (IsReading-near all epid text end read i [] done) done.exact zeros)

@@ -4,6 +4,5 @@ pub mod Padding
 pub mod Records
 pub mod Layouts
 pub mod Texts
-pub mod ReadsBack
 pub mod Tables
 pub mod Enablings

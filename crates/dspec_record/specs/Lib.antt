@@ -2,6 +2,7 @@ pub mod Record
 pub mod RecordFields
 pub mod Layout
 pub mod RecordText
+pub mod Writing
 pub mod Reading
 pub mod Schemas
 pub mod EnablingFields

@@ -8,7 +8,7 @@ pub struct DefaultAction;
 
 impl Schema for DefaultAction {
     ghost use Rattle.dspec_record.specs.Schemas.{default_fields, table_shape, table_accepts, table_text};
-    ghost use Rattle.dspec_record.specs.Laws.Tables.{default_fields-IsLimited, table-shapes_fit, table-texts_fit, table-texts_differ, table-reads_back};
+    ghost use Rattle.dspec_record.specs.Laws.Tables.{default_fields-IsLimited, table-shapes_fit, table-texts_fit, table-texts_differ};
     ghost use Rattle.std.specs.Prelude.{refl};
 
     ghost shape_of = { λ _. table_shape default_fields };
@@ -25,8 +25,6 @@ impl Schema for DefaultAction {
 
     ghost texts_differ = { λ _. table-texts_differ default_fields };
 
-    ghost reads_back = { λ _. table-reads_back default_fields refl default_fields-IsLimited };
-
     fn shape(&self, epid: u32) -> Option<Shape> {
         match epid {
             0 => None,
@@ -42,6 +40,7 @@ impl Schema for DefaultAction {
         out.copy_from_slice(&rec.epid().to_le_bytes());
     }
 
+    #[inline(always)]
     fn get(&self, bytes: &[u8]) -> Result<(Rec, usize), ReadKind> {
         let epid = read_epid(bytes)?;
         let Some(rec) = Rec::new(epid, &[]) else {

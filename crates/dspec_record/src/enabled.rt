@@ -3,7 +3,7 @@ use crate::{Enablings, ReadKind, Rec, Schema, Shape};
 
 impl Schema for Enablings {
     ghost use Rattle.dspec_record.specs.Schemas.{enabled, table_shape, table_accepts, table_text};
-    ghost use Rattle.dspec_record.specs.Laws.Tables.{enabled-IsLimited, table-shapes_fit, table-texts_fit, table-texts_differ, table-reads_back};
+    ghost use Rattle.dspec_record.specs.Laws.Tables.{enabled-IsLimited, table-shapes_fit, table-texts_fit, table-texts_differ};
     ghost use Rattle.std.specs.Prelude.{refl};
 
     ghost shape_of = { λ s. table_shape (enabled s) };
@@ -19,8 +19,6 @@ impl Schema for Enablings {
     ghost texts_fit = { λ s. table-texts_fit (enabled s) };
 
     ghost texts_differ = { λ s. table-texts_differ (enabled s) };
-
-    ghost reads_back = { λ s. table-reads_back (enabled s) refl (enabled-IsLimited s) };
 
     fn shape(&self, epid: u32) -> Option<Shape> {
         match self.enabling(epid) {
@@ -43,6 +41,7 @@ impl Schema for Enablings {
         put_record(enabling.fields(), rec, out);
     }
 
+    #[inline(always)]
     fn get(&self, bytes: &[u8]) -> Result<(Rec, usize), ReadKind> {
         let epid = read_epid(bytes)?;
         let Some(enabling) = self.enabling(epid) else {

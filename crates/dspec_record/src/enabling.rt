@@ -135,6 +135,7 @@ impl Enablings {
         Ok(self.count)
     }
 
+    #[inline(always)]
     pub(crate) fn enabling(&self, epid: u32) -> Option<&Enabling>
         ensures { option_copied result ≡ enabling_of self.now epid }
     {

@@ -49,20 +49,6 @@ impl Field {
         }
     }
 
-    /// Writes the value, the lowest byte first.
-    pub(crate) fn write(self, value: u64, out: &mut [u8])
-        requires holds { value < 256 ^ width self }
-        requires exact { length out.old ≡ width self }
-        ensures { out.new ≡ little_endian (width self) value }
-    {
-        match self {
-            Field::One => out[0] = value as u8,
-            Field::Two => out.copy_from_slice(&(value as u16).to_le_bytes()),
-            Field::Four => out.copy_from_slice(&(value as u32).to_le_bytes()),
-            Field::Eight => out.copy_from_slice(&value.to_le_bytes()),
-        }
-    }
-
     /// The value that these bytes hold, the lowest byte first.
     pub(crate) fn read(self, bytes: &[u8]) -> u64
         requires { length bytes.now ≡ width self }
@@ -70,22 +56,14 @@ impl Field {
         ensures written { little_endian (width self) result ≡ bytes.now }
     {
         match self {
-            Field::One => bytes[0] as u64,
-            Field::Two => {
-                let mut word = [0; 2];
-                word.copy_from_slice(bytes);
-                u16::from_le_bytes(word) as u64
-            }
+            Field::One => u64::from(bytes[0]),
+            Field::Two => u64::from(u16::from_le_bytes([bytes[0], bytes[1]])),
             Field::Four => {
-                let mut word = [0; 4];
-                word.copy_from_slice(bytes);
-                u32::from_le_bytes(word) as u64
+                u64::from(u32::from_le_bytes([bytes[0], bytes[1], bytes[2], bytes[3]]))
             }
-            Field::Eight => {
-                let mut word = [0; 8];
-                word.copy_from_slice(bytes);
-                u64::from_le_bytes(word)
-            }
+            Field::Eight => u64::from_le_bytes([
+                bytes[0], bytes[1], bytes[2], bytes[3], bytes[4], bytes[5], bytes[6], bytes[7],
+            ]),
         }
     }
 }

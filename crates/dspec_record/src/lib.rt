@@ -5,8 +5,8 @@
 //! a record, that `get` reads exactly what `put` writes, and that it names the fault of anything else. What a
 //! layout and a text are stands in `specs/Layout.antt` and `specs/RecordText.antt`, what `get` answers in
 //! `specs/Reading.antt`, and how the two schemas of the crate come from these in `specs/Schemas.antt`. The laws
-//! that every schema keeps are those of the trait `Schema`. The crate stands on std alone, and no call of it
-//! takes memory.
+//! that every schema keeps are those of the trait `Schema`, and what follows from them is a clause in `laws`. The
+//! crate stands on std alone, and no call of it takes memory.
 #![tactic(auto)]
 
 mod codec;
@@ -14,9 +14,10 @@ mod default_action;
 mod enabled;
 mod enabling;
 pub mod field;
+pub mod laws;
 mod layout;
 pub mod reading;
-pub mod record;
+mod record;
 pub mod schema;
 
 pub use default_action::DefaultAction;
@@ -25,6 +26,3 @@ pub use field::{Field, Shape};
 pub use reading::ReadKind;
 pub use record::Rec;
 pub use schema::Schema;
-
-#[cfg(test)]
-mod tests;

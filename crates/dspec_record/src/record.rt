@@ -1,7 +1,7 @@
 use std::marker::Model;
 
 /// The most values that a record has.
-pub const MAX_VALUES: usize = 8;
+const MAX_VALUES: usize = 8;
 
 /// A record as it is traced: an EPID (the enabled probe identifier of the USENIX 2004 paper by Cantrill,
 /// Shapiro and Leventhal) and at most eight values. It is equal to another where both are.
@@ -31,7 +31,7 @@ impl Model for Rec {
 }
 
 impl Rec {
-    ghost use Rattle.std.specs.Prelude.{◌≡◌, ◌≤◌, ◌<◌, ◌↔◌, length, IfSome, IsSome};
+    ghost use Rattle.std.specs.Prelude.{◌≡◌, ◌≤◌, ◌<◌, ◌↔◌, ◌++◌, ◌∷◌, [], length, IfSome, IsSome};
 
     /// The record with these values; None for more than eight of them.
     pub fn new(epid: u32, values: &[u64]) -> Option<Rec>
@@ -48,6 +48,28 @@ impl Rec {
             len: values.len() as u32,
             values: held,
         })
+    }
+
+    /// The record with no value.
+    #[inline]
+    pub(crate) fn bare(epid: u32) -> Rec
+        ensures { result ≡ record { epid = epid; values = [] } }
+    {
+        Rec {
+            epid,
+            len: 0,
+            values: [0; MAX_VALUES],
+        }
+    }
+
+    /// Adds a value behind the others.
+    #[inline]
+    pub(crate) fn add(&mut self, value: u64)
+        requires { length self.old.values < 8 }
+        ensures { self.new ≡ record { epid = self.old.epid; values = self.old.values ++ value ∷ [] } }
+    {
+        self.values[self.len as usize] = value;
+        self.len += 1;
     }
 
     /// The enabled probe identifier.

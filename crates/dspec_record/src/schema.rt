@@ -1,7 +1,6 @@
-ghost use Rattle.std.specs.Prelude.{◌≡◌, ℕ, Bool, IsTrue, List, length, Option, Some, None, ◌++◌, Result, Ok};
+ghost use Rattle.std.specs.Prelude.{◌≡◌, ℕ, Bool, IsTrue, List, length, Option, Some, None, ◌++◌};
 ghost use Rattle.dspec_record.specs.Record.{Record};
 ghost use Rattle.dspec_record.specs.Reading.{IsShape, IsTextOf, Answers};
-ghost use Rattle.dspec_record.specs.declared.reading.ReadKind.{ReadKind};
 ghost use Rattle.dspec_record.specs.declared.field.Shape.{Shape};
 
 use crate::{ReadKind, Rec, Shape};
@@ -50,10 +49,4 @@ pub trait Schema: Copy {
     /// Bytes begin with the text of one accepted record at most.
     ghost texts_differ: { (s : Self) (q r : Record) (x y : List ℕ) → IsTrue (accepted s q) → IsTrue (accepted s r)
         → text s q ++ x ≡ text s r ++ y → q ≡ r };
-
-    /// What reading answers where an accepted record's text is at the front, whatever follows: that record.
-    ghost reads_back: { (s : Self) (r : Record) (rest : List ℕ) (answer : Result (Record × ℕ) ReadKind)
-        → IsTrue (accepted s r)
-        → Answers (shape_of s) (accepted s) (text s) (text s r ++ rest) answer
-        → answer ≡ Ok (r, length (text s r)) };
 }

@@ -27,7 +27,5 @@ mod discarding;
 mod id;
 mod laws;
 mod speculating;
-#[cfg(test)]
-mod tests;
 mod turnover;
 mod word;

@@ -5,3 +5,4 @@ mod NumberLemmas
 mod PrintableLemmas
 mod ReadingLemmas
 mod StepLemmas
+mod WritingLemmas

@@ -2,14 +2,14 @@
 use Rattle.std.specs.Prelude.{ℕ, ◌/◌, ◌%◌, nat_le, ◌&&◌, Bool, List, [], ◌∷◌, length, if◌then◌else◌, bytes_eq, codes, Result, Ok, Err}
 use Rattle.dspec_record.specs.Record.{Record}
 use Rattle.dspec_word.specs.SpecId.{Speculation}
-use Rattle.dspec_core.specs.declared.calls.Actor.{Actor}
-use Rattle.dspec_core.specs.declared.calls.Actor.TheVariants as actor
-use Rattle.dspec_core.specs.declared.calls.CpuOp.{CpuOp}
-use Rattle.dspec_core.specs.declared.calls.CpuOp.TheVariants.{Trace, Speculation as Open, Speculate, Commit, Discard, Service}
-use Rattle.dspec_core.specs.declared.calls.ConsumerOp.{ConsumerOp}
-use Rattle.dspec_core.specs.declared.calls.ConsumerOp.TheVariants.{Ask, Take, GiveBack, Clean, Stop}
-use Rattle.dspec_core.specs.declared.calls.Turn.{Turn}
-use Rattle.dspec_core.specs.declared.calls.Turn.TheVariants.{BeginCpu, BeginConsumer, Step, RunCpu, RunConsumer}
+use Rattle.dspec_deeds.specs.declared.calls.Actor.{Actor}
+use Rattle.dspec_deeds.specs.declared.calls.Actor.TheVariants as actor
+use Rattle.dspec_deeds.specs.declared.calls.CpuOp.{CpuOp}
+use Rattle.dspec_deeds.specs.declared.calls.CpuOp.TheVariants.{Trace, Speculation as Open, Speculate, Commit, Discard, Service}
+use Rattle.dspec_deeds.specs.declared.calls.ConsumerOp.{ConsumerOp}
+use Rattle.dspec_deeds.specs.declared.calls.ConsumerOp.TheVariants.{Ask, Take, GiveBack, Clean, Stop}
+use Rattle.dspec_deeds.specs.declared.calls.Turn.{Turn}
+use Rattle.dspec_deeds.specs.declared.calls.Turn.TheVariants.{BeginCpu, BeginConsumer, Step, RunCpu, RunConsumer}
 use Rattle.specplay.specs.declared.fault.LineKind.{LineKind}
 use Rattle.specplay.specs.declared.fault.LineKind.TheVariants.{UnknownWord, WordCount}
 use Rattle.specplay.specs.declared.grammar.Call.{Call}

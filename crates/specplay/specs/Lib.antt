@@ -6,3 +6,4 @@ pub mod Schedules
 pub mod SetUp
 pub mod Steps
 pub mod Words
+pub mod Written

@@ -1,27 +1,27 @@
 -- What a play prints: a line for each ended call, then a report and a stream for each CPU.
 use Rattle.std.specs.Prelude.{ℕ, Bool, true, false, List, [], ◌∷◌, ◌++◌, take, drop, slice_index_or, codes, decimal}
 use Rattle.std.specs.List.{flat_map, join_by, enumerate_from, zip}
-use Rattle.dspec_core.specs.declared.calls.Actor.{Actor}
-use Rattle.dspec_core.specs.declared.calls.Actor.TheVariants as actor
-use Rattle.dspec_core.specs.declared.calls.Op.{Op}
-use Rattle.dspec_core.specs.declared.calls.Op.TheVariants as op
-use Rattle.dspec_core.specs.declared.calls.CpuOp.{CpuOp}
-use Rattle.dspec_core.specs.declared.calls.CpuOp.TheVariants as cpu_op
-use Rattle.dspec_core.specs.declared.calls.ConsumerOp.{ConsumerOp}
-use Rattle.dspec_core.specs.declared.calls.ConsumerOp.TheVariants as consumer_op
-use Rattle.dspec_core.specs.declared.calls.Answer.{Answer}
-use Rattle.dspec_core.specs.declared.calls.Answer.TheVariants as answer
-use Rattle.dspec_core.specs.declared.calls.Traced.{Traced}
-use Rattle.dspec_core.specs.declared.calls.Traced.TheVariants as traced
-use Rattle.dspec_core.specs.declared.calls.Opening.{Opening}
-use Rattle.dspec_core.specs.declared.calls.Opening.TheVariants as opening
-use Rattle.dspec_core.specs.declared.calls.Spoken.{Spoken}
-use Rattle.dspec_core.specs.declared.calls.Spoken.TheVariants as spoken
-use Rattle.dspec_core.specs.declared.calls.Decided.{Decided}
-use Rattle.dspec_core.specs.declared.calls.Decided.TheVariants as decided
-use Rattle.dspec_core.specs.declared.calls.Served.{Served}
-use Rattle.dspec_core.specs.declared.outcome.Report.{Report}
-use Rattle.dspec_core.specs.declared.outcome.Outcome.{Outcome}
+use Rattle.dspec_deeds.specs.declared.calls.Actor.{Actor}
+use Rattle.dspec_deeds.specs.declared.calls.Actor.TheVariants as actor
+use Rattle.dspec_deeds.specs.declared.calls.Op.{Op}
+use Rattle.dspec_deeds.specs.declared.calls.Op.TheVariants as op
+use Rattle.dspec_deeds.specs.declared.calls.CpuOp.{CpuOp}
+use Rattle.dspec_deeds.specs.declared.calls.CpuOp.TheVariants as cpu_op
+use Rattle.dspec_deeds.specs.declared.calls.ConsumerOp.{ConsumerOp}
+use Rattle.dspec_deeds.specs.declared.calls.ConsumerOp.TheVariants as consumer_op
+use Rattle.dspec_deeds.specs.declared.calls.Answer.{Answer}
+use Rattle.dspec_deeds.specs.declared.calls.Answer.TheVariants as answer
+use Rattle.dspec_deeds.specs.declared.calls.Traced.{Traced}
+use Rattle.dspec_deeds.specs.declared.calls.Traced.TheVariants as traced
+use Rattle.dspec_deeds.specs.declared.calls.Opening.{Opening}
+use Rattle.dspec_deeds.specs.declared.calls.Opening.TheVariants as opening
+use Rattle.dspec_deeds.specs.declared.calls.Spoken.{Spoken}
+use Rattle.dspec_deeds.specs.declared.calls.Spoken.TheVariants as spoken
+use Rattle.dspec_deeds.specs.declared.calls.Decided.{Decided}
+use Rattle.dspec_deeds.specs.declared.calls.Decided.TheVariants as decided
+use Rattle.dspec_deeds.specs.declared.calls.Served.{Served}
+use Rattle.dspec_deeds.specs.declared.report.Report.{Report}
+use Rattle.dspec_play.specs.declared.outcome.Outcome.{Outcome}
 use Rattle.dspec_record.specs.Record.{Record}
 use Rattle.dspec_word.specs.SpecId.{id_number}
 

@@ -2,8 +2,8 @@
 use Rattle.std.specs.Prelude.{ℕ, ◌+◌, ◌==◌, Bool, List, [], ◌∷◌, ◌++◌, length, if◌then◌else◌, bytes_eq, codes, Option, Some, None, unwrap_or, Result, Ok, Err}
 use Rattle.std.specs.List.{slice_split, list_all}
 use Rattle.dspec_record.specs.declared.field.Field.{Field}
-use Rattle.dspec_core.specs.declared.config.Config.{Config}
-use Rattle.dspec_core.specs.declared.calls.Turn.{Turn}
+use Rattle.dspec_deeds.specs.declared.config.Config.{Config}
+use Rattle.dspec_deeds.specs.declared.calls.Turn.{Turn}
 use Rattle.specplay.specs.declared.fault.LineKind.{LineKind}
 use Rattle.specplay.specs.declared.fault.LineKind.TheVariants.{NotPrintable, NoConfig}
 use Rattle.specplay.specs.Calls.{turn_of}

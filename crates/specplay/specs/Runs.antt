@@ -1,7 +1,7 @@
 -- What a run's faults say.
 use Rattle.std.specs.Prelude.{ℕ, List, slice_index_or}
-use Rattle.dspec_core.specs.declared.outcome.PlayFault.{PlayFault}
-use Rattle.dspec_core.specs.declared.outcome.PlayFault.TheVariants.{Setup as setup, NoSuchActor as no_such_actor, Busy as busy, IdleStep as idle_step, BadRecord as bad_record, Memory as play_memory}
+use Rattle.dspec_play.specs.declared.outcome.PlayFault.{PlayFault}
+use Rattle.dspec_play.specs.declared.outcome.PlayFault.TheVariants.{Setup as setup, NoSuchActor as no_such_actor, Busy as busy, IdleStep as idle_step, BadRecord as bad_record, Memory as play_memory}
 use Rattle.specplay.specs.declared.fault.LineKind.TheVariants.{ConfigRefused, NoSuchActor, Busy, IdleStep, BadRecord}
 use Rattle.specplay.specs.declared.fault.RunFault.{RunFault}
 use Rattle.specplay.specs.declared.fault.RunFault.TheVariants.{Line, Memory, TooLong, Read, Write}

@@ -2,10 +2,10 @@
 use Rattle.std.specs.Prelude.{◌≡◌, ℕ, ◌⊎◌, List, reverse, Option, Some, None, Result, Ok, Err}
 use Rattle.dspec_record.specs.declared.field.Field.{Field}
 use Rattle.dspec_record.specs.Schemas.{FieldTable, default_fields, enabled, table_shape, table_accepts}
-use Rattle.dspec_core.specs.declared.outcome.Outcome.{Outcome}
-use Rattle.dspec_core.specs.declared.outcome.PlayFault.{PlayFault}
-use Rattle.dspec_core.specs.Closes.{reports, streams}
-use Rattle.dspec_core.specs.Plays.{answers_of, deeds_of, play_fault, worn_count}
+use Rattle.dspec_play.specs.declared.outcome.Outcome.{Outcome}
+use Rattle.dspec_play.specs.declared.outcome.PlayFault.{PlayFault}
+use Rattle.dspec_deeds.specs.Closes.{reports, streams}
+use Rattle.dspec_play.specs.Plays.{answers_of, deeds_of, play_fault, worn_count}
 use Rattle.specplay.specs.declared.fault.LineKind.{LineKind}
 use Rattle.specplay.specs.declared.fault.RunFault.{RunFault}
 use Rattle.specplay.specs.declared.fault.RunFault.TheVariants.{Line, Memory, TooLong, Read, Write}
@@ -13,6 +13,7 @@ use Rattle.specplay.specs.declared.schedule.Schedule.{Schedule}
 use Rattle.specplay.specs.Printed.{printed_text}
 use Rattle.specplay.specs.Reading.{Plan, schedule_of}
 use Rattle.specplay.specs.Runs.{told}
+use Rattle.specplay.specs.Written.{AppendsBeginning}
 
 -- what a schedule in memory holds
 abbrev pub plan_of : Schedule → Plan
@@ -38,8 +39,8 @@ fault_of p = play_fault (table_shape (table_of p.enablings)) (table_accepts (tab
 -- the outcome is what the turns of the schedule play
 pub record IsPlayOf (p : Plan) (outcome : Outcome) : Type 0 where
   pub allowed : fault_of p ≡ None
-  pub deeds : outcome.close.deeds ≡ reverse (deeds_of (table_shape (table_of p.enablings)) (table_accepts (table_of p.enablings)) p.config p.turns)
-  pub answers : outcome.answers ≡ answers_of (table_shape (table_of p.enablings)) (table_accepts (table_of p.enablings)) p.config p.turns
+  pub deeds : outcome.close.deeds ≡ reverse (deeds_of (table_shape (table_of p.enablings)) p.config p.turns)
+  pub answers : outcome.answers ≡ answers_of (table_shape (table_of p.enablings)) p.config p.turns
   pub accepted : outcome.close.accepted ≡ streams p.config (reverse outcome.close.deeds)
   pub reports : outcome.close.reports ≡ reports p.config (worn_count outcome.answers) (reverse outcome.close.deeds)
 
@@ -59,10 +60,21 @@ pub record IsRefused (text : List ℕ) (told_as : RunFault) : Type 0 where
   pub refused : fault_of plan ≡ Some fault
   pub telling : told plan.config_line plan.lines fault ≡ told_as
 
--- a line that is told is the one at which the text isn't a schedule, or the one at which its play is refused
+-- the text is a schedule whose play is refused nowhere
+pub record IsPlayed (text : List ℕ) : Type 0 where
+  pub plan : Plan
+  pub read : schedule_of text ≡ Ok plan
+  pub allowed : fault_of plan ≡ None
+
+-- a line that is told is the one at which the text isn't a schedule, or the one at which its play is refused; a write
+-- fault is told of a play that succeeded
 abbrev pub IsToldOf : List ℕ → RunFault → Type 0
 IsToldOf text (Line line kind) = (schedule_of text ≡ Err (line, kind)) ⊎ IsRefused text (Line line kind)
 IsToldOf text Memory = Unit {0}
 IsToldOf text TooLong = Unit {0}
 IsToldOf text Read = Unit {0}
-IsToldOf text Write = Unit {0}
+IsToldOf text Write = IsPlayed text
+
+-- what the play of the text prints was written as far as to some place
+abbrev pub IsCutOff : List ℕ → Option (List ℕ) → Option (List ℕ) → Type 0
+IsCutOff text old new = (printed : List ℕ) × Prints text printed × AppendsBeginning old new printed

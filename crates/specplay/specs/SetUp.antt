@@ -2,9 +2,9 @@
 use Rattle.std.specs.Prelude.{ℕ, ◌==◌, nat_le, nat_lt, ◌&&◌, Bool, List, [], ◌∷◌, ◌++◌, length, if◌then◌else◌, Option, Some, None, Result, Ok, Err, is_ok, not}
 use Rattle.dspec_record.specs.declared.field.Field.{Field}
 use Rattle.dspec_record.specs.declared.field.Field.TheVariants.{One, Two, Four, Eight}
-use Rattle.dspec_core.specs.declared.config.Config.{Config}
-use Rattle.dspec_core.specs.declared.config.StartFault.{StartFault}
-use Rattle.dspec_core.specs.Ranges.{start_fault}
+use Rattle.dspec_deeds.specs.declared.config.Config.{Config}
+use Rattle.dspec_deeds.specs.declared.config.StartFault.{StartFault}
+use Rattle.dspec_deeds.specs.Ranges.{start_fault}
 use Rattle.specplay.specs.declared.fault.LineKind.{LineKind}
 use Rattle.specplay.specs.declared.fault.LineKind.TheVariants.{BadNumber, WordCount, ConfigRefused, BadEnabling}
 use Rattle.specplay.specs.Steps.{◌>>=◌, each}

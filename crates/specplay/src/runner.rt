@@ -1,8 +1,9 @@
-ghost use Rattle.std.specs.Prelude.{◌≡◌, ◌≢◌, ◌<◌, List, ℕ, length, IfErr, IfOk, IfSome, IsErrAnd, OnOk, Some, string_bytes};
+ghost use Rattle.std.specs.Prelude.{◌≡◌, ◌≢◌, ◌<◌, List, ℕ, length, IfErr, IfOk, IfSome, IsErrAnd, OnErr, OnOk, Some, string_bytes};
 ghost use Rattle.std.specs.Io.KnownBytes.{Appends};
-ghost use Rattle.dspec_core.specs.declared.outcome.PlayFault.TheVariants as failure;
+ghost use Rattle.dspec_play.specs.declared.outcome.PlayFault.TheVariants as failure;
 ghost use Rattle.specplay.specs.Runs.{IsInputFault, IsScheduleFault};
-ghost use Rattle.specplay.specs.Schedules.{IsPlayOf, IsToldOf, Prints, fault_of, plan_of};
+ghost use Rattle.specplay.specs.Schedules.{IsCutOff, IsPlayOf, IsToldOf, Prints, fault_of, plan_of};
+ghost use Rattle.specplay.specs.Written.{AppendsBeginning};
 
 use crate::fault::RunFault;
 use crate::input::{MAX_INPUT, read_whole};
@@ -11,10 +12,10 @@ use crate::schedule::{Schedule, read_schedule};
 use dspec_core::{Outcome, PlayFault, play};
 use dspec_record::DefaultAction;
 use std::alloc::Global;
-use std::io::{Read, Write};
+use std::io::{self, Read, Write};
 
 /// Reads a whole schedule, plays it, and writes what it prints. Nothing is written before the play has succeeded;
-/// after a write fault some of the output may have been.
+/// after a write fault a beginning of the output has been.
 pub fn run<R: Read, W: Write>(alloc: Global, input: &mut R, output: &mut W) -> Result<(), RunFault>
     ensures unwritten { IfErr result (λ fault. fault ≢ RunFault.Write → output.new ≡ output.old) }
     ensures too_long { IfSome (R.remaining input.old) (λ known. MAX_INPUT < length known → IsErrAnd result IsInputFault) }
@@ -22,6 +23,7 @@ pub fn run<R: Read, W: Write>(alloc: Global, input: &mut R, output: &mut W) -> R
     ensures printed { OnOk result (IfSome (R.remaining input.old) (λ text.
         (printed : List ℕ) × Prints text printed × Appends (W.contents output.old) (W.contents output.new) printed)) }
     ensures told { IfErr result (λ fault. IfSome (R.remaining input.old) (λ text. IsToldOf text fault)) }
+    ensures cut_off { result ≡ Err RunFault.Write → IfSome (R.remaining input.old) (λ text. IsCutOff text (W.contents output.old) (W.contents output.new)) }
 {
     let text = read_whole(alloc, input)?;
     let printed = play_text(alloc, text.as_slice())?;
@@ -53,14 +55,41 @@ fn play_schedule(alloc: Global, schedule: &Schedule) -> Result<Outcome, PlayFaul
     }
 }
 
+/// Writes a text, and has it go out.
 fn write_whole<W: Write>(output: &mut W, text: &str) -> Result<(), RunFault>
     ensures ok { OnOk result (Appends (W.contents output.old) (W.contents output.new) text.now) }
     ensures err { IfErr result (λ fault. fault ≡ RunFault.Write) }
+    ensures cut_off { OnErr result (AppendsBeginning (W.contents output.old) (W.contents output.new) text.now) }
 {
-    if output.write_all(text.as_bytes()).is_err() || output.flush().is_err() {
-        return Err(RunFault::Write);
+    write_bytes(output, text.as_bytes())?;
+    match output.flush() {
+        Ok(()) => Ok(()),
+        Err(_) => Err(RunFault::Write),
     }
-    Ok(())
+}
+
+/// Writes bytes, as many at a time as the writer takes. A write that is interrupted is made again.
+fn write_bytes<W: Write>(output: &mut W, bytes: &[u8]) -> Result<(), RunFault>
+    ensures ok { OnOk result (Appends (W.contents output.old) (W.contents output.new) bytes.now) }
+    ensures err { IfErr result (λ fault. fault ≡ RunFault.Write) }
+    ensures cut_off { OnErr result (AppendsBeginning (W.contents output.old) (W.contents output.new) bytes.now) }
+{
+    let mut rest = bytes;
+    for _ in 0..u64::MAX {
+        if rest.is_empty() {
+            return Ok(());
+        }
+        match output.write(rest) {
+            Ok(0) => return Err(RunFault::Write),
+            Ok(count) => rest = rest.split_at(count).1,
+            Err(error) => {
+                if error.kind() != io::ErrorKind::Interrupted {
+                    return Err(RunFault::Write);
+                }
+            }
+        }
+    }
+    Err(RunFault::Write)
 }
 
 #[cfg(test)]

@@ -1,22 +1,20 @@
 -- A schema that is a table of fields keeps the laws of a schema, where EPID 0 has none and no EPID has more
 -- than eight; the two tables of the crate are such.
 use Rattle.std.proofs.Common.{◌≡◌, ◌≤◌, ◌^◌, ◌&&◌, ℕ, zero, suc, Bool, true, false, cond, ltb, leb, IsTrue, List, [], ◌++◌, length, Option, Some, None, option_map, refl, ap, subst, arith}
-use Rattle.std.specs.Prelude.{Result, Ok, unwrap_or, option_and_then}
+use Rattle.std.specs.Prelude.{unwrap_or, option_and_then}
 use Rattle.std.specs.Option.{option_map_or}
 use Rattle.std.proofs.lemmas.Bool.{ltb-true, leb-true}
 use Rattle.std.proofs.lemmas.List.{take_at}
 use Rattle.dspec_record.specs.Record.{Record}
 use Rattle.dspec_record.specs.Layout.{fields_start, layout}
 use Rattle.dspec_record.specs.RecordText.{header_text, fields_text, record_text, fits}
-use Rattle.dspec_record.specs.Reading.{IsShape, IsTextOf, Answers}
+use Rattle.dspec_record.specs.Reading.{IsShape, IsTextOf}
 use Rattle.dspec_record.specs.Schemas.{FieldTable, table_shape, table_accepts, table_text, within_limit, enabling_of, enabled, default_fields}
-use Rattle.dspec_record.specs.Laws.ReadsBack.{KeepsLaws, reads_back_by_laws}
 use Rattle.dspec_record.specs.Laws.Layouts.{layout-IsShape}
 use Rattle.dspec_record.specs.Laws.Texts.{both, length-little_endian, length-record_text, All-record_text, record_text-same, record_text-epid}
 use Rattle.dspec_record.specs.declared.field.Field.{Field}
 use Rattle.dspec_record.specs.declared.field.Field.TheVariants.{Four}
 use Rattle.dspec_record.specs.declared.field.Shape.{Shape}
-use Rattle.dspec_record.specs.declared.reading.ReadKind.{ReadKind}
 
 -- no EPID of the table has more than eight fields
 pub IsLimited : FieldTable → Type 0
@@ -63,18 +61,6 @@ table-texts_differ fields q r x y of_q of_r e =
     let Row : ℕ → Type 0 = λ n. IsTrue (option_map_or (λ fs. fits fs q.values) (fields n) false) in
     let Same : ℕ → Type 0 = λ n. record_text (unwrap_or (fields n) []) q ++ x ≡ record_text (unwrap_or (fields r.epid) []) r ++ y in
     row-texts_differ (fields r.epid) q r x y epid (subst Row epid parts_q.1) parts_r.1 (subst Same epid e)
-
-table-KeepsLaws : (fields : FieldTable) → fields 0 ≡ None → IsLimited fields → KeepsLaws (table_shape fields) (table_accepts fields) (table_text fields)
-table-KeepsLaws fields none few = record {
-  zero_has_none = ap (option_map layout) none;
-  shapes_fit = table-shapes_fit fields few;
-  texts_fit = table-texts_fit fields;
-  texts_differ = table-texts_differ fields;
-}
-
-pub table-reads_back : (fields : FieldTable) → fields 0 ≡ None → IsLimited fields → (r : Record) (rest : List ℕ) (answer : Result (Record × ℕ) ReadKind) → IsTrue (table_accepts fields r) → Answers (table_shape fields) (table_accepts fields) (table_text fields) (table_text fields r ++ rest) answer → answer ≡ Ok (r, length (table_text fields r))
-table-reads_back fields none few =
-    reads_back_by_laws (table_shape fields) (table_accepts fields) (table_text fields) (table-KeepsLaws fields none few)
 
 within_limit-few : (gs fs : List Field) (b : Bool) → leb (length gs) 8 ≡ b → cond b (Some gs) None ≡ Some fs → length fs ≤ 8
 within_limit-few gs fs true is e =

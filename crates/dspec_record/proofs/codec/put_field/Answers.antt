@@ -1,25 +1,36 @@
--- The gap is cleared, then the value is written directly behind it.
-use Rattle.std.proofs.Common.{◌≡◌, ◌≤◌, ◌-◌, ◌+◌, ◌++◌, ℕ, length, take, drop, replicate, arith, ◌∙◌, ap}
-use Rattle.dspec_record.specs.Layout.{width, rounded_up}
-use Rattle.dspec_record.specs.RecordText.{gap}
-use Rattle.dspec_record.specs.Laws.Layouts.{rounded_up-ge}
-use Rattle.dspec_record.specs.Laws.Texts.{length-little_endian}
-use Rattle.dspec_record.proofs.Laying.{take-put_mid-put_mid, length-gap-part}
+-- The value is written over what is clear, and leaves what is behind it clear.
+use Rattle.std.proofs.Common.{◌≡◌, ◌≤◌, ◌+◌, ◌-◌, ◌++◌, ℕ, List, length, take, drop, sym, subst, ap, ◌∙◌, arith}
+use Rattle.std.proofs.lemmas.List.{take_rest}
+use Rattle.dspec_record.specs.Layout.{width}
+use Rattle.dspec_record.specs.Writing.{IsClearBehind, IsWrittenWide}
+use Rattle.dspec_record.proofs.Clearing.{written-put, written-clear, post-none}
 use Rattle.dspec_record.proofs.codec.put_field.Goals as goal
 
 pub returns-clause-put : goal.returns-clause-put
 returns-clause-put c =
-    let end : ℕ = c.args.end in
     let place : ℕ = c.place-place.result in
-    let next : ℕ = place + c.width.result in
-    let at : place ≡ rounded_up end (width c.args.field) = c.place-place.ensures in
-    let low : end ≤ rounded_up end (width c.args.field) = rounded_up-ge c.args.field end in
-    let room : next ≤ length c.args.out.now = omega (arith, c.requires.room, c.width.ensures) in
-    let part : length (take (place - end) (drop end c.args.out.now)) ≡ place - end =
-    length-gap-part c.args.out.now end place (omega arith) (omega arith) in
-    let zeros : c.fill.new.self ≡ gap end (width c.args.field) =
-    c.fill.ensures.after (λ y h. h) ∙ ap (λ n. replicate n 0) (part ∙ ap (λ p. p - end) at) in
-    take-put_mid-put_mid c.args.out.now c.fill.new.self c.write.new.out end place next (omega arith) (omega arith) room (c.fill.ensures.len ∙ part)
-    (ap length c.write.ensures ∙ length-little_endian c.args.field c.args.value ∙ omega (arith, c.width.ensures))
-    ∙ ap (λ zs. take end c.args.out.now ++ (zs ++ c.write.new.out)) zeros
-    ∙ ap (λ bs. take end c.args.out.now ++ (gap end (width c.args.field) ++ bs)) c.write.ensures
+    let end : ℕ = c.args.end in
+    let out : List ℕ = c.args.out.now in
+    let rest : take (length out - place) (drop place out) ≡ drop place out = take_rest out place in
+    let Wide : List ℕ → Type 0 = λ old. IsWrittenWide c.args.value old c.write_wide.new.out in
+    let wide : IsWrittenWide c.args.value (drop place out) c.write_wide.new.out = subst Wide rest c.write_wide.ensures in
+    let room : place + width c.args.field ≤ length out = omega (arith, c.requires.room, c.place-place.ensures) in
+    ap (take (place + c.width.result)) (post-none place out c.write_wide.new.out (omega arith))
+    ∙ ap (λ n. take (place + n) (take place out ++ c.write_wide.new.out)) c.width.ensures
+    ∙ written-put c.args.field c.args.value end place out c.write_wide.new.out wide c.requires.holds c.place-place.ensures room c.requires.clear
+
+pub returns-clause-clear : goal.returns-clause-clear
+returns-clause-clear c =
+    let place : ℕ = c.place-place.result in
+    let end : ℕ = c.args.end in
+    let out : List ℕ = c.args.out.now in
+    let new : List ℕ = c.write_wide.new.out in
+    let rest : take (length out - place) (drop place out) ≡ drop place out = take_rest out place in
+    let Wide : List ℕ → Type 0 = λ old. IsWrittenWide c.args.value old c.write_wide.new.out in
+    let wide : IsWrittenWide c.args.value (drop place out) c.write_wide.new.out = subst Wide rest c.write_wide.ensures in
+    let room : place + width c.args.field ≤ length out = omega (arith, c.requires.room, c.place-place.ensures) in
+    let clear : IsClearBehind (place + width c.args.field) (take place out ++ new) =
+    written-clear c.args.field c.args.value end place out new wide c.requires.holds c.place-place.ensures room c.requires.whole_words c.requires.clear in
+    let Clear : List ℕ → Type 0 = λ xs. IsClearBehind (place + c.width.result) xs in
+    let Behind : ℕ → Type 0 = λ n. IsClearBehind (place + n) (take place out ++ new) in
+    subst Clear (sym (post-none place out new (omega arith))) (subst Behind (sym c.width.ensures) clear)

@@ -1,50 +1,26 @@
 -- The header is written first; then each field finds the room that the layout left for it.
-use Rattle.std.proofs.Common.{◌≡◌, ◌≤◌, ◌<◌, ◌+◌, ◌++◌, ℕ, List, length, take, drop, get_or, arith, sym, ◌∙◌, ap, subst, ◌∷◌}
-use Rattle.std.proofs.lemmas.List.{length-take-le, length-drop, length-append, drop_more}
-use Rattle.dspec_record.specs.Layout.{fields_start}
-use Rattle.dspec_record.specs.RecordText.{little_endian, header_text, record_text}
+use Rattle.std.proofs.Common.{◌≡◌, ◌≤◌, ◌<◌, ◌+◌, ℕ, List, length, drop, get_or, arith, sym, ◌∙◌, ap, subst, [], ◌∷◌}
+use Rattle.std.proofs.lemmas.List.{drop_more, drop_all}
+use Rattle.dspec_record.specs.Layout.{fields_start, layout}
+use Rattle.dspec_record.specs.Record.{Record}
+use Rattle.dspec_record.specs.Reading.{IsShape}
+use Rattle.dspec_record.specs.RecordText.{record_text}
 use Rattle.dspec_record.specs.Laws.Layouts.{layout-IsShape}
 use Rattle.dspec_record.proofs.Fitting.{fits-length}
-use Rattle.dspec_record.proofs.Writing.{IsWriting, IsWriting-start, IsWriting-room, IsWriting-near}
+use Rattle.dspec_record.proofs.Writing.{IsWriting, IsWriting-start, IsWriting-room, IsWriting-near, IsWriting-end}
 use Rattle.dspec_record.specs.declared.field.Field.{Field}
 use Rattle.dspec_record.specs.declared.field.Field.TheVariants.{One}
 use Rattle.dspec_record.proofs.codec.put_record.Goals as goal
 
-pub slice_bounds-copy_from_slice-end : goal.slice_bounds-copy_from_slice-end
-slice_bounds-copy_from_slice-end c =
-    omega (arith, c.requires.exact, (layout-IsShape c.args.fields.now c.requires.few).with_epid)
+pub put_header-end-requires-clause-whole_words : goal.put_header-end-requires-clause-whole_words
+put_header-end-requires-clause-whole_words c =
+    let shape : IsShape (layout c.args.fields.now) = layout-IsShape c.args.fields.now c.requires.few in
+    omega (arith, c.requires.exact, shape.whole_words)
 
-four : (out : List ℕ) → 4 ≤ length out → 4 ≡ length (take 4 out)
-four out long = sym (length-take-le 4 out long)
-
-pub slice_bounds-copy_from_slice-end-2 : goal.slice_bounds-copy_from_slice-end-2
-slice_bounds-copy_from_slice-end-2 c =
-    four c.args.out.now (omega (arith, c.requires.exact, (layout-IsShape c.args.fields.now c.requires.few).with_epid))
-
-pub copy_from_slice-requires : goal.copy_from_slice-requires
-copy_from_slice-requires c =
-    sym (four c.args.out.now (omega (arith, c.requires.exact, (layout-IsShape c.args.fields.now c.requires.few).with_epid)))
-    ∙ sym (ap length c.to_le_bytes.ensures)
-
-pub loop-i-init : goal.loop-i-init
-loop-i-init c =
-    let values : c.values-values.result.now ≡ c.args.rec.now.values = c.values-values.ensures.values in
-    let header : c.copy_from_slice.new.self ≡ header_text c.args.rec.now =
-    c.copy_from_slice.ensures.after ∙ c.to_le_bytes.ensures ∙ ap (little_endian 4) c.epid.ensures in
-    let out : List ℕ = c.copy_from_slice.new.self ++ drop 4 c.args.out.now in
-    let long : length out ≡ length c.args.out.now =
-    omega (
-      arith,
-      length-append c.copy_from_slice.new.self (drop 4 c.args.out.now),
-      length-drop 4 c.args.out.now,
-      ap length header,
-      c.requires.exact,
-      (layout-IsShape c.args.fields.now c.requires.few).with_epid,
-    ) in
-    let Now : List ℕ → Type 0 = λ vs. IsWriting (record_text c.args.fields.now c.args.rec.now) fields_start out c.args.fields.now vs in
-    subst Now (sym values) (
-    IsWriting-start c.args.fields.now c.args.rec.now out (drop 4 c.args.out.now) c.requires.few c.requires.fit
-    (ap (λ h. h ++ drop 4 c.args.out.now) header) (long ∙ c.requires.exact))
+pub put_header-end-requires-clause-room : goal.put_header-end-requires-clause-room
+put_header-end-requires-clause-room c =
+    let shape : IsShape (layout c.args.fields.now) = layout-IsShape c.args.fields.now c.requires.few in
+    omega (arith, c.requires.exact, shape.with_epid)
 
 pub bounds-values-i : goal.bounds-values-i
 bounds-values-i c =
@@ -65,3 +41,25 @@ put_field-end-requires-clause-room c =
     let w : IsWriting (record_text fs c.args.rec.now) c.loop-i.end c.loop-i.out (get_or fs i One ∷ drop (i + 1) fs) (drop i c.values-values.result.now) =
     subst Left (drop_more fs i One within) c.loop-i.invariant in
     IsWriting-room _ _ _ _ _ _ w
+
+pub loop-i-init : goal.loop-i-init
+loop-i-init c =
+    let fs : List Field = c.args.fields.now in
+    let r : Record = c.args.rec.now in
+    let out : List ℕ = c.put_header-end.new.out in
+    let long : length out ≡ (layout fs).size = c.put_header-end.auto.out ∙ c.requires.exact in
+    let start : IsWriting (record_text fs r) fields_start out fs r.values =
+    IsWriting-start fs r out c.requires.few c.requires.fit c.put_header-end.ensures.put long c.put_header-end.ensures.clear in
+    let Values : List ℕ → Type 0 = λ vs. IsWriting (record_text fs r) fields_start out fs vs in
+    let At : ℕ → Type 0 = λ end. IsWriting (record_text fs r) end out fs c.values-values.result.now in
+    subst At (sym c.put_header-end.ensures.end) (subst Values (sym c.values-values.ensures.values) start)
+
+pub returns : goal.returns
+returns c =
+    let fs : List Field = c.args.fields.now in
+    let i : ℕ = c.loop-i.i in
+    let past : length fs ≤ i = omega arith in
+    let Left : List Field → Type 0 = λ gs. IsWriting (record_text fs c.args.rec.now) c.loop-i.end c.loop-i.out gs (drop i c.values-values.result.now) in
+    let done : IsWriting (record_text fs c.args.rec.now) c.loop-i.end c.loop-i.out [] (drop i c.values-values.result.now) =
+    subst Left (drop_all i fs past) c.loop-i.invariant in
+    IsWriting-end _ _ _ _ done

@@ -1,7 +1,10 @@
-use Rattle.std.proofs.Common.{◌≡◌, take, drop, length}
+use Rattle.std.proofs.Common.{◌≡◌, drop, length}
 use Rattle.dspec_record.proofs.ReadBack.{IsReading}
 use Rattle.dspec_record.proofs.codec.read_record.Given as goal
 
-abbrev pub invariant-loop-i : goal.invariant-loop-i
-invariant-loop-i l =
-    IsReading l.fields l.epid l.text l.end (take l.i l.values) l.i (drop l.i l.fields) × (length l.values ≡ 8)
+abbrev pub invariant-loop-field : goal.invariant-loop-field
+invariant-loop-field l = record {
+  epid_is : l.rec.epid ≡ l.epid;
+  reading : IsReading l.fields l.epid l.text l.end l.rec.values l.field-index (drop l.field-index l.fields);
+  many : length l.rec.values ≡ l.field-index;
+}

@@ -2,17 +2,16 @@
 use Rattle.std.proofs.Common.{◌≡◌, ℕ, true, List, IfOk, sym, subst}
 use Rattle.std.specs.Prelude.{reverse}
 use Rattle.std.proofs.lemmas.Result.{IfOk-weaker}
-use Rattle.dspec_core.specs.declared.calls.Actor.{Actor}
-use Rattle.dspec_core.specs.declared.deed.Deed.{Deed}
-use Rattle.dspec_core.specs.Calls.{is_actor, is_idle}
-use Rattle.dspec_core.specs.Closes.{reports, streams}
-use Rattle.dspec_core.specs.Coherent.{PlayState, the_caller}
-use Rattle.dspec_core.specs.Headline.{Headline}
-use Rattle.dspec_core.specs.Legal.{IsLegal}
-use Rattle.dspec_core.specs.Machines.{history, state_of}
-use Rattle.dspec_core.specs.Turns.{closing}
-use Rattle.dspec_core.proofs.Headlines.{headline}
-use Rattle.dspec_core.proofs.SessionCloses.{closes_legally, idle_closes, told_in_order}
+use Rattle.dspec_deeds.specs.declared.calls.Actor.{Actor}
+use Rattle.dspec_deeds.specs.declared.deed.Deed.{Deed}
+use Rattle.dspec_play.specs.Calls.{is_actor, is_idle}
+use Rattle.dspec_deeds.specs.Closes.{reports, streams, closing}
+use Rattle.dspec_play.specs.Coherent.{PlayState, the_caller}
+use Rattle.dspec_deeds.specs.Headline.{Headline}
+use Rattle.dspec_deeds.specs.Legal.{IsLegal}
+use Rattle.dspec_machine.specs.Machines.{history, state_of}
+use Rattle.dspec_deeds.proofs.Headlines.{headline}
+use Rattle.dspec_play.proofs.SessionCloses.{closes_legally, idle_closes, told_in_order}
 use Rattle.dspec_core.proofs.world.World.finish.Goals as goal
 
 pub finish-requires-clause-can_close : goal.finish-requires-clause-can_close
@@ -67,4 +66,4 @@ returns-clause-headline g c =
     let legal = closes_legally shape (state_of m) c.self.invariant.coherent (subst (λ (st : PlayState). (a : Actor) → is_actor st.config a ≡ true → is_idle a st ≡ true) (sym same) c.requires.idle) in
     subst (λ (st : PlayState). IfOk c.finish.result (λ close. (a : ℕ) → Headline st.config a (reverse close.deeds))) same
     (told_in_order (λ ds close. (a : ℕ) → Headline m.config a ds) last c.finish.result c.finish.ensures.deeds
-    (IfOk-weaker c.finish.result (λ close. close.deeds ≡ reverse last) (λ close. (a : ℕ) → Headline m.config a last) (λ close e a. headline shape m.config a last legal) c.finish.ensures.deeds))
+    (IfOk-weaker c.finish.result (λ close. close.deeds ≡ reverse last) (λ close. (a : ℕ) → Headline m.config a last) (λ close e a. headline shape m.config a last legal.0) c.finish.ensures.deeds))

@@ -1,15 +1,15 @@
 -- The steps stay below the bound of the call in flight.
 use Rattle.std.proofs.Common.{◌≡◌, ◌<◌, true, refl, sym, ap, subst}
-use Rattle.dspec_core.specs.declared.calls.Actor.{Actor}
-use Rattle.dspec_core.specs.declared.calls.Actor.TheVariants as actor
-use Rattle.dspec_core.specs.declared.flight.Caller.{Caller}
-use Rattle.dspec_core.specs.Bounds.{steps_limit}
-use Rattle.dspec_core.specs.Calls.{is_actor}
-use Rattle.dspec_core.specs.Coherent.{PlayState}
-use Rattle.dspec_core.specs.Machines.{state_of}
-use Rattle.dspec_core.proofs.MachineReads.{side_got}
-use Rattle.dspec_core.proofs.OneMore.{caller_there}
-use Rattle.dspec_core.proofs.StepCounts.{is_below, steps_below}
+use Rattle.dspec_deeds.specs.declared.calls.Actor.{Actor}
+use Rattle.dspec_deeds.specs.declared.calls.Actor.TheVariants as actor
+use Rattle.dspec_play.specs.declared.flight.Caller.{Caller}
+use Rattle.dspec_play.specs.Bounds.{steps_limit}
+use Rattle.dspec_play.specs.Calls.{is_actor}
+use Rattle.dspec_play.specs.Coherent.{PlayState}
+use Rattle.dspec_machine.specs.Machines.{state_of}
+use Rattle.dspec_machine.proofs.MachineReads.{side_got}
+use Rattle.dspec_machine.proofs.OneMore.{caller_there}
+use Rattle.dspec_play.proofs.StepCounts.{is_below, steps_below}
 use Rattle.dspec_core.proofs.world.World.steps.Goals as goal
 
 pub returns-in-Cpu-clause-bounded : goal.returns-in-Cpu-clause-bounded

@@ -1,5 +1,0 @@
-use Rattle.dspec_core.proofs.Headlines.{headline}
-use Rattle.dspec_core.proofs.laws.prefix_law.Goals as goal
-
-pub returns : goal.returns
-returns c shape k h cpu legal = (headline shape k cpu h legal).prefix

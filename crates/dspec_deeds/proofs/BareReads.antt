@@ -1,0 +1,97 @@
+-- What is read off all deeds is the same without the Seals.
+use Rattle.std.proofs.Common.{◌≡◌, ℕ, suc, ◌+◌, true, false, ◌||◌, ◌&&◌, if◌then◌else◌, List, [], ◌∷◌, refl, sym, ap, ◌∙◌, ⊎_elim, true≢false}
+use Rattle.dspec_word.specs.SpecId.{Speculation}
+use Rattle.dspec_deeds.specs.declared.config.Config.{Config}
+use Rattle.dspec_deeds.specs.declared.deed.Deed.{Deed}
+use Rattle.dspec_deeds.specs.declared.deed.Deed.TheVariants.{Trace, Scan, Opened, Miss, Speculate, Commit, Discard, Settle, Seal, Release, Halt}
+use Rattle.dspec_deeds.specs.FateKinds.{is_discard}
+use Rattle.dspec_deeds.specs.History.{halted, is_halt, issue, releases, opened, opens, verdict, ruling, latest, callers, calls_on, joined, is_sole, solo, solo_of, present, settled, settles, scan, scanned, opened_since, is_scan, opens_slot, owing, author, releaser, code_at, standing, word_at, ack, acks, issue_of}
+use Rattle.dspec_word.specs.declared.code.Code.TheVariants.{Inactive}
+use Rattle.dspec_deeds.specs.Legal.{is_seal}
+use Rattle.dspec_deeds.proofs.TestLemmas.{either_way}
+use Rattle.dspec_deeds.specs.Weaving.{bare, ShowsAlike}
+
+-- a Seal is a CPU's
+pub seal_is : (d : Deed) → is_seal d ≡ true → (c : ℕ) × (d ≡ Seal c)
+seal_is (Seal c) e = (c, refl)
+seal_is d e = absurd (true≢false (sym e))
+
+-- what is read off deed by deed, and passes over Seals, reads the same off the bare list
+pub reads_bare : {A : Type 0} (F : List Deed → A) (step : Deed → A → A) → ((d : Deed) (h : List Deed) → F (d ∷ h) ≡ step d (F h)) → ((c : ℕ) (x : A) → step (Seal c) x ≡ x) → (h : List Deed) → F h ≡ F (bare h)
+reads_bare F step each over [] = refl
+reads_bare F step each over (d ∷ h) = ⊎_elim
+    (λ (t : is_seal d ≡ true).
+    let s = seal_is d t in
+    let here : F (d ∷ h) ≡ F h = each d h ∙ (ap (λ x. step x (F h)) s.1 ∙ over s.0 (F h)) in
+    here ∙ (reads_bare F step each over h ∙ ap (λ b. F (if b then bare h else d ∷ bare h)) (sym t)))
+    (λ (f : is_seal d ≡ false). each d h ∙ (ap (step d) (reads_bare F step each over h) ∙ (sym (each d (bare h)) ∙ ap (λ b. F (if b then bare h else d ∷ bare h)) (sym f))))
+    (either_way (is_seal d))
+
+pub halted_bare : (h : List Deed) → halted h ≡ halted (bare h)
+halted_bare = reads_bare halted (λ d x. is_halt d || x) (λ d h. refl) (λ c x. refl)
+
+pub issue_bare : (s : ℕ) (h : List Deed) → issue s h ≡ issue s (bare h)
+issue_bare s = reads_bare (issue s) (λ d x. if releases s d then suc x else x) (λ d h. refl) (λ c x. refl)
+
+pub opened_bare : (id : Speculation) (h : List Deed) → opened id h ≡ opened id (bare h)
+opened_bare id = reads_bare (opened id) (λ d x. opens id d || x) (λ d h. refl) (λ c x. refl)
+
+pub verdict_bare : (id : Speculation) (h : List Deed) → verdict id h ≡ verdict id (bare h)
+verdict_bare id = reads_bare (verdict id) (λ d x. latest (ruling id d) x) (λ d h. refl) (λ c x. refl)
+
+pub callers_bare : (id : Speculation) (h : List Deed) → callers id h ≡ callers id (bare h)
+callers_bare id = reads_bare (callers id) (λ d x. joined (calls_on id d) x) (λ d h. refl) (λ c x. refl)
+
+pub settled_bare : (c : ℕ) (id : Speculation) (h : List Deed) → settled c id h ≡ settled c id (bare h)
+settled_bare c id = reads_bare (settled c id) (λ d x. settles c id d || x) (λ d h. refl) (λ a x. refl)
+
+pub scan_bare : (k : Config) (c : ℕ) (h : List Deed) → scan k c h ≡ scan k c (bare h)
+scan_bare k c = reads_bare (scan k c) (λ d x. scanned k c d x) (λ d h. refl) (λ a x. refl)
+
+pub since_bare : (c s : ℕ) (h : List Deed) → opened_since c s h ≡ opened_since c s (bare h)
+since_bare c s = reads_bare (opened_since c s) (λ d x. if is_scan c d then false else (opens_slot s d || x)) (λ d h. refl) (λ a x. refl)
+
+pub ack_bare : (c s : ℕ) (h : List Deed) → ack c s h ≡ ack c s (bare h)
+ack_bare c s = reads_bare (ack c s) (λ d x. if acks c s d then issue_of d + 1 else x) (λ d h. refl) (λ a x. refl)
+
+pub solo_bare : (id : Speculation) (h : List Deed) → solo id h ≡ solo id (bare h)
+solo_bare id h = λ i. solo_of (verdict_bare id h i) (callers_bare id h i)
+
+pub present_bare : (s : ℕ) (h : List Deed) → present s h ≡ present s (bare h)
+present_bare s h = λ i. record { issue = issue_bare s h i; slot = s }
+
+pub author_bare : (d : Deed) (h : List Deed) → author d h ≡ author d (bare h)
+author_bare (Release n) h = ap releaser (ap (λ j. solo j h) (present_bare n h) ∙ solo_bare (present n (bare h)) h)
+author_bare (Trace c r f) h = refl
+author_bare (Scan c run) h = refl
+author_bare (Opened c j) h = refl
+author_bare (Miss c n b) h = refl
+author_bare (Speculate c j r f) h = refl
+author_bare (Commit c j f) h = refl
+author_bare (Discard c j f) h = refl
+author_bare (Settle c j f) h = refl
+author_bare (Seal c) h = refl
+author_bare Halt h = refl
+
+pub owing_bare : (d : Deed) (h : List Deed) → owing d h ≡ owing d (bare h)
+owing_bare (Discard c j f) h = ap (λ cs. if is_discard f && is_sole c cs then j.slot else 0) (callers_bare j h)
+owing_bare d h = refl
+
+code_bare : (id : Speculation) (h : List Deed) → code_at id h ≡ code_at id (bare h)
+code_bare id h = λ i. if opened_bare id h i then standing (verdict_bare id h i) (callers_bare id h i) else Inactive
+
+word_bare : (s : ℕ) (h : List Deed) → word_at s h ≡ word_at s (bare h)
+word_bare s h = ap (λ (j : Speculation). record { issue = j.issue; code = code_at j h }) (present_bare s h) ∙ ap (λ x. record { issue = issue s (bare h); code = x }) (code_bare (present s (bare h)) h)
+
+-- the Seals show nothing of what is read off all deeds
+pub shows_bare : (h : List Deed) → ShowsAlike h (bare h)
+shows_bare h = record {
+  halts = halted_bare h;
+  words = λ s. word_bare s h;
+  acks = λ c s. ack_bare c s h;
+  given = λ id. opened_bare id h;
+  verdicts = λ id. verdict_bare id h;
+  calling = λ id. callers_bare id h;
+  alone = λ id. solo_bare id h;
+  settling = λ c id. settled_bare c id h;
+}

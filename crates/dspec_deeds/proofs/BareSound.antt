@@ -1,0 +1,84 @@
+-- A list with Seals is legal in its common part where the list without them is.
+use Rattle.std.proofs.Common.{◌≡◌, ◌⊎◌, ℕ, Bool, true, false, ◌||◌, ◌&&◌, ◌==◌, if◌then◌else◌, List, [], ◌∷◌, refl, sym, ap, ◌∙◌, subst, ⊎_elim}
+use Rattle.dspec_deeds.specs.declared.config.Config.{Config}
+use Rattle.dspec_deeds.specs.declared.calls.Actor.TheVariants.{Cpu}
+use Rattle.dspec_deeds.specs.declared.deed.Deed.{Deed}
+use Rattle.dspec_deeds.specs.declared.deed.Deed.TheVariants.{Discard, Seal}
+use Rattle.dspec_deeds.specs.History.{halted, is_halt, late, owed, same_actor}
+use Rattle.dspec_deeds.specs.Legal.{facts, Follows, FollowsBy, IsSound, is_seal}
+use Rattle.dspec_deeds.proofs.TestLemmas.{either_way, same_number, or_false, and_false}
+use Rattle.dspec_deeds.specs.Weaving.{bare}
+use Rattle.dspec_deeds.proofs.BareReads.{seal_is, halted_bare, issue_bare, opened_bare, verdict_bare, callers_bare, settled_bare, scan_bare, since_bare, author_bare, owing_bare}
+
+-- a Seal of the CPU makes nobody later: the session was not stopped, or the CPU has done a deed since
+abbrev pub IsNoLater : ℕ → List Deed → Type 0
+IsNoLater c h = (halted h ≡ false) ⊎ (late c h ≡ true)
+
+-- a Seal is put where it makes nobody later, and no release is owed
+abbrev pub MayPut : Deed → List Deed → Type 0
+MayPut (Seal c) h = IsNoLater c h × (owed h ≡ 0)
+MayPut d h = Unit {0}
+
+abbrev pub ArePut : List Deed → Type 0
+ArePut [] = Unit {0}
+ArePut (d ∷ h) = ArePut h × MayPut d h
+
+-- put so, Seals leave what is owed
+pub owed_bare : (h : List Deed) → ArePut h → owed h ≡ owed (bare h)
+owed_bare [] p = refl
+owed_bare (Seal c ∷ h) p = sym p.1.1 ∙ owed_bare h p.0
+owed_bare (Discard c j f ∷ h) p = owing_bare (Discard c j f) h
+owed_bare (d ∷ h) p = refl
+
+-- where a Seal may be put the CPU is late exactly where the session was stopped
+late_there : (c : ℕ) (h : List Deed) → IsNoLater c h → (late c h || halted h) ≡ late c h
+late_there c h = ⊎_elim (λ (e : halted h ≡ false). rw e (or_false (late c h))) (λ (e : late c h ≡ true). rw e refl)
+
+late_bare : (c : ℕ) (h : List Deed) → ArePut h → late c h ≡ late c (bare h)
+late_bare c [] p = refl
+late_bare c (d ∷ h) p = ⊎_elim
+    (λ (t : is_seal d ≡ true).
+    let s = seal_is d t in
+    let put : MayPut (Seal s.0) h = subst (λ x. MayPut x h) s.1 p.1 in
+    let here : late c (d ∷ h) ≡ late c h = ap (λ x. late c (x ∷ h)) s.1 ∙ over (c == s.0) (either_way (c == s.0)) s.0 put.0 refl in
+    here ∙ (late_bare c h p.0 ∙ ap (λ b. late c (if b then bare h else d ∷ bare h)) (sym t)))
+    (λ (f : is_seal d ≡ false).
+    let step : late c (d ∷ h) ≡ late c (d ∷ bare h) = λ i. if is_halt d then false else (late_bare c h p.0 i || (halted_bare h i && same_actor (Cpu c) (author_bare d h i))) in
+    step ∙ ap (λ b. late c (if b then bare h else d ∷ bare h)) (sym f))
+    (either_way (is_seal d))
+  where
+    and_true : (b : Bool) → (b && true) ≡ b
+    and_true true = refl
+    and_true false = refl
+
+    over : (b : Bool) → (b ≡ true) ⊎ (b ≡ false) → (a : ℕ) → IsNoLater a h → (c == a) ≡ b → (late c h || (halted h && (c == a))) ≡ late c h
+    over true w a there e = ap (λ x. late c h || (halted h && x)) e ∙ (ap (λ x. late c h || x) (and_true (halted h)) ∙ late_there c h (subst (λ x. IsNoLater x h) (sym (same_number c a e)) there))
+    over false w a there e = ap (λ x. late c h || (halted h && x)) e ∙ (ap (λ x. late c h || x) (and_false (halted h)) ∙ or_false (late c h))
+
+facts_bare : (k : Config) (h : List Deed) → ArePut h → facts k h ≡ facts k (bare h)
+facts_bare k h p = λ i. record {
+  halt = halted_bare h i;
+  issues = λ s. issue_bare s h i;
+  given = λ id. opened_bare id h i;
+  ruled = λ id. verdict_bare id h i;
+  called = λ id. callers_bare id h i;
+  done = λ c id. settled_bare c id h i;
+  scans = λ c. scan_bare k c h i;
+  since = λ c s. since_bare c s h i;
+  tardy = λ c. late_bare c h p i;
+  debt = owed_bare h p i;
+}
+
+-- the Seals put in keep the list legal in its common part
+pub sound_with_seals : (k : Config) (h : List Deed) → ArePut h → IsSound k (bare h) → IsSound k h
+sound_with_seals k [] p s = tt
+sound_with_seals k (d ∷ h) p s = ⊎_elim
+    (λ (t : is_seal d ≡ true).
+    let q = seal_is d t in
+    let put : MayPut (Seal q.0) h = subst (λ x. MayPut x h) q.1 p.1 in
+    let rest : IsSound k h = sound_with_seals k h p.0 (subst (λ b. IsSound k (if b then bare h else d ∷ bare h)) t s) in
+    (rest, subst (λ x. Follows k h x) (sym q.1) (put.1, tt)))
+    (λ (f : is_seal d ≡ false).
+    let now : IsSound k (d ∷ bare h) = subst (λ b. IsSound k (if b then bare h else d ∷ bare h)) f s in
+    (sound_with_seals k h p.0 now.0, subst (λ x. FollowsBy k x d) (sym (facts_bare k h p.0)) now.1))
+    (either_way (is_seal d))

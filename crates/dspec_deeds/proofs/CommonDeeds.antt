@@ -1,0 +1,234 @@
+-- The common part doesn't look at what found room, nor at how many records there were.
+use Rattle.std.proofs.Common.{◌≡◌, ℕ, suc, ◌+◌, Bool, false, ◌||◌, ◌&&◌, if◌then◌else◌, List, [], Some, None, ◌∷◌, refl, sym, ap, ◌∙◌, subst}
+use Rattle.dspec_word.specs.SpecId.{Speculation}
+use Rattle.dspec_word.specs.declared.code.Code.TheVariants.{Inactive}
+use Rattle.dspec_deeds.specs.declared.config.Config.{Config}
+use Rattle.dspec_deeds.specs.declared.calls.Actor.TheVariants.{Cpu}
+use Rattle.dspec_deeds.specs.declared.deed.TraceFate.{TraceFate}
+use Rattle.dspec_deeds.specs.declared.deed.TraceFate.TheVariants as traced
+use Rattle.dspec_deeds.specs.declared.deed.SpeculateFate.{SpeculateFate}
+use Rattle.dspec_deeds.specs.declared.deed.SpeculateFate.TheVariants as spoken
+use Rattle.dspec_deeds.specs.declared.deed.DecideFate.{DecideFate}
+use Rattle.dspec_deeds.specs.declared.deed.DecideFate.TheVariants as decided
+use Rattle.dspec_deeds.specs.declared.deed.Deed.{Deed}
+use Rattle.dspec_deeds.specs.declared.deed.Deed.TheVariants.{Trace, Speculate, Commit, Discard, Settle, Release, Halt}
+use Rattle.dspec_deeds.specs.FateKinds.{trace_stopped, spoken_stopped, spoken_granted, decided_stopped, is_commit, is_discard}
+use Rattle.dspec_deeds.specs.History.{same_id, halted, is_halt, issue, releases, present, opened, opens, Verdict, undecided, committed, discarded, verdict, ruling, latest, callers, calls_on, joined, is_sole, solo, solo_of, settled, settles, scan, scanned, opened_since, is_scan, opens_slot, owed, author, releaser, same_actor, late, code_at, standing, word_at, ack, acks, issue_of}
+use Rattle.dspec_deeds.specs.Legal.{Facts, facts, SettlesAs, AnswersBy, FollowsBy, IsSound, HasAuthors}
+use Rattle.dspec_deeds.specs.CommonDeeds.{common_traced, common_spoken, common_decided, common_deed, common_deeds, IsSameInCommon, AreSameInCommon}
+use Rattle.dspec_deeds.specs.Weaving.{ShowsAlike}
+
+-- The tests of fates that the common part makes.
+
+trace_stop : (f : TraceFate) → trace_stopped (common_traced f) ≡ trace_stopped f
+trace_stop traced.Kept = refl
+trace_stop f = refl
+
+speak_stop : (f : SpeculateFate) → spoken_stopped (common_spoken f) ≡ spoken_stopped f
+speak_stop spoken.Kept = refl
+speak_stop f = refl
+
+speak_grant : (f : SpeculateFate) → spoken_granted (common_spoken f) ≡ spoken_granted f
+speak_grant spoken.Kept = refl
+speak_grant f = refl
+
+decide_stop : (f : DecideFate) → decided_stopped (common_decided f) ≡ decided_stopped f
+decide_stop (decided.Copied n) = refl
+decide_stop f = refl
+
+decide_commit : (f : DecideFate) → is_commit (common_decided f) ≡ is_commit f
+decide_commit (decided.Copied n) = refl
+decide_commit f = refl
+
+decide_discard : (f : DecideFate) → is_discard (common_decided f) ≡ is_discard f
+decide_discard (decided.Copied n) = refl
+decide_discard f = refl
+
+-- What each deed adds to what is read off.
+
+halts : (d : Deed) → is_halt (common_deed d) ≡ is_halt d
+halts Halt = refl
+halts d = refl
+
+frees : (s : ℕ) (d : Deed) → releases s (common_deed d) ≡ releases s d
+frees s Halt = refl
+frees s d = refl
+
+gives : (id : Speculation) (d : Deed) → opens id (common_deed d) ≡ opens id d
+gives id Halt = refl
+gives id d = refl
+
+rules : (id : Speculation) (d : Deed) → ruling id (common_deed d) ≡ ruling id d
+rules id (Commit c j f) = ap (λ b. if b && same_id id j then committed c else undecided) (decide_commit f)
+rules id (Discard c j f) = ap (λ b. if b && same_id id j then discarded c else undecided) (decide_discard f)
+rules id d = refl
+
+calls_it : (id : Speculation) (d : Deed) → calls_on id (common_deed d) ≡ calls_on id d
+calls_it id (Speculate c j r f) = ap (λ b. if b && same_id id j then Some c else None) (speak_grant f)
+calls_it id d = refl
+
+ends : (c : ℕ) (id : Speculation) (d : Deed) → settles c id (common_deed d) ≡ settles c id d
+ends c id Halt = refl
+ends c id d = refl
+
+moves : (k : Config) (c : ℕ) (d : Deed) (n : ℕ) → scanned k c (common_deed d) n ≡ scanned k c d n
+moves k c Halt n = refl
+moves k c d n = refl
+
+starts : (c : ℕ) (d : Deed) → is_scan c (common_deed d) ≡ is_scan c d
+starts c Halt = refl
+starts c d = refl
+
+gives_at : (s : ℕ) (d : Deed) → opens_slot s (common_deed d) ≡ opens_slot s d
+gives_at s Halt = refl
+gives_at s d = refl
+
+stores : (c s : ℕ) (d : Deed) → acks c s (common_deed d) ≡ acks c s d
+stores c s Halt = refl
+stores c s d = refl
+
+of_issue : (d : Deed) → issue_of (common_deed d) ≡ issue_of d
+of_issue Halt = refl
+of_issue d = refl
+
+-- What is read off deed by deed, each deed adding the same.
+reads_common : {A : Type 0} (F : List Deed → A) (step : Deed → A → A) → ((d : Deed) (h : List Deed) → F (d ∷ h) ≡ step d (F h)) → ((d : Deed) (x : A) → step (common_deed d) x ≡ step d x) → (h : List Deed) → F (common_deeds h) ≡ F h
+reads_common F step each same [] = refl
+reads_common F step each same (d ∷ h) = each (common_deed d) (common_deeds h) ∙ (same d (F (common_deeds h)) ∙ (ap (step d) (reads_common F step each same h) ∙ sym (each d h)))
+
+halted_common : (h : List Deed) → halted (common_deeds h) ≡ halted h
+halted_common = reads_common halted (λ d x. is_halt d || x) (λ d h. refl) (λ d x. ap (λ b. b || x) (halts d))
+
+issue_common : (s : ℕ) (h : List Deed) → issue s (common_deeds h) ≡ issue s h
+issue_common s = reads_common (issue s) (λ d x. if releases s d then suc x else x) (λ d h. refl) (λ d x. ap (λ b. if b then suc x else x) (frees s d))
+
+opened_common : (id : Speculation) (h : List Deed) → opened id (common_deeds h) ≡ opened id h
+opened_common id = reads_common (opened id) (λ d x. opens id d || x) (λ d h. refl) (λ d x. ap (λ b. b || x) (gives id d))
+
+verdict_common : (id : Speculation) (h : List Deed) → verdict id (common_deeds h) ≡ verdict id h
+verdict_common id = reads_common (verdict id) (λ d x. latest (ruling id d) x) (λ d h. refl) (λ d x. ap (λ r. latest r x) (rules id d))
+
+callers_common : (id : Speculation) (h : List Deed) → callers id (common_deeds h) ≡ callers id h
+callers_common id = reads_common (callers id) (λ d x. joined (calls_on id d) x) (λ d h. refl) (λ d x. ap (λ a. joined a x) (calls_it id d))
+
+settled_common : (c : ℕ) (id : Speculation) (h : List Deed) → settled c id (common_deeds h) ≡ settled c id h
+settled_common c id = reads_common (settled c id) (λ d x. settles c id d || x) (λ d h. refl) (λ d x. ap (λ b. b || x) (ends c id d))
+
+scan_common : (k : Config) (c : ℕ) (h : List Deed) → scan k c (common_deeds h) ≡ scan k c h
+scan_common k c = reads_common (scan k c) (λ d x. scanned k c d x) (λ d h. refl) (λ d x. moves k c d x)
+
+since_common : (c s : ℕ) (h : List Deed) → opened_since c s (common_deeds h) ≡ opened_since c s h
+since_common c s = reads_common (opened_since c s) (λ d x. if is_scan c d then false else (opens_slot s d || x)) (λ d h. refl) (λ d x. λ i. if starts c d i then false else (gives_at s d i || x))
+
+ack_common : (c s : ℕ) (h : List Deed) → ack c s (common_deeds h) ≡ ack c s h
+ack_common c s = reads_common (ack c s) (λ d x. if acks c s d then issue_of d + 1 else x) (λ d h. refl) (λ d x. λ i. if stores c s d i then of_issue d i + 1 else x)
+
+solo_common : (id : Speculation) (h : List Deed) → solo id (common_deeds h) ≡ solo id h
+solo_common id h = λ i. solo_of (verdict_common id h i) (callers_common id h i)
+
+present_common : (s : ℕ) (h : List Deed) → present s (common_deeds h) ≡ present s h
+present_common s h = λ i. record { issue = issue_common s h i; slot = s }
+
+author_common : (d : Deed) (h : List Deed) → author (common_deed d) (common_deeds h) ≡ author d h
+author_common (Release n) h = ap releaser (ap (λ j. solo j (common_deeds h)) (present_common n h) ∙ solo_common (present n h) h)
+author_common d h = refl
+
+owed_common : (h : List Deed) → owed (common_deeds h) ≡ owed h
+owed_common [] = refl
+owed_common (Discard c j f ∷ h) = λ i. if decide_discard f i && is_sole c (callers_common j h i) then j.slot else 0
+owed_common (d ∷ h) = refl
+
+late_common : (c : ℕ) (h : List Deed) → late c (common_deeds h) ≡ late c h
+late_common c [] = refl
+late_common c (d ∷ h) = λ i. if halts d i then false else (late_common c h i || (halted_common h i && same_actor (Cpu c) (author_common d h i)))
+
+code_common : (id : Speculation) (h : List Deed) → code_at id (common_deeds h) ≡ code_at id h
+code_common id h = λ i. if opened_common id h i then standing (verdict_common id h i) (callers_common id h i) else Inactive
+
+word_common : (s : ℕ) (h : List Deed) → word_at s (common_deeds h) ≡ word_at s h
+word_common s h = ap (λ (j : Speculation). record { issue = j.issue; code = code_at j (common_deeds h) }) (present_common s h) ∙ ap (λ x. record { issue = issue s h; code = x }) (code_common (present s h) h)
+
+facts_common : (k : Config) (h : List Deed) → facts k (common_deeds h) ≡ facts k h
+facts_common k h = λ i. record {
+  halt = halted_common h i;
+  issues = λ s. issue_common s h i;
+  given = λ id. opened_common id h i;
+  ruled = λ id. verdict_common id h i;
+  called = λ id. callers_common id h i;
+  done = λ c id. settled_common c id h i;
+  scans = λ c. scan_common k c h i;
+  since = λ c s. since_common c s h i;
+  tardy = λ c. late_common c h i;
+  debt = owed_common h i;
+}
+
+-- lists that are the same in common have the same facts
+pub same_facts : (k : Config) (g h : List Deed) → AreSameInCommon g h → facts k g ≡ facts k h
+same_facts k g h e = sym (facts_common k g) ∙ (ap (facts k) e ∙ facts_common k h)
+
+-- and show the same
+pub same_shown : (g h : List Deed) → AreSameInCommon g h → ShowsAlike g h
+same_shown g h e = record {
+  halts = sym (halted_common g) ∙ (ap halted e ∙ halted_common h);
+  words = λ s. sym (word_common s g) ∙ (ap (word_at s) e ∙ word_common s h);
+  acks = λ c s. sym (ack_common c s g) ∙ (ap (ack c s) e ∙ ack_common c s h);
+  given = λ id. sym (opened_common id g) ∙ (ap (opened id) e ∙ opened_common id h);
+  verdicts = λ id. sym (verdict_common id g) ∙ (ap (verdict id) e ∙ verdict_common id h);
+  calling = λ id. sym (callers_common id g) ∙ (ap (callers id) e ∙ callers_common id h);
+  alone = λ id. sym (solo_common id g) ∙ (ap (solo id) e ∙ solo_common id h);
+  settling = λ c id. sym (settled_common c id g) ∙ (ap (settled c id) e ∙ settled_common c id h);
+}
+
+-- a fate that is the same in common settles the same
+settles_common : (v : Verdict) (f : DecideFate) → (SettlesAs v (common_decided f) → SettlesAs v f) × (SettlesAs v f → SettlesAs v (common_decided f))
+settles_common undecided f = (λ e. e, λ e. e)
+settles_common (committed c) f = (λ e. sym (decide_commit f) ∙ e, λ e. decide_commit f ∙ e)
+settles_common (discarded c) f = (λ e. sym (decide_discard f) ∙ e, λ e. decide_discard f ∙ e)
+
+answers_common : (x : Facts) (c : ℕ) (id : Speculation) (s t a b : Bool) → s ≡ t → a ≡ b → AnswersBy x c id s a → AnswersBy x c id t b
+answers_common x c id s t a b p q = subst (λ (r : Bool × Bool). AnswersBy x c id r.0 r.1) (λ i. (p i, q i))
+
+module _ (k : Config) (x : Facts) where
+  to_common : (d : Deed) → FollowsBy k x d → FollowsBy k x (common_deed d)
+  to_common (Trace c r f) e = (e.0, (e.1.0, trace_stop f ∙ e.1.1))
+  to_common (Speculate c id r f) e = (e.0, (e.1.0, answers_common x c id _ _ _ _ (sym (speak_stop f)) (sym (speak_grant f)) e.1.1))
+  to_common (Commit c id f) e = (e.0, (e.1.0, decide_discard f ∙ e.1.1, answers_common x c id _ _ _ _ (sym (decide_stop f)) (sym (decide_commit f)) e.1.2))
+  to_common (Discard c id f) e = (e.0, (e.1.0, decide_commit f ∙ e.1.1, answers_common x c id _ _ _ _ (sym (decide_stop f)) (sym (decide_discard f)) e.1.2))
+  to_common (Settle c id f) e = (e.0, (e.1.0, (e.1.1.0, (settles_common (x.ruled id) f).1 e.1.1.1, e.1.1.2, e.1.1.3)))
+  to_common d e = e
+
+  from_common : (d : Deed) → FollowsBy k x (common_deed d) → FollowsBy k x d
+  from_common (Trace c r f) e = (e.0, (e.1.0, sym (trace_stop f) ∙ e.1.1))
+  from_common (Speculate c id r f) e = (e.0, (e.1.0, answers_common x c id _ _ _ _ (speak_stop f) (speak_grant f) e.1.1))
+  from_common (Commit c id f) e = (e.0, (e.1.0, sym (decide_discard f) ∙ e.1.1, answers_common x c id _ _ _ _ (decide_stop f) (decide_commit f) e.1.2))
+  from_common (Discard c id f) e = (e.0, (e.1.0, sym (decide_commit f) ∙ e.1.1, answers_common x c id _ _ _ _ (decide_stop f) (decide_discard f) e.1.2))
+  from_common (Settle c id f) e = (e.0, (e.1.0, (e.1.1.0, (settles_common (x.ruled id) f).0 e.1.1.1, e.1.1.2, e.1.1.3)))
+  from_common d e = e
+
+-- one deed may come where another may that is the same in common
+pub same_follows : (k : Config) (x : Facts) (d e : Deed) → IsSameInCommon d e → FollowsBy k x d → FollowsBy k x e
+same_follows k x d e same goes = from_common k x e (subst (FollowsBy k x) same (to_common k x d goes))
+
+sound_to : (k : Config) (h : List Deed) → IsSound k h → IsSound k (common_deeds h)
+sound_to k [] s = tt
+sound_to k (d ∷ h) s = (sound_to k h s.0, subst (λ x. FollowsBy k x (common_deed d)) (sym (facts_common k h)) (to_common k (facts k h) d s.1))
+
+sound_from : (k : Config) (h : List Deed) → IsSound k (common_deeds h) → IsSound k h
+sound_from k [] s = tt
+sound_from k (d ∷ h) s = (sound_from k h s.0, from_common k (facts k h) d (subst (λ x. FollowsBy k x (common_deed d)) (facts_common k h) s.1))
+
+-- a list is legal in its common part where one is that is the same in common
+pub same_sound : (k : Config) (g h : List Deed) → AreSameInCommon g h → IsSound k g → IsSound k h
+same_sound k g h e s = sound_from k h (subst (IsSound k) e (sound_to k g s))
+
+authors_to : (k : Config) (h : List Deed) → HasAuthors k h → HasAuthors k (common_deeds h)
+authors_to k [] a = tt
+authors_to k (d ∷ h) a = (authors_to k h a.0, λ c by. a.1 c (sym (author_common d h) ∙ by))
+
+authors_from : (k : Config) (h : List Deed) → HasAuthors k (common_deeds h) → HasAuthors k h
+authors_from k [] a = tt
+authors_from k (d ∷ h) a = (authors_from k h a.0, λ c by. a.1 c (author_common d h ∙ by))
+
+-- its deeds are of the same CPUs
+pub same_authors : (k : Config) (g h : List Deed) → AreSameInCommon g h → HasAuthors k g → HasAuthors k h
+same_authors k g h e a = authors_from k h (subst (HasAuthors k) e (authors_to k g a))

@@ -1,0 +1,41 @@
+-- The headline, of every legal list of deeds.
+use Rattle.std.proofs.Common.{ℕ, List, Option}
+use Rattle.dspec_record.specs.declared.field.Shape.{Shape}
+use Rattle.dspec_deeds.specs.declared.config.Config.{Config}
+use Rattle.dspec_deeds.specs.declared.deed.Deed.{Deed}
+use Rattle.dspec_deeds.specs.Legal.{IsAllowed}
+use Rattle.dspec_deeds.specs.Headline.{FateLaw, Headline}
+use Rattle.dspec_deeds.proofs.DeedEffects.{Accounts, legal_accounts}
+use Rattle.dspec_deeds.proofs.Prefixes.{prefix_law}
+use Rattle.dspec_deeds.proofs.HeldOffers.{fate_within, times_taken}
+use Rattle.dspec_deeds.proofs.OfferedContents.{accepted_contents}
+use Rattle.dspec_deeds.proofs.FateCounts.{taken_count, dropped_count, discarded_count, void_count}
+use Rattle.dspec_deeds.proofs.SpokenRecords.{held_count}
+use Rattle.dspec_deeds.proofs.Balance.{balance}
+use Rattle.dspec_deeds.proofs.Acceptance.{acceptance_law}
+
+-- the fate law, of every list whose deeds have their effects for the CPU
+pub accounts_fate_law : (k : Config) (c : ℕ) (h : List Deed) → Accounts c h → FateLaw k c h
+accounts_fate_law k c h a = record {
+  fated = λ j lt. fate_within c j h lt;
+  accepted_are_taken = λ j. times_taken c j h a;
+  contents_are_offered = accepted_contents c h a;
+  taken_count = taken_count c h a;
+  dropped_count = dropped_count c h a;
+  discarded_count = discarded_count c h a;
+  void_count = void_count c h a;
+  held_count = held_count c h a;
+  sum = balance k c 0 h a;
+}
+
+-- the fate law, of every legal list
+pub fate_law : (shape : ℕ → Option Shape) (k : Config) (c : ℕ) (h : List Deed) → IsAllowed shape k h → FateLaw k c h
+fate_law shape k c h l = accounts_fate_law k c h (legal_accounts shape k c h l)
+
+-- all three laws
+pub headline : (shape : ℕ → Option Shape) (k : Config) (c : ℕ) (h : List Deed) → IsAllowed shape k h → Headline k c h
+headline shape k c h l = record {
+  prefix = prefix_law c h;
+  acceptance = acceptance_law shape k c h l;
+  fates = fate_law shape k c h l;
+}

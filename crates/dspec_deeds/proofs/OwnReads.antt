@@ -1,0 +1,351 @@
+-- What is read off a CPU's own deeds.
+use Rattle.std.proofs.Common.{◌≡◌, ℕ, suc, ◌+◌, Bool, true, false, not, ◌&&◌, ◌||◌, ◌==◌, ◌++◌, List, [], ◌∷◌, length, Option, Some, None, if◌then◌else◌, arith, refl, sym, ap, ◌∙◌, subst, ⊎_elim}
+use Rattle.std.specs.Prelude.{filter}
+use Rattle.dspec_word.specs.SpecId.{Speculation}
+use Rattle.dspec_deeds.specs.declared.config.Config.{Config}
+use Rattle.dspec_deeds.specs.declared.calls.Actor.TheVariants.{Cpu}
+use Rattle.dspec_deeds.specs.declared.deed.Deed.{Deed}
+use Rattle.dspec_deeds.specs.declared.deed.Deed.TheVariants.{Trace, Scan, Miss, Speculate, Commit, Discard, Settle, Seal}
+use Rattle.dspec_deeds.specs.FateKinds.{trace_kept, trace_dropped, trace_stopped, spoken_kept, spoken_dropped, spoken_nowhere, spoken_stopped, decided_stopped, is_commit, is_discard, is_copied, is_lost, count_of}
+use Rattle.dspec_deeds.specs.History.{same_actor, author, part, scanned, is_among, joined, calls_on, callers, settles, acks, issue_of}
+use Rattle.dspec_deeds.specs.Reports.{Spoken, total, one_if, accepts_now, drops_now, specdrops_now, loses_now, discards_now, voids_now, stops_now, adds_now, speculative, missed_busy, fails_now, busy_fails, other_fails, report}
+use Rattle.dspec_deeds.specs.Own.{contents, number_of, offered_by, is_call, seals_now, keeps, empties, held, accepts, active, empty_batch, is_drop}
+use Rattle.dspec_buffer.specs.Extent.{one, block}
+use Rattle.dspec_deeds.proofs.TestLemmas.{either_way, and_false, has_joined, other_number}
+use Rattle.dspec_deeds.proofs.StayingOwn.{scan_other, held_other, offers_other, calls_other, accepted_other, seals_other, active_other, growing_other, batches_other, is_drop_other, has_other, settled_other, ack_other, missed_other}
+use Rattle.dspec_deeds.specs.Legal.{is_seal}
+use Rattle.dspec_deeds.specs.Marks.{mark, mark_after}
+use Rattle.dspec_deeds.specs.Owning.{ReadsApart, ReadsAlike}
+use Rattle.dspec_deeds.specs.Weaving.{bare}
+use Rattle.dspec_deeds.proofs.BareReads.{seal_is}
+use Rattle.dspec_deeds.proofs.Marks.{mark_other}
+
+-- one more caller
+also_called : (c : ℕ) (x : Option ℕ) (cs ds : List ℕ) → is_among c cs ≡ is_among c ds → is_among c (joined x cs) ≡ is_among c (joined x ds)
+also_called c None cs ds e = e
+also_called c (Some a) cs ds e = has_joined c a cs ∙ (ap (λ b. (c == a) || b) e ∙ sym (has_joined c a ds))
+
+-- two empty lists
+nothing_apart : (k : Config) (c : ℕ) → ReadsApart k c [] []
+nothing_apart k c = record {
+  scanning = refl;
+  offering = refl;
+  calling = refl;
+  buffers = λ id. refl;
+  taking = refl;
+  called = λ id. refl;
+  settling = λ id. refl;
+  acks = λ s. refl;
+  marking = λ s. refl;
+  missing = refl;
+  spoken = refl;
+  reporting = λ worn. refl;
+}
+
+-- the same deed on lists that read alike, Seals apart
+module _ (k : Config) (c : ℕ) (d : Deed) (g h : List Deed) (e : ReadsApart k c g h) where
+  kept : (id : Speculation) (d : Deed) → held c id (d ∷ g) ≡ held c id (d ∷ h)
+  kept id (Speculate a j r f) = λ i. if keeps c id (Speculate a j r f) then record { number = e.offering i; content = r } ∷ e.buffers id i else e.buffers id i
+  kept id d = ap (λ os. if empties c id d then [] else os) (e.buffers id)
+
+  entered : (d : Deed) → accepts c d g ≡ accepts c d h
+  entered (Trace a r f) = λ i. if trace_kept f && (c == a) then record { number = e.offering i; content = r } ∷ [] else []
+  entered (Commit a id f) = λ i. if is_copied f && (c == a) then e.buffers id i else []
+  entered (Settle a id f) = λ i. if is_copied f && (c == a) then e.buffers id i else []
+  entered d = refl
+
+  missed : (d : Deed) → missed_busy c (d ∷ g) ≡ missed_busy c (d ∷ h)
+  missed (Scan a run) = ap (λ b. if c == a then false else b) e.missing
+  missed (Miss a s busy) = ap (λ b. (busy && (c == a)) || b) e.missing
+  missed d = e.missing
+
+  said : (d : Deed) → adds_now c d g ≡ adds_now c d h
+  said (Speculate a id r f) = λ i. if spoken_kept f && (c == a) then (id, record { number = e.offering i; content = r }) ∷ [] else []
+  said d = refl
+
+  pub apart_on : ReadsApart k c (d ∷ g) (d ∷ h)
+  apart_on =
+      let here = missed d in
+      let says = said d in
+      record {
+        scanning = ap (scanned k c d) e.scanning;
+        offering = ap (λ n. n + number_of (offered_by c d)) e.offering;
+        calling = ap (λ n. n + (if is_call c d then 1 else 0)) e.calling;
+        buffers = λ id. kept id d;
+        taking = let enters = entered d in λ i. enters i ++ e.taking i;
+        called = λ id. also_called c (calls_on id d) (callers id g) (callers id h) (e.called id);
+        settling = λ id. ap (λ b. settles c id d || b) (e.settling id);
+        acks = λ s. ap (λ n. if acks c s d then issue_of d + 1 else n) (e.acks s);
+        marking = λ s. ap (mark_after c s d) (e.marking s);
+        missing = here;
+        spoken = λ i. says i ++ filter (λ p. not (empties c p.0 d)) (e.spoken i);
+        reporting = λ worn. λ i. record {
+          offered = e.offering i + number_of (offered_by c d);
+          accepted = (e.reporting worn i).accepted + accepts_now c d;
+          dropped = (e.reporting worn i).dropped + drops_now c d;
+          specdropped = (e.reporting worn i).specdropped + specdrops_now c d;
+          lost = (e.reporting worn i).lost + loses_now c d;
+          discarded = (e.reporting worn i).discarded + discards_now c d;
+          void = (e.reporting worn i).void + voids_now c d;
+          held = length (says i ++ filter (λ p. not (empties c p.0 d)) (e.spoken i));
+          drops = (e.reporting worn i).drops + one_if (is_drop c d);
+          unavailable = (e.reporting worn i).unavailable + one_if (fails_now k c d && not (here i));
+          busy = (e.reporting worn i).busy + one_if (fails_now k c d && here i);
+          stopped = (e.reporting worn i).stopped + stops_now c d;
+          worn = worn;
+        };
+      }
+
+-- the same deed on lists that read alike
+pub alike_on : (k : Config) (c : ℕ) (d : Deed) (g h : List Deed) → ReadsAlike k c g h → ReadsAlike k c (d ∷ g) (d ∷ h)
+alike_on k c d g h e =
+    let enters = entered k c d g h e.apart d in
+    record {
+      apart = apart_on k c d g h e.apart;
+      sealing = ap (λ n. n + (if seals_now c d then 1 else 0)) e.sealing;
+      principal = pieces d;
+      filling = λ i. if seals_now c d then empty_batch else record { offers = enters i ++ (e.filling i).offers; drops = (e.filling i).drops + (if is_drop c d then 1 else 0) };
+      sealed = λ i. if seals_now c d then e.filling i ∷ e.sealed i else e.sealed i;
+    }
+  where
+    pieces : (d : Deed) → active c (d ∷ g) ≡ active c (d ∷ h)
+    pieces (Trace a r f) = ap (λ ps. if trace_kept f && (c == a) then one r ∷ ps else ps) e.principal
+    pieces (Commit a id f) = λ i. if is_copied f && (c == a) then block (contents (e.apart.buffers id i)) ∷ e.principal i else e.principal i
+    pieces (Settle a id f) = λ i. if is_copied f && (c == a) then block (contents (e.apart.buffers id i)) ∷ e.principal i else e.principal i
+    pieces (Seal a) = ap (λ ps. if c == a then [] else ps) e.principal
+    pieces d = e.principal
+
+-- nothing is counted where a test fails
+none_if : (b : Bool) → one_if (b && false) ≡ 0
+none_if true = refl
+none_if false = refl
+
+none_of : (b : Bool) (n : ℕ) → (if b && false then n else 0) ≡ 0
+none_of true n = refl
+none_of false n = refl
+
+-- another's deed counts nowhere in the CPU's report
+record CountsNowhere (k : Config) (c : ℕ) (d : Deed) (h : List Deed) : Type 0 where
+  pub accepted : accepts_now c d ≡ 0
+  pub dropped : drops_now c d ≡ 0
+  pub specdropped : specdrops_now c d ≡ 0
+  pub lost : loses_now c d ≡ 0
+  pub discarded : discards_now c d ≡ 0
+  pub void : voids_now c d ≡ 0
+  pub stopped : stops_now c d ≡ 0
+  pub fails : fails_now k c d ≡ false
+  pub says : speculative c (d ∷ h) ≡ speculative c h
+
+kept_all : (ps : List Spoken) → filter (λ p. true) ps ≡ ps
+kept_all [] = refl
+kept_all (p ∷ ps) = ap (λ qs. p ∷ qs) (kept_all ps)
+
+kept_by : (b : Bool) (ps : List Spoken) → filter (λ p. not (b && false)) ps ≡ ps
+kept_by true ps = kept_all ps
+kept_by false ps = kept_all ps
+
+added_none : (b : Bool) (p : Spoken) (ps : List Spoken) → (if b && false then p ∷ [] else []) ++ ps ≡ ps
+added_none true p ps = refl
+added_none false p ps = refl
+
+counts_nowhere : (k : Config) (c : ℕ) (d : Deed) (h : List Deed) → same_actor (Cpu c) (author d h) ≡ false → CountsNowhere k c d h
+counts_nowhere k c d h e = record {
+  accepted = accepted d e;
+  dropped = dropped d e;
+  specdropped = specdropped d e;
+  lost = lost d e;
+  discarded = discarded d e;
+  void = void d e;
+  stopped = stopped d e;
+  fails = fails d e;
+  says = says d e;
+}
+  where
+    accepted : (d : Deed) → same_actor (Cpu c) (author d h) ≡ false → accepts_now c d ≡ 0
+    accepted (Trace a r f) e = rw e (none_if (trace_kept f))
+    accepted (Commit a id f) e = rw e (none_of (is_copied f) (count_of f))
+    accepted (Settle a id f) e = rw e (none_of (is_copied f) (count_of f))
+    accepted d e = refl
+
+    dropped : (d : Deed) → same_actor (Cpu c) (author d h) ≡ false → drops_now c d ≡ 0
+    dropped (Trace a r f) e = rw e (none_if (trace_dropped f))
+    dropped d e = refl
+
+    specdropped : (d : Deed) → same_actor (Cpu c) (author d h) ≡ false → specdrops_now c d ≡ 0
+    specdropped (Speculate a id r f) e = rw e (none_if (spoken_dropped f))
+    specdropped d e = refl
+
+    lost : (d : Deed) → same_actor (Cpu c) (author d h) ≡ false → loses_now c d ≡ 0
+    lost (Commit a id f) e = rw e (none_of (is_lost f) (count_of f))
+    lost (Settle a id f) e = rw e (none_of (is_lost f) (count_of f))
+    lost d e = refl
+
+    discarded : (d : Deed) → same_actor (Cpu c) (author d h) ≡ false → discards_now c d ≡ 0
+    discarded (Discard a id f) e = rw e (none_of (is_discard f) (count_of f))
+    discarded (Settle a id f) e = rw e (none_of (is_discard f) (count_of f))
+    discarded d e = refl
+
+    void : (d : Deed) → same_actor (Cpu c) (author d h) ≡ false → voids_now c d ≡ 0
+    void (Trace a r f) e = rw e (none_if (trace_stopped f))
+    void (Speculate a id r f) e = rw e (none_if (spoken_nowhere f))
+    void d e = refl
+
+    stopped : (d : Deed) → same_actor (Cpu c) (author d h) ≡ false → stops_now c d ≡ 0
+    stopped (Trace a r f) e = rw e (none_if (trace_stopped f))
+    stopped (Scan a run) e = rw e (none_if (not run))
+    stopped (Speculate a id r f) e = rw e (none_if (spoken_stopped f))
+    stopped (Commit a id f) e = rw e (none_if (decided_stopped f))
+    stopped (Discard a id f) e = rw e (none_if (decided_stopped f))
+    stopped d e = refl
+
+    fails : (d : Deed) → same_actor (Cpu c) (author d h) ≡ false → fails_now k c d ≡ false
+    fails (Miss a s busy) e = rw e (and_false (s == k.nspec))
+    fails d e = refl
+
+    says : (d : Deed) → same_actor (Cpu c) (author d h) ≡ false → speculative c (d ∷ h) ≡ speculative c h
+    says (Speculate a id r f) e = rw e (added_none (spoken_kept f) _ _ ∙ kept_all (speculative c h))
+    says (Commit a id f) e = rw e (kept_by (is_commit f) (speculative c h))
+    says (Discard a id f) e = rw e (kept_by (is_discard f) (speculative c h))
+    says (Settle a id f) e = rw e (kept_all (speculative c h))
+    says d e = kept_all (speculative c h)
+
+-- another's deed leaves the CPU's report
+report_other : (k : Config) (c worn : ℕ) (d : Deed) (h : List Deed) → same_actor (Cpu c) (author d h) ≡ false → report k c worn (d ∷ h) ≡ report k c worn h
+report_other k c worn d h e = let none = counts_nowhere k c d h e in λ i. record {
+  offered = offers_other c d h e i;
+  accepted = more (total (accepts_now c) h) (accepts_now c d) none.accepted i;
+  dropped = more (total (drops_now c) h) (drops_now c d) none.dropped i;
+  specdropped = more (total (specdrops_now c) h) (specdrops_now c d) none.specdropped i;
+  lost = more (total (loses_now c) h) (loses_now c d) none.lost i;
+  discarded = more (total (discards_now c) h) (discards_now c d) none.discarded i;
+  void = more (total (voids_now c) h) (voids_now c d) none.void i;
+  held = length (none.says i);
+  drops = more (total (λ d. one_if (is_drop c d)) h) (one_if (is_drop c d)) (ap one_if (is_drop_other c d h e)) i;
+  unavailable = more (other_fails k c h) (one_if (fails_now k c d && not (missed_busy c (d ∷ h)))) (ap (λ b. one_if (b && not (missed_busy c (d ∷ h)))) none.fails) i;
+  busy = more (busy_fails k c h) (one_if (fails_now k c d && missed_busy c (d ∷ h))) (ap (λ b. one_if (b && missed_busy c (d ∷ h))) none.fails) i;
+  stopped = more (total (stops_now c) h) (stops_now c d) none.stopped i;
+  worn = worn;
+}
+  where
+    more : (n m : ℕ) → m ≡ 0 → n + m ≡ n
+    more n m e = omega arith
+
+-- another's deed leaves what is read off the CPU's own
+pub apart_other : (k : Config) (c : ℕ) (d : Deed) (h : List Deed) → same_actor (Cpu c) (author d h) ≡ false → ReadsApart k c (d ∷ h) h
+apart_other k c d h other = record {
+  scanning = scan_other k c d h other;
+  offering = offers_other c d h other;
+  calling = calls_other c d h other;
+  buffers = λ id. held_other c id d h other;
+  taking = accepted_other c d h other;
+  called = λ id. has_other c id d h other;
+  settling = λ id. settled_other c id d h other;
+  acks = λ s. ack_other c s d h other;
+  marking = λ s. mark_other c s d h (mark c s h) other;
+  missing = missed_other c d h other;
+  spoken = (counts_nowhere k c d h other).says;
+  reporting = λ worn. report_other k c worn d h other;
+}
+
+pub alike_other : (k : Config) (c : ℕ) (d : Deed) (h : List Deed) → same_actor (Cpu c) (author d h) ≡ false → ReadsAlike k c (d ∷ h) h
+alike_other k c d h other = record {
+  apart = apart_other k c d h other;
+  sealing = seals_other c d h other;
+  principal = active_other c d h other;
+  filling = growing_other c d h other;
+  sealed = batches_other c d h other;
+}
+
+-- a Seal leaves what is read off the CPU's own, Seals apart: none of it looks at whose Seal it is
+pub apart_seal : (k : Config) (c a : ℕ) (h : List Deed) → ReadsApart k c (Seal a ∷ h) h
+apart_seal k c a h =
+    let r = apart_other k c (Seal (suc c)) h (other_number c (suc c) (omega arith)) in
+    record {
+      scanning = r.scanning;
+      offering = r.offering;
+      calling = r.calling;
+      buffers = r.buffers;
+      taking = r.taking;
+      called = r.called;
+      settling = r.settling;
+      acks = r.acks;
+      marking = r.marking;
+      missing = r.missing;
+      spoken = r.spoken;
+      reporting = r.reporting;
+    }
+
+-- lists that read alike, the other way round and one after another
+pub apart_back : (k : Config) (c : ℕ) (g h : List Deed) → ReadsApart k c g h → ReadsApart k c h g
+apart_back k c g h e = record {
+  scanning = sym e.scanning;
+  offering = sym e.offering;
+  calling = sym e.calling;
+  buffers = λ id. sym (e.buffers id);
+  taking = sym e.taking;
+  called = λ id. sym (e.called id);
+  settling = λ id. sym (e.settling id);
+  acks = λ s. sym (e.acks s);
+  marking = λ s. sym (e.marking s);
+  missing = sym e.missing;
+  spoken = sym e.spoken;
+  reporting = λ worn. sym (e.reporting worn);
+}
+
+pub alike_back : (k : Config) (c : ℕ) (g h : List Deed) → ReadsAlike k c g h → ReadsAlike k c h g
+alike_back k c g h e = record {
+  apart = apart_back k c g h e.apart;
+  sealing = sym e.sealing;
+  principal = sym e.principal;
+  filling = sym e.filling;
+  sealed = sym e.sealed;
+}
+
+pub apart_through : (k : Config) (c : ℕ) (f g h : List Deed) → ReadsApart k c f g → ReadsApart k c g h → ReadsApart k c f h
+apart_through k c f g h to on = record {
+  scanning = to.scanning ∙ on.scanning;
+  offering = to.offering ∙ on.offering;
+  calling = to.calling ∙ on.calling;
+  buffers = λ id. to.buffers id ∙ on.buffers id;
+  taking = to.taking ∙ on.taking;
+  called = λ id. to.called id ∙ on.called id;
+  settling = λ id. to.settling id ∙ on.settling id;
+  acks = λ s. to.acks s ∙ on.acks s;
+  marking = λ s. to.marking s ∙ on.marking s;
+  missing = to.missing ∙ on.missing;
+  spoken = to.spoken ∙ on.spoken;
+  reporting = λ worn. to.reporting worn ∙ on.reporting worn;
+}
+
+pub alike_through : (k : Config) (c : ℕ) (f g h : List Deed) → ReadsAlike k c f g → ReadsAlike k c g h → ReadsAlike k c f h
+alike_through k c f g h to on = record {
+  apart = apart_through k c f g h to.apart on.apart;
+  sealing = to.sealing ∙ on.sealing;
+  principal = to.principal ∙ on.principal;
+  filling = to.filling ∙ on.filling;
+  sealed = to.sealed ∙ on.sealed;
+}
+
+-- the list of all and the CPU's own list read alike
+pub reads : (k : Config) (c : ℕ) (h : List Deed) → ReadsAlike k c (part (Cpu c) h) h
+reads k c [] = record {
+  apart = nothing_apart k c;
+  sealing = refl;
+  principal = refl;
+  filling = refl;
+  sealed = refl;
+}
+reads k c (d ∷ h) = ⊎_elim
+    (λ (t : same_actor (Cpu c) (author d h) ≡ true). rw t (alike_on k c d (part (Cpu c) h) h (reads k c h)))
+    (λ (f : same_actor (Cpu c) (author d h) ≡ false). rw f (alike_through k c (part (Cpu c) h) h (d ∷ h) (reads k c h) (alike_back k c (d ∷ h) h (alike_other k c d h f))))
+    (either_way (same_actor (Cpu c) (author d h)))
+
+-- a list and the list without its Seals read alike, Seals apart
+pub apart_bare : (k : Config) (c : ℕ) (h : List Deed) → ReadsApart k c h (bare h)
+apart_bare k c [] = nothing_apart k c
+apart_bare k c (d ∷ h) = ⊎_elim
+    (λ (t : is_seal d ≡ true).
+    let s = seal_is d t in
+    rw t (apart_through k c (d ∷ h) h (bare h) (subst (λ x. ReadsApart k c (x ∷ h) h) (sym s.1) (apart_seal k c s.0 h)) (apart_bare k c h)))
+    (λ (f : is_seal d ≡ false). rw f (apart_on k c d h (bare h) (apart_bare k c h)))
+    (either_way (is_seal d))

@@ -1,0 +1,132 @@
+-- What a legal list keeps.
+use Rattle.std.proofs.Common.{◌≡◌, ℕ, ◌+◌, ◌≤◌, Bool, true, false, ◌&&◌, ◌==◌, List, [], ◌∷◌, if◌then◌else◌, refl, sym, ◌∙◌, subst, ⊎_elim, arith, true≢false}
+use Rattle.std.proofs.lemmas.Bool.Decides.{nat_tests}
+use Rattle.dspec_word.specs.SpecId.{Speculation}
+use Rattle.dspec_deeds.specs.declared.config.Config.{Config}
+use Rattle.dspec_deeds.specs.declared.deed.SpeculateFate.{SpeculateFate}
+use Rattle.dspec_deeds.specs.declared.deed.SpeculateFate.TheVariants as spoken
+use Rattle.dspec_deeds.specs.declared.deed.DecideFate.{DecideFate}
+use Rattle.dspec_deeds.specs.declared.deed.DecideFate.TheVariants as decided
+use Rattle.dspec_deeds.specs.declared.deed.Deed.{Deed}
+use Rattle.dspec_deeds.specs.declared.deed.Deed.TheVariants.{Scan, Opened, Miss, Speculate, Commit, Discard}
+use Rattle.dspec_deeds.specs.FateKinds.{spoken_granted, spoken_stopped, is_commit, is_discard, decided_stopped}
+use Rattle.dspec_deeds.specs.History.{same_id, halted, issue, releases, opens, opened, verdict, undecided, is_undecided, is_open, callers, scan, late, is_halt}
+use Rattle.dspec_deeds.specs.Legal.{Answers, IsSound}
+use Rattle.dspec_deeds.proofs.TestLemmas.{either_way, off, and_tells, or_none, or_tells, same_id_tells}
+
+-- a granted record was not stopped
+pub granted_goes : (f : SpeculateFate) → spoken_granted f ≡ true → spoken_stopped f ≡ false
+granted_goes spoken.Kept e = refl
+granted_goes spoken.Dropped e = refl
+granted_goes spoken.Void e = absurd (true≢false (sym e))
+granted_goes spoken.Stopped e = absurd (true≢false (sym e))
+
+-- a commit that decided was not stopped
+pub commit_goes : (f : DecideFate) → is_commit f ≡ true → decided_stopped f ≡ false
+commit_goes (decided.Copied n) e = refl
+commit_goes (decided.Lost n) e = refl
+commit_goes (decided.Thrown n) e = refl
+commit_goes decided.Void e = refl
+commit_goes decided.Stopped e = absurd (true≢false (sym e))
+
+-- a discard that decided was not stopped
+pub discard_goes : (f : DecideFate) → is_discard f ≡ true → decided_stopped f ≡ false
+discard_goes (decided.Copied n) e = refl
+discard_goes (decided.Lost n) e = refl
+discard_goes (decided.Thrown n) e = refl
+discard_goes decided.Void e = refl
+discard_goes decided.Stopped e = absurd (true≢false (sym e))
+
+-- what was done was done to an open speculation
+pub answered_open : (h : List Deed) (c : ℕ) (id : Speculation) (stopped done : Bool) → stopped ≡ false → done ≡ true → Answers h c id stopped done → is_open id h ≡ true
+answered_open h c id true done s t a = absurd (true≢false s)
+answered_open h c id false done s t a = sym a.1 ∙ t
+
+-- no decision and no caller
+abbrev pub Unseen : Speculation → List Deed → Type 0
+Unseen id h = (verdict id h ≡ undecided) × (callers id h ≡ [])
+
+-- no record is granted to what was not given out
+not_called : (h : List Deed) (c : ℕ) (id j : Speculation) (f : SpeculateFate) → opened id h ≡ false → Answers h c j (spoken_stopped f) (spoken_granted f) → (spoken_granted f && same_id id j) ≡ false
+not_called h c id j f un a = ⊎_elim
+    (λ (t : (spoken_granted f && same_id id j) ≡ true).
+    let both = and_tells (spoken_granted f) (same_id id j) t in
+    let open_j = answered_open h c j (spoken_stopped f) (spoken_granted f) (granted_goes f both.0) both.0 a in
+    let is : opened j h ≡ true = (and_tells (opened j h) (is_undecided (verdict j h)) open_j).0 in
+    off (opened id h) (subst (λ x. opened x h ≡ true) (sym (same_id_tells id j both.1)) is) un)
+    (λ x. x)
+    (either_way (spoken_granted f && same_id id j))
+
+-- no decision is made of what was not given out
+not_decided : (h : List Deed) (c : ℕ) (id j : Speculation) (stopped done : Bool) → (done ≡ true → stopped ≡ false) → opened id h ≡ false → Answers h c j stopped done → (done && same_id id j) ≡ false
+not_decided h c id j stopped done goes un a = ⊎_elim
+    (λ (t : (done && same_id id j) ≡ true).
+    let both = and_tells done (same_id id j) t in
+    let open_j = answered_open h c j stopped done (goes both.0) both.0 a in
+    let is : opened j h ≡ true = (and_tells (opened j h) (is_undecided (verdict j h)) open_j).0 in
+    off (opened id h) (subst (λ x. opened x h ≡ true) (sym (same_id_tells id j both.1)) is) un)
+    (λ x. x)
+    (either_way (done && same_id id j))
+
+-- what was not given out has no caller and no decision
+pub unseen : (k : Config) (h : List Deed) (id : Speculation) → IsSound k h → opened id h ≡ false → Unseen id h
+unseen k [] id s un = (refl, refl)
+unseen k (Opened c j ∷ h) id s un = unseen k h id s.0 (or_none (same_id id j) (opened id h) un).1
+unseen k (Speculate c j r f ∷ h) id s un = let rest = unseen k h id s.0 un in let no = not_called h c id j f un s.1.1.1 in (rest.0, rw no rest.1)
+unseen k (Commit c j f ∷ h) id s un = let rest = unseen k h id s.0 un in let no = not_decided h c id j (decided_stopped f) (is_commit f) (commit_goes f) un s.1.1.2 in (rw no rest.0, rest.1)
+unseen k (Discard c j f ∷ h) id s un = let rest = unseen k h id s.0 un in let no = not_decided h c id j (decided_stopped f) (is_discard f) (discard_goes f) un s.1.1.2 in (rw no rest.0, rest.1)
+unseen k (d ∷ h) id s un = unseen k h id s.0 un
+
+-- a slot's issue never falls
+pub issue_grows : (s : ℕ) (d : Deed) (h : List Deed) → issue s h ≤ issue s (d ∷ h)
+issue_grows s d h = ⊎_elim
+    (λ (t : releases s d ≡ true). rw t (omega arith))
+    (λ (f : releases s d ≡ false). rw f (omega arith))
+    (either_way (releases s d))
+
+-- no speculation of a later issue was given out
+pub opened_by_now : (k : Config) (h : List Deed) (id : Speculation) → IsSound k h → opened id h ≡ true → id.issue ≤ issue id.slot h
+opened_by_now k [] id s is = absurd (true≢false (sym is))
+opened_by_now k (d ∷ h) id s is = ⊎_elim (here d s) (λ (t : opened id h ≡ true). let a = opened_by_now k h id s.0 t in let b = issue_grows id.slot d h in omega arith) (or_tells (opens id d) (opened id h) is)
+  where
+    here : (d : Deed) → IsSound k (d ∷ h) → opens id d ≡ true → id.issue ≤ issue id.slot (d ∷ h)
+    here (Opened c j) s t = subst (λ (x : Speculation). x.issue ≤ issue x.slot h) (sym (same_id_tells id j t)) (let e = s.1.1.3 in omega arith)
+    here d s t = absurd (true≢false (sym t))
+
+-- before a stop nobody has done a deed after it
+pub running_not_late : (c : ℕ) (h : List Deed) → halted h ≡ false → late c h ≡ false
+running_not_late c [] e = refl
+running_not_late c (d ∷ h) e = let both = or_none (is_halt d) (halted h) e in let no = both.1 in let this = both.0 in rw (this, running_not_late c h no, no)
+
+-- a call of speculation comes to slots that there are
+pub scan_bound : (k : Config) (h : List Deed) (c : ℕ) → 1 ≤ k.nspec → scan k c h ≤ k.nspec
+scan_bound k [] c n = omega arith
+scan_bound k (Scan a run ∷ h) c n = ⊎_elim
+    (λ (t : (c == a) ≡ true). rw t (scan_start run))
+    (λ (f : (c == a) ≡ false). rw f (scan_bound k h c n))
+    (either_way (c == a))
+  where
+    scan_start : (b : Bool) → (if b then 1 else 0) ≤ k.nspec
+    scan_start true = n
+    scan_start false = omega arith
+scan_bound k (Opened a id ∷ h) c n = ⊎_elim
+    (λ (t : (c == a) ≡ true). rw t (omega arith))
+    (λ (f : (c == a) ≡ false). rw f (scan_bound k h c n))
+    (either_way (c == a))
+scan_bound k (Miss a s b ∷ h) c n = ⊎_elim
+    (λ (t : (c == a) ≡ true). rw t (next (scan k c h) (scan_bound k h c n)))
+    (λ (f : (c == a) ≡ false). rw f (scan_bound k h c n))
+    (either_way (c == a))
+  where
+    next : (m : ℕ) → m ≤ k.nspec → (if m == k.nspec then 0 else m + 1) ≤ k.nspec
+    next m le = grind (arith, nat_tests)
+scan_bound k (d ∷ h) c n = scan_bound k h c n
+
+-- only speculations of slots that there are were given out
+pub opened_in_range : (k : Config) (h : List Deed) (id : Speculation) → 1 ≤ k.nspec → IsSound k h → opened id h ≡ true → (1 ≤ id.slot) × (id.slot ≤ k.nspec)
+opened_in_range k [] id n s is = absurd (true≢false (sym is))
+opened_in_range k (d ∷ h) id n s is = ⊎_elim (here d s) (λ (t : opened id h ≡ true). opened_in_range k h id n s.0 t) (or_tells (opens id d) (opened id h) is)
+  where
+    here : (d : Deed) → IsSound k (d ∷ h) → opens id d ≡ true → (1 ≤ id.slot) × (id.slot ≤ k.nspec)
+    here (Opened c j) s t = let at : scan k c h ≡ j.slot = s.1.1.0 in let le = scan_bound k h c n in let one : 1 ≤ j.slot = s.1.1.1 in subst (λ (x : Speculation). (1 ≤ x.slot) × (x.slot ≤ k.nspec)) (sym (same_id_tells id j t)) (one, omega arith)
+    here d s t = absurd (true≢false (sym t))

@@ -1,0 +1,91 @@
+-- Seals put into a list of deeds, so that each CPU's part of it is that CPU's own list.
+use Rattle.std.specs.Prelude.{ℕ, zero, suc, ◌≡◌, ◌<◌, ◌⊎◌, ◌==◌, List, [], ◌∷◌, ◌++◌, Option, if◌then◌else◌}
+use Rattle.dspec_word.specs.SpecId.{Speculation}
+use Rattle.dspec_record.specs.declared.field.Shape.{Shape}
+use Rattle.dspec_deeds.specs.declared.config.Config.{Config}
+use Rattle.dspec_deeds.specs.declared.calls.Actor.{Actor}
+use Rattle.dspec_deeds.specs.declared.calls.Actor.TheVariants.{Cpu, Consumer}
+use Rattle.dspec_deeds.specs.declared.deed.Deed.{Deed}
+use Rattle.dspec_deeds.specs.declared.deed.Deed.TheVariants.{Seal}
+use Rattle.dspec_deeds.specs.History.{halted, opened, verdict, callers, solo, settled, author, part, owed, word_at, ack}
+use Rattle.dspec_deeds.specs.Legal.{is_seal, IsLegal}
+use Rattle.dspec_deeds.specs.Owning.{IsOwn, ReadsAlike}
+
+-- the list without its Seals
+abbrev pub bare : List Deed → List Deed
+bare [] = []
+bare (d ∷ h) = if is_seal d then bare h else d ∷ bare h
+
+-- the list's latest deed is the CPU's
+abbrev pub IsLastOf : ℕ → List Deed → Type 0
+IsLastOf c [] = ⊥
+IsLastOf c (d ∷ h) = author d h ≡ Cpu c
+
+-- a Seal may stand directly behind a deed of its CPU, and at the front, with nothing but Seals behind it
+abbrev pub MayStand : ℕ → List Deed → Type 0
+MayStand c h = (bare h ≡ []) ⊎ IsLastOf c h
+
+abbrev pub IsPlaced : Deed → List Deed → Type 0
+IsPlaced (Seal c) h = MayStand c h
+IsPlaced d h = Unit {0}
+
+-- each Seal stands directly behind the deed that stands before it in its CPU's part, at the front where there is none
+abbrev pub ArePlaced : List Deed → Type 0
+ArePlaced [] = Unit {0}
+ArePlaced (d ∷ h) = ArePlaced h × IsPlaced d h
+
+-- the Seals before the list's latest other deed, and what lies behind that deed
+abbrev pub lead : List Deed → List Deed
+lead [] = []
+lead (d ∷ q) = if is_seal d then d ∷ lead q else []
+
+abbrev pub behind : List Deed → List Deed
+behind [] = []
+behind (d ∷ q) = if is_seal d then behind q else q
+
+-- the lists of the CPUs, once one deed of a CPU has been taken off, with the Seals that came later
+abbrev pub taken_off : Actor → (ℕ → List Deed) → ℕ → List Deed
+taken_off (Cpu c) p a = if a == c then behind (p a) else p a
+taken_off Consumer p a = p a
+
+-- the Seals that come directly behind an actor's latest deed
+abbrev pub seals_of : Actor → (ℕ → List Deed) → List Deed
+seals_of (Cpu c) p = lead (p c)
+seals_of Consumer p = []
+
+-- the lists of the first CPUs, one behind another
+abbrev pub front : ℕ → (ℕ → List Deed) → List Deed
+front zero p = []
+front (suc n) p = p n ++ front n p
+
+-- each Seal directly behind the deed that stands before it in its CPU's list, at the front where there is none
+abbrev pub woven : ℕ → (ℕ → List Deed) → List Deed → List Deed
+woven n p [] = front n p
+woven n p (d ∷ h) = seals_of (author d h) p ++ d ∷ woven n (taken_off (author d h) p) h
+
+-- what is read off the deeds of all is the same in both lists
+pub record ShowsAlike (g h : List Deed) : Type 0 where
+  pub halts : halted g ≡ halted h
+  pub words : (s : ℕ) → word_at s g ≡ word_at s h
+  pub acks : (c s : ℕ) → ack c s g ≡ ack c s h
+  pub given : (id : Speculation) → opened id g ≡ opened id h
+  pub verdicts : (id : Speculation) → verdict id g ≡ verdict id h
+  pub calling : (id : Speculation) → callers id g ≡ callers id h
+  pub alone : (id : Speculation) → solo id g ≡ solo id h
+  pub settling : (c : ℕ) (id : Speculation) → settled c id g ≡ settled c id h
+
+-- the CPUs' own lists, of which the list of all is to be woven: without its Seals each is that CPU's part
+pub record HaveLists (shape : ℕ → Option Shape) (k : Config) (p : ℕ → List Deed) (h : List Deed) : Type 0 where
+  pub own : (c : ℕ) → c < k.cpus → IsOwn shape k c (p c)
+  pub parts : (c : ℕ) → c < k.cpus → bare (p c) ≡ part (Cpu c) h
+
+-- a legal list, with these lists of the CPUs, and the given list but for the Seals
+pub record IsWoven (shape : ℕ → Option Shape) (k : Config) (p : ℕ → List Deed) (h w : List Deed) : Type 0 where
+  pub legal : IsLegal shape k w
+  pub own : (c : ℕ) → c < k.cpus → part (Cpu c) w ≡ p c
+  pub consumer : part Consumer w ≡ part Consumer h
+  pub rest : bare w ≡ h
+  pub placed : ArePlaced w
+  pub rests : owed w ≡ 0
+  pub reads : (c : ℕ) → c < k.cpus → ReadsAlike k c (p c) w
+  pub shows : ShowsAlike w h

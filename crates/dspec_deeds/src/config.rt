@@ -1,0 +1,70 @@
+ghost use Rattle.std.specs.Prelude.{◌≡◌, ◌≤◌, ◌^◌, ◌↔◌, IsTrue, IsOk, IfErr};
+ghost use Rattle.dspec_deeds.specs.Ranges.{start_fault, is_size};
+
+/// What a session is set up with: numbers of CPUs and speculations, buffer sizes in bytes, and two bounds.
+#[derive(Clone, Copy, Debug, PartialEq, Eq)]
+pub struct Config {
+    /// How many CPUs trace.
+    pub cpus: u32,
+    /// How many speculations may stand at once.
+    pub nspec: u32,
+    /// The size of a principal buffer, in bytes.
+    pub bufsize: u32,
+    /// The size of a speculative buffer, in bytes.
+    pub specsize: u32,
+    /// How many speculations one slot gives out, one after another.
+    pub max_issues: u64,
+    /// How many calls a CPU makes; later ones are worn.
+    pub max_calls: u64,
+}
+
+/// Why a session can't start, in the order in which the fields are looked at.
+#[derive(Clone, Copy, Debug, PartialEq, Eq)]
+pub enum StartFault {
+    Cpus,
+    Specs,
+    BufSize,
+    SpecSize,
+    Issues,
+    Calls,
+    Memory,
+}
+
+/// The largest size of a buffer, in bytes.
+const MAX_SIZE: u32 = 1_048_576;
+
+/// A buffer's size is a multiple of 8 bytes, from 8 bytes to a mebibyte.
+fn is_buffer_size(bytes: u32) -> bool
+    ensures { result ≡ is_size bytes }
+{
+    (8..=MAX_SIZE).contains(&bytes) && bytes % 8 == 0
+}
+
+impl Config {
+    /// Looks at the fields in order, and refuses the first that is out of range: 1 to 16 CPUs, 1 to 32 speculations,
+    /// two buffer sizes, 1 to 2^57 issues and 1 to 2^62 calls. It never answers Memory.
+    pub fn check(&self) -> Result<(), StartFault>
+        ensures accepted { IsOk result ↔ (start_fault self.now ≡ None) }
+        ensures refused { IfErr result (λ fault. start_fault self.now ≡ Some fault) }
+    {
+        if self.cpus < 1 || self.cpus > 16 {
+            return Err(StartFault::Cpus);
+        }
+        if self.nspec < 1 || self.nspec > 32 {
+            return Err(StartFault::Specs);
+        }
+        if !is_buffer_size(self.bufsize) {
+            return Err(StartFault::BufSize);
+        }
+        if !is_buffer_size(self.specsize) {
+            return Err(StartFault::SpecSize);
+        }
+        if self.max_issues < 1 || self.max_issues > 1 << 57 {
+            return Err(StartFault::Issues);
+        }
+        if self.max_calls < 1 || self.max_calls > 1 << 62 {
+            return Err(StartFault::Calls);
+        }
+        Ok(())
+    }
+}

@@ -1,0 +1,153 @@
+//! Records, their bytes, and what reading them answers.
+use crate::same::same;
+use dspec_record::{
+    DefaultAction, Enablings, Field, ReadKind, Rec, Schema, SchemaFault, Shape, laws,
+};
+use std::test::Fail;
+
+/// The enablings 1 none, 2 [8], 3 [1, 2], 4 [4].
+pub fn four_enablings() -> Result<Enablings, SchemaFault> {
+    let mut enablings = Enablings::new();
+    enablings.enable(&[])?;
+    enablings.enable(&[Field::Eight])?;
+    enablings.enable(&[Field::One, Field::Two])?;
+    enablings.enable(&[Field::Four])?;
+    Ok(enablings)
+}
+
+/// Writes the record into a slice that fits it; whether it did.
+fn put_whole<S: Schema>(schema: &S, rec: &Rec, out: &mut [u8]) -> bool {
+    if !schema.accepts(rec) {
+        return false;
+    }
+    match schema.shape(rec.epid()) {
+        Some(shape) if shape.size as usize == out.len() => {
+            schema.put(rec, out);
+            true
+        }
+        _ => false,
+    }
+}
+
+#[test]
+fn record_bytes(rt: HostRuntime) -> Result<(), Fail> {
+    let enablings = four_enablings()?;
+    let rec = Rec::new(3, &[171, 4660]).ok_or("two values")?;
+    same(&rt, rec.epid(), 3);
+    same(&rt, rec.values(), [171, 4660].as_slice());
+    let mut out = [0xFF; 8];
+    assert!(rt; put_whole(&enablings, &rec, &mut out));
+    same(&rt, out, [0x03, 0, 0, 0, 0xAB, 0, 0x34, 0x12]);
+    let wide = Rec::new(3, &[300, 1]).ok_or("two values")?;
+    assert!(rt; !put_whole(&enablings, &wide, &mut out));
+    let mut word = [0xFF; 4];
+    let bare = Rec::new(0x0102_0304, &[]).ok_or("no value")?;
+    assert!(rt; put_whole(&DefaultAction, &bare, &mut word));
+    same(&rt, word, [4, 3, 2, 1]);
+    Ok(())
+}
+
+/// The shape of the one enabling with these fields.
+fn shape_of_fields(fields: &[Field]) -> Result<Option<Shape>, SchemaFault> {
+    let mut enablings = Enablings::new();
+    let epid = enablings.enable(fields)?;
+    Ok(enablings.shape(epid))
+}
+
+#[test]
+fn shapes(rt: HostRuntime) -> Result<(), Fail> {
+    let four_and_four = Some(Shape { size: 4, align: 4 });
+    same(&rt, shape_of_fields(&[])?, four_and_four);
+    let eight_and_four = Some(Shape { size: 8, align: 4 });
+    same(&rt, shape_of_fields(&[Field::One])?, eight_and_four);
+    same(
+        &rt,
+        shape_of_fields(&[Field::Two, Field::One])?,
+        eight_and_four,
+    );
+    let twenty = Some(Shape { size: 20, align: 8 });
+    same(&rt, shape_of_fields(&[Field::Eight, Field::One])?, twenty);
+    let all = [Field::One, Field::Two, Field::Four, Field::Eight];
+    same(
+        &rt,
+        shape_of_fields(&all)?,
+        Some(Shape { size: 24, align: 8 }),
+    );
+    same(
+        &rt,
+        shape_of_fields(&[Field::Eight; 8])?,
+        Some(Shape { size: 72, align: 8 }),
+    );
+    same(&rt, DefaultAction.shape(7), four_and_four);
+    same(&rt, DefaultAction.shape(0), None);
+    Ok(())
+}
+
+#[test]
+fn enabling_limits(rt: HostRuntime) -> Result<(), Fail> {
+    let nine = [Field::One; 9];
+    let mut enablings = Enablings::new();
+    same(
+        &rt,
+        enablings.enable(&nine),
+        Err(SchemaFault::TooManyFields),
+    );
+    for epid in 1..65 {
+        same(&rt, enablings.enable(&[Field::One]), Ok(epid));
+    }
+    same(
+        &rt,
+        enablings.enable(&nine),
+        Err(SchemaFault::TooManyFields),
+    );
+    same(
+        &rt,
+        enablings.enable(&[Field::One]),
+        Err(SchemaFault::TooManyEnablings),
+    );
+    same(&rt, enablings.shape(64), Some(Shape { size: 8, align: 4 }));
+    same(&rt, enablings.shape(65), None);
+    same(&rt, Rec::new(1, &[0; 9]), None);
+    Ok(())
+}
+
+/// What the schema reads at the front of the bytes.
+fn read<S: Schema>(schema: &S, bytes: &[u8]) -> Result<(Rec, usize), ReadKind> {
+    schema.get(bytes)
+}
+
+#[test]
+fn get_faults(rt: HostRuntime) -> Result<(), Fail> {
+    let enablings = four_enablings()?;
+    let rec = Rec::new(3, &[171, 4660]).ok_or("two values")?;
+    let followed = [3, 0, 0, 0, 0xAB, 0, 0x34, 0x12, 0xFF];
+    same(&rt, read(&enablings, &followed), Ok((rec, 8)));
+    same(
+        &rt,
+        read(&enablings, &[3, 0, 0, 0, 0xAB]),
+        Err(ReadKind::Truncated),
+    );
+    same(
+        &rt,
+        read(&enablings, &[0, 0, 0, 0, 1, 0, 0, 0]),
+        Err(ReadKind::Padding),
+    );
+    same(
+        &rt,
+        read(&enablings, &[9, 0, 0, 0]),
+        Err(ReadKind::UnknownEpid),
+    );
+    let gap = [3, 0, 0, 0, 0xAB, 1, 0x34, 0x12];
+    same(&rt, read(&enablings, &gap), Err(ReadKind::GapNotZero));
+    let bare = Rec::new(7, &[]).ok_or("no value")?;
+    same(&rt, read(&DefaultAction, &[7, 0, 0, 0, 1]), Ok((bare, 4)));
+    same(&rt, read(&DefaultAction, &[7, 0]), Err(ReadKind::Truncated));
+    Ok(())
+}
+
+#[test]
+fn laws_of_both_schemas(_rt: HostRuntime) -> Result<(), Fail> {
+    laws::reads_back(&four_enablings()?);
+    laws::reads_back(&DefaultAction);
+    Ok(())
+}

@@ -1,0 +1,119 @@
+-- What a machine shows before its first deed, and how its parts are made one by one.
+use Rattle.std.proofs.Common.{◌≡◌, ℕ, zero, suc, ◌+◌, ◌-◌, ◌<◌, Bool, false, List, [], ◌∷◌, ◌++◌, length, map, reverse, get_or, replicate, Option, Some, None, refl, sym, ap, ◌∙◌, subst, arith}
+use Rattle.std.specs.Prelude.{slice_get}
+use Rattle.std.proofs.lemmas.List.{length-replicate, get_or-replicate}
+use Rattle.std.proofs.lemmas.Option.{slice_get-get_or}
+use Rattle.dspec_record.specs.declared.field.Shape.{Shape}
+use Rattle.dspec_record.specs.Record.{Record}
+use Rattle.dspec_buffer.specs.Extent.{Piece}
+use Rattle.dspec_word.specs.declared.code.Code.TheVariants.{Inactive}
+use Rattle.dspec_word.specs.Word.{SlotState}
+use Rattle.dspec_deeds.specs.declared.config.Config.{Config}
+use Rattle.dspec_machine.specs.declared.machine.Machine.{Machine}
+use Rattle.dspec_machine.specs.declared.side.Side.{Side}
+use Rattle.dspec_play.specs.Coherent.{the_caller, idle_caller}
+use Rattle.dspec_deeds.specs.Ranges.{start_fault}
+use Rattle.dspec_play.specs.Turns.{idle_callers, at_start}
+use Rattle.dspec_machine.specs.Shown.{ShowsSide}
+use Rattle.dspec_machine.specs.Machines.{IsShown, history, state_of}
+use Rattle.dspec_play.proofs.Coherence.{start_coherent}
+use Rattle.dspec_machine.proofs.Keepings.{KeepsState}
+use Rattle.dspec_machine.proofs.OneMore.{shown_as}
+
+-- so many elements, of each of which P holds
+pub record Made {A : Type 0} (P : A → Type 0) (n : ℕ) (xs : List A) : Type 0 where
+  pub count : length xs ≡ n
+  pub each : (i : ℕ) (x : A) → slice_get xs i ≡ Some x → P x
+
+module _ {A : Type 0} (P : A → Type 0) where
+  pub none_made : (xs : List A) → xs ≡ [] → Made P 0 xs
+  none_made xs none = subst (Made P 0) (sym none) record { count = refl; each = λ i x e. absurd (cc (e)) }
+
+  each_more : (xs : List A) (y : A) → ((i : ℕ) (x : A) → slice_get xs i ≡ Some x → P x) → P y → (i : ℕ) (x : A) → slice_get (xs ++ y ∷ []) i ≡ Some x → P x
+  each_more [] y was own zero x e = let is : y ≡ x = cc (e) in subst P is own
+  each_more [] y was own (suc i) x e = absurd (cc (e))
+  each_more (z ∷ xs) y was own zero x e = was 0 x e
+  each_more (z ∷ xs) y was own (suc i) x e = each_more xs y (λ j. was (suc j)) own i x e
+
+  count_more : (xs : List A) (y : A) → length (xs ++ y ∷ []) ≡ suc (length xs)
+  count_more [] y = refl
+  count_more (z ∷ xs) y = ap suc (count_more xs y)
+
+  -- one element more
+  pub one_made : (n : ℕ) (xs new : List A) (y : A) → new ≡ xs ++ y ∷ [] → Made P n xs → P y → Made P (n + 1) new
+  one_made n xs new y e was own = subst (Made P (n + 1)) (sym e) record { count = let c = count_more xs y in let w = was.count in omega arith; each = each_more xs y was.each own }
+
+  -- an element that stands there
+  pub made_at : (n i : ℕ) (xs : List A) (d : A) → Made P n xs → i < n → (x : A) × (slice_get xs i ≡ Some x) × P x
+  made_at n i xs d made lt =
+      let count = made.count in
+      let there = slice_get-get_or xs i d (omega arith) in
+      (get_or xs i d, there, made.each i (get_or xs i d) there)
+
+-- so many zeros
+pub zero_there : (n i : ℕ) (xs : List ℕ) → xs ≡ replicate n 0 → i < n → slice_get xs i ≡ Some 0
+zero_there n i xs e lt =
+    subst (λ ys. slice_get ys i ≡ Some 0) (sym e)
+    (slice_get-get_or (replicate n 0) i 0 (subst (λ x. i < x) (sym (length-replicate n 0)) lt) ∙ ap Some (get_or-replicate n i 0 0 lt))
+
+pub zero_count : (n : ℕ) (xs : List ℕ) → xs ≡ replicate n 0 → length xs ≡ n
+zero_count n xs e = ap length e ∙ length-replicate n 0
+
+-- a number that stands where zeros are
+pub zero_read : (n i m : ℕ) (xs : List ℕ) → xs ≡ replicate n 0 → i < n → slice_get xs i ≡ Some m → m ≡ 0
+zero_read n i m xs e lt got = let there = zero_there n i xs e lt in cc
+
+-- the callers of so many sides that have made no call
+pub callers_idle : {B : Type 0} (n : ℕ) (sides : List (Side B)) → length sides ≡ n → ((i : ℕ) (side : Side B) → slice_get sides i ≡ Some side → side.caller ≡ idle_caller) → map (λ s. s.caller) sides ≡ idle_callers n
+callers_idle zero [] count each = refl
+callers_idle zero (s ∷ sides) count each = absurd (omega arith)
+callers_idle (suc n) [] count each = absurd (omega arith)
+callers_idle (suc n) (s ∷ sides) count each =
+    let first = each 0 s refl in
+    let rest = callers_idle n sides (omega arith) (λ i. each (suc i)) in
+    cc
+
+-- no call is in flight before the first
+idle_flight : (n c : ℕ) → (the_caller (idle_callers n) c).flight ≡ None
+idle_flight zero c = refl
+idle_flight (suc n) zero = refl
+idle_flight (suc n) (suc c) = idle_flight n c
+
+module _ {S B : Type 0} (has : B → S → List Piece → Type 0) (capacity : B → ℕ) (shape_of : S → ℕ → Option Shape) (accepted : S → Record → Bool) where
+  -- what is kept before the first call
+  pub start_keeps : (schema : S) (k : Config) → start_fault k ≡ None → KeepsState has capacity shape_of accepted schema (at_start k)
+  start_keeps schema k fine = record {
+    coherent = start_coherent (shape_of schema) k fine;
+    accepted_records = λ c f lt e. absurd (let idle = idle_flight k.cpus c in cc);
+    about = λ f e. absurd (cc (e));
+  }
+
+-- a word before the first deed
+abbrev pub IsFree : SlotState → Type 0
+IsFree w = w ≡ record { issue = 0; code = Inactive }
+
+module _ {S B : Type 0} (has : B → S → List Piece → Type 0) (capacity : B → ℕ) where
+  -- a side before the first deed
+  abbrev pub HasBegun : Config → Side B → Type 0
+  HasBegun k side = ((schema : S) (c : ℕ) → ShowsSide has capacity schema k c [] side) × (side.caller ≡ idle_caller)
+
+  -- a machine before the first deed
+  pub machine_at_start : (m : Machine S B) → m.deeds ≡ [] → m.halted ≡ false → Made IsFree m.config.nspec m.words.items → Made (HasBegun m.config) m.config.cpus m.sides.items → IsShown has capacity m
+  machine_at_start m none runs words sides =
+      shown_as has capacity m [] (ap reverse none) record {
+        words = record {
+          count = words.count;
+          slots = λ s at.
+              let word = made_at IsFree m.config.nspec (s - 1) m.words.items record { issue = 0; code = Inactive } words (let low = at.0 in let high = at.1 in omega arith) in
+              subst (λ w. slice_get m.words.items (s - 1) ≡ Some w) word.2 word.1;
+        };
+        active = runs;
+        side_count = sides.count;
+        sides = λ c side got. (sides.each c side got).0 m.schema c;
+      }
+
+  pub state_at_start : (m : Machine S B) → m.deeds ≡ [] → m.consumer ≡ record { flight = None; steps = 0 } → Made (HasBegun m.config) m.config.cpus m.sides.items → state_of m ≡ at_start m.config
+  state_at_start m none idle sides =
+      let deeds : history m ≡ [] = ap reverse none in
+      let callers = callers_idle m.config.cpus m.sides.items sides.count (λ i side got. (sides.each i side got).1) in
+      λ i. record { config = m.config; deeds = deeds i; callers = callers i; side = idle i }

@@ -1,0 +1,37 @@
+-- A missed slot leaves the words and the other sides.
+use Rattle.std.proofs.Common.{◌∷◌, ◌∙◌, refl, sym}
+use Rattle.std.proofs.lemmas.List.{length-set}
+use Rattle.std.proofs.lemmas.Option.{slice_get_read}
+use Rattle.dspec_deeds.specs.declared.deed.Deed.TheVariants as deed
+use Rattle.dspec_machine.specs.Machines.{history}
+use Rattle.dspec_machine.proofs.machine.Machine.enter_miss.Goals.{then-busy, else-busy}
+use Rattle.dspec_machine.proofs.OtherSides.{words_stay}
+use Rattle.dspec_machine.proofs.OneMore.{latest_first, shown_as, sides_set, map_set, adds_one}
+use Rattle.dspec_machine.proofs.OwnSides.{missing_side}
+use Rattle.dspec_machine.proofs.machine.Machine.enter_miss.Goals as goal
+
+pub returns-clause-shown : goal.returns-clause-shown
+returns-clause-shown g c =
+    let m = c.args.self.now in
+    let h = history m in
+    let d = deed.Miss c.args.cpu c.args.slot c.args.busy in
+    let was = c.requires.shown in
+    let sound = c.requires.legal.0 in
+    let a = c.args.cpu in
+    let side = c.index_mut-side.result.now in
+    let got = slice_get_read m.sides.items m.config.cpus a side (sym was.side_count) c.requires.cpu c.index_mut-side.ensures.value in
+    let own = missing_side g.B.TraceBuffer.has g.B.TraceBuffer.capacity m.schema m.config a h side (was.sides a side got) c.args.slot c.args.busy c.if-busy.side (elim c.if-busy.branch [ then-busy w ↦ rw w.if-busy.true (w.side-is ∙ w.if-busy.true) | else-busy w ↦ rw w.if-busy.false w.side-is ]) in
+    shown_as g.B.TraceBuffer.has g.B.TraceBuffer.capacity _ (d ∷ h) (latest_first m.deeds c.push.new.self d c.in_ok-push.ensures.ok) record {
+      words = words_stay m.config d h m.words.items (λ t. refl) was.words;
+      active = was.active;
+      side_count = length-set m.sides.items a _ ∙ was.side_count;
+      sides = sides_set g.B.TraceBuffer.has g.B.TraceBuffer.capacity m.schema m.config d h m.sides.items sound was.side_count was.sides a _ refl c.requires.cpu own;
+    }
+
+pub returns-clause-entered : goal.returns-clause-entered
+returns-clause-entered g c =
+    let m = c.args.self.now in
+    let a = c.args.cpu in
+    let side = c.index_mut-side.result.now in
+    let got = slice_get_read m.sides.items m.config.cpus a side (sym c.requires.shown.side_count) c.requires.cpu c.index_mut-side.ensures.value in
+    adds_one m _ (deed.Miss c.args.cpu c.args.slot c.args.busy) refl refl refl (latest_first m.deeds c.push.new.self _ c.in_ok-push.ensures.ok) (map_set (λ s. s.caller) m.sides.items a side _ got refl)

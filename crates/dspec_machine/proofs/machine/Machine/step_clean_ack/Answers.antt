@@ -1,0 +1,71 @@
+-- The acknowledgement that was read is the CPU's.
+use Rattle.std.proofs.Common.{◌≡◌, ◌+◌, ◌-◌, ◌==◌, true, false, arith}
+use Rattle.std.specs.Prelude.{nat_lt}
+use Rattle.std.proofs.lemmas.Bool.Decides.{nat_tests}
+use Rattle.dspec_deeds.specs.History.{ack}
+use Rattle.dspec_machine.specs.Machines.{history, state_of}
+use Rattle.dspec_play.proofs.CleanReads.{clean_stands, clean_steps_fit, number_there}
+use Rattle.dspec_machine.proofs.MachineReads.{side_read}
+use Rattle.dspec_machine.proofs.machine.Machine.step_clean_ack.Goals as goal
+
+pub index-requires-2 : goal.index-requires-2
+index-requires-2 g c =
+    let m = c.args.self.now in
+    let at = clean_stands (g.S.Schema.shape_of m.schema) (state_of m) c.requires.coherent _ c.requires.flight in
+    let slot = at.0 in
+    let count = (side_read g.B.TraceBuffer.has g.B.TraceBuffer.capacity m c.requires.shown c.args.cpu c.index.result.now at.2 c.index.ensures).ack_count in
+    let low = slot.0 in
+    let high = slot.1 in
+    omega arith
+
+pub clean_next-requires-clause-steps : goal.clean_next-requires-clause-steps
+clean_next-requires-clause-steps g c = let m = c.args.self.now in clean_steps_fit (g.S.Schema.shape_of m.schema) (state_of m) c.requires.coherent _ c.requires.flight
+
+pub keep_on-requires-clause-steps : goal.keep_on-requires-clause-steps
+keep_on-requires-clause-steps g c = let m = c.args.self.now in clean_steps_fit (g.S.Schema.shape_of m.schema) (state_of m) c.requires.coherent _ c.requires.flight
+
+pub keep_on-requires-2-clause-steps : goal.keep_on-requires-2-clause-steps
+keep_on-requires-2-clause-steps g c = let m = c.args.self.now in clean_steps_fit (g.S.Schema.shape_of m.schema) (state_of m) c.requires.coherent _ c.requires.flight
+
+pub returns-then-index-issue : goal.returns-then-index-issue
+returns-then-index-issue g c =
+    let m = c.args.self.now in
+    let at = clean_stands (g.S.Schema.shape_of m.schema) (state_of m) c.requires.coherent _ c.requires.flight in
+    let shows = side_read g.B.TraceBuffer.has g.B.TraceBuffer.capacity m c.requires.shown c.args.cpu c.index.result.now at.2 c.index.ensures in
+    let low = at.0.0 in
+    let high = at.0.1 in
+    let acked = number_there c.index.result.now.acks.items m.config.nspec (c.args.slot - 1) c.index-2.result.now (ack c.args.cpu c.args.slot (history m)) shows.ack_count (omega arith) c.index-2.ensures (shows.acks c.args.slot at.0) in
+    let value = c.issue.ensures.value in
+    let test = c.if-index-issue.true in
+    let is : nat_lt c.args.word.issue (ack c.args.cpu c.args.slot (history m)) ≡ false = grind (arith, nat_tests) in
+    rw is c.clean_next.ensures
+
+pub returns-then-cpu-self : goal.returns-then-cpu-self
+returns-then-cpu-self g c =
+    let m = c.args.self.now in
+    let at = clean_stands (g.S.Schema.shape_of m.schema) (state_of m) c.requires.coherent _ c.requires.flight in
+    let shows = side_read g.B.TraceBuffer.has g.B.TraceBuffer.capacity m c.requires.shown c.args.cpu c.index.result.now at.2 c.index.ensures in
+    let low = at.0.0 in
+    let high = at.0.1 in
+    let acked = number_there c.index.result.now.acks.items m.config.nspec (c.args.slot - 1) c.index-2.result.now (ack c.args.cpu c.args.slot (history m)) shows.ack_count (omega arith) c.index-2.ensures (shows.acks c.args.slot at.0) in
+    let value = c.issue.ensures.value in
+    let test = c.if-index-issue.false in
+    let is : nat_lt c.args.word.issue (ack c.args.cpu c.args.slot (history m)) ≡ true = grind (arith, nat_tests) in
+    let at_last = c.if-cpu-self.true in
+    let last : (c.args.cpu + 1 == m.config.cpus) ≡ true = grind (arith, nat_tests) in
+    rw (is, last) c.keep_on.ensures
+
+pub returns : goal.returns
+returns g c =
+    let m = c.args.self.now in
+    let at = clean_stands (g.S.Schema.shape_of m.schema) (state_of m) c.requires.coherent _ c.requires.flight in
+    let shows = side_read g.B.TraceBuffer.has g.B.TraceBuffer.capacity m c.requires.shown c.args.cpu c.index.result.now at.2 c.index.ensures in
+    let low = at.0.0 in
+    let high = at.0.1 in
+    let acked = number_there c.index.result.now.acks.items m.config.nspec (c.args.slot - 1) c.index-2.result.now (ack c.args.cpu c.args.slot (history m)) shows.ack_count (omega arith) c.index-2.ensures (shows.acks c.args.slot at.0) in
+    let value = c.issue.ensures.value in
+    let test = c.if-index-issue.false in
+    let is : nat_lt c.args.word.issue (ack c.args.cpu c.args.slot (history m)) ≡ true = grind (arith, nat_tests) in
+    let at_last = c.if-cpu-self.false in
+    let last : (c.args.cpu + 1 == m.config.cpus) ≡ false = grind (arith, nat_tests) in
+    rw (is, last) c.keep_on-2.ensures

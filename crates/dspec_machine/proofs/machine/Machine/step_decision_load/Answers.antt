@@ -1,0 +1,38 @@
+-- Where the call stands, and what its step is.
+use Rattle.std.proofs.Common.{sym, subst}
+use Rattle.std.specs.Prelude.{IfOk}
+use Rattle.dspec_play.specs.Coherent.{the_caller}
+use Rattle.dspec_play.specs.Play.{Moved}
+use Rattle.dspec_machine.specs.Decisions.{load_of}
+use Rattle.dspec_machine.specs.Machines.{Makes, history, state_of}
+use Rattle.dspec_play.proofs.StepReads.{flight_stands, steps_fit, step_legal}
+use Rattle.dspec_machine.proofs.DecisionMoves.{load_shows, load_stands}
+use Rattle.dspec_machine.proofs.machine.Machine.step_decision_load.Goals as goal
+
+pub look-requires-clause-slot : goal.look-requires-clause-slot
+look-requires-clause-slot g c =
+    let m = c.args.self.now in
+    let a = c.args.cpu in
+    let st = state_of m in
+    (load_stands (g.S.Schema.shape_of m.schema) m.config a (history m) (the_caller st.callers a) c.args.id c.args.decision
+    (flight_stands (g.S.Schema.shape_of m.schema) st c.requires.coherent a c.requires.cpu (load_of c.args.decision c.args.id) c.requires.flight)).in_range
+
+pub look-requires-clause-steps : goal.look-requires-clause-steps
+look-requires-clause-steps g c =
+    let m = c.args.self.now in
+    steps_fit (g.S.Schema.shape_of m.schema) (state_of m) c.requires.coherent c.args.cpu c.requires.cpu (load_of c.args.decision c.args.id) c.requires.flight
+
+pub look-requires-clause-legal : goal.look-requires-clause-legal
+look-requires-clause-legal g c =
+    let m = c.args.self.now in
+    let a = c.args.cpu in
+    let st = state_of m in
+    let shape = g.S.Schema.shape_of m.schema in
+    step_legal shape st c.requires.coherent a c.requires.cpu (load_of c.args.decision c.args.id) c.requires.flight _ (load_shows shape m.config a (history m) (the_caller st.callers a) c.args.id c.args.decision)
+
+pub returns-clause-makes : goal.returns-clause-makes
+returns-clause-makes g c =
+    let m = c.args.self.now in
+    let a = c.args.cpu in
+    let is = load_shows (g.S.Schema.shape_of m.schema) m.config a (history m) (the_caller (state_of m).callers a) c.args.id c.args.decision in
+    subst (λ (x : Moved). IfOk c.look.result (λ answer. Makes g.B.TraceBuffer.has g.B.TraceBuffer.capacity m c.look.new.self a x answer)) (sym is) c.look.ensures.makes

@@ -1,0 +1,7 @@
+pub mod Shown
+pub mod Machines
+pub mod Decisions
+pub mod Steps
+pub mod Sessions
+pub mod Worlds
+pub mod Tallies

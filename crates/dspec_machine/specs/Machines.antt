@@ -1,0 +1,46 @@
+-- A machine shows its list of deeds.
+use Rattle.std.specs.Prelude.{ℕ, ◌≡◌, ◌<◌, List, length, map, reverse, slice_get, Option, Some}
+use Rattle.dspec_buffer.specs.Extent.{Piece}
+use Rattle.dspec_deeds.specs.declared.calls.Answer.{Answer}
+use Rattle.dspec_deeds.specs.declared.deed.Deed.{Deed}
+use Rattle.dspec_machine.specs.declared.machine.Machine.{Machine}
+use Rattle.dspec_machine.specs.declared.side.Side.{Side}
+use Rattle.dspec_deeds.specs.History.{halted}
+use Rattle.dspec_play.specs.Play.{Moved, Cleaned}
+use Rattle.dspec_play.specs.Coherent.{PlayState}
+use Rattle.dspec_play.specs.Turns.{moved_to, cleaned_to}
+use Rattle.dspec_machine.specs.Shown.{ShowsWords, ShowsSide}
+
+-- the deeds of a machine, the latest first
+abbrev pub history : {S B : Type 0} → Machine S B → List Deed
+history m = reverse m.deeds
+
+-- what a play knows of a machine
+abbrev pub state_of : {S B : Type 0} → Machine S B → PlayState
+state_of m = record { config = m.config; deeds = history m; callers = map (λ s. s.caller) m.sides.items; side = m.consumer }
+
+module _ {S B : Type 0} (has : B → S → List Piece → Type 0) (capacity : B → ℕ) where
+  pub record IsShown (m : Machine S B) : Type 0 where
+    pub words : ShowsWords m.config (history m) m.words.items
+    pub active : m.halted ≡ halted (history m)
+    pub side_count : length m.sides.items ≡ m.config.cpus
+    pub sides : (c : ℕ) (s : Side B) → slice_get m.sides.items c ≡ Some s → ShowsSide has capacity m.schema m.config c (history m) s
+
+-- one machine is another with deeds in front of its list, and all else that a play knows the same
+pub record Adds {S B : Type 0} (ds : List Deed) (m n : Machine S B) : Type 0 where
+  pub state : state_of n ≡ record (state_of m) { deeds = Rattle.std.specs.Prelude.◌++◌ ds (history m) }
+  pub schema : n.schema ≡ m.schema
+
+-- a step of a CPU makes this of a machine, with that answer
+pub record Makes {S B : Type 0} (has : B → S → List Piece → Type 0) (capacity : B → ℕ) (m n : Machine S B) (c : ℕ) (moved : Moved) (answer : Option Answer) : Type 0 where
+  pub shown : IsShown has capacity n
+  pub state : state_of n ≡ (moved_to (state_of m) c moved).state
+  pub schema : n.schema ≡ m.schema
+  pub answered : answer ≡ moved.answer
+
+-- a step of the consumer makes this of a machine, with that answer
+pub record Cleans {S B : Type 0} (has : B → S → List Piece → Type 0) (capacity : B → ℕ) (m n : Machine S B) (cleaned : Cleaned) (answer : Option Answer) : Type 0 where
+  pub shown : IsShown has capacity n
+  pub state : state_of n ≡ (cleaned_to (state_of m) cleaned).state
+  pub schema : n.schema ≡ m.schema
+  pub answered : answer ≡ cleaned.answer

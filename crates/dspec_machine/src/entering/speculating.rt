@@ -1,0 +1,72 @@
+ghost use Rattle.std.specs.Prelude.{◌≡◌, ◌<◌, ◌+◌, ◌∷◌, ◌++◌, [], true, false, None, IsTrue, OnOk, OnErr};
+ghost use Rattle.dspec_deeds.specs.declared.deed.Deed.TheVariants as deed;
+ghost use Rattle.dspec_deeds.specs.FateKinds.{spoken_granted};
+ghost use Rattle.dspec_deeds.specs.History.{word_at};
+ghost use Rattle.dspec_deeds.specs.Legal.{IsAllowed};
+ghost use Rattle.dspec_machine.specs.Machines.{Adds, IsShown, history};
+ghost use Rattle.dspec_deeds.specs.Ranges.{start_fault};
+
+use crate::machine::Machine;
+use dspec_buffer::TraceBuffer;
+use dspec_deeds::{Deed, SpeculateFate};
+use dspec_record::{Rec, Schema};
+use dspec_word::{SpecId, Word};
+use std::alloc::AllocError;
+
+impl<S: Schema, B: TraceBuffer<S>> Machine<S, B> {
+    /// Enters a granted record, which leaves that word. Kept: it goes into the CPU's buffer of the speculation.
+    pub fn enter_spoken(
+        &mut self,
+        cpu: u32,
+        id: SpecId,
+        rec: &Rec,
+        fate: SpeculateFate,
+        word: Word,
+    ) -> Result<(), AllocError>
+        requires shown { IsShown B.has B.capacity self.old }
+        requires ranges { start_fault self.old.config ≡ None }
+        requires legal { IsAllowed (S.shape_of self.old.schema) self.old.config (deed.Speculate cpu id rec.now fate ∷ [] ++ history self.old) }
+        requires cpu { cpu < self.old.config.cpus }
+        requires accepted { IsTrue (S.accepted self.old.schema rec.now) }
+        requires granted { spoken_granted fate ≡ true }
+        requires word { word ≡ word_at id.slot (deed.Speculate cpu id rec.now fate ∷ history self.old) }
+        ensures shown { OnOk result (IsShown B.has B.capacity self.new) }
+        ensures entered { OnOk result (Adds (deed.Speculate cpu id rec.now fate ∷ []) self.old self.new) }
+        ensures refused { OnErr result (self.new ≡ self.old) }
+    {
+        self.deeds.push(Deed::Speculate(cpu, id, *rec, fate))?;
+        let place = (id.slot() - 1) as usize;
+        self.words[place] = word;
+        let side = &mut self.sides[cpu as usize];
+        side.calls += 1;
+        side.marks[place] = id.issue() + 1;
+        if matches!(&fate, SpeculateFate::Kept) {
+            let buffer = &mut side.speculative[place];
+            let _ = buffer.push(&self.schema, rec);
+        }
+        Ok(())
+    }
+
+    /// Enters a record that was granted nothing: the identifier isn't open, or the session was stopped.
+    pub fn enter_unspoken(
+        &mut self,
+        cpu: u32,
+        id: SpecId,
+        rec: &Rec,
+        fate: SpeculateFate,
+    ) -> Result<(), AllocError>
+        requires shown { IsShown B.has B.capacity self.old }
+        requires ranges { start_fault self.old.config ≡ None }
+        requires legal { IsAllowed (S.shape_of self.old.schema) self.old.config (deed.Speculate cpu id rec.now fate ∷ [] ++ history self.old) }
+        requires cpu { cpu < self.old.config.cpus }
+        requires granted { spoken_granted fate ≡ false }
+        ensures shown { OnOk result (IsShown B.has B.capacity self.new) }
+        ensures entered { OnOk result (Adds (deed.Speculate cpu id rec.now fate ∷ []) self.old self.new) }
+        ensures refused { OnErr result (self.new ≡ self.old) }
+    {
+        self.deeds.push(Deed::Speculate(cpu, id, *rec, fate))?;
+        let side = &mut self.sides[cpu as usize];
+        side.calls += 1;
+        Ok(())
+    }
+}

@@ -1,0 +1,41 @@
+-- A schedule of whole calls: its turns, and what it answers.
+use Rattle.std.specs.Prelude.{◌≡◌, ℕ, Bool, true, List, [], ◌∷◌, Option}
+use Rattle.dspec_record.specs.declared.field.Shape.{Shape}
+use Rattle.dspec_record.specs.Record.{Record}
+use Rattle.dspec_deeds.specs.declared.calls.Actor.{Actor}
+use Rattle.dspec_deeds.specs.declared.calls.Actor.TheVariants as actor
+use Rattle.dspec_deeds.specs.declared.calls.Op.{Op}
+use Rattle.dspec_deeds.specs.declared.calls.Op.TheVariants as op
+use Rattle.dspec_deeds.specs.declared.calls.Turn.{Turn}
+use Rattle.dspec_deeds.specs.declared.calls.Turn.TheVariants.{RunCpu, RunConsumer}
+use Rattle.dspec_play.specs.Calls.{is_of}
+use Rattle.dspec_play.specs.Coherent.{PlayState}
+use Rattle.dspec_play.specs.Plays.{Ended}
+use Rattle.dspec_play.specs.Whole.{Call, of_cpu, of_consumer, behind, answered}
+
+-- the turn that begins a call and runs it to its end
+abbrev pub turn_of : Call → Turn
+turn_of (of_cpu c o) = RunCpu c o
+turn_of (of_consumer o) = RunConsumer o
+
+abbrev pub actor_of : Call → Actor
+actor_of (of_cpu c o) = actor.Cpu c
+actor_of (of_consumer o) = actor.Consumer
+
+abbrev pub operation_of : Call → Op
+operation_of (of_cpu c o) = op.Cpu o
+operation_of (of_consumer o) = op.Consumer o
+
+-- the record of the call, if it has one, passes the test
+abbrev pub IsAccepted : (Record → Bool) → Call → Type 0
+IsAccepted accepts (of_cpu c o) = is_of accepts o ≡ true
+IsAccepted accepts (of_consumer o) = Unit {0}
+
+abbrev pub AreAccepted : (Record → Bool) → List Call → Type 0
+AreAccepted accepts [] = Unit {0}
+AreAccepted accepts (x ∷ xs) = IsAccepted accepts x × AreAccepted accepts xs
+
+-- whole calls with their answers, the first at the head
+abbrev pub all_ended : (ℕ → Option Shape) → List Call → PlayState → List Ended
+all_ended shape [] st = []
+all_ended shape (x ∷ xs) st = (actor_of x, operation_of x, answered shape x st) ∷ all_ended shape xs (behind shape x st)

@@ -1,0 +1,3 @@
+mod batches;
+mod crossing;
+mod moves;

@@ -1,0 +1,99 @@
+-- The load of activity.
+use Rattle.std.proofs.Common.{◌≡◌, ℕ, ◌≤◌, Bool, true, false, ◌==◌, not, if◌then◌else◌, List, [], ◌∷◌, refl, sym, ap, ◌∙◌, subst, ⊎_elim, arith}
+use Rattle.std.specs.Prelude.{slice_index}
+use Rattle.std.proofs.lemmas.Bool.Decides.{nat_tests}
+use Rattle.atomic_table.specs.Table.{keeps, Allows, Me}
+use Rattle.dspec_word.specs.SpecId.{Speculation}
+use Rattle.dspec_deeds.specs.declared.config.Config.{Config}
+use Rattle.dspec_deeds.specs.FateKinds.{trace_stopped}
+use Rattle.dspec_deeds.specs.declared.deed.Deed.{Deed}
+use Rattle.dspec_record.specs.Record.{Record}
+use Rattle.dspec_deeds.specs.declared.deed.Deed.TheVariants.{Speculate, Commit, Discard}
+use Rattle.dspec_table.specs.Holders.{Holder, of_cpu}
+use Rattle.dspec_deeds.specs.History.{halted, scan, owed, is_open, opened, is_undecided, verdict, in_range}
+use Rattle.dspec_deeds.specs.Legal.{IsSound}
+use Rattle.dspec_deeds.proofs.TestLemmas.{either_way, off, and_tells}
+use Rattle.dspec_deeds.proofs.SoundLists.{opened_in_range, running_not_late}
+use Rattle.dspec_table.specs.declared.rule.View.{View}
+use Rattle.dspec_deeds.specs.declared.calls.CpuOp.{CpuOp}
+use Rattle.dspec_table.specs.declared.doing.Doing.{Doing}
+use Rattle.dspec_table.specs.Rule.{Kept}
+use Rattle.dspec_table.specs.Showing.{activity}
+use Rattle.dspec_table.specs.Layout.{activity_place}
+use Rattle.dspec_table.specs.Steps.{acted, LoadedActivity}
+use Rattle.dspec_table.specs.Acts.{at_activity}
+use Rattle.dspec_table.specs.Holders.{number_of}
+use Rattle.dspec_table.proofs.Keeps.{Owes, none_owed, acts_owed, enters_owed, finds, idle_log, is_cpu, its_config}
+use Rattle.dspec_deeds.specs.declared.deed.TraceFate.TheVariants as traced
+use Rattle.dspec_deeds.specs.declared.deed.SpeculateFate.TheVariants as spoken
+use Rattle.dspec_deeds.specs.declared.deed.DecideFate.TheVariants as decided
+use Rattle.dspec_deeds.specs.declared.calls.CpuOp.TheVariants as op
+
+not_open : (k : Config) (log : List Deed) (id : Speculation) → 1 ≤ k.nspec → IsSound k log → in_range k id ≡ false → false ≡ is_open id log
+not_open k log id n s out = ⊎_elim
+    (λ (t : is_open id log ≡ true).
+    let given = (and_tells (opened id log) (is_undecided (verdict id log)) t).0 in
+    let r = opened_in_range k log id n s given in
+    let low : 1 ≤ id.slot = r.0 in
+    let high : id.slot ≤ k.nspec = r.1 in
+    let is : in_range k id ≡ true = grind (arith, nat_tests) in
+    off (in_range k id) is out)
+    sym
+    (either_way (is_open id log))
+
+traced_is : (b f : Bool) → trace_stopped (if b then traced.Stopped else (if f then traced.Kept else traced.Dropped)) ≡ b
+traced_is true f = refl
+traced_is false true = refl
+traced_is false false = refl
+
+turned : (b : Bool) → (if b then false else true) ≡ not b
+turned true = refl
+turned false = refl
+
+module _ (k : Config) (c : ℕ) (log : List Deed) (doing : Doing) (n : 1 ≤ k.nspec) (s : IsSound k log) (rests : owed log ≡ 0) (idle : scan k c log ≡ 0) where
+  speculates : (id : Speculation) (r : Record) (b : Bool) → in_range k id ≡ b → halted log ≡ false → Owes k (of_cpu c) log (if b then [] else Speculate c id r spoken.Void ∷ [])
+  speculates id r true e runs = none_owed k (of_cpu c) log rests
+  speculates id r false e runs = record { adds = (tt, (rests, (idle, (running_not_late c log runs, not_open k log id n s e))), refl); rests = refl; quiet = record { active = refl; slots = λ s. refl; acks = λ a s. refl } }
+
+  commits : (id : Speculation) (b : Bool) → in_range k id ≡ b → halted log ≡ false → Owes k (of_cpu c) log (if b then [] else Commit c id decided.Void ∷ [])
+  commits id true e runs = none_owed k (of_cpu c) log rests
+  commits id false e runs = record { adds = (tt, (rests, (idle, refl, (running_not_late c log runs, not_open k log id n s e))), refl); rests = refl; quiet = record { active = refl; slots = λ s. refl; acks = λ a s. refl } }
+
+  discards : (id : Speculation) (b : Bool) → in_range k id ≡ b → halted log ≡ false → Owes k (of_cpu c) log (if b then [] else Discard c id decided.Void ∷ [])
+  discards id true e runs = none_owed k (of_cpu c) log rests
+  discards id false e runs = record { adds = (tt, (rests, (idle, refl, (running_not_late c log runs, not_open k log id n s e))), refl); rests = refl; quiet = record { active = refl; slots = λ s. refl; acks = λ a s. refl } }
+
+  owes : (o : CpuOp) (b : Bool) → b ≡ halted log → Owes k (of_cpu c) log (at_activity k c doing o b)
+  owes (op.Trace r) b e = record { adds = (tt, (rests, (idle, traced_is b doing.fits ∙ e)), refl); rests = refl; quiet = record { active = refl; slots = λ s. refl; acks = λ a s. refl } }
+  owes op.Speculation b e = record { adds = (tt, (rests, (idle, turned b ∙ ap not e)), refl); rests = refl; quiet = record { active = refl; slots = λ s. refl; acks = λ a s. refl } }
+  owes (op.Speculate id r) true e = record { adds = (tt, (rests, (idle, sym e)), refl); rests = refl; quiet = record { active = refl; slots = λ s. refl; acks = λ a s. refl } }
+  owes (op.Speculate id r) false e = speculates id r (in_range k id) refl (sym e)
+  owes (op.Commit id) true e = record { adds = (tt, (rests, (idle, refl, sym e)), refl); rests = refl; quiet = record { active = refl; slots = λ s. refl; acks = λ a s. refl } }
+  owes (op.Commit id) false e = commits id (in_range k id) refl (sym e)
+  owes (op.Discard id) true e = record { adds = (tt, (rests, (idle, refl, sym e)), refl); rests = refl; quiet = record { active = refl; slots = λ s. refl; acks = λ a s. refl } }
+  owes (op.Discard id) false e = discards id (in_range k id) refl (sym e)
+  owes op.Service b e = none_owed k (of_cpu c) log rests
+
+stopped_is : (log : List Deed) (m : ℕ) → m ≡ activity log → (m == 1) ≡ halted log
+stopped_is log m e = ap (λ (x : ℕ). x == 1) e ∙ shown (halted log)
+  where
+    shown : (b : Bool) → ((if b then 1 else 0) == 1) ≡ b
+    shown true = refl
+    shown false = refl
+
+pub loads_activity : (k : Config) (slots id c : ℕ) (me : Me ℕ View) (doing : Doing) → 1 ≤ k.nspec → me.0.who ≡ of_cpu c → me.0.also ≡ [] → scan k c me.0.own ≡ 0
+    → Allows (Kept k) slots id me (activity_place k) (λ n. n) (λ n w. LoadedActivity doing me.0 (n == 1) w.0 × (w.1 ≡ me.1))
+loads_activity k slots id c me doing nspec who alone idle st kept homes at bound =
+    let v = me.0 in
+    let log = kept.log in
+    let m = slice_index st.words (activity_place k) in
+    let mine = kept.knows id v at in
+    let owe : Owes k v.who log (at_activity v.config (number_of v.who) doing doing.op (m == 1)) =
+    subst (λ (p : Config × Holder). Owes k p.1 log (at_activity p.0 (number_of p.1) doing doing.op (m == 1))) (λ i. (sym (its_config k log v (is_cpu v c who) mine) i, sym who i))
+    (owes k c log doing nspec kept.sound kept.rests (idle_log k st kept id v c at who idle) doing.op (m == 1) (stopped_is log m kept.shows.active)) in (
+      acted v log (at_activity v.config (number_of v.who) doing doing.op (m == 1)),
+      keeps,
+      tt,
+      acts_owed k st kept id v me.1 at alone (is_cpu v c who) _ (activity_place k) owe,
+      ((log, finds k st kept id v at (is_cpu v c who), stopped_is log m kept.shows.active, enters_owed k st kept id v at (is_cpu v c who) _ owe), refl),
+    )

@@ -1,0 +1,118 @@
+-- All seats are back.
+use Rattle.std.proofs.Common.{◌≡◌, ◌⊎◌, ◌≤◌, ◌<◌, ◌^◌, Bool, true, false, if◌then◌else◌, arith, ℕ, zero, suc, List, [], ◌∷◌, ◌++◌, length, Some, refl, sym, ap, ◌∙◌, subst, ⊎_elim, inl, inr}
+use Rattle.std.specs.Prelude.{slice_get, slice_index}
+use mathlib.Core.Option.{some, some-injective, some-ne-none}
+use lib.ListN.{get_elem?}
+use Rattle.atomic_table.specs.Table.{Final, Seen}
+use Rattle.atomic_table.specs.Seated.{TableId}
+use Rattle.dspec_deeds.specs.declared.config.Config.{Config}
+use Rattle.dspec_deeds.specs.declared.deed.Deed.{Deed}
+use Rattle.dspec_table.specs.Holders.{Holder, of_cpu, of_consumer, part_of}
+use native.Mathlib.Decide.{dec_lt}
+use Rattle.dspec_deeds.specs.declared.calls.Actor.{Actor}
+use Rattle.dspec_deeds.specs.declared.calls.Actor.TheVariants.{Cpu}
+use Rattle.dspec_deeds.specs.History.{author, part, same_actor}
+use Rattle.dspec_deeds.specs.Legal.{HasAuthors}
+use Rattle.dspec_deeds.proofs.TestLemmas.{actor_is_itself}
+use Rattle.dspec_deeds.specs.Legal.{IsSound}
+use Rattle.dspec_table.specs.declared.rule.View.{View}
+use Rattle.dspec_table.specs.declared.seats.CpuSeat.{CpuSeat}
+use Rattle.dspec_table.specs.Showing.{Shows, AreWords, IsWordNumber}
+use Rattle.dspec_table.proofs.Limits.{shown_number}
+use Rattle.dspec_table.specs.Rule.{Kept, Parts, holdings}
+use Rattle.dspec_table.specs.Seats.{known}
+use Rattle.dspec_table.specs.Last.{In, AllAt, Joined, Ended}
+use Rattle.dspec_table.proofs.Dealing.{got_pushed}
+
+in_front : (p : Holder × List Deed) (ps qs : List (Holder × List Deed)) → In p ps → In p (ps ++ qs)
+in_front p [] qs i = absurd i
+in_front p (x ∷ xs) qs i = ⊎_elim (λ e. inl e) (λ r. inr (in_front p xs qs r)) i
+
+in_behind : (p : Holder × List Deed) (ps qs : List (Holder × List Deed)) → In p (ps ++ p ∷ qs)
+in_behind p [] qs = inl refl
+in_behind p (x ∷ xs) qs = inr (in_behind p xs qs)
+
+pub joined_more : (all left : List CpuSeat) (next : CpuSeat) (also more : List (Holder × List Deed))
+    → ((c : ℕ) (s : CpuSeat) → slice_get all c ≡ Some s → (slice_get (left ++ next ∷ []) c ≡ Some s) ⊎ In ((known s).who, (known s).own) also)
+    → (c : ℕ) (s : CpuSeat) → slice_get all c ≡ Some s → (slice_get left c ≡ Some s) ⊎ In ((known s).who, (known s).own) (also ++ ((known next).who, (known next).own) ∷ more)
+joined_more all left next also more before c s e = ⊎_elim
+    (λ (there : slice_get (left ++ next ∷ []) c ≡ Some s). ⊎_elim
+    (λ old. inl old)
+    (λ (new : (c ≡ length left) × (next ≡ s)). inr (subst (λ (x : CpuSeat). In ((known x).who, (known x).own) (also ++ ((known next).who, (known next).own) ∷ more)) new.1 (in_behind ((known next).who, (known next).own) also more)))
+    (got_pushed left next s c there))
+    (λ i. inr (in_front ((known s).who, (known s).own) also (((known next).who, (known next).own) ∷ more) i))
+    (before c s e)
+
+pub got_front : (xs : List CpuSeat) (x : CpuSeat) (c : ℕ) (s : CpuSeat) → slice_get xs c ≡ Some s → slice_get (xs ++ x ∷ []) c ≡ Some s
+got_front [] x c s e = absurd (cc (e))
+got_front (y ∷ ys) x zero s e = e
+got_front (y ∷ ys) x (suc c) s e = got_front ys x c s e
+
+pub got_last : (xs : List CpuSeat) (x : CpuSeat) → slice_get (xs ++ x ∷ []) (length xs) ≡ Some x
+got_last [] x = refl
+got_last (y ∷ ys) x = got_last ys x
+
+part_in : (log : List Deed) (ps : List (Holder × List Deed)) (p : Holder × List Deed) → Parts log ps → In p ps → part_of p.0 log ≡ p.1
+part_in log [] p all i = absurd i
+part_in log (x ∷ xs) p all i = ⊎_elim (λ (e : p ≡ x). subst (λ (y : Holder × List Deed). part_of y.0 log ≡ y.1) (sym e) all.0) (λ r. part_in log xs p all.1 r) i
+
+-- a list with no deed of a CPU that there isn't
+pub has_authors : (k : Config) (h : List Deed) → ((c : ℕ) → k.cpus ≤ c → part (Cpu c) h ≡ []) → HasAuthors k h
+has_authors k [] none = tt
+has_authors k (d ∷ h) none = (has_authors k h (λ c beyond. rest c (same_actor (Cpu c) (author d h)) (none c beyond)), λ c by. one c by (dec_lt c k.cpus))
+  where
+    rest : (c : ℕ) (b : Bool) → (if b then d ∷ part (Cpu c) h else part (Cpu c) h) ≡ [] → part (Cpu c) h ≡ []
+    rest c true e = absurd (cc (e))
+    rest c false e = e
+
+    one : (c : ℕ) → author d h ≡ Cpu c → Dec (c < k.cpus) → c < k.cpus
+    one c by (yes p) = p
+    one c by (no p) =
+        let mine : same_actor (Cpu c) (author d h) ≡ true = subst (λ (x : Actor). same_actor (Cpu c) x ≡ true) (sym by) (actor_is_itself (Cpu c)) in
+        let le : k.cpus ≤ c = omega arith in
+        let e : (d ∷ part (Cpu c) h) ≡ [] = subst (λ (b : Bool). (if b then d ∷ part (Cpu c) h else part (Cpu c) h) ≡ []) mine (none c le) in
+        absurd (cc (e))
+
+pub ends : (key k : Config) (z : TableId) (id : ℕ) (v first : View) (seats : List CpuSeat) (ws xs : List ℕ) → key ≡ k → v.who ≡ first.who → v.own ≡ first.own → first.who ≡ of_consumer
+    → ((c : ℕ) (s : CpuSeat) → slice_get seats c ≡ Some s → s.cpu ≡ c) → Joined seats v → Final (Seen (Kept key) id v) ws xs → Ended k ws seats first
+ends key k z id v first seats ws xs is who own consumer order joined final =
+    let st = final.0 in
+    let kept = final.1.0 in
+    let mine = kept.knows id v final.1.1 in record {
+      log = kept.log;
+      sound = subst (λ x. IsSound x kept.log) is kept.sound;
+      rests = kept.rests;
+      shows = subst (λ x. Shows x ws kept.log) is (subst (λ l. Shows key l kept.log) final.2 kept.shows);
+      authors = has_authors k kept.log (λ c beyond. (kept.none c (subst (λ (x : Config). x.cpus ≤ c) (sym is) beyond)).1);
+      of_each = λ c s e. ap (λ x. part_of x kept.log) (ap of_cpu (sym (order c s e)) ∙ sym s.who_is) ∙ part_in kept.log v.also ((known s).who, (known s).own) mine.parts.1 (joined c s e);
+      of_consumer = ap (λ x. part_of x kept.log) (sym consumer ∙ sym who) ∙ (mine.parts.0 ∙ own);
+    }
+
+-- the places of the slots have words at the end
+pub ends_in_words : (key k : Config) (id : ℕ) (v : View) (ws xs : List ℕ) → key ≡ k → k.max_issues ≤ 2 ^ 57 → Final (Seen (Kept key) id v) ws xs → AreWords k ws
+ends_in_words key k id v ws xs is few final s one most =
+    let kept = final.1.0 in
+    let few' : key.max_issues ≤ 2 ^ 57 = subst (λ (x : Config). x.max_issues ≤ 2 ^ 57) (sym is) few in
+    let most' : s ≤ key.nspec = subst (λ (x : Config). s ≤ x.nspec) (sym is) most in
+    let shows = subst (λ l. Shows key l kept.log) final.2 kept.shows in
+    subst IsWordNumber (sym (shows.slots s one most')) (shown_number key s kept.log few' kept.sound)
+
+pub got_is : (xs : List ℕ) (i n : ℕ) → get_elem? xs i ≡ some n → slice_index xs i ≡ n
+got_is [] i n e = absurd (some-ne-none n (sym e))
+got_is (x ∷ xs) zero n e = some-injective x n e
+got_is (x ∷ xs) (suc i) n e = got_is xs i n e
+
+-- one turn of the loop that takes the seats back
+module _ (z : TableId) (items left : List CpuSeat) (next : CpuSeat) (popped : items ≡ left ++ next ∷ []) where
+  pub at_last : AllAt z items → next.seat.table_id ≡ z
+  at_last at = at (length left) next (subst (λ l. slice_get l (length left) ≡ Some next) (sym popped) (got_last left next))
+
+  pub at_rest : AllAt z items → AllAt z left
+  at_rest at c s e = at c s (subst (λ l. slice_get l c ≡ Some s) (sym popped) (got_front left next c s e))
+
+  pub joined_rest : (all : List CpuSeat) (v w : View) → w.also ≡ v.also ++ holdings (known next)
+      → ((c : ℕ) (s : CpuSeat) → slice_get all c ≡ Some s → (slice_get items c ≡ Some s) ⊎ In ((known s).who, (known s).own) v.also)
+      → (c : ℕ) (s : CpuSeat) → slice_get all c ≡ Some s → (slice_get left c ≡ Some s) ⊎ In ((known s).who, (known s).own) w.also
+  joined_rest all v w is before c s e =
+      subst (λ l. (slice_get left c ≡ Some s) ⊎ In ((known s).who, (known s).own) l) (sym is)
+      (joined_more all left next v.also (known next).also (λ c s e. subst (λ l. (slice_get l c ≡ Some s) ⊎ In ((known s).who, (known s).own) v.also) popped (before c s e)) c s e)

@@ -1,0 +1,87 @@
+-- The rule holds at the start.
+use Rattle.std.proofs.Common.{◌≡◌, ℕ, zero, suc, ◌+◌, ◌≤◌, ◌<◌, true, false, ◌==◌, List, [], ◌∷◌, length, replicate, refl, sym, ap, ◌∙◌, subst, ⊎_elim, inr, arith}
+use Rattle.std.specs.Prelude.{slice_index}
+use Rattle.std.proofs.lemmas.Bool.Decides.{nat_tests}
+use Rattle.std.proofs.Math.ListN.{length-replicate}
+use mathlib.Core.Option.{some, some-injective, some-ne-none}
+use lib.ListN.{get_elem?}
+use Rattle.std.specs.Prelude.{Some, None}
+use Rattle.atomic_table.specs.Table.{opening}
+use Rattle.dspec_deeds.specs.declared.calls.Actor.TheVariants.{Cpu, Consumer}
+use Rattle.dspec_deeds.specs.declared.config.Config.{Config}
+use Rattle.dspec_table.specs.Holders.{Holder, of_cpu, of_consumer, of_nobody}
+use Rattle.dspec_deeds.proofs.TestLemmas.{either_way, same_number}
+use Rattle.dspec_table.specs.declared.rule.View.{View}
+use Rattle.dspec_table.specs.Since.{here}
+use Rattle.dspec_table.specs.Rule.{times, total, Parts, Knows, KnowsAsks, Kept, cpus_from, newcomer}
+use Rattle.dspec_table.specs.Layout.{word_count, activity_place, ack_place, ask_place}
+
+zeros_at : (n i : ℕ) → slice_index (replicate n 0) i ≡ 0
+zeros_at zero i = refl
+zeros_at (suc n) zero = refl
+zeros_at (suc n) (suc i) = zeros_at n i
+
+none_below : (c a n : ℕ) → c < a → times (of_cpu c) (cpus_from a n) ≡ 0
+none_below c a zero lt = refl
+none_below c a (suc n) lt =
+    let apart : (c == a) ≡ false = grind (arith, nat_tests) in
+    let r = none_below c (suc a) n (omega arith) in
+    rw (apart, r) (omega arith)
+
+cpu_once : (c a n : ℕ) → times (of_cpu c) (cpus_from a n) ≤ 1
+cpu_once c a zero = omega arith
+cpu_once c a (suc n) = ⊎_elim
+    (λ (t : (c == a) ≡ true). let e = same_number c a t in let r = none_below c (suc a) n (omega arith) in rw (t, r) (omega arith))
+    (λ (f : (c == a) ≡ false). let r = cpu_once c (suc a) n in rw f (omega arith))
+    (either_way (c == a))
+
+none_beyond : (c a n : ℕ) → a + n ≤ c → times (of_cpu c) (cpus_from a n) ≡ 0
+none_beyond c a zero le = refl
+none_beyond c a (suc n) le =
+    let apart : (c == a) ≡ false = grind (arith, nat_tests) in
+    let r = none_beyond c (suc a) n (omega arith) in
+    rw (apart, r) (omega arith)
+
+no_consumer : (a n : ℕ) → times of_consumer (cpus_from a n) ≡ 0
+no_consumer a zero = refl
+no_consumer a (suc n) = let r = no_consumer (suc a) n in omega arith
+
+no_nobody : (a n : ℕ) → times of_nobody (cpus_from a n) ≡ 0
+no_nobody a zero = refl
+no_nobody a (suc n) = let r = no_nobody (suc a) n in omega arith
+
+once_each : (k : Config) (w : Holder) → total w (newcomer k ∷ []) ≤ 1
+once_each k (Some (Cpu c)) = let r = cpu_once c 0 k.cpus in omega arith
+once_each k (Some Consumer) = let r = no_consumer 0 k.cpus in omega arith
+once_each k None = let r = no_nobody 0 k.cpus in omega arith
+
+no_parts : (a n : ℕ) → Parts [] (cpus_from a n)
+no_parts a zero = tt
+no_parts a (suc n) = (refl, no_parts (suc a) n)
+
+new_known : (k : Config) (by : ℕ) (v : View) → get_elem? (newcomer k ∷ []) by ≡ some v → Knows k [] v
+new_known k zero v e = subst (Knows k []) (some-injective (newcomer k) v e) (record { config = inr refl; parts = (refl, no_parts 0 k.cpus); since = here; told = here; calm = refl })
+new_known k (suc by) v e = absurd (some-ne-none v (sym e))
+
+new_asks : (k : Config) (ws : List ℕ) → ws ≡ replicate (word_count k) 0 → (by : ℕ) (v : View) → get_elem? (newcomer k ∷ []) by ≡ some v → KnowsAsks k ws v
+new_asks k ws is zero v e =
+    let none : (c : ℕ) → slice_index ws (ask_place k c) ≡ 0 = λ c. ap (λ l. slice_index l (ask_place k c)) is ∙ zeros_at (word_count k) (ask_place k c) in
+    subst (KnowsAsks k ws) (some-injective (newcomer k) v e) (record { least = λ c lt. omega arith; exact = λ who c lt. sym (none c) })
+new_asks k ws is (suc by) v e = absurd (some-ne-none v (sym e))
+
+pub starts : (k : Config) (ws : List ℕ) → ws ≡ replicate (word_count k) 0 → Kept k (opening ws [] (newcomer k))
+starts k ws is = record {
+  log = [];
+  sound = tt;
+  rests = refl;
+  shows = record {
+    count = ap length is ∙ length-replicate (word_count k) 0;
+    active = ap (λ l. slice_index l (activity_place k)) is ∙ zeros_at (word_count k) (activity_place k);
+    slots = λ s a b. ap (λ l. slice_index l s) is ∙ zeros_at (word_count k) s;
+    acks = λ c s x a b. ap (λ l. slice_index l (ack_place k c s)) is ∙ zeros_at (word_count k) (ack_place k c s);
+  };
+  knows = new_known k;
+  once = once_each k;
+  asks = new_asks k ws is;
+  none = λ c beyond. (let r = none_beyond c 0 k.cpus (omega arith) in omega arith, refl);
+}

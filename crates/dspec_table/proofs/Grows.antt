@@ -1,0 +1,30 @@
+-- A slot's word only grows, so an exchange that fails shows a greater one.
+use Rattle.std.proofs.Common.{◌≡◌, ◌≢◌, ℕ, ◌≤◌, ◌<◌, List, ◌∷◌, ap, arith}
+use Rattle.dspec_word.specs.Word.{SlotState, word_number}
+use Rattle.dspec_table.proofs.Numbers.{one_word}
+use Rattle.dspec_deeds.specs.declared.config.Config.{Config}
+use Rattle.dspec_deeds.specs.declared.deed.Deed.{Deed}
+use Rattle.dspec_table.specs.Holders.{Holder}
+use Rattle.dspec_deeds.specs.History.{word_at}
+use Rattle.dspec_deeds.specs.Legal.{IsSound}
+use Rattle.dspec_deeds.proofs.WordsRise.{words_rise}
+use Rattle.dspec_table.specs.declared.rule.View.{View}
+use Rattle.dspec_table.specs.Since.{Since, here, more}
+use Rattle.dspec_table.specs.Steps.{Found}
+
+pub word_rises : (k : Config) (w : Holder) (seen log : List Deed) (s : ℕ) → IsSound k log → Since w seen log → word_number (word_at s seen) ≤ word_number (word_at s log)
+word_rises k w seen _ s sound here = omega arith
+word_rises k w seen (d ∷ h) s sound (more rest other) = let a = word_rises k w seen h s sound.0 rest in let b = words_rise k s d h sound in omega arith
+
+-- another word than the one last seen is greater
+pub shown_greater : (v : View) (log : List Deed) (s : ℕ) (from shown : SlotState) → from ≡ word_at s v.seen → Found v log → shown ≡ word_at s log → shown ≢ from → word_number from < word_number shown
+shown_greater v log s from shown was found is apart =
+    let up = word_rises v.config v.who v.seen log s found.sound found.since in
+    let a : word_number from ≡ word_number (word_at s v.seen) = ap word_number was in
+    let b : word_number shown ≡ word_number (word_at s log) = ap word_number is in
+    let other : word_number shown ≢ word_number from = λ e. apart (one_word shown from e) in
+    let m : ℕ = word_number from in
+    let n : ℕ = word_number shown in
+    let le : m ≤ n = omega arith in
+    let other' : n ≢ m = other in
+    omega arith

@@ -1,0 +1,60 @@
+-- The consumer stops the session.
+use Rattle.std.proofs.Common.{◌≡◌, ◌≢◌, ℕ, Bool, true, false, List, [], ◌++◌, refl, sym, ◌∙◌, subst, arith}
+use Rattle.std.specs.Prelude.{slice_set}
+use Rattle.std.proofs.lemmas.List.{get_or-set_same, get_or-set_other}
+use Rattle.std.proofs.Math.ListN.{length-set}
+use Rattle.atomic_table.specs.Table.{keeps, Allows, Me}
+use Rattle.dspec_deeds.specs.declared.config.Config.{Config}
+use Rattle.dspec_deeds.specs.declared.deed.Deed.{Deed}
+use Rattle.dspec_table.specs.Holders.{of_consumer, same_holder}
+use Rattle.dspec_deeds.specs.History.{halted, owed}
+use Rattle.dspec_table.specs.declared.rule.View.{View}
+use Rattle.dspec_table.specs.Rule.{Kept}
+use Rattle.dspec_table.specs.Showing.{Shows}
+use Rattle.dspec_table.specs.Layout.{activity_place, ack_place}
+use Rattle.dspec_table.proofs.Places.{after_activity}
+use Rattle.dspec_table.specs.Steps.{acted, StoredActivity}
+use Rattle.dspec_table.specs.Acts.{at_stop}
+use Rattle.dspec_table.proofs.Keeps.{Adds, acts, enters, finds}
+use Rattle.dspec_table.proofs.Changes.{leaves_asks}
+
+stop_shows : (k : Config) (words : List ℕ) (log : List Deed) (b : Bool) → halted log ≡ b → Shows k words log → Shows k (slice_set words (activity_place k) 1) (at_stop b ++ log)
+stop_shows k words log b is sh = record {
+  count = length-set words (activity_place k) 1 ∙ sh.count;
+  active = get_or-set_same words (activity_place k) 1 0 (let count = sh.count in omega arith) ∙ stopped b is;
+  slots = λ s a m. let apart : s ≢ activity_place k = (λ e. omega arith) in get_or-set_other words (activity_place k) s 1 0 apart ∙ (sh.slots s a m ∙ same_word b s);
+  acks = λ c s x a m.
+      let after = after_activity k c in
+      let apart : ack_place k c s ≢ activity_place k = (λ e. omega arith) in
+      get_or-set_other words (activity_place k) (ack_place k c s) 1 0 apart ∙ (sh.acks c s x a m ∙ same_ack b c s);
+}
+  where
+    stopped : (b : Bool) → halted log ≡ b → 1 ≡ Rattle.dspec_table.specs.Showing.activity (at_stop b ++ log)
+    stopped true e = rw e refl
+    stopped false e = refl
+
+    same_word : (b : Bool) (s : ℕ) → Rattle.dspec_table.specs.Showing.word s log ≡ Rattle.dspec_table.specs.Showing.word s (at_stop b ++ log)
+    same_word true s = refl
+    same_word false s = refl
+
+    same_ack : (b : Bool) (c s : ℕ) → Rattle.dspec_deeds.specs.History.ack c s log ≡ Rattle.dspec_deeds.specs.History.ack c s (at_stop b ++ log)
+    same_ack true c s = refl
+    same_ack false c s = refl
+
+stops_log : (k : Config) (log : List Deed) (b : Bool) → halted log ≡ b → owed log ≡ 0 → Adds k of_consumer log (at_stop b) × (owed (at_stop b ++ log) ≡ 0)
+stops_log k log true e rests = (tt, rests)
+stops_log k log false e rests = ((tt, (rests, e), refl), refl)
+
+pub stops : (k : Config) (slots id : ℕ) (me : Me ℕ View) → me.0.who ≡ of_consumer → me.0.also ≡ [] → Allows (Kept k) slots id me (activity_place k) (λ _. 1) (λ _ w. StoredActivity me.0 w.0 × (w.1 ≡ me.1))
+stops k slots id me who alone st kept homes at bound =
+    let v = me.0 in
+    let log = kept.log in
+    let is_me : same_holder v.who v.who ≡ true = subst (λ x. same_holder x x ≡ true) (sym who) refl in
+    let owe = stops_log k log (halted log) refl kept.rests in
+    let adds : Adds k v.who log (at_stop (halted log)) = subst (λ x. Adds k x log (at_stop (halted log))) (sym who) owe.0 in (
+      acted v log (at_stop (halted log)),
+      keeps,
+      tt,
+      acts k st kept id v me.1 at alone is_me (at_stop (halted log)) (activity_place k) 1 adds owe.1 (stop_shows k st.words log (halted log) refl kept.shows) (leaves_asks k st.words (activity_place k) 1 (omega arith)),
+      ((log, finds k st kept id v at is_me, enters k st kept id v at is_me (at_stop (halted log)) adds owe.1), refl),
+    )

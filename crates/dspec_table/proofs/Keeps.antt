@@ -1,0 +1,238 @@
+-- A seat's own deeds, added to the list, keep the rule, where the words show the longer list.
+use Rattle.std.proofs.Common.{◌≡◌, ◌≢◌, ℕ, zero, suc, ◌+◌, ◌≤◌, ◌<◌, Bool, true, false, if◌then◌else◌, ◌&&◌, List, [], ◌∷◌, ◌++◌, set, refl, sym, ap, ◌∙◌, subst, ⊎_elim, arith, true≢false}
+use Rattle.std.specs.Prelude.{slice_index, slice_set}
+use mathlib.Core.Option.{some, some-injective, some-ne-none}
+use lib.ListN.{get_elem?}
+use Rattle.atomic_table.specs.Table.{State, keeps, Allows, Me, stepped}
+use Rattle.atomic_table.proofs.Lists.{at_set}
+use Rattle.dspec_deeds.specs.declared.config.Config.{Config}
+use Rattle.dspec_deeds.specs.declared.deed.Deed.{Deed}
+use Rattle.dspec_table.specs.Holders.{Holder, of_cpu, of_nobody, doer, part_of, same_holder}
+use Rattle.dspec_deeds.specs.History.{owed, scan, late, halted, is_halt}
+use Rattle.dspec_deeds.specs.Legal.{IsSound, Follows}
+use Rattle.dspec_table.proofs.OwnReading.{scan_part}
+use Rattle.dspec_deeds.proofs.TestLemmas.{either_way, number_is_itself}
+use Rattle.dspec_table.proofs.HolderTests.{same_holder_tells, part_next}
+use Rattle.dspec_table.specs.declared.rule.View.{View}
+use Rattle.dspec_table.specs.Showing.{Shows}
+use Rattle.dspec_table.specs.Since.{Since, here, more}
+use Rattle.dspec_table.specs.Rule.{holdings, times, total, Parts, Knows, KnowsAsks, Kept}
+use Rattle.dspec_table.specs.Layout.{ask_place}
+use Rattle.dspec_table.specs.Steps.{asking, acted, Found, Entered}
+use Rattle.dspec_table.proofs.Quiet.{IsQuiet, quiet_shows, same_words}
+
+-- the deeds may follow one another, the first one last, and all are w's
+abbrev pub Adds : Config → Holder → List Deed → List Deed → Type 0
+Adds k w log [] = Unit {0}
+Adds k w log (d ∷ ds) = Adds k w log ds × Follows k (ds ++ log) d × (doer d (ds ++ log) ≡ w)
+
+pub sound_adds : (k : Config) (w : Holder) (log ds : List Deed) → IsSound k log → Adds k w log ds → IsSound k (ds ++ log)
+sound_adds k w log [] s a = s
+sound_adds k w log (d ∷ ds) s a = (sound_adds k w log ds s a.0, a.1)
+
+pub part_adds : (k : Config) (w : Holder) (log ds : List Deed) → same_holder w w ≡ true → Adds k w log ds → part_of w (ds ++ log) ≡ ds ++ part_of w log
+part_adds k w log [] me a = refl
+part_adds k w log (d ∷ ds) me a =
+    let mine : same_holder w (doer d (ds ++ log)) ≡ true = subst (λ x. same_holder w x ≡ true) (sym a.2) me in
+    part_next w d (ds ++ log) ∙ rw mine (ap (λ l. d ∷ l) (part_adds k w log ds me a.0))
+
+pub part_others : (k : Config) (x w : Holder) (log ds : List Deed) → same_holder x w ≡ false → Adds k w log ds → part_of x (ds ++ log) ≡ part_of x log
+part_others k x w log [] free a = refl
+part_others k x w log (d ∷ ds) free a =
+    let not_mine : same_holder x (doer d (ds ++ log)) ≡ false = subst (λ y. same_holder x y ≡ false) (sym a.2) free in
+    part_next x d (ds ++ log) ∙ rw not_mine (part_others k x w log ds free a.0)
+
+pub since_adds : (k : Config) (x w : Holder) (seen log ds : List Deed) → same_holder x w ≡ false → Adds k w log ds → Since x seen log → Since x seen (ds ++ log)
+since_adds k x w seen log [] free a s = s
+since_adds k x w seen log (d ∷ ds) free a s = more (since_adds k x w seen log ds free a.0 s) (subst (λ y. same_holder x y ≡ false) (sym a.2) free)
+
+-- everything goes on from nothing
+pub since_nothing : (log : List Deed) → Since of_nobody [] log
+since_nothing [] = here
+since_nothing (d ∷ h) = more (since_nothing h) refl
+
+pub same_turned : (v w : Holder) → same_holder v w ≡ true → same_holder w v ≡ true
+same_turned v w e = let p = same_holder_tells v w e in subst (λ x. same_holder w x ≡ true) (sym p) (subst (λ x. same_holder x w ≡ true) p e)
+
+-- whom the others do not hold is another
+not_held : (w x : Holder) (n : ℕ) → (if same_holder w x then 1 else 0) + n ≡ 0 → same_holder x w ≡ false
+not_held w x n free = ⊎_elim
+    (λ (t : same_holder x w ≡ true). let back = same_turned x w t in absurd (let m : 1 + n ≡ 0 = subst (λ b. (if b then 1 else 0) + n ≡ 0) back free in omega arith))
+    (λ f. f)
+    (either_way (same_holder x w))
+
+holds_not : (w x : Holder) (n : ℕ) → (if same_holder w x then 1 else 0) + n ≡ 0 → same_holder w x ≡ false
+holds_not w x n free = ⊎_elim (λ (t : same_holder w x ≡ true). absurd (let m : 1 + n ≡ 0 = subst (λ b. (if b then 1 else 0) + n ≡ 0) t free in omega arith)) (λ f. f) (either_way (same_holder w x))
+
+parts_others : (k : Config) (w : Holder) (log ds : List Deed) (ps : List (Holder × List Deed)) → Adds k w log ds → times w ps ≡ 0 → Parts log ps → Parts (ds ++ log) ps
+parts_others k w log ds [] a free p = tt
+parts_others k w log ds (x ∷ xs) a free p = (part_others k x.0 w log ds (not_held w x.0 (times w xs) free) a ∙ p.0, parts_others k w log ds xs a (omega arith) p.1)
+
+pub nobody_since : (k : Config) (w : Holder) (seen log ds : List Deed) → Adds k w log ds → Since of_nobody seen log → Since of_nobody seen (ds ++ log)
+nobody_since k w seen log ds a s = since_adds k of_nobody w seen log ds refl a s
+
+pub total_at : (w : Holder) (views : List View) (a : ℕ) (v : View) → get_elem? views a ≡ some v → times w (holdings v) ≤ total w views
+total_at w [] a v e = absurd (some-ne-none v (sym e))
+total_at w (x ∷ xs) zero v e = let p = some-injective x v e in subst (λ (y : View). times w (holdings y) ≤ total w (x ∷ xs)) p (omega arith)
+total_at w (x ∷ xs) (suc a) v e = let r = total_at w xs a v e in omega arith
+
+-- two seats at two places count both
+pub total_two : (w : Holder) (views : List View) (a b : ℕ) (v u : View) → a ≢ b → get_elem? views a ≡ some v → get_elem? views b ≡ some u → times w (holdings v) + times w (holdings u) ≤ total w views
+total_two w [] a b v u n e f = absurd (some-ne-none v (sym e))
+total_two w (x ∷ xs) zero zero v u n e f = absurd (n refl)
+total_two w (x ∷ xs) zero (suc b) v u n e f = let r = total_at w xs b u f in let p = some-injective x v e in subst (λ (y : View). times w (holdings y) + times w (holdings u) ≤ total w (x ∷ xs)) p (omega arith)
+total_two w (x ∷ xs) (suc a) zero v u n e f = let r = total_at w xs a v e in let p = some-injective x u f in subst (λ (y : View). times w (holdings v) + times w (holdings y) ≤ total w (x ∷ xs)) p (omega arith)
+total_two w (x ∷ xs) (suc a) (suc b) v u n e f = let r = total_two w xs a b v u (λ q. n (ap suc q)) e f in omega arith
+
+pub total_set : (w : Holder) (views : List View) (a : ℕ) (v u : View) → get_elem? views a ≡ some v → total w (set views a u) + times w (holdings v) ≡ total w views + times w (holdings u)
+total_set w [] a v u e = absurd (some-ne-none v (sym e))
+total_set w (x ∷ xs) zero v u e = let p = some-injective x v e in subst (λ (y : View). total w (u ∷ xs) + times w (holdings y) ≡ total w (x ∷ xs) + times w (holdings u)) p (omega arith)
+total_set w (x ∷ xs) (suc a) v u e = let r = total_set w xs a v u e in omega arith
+
+pub total_snoc : (w : Holder) (views : List View) (u : View) → total w (views ++ u ∷ []) ≡ total w views + times w (holdings u)
+total_snoc w [] u = omega arith
+total_snoc w (x ∷ xs) u = let r = total_snoc w xs u in omega arith
+
+-- a step of a seat with deeds of its own, after which it knows these asks
+pub acts_asking : (k : Config) (st : State ℕ View) (kept : Kept k st) (by : ℕ) (v : View) (carried : List (ℕ × ℕ)) → get_elem? st.views by ≡ some v → v.also ≡ [] → same_holder v.who v.who ≡ true
+    → (ds : List Deed) (i n : ℕ) (asks : List ℕ) → Adds k v.who kept.log ds → owed (ds ++ kept.log) ≡ 0 → Shows k (slice_set st.words i n) (ds ++ kept.log)
+    → KnowsAsks k (slice_set st.words i n) (asking v kept.log ds asks)
+    → ((u : View) → same_holder u.who v.who ≡ false → KnowsAsks k st.words u → KnowsAsks k (slice_set st.words i n) u)
+    → Kept k (stepped st i n by carried (asking v kept.log ds asks) keeps)
+acts_asking k st kept by v carried at alone me ds i n asks adds rests shows own_asks other_asks =
+    let log = kept.log in
+    let w = asking v log ds asks in
+    let mine = kept.knows by v at in
+    record {
+      log = ds ++ log;
+      sound = sound_adds k v.who log ds kept.sound adds;
+      rests = rests;
+      shows = shows;
+      knows = λ j u e. ⊎_elim
+          (λ (t : (j ≡ by) × (w ≡ u)). subst (Knows k (ds ++ log)) t.1 (record {
+            config = mine.config;
+            parts = (part_adds k v.who log ds me adds ∙ ap (λ l. ds ++ l) mine.parts.0, subst (Parts (ds ++ log)) (sym alone) tt);
+            since = here;
+            told = since_nothing (ds ++ log);
+            calm = rests;
+          }))
+          (λ (t : (j ≢ by) × (get_elem? st.views j ≡ some u)).
+          let theirs = kept.knows j u t.1 in
+          let both = total_two v.who st.views by j v u (λ q. t.0 (sym q)) at t.1 in
+          let one = kept.once v.who in
+          let mine_once : 1 ≤ times v.who (holdings v) = subst (λ b. 1 ≤ (if b then 1 else 0) + times v.who v.also) (sym me) (omega arith) in
+          let none : times v.who (holdings u) ≡ 0 = omega arith in
+          record { config = theirs.config; parts = parts_others k v.who log ds (holdings u) adds none theirs.parts; since = since_adds k u.who v.who u.seen log ds (not_held v.who u.who (times v.who u.also) none) adds theirs.since; told = nobody_since k v.who u.told log ds adds theirs.told; calm = theirs.calm })
+          (at_set st.views by j w u e);
+      once = λ x. let r = total_set x st.views by v w at in let one = kept.once x in omega arith;
+      none = λ c beyond.
+          let before = kept.none c beyond in
+          let one = total_at (of_cpu c) st.views by v at in
+          let not_me : times (of_cpu c) (holdings v) ≡ 0 = (let n = before.0 in omega arith) in
+          (let r = total_set (of_cpu c) st.views by v w at in let n = before.0 in omega arith, part_others k (of_cpu c) v.who log ds (holds_not (of_cpu c) v.who (times (of_cpu c) v.also) not_me) adds ∙ before.1);
+      asks = λ j u e. ⊎_elim
+          (λ (t : (j ≡ by) × (w ≡ u)). subst (KnowsAsks k (slice_set st.words i n)) t.1 own_asks)
+          (λ (t : (j ≢ by) × (get_elem? st.views j ≡ some u)).
+          let both = total_two v.who st.views by j v u (λ q. t.0 (sym q)) at t.1 in
+          let one = kept.once v.who in
+          let mine_once : 1 ≤ times v.who (holdings v) = subst (λ b. 1 ≤ (if b then 1 else 0) + times v.who v.also) (sym me) (omega arith) in
+          let none : times v.who (holdings u) ≡ 0 = omega arith in
+          other_asks u (not_held v.who u.who (times v.who u.also) none) (kept.asks j u t.1))
+          (at_set st.views by j w u e);
+    }
+
+-- the step moves no ask
+abbrev pub LeavesAsks : Config → List ℕ → List ℕ → Type 0
+LeavesAsks k words new = (c : ℕ) → c < k.cpus → slice_index new (ask_place k c) ≡ slice_index words (ask_place k c)
+
+pub same_asks : (k : Config) (words new : List ℕ) (u : View) → LeavesAsks k words new → KnowsAsks k words u → KnowsAsks k new u
+same_asks k words new u left knows = record {
+  least = λ c lt. subst (λ (m : ℕ). slice_index u.asks c ≤ m) (sym (left c lt)) (knows.least c lt);
+  exact = λ is c lt. knows.exact is c lt ∙ sym (left c lt);
+}
+
+-- the same where it knows the asks that it knew
+pub acts : (k : Config) (st : State ℕ View) (kept : Kept k st) (by : ℕ) (v : View) (carried : List (ℕ × ℕ)) → get_elem? st.views by ≡ some v → v.also ≡ [] → same_holder v.who v.who ≡ true
+    → (ds : List Deed) (i n : ℕ) → Adds k v.who kept.log ds → owed (ds ++ kept.log) ≡ 0 → Shows k (slice_set st.words i n) (ds ++ kept.log) → LeavesAsks k st.words (slice_set st.words i n)
+    → Kept k (stepped st i n by carried (acted v kept.log ds) keeps)
+acts k st kept by v carried at alone me ds i n adds rests shows left =
+    let new = slice_set st.words i n in
+    let mine = kept.asks by v at in
+    acts_asking k st kept by v carried at alone me ds i n v.asks adds rests shows
+    (record {
+      least = λ c lt. subst (λ (m : ℕ). slice_index v.asks c ≤ m) (sym (left c lt)) (mine.least c lt);
+      exact = λ is c lt. mine.exact is c lt ∙ sym (left c lt);
+    })
+    (λ u other knows. same_asks k st.words new u left knows)
+
+-- the seat of an actor has the configuration
+pub its_config : (k : Config) (log : List Deed) (v : View) → same_holder v.who v.who ≡ true → Knows k log v → v.config ≡ k
+its_config k log v me mine = ⊎_elim (λ (t : v.who ≡ of_nobody). absurd (true≢false (sym (subst (λ x. same_holder x x ≡ true) t me)))) (λ e. e) mine.config
+
+-- a CPU is somebody
+pub is_cpu : (v : View) (c : ℕ) → v.who ≡ of_cpu c → same_holder v.who v.who ≡ true
+is_cpu v c who = subst (λ x. same_holder x x ≡ true) (sym who) (number_is_itself c)
+
+-- what the step found
+pub finds : (k : Config) (st : State ℕ View) (kept : Kept k st) (by : ℕ) (v : View) → get_elem? st.views by ≡ some v → same_holder v.who v.who ≡ true → Found v kept.log
+finds k st kept by v at who =
+    let mine = kept.knows by v at in record {
+      since = mine.since;
+      told = mine.told;
+      sound = subst (λ (x : Config). IsSound x kept.log) (sym (its_config k kept.log v who mine)) kept.sound;
+      rests = kept.rests;
+      own = mine.parts.0;
+      calm = mine.calm;
+    }
+
+-- what deeds owe that move no word
+pub record Owes (k : Config) (w : Holder) (log ds : List Deed) : Type 0 where
+  pub adds : Adds k w log ds
+  pub rests : owed (ds ++ log) ≡ 0
+  pub quiet : IsQuiet log (ds ++ log)
+
+pub none_owed : (k : Config) (w : Holder) (log : List Deed) → owed log ≡ 0 → Owes k w log []
+none_owed k w log rests = record { adds = tt; rests = rests; quiet = record { active = refl; slots = λ s. refl; acks = λ a s. refl } }
+
+-- what the step leaves
+pub enters : (k : Config) (st : State ℕ View) (kept : Kept k st) (by : ℕ) (v : View) → get_elem? st.views by ≡ some v → same_holder v.who v.who ≡ true
+    → (ds : List Deed) → Adds k v.who kept.log ds → owed (ds ++ kept.log) ≡ 0 → Entered v kept.log ds (acted v kept.log ds)
+enters k st kept by v at who ds adds rests = record {
+  sound = subst (λ (x : Config). IsSound x (ds ++ kept.log)) (sym (its_config k kept.log v who (kept.knows by v at))) (sound_adds k v.who kept.log ds kept.sound adds);
+  rests = rests;
+  view = refl;
+}
+
+pub enters_owed : (k : Config) (st : State ℕ View) (kept : Kept k st) (by : ℕ) (v : View) → get_elem? st.views by ≡ some v → same_holder v.who v.who ≡ true
+    → (ds : List Deed) → Owes k v.who kept.log ds → Entered v kept.log ds (acted v kept.log ds)
+enters_owed k st kept by v at who ds owe = enters k st kept by v at who ds owe.adds owe.rests
+
+pub acts_owed : (k : Config) (st : State ℕ View) (kept : Kept k st) (by : ℕ) (v : View) (carried : List (ℕ × ℕ)) → get_elem? st.views by ≡ some v → v.also ≡ [] → same_holder v.who v.who ≡ true
+    → (ds : List Deed) (i : ℕ) → Owes k v.who kept.log ds → Kept k (stepped st i (slice_index st.words i) by carried (acted v kept.log ds) keeps)
+acts_owed k st kept by v carried at alone me ds i owe =
+    acts k st kept by v carried at alone me ds i (slice_index st.words i) owe.adds owe.rests
+    (subst (λ ws. Shows k ws (ds ++ kept.log)) (sym (same_words st.words i)) (quiet_shows k st.words kept.log (ds ++ kept.log) owe.quiet kept.shows))
+    (λ c lt. ap (λ ws. slice_index ws (ask_place k c)) (same_words st.words i))
+
+-- a CPU that is in no call of speculation by its own list is in none by the log
+pub idle_log : (k : Config) (st : State ℕ View) (kept : Kept k st) (by : ℕ) (v : View) (c : ℕ) → get_elem? st.views by ≡ some v → v.who ≡ of_cpu c → {n : ℕ} → scan k c v.own ≡ n → scan k c kept.log ≡ n
+idle_log k st kept by v c at who {n} idle =
+    let mine = kept.knows by v at in
+    sym (scan_part k c kept.log) ∙ (ap (λ l. scan k c l) (ap (λ x. part_of x kept.log) (sym who) ∙ mine.parts.0) ∙ idle)
+
+pub late_since : (c : ℕ) (seen log : List Deed) → late c seen ≡ false → Since (of_cpu c) seen log → late c log ≡ false
+late_since c seen _ e here = e
+late_since c seen (d ∷ h) e (more s other) = rw (late_since c seen h e s, other) (go (is_halt d) (halted h))
+  where
+    go : (a b : Bool) → (if a then false else (b && false)) ≡ false
+    go true b = refl
+    go false true = refl
+    go false false = refl
+
+-- a load keeps the rule, where what it adds moves no word
+pub loads : (k : Config) (slots id c i : ℕ) (me : Me ℕ View) (T : ℕ → View → Type 0) → me.0.who ≡ of_cpu c → me.0.also ≡ []
+    → ((st : State ℕ View) (kept : Kept k st) → get_elem? st.views id ≡ some me.0 → (ds : List Deed) × Owes k me.0.who kept.log ds × T (slice_index st.words i) (acted me.0 kept.log ds))
+    → Allows (Kept k) slots id me i (λ n. n) (λ n w. T n w.0 × (w.1 ≡ me.1))
+loads k slots id c i me T who alone step st kept homes at bound =
+    let r = step st kept at in
+    (acted me.0 kept.log r.0, keeps, tt, acts_owed k st kept id me.0 me.1 at alone (is_cpu me.0 c who) r.0 i r.1, (r.2, refl))

@@ -1,0 +1,90 @@
+-- The issues that a list shows are within the configuration's limit, and so fit a word.
+use Rattle.std.proofs.Common.{◌≡◌, ℕ, suc, ◌+◌, ◌*◌, ◌<◌, ◌≤◌, ◌^◌, true, false, not, true≢false, List, [], ◌∷◌, if◌then◌else◌, refl, ap, ◌∙◌, sym, subst, ⊎_elim, inl, inr, arith}
+use Rattle.std.specs.Prelude.{nat_lt}
+use Rattle.std.proofs.lemmas.Bool.Decides.{nat_tests}
+use Rattle.dspec_word.specs.SpecId.{Speculation}
+use Rattle.dspec_word.specs.Word.{SlotState, word_number, CanBeReleased}
+use Rattle.dspec_word.specs.declared.code.Code.{Code}
+use Rattle.dspec_word.specs.declared.code.Code.TheVariants.{Inactive, Active, ActiveOne, ActiveMany, Committing, CommittingMany, Discarding}
+use Rattle.dspec_deeds.specs.declared.config.Config.{Config}
+use Rattle.dspec_deeds.specs.declared.deed.Deed.{Deed}
+use Rattle.dspec_deeds.specs.declared.deed.Deed.TheVariants.{Opened, Release}
+use Rattle.dspec_deeds.specs.History.{opens, opened, issue, present, releases, verdict, is_undecided, callers, standing, word_at}
+use Rattle.dspec_deeds.specs.Legal.{IsSound, Follows}
+use Rattle.dspec_deeds.proofs.TestLemmas.{either_way, or_tells, and_tells, same_id_tells, same_number}
+use Rattle.dspec_deeds.proofs.PresentIds.{decided_given}
+use Rattle.dspec_table.specs.declared.rule.View.{View}
+use Rattle.dspec_table.specs.Steps.{Found}
+use Rattle.dspec_table.specs.Showing.{IsWordNumber}
+use Rattle.dspec_word.specs.Code.{code_number}
+use Rattle.dspec_table.proofs.Numbers.{code_below}
+
+-- what was given out has an issue below the most
+pub issue_below : (k : Config) (h : List Deed) (id : Speculation) → IsSound k h → opened id h ≡ true → id.issue < k.max_issues
+issue_below k (d ∷ h) id s e = ⊎_elim
+    (λ (t : opens id d ≡ true). go d s.1 t)
+    (λ (t : opened id h ≡ true). issue_below k h id s.0 t)
+    (or_tells (opens id d) (opened id h) e)
+  where
+    go : (d : Deed) → Follows k h d → opens id d ≡ true → id.issue < k.max_issues
+    go (Opened c j) f t =
+        let free = f.1.2 in
+        let is = same_id_tells id j t in
+        let below = (and_tells (not (opened (present j.slot h) h)) (nat_lt (issue j.slot h) k.max_issues) free).1 in
+        let now = f.1.3 in
+        let less : j.issue < k.max_issues = grind (arith, nat_tests) in
+        subst (λ (x : Speculation). x.issue < k.max_issues) (sym is) less
+    go d f t = absurd (true≢false (sym t))
+issue_below k [] id s e = absurd (true≢false (sym e))
+
+released_decided : (k : Config) (s : ℕ) (d : Deed) (h : List Deed) → Follows k h d → releases s d ≡ true → is_undecided (verdict (present s h) h) ≡ false
+released_decided k s (Release n) h f t = subst (λ (x : ℕ). is_undecided (verdict (present x h) h) ≡ false) (sym (same_number s n t)) f.1.0.0
+released_decided k s d h f t = absurd (true≢false (sym t))
+
+-- a slot is released that many times at most
+pub issue_within : (k : Config) (s : ℕ) (h : List Deed) → IsSound k h → issue s h ≤ k.max_issues
+issue_within k s [] sound = omega arith
+issue_within k s (d ∷ h) sound = ⊎_elim
+    (λ (t : releases s d ≡ true).
+    let given = decided_given k h (present s h) sound.0 (released_decided k s d h sound.1 t) in
+    let less = issue_below k h (present s h) sound.0 given in
+    let up : issue s (d ∷ h) ≡ suc (issue s h) = rw t refl in
+    omega arith)
+    (λ (f : releases s d ≡ false). let same : issue s (d ∷ h) ≡ issue s h = rw f refl in let before = issue_within k s h sound.0 in omega arith)
+    (either_way (releases s d))
+
+-- the word that is shown can be released
+pub released_yet : (k : Config) (s : ℕ) (h : List Deed) → k.max_issues ≤ 2 ^ 57 → IsSound k h → CanBeReleased (word_at s h)
+released_yet k s h most sound = ⊎_elim
+    (λ (t : opened (present s h) h ≡ true). let less = issue_below k h (present s h) sound t in inl (omega arith))
+    (λ (f : opened (present s h) h ≡ false). inr (ap (λ b. if b then standing (verdict (present s h) h) (callers (present s h) h) else Inactive) f))
+    (either_way (opened (present s h) h))
+
+-- the number of the word that is shown
+pub shown_number : (k : Config) (s : ℕ) (h : List Deed) → k.max_issues ≤ 2 ^ 57 → IsSound k h → IsWordNumber (word_number (word_at s h))
+shown_number k s h most sound =
+    let w = word_at s h in
+    let below = code_below w.code in
+    let within = issue_within k s h sound in (
+      omega arith,
+      ⊎_elim
+          (λ (less : w.issue < 2 ^ 57). let goal : w.issue * 8 + code_number w.code ≤ 2 ^ 60 = omega arith in goal)
+          (λ (e : w.code ≡ Inactive). let none : code_number w.code ≡ 0 = ap code_number e in let goal : w.issue * 8 + code_number w.code ≤ 2 ^ 60 = omega arith in goal)
+          (released_yet k s h most sound),
+    )
+
+pub limit_of : (w : SlotState) → word_number w ≤ 2 ^ 60 → CanBeReleased w
+limit_of w small = go w.code refl
+  where
+    go : (x : Code) → w.code ≡ x → CanBeReleased w
+    go Inactive e = inr e
+    go Active e = inl (let n = ap code_number e in omega arith)
+    go ActiveOne e = inl (let n = ap code_number e in omega arith)
+    go ActiveMany e = inl (let n = ap code_number e in omega arith)
+    go Committing e = inl (let n = ap code_number e in omega arith)
+    go CommittingMany e = inl (let n = ap code_number e in omega arith)
+    go Discarding e = inl (let n = ap code_number e in omega arith)
+
+-- the number that a step found is that of a word
+pub finds_word : (v : View) (log : List Deed) (s n : ℕ) (shown : SlotState) → v.config.max_issues ≤ 2 ^ 57 → Found v log → n ≡ word_number shown → shown ≡ word_at s log → IsWordNumber n
+finds_word v log s n shown most found is at = subst IsWordNumber (ap word_number (sym at) ∙ sym is) (shown_number v.config s log most found.sound)

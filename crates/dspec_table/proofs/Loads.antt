@@ -1,0 +1,162 @@
+-- The load of a slot's word.
+use Rattle.std.proofs.Common.{◌≡◌, ℕ, ◌≤◌, ◌+◌, ◌==◌, Bool, true, false, if◌then◌else◌, List, [], ◌∷◌, Some, refl, sym, ap, ◌∙◌, subst, ⊎_elim, inl}
+use mathlib.Core.Option.{some}
+use lib.ListN.{get_elem?}
+use Rattle.atomic_table.specs.Table.{State, Allows, Me}
+use Rattle.dspec_word.specs.SpecId.{Speculation}
+use Rattle.dspec_word.specs.declared.act.Act.{Act}
+use Rattle.dspec_word.specs.declared.act.Act.TheVariants.{Void, Granted, Attempt, Idle}
+use Rattle.dspec_word.specs.declared.code.Code.TheVariants.{Inactive}
+use Rattle.dspec_word.specs.Word.{word_number}
+use Rattle.dspec_word.specs.Tables.{speculate_at, speculate_act, commit_at, commit_act, discard_at, discard_act, open_at}
+use Rattle.dspec_deeds.specs.declared.config.Config.{Config}
+use Rattle.dspec_deeds.specs.declared.deed.SpeculateFate.{SpeculateFate}
+use Rattle.dspec_deeds.specs.FateKinds.{spoken_granted}
+use Rattle.dspec_record.specs.Record.{Record}
+use Rattle.dspec_deeds.specs.declared.deed.Deed.{Deed}
+use Rattle.dspec_deeds.specs.declared.deed.Deed.TheVariants.{Speculate}
+use Rattle.dspec_table.specs.Holders.{Holder, of_cpu, part_of}
+use Rattle.dspec_deeds.specs.History.{same_id, issue, scan, owed, late, present, code_at, word_at, is_among, callers, joined, verdict, opened, standing, is_open}
+use Rattle.dspec_deeds.specs.Legal.{IsSound}
+use Rattle.dspec_deeds.specs.Marks.{mark}
+use Rattle.dspec_deeds.proofs.TestLemmas.{either_way, same_id_tells, same_number}
+use Rattle.dspec_deeds.proofs.Marks.{mark_tells, mark_part}
+use Rattle.dspec_table.proofs.OwnReading.{has_part}
+use Rattle.dspec_deeds.proofs.WordActs.{speculate_void, speculate_granted, commit_void, discard_void}
+use Rattle.dspec_deeds.proofs.WordCodes.{busy_is, open_void}
+use Rattle.dspec_table.specs.declared.rule.View.{View}
+use Rattle.dspec_deeds.specs.declared.calls.CpuOp.{CpuOp}
+use Rattle.dspec_table.specs.declared.doing.Doing.{Doing}
+use Rattle.dspec_table.specs.Rule.{Kept}
+use Rattle.dspec_table.specs.Since.{Since}
+use Rattle.dspec_table.specs.Holders.{number_of}
+use Rattle.dspec_table.specs.Acts.{misses, speaks, void_commit, void_discard, at_word}
+use Rattle.dspec_table.specs.Conditions.{IsInFlight, MayLoad}
+use Rattle.dspec_table.specs.Steps.{LoadedNumber}
+use Rattle.dspec_table.proofs.Keeps.{Owes, none_owed, loads, finds, idle_log, late_since, enters_owed, is_cpu, its_config}
+use Rattle.dspec_deeds.specs.declared.deed.SpeculateFate.TheVariants as spoken
+use Rattle.dspec_deeds.specs.declared.calls.CpuOp.TheVariants as op
+
+-- one more caller that changes no code changes no word
+granted_quiet : (h : List Deed) (c : ℕ) (id : Speculation) (r : Record) (f : SpeculateFate) → spoken_granted f ≡ true → standing (verdict id h) (joined (Some c) (callers id h)) ≡ standing (verdict id h) (callers id h)
+    → (j : Speculation) → code_at j (Speculate c id r f ∷ h) ≡ code_at j h
+granted_quiet h c id r f is same j = rw is (⊎_elim
+    (λ (t : same_id j id ≡ true). rw t (ap (λ x. if opened j h then x else Inactive) (subst (λ i. standing (verdict i h) (joined (Some c) (callers i h)) ≡ standing (verdict i h) (callers i h)) (sym (same_id_tells j id t)) same)))
+    (λ (n : same_id j id ≡ false). rw n refl)
+    (either_way (same_id j id)))
+
+-- what is known of a call in flight on an identifier
+pub record Flies (k : Config) (log : List Deed) (c slot : ℕ) (doing : Doing) (id : Speculation) : Type 0 where
+  pub at : id.slot ≡ slot
+  pub idle : scan k c log ≡ 0
+  pub early : late c log ≡ false
+  pub mine : issue id.slot log ≡ id.issue → doing.mine ≡ is_among c (callers id log)
+
+module _ (k : Config) (c : ℕ) (log : List Deed) (doing : Doing) (s : IsSound k log) (rests : owed log ≡ 0) (slot : ℕ) where
+  missed : (one : 1 ≤ slot) → scan k c log ≡ slot → (a : Act) → open_at (word_at slot log) k.max_issues ≡ a → Owes k (of_cpu c) log (misses c slot (word_at slot log) a)
+  missed one at Void e = record { adds = (tt, (rests, (at, one, inl (open_void k log slot e), busy_is k log slot s)), refl); rests = refl; quiet = record { active = refl; slots = λ s. refl; acks = λ a s. refl } }
+  missed one at Granted e = none_owed k (of_cpu c) log rests
+  missed one at (Attempt w) e = none_owed k (of_cpu c) log rests
+  missed one at Idle e = none_owed k (of_cpu c) log rests
+
+  granted : (id : Speculation) (r : Record) (b : Bool) → Flies k log c slot doing id → is_open id log ≡ true → standing (verdict id log) (joined (Some c) (callers id log)) ≡ standing (verdict id log) (callers id log)
+      → Owes k (of_cpu c) log (Speculate c id r (if b then spoken.Kept else spoken.Dropped) ∷ [])
+  granted id r true f now same = record { adds = (tt, (rests, (f.idle, (f.early, sym now))), refl); rests = refl; quiet = record { active = refl; slots = λ t. ap (λ x. word_number record { issue = issue t log; code = x }) (granted_quiet log c id r spoken.Kept refl same (present t log)); acks = λ a s. refl } }
+  granted id r false f now same = record { adds = (tt, (rests, (f.idle, (f.early, sym now))), refl); rests = refl; quiet = record { active = refl; slots = λ t. ap (λ x. word_number record { issue = issue t log; code = x }) (granted_quiet log c id r spoken.Dropped refl same (present t log)); acks = λ a s. refl } }
+
+  spoken_at : (id : Speculation) (r : Record) → Flies k log c slot doing id → (a : Act) → speculate_at (word_at id.slot log) id (is_among c (callers id log)) ≡ a → Owes k (of_cpu c) log (speaks c doing id r a)
+  spoken_at id r f Void e = record { adds = (tt, (rests, (f.idle, (f.early, sym (speculate_void k log id (is_among c (callers id log)) s e)))), refl); rests = refl; quiet = record { active = refl; slots = λ s. refl; acks = λ a s. refl } }
+  spoken_at id r f Granted e = let g = speculate_granted k log id c s e in granted id r doing.fits f g.0 g.1
+  spoken_at id r f (Attempt w) e = none_owed k (of_cpu c) log rests
+  spoken_at id r f Idle e = none_owed k (of_cpu c) log rests
+
+  commit_at_word : (id : Speculation) → Flies k log c slot doing id → (a : Act) → commit_at (word_at id.slot log) id (is_among c (callers id log)) ≡ a → Owes k (of_cpu c) log (void_commit c id a)
+  commit_at_word id f Void e = record { adds = (tt, (rests, (f.idle, refl, (f.early, sym (commit_void k log id (is_among c (callers id log)) s e)))), refl); rests = refl; quiet = record { active = refl; slots = λ s. refl; acks = λ a s. refl } }
+  commit_at_word id f Granted e = none_owed k (of_cpu c) log rests
+  commit_at_word id f (Attempt w) e = none_owed k (of_cpu c) log rests
+  commit_at_word id f Idle e = none_owed k (of_cpu c) log rests
+
+  discard_at_word : (id : Speculation) → Flies k log c slot doing id → (a : Act) → discard_at (word_at id.slot log) id (is_among c (callers id log)) ≡ a → Owes k (of_cpu c) log (void_discard c id a)
+  discard_at_word id f Void e = record { adds = (tt, (rests, (f.idle, refl, (f.early, sym (discard_void k log id (is_among c (callers id log)) s e)))), refl); rests = refl; quiet = record { active = refl; slots = λ s. refl; acks = λ a s. refl } }
+  discard_at_word id f Granted e = none_owed k (of_cpu c) log rests
+  discard_at_word id f (Attempt w) e = none_owed k (of_cpu c) log rests
+  discard_at_word id f Idle e = none_owed k (of_cpu c) log rests
+
+-- at a word of another issue it doesn't matter who the callers are
+like : {A : Type 0} (b : Bool) (f : Bool → A) (v : A) (m n : Bool) → (b ≡ true → m ≡ n) → (if b then f m else v) ≡ (if b then f n else v)
+like true f v m n e = ap f (e refl)
+like false f v m n e = refl
+
+module _ (k : Config) (log : List Deed) (c slot : ℕ) (doing : Doing) (id : Speculation) (f : Flies k log c slot doing id) where
+  pub speculate_like : speculate_at (word_at slot log) id doing.mine ≡ speculate_at (word_at id.slot log) id (is_among c (callers id log))
+  speculate_like = ap (λ t. speculate_at (word_at t log) id doing.mine) (sym f.at) ∙ like (issue id.slot log == id.issue) (λ m. speculate_act (issue id.slot log) m (word_at id.slot log).code) Void doing.mine (is_among c (callers id log)) (λ t. f.mine (same_number (issue id.slot log) id.issue t))
+
+  pub commit_like : commit_at (word_at slot log) id doing.mine ≡ commit_at (word_at id.slot log) id (is_among c (callers id log))
+  commit_like = ap (λ t. commit_at (word_at t log) id doing.mine) (sym f.at) ∙ like (issue id.slot log == id.issue) (λ m. commit_act (issue id.slot log) m (word_at id.slot log).code) Void doing.mine (is_among c (callers id log)) (λ t. f.mine (same_number (issue id.slot log) id.issue t))
+
+  pub discard_like : discard_at (word_at slot log) id doing.mine ≡ discard_at (word_at id.slot log) id (is_among c (callers id log))
+  discard_like = ap (λ t. discard_at (word_at t log) id doing.mine) (sym f.at) ∙ like (issue id.slot log == id.issue) (λ m. discard_act (issue id.slot log) m (word_at id.slot log).code) Void doing.mine (is_among c (callers id log)) (λ t. f.mine (same_number (issue id.slot log) id.issue t))
+
+-- what a call may load a word for, said of the log
+abbrev pub IsReady : Config → ℕ → List Deed → Doing → ℕ → CpuOp → Type 0
+IsReady k c log doing slot (op.Trace r) = Unit {0}
+IsReady k c log doing slot op.Speculation = scan k c log ≡ slot
+IsReady k c log doing slot (op.Speculate id r) = Flies k log c slot doing id
+IsReady k c log doing slot (op.Commit id) = Flies k log c slot doing id
+IsReady k c log doing slot (op.Discard id) = Flies k log c slot doing id
+IsReady k c log doing slot op.Service = Unit {0}
+
+pub owes : (k : Config) (c : ℕ) (log : List Deed) (doing : Doing) (slot : ℕ) → IsSound k log → owed log ≡ 0 → 1 ≤ slot → (o : CpuOp) → IsReady k c log doing slot o → Owes k (of_cpu c) log (at_word k c doing slot (word_at slot log) o)
+owes k c log doing slot s rests one (op.Trace r) f = none_owed k (of_cpu c) log rests
+owes k c log doing slot s rests one op.Speculation f = missed k c log doing s rests slot one f (open_at (word_at slot log) k.max_issues) refl
+owes k c log doing slot s rests one (op.Speculate id r) f =
+    subst (λ a. Owes k (of_cpu c) log (speaks c doing id r a)) (sym (speculate_like k log c slot doing id f))
+    (spoken_at k c log doing s rests slot id r f (speculate_at (word_at id.slot log) id (is_among c (callers id log))) refl)
+owes k c log doing slot s rests one (op.Commit id) f =
+    subst (λ a. Owes k (of_cpu c) log (void_commit c id a)) (sym (commit_like k log c slot doing id f))
+    (commit_at_word k c log doing s rests slot id f (commit_at (word_at id.slot log) id (is_among c (callers id log))) refl)
+owes k c log doing slot s rests one (op.Discard id) f =
+    subst (λ a. Owes k (of_cpu c) log (void_discard c id a)) (sym (discard_like k log c slot doing id f))
+    (discard_at_word k c log doing s rests slot id f (discard_at (word_at id.slot log) id (is_among c (callers id log))) refl)
+owes k c log doing slot s rests one op.Service f = none_owed k (of_cpu c) log rests
+
+-- what a seat knows of its call holds of the log
+pub flies : (k : Config) (st : State ℕ View) (kept : Kept k st) (by : ℕ) (v : View) (c slot : ℕ) (doing : Doing) (id : Speculation) → get_elem? st.views by ≡ some v → v.who ≡ of_cpu c → IsInFlight k v c doing id slot → Flies k kept.log c slot doing id
+flies k st kept by v c slot doing id at who f =
+    let mine = kept.knows by v at in
+    let own : part_of (of_cpu c) kept.log ≡ v.own = ap (λ x. part_of x kept.log) (sym who) ∙ mine.parts.0 in
+    record {
+      at = f.0;
+      idle = idle_log k st kept by v c at who f.1;
+      early = late_since c v.seen kept.log f.2 (subst (λ x. Since x v.seen kept.log) who mine.since);
+      mine = λ now.
+          let is : present id.slot kept.log ≡ id = λ i. record { issue = now i; slot = id.slot } in
+          let marks : mark c id.slot v.own ≡ mark c id.slot kept.log = ap (mark c id.slot) (sym own) ∙ mark_part c id.slot kept.log in
+          let bound = (mark_tells k c id.slot kept.log kept.sound).bound in
+          let recent : mark c id.slot v.own ≤ id.issue + 1 = subst (λ (m : ℕ). m ≤ id.issue + 1) (sym marks) (subst (λ (i : ℕ). mark c id.slot kept.log ≤ i + 1) now bound) in
+          f.3 recent ∙ (ap (λ l. is_among c (callers id l)) (sym own) ∙ has_part k c id kept.log);
+    }
+
+pub ready : (k : Config) (st : State ℕ View) (kept : Kept k st) (by : ℕ) (v : View) (c slot : ℕ) (doing : Doing) → get_elem? st.views by ≡ some v → v.who ≡ of_cpu c → (o : CpuOp) → MayLoad k v c doing slot o → IsReady k c kept.log doing slot o
+ready k st kept by v c slot doing at who (op.Trace r) m = tt
+ready k st kept by v c slot doing at who op.Speculation m = idle_log k st kept by v c at who m
+ready k st kept by v c slot doing at who (op.Speculate id r) m = flies k st kept by v c slot doing id at who m
+ready k st kept by v c slot doing at who (op.Commit id) m = flies k st kept by v c slot doing id at who m
+ready k st kept by v c slot doing at who (op.Discard id) m = flies k st kept by v c slot doing id at who m
+ready k st kept by v c slot doing at who op.Service m = tt
+
+pub loads_word : (k : Config) (slots id c slot : ℕ) (me : Me ℕ View) (doing : Doing) → 1 ≤ slot → slot ≤ k.nspec → me.0.who ≡ of_cpu c → me.0.also ≡ [] → MayLoad k me.0 c doing slot doing.op
+    → Allows (Kept k) slots id me slot (λ n. n) (λ n w. LoadedNumber doing slot me.0 n w.0 × (w.1 ≡ me.1))
+loads_word k slots id c slot me doing one most who alone may = loads k slots id c slot me (LoadedNumber doing slot me.0) who alone
+    (λ st kept at.
+    let v = me.0 in
+    let log = kept.log in
+    let mine = kept.knows id v at in
+    let shown = word_at slot log in
+    let owe : Owes k v.who log (at_word v.config (number_of v.who) doing slot shown doing.op) =
+    subst (λ (p : Config × Holder). Owes k p.1 log (at_word p.0 (number_of p.1) doing slot shown doing.op)) (λ i. (sym (its_config k log v (is_cpu v c who) mine) i, sym who i))
+    (owes k c log doing slot kept.sound kept.rests one doing.op (ready k st kept id v c slot doing at who doing.op may)) in (
+      at_word v.config (number_of v.who) doing slot shown doing.op,
+      owe,
+      (shown, kept.shows.slots slot one most, (log, finds k st kept id v at (is_cpu v c who), refl, enters_owed k st kept id v at (is_cpu v c who) _ owe)),
+    ))

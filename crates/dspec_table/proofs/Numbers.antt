@@ -1,0 +1,41 @@
+-- A number is of one word at most.
+use Rattle.std.proofs.Common.{◌≡◌, ℕ, ◌==◌, ◌<◌, if◌then◌else◌, refl, sym, ap, ◌∙◌, arith}
+use Rattle.dspec_word.specs.declared.code.Code.{Code}
+use Rattle.dspec_word.specs.declared.code.Code.TheVariants.{Inactive, Active, ActiveOne, ActiveMany, Committing, CommittingMany, Discarding}
+use Rattle.dspec_word.specs.Word.{SlotState, word_number}
+use Rattle.dspec_word.specs.Code.{code_number}
+
+pub code_below : (c : Code) → code_number c < 7
+code_below Inactive = omega arith
+code_below Active = omega arith
+code_below ActiveOne = omega arith
+code_below ActiveMany = omega arith
+code_below Committing = omega arith
+code_below CommittingMany = omega arith
+code_below Discarding = omega arith
+
+code_of : ℕ → Code
+code_of n =
+    if n == 0 then Inactive else (if n == 1 then Active else (if n == 2 then ActiveOne else (if n == 3 then ActiveMany else (if n == 4 then Committing else (if n == 5 then CommittingMany else Discarding)))))
+
+code_back : (c : Code) → code_of (code_number c) ≡ c
+unfolding code_of
+code_back Inactive = refl
+code_back Active = refl
+code_back ActiveOne = refl
+code_back ActiveMany = refl
+code_back Committing = refl
+code_back CommittingMany = refl
+code_back Discarding = refl
+
+pub one_code : (a b : Code) → code_number a ≡ code_number b → a ≡ b
+one_code a b e = sym (code_back a) ∙ (ap code_of e ∙ code_back b)
+
+pub one_word : (v w : SlotState) → word_number v ≡ word_number w → v ≡ w
+one_word v w e =
+    let a = code_below v.code in
+    let b = code_below w.code in
+    let p : v.issue ≡ w.issue = omega arith in
+    let q : code_number v.code ≡ code_number w.code = omega arith in
+    let r = one_code v.code w.code q in
+    λ i. record { issue = p i; code = r i }

@@ -1,0 +1,93 @@
+-- The exchange that gives out a speculation.
+use Rattle.std.proofs.Common.{◌≡◌, ◌≢◌, ◌⊎◌, ℕ, ◌≤◌, true, false, ◌||◌, ◌==◌, List, [], ◌∷◌, refl, sym, ap, ◌∙◌, subst, ⊎_elim, inl, inr, true≢false}
+use prog.Atomic.{either}
+use Rattle.atomic_table.specs.Table.{Allows, Me}
+use Rattle.dspec_word.specs.Word.{SlotState, word_number}
+use Rattle.dspec_word.specs.declared.act.Act.TheVariants.{Attempt}
+use Rattle.dspec_word.specs.declared.code.Code.TheVariants.{Active}
+use Rattle.dspec_word.specs.Tables.{open_at}
+use Rattle.dspec_word.specs.Code.{is_inactive, is_decided}
+use Rattle.dspec_table.proofs.Numbers.{one_word}
+use Rattle.dspec_deeds.specs.declared.config.Config.{Config}
+use Rattle.dspec_deeds.specs.declared.deed.Deed.{Deed}
+use Rattle.dspec_deeds.specs.declared.deed.Deed.TheVariants.{Opened, Miss}
+use Rattle.dspec_table.specs.Holders.{Holder, of_cpu}
+use Rattle.dspec_deeds.specs.History.{same_id, issue, scan, owed, present, opened, opened_since, code_at, word_at}
+use Rattle.dspec_deeds.specs.Legal.{IsSound}
+use Rattle.dspec_deeds.proofs.TestLemmas.{id_is_itself, other_slot, not_false}
+use Rattle.dspec_deeds.proofs.SoundLists.{unseen}
+use Rattle.dspec_deeds.proofs.WordCodes.{open_attempt, open_inactive, busy_is}
+use Rattle.dspec_deeds.proofs.StayingFree.{free_or_taken}
+use Rattle.dspec_table.specs.declared.rule.View.{View}
+use Rattle.dspec_table.specs.Rule.{Kept}
+use Rattle.dspec_table.specs.Since.{Since, here, more}
+use Rattle.dspec_table.specs.Holders.{number_of}
+use Rattle.dspec_table.specs.Acts.{at_open}
+use Rattle.dspec_table.specs.Conditions.{MayOpen}
+use Rattle.dspec_table.specs.Steps.{OpenedNumber}
+use Rattle.dspec_table.proofs.Keeps.{Owes, finds, idle_log, is_cpu}
+use Rattle.dspec_table.proofs.Changes.{Changes, exchanges}
+
+-- the word that was seen free stands, or the slot was given out since
+taken_since : (k : Config) (c s : ℕ) (seen log : List Deed) → IsSound k log → is_inactive (word_at s seen).code ≡ true → Since (of_cpu c) seen log → (word_at s log ≡ word_at s seen) ⊎ (opened_since c s log ≡ true)
+taken_since k c s seen _ sound inactive here = inl refl
+taken_since k c s seen (d ∷ h) sound inactive (more rest other) = free_or_taken k c s (word_at s seen) d h sound other inactive (taken_since k c s seen h sound.0 inactive rest)
+
+-- the word of a slot that was given out just now
+active_now : (k : Config) (h : List Deed) (c s : ℕ) → IsSound k h → opened (present s h) h ≡ false → code_at (present s h) (Opened c (present s h) ∷ h) ≡ Active
+active_now k h c s sound un =
+    let none = unseen k h (present s h) sound un in
+    let yes_opened : (same_id (present s h) (present s h) || opened (present s h) h) ≡ true = rw (id_is_itself (present s h)) refl in
+    rw (yes_opened, none.0, none.1) refl
+
+given_out : (k : Config) (c s : ℕ) (log : List Deed) (new : SlotState) → IsSound k log → owed log ≡ 0 → 1 ≤ s → scan k c log ≡ s → open_at (word_at s log) k.max_issues ≡ Attempt new
+    → Changes k (of_cpu c) s (word_number new) log (Opened c (present s log) ∷ [])
+given_out k c s log new sound rests one at e =
+    let r = open_attempt k log s new e in
+    let un : opened (present s log) log ≡ false = not_false (opened (present s log) log) (Rattle.std.specs.Prelude.nat_lt (issue s log) k.max_issues) r.0 in
+    record {
+      adds = (tt, (rests, (at, one, r.0, refl)), refl);
+      rests = refl;
+      now = ap word_number (r.1 ∙ ap (λ x. record { issue = issue s log; code = x }) (sym (active_now k log c s sound un)));
+      change = record {
+        active = refl;
+        others = λ t apart. let no_id = other_slot (present t log) (present s log) apart in rw no_id refl;
+        acks = λ a t. refl;
+      };
+    }
+
+missed : (k : Config) (c s : ℕ) (log seen : List Deed) → IsSound k log → owed log ≡ 0 → 1 ≤ s → scan k c log ≡ s → is_inactive (word_at s seen).code ≡ true → Since (of_cpu c) seen log → word_at s log ≢ word_at s seen
+    → Owes k (of_cpu c) log (Miss c s (is_decided (word_at s log).code) ∷ [])
+missed k c s log seen sound rests one at inactive since apart = record {
+  adds = (tt, (rests, (at, one, ⊎_elim (λ same. absurd (apart same)) (λ taken. inr taken) (taken_since k c s seen log sound inactive since), busy_is k log s sound)), refl);
+  rests = refl;
+  quiet = record { active = refl; slots = λ s. refl; acks = λ a s. refl };
+}
+
+pub opens_word : (k : Config) (slots id c slot : ℕ) (me : Me ℕ View) (from to : SlotState) → 1 ≤ slot → slot ≤ k.nspec → me.0.who ≡ of_cpu c → me.0.also ≡ [] → MayOpen k me.0 c slot from to
+    → Allows (Kept k) slots id me slot (λ n. either (n == word_number from) (word_number to) n) (λ n w. OpenedNumber slot me.0 (word_number to) n (n == word_number from) w.0 × (w.1 ≡ me.1))
+opens_word k slots id c slot me from to one most who alone may = exchanges k slots id slot (word_number from) (word_number to) me (OpenedNumber slot me.0 (word_number to)) (is_cpu me.0 c who) alone one most
+    (λ st kept at found.
+    let v = me.0 in
+    let log = kept.log in
+    let shown = word_at slot log in
+    let same : shown ≡ from = one_word shown from (sym (kept.shows.slots slot one most) ∙ found) in
+    let does : Changes k v.who slot (word_number to) log (at_open (number_of v.who) slot shown true) =
+    subst (λ (w : Holder). Changes k w slot (word_number to) log (at_open (number_of w) slot shown true)) (sym who)
+    (given_out k c slot log to kept.sound kept.rests one (idle_log k st kept id v c at who may.0) (ap (λ w. open_at w k.max_issues) same ∙ may.2)) in (
+      at_open (number_of v.who) slot shown true,
+      does,
+      (λ left. (shown, kept.shows.slots slot one most, (log, finds k st kept id v at (is_cpu v c who), refl, left), λ hit. does.now)),
+    ))
+    (λ st kept at other.
+    let v = me.0 in
+    let log = kept.log in
+    let shown = word_at slot log in
+    let mine = kept.knows id v at in
+    let apart : shown ≢ word_at slot v.seen = (λ e. other (kept.shows.slots slot one most ∙ ap word_number (e ∙ sym may.1))) in (
+      at_open (number_of v.who) slot shown false,
+      subst (λ (w : Holder). Owes k w log (at_open (number_of w) slot shown false)) (sym who)
+          (missed k c slot log v.seen kept.sound kept.rests one (idle_log k st kept id v c at who may.0) (ap (λ (w : SlotState). is_inactive w.code) (sym may.1) ∙ open_inactive from to k.max_issues may.2)
+          (subst (λ x. Since x v.seen log) who mine.since) apart),
+      (λ left. (shown, kept.shows.slots slot one most, (log, finds k st kept id v at (is_cpu v c who), refl, left), λ hit. absurd (true≢false (sym hit)))),
+    ))

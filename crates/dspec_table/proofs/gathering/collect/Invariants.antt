@@ -1,0 +1,16 @@
+use Rattle.std.proofs.Common.{◌≡◌, ◌⊎◌, ℕ, Some}
+use Rattle.std.specs.Prelude.{slice_get}
+use Rattle.dspec_table.specs.declared.seats.CpuSeat.{CpuSeat}
+use Rattle.dspec_table.specs.Seats.{known}
+use Rattle.dspec_table.specs.Last.{AllAt, In}
+use Rattle.dspec_table.proofs.gathering.collect.Given as goal
+
+abbrev pub invariant-loop-next : goal.invariant-loop-next
+invariant-loop-next l = record {
+  place : (l.place.table_id ≡ l.board.shared.table_id) × (l.place.me.0.who ≡ l.fn.place.me.0.who) × (l.place.me.0.own ≡ l.fn.place.me.0.own);
+  seats : AllAt l.board.shared.table_id l.seats.items;
+  joined : (c : ℕ) (s : CpuSeat) → slice_get l.fn.seats.items c ≡ Some s → (slice_get l.seats.items c ≡ Some s) ⊎ In ((known s).who, (known s).own) l.place.me.0.also;
+}
+
+abbrev pub decreases-loop-next : goal.decreases-loop-next
+decreases-loop-next l = goal.left-loop-next l

@@ -1,0 +1,14 @@
+use Rattle.std.proofs.Common.{◌≡◌, true, subst, sym, refl}
+use Rattle.dspec_table.specs.Holders.{Holder, same_holder}
+use Rattle.dspec_table.proofs.Looking.{looks_ack}
+use Rattle.dspec_table.proofs.Places.{ack_within}
+use Rattle.dspec_table.proofs.seats.ConsumerSeat.load_ack.Goals as goal
+
+pub load-requires : goal.load-requires
+load-requires c =
+    let words = c.args.words.now in
+    let seat = c.args.self.now in (
+      c.requires.seat.0,
+      rw (c.ack_place-place.ensures, words.words_is) (ack_within words.config c.args.cpu c.args.slot c.requires.cpu c.requires.slot.1),
+      looks_ack words.board.shared.key words.board.shared.table_id.slots seat.seat.id seat.seat.me (subst (λ (x : Holder). same_holder x x ≡ true) (sym seat.who_is) refl) seat.joins_none c.ack_place-place.result,
+    )

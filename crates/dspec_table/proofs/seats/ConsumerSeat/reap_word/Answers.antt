@@ -1,0 +1,33 @@
+use Rattle.std.proofs.Common.{◌≤◌, ◌^◌, ap, sym, subst, ◌∙◌, arith}
+use Rattle.dspec_word.specs.Word.{word_number, released}
+use Rattle.dspec_deeds.specs.declared.config.Config.{Config}
+use Rattle.dspec_table.specs.Seats.{known_there}
+use Rattle.dspec_table.proofs.Limits.{finds_word}
+use Rattle.dspec_table.proofs.Reaping.{reaps, awaited_below}
+use Rattle.dspec_table.proofs.Answered.{reaped_hit}
+use Rattle.dspec_table.proofs.seats.ConsumerSeat.reap_word.Goals as goal
+
+pub compare_exchange-found-requires : goal.compare_exchange-found-requires
+compare_exchange-found-requires c =
+    let words = c.args.words.now in
+    let seat = c.args.self.now in
+    let to = c.raw-new.ensures ∙ ap word_number (c.of.ensures ∙ ap released c.issue.ensures.value) in (
+      c.requires.seat.0,
+      (let count = words.words_is in let most = c.requires.call.high in omega arith),
+      rw (c.raw-old.ensures, to) (reaps words.board.shared.key words.board.shared.table_id.slots seat.seat.id c.args.slot seat.seat.me c.args.from seat.who_is seat.joins_none (rw words.key_is c.requires.call)),
+    )
+
+pub read_word-requires : goal.read_word-requires
+read_word-requires c =
+    let step = c.compare_exchange-found.ensures.2.0 in
+    let few = subst (λ (k : Config). k.max_issues ≤ 2 ^ 57) (sym c.requires.seat.1) c.args.words.now.issues in
+    finds_word (known_there c.args.self.now) step.2.0 c.args.slot c.compare_exchange-found.result step.0 few step.2.1 step.1 step.2.2
+
+pub of-requires : goal.of-requires
+of-requires c =
+    let less = awaited_below c.args.from c.requires.limit c.requires.call.waits in
+    let same = c.issue.ensures.value in
+    omega arith
+
+pub returns-then-found-old-clause-step : goal.returns-then-found-old-clause-step
+returns-then-found-old-clause-step c = reaped_hit c.args.slot (known_there c.args.self.now) c.compare_exchange-found.new.seat.me.0 c.compare_exchange-found.result c.raw-old.result c.args.from c.if-found-old.true c.raw-old.ensures c.compare_exchange-found.ensures.2.0

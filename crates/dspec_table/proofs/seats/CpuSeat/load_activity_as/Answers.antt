@@ -1,0 +1,12 @@
+use Rattle.std.proofs.Common.{arith}
+use Rattle.dspec_table.proofs.Activity.{loads_activity}
+use Rattle.dspec_table.proofs.seats.CpuSeat.load_activity_as.Goals as goal
+
+pub load-requires : goal.load-requires
+load-requires g c =
+    let words = c.args.words.now in
+    let seat = c.args.self.now in (
+      c.requires.seat.0,
+      rw (c.activity_place.ensures) (let count = words.words_is in omega arith),
+      rw (c.activity_place.ensures, words.key_is) (loads_activity words.config words.board.shared.table_id.slots seat.seat.id seat.cpu seat.seat.me g.J.Asked.doing words.some_slot seat.who_is seat.joins_none c.requires.idle),
+    )

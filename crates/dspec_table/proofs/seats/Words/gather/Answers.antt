@@ -1,0 +1,17 @@
+use Rattle.std.proofs.Common.{◌∙◌}
+use Rattle.dspec_table.proofs.AtEnd.{ends, ends_in_words}
+use Rattle.dspec_table.proofs.seats.Words.gather.Goals as goal
+
+pub invariant_of-result : goal.invariant_of-result
+invariant_of-result c = record {
+  full = c.close_with-closed.ensures.values.0;
+  words_is = c.close_with-closed.ensures.counts.0 ∙ c.args.self.words_is;
+  no_slots = c.close_with-closed.ensures.counts.1 ∙ c.args.self.no_slots;
+  places = (c.args.self.few_cpus, c.args.self.few_slots);
+  shown = ends_in_words c.args.self.board.shared.key c.args.self.config _ c.collect.new.place.me.0 _ _ c.args.self.key_is c.args.self.issues c.close_with-closed.ensures.values.2;
+}
+
+pub returns-clause-ended : goal.returns-clause-ended
+returns-clause-ended c =
+    ends c.args.self.board.shared.key c.args.self.config c.args.self.board.shared.table_id _ c.collect.new.place.me.0 c.args.consumer.seat.me.0 c.args.seats.items _ _ c.args.self.key_is
+    c.collect.ensures.place.1 c.collect.ensures.place.2 c.args.consumer.who_is (λ x s e. (c.requires.seats.each x s e).1) c.collect.ensures.joined c.close_with-closed.ensures.values.2

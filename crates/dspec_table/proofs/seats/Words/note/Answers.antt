@@ -1,0 +1,9 @@
+use Rattle.std.proofs.Common.{arith}
+use Rattle.dspec_table.proofs.Joining.{tells}
+use Rattle.dspec_table.proofs.seats.Words.note.Goals as goal
+
+pub split_seat-requires : goal.split_seat-requires
+split_seat-requires c =
+    let words = c.args.self.now in
+    let place = c.args.place.now in
+    (c.requires.place, (let count = words.words_is in omega arith), tells words.board.shared.key place.id place.me.0)

@@ -1,0 +1,51 @@
+-- What is known once all seats are back.
+use Rattle.std.specs.Prelude.{ℕ, ◌≡◌, ◌⊎◌, List, [], ◌∷◌, length, slice_get, Some}
+use Rattle.std.specs.Mem.Slots.{slots_items}
+use Rattle.atomic_table.specs.Seated.{TableId}
+use Rattle.dspec_deeds.specs.declared.config.Config.{Config}
+use Rattle.dspec_deeds.specs.declared.calls.Actor.TheVariants.{Cpu, Consumer}
+use Rattle.dspec_deeds.specs.declared.deed.Deed.{Deed}
+use Rattle.dspec_deeds.specs.History.{owed, part}
+use Rattle.dspec_deeds.specs.Legal.{IsSound, HasAuthors}
+use Rattle.dspec_table.specs.declared.rule.View.{View}
+use Rattle.dspec_table.specs.declared.seats.CpuSeat.{CpuSeat}
+use Rattle.dspec_table.specs.declared.seats.Words.{Words}
+use Rattle.dspec_table.specs.declared.last.LastWords.{LastWords}
+use Rattle.dspec_table.specs.Holders.{Holder}
+use Rattle.dspec_table.specs.Showing.{Shows}
+use Rattle.dspec_table.specs.Seats.{known, IsAt}
+
+-- the numbers that the words had last
+abbrev pub last_words : LastWords → List ℕ
+last_words last = slots_items last.closed.words
+
+-- what they were started with
+abbrev pub last_set_up : LastWords → Config
+last_set_up last = last.config
+
+abbrev pub In : Holder × List Deed → List (Holder × List Deed) → Type 0
+In p [] = ⊥
+In p (q ∷ qs) = (p ≡ q) ⊎ In p qs
+
+abbrev pub AllAt : TableId → List CpuSeat → Type 0
+AllAt z seats = (c : ℕ) (s : CpuSeat) → slice_get seats c ≡ Some s → s.seat.table_id ≡ z
+
+-- the view has the deeds of each of these seats
+abbrev pub Joined : List CpuSeat → View → Type 0
+Joined seats v = (c : ℕ) (s : CpuSeat) → slice_get seats c ≡ Some s → In ((known s).who, (known s).own) v.also
+
+-- the seats of all CPUs, in order
+pub record AreSeats (words : Words) (seats : List CpuSeat) : Type 0 where
+  pub all : length seats ≡ words.config.cpus
+  pub each : (c : ℕ) (s : CpuSeat) → slice_get seats c ≡ Some s → IsAt words s × (s.cpu ≡ c)
+
+-- There is one list, legal in its common part, which the last words show. Each CPU's part of it is its seat's list, the
+-- consumer's part is its seat's, and every deed of it is some seat's own.
+pub record Ended (k : Config) (words : List ℕ) (seats : List CpuSeat) (consumer : View) : Type 0 where
+  pub log : List Deed
+  pub sound : IsSound k log
+  pub rests : owed log ≡ 0
+  pub shows : Shows k words log
+  pub authors : HasAuthors k log
+  pub of_each : (c : ℕ) (s : CpuSeat) → slice_get seats c ≡ Some s → part (Cpu c) log ≡ (known s).own
+  pub of_consumer : part Consumer log ≡ consumer.own

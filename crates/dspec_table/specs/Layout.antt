@@ -1,0 +1,28 @@
+-- Where the words of a session lie. A line of the cache is 64 bytes, eight words.
+use Rattle.std.specs.Prelude.{ℕ, ◌≤◌, ◌+◌, ◌*◌}
+use Rattle.dspec_deeds.specs.declared.config.Config.{Config}
+
+-- the slots' words lie together from place 1 on, each at its slot's number; behind each group seven places are left free,
+-- so that no line that has a word of one group has one of another
+abbrev pub activity_place : Config → ℕ
+activity_place k = k.nspec + 8
+
+-- a CPU's group: its ask, and its acknowledgements of the slots
+abbrev pub group_width : Config → ℕ
+group_width k = k.nspec + 8
+
+abbrev pub group_place : Config → ℕ → ℕ
+group_place k c = k.nspec + 16 + c * group_width k
+
+abbrev pub ask_place : Config → ℕ → ℕ
+ask_place k c = group_place k c
+
+abbrev pub ack_place : Config → ℕ → ℕ → ℕ
+ack_place k c s = group_place k c + s
+
+abbrev pub word_count : Config → ℕ
+word_count k = group_place k k.cpus
+
+-- so few CPUs and slots that every place has a number
+abbrev pub HasPlaces : Config → Type 0
+HasPlaces k = (k.cpus ≤ 64) × (k.nspec ≤ 63)

@@ -1,0 +1,13 @@
+pub mod Layout
+pub mod Holders
+pub mod Since
+pub mod Showing
+pub mod Rule
+pub mod Notes
+pub mod Acts
+pub mod Steps
+pub mod Conditions
+pub mod Asks
+pub mod Meeting
+pub mod Seats
+pub mod Last

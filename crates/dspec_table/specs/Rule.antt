@@ -1,0 +1,62 @@
+-- The rule of the words: one list of deeds, which the words show, and of which each seat knows its own part.
+use Rattle.std.specs.Prelude.{ℕ, zero, suc, ◌≡◌, ◌⊎◌, ◌<◌, ◌≤◌, ◌+◌, List, [], ◌∷◌, slice_index, if◌then◌else◌}
+use mathlib.Core.Option.{some}
+use lib.ListN.{get_elem?}
+use Rattle.atomic_table.specs.Table.{State}
+use Rattle.dspec_deeds.specs.declared.config.Config.{Config}
+use Rattle.dspec_deeds.specs.declared.deed.Deed.{Deed}
+use Rattle.dspec_table.specs.Holders.{Holder, of_cpu, of_consumer, of_nobody, part_of, same_holder}
+use Rattle.dspec_table.specs.Layout.{ask_place}
+use Rattle.dspec_table.specs.Since.{Since}
+use Rattle.dspec_table.specs.Showing.{Shows}
+use Rattle.dspec_deeds.specs.History.{owed}
+use Rattle.dspec_deeds.specs.Legal.{IsSound}
+use Rattle.dspec_table.specs.declared.rule.View.{View}
+
+-- whose deeds a seat has, and which
+abbrev pub holdings : View → List (Holder × List Deed)
+holdings v = (v.who, v.own) ∷ v.also
+
+-- how often w stands among them
+abbrev pub times : Holder → List (Holder × List Deed) → ℕ
+times w [] = 0
+times w (p ∷ ps) = (if same_holder w p.0 then 1 else 0) + times w ps
+
+abbrev pub total : Holder → List View → ℕ
+total w [] = 0
+total w (v ∷ vs) = times w (holdings v) + total w vs
+
+abbrev pub Parts : List Deed → List (Holder × List Deed) → Type 0
+Parts log [] = Unit {0}
+Parts log (p ∷ ps) = (part_of p.0 log ≡ p.1) × Parts log ps
+
+-- a note, or a seat that was joined into another, is nobody's
+pub record Knows (k : Config) (log : List Deed) (v : View) : Type 0 where
+  pub config : (v.who ≡ of_nobody) ⊎ (v.config ≡ k)
+  pub parts : Parts log (holdings v)
+  pub since : Since v.who v.seen log
+  pub told : Since of_nobody v.told log
+  pub calm : owed v.seen ≡ 0
+
+-- what a seat knows of the asks: no more than what stands, and the consumer knows each
+pub record KnowsAsks (k : Config) (words : List ℕ) (v : View) : Type 0 where
+  pub least : (c : ℕ) → c < k.cpus → slice_index v.asks c ≤ slice_index words (ask_place k c)
+  pub exact : v.who ≡ of_consumer → (c : ℕ) → c < k.cpus → slice_index v.asks c ≡ slice_index words (ask_place k c)
+
+pub record Kept (k : Config) (st : State ℕ View) : Type 0 where
+  pub log : List Deed
+  pub sound : IsSound k log
+  pub rests : owed log ≡ 0
+  pub shows : Shows k st.words log
+  pub knows : (by : ℕ) (v : View) → get_elem? st.views by ≡ some v → Knows k log v
+  pub once : (w : Holder) → total w st.views ≤ 1
+  pub none : (c : ℕ) → k.cpus ≤ c → (total (of_cpu c) st.views ≡ 0) × (part_of (of_cpu c) log ≡ [])
+  pub asks : (by : ℕ) (v : View) → get_elem? st.views by ≡ some v → KnowsAsks k st.words v
+
+-- n CPUs from a on, with no deed
+abbrev pub cpus_from : ℕ → ℕ → List (Holder × List Deed)
+cpus_from a zero = []
+cpus_from a (suc n) = (of_cpu a, []) ∷ cpus_from (suc a) n
+
+abbrev pub newcomer : Config → View
+newcomer k = record { config = k; who = of_consumer; own = []; also = cpus_from 0 k.cpus; seen = []; told = []; steps = 0; asks = [] }

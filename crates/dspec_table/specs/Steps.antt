@@ -1,0 +1,122 @@
+-- What a step does to its seat's view: by what it showed, and the deeds that it entered.
+use Rattle.std.specs.Prelude.{ℕ, ◌≡◌, ◌<◌, ◌≤◌, ◌+◌, Bool, true, List, [], ◌∷◌, ◌++◌, if◌then◌else◌}
+use Rattle.dspec_word.specs.SpecId.{Speculation}
+use Rattle.dspec_word.specs.Word.{SlotState, word_number}
+use Rattle.dspec_word.specs.declared.code.Code.{Code}
+use Rattle.dspec_deeds.specs.declared.deed.Deed.{Deed}
+use Rattle.dspec_deeds.specs.declared.deed.Deed.TheVariants.{Settle, Release}
+use Rattle.dspec_deeds.specs.History.{owed, halted, word_at, ack}
+use Rattle.dspec_deeds.specs.Legal.{IsSound}
+use Rattle.dspec_table.specs.declared.rule.View.{View}
+use Rattle.dspec_table.specs.declared.doing.Doing.{Doing}
+use Rattle.dspec_table.specs.Holders.{part_of, of_nobody, number_of}
+use Rattle.dspec_table.specs.Since.{Since}
+use Rattle.dspec_table.specs.Layout.{ack_place}
+use Rattle.dspec_table.specs.Acts.{at_activity, at_word, at_open, at_exchange, settle_fate, at_stop}
+
+-- the view after deeds of its own behind the list that the step found, where it then knows these asks
+abbrev pub asking : View → List Deed → List Deed → List ℕ → View
+asking v log ds asks = record { config = v.config; who = v.who; own = ds ++ v.own; also = v.also; seen = ds ++ log; told = []; steps = v.steps + 1; asks = asks }
+
+-- the same with the asks that it knew
+abbrev pub acted : View → List Deed → List Deed → View
+acted v log ds = asking v log ds v.asks
+
+-- the list that the step found: it is legal, it goes on from what the seat had seen and from what a note had told it, by
+-- deeds of others, and the seat's part of it is the seat's list
+pub record Found (v : View) (log : List Deed) : Type 0 where
+  pub since : Since v.who v.seen log
+  pub told : Since of_nobody v.told log
+  pub sound : IsSound v.config log
+  pub rests : owed log ≡ 0
+  pub own : part_of v.who log ≡ v.own
+  pub calm : owed v.seen ≡ 0
+
+-- the list that the step left is legal and owes nothing, and the view is the one behind its deeds
+pub record Entered (v : View) (log ds : List Deed) (w : View) : Type 0 where
+  pub sound : IsSound v.config (ds ++ log)
+  pub rests : owed (ds ++ log) ≡ 0
+  pub view : w ≡ acted v log ds
+
+-- the steps of a CPU
+
+abbrev pub LoadedActivity : Doing → View → Bool → View → Type 0
+LoadedActivity doing v stopped w =
+    (log : List Deed) × Found v log × (stopped ≡ halted log)
+    × Entered v log (at_activity v.config (number_of v.who) doing doing.op stopped) w
+
+abbrev pub LoadedWord : Doing → ℕ → View → SlotState → View → Type 0
+LoadedWord doing slot v shown w =
+    (log : List Deed) × Found v log × (shown ≡ word_at slot log)
+    × Entered v log (at_word v.config (number_of v.who) doing slot shown doing.op) w
+
+-- the same, of the number that was found
+abbrev pub LoadedNumber : Doing → ℕ → View → ℕ → View → Type 0
+LoadedNumber doing slot v n w = (shown : SlotState) × (n ≡ word_number shown) × LoadedWord doing slot v shown w
+
+-- an exchange that hit or missed: shown is the word that it found
+abbrev pub OpenedWord : ℕ → View → SlotState → Bool → View → Type 0
+OpenedWord slot v shown hit w =
+    (log : List Deed) × Found v log × (shown ≡ word_at slot log)
+    × Entered v log (at_open (number_of v.who) slot shown hit) w
+
+-- the same, of the number that was found; where the exchange for new hit, the list shows new now
+abbrev pub OpenedNumber : ℕ → View → ℕ → ℕ → Bool → View → Type 0
+OpenedNumber slot v new n hit w =
+    (shown : SlotState) × (n ≡ word_number shown) × OpenedWord slot v shown hit w × (hit ≡ true → new ≡ word_number (word_at slot w.seen))
+
+abbrev pub TriedWord : Doing → ℕ → View → SlotState → Bool → View → Type 0
+TriedWord doing slot v shown hit w =
+    (log : List Deed) × Found v log × (shown ≡ word_at slot log)
+    × Entered v log (at_exchange v.config (number_of v.who) doing slot shown hit) w
+
+abbrev pub TriedNumber : Doing → ℕ → View → ℕ → ℕ → Bool → View → Type 0
+TriedNumber doing slot v new n hit w =
+    (shown : SlotState) × (n ≡ word_number shown) × TriedWord doing slot v shown hit w × (hit ≡ true → new ≡ word_number (word_at slot w.seen))
+
+abbrev pub ReleasedWord : ℕ → View → View → Type 0
+ReleasedWord slot v w = (log : List Deed) × Found v log × Entered v log (Release slot ∷ []) w
+
+abbrev pub SettledWord : Doing → Speculation → Code → View → View → Type 0
+SettledWord doing id code v w =
+    (log : List Deed) × Found v log × Entered v log (Settle (number_of v.who) id (settle_fate doing code) ∷ []) w
+
+-- the same, of whichever speculation the word and the number stored are of
+abbrev pub StoredAck : Doing → ℕ → View → ℕ → View → Type 0
+StoredAck doing place v n w =
+    (log : List Deed) × (d : Deed) × Found v log
+    × ((id : Speculation) → place ≡ ack_place v.config (number_of v.who) id.slot → n ≡ id.issue + 1
+    → d ≡ Settle (number_of v.who) id (settle_fate doing (word_at id.slot v.seen).code))
+    × Entered v log (d ∷ []) w
+
+-- the steps of the consumer
+
+abbrev pub StoredActivity : View → View → Type 0
+StoredActivity v w = (log : List Deed) × Found v log × Entered v log (at_stop (halted log)) w
+
+-- a load that enters nothing
+abbrev pub Looked : View → View → Type 0
+Looked v w = (log : List Deed) × Found v log × (w ≡ acted v log [])
+
+abbrev pub LookedWord : ℕ → View → SlotState → View → Type 0
+LookedWord slot v shown w = (log : List Deed) × Found v log × (shown ≡ word_at slot log) × (w ≡ acted v log [])
+
+abbrev pub LookedNumber : ℕ → View → ℕ → View → Type 0
+LookedNumber slot v n w = (shown : SlotState) × (n ≡ word_number shown) × LookedWord slot v shown w
+
+abbrev pub LoadedAck : ℕ → ℕ → View → ℕ → View → Type 0
+LoadedAck c s v n w = (log : List Deed) × Found v log × (n ≡ ack c s log) × (w ≡ acted v log [])
+
+-- the same, of whichever CPU and slot the word is of
+abbrev pub LoadedAckAt : ℕ → View → ℕ → View → Type 0
+LoadedAckAt place v n w =
+    (log : List Deed) × Found v log
+    × ((c s : ℕ) → c < v.config.cpus → 1 ≤ s → s ≤ v.config.nspec → place ≡ ack_place v.config c s → n ≡ ack c s log)
+    × (w ≡ acted v log [])
+
+abbrev pub ReapedWord : ℕ → View → SlotState → Bool → View → Type 0
+ReapedWord slot v shown hit w =
+    (log : List Deed) × Found v log × (shown ≡ word_at slot log) × Entered v log (if hit then Release slot ∷ [] else []) w
+
+abbrev pub ReapedNumber : ℕ → View → ℕ → Bool → View → Type 0
+ReapedNumber slot v n hit w = (shown : SlotState) × (n ≡ word_number shown) × ReapedWord slot v shown hit w

@@ -1,0 +1,65 @@
+ghost use Rattle.std.specs.Prelude.{◌≡◌, ◌≢◌, ◌<◌, ◌≤◌, true, false, MatchResult, IfErr};
+ghost use Rattle.dspec_deeds.specs.History.{word_at};
+ghost use Rattle.dspec_table.specs.Conditions.{MayReap};
+ghost use Rattle.dspec_table.specs.Steps.{LoadedAck, LookedWord, ReapedWord};
+ghost use Rattle.dspec_table.specs.Seats.{known_there, IsConsumerAt, set_up};
+ghost use Rattle.dspec_word.specs.Word.{CanBeReleased};
+
+use crate::layout::ack_place;
+use crate::plays::{LoadsAck, LooksAtWord, Reaps};
+use crate::reading::read_word;
+use crate::seats::{ConsumerSeat, Words};
+use dspec_word::{Code, Word};
+
+impl ConsumerSeat {
+    /// Loads a slot's word.
+    pub fn load_word(&mut self, words: &Words, slot: u32) -> Word
+        requires seat { IsConsumerAt words.now self.old }
+        requires slot { (1 ≤ slot) × (slot ≤ (set_up words.now).nspec) }
+        ensures seat { IsConsumerAt words.now self.new }
+        ensures step { LookedWord slot (known_there self.old) result (known_there self.new) }
+        ensures limit { CanBeReleased result }
+    {
+        let found = words
+            .board
+            .shared
+            .load::<LooksAtWord>(&mut self.seat, slot as usize);
+        read_word(found)
+    }
+
+    /// Loads a CPU's acknowledgement of a slot: one more than the issue that it settled last, or 0.
+    pub fn load_ack(&mut self, words: &Words, cpu: u32, slot: u32) -> u64
+        requires seat { IsConsumerAt words.now self.old }
+        requires cpu { cpu < (set_up words.now).cpus }
+        requires slot { (1 ≤ slot) × (slot ≤ (set_up words.now).nspec) }
+        ensures seat { IsConsumerAt words.now self.new }
+        ensures step { LoadedAck cpu slot (known_there self.old) result (known_there self.new) }
+    {
+        let place = ack_place(&words.config, cpu, slot);
+        words.board.shared.load::<LoadsAck>(&mut self.seat, place)
+    }
+
+    /// Releases a slot whose speculation every CPU was shown to have acknowledged, by an exchange.
+    pub fn reap_word(&mut self, words: &Words, slot: u32, from: Word) -> Result<(), Word>
+        requires seat { IsConsumerAt words.now self.old }
+        requires last { from ≡ word_at slot (known_there self.old).seen }
+        requires limit { CanBeReleased from }
+        requires call { MayReap (set_up words.now) (known_there self.old) slot from }
+        ensures seat { IsConsumerAt words.now self.new }
+        ensures step { MatchResult result
+            (λ _. ReapedWord slot (known_there self.old) from true (known_there self.new))
+            (λ shown. ReapedWord slot (known_there self.old) shown false (known_there self.new)) }
+        ensures limit { IfErr result (λ shown. CanBeReleased shown) }
+    {
+        let old = from.raw();
+        let new = Word::of(from.issue() + 1, Code::Inactive).raw();
+        let found = words
+            .board
+            .shared
+            .compare_exchange::<Reaps>(&mut self.seat, slot as usize, old, new);
+        if found == old {
+            return Ok(());
+        }
+        Err(read_word(found))
+    }
+}

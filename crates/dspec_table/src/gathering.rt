@@ -1,0 +1,37 @@
+ghost use Rattle.std.specs.Prelude.{◌≡◌, ◌<◌};
+ghost use Rattle.dspec_table.specs.Last.{AllAt, AreSeats, Joined, Ended, last_words, last_set_up};
+ghost use Rattle.dspec_table.specs.Seats.{known_there, set_up, IsConsumerAt};
+
+use crate::last::LastWords;
+use crate::plays::Gather;
+use crate::rule::{Board, Place};
+use crate::seats::{ConsumerSeat, CpuSeat, Words};
+
+fn collect(board: &Board, mut seats: Vec<CpuSeat>, place: &mut Place)
+    requires place { place.old.table_id ≡ board.now.shared.table_id }
+    requires seats { AllAt board.now.shared.table_id seats.items }
+    requires words { 0 < board.now.shared.table_id.words }
+    ensures place { (place.new.table_id ≡ board.now.shared.table_id) × (place.new.me.0.who ≡ place.old.me.0.who) × (place.new.me.0.own ≡ place.old.me.0.own) }
+    ensures joined { Joined seats.items place.new.me.0 }
+{
+    while let Some(next) = seats.pop() {
+        let CpuSeat { seat, cpu: _ } = next;
+        board.shared.join_seat::<Gather>(place, seat);
+    }
+}
+
+impl Words {
+    /// Takes back all seats that `start` gave, none with a call in flight, and closes the words.
+    pub fn gather(self, seats: Vec<CpuSeat>, consumer: ConsumerSeat) -> LastWords
+        requires consumer { IsConsumerAt self consumer }
+        requires seats { AreSeats self seats.items }
+        ensures ended { Ended (set_up self) (last_words result) seats.items (known_there consumer) }
+        ensures config { last_set_up result ≡ set_up self }
+    {
+        let Words { board, config } = self;
+        let ConsumerSeat { seat: mut place } = consumer;
+        collect(&board, seats, &mut place);
+        let closed = board.close_with(place);
+        LastWords { closed, config }
+    }
+}

@@ -1,0 +1,26 @@
+ghost use Rattle.std.specs.Prelude.{◌≡◌};
+ghost use Rattle.std.specs.Mem.Slots.{slots_items, slots_len, IsFull};
+ghost use Rattle.dspec_table.specs.Layout.{HasPlaces, word_count};
+ghost use Rattle.dspec_table.specs.Showing.{AreWords};
+
+use atomic_table::Closed;
+use dspec_deeds::Config;
+use std::alloc::Global;
+
+/// The words of a session that has ended.
+pub struct LastWords {
+    pub(crate) closed: Closed<u8, Global>,
+    pub(crate) config: Config,
+    pub ghost full: { IsFull closed.words },
+    pub ghost words_is: { slots_len closed.words ≡ word_count config },
+    pub ghost no_slots: { slots_len closed.slots ≡ 0 },
+    pub ghost places: { HasPlaces config },
+    pub ghost shown: { AreWords config (slots_items closed.words) },
+}
+
+impl Drop for LastWords {
+    fn drop(self) {
+        let LastWords { closed, config: _ } = self;
+        closed.free();
+    }
+}

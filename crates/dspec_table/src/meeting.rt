@@ -1,0 +1,81 @@
+ghost use Rattle.std.specs.Prelude.{◌≡◌, [], true};
+ghost use Rattle.dspec_table.specs.Holders.{same_holder};
+ghost use Rattle.dspec_table.specs.Steps.{Looked};
+ghost use Rattle.dspec_table.specs.Meeting.{Met};
+ghost use Rattle.dspec_table.specs.Notes.{answered, heard, note};
+ghost use Rattle.dspec_table.specs.Seats.{known, known_there, IsAt, IsConsumerAt, cpu_of};
+
+use crate::layout::activity_place;
+use crate::plays::{Answer, Looks, Note};
+use crate::rule::Place;
+use crate::seats::{ConsumerSeat, CpuSeat, Words};
+
+impl Words {
+    // A load of activity that enters nothing.
+    fn look(&self, place: &mut Place)
+        requires place { (place.old.table_id ≡ self.now.board.shared.table_id) × (same_holder place.old.me.0.who place.old.me.0.who ≡ true) × (place.old.me.0.also ≡ []) }
+        ensures place { (place.new.table_id ≡ place.old.table_id) × (place.new.me.1 ≡ place.old.me.1) }
+        ensures step { Looked place.old.me.0 place.new.me.0 }
+    {
+        self.board
+            .shared
+            .load::<Looks>(place, activity_place(&self.config));
+    }
+
+    // A note of what the seat has seen, and of the asks that it knows.
+    fn note(&self, place: &mut Place) -> Place
+        requires place { place.old.table_id ≡ self.now.board.shared.table_id }
+        ensures place { (place.new.table_id ≡ place.old.table_id) × (place.new.me ≡ place.old.me) }
+        ensures note { (result.table_id ≡ self.now.board.shared.table_id) × (result.me ≡ (note place.old.me.0, [])) }
+    {
+        self.board.shared.split_seat::<Note>(place)
+    }
+
+    // A CPU's seat takes in a note.
+    fn hear(&self, place: &mut Place, told: Place)
+        requires place { place.old.table_id ≡ self.now.board.shared.table_id }
+        requires note { (told.table_id ≡ self.now.board.shared.table_id) × (told.me.1 ≡ []) }
+        ensures place { (place.new.table_id ≡ place.old.table_id) × (place.new.me ≡ (heard place.old.me.0 told.me.0, place.old.me.1)) }
+    {
+        self.board.shared.join_seat::<Note>(place, told);
+    }
+
+    // The consumer's seat takes in a note.
+    fn hear_there(&self, place: &mut Place, told: Place)
+        requires place { place.old.table_id ≡ self.now.board.shared.table_id }
+        requires note { (told.table_id ≡ self.now.board.shared.table_id) × (told.me.1 ≡ []) }
+        ensures place { (place.new.table_id ≡ place.old.table_id) × (place.new.me ≡ (answered place.old.me.0 told.me.0, place.old.me.1)) }
+    {
+        self.board.shared.join_seat::<Answer>(place, told);
+    }
+
+    // Between the notes and the loads the seats are no whole seats, since a note waits.
+    fn meet_there(&self, cpu: &mut Place, consumer: &mut Place)
+        requires cpu { (cpu.old.table_id ≡ self.now.board.shared.table_id) × (same_holder cpu.old.me.0.who cpu.old.me.0.who ≡ true) × (cpu.old.me.0.also ≡ []) }
+        requires consumer { (consumer.old.table_id ≡ self.now.board.shared.table_id) × (same_holder consumer.old.me.0.who consumer.old.me.0.who ≡ true) × (consumer.old.me.0.also ≡ []) }
+        ensures cpu { (cpu.new.table_id ≡ cpu.old.table_id) × (cpu.new.me.1 ≡ cpu.old.me.1) }
+        ensures consumer { (consumer.new.table_id ≡ consumer.old.table_id) × (consumer.new.me.1 ≡ consumer.old.me.1) }
+        ensures met { Met cpu.old.me.0 consumer.old.me.0 cpu.new.me.0 consumer.new.me.0 }
+    {
+        let told = self.note(consumer);
+        self.hear(cpu, told);
+        self.look(cpu);
+        let back = self.note(cpu);
+        self.hear_there(consumer, back);
+        self.look(consumer);
+    }
+}
+
+impl CpuSeat {
+    /// A CPU and the consumer meet: both have then seen what each had seen, and the CPU knows the consumer's asks. Neither
+    /// has a call in flight. It is one load of activity by each, and a fixed number of notes.
+    pub fn meet(&mut self, words: &Words, consumer: &mut ConsumerSeat)
+        requires cpu { IsAt words.now self.old }
+        requires consumer { IsConsumerAt words.now consumer.old }
+        ensures cpu { IsAt words.now self.new × (cpu_of self.new ≡ cpu_of self.old) }
+        ensures consumer { IsConsumerAt words.now consumer.new }
+        ensures met { Met (known self.old) (known_there consumer.old) (known self.new) (known_there consumer.new) }
+    {
+        words.meet_there(&mut self.seat, &mut consumer.seat);
+    }
+}

@@ -1,0 +1,49 @@
+ghost use Rattle.std.specs.Prelude.{◌≡◌, ◌<◌, ◌≤◌, true, false, MatchResult, IfOk, IfErr};
+ghost use Rattle.dspec_deeds.specs.declared.calls.CpuOp.TheVariants as op;
+ghost use Rattle.dspec_deeds.specs.History.{word_at};
+ghost use Rattle.dspec_table.specs.Conditions.{MayOpen, active};
+ghost use Rattle.dspec_table.specs.Steps.{OpenedWord};
+ghost use Rattle.dspec_table.specs.Seats.{known, IsAt, set_up, cpu_of};
+ghost use Rattle.dspec_word.specs.Word.{word_number, CanBeReleased};
+
+use crate::doing::Doing;
+use crate::plays::OpensWord;
+use crate::reading::read_word;
+use crate::seats::{CpuSeat, Words};
+use dspec_word::{Code, Word};
+
+impl CpuSeat {
+    /// Gives out the speculation of a slot whose word was shown free, by an exchange. It fails where the word is another by
+    /// now, and shows it: the slot is missed then, and not tried again.
+    pub fn open_word(
+        &mut self,
+        words: &Words,
+        slot: u32,
+        from: Word,
+        _doing: &Doing,
+    ) -> Result<(), Word>
+        requires seat { IsAt words.now self.old }
+        requires op { _doing.now.op ≡ op.Speculation }
+        requires slot { (1 ≤ slot) × (slot ≤ (set_up words.now).nspec) }
+        requires call { MayOpen (set_up words.now) (known self.old) (cpu_of self.old) slot from (active from) }
+        ensures seat { IsAt words.now self.new × (cpu_of self.new ≡ cpu_of self.old) }
+        ensures step { MatchResult result
+            (λ _. OpenedWord slot (known self.old) from true (known self.new))
+            (λ shown. OpenedWord slot (known self.old) shown false (known self.new)) }
+        ensures word { IfOk result (λ _. word_at slot (known self.new).seen ≡ active from) }
+        ensures greater { IfErr result (λ shown. word_number from < word_number shown) }
+        ensures limit { IfErr result (λ shown. CanBeReleased shown) }
+    {
+        let old = from.raw();
+        let new = Word::of(from.issue(), Code::Active).raw();
+        let found = words
+            .board
+            .shared
+            .compare_exchange::<OpensWord>(&mut self.seat, slot as usize, old, new);
+        if found == old {
+            Ok(())
+        } else {
+            Err(read_word(found))
+        }
+    }
+}

@@ -1,0 +1,34 @@
+use atomic_table::{Seat, Table, TableRule};
+use dspec_deeds::{Actor, Config, Deed};
+use std::alloc::Global;
+use std::collections::LinkedList;
+
+/// What a seat knows: whose it is (a note is nobody's), its own deeds, those of the seats that were joined into it, the deeds
+/// of all that it has seen, what a note told it since its last step, how many steps it made, and the asks of each CPU, which
+/// the consumer knows exactly, and any other seat as no more than they are. No value of it is ever made.
+pub struct View {
+    pub config: Config,
+    pub who: Option<Actor>,
+    pub own: LinkedList<Deed>,
+    pub also: LinkedList<(Option<Actor>, LinkedList<Deed>)>,
+    pub seen: LinkedList<Deed>,
+    pub told: LinkedList<Deed>,
+    pub steps: u64,
+    pub asks: LinkedList<u64>,
+}
+
+/// The rule of the words: there is one list of deeds that they show, and of which each seat knows its own part.
+pub struct OneList;
+
+impl TableRule<u8, View, Config> for OneList {
+    ghost use Rattle.dspec_table.specs.Rule.{Kept, newcomer};
+
+    ghost holds = { Kept };
+
+    ghost first = { newcomer };
+}
+
+// The table has no slots for values; the type of theirs is any.
+pub(crate) type Board = Table<u8, View, Config, OneList, Global>;
+
+pub(crate) type Place = Seat<u8, View>;

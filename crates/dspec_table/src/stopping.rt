@@ -1,0 +1,20 @@
+ghost use Rattle.dspec_table.specs.Steps.{StoredActivity};
+ghost use Rattle.dspec_table.specs.Seats.{known_there, IsConsumerAt};
+
+use crate::layout::activity_place;
+use crate::plays::StoresActivity;
+use crate::seats::{ConsumerSeat, Words};
+
+impl ConsumerSeat {
+    /// Stops the session. A second time nothing changes.
+    pub fn store_activity(&mut self, words: &Words)
+        requires seat { IsConsumerAt words.now self.old }
+        ensures seat { IsConsumerAt words.now self.new }
+        ensures step { StoredActivity (known_there self.old) (known_there self.new) }
+    {
+        words
+            .board
+            .shared
+            .store::<StoresActivity>(&mut self.seat, activity_place(&words.config), 1);
+    }
+}

@@ -1,0 +1,123 @@
+ghost use Rattle.std.specs.Prelude.{◌≡◌, ◌<◌, ◌≤◌, ◌==◌, true, false, MatchResult, IfOk, IfErr};
+ghost use Rattle.dspec_deeds.specs.History.{word_at};
+ghost use Rattle.dspec_table.specs.Conditions.{MayTry, Decides, OwnCommit, joined_word, IfCommitting};
+ghost use Rattle.dspec_table.specs.Steps.{TriedWord, TriedNumber};
+ghost use Rattle.dspec_table.specs.Seats.{known, IsAt, set_up, cpu_of};
+ghost use Rattle.dspec_word.specs.Word.{word_number, CanBeReleased};
+
+use crate::doing::Doing;
+use crate::plays::{Asked, TriesWord};
+use crate::reading::read_word;
+use crate::seats::{CpuSeat, Words};
+use dspec_word::{Code, Word};
+use std::marker::Brand;
+
+// What the code becomes by one more caller.
+fn with_caller(from: Word) -> Word
+    ensures { result ≡ joined_word from }
+{
+    let code = match from.code() {
+        Code::Active => Code::ActiveOne,
+        _ => Code::ActiveMany,
+    };
+    Word::of(from.issue(), code)
+}
+
+impl CpuSeat {
+    fn try_word_as<J: Asked>(
+        &mut self,
+        words: &Words,
+        slot: u32,
+        from: Word,
+        to: Word,
+        doing: &Doing,
+    ) -> u64
+        requires doing { doing.now ≡ J.doing }
+        requires seat { IsAt words.now self.old }
+        requires slot { (1 ≤ slot) × (slot ≤ (set_up words.now).nspec) }
+        requires call { MayTry (set_up words.now) (known self.old) (cpu_of self.old) J.doing slot from to }
+        ensures seat { IsAt words.now self.new × (cpu_of self.new ≡ cpu_of self.old) }
+        ensures step { TriedNumber J.doing slot (known self.old) (word_number to) result (result == word_number from) (known self.new) }
+    {
+        words
+            .board
+            .shared
+            .compare_exchange::<TriesWord<J>>(&mut self.seat, slot as usize, from.raw(), to.raw())
+    }
+
+    fn try_word(
+        &mut self,
+        words: &Words,
+        slot: u32,
+        from: Word,
+        to: Word,
+        doing: &Doing,
+    ) -> Result<(), Word>
+        requires seat { IsAt words.now self.old }
+        requires slot { (1 ≤ slot) × (slot ≤ (set_up words.now).nspec) }
+        requires call { MayTry (set_up words.now) (known self.old) (cpu_of self.old) doing.now slot from to }
+        ensures seat { IsAt words.now self.new × (cpu_of self.new ≡ cpu_of self.old) }
+        ensures step { MatchResult result
+            (λ _. TriedWord doing.now slot (known self.old) from true (known self.new))
+            (λ shown. TriedWord doing.now slot (known self.old) shown false (known self.new)) }
+        ensures word { IfOk result (λ _. word_at slot (known self.new).seen ≡ to) }
+        ensures greater { IfErr result (λ shown. word_number from < word_number shown) }
+        ensures limit { IfErr result (λ shown. CanBeReleased shown) }
+    {
+        let found = self.try_word_as::<Brand>(words, slot, from, to, doing);
+        if found == from.raw() {
+            Ok(())
+        } else {
+            Err(read_word(found))
+        }
+    }
+
+    /// Makes the CPU one more caller of a speculation, by the exchange that `speculate_at` attempts. It fails where the word
+    /// is another by now, and shows it.
+    pub fn join_word(
+        &mut self,
+        words: &Words,
+        slot: u32,
+        from: Word,
+        doing: &Doing,
+    ) -> Result<(), Word>
+        requires seat { IsAt words.now self.old }
+        requires slot { (1 ≤ slot) × (slot ≤ (set_up words.now).nspec) }
+        requires call { MayTry (set_up words.now) (known self.old) (cpu_of self.old) doing.now slot from (joined_word from) }
+        ensures seat { IsAt words.now self.new × (cpu_of self.new ≡ cpu_of self.old) }
+        ensures step { MatchResult result
+            (λ _. TriedWord doing.now slot (known self.old) from true (known self.new))
+            (λ shown. TriedWord doing.now slot (known self.old) shown false (known self.new)) }
+        ensures word { IfOk result (λ _. word_at slot (known self.new).seen ≡ joined_word from) }
+        ensures greater { IfErr result (λ shown. word_number from < word_number shown) }
+        ensures limit { IfErr result (λ shown. CanBeReleased shown) }
+    {
+        self.try_word(words, slot, from, with_caller(from), doing)
+    }
+
+    /// Commits or discards a speculation, by the exchange that `commit_at` or `discard_at` attempts. It fails where the word
+    /// is another by now, and shows it. After an exchange to Committing the seat releases the slot next.
+    pub fn decide_word(
+        &mut self,
+        words: &Words,
+        slot: u32,
+        from: Word,
+        to: Word,
+        doing: &Doing,
+    ) -> Result<(), Word>
+        requires seat { IsAt words.now self.old }
+        requires op { Decides doing.now.op }
+        requires slot { (1 ≤ slot) × (slot ≤ (set_up words.now).nspec) }
+        requires call { MayTry (set_up words.now) (known self.old) (cpu_of self.old) doing.now slot from to }
+        ensures seat { IsAt words.now self.new × (cpu_of self.new ≡ cpu_of self.old) }
+        ensures step { MatchResult result
+            (λ _. TriedWord doing.now slot (known self.old) from true (known self.new))
+            (λ shown. TriedWord doing.now slot (known self.old) shown false (known self.new)) }
+        ensures word { IfOk result (λ _. word_at slot (known self.new).seen ≡ to) }
+        ensures release { IfOk result (λ _. IfCommitting to.code (OwnCommit (set_up words.now) (known self.new) (cpu_of self.new) record { issue = to.issue; slot = slot })) }
+        ensures greater { IfErr result (λ shown. word_number from < word_number shown) }
+        ensures limit { IfErr result (λ shown. CanBeReleased shown) }
+    {
+        self.try_word(words, slot, from, to, doing)
+    }
+}

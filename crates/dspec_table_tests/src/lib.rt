@@ -1,0 +1,6 @@
+//! Tests of the shared words: each kind of step, seats in turn on one thread, meetings, and two threads of which one opens a
+//! slot. They stand in a crate of their own, so that the words aren't proved again beside them.
+#![tactic(auto)]
+
+#[cfg(test)]
+mod tests;

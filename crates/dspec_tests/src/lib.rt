@@ -1,0 +1,6 @@
+//! Tests of the player: worked plays, calls of a world, and the happy path of each public call of `dspec_core`. They stand in
+//! a crate of their own, so that the core isn't proved again beside them.
+#![tactic(auto)]
+
+#[cfg(test)]
+mod tests;

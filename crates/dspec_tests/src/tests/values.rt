@@ -1,0 +1,100 @@
+//! Configurations, series, small values and the laws.
+use super::*;
+use dspec_core::{
+    DecideFate, Series, StartFault, acceptance_law, bare_shows, bounded_steps, close_is_legal,
+    fate_law, own_parts, own_reads, own_report, placed_seals, prefix_law, schedule_answers,
+    schedule_legality, solo_rule, weaving, whole_calls, whole_plays, whole_release, woven_close,
+    woven_headline,
+};
+
+/// The largest configuration.
+const LARGEST: Config = Config {
+    cpus: 16,
+    nspec: 32,
+    bufsize: 1_048_576,
+    specsize: 1_048_576,
+    max_issues: 1 << 57,
+    max_calls: 1 << 62,
+};
+
+#[test]
+fn configurations(rt: HostRuntime) {
+    let not_of_eight = Config {
+        bufsize: 12,
+        ..SMALL
+    };
+    let none = Config {
+        cpus: 0,
+        nspec: 0,
+        bufsize: 0,
+        specsize: 0,
+        max_issues: 0,
+        max_calls: 0,
+    };
+    let worn = Config {
+        max_issues: (1 << 57) + 1,
+        max_calls: 0,
+        ..LARGEST
+    };
+    for (config, fault) in [
+        (SMALL, None),
+        (LARGEST, None),
+        (none, Some(StartFault::Cpus)),
+        (not_of_eight, Some(StartFault::BufSize)),
+        (worn, Some(StartFault::Issues)),
+    ] {
+        assert_eq!(rt; config.check().err(), fault, "{config:?}");
+    }
+}
+
+/// The values of a series.
+fn holds(rt: &impl Abort, series: &Series<u8>, values: &[u8]) {
+    assert!(rt; series.as_slice() == values);
+    assert!(rt; series.len() == values.len());
+    assert!(rt; series.is_empty() == values.is_empty());
+}
+
+#[test]
+fn series(rt: HostRuntime) -> Result<(), Fail> {
+    let mut series = Series::new(rt.alloc());
+    holds(&rt, &series, &[]);
+    for value in [7, 8, 9] {
+        series.push(value)?;
+    }
+    series.truncate(5);
+    holds(&rt, &series, &[7, 8, 9]);
+    series.truncate(1);
+    holds(&rt, &series, &[7]);
+    Ok(())
+}
+
+#[test]
+fn small_values(rt: HostRuntime) {
+    let id = SpecId::from_raw(65);
+    assert!(rt; Opening::Id(id).id() == id);
+    assert!(rt; Opening::Busy.id() == SpecId::NONE);
+    assert!(rt; DecideFate::Lost(2).answer() == Decided::Lost(2));
+}
+
+#[test]
+fn laws() {
+    prefix_law();
+    acceptance_law();
+    fate_law();
+    bare_shows();
+    own_parts();
+    own_reads();
+    own_report();
+    placed_seals();
+    weaving();
+    woven_headline();
+    woven_close();
+    schedule_legality();
+    schedule_answers();
+    bounded_steps();
+    solo_rule();
+    close_is_legal();
+    whole_calls();
+    whole_plays();
+    whole_release();
+}

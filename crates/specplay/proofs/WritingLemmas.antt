@@ -1,0 +1,58 @@
+-- A text that is written piece by piece.
+use Rattle.std.proofs.Common.{◌≡◌, ℕ, List, [], ◌++◌, Option, Some, None, Result, Err, IfSome, OnErr, refl, sym, ap, ◌∙◌, append_assoc, append-nil, take, drop, subst, take-append-drop}
+use Rattle.std.specs.Io.KnownBytes.{Appends, Keeps}
+use Rattle.specplay.specs.declared.fault.RunFault.{RunFault}
+use Rattle.specplay.specs.Schedules.{IsCutOff, Prints}
+use Rattle.specplay.specs.Written.{AppendsBefore, AppendsBeginning}
+
+appends_none : (a : Option (List ℕ)) → Appends a a []
+appends_none None = tt
+appends_none (Some xs) = sym (append-nil xs)
+
+appends_more : (a b c : Option (List ℕ)) (front piece : List ℕ) → Appends a b front → Appends b c piece → Appends a c (front ++ piece)
+appends_more None b c front piece one two = tt
+appends_more (Some xs) None c front piece one two = absurd one
+appends_more (Some xs) (Some ys) None front piece one two = absurd two
+appends_more (Some xs) (Some ys) (Some zs) front piece one two = two ∙ ap (λ l. l ++ piece) one ∙ append_assoc xs front piece
+
+appends_kept : (a b c : Option (List ℕ)) (front : List ℕ) → Appends a b front → Keeps b c → Appends a c front
+appends_kept None b c front one two = tt
+appends_kept (Some xs) None c front one two = absurd one
+appends_kept (Some xs) (Some ys) None front one two = absurd two
+appends_kept (Some xs) (Some ys) (Some zs) front one two = two ∙ one
+
+-- nothing is written, and the whole text is left
+pub nothing_written : (a : Option (List ℕ)) (text : List ℕ) → AppendsBefore a a text text
+nothing_written a text = ([], refl, appends_none a)
+
+-- one more piece
+pub piece_written : (a b c : Option (List ℕ)) (text rest : List ℕ) (count : ℕ) → AppendsBefore a b text rest → Appends b c (take count rest)
+    → AppendsBefore a c text (drop count rest)
+piece_written a b c text rest count (front, whole, before) piece = (
+  front ++ take count rest,
+  whole ∙ ap (λ l. front ++ l) (sym (take-append-drop count rest)) ∙ sym (append_assoc front (take count rest) (drop count rest)),
+  appends_more a b c front (take count rest) before piece,
+)
+
+-- nothing more
+pub rest_kept : (a b c : Option (List ℕ)) (text rest : List ℕ) → AppendsBefore a b text rest → Keeps b c → AppendsBefore a c text rest
+rest_kept a b c text rest (front, whole, before) kept = (front, whole, appends_kept a b c front before kept)
+
+-- nothing is left
+pub all_written : (a b : Option (List ℕ)) (text : List ℕ) → AppendsBefore a b text [] → Appends a b text
+all_written a b text (front, whole, before) = subst (Appends a b) (sym (whole ∙ append-nil front)) before
+
+-- a text that was written whole, before nothing more was
+pub whole_before : (a b c : Option (List ℕ)) (text : List ℕ) → Appends a b text → Keeps b c → AppendsBeginning a c text
+whole_before a b c text whole kept = ([], (text, sym (append-nil text), appends_kept a b c text whole kept))
+
+-- what a failed write left, of a play that was printed
+pub cut_off_of : {A : Type 0} (known old new : Option (List ℕ)) (items printed : List ℕ) (result : Result A RunFault) {fault : RunFault} → result ≡ Err fault
+    → OnErr result (AppendsBeginning old new printed) → IfSome known (λ text. items ≡ text) → Prints items printed
+    → IfSome known (λ text. IsCutOff text old new)
+cut_off_of None old new items printed result is written whole prints = tt
+cut_off_of (Some text) old new items printed result is written whole prints = (
+  printed,
+  subst (λ t. Prints t printed) whole prints,
+  subst (λ r. OnErr r (AppendsBeginning old new printed)) is written,
+)
