@@ -2,7 +2,7 @@
 
 use crate::subject::{Setup, Subject, Taken, enablings};
 use crate::way::Way;
-use dspec_record::{DefaultAction, Enablings, Rec, Schema};
+use dspec_record::{DefaultAction, Enablings, Rec, Schema, StampedAction};
 use std::alloc::Global;
 use std::io;
 
@@ -10,6 +10,7 @@ use std::io;
 pub enum Ready {
     Default(Setup<DefaultAction>),
     Enabled(Setup<Enablings>),
+    Stamped(Setup<StampedAction>),
 }
 
 impl Ready {
@@ -19,6 +20,8 @@ impl Ready {
         };
         match subject {
             Subject::Default4 => Ok(Ready::Default(setup(alloc, DefaultAction, rec)?)),
+            Subject::Stamped12 => Ok(Ready::Stamped(setup(alloc, StampedAction, rec)?)),
+            Subject::Stamped16 => Ok(Ready::Enabled(setup(alloc, enablings.stamped(), rec)?)),
             _ => Ok(Ready::Enabled(setup(alloc, enablings, rec)?)),
         }
     }
@@ -28,6 +31,7 @@ impl Ready {
         match self {
             Ready::Default(setup) => setup.prepare(way, most),
             Ready::Enabled(setup) => setup.prepare(way, most),
+            Ready::Stamped(setup) => setup.prepare(way, most),
         }
     }
 
@@ -36,6 +40,7 @@ impl Ready {
         match self {
             Ready::Default(setup) => setup.take(way, number),
             Ready::Enabled(setup) => setup.take(way, number),
+            Ready::Stamped(setup) => setup.take(way, number),
         }
     }
 }

@@ -14,21 +14,28 @@ const FULL_SIZE: u32 = 8;
 
 const BLOCK_SIZE: u32 = 1024;
 
-/// A record by its schema and its size in bytes.
+/// The stamp of the records that have one.
+const STAMP: u64 = 8_000_000_000_000_000_000;
+
+/// A record by its schema and its size in bytes. The stamped ones are those of 4 and 8 bytes with a stamp.
 #[derive(Debug, Clone, Copy, PartialEq, Eq)]
 pub enum Subject {
     Default4,
     Enabled4,
     Enabled8,
     Enabled24,
+    Stamped12,
+    Stamped16,
 }
 
 /// All of them, in the order in which they are told.
-pub const SUBJECTS: [Subject; 4] = [
+pub const SUBJECTS: [Subject; 6] = [
     Subject::Default4,
     Subject::Enabled4,
     Subject::Enabled8,
     Subject::Enabled24,
+    Subject::Stamped12,
+    Subject::Stamped16,
 ];
 
 impl Subject {
@@ -38,6 +45,8 @@ impl Subject {
             Subject::Enabled4 => "enabled-4",
             Subject::Enabled8 => "enabled-8",
             Subject::Enabled24 => "enabled-24",
+            Subject::Stamped12 => "stamped-12",
+            Subject::Stamped16 => "stamped-16",
         }
     }
 
@@ -51,6 +60,8 @@ impl Subject {
                 3,
                 &[200, 60_000, 4_000_000_000, 9_000_000_000_000_000_000],
             ),
+            Subject::Stamped12 => Rec::stamped(7, STAMP, &[]),
+            Subject::Stamped16 => Rec::stamped(2, STAMP, &[4_000_000_000]),
         }
     }
 }

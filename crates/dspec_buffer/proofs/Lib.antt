@@ -20,3 +20,4 @@ pub mod Fitting
 pub mod Keeping
 pub mod Walks
 pub mod Listing
+pub mod Upgrades

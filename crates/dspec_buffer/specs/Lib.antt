@@ -8,4 +8,5 @@ pub mod ByteFields
 pub mod Listed
 pub mod ListFields
 pub mod Remaining
+pub mod Upgrading
 pub mod Laws

@@ -3,6 +3,7 @@ use crate::reader::next_of_text;
 use crate::reserving::{pad, place_for};
 use dspec_record::{Rec, Schema};
 use std::alloc::{AllocError, Global};
+use std::fmt;
 use std::marker::Model;
 
 /// A buffer of bytes, as a consumer reads it: the text of its pieces up to the offset. Bytes behind the offset are
@@ -27,7 +28,7 @@ impl Model for ByteBuffer {
 }
 
 impl ByteBuffer {
-    ghost use Rattle.std.specs.Prelude.{◌≡◌};
+    ghost use Rattle.std.specs.Prelude.{◌≡◌, ◌≤◌, ◌==◌, [], length};
 
     /// The text of the pieces.
     pub fn bytes(&self) -> &[u8]
@@ -41,6 +42,51 @@ impl ByteBuffer {
         ensures { result ≡ self.now.size }
     {
         self.bytes.len() as u32
+    }
+
+    /// How far the pieces reach, in bytes.
+    #[inline]
+    pub fn offset(&self) -> u32
+        ensures text { result ≡ length self.now.text }
+        ensures within { result ≤ self.now.size }
+    {
+        self.offset
+    }
+
+    /// How many records there are, those in blocks among them.
+    #[inline]
+    pub fn count(&self) -> u32
+        ensures { result ≡ self.now.count }
+    {
+        self.count
+    }
+
+    /// Whether there is no record.
+    #[inline]
+    pub fn is_empty(&self) -> bool
+        ensures { result ≡ (self.now.count == 0) }
+    {
+        self.count == 0
+    }
+
+    /// Throws all pieces away.
+    #[inline]
+    pub fn clear(&mut self)
+        ensures { self.new ≡ record { text = []; count = 0; size = self.old.size } }
+    {
+        self.offset = 0;
+        self.count = 0;
+    }
+}
+
+/// How many records there are, how far they reach and of how many bytes.
+impl fmt::Debug for ByteBuffer {
+    fn fmt<W: fmt::Write>(&self, f: &mut fmt::Formatter<W>) -> fmt::Result {
+        let (count, offset, size) = (self.count(), self.offset(), self.size());
+        write!(
+            f,
+            "ByteBuffer {{ count: {count}, offset: {offset}, size: {size} }}"
+        )
     }
 }
 
@@ -104,20 +150,19 @@ impl<S: Schema> TraceBuffer<S> for ByteBuffer {
     }
 
     fn clear(&mut self) {
-        self.offset = 0;
-        self.count = 0;
+        self.clear();
     }
 
     fn offset(&self) -> u32 {
-        self.offset
+        self.offset()
     }
 
     fn count(&self) -> u32 {
-        self.count
+        self.count()
     }
 
     fn is_empty(&self) -> bool {
-        self.count == 0
+        self.is_empty()
     }
 
     fn next(&self, schema: &S, place: usize) -> Option<(Rec, usize)> {

@@ -17,6 +17,7 @@ mod reader;
 mod records;
 mod reserving;
 mod trace_buffer;
+pub mod upgrading;
 
 pub use byte_buffer::ByteBuffer;
 pub use list_buffer::ListBuffer;
@@ -24,3 +25,4 @@ pub use read_fault::ReadFault;
 pub use reader::read_all;
 pub use records::Records;
 pub use trace_buffer::TraceBuffer;
+pub use upgrading::{UpgradeFault, upgrade};

@@ -2,6 +2,7 @@ use crate::TraceBuffer;
 use crate::reserving::place_for;
 use dspec_record::{Rec, Schema};
 use std::alloc::{AllocError, Global};
+use std::fmt;
 use std::marker::Model;
 
 /// A buffer of records that are never laid out: it answers as a `ByteBuffer` of its size, and a walk's place is
@@ -23,6 +24,55 @@ impl Model for ListBuffer {
     ghost view = { listed_of };
 
     ghost invariant = { IsListed };
+}
+
+impl ListBuffer {
+    ghost use Rattle.std.specs.Prelude.{◌≡◌, ◌≤◌, ◌==◌, [], length};
+
+    /// How far the texts of the records would reach, in bytes.
+    #[inline]
+    pub fn offset(&self) -> u32
+        ensures extent { result ≡ self.now.offset }
+        ensures within { result ≤ self.now.size }
+    {
+        self.offset
+    }
+
+    /// How many records there are, those in blocks among them.
+    #[inline]
+    pub fn count(&self) -> u32
+        ensures { result ≡ length self.now.kept }
+    {
+        self.records.len() as u32
+    }
+
+    /// Whether there is no record.
+    #[inline]
+    pub fn is_empty(&self) -> bool
+        ensures { result ≡ (length self.now.kept == 0) }
+    {
+        self.records.is_empty()
+    }
+
+    /// Throws all records away.
+    #[inline]
+    pub fn clear(&mut self)
+        ensures { self.new ≡ record { kept = []; offset = 0; size = self.old.size } }
+    {
+        self.records.clear();
+        self.offset = 0;
+    }
+}
+
+/// How many records there are, how far they would reach and of how many bytes.
+impl fmt::Debug for ListBuffer {
+    fn fmt<W: fmt::Write>(&self, f: &mut fmt::Formatter<W>) -> fmt::Result {
+        let (count, offset, size) = (self.count(), self.offset(), self.size);
+        write!(
+            f,
+            "ListBuffer {{ count: {count}, offset: {offset}, size: {size} }}"
+        )
+    }
 }
 
 impl<S: Schema> TraceBuffer<S> for ListBuffer {
@@ -74,20 +124,19 @@ impl<S: Schema> TraceBuffer<S> for ListBuffer {
     }
 
     fn clear(&mut self) {
-        self.records.clear();
-        self.offset = 0;
+        self.clear();
     }
 
     fn offset(&self) -> u32 {
-        self.offset
+        self.offset()
     }
 
     fn count(&self) -> u32 {
-        self.records.len() as u32
+        self.count()
     }
 
     fn is_empty(&self) -> bool {
-        self.records.is_empty()
+        self.is_empty()
     }
 
     fn next(&self, _schema: &S, place: usize) -> Option<(Rec, usize)> {

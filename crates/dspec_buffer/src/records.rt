@@ -4,6 +4,7 @@ ghost use Rattle.dspec_buffer.specs.Laws.Remaining.{Remaining-prop};
 
 use crate::reader::next_of_text;
 use dspec_record::{Rec, Schema};
+use std::fmt;
 use std::marker::Model;
 
 /// The records of a text that `read_all` has read through, in order. It borrows the text and takes no memory.
@@ -23,6 +24,14 @@ impl<'a, S: Schema> Model for Records<'a, S> {
     ghost Value = { List Record };
 
     ghost view = { λ a. a.readable.0 };
+}
+
+/// How far the text has been read.
+impl<'a, S: Schema> fmt::Debug for Records<'a, S> {
+    fn fmt<W: fmt::Write>(&self, f: &mut fmt::Formatter<W>) -> fmt::Result {
+        let (place, length) = (self.place, self.text.len());
+        write!(f, "Records {{ place: {place}, length: {length} }}")
+    }
 }
 
 impl<'a, S: Schema> Iterator for Records<'a, S> {

@@ -12,10 +12,11 @@ mod player;
 mod world;
 
 pub use dspec_deeds::{
-    Actor, Answer, Config, ConsumerOp, CpuOp, DecideFate, Decided, Deed, Op, Opening, Report,
-    Served, SpeculateFate, Spoken, StartFault, TraceFate, Traced, Turn, acceptance_law, bare_shows,
-    batch_drops, common_part, fate_law, given_below, late_once, others_leave, own_marks, own_parts,
-    own_reads, own_report, own_sides, placed_seals, prefix_law, settled_once, weaving,
+    Actor, Answer, Config, ConsumerOp, CpuOp, DecideFate, Decided, Deed, Op, Opening, Policy,
+    Report, Served, SpeculateFate, Spoken, StartFault, TraceFate, Traced, Turn, acceptance_law,
+    bare_shows, batch_drops, closed_for_good, common_part, empty_fits, fate_law, full_drops,
+    given_below, late_once, never_sealed, others_leave, own_marks, own_parts, own_reads,
+    own_report, own_sides, placed_seals, prefix_law, refused_closes, settled_once, weaving,
     word_changes, woven_headline,
 };
 pub use dspec_play::{

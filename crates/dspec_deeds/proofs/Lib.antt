@@ -44,3 +44,4 @@ pub mod OwnAccounts
 pub mod CommonDeeds
 pub mod WordsMade
 pub mod WholeLists
+pub mod FullBuffers

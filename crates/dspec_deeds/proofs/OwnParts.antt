@@ -2,19 +2,18 @@
 use Rattle.std.proofs.Common.{◌≡◌, ◌<◌, ℕ, Bool, true, false, if◌then◌else◌, List, [], ◌∷◌, Option, refl, sym, ap, ◌∙◌, subst, ⊎_elim, true≢false}
 use Rattle.std.specs.Prelude.{MatchBool, map, length}
 use Rattle.dspec_record.specs.declared.field.Shape.{Shape}
-use Rattle.dspec_buffer.specs.Extent.{Piece, one, block, fits}
+use Rattle.dspec_buffer.specs.Extent.{one, fits}
 use Rattle.dspec_deeds.specs.declared.config.Config.{Config}
 use Rattle.dspec_deeds.specs.declared.calls.Actor.TheVariants.{Cpu}
-use Rattle.dspec_deeds.specs.declared.deed.DecideFate.{DecideFate}
 use Rattle.dspec_deeds.specs.declared.deed.Deed.{Deed}
 use Rattle.dspec_deeds.specs.declared.deed.Deed.TheVariants.{Trace, Speculate, Commit, Discard, Settle, Seal, Release, Halt}
 use Rattle.dspec_deeds.specs.FateKinds.{trace_stopped, trace_kept, spoken_granted, spoken_kept, is_commit, is_discard, is_copied, count_of}
 use Rattle.dspec_deeds.specs.History.{same_actor, author, part, scan}
-use Rattle.dspec_deeds.specs.Own.{Offer, contents, held, active, seals}
+use Rattle.dspec_deeds.specs.Own.{Offer, contents, held, seals}
 use Rattle.dspec_deeds.specs.Legal.{HasAuthors, OwnAllows, IsFitting}
 use Rattle.dspec_deeds.proofs.TestLemmas.{either_way, same_actor_tells, cpu_is_itself, number_is_itself, same_number}
 use Rattle.dspec_deeds.specs.Owning.{is_of, OwnRow, IsOwn, ReadsAlike}
-use Rattle.dspec_deeds.proofs.OwnReads.{alike_back, reads}
+use Rattle.dspec_deeds.proofs.OwnReads.{alike_back, fits_alike, block_alike, reads}
 
 -- what a CPU does names it, or is a Release
 pub author_of : (c : ℕ) (d : Deed) (h : List Deed) → same_actor (Cpu c) (author d h) ≡ true → is_of c d ≡ true
@@ -28,39 +27,32 @@ is_release (Release s) = true
 is_release d = false
 
 module _ (shape : ℕ → Option Shape) (k : Config) where
-  -- a buffer of these records is copied or lost by these pieces
-  abbrev CopiesBy : DecideFate → List Piece → List Offer → Type 0
-  CopiesBy f ps os = (count_of f ≡ length os) × (is_copied f ≡ fits shape ps (block (contents os)) k.bufsize)
-
   -- what a row says of one list it says of one that reads alike
   carry : (c : ℕ) (d : Deed) (g h : List Deed) → is_of c d ≡ true → is_release d ≡ false → ReadsAlike k c g h → OwnAllows shape k g d → OwnAllows shape k h d
   carry c (Trace a r f) g h own kept e row =
-      let is = same_number c a own in
-      let ps : active a g ≡ active a h = subst (λ x. active x g ≡ active x h) is e.principal in
-      subst (λ qs. MatchBool (trace_stopped f) (Unit {0}) (trace_kept f ≡ fits shape qs (one r) k.bufsize)) ps row
+      let now : ReadsAlike k a g h = subst (λ x. ReadsAlike k x g h) (same_number c a own) e in
+      subst (λ (b : Bool). MatchBool (trace_stopped f) (Unit {0}) (trace_kept f ≡ b)) (fits_alike shape k a (one r) g h now) row
   carry c (Speculate a id r f) g h own kept e row =
       let is = same_number c a own in
       let os : held a id g ≡ held a id h = subst (λ x. held x id g ≡ held x id h) is (e.apart.buffers id) in
       subst (λ (qs : List Offer). MatchBool (spoken_granted f) (spoken_kept f ≡ fits shape (map one (contents qs)) (one r) k.specsize) (Unit {0})) os row
   carry c (Commit a id f) g h own kept e row =
-      let is = same_number c a own in
-      let ps : active a g ≡ active a h = subst (λ x. active x g ≡ active x h) is e.principal in
-      let os : held a id g ≡ held a id h = subst (λ x. held x id g ≡ held x id h) is (e.apart.buffers id) in
-      subst (λ (q : List Piece × List Offer). MatchBool (is_commit f) (CopiesBy f q.0 q.1) (Unit {0})) (λ i. (ps i, os i)) row
+      let now : ReadsAlike k a g h = subst (λ x. ReadsAlike k x g h) (same_number c a own) e in
+      let fits = block_alike shape k a id g h now in
+      subst (λ (q : List Offer × Bool). MatchBool (is_commit f) ((count_of f ≡ length q.0) × (is_copied f ≡ q.1)) (Unit {0})) (λ i. (now.apart.buffers id i, fits i)) row
   carry c (Discard a id f) g h own kept e row =
       let is = same_number c a own in
       let os : held a id g ≡ held a id h = subst (λ x. held x id g ≡ held x id h) is (e.apart.buffers id) in
       subst (λ (qs : List Offer). MatchBool (is_discard f) (count_of f ≡ length qs) (Unit {0})) os row
   carry c (Settle a id f) g h own kept e row =
-      let is = same_number c a own in
-      let ps : active a g ≡ active a h = subst (λ x. active x g ≡ active x h) is e.principal in
-      let os : held a id g ≡ held a id h = subst (λ x. held x id g ≡ held x id h) is (e.apart.buffers id) in
-      subst (λ (q : List Piece × List Offer). MatchBool (is_discard f) (count_of f ≡ length q.1) (CopiesBy f q.0 q.1)) (λ i. (ps i, os i)) row
+      let now : ReadsAlike k a g h = subst (λ x. ReadsAlike k x g h) (same_number c a own) e in
+      let fits = block_alike shape k a id g h now in
+      subst (λ (q : List Offer × Bool). MatchBool (is_discard f) (count_of f ≡ length q.0) ((count_of f ≡ length q.0) × (is_copied f ≡ q.1))) (λ i. (now.apart.buffers id i, fits i)) row
   carry c (Seal a) g h own kept e row =
       let is = same_number c a own in
       let n : seals a g ≡ seals a h = subst (λ x. seals x g ≡ seals x h) is e.sealing in
       let m : scan k a g ≡ scan k a h = subst (λ x. scan k x g ≡ scan k x h) is e.apart.scanning in
-      (subst (λ x. x < k.max_calls) n row.0, sym m ∙ row.1)
+      (subst (λ x. x < k.max_calls) n row.0, sym m ∙ row.1, row.2)
   carry c (Release s) g h own kept e row = absurd (true≢false kept)
   carry c d g h own kept e row = row
 

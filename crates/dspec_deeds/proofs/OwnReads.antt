@@ -10,10 +10,12 @@ use Rattle.dspec_deeds.specs.FateKinds.{trace_kept, trace_dropped, trace_stopped
 use Rattle.dspec_deeds.specs.History.{same_actor, author, part, scanned, is_among, joined, calls_on, callers, settles, acks, issue_of}
 use Rattle.dspec_deeds.specs.Reports.{Spoken, total, one_if, accepts_now, drops_now, specdrops_now, loses_now, discards_now, voids_now, stops_now, adds_now, speculative, missed_busy, fails_now, busy_fails, other_fails, report}
 use Rattle.dspec_deeds.specs.Own.{contents, number_of, offered_by, is_call, seals_now, keeps, empties, held, accepts, active, empty_batch, is_drop}
-use Rattle.dspec_buffer.specs.Extent.{one, block}
+use Rattle.dspec_record.specs.declared.field.Shape.{Shape}
+use Rattle.dspec_buffer.specs.Extent.{Piece, one, block, fits}
 use Rattle.dspec_deeds.proofs.TestLemmas.{either_way, and_false, has_joined, other_number}
-use Rattle.dspec_deeds.proofs.StayingOwn.{scan_other, held_other, offers_other, calls_other, accepted_other, seals_other, active_other, growing_other, batches_other, is_drop_other, has_other, settled_other, ack_other, missed_other}
-use Rattle.dspec_deeds.specs.Legal.{is_seal}
+use Rattle.dspec_deeds.proofs.StayingOwn.{scan_other, held_other, offers_other, calls_other, accepted_other, seals_other, active_other, growing_other, batches_other, is_drop_other, full_other, has_other, settled_other, ack_other, missed_other}
+use Rattle.dspec_deeds.specs.Ranges.{is_fill}
+use Rattle.dspec_deeds.specs.Legal.{is_seal, is_empty, fits_principal}
 use Rattle.dspec_deeds.specs.Marks.{mark, mark_after}
 use Rattle.dspec_deeds.specs.Owning.{ReadsApart, ReadsAlike}
 use Rattle.dspec_deeds.specs.Weaving.{bare}
@@ -33,6 +35,7 @@ nothing_apart k c = record {
   calling = refl;
   buffers = λ id. refl;
   taking = refl;
+  closing = refl;
   called = λ id. refl;
   settling = λ id. refl;
   acks = λ s. refl;
@@ -73,6 +76,7 @@ module _ (k : Config) (c : ℕ) (d : Deed) (g h : List Deed) (e : ReadsApart k c
         calling = ap (λ n. n + (if is_call c d then 1 else 0)) e.calling;
         buffers = λ id. kept id d;
         taking = let enters = entered d in λ i. enters i ++ e.taking i;
+        closing = ap (λ b. is_drop c d || b) e.closing;
         called = λ id. also_called c (calls_on id d) (callers id g) (callers id h) (e.called id);
         settling = λ id. ap (λ b. settles c id d || b) (e.settling id);
         acks = λ s. ap (λ n. if acks c s d then issue_of d + 1 else n) (e.acks s);
@@ -238,6 +242,7 @@ apart_other k c d h other = record {
   calling = calls_other c d h other;
   buffers = λ id. held_other c id d h other;
   taking = accepted_other c d h other;
+  closing = full_other c d h other;
   called = λ id. has_other c id d h other;
   settling = λ id. settled_other c id d h other;
   acks = λ s. ack_other c s d h other;
@@ -266,6 +271,7 @@ apart_seal k c a h =
       calling = r.calling;
       buffers = r.buffers;
       taking = r.taking;
+      closing = r.closing;
       called = r.called;
       settling = r.settling;
       acks = r.acks;
@@ -283,6 +289,7 @@ apart_back k c g h e = record {
   calling = sym e.calling;
   buffers = λ id. sym (e.buffers id);
   taking = sym e.taking;
+  closing = sym e.closing;
   called = λ id. sym (e.called id);
   settling = λ id. sym (e.settling id);
   acks = λ s. sym (e.acks s);
@@ -308,6 +315,7 @@ apart_through k c f g h to on = record {
   calling = to.calling ∙ on.calling;
   buffers = λ id. to.buffers id ∙ on.buffers id;
   taking = to.taking ∙ on.taking;
+  closing = to.closing ∙ on.closing;
   called = λ id. to.called id ∙ on.called id;
   settling = λ id. to.settling id ∙ on.settling id;
   acks = λ s. to.acks s ∙ on.acks s;
@@ -339,6 +347,15 @@ reads k c (d ∷ h) = ⊎_elim
     (λ (t : same_actor (Cpu c) (author d h) ≡ true). rw t (alike_on k c d (part (Cpu c) h) h (reads k c h)))
     (λ (f : same_actor (Cpu c) (author d h) ≡ false). rw f (alike_through k c (part (Cpu c) h) h (d ∷ h) (reads k c h) (alike_back k c (d ∷ h) h (alike_other k c d h f))))
     (either_way (same_actor (Cpu c) (author d h)))
+
+-- what fits the principal buffer fits it alike
+pub fits_alike : (shape : ℕ → Option Shape) (k : Config) (c : ℕ) (p : Piece) (g h : List Deed) → ReadsAlike k c g h → fits_principal shape k c p g ≡ fits_principal shape k c p h
+fits_alike shape k c p g h e = λ i. fits shape (e.principal i) p k.bufsize && (is_empty p || not (is_fill k.policy && e.apart.closing i))
+
+-- and so does the buffer of a speculation
+pub block_alike : (shape : ℕ → Option Shape) (k : Config) (c : ℕ) (id : Speculation) (g h : List Deed) → ReadsAlike k c g h
+    → fits_principal shape k c (block (contents (held c id g))) g ≡ fits_principal shape k c (block (contents (held c id h))) h
+block_alike shape k c id g h e = ap (λ os. fits_principal shape k c (block (contents os)) g) (e.apart.buffers id) ∙ fits_alike shape k c (block (contents (held c id h))) g h e
 
 -- a list and the list without its Seals read alike, Seals apart
 pub apart_bare : (k : Config) (c : ℕ) (h : List Deed) → ReadsApart k c h (bare h)

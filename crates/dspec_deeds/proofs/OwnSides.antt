@@ -3,6 +3,7 @@ use Rattle.std.proofs.Common.{◌≡◌, ℕ, ◌+◌, ◌-◌, ◌<◌, true, f
 use Rattle.std.specs.Prelude.{reverse}
 use Rattle.dspec_word.specs.SpecId.{Speculation}
 use Rattle.dspec_deeds.specs.declared.config.Config.{Config}
+use Rattle.dspec_deeds.specs.declared.config.Policy.TheVariants.{Switch}
 use Rattle.dspec_deeds.specs.declared.calls.Actor.TheVariants.{Cpu}
 use Rattle.dspec_deeds.specs.declared.deed.Deed.{Deed}
 use Rattle.dspec_deeds.specs.History.{part, issue, present}
@@ -19,7 +20,7 @@ use Rattle.dspec_deeds.proofs.OwnReads.{reads, apart_bare}
 
 -- no configuration is read
 some_config : Config
-some_config = record { cpus = 0; nspec = 0; bufsize = 0; specsize = 0; max_issues = 0; max_calls = 0 }
+some_config = record { cpus = 0; nspec = 0; bufsize = 0; specsize = 0; max_issues = 0; max_calls = 0; policy = Switch }
 
 -- lists that read alike, Seals apart, hold the same of the last speculation that has the CPU as a caller
 last_held : (k : Config) (c s : ℕ) (g h : List Deed) → ReadsApart k c g h → held c (last_called c s g) g ≡ held c (last_called c s h) h

@@ -1,5 +1,5 @@
 -- The counts of a report are at most the calls that the CPU made.
-use Rattle.std.proofs.Common.{◌≡◌, ℕ, ◌+◌, ◌≤◌, ◌<◌, Bool, true, false, not, ◌&&◌, ◌==◌, nat_le, if◌then◌else◌, List, [], ◌∷◌, length, Option, None, Some, refl, sym, ◌∙◌, subst, ⊎_elim, arith, true≢false}
+use Rattle.std.proofs.Common.{◌≡◌, ℕ, ◌+◌, ◌≤◌, ◌<◌, Bool, true, false, not, ◌&&◌, ◌||◌, ◌==◌, nat_le, if◌then◌else◌, List, [], ◌∷◌, length, Option, None, Some, refl, sym, ◌∙◌, subst, ⊎_elim, arith, true≢false}
 use Rattle.std.proofs.lemmas.Bool.Decides.{nat_tests}
 use Rattle.dspec_record.specs.declared.field.Shape.{Shape}
 use Rattle.dspec_word.specs.SpecId.{Speculation}
@@ -13,9 +13,9 @@ use Rattle.dspec_deeds.specs.declared.deed.Deed.TheVariants.{Trace, Scan, Opened
 use Rattle.dspec_deeds.specs.FateKinds.{trace_stopped, spoken_stopped, decided_stopped, is_copied}
 use Rattle.dspec_deeds.specs.History.{scan, scanned}
 use Rattle.dspec_deeds.specs.Own.{Offer, contents, offered_by, number_of, offers, is_call, calls, held, active, is_drop, seals}
-use Rattle.dspec_deeds.specs.Legal.{IsSound, OwnAllows, IsFitting, CopiesOrLoses, IsAllowed}
+use Rattle.dspec_deeds.specs.Legal.{is_empty, is_closed, fits_principal, IsSound, OwnAllows, IsFitting, CopiesOrLoses, IsAllowed}
 use Rattle.dspec_deeds.specs.Reports.{total, one_if, drops_now, loses_now, stops_now, fails_now, missed_busy, busy_fails, other_fails, report, CountsWithin}
-use Rattle.dspec_deeds.proofs.TestLemmas.{either_way, and_false, same_number}
+use Rattle.dspec_deeds.proofs.TestLemmas.{either_way, and_tells, and_false, same_number}
 use Rattle.dspec_deeds.proofs.DeedEffects.{Accounts, legal_accounts}
 use Rattle.dspec_deeds.proofs.Balance.{balance}
 
@@ -138,11 +138,15 @@ module _ (shape : ℕ → Option Shape) (k : Config) where
   abbrev Within : ℕ → List Deed → Type 0
   Within c h = nat_le (extent shape (active c h)) k.bufsize ≡ true
 
+  -- a piece that fits has room
+  pub has_room : (c : ℕ) (p : Piece) (h : List Deed) → fits_principal shape k c p h ≡ true → fits shape (active c h) p k.bufsize ≡ true
+  has_room c p h e = (and_tells (fits shape (active c h) p k.bufsize) (is_empty p || not (is_closed k c h)) e).0
+
   -- a buffer that takes a piece that fits
-  kept_within : (c a : ℕ) (h : List Deed) (p : Piece) (b : Bool) → b ≡ fits shape (active a h) p k.bufsize → Within c h → nat_le (extent shape (if b && (c == a) then p ∷ active c h else active c h)) k.bufsize ≡ true
+  kept_within : (c a : ℕ) (h : List Deed) (p : Piece) (b : Bool) → b ≡ fits_principal shape k a p h → Within c h → nat_le (extent shape (if b && (c == a) then p ∷ active c h else active c h)) k.bufsize ≡ true
   kept_within c a h p false e w = w
   kept_within c a h p true e w = ⊎_elim
-      (λ (t : (c == a) ≡ true). rw t (subst (λ x. fits shape (active x h) p k.bufsize ≡ true) (sym (same_number c a t)) (sym e)))
+      (λ (t : (c == a) ≡ true). rw t (subst (λ x. fits shape (active x h) p k.bufsize ≡ true) (sym (same_number c a t)) (has_room a p h (sym e))))
       (λ (n : (c == a) ≡ false). rw n w)
       (either_way (c == a))
 
@@ -156,13 +160,12 @@ module _ (shape : ℕ → Option Shape) (k : Config) where
       step true e = ⊎_elim
           (λ (t : (c == a) ≡ true).
           let at = same_number c a t in
-          let fit = subst (λ x. is_copied f ≡ fits shape (active x h) (block (contents (held x id h))) k.bufsize) (sym at) (o e).1 in
-          rw t (sym fit ∙ e))
+          rw t (subst (λ x. fits shape (active x h) (block (contents (held x id h))) k.bufsize ≡ true) (sym at) (has_room a (block (contents (held a id h))) h (sym (o e).1 ∙ e))))
           (λ (n : (c == a) ≡ false). rw n w)
           (either_way (c == a))
 
   -- an active buffer is within its size
-  active_within : (c : ℕ) (h : List Deed) → AreFitted h → Within c h
+  pub active_within : (c : ℕ) (h : List Deed) → AreFitted h → Within c h
   active_within c [] s = grind (arith, nat_tests)
   active_within c (Trace a r traced.Kept ∷ h) s = kept_within c a h (one r) true s.1 (active_within c h s.0)
   active_within c (Trace a r traced.Dropped ∷ h) s = active_within c h s.0
@@ -182,8 +185,8 @@ module _ (shape : ℕ → Option Shape) (k : Config) where
   lost_some : (c : ℕ) (id : Speculation) (n : ℕ) (h : List Deed) → AreFitted h → CopiesOrLoses shape k c h (held c id h) (decided.Lost n) → 1 ≤ n
   lost_some c id n h s o = step (held c id h) o.0 o.1
     where
-      step : (os : List Offer) → n ≡ length os → false ≡ fits shape (active c h) (block (contents os)) k.bufsize → 1 ≤ n
-      step [] e f = absurd (true≢false (sym (active_within c h s) ∙ sym f))
+      step : (os : List Offer) → n ≡ length os → false ≡ fits_principal shape k c (block (contents os)) h → 1 ≤ n
+      step [] e f = absurd (true≢false (sym (subst (λ b. false ≡ (b && true)) (active_within c h s) f)))
       step (o ∷ os) e f = omega arith
 
   -- a refused reservation was of a record

@@ -4,6 +4,7 @@ use Rattle.dspec_record.specs.declared.field.Shape.{Shape}
 use Rattle.dspec_record.specs.Record.{Record}
 use Rattle.dspec_word.specs.SpecId.{Speculation}
 use Rattle.dspec_deeds.specs.declared.config.Config.{Config}
+use Rattle.dspec_deeds.specs.declared.config.Policy.TheVariants.{Switch}
 use Rattle.dspec_deeds.specs.declared.calls.Actor.TheVariants.{Cpu}
 use Rattle.dspec_deeds.specs.declared.deed.TraceFate.TheVariants as traced
 use Rattle.dspec_deeds.specs.declared.deed.SpeculateFate.TheVariants as spoken
@@ -17,13 +18,13 @@ use Rattle.dspec_deeds.specs.Weaving.{bare, woven, HaveLists}
 use Rattle.dspec_deeds.proofs.WovenLists.{weaves}
 
 abbrev k : Config
-k = record { cpus = 2; nspec = 1; bufsize = 64; specsize = 64; max_issues = 100; max_calls = 100 }
+k = record { cpus = 2; nspec = 1; bufsize = 64; specsize = 64; max_issues = 100; max_calls = 100; policy = Switch }
 
 abbrev id : Speculation
 id = record { issue = 0; slot = 1 }
 
 abbrev r : Record
-r = record { epid = 0; values = [] }
+r = record { epid = 0; stamp = 0; values = [] }
 
 abbrev shape : ℕ → Option Shape
 shape e = None
@@ -60,8 +61,8 @@ authors : HasAuthors k h
 authors = ((((((tt, of_zero), of_zero), of_zero), of_one), of_zero), of_zero)
 
 own : (c : ℕ) → c < 2 → IsOwn shape k c (p c)
-own zero lt = (((((((tt, refl, tt), refl, tt), refl, refl), refl, (omega arith, refl)), refl, refl), refl, refl), refl, (omega arith, refl))
-own (suc zero) lt = ((((tt, refl, (omega arith, refl)), refl, (omega arith, refl)), refl, refl), refl, (omega arith, refl))
+own zero lt = (((((((tt, refl, tt), refl, tt), refl, refl), refl, (omega arith, refl, refl)), refl, refl), refl, refl), refl, (omega arith, refl, refl))
+own (suc zero) lt = ((((tt, refl, (omega arith, refl, refl)), refl, (omega arith, refl, refl)), refl, refl), refl, (omega arith, refl, refl))
 own (suc (suc c)) lt = absurd (omega arith)
 
 parts : (c : ℕ) → c < 2 → bare (p c) ≡ part (Cpu c) h

@@ -18,6 +18,6 @@ in_between low high n e = let both = and_tells (nat_le low n) (nat_le n high) e 
 -- a session that starts has a CPU and a speculation
 pub set_up : (k : Config) → start_fault k ≡ None → (1 ≤ k.cpus) × (1 ≤ k.nspec)
 set_up k e =
-    let cpus = passed (is_between 1 16 k.cpus) Cpus _ e in
-    let specs = passed (is_between 1 32 k.nspec) Specs _ cpus.1 in
-    (in_between 1 16 k.cpus cpus.0, in_between 1 32 k.nspec specs.0)
+    let cpus = passed (is_between 1 64 k.cpus) Cpus _ e in
+    let specs = passed (is_between 1 63 k.nspec) Specs _ cpus.1 in
+    (in_between 1 64 k.cpus cpus.0, in_between 1 63 k.nspec specs.0)

@@ -38,7 +38,7 @@ discard_goes decided.Void e = refl
 discard_goes decided.Stopped e = absurd (true≢false (sym e))
 
 -- what was done was done to an open speculation
-pub answered_open : (h : List Deed) (c : ℕ) (id : Speculation) (stopped done : Bool) → stopped ≡ false → done ≡ true → Answers h c id stopped done → is_open id h ≡ true
+pub answered_open : (h : List Deed) (c : ℕ) (id : Speculation) (stopped done : Bool) → stopped ≡ false → done ≡ true → Answers (halted h) (late c h) (is_open id h) stopped done → is_open id h ≡ true
 answered_open h c id true done s t a = absurd (true≢false s)
 answered_open h c id false done s t a = sym a.1 ∙ t
 
@@ -47,7 +47,7 @@ abbrev pub Unseen : Speculation → List Deed → Type 0
 Unseen id h = (verdict id h ≡ undecided) × (callers id h ≡ [])
 
 -- no record is granted to what was not given out
-not_called : (h : List Deed) (c : ℕ) (id j : Speculation) (f : SpeculateFate) → opened id h ≡ false → Answers h c j (spoken_stopped f) (spoken_granted f) → (spoken_granted f && same_id id j) ≡ false
+not_called : (h : List Deed) (c : ℕ) (id j : Speculation) (f : SpeculateFate) → opened id h ≡ false → Answers (halted h) (late c h) (is_open j h) (spoken_stopped f) (spoken_granted f) → (spoken_granted f && same_id id j) ≡ false
 not_called h c id j f un a = ⊎_elim
     (λ (t : (spoken_granted f && same_id id j) ≡ true).
     let both = and_tells (spoken_granted f) (same_id id j) t in
@@ -58,7 +58,7 @@ not_called h c id j f un a = ⊎_elim
     (either_way (spoken_granted f && same_id id j))
 
 -- no decision is made of what was not given out
-not_decided : (h : List Deed) (c : ℕ) (id j : Speculation) (stopped done : Bool) → (done ≡ true → stopped ≡ false) → opened id h ≡ false → Answers h c j stopped done → (done && same_id id j) ≡ false
+not_decided : (h : List Deed) (c : ℕ) (id j : Speculation) (stopped done : Bool) → (done ≡ true → stopped ≡ false) → opened id h ≡ false → Answers (halted h) (late c h) (is_open j h) stopped done → (done && same_id id j) ≡ false
 not_decided h c id j stopped done goes un a = ⊎_elim
     (λ (t : (done && same_id id j) ≡ true).
     let both = and_tells done (same_id id j) t in

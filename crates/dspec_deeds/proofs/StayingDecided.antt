@@ -7,7 +7,7 @@ use Rattle.dspec_deeds.specs.declared.calls.Actor.TheVariants.{Cpu}
 use Rattle.dspec_deeds.specs.declared.deed.Deed.{Deed}
 use Rattle.dspec_deeds.specs.declared.deed.Deed.TheVariants.{Speculate, Commit, Discard, Release}
 use Rattle.dspec_deeds.specs.FateKinds.{spoken_granted, spoken_stopped, is_commit, is_discard, decided_stopped}
-use Rattle.dspec_deeds.specs.History.{same_id, issue, releases, present, opens, opened, verdict, is_undecided, is_open, callers, standing, code_at, same_actor, author, releaser, solo, solo_of, settled}
+use Rattle.dspec_deeds.specs.History.{same_id, halted, late, issue, releases, present, opens, opened, verdict, is_undecided, is_open, callers, standing, code_at, same_actor, author, releaser, solo, solo_of, settled}
 use Rattle.dspec_deeds.specs.Legal.{Answers, IsSound}
 pub use Rattle.dspec_deeds.specs.OthersDeeds.{WaitsFor, Stands}
 use Rattle.dspec_deeds.proofs.TestLemmas.{either_way, off, or_true, and_tells, same_number, same_id_tells, cpu_is_itself}
@@ -16,7 +16,7 @@ use Rattle.dspec_deeds.proofs.PresentIds.{decided_shut}
 use Rattle.dspec_deeds.proofs.StayingOwn.{settled_other}
 
 -- what is done to a speculation is done to an open one
-not_done : (h : List Deed) (c : ℕ) (id j : Speculation) (stopped done : Bool) → (done ≡ true → stopped ≡ false) → is_open id h ≡ false → Answers h c j stopped done → (done && same_id id j) ≡ false
+not_done : (h : List Deed) (c : ℕ) (id j : Speculation) (stopped done : Bool) → (done ≡ true → stopped ≡ false) → is_open id h ≡ false → Answers (halted h) (late c h) (is_open j h) stopped done → (done && same_id id j) ≡ false
 not_done h c id j stopped done goes shut a = ⊎_elim
     (λ (t : (done && same_id id j) ≡ true).
     let both = and_tells done (same_id id j) t in

@@ -1,5 +1,5 @@
 -- What another's deed leaves of a CPU's own: its call of speculation, its buffers and its batches.
-use Rattle.std.proofs.Common.{◌≡◌, ℕ, ◌+◌, Bool, true, false, ◌&&◌, ◌==◌, List, [], ◌∷◌, Some, None, if◌then◌else◌, refl, ap, ◌∙◌, arith}
+use Rattle.std.proofs.Common.{◌≡◌, ℕ, ◌+◌, Bool, true, false, ◌&&◌, ◌||◌, ◌==◌, List, [], ◌∷◌, Some, None, if◌then◌else◌, refl, ap, ◌∙◌, arith}
 use Rattle.dspec_word.specs.SpecId.{Speculation}
 use Rattle.dspec_deeds.specs.declared.config.Config.{Config}
 use Rattle.dspec_deeds.specs.declared.calls.Actor.TheVariants.{Cpu}
@@ -7,7 +7,7 @@ use Rattle.dspec_deeds.specs.declared.deed.Deed.{Deed}
 use Rattle.dspec_deeds.specs.declared.deed.Deed.TheVariants.{Trace, Scan, Opened, Miss, Speculate, Commit, Discard, Settle, Seal}
 use Rattle.dspec_deeds.specs.FateKinds.{trace_kept, trace_dropped, spoken_granted, spoken_kept, is_commit, is_discard, is_copied, is_lost}
 use Rattle.dspec_deeds.specs.History.{same_id, same_actor, author, scan, joined, callers, is_among, settled, late, halted, is_halt, ack, is_scan}
-use Rattle.dspec_deeds.specs.Own.{offers, calls, held, seals_now, seals, accepts, accepted, active, is_drop, growing, batches}
+use Rattle.dspec_deeds.specs.Own.{offers, calls, held, seals_now, seals, accepts, accepted, active, is_drop, full, growing, batches}
 use Rattle.dspec_deeds.specs.Reports.{missed_busy}
 use Rattle.dspec_deeds.proofs.TestLemmas.{and_false, has_joined}
 
@@ -116,6 +116,10 @@ is_drop_other c (Trace a r f) h e = rw e (and_false (trace_dropped f))
 is_drop_other c (Commit a id f) h e = rw e (and_false (is_lost f))
 is_drop_other c (Settle a id f) h e = rw e (and_false (is_lost f))
 is_drop_other c d h e = refl
+
+-- another's deed closes no buffer of the CPU
+pub full_other : (c : ℕ) (d : Deed) (h : List Deed) → same_actor (Cpu c) (author d h) ≡ false → full c (d ∷ h) ≡ full c h
+full_other c d h e = ap (λ b. b || full c h) (is_drop_other c d h e)
 
 -- another's deed leaves the batch that the CPU's next Seal seals
 pub growing_other : (c : ℕ) (d : Deed) (h : List Deed) → same_actor (Cpu c) (author d h) ≡ false → growing c (d ∷ h) ≡ growing c h

@@ -1,5 +1,5 @@
 -- Which deed may come next.
-use Rattle.std.specs.Prelude.{ℕ, ◌≡◌, ◌≢◌, ◌<◌, ◌≤◌, ◌⊎◌, ◌&&◌, nat_lt, Bool, true, false, not, List, [], ◌∷◌, length, MatchBool, Option, None}
+use Rattle.std.specs.Prelude.{ℕ, ◌≡◌, ◌≢◌, ◌<◌, ◌≤◌, ◌⊎◌, ◌&&◌, ◌||◌, nat_lt, Bool, true, false, not, List, [], ◌∷◌, length, MatchBool, Option, None}
 use Rattle.dspec_record.specs.declared.field.Shape.{Shape}
 use Rattle.dspec_record.specs.Record.{Record}
 use Rattle.dspec_buffer.specs.Extent.{Piece, one, block, fits}
@@ -9,16 +9,17 @@ use Rattle.dspec_deeds.specs.declared.calls.Actor.TheVariants.{Cpu}
 use Rattle.dspec_deeds.specs.declared.deed.DecideFate.{DecideFate}
 use Rattle.dspec_deeds.specs.declared.deed.Deed.{Deed}
 use Rattle.dspec_deeds.specs.declared.deed.Deed.TheVariants.{Trace, Scan, Opened, Miss, Speculate, Commit, Discard, Settle, Seal, Release, Halt}
+use Rattle.dspec_deeds.specs.Ranges.{is_fill}
 use Rattle.dspec_deeds.specs.FateKinds.{trace_stopped, trace_kept, spoken_stopped, spoken_granted, spoken_kept, decided_stopped, is_commit, is_discard, is_copied, count_of}
-use Rattle.dspec_deeds.specs.History.{halted, issue, Verdict, undecided, committed, discarded, opened, callers, releaser, solo_of, verdict, is_undecided, is_open, settled, scan, opened_since, author, part, late, owed}
-use Rattle.dspec_deeds.specs.Own.{Offer, contents, held, active, seals}
+use Rattle.dspec_deeds.specs.History.{halted, issue, Verdict, undecided, committed, discarded, opened, callers, releaser, solo_of, verdict, is_undecided, settled, scan, opened_since, author, part, late, owed}
+use Rattle.dspec_deeds.specs.Own.{Offer, contents, held, active, full, seals}
 
 -- The common part: what rests on others' deeds.
 
 -- a call that was shown that the session runs goes on after a stop, if its CPU has done nothing since; it does what it
 -- asks for exactly where the speculation is open
-abbrev pub Answers : List Deed → ℕ → Speculation → Bool → Bool → Type 0
-Answers h c id stopped done = MatchBool stopped (halted h ≡ true) ((late c h ≡ false) × (done ≡ is_open id h))
+abbrev pub Answers : Bool → Bool → Bool → Bool → Bool → Type 0
+Answers halt tardy is_open stopped done = MatchBool stopped (halt ≡ true) ((tardy ≡ false) × (done ≡ is_open))
 
 -- a settlement does what the decision says
 abbrev pub SettlesAs : Verdict → DecideFate → Type 0
@@ -57,7 +58,7 @@ abbrev pub at_present : ℕ → Facts → Speculation
 at_present s x = record { issue = x.issues s; slot = s }
 
 abbrev pub AnswersBy : Facts → ℕ → Speculation → Bool → Bool → Type 0
-AnswersBy x c id stopped done = MatchBool stopped (x.halt ≡ true) ((x.tardy c ≡ false) × (done ≡ (x.given id && is_undecided (x.ruled id))))
+AnswersBy x c id stopped done = Answers x.halt (x.tardy c) (x.given id && is_undecided (x.ruled id)) stopped done
 
 abbrev pub is_free_by : Config → Facts → ℕ → Bool
 is_free_by k x s = not (x.given (at_present s x)) && nat_lt (x.issues s) k.max_issues
@@ -77,20 +78,16 @@ MayComeBy k x (Release s) =
     × ((c : ℕ) → releaser (solo_of (x.ruled (at_present s x)) (x.called (at_present s x))) ≡ Cpu c → x.scans c ≡ 0)
 MayComeBy k x Halt = x.halt ≡ false
 
-abbrev pub PaysBy : Facts → Deed → Type 0
-PaysBy x (Release s) = (x.debt ≡ 0) ⊎ (x.debt ≡ s)
-PaysBy x d = x.debt ≡ 0
+-- a slot that has to be released is released next
+abbrev pub Pays : ℕ → Deed → Type 0
+Pays debt (Release s) = (debt ≡ 0) ⊎ (debt ≡ s)
+Pays debt d = debt ≡ 0
 
 abbrev pub MayCome : Config → List Deed → Deed → Type 0
 MayCome k h d = MayComeBy k (facts k h) d
 
--- a slot that has to be released is released next
-abbrev pub PaysDebt : List Deed → Deed → Type 0
-PaysDebt h (Release s) = (owed h ≡ 0) ⊎ (owed h ≡ s)
-PaysDebt h d = owed h ≡ 0
-
 abbrev pub FollowsBy : Config → Facts → Deed → Type 0
-FollowsBy k x d = PaysBy x d × MayComeBy k x d
+FollowsBy k x d = Pays x.debt d × MayComeBy k x d
 
 abbrev pub Follows : Config → List Deed → Deed → Type 0
 Follows k h d = FollowsBy k (facts k h) d
@@ -115,10 +112,19 @@ abbrev pub sealed_last : List Deed → Bool
 sealed_last [] = false
 sealed_last (d ∷ h) = is_seal d
 
+-- no record: such a piece reserves nothing
+abbrev pub is_empty : Piece → Bool
+is_empty (block []) = true
+is_empty p = false
+
+-- under Fill, once a reservation was refused, the CPU's principal buffer takes nothing more
+abbrev pub is_closed : Config → ℕ → List Deed → Bool
+is_closed k c h = is_fill k.policy && full c h
+
 module _ (shape : ℕ → Option Shape) (k : Config) where
-  -- a traced record fits the rest of the active principal buffer
+  -- a piece fits the rest of the active principal buffer, and that isn't closed to it
   abbrev pub fits_principal : ℕ → Piece → List Deed → Bool
-  fits_principal c p h = fits shape (active c h) p k.bufsize
+  fits_principal c p h = fits shape (active c h) p k.bufsize && (is_empty p || not (is_closed k c h))
 
   -- a speculative record fits the rest of the CPU's buffer of the speculation
   abbrev pub fits_speculative : ℕ → Speculation → Record → List Deed → Bool
@@ -134,7 +140,7 @@ module _ (shape : ℕ → Option Shape) (k : Config) where
   OwnAllows h (Commit c id f) = MatchBool (is_commit f) (CopiesOrLoses c h (held c id h) f) (Unit {0})
   OwnAllows h (Discard c id f) = MatchBool (is_discard f) (count_of f ≡ length (held c id h)) (Unit {0})
   OwnAllows h (Settle c id f) = MatchBool (is_discard f) (count_of f ≡ length (held c id h)) (CopiesOrLoses c h (held c id h) f)
-  OwnAllows h (Seal c) = (seals c h < k.max_calls) × (scan k c h ≡ 0)
+  OwnAllows h (Seal c) = (seals c h < k.max_calls) × (scan k c h ≡ 0) × (is_fill k.policy ≡ false)
   OwnAllows h (Release s) = (c : ℕ) → author (Release s) h ≡ Cpu c → sealed_last (part (Cpu c) h) ≡ false
   OwnAllows h d = Unit {0}
 

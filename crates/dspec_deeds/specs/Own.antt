@@ -1,5 +1,5 @@
 -- What is read off a CPU's own deeds: its offers, its buffers and its batches. The latest is at the head.
-use Rattle.std.specs.Prelude.{ℕ, ◌+◌, ◌==◌, Bool, false, ◌&&◌, List, [], ◌∷◌, ◌++◌, reverse, take, if◌then◌else◌, Option, Some, None}
+use Rattle.std.specs.Prelude.{ℕ, ◌+◌, ◌==◌, Bool, false, ◌&&◌, ◌||◌, List, [], ◌∷◌, ◌++◌, reverse, take, if◌then◌else◌, Option, Some, None}
 use Rattle.dspec_record.specs.Record.{Record}
 use Rattle.dspec_buffer.specs.Extent.{Piece, one, block}
 use Rattle.dspec_word.specs.SpecId.{Speculation}
@@ -108,6 +108,11 @@ is_drop c (Trace a r f) = trace_dropped f && (c == a)
 is_drop c (Commit a id f) = is_lost f && (c == a)
 is_drop c (Settle a id f) = is_lost f && (c == a)
 is_drop c d = false
+
+-- a reservation in the CPU's principal buffer was refused before
+abbrev pub full : ℕ → List Deed → Bool
+full c [] = false
+full c (d ∷ h) = is_drop c d || full c h
 
 -- a batch: what was accepted, and the drops counted, between two Seals
 pub record Batch : Type 0 where

@@ -1,7 +1,28 @@
 ghost use Rattle.std.specs.Prelude.{◌≡◌, ◌≤◌, ◌^◌, ◌↔◌, IsTrue, IsOk, IfErr};
-ghost use Rattle.dspec_deeds.specs.Ranges.{start_fault, is_size};
+ghost use Rattle.dspec_deeds.specs.Ranges.{start_fault, is_size, is_fill};
 
-/// What a session is set up with: numbers of CPUs and speculations, buffer sizes in bytes, and two bounds.
+/// What becomes of a principal buffer that is full: the Guide's chapter on buffers has both.
+#[derive(Clone, Copy, Debug, PartialEq, Eq)]
+pub enum Policy {
+    /// The consumer has it switched for a spare one.
+    Switch,
+    /// The first reservation that is refused there closes it: nothing more is traced to it, and nothing sealed.
+    Fill,
+}
+
+impl Policy {
+    /// Whether a refused reservation closes the buffer.
+    pub fn is_fill(self) -> bool
+        ensures { result ≡ is_fill self }
+    {
+        match self {
+            Policy::Switch => false,
+            Policy::Fill => true,
+        }
+    }
+}
+
+/// What a session is set up with: numbers of CPUs and speculations, buffer sizes in bytes, two bounds, and a policy.
 #[derive(Clone, Copy, Debug, PartialEq, Eq)]
 pub struct Config {
     /// How many CPUs trace.
@@ -16,6 +37,8 @@ pub struct Config {
     pub max_issues: u64,
     /// How many calls a CPU makes; later ones are worn.
     pub max_calls: u64,
+    /// What becomes of a full principal buffer.
+    pub policy: Policy,
 }
 
 /// Why a session can't start, in the order in which the fields are looked at.
@@ -41,16 +64,16 @@ fn is_buffer_size(bytes: u32) -> bool
 }
 
 impl Config {
-    /// Looks at the fields in order, and refuses the first that is out of range: 1 to 16 CPUs, 1 to 32 speculations,
+    /// Looks at the fields in order, and refuses the first that is out of range: 1 to 64 CPUs, 1 to 63 speculations,
     /// two buffer sizes, 1 to 2^57 issues and 1 to 2^62 calls. It never answers Memory.
     pub fn check(&self) -> Result<(), StartFault>
         ensures accepted { IsOk result ↔ (start_fault self.now ≡ None) }
         ensures refused { IfErr result (λ fault. start_fault self.now ≡ Some fault) }
     {
-        if self.cpus < 1 || self.cpus > 16 {
+        if self.cpus < 1 || self.cpus > 64 {
             return Err(StartFault::Cpus);
         }
-        if self.nspec < 1 || self.nspec > 32 {
+        if self.nspec < 1 || self.nspec > 63 {
             return Err(StartFault::Specs);
         }
         if !is_buffer_size(self.bufsize) {

@@ -11,6 +11,7 @@ pub mod calls;
 mod common;
 pub mod config;
 pub mod deed;
+mod filled;
 mod laws;
 mod lists;
 pub mod report;
@@ -20,8 +21,9 @@ pub use calls::{
     Actor, Answer, ConsumerOp, CpuOp, Decided, Op, Opening, Served, Spoken, Traced, Turn,
 };
 pub use common::{common_part, others_leave, word_changes};
-pub use config::{Config, StartFault};
+pub use config::{Config, Policy, StartFault};
 pub use deed::{DecideFate, Deed, SpeculateFate, TraceFate};
+pub use filled::{closed_for_good, empty_fits, full_drops, never_sealed, refused_closes};
 pub use laws::{acceptance_law, fate_law, prefix_law};
 pub use lists::{
     bare_shows, own_marks, own_parts, own_reads, own_report, own_sides, placed_seals, weaving,

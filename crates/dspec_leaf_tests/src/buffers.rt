@@ -12,7 +12,7 @@ fn rec(rt: &impl Abort, epid: u32, values: &[u64]) -> Rec {
 }
 
 /// An empty buffer of this size, by its bound.
-fn buffer<S: Schema, B: TraceBuffer<S>>(
+pub fn buffer<S: Schema, B: TraceBuffer<S>>(
     rt: &(impl Abort + AllocGlobal),
     _schema: &S,
     size: u32,
@@ -40,7 +40,7 @@ fn keep<S: Schema, B: TraceBuffer<S>>(
 }
 
 /// Whether a walk over the buffer gives these records and ends.
-fn walks<S: Schema, B: TraceBuffer<S>>(schema: &S, buffer: &B, wanted: &[Rec]) -> bool {
+pub fn walks<S: Schema, B: TraceBuffer<S>>(schema: &S, buffer: &B, wanted: &[Rec]) -> bool {
     let mut place = 0;
     for rec in wanted {
         match buffer.next(schema, place) {
@@ -52,7 +52,7 @@ fn walks<S: Schema, B: TraceBuffer<S>>(schema: &S, buffer: &B, wanted: &[Rec]) -
 }
 
 /// Whether the text is read as these records.
-fn reads<S: Schema>(schema: &S, text: &[u8], wanted: &[Rec]) -> bool {
+pub fn reads<S: Schema>(schema: &S, text: &[u8], wanted: &[Rec]) -> bool {
     let Ok(mut records) = read_all(schema, text) else {
         return false;
     };
@@ -64,7 +64,7 @@ fn reads<S: Schema>(schema: &S, text: &[u8], wanted: &[Rec]) -> bool {
     records.next().is_none()
 }
 
-fn fault_of<S: Schema>(schema: &S, text: &[u8]) -> Option<ReadFault> {
+pub fn fault_of<S: Schema>(schema: &S, text: &[u8]) -> Option<ReadFault> {
     read_all(schema, text).err()
 }
 
@@ -72,7 +72,8 @@ fn fault(kind: ReadKind, at: usize) -> Option<ReadFault> {
     Some(ReadFault { kind, at })
 }
 
-const PADDED_TEXT: [u8; 32] = [
+/// The text of the records 1, 2(7) and 4(9) of the four enablings.
+pub const PADDED_TEXT: [u8; 32] = [
     1, 0, 0, 0, 0, 0, 0, 0, 2, 0, 0, 0, 0, 0, 0, 0, 7, 0, 0, 0, 0, 0, 0, 0, 4, 0, 0, 0, 9, 0, 0, 0,
 ];
 

@@ -9,4 +9,8 @@ mod records;
 #[cfg(test)]
 mod same;
 #[cfg(test)]
+mod stamps;
+#[cfg(test)]
+mod texts;
+#[cfg(test)]
 mod words;

@@ -16,7 +16,7 @@ pub fn four_enablings() -> Result<Enablings, SchemaFault> {
 }
 
 /// Writes the record into a slice that fits it; whether it did.
-fn put_whole<S: Schema>(schema: &S, rec: &Rec, out: &mut [u8]) -> bool {
+pub fn put_whole<S: Schema>(schema: &S, rec: &Rec, out: &mut [u8]) -> bool {
     if !schema.accepts(rec) {
         return false;
     }
@@ -112,7 +112,7 @@ fn enabling_limits(rt: HostRuntime) -> Result<(), Fail> {
 }
 
 /// What the schema reads at the front of the bytes.
-fn read<S: Schema>(schema: &S, bytes: &[u8]) -> Result<(Rec, usize), ReadKind> {
+pub fn read<S: Schema>(schema: &S, bytes: &[u8]) -> Result<(Rec, usize), ReadKind> {
     schema.get(bytes)
 }
 

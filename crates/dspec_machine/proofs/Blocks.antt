@@ -19,6 +19,7 @@ use Rattle.dspec_play.specs.Coherent.{IsSlot}
 use Rattle.dspec_machine.specs.Shown.{ShowsSide, HasPieces}
 use Rattle.dspec_deeds.specs.Legal.{IsSound, SettlesAs, OwnAllows}
 use Rattle.dspec_deeds.specs.Ranges.{start_fault}
+use Rattle.dspec_deeds.proofs.ReportBounds.{has_room}
 use Rattle.dspec_deeds.proofs.TestLemmas.{either_way, same_number, numbers_differ, and_false}
 use Rattle.dspec_deeds.proofs.SoundLists.{opened_in_range}
 use Rattle.dspec_deeds.proofs.PresentIds.{present_is, decided_given}
@@ -53,13 +54,13 @@ stream_grows c decided.Stopped os h = append-nil (stream c h)
 -- a copied buffer's block fits: at a commit
 pub commit_fits : (shape : ℕ → Option Shape) (k : Config) (c : ℕ) (id : Speculation) (f : DecideFate) (h : List Deed) → OwnAllows shape k h (Commit c id f) → is_copied f ≡ true
     → fits shape (active c h) (block (contents (held c id h))) k.bufsize ≡ true
-commit_fits shape k c id (decided.Copied n) h allows e = sym allows.1
+commit_fits shape k c id (decided.Copied n) h allows e = has_room shape k c (block (contents (held c id h))) h (sym allows.1)
 commit_fits shape k c id f h allows e = absurd (true≢false (sym e))
 
 -- and at a settlement
 pub settle_fits : (shape : ℕ → Option Shape) (k : Config) (c : ℕ) (id : Speculation) (f : DecideFate) (h : List Deed) → OwnAllows shape k h (Settle c id f) → is_copied f ≡ true
     → fits shape (active c h) (block (contents (held c id h))) k.bufsize ≡ true
-settle_fits shape k c id (decided.Copied n) h allows e = sym allows.1
+settle_fits shape k c id (decided.Copied n) h allows e = has_room shape k c (block (contents (held c id h))) h (sym allows.1)
 settle_fits shape k c id f h allows e = absurd (true≢false (sym e))
 
 -- what stands at a place of a list

@@ -1,7 +1,6 @@
 -- What a CPU's call on a speculation leaves of its buffers and its marks.
-use Rattle.std.proofs.Common.{◌≡◌, ◌≢◌, ℕ, ◌+◌, ◌-◌, Bool, true, false, ◌&&◌, ◌==◌, List, ◌∷◌, length, map, set, Option, Some, None, refl, sym, ap, ◌∙◌, subst, arith}
+use Rattle.std.proofs.Common.{◌≡◌, ◌≢◌, ℕ, ◌+◌, ◌-◌, Bool, true, false, ◌&&◌, ◌==◌, List, ◌∷◌, length, map, set, Option, None, refl, sym, ap, ◌∙◌, subst}
 use Rattle.std.specs.Prelude.{MatchBool}
-use Rattle.std.proofs.lemmas.Bool.Decides.{nat_tests}
 use Rattle.dspec_buffer.specs.Extent.{Piece, one}
 use Rattle.dspec_record.specs.declared.field.Shape.{Shape}
 use Rattle.dspec_record.specs.Record.{Record}
@@ -12,17 +11,17 @@ use Rattle.dspec_deeds.specs.declared.deed.SpeculateFate.TheVariants as spoken
 use Rattle.dspec_deeds.specs.declared.deed.Deed.{Deed}
 use Rattle.dspec_deeds.specs.declared.deed.Deed.TheVariants.{Speculate, Commit, Discard, Settle}
 use Rattle.dspec_deeds.specs.FateKinds.{spoken_granted, spoken_kept}
-use Rattle.dspec_deeds.specs.History.{same_id, is_open, is_among, joined, calls_on, callers, issue, present}
+use Rattle.dspec_deeds.specs.History.{same_id, is_open, issue, present}
 use Rattle.dspec_deeds.specs.Own.{contents, held, keeps, empties, calls, is_call}
 use Rattle.dspec_deeds.specs.Legal.{IsSound, OwnAllows, fits_speculative}
 use Rattle.dspec_deeds.specs.Ranges.{start_fault}
 use Rattle.dspec_play.specs.Coherent.{IsSlot}
 use Rattle.dspec_machine.specs.Shown.{HasPieces}
-use Rattle.dspec_deeds.proofs.TestLemmas.{and_false, number_is_itself, id_is_itself, other_slot, has_joined}
+use Rattle.dspec_deeds.proofs.TestLemmas.{and_false, number_is_itself, other_number, other_slot, id_is_itself}
 use Rattle.dspec_deeds.proofs.SoundLists.{opened_in_range}
 use Rattle.dspec_deeds.proofs.PresentIds.{open_present}
 use Rattle.dspec_deeds.proofs.SetUp.{set_up}
-use Rattle.dspec_machine.proofs.OtherSides.{Marks}
+use Rattle.dspec_deeds.specs.Marks.{mark}
 use Rattle.dspec_machine.proofs.OwnParts.{EachSlot, IsBuffer, slot_set}
 
 -- an open speculation is of a slot of the session
@@ -70,30 +69,23 @@ held_unnamed c j id r f h e = held_apart c j (Speculate c id r f) h (unnamed (sp
 pub held_unkept : (c : ℕ) (j id : Speculation) (r : Record) (f : SpeculateFate) (h : List Deed) → spoken_kept f ≡ false → held c j (Speculate c id r f ∷ h) ≡ held c j h
 held_unkept c j id r f h e = held_apart c j (Speculate c id r f) h (rw e refl) refl
 
--- a granted record makes the CPU a caller
-pub mark_granted : (c : ℕ) (id : Speculation) (r : Record) (f : SpeculateFate) (h : List Deed) → spoken_granted f ≡ true → issue id.slot h ≡ id.issue → present id.slot h ≡ id
-    → Marks c id.slot (Speculate c id r f ∷ h) (id.issue + 1)
-mark_granted c id r f h e now is =
-    let itself : same_id (present id.slot h) id ≡ true = ap (λ j. same_id j id) is ∙ id_is_itself id in
-    let on : calls_on (present id.slot h) (Speculate c id r f) ≡ Some c = rw (e, itself) refl in
-    let joins : is_among c (joined (Some c) (callers (present id.slot h) h)) ≡ true = has_joined c c (callers (present id.slot h) h) ∙ rw (number_is_itself c) refl in
-    let among : is_among c (callers (present id.slot h) (Speculate c id r f ∷ h)) ≡ true = ap (λ o. is_among c (joined o (callers (present id.slot h) h))) on ∙ joins in
-    let same : (id.issue + 1 == issue id.slot h + 1) ≡ true = grind (arith, nat_tests) in
-    (among ∙ sym same, omega arith)
+-- a granted record marks its slot
+pub mark_granted : (c : ℕ) (id : Speculation) (r : Record) (f : SpeculateFate) (h : List Deed) → spoken_granted f ≡ true → id.issue + 1 ≡ mark c id.slot (Speculate c id r f ∷ h)
+mark_granted c id r f h e = rw (e, number_is_itself c, number_is_itself id.slot) refl
 
 -- the marks of other slots
-pub mark_elsewhere : (c s m : ℕ) (id : Speculation) (r : Record) (f : SpeculateFate) (h : List Deed) → s ≢ id.slot → Marks c s h m → Marks c s (Speculate c id r f ∷ h) m
+pub mark_elsewhere : (c s m : ℕ) (id : Speculation) (r : Record) (f : SpeculateFate) (h : List Deed) → s ≢ id.slot → m ≡ mark c s h → m ≡ mark c s (Speculate c id r f ∷ h)
 mark_elsewhere c s m id r f h apart was =
-    let off : same_id (present s h) id ≡ false = other_slot (present s h) id apart in
-    let on : calls_on (present s h) (Speculate c id r f) ≡ None = rw (off, and_false (spoken_granted f)) refl in
-    (ap (λ o. is_among c (joined o (callers (present s h) h))) on ∙ was.0, was.1)
+    let off : (s == id.slot) ≡ false = other_number s id.slot apart in
+    let none : (spoken_granted f && ((c == c) && (s == id.slot))) ≡ false = rw (off, and_false (c == c)) (and_false (spoken_granted f)) in
+    rw none was
 
 -- the marks of all slots after a granted record
-pub marks_granted : (k : Config) (c : ℕ) (id : Speculation) (r : Record) (f : SpeculateFate) (h : List Deed) (xs : List ℕ) → spoken_granted f ≡ true → issue id.slot h ≡ id.issue → present id.slot h ≡ id
-    → IsSlot k id.slot → length xs ≡ k.nspec → EachSlot k (λ s m. Marks c s h m) xs → EachSlot k (λ s m. Marks c s (Speculate c id r f ∷ h) m) (set xs (id.slot - 1) (id.issue + 1))
-marks_granted k c id r f h xs e now is slot count was =
-    slot_set k (λ s m. Marks c s h m) (λ s m. Marks c s (Speculate c id r f ∷ h) m) xs id.slot (id.issue + 1) slot count
-    (λ s m apart w. mark_elsewhere c s m id r f h apart w) (mark_granted c id r f h e now is) was
+pub marks_granted : (k : Config) (c : ℕ) (id : Speculation) (r : Record) (f : SpeculateFate) (h : List Deed) (xs : List ℕ) → spoken_granted f ≡ true → IsSlot k id.slot
+    → length xs ≡ k.nspec → EachSlot k (λ s m. m ≡ mark c s h) xs → EachSlot k (λ s m. m ≡ mark c s (Speculate c id r f ∷ h)) (set xs (id.slot - 1) (id.issue + 1))
+marks_granted k c id r f h xs e slot count was =
+    slot_set k (λ s m. m ≡ mark c s h) (λ s m. m ≡ mark c s (Speculate c id r f ∷ h)) xs id.slot (id.issue + 1) slot count
+    (λ s m apart w. mark_elsewhere c s m id r f h apart w) (mark_granted c id r f h e) was
 
 module _ {S B : Type 0} (has_pieces : B → S → List Piece → Type 0) (capacity : B → ℕ) (schema : S) (k : Config) (c : ℕ) where
   -- the buffers of all slots where none is changed

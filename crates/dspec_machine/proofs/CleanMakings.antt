@@ -52,7 +52,6 @@ module _ {S B : Type 0} (has : B → S → List Piece → Type 0) (capacity : B 
     acks = s.acks;
     mark_count = s.mark_count;
     marks = s.marks;
-    mark_bound = s.mark_bound;
     buffer_count = s.buffer_count;
     speculative = s.speculative;
     principal = s.principal;

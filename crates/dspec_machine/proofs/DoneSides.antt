@@ -18,7 +18,7 @@ use Rattle.dspec_deeds.specs.Own.{active}
 use Rattle.dspec_machine.specs.Shown.{ShowsSide, HasPieces}
 use Rattle.dspec_play.specs.Coherent.{IsSlot}
 use Rattle.dspec_deeds.proofs.TestLemmas.{number_is_itself}
-use Rattle.dspec_machine.proofs.OtherSides.{Marks}
+use Rattle.dspec_deeds.specs.Marks.{mark}
 use Rattle.dspec_machine.proofs.OwnParts.{EachSlot, IsBuffer, KeepsRest, own_side}
 use Rattle.dspec_machine.proofs.CallSides.{called, marks_granted}
 
@@ -33,10 +33,6 @@ pub record Speaks {B : Type 0} (id : Speculation) (old new : Side B) : Type 0 wh
   pub drops : new.drops ≡ old.drops
 
 module _ {S B : Type 0} (has_pieces : B → S → List Piece → Type 0) (capacity : B → ℕ) (schema : S) (k : Config) (c : ℕ) where
-  -- the marks of a side that shows the list
-  pub marked : (h : List Deed) (side : Side B) → ShowsSide has_pieces capacity schema k c h side → EachSlot k (λ s m. Marks c s h m) side.marks.items
-  marked h side was s m slot e = (was.marks s m slot e, was.mark_bound s m slot e)
-
   -- the side after a commit that decided nothing
   pub no_commit_side : (id : Speculation) (f : DecideFate) (h : List Deed) (side : Side B) → is_commit f ≡ false → ShowsSide has_pieces capacity schema k c h side
       → ShowsSide has_pieces capacity schema k c (Commit c id f ∷ h) record side { calls = side.calls + 1 }
@@ -50,7 +46,7 @@ module _ {S B : Type 0} (has_pieces : B → S → List Piece → Type 0) (capaci
         ack_count = was.ack_count;
         acks = was.acks;
         mark_count = was.mark_count;
-        marks = marked h side was;
+        marks = was.marks;
         buffer_count = was.buffer_count;
         buffers = was.speculative;
         principal = was.principal;
@@ -71,7 +67,7 @@ module _ {S B : Type 0} (has_pieces : B → S → List Piece → Type 0) (capaci
         ack_count = was.ack_count;
         acks = was.acks;
         mark_count = was.mark_count;
-        marks = marked h side was;
+        marks = was.marks;
         buffer_count = was.buffer_count;
         buffers = was.speculative;
         principal = was.principal;
@@ -91,7 +87,7 @@ module _ {S B : Type 0} (has_pieces : B → S → List Piece → Type 0) (capaci
         ack_count = ap (λ v. length v.items) does.acks ∙ was.ack_count;
         acks = λ s at. ap (λ v. slice_get v.items (s - 1)) does.acks ∙ was.acks s at;
         mark_count = ap length does.marks ∙ (length-set old.marks.items (id.slot - 1) (id.issue + 1) ∙ was.mark_count);
-        marks = subst (EachSlot k (λ s m. Marks c s (Speculate c id r f ∷ h) m)) (sym does.marks) (marks_granted k c id r f h old.marks.items e now is slot was.mark_count (marked h old was));
+        marks = subst (EachSlot k (λ s m. m ≡ mark c s (Speculate c id r f ∷ h))) (sym does.marks) (marks_granted k c id r f h old.marks.items e slot was.mark_count was.marks);
         buffer_count = count;
         buffers = buffers;
         principal = subst (HasPieces has_pieces capacity schema k.bufsize (active c h)) (sym does.active) was.principal;

@@ -17,10 +17,9 @@ use Rattle.dspec_deeds.specs.Reports.{missed_busy}
 use Rattle.dspec_machine.specs.Shown.{ShowsSide, HasPieces}
 use Rattle.dspec_play.specs.Coherent.{IsSlot}
 use Rattle.dspec_deeds.proofs.TestLemmas.{number_is_itself, id_is_itself}
-use Rattle.dspec_machine.proofs.OtherSides.{Marks}
+use Rattle.dspec_deeds.specs.Marks.{mark}
 use Rattle.dspec_machine.proofs.OwnParts.{EachSlot, IsBuffer, KeepsRest, own_side}
 use Rattle.dspec_machine.proofs.CallSides.{held_apart, unnamed, buffers_set}
-use Rattle.dspec_machine.proofs.DoneSides.{marked}
 
 -- a fate's records, if it copies them
 abbrev pub copied_of : DecideFate → List Offer → List Offer
@@ -35,7 +34,7 @@ pub record IsEnding (c : ℕ) (d : Deed) (id : Speculation) (f : DecideFate) (h 
   pub unsealed : seals_now c d ≡ false
   pub missed : missed_busy c (d ∷ h) ≡ missed_busy c h
   pub issues : (s : ℕ) → issue s (d ∷ h) ≡ issue s h
-  pub marks : (s m : ℕ) → Marks c s h m → Marks c s (d ∷ h) m
+  pub marks : (s : ℕ) → mark c s (d ∷ h) ≡ mark c s h
   pub others : (j : Speculation) → same_id j id ≡ false → held c j (d ∷ h) ≡ held c j h
   pub empty : held c id (d ∷ h) ≡ []
   pub takes : accepts c d h ≡ copied_of f (held c id h)
@@ -57,7 +56,7 @@ commit_ends c id f h e = record {
   unsealed = refl;
   missed = refl;
   issues = λ s. refl;
-  marks = λ s m w. w;
+  marks = λ s. refl;
   others = λ j off. held_apart c j (Commit c id f) h refl (unnamed (is_commit f) (c == c) (same_id j id) off);
   empty = let all = named c id (is_commit f) e in rw all refl;
   takes = rw (own c (is_copied f)) refl;
@@ -81,7 +80,7 @@ discard_ends c id f h e = let uncopied = thrown_uncopied f e in let kept = throw
   unsealed = refl;
   missed = refl;
   issues = λ s. refl;
-  marks = λ s m w. w;
+  marks = λ s. refl;
   others = λ j off. held_apart c j (Discard c id f) h refl (unnamed (is_discard f) (c == c) (same_id j id) off);
   empty = let all = named c id (is_discard f) e in rw all refl;
   takes = rw uncopied refl;
@@ -95,7 +94,7 @@ settle_ends c id f h = record {
   unsealed = refl;
   missed = refl;
   issues = λ s. refl;
-  marks = λ s m w. w;
+  marks = λ s. refl;
   others = λ j off. held_apart c j (Settle c id f) h refl (unnamed true (c == c) (same_id j id) off);
   empty = let all = named c id true refl in rw all refl;
   takes = rw (own c (is_copied f)) refl;
@@ -125,7 +124,7 @@ module _ {S B : Type 0} (has_pieces : B → S → List Piece → Type 0) (capaci
         ack_count = ack_count;
         acks = acks;
         mark_count = ap (λ v. length v.items) marking ∙ was.mark_count;
-        marks = λ s m at got. ends.marks s m (marked has_pieces capacity schema k c h old was s m at (sym (ap (λ v. slice_get v.items (s - 1)) marking) ∙ got));
+        marks = λ s m at got. was.marks s m at (sym (ap (λ v. slice_get v.items (s - 1)) marking) ∙ got) ∙ sym (ends.marks s);
         buffer_count = ap length does.buffers ∙ (length-set old.speculative.items (id.slot - 1) does.emptied ∙ was.buffer_count);
         buffers = subst (EachSlot k (IsBuffer has_pieces capacity schema k c (d ∷ h))) (sym does.buffers)
             (buffers_set has_pieces capacity schema k c d h id old.speculative.items does.emptied ends.issues ends.others is slot was.buffer_count

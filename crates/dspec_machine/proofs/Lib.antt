@@ -20,3 +20,4 @@ pub mod PromiseKept
 pub mod Tallying
 pub mod Collected
 pub mod Starts
+pub mod OwnShown

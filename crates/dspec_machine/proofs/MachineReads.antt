@@ -1,5 +1,5 @@
 -- What a read of a machine's parts shows.
-use Rattle.std.proofs.Common.{ℕ, ◌≡◌, ◌<◌, ◌-◌, true, List, [], ◌∷◌, length, get_or, map, nat_le, Option, Some, refl, sym, ap, subst, ◌∙◌, arith}
+use Rattle.std.proofs.Common.{ℕ, suc, ◌≡◌, ◌<◌, ◌-◌, ◌==◌, true, false, List, [], ◌∷◌, length, get_or, map, nat_le, Option, Some, refl, sym, ap, subst, ◌∙◌, arith}
 use Rattle.std.specs.Prelude.{slice_get}
 use Rattle.std.proofs.lemmas.Option.{slice_get_read}
 use Rattle.std.proofs.lemmas.Bool.Decides.{nat_tests}
@@ -13,6 +13,7 @@ use Rattle.dspec_machine.specs.declared.machine.Machine.{Machine}
 use Rattle.dspec_machine.specs.declared.side.Side.{Side}
 use Rattle.dspec_deeds.specs.History.{in_range, issue, present}
 use Rattle.dspec_deeds.specs.Own.{Offer, contents, held}
+use Rattle.dspec_deeds.specs.Legal.{is_empty}
 use Rattle.dspec_play.specs.Coherent.{IsSlot}
 use Rattle.dspec_machine.specs.Shown.{HasPieces, ShowsSide}
 use Rattle.dspec_machine.specs.Machines.{IsShown, history}
@@ -27,6 +28,11 @@ records_of_ones (r ∷ rs) = ap (λ xs. r ∷ xs) (records_of_ones rs)
 pub length_contents : (os : List Offer) → length (contents os) ≡ length os
 length_contents [] = refl
 length_contents (o ∷ os) = grind (arith, length_contents os)
+
+-- a block without records
+pub empty_block : (os : List Offer) → is_empty (block (contents os)) ≡ (length os == 0)
+empty_block [] = refl
+empty_block (o ∷ os) = let some : (suc (length os) == 0) ≡ false = grind (arith, nat_tests) in sym some
 
 -- whether a record fits, by its shape
 pub fits_one : (shape : ℕ → Option Shape) (ps : List Piece) (r : Record) (its : Shape) (size : ℕ) → shape r.epid ≡ Some its → nat_le (reserved (extent shape ps) its.align its.size) size ≡ fits shape ps (one r) size

@@ -1,58 +1,25 @@
 -- A CPU's side shows the list still after another actor's deed, and the words after a deed that touches them.
-use Rattle.std.proofs.Common.{◌≡◌, ◌≢◌, ℕ, suc, ◌⊎◌, ◌+◌, ◌-◌, ◌<◌, ◌≤◌, true, false, ◌==◌, List, ◌∷◌, length, map, reverse, take, Some, refl, sym, ap, ◌∙◌, subst, ⊎_elim, true≢false, arith}
+use Rattle.std.proofs.Common.{◌≡◌, ◌≢◌, ℕ, ◌⊎◌, ◌-◌, ◌<◌, ◌≤◌, true, false, ◌==◌, List, ◌∷◌, length, map, reverse, take, Some, sym, ap, ◌∙◌, subst, ⊎_elim, arith}
 use Rattle.std.specs.Prelude.{slice_get, slice_set}
-use Rattle.std.proofs.lemmas.Bool.Decides.{nat_tests}
 use Rattle.std.proofs.lemmas.List.{length-set}
 use Rattle.dspec_buffer.specs.Extent.{Piece, one}
-use Rattle.dspec_word.specs.SpecId.{Speculation}
 use Rattle.dspec_word.specs.Word.{SlotState}
 use Rattle.dspec_deeds.specs.declared.config.Config.{Config}
 use Rattle.dspec_deeds.specs.declared.calls.Actor.TheVariants.{Cpu}
 use Rattle.dspec_deeds.specs.declared.deed.Deed.{Deed}
-use Rattle.dspec_deeds.specs.declared.deed.Deed.TheVariants.{Release}
 use Rattle.dspec_machine.specs.declared.side.Side.{Side}
-use Rattle.dspec_deeds.specs.History.{same_actor, author, releases, is_among, callers, issue, present, word_at}
+use Rattle.dspec_deeds.specs.History.{same_actor, author, word_at}
 use Rattle.dspec_deeds.specs.Own.{contents, batch_records}
 use Rattle.dspec_deeds.specs.Legal.{IsSound}
 use Rattle.dspec_play.specs.Coherent.{IsSlot}
 use Rattle.dspec_machine.specs.Shown.{ShowsWords, ShowsSide, HasPieces, HasRecords, first_or_empty}
 use Rattle.dspec_deeds.proofs.TestLemmas.{either_way, same_number, numbers_differ}
-use Rattle.dspec_deeds.proofs.SoundLists.{unseen}
-use Rattle.dspec_deeds.proofs.PresentIds.{later_unopened}
-use Rattle.dspec_deeds.proofs.StayingOwn.{missed_other, has_other, ack_other, calls_other, accepted_other, seals_other, active_other, growing_other, batches_other}
+use Rattle.dspec_deeds.proofs.StayingOwn.{missed_other, ack_other, calls_other, accepted_other, seals_other, active_other, growing_other, batches_other}
+use Rattle.dspec_deeds.specs.Marks.{mark}
+use Rattle.dspec_deeds.proofs.Marks.{mark_other}
 use Rattle.dspec_deeds.proofs.Emptied.{present_other}
 use Rattle.dspec_deeds.proofs.WordChanges.{touches, untouched, slot_of, elsewhere}
 use Rattle.dspec_deeds.proofs.Places.{got_set, got_other}
-
--- a mark tells whether the CPU is a caller of the slot's present speculation, and is of an issue that was reached
-abbrev pub Marks : ℕ → ℕ → List Deed → ℕ → Type 0
-Marks c s h m = (is_among c (callers (present s h) h) ≡ (m == issue s h + 1)) × (m ≤ issue s h + 1)
-
--- a mark tells it still after another's deed
-pub mark_other : (k : Config) (c s m : ℕ) (d : Deed) (h : List Deed) → IsSound k (d ∷ h) → same_actor (Cpu c) (author d h) ≡ false → Marks c s h m → Marks c s (d ∷ h) m
-mark_other k c s m d h sound other was = ⊎_elim
-    (λ (t : releases s d ≡ true). go d sound t)
-    (λ (f : releases s d ≡ false). stays (let same : issue s (d ∷ h) ≡ issue s h = rw f refl in same))
-    (either_way (releases s d))
-  where
-    stays : issue s (d ∷ h) ≡ issue s h → Marks c s (d ∷ h) m
-    stays same = (
-      ap (λ (n : ℕ). is_among c (callers record { issue = n; slot = s } (d ∷ h))) same ∙ (has_other c (present s h) d h other ∙ (was.0 ∙ ap (λ n. m == n + 1) (sym same))),
-      subst (λ n. m ≤ n + 1) (sym same) was.1,
-    )
-
-    go : (d : Deed) → IsSound k (d ∷ h) → releases s d ≡ true → Marks c s (d ∷ h) m
-    go (Release n) sound t =
-        let next : Speculation = record { issue = suc (issue s h); slot = s } in
-        let up : issue s (Release n ∷ h) ≡ suc (issue s h) = rw t refl in
-        let un = later_unopened k h next sound.0 (omega arith) in
-        let none : is_among c (callers next h) ≡ false = rw ((unseen k h next sound.0 un).1) refl in
-        let bound = was.1 in
-        let past : (m == suc (issue s h) + 1) ≡ false = grind (arith, nat_tests) in (
-          ap (λ (i : ℕ). is_among c (callers record { issue = i; slot = s } h)) up ∙ (none ∙ (sym past ∙ ap (λ i. m == i + 1) (sym up))),
-          subst (λ i. m ≤ i + 1) (sym up) (omega arith),
-        )
-    go d sound t = absurd (true≢false (sym t))
 
 module _ {S B : Type 0} (has_pieces : B → S → List Piece → Type 0) (capacity : B → ℕ) (schema : S) (k : Config) (c : ℕ) where
   -- a CPU's side shows the list after another's deed
@@ -65,8 +32,7 @@ module _ {S B : Type 0} (has_pieces : B → S → List Piece → Type 0) (capaci
     ack_count = was.ack_count;
     acks = λ s slot. was.acks s slot ∙ ap (λ n. Some n) (sym (ack_other c s d h other));
     mark_count = was.mark_count;
-    marks = λ s m slot e. (marked s m slot e).0;
-    mark_bound = λ s m slot e. (marked s m slot e).1;
+    marks = λ s m slot e. was.marks s m slot e ∙ sym (mark_other c s d h (mark c s h) other);
     buffer_count = was.buffer_count;
     speculative = λ s b slot e. subst (λ os. HasPieces has_pieces capacity schema k.specsize (map one (contents os)) b) (sym (present_other k c s d h lt sound other)) (was.speculative s b slot e);
     principal = subst (λ ps. HasPieces has_pieces capacity schema k.bufsize ps side.active) (sym (active_other c d h other)) was.principal;
@@ -76,9 +42,6 @@ module _ {S B : Type 0} (has_pieces : B → S → List Piece → Type 0) (capaci
     drops = was.drops ∙ ap (λ b. b.drops) (sym (growing_other c d h other));
     sealed_drops = was.sealed_drops ∙ ap (λ bs. (first_or_empty bs).drops) (sym (batches_other c d h other));
   }
-    where
-      marked : (s m : ℕ) → IsSlot k s → slice_get side.marks.items (s - 1) ≡ Some m → Marks c s (d ∷ h) m
-      marked s m slot e = mark_other k c s m d h sound other (was.marks s m slot e, was.mark_bound s m slot e)
 
 -- a deed that touches no word leaves the words
 pub words_stay : (k : Config) (d : Deed) (h : List Deed) (words : List SlotState) → ((t : ℕ) → touches t d ≡ false) → ShowsWords k h words → ShowsWords k (d ∷ h) words

@@ -12,7 +12,7 @@ use Rattle.dspec_play.specs.Coherent.{IsSlot}
 use Rattle.dspec_machine.specs.Shown.{ShowsSide, HasPieces, HasRecords, first_or_empty}
 use Rattle.dspec_deeds.proofs.TestLemmas.{either_way, same_number, numbers_differ}
 use Rattle.dspec_deeds.proofs.Places.{got_set, got_other}
-use Rattle.dspec_machine.proofs.OtherSides.{Marks}
+use Rattle.dspec_deeds.specs.Marks.{mark}
 
 -- what stands at the place of each slot
 abbrev pub EachSlot : {A : Type 0} → Config → (ℕ → A → Type 0) → List A → Type 0
@@ -62,7 +62,7 @@ module _ {S B : Type 0} (has_pieces : B → S → List Piece → Type 0) (capaci
     pub ack_count : length new.acks.items ≡ k.nspec
     pub acks : (s : ℕ) → IsSlot k s → slice_get new.acks.items (s - 1) ≡ Some (ack c s h)
     pub mark_count : length new.marks.items ≡ k.nspec
-    pub marks : EachSlot k (λ s m. Marks c s h m) new.marks.items
+    pub marks : EachSlot k (λ s m. m ≡ mark c s h) new.marks.items
     pub buffer_count : length new.speculative.items ≡ k.nspec
     pub buffers : EachSlot k (IsBuffer h) new.speculative.items
     pub principal : HasPieces has_pieces capacity schema k.bufsize (active c h) new.active
@@ -82,8 +82,7 @@ module _ {S B : Type 0} (has_pieces : B → S → List Piece → Type 0) (capaci
         ack_count = parts.ack_count;
         acks = parts.acks;
         mark_count = parts.mark_count;
-        marks = λ s m slot e. (parts.marks s m slot e).0;
-        mark_bound = λ s m slot e. (parts.marks s m slot e).1;
+        marks = parts.marks;
         buffer_count = parts.buffer_count;
         speculative = parts.buffers;
         principal = parts.principal;

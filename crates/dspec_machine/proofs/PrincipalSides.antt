@@ -25,7 +25,6 @@ module _ {S B : Type 0} (has : B → S → List Piece → Type 0) (capacity : B 
     acks = was.acks;
     mark_count = was.mark_count;
     marks = was.marks;
-    mark_bound = was.mark_bound;
     buffer_count = was.buffer_count;
     speculative = was.speculative;
     principal = record { sized = size; has_pieces = rw (number_is_itself c) pieces };
@@ -46,7 +45,6 @@ module _ {S B : Type 0} (has : B → S → List Piece → Type 0) (capacity : B 
     acks = was.acks;
     mark_count = was.mark_count;
     marks = was.marks;
-    mark_bound = was.mark_bound;
     buffer_count = was.buffer_count;
     speculative = was.speculative;
     principal = was.principal;
@@ -67,7 +65,6 @@ module _ {S B : Type 0} (has : B → S → List Piece → Type 0) (capacity : B 
     acks = was.acks;
     mark_count = was.mark_count;
     marks = was.marks;
-    mark_bound = was.mark_bound;
     buffer_count = was.buffer_count;
     speculative = was.speculative;
     principal = was.principal;
@@ -129,7 +126,6 @@ module _ {S B : Type 0} (has : B → S → List Piece → Type 0) (capacity : B 
     acks = was.acks;
     mark_count = was.mark_count;
     marks = was.marks;
-    mark_bound = was.mark_bound;
     buffer_count = was.buffer_count;
     speculative = was.speculative;
     principal = record { sized = size; has_pieces = rw (number_is_itself c) none };

@@ -1,21 +1,18 @@
 -- A CPU's side shows the list still after a slot is released, by whomever.
-use Rattle.std.proofs.Common.{◌≡◌, ℕ, suc, ◌+◌, ◌<◌, ◌≤◌, true, false, ◌==◌, List, [], ◌∷◌, map, refl, sym, ap, ◌∙◌, subst, ⊎_elim, arith}
-use Rattle.std.proofs.lemmas.Bool.Decides.{nat_tests}
+use Rattle.std.proofs.Common.{◌≡◌, ℕ, suc, ◌<◌, true, false, ◌==◌, List, [], ◌∷◌, map, refl, sym, ap, ◌∙◌, subst, ⊎_elim, arith}
 use Rattle.dspec_buffer.specs.Extent.{Piece, one}
 use Rattle.dspec_word.specs.SpecId.{Speculation}
 use Rattle.dspec_deeds.specs.declared.config.Config.{Config}
 use Rattle.dspec_deeds.specs.declared.deed.Deed.{Deed}
 use Rattle.dspec_deeds.specs.declared.deed.Deed.TheVariants.{Release}
 use Rattle.dspec_machine.specs.declared.side.Side.{Side}
-use Rattle.dspec_deeds.specs.History.{is_among, callers, issue, present}
+use Rattle.dspec_deeds.specs.History.{issue, present}
 use Rattle.dspec_deeds.specs.Own.{contents, held}
 use Rattle.dspec_deeds.specs.Legal.{IsSound}
 use Rattle.dspec_machine.specs.Shown.{ShowsSide, HasPieces}
 use Rattle.dspec_deeds.proofs.TestLemmas.{either_way, same_number}
-use Rattle.dspec_deeds.proofs.SoundLists.{unseen}
 use Rattle.dspec_deeds.proofs.PresentIds.{later_unopened}
 use Rattle.dspec_deeds.proofs.Emptied.{release_empty, unopened_empty}
-use Rattle.dspec_machine.proofs.OtherSides.{Marks}
 
 -- the issue of the slot that is released, and of another
 released_issue : (s t : ℕ) (h : List Deed) → (t == s) ≡ true → issue t (Release s ∷ h) ≡ suc (issue t h)
@@ -35,20 +32,6 @@ held_released k c s t h lt sound = ⊎_elim
     (λ (f : (t == s) ≡ false). ap (λ (m : ℕ). held c record { issue = m; slot = t } h) (kept_issue s t h f))
     (either_way (t == s))
 
--- a mark tells it still after a release
-pub mark_released : (k : Config) (c s t m : ℕ) (h : List Deed) → IsSound k (Release s ∷ h) → Marks c t h m → Marks c t (Release s ∷ h) m
-mark_released k c s t m h sound was = ⊎_elim
-    (λ (e : (t == s) ≡ true).
-    let next : Speculation = record { issue = suc (issue t h); slot = t } in
-    let up = released_issue s t h e in
-    let un = later_unopened k h next sound.0 (omega arith) in
-    let none : is_among c (callers next h) ≡ false = rw ((unseen k h next sound.0 un).1) refl in
-    let bound = was.1 in
-    let past : (m == suc (issue t h) + 1) ≡ false = grind (arith, nat_tests) in
-    subst (λ (i : ℕ). (is_among c (callers record { issue = i; slot = t } h) ≡ (m == i + 1)) × (m ≤ i + 1)) (sym up) (none ∙ sym past, omega arith))
-    (λ (f : (t == s) ≡ false). subst (λ (i : ℕ). (is_among c (callers record { issue = i; slot = t } h) ≡ (m == i + 1)) × (m ≤ i + 1)) (sym (kept_issue s t h f)) was)
-    (either_way (t == s))
-
 module _ {S B : Type 0} (has_pieces : B → S → List Piece → Type 0) (capacity : B → ℕ) (schema : S) (k : Config) (c : ℕ) where
   -- a CPU's side shows the list after a release
   pub released_side : (s : ℕ) (h : List Deed) (side : Side B) → IsSound k (Release s ∷ h) → c < k.cpus
@@ -60,8 +43,7 @@ module _ {S B : Type 0} (has_pieces : B → S → List Piece → Type 0) (capaci
     ack_count = was.ack_count;
     acks = was.acks;
     mark_count = was.mark_count;
-    marks = λ s m slot e. (mark_released k c n s m h sound (was.marks s m slot e, was.mark_bound s m slot e)).0;
-    mark_bound = λ s m slot e. (mark_released k c n s m h sound (was.marks s m slot e, was.mark_bound s m slot e)).1;
+    marks = was.marks;
     buffer_count = was.buffer_count;
     speculative = λ s b slot e. subst (λ os. HasPieces has_pieces capacity schema k.specsize (map one (contents os)) b) (sym (held_released k c n s h lt sound)) (was.speculative s b slot e);
     principal = was.principal;

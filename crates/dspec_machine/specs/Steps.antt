@@ -18,7 +18,7 @@ use Rattle.dspec_play.specs.declared.flight.Spare.{Spare}
 use Rattle.dspec_play.specs.declared.flight.Spare.TheVariants as spare
 use Rattle.dspec_machine.specs.declared.decision.Decision.{Decision}
 use Rattle.dspec_machine.specs.declared.machine.Machine.{Machine}
-use Rattle.dspec_play.specs.Play.{Moved, Cleaned, ends, cpu_step, consumer_step, spoken_at, committed_by, discarded_by, missed, served, takes_at}
+use Rattle.dspec_play.specs.Play.{Moved, Cleaned, ends, cpu_step, consumer_step, spoken_at, committed_by, discarded_by, missed, loads_service, served, takes_at}
 use Rattle.dspec_play.specs.Coherent.{PlayState, the_caller}
 use Rattle.dspec_machine.specs.Decisions.{deed_of, shown_by}
 use Rattle.dspec_machine.specs.Machines.{Makes, Cleans, history, state_of}
@@ -72,6 +72,9 @@ module _ {S B : Type 0} (shape_of : S → ℕ → Option Shape) (m : Machine S B
 
   abbrev pub misses : ℕ → SlotState → Moved
   misses s w = missed (shape_of m.schema) m.config c (history m) (caller_at m c) s w
+
+  abbrev pub loads : ℕ → Served → Moved
+  loads s sum = loads_service (shape_of m.schema) m.config c (history m) (caller_at m c) s sum
 
   abbrev pub serves : ℕ → Served → Moved
   serves s sum = served (shape_of m.schema) m.config c (history m) (caller_at m c) s [] sum

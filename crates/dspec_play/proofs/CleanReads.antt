@@ -47,25 +47,25 @@ calls_tell true false b2 b3 b4 b5 e = absurd (cc (e))
 calls_tell false b1 b2 b3 b4 b5 e = absurd (cc (e))
 
 -- no more CPUs than a clean asks
-pub cpus_fit : (k : Config) → start_fault k ≡ None → k.cpus ≤ 16
+pub cpus_fit : (k : Config) → start_fault k ≡ None → k.cpus ≤ 64
 cpus_fit k e =
-    let inside = cpus_tell (is_between 1 16 k.cpus) _ e in
-    let most = (and_tells (nat_le 1 k.cpus) (nat_le k.cpus 16) inside).1 in
+    let inside = cpus_tell (is_between 1 64 k.cpus) _ e in
+    let most = (and_tells (nat_le 1 k.cpus) (nat_le k.cpus 64) inside).1 in
     grind (arith, nat_tests)
 
 -- no more calls than can be counted
 pub calls_fit : (k : Config) → start_fault k ≡ None → k.max_calls ≤ 2 ^ 62
 calls_fit k e =
-    let inside = calls_tell (is_between 1 16 k.cpus) (is_between 1 32 k.nspec) (is_size k.bufsize) (is_size k.specsize) (is_between 1 (2 ^ 57) k.max_issues) (is_between 1 (2 ^ 62) k.max_calls) e in
+    let inside = calls_tell (is_between 1 64 k.cpus) (is_between 1 63 k.nspec) (is_size k.bufsize) (is_size k.specsize) (is_between 1 (2 ^ 57) k.max_issues) (is_between 1 (2 ^ 62) k.max_calls) e in
     let most = (and_tells (nat_le 1 k.max_calls) (nat_le k.max_calls (2 ^ 62)) inside).1 in
     grind (arith, nat_tests)
 
 -- a clean takes few steps on the slots before
-few_before : (s cpus : ℕ) → s ≤ 32 → cpus ≤ 16 → (s - 1) * (cpus + 2) ≤ 32 * 18
-few_before s cpus slots few = mul-le (s - 1) (cpus + 2) 32 18 (omega arith) (omega arith)
+few_before : (s cpus : ℕ) → s ≤ 63 → cpus ≤ 64 → (s - 1) * (cpus + 2) ≤ 63 * 66
+few_before s cpus slots few = mul-le (s - 1) (cpus + 2) 63 66 (omega arith) (omega arith)
 
 -- a clean takes few steps in all
-few_steps : (k : Config) (h : List Deed) (side : ConsumerSide) (f : ConsumerFlight) → k.nspec ≤ 32 → k.cpus ≤ 16 → StandsConsumer k h side f → side.steps < 2 ^ 31
+few_steps : (k : Config) (h : List Deed) (side : ConsumerSide) (f : ConsumerFlight) → k.nspec ≤ 63 → k.cpus ≤ 64 → StandsConsumer k h side f → side.steps < 2 ^ 31
 few_steps k h side (consumer.Begun o) slots few at = omega arith
 few_steps k h side (consumer.CleanLoad s n) slots few at =
     let slot = at.0.1 in let is = at.2 in let before = few_before s k.cpus (omega arith) few in omega arith

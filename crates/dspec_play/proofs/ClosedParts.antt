@@ -2,7 +2,6 @@
 use Rattle.std.proofs.Common.{◌≡◌, ℕ, zero, suc, ◌<◌, ◌≤◌, Bool, true, false, ◌==◌, if◌then◌else◌, List, ◌∷◌, Option, None, refl, sym, ap, ◌∙◌, subst, ⊎_elim, length, arith}
 use Rattle.std.proofs.lemmas.Bool.Decides.{nat_tests}
 use Rattle.dspec_record.specs.declared.field.Shape.{Shape}
-use Rattle.dspec_buffer.specs.Extent.{block, fits}
 use Rattle.dspec_word.specs.SpecId.{Speculation}
 use Rattle.dspec_word.specs.Tables.{settle_at}
 use Rattle.dspec_word.specs.Word.{SlotState}
@@ -19,7 +18,6 @@ use Rattle.dspec_deeds.specs.History.{part, ack, present, scan, word_at, same_ac
 use Rattle.dspec_deeds.specs.Closes.{CanClose, is_granted, closed_slot, closed_slots, closed_cpus, closing}
 use Rattle.dspec_deeds.specs.Headline.{Headline}
 use Rattle.dspec_deeds.specs.Legal.{IsLegal}
-use Rattle.dspec_deeds.specs.Own.{contents}
 use Rattle.dspec_deeds.specs.Settling.{settle_fate}
 use Rattle.dspec_deeds.specs.Ranges.{start_fault}
 use Rattle.dspec_deeds.proofs.TestLemmas.{either_way, same_number, cpu_is_itself, other_number}
@@ -29,7 +27,7 @@ use Rattle.dspec_deeds.specs.Owning.{ReadsAlike}
 use Rattle.dspec_deeds.specs.Weaving.{IsWoven}
 use Rattle.dspec_play.specs.OwnClose.{own_closed_slot, own_closed, IsCloseOf}
 use Rattle.dspec_deeds.proofs.BareReads.{scan_bare}
-use Rattle.dspec_deeds.proofs.OwnReads.{reads}
+use Rattle.dspec_deeds.proofs.OwnReads.{block_alike, reads}
 
 -- all words that a list shows
 abbrev words_of : List Deed → ℕ → SlotState
@@ -52,7 +50,7 @@ module _ (shape : ℕ → Option Shape) (k : Config) where
   -- the fate of a settlement rests on the CPU's own
   fate_alike : (c : ℕ) (id : Speculation) (code : Code) (g h : List Deed) → ReadsAlike k c g h → settle_fate shape k c g id code ≡ settle_fate shape k c h id code
   fate_alike c id Discarding g h e = λ i. decided.Thrown (length (e.apart.buffers id i))
-  fate_alike c id code g h e = λ i. if fits shape (e.principal i) (block (contents (e.apart.buffers id i))) k.bufsize then decided.Copied (length (e.apart.buffers id i)) else decided.Lost (length (e.apart.buffers id i))
+  fate_alike c id code g h e = λ i. if block_alike shape k c id g h e i then decided.Copied (length (e.apart.buffers id i)) else decided.Lost (length (e.apart.buffers id i))
 
   -- a slot that the CPU closes, in its own part and in others
   slot_own : (c s : ℕ) (g : List Deed) → part (Cpu c) (closed_slot shape k c s g) ≡ own_closed_slot shape k (words_of g) c s (part (Cpu c) g)

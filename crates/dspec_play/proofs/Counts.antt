@@ -79,7 +79,7 @@ most_issues false b1 b2 b3 b4 rest e = absurd (cc (e))
 -- no more issues than a word has room for
 pub issues_fit : (k : Config) → start_fault k ≡ None → k.max_issues ≤ 2 ^ 57
 issues_fit k e =
-    let in_range = most_issues (is_between 1 16 k.cpus) (is_between 1 32 k.nspec) (is_size k.bufsize) (is_size k.specsize) (is_between 1 (2 ^ 57) k.max_issues) _ e in
+    let in_range = most_issues (is_between 1 64 k.cpus) (is_between 1 63 k.nspec) (is_size k.bufsize) (is_size k.specsize) (is_between 1 (2 ^ 57) k.max_issues) _ e in
     let least = (and_tells (nat_le 1 k.max_issues) (nat_le k.max_issues (2 ^ 57)) in_range).1 in
     grind (arith, nat_tests)
 

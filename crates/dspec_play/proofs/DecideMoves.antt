@@ -76,7 +76,7 @@ module _ (shape : ℕ → Option Shape) (k : Config) (c : ℕ) (h : List Deed) (
   committed_deeds act = ⊎_elim (λ (t : is_alone act ≡ true). rw t refl) (λ (f : is_alone act ≡ false). rw f refl) (either_way (is_alone act))
 
   -- the fate of a commit that decides
-  commit_decides : is_commit (commit_fate shape k c h id) ≡ true
+  pub commit_decides : is_commit (commit_fate shape k c h id) ≡ true
   commit_decides = go (fits_principal shape k c (block (contents (held c id h))) h)
     where
       go : (fits : Bool) → is_commit (if fits then decided.Copied (length (held c id h)) else decided.Lost (length (held c id h))) ≡ true

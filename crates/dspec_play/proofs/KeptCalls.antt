@@ -26,6 +26,7 @@ use Rattle.dspec_play.specs.declared.flight.CpuFlight.{CpuFlight}
 use Rattle.dspec_play.specs.declared.flight.CpuFlight.TheVariants as cpu
 use Rattle.dspec_play.specs.declared.flight.Spare.{Spare}
 use Rattle.dspec_play.specs.declared.flight.Spare.TheVariants as spare
+use Rattle.dspec_deeds.specs.Ranges.{is_fill}
 use Rattle.dspec_deeds.specs.History.{halted, in_range, word_at, ack}
 use Rattle.dspec_deeds.specs.Own.{seals}
 use Rattle.dspec_deeds.specs.Legal.{fits_principal, fits_speculative}
@@ -144,7 +145,10 @@ module _ (P : CpuOp → Type 0) where
     begun_leaves (cpu_op.Speculate id r) e = opens_with (is_worn shape k c h me) (halted h) _ _ _ done done (either (in_range k id) _ _ (on (cpu.SpeculateLoad id r) e) done)
     begun_leaves (cpu_op.Commit id) e = opens_with (is_worn shape k c h me) (halted h) _ _ _ done done (either (in_range k id) _ _ (on (cpu.CommitLoad id) e) done)
     begun_leaves (cpu_op.Discard id) e = opens_with (is_worn shape k c h me) (halted h) _ _ _ done done (either (in_range k id) _ _ (on (cpu.DiscardLoad id) e) done)
-    begun_leaves cpu_op.Service e = asked_leaves me.spare (nat_lt (seals c h) me.want && nat_lt (seals c h) k.max_calls) e
+    begun_leaves cpu_op.Service e =
+        either (is_fill k.policy) _ _
+        (service_leaves 1 record { sealed = false; settled = 0 } (word_at 1 h) (settle_at (word_at 1 h) (ack c 1 h)) e)
+        (asked_leaves me.spare (nat_lt (seals c h) me.want && nat_lt (seals c h) k.max_calls) e)
 
     -- a step of a CPU leaves its call in flight, or none
     pub step_passes : (f : CpuFlight) → P (op_of f) → Leaves (cpu_step shape k c h me f)

@@ -131,7 +131,7 @@ module _ (k : Config) (w : Actor) (c : ℕ) (other : same_actor (Cpu c) w ≡ fa
       (st.0, scan_stays ∙ st.1, now.ruled, now.alone, now.given, now.now, ap sealed_last part_stays ∙ st.6, st.7)
   stands_cpu lt rests me (cpu.DiscardLoad id) st = (on_its_way id st.0, st.1)
   stands_cpu lt rests me (cpu.DiscardTry id from) st = (on_its_way id st.0, expects (discard_at from id) from id st.1, st.2)
-  stands_cpu lt rests me cpu.ServicePop st = (scan_stays ∙ st.0, st.1, subst (λ n. n < k.max_calls) (sym seals_stays) st.2)
+  stands_cpu lt rests me cpu.ServicePop st = (scan_stays ∙ st.0, st.1, subst (λ n. n < k.max_calls) (sym seals_stays) st.2, st.3)
   stands_cpu lt rests me cpu.ServicePush st = (scan_stays ∙ st.0, st.1, st.2)
   stands_cpu lt rests me (cpu.ServiceLoad s sum) st = (st.0, scan_stays ∙ st.1, st.2, st.3)
   stands_cpu lt rests me (cpu.ServiceStore s v sum) st =

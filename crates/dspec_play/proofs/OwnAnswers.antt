@@ -35,6 +35,7 @@ use Rattle.dspec_play.specs.declared.flight.Spare.{Spare}
 use Rattle.dspec_play.specs.declared.flight.Spare.TheVariants as spare
 use Rattle.dspec_play.specs.ReadOff.{is_busy_among, has_seal, settle_count, answer_of_cpu}
 use Rattle.dspec_play.specs.Calls.{op_of}
+use Rattle.dspec_deeds.specs.Ranges.{is_fill}
 use Rattle.dspec_deeds.specs.History.{author, same_actor, halted, in_range, word_at, ack}
 use Rattle.dspec_deeds.specs.Own.{seals}
 use Rattle.dspec_deeds.specs.Legal.{fits_principal, fits_speculative}
@@ -241,7 +242,10 @@ module _ (shape : ℕ → Option Shape) (k : Config) (c : ℕ) (h : List Deed) (
       opens_with o (is_worn shape k c h me) (halted h) (wears shape k c h me (answer.Decided decided_answer.Worn)) _ _ (worn_out o (answer.Decided decided_answer.Worn) refl refl)
       (done o [] (Discard c id decided.Stopped ∷ []) (answer.Decided decided_answer.Stopped) refl refl)
       (either o [] (in_range k id) _ _ (on o [] [] (cpu.DiscardLoad id) refl) (done o [] (Discard c id decided.Void ∷ []) (answer.Decided decided_answer.Void) refl refl))
-  begun_reads cpu_op.Service = asked_reads me.spare (nat_lt (seals c h) me.want && nat_lt (seals c h) k.max_calls)
+  begun_reads cpu_op.Service =
+      either cpu_op.Service [] (is_fill k.policy) _ _
+      (service_reads [] 1 record { sealed = false; settled = 0 } (word_at 1 h) (settle_at (word_at 1 h) (ack c 1 h)) (refl, refl))
+      (asked_reads me.spare (nat_lt (seals c h) me.want && nat_lt (seals c h) k.max_calls))
 
   -- from what a call has entered
   from : (o : CpuOp) (own ds : List Deed) (m : Moved) → own ≡ ds → Does o ds m → Does o own m

@@ -14,7 +14,10 @@ use Rattle.dspec_play.specs.declared.flight.Caller.{Caller}
 use Rattle.dspec_play.specs.declared.flight.CpuFlight.TheVariants as cpu
 use Rattle.dspec_play.specs.declared.flight.Spare.{Spare}
 use Rattle.dspec_play.specs.declared.flight.Spare.TheVariants as spare
-use Rattle.dspec_play.specs.Play.{asked, served, shown_service}
+use Rattle.dspec_deeds.specs.declared.calls.CpuOp.TheVariants as cpu_op
+use Rattle.dspec_deeds.specs.Ranges.{is_fill}
+use Rattle.dspec_deeds.specs.Own.{seals}
+use Rattle.dspec_play.specs.Play.{asked, begun, served, shown_service}
 use Rattle.dspec_deeds.proofs.TestLemmas.{either_way}
 
 -- a CPU isn't asked where the batches wanted, or all that it may seal, were sealed
@@ -33,6 +36,10 @@ wanted n want most e f =
     rw (less, room) refl
 
 module _ (shape : ℕ → Option Shape) (k : Config) (c : ℕ) (h : List Deed) (me : Caller) where
+  -- where full buffers are switched a service begins with the load of the ask
+  pub asks_first : is_fill k.policy ≡ false → asked shape k c h me me.spare (nat_lt (seals c h) me.want && nat_lt (seals c h) k.max_calls) ≡ begun shape k c h me cpu_op.Service
+  asks_first switched = rw switched refl
+
   -- a service goes on, or ends, with these deeds
   pub served_deeds : (s : ℕ) (ds : List Deed) (sum : Served) → (served shape k c h me s ds sum).deeds ≡ ds
   served_deeds s ds sum = ⊎_elim (λ (t : (s == k.nspec) ≡ true). rw t refl) (λ (f : (s == k.nspec) ≡ false). rw f refl) (either_way (s == k.nspec))

@@ -25,6 +25,7 @@ use Rattle.dspec_play.specs.declared.flight.CpuFlight.{CpuFlight}
 use Rattle.dspec_play.specs.declared.flight.CpuFlight.TheVariants as cpu
 use Rattle.dspec_play.specs.declared.flight.Spare.{Spare}
 use Rattle.dspec_play.specs.declared.flight.Spare.TheVariants as spare
+use Rattle.dspec_deeds.specs.Ranges.{is_fill}
 use Rattle.dspec_deeds.specs.History.{halted, in_range, word_at, ack}
 use Rattle.dspec_deeds.specs.Own.{seals}
 use Rattle.dspec_deeds.specs.Legal.{fits_principal, fits_speculative}
@@ -142,7 +143,10 @@ module _ (shape : ℕ → Option Shape) (k : Config) (c : ℕ) (h : List Deed) (
   begun_ends (cpu_op.Speculate id r) = opens_with 4 (is_worn shape k c h me) (halted h) _ _ _ (done _ _ _ refl refl) (done _ _ _ refl refl) (either 4 (in_range k id) _ _ (on _ _ _ refl refl refl refl) (done _ _ _ refl refl))
   begun_ends (cpu_op.Commit id) = opens_with 5 (is_worn shape k c h me) (halted h) _ _ _ (done _ _ _ refl refl) (done _ _ _ refl refl) (either 5 (in_range k id) _ _ (on _ _ _ refl refl refl refl) (done _ _ _ refl refl))
   begun_ends (cpu_op.Discard id) = opens_with 5 (is_worn shape k c h me) (halted h) _ _ _ (done _ _ _ refl refl) (done _ _ _ refl refl) (either 5 (in_range k id) _ _ (on _ _ _ refl refl refl refl) (done _ _ _ refl refl))
-  begun_ends cpu_op.Service = asked_ends me.spare (nat_lt (seals c h) me.want && nat_lt (seals c h) k.max_calls)
+  begun_ends cpu_op.Service =
+      either (3 + 2 * k.nspec) (is_fill k.policy) _ _
+      (service_ends 1 record { sealed = false; settled = 0 } (word_at 1 h) (settle_at (word_at 1 h) (ack c 1 h)))
+      (asked_ends me.spare (nat_lt (seals c h) me.want && nat_lt (seals c h) k.max_calls))
 
   -- a step of a CPU ends its call, or the call goes on
   pub cpu_advances : (f : CpuFlight) → Advances (flight_bound k f) (cpu_step shape k c h me f)

@@ -51,10 +51,10 @@ slots_tell true true rest e = refl
 slots_tell true false rest e = absurd (cc (e))
 slots_tell false b1 rest e = absurd (cc (e))
 
-pub slots_fit : (k : Config) → start_fault k ≡ None → k.nspec ≤ 32
+pub slots_fit : (k : Config) → start_fault k ≡ None → k.nspec ≤ 63
 slots_fit k e =
-    let inside = slots_tell (is_between 1 16 k.cpus) (is_between 1 32 k.nspec) _ e in
-    let most = (and_tells (nat_le 1 k.nspec) (nat_le k.nspec 32) inside).1 in
+    let inside = slots_tell (is_between 1 64 k.cpus) (is_between 1 63 k.nspec) _ e in
+    let most = (and_tells (nat_le 1 k.nspec) (nat_le k.nspec 63) inside).1 in
     grind (arith, nat_tests)
 
 -- an exchange that is tried comes early
@@ -71,7 +71,7 @@ few_tries steps from e = go from.code e
     go Discarding e = omega arith
 
 -- a call takes few steps
-few_steps : (k : Config) (c : ℕ) (h : List Deed) (me : Caller) (f : CpuFlight) → k.nspec ≤ 32 → StandsCpu k c h me f → me.steps < 2 ^ 31
+few_steps : (k : Config) (c : ℕ) (h : List Deed) (me : Caller) (f : CpuFlight) → k.nspec ≤ 63 → StandsCpu k c h me f → me.steps < 2 ^ 31
 few_steps k c h me (cpu.Begun o) most at = let is = at.1 in omega arith
 few_steps k c h me (cpu.ScanLoad s) most at = let slot = at.0.1 in let is = at.2 in omega arith
 few_steps k c h me (cpu.ScanTry s w) most at = let slot = at.0.1 in let is = at.2 in omega arith

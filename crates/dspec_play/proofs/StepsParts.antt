@@ -16,7 +16,7 @@ use Rattle.dspec_play.specs.declared.flight.Spare.TheVariants as spare
 use Rattle.dspec_deeds.specs.Ranges.{start_fault}
 use Rattle.dspec_deeds.specs.History.{author, same_actor, owed, owing, scan, in_range, opened, is_undecided, verdict, is_open, releaser}
 use Rattle.dspec_deeds.specs.Own.{seals, seals_now}
-use Rattle.dspec_deeds.specs.Legal.{IsSound, IsAllowed, OwnAllows, MayCome, PaysDebt}
+use Rattle.dspec_deeds.specs.Legal.{IsSound, IsAllowed, OwnAllows, MayCome, Pays}
 use Rattle.dspec_play.specs.Play.{Moved, goes_on, ends, wears}
 use Rattle.dspec_play.specs.Coherent.{IsSlot, StandsCpu, SpareCounts, PushesNext, CallerStands}
 use Rattle.dspec_deeds.proofs.TestLemmas.{either_way, off, and_tells, cpu_is_itself}
@@ -56,7 +56,7 @@ module _ (shape : ℕ → Option Shape) (k : Config) (c : ℕ) (h : List Deed) (
   none_comes : GoesOn shape k (Cpu c) [] h
   none_comes = record { legal = play.legal; rests = play.rests; by = tt }
 
-  pub one_comes : (d : Deed) → PaysDebt h d → MayCome k h d → OwnAllows shape k h d → author d h ≡ Cpu c → owing d h ≡ 0 → GoesOn shape k (Cpu c) (d ∷ []) h
+  pub one_comes : (d : Deed) → Pays (owed h) d → MayCome k h d → OwnAllows shape k h d → author d h ≡ Cpu c → owing d h ≡ 0 → GoesOn shape k (Cpu c) (d ∷ []) h
   one_comes d pays may own is rests = record { legal = ((play.legal.0, (pays, may)), (play.legal.1, own)); rests = rests; by = (tt, subst (λ w. same_actor (Cpu c) w ≡ true) (sym is) (cpu_is_itself c)) }
 
   -- the call goes on behind deeds that seal nothing
@@ -79,7 +79,7 @@ module _ (shape : ℕ → Option Shape) (k : Config) (c : ℕ) (h : List Deed) (
   pub goes_by_none : (next : CpuFlight) → StandsCpu k c h (record me { flight = Some next; steps = me.steps + 1 }) next → StepStands shape k c h (goes_on shape k c h me [] next)
   goes_by_none next at = goes_stand [] next none_comes refl at (none_rules c h (Some next) None)
 
-  pub goes_by : (d : Deed) (next : CpuFlight) → PaysDebt h d → MayCome k h d → OwnAllows shape k h d → author d h ≡ Cpu c → DecidesBeside d h (Some next) → seals_now c d ≡ false
+  pub goes_by : (d : Deed) (next : CpuFlight) → Pays (owed h) d → MayCome k h d → OwnAllows shape k h d → author d h ≡ Cpu c → DecidesBeside d h (Some next) → seals_now c d ≡ false
       → StandsCpu k c (d ∷ h) (record me { flight = Some next; steps = me.steps + 1 }) next → StepStands shape k c h (goes_on shape k c h me (d ∷ []) next)
   goes_by d next pays may own is beside seals at =
       goes_stand (d ∷ []) next (one_comes d pays may own is (beside_rests d h (Some next) beside)) (seals_stay c d h seals) at (one_rules k c d h (Some next) None (play.legal.0, (pays, may)) is beside)
@@ -87,7 +87,7 @@ module _ (shape : ℕ → Option Shape) (k : Config) (c : ℕ) (h : List Deed) (
   pub ends_by_none : (a : Answer) → scan k c h ≡ 0 → StepStands shape k c h (ends shape k c h me [] a)
   ends_by_none a idle = ends_stand [] a none_comes refl idle (none_rules c h None (Some a))
 
-  pub ends_by : (d : Deed) (a : Answer) → PaysDebt h d → MayCome k h d → OwnAllows shape k h d → author d h ≡ Cpu c → DecidesBeside d h None → seals_now c d ≡ false
+  pub ends_by : (d : Deed) (a : Answer) → Pays (owed h) d → MayCome k h d → OwnAllows shape k h d → author d h ≡ Cpu c → DecidesBeside d h None → seals_now c d ≡ false
       → scan k c (d ∷ h) ≡ 0 → StepStands shape k c h (ends shape k c h me (d ∷ []) a)
   ends_by d a pays may own is beside seals idle =
       ends_stand (d ∷ []) a (one_comes d pays may own is (beside_rests d h None beside)) (seals_stay c d h seals) idle (one_rules k c d h None (Some a) (play.legal.0, (pays, may)) is beside)

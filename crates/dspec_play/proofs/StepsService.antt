@@ -23,11 +23,11 @@ use Rattle.dspec_play.specs.declared.flight.Caller.{Caller}
 use Rattle.dspec_play.specs.declared.flight.CpuFlight.TheVariants as cpu
 use Rattle.dspec_play.specs.declared.flight.Spare.{Spare}
 use Rattle.dspec_play.specs.declared.flight.Spare.TheVariants as spare
-use Rattle.dspec_deeds.specs.Ranges.{start_fault}
+use Rattle.dspec_deeds.specs.Ranges.{start_fault, is_fill}
 use Rattle.dspec_deeds.specs.History.{scan, issue, owed, present, verdict, solo, settled, word_at, ack}
 use Rattle.dspec_deeds.specs.Own.{contents, held, seals}
 use Rattle.dspec_deeds.specs.Legal.{IsSound, IsAllowed, OwnAllows, SettlesAs, fits_principal}
-use Rattle.dspec_play.specs.Play.{begun, asked, popped, served, shown_service, goes_on, ends, cpu_step}
+use Rattle.dspec_play.specs.Play.{begun, asked, popped, served, shown_service, loads_service, goes_on, ends, cpu_step}
 use Rattle.dspec_deeds.specs.Settling.{settle_fate}
 use Rattle.dspec_play.specs.Coherent.{IsSlot, StandsCpu, SpareCounts}
 use Rattle.dspec_deeds.proofs.TestLemmas.{and_tells, number_is_itself, numbers_differ}
@@ -56,47 +56,13 @@ module _ (shape : ℕ → Option Shape) (k : Config) (c : ℕ) (h : List Deed) (
   settles_next idle steps sealed = goes_by_none shape k c h me play (cpu.ServiceLoad 1 record { sealed = sealed; settled = 0 }) ((omega arith, (set_up k play.ranges).1), idle, omega arith, omega arith)
 
   -- the active buffer is sealed, and its push is next
-  seals_stand : scan k c h ≡ 0 → me.steps ≤ 1 → seals c h < k.max_calls → seals c h ≡ me.takes
+  seals_stand : scan k c h ≡ 0 → me.steps ≤ 1 → seals c h < k.max_calls → seals c h ≡ me.takes → is_fill k.policy ≡ false
       → StepStands shape k c h (record { caller = record me { flight = Some cpu.ServicePush; steps = me.steps + 1; spare = spare.Sealed }; deeds = Seal c ∷ []; answer = None })
-  seals_stand idle steps most same = record {
-    goes = one_comes shape k c h me play (Seal c) play.rests tt (most, idle) refl refl;
+  seals_stand idle steps most same switched = record {
+    goes = one_comes shape k c h me play (Seal c) play.rests tt (most, idle, switched) refl refl;
     stands = record { flight = (idle, omega arith, refl); counts = seals_more c h ∙ ap (λ n. n + 1) same; pushes = refl; want = play.want };
     solo_rule = one_rules k c (Seal c) h (Some cpu.ServicePush) None (play.legal.0, (play.rests, tt)) refl tt;
   }
-
-  pub service_begins : scan k c h ≡ 0 → me.steps ≡ 0 → StepStands shape k c h (begun shape k c h me cpu_op.Service)
-  service_begins idle first = go me.spare play.counts (nat_lt (seals c h) me.want && nat_lt (seals c h) k.max_calls) refl
-    where
-      most : (nat_lt (seals c h) me.want && nat_lt (seals c h) k.max_calls) ≡ true → seals c h < k.max_calls
-      most e = let less = (and_tells (nat_lt (seals c h) me.want) (nat_lt (seals c h) k.max_calls) e).1 in grind (arith, nat_tests)
-
-      pops : (nat_lt (seals c h) me.want && nat_lt (seals c h) k.max_calls) ≡ true → StepStands shape k c h (goes_on shape k c h me [] cpu.ServicePop)
-      pops e = goes_by_none shape k c h me play cpu.ServicePop (idle, omega arith, most e)
-
-      go : (place : Spare) → SpareCounts (seals c h) me.takes place → (asks : Bool) → (nat_lt (seals c h) me.want && nat_lt (seals c h) k.max_calls) ≡ asks → StepStands shape k c h (asked shape k c h me place asks)
-      go spare.InHand counts true e = seals_stand idle (omega arith) (most e) (counts.0 ∙ sym counts.1)
-      go spare.Sealed counts true e = pops e
-      go spare.Handed counts true e = pops e
-      go spare.Out counts true e = pops e
-      go spare.GivenBack counts true e = pops e
-      go spare.InHand counts false e = settles_next idle (omega arith) false
-      go spare.Sealed counts false e = settles_next idle (omega arith) false
-      go spare.Handed counts false e = settles_next idle (omega arith) false
-      go spare.Out counts false e = settles_next idle (omega arith) false
-      go spare.GivenBack counts false e = settles_next idle (omega arith) false
-
-  pub service_pops : StandsCpu k c h me cpu.ServicePop → StepStands shape k c h (cpu_step shape k c h me cpu.ServicePop)
-  service_pops at = go me.spare play.counts
-    where
-      on : StepStands shape k c h (goes_on shape k c h me [] (cpu.ServiceLoad 1 record { sealed = false; settled = 0 }))
-      on = let first = at.1 in settles_next at.0 (omega arith) false
-
-      go : (place : Spare) → SpareCounts (seals c h) me.takes place → StepStands shape k c h (popped shape k c h me place)
-      go spare.InHand counts = on
-      go spare.Sealed counts = on
-      go spare.Handed counts = on
-      go spare.Out counts = on
-      go spare.GivenBack counts = let first = at.1 in seals_stand at.0 (omega arith) at.2 counts
 
   -- a slot with nothing to settle
   passes : (s : ℕ) (sum : Served) → IsSlot k s → scan k c h ≡ 0 → me.steps ≤ 1 + 2 * s → sum.settled < s → StepStands shape k c h (served shape k c h me s [] sum)
@@ -120,6 +86,45 @@ module _ (shape : ℕ → Option Shape) (k : Config) (c : ℕ) (h : List Deed) (
       go Void e = passes s sum at.0 at.1 at.2 at.3
       go (Attempt to) e = passes s sum at.0 at.1 at.2 at.3
       go Idle e = passes s sum at.0 at.1 at.2 at.3
+
+  pub service_begins : scan k c h ≡ 0 → me.steps ≡ 0 → StepStands shape k c h (begun shape k c h me cpu_op.Service)
+  service_begins idle first = by (is_fill k.policy) refl
+    where
+      most : (nat_lt (seals c h) me.want && nat_lt (seals c h) k.max_calls) ≡ true → seals c h < k.max_calls
+      most e = let less = (and_tells (nat_lt (seals c h) me.want) (nat_lt (seals c h) k.max_calls) e).1 in grind (arith, nat_tests)
+
+      pops : is_fill k.policy ≡ false → (nat_lt (seals c h) me.want && nat_lt (seals c h) k.max_calls) ≡ true → StepStands shape k c h (goes_on shape k c h me [] cpu.ServicePop)
+      pops switched e = goes_by_none shape k c h me play cpu.ServicePop (idle, omega arith, most e, switched)
+
+      go : is_fill k.policy ≡ false → (place : Spare) → SpareCounts (seals c h) me.takes place → (asks : Bool) → (nat_lt (seals c h) me.want && nat_lt (seals c h) k.max_calls) ≡ asks → StepStands shape k c h (asked shape k c h me place asks)
+      go switched spare.InHand counts true e = seals_stand idle (omega arith) (most e) (counts.0 ∙ sym counts.1) switched
+      go switched spare.Sealed counts true e = pops switched e
+      go switched spare.Handed counts true e = pops switched e
+      go switched spare.Out counts true e = pops switched e
+      go switched spare.GivenBack counts true e = pops switched e
+      go switched spare.InHand counts false e = settles_next idle (omega arith) false
+      go switched spare.Sealed counts false e = settles_next idle (omega arith) false
+      go switched spare.Handed counts false e = settles_next idle (omega arith) false
+      go switched spare.Out counts false e = settles_next idle (omega arith) false
+      go switched spare.GivenBack counts false e = settles_next idle (omega arith) false
+
+      by : (b : Bool) → is_fill k.policy ≡ b
+          → StepStands shape k c h (if b then loads_service shape k c h me 1 record { sealed = false; settled = 0 } else asked shape k c h me me.spare (nat_lt (seals c h) me.want && nat_lt (seals c h) k.max_calls))
+      by true e = service_loads 1 record { sealed = false; settled = 0 } ((omega arith, (set_up k play.ranges).1), idle, omega arith, omega arith)
+      by false e = go e me.spare play.counts (nat_lt (seals c h) me.want && nat_lt (seals c h) k.max_calls) refl
+
+  pub service_pops : StandsCpu k c h me cpu.ServicePop → StepStands shape k c h (cpu_step shape k c h me cpu.ServicePop)
+  service_pops at = go me.spare play.counts
+    where
+      on : StepStands shape k c h (goes_on shape k c h me [] (cpu.ServiceLoad 1 record { sealed = false; settled = 0 }))
+      on = let first = at.1 in settles_next at.0 (omega arith) false
+
+      go : (place : Spare) → SpareCounts (seals c h) me.takes place → StepStands shape k c h (popped shape k c h me place)
+      go spare.InHand counts = on
+      go spare.Sealed counts = on
+      go spare.Handed counts = on
+      go spare.Out counts = on
+      go spare.GivenBack counts = let first = at.1 in seals_stand at.0 (omega arith) at.2 counts at.3
 
   -- a settlement as the decision says
   settles_stand : (s : ℕ) (f : DecideFate) (sum : Served) → IsSlot k s → scan k c h ≡ 0 → me.steps ≤ 2 + 2 * s → sum.settled ≤ s

@@ -18,14 +18,15 @@ use Rattle.dspec_play.specs.declared.flight.Caller.{Caller}
 use Rattle.dspec_play.specs.declared.flight.CpuFlight.TheVariants as cpu
 use Rattle.dspec_play.specs.declared.flight.Spare.{Spare}
 use Rattle.dspec_play.specs.declared.flight.Spare.TheVariants as spare
+use Rattle.dspec_deeds.specs.Ranges.{is_fill}
 use Rattle.dspec_deeds.specs.FateKinds.{is_commit}
 use Rattle.dspec_deeds.specs.History.{issue, present, opened, Verdict, undecided, committed, discarded, verdict, is_undecided, callers, active_code, standing, is_sole, is_sole_or_none, solo, solo_of, settled, is_busy, owed, scan, ack, word_at}
 use Rattle.dspec_deeds.specs.Own.{seals}
 use Rattle.dspec_deeds.specs.Legal.{IsSound, SettlesAs}
 use Rattle.dspec_play.specs.Coherent.{SpareCounts}
-use Rattle.dspec_play.specs.Play.{Moved, cpu_step, shown_service, served, asked, popped, goes_on, ends}
+use Rattle.dspec_play.specs.Play.{Moved, cpu_step, shown_service, loads_service, served, asked, popped, goes_on, ends}
 use Rattle.dspec_deeds.specs.Settling.{commit_fate, settle_fate}
-use Rattle.dspec_play.specs.Whole.{WholeCpu, whole_cpu, enters, owes, settles_as, settled_at, settled_up, settlements, serves, is_sealing, are_all_back, is_out}
+use Rattle.dspec_play.specs.Whole.{WholeCpu, whole_cpu, enters, owes, settles_as, settled_at, settled_up, settlements, serves, are_all_back, is_out}
 use Rattle.dspec_deeds.proofs.TestLemmas.{and_tells, and_false, number_is_itself}
 use Rattle.dspec_deeds.proofs.SoundLists.{unseen}
 use Rattle.dspec_deeds.proofs.Acked.{ack_tells}
@@ -290,6 +291,16 @@ module _ (shape : ℕ → Option Shape) (k : Config) (c : ℕ) (h : List Deed) (
   asked_leads me spare.Out is true = pops me spare.Out is
   asked_leads me spare.GivenBack is true = pops me spare.GivenBack is
 
+  -- the first step of a service, by the policy
+  begun_leads : (me : Caller) (sealing : Bool) → Leads shape k c (suc (suc (suc (suc (double j))))) h (asked shape k c h me me.spare (nat_lt (seals c h) me.want && nat_lt (seals c h) k.max_calls)) (leaves me sealing) → (b : Bool)
+      → Leads shape k c (suc (suc (suc (suc (double j))))) h
+      (if b then loads_service shape k c h me 1 record { sealed = false; settled = 0 } else asked shape k c h me me.spare (nat_lt (seals c h) me.want && nat_lt (seals c h) k.max_calls))
+      (leaves me (not b && sealing))
+  begun_leads me sealing leads true =
+      let fits : suc (double j) ≤ suc (suc (suc (suc (double j)))) = omega arith in
+      leads_more shape k c (suc (double j)) _ _ _ _ fits (from_first me)
+  begun_leads me sealing leads false = leads
+
   swap : (a b m : Bool) → ((a && m) && b) ≡ (a && (b && m))
   swap true true true = refl
   swap true true false = refl
@@ -299,8 +310,9 @@ module _ (shape : ℕ → Option Shape) (k : Config) (c : ℕ) (h : List Deed) (
 
   pub service_alone : (me : Caller) → SpareCounts (seals c h) me.takes me.spare → me.spare ≢ spare.Sealed → runs shape k c (suc (suc (suc (suc (suc (double j)))))) (begins me cpu_op.Service) h None ≡ whole (whole_cpu shape k c (idle me) h cpu_op.Service)
   service_alone me counts unsealed =
-      let sealing : ((nat_lt (seals c h) me.want && nat_lt (seals c h) k.max_calls) && has_spare me.spare) ≡ is_sealing shape k c (idle me) h =
+      let sealing : ((nat_lt (seals c h) me.want && nat_lt (seals c h) k.max_calls) && has_spare me.spare) ≡ (nat_lt (seals c h) me.want && (are_all_back (seals c h) (idle me) && nat_lt (seals c h) k.max_calls)) =
       ap (λ (b : Bool). (nat_lt (seals c h) me.want && nat_lt (seals c h) k.max_calls) && b) (sym (spare_is (idle me) me.spare refl counts unsealed)) ∙ swap (nat_lt (seals c h) me.want) (are_all_back (seals c h) (idle me)) (nat_lt (seals c h) k.max_calls) in
       starts shape k c (suc (suc (suc (suc (double j))))) h me cpu_op.Service _
+      (begun_leads (begins me cpu_op.Service) _
       (subst (λ (b : Bool). Leads shape k c (suc (suc (suc (suc (double j))))) h (asked shape k c h (begins me cpu_op.Service) me.spare (nat_lt (seals c h) me.want && nat_lt (seals c h) k.max_calls)) (leaves me b)) sealing
-      (asked_leads (begins me cpu_op.Service) me.spare refl _))
+      (asked_leads (begins me cpu_op.Service) me.spare refl _)) (is_fill k.policy))

@@ -38,6 +38,7 @@ use Rattle.dspec_play.specs.declared.flight.CpuFlight.TheVariants as cpu
 use Rattle.dspec_play.specs.declared.flight.Spare.{Spare}
 use Rattle.dspec_play.specs.declared.flight.Spare.TheVariants as spare
 use Rattle.dspec_play.specs.Calls.{op_of}
+use Rattle.dspec_deeds.specs.Ranges.{is_fill}
 use Rattle.dspec_deeds.specs.History.{halted, in_range, word_at, ack}
 use Rattle.dspec_deeds.specs.Own.{calls, seals}
 use Rattle.dspec_deeds.specs.Legal.{fits_principal, fits_speculative}
@@ -193,7 +194,10 @@ module _ (shape : ℕ → Option Shape) (k : Config) (c : ℕ) (h : List Deed) (
       opens o (is_worn shape k c h me) _ _ (worn_out o (answer.Decided decided_answer.Worn) refl)
       (either 0 o (halted h) _ _ (done 0 o (Discard c id decided.Stopped ∷ []) _ refl refl now)
       (either 0 o (in_range k id) _ _ (on 0 o [] (cpu.DiscardLoad id) refl) (done 0 o (Discard c id decided.Void ∷ []) _ refl refl now)))
-  begun_wears cpu_op.Service = asked_wears me.spare (nat_lt (seals c h) me.want && nat_lt (seals c h) k.max_calls)
+  begun_wears cpu_op.Service =
+      either 0 cpu_op.Service (is_fill k.policy) _ _
+      (service_wears 1 record { sealed = false; settled = 0 } (word_at 1 h) (settle_at (word_at 1 h) (ack c 1 h)))
+      (asked_wears me.spare (nat_lt (seals c h) me.want && nat_lt (seals c h) k.max_calls))
 
   -- a step of a CPU's call in flight
   pub cpu_step_wears : (f : CpuFlight) → Wears c h (is_first (Some f) && nat_le k.max_calls (calls c h)) (ahead (Some f)) (op_of f) (cpu_step shape k c h me f)

@@ -19,7 +19,7 @@ use Rattle.dspec_play.specs.declared.flight.CpuFlight.{CpuFlight}
 use Rattle.dspec_play.specs.declared.flight.CpuFlight.TheVariants as cpu
 use Rattle.dspec_play.specs.declared.flight.Spare.{Spare}
 use Rattle.dspec_play.specs.declared.flight.Spare.TheVariants as spare
-use Rattle.dspec_deeds.specs.Ranges.{start_fault}
+use Rattle.dspec_deeds.specs.Ranges.{start_fault, is_fill}
 use Rattle.dspec_deeds.specs.History.{committed, verdict, is_among, callers, in_range, issue, present, solo, scan, opened, opened_since, part, late, owed, settled, word_at}
 use Rattle.dspec_deeds.specs.Own.{seals}
 use Rattle.dspec_deeds.specs.Legal.{HasAuthors, IsAllowed, sealed_last}
@@ -58,7 +58,7 @@ StandsCpu k c h me (cpu.CommitRelease id f) =
     × (sealed_last (part (Cpu c) h) ≡ false) × (me.steps ≤ 4)
 StandsCpu k c h me (cpu.DiscardLoad id) = OnItsWay k c h id × (me.steps ≡ 1)
 StandsCpu k c h me (cpu.DiscardTry id from) = OnItsWay k c h id × Expects (discard_at from id (is_among c (callers id h))) from id h × TriedBy me.steps from
-StandsCpu k c h me cpu.ServicePop = (scan k c h ≡ 0) × (me.steps ≡ 1) × (seals c h < k.max_calls)
+StandsCpu k c h me cpu.ServicePop = (scan k c h ≡ 0) × (me.steps ≡ 1) × (seals c h < k.max_calls) × (is_fill k.policy ≡ false)
 StandsCpu k c h me cpu.ServicePush = (scan k c h ≡ 0) × (me.steps ≤ 2) × (me.spare ≡ spare.Sealed)
 StandsCpu k c h me (cpu.ServiceLoad s sum) = IsSlot k s × (scan k c h ≡ 0) × (me.steps ≤ 1 + 2 * s) × (sum.settled < s)
 StandsCpu k c h me (cpu.ServiceStore s w sum) =

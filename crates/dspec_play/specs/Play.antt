@@ -35,6 +35,7 @@ use Rattle.dspec_play.specs.declared.flight.CpuFlight.{CpuFlight}
 use Rattle.dspec_play.specs.declared.flight.CpuFlight.TheVariants as cpu
 use Rattle.dspec_play.specs.declared.flight.Spare.{Spare}
 use Rattle.dspec_play.specs.declared.flight.Spare.TheVariants as spare
+use Rattle.dspec_deeds.specs.Ranges.{is_fill}
 use Rattle.dspec_deeds.specs.History.{halted, in_range, is_among, callers, word_at, ack}
 use Rattle.dspec_deeds.specs.Own.{calls, seals, batches, taken, Batch, empty_batch}
 use Rattle.dspec_play.specs.Coherent.{the_caller}
@@ -129,7 +130,19 @@ module _ (shape : ℕ → Option Shape) (k : Config) (c : ℕ) (h : List Deed) (
   asked place true = goes_on [] cpu.ServicePop
   asked place false = goes_on [] (cpu.ServiceLoad 1 record { sealed = false; settled = 0 })
 
-  -- the load of activity, or in a service of the ask
+  -- behind a slot of a service: the next one, or the call has ended
+  abbrev pub served : ℕ → List Deed → Served → Moved
+  served s ds sum = if s == k.nspec then ends ds (answer.Served sum) else goes_on ds (cpu.ServiceLoad (s + 1) sum)
+
+  abbrev pub shown_service : ℕ → Served → SlotState → Act → Moved
+  shown_service s sum w Granted = goes_on [] (cpu.ServiceStore s w sum)
+  shown_service s sum w act = served s [] sum
+
+  -- the load of a slot's word in a service
+  abbrev pub loads_service : ℕ → Served → Moved
+  loads_service s sum = shown_service s sum (word_at s h) (settle_at (word_at s h) (ack c s h))
+
+  -- the load of activity; in a service that of the ask, or where a full buffer closes, that of the first slot's word
   abbrev pub begun : CpuOp → Moved
   begun (cpu_op.Trace r) =
       if is_worn then wears (answer.Traced traced_answer.Worn)
@@ -155,7 +168,9 @@ module _ (shape : ℕ → Option Shape) (k : Config) (c : ℕ) (h : List Deed) (
       else if halted h then ends (Discard c id decided.Stopped ∷ []) (answer.Decided decided_answer.Stopped)
       else if in_range k id then goes_on [] (cpu.DiscardLoad id)
       else ends (Discard c id decided.Void ∷ []) (answer.Decided decided_answer.Void)
-  begun cpu_op.Service = asked me.spare (nat_lt (seals c h) me.want && nat_lt (seals c h) k.max_calls)
+  begun cpu_op.Service =
+      if is_fill k.policy then loads_service 1 record { sealed = false; settled = 0 }
+      else asked me.spare (nat_lt (seals c h) me.want && nat_lt (seals c h) k.max_calls)
 
   -- the pop of a spare, which seals where one came
   abbrev pub popped : Spare → Moved
@@ -164,14 +179,6 @@ module _ (shape : ℕ → Option Shape) (k : Config) (c : ℕ) (h : List Deed) (
 
   abbrev pub pushed : Moved
   pushed = record { caller = record me { flight = Some (cpu.ServiceLoad 1 record { sealed = true; settled = 0 }); steps = me.steps + 1; spare = spare.Handed }; deeds = []; answer = None }
-
-  -- behind a slot of a service: the next one, or the call has ended
-  abbrev pub served : ℕ → List Deed → Served → Moved
-  served s ds sum = if s == k.nspec then ends ds (answer.Served sum) else goes_on ds (cpu.ServiceLoad (s + 1) sum)
-
-  abbrev pub shown_service : ℕ → Served → SlotState → Act → Moved
-  shown_service s sum w Granted = goes_on [] (cpu.ServiceStore s w sum)
-  shown_service s sum w act = served s [] sum
 
   -- one step of a CPU's call in flight
   abbrev pub cpu_step : CpuFlight → Moved
@@ -195,7 +202,7 @@ module _ (shape : ℕ → Option Shape) (k : Config) (c : ℕ) (h : List Deed) (
       else shown_discard id (word_at id.slot h) (discard_at (word_at id.slot h) id (is_mine id))
   cpu_step cpu.ServicePop = popped me.spare
   cpu_step cpu.ServicePush = pushed
-  cpu_step (cpu.ServiceLoad s sum) = shown_service s sum (word_at s h) (settle_at (word_at s h) (ack c s h))
+  cpu_step (cpu.ServiceLoad s sum) = loads_service s sum
   cpu_step (cpu.ServiceStore s w sum) =
       served s (Settle c record { issue = w.issue; slot = s } (settle_fate shape k c h record { issue = w.issue; slot = s } w.code) ∷ []) record { sealed = sum.sealed; settled = sum.settled + 1 }
 

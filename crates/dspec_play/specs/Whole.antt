@@ -24,6 +24,7 @@ use Rattle.dspec_deeds.specs.declared.deed.Deed.TheVariants.{Trace, Scan, Opened
 use Rattle.dspec_play.specs.declared.flight.Caller.{Caller}
 use Rattle.dspec_play.specs.declared.flight.Spare.{Spare}
 use Rattle.dspec_play.specs.declared.flight.Spare.TheVariants as spare
+use Rattle.dspec_deeds.specs.Ranges.{is_fill}
 use Rattle.dspec_deeds.specs.History.{halted, issue, present, Verdict, discarded, verdict, is_open, callers, is_sole, is_sole_or_none, solo, settled, is_free, is_busy}
 use Rattle.dspec_deeds.specs.Own.{calls, seals}
 use Rattle.dspec_deeds.specs.Legal.{fits_principal, fits_speculative}
@@ -95,9 +96,9 @@ module _ (shape : ℕ → Option Shape) (k : Config) (c : ℕ) where
   settlements zero h = 0
   settlements (suc n) h = settlements n h + (if owes (suc n) (settled_up n h) then 1 else 0)
 
-  -- a batch is wanted, and all that were sealed before are given back
+  -- full buffers are switched, a batch is wanted, and all that were sealed before are given back
   abbrev pub is_sealing : Caller → List Deed → Bool
-  is_sealing me h = nat_lt (seals c h) me.want && (are_all_back (seals c h) me && nat_lt (seals c h) k.max_calls)
+  is_sealing me h = not (is_fill k.policy) && (nat_lt (seals c h) me.want && (are_all_back (seals c h) me && nat_lt (seals c h) k.max_calls))
 
   abbrev pub serves : Caller → List Deed → Bool → WholeCpu
   serves me h sealed = record { list = settled_up k.nspec h; caller = me; answer = answer.Served record { sealed = sealed; settled = settlements k.nspec h } }

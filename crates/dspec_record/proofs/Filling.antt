@@ -6,9 +6,11 @@ use Rattle.dspec_record.specs.EnablingFields.{IsLaidOut}
 use Rattle.dspec_record.specs.EnablingRows.{IsFilled}
 use Rattle.dspec_record.specs.declared.field.Field.{Field}
 use Rattle.dspec_record.specs.declared.field.Field.TheVariants.{One}
+use Rattle.dspec_record.specs.declared.header.Header.{Header}
+use Rattle.dspec_record.specs.declared.header.Header.TheVariants as header
 
 -- fields copied over the first of eight places
-pub IsLaidOut-copied : (fs : List Field) → length fs ≤ 8 → IsLaidOut (record { fields = fs ++ drop (length fs) (replicate 8 One); len = length fs; shape = layout fs })
+pub IsLaidOut-copied : (fs : List Field) → length fs ≤ 8 → IsLaidOut (record { fields = fs ++ drop (length fs) (replicate 8 One); len = length fs; shape = layout header.One fs })
 IsLaidOut-copied fs few =
     let held : List Field = fs ++ drop (length fs) (replicate 8 One) in
     let back : take (length fs) held ≡ fs = take_at fs (drop (length fs) (replicate 8 One)) (length fs) refl in
@@ -16,11 +18,11 @@ IsLaidOut-copied fs few =
       eight = omega (arith, length-append fs (drop (length fs) (replicate 8 One)), length-drop (length fs) (replicate 8 One), length-replicate 8 One);
       few = few;
       rest = drop_at fs (drop (length fs) (replicate 8 One)) (length fs) refl ∙ drop-replicate (length fs) 8 One;
-      shape = ap layout (sym back);
+      shape = ap (layout header.One) (sym back);
     }
 
-pub IsFilled-push : (rows : List (List Field)) (count : ℕ) (fs : List Field) → IsFilled (record { rows = rows; count = count }) → count < 64 → IsFilled (record { rows = set rows count fs; count = count + 1 })
-IsFilled-push rows count fs is room =
+pub IsFilled-push : (h : Header) (rows : List (List Field)) (count : ℕ) (fs : List Field) → IsFilled (record { header = h; rows = rows; count = count }) → count < 64 → IsFilled (record { header = h; rows = set rows count fs; count = count + 1 })
+IsFilled-push h rows count fs is room =
     let none : List Field = [] in
     let past : count < count + 1 = omega arith in
     let left : 64 - count - 1 ≡ 64 - (count + 1) = omega arith in

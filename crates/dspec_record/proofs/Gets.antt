@@ -1,17 +1,18 @@
 -- What `get` answers for a table of fields.
-use Rattle.std.proofs.Common.{◌≡◌, ◌≢◌, ◌≤◌, ◌<◌, ◌^◌, ◌&&◌, ℕ, false, cond, ltb, IsTrue, List, [], length, take, Option, Some, None, sym, ◌∙◌, ap, arith}
+use Rattle.std.proofs.Common.{◌≡◌, ◌≢◌, ◌≤◌, ◌<◌, ◌^◌, ◌&&◌, ℕ, Bool, false, cond, IsTrue, List, [], length, take, Option, Some, None, sym, ◌∙◌, ap, arith}
 use Rattle.std.specs.Prelude.{unwrap_or, option_and_then}
 use Rattle.std.specs.Option.{option_map_or}
 use Rattle.std.proofs.lemmas.Bool.{lt-ltb, le-leb}
 use Rattle.dspec_record.specs.Record.{Record}
 use Rattle.dspec_record.specs.Layout.{layout}
-use Rattle.dspec_record.specs.RecordText.{little_endian, record_text, fits, IsRead}
+use Rattle.dspec_record.specs.RecordText.{little_endian, record_text, stamp_fits, fits, IsRead}
 use Rattle.dspec_record.specs.Reading.{BeginsWith}
 use Rattle.dspec_record.specs.Schemas.{FieldTable, table_accepts, table_text, within_limit, enabling_of, enabled}
-use Rattle.dspec_record.specs.Laws.Texts.{both, little_endian-same, length-record_text}
-use Rattle.dspec_record.specs.Laws.Tables.{table-texts_fit}
+use Rattle.dspec_record.specs.Laws.Texts.{little_endian-same, length-record_text}
+use Rattle.dspec_record.specs.Laws.Tables.{IsAccepted, accepted-parts, table-texts_fit}
 use Rattle.dspec_record.specs.declared.field.Field.{Field}
 use Rattle.dspec_record.specs.declared.field.Field.TheVariants.{Four}
+use Rattle.dspec_record.specs.declared.header.Header.{Header}
 
 enabled-is : (rows : List (List Field)) (epid : ℕ) (fs : List Field) → enabling_of rows epid ≡ Some fs → length fs ≤ 8 → enabled rows epid ≡ Some fs
 enabled-is rows epid fs is few =
@@ -24,36 +25,38 @@ enabled-row rows epid found fs is same few = enabled-is rows epid fs (sym is ∙
 row-accepts : (o : Option (List Field)) (fs : List Field) (r : Record) → o ≡ Some fs → option_map_or (λ gs. fits gs r.values) o false ≡ fits fs r.values
 row-accepts o fs r is = ap (λ p. option_map_or (λ gs. fits gs r.values) p false) is
 
-pub table_text-is : (fields : FieldTable) (fs : List Field) (r : Record) → fields r.epid ≡ Some fs → table_text fields r ≡ record_text fs r
-table_text-is fields fs r is = ap (λ o. record_text (unwrap_or o []) r) is
+pub table_text-is : (h : Header) (fields : FieldTable) (fs : List Field) (r : Record) → fields r.epid ≡ Some fs → table_text h fields r ≡ record_text h fs r
+table_text-is h fields fs r is = ap (λ o. record_text h (unwrap_or o []) r) is
 
-pub BeginsWith-read : (fields : FieldTable) (fs : List Field) (epid : ℕ) (bytes : List ℕ) (r : Record) (size : ℕ) → fields epid ≡ Some fs → epid < 2 ^ 32 → size ≡ (layout fs).size → IsRead fs epid (take size bytes) r → BeginsWith (table_accepts fields) (table_text fields) bytes r size
-BeginsWith-read fields fs epid bytes r size is fits32 size_is read =
+pub BeginsWith-read : (h : Header) (fields : FieldTable) (fs : List Field) (epid : ℕ) (bytes : List ℕ) (r : Record) (size : ℕ) → fields epid ≡ Some fs → epid < 2 ^ 32 → size ≡ (layout h fs).size → IsRead h fs epid (take size bytes) r → BeginsWith (table_accepts h fields) (table_text h fields) bytes r size
+BeginsWith-read h fields fs epid bytes r size is fits32 size_is read =
     let row : fields r.epid ≡ Some fs = ap fields read.epid_is ∙ is in
     let small : r.epid < 2 ^ 32 = omega (arith, read.epid_is) in
+    let values : Bool = option_map_or (λ gs. fits gs r.values) (fields r.epid) false in
     record {
       is_accepted =
-          ap (λ b. b && option_map_or (λ gs. fits gs r.values) (fields r.epid) false) (lt-ltb r.epid (2 ^ 32) small)
+          ap (λ b. b && (stamp_fits h r.stamp && values)) (lt-ltb r.epid (2 ^ 32) small)
+          ∙ ap (λ b. b && values) read.stamp_fit
           ∙ row-accepts (fields r.epid) fs r row ∙ read.fit;
-      size = size_is ∙ sym (length-record_text fs r read.fit) ∙ ap length (sym (table_text-is fields fs r row));
-      front = sym read.text_is ∙ sym (table_text-is fields fs r row);
+      size = size_is ∙ sym (length-record_text h fs r read.fit) ∙ ap length (sym (table_text-is h fields fs r row));
+      front = sym read.text_is ∙ sym (table_text-is h fields fs r row);
     }
 
+pub fits-accepted : (h : Header) (fields : FieldTable) (fs : List Field) (r : Record) → fields r.epid ≡ Some fs → IsTrue (table_accepts h fields r) → IsTrue (fits fs r.values)
+fits-accepted h fields fs r row accepted =
+    let parts : IsAccepted h r (fields r.epid) = accepted-parts h fields r accepted in
+    sym (row-accepts (fields r.epid) fs r row) ∙ parts.values
+
 -- where no record of the EPID's fields has the text, no accepted record has it
-pub no_text-unread : (fields : FieldTable) (fs : List Field) (epid : ℕ) (text : List ℕ) → fields epid ≡ Some fs → epid < 2 ^ 32 → take 4 text ≡ little_endian 4 epid → ((r : Record) → IsTrue (fits fs r.values) → text ≢ record_text fs r) → (r : Record) → IsTrue (table_accepts fields r) → text ≢ table_text fields r
-no_text-unread fields fs epid text is fits32 front unread r accepted e =
-    let of = table-texts_fit fields r accepted in
+pub no_text-unread : (h : Header) (fields : FieldTable) (fs : List Field) (epid : ℕ) (text : List ℕ) → fields epid ≡ Some fs → epid < 2 ^ 32 → take 4 text ≡ little_endian 4 epid → ((r : Record) → IsTrue (stamp_fits h r.stamp) → IsTrue (fits fs r.values) → text ≢ record_text h fs r) → (r : Record) → IsTrue (table_accepts h fields r) → text ≢ table_text h fields r
+no_text-unread h fields fs epid text is fits32 front unread r accepted e =
+    let of = table-texts_fit h fields r accepted in
     let same : r.epid ≡ epid =
     little_endian-same Four r.epid epid of.epid_fits fits32 (sym of.epid ∙ sym (ap (take 4) e) ∙ front) in
     let row : fields r.epid ≡ Some fs = ap fields same ∙ is in
-    unread r
-    (sym (row-accepts (fields r.epid) fs r row) ∙ (both (ltb r.epid (2 ^ 32)) (option_map_or (λ gs. fits gs r.values) (fields r.epid) false) accepted).1)
-    (e ∙ table_text-is fields fs r row)
+    let parts : IsAccepted h r (fields r.epid) = accepted-parts h fields r accepted in
+    unread r parts.stamp (fits-accepted h fields fs r row accepted) (e ∙ table_text-is h fields fs r row)
 
-pub fits-accepted : (fields : FieldTable) (fs : List Field) (r : Record) → fields r.epid ≡ Some fs → IsTrue (table_accepts fields r) → IsTrue (fits fs r.values)
-fits-accepted fields fs r row accepted =
-    sym (row-accepts (fields r.epid) fs r row) ∙ (both (ltb r.epid (2 ^ 32)) (option_map_or (λ gs. fits gs r.values) (fields r.epid) false) accepted).1
-
-pub length-accepted : (fields : FieldTable) (fs : List Field) (r : Record) → fields r.epid ≡ Some fs → IsTrue (table_accepts fields r) → length (table_text fields r) ≡ (layout fs).size
-length-accepted fields fs r row accepted =
-    ap length (table_text-is fields fs r row) ∙ length-record_text fs r (fits-accepted fields fs r row accepted)
+pub length-accepted : (h : Header) (fields : FieldTable) (fs : List Field) (r : Record) → fields r.epid ≡ Some fs → IsTrue (table_accepts h fields r) → length (table_text h fields r) ≡ (layout h fs).size
+length-accepted h fields fs r row accepted =
+    ap length (table_text-is h fields fs r row) ∙ length-record_text h fs r (fits-accepted h fields fs r row accepted)

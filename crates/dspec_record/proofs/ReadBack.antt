@@ -4,37 +4,51 @@ use Rattle.std.proofs.lemmas.List.{append_assoc, append-nil, take_at, drop_at, d
 use Rattle.std.proofs.lemmas.Bool.{lt-ltb}
 use Rattle.dspec_record.specs.Record.{Record}
 use Rattle.dspec_record.specs.Layout.{width, rounded_up, after, fields_start, fields_end, layout}
-use Rattle.dspec_record.specs.RecordText.{little_endian, gap, header_text, fields_text, record_text, fits, IsRead}
-use Rattle.dspec_record.specs.Laws.Layouts.{rounded_up-ge, fields_end-ge, layout-IsShape}
-use Rattle.dspec_record.specs.Laws.Texts.{both, length-little_endian}
+use Rattle.dspec_record.specs.RecordText.{little_endian, gap, stamp_text, header_text, fields_text, record_text, stamp_fits, fits, IsRead}
+use Rattle.dspec_record.specs.Laws.Layouts.{rounded_up-ge, fields_end-ge, fields_start-ge, layout-IsShape}
+use Rattle.dspec_record.specs.Laws.Texts.{both, length-little_endian, length-header_text}
 use Rattle.dspec_record.specs.declared.field.Field.{Field}
 use Rattle.dspec_record.specs.declared.field.Field.TheVariants.{One, Four}
+use Rattle.dspec_record.specs.declared.header.Header.{Header}
 
 -- the first values are read, up to `end`: with any further values the text goes on as theirs does, and any
 -- record that has the text has further values whose text is what is left
-pub record IsReading (all : List Field) (epid : ℕ) (text : List ℕ) (end : ℕ) (read : List ℕ) (n : ℕ) (fs : List Field) : Type 0 where
-  pub so_far : (vs : List ℕ) → header_text (record { epid = epid; values = vs }) ++ fields_text fields_start all (read ++ vs) ≡ take end text ++ fields_text end fs vs
+pub record IsReading (h : Header) (all : List Field) (epid stamp : ℕ) (text : List ℕ) (end : ℕ) (read : List ℕ) (n : ℕ) (fs : List Field) : Type 0 where
+  pub stamp_fit : IsTrue (stamp_fits h stamp)
+  pub so_far : (vs : List ℕ) → header_text h (record { epid = epid; stamp = stamp; values = vs }) ++ fields_text (fields_start h) all (read ++ vs) ≡ take end text ++ fields_text end fs vs
   pub fit : (vs : List ℕ) → fits all (read ++ vs) ≡ fits fs vs
-  pub still : (r : Record) → IsTrue (fits all r.values) → text ≡ record_text all r → IsTrue (fits fs (drop n r.values)) × (drop end text ≡ fields_text end fs (drop n r.values))
+  pub still : (r : Record) → IsTrue (fits all r.values) → text ≡ record_text h all r → IsTrue (fits fs (drop n r.values)) × (drop end text ≡ fields_text end fs (drop n r.values))
   pub exact : rounded_up (fields_end end fs) 4 ≡ length text
   pub short : length text ≤ 128
 
-pub IsReading-start : (fs : List Field) (epid : ℕ) (text : List ℕ) → length fs ≤ 8 → length text ≡ (layout fs).size → take 4 text ≡ little_endian 4 epid → IsReading fs epid text fields_start [] 0 fs
-IsReading-start fs epid text few long front = record {
-  so_far = λ vs. ap (λ h. h ++ fields_text fields_start fs vs) (sym front);
+-- the header at the front, put together of its EPID and of what is behind it
+header-front : (h : Header) (epid stamp : ℕ) (vs text : List ℕ) → 4 ≤ fields_start h → take 4 text ≡ little_endian 4 epid → drop 4 (take (fields_start h) text) ≡ stamp_text h stamp → header_text h (record { epid = epid; stamp = stamp; values = vs }) ≡ take (fields_start h) text
+header-front h epid stamp vs text low front behind =
+    ap (λ e. e ++ stamp_text h stamp) (sym front)
+    ∙ ap (λ s. take 4 text ++ s) (sym behind)
+    ∙ ap (λ e. e ++ drop 4 (take (fields_start h) text)) (sym (take-take 4 (fields_start h) text low))
+    ∙ take-append-drop 4 (take (fields_start h) text)
+
+pub IsReading-start : (h : Header) (fs : List Field) (epid stamp : ℕ) (text : List ℕ) → length fs ≤ 8 → length text ≡ (layout h fs).size → take 4 text ≡ little_endian 4 epid → IsTrue (stamp_fits h stamp) → drop 4 (take (fields_start h) text) ≡ stamp_text h stamp → IsReading h fs epid stamp text (fields_start h) [] 0 fs
+IsReading-start h fs epid stamp text few long front stamp_fit behind = record {
+  stamp_fit = stamp_fit;
+  so_far = λ vs. ap (λ t. t ++ fields_text (fields_start h) fs vs) (header-front h epid stamp vs text (fields_start-ge h) front behind);
   fit = λ vs. refl;
-  still = λ r h is. (h, ap (drop 4) is ∙ drop_at (header_text r) (fields_text fields_start fs r.values) 4 refl);
+  still = λ r fit is. (
+    fit,
+    ap (drop (fields_start h)) is ∙ drop_at (header_text h r) (fields_text (fields_start h) fs r.values) (fields_start h) (length-header_text h r),
+  );
   exact = sym long;
-  short = omega (arith, (layout-IsShape fs few).bounded);
+  short = omega (arith, (layout-IsShape h fs few).bounded);
 }
 
-pub IsReading-room : (all : List Field) (epid : ℕ) (text : List ℕ) (end : ℕ) (read : List ℕ) (n : ℕ) (f : Field) (fs : List Field) → IsReading all epid text end read n (f ∷ fs) → after end (width f) (width f) ≤ length text
-IsReading-room all epid text end read n f fs w =
+pub IsReading-room : (d : Header) (all : List Field) (epid stamp : ℕ) (text : List ℕ) (end : ℕ) (read : List ℕ) (n : ℕ) (f : Field) (fs : List Field) → IsReading d all epid stamp text end read n (f ∷ fs) → after end (width f) (width f) ≤ length text
+IsReading-room d all epid stamp text end read n f fs w =
     let next : ℕ = after end (width f) (width f) in
     omega (arith, w.exact, fields_end-ge next fs, rounded_up-ge Four (fields_end next fs))
 
-pub IsReading-near : (all : List Field) (epid : ℕ) (text : List ℕ) (end : ℕ) (read : List ℕ) (n : ℕ) (fs : List Field) → IsReading all epid text end read n fs → end ≤ length text
-IsReading-near all epid text end read n fs w =
+pub IsReading-near : (d : Header) (all : List Field) (epid stamp : ℕ) (text : List ℕ) (end : ℕ) (read : List ℕ) (n : ℕ) (fs : List Field) → IsReading d all epid stamp text end read n fs → end ≤ length text
+IsReading-near d all epid stamp text end read n fs w =
     omega (arith, w.exact, fields_end-ge end fs, rounded_up-ge Four (fields_end end fs))
 
 take-add : (n m : ℕ) (xs : List ℕ) → take n xs ++ take m (drop n xs) ≡ take (n + m) xs
@@ -89,13 +103,14 @@ left-gap text end f fs (u ∷ us) h is =
     ap (take (rounded_up end (width f) - end)) is
     ∙ take_at (gap end (width f)) (little_endian (width f) u ++ fields_text (after end (width f) (width f)) fs us) (rounded_up end (width f) - end) (length-replicate (rounded_up end (width f) - end) zero_byte)
 
-pub IsReading-more : (all : List Field) (epid : ℕ) (text : List ℕ) (end : ℕ) (read : List ℕ) (n : ℕ) (f : Field) (fs : List Field) (v : ℕ) → IsReading all epid text end read n (f ∷ fs) → HasField text end f v → IsReading all epid text (after end (width f) (width f)) (read ++ v ∷ []) (n + 1) fs
-IsReading-more all epid text end read n f fs v w h =
+pub IsReading-more : (d : Header) (all : List Field) (epid stamp : ℕ) (text : List ℕ) (end : ℕ) (read : List ℕ) (n : ℕ) (f : Field) (fs : List Field) (v : ℕ) → IsReading d all epid stamp text end read n (f ∷ fs) → HasField text end f v → IsReading d all epid stamp text (after end (width f) (width f)) (read ++ v ∷ []) (n + 1) fs
+IsReading-more d all epid stamp text end read n f fs v w h =
     let next : ℕ = after end (width f) (width f) in
     let one : (vs : List ℕ) → read ++ v ∷ [] ++ vs ≡ read ++ v ∷ vs = λ vs. append_assoc read (v ∷ []) vs in
     record {
+      stamp_fit = w.stamp_fit;
       so_far = λ vs.
-          ap (λ xs. header_text (record { epid = epid; values = vs }) ++ fields_text fields_start all xs) (one vs)
+          ap (λ xs. header_text d (record { epid = epid; stamp = stamp; values = vs }) ++ fields_text (fields_start d) all xs) (one vs)
           ∙ w.so_far (v ∷ vs)
           ∙ four_parts (take end text) (gap end (width f)) (little_endian (width f) v) (fields_text next fs vs)
           ∙ ap (λ xs. xs ++ fields_text next fs vs) (sym (HasField-taken text end f v h));
@@ -111,36 +126,37 @@ IsReading-more all epid text end read n f fs v w h =
       short = w.short;
     }
 
-pub IsReading-end : (all : List Field) (epid : ℕ) (text : List ℕ) (end : ℕ) (read : List ℕ) (n : ℕ) → IsReading all epid text end read n [] → drop end text ≡ gap end 4 → IsRead all epid text (record { epid = epid; values = read })
-IsReading-end all epid text end read n w zeros =
+pub IsReading-end : (d : Header) (all : List Field) (epid stamp : ℕ) (text : List ℕ) (end : ℕ) (read : List ℕ) (n : ℕ) → IsReading d all epid stamp text end read n [] → drop end text ≡ gap end 4 → IsRead d all epid text (record { epid = epid; stamp = stamp; values = read })
+IsReading-end d all epid stamp text end read n w zeros =
     let whole : read ++ [] ≡ read = append-nil read in
     record {
       epid_is = refl;
+      stamp_fit = w.stamp_fit;
       fit = sym (ap (fits all) whole) ∙ w.fit [];
       text_is =
-          sym (ap (λ xs. little_endian 4 epid ++ fields_text fields_start all xs) whole)
+          sym (ap (λ xs. header_text d (record { epid = epid; stamp = stamp; values = [] }) ++ fields_text (fields_start d) all xs) whole)
           ∙ w.so_far [] ∙ ap (λ zs. take end text ++ zs) (sym zeros) ∙ take-append-drop end text;
     }
 
-at_field : (all : List Field) (epid : ℕ) (text : List ℕ) (end : ℕ) (read : List ℕ) (i : ℕ) → i < length all → IsReading all epid text end read i (drop i all) → IsReading all epid text end read i (get_or all i One ∷ drop (i + 1) all)
-at_field all epid text end read i within w =
-    let Left : List Field → Type 0 = λ fs. IsReading all epid text end read i fs in
+at_field : (d : Header) (all : List Field) (epid stamp : ℕ) (text : List ℕ) (end : ℕ) (read : List ℕ) (i : ℕ) → i < length all → IsReading d all epid stamp text end read i (drop i all) → IsReading d all epid stamp text end read i (get_or all i One ∷ drop (i + 1) all)
+at_field d all epid stamp text end read i within w =
+    let Left : List Field → Type 0 = λ fs. IsReading d all epid stamp text end read i fs in
     subst Left (drop_more all i One within) w
 
 -- the next field ends within the text
-pub next-within : (all : List Field) (epid : ℕ) (text : List ℕ) (end : ℕ) (read : List ℕ) (i place w : ℕ) → i < length all → IsReading all epid text end read i (drop i all) → place ≡ rounded_up end (width (get_or all i One)) → w ≡ width (get_or all i One) → place + w ≤ length text
-next-within all epid text end read i place w within inv at wide =
-    omega (arith, at, wide, IsReading-room all epid text end read i (get_or all i One) (drop (i + 1) all) (at_field all epid text end read i within inv))
+pub next-within : (d : Header) (all : List Field) (epid stamp : ℕ) (text : List ℕ) (end : ℕ) (read : List ℕ) (i place w : ℕ) → i < length all → IsReading d all epid stamp text end read i (drop i all) → place ≡ rounded_up end (width (get_or all i One)) → w ≡ width (get_or all i One) → place + w ≤ length text
+next-within d all epid stamp text end read i place w within inv at wide =
+    omega (arith, at, wide, IsReading-room d all epid stamp text end read i (get_or all i One) (drop (i + 1) all) (at_field d all epid stamp text end read i within inv))
 
 gap-is : (text : List ℕ) (end place : ℕ) → end ≤ place → place ≤ length text → length (take (place - end) (drop end text)) ≡ place - end
 gap-is text end place low high = omega (arith, length-take (place - end) (drop end text), length-drop end text)
 
 -- one iteration: the gap from `end` to `place` is zero, and `v` has the `w` bytes behind it
-pub IsReading-next : (all : List Field) (epid : ℕ) (text : List ℕ) (end : ℕ) (read : List ℕ) (i place w v : ℕ) → i < length all → IsReading all epid text end read i (drop i all) → place ≡ rounded_up end (width (get_or all i One)) → w ≡ width (get_or all i One) → take (place - end) (drop end text) ≡ replicate (length (take (place - end) (drop end text))) 0 → v < 256 ^ width (get_or all i One) → little_endian (width (get_or all i One)) v ≡ take (place + w - place) (drop place text) → IsReading all epid text (place + w) (read ++ v ∷ []) (i + 1) (drop (i + 1) all)
-IsReading-next all epid text end read i place w v within inv at wide zeros holds written =
+pub IsReading-next : (d : Header) (all : List Field) (epid stamp : ℕ) (text : List ℕ) (end : ℕ) (read : List ℕ) (i place w v : ℕ) → i < length all → IsReading d all epid stamp text end read i (drop i all) → place ≡ rounded_up end (width (get_or all i One)) → w ≡ width (get_or all i One) → take (place - end) (drop end text) ≡ replicate (length (take (place - end) (drop end text))) 0 → v < 256 ^ width (get_or all i One) → little_endian (width (get_or all i One)) v ≡ take (place + w - place) (drop place text) → IsReading d all epid stamp text (place + w) (read ++ v ∷ []) (i + 1) (drop (i + 1) all)
+IsReading-next d all epid stamp text end read i place w v within inv at wide zeros holds written =
     let f : Field = get_or all i One in
     let low : end ≤ rounded_up end (width f) = rounded_up-ge f end in
-    let room : place + w ≤ length text = next-within all epid text end read i place w within inv at wide in
+    let room : place + w ≤ length text = next-within d all epid stamp text end read i place w within inv at wide in
     let has : HasField text end f v = record {
       zeros = ap (λ p. take (p - end) (drop end text)) (sym at) ∙ zeros
           ∙ ap (λ n. replicate n 0) (gap-is text end place (omega arith) (omega arith)) ∙ ap (λ p. replicate (p - end) 0) at;
@@ -148,23 +164,23 @@ IsReading-next all epid text end read i place w v within inv at wide zeros holds
       holds = holds;
     } in
     let next : after end (width f) (width f) ≡ place + w = omega (arith, at, wide) in
-    let At : ℕ → Type 0 = λ e. IsReading all epid text e (read ++ v ∷ []) (i + 1) (drop (i + 1) all) in
-    subst At next (IsReading-more all epid text end read i f (drop (i + 1) all) v (at_field all epid text end read i within inv) has)
+    let At : ℕ → Type 0 = λ e. IsReading d all epid stamp text e (read ++ v ∷ []) (i + 1) (drop (i + 1) all) in
+    subst At next (IsReading-more d all epid stamp text end read i f (drop (i + 1) all) v (at_field d all epid stamp text end read i within inv) has)
 
 -- a record with the text has zeros in the next gap
-pub IsReading-gap : (all : List Field) (epid : ℕ) (text : List ℕ) (end : ℕ) (read : List ℕ) (i place : ℕ) → i < length all → IsReading all epid text end read i (drop i all) → place ≡ rounded_up end (width (get_or all i One)) → (r : Record) → IsTrue (fits all r.values) → text ≡ record_text all r → take (place - end) (drop end text) ≡ replicate (length (take (place - end) (drop end text))) 0
-IsReading-gap all epid text end read i place within inv at r fit is =
+pub IsReading-gap : (d : Header) (all : List Field) (epid stamp : ℕ) (text : List ℕ) (end : ℕ) (read : List ℕ) (i place : ℕ) → i < length all → IsReading d all epid stamp text end read i (drop i all) → place ≡ rounded_up end (width (get_or all i One)) → (r : Record) → IsTrue (fits all r.values) → text ≡ record_text d all r → take (place - end) (drop end text) ≡ replicate (length (take (place - end) (drop end text))) 0
+IsReading-gap d all epid stamp text end read i place within inv at r fit is =
     let f : Field = get_or all i One in
-    let here : IsReading all epid text end read i (f ∷ drop (i + 1) all) = at_field all epid text end read i within inv in
+    let here : IsReading d all epid stamp text end read i (f ∷ drop (i + 1) all) = at_field d all epid stamp text end read i within inv in
     let left = here.still r fit is in
-    let room : after end (width f) (width f) ≤ length text = IsReading-room all epid text end read i f (drop (i + 1) all) here in
+    let room : after end (width f) (width f) ≤ length text = IsReading-room d all epid stamp text end read i f (drop (i + 1) all) here in
     let hole : take (place - end) (drop end text) ≡ gap end (width f) =
     ap (λ p. take (p - end) (drop end text)) at ∙ left-gap text end f (drop (i + 1) all) (drop i r.values) left.0 left.1 in
     hole ∙ ap (λ n. replicate n 0) (ap (λ p. p - end) (sym at) ∙ sym (gap-is text end place (omega (arith, rounded_up-ge f end)) (omega arith)))
 
-no_more : (all : List Field) (epid : ℕ) (text : List ℕ) (end : ℕ) (read : List ℕ) (i : ℕ) → length all ≤ i → IsReading all epid text end read i (drop i all) → IsReading all epid text end read i []
-no_more all epid text end read i past w =
-    let Left : List Field → Type 0 = λ fs. IsReading all epid text end read i fs in
+no_more : (d : Header) (all : List Field) (epid stamp : ℕ) (text : List ℕ) (end : ℕ) (read : List ℕ) (i : ℕ) → length all ≤ i → IsReading d all epid stamp text end read i (drop i all) → IsReading d all epid stamp text end read i []
+no_more d all epid stamp text end read i past w =
+    let Left : List Field → Type 0 = λ fs. IsReading d all epid stamp text end read i fs in
     subst Left (drop_all i all past) w
 
 rest-is : (text : List ℕ) (end : ℕ) → end ≤ length text → length (take (length text - end) (drop end text)) ≡ length text - end
@@ -175,8 +191,8 @@ rest-zero : (text : List ℕ) (end : ℕ) → end ≤ length text → rounded_up
 rest-zero text end high exact zeros =
     sym (take_rest text end) ∙ zeros ∙ ap (λ n. replicate n 0) (rest-is text end high) ∙ ap (λ n. replicate (n - end) 0) (sym exact)
 
-pub IsReading-whole : (all : List Field) (epid : ℕ) (text : List ℕ) (end : ℕ) (read : List ℕ) (i : ℕ) → length all ≡ i → IsReading all epid text end read i (drop i all) → take (length text - end) (drop end text) ≡ replicate (length (take (length text - end) (drop end text))) 0 → IsRead all epid text (record { epid = epid; values = read })
-IsReading-whole all epid text end read i past w zeros =
-    let done : IsReading all epid text end read i [] = no_more all epid text end read i (omega arith) w in
-    IsReading-end all epid text end read i done (
-    rest-zero text end (IsReading-near all epid text end read i [] done) done.exact zeros)
+pub IsReading-whole : (d : Header) (all : List Field) (epid stamp : ℕ) (text : List ℕ) (end : ℕ) (read : List ℕ) (i : ℕ) → length all ≡ i → IsReading d all epid stamp text end read i (drop i all) → take (length text - end) (drop end text) ≡ replicate (length (take (length text - end) (drop end text))) 0 → IsRead d all epid text (record { epid = epid; stamp = stamp; values = read })
+IsReading-whole d all epid stamp text end read i past w zeros =
+    let done : IsReading d all epid stamp text end read i [] = no_more d all epid stamp text end read i (omega arith) w in
+    IsReading-end d all epid stamp text end read i done (
+    rest-zero text end (IsReading-near d all epid stamp text end read i [] done) done.exact zeros)

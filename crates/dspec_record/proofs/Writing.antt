@@ -11,6 +11,7 @@ use Rattle.dspec_record.specs.Laws.Layouts.{rounded_up-ge, fields_end-ge, layout
 use Rattle.dspec_record.specs.Laws.Texts.{both}
 use Rattle.dspec_record.specs.declared.field.Field.{Field}
 use Rattle.dspec_record.specs.declared.field.Field.TheVariants.{Four}
+use Rattle.dspec_record.specs.declared.header.Header.{Header}
 
 -- `out` holds the text up to `end`, with zeros behind it, and these fields and values are still to be written
 pub record IsWriting (text : List ℕ) (end : ℕ) (out : List ℕ) (fs : List Field) (vs : List ℕ) : Type 0 where
@@ -21,11 +22,11 @@ pub record IsWriting (text : List ℕ) (end : ℕ) (out : List ℕ) (fs : List F
   pub fit : IsTrue (fits fs vs)
   pub clear : IsClearBehind end out
 
-pub IsWriting-start : (fs : List Field) (r : Record) (out : List ℕ) → length fs ≤ 8 → IsTrue (fits fs r.values) → take fields_start out ≡ header_text r → length out ≡ (layout fs).size → IsClearBehind fields_start out → IsWriting (record_text fs r) fields_start out fs r.values
-IsWriting-start fs r out few fit header long clear =
-    let shape = layout-IsShape fs few in
+pub IsWriting-start : (h : Header) (fs : List Field) (r : Record) (out : List ℕ) → length fs ≤ 8 → IsTrue (fits fs r.values) → take (fields_start h) out ≡ header_text h r → length out ≡ (layout h fs).size → IsClearBehind (fields_start h) out → IsWriting (record_text h fs r) (fields_start h) out fs r.values
+IsWriting-start h fs r out few fit header long clear =
+    let shape = layout-IsShape h fs few in
     record {
-      laid = ap (λ xs. xs ++ fields_text fields_start fs r.values) header;
+      laid = ap (λ xs. xs ++ fields_text (fields_start h) fs r.values) header;
       exact = sym long;
       short = omega (arith, shape.bounded);
       whole = omega (arith, shape.whole_words);

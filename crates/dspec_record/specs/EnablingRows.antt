@@ -1,10 +1,16 @@
--- How `Enablings` holds a list of lists of fields.
+-- Enablings as contracts see them, and how `Enablings` holds them.
 use Rattle.std.specs.Prelude.{◌≡◌, ◌≤◌, ◌-◌, ◌++◌, List, [], length, take, drop, replicate}
 use Rattle.dspec_record.specs.declared.field.Field.{Field}
+use Rattle.dspec_record.specs.declared.header.Header.{Header}
 use Rattle.dspec_record.specs.declared.enabling.Enablings.TheInside.{Inside}
 
-abbrev pub rows_of : Inside → List (List Field)
-rows_of a = take a.count a.rows
+-- the header of all records, and the fields of each enabling, in their order
+pub record EnabledRows : Type 0 where
+  pub header : Header
+  pub rows : List (List Field)
+
+abbrev pub rows_of : Inside → EnabledRows
+rows_of a = record { header = a.header; rows = take a.count a.rows }
 
 -- there are 64 places, and those behind the enablings have no fields
 pub record IsFilled (a : Inside) : Type 0 where
@@ -12,8 +18,9 @@ pub record IsFilled (a : Inside) : Type 0 where
   pub few : a.count ≤ 64
   pub rest : drop a.count a.rows ≡ replicate (64 - a.count) []
 
-abbrev pub inside_of : List (List Field) → Inside
-inside_of rows = record {
-  rows = rows ++ replicate (64 - length rows) [];
-  count = length rows;
+abbrev pub inside_of : EnabledRows → Inside
+inside_of e = record {
+  header = e.header;
+  rows = e.rows ++ replicate (64 - length e.rows) [];
+  count = length e.rows;
 }

@@ -5,6 +5,8 @@ use Rattle.std.specs.List.{list_any}
 use Rattle.dspec_record.specs.declared.field.Field.{Field}
 use Rattle.dspec_record.specs.declared.field.Field.TheVariants.{One, Two, Four, Eight}
 use Rattle.dspec_record.specs.declared.field.Shape.{Shape}
+use Rattle.dspec_record.specs.declared.header.Header.{Header}
+use Rattle.dspec_record.specs.declared.header.Header.TheVariants as header
 
 -- in bytes
 abbrev pub width : Field → ℕ
@@ -21,9 +23,10 @@ rounded_up o a = (o + (a - 1)) / a * a
 abbrev pub after : ℕ → ℕ → ℕ → ℕ
 after o a n = rounded_up o a + n
 
--- where the fields begin: behind the EPID
-abbrev pub fields_start : ℕ
-fields_start = 4
+-- where the fields begin: behind the EPID, and the stamp where the header has one
+abbrev pub fields_start : Header → ℕ
+fields_start header.One = 4
+fields_start header.Two = 12
 
 -- where these fields end, laid one behind the other from `start` on
 abbrev pub fields_end : ℕ → List Field → ℕ
@@ -34,9 +37,9 @@ abbrev pub is_eight : Field → Bool
 is_eight Eight = true
 is_eight _ = false
 
--- the size and the alignment of a record with these fields
-abbrev pub layout : List Field → Shape
-layout fs = record {
-  size = rounded_up (fields_end fields_start fs) 4;
+-- the size and the alignment of a record with these fields behind this header
+abbrev pub layout : Header → List Field → Shape
+layout h fs = record {
+  size = rounded_up (fields_end (fields_start h) fs) 4;
   align = if list_any is_eight fs then 8 else 4;
 }

@@ -4,7 +4,7 @@ use Rattle.dspec_record.specs.Record.{Record}
 use Rattle.dspec_record.specs.declared.record.Rec.TheInside.{Inside}
 
 abbrev pub record_of : Inside → Record
-record_of a = record { epid = a.epid; values = take a.len a.values }
+record_of a = record { epid = a.epid; stamp = a.stamp; values = take a.len a.values }
 
 -- there are eight places, and those that hold no value of the record hold zero
 pub record IsPadded (a : Inside) : Type 0 where
@@ -15,6 +15,7 @@ pub record IsPadded (a : Inside) : Type 0 where
 abbrev pub fields_of : Record → Inside
 fields_of r = record {
   epid = r.epid;
+  stamp = r.stamp;
   len = length r.values;
   values = r.values ++ replicate (8 - length r.values) 0;
 }

@@ -1,25 +1,27 @@
--- A schema that is a table of fields: which fields the records of an EPID have, if there are any. Its shapes
--- are their layouts, and its texts their record texts.
+-- A schema that is a header and a table of fields: which fields the records of an EPID have, if there are any. Its
+-- shapes are their layouts, and its texts their record texts.
 use Rattle.std.specs.Prelude.{ℕ, zero, suc, ◌^◌, Bool, false, ◌&&◌, nat_lt, nat_le, List, [], length, slice_get, Option, Some, None, unwrap_or, option_and_then, if◌then◌else◌}
 use Rattle.std.specs.Option.{option_map, option_map_or}
 use Rattle.dspec_record.specs.Record.{Record}
 use Rattle.dspec_record.specs.Layout.{layout}
-use Rattle.dspec_record.specs.RecordText.{record_text, fits}
+use Rattle.dspec_record.specs.RecordText.{record_text, stamp_fits, fits}
 use Rattle.dspec_record.specs.declared.field.Field.{Field}
 use Rattle.dspec_record.specs.declared.field.Shape.{Shape}
+use Rattle.dspec_record.specs.declared.header.Header.{Header}
 
 abbrev pub FieldTable : Type 0
 FieldTable = ℕ → Option (List Field)
 
-abbrev pub table_shape : FieldTable → ℕ → Option Shape
-table_shape fields epid = option_map layout (fields epid)
+abbrev pub table_shape : Header → FieldTable → ℕ → Option Shape
+table_shape h fields epid = option_map (layout h) (fields epid)
 
--- the EPID, a number below 2^32, is in the table, and the values fit its fields one by one
-abbrev pub table_accepts : FieldTable → Record → Bool
-table_accepts fields r = nat_lt r.epid (2 ^ 32) && option_map_or (λ fs. fits fs r.values) (fields r.epid) false
+-- the EPID, a number below 2^32, is in the table, the stamp fits the header, and the values fit the fields one by one
+abbrev pub table_accepts : Header → FieldTable → Record → Bool
+table_accepts h fields r =
+    nat_lt r.epid (2 ^ 32) && (stamp_fits h r.stamp && option_map_or (λ fs. fits fs r.values) (fields r.epid) false)
 
-abbrev pub table_text : FieldTable → Record → List ℕ
-table_text fields r = record_text (unwrap_or (fields r.epid) []) r
+abbrev pub table_text : Header → FieldTable → Record → List ℕ
+table_text h fields r = record_text h (unwrap_or (fields r.epid) []) r
 
 -- an enabling has eight fields at most
 abbrev pub within_limit : List Field → Option (List Field)
@@ -33,7 +35,7 @@ enabling_of enablings (suc place) = slice_get enablings place
 abbrev pub enabled : List (List Field) → FieldTable
 enabled enablings epid = option_and_then within_limit (enabling_of enablings epid)
 
--- the default action: every EPID but zero, with no fields
+-- the default action, and the stamped one: every EPID but zero, with no fields
 abbrev pub default_fields : FieldTable
 default_fields zero = None
 default_fields (suc _) = Some []

@@ -1,15 +1,28 @@
-ghost use Rattle.std.specs.Prelude.{◌≡◌, ◌≢◌, ◌≤◌, ◌<◌, ◌%◌, ◌++◌, ◌^◌, ◌↔◌, ℕ, List, ◌⊎◌, IsTrue, IfSome, IfNone, IfOk, IfErr, length, take, replicate};
+ghost use Rattle.std.specs.Prelude.{◌≡◌, ◌≢◌, ◌≤◌, ◌<◌, ◌%◌, ◌++◌, ◌^◌, ◌↔◌, ℕ, List, ◌⊎◌, IsTrue, IfSome, IfNone, IfOk, IfErr, length, take, drop, replicate};
 ghost use Rattle.dspec_record.specs.Record.{Record};
 ghost use Rattle.dspec_record.specs.Layout.{width, rounded_up, after, fields_start, layout};
 ghost use Rattle.dspec_record.specs.Reading.{front_epid};
-ghost use Rattle.dspec_record.specs.RecordText.{little_endian, gap, header_text, record_text, fits, IsRead};
+ghost use Rattle.dspec_record.specs.RecordText.{little_endian, gap, stamp_text, header_text, record_text, stamp_fits, fits, IsRead};
 ghost use Rattle.dspec_record.specs.Writing.{IsClearBehind, IsWrittenWide};
 
-use crate::layout::FIELDS_START;
-use crate::{Field, ReadKind, Rec};
+use crate::{Field, Header, ReadKind, Rec};
 
 /// How many bytes an EPID has.
 const EPID_SIZE: usize = 4;
+
+/// How many numbers a word of four bytes holds.
+const WORD: u64 = 1 << 32;
+
+/// Whether a record with this header can have this stamp: 0 alone where the header has none.
+#[inline]
+pub(crate) fn fits_header(header: Header, stamp: u64) -> bool
+    ensures { result ≡ stamp_fits header stamp }
+{
+    match header {
+        Header::One => stamp == 0,
+        Header::Two => true,
+    }
+}
 
 /// Whether there is a value for each field, and each fits its field's width.
 pub(crate) fn fits_fields(fields: &[Field], values: &[u64]) -> bool
@@ -26,30 +39,38 @@ pub(crate) fn fits_fields(fields: &[Field], values: &[u64]) -> bool
     true
 }
 
-/// Writes the record's text: its EPID, its values at the places of these fields, and zero between them.
-pub(crate) fn put_record(fields: &[Field], rec: &Rec, out: &mut [u8])
+/// Writes the record's text: its header, its values at the places of these fields, and zero between them.
+#[inline(always)]
+pub(crate) fn put_record(header: Header, fields: &[Field], rec: &Rec, out: &mut [u8])
     requires few { length fields.now ≤ 8 }
     requires fit { IsTrue (fits fields.now rec.now.values) }
-    requires exact { length out.old ≡ (layout fields.now).size }
-    ensures { out.new ≡ record_text fields.now rec.now }
+    requires exact { length out.old ≡ (layout header fields.now).size }
+    ensures { out.new ≡ record_text header fields.now rec.now }
 {
     let values = rec.values();
-    let mut end = put_header(rec, out);
+    let mut end = put_header(header, rec, out);
     for (i, field) in fields.iter().enumerate() {
         end = put_field(*field, values[i], end, out);
     }
 }
 
 /// Writes what stands before the fields; answers where they begin.
-#[inline]
-fn put_header(rec: &Rec, out: &mut [u8]) -> usize
+#[inline(always)]
+fn put_header(header: Header, rec: &Rec, out: &mut [u8]) -> usize
     requires whole_words { length out.old % 4 ≡ 0 }
-    requires room { fields_start ≤ length out.old }
-    ensures end { result ≡ fields_start }
-    ensures put { take fields_start out.new ≡ header_text rec.now }
-    ensures clear { IsClearBehind fields_start out.new }
+    requires room { fields_start header ≤ length out.old }
+    ensures end { result ≡ fields_start header }
+    ensures put { take (fields_start header) out.new ≡ header_text header rec.now }
+    ensures clear { IsClearBehind (fields_start header) out.new }
 {
-    put_field(Field::Four, u64::from(rec.epid()), 0, out)
+    let end = put_field(Field::Four, u64::from(rec.epid()), 0, out);
+    match header {
+        Header::One => end,
+        Header::Two => {
+            let low = put_field(Field::Four, rec.stamp() % WORD, end, out);
+            put_field(Field::Four, rec.stamp() / WORD, low, out)
+        }
+    }
 }
 
 /// Writes a value at the field's place behind `end`; answers where the field ends. What is between is zero already,
@@ -107,19 +128,33 @@ pub(crate) fn read_epid(bytes: &[u8]) -> Result<u32, ReadKind>
     }
 }
 
-/// The record with this EPID and these fields whose text the bytes are; None where a byte between them
+/// The stamp in the header at the front; 0 where the header has none.
+#[inline(always)]
+fn read_stamp(header: Header, text: &[u8]) -> u64
+    requires { fields_start header ≤ length text.now }
+    ensures fits { IsTrue (stamp_fits header result) }
+    ensures written { drop 4 (take (fields_start header) text.now) ≡ stamp_text header result }
+{
+    match header {
+        Header::One => 0,
+        Header::Two => Field::Four.read(&text[4..8]) + Field::Four.read(&text[8..12]) * WORD,
+    }
+}
+
+/// The record with this EPID, header and fields whose text the bytes are; None where a byte between the fields
 /// or behind the last isn't zero.
 #[inline(always)]
-pub(crate) fn read_record(fields: &[Field], epid: u32, text: &[u8]) -> Option<Rec>
+pub(crate) fn read_record(header: Header, fields: &[Field], epid: u32, text: &[u8]) -> Option<Rec>
     requires few { length fields.now ≤ 8 }
-    requires exact { length text.now ≡ (layout fields.now).size }
+    requires exact { length text.now ≡ (layout header fields.now).size }
     requires epid { take 4 text.now ≡ little_endian 4 epid }
-    ensures read { IfSome result (λ r. IsRead fields.now epid text.now r) }
+    ensures read { IfSome result (λ r. IsRead header fields.now epid text.now r) }
     ensures unread { IfNone result
-        ((r : Record) → IsTrue (fits fields.now r.values) → text.now ≢ record_text fields.now r) }
+        ((r : Record) → IsTrue (stamp_fits header r.stamp) → IsTrue (fits fields.now r.values)
+        → text.now ≢ record_text header fields.now r) }
 {
-    let mut rec = Rec::bare(epid);
-    let mut end = FIELDS_START;
+    let mut rec = Rec::bare(epid, read_stamp(header, text));
+    let mut end = header.fields_start();
     for field in fields {
         let place = field.place(end);
         let next = place + field.width();

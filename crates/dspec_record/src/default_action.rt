@@ -9,21 +9,22 @@ pub struct DefaultAction;
 impl Schema for DefaultAction {
     ghost use Rattle.dspec_record.specs.Schemas.{default_fields, table_shape, table_accepts, table_text};
     ghost use Rattle.dspec_record.specs.Laws.Tables.{default_fields-IsLimited, table-shapes_fit, table-texts_fit, table-texts_differ};
+    ghost use Rattle.dspec_record.specs.declared.header.Header.TheVariants.{One};
     ghost use Rattle.std.specs.Prelude.{refl};
 
-    ghost shape_of = { λ _. table_shape default_fields };
+    ghost shape_of = { λ _. table_shape One default_fields };
 
-    ghost accepted = { λ _. table_accepts default_fields };
+    ghost accepted = { λ _. table_accepts One default_fields };
 
-    ghost text = { λ _. table_text default_fields };
+    ghost text = { λ _. table_text One default_fields };
 
     ghost zero_has_none = { λ _. refl };
 
-    ghost shapes_fit = { λ _. table-shapes_fit default_fields default_fields-IsLimited };
+    ghost shapes_fit = { λ _. table-shapes_fit One default_fields default_fields-IsLimited };
 
-    ghost texts_fit = { λ _. table-texts_fit default_fields };
+    ghost texts_fit = { λ _. table-texts_fit One default_fields };
 
-    ghost texts_differ = { λ _. table-texts_differ default_fields };
+    ghost texts_differ = { λ _. table-texts_differ One default_fields };
 
     fn shape(&self, epid: u32) -> Option<Shape> {
         match epid {
@@ -33,7 +34,7 @@ impl Schema for DefaultAction {
     }
 
     fn accepts(&self, rec: &Rec) -> bool {
-        rec.epid() != 0 && rec.values().is_empty()
+        rec.epid() != 0 && rec.stamp() == 0 && rec.values().is_empty()
     }
 
     fn put(&self, rec: &Rec, out: &mut [u8]) {

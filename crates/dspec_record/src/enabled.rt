@@ -1,35 +1,36 @@
-use crate::codec::{fits_fields, put_record, read_epid, read_record};
-use crate::{Enablings, ReadKind, Rec, Schema, Shape};
+use crate::codec::{fits_fields, fits_header, put_record, read_epid, read_record};
+use crate::{Enablings, Header, ReadKind, Rec, Schema, Shape};
 
 impl Schema for Enablings {
     ghost use Rattle.dspec_record.specs.Schemas.{enabled, table_shape, table_accepts, table_text};
     ghost use Rattle.dspec_record.specs.Laws.Tables.{enabled-IsLimited, table-shapes_fit, table-texts_fit, table-texts_differ};
     ghost use Rattle.std.specs.Prelude.{refl};
 
-    ghost shape_of = { λ s. table_shape (enabled s) };
+    ghost shape_of = { λ s. table_shape s.header (enabled s.rows) };
 
-    ghost accepted = { λ s. table_accepts (enabled s) };
+    ghost accepted = { λ s. table_accepts s.header (enabled s.rows) };
 
-    ghost text = { λ s. table_text (enabled s) };
+    ghost text = { λ s. table_text s.header (enabled s.rows) };
 
     ghost zero_has_none = { λ s. refl };
 
-    ghost shapes_fit = { λ s. table-shapes_fit (enabled s) (enabled-IsLimited s) };
+    ghost shapes_fit = { λ s. table-shapes_fit s.header (enabled s.rows) (enabled-IsLimited s.rows) };
 
-    ghost texts_fit = { λ s. table-texts_fit (enabled s) };
+    ghost texts_fit = { λ s. table-texts_fit s.header (enabled s.rows) };
 
-    ghost texts_differ = { λ s. table-texts_differ (enabled s) };
+    ghost texts_differ = { λ s. table-texts_differ s.header (enabled s.rows) };
 
     fn shape(&self, epid: u32) -> Option<Shape> {
         match self.enabling(epid) {
-            Some(enabling) => Some(enabling.shape()),
+            Some(enabling) => Some(enabling.shape(self.header())),
             None => None,
         }
     }
 
     fn accepts(&self, rec: &Rec) -> bool {
         match self.enabling(rec.epid()) {
-            Some(enabling) => fits_fields(enabling.fields(), rec.values()),
+            Some(enabling) => fits_header(self.header(), rec.stamp())
+                && fits_fields(enabling.fields(), rec.values()),
             None => false,
         }
     }
@@ -38,20 +39,25 @@ impl Schema for Enablings {
         let Some(enabling) = self.enabling(rec.epid()) else {
             unreachable!()
         };
-        put_record(enabling.fields(), rec, out);
+        // the writing once for each header, so that none of it asks which one it is
+        match self.header() {
+            Header::One => put_record(Header::One, enabling.fields(), rec, out),
+            Header::Two => put_record(Header::Two, enabling.fields(), rec, out),
+        }
     }
 
     #[inline(always)]
     fn get(&self, bytes: &[u8]) -> Result<(Rec, usize), ReadKind> {
+        let header = self.header();
         let epid = read_epid(bytes)?;
         let Some(enabling) = self.enabling(epid) else {
             return Err(ReadKind::UnknownEpid);
         };
-        let size = enabling.shape().size as usize;
+        let size = enabling.shape(header).size as usize;
         if bytes.len() < size {
             return Err(ReadKind::Truncated);
         }
-        match read_record(enabling.fields(), epid, &bytes[..size]) {
+        match read_record(header, enabling.fields(), epid, &bytes[..size]) {
             Some(rec) => Ok((rec, size)),
             None => Err(ReadKind::GapNotZero),
         }

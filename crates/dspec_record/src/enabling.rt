@@ -1,5 +1,7 @@
 use crate::layout::layout_of;
-use crate::{Field, Shape};
+use crate::{Field, Header, Shape};
+use std::error::Error;
+use std::fmt;
 use std::marker::Model;
 
 /// The most fields that an enabling has.
@@ -17,8 +19,19 @@ pub enum SchemaFault {
     TooManyEnablings,
 }
 
-/// The fields of one enabling, with their layout, which is worked out once.
-#[derive(Debug, Clone, Copy)]
+impl Error for SchemaFault {}
+
+impl fmt::Display for SchemaFault {
+    fn fmt<W: fmt::Write>(&self, f: &mut fmt::Formatter<W>) -> fmt::Result {
+        f.pad(match self {
+            SchemaFault::TooManyFields => "too many fields",
+            SchemaFault::TooManyEnablings => "too many enablings",
+        })
+    }
+}
+
+/// The fields of one enabling, with their layout without a stamp, which is worked out once.
+#[derive(Debug, Clone, Copy, PartialEq, Eq)]
 pub(crate) struct Enabling {
     fields: [Field; MAX_FIELDS],
     len: u32,
@@ -56,7 +69,7 @@ impl Enabling {
         Enabling {
             fields: held,
             len: fields.len() as u32,
-            shape: layout_of(fields),
+            shape: layout_of(Header::One, fields),
         }
     }
 
@@ -67,27 +80,35 @@ impl Enabling {
         &self.fields[..self.len as usize]
     }
 
-    pub(crate) fn shape(&self) -> Shape
-        ensures layout { result ≡ layout self.now }
+    /// The layout behind this header: a stamp moves each field by its own eight bytes, and no gap changes.
+    #[inline(always)]
+    pub(crate) fn shape(&self, header: Header) -> Shape
+        ensures layout { result ≡ layout header self.now }
         ensures few { length self.now ≤ 8 }
     {
-        self.shape
+        match header {
+            Header::One => self.shape,
+            Header::Two => Shape {
+                size: self.shape.size + 8,
+                align: self.shape.align,
+            },
+        }
     }
 }
 
-/// Enabled probes: which fields the records of an EPID have. EPIDs are 1, 2, .. in the order of `enable`; there
-/// are at most 64 enablings of at most eight fields.
-#[derive(Debug, Clone, Copy)]
+/// Enabled probes: which fields the records of an EPID have, and the header of them all. EPIDs are 1, 2, .. in the
+/// order of `enable`; there are at most 64 enablings of at most eight fields.
+#[derive(Debug, Clone, Copy, PartialEq, Eq)]
 pub struct Enablings {
+    header: Header,
     rows: [Enabling; MAX_ENABLINGS],
     count: u32,
 }
 
 impl Model for Enablings {
-    ghost use Rattle.std.specs.Prelude.{List};
-    ghost use Rattle.dspec_record.specs.declared.field.Field.{Field};
+    ghost use Rattle.dspec_record.specs.EnablingRows.{EnabledRows};
 
-    ghost Value = { List (List Field) };
+    ghost Value = { EnabledRows };
 
     ghost use Rattle.dspec_record.specs.EnablingRows.{rows_of, IsFilled, inside_of};
     ghost use Rattle.dspec_record.specs.Laws.Enablings.{inside_of-rows_of};
@@ -105,11 +126,12 @@ impl Enablings {
     ghost use Rattle.std.specs.Prelude.{◌≡◌, ◌≤◌, ◌<◌, ◌+◌, ◌-◌, ◌++◌, ◌∷◌, ◌↔◌, [], length, option_copied, IfOk, OnErr};
     ghost use Rattle.dspec_record.specs.Schemas.{enabling_of};
 
-    /// No enabling.
+    /// No enabling; records have no stamp.
     pub fn new() -> Enablings
-        ensures { result ≡ [] }
+        ensures { result ≡ record { header = Header.One; rows = [] } }
     {
         Enablings {
+            header: Header::One,
             rows: [Enabling::of(&[]); MAX_ENABLINGS],
             count: 0,
         }
@@ -117,11 +139,12 @@ impl Enablings {
 
     /// Enables these fields, and answers their EPID, the number of enablings so far.
     pub fn enable(&mut self, fields: &[Field]) -> Result<u32, SchemaFault>
-        ensures enabled { IfOk result (λ epid. epid ≡ length self.new × self.new ≡ self.old ++ fields.now ∷ []) }
+        ensures enabled { IfOk result (λ epid. epid ≡ length self.new.rows × self.new.rows ≡ self.old.rows ++ fields.now ∷ []) }
+        ensures header { self.new.header ≡ self.old.header }
         ensures refused { OnErr result (self.new ≡ self.old) }
         ensures too_many_fields { (result ≡ Err SchemaFault.TooManyFields) ↔ (8 < length fields.now) }
         ensures too_many_enablings { (result ≡ Err SchemaFault.TooManyEnablings)
-            ↔ ((length fields.now ≤ 8) × (64 ≤ length self.old)) }
+            ↔ ((length fields.now ≤ 8) × (64 ≤ length self.old.rows)) }
     {
         if fields.len() > MAX_FIELDS {
             return Err(SchemaFault::TooManyFields);
@@ -135,13 +158,41 @@ impl Enablings {
         Ok(self.count)
     }
 
+    /// The same enablings, whose records have a stamp.
+    pub fn stamped(&self) -> Enablings
+        ensures { result ≡ record { header = Header.Two; rows = self.now.rows } }
+    {
+        Enablings {
+            header: Header::Two,
+            ..*self
+        }
+    }
+
+    /// The header of all records.
+    pub fn header(&self) -> Header
+        ensures { result ≡ self.now.header }
+    {
+        self.header
+    }
+
     #[inline(always)]
     pub(crate) fn enabling(&self, epid: u32) -> Option<&Enabling>
-        ensures { option_copied result ≡ enabling_of self.now epid }
+        ensures { option_copied result ≡ enabling_of self.now.rows epid }
     {
         if epid == 0 || epid > self.count {
             return None;
         }
         Some(&self.rows[epid as usize - 1])
+    }
+}
+
+impl Default for Enablings {
+    ghost use Rattle.std.specs.Prelude.{◌≡◌, []};
+    ghost use Rattle.dspec_record.specs.declared.header.Header.TheVariants.{One};
+
+    ghost is_default = { λ e. e ≡ record { header = One; rows = [] } };
+
+    fn default() -> Self {
+        Enablings::new()
     }
 }

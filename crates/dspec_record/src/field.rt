@@ -5,9 +5,13 @@ ghost use Rattle.dspec_record.specs.RecordText.{little_endian};
 /// A field of a record, by its width: 1, 2, 4 or 8 bytes, little-endian.
 #[derive(Debug, Clone, Copy, PartialEq, Eq)]
 pub enum Field {
+    /// One byte.
     One,
+    /// Two bytes.
     Two,
+    /// Four bytes.
     Four,
+    /// Eight bytes.
     Eight,
 }
 
@@ -71,6 +75,8 @@ impl Field {
 /// The size of a record's text in bytes, a multiple of 4, and what its place in a buffer is a multiple of.
 #[derive(Debug, Clone, Copy, PartialEq, Eq)]
 pub struct Shape {
+    /// In bytes, from the EPID to the end of the last gap.
     pub size: u32,
+    /// 4 or 8, in bytes.
     pub align: u32,
 }

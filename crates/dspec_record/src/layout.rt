@@ -2,18 +2,15 @@ ghost use Rattle.std.specs.Prelude.{◌≡◌, ◌≤◌, length};
 ghost use Rattle.std.specs.List.{list_any};
 ghost use Rattle.dspec_record.specs.Layout.{layout, is_eight};
 
-use crate::{Field, Shape};
+use crate::{Field, Header, Shape};
 
-/// Where the fields of a record begin, in bytes: behind the EPID.
-pub(crate) const FIELDS_START: usize = 4;
-
-/// The layout of these fields: each at the first multiple of its width behind the field before it, and the
+/// The layout of these fields behind this header: each at the first multiple of its width behind the field before it, and the
 /// size rounded up to a multiple of 4.
-pub(crate) fn layout_of(fields: &[Field]) -> Shape
+pub(crate) fn layout_of(header: Header, fields: &[Field]) -> Shape
     requires { length fields.now ≤ 8 }
-    ensures { result ≡ layout fields.now }
+    ensures { result ≡ layout header fields.now }
 {
-    let mut end = FIELDS_START;
+    let mut end = header.fields_start();
     for field in fields {
         end = field.place(end) + field.width();
     }

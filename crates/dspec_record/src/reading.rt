@@ -1,3 +1,6 @@
+use std::error::Error;
+use std::fmt;
+
 /// Why bytes can't be read as a record.
 #[derive(Debug, Clone, Copy, PartialEq, Eq)]
 pub enum ReadKind {
@@ -11,4 +14,18 @@ pub enum ReadKind {
     GapNotZero,
     /// The EPID is zero, which is a padding word and no record.
     Padding,
+}
+
+impl Error for ReadKind {}
+
+impl fmt::Display for ReadKind {
+    fn fmt<W: fmt::Write>(&self, f: &mut fmt::Formatter<W>) -> fmt::Result {
+        f.pad(match self {
+            ReadKind::Truncated => "truncated",
+            ReadKind::UnknownEpid => "unknown EPID",
+            ReadKind::Misaligned => "misaligned",
+            ReadKind::GapNotZero => "gap not zero",
+            ReadKind::Padding => "padding in place of a record",
+        })
+    }
 }

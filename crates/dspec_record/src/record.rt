@@ -1,14 +1,17 @@
+use std::fmt;
 use std::marker::Model;
 
 /// The most values that a record has.
 const MAX_VALUES: usize = 8;
 
 /// A record as it is traced: an EPID (the enabled probe identifier of the USENIX 2004 paper by Cantrill,
-/// Shapiro and Leventhal) and at most eight values. It is equal to another where both are.
-#[derive(Debug, Clone, Copy, PartialEq, Eq)]
+/// Shapiro and Leventhal), a stamp, which is any number of the caller's and 0 where none was given, and at most
+/// eight values. It is equal to another where all three are.
+#[derive(Debug, Clone, Copy, PartialEq, Eq, Hash)]
 pub struct Rec {
     epid: u32,
     len: u32,
+    stamp: u64,
     values: [u64; MAX_VALUES],
 }
 
@@ -33,10 +36,18 @@ impl Model for Rec {
 impl Rec {
     ghost use Rattle.std.specs.Prelude.{◌≡◌, ◌≤◌, ◌<◌, ◌↔◌, ◌++◌, ◌∷◌, [], length, IfSome, IsSome};
 
-    /// The record with these values; None for more than eight of them.
+    /// The record with these values and stamp 0; None for more than eight values.
     pub fn new(epid: u32, values: &[u64]) -> Option<Rec>
         ensures present { IsSome result ↔ (length values.now ≤ 8) }
-        ensures holds { IfSome result (λ r. r ≡ record { epid = epid; values = values.now }) }
+        ensures holds { IfSome result (λ r. r ≡ record { epid = epid; stamp = 0; values = values.now }) }
+    {
+        Rec::stamped(epid, 0, values)
+    }
+
+    /// The record with this stamp and these values; None for more than eight values.
+    pub fn stamped(epid: u32, stamp: u64, values: &[u64]) -> Option<Rec>
+        ensures present { IsSome result ↔ (length values.now ≤ 8) }
+        ensures holds { IfSome result (λ r. r ≡ record { epid = epid; stamp = stamp; values = values.now }) }
     {
         if values.len() > MAX_VALUES {
             return None;
@@ -46,18 +57,20 @@ impl Rec {
         Some(Rec {
             epid,
             len: values.len() as u32,
+            stamp,
             values: held,
         })
     }
 
     /// The record with no value.
     #[inline]
-    pub(crate) fn bare(epid: u32) -> Rec
-        ensures { result ≡ record { epid = epid; values = [] } }
+    pub(crate) fn bare(epid: u32, stamp: u64) -> Rec
+        ensures { result ≡ record { epid = epid; stamp = stamp; values = [] } }
     {
         Rec {
             epid,
             len: 0,
+            stamp,
             values: [0; MAX_VALUES],
         }
     }
@@ -66,7 +79,7 @@ impl Rec {
     #[inline]
     pub(crate) fn add(&mut self, value: u64)
         requires { length self.old.values < 8 }
-        ensures { self.new ≡ record { epid = self.old.epid; values = self.old.values ++ value ∷ [] } }
+        ensures { self.new ≡ record { epid = self.old.epid; stamp = self.old.stamp; values = self.old.values ++ value ∷ [] } }
     {
         self.values[self.len as usize] = value;
         self.len += 1;
@@ -79,11 +92,38 @@ impl Rec {
         self.epid
     }
 
+    /// The number that the caller stamped it with; 0 where there was none.
+    pub fn stamp(&self) -> u64
+        ensures { result ≡ self.now.stamp }
+    {
+        self.stamp
+    }
+
     /// The values, in the order of the fields.
     pub fn values(&self) -> &[u64]
         ensures values { result.now ≡ self.now.values }
         ensures few { length result.now ≤ 8 }
     {
         &self.values[..self.len as usize]
+    }
+}
+
+/// As `4@9(5,6)`: the EPID, the stamp unless it is 0, and the values, if there are any.
+impl fmt::Display for Rec {
+    fn fmt<W: fmt::Write>(&self, f: &mut fmt::Formatter<W>) -> fmt::Result {
+        let Rec { epid, stamp, .. } = *self;
+        write!(f, "{epid}")?;
+        if stamp != 0 {
+            write!(f, "@{stamp}")?;
+        }
+        let mut before = "(";
+        for value in self.values() {
+            write!(f, "{before}{value}")?;
+            before = ",";
+        }
+        if self.len != 0 {
+            write!(f, ")")?;
+        }
+        Ok(())
     }
 }

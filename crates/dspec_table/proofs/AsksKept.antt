@@ -10,13 +10,14 @@ use Rattle.dspec_deeds.specs.declared.deed.Deed.{Deed}
 use Rattle.dspec_table.specs.Holders.{of_cpu, of_consumer, same_holder}
 use Rattle.dspec_deeds.proofs.TestLemmas.{either_way, same_number}
 use Rattle.dspec_table.specs.declared.rule.View.{View}
-use Rattle.dspec_table.specs.Rule.{Kept, KnowsAsks}
+use Rattle.dspec_table.specs.Rule.{Kept, Least, KnowsAsks}
 use Rattle.dspec_table.specs.Showing.{Shows}
 use Rattle.dspec_table.specs.Layout.{activity_place, ack_place, ask_place}
 use Rattle.dspec_table.specs.Steps.{asking}
 use Rattle.dspec_table.specs.Asks.{with_ask, StoredAskAt, LoadedAsk}
 use Rattle.dspec_table.specs.Holders.{number_of}
 use Rattle.dspec_table.proofs.Quiet.{same_words}
+use Rattle.dspec_table.proofs.Pasts.{each_map}
 use Rattle.dspec_table.proofs.Keeps.{acts_asking, finds, is_cpu, its_config}
 use Rattle.dspec_table.proofs.Places.{after_activity, ask_within, one_ask, no_ask}
 
@@ -68,12 +69,17 @@ stores_ask k slots id c n me lt who alone rises st kept homes at bound =
     let long : ask_place k c < length old = subst (λ (m : ℕ). ask_place k c < m) (sym kept.shows.count) (ask_within k c lt) in
     let now : slice_index new (ask_place k c) ≡ n = get_or-set_same old (ask_place k c) n 0 long in
     let kept_at : (d : ℕ) → d ≢ c → slice_index new (ask_place k d) ≡ slice_index old (ask_place k d) =
-    λ d apart. get_or-set_other old (ask_place k c) (ask_place k d) n 0 (λ e. apart (one_ask k d c e)) in (
+    λ d apart. get_or-set_other old (ask_place k c) (ask_place k d) n 0 (λ e. apart (one_ask k d c e)) in
+    let below : (xs : List ℕ) → Least k old xs → Least k new xs =
+    λ xs least. at_ask (λ d. d < k.cpus → slice_index xs d ≤ slice_index new (ask_place k d)) c
+    (λ l. let a = least c l in let b = mine.exact who c l in omega arith)
+    (λ d apart l. let b = kept_at d apart in let m = least d l in omega arith) in (
       asking v log [] asks,
       keeps,
       tt,
       acts_asking k st kept id v me.1 at alone is_me [] (ask_place k c) n asks tt kept.rests (ask_shows k old c n log kept.shows)
           (record {
+            past = each_map (λ p. Least k old p.asks) (λ p. Least k new p.asks) (λ p least. below p.asks least) v.past mine.past;
             least = at_ask (λ d. d < k.cpus → slice_index asks d ≤ slice_index new (ask_place k d)) c
                 (λ l. let a = with_ask_same v.asks c n in omega arith)
                 (λ d apart l. let a = with_ask_other v.asks c d n apart in let b = kept_at d apart in let m = mine.least d l in omega arith);
@@ -82,9 +88,8 @@ stores_ask k slots id c n me lt who alone rises st kept homes at bound =
                 (λ d apart l. with_ask_other v.asks c d n apart ∙ (mine.exact is d l ∙ sym (kept_at d apart)));
           })
           (λ u other theirs. record {
-            least = at_ask (λ d. d < k.cpus → slice_index u.asks d ≤ slice_index new (ask_place k d)) c
-                (λ l. let a = theirs.least c l in let b = mine.exact who c l in omega arith)
-                (λ d apart l. let b = kept_at d apart in let m = theirs.least d l in omega arith);
+            past = each_map (λ p. Least k old p.asks) (λ p. Least k new p.asks) (λ p least. below p.asks least) u.past theirs.past;
+            least = below u.asks theirs.least;
             exact = λ is. absurd (true≢false (sym (λ i. same_holder (is i) (who i)) ∙ other));
           }),
       (
@@ -109,6 +114,7 @@ loads_ask k slots id c me lt who alone st kept homes at bound =
       tt,
       acts_asking k st kept id v me.1 at alone is_me [] (ask_place k c) n asks tt kept.rests (subst (λ ws. Shows k ws log) (sym same) kept.shows)
           (subst (λ ws. KnowsAsks k ws (asking v log [] asks)) (sym same) (record {
+            past = mine.past;
             least = subst (λ (x : ℕ). (d : ℕ) → d < k.cpus → slice_index (with_ask v.asks x n) d ≤ slice_index st.words (ask_place k d)) (sym c')
                 (at_ask (λ d. d < k.cpus → slice_index (with_ask v.asks c n) d ≤ slice_index st.words (ask_place k d)) c
                 (λ l. let a = with_ask_same v.asks c n in omega arith)

@@ -8,6 +8,7 @@ use Rattle.atomic_table.specs.Seated.{TableId}
 use Rattle.dspec_deeds.specs.declared.config.Config.{Config}
 use Rattle.dspec_deeds.specs.declared.deed.Deed.{Deed}
 use Rattle.dspec_table.specs.Holders.{Holder, of_cpu, of_consumer, part_of}
+use Rattle.dspec_table.specs.Since.{Since}
 use native.Mathlib.Decide.{dec_lt}
 use Rattle.dspec_deeds.specs.declared.calls.Actor.{Actor}
 use Rattle.dspec_deeds.specs.declared.calls.Actor.TheVariants.{Cpu}
@@ -19,28 +20,32 @@ use Rattle.dspec_table.specs.declared.rule.View.{View}
 use Rattle.dspec_table.specs.declared.seats.CpuSeat.{CpuSeat}
 use Rattle.dspec_table.specs.Showing.{Shows, AreWords, IsWordNumber}
 use Rattle.dspec_table.proofs.Limits.{shown_number}
-use Rattle.dspec_table.specs.Rule.{Kept, Parts, holdings}
+use Rattle.dspec_table.specs.Layout.{ask_place}
+use Rattle.dspec_table.specs.Rule.{Kept, Parts, Remembers, Least, holdings}
+use Rattle.dspec_table.proofs.Pasts.{each_in, others_since}
 use Rattle.dspec_table.specs.Seats.{known}
-use Rattle.dspec_table.specs.Last.{In, AllAt, Joined, Ended}
+use Rattle.dspec_table.specs.Last.{In, AllAt, Joined, Recalled, Ended}
+use Rattle.dspec_table.specs.Notes.{past_of}
 use Rattle.dspec_table.proofs.Dealing.{got_pushed}
 
-in_front : (p : Holder × List Deed) (ps qs : List (Holder × List Deed)) → In p ps → In p (ps ++ qs)
+in_front : {A : Type 0} (p : A) (ps qs : List A) → In p ps → In p (ps ++ qs)
 in_front p [] qs i = absurd i
 in_front p (x ∷ xs) qs i = ⊎_elim (λ e. inl e) (λ r. inr (in_front p xs qs r)) i
 
-in_behind : (p : Holder × List Deed) (ps qs : List (Holder × List Deed)) → In p (ps ++ p ∷ qs)
+in_behind : {A : Type 0} (p : A) (ps qs : List A) → In p (ps ++ p ∷ qs)
 in_behind p [] qs = inl refl
 in_behind p (x ∷ xs) qs = inr (in_behind p xs qs)
 
-pub joined_more : (all left : List CpuSeat) (next : CpuSeat) (also more : List (Holder × List Deed))
-    → ((c : ℕ) (s : CpuSeat) → slice_get all c ≡ Some s → (slice_get (left ++ next ∷ []) c ≡ Some s) ⊎ In ((known s).who, (known s).own) also)
-    → (c : ℕ) (s : CpuSeat) → slice_get all c ≡ Some s → (slice_get left c ≡ Some s) ⊎ In ((known s).who, (known s).own) (also ++ ((known next).who, (known next).own) ∷ more)
-joined_more all left next also more before c s e = ⊎_elim
+-- what is taken of each seat, from those that are left or from those joined
+pub joined_more : {A : Type 0} (f : CpuSeat → A) (all left : List CpuSeat) (next : CpuSeat) (also more : List A)
+    → ((c : ℕ) (s : CpuSeat) → slice_get all c ≡ Some s → (slice_get (left ++ next ∷ []) c ≡ Some s) ⊎ In (f s) also)
+    → (c : ℕ) (s : CpuSeat) → slice_get all c ≡ Some s → (slice_get left c ≡ Some s) ⊎ In (f s) (also ++ f next ∷ more)
+joined_more f all left next also more before c s e = ⊎_elim
     (λ (there : slice_get (left ++ next ∷ []) c ≡ Some s). ⊎_elim
     (λ old. inl old)
-    (λ (new : (c ≡ length left) × (next ≡ s)). inr (subst (λ (x : CpuSeat). In ((known x).who, (known x).own) (also ++ ((known next).who, (known next).own) ∷ more)) new.1 (in_behind ((known next).who, (known next).own) also more)))
+    (λ (new : (c ≡ length left) × (next ≡ s)). inr (subst (λ (x : CpuSeat). In (f x) (also ++ f next ∷ more)) new.1 (in_behind (f next) also more)))
     (got_pushed left next s c there))
-    (λ i. inr (in_front ((known s).who, (known s).own) also (((known next).who, (known next).own) ∷ more) i))
+    (λ i. inr (in_front (f s) also (f next ∷ more) i))
     (before c s e)
 
 pub got_front : (xs : List CpuSeat) (x : CpuSeat) (c : ℕ) (s : CpuSeat) → slice_get xs c ≡ Some s → slice_get (xs ++ x ∷ []) c ≡ Some s
@@ -73,19 +78,37 @@ has_authors k (d ∷ h) none = (has_authors k h (λ c beyond. rest c (same_actor
         let e : (d ∷ part (Cpu c) h) ≡ [] = subst (λ (b : Bool). (if b then d ∷ part (Cpu c) h else part (Cpu c) h) ≡ []) mine (none c le) in
         absurd (cc (e))
 
-pub ends : (key k : Config) (z : TableId) (id : ℕ) (v first : View) (seats : List CpuSeat) (ws xs : List ℕ) → key ≡ k → v.who ≡ first.who → v.own ≡ first.own → first.who ≡ of_consumer
-    → ((c : ℕ) (s : CpuSeat) → slice_get seats c ≡ Some s → s.cpu ≡ c) → Joined seats v → Final (Seen (Kept key) id v) ws xs → Ended k ws seats first
-ends key k z id v first seats ws xs is who own consumer order joined final =
+pub ends : (key k : Config) (z : TableId) (id : ℕ) (v first : View) (seats : List CpuSeat) (ws xs : List ℕ) → key ≡ k → v.who ≡ first.who → v.own ≡ first.own → first.who ≡ of_consumer → v.seen ≡ first.seen → v.asks ≡ first.asks
+    → ((c : ℕ) (s : CpuSeat) → slice_get seats c ≡ Some s → s.cpu ≡ c) → Joined seats v → Recalled seats v → Final (Seen (Kept key) id v) ws xs → Ended k ws seats first
+ends key k z id v first seats ws xs is who own consumer seen asks order joined recalled final =
     let st = final.0 in
     let kept = final.1.0 in
-    let mine = kept.knows id v final.1.1 in record {
-      log = kept.log;
-      sound = subst (λ x. IsSound x kept.log) is kept.sound;
+    let log = kept.log in
+    let mine = kept.knows id v final.1.1 in
+    let told = kept.asks id v final.1.1 in
+    let few : (c : ℕ) → c < k.cpus → c < key.cpus = λ c lt. subst (λ (x : Config). c < x.cpus) (sym is) lt in
+    let stands : (c : ℕ) → c < k.cpus → slice_index ws (ask_place k c) ≡ slice_index first.asks c =
+    λ c lt. ap (λ (x : Config). slice_index ws (ask_place x c)) (sym is) ∙ (ap (λ l. slice_index l (ask_place key c)) (sym final.2)
+    ∙ (sym (told.exact (who ∙ consumer) c (few c lt)) ∙ ap (λ l. slice_index l c) asks)) in
+    record {
+      log = log;
+      sound = subst (λ x. IsSound x log) is kept.sound;
       rests = kept.rests;
-      shows = subst (λ x. Shows x ws kept.log) is (subst (λ l. Shows key l kept.log) final.2 kept.shows);
-      authors = has_authors k kept.log (λ c beyond. (kept.none c (subst (λ (x : Config). x.cpus ≤ c) (sym is) beyond)).1);
-      of_each = λ c s e. ap (λ x. part_of x kept.log) (ap of_cpu (sym (order c s e)) ∙ sym s.who_is) ∙ part_in kept.log v.also ((known s).who, (known s).own) mine.parts.1 (joined c s e);
-      of_consumer = ap (λ x. part_of x kept.log) (sym consumer ∙ sym who) ∙ (mine.parts.0 ∙ own);
+      shows = subst (λ x. Shows x ws log) is (subst (λ l. Shows key l log) final.2 kept.shows);
+      authors = has_authors k log (λ c beyond. (kept.none c (subst (λ (x : Config). x.cpus ≤ c) (sym is) beyond)).1);
+      of_each = λ c s e. ap (λ x. part_of x log) (ap of_cpu (sym (order c s e)) ∙ sym s.who_is) ∙ part_in log v.also ((known s).who, (known s).own) mine.parts.1 (joined c s e);
+      of_consumer = ap (λ x. part_of x log) (sym consumer ∙ sym who) ∙ (mine.parts.0 ∙ own);
+      since_each = λ c s e.
+          let past : Remembers log (past_of (known s)) = each_in (Remembers log) v.past (past_of (known s)) mine.past (recalled c s e) in
+          let part : part_of (known s).who log ≡ (known s).own = part_in log v.also ((known s).who, (known s).own) mine.parts.1 (joined c s e) in
+          subst (λ x. Since x (known s).seen log) (s.who_is ∙ ap of_cpu (order c s e)) (others_since (known s).who (known s).seen log (past.own ∙ sym part) past.since);
+      since_consumer = subst (λ x. Since x first.seen log) (who ∙ consumer) (subst (λ l. Since v.who l log) seen mine.since);
+      asks = stands;
+      asked = λ c s e a lt.
+          let low = each_in (λ p. Least key st.words p.asks) v.past (past_of (known s)) told.past (recalled c s e) a (few a lt) in
+          let here = stands a lt in
+          let at : slice_index st.words (ask_place key a) ≡ slice_index ws (ask_place k a) = ap (λ (x : Config). slice_index st.words (ask_place x a)) is ∙ ap (λ l. slice_index l (ask_place k a)) final.2 in
+          omega arith;
     }
 
 -- the places of the slots have words at the end
@@ -110,9 +133,19 @@ module _ (z : TableId) (items left : List CpuSeat) (next : CpuSeat) (popped : it
   pub at_rest : AllAt z items → AllAt z left
   at_rest at c s e = at c s (subst (λ l. slice_get l c ≡ Some s) (sym popped) (got_front left next c s e))
 
+  taken_rest : {A : Type 0} (f : CpuSeat → A) (all : List CpuSeat) (also more there : List A) → there ≡ also ++ f next ∷ more
+      → ((c : ℕ) (s : CpuSeat) → slice_get all c ≡ Some s → (slice_get items c ≡ Some s) ⊎ In (f s) also)
+      → (c : ℕ) (s : CpuSeat) → slice_get all c ≡ Some s → (slice_get left c ≡ Some s) ⊎ In (f s) there
+  taken_rest f all also more there is before c s e =
+      subst (λ l. (slice_get left c ≡ Some s) ⊎ In (f s) l) (sym is)
+      (joined_more f all left next also more (λ c s e. subst (λ l. (slice_get l c ≡ Some s) ⊎ In (f s) also) popped (before c s e)) c s e)
+
   pub joined_rest : (all : List CpuSeat) (v w : View) → w.also ≡ v.also ++ holdings (known next)
       → ((c : ℕ) (s : CpuSeat) → slice_get all c ≡ Some s → (slice_get items c ≡ Some s) ⊎ In ((known s).who, (known s).own) v.also)
       → (c : ℕ) (s : CpuSeat) → slice_get all c ≡ Some s → (slice_get left c ≡ Some s) ⊎ In ((known s).who, (known s).own) w.also
-  joined_rest all v w is before c s e =
-      subst (λ l. (slice_get left c ≡ Some s) ⊎ In ((known s).who, (known s).own) l) (sym is)
-      (joined_more all left next v.also (known next).also (λ c s e. subst (λ l. (slice_get l c ≡ Some s) ⊎ In ((known s).who, (known s).own) v.also) popped (before c s e)) c s e)
+  joined_rest all v w is before = taken_rest (λ s. ((known s).who, (known s).own)) all v.also (known next).also w.also is before
+
+  pub recalled_rest : (all : List CpuSeat) (v w : View) → w.past ≡ v.past ++ past_of (known next) ∷ (known next).past
+      → ((c : ℕ) (s : CpuSeat) → slice_get all c ≡ Some s → (slice_get items c ≡ Some s) ⊎ In (past_of (known s)) v.past)
+      → (c : ℕ) (s : CpuSeat) → slice_get all c ≡ Some s → (slice_get left c ≡ Some s) ⊎ In (past_of (known s)) w.past
+  recalled_rest all v w is before = taken_rest (λ s. past_of (known s)) all v.past (known next).past w.past is before

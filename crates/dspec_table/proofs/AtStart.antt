@@ -60,13 +60,13 @@ no_parts a zero = tt
 no_parts a (suc n) = (refl, no_parts (suc a) n)
 
 new_known : (k : Config) (by : ℕ) (v : View) → get_elem? (newcomer k ∷ []) by ≡ some v → Knows k [] v
-new_known k zero v e = subst (Knows k []) (some-injective (newcomer k) v e) (record { config = inr refl; parts = (refl, no_parts 0 k.cpus); since = here; told = here; calm = refl })
+new_known k zero v e = subst (Knows k []) (some-injective (newcomer k) v e) (record { config = inr refl; parts = (refl, no_parts 0 k.cpus); since = here; told = here; calm = refl; past = tt })
 new_known k (suc by) v e = absurd (some-ne-none v (sym e))
 
 new_asks : (k : Config) (ws : List ℕ) → ws ≡ replicate (word_count k) 0 → (by : ℕ) (v : View) → get_elem? (newcomer k ∷ []) by ≡ some v → KnowsAsks k ws v
 new_asks k ws is zero v e =
     let none : (c : ℕ) → slice_index ws (ask_place k c) ≡ 0 = λ c. ap (λ l. slice_index l (ask_place k c)) is ∙ zeros_at (word_count k) (ask_place k c) in
-    subst (KnowsAsks k ws) (some-injective (newcomer k) v e) (record { least = λ c lt. omega arith; exact = λ who c lt. sym (none c) })
+    subst (KnowsAsks k ws) (some-injective (newcomer k) v e) (record { least = λ c lt. omega arith; past = tt; exact = λ who c lt. sym (none c) })
 new_asks k ws is (suc by) v e = absurd (some-ne-none v (sym e))
 
 pub starts : (k : Config) (ws : List ℕ) → ws ≡ replicate (word_count k) 0 → Kept k (opening ws [] (newcomer k))

@@ -1,5 +1,5 @@
 -- Cutting a seat in two, and joining two, keeps the rule.
-use Rattle.std.proofs.Common.{◌≡◌, ◌≢◌, ℕ, zero, suc, ◌+◌, ◌≤◌, ◌<◌, true, false, if◌then◌else◌, List, [], ◌∷◌, ◌++◌, set, refl, sym, ap, ◌∙◌, subst, ⊎_elim, inl, inr, arith, true≢false}
+use Rattle.std.proofs.Common.{◌≡◌, ◌≢◌, ℕ, zero, suc, ◌+◌, ◌≤◌, true, false, if◌then◌else◌, List, [], ◌∷◌, ◌++◌, set, refl, sym, ap, ◌∙◌, subst, ⊎_elim, inl, inr, arith, true≢false}
 use Rattle.std.specs.Prelude.{slice_index}
 use mathlib.Core.Option.{some}
 use lib.ListN.{get_elem?}
@@ -14,10 +14,11 @@ use Rattle.dspec_deeds.specs.declared.calls.Actor.TheVariants.{Cpu, Consumer}
 use Rattle.dspec_table.proofs.HolderTests.{part_next}
 use Rattle.dspec_table.specs.declared.rule.View.{View}
 use Rattle.dspec_table.specs.Since.{Since, here, more}
-use Rattle.dspec_table.specs.Rule.{holdings, times, total, Parts, Knows, KnowsAsks, Kept}
+use Rattle.dspec_table.specs.Rule.{holdings, times, total, Parts, Each, Remembers, Least, Knows, KnowsAsks, Kept}
 use Rattle.dspec_table.specs.Layout.{ask_place}
-use Rattle.dspec_table.specs.Notes.{nobody, without, dealt, greater, note, heard, answered, gathered}
+use Rattle.dspec_table.specs.Notes.{nobody, without, dealt, greater, note, heard, answered, past_of, gathered}
 use Rattle.dspec_table.proofs.Keeps.{total_set, total_snoc, since_nothing, its_config}
+use Rattle.dspec_table.proofs.Pasts.{each_append, since_part}
 
 -- new views, known of the same log
 with_views : (k : Config) (st : State ℕ View) (kept : Kept k st) (views : List View) → ((j : ℕ) (u : View) → get_elem? views j ≡ some u → Knows k kept.log u) → ((w : Holder) → total w views ≤ total w st.views)
@@ -35,11 +36,11 @@ with_views k st kept views knows fewer asks = record {
 }
 
 -- who is nobody knows what he was told of the asks
-nobody_asks : (k : Config) (words : List ℕ) (v : View) → v.who ≡ of_nobody → ((c : ℕ) → c < k.cpus → slice_index v.asks c ≤ slice_index words (ask_place k c)) → KnowsAsks k words v
-nobody_asks k words v who least = record { least = least; exact = λ is. absurd (true≢false (ap (same_holder of_consumer) (sym is ∙ who))) }
+nobody_asks : (k : Config) (words : List ℕ) (v : View) → v.who ≡ of_nobody → Least k words v.asks → Each (λ p. Least k words p.asks) v.past → KnowsAsks k words v
+nobody_asks k words v who least past = record { least = least; past = past; exact = λ is. absurd (true≢false (ap (same_holder of_consumer) (sym is ∙ who))) }
 
-no_asks : (k : Config) (words : List ℕ) (v : View) → v.who ≢ of_consumer → v.asks ≡ [] → KnowsAsks k words v
-no_asks k words v who none = record { least = λ c lt. subst (λ (l : List ℕ). slice_index l c ≤ slice_index words (ask_place k c)) (sym none) (omega arith); exact = λ is. absurd (who is) }
+no_asks : (k : Config) (words : List ℕ) (v : View) → v.who ≢ of_consumer → v.asks ≡ [] → Each (λ p. Least k words p.asks) v.past → KnowsAsks k words v
+no_asks k words v who none past = record { past = past; least = λ c lt. subst (λ (l : List ℕ). slice_index l c ≤ slice_index words (ask_place k c)) (sym none) (omega arith); exact = λ is. absurd (who is) }
 
 -- what holds of all views, and of the two that a seat is cut into
 split_all : (P : View → Type 0) (views : List View) (id : ℕ) (left right : View) → P left → P right → ((j : ℕ) (u : View) → get_elem? views j ≡ some u → P u) → (j : ℕ) (u : View) → get_elem? (set views id left ++ right ∷ []) j ≡ some u → P u
@@ -77,7 +78,7 @@ nobody_part : (log : List Deed) → part_of of_nobody log ≡ []
 nobody_part log = refl
 
 nobody_known : (k : Config) (log : List Deed) → Knows k log nobody
-nobody_known k log = record { config = inl refl; parts = (nobody_part log, tt); since = since_nothing log; told = since_nothing log; calm = refl }
+nobody_known k log = record { config = inl refl; parts = (nobody_part log, tt); since = since_nothing log; told = since_nothing log; calm = refl; past = tt }
 
 -- dealing out the seat of a CPU that has done nothing
 pub deals : (k : Config) (id : ℕ) (v : View) (c : ℕ) (rest : List (Holder × List Deed)) → same_holder v.who v.who ≡ true → v.also ≡ (of_cpu c, []) ∷ rest → Splits (Kept k) id v (without v) (dealt v)
@@ -85,11 +86,11 @@ deals k id v c rest me also st kept at =
     let mine = kept.knows id v at in
     let config = its_config k kept.log v me mine in
     let parts : Parts kept.log ((of_cpu c, []) ∷ rest) = subst (Parts kept.log) also mine.parts.1 in
-    let left : Knows k kept.log (without v) = record { config = mine.config; parts = (mine.parts.0, subst (λ l. Parts kept.log (Rattle.dspec_table.specs.Notes.others l)) (sym also) parts.1); since = mine.since; told = mine.told; calm = mine.calm } in
-    let right : Knows k kept.log (dealt v) = subst (λ l. Knows k kept.log (Rattle.dspec_table.specs.Notes.first_of_those v.config l)) (sym also) (record { config = inr config; parts = (parts.0, tt); since = since_of_part (of_cpu c) kept.log parts.0; told = since_nothing kept.log; calm = refl }) in
+    let left : Knows k kept.log (without v) = record { config = mine.config; parts = (mine.parts.0, subst (λ l. Parts kept.log (Rattle.dspec_table.specs.Notes.others l)) (sym also) parts.1); since = mine.since; told = mine.told; calm = mine.calm; past = mine.past } in
+    let right : Knows k kept.log (dealt v) = subst (λ l. Knows k kept.log (Rattle.dspec_table.specs.Notes.first_of_those v.config l)) (sym also) (record { config = inr config; parts = (parts.0, tt); since = since_of_part (of_cpu c) kept.log parts.0; told = since_nothing kept.log; calm = refl; past = tt }) in
     let asks = kept.asks id v at in
-    let left_asks : KnowsAsks k st.words (without v) = record { least = asks.least; exact = asks.exact } in
-    let right_asks : KnowsAsks k st.words (dealt v) = subst (λ l. KnowsAsks k st.words (Rattle.dspec_table.specs.Notes.first_of_those v.config l)) (sym also) (no_asks k st.words (Rattle.dspec_table.specs.Notes.first_of_those v.config ((of_cpu c, []) ∷ rest)) (λ e. absurd (cc e)) refl) in
+    let left_asks : KnowsAsks k st.words (without v) = record { least = asks.least; past = asks.past; exact = asks.exact } in
+    let right_asks : KnowsAsks k st.words (dealt v) = subst (λ l. KnowsAsks k st.words (Rattle.dspec_table.specs.Notes.first_of_those v.config l)) (sym also) (no_asks k st.words (Rattle.dspec_table.specs.Notes.first_of_those v.config ((of_cpu c, []) ∷ rest)) (λ e. absurd (cc e)) refl tt) in
     with_views k st kept (set st.views id (without v) ++ dealt v ∷ [])
     (split_all (Knows k kept.log) st.views id (without v) (dealt v) left right kept.knows)
     (λ w.
@@ -109,12 +110,12 @@ nobody_times None = omega arith
 pub tells : (k : Config) (id : ℕ) (v : View) → Splits (Kept k) id v v (note v)
 tells k id v st kept at =
     let mine = kept.knows id v at in
-    let right : Knows k kept.log (note v) = record { config = inl refl; parts = (nobody_part kept.log, tt); since = since_nobody v.who v.seen kept.log mine.since; told = since_nothing kept.log; calm = mine.calm } in
+    let right : Knows k kept.log (note v) = record { config = inl refl; parts = (nobody_part kept.log, tt); since = since_nobody v.who v.seen kept.log mine.since; told = since_nothing kept.log; calm = mine.calm; past = tt } in
     let asks = kept.asks id v at in
     with_views k st kept (set st.views id v ++ note v ∷ [])
     (split_all (Knows k kept.log) st.views id v (note v) mine right kept.knows)
     (λ w. let a = total_snoc w (set st.views id v) (note v) in let b = total_set w st.views id v v at in let none : times w (holdings (note v)) ≡ 0 = nobody_times w in omega arith)
-    (split_all (KnowsAsks k st.words) st.views id v (note v) asks (nobody_asks k st.words (note v) refl asks.least) kept.asks)
+    (split_all (KnowsAsks k st.words) st.views id v (note v) asks (nobody_asks k st.words (note v) refl asks.least tt) kept.asks)
 
 was_at : (views : List View) (id other : ℕ) (x w : View) → other ≢ id → get_elem? (set views id x) other ≡ some w → get_elem? views other ≡ some w
 was_at views id other x w apart e = ⊎_elim (λ (t : (other ≡ id) × (x ≡ w)). absurd (apart t.0)) (λ (t : (other ≢ id) × (get_elem? views other ≡ some w)). t.1) (at_set views id other x w e)
@@ -135,7 +136,7 @@ joining k id v other w both knows asks counts st kept at apart there =
     let c = counts x in
     let none : times x (holdings nobody) ≡ 0 = nobody_times x in
     omega arith)
-    (join_all (KnowsAsks k st.words) st.views id other both nobody (asks st.words (kept.asks id v at) (kept.asks other w theirs_at)) (no_asks k st.words nobody (λ e. absurd (cc e)) refl) kept.asks)
+    (join_all (KnowsAsks k st.words) st.views id other both nobody (asks st.words (kept.asks id v at) (kept.asks other w theirs_at)) (no_asks k st.words nobody (λ e. absurd (cc e)) refl tt) kept.asks)
 
 pub greater_left : (xs ys : List ℕ) (c : ℕ) → slice_index xs c ≤ slice_index (greater xs ys) c
 greater_left [] ys c = omega arith
@@ -157,8 +158,9 @@ greater_least (x ∷ xs) (y ∷ ys) (suc c) n a b = greater_least xs ys c n a b
 
 pub hears : (k : Config) (id : ℕ) (v : View) (other : ℕ) (w : View) → Joins (Kept k) id v other w (heard v w) nobody
 hears k id v other w = joining k id v other w (heard v w)
-    (λ log mine theirs. record { config = mine.config; parts = mine.parts; since = mine.since; told = since_nobody w.who w.seen log theirs.since; calm = mine.calm })
+    (λ log mine theirs. record { config = mine.config; parts = mine.parts; since = mine.since; told = since_nobody w.who w.seen log theirs.since; calm = mine.calm; past = mine.past })
     (λ words mine theirs. record {
+      past = mine.past;
       least = λ c lt. greater_least v.asks w.asks c (slice_index words (ask_place k c)) (mine.least c lt) (theirs.least c lt);
       exact = λ is c lt.
           let low = greater_left v.asks w.asks c in
@@ -170,8 +172,8 @@ hears k id v other w = joining k id v other w (heard v w)
 
 pub answers : (k : Config) (id : ℕ) (v : View) (other : ℕ) (w : View) → Joins (Kept k) id v other w (answered v w) nobody
 answers k id v other w = joining k id v other w (answered v w)
-    (λ log mine theirs. record { config = mine.config; parts = mine.parts; since = mine.since; told = since_nobody w.who w.seen log theirs.since; calm = mine.calm })
-    (λ words mine theirs. record { least = mine.least; exact = mine.exact })
+    (λ log mine theirs. record { config = mine.config; parts = mine.parts; since = mine.since; told = since_nobody w.who w.seen log theirs.since; calm = mine.calm; past = mine.past })
+    (λ words mine theirs. record { least = mine.least; past = mine.past; exact = mine.exact })
     (λ x. omega arith)
 
 parts_append : (log : List Deed) (ps qs : List (Holder × List Deed)) → Parts log ps → Parts log qs → Parts log (ps ++ qs)
@@ -184,6 +186,6 @@ times_append x (p ∷ ps) qs = let r = times_append x ps qs in omega arith
 
 pub gathers : (k : Config) (id : ℕ) (v : View) (other : ℕ) (w : View) → Joins (Kept k) id v other w (gathered v w) nobody
 gathers k id v other w = joining k id v other w (gathered v w)
-    (λ log mine theirs. record { config = mine.config; parts = (mine.parts.0, parts_append log v.also (holdings w) mine.parts.1 theirs.parts); since = mine.since; told = mine.told; calm = mine.calm })
-    (λ words mine theirs. record { least = mine.least; exact = mine.exact })
+    (λ log mine theirs. record { config = mine.config; parts = (mine.parts.0, parts_append log v.also (holdings w) mine.parts.1 theirs.parts); since = mine.since; told = mine.told; calm = mine.calm; past = each_append (Remembers log) v.past (past_of w ∷ w.past) mine.past (record { since = since_nobody w.who w.seen log theirs.since; own = since_part w.who w.seen log theirs.since ∙ theirs.parts.0 }, theirs.past) })
+    (λ words mine theirs. record { least = mine.least; past = each_append (λ p. Least k words p.asks) v.past (past_of w ∷ w.past) mine.past (theirs.least, theirs.past); exact = mine.exact })
     (λ x. let r = times_append x v.also (holdings w) in omega arith)

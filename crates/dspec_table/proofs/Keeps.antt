@@ -16,10 +16,12 @@ use Rattle.dspec_table.proofs.HolderTests.{same_holder_tells, part_next}
 use Rattle.dspec_table.specs.declared.rule.View.{View}
 use Rattle.dspec_table.specs.Showing.{Shows}
 use Rattle.dspec_table.specs.Since.{Since, here, more}
-use Rattle.dspec_table.specs.Rule.{holdings, times, total, Parts, Knows, KnowsAsks, Kept}
+use Rattle.dspec_table.specs.declared.rule.Past.{Past}
+use Rattle.dspec_table.specs.Rule.{holdings, times, total, Parts, Each, Remembers, Least, Knows, KnowsAsks, Kept}
 use Rattle.dspec_table.specs.Layout.{ask_place}
 use Rattle.dspec_table.specs.Steps.{asking, acted, Found, Entered}
 use Rattle.dspec_table.proofs.Quiet.{IsQuiet, quiet_shows, same_words}
+use Rattle.dspec_table.proofs.Pasts.{each_map}
 
 -- the deeds may follow one another, the first one last, and all are w's
 abbrev pub Adds : Config → Holder → List Deed → List Deed → Type 0
@@ -71,6 +73,10 @@ parts_others k w log ds (x ∷ xs) a free p = (part_others k x.0 w log ds (not_h
 pub nobody_since : (k : Config) (w : Holder) (seen log ds : List Deed) → Adds k w log ds → Since of_nobody seen log → Since of_nobody seen (ds ++ log)
 nobody_since k w seen log ds a s = since_adds k of_nobody w seen log ds refl a s
 
+-- what seats had seen goes on
+past_adds : (k : Config) (w : Holder) (log ds : List Deed) (ps : List Past) → Adds k w log ds → Each (Remembers log) ps → Each (Remembers (ds ++ log)) ps
+past_adds k w log ds ps a all = each_map (Remembers log) (Remembers (ds ++ log)) (λ p r. record { since = nobody_since k w p.seen log ds a r.since; own = r.own }) ps all
+
 pub total_at : (w : Holder) (views : List View) (a : ℕ) (v : View) → get_elem? views a ≡ some v → times w (holdings v) ≤ total w views
 total_at w [] a v e = absurd (some-ne-none v (sym e))
 total_at w (x ∷ xs) zero v e = let p = some-injective x v e in subst (λ (y : View). times w (holdings y) ≤ total w (x ∷ xs)) p (omega arith)
@@ -115,6 +121,7 @@ acts_asking k st kept by v carried at alone me ds i n asks adds rests shows own_
             since = here;
             told = since_nothing (ds ++ log);
             calm = rests;
+            past = past_adds k v.who log ds v.past adds mine.past;
           }))
           (λ (t : (j ≢ by) × (get_elem? st.views j ≡ some u)).
           let theirs = kept.knows j u t.1 in
@@ -122,7 +129,7 @@ acts_asking k st kept by v carried at alone me ds i n asks adds rests shows own_
           let one = kept.once v.who in
           let mine_once : 1 ≤ times v.who (holdings v) = subst (λ b. 1 ≤ (if b then 1 else 0) + times v.who v.also) (sym me) (omega arith) in
           let none : times v.who (holdings u) ≡ 0 = omega arith in
-          record { config = theirs.config; parts = parts_others k v.who log ds (holdings u) adds none theirs.parts; since = since_adds k u.who v.who u.seen log ds (not_held v.who u.who (times v.who u.also) none) adds theirs.since; told = nobody_since k v.who u.told log ds adds theirs.told; calm = theirs.calm })
+          record { config = theirs.config; parts = parts_others k v.who log ds (holdings u) adds none theirs.parts; since = since_adds k u.who v.who u.seen log ds (not_held v.who u.who (times v.who u.also) none) adds theirs.since; told = nobody_since k v.who u.told log ds adds theirs.told; calm = theirs.calm; past = past_adds k v.who log ds u.past adds theirs.past })
           (at_set st.views by j w u e);
       once = λ x. let r = total_set x st.views by v w at in let one = kept.once x in omega arith;
       none = λ c beyond.
@@ -145,9 +152,16 @@ acts_asking k st kept by v carried at alone me ds i n asks adds rests shows own_
 abbrev pub LeavesAsks : Config → List ℕ → List ℕ → Type 0
 LeavesAsks k words new = (c : ℕ) → c < k.cpus → slice_index new (ask_place k c) ≡ slice_index words (ask_place k c)
 
+pub least_left : (k : Config) (words new asks : List ℕ) → LeavesAsks k words new → Least k words asks → Least k new asks
+least_left k words new asks left least c lt = subst (λ (m : ℕ). slice_index asks c ≤ m) (sym (left c lt)) (least c lt)
+
+past_left : (k : Config) (words new : List ℕ) (ps : List Past) → LeavesAsks k words new → Each (λ p. Least k words p.asks) ps → Each (λ p. Least k new p.asks) ps
+past_left k words new ps left all = each_map (λ p. Least k words p.asks) (λ p. Least k new p.asks) (λ p least. least_left k words new p.asks left least) ps all
+
 pub same_asks : (k : Config) (words new : List ℕ) (u : View) → LeavesAsks k words new → KnowsAsks k words u → KnowsAsks k new u
 same_asks k words new u left knows = record {
-  least = λ c lt. subst (λ (m : ℕ). slice_index u.asks c ≤ m) (sym (left c lt)) (knows.least c lt);
+  least = least_left k words new u.asks left knows.least;
+  past = past_left k words new u.past left knows.past;
   exact = λ is c lt. knows.exact is c lt ∙ sym (left c lt);
 }
 
@@ -160,7 +174,8 @@ acts k st kept by v carried at alone me ds i n adds rests shows left =
     let mine = kept.asks by v at in
     acts_asking k st kept by v carried at alone me ds i n v.asks adds rests shows
     (record {
-      least = λ c lt. subst (λ (m : ℕ). slice_index v.asks c ≤ m) (sym (left c lt)) (mine.least c lt);
+      least = least_left k st.words new v.asks left mine.least;
+      past = past_left k st.words new v.past left mine.past;
       exact = λ is c lt. mine.exact is c lt ∙ sym (left c lt);
     })
     (λ u other knows. same_asks k st.words new u left knows)
@@ -200,6 +215,7 @@ pub enters : (k : Config) (st : State ℕ View) (kept : Kept k st) (by : ℕ) (v
 enters k st kept by v at who ds adds rests = record {
   sound = subst (λ (x : Config). IsSound x (ds ++ kept.log)) (sym (its_config k kept.log v who (kept.knows by v at))) (sound_adds k v.who kept.log ds kept.sound adds);
   rests = rests;
+  own = part_adds k v.who kept.log ds who adds ∙ ap (λ l. ds ++ l) (kept.knows by v at).parts.0;
   view = refl;
 }
 

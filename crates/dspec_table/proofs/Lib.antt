@@ -1,10 +1,12 @@
 pub mod Numbers
 pub mod HolderTests
 pub mod OwnReading
+pub mod Pasts
 pub mod Quiet
 pub mod Keeps
 pub mod Activity
 pub mod Loads
+pub mod Flights
 pub mod Joining
 pub mod AtStart
 pub mod Dealing
@@ -22,5 +24,6 @@ pub mod Places
 pub mod Looking
 pub mod Halting
 pub mod Reaping
+pub mod Waiting
 pub mod Settlements
 pub mod AsksKept

@@ -28,12 +28,12 @@ pub record HasRoom (k : Config) : Type 0 where
 
 pub has_room : (k : Config) → start_fault k ≡ None → HasRoom k
 has_room k e =
-    let cpus = passed (is_between 1 16 k.cpus) Cpus _ e in
-    let specs = passed (is_between 1 32 k.nspec) Specs _ cpus.1 in
+    let cpus = passed (is_between 1 64 k.cpus) Cpus _ e in
+    let specs = passed (is_between 1 63 k.nspec) Specs _ cpus.1 in
     let sizes = passed (is_size k.bufsize) BufSize _ specs.1 in
     let more = passed (is_size k.specsize) SpecSize _ sizes.1 in
     let issues = passed (is_between 1 (2 ^ 57) k.max_issues) Issues _ more.1 in
-    let a = in_between 1 16 k.cpus cpus.0 in
-    let b = in_between 1 32 k.nspec specs.0 in
+    let a = in_between 1 64 k.cpus cpus.0 in
+    let b = in_between 1 63 k.nspec specs.0 in
     let c = in_between 1 (2 ^ 57) k.max_issues issues.0 in
-    record { few_cpus = (let most = a.1 in omega arith); some_slot = b.0; few_slots = (let most = b.1 in omega arith); few_issues = c.1 }
+    record { few_cpus = a.1; some_slot = b.0; few_slots = b.1; few_issues = c.1 }

@@ -23,6 +23,13 @@ IsInFlight k v c doing id slot =
     (id.slot ≡ slot) × (scan k c v.own ≡ 0) × (late c v.seen ≡ false)
     × (mark c id.slot v.own ≤ id.issue + 1 → doing.mine ≡ is_among c (callers id v.own))
 
+-- the call is on the identifier
+abbrev pub IsOn : Speculation → CpuOp → Type 0
+IsOn id (op.Speculate j r) = j ≡ id
+IsOn id (op.Commit j) = j ≡ id
+IsOn id (op.Discard j) = j ≡ id
+IsOn id o = ⊥
+
 -- a load of a slot's word: in a speculation of the slot that it has come to, else of the identifier's slot
 abbrev pub MayLoad : Config → View → ℕ → Doing → ℕ → CpuOp → Type 0
 MayLoad k v c doing slot (op.Trace r) = Unit {0}

@@ -12,6 +12,7 @@ use Rattle.dspec_table.specs.Showing.{Shows}
 use Rattle.dspec_deeds.specs.History.{owed}
 use Rattle.dspec_deeds.specs.Legal.{IsSound}
 use Rattle.dspec_table.specs.declared.rule.View.{View}
+use Rattle.dspec_table.specs.declared.rule.Past.{Past}
 
 -- whose deeds a seat has, and which
 abbrev pub holdings : View → List (Holder × List Deed)
@@ -30,6 +31,15 @@ abbrev pub Parts : List Deed → List (Holder × List Deed) → Type 0
 Parts log [] = Unit {0}
 Parts log (p ∷ ps) = (part_of p.0 log ≡ p.1) × Parts log ps
 
+abbrev pub Each : (Past → Type 0) → List Past → Type 0
+Each P [] = Unit {0}
+Each P (p ∷ ps) = P p × Each P ps
+
+-- what a seat had seen when it was joined has all its deeds, and the list goes on from it
+pub record Remembers (log : List Deed) (p : Past) : Type 0 where
+  pub since : Since of_nobody p.seen log
+  pub own : part_of p.who p.seen ≡ p.own
+
 -- a note, or a seat that was joined into another, is nobody's
 pub record Knows (k : Config) (log : List Deed) (v : View) : Type 0 where
   pub config : (v.who ≡ of_nobody) ⊎ (v.config ≡ k)
@@ -37,10 +47,16 @@ pub record Knows (k : Config) (log : List Deed) (v : View) : Type 0 where
   pub since : Since v.who v.seen log
   pub told : Since of_nobody v.told log
   pub calm : owed v.seen ≡ 0
+  pub past : Each (Remembers log) v.past
 
--- what a seat knows of the asks: no more than what stands, and the consumer knows each
+-- asks that are no more than what stands
+abbrev pub Least : Config → List ℕ → List ℕ → Type 0
+Least k words asks = (c : ℕ) → c < k.cpus → slice_index asks c ≤ slice_index words (ask_place k c)
+
+-- what a seat knows of the asks: no more than what stands, as those joined into it did, and the consumer knows each
 pub record KnowsAsks (k : Config) (words : List ℕ) (v : View) : Type 0 where
-  pub least : (c : ℕ) → c < k.cpus → slice_index v.asks c ≤ slice_index words (ask_place k c)
+  pub least : Least k words v.asks
+  pub past : Each (λ p. Least k words p.asks) v.past
   pub exact : v.who ≡ of_consumer → (c : ℕ) → c < k.cpus → slice_index v.asks c ≡ slice_index words (ask_place k c)
 
 pub record Kept (k : Config) (st : State ℕ View) : Type 0 where
@@ -59,4 +75,4 @@ cpus_from a zero = []
 cpus_from a (suc n) = (of_cpu a, []) ∷ cpus_from (suc a) n
 
 abbrev pub newcomer : Config → View
-newcomer k = record { config = k; who = of_consumer; own = []; also = cpus_from 0 k.cpus; seen = []; told = []; steps = 0; asks = [] }
+newcomer k = record { config = k; who = of_consumer; own = []; also = cpus_from 0 k.cpus; seen = []; told = []; steps = 0; asks = []; past = [] }

@@ -16,7 +16,7 @@ use Rattle.dspec_table.specs.Acts.{at_activity, at_word, at_open, at_exchange, s
 
 -- the view after deeds of its own behind the list that the step found, where it then knows these asks
 abbrev pub asking : View → List Deed → List Deed → List ℕ → View
-asking v log ds asks = record { config = v.config; who = v.who; own = ds ++ v.own; also = v.also; seen = ds ++ log; told = []; steps = v.steps + 1; asks = asks }
+asking v log ds asks = record { config = v.config; who = v.who; own = ds ++ v.own; also = v.also; seen = ds ++ log; told = []; steps = v.steps + 1; asks = asks; past = v.past }
 
 -- the same with the asks that it knew
 abbrev pub acted : View → List Deed → List Deed → View
@@ -32,10 +32,12 @@ pub record Found (v : View) (log : List Deed) : Type 0 where
   pub own : part_of v.who log ≡ v.own
   pub calm : owed v.seen ≡ 0
 
--- the list that the step left is legal and owes nothing, and the view is the one behind its deeds
+-- the list that the step left is legal and owes nothing, the seat's part of it is the seat's list, and the view is the one
+-- behind its deeds
 pub record Entered (v : View) (log ds : List Deed) (w : View) : Type 0 where
   pub sound : IsSound v.config (ds ++ log)
   pub rests : owed (ds ++ log) ≡ 0
+  pub own : part_of v.who (ds ++ log) ≡ ds ++ v.own
   pub view : w ≡ acted v log ds
 
 -- the steps of a CPU

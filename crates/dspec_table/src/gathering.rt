@@ -1,5 +1,5 @@
 ghost use Rattle.std.specs.Prelude.{◌≡◌, ◌<◌};
-ghost use Rattle.dspec_table.specs.Last.{AllAt, AreSeats, Joined, Ended, last_words, last_set_up};
+ghost use Rattle.dspec_table.specs.Last.{AllAt, AreSeats, Joined, Recalled, Ended, last_words, last_set_up};
 ghost use Rattle.dspec_table.specs.Seats.{known_there, set_up, IsConsumerAt};
 
 use crate::last::LastWords;
@@ -12,7 +12,9 @@ fn collect(board: &Board, mut seats: Vec<CpuSeat>, place: &mut Place)
     requires seats { AllAt board.now.shared.table_id seats.items }
     requires words { 0 < board.now.shared.table_id.words }
     ensures place { (place.new.table_id ≡ board.now.shared.table_id) × (place.new.me.0.who ≡ place.old.me.0.who) × (place.new.me.0.own ≡ place.old.me.0.own) }
+    ensures knows { (place.new.me.0.seen ≡ place.old.me.0.seen) × (place.new.me.0.asks ≡ place.old.me.0.asks) }
     ensures joined { Joined seats.items place.new.me.0 }
+    ensures recalled { Recalled seats.items place.new.me.0 }
 {
     while let Some(next) = seats.pop() {
         let CpuSeat { seat, cpu: _ } = next;

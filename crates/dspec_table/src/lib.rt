@@ -30,5 +30,5 @@ mod trying;
 pub use doing::Doing;
 pub use last::LastWords;
 pub use layout::words_lie_apart;
-pub use rule::{OneList, View};
+pub use rule::{OneList, Past, View};
 pub use seats::{ConsumerSeat, CpuSeat, Words};

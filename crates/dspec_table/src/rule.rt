@@ -5,7 +5,8 @@ use std::collections::LinkedList;
 
 /// What a seat knows: whose it is (a note is nobody's), its own deeds, those of the seats that were joined into it, the deeds
 /// of all that it has seen, what a note told it since its last step, how many steps it made, and the asks of each CPU, which
-/// the consumer knows exactly, and any other seat as no more than they are. No value of it is ever made.
+/// the consumer knows exactly, and any other seat as no more than they are; and what the seats joined into it knew then. No
+/// value of it is ever made.
 pub struct View {
     pub config: Config,
     pub who: Option<Actor>,
@@ -14,6 +15,15 @@ pub struct View {
     pub seen: LinkedList<Deed>,
     pub told: LinkedList<Deed>,
     pub steps: u64,
+    pub asks: LinkedList<u64>,
+    pub past: LinkedList<Past>,
+}
+
+/// What a seat knew when it was joined into another, for good: whose it was, its own deeds, what it had seen, and the asks.
+pub struct Past {
+    pub who: Option<Actor>,
+    pub own: LinkedList<Deed>,
+    pub seen: LinkedList<Deed>,
     pub asks: LinkedList<u64>,
 }
 

@@ -32,7 +32,7 @@ fn deal(
     ensures place { IfOk result (λ v. (place.new.table_id ≡ board.now.shared.table_id) × (place.new.me ≡ (last_seat config.now, []))) }
     ensures seats { IfOk result (λ v. (length v.items ≡ config.now.cpus) × DealtSeats board.now.shared.table_id config.now v.items) }
 {
-    let mut seats = Vec::new(alloc);
+    let mut seats = Vec::with_capacity(alloc, config.cpus as usize)?;
     for cpu in 0..config.cpus {
         let seat = board.shared.split_seat::<Deal>(place);
         seats.push(CpuSeat { seat, cpu })?;

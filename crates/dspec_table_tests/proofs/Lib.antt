@@ -1,2 +1,4 @@
-mod Pairs
-mod Decisions
+pub mod Pairs
+pub mod OneOpener
+pub mod Openers
+pub mod Turns

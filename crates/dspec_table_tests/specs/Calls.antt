@@ -1,11 +1,18 @@
--- A call on an identifier.
-use Rattle.std.specs.Prelude.{◌≡◌}
+-- What a CPU's own list tells before a call on the first slot.
+use Rattle.std.specs.Prelude.{ℕ, ◌≡◌, List, []}
 use Rattle.dspec_word.specs.SpecId.{Speculation}
-use Rattle.dspec_deeds.specs.declared.calls.CpuOp.{CpuOp}
-use Rattle.dspec_deeds.specs.declared.calls.CpuOp.TheVariants as op
+use Rattle.dspec_deeds.specs.declared.config.Config.{Config}
+use Rattle.dspec_deeds.specs.declared.deed.Deed.{Deed}
+use Rattle.dspec_deeds.specs.History.{scan, callers, ack}
+use Rattle.dspec_word.specs.Word.{SlotState}
+use Rattle.dspec_table.specs.declared.rule.View.{View}
+use Rattle.dspec_table.specs.declared.doing.Doing.{Doing}
+use Rattle.dspec_table.specs.Conditions.{MayTry, Attempts}
 
--- the call commits or discards it
-abbrev pub DecidesOn : Speculation → CpuOp → Type 0
-DecidesOn id (op.Commit j) = j ≡ id
-DecidesOn id (op.Discard j) = j ≡ id
-DecidesOn id o = ⊥
+-- no call of the CPU is in flight, it is no caller of anything, and it has settled nothing of the first slot
+abbrev pub Unused : Config → ℕ → List Deed → Type 0
+Unused k c own = (scan k c own ≡ 0) × ((id : Speculation) → callers id own ≡ []) × (ack c 1 own ≡ 0)
+
+-- at the word that a step showed, the call may try what its table attempts; that step entered nothing
+abbrev pub Next : Config → View → View → ℕ → Doing → SlotState → Type 0
+Next k v w c doing shown = (to : SlotState) → Attempts doing shown to doing.op → MayTry k w c doing 1 shown to × (w.own ≡ v.own)

@@ -1,10 +1,13 @@
 //! Seats in turn on one thread.
-ghost use Rattle.std.specs.Prelude.{◌≡◌, ◌≤◌, IfOk, IfSome, false, []};
+ghost use Rattle.std.specs.Prelude.{◌≡◌, ◌≤◌, IfOk, IfSome, IfNone, true, false, [], ◌∷◌};
+ghost use Rattle.dspec_deeds.specs.declared.deed.Deed.TheVariants.{Scan};
 ghost use Rattle.dspec_table.specs.Conditions.{MayOpen, active};
-ghost use Rattle.dspec_table.specs.Last.{last_set_up};
+ghost use Rattle.dspec_table.specs.Last.{last_set_up, last_words, Ended};
 ghost use Rattle.dspec_table.specs.Seats.{known, known_there, IsAt, IsConsumerAt, set_up, cpu_of};
+ghost use Rattle.dspec_table_tests.specs.Opener.{Shut};
+ghost use Rattle.dspec_table_tests.specs.Calls.{Unused};
 
-use dspec_deeds::{Config, CpuOp, StartFault};
+use dspec_deeds::{Config, CpuOp, Policy, StartFault};
 use dspec_table::{ConsumerSeat, CpuSeat, Doing, LastWords, Words};
 use dspec_word::{Code, Word};
 use std::alloc::{AllocError, Global};
@@ -12,8 +15,11 @@ use std::process::Abort;
 use std::test::Fail;
 
 mod deciding;
+mod growths;
+mod joining;
 mod meetings;
 mod refusals;
+mod settling;
 mod threads;
 
 /// Two CPUs and one slot, with eight issues and a hundred calls of a CPU.
@@ -28,6 +34,7 @@ fn small() -> Config
         specsize: 64,
         max_issues: 8,
         max_calls: 100,
+        policy: Policy::Switch,
     }
 }
 
@@ -48,7 +55,8 @@ fn doing(op: CpuOp) -> Doing
 fn started(alloc: Global) -> Result<(Words, CpuSeat, CpuSeat, ConsumerSeat), StartFault>
     ensures first { IfOk result (λ r. IsAt r.0 r.1 × (cpu_of r.1 ≡ 0) × ((known r.1).own ≡ [])) }
     ensures second { IfOk result (λ r. IsAt r.0 r.2 × (cpu_of r.2 ≡ 1) × ((known r.2).own ≡ [])) }
-    ensures consumer { IfOk result (λ r. IsConsumerAt r.0 r.3 × ((known_there r.3).asks ≡ [])) }
+    ensures consumer { IfOk result (λ r. IsConsumerAt r.0 r.3 × ((known_there r.3).asks ≡ []) × ((known_there r.3).own ≡ [])) }
+    ensures unused { IfOk result (λ r. Unused (set_up r.0) 0 (known r.1).own × Unused (set_up r.0) 1 (known r.2).own) }
     ensures sizes { IfOk result (λ r. ((set_up r.0).cpus ≡ 2) × ((set_up r.0).nspec ≡ 1) × ((set_up r.0).max_issues ≡ 8)) }
 {
     let (words, mut seats, consumer) = Words::start(alloc, &small())?;
@@ -70,6 +78,8 @@ fn ended(
     requires consumer { IsConsumerAt words consumer }
     requires sizes { ((set_up words).cpus ≡ 2) × ((set_up words).nspec ≡ 1) }
     ensures sizes { IfOk result (λ last. ((last_set_up last).cpus ≡ 2) × ((last_set_up last).nspec ≡ 1)) }
+    ensures config { IfOk result (λ last. last_set_up last ≡ set_up words) }
+    ensures ended { IfOk result (λ last. Ended (set_up words) (last_words last) (first ∷ second ∷ []) (known_there consumer)) }
 {
     let mut seats = Vec::new(alloc);
     seats.push(first)?;
@@ -85,6 +95,8 @@ fn shown_free(words: &Words, seat: &mut CpuSeat, call: &Doing) -> Option<Word>
     requires slot { 1 ≤ (set_up words.now).nspec }
     requires issues { (set_up words.now).max_issues ≡ 8 }
     ensures seat { IsAt words.now seat.new × (cpu_of seat.new ≡ cpu_of seat.old) }
+    ensures began { IfSome result (λ _. (known seat.new).own ≡ Scan (cpu_of seat.old) true ∷ []) }
+    ensures shut { IfNone result (Shut (cpu_of seat.old) (known seat.new).own) }
     ensures free { IfSome result (λ from. MayOpen (set_up words.now) (known seat.new) (cpu_of seat.new) 1 from (active from)) }
 {
     if !seat.load_activity(words, call) {
@@ -100,7 +112,7 @@ fn shown_free(words: &Words, seat: &mut CpuSeat, call: &Doing) -> Option<Word>
 #[test]
 fn one_speculation_is_given_out(rt: HostRuntime) -> Result<(), Fail> {
     let Ok((words, mut first, mut second, consumer)) = started(rt.alloc()) else {
-        return Err("memory".into());
+        return Err(AllocError.into());
     };
     let call = doing(CpuOp::Speculation);
     let ours = shown_free(&words, &mut first, &call);

@@ -1,14 +1,16 @@
 //! Plays whose deeds are compared, calls of a world, and the happy path of each public call. Whole plays by their answers,
 //! streams and reports are schedules of `examples/`.
 use dspec_core::{
-    Actor, Answer, Config, ConsumerOp, CpuOp, Decided, Deed, Op, Opening, PlayFault, Report,
-    Served, Spoken, Traced, Turn, play,
+    Actor, Answer, Config, ConsumerOp, CpuOp, Decided, Deed, Op, Opening, PlayFault, Policy,
+    Report, Served, Spoken, Traced, Turn, play,
 };
 use dspec_record::Rec;
 use dspec_word::SpecId;
 use std::process::Abort;
 use std::test::Fail;
 
+mod filled;
+mod large;
 mod plays;
 mod values;
 mod worlds;
@@ -21,6 +23,7 @@ const SMALL: Config = Config {
     specsize: 8,
     max_issues: 8,
     max_calls: 100,
+    policy: Policy::Switch,
 };
 
 /// The record of the default action.

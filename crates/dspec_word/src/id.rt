@@ -1,6 +1,7 @@
 ghost use Rattle.std.specs.Prelude.{◌≡◌, ◌/◌, ◌%◌, ◌^◌, ◌<◌};
 ghost use Rattle.dspec_word.specs.SpecId.{Speculation, id_number, no_speculation};
 
+use std::fmt;
 use std::marker::Model;
 
 /// The identifier of one speculation: a slot, and how often the slot was released before.
@@ -81,5 +82,13 @@ impl Default for SpecId {
 
     fn default() -> Self {
         SpecId::NONE
+    }
+}
+
+/// The number of the identifier.
+impl fmt::Display for SpecId {
+    fn fmt<W: fmt::Write>(&self, f: &mut fmt::Formatter<W>) -> fmt::Result {
+        let number = self.raw();
+        write!(f, "{number}")
     }
 }

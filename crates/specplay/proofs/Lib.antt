@@ -1,8 +1,1 @@
-mod EndLemmas
-mod Growing
-mod LineLemmas
-mod NumberLemmas
-mod PrintableLemmas
-mod ReadingLemmas
-mod StepLemmas
 mod WritingLemmas

@@ -1,9 +1,3 @@
-pub mod Calls
-pub mod Printed
-pub mod Reading
 pub mod Runs
 pub mod Schedules
-pub mod SetUp
-pub mod Steps
-pub mod Words
 pub mod Written

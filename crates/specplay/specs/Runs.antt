@@ -1,8 +1,7 @@
 -- What a run's faults say.
-use Rattle.std.specs.Prelude.{ℕ, List, slice_index_or}
-use Rattle.dspec_play.specs.declared.outcome.PlayFault.{PlayFault}
-use Rattle.dspec_play.specs.declared.outcome.PlayFault.TheVariants.{Setup as setup, NoSuchActor as no_such_actor, Busy as busy, IdleStep as idle_step, BadRecord as bad_record, Memory as play_memory}
-use Rattle.specplay.specs.declared.fault.LineKind.TheVariants.{ConfigRefused, NoSuchActor, Busy, IdleStep, BadRecord}
+use Rattle.std.specs.Prelude.{ℕ}
+use Rattle.dspec_schedule.specs.declared.fault.ScheduleFault.{ScheduleFault}
+use Rattle.dspec_schedule.specs.declared.fault.ScheduleFault.TheVariants as schedule
 use Rattle.specplay.specs.declared.fault.RunFault.{RunFault}
 use Rattle.specplay.specs.declared.fault.RunFault.TheVariants.{Line, Memory, TooLong, Read, Write}
 
@@ -30,11 +29,7 @@ IsScheduleFault TooLong = ⊥
 IsScheduleFault Read = ⊥
 IsScheduleFault Write = ⊥
 
--- a play's fault as it is told: at the line of the turn, among the lines of all turns, or at the configuration's
-abbrev pub told : ℕ → List ℕ → PlayFault → RunFault
-told config_line lines (setup fault) = Line config_line (ConfigRefused fault)
-told config_line lines (no_such_actor turn) = Line (slice_index_or lines turn config_line) NoSuchActor
-told config_line lines (busy turn) = Line (slice_index_or lines turn config_line) Busy
-told config_line lines (idle_step turn) = Line (slice_index_or lines turn config_line) IdleStep
-told config_line lines (bad_record turn) = Line (slice_index_or lines turn config_line) BadRecord
-told config_line lines play_memory = Memory
+-- a fault of the schedule as a run tells it
+abbrev pub run_fault_of : ScheduleFault → RunFault
+run_fault_of (schedule.Line line kind) = Line line kind
+run_fault_of schedule.Memory = Memory

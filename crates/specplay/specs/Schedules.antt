@@ -1,46 +1,43 @@
 -- What the play of a schedule is, and what a run prints or tells of a text.
-use Rattle.std.specs.Prelude.{◌≡◌, ℕ, ◌⊎◌, List, reverse, Option, Some, None, Result, Ok, Err}
-use Rattle.dspec_record.specs.declared.field.Field.{Field}
+use Rattle.std.specs.Prelude.{◌≡◌, ℕ, ◌⊎◌, Bool, List, reverse, Option, Some, None, Result, Ok, Err}
+use Rattle.dspec_record.specs.Record.{Record}
+use Rattle.dspec_record.specs.EnablingRows.{EnabledRows}
+use Rattle.dspec_record.specs.declared.field.Shape.{Shape}
 use Rattle.dspec_record.specs.Schemas.{FieldTable, default_fields, enabled, table_shape, table_accepts}
 use Rattle.dspec_play.specs.declared.outcome.Outcome.{Outcome}
 use Rattle.dspec_play.specs.declared.outcome.PlayFault.{PlayFault}
 use Rattle.dspec_deeds.specs.Closes.{reports, streams}
 use Rattle.dspec_play.specs.Plays.{answers_of, deeds_of, play_fault, worn_count}
-use Rattle.specplay.specs.declared.fault.LineKind.{LineKind}
 use Rattle.specplay.specs.declared.fault.RunFault.{RunFault}
 use Rattle.specplay.specs.declared.fault.RunFault.TheVariants.{Line, Memory, TooLong, Read, Write}
-use Rattle.specplay.specs.declared.schedule.Schedule.{Schedule}
-use Rattle.specplay.specs.Printed.{printed_text}
-use Rattle.specplay.specs.Reading.{Plan, schedule_of}
-use Rattle.specplay.specs.Runs.{told}
+use Rattle.dspec_schedule.specs.Printed.{printed_text}
+use Rattle.dspec_schedule.specs.Reading.{Plan, header_of, schedule_of}
+use Rattle.dspec_schedule.specs.Schedules.{told}
+use Rattle.specplay.specs.Runs.{run_fault_of}
 use Rattle.specplay.specs.Written.{AppendsBeginning}
 
--- what a schedule in memory holds
-abbrev pub plan_of : Schedule → Plan
-plan_of s = record { config = s.config; config_line = s.config_line; enablings = s.enablings; turns = s.turns.items; lines = s.lines.items }
-
--- a fault of reading is out of memory, or the one that the text has
-abbrev pub IsReadingFault : {A : Type 0} → Result A (ℕ × LineKind) → RunFault → Type 0
-IsReadingFault read (Line line kind) = read ≡ Err (line, kind)
-IsReadingFault read Memory = Unit {0}
-IsReadingFault read TooLong = ⊥
-IsReadingFault read Read = ⊥
-IsReadingFault read Write = ⊥
-
--- which fields the records of a probe have: without an enabling, the default action's
-abbrev pub table_of : Option (List (List Field)) → FieldTable
+-- which fields the records of a probe have: without an enabling, those of the default action
+abbrev pub table_of : Option EnabledRows → FieldTable
 table_of None = default_fields
-table_of (Some rows) = enabled rows
+table_of (Some enablings) = enabled enablings.rows
+
+-- the shapes of the records of a schedule, behind its header
+abbrev pub shapes_of : Plan → ℕ → Option Shape
+shapes_of p = table_shape (header_of p) (table_of p.enablings)
+
+-- which records a schedule may have
+abbrev pub accepted_of : Plan → Record → Bool
+accepted_of p = table_accepts (header_of p) (table_of p.enablings)
 
 -- why a play of the schedule is refused
 abbrev pub fault_of : Plan → Option PlayFault
-fault_of p = play_fault (table_shape (table_of p.enablings)) (table_accepts (table_of p.enablings)) p.config p.turns
+fault_of p = play_fault (shapes_of p) (accepted_of p) p.config p.turns
 
 -- the outcome is what the turns of the schedule play
 pub record IsPlayOf (p : Plan) (outcome : Outcome) : Type 0 where
   pub allowed : fault_of p ≡ None
-  pub deeds : outcome.close.deeds ≡ reverse (deeds_of (table_shape (table_of p.enablings)) p.config p.turns)
-  pub answers : outcome.answers ≡ answers_of (table_shape (table_of p.enablings)) p.config p.turns
+  pub deeds : outcome.close.deeds ≡ reverse (deeds_of (shapes_of p) p.config p.turns)
+  pub answers : outcome.answers ≡ answers_of (shapes_of p) p.config p.turns
   pub accepted : outcome.close.accepted ≡ streams p.config (reverse outcome.close.deeds)
   pub reports : outcome.close.reports ≡ reports p.config (worn_count outcome.answers) (reverse outcome.close.deeds)
 
@@ -50,7 +47,7 @@ pub record Prints (text printed : List ℕ) : Type 0 where
   pub outcome : Outcome
   pub read : schedule_of text ≡ Ok plan
   pub play : IsPlayOf plan outcome
-  pub whole : printed ≡ printed_text outcome
+  pub whole : printed ≡ printed_text (header_of plan) outcome
 
 -- the text is a schedule whose play is refused, and the refusal is told so
 pub record IsRefused (text : List ℕ) (told_as : RunFault) : Type 0 where
@@ -58,7 +55,7 @@ pub record IsRefused (text : List ℕ) (told_as : RunFault) : Type 0 where
   pub fault : PlayFault
   pub read : schedule_of text ≡ Ok plan
   pub refused : fault_of plan ≡ Some fault
-  pub telling : told plan.config_line plan.lines fault ≡ told_as
+  pub telling : run_fault_of (told plan.config_line plan.lines fault) ≡ told_as
 
 -- the text is a schedule whose play is refused nowhere
 pub record IsPlayed (text : List ℕ) : Type 0 where

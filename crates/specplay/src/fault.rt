@@ -1,39 +1,14 @@
 ghost use Rattle.std.specs.Prelude.{◌≡◌};
 ghost use Rattle.specplay.specs.declared.fault.RunFault.TheVariants.{Memory};
+ghost use Rattle.specplay.specs.Runs.{run_fault_of};
 
-use dspec_core::StartFault;
-use std::alloc::{AllocError, AllocFailed};
+pub use dspec_schedule::LineKind;
+use dspec_schedule::ScheduleFault;
+use std::alloc::AllocError;
 use thiserror::Error;
 
 /// The exit status after a wrong command line.
 pub const USAGE_STATUS: u8 = 4;
-
-/// What is wrong with a line of a schedule. The first seven are seen in the text alone, the others by the play.
-#[derive(Clone, Copy, Debug, PartialEq, Eq, Error)]
-pub enum LineKind {
-    #[error("byte outside printable ASCII")]
-    NotPrintable,
-    #[error("no config line")]
-    NoConfig,
-    #[error("unknown word")]
-    UnknownWord,
-    #[error("bad number")]
-    BadNumber,
-    #[error("wrong number of words")]
-    WordCount,
-    #[error("config refused: {}", refused_field(.0))]
-    ConfigRefused(StartFault),
-    #[error("bad enabling")]
-    BadEnabling,
-    #[error("no such actor")]
-    NoSuchActor,
-    #[error("actor busy")]
-    Busy,
-    #[error("step of an idle actor")]
-    IdleStep,
-    #[error("bad record")]
-    BadRecord,
-}
 
 /// Why a run failed. Lines are counted from 1.
 #[derive(Clone, Copy, Debug, PartialEq, Eq, Error)]
@@ -48,19 +23,6 @@ pub enum RunFault {
     Read,
     #[error("write fault")]
     Write,
-}
-
-/// The number of a `config` line that is out of its range.
-fn refused_field(fault: &StartFault) -> &'static str {
-    match fault {
-        StartFault::Cpus => "cpus",
-        StartFault::Specs => "nspec",
-        StartFault::BufSize => "bufsize",
-        StartFault::SpecSize => "specsize",
-        StartFault::Issues => "issues",
-        StartFault::Calls => "calls",
-        StartFault::Memory => "memory",
-    }
 }
 
 impl RunFault {
@@ -86,10 +48,13 @@ impl From<AllocError> for RunFault {
     }
 }
 
-impl<T: Drop> From<AllocFailed<T>> for RunFault {
-    ghost from_gives = { λ _ fault. fault ≡ Memory };
+impl From<ScheduleFault> for RunFault {
+    ghost from_gives = { λ fault told. told ≡ run_fault_of fault };
 
-    fn from(_refused: AllocFailed<T>) -> Self {
-        RunFault::Memory
+    fn from(fault: ScheduleFault) -> Self {
+        match fault {
+            ScheduleFault::Line { line, kind } => RunFault::Line { line, kind },
+            ScheduleFault::Memory => RunFault::Memory,
+        }
     }
 }

@@ -2,15 +2,16 @@ ghost use Rattle.std.specs.Prelude.{◌≡◌, ◌≢◌, ◌<◌, List, ℕ, le
 ghost use Rattle.std.specs.Io.KnownBytes.{Appends};
 ghost use Rattle.dspec_play.specs.declared.outcome.PlayFault.TheVariants as failure;
 ghost use Rattle.specplay.specs.Runs.{IsInputFault, IsScheduleFault};
-ghost use Rattle.specplay.specs.Schedules.{IsCutOff, IsPlayOf, IsToldOf, Prints, fault_of, plan_of};
+ghost use Rattle.dspec_schedule.specs.Reading.{HasOneHeader};
+ghost use Rattle.dspec_schedule.specs.Schedules.{plan_of};
+ghost use Rattle.specplay.specs.Schedules.{IsCutOff, IsPlayOf, IsToldOf, Prints, fault_of};
 ghost use Rattle.specplay.specs.Written.{AppendsBeginning};
 
 use crate::fault::RunFault;
 use crate::input::{MAX_INPUT, read_whole};
-use crate::printing::printed;
-use crate::schedule::{Schedule, read_schedule};
 use dspec_core::{Outcome, PlayFault, play};
-use dspec_record::DefaultAction;
+use dspec_record::{DefaultAction, Header, StampedAction};
+use dspec_schedule::{Schedule, printed, read_schedule};
 use std::alloc::Global;
 use std::io::{self, Read, Write};
 
@@ -38,20 +39,24 @@ fn play_text(alloc: Global, text: &[u8]) -> Result<String, RunFault>
 {
     let schedule = read_schedule(alloc, text)?;
     match play_schedule(alloc, &schedule) {
-        Ok(outcome) => Ok(printed(alloc, &outcome)?),
-        Err(fault) => Err(schedule.blame(fault)),
+        Ok(outcome) => Ok(printed(alloc, schedule.header(), &outcome)?),
+        Err(fault) => Err(RunFault::from(schedule.blame(fault))),
     }
 }
 
-/// Plays a schedule, with its enablings or with the default action.
+/// Plays a schedule, with its enablings, or with the default action, which is stamped under header 2.
 fn play_schedule(alloc: Global, schedule: &Schedule) -> Result<Outcome, PlayFault>
+    requires { HasOneHeader (plan_of schedule.now) }
     ensures played { IfOk result (IsPlayOf (plan_of schedule.now)) }
     ensures refused { IfErr result (λ fault. fault ≢ failure.Memory → fault_of (plan_of schedule.now) ≡ Some fault) }
 {
     let turns = schedule.turns.as_slice();
-    match schedule.enablings {
-        None => play(alloc, &schedule.config, DefaultAction, turns),
-        Some(enablings) => play(alloc, &schedule.config, enablings, turns),
+    if let Some(enablings) = schedule.enablings {
+        return play(alloc, &schedule.config, enablings, turns);
+    }
+    match schedule.header() {
+        Header::One => play(alloc, &schedule.config, DefaultAction, turns),
+        Header::Two => play(alloc, &schedule.config, StampedAction, turns),
     }
 }
 

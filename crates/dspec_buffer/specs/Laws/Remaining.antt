@@ -9,7 +9,7 @@ use Rattle.dspec_buffer.specs.Remaining.{IsOneText, Remaining}
 
 abbrev pub record_code : Coded Record
 record_code =
-    code_by (ℕ × List ℕ) (coded× coded_ℕ (coded_list coded_ℕ)) (λ r. (r.epid, r.values)) (λ p. record { epid = p.0; values = p.1 }) (λ _. refl)
+    code_by (ℕ × (ℕ × List ℕ)) (coded× coded_ℕ (coded× coded_ℕ (coded_list coded_ℕ))) (λ r. (r.epid, (r.stamp, r.values))) (λ p. record { epid = p.0; stamp = p.1.0; values = p.1.1 }) (λ _. refl)
 
 pub records_set : IsSet (List Record)
 records_set = Coded-set (coded_list record_code)

@@ -1,9 +1,10 @@
 ghost use Rattle.std.specs.Prelude.{◌≡◌, ◌<◌, ◌≤◌, ◌^◌, false, None, Some, IfOk, OnErr};
 ghost use Rattle.dspec_deeds.specs.declared.calls.CpuOp.TheVariants as cpu_op;
 ghost use Rattle.dspec_play.specs.declared.flight.CpuFlight.TheVariants as flight;
-ghost use Rattle.dspec_play.specs.Coherent.{IsCoherent, the_caller};
-ghost use Rattle.dspec_machine.specs.Machines.{IsShown, state_of};
-ghost use Rattle.dspec_machine.specs.Steps.{StepsAs, serves, state_with, goes_on_at};
+ghost use Rattle.dspec_deeds.specs.Ranges.{is_fill};
+ghost use Rattle.dspec_play.specs.Coherent.{IsCoherent, IsSlot, the_caller};
+ghost use Rattle.dspec_machine.specs.Machines.{IsShown, Makes, state_of};
+ghost use Rattle.dspec_machine.specs.Steps.{StepsAs, loads, serves, state_with, goes_on_at};
 
 use crate::machine::Machine;
 use dspec_buffer::TraceBuffer;
@@ -14,12 +15,32 @@ use dspec_word::{Act, SpecId, Word, settle_at};
 use std::alloc::AllocError;
 
 impl<S: Schema, B: TraceBuffer<S>> Machine<S, B> {
-    /// The first step of a call of service: the load of the ask, which seals where the CPU is asked and has a spare.
+    /// The first step of a call of service: the load of the ask, or under Fill that of the first slot's word.
     pub fn step_service(&mut self, cpu: u32) -> Result<Option<Answer>, AllocError>
         requires shown { IsShown B.has B.capacity self.old }
         requires coherent { IsCoherent (S.shape_of self.old.schema) (state_of self.old) }
         requires cpu { cpu < self.old.config.cpus }
         requires flight { (the_caller (state_of self.old).callers cpu).flight ≡ Some (flight.Begun cpu_op.Service) }
+        ensures makes { IfOk result (λ answer. StepsAs B.has B.capacity S.shape_of self.old self.new cpu (flight.Begun cpu_op.Service) answer) }
+        ensures refused { OnErr result (self.new ≡ self.old) }
+    {
+        if !self.config.policy.is_fill() {
+            return self.load_ask(cpu);
+        }
+        let sum = Served {
+            sealed: false,
+            settled: 0,
+        };
+        Ok(self.load_service(cpu, 1, sum))
+    }
+
+    // The load of the ask, which seals where the CPU is asked and has a spare.
+    fn load_ask(&mut self, cpu: u32) -> Result<Option<Answer>, AllocError>
+        requires shown { IsShown B.has B.capacity self.old }
+        requires coherent { IsCoherent (S.shape_of self.old.schema) (state_of self.old) }
+        requires cpu { cpu < self.old.config.cpus }
+        requires flight { (the_caller (state_of self.old).callers cpu).flight ≡ Some (flight.Begun cpu_op.Service) }
+        requires switched { is_fill self.old.config.policy ≡ false }
         ensures makes { IfOk result (λ answer. StepsAs B.has B.capacity S.shape_of self.old self.new cpu (flight.Begun cpu_op.Service) answer) }
         ensures refused { OnErr result (self.new ≡ self.old) }
     {
@@ -79,6 +100,18 @@ impl<S: Schema, B: TraceBuffer<S>> Machine<S, B> {
         requires cpu { cpu < self.old.config.cpus }
         requires flight { (the_caller (state_of self.old).callers cpu).flight ≡ Some (flight.ServiceLoad slot sum) }
         ensures { StepsAs B.has B.capacity S.shape_of self.old self.new cpu (flight.ServiceLoad slot sum) result }
+    {
+        self.load_service(cpu, slot, sum)
+    }
+
+    // The load of a slot's word: where the table grants it, the store of the acknowledgement is next.
+    fn load_service(&mut self, cpu: u32, slot: u32, sum: Served) -> Option<Answer>
+        requires shown { IsShown B.has B.capacity self.old }
+        requires coherent { IsCoherent (S.shape_of self.old.schema) (state_of self.old) }
+        requires cpu { cpu < self.old.config.cpus }
+        requires slot { IsSlot self.old.config slot }
+        requires steps { (the_caller (state_of self.old).callers cpu).steps < 2 ^ 31 }
+        ensures { Makes B.has B.capacity self.old self.new cpu (loads S.shape_of self.old cpu slot sum) result }
     {
         let place = (slot - 1) as usize;
         let word = self.words[place];

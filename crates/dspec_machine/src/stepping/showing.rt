@@ -1,7 +1,11 @@
-ghost use Rattle.std.specs.Prelude.{◌≡◌, ◌<◌, true, nat_le, IsTrue};
+ghost use Rattle.std.specs.Prelude.{◌≡◌, ◌<◌, ◌&&◌, ◌||◌, not, true, nat_le, slice_get, Some, IsTrue};
 ghost use Rattle.dspec_buffer.specs.Extent.{one};
-ghost use Rattle.dspec_deeds.specs.History.{callers, is_among, in_range, issue, word_at};
-ghost use Rattle.dspec_deeds.specs.Legal.{fits_principal, fits_speculative};
+ghost use Rattle.dspec_deeds.specs.declared.calls.Actor.TheVariants as actor;
+ghost use Rattle.dspec_deeds.specs.History.{callers, is_among, in_range, issue, part, word_at};
+ghost use Rattle.dspec_deeds.specs.OwnShown.{own_side, ShowsOwnSide};
+ghost use Rattle.dspec_machine.specs.Shown.{HasPieces, parts_of};
+ghost use Rattle.dspec_machine.specs.declared.side.Side.{Side};
+ghost use Rattle.dspec_deeds.specs.Legal.{IsSound, IsFitting, is_closed, fits_principal, fits_speculative};
 ghost use Rattle.dspec_machine.specs.Machines.{IsShown, history};
 ghost use Rattle.dspec_deeds.specs.Own.{calls};
 ghost use Rattle.dspec_deeds.specs.Settling.{commit_fate, discard_fate, settle_fate};
@@ -13,6 +17,15 @@ use dspec_record::{Rec, Schema};
 use dspec_word::{Code, SpecId, Word};
 
 impl<S: Schema, B: TraceBuffer<S>> Machine<S, B> {
+    /// What a CPU's side shows is what that CPU's own list tells of it: a law of every machine, without a body.
+    pub fn shows_own(&self, cpu: u32)
+        requires shown { IsShown B.has B.capacity self.now }
+        requires sound { IsSound self.now.config (history self.now) }
+        requires cpu { cpu < self.now.config.cpus }
+        ensures { (side : Side B) → slice_get self.now.sides.items cpu ≡ Some side
+            → ShowsOwnSide (HasPieces B.has B.capacity self.now.schema) self.now.config (own_side cpu (part (actor.Cpu cpu) (history self.now))) (parts_of side) }
+    {}
+
     /// Whether the CPU has made all its calls.
     pub fn is_worn(&self, cpu: u32) -> bool
         requires shown { IsShown B.has B.capacity self.now }
@@ -42,16 +55,38 @@ impl<S: Schema, B: TraceBuffer<S>> Machine<S, B> {
     pub fn is_mine(&self, cpu: u32, id: SpecId) -> bool
         requires shown { IsShown B.has B.capacity self.now }
         requires cpu { cpu < self.now.config.cpus }
+        requires sound { IsSound self.now.config (history self.now) }
         requires slot { in_range self.now.config id ≡ true }
         ensures { id.issue ≡ issue id.slot (history self.now) → result ≡ is_among cpu (callers id (history self.now)) }
     {
         self.sides[cpu as usize].marks[(id.slot() - 1) as usize] == id.issue() + 1
     }
 
-    /// Whether a record fits the rest of the CPU's active principal buffer.
+    /// Whether the CPU's active principal buffer takes nothing more: under Fill, once a reservation there was refused.
+    pub fn is_closed(&self, cpu: u32) -> bool
+        requires shown { IsShown B.has B.capacity self.now }
+        requires cpu { cpu < self.now.config.cpus }
+        requires legal { IsFitting (S.shape_of self.now.schema) self.now.config (history self.now) }
+        ensures { result ≡ is_closed self.now.config cpu (history self.now) }
+    {
+        self.config.policy.is_fill() && self.sides[cpu as usize].drops > 0
+    }
+
+    // Whether that buffer takes a piece that has room there, or has none: a closed one takes a piece without records alone.
+    fn takes(&self, cpu: u32, has_room: bool, is_empty: bool) -> bool
+        requires shown { IsShown B.has B.capacity self.now }
+        requires cpu { cpu < self.now.config.cpus }
+        requires legal { IsFitting (S.shape_of self.now.schema) self.now.config (history self.now) }
+        ensures { result ≡ (has_room && (is_empty || not (is_closed self.now.config cpu (history self.now)))) }
+    {
+        has_room && (is_empty || !self.is_closed(cpu))
+    }
+
+    /// Whether a record fits the rest of the CPU's active principal buffer, and that isn't closed.
     pub fn fits_principal(&self, cpu: u32, rec: &Rec) -> bool
         requires shown { IsShown B.has B.capacity self.now }
         requires cpu { cpu < self.now.config.cpus }
+        requires legal { IsFitting (S.shape_of self.now.schema) self.now.config (history self.now) }
         requires accepted { IsTrue (S.accepted self.now.schema rec.now) }
         ensures { result ≡ fits_principal (S.shape_of self.now.schema) self.now.config cpu (one rec.now) (history self.now) }
     {
@@ -59,7 +94,7 @@ impl<S: Schema, B: TraceBuffer<S>> Machine<S, B> {
             unreachable!()
         };
         let buffer = &self.sides[cpu as usize].active;
-        buffer.fits(shape.align, shape.size)
+        self.takes(cpu, buffer.fits(shape.align, shape.size), false)
     }
 
     /// Whether a record fits the rest of the CPU's buffer of its slot's present speculation.
@@ -82,6 +117,7 @@ impl<S: Schema, B: TraceBuffer<S>> Machine<S, B> {
     pub fn commit_fate(&self, cpu: u32, id: SpecId) -> DecideFate
         requires shown { IsShown B.has B.capacity self.now }
         requires cpu { cpu < self.now.config.cpus }
+        requires legal { IsFitting (S.shape_of self.now.schema) self.now.config (history self.now) }
         requires slot { in_range self.now.config id ≡ true }
         requires present { id.issue ≡ issue id.slot (history self.now) }
         ensures { result ≡ commit_fate (S.shape_of self.now.schema) self.now.config cpu (history self.now) id }
@@ -89,7 +125,8 @@ impl<S: Schema, B: TraceBuffer<S>> Machine<S, B> {
         let side = &self.sides[cpu as usize];
         let buffer = &side.speculative[(id.slot() - 1) as usize];
         let count = buffer.count();
-        if side.active.fits(8, buffer.offset()) {
+        let has_room = side.active.fits(8, buffer.offset());
+        if self.takes(cpu, has_room, count == 0) {
             DecideFate::Copied(count)
         } else {
             DecideFate::Lost(count)
@@ -112,6 +149,7 @@ impl<S: Schema, B: TraceBuffer<S>> Machine<S, B> {
     pub fn settle_fate(&self, cpu: u32, id: SpecId, code: Code) -> DecideFate
         requires shown { IsShown B.has B.capacity self.now }
         requires cpu { cpu < self.now.config.cpus }
+        requires legal { IsFitting (S.shape_of self.now.schema) self.now.config (history self.now) }
         requires slot { in_range self.now.config id ≡ true }
         requires present { id.issue ≡ issue id.slot (history self.now) }
         ensures { result ≡ settle_fate (S.shape_of self.now.schema) self.now.config cpu (history self.now) id code }

@@ -24,6 +24,6 @@ inside_of-rows_of a p =
     let few : a.count ≤ length a.rows = omega arith in
     let len : length (take a.count a.rows) ≡ a.count = length-take-le a.count a.rows few in
     let none : List Field = [] in
-    let rows : rows_of a ++ replicate (64 - length (rows_of a)) none ≡ a.rows =
+    let rows : take a.count a.rows ++ replicate (64 - length (take a.count a.rows)) none ≡ a.rows =
     padded a.rows a.count 64 none p.places p.few p.rest in
-    λ i. record { rows = rows i; count = len i }
+    λ i. record { header = a.header; rows = rows i; count = len i }

@@ -11,4 +11,4 @@ fields_of-record_of a p =
     let len : length (take a.len a.values) ≡ a.len = length-take-le a.len a.values few in
     let values : take a.len a.values ++ replicate (8 - length (take a.len a.values)) 0 ≡ a.values =
     padded a.values a.len 8 0 p.eight p.few p.zeros in
-    λ i. record { epid = a.epid; len = len i; values = values i }
+    λ i. record { epid = a.epid; stamp = a.stamp; len = len i; values = values i }

@@ -1,13 +1,13 @@
 -- A schema that is a table of fields keeps the laws of a schema, where EPID 0 has none and no EPID has more
 -- than eight; the two tables of the crate are such.
-use Rattle.std.proofs.Common.{◌≡◌, ◌≤◌, ◌^◌, ◌&&◌, ℕ, zero, suc, Bool, true, false, cond, ltb, leb, IsTrue, List, [], ◌++◌, length, Option, Some, None, option_map, refl, ap, subst, arith}
+use Rattle.std.proofs.Common.{◌≡◌, ◌≤◌, ◌^◌, ◌&&◌, ℕ, zero, suc, Bool, true, false, cond, ltb, leb, IsTrue, List, [], ◌++◌, length, take, Option, Some, None, option_map, refl, ap, ◌∙◌, subst, arith}
 use Rattle.std.specs.Prelude.{unwrap_or, option_and_then}
 use Rattle.std.specs.Option.{option_map_or}
 use Rattle.std.proofs.lemmas.Bool.{ltb-true, leb-true}
-use Rattle.std.proofs.lemmas.List.{take_at}
+use Rattle.std.proofs.lemmas.List.{take_at, append_assoc}
 use Rattle.dspec_record.specs.Record.{Record}
 use Rattle.dspec_record.specs.Layout.{fields_start, layout}
-use Rattle.dspec_record.specs.RecordText.{header_text, fields_text, record_text, fits}
+use Rattle.dspec_record.specs.RecordText.{little_endian, stamp_text, fields_text, record_text, stamp_fits, fits}
 use Rattle.dspec_record.specs.Reading.{IsShape, IsTextOf}
 use Rattle.dspec_record.specs.Schemas.{FieldTable, table_shape, table_accepts, table_text, within_limit, enabling_of, enabled, default_fields}
 use Rattle.dspec_record.specs.Laws.Layouts.{layout-IsShape}
@@ -15,52 +15,68 @@ use Rattle.dspec_record.specs.Laws.Texts.{both, length-little_endian, length-rec
 use Rattle.dspec_record.specs.declared.field.Field.{Field}
 use Rattle.dspec_record.specs.declared.field.Field.TheVariants.{Four}
 use Rattle.dspec_record.specs.declared.field.Shape.{Shape}
+use Rattle.dspec_record.specs.declared.header.Header.{Header}
 
 -- no EPID of the table has more than eight fields
 pub IsLimited : FieldTable → Type 0
 IsLimited fields = (e : ℕ) (fs : List Field) → fields e ≡ Some fs → length fs ≤ 8
 
-row-IsShape : (o : Option (List Field)) (h : Shape) → ((fs : List Field) → o ≡ Some fs → length fs ≤ 8) → option_map layout o ≡ Some h → IsShape h
-row-IsShape None h few e = absurd (cc)
-row-IsShape (Some fs) h few e =
-    let same : layout fs ≡ h = cc in
-    subst IsShape same (layout-IsShape fs (few fs refl))
+row-IsShape : (d : Header) (o : Option (List Field)) (h : Shape) → ((fs : List Field) → o ≡ Some fs → length fs ≤ 8) → option_map (layout d) o ≡ Some h → IsShape h
+row-IsShape d None h few e = absurd (cc)
+row-IsShape d (Some fs) h few e =
+    let same : layout d fs ≡ h = cc in
+    subst IsShape same (layout-IsShape d fs (few fs refl))
 
-pub table-shapes_fit : (fields : FieldTable) → IsLimited fields → (e : ℕ) (h : Shape) → table_shape fields e ≡ Some h → IsShape h
+pub table-shapes_fit : (d : Header) (fields : FieldTable) → IsLimited fields → (e : ℕ) (h : Shape) → table_shape d fields e ≡ Some h → IsShape h
 unfolding IsLimited
-table-shapes_fit fields few e h is = row-IsShape (fields e) h (few e) is
+table-shapes_fit d fields few e h is = row-IsShape d (fields e) h (few e) is
 
 -- what an accepted record is
-row-texts_fit : (fields : FieldTable) (r : Record) (o : Option (List Field)) → fields r.epid ≡ o → IsTrue (ltb r.epid (2 ^ 32) && option_map_or (λ fs. fits fs r.values) o false) → IsTextOf (table_shape fields) r (record_text (unwrap_or o []) r)
-row-texts_fit fields r None is h =
-    absurd (let h' : IsTrue false = (both (ltb r.epid (2 ^ 32)) false h).1 in cc)
-row-texts_fit fields r (Some fs) is h =
-    let parts : IsTrue (ltb r.epid (2 ^ 32)) × IsTrue (fits fs r.values) = both (ltb r.epid (2 ^ 32)) (fits fs r.values) h in
+row-texts_fit : (d : Header) (fields : FieldTable) (r : Record) (o : Option (List Field)) → fields r.epid ≡ o → IsTrue (ltb r.epid (2 ^ 32)) → IsTrue (option_map_or (λ fs. fits fs r.values) o false) → IsTextOf (table_shape d fields) r (record_text d (unwrap_or o []) r)
+row-texts_fit d fields r None is small h = absurd (cc)
+row-texts_fit d fields r (Some fs) is small h =
     record {
-      epid_fits = ltb-true r.epid (2 ^ 32) parts.0;
-      shape_is = layout fs;
-      has_shape = ap (option_map layout) is;
-      size = length-record_text fs r parts.1;
-      epid = take_at (header_text r) (fields_text fields_start fs r.values) 4 (length-little_endian Four r.epid);
-      bytes = All-record_text fs r;
+      epid_fits = ltb-true r.epid (2 ^ 32) small;
+      shape_is = layout d fs;
+      has_shape = ap (option_map (layout d)) is;
+      size = length-record_text d fs r h;
+      epid =
+          ap (take 4) (append_assoc (little_endian 4 r.epid) (stamp_text d r.stamp) (fields_text (fields_start d) fs r.values))
+          ∙ take_at (little_endian 4 r.epid) (stamp_text d r.stamp ++ fields_text (fields_start d) fs r.values) 4 (length-little_endian Four r.epid);
+      bytes = All-record_text d fs r;
     }
 
-pub table-texts_fit : (fields : FieldTable) (r : Record) → IsTrue (table_accepts fields r) → IsTextOf (table_shape fields) r (table_text fields r)
-table-texts_fit fields r h = row-texts_fit fields r (fields r.epid) refl h
+-- the parts of what is accepted
+pub record IsAccepted (d : Header) (r : Record) (o : Option (List Field)) : Type 0 where
+  pub epid : IsTrue (ltb r.epid (2 ^ 32))
+  pub stamp : IsTrue (stamp_fits d r.stamp)
+  pub values : IsTrue (option_map_or (λ fs. fits fs r.values) o false)
 
-row-texts_differ : (o : Option (List Field)) (q r : Record) (x y : List ℕ) → q.epid ≡ r.epid → IsTrue (option_map_or (λ fs. fits fs q.values) o false) → IsTrue (option_map_or (λ fs. fits fs r.values) o false) → record_text (unwrap_or o []) q ++ x ≡ record_text (unwrap_or o []) r ++ y → q ≡ r
-row-texts_differ None q r x y epid of_q of_r e = absurd (cc)
-row-texts_differ (Some fs) q r x y epid of_q of_r e = record_text-same fs q r x y epid of_q of_r e
+pub accepted-parts : (d : Header) (fields : FieldTable) (r : Record) → IsTrue (table_accepts d fields r) → IsAccepted d r (fields r.epid)
+accepted-parts d fields r h =
+    let values : Bool = option_map_or (λ fs. fits fs r.values) (fields r.epid) false in
+    let first = both (ltb r.epid (2 ^ 32)) (stamp_fits d r.stamp && values) h in
+    let second = both (stamp_fits d r.stamp) values first.1 in
+    record { epid = first.0; stamp = second.0; values = second.1 }
 
-pub table-texts_differ : (fields : FieldTable) (q r : Record) (x y : List ℕ) → IsTrue (table_accepts fields q) → IsTrue (table_accepts fields r) → table_text fields q ++ x ≡ table_text fields r ++ y → q ≡ r
-table-texts_differ fields q r x y of_q of_r e =
-    let parts_q : IsTrue (ltb q.epid (2 ^ 32)) × IsTrue (option_map_or (λ fs. fits fs q.values) (fields q.epid) false) = both _ _ of_q in
-    let parts_r : IsTrue (ltb r.epid (2 ^ 32)) × IsTrue (option_map_or (λ fs. fits fs r.values) (fields r.epid) false) = both _ _ of_r in
+pub table-texts_fit : (d : Header) (fields : FieldTable) (r : Record) → IsTrue (table_accepts d fields r) → IsTextOf (table_shape d fields) r (table_text d fields r)
+table-texts_fit d fields r h =
+    let parts : IsAccepted d r (fields r.epid) = accepted-parts d fields r h in
+    row-texts_fit d fields r (fields r.epid) refl parts.epid parts.values
+
+row-texts_differ : (d : Header) (o : Option (List Field)) (q r : Record) (x y : List ℕ) → q.epid ≡ r.epid → IsTrue (stamp_fits d q.stamp) → IsTrue (stamp_fits d r.stamp) → IsTrue (option_map_or (λ fs. fits fs q.values) o false) → IsTrue (option_map_or (λ fs. fits fs r.values) o false) → record_text d (unwrap_or o []) q ++ x ≡ record_text d (unwrap_or o []) r ++ y → q ≡ r
+row-texts_differ d None q r x y epid sq sr of_q of_r e = absurd (cc)
+row-texts_differ d (Some fs) q r x y epid sq sr of_q of_r e = record_text-same d fs q r x y epid sq sr of_q of_r e
+
+pub table-texts_differ : (d : Header) (fields : FieldTable) (q r : Record) (x y : List ℕ) → IsTrue (table_accepts d fields q) → IsTrue (table_accepts d fields r) → table_text d fields q ++ x ≡ table_text d fields r ++ y → q ≡ r
+table-texts_differ d fields q r x y of_q of_r e =
+    let parts_q : IsAccepted d q (fields q.epid) = accepted-parts d fields q of_q in
+    let parts_r : IsAccepted d r (fields r.epid) = accepted-parts d fields r of_r in
     let epid : q.epid ≡ r.epid =
-    record_text-epid (unwrap_or (fields q.epid) []) (unwrap_or (fields r.epid) []) q r x y (ltb-true q.epid (2 ^ 32) parts_q.0) (ltb-true r.epid (2 ^ 32) parts_r.0) e in
+    record_text-epid d (unwrap_or (fields q.epid) []) (unwrap_or (fields r.epid) []) q r x y (ltb-true q.epid (2 ^ 32) parts_q.epid) (ltb-true r.epid (2 ^ 32) parts_r.epid) e in
     let Row : ℕ → Type 0 = λ n. IsTrue (option_map_or (λ fs. fits fs q.values) (fields n) false) in
-    let Same : ℕ → Type 0 = λ n. record_text (unwrap_or (fields n) []) q ++ x ≡ record_text (unwrap_or (fields r.epid) []) r ++ y in
-    row-texts_differ (fields r.epid) q r x y epid (subst Row epid parts_q.1) parts_r.1 (subst Same epid e)
+    let Same : ℕ → Type 0 = λ n. record_text d (unwrap_or (fields n) []) q ++ x ≡ record_text d (unwrap_or (fields r.epid) []) r ++ y in
+    row-texts_differ d (fields r.epid) q r x y epid parts_q.stamp parts_r.stamp (subst Row epid parts_q.values) parts_r.values (subst Same epid e)
 
 within_limit-few : (gs fs : List Field) (b : Bool) → leb (length gs) 8 ≡ b → cond b (Some gs) None ≡ Some fs → length fs ≤ 8
 within_limit-few gs fs true is e =

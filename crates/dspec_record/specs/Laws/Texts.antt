@@ -6,13 +6,15 @@ use Rattle.std.proofs.lemmas.List.{take_at, drop_at}
 use Rattle.std.proofs.lemmas.Nat.{from_le_bytes-to_le_bytes_2, from_le_bytes-to_le_bytes_4, from_le_bytes-to_le_bytes_8}
 use Rattle.std.specs.Int.{w16, w32, w64, from_le_bytes, bytes_low_first, byte_at}
 use Rattle.std.proofs.Common.{drop, take}
-use Rattle.std.proofs.lemmas.Bool.{ltb-true}
+use Rattle.std.proofs.lemmas.Bool.{ltb-true, eqb-true}
 use Rattle.dspec_record.specs.Layout.{width, rounded_up, after, fields_start, fields_end}
-use Rattle.dspec_record.specs.RecordText.{little_endian, gap, fields_text, header_text, record_text, fits}
+use Rattle.dspec_record.specs.RecordText.{little_endian, gap, fields_text, stamp_text, header_text, record_text, stamp_fits, fits}
 use Rattle.dspec_record.specs.Record.{Record}
 use Rattle.dspec_record.specs.Laws.Layouts.{rounded_up-ge}
 use Rattle.dspec_record.specs.declared.field.Field.{Field}
 use Rattle.dspec_record.specs.declared.field.Field.TheVariants.{One, Two, Four, Eight}
+use Rattle.dspec_record.specs.declared.header.Header.{Header}
+use Rattle.dspec_record.specs.declared.header.Header.TheVariants as header
 
 -- a test of two parts that passes has both
 pub both : (a b : Bool) → IsTrue (a && b) → IsTrue a × IsTrue b
@@ -115,26 +117,85 @@ All-fields_text start (f ∷ fs) (v ∷ vs) =
     All-append (λ b. b < 256) _ _ (All-gap start (width f)) (
     All-append (λ b. b < 256) _ _ (All-bytes_low_first 0 (width f) v) (All-fields_text (after start (width f) (width f)) fs vs))
 
-pub All-record_text : (fs : List Field) (r : Record) → All (λ b. b < 256) (record_text fs r)
-All-record_text fs r =
-    All-append (λ b. b < 256) (header_text r) (fields_text fields_start fs r.values) (All-bytes_low_first 0 4 r.epid) (All-fields_text fields_start fs r.values)
+All-stamp_text : (h : Header) (stamp : ℕ) → All (λ b. b < 256) (stamp_text h stamp)
+All-stamp_text header.One stamp = All-nil (λ b. b < 256)
+All-stamp_text header.Two stamp =
+    All-append (λ b. b < 256) (little_endian 4 (stamp % 2 ^ 32)) (little_endian 4 (stamp / 2 ^ 32)) (All-bytes_low_first 0 4 (stamp % 2 ^ 32)) (All-bytes_low_first 0 4 (stamp / 2 ^ 32))
 
-pub length-record_text : (fs : List Field) (r : Record) → IsTrue (fits fs r.values) → length (record_text fs r) ≡ rounded_up (fields_end fields_start fs) 4
-length-record_text fs r h =
-    omega (arith, length-append (header_text r) (fields_text fields_start fs r.values), length-little_endian Four r.epid, length-fields_text fields_start fs r.values h)
+All-header_text : (h : Header) (r : Record) → All (λ b. b < 256) (header_text h r)
+All-header_text h r =
+    All-append (λ b. b < 256) (little_endian 4 r.epid) (stamp_text h r.stamp) (All-bytes_low_first 0 4 r.epid) (All-stamp_text h r.stamp)
 
--- records with the same fields are the same if some bytes begin with both
-pub record_text-same : (fs : List Field) (q r : Record) (x y : List ℕ) → q.epid ≡ r.epid → IsTrue (fits fs q.values) → IsTrue (fits fs r.values) → record_text fs q ++ x ≡ record_text fs r ++ y → q ≡ r
-record_text-same fs q r x y epid of_q of_r e =
-    let behind : fields_text fields_start fs q.values ++ x ≡ fields_text fields_start fs r.values ++ y =
-    (append-same (header_text q) (header_text r) _ _ (ap (λ n. length (little_endian 4 n)) epid) (
-    sym (append_assoc (header_text q) (fields_text fields_start fs q.values) x) ∙ e ∙ append_assoc (header_text r) (fields_text fields_start fs r.values) y)).1 in
-    let values : q.values ≡ r.values = fields_text-same fields_start fs q.values r.values x y of_q of_r behind in
-    λ i. record { epid = epid i; values = values i }
+pub All-record_text : (h : Header) (fs : List Field) (r : Record) → All (λ b. b < 256) (record_text h fs r)
+All-record_text h fs r =
+    All-append (λ b. b < 256) (header_text h r) (fields_text (fields_start h) fs r.values) (All-header_text h r) (All-fields_text (fields_start h) fs r.values)
+
+-- the fields begin behind the header
+pub length-header_text : (h : Header) (r : Record) → length (header_text h r) ≡ fields_start h
+length-header_text header.One r = refl
+length-header_text header.Two r = refl
+
+pub length-record_text : (h : Header) (fs : List Field) (r : Record) → IsTrue (fits fs r.values) → length (record_text h fs r) ≡ rounded_up (fields_end (fields_start h) fs) 4
+length-record_text h fs r fit =
+    omega (
+      arith,
+      length-append (header_text h r) (fields_text (fields_start h) fs r.values),
+      length-header_text h r,
+      length-fields_text (fields_start h) fs r.values fit,
+    )
+
+-- a stamp is known from its two words
+words-same : (v u : ℕ) → v < 2 ^ 64 → u < 2 ^ 64 → stamp_text header.Two v ≡ stamp_text header.Two u → v ≡ u
+words-same v u p q e =
+    let low_v : v % 2 ^ 32 < 256 ^ width Four = omega arith in
+    let low_u : u % 2 ^ 32 < 256 ^ width Four = omega arith in
+    let high_v : v / 2 ^ 32 < 256 ^ width Four = omega arith in
+    let high_u : u / 2 ^ 32 < 256 ^ width Four = omega arith in
+    let parts = append-same (little_endian 4 (v % 2 ^ 32)) (little_endian 4 (u % 2 ^ 32)) (little_endian 4 (v / 2 ^ 32)) (little_endian 4 (u / 2 ^ 32)) refl e in
+    let low : v % 2 ^ 32 ≡ u % 2 ^ 32 = little_endian-same Four (v % 2 ^ 32) (u % 2 ^ 32) low_v low_u parts.0 in
+    let high : v / 2 ^ 32 ≡ u / 2 ^ 32 = little_endian-same Four (v / 2 ^ 32) (u / 2 ^ 32) high_v high_u parts.1 in
+    omega (arith, low, high)
+
+-- so the stamp is known from what the header has of it
+stamp_text-same : (h : Header) (v u : ℕ) → IsTrue (stamp_fits h v) → IsTrue (stamp_fits h u) → stamp_text h v ≡ stamp_text h u → v ≡ u
+stamp_text-same header.One v u p q e = eqb-true v 0 p ∙ sym (eqb-true u 0 q)
+stamp_text-same header.Two v u p q e = words-same v u (ltb-true v (2 ^ 64) p) (ltb-true u (2 ^ 64) q) e
+
+length-stamp_text : (h : Header) (v u : ℕ) → length (stamp_text h v) ≡ length (stamp_text h u)
+length-stamp_text header.One v u = refl
+length-stamp_text header.Two v u = refl
+
+-- bytes that begin with two texts: the EPID's, the stamp's and the fields' parts are the same
+record StartsAlike (h : Header) (q r : Record) (x y : List ℕ) : Type 0 where
+  epid : little_endian 4 q.epid ≡ little_endian 4 r.epid
+  stamp : stamp_text h q.stamp ≡ stamp_text h r.stamp
+  rest : x ≡ y
+
+starts-alike : (h : Header) (q r : Record) (x y : List ℕ) → header_text h q ++ x ≡ header_text h r ++ y → StartsAlike h q r x y
+starts-alike h q r x y e =
+    let split : (p : Record) (z : List ℕ) → header_text h p ++ z ≡ little_endian 4 p.epid ++ (stamp_text h p.stamp ++ z) =
+    λ p z. append_assoc (little_endian 4 p.epid) (stamp_text h p.stamp) z in
+    let first = append-same (little_endian 4 q.epid) (little_endian 4 r.epid) (stamp_text h q.stamp ++ x) (stamp_text h r.stamp ++ y) refl (
+    sym (split q x) ∙ e ∙ split r y) in
+    let second = append-same (stamp_text h q.stamp) (stamp_text h r.stamp) x y (length-stamp_text h q.stamp r.stamp) first.1 in
+    record { epid = first.0; stamp = second.0; rest = second.1 }
+
+-- records with the same header and fields are the same if some bytes begin with both
+pub record_text-same : (h : Header) (fs : List Field) (q r : Record) (x y : List ℕ) → q.epid ≡ r.epid → IsTrue (stamp_fits h q.stamp) → IsTrue (stamp_fits h r.stamp) → IsTrue (fits fs q.values) → IsTrue (fits fs r.values) → record_text h fs q ++ x ≡ record_text h fs r ++ y → q ≡ r
+record_text-same h fs q r x y epid stamp_q stamp_r of_q of_r e =
+    let start : ℕ = fields_start h in
+    let alike : StartsAlike h q r (fields_text start fs q.values ++ x) (fields_text start fs r.values ++ y) =
+    starts-alike h q r _ _ (
+    sym (append_assoc (header_text h q) (fields_text start fs q.values) x) ∙ e ∙ append_assoc (header_text h r) (fields_text start fs r.values) y) in
+    let values : q.values ≡ r.values = fields_text-same start fs q.values r.values x y of_q of_r alike.rest in
+    let stamp : q.stamp ≡ r.stamp = stamp_text-same h q.stamp r.stamp stamp_q stamp_r alike.stamp in
+    λ i. record { epid = epid i; stamp = stamp i; values = values i }
 
 -- and the EPID is known from the bytes
-pub record_text-epid : (fs gs : List Field) (q r : Record) (x y : List ℕ) → q.epid < 2 ^ 32 → r.epid < 2 ^ 32 → record_text fs q ++ x ≡ record_text gs r ++ y → q.epid ≡ r.epid
-record_text-epid fs gs q r x y of_q of_r e =
-    little_endian-same Four q.epid r.epid of_q of_r
-    (append-same (header_text q) (header_text r) _ _ (length-little_endian Four q.epid ∙ sym (length-little_endian Four r.epid)) (
-    sym (append_assoc (header_text q) (fields_text fields_start fs q.values) x) ∙ e ∙ append_assoc (header_text r) (fields_text fields_start gs r.values) y)).0
+pub record_text-epid : (h : Header) (fs gs : List Field) (q r : Record) (x y : List ℕ) → q.epid < 2 ^ 32 → r.epid < 2 ^ 32 → record_text h fs q ++ x ≡ record_text h gs r ++ y → q.epid ≡ r.epid
+record_text-epid h fs gs q r x y of_q of_r e =
+    let start : ℕ = fields_start h in
+    let alike : StartsAlike h q r (fields_text start fs q.values ++ x) (fields_text start gs r.values ++ y) =
+    starts-alike h q r _ _ (
+    sym (append_assoc (header_text h q) (fields_text start fs q.values) x) ∙ e ∙ append_assoc (header_text h r) (fields_text start gs r.values) y) in
+    little_endian-same Four q.epid r.epid of_q of_r alike.epid

@@ -4,7 +4,7 @@ use super::*;
 #[test]
 fn a_stop_and_an_ask(rt: HostRuntime) -> Result<(), Fail> {
     let Ok((words, mut first, second, mut consumer)) = started(rt.alloc()) else {
-        return Err("memory".into());
+        return Err(AllocError.into());
     };
     consumer.store_ask(&words, 0, 3);
     first.meet(&words, &mut consumer);
@@ -21,7 +21,7 @@ fn a_stop_and_an_ask(rt: HostRuntime) -> Result<(), Fail> {
 #[test]
 fn a_speculation_is_shown(rt: HostRuntime) -> Result<(), Fail> {
     let Ok((words, mut first, second, mut consumer)) = started(rt.alloc()) else {
-        return Err("memory".into());
+        return Err(AllocError.into());
     };
     let call = doing(CpuOp::Speculation);
     let Some(from) = shown_free(&words, &mut first, &call) else {

@@ -1,13 +1,15 @@
 //! Two threads, each with a CPU's seat that it takes, and gives back under a promise.
-ghost use Rattle.std.specs.Prelude.{◌≡◌, ◌≤◌, IfOk, []};
+ghost use Rattle.std.specs.Prelude.{◌≡◌, ◌≤◌, not, true, IfOk, []};
 ghost use Rattle.dspec_table.specs.Seats.{known, IsAt, set_up, cpu_of};
+ghost use Rattle.dspec_table_tests.specs.Opener.{Once, given_out};
+ghost use Rattle.dspec_table_tests.specs.Calls.{Unused};
 
 use super::*;
 use std::sync::Wait;
 use std::thread;
 use std::thread::{Promise, Threads};
 
-/// The seat that comes back is the same CPU's, at these words.
+/// The seat that comes back is the same CPU's, at these words, and the CPU called speculation once.
 #[derive(Clone, Copy)]
 struct SameCpu<'a> {
     words: &'a Words,
@@ -16,9 +18,10 @@ struct SameCpu<'a> {
 
 impl<'a> Promise<(CpuSeat, bool)> for SameCpu<'a> {
     ghost use Rattle.std.specs.Prelude.{◌≡◌};
-    ghost use Rattle.dspec_table.specs.Seats.{IsAt, cpu_of};
+    ghost use Rattle.dspec_table.specs.Seats.{known, IsAt, cpu_of};
+    ghost use Rattle.dspec_table_tests.specs.Opener.{Once};
 
-    ghost kept_by = { λ p r. IsAt p.words.now r.0 × (cpu_of r.0 ≡ p.cpu) };
+    ghost kept_by = { λ p r. IsAt p.words.now r.0 × (cpu_of r.0 ≡ p.cpu) × Once p.cpu (known r.0).own r.1 };
 }
 
 /// A call of speculation on the first slot: whether it was given.
@@ -28,6 +31,7 @@ pub(super) fn tried(words: &Words, mut seat: CpuSeat) -> (CpuSeat, bool)
     requires slot { 1 ≤ (set_up words.now).nspec }
     requires issues { (set_up words.now).max_issues ≡ 8 }
     ensures seat { IsAt words.now result.0 × (cpu_of result.0 ≡ cpu_of seat) }
+    ensures once { Once (cpu_of seat) (known result.0).own result.1 }
 {
     let call = doing(CpuOp::Speculation);
     let given = match shown_free(words, &mut seat, &call) {
@@ -48,8 +52,8 @@ fn both_tried<R: Threads + Wait>(
     requires second { IsAt words.now second × (cpu_of second ≡ 1) × ((known second).own ≡ []) }
     requires slot { 1 ≤ (set_up words.now).nspec }
     requires issues { (set_up words.now).max_issues ≡ 8 }
-    ensures first { IfOk result (λ r. IsAt words.now r.0.0 × (cpu_of r.0.0 ≡ 0)) }
-    ensures second { IfOk result (λ r. IsAt words.now r.1.0 × (cpu_of r.1.0 ≡ 1)) }
+    ensures first { IfOk result (λ r. IsAt words.now r.0.0 × (cpu_of r.0.0 ≡ 0) × Once 0 (known r.0.0).own r.0.1) }
+    ensures second { IfOk result (λ r. IsAt words.now r.1.0 × (cpu_of r.1.0 ≡ 1) × Once 1 (known r.1.0).own r.1.1) }
 {
     thread::scope(
         thread::scope_env(),
@@ -59,8 +63,8 @@ fn both_tried<R: Threads + Wait>(
             requires second { IsAt words.now second × (cpu_of second ≡ 1) × ((known second).own ≡ []) }
             requires slot { 1 ≤ (set_up words.now).nspec }
             requires issues { (set_up words.now).max_issues ≡ 8 }
-            ensures first { IfOk result (λ r. IsAt words.entry.now r.0.0 × (cpu_of r.0.0 ≡ 0)) }
-            ensures second { IfOk result (λ r. IsAt words.entry.now r.1.0 × (cpu_of r.1.0 ≡ 1)) }
+            ensures first { IfOk result (λ r. IsAt words.entry.now r.0.0 × (cpu_of r.0.0 ≡ 0) × Once 0 (known r.0.0).own r.0.1) }
+            ensures second { IfOk result (λ r. IsAt words.entry.now r.1.0 × (cpu_of r.1.0 ≡ 1) × Once 1 (known r.1.0).own r.1.1) }
         {
             let one = scope.spawn_with(
                 SameCpu { words, cpu: 0 },
@@ -68,7 +72,7 @@ fn both_tried<R: Threads + Wait>(
                     requires first { IsAt words.now first × (cpu_of first ≡ 0) × ((known first).own ≡ []) }
                     requires slot { 1 ≤ (set_up words.now).nspec }
                     requires issues { (set_up words.now).max_issues ≡ 8 }
-                    ensures { IsAt words.entry.now result.0 × (cpu_of result.0 ≡ 0) }
+                    ensures { IsAt words.entry.now result.0 × (cpu_of result.0 ≡ 0) × Once 0 (known result.0).own result.1 }
                 { tried(words, first) },
             )?;
             let two = scope.spawn_with(
@@ -77,7 +81,7 @@ fn both_tried<R: Threads + Wait>(
                     requires second { IsAt words.now second × (cpu_of second ≡ 1) × ((known second).own ≡ []) }
                     requires slot { 1 ≤ (set_up words.now).nspec }
                     requires issues { (set_up words.now).max_issues ≡ 8 }
-                    ensures { IsAt words.entry.now result.0 × (cpu_of result.0 ≡ 1) }
+                    ensures { IsAt words.entry.now result.0 × (cpu_of result.0 ≡ 1) × Once 1 (known result.0).own result.1 }
                 { tried(words, second) },
             )?;
             Ok((one.join(rt), two.join(rt)))
@@ -85,13 +89,23 @@ fn both_tried<R: Threads + Wait>(
     )
 }
 
+/// Two threads call speculation at the same time on a session of two CPUs and one slot. Exactly one of them is given it, and the
+/// slot's word then is of issue 0, and active.
+fn raced<R: Threads + Wait>(rt: &R, alloc: Global) -> Result<(bool, bool, Word), AllocError>
+    ensures one { IfOk result (λ r. r.0 ≡ not r.1) }
+    ensures word { IfOk result (λ r. r.2 ≡ given_out) }
+{
+    let Ok((words, first, second, consumer)) = started(alloc) else {
+        return Err(AllocError);
+    };
+    let ((first, ours), (second, theirs)) = both_tried(rt, &words, first, second)?;
+    let last = ended(alloc, words, first, second, consumer)?;
+    Ok((ours, theirs, last.word(1)))
+}
+
 #[test]
 fn one_of_two_threads_is_given_it(rt: HostRuntime) -> Result<(), Fail> {
-    let Ok((words, first, second, consumer)) = started(rt.alloc()) else {
-        return Err("memory".into());
-    };
-    let ((first, ours), (second, theirs)) = both_tried(&rt, &words, first, second)?;
-    let last = ended(rt.alloc(), words, first, second, consumer)?;
-    assert!(rt; ours != theirs && last.word(1) == Word::of(0, Code::Active));
+    let (ours, theirs, word) = raced(&rt, rt.alloc())?;
+    assert!(rt; ours != theirs && word == Word::of(0, Code::Active));
     Ok(())
 }

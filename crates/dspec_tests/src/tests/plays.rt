@@ -126,7 +126,7 @@ fn no_record() -> Turn {
 
 #[test]
 fn refused_plays(rt: HostRuntime) {
-    let large = Config { cpus: 17, ..SMALL };
+    let large = Config { cpus: 65, ..SMALL };
     for (config, turn, fault) in [
         (large, no_record(), PlayFault::Setup(StartFault::Cpus)),
         (SMALL, step(1), PlayFault::NoSuchActor(1)),

@@ -2,19 +2,20 @@
 use super::*;
 use dspec_core::{
     DecideFate, Series, StartFault, acceptance_law, bare_shows, bounded_steps, close_is_legal,
-    fate_law, own_parts, own_reads, own_report, placed_seals, prefix_law, schedule_answers,
-    schedule_legality, solo_rule, weaving, whole_calls, whole_plays, whole_release, woven_close,
-    woven_headline,
+    closed_for_good, empty_fits, fate_law, full_drops, never_sealed, own_parts, own_reads,
+    own_report, placed_seals, prefix_law, refused_closes, schedule_answers, schedule_legality,
+    solo_rule, weaving, whole_calls, whole_plays, whole_release, woven_close, woven_headline,
 };
 
 /// The largest configuration.
 const LARGEST: Config = Config {
-    cpus: 16,
-    nspec: 32,
+    cpus: 64,
+    nspec: 63,
     bufsize: 1_048_576,
     specsize: 1_048_576,
     max_issues: 1 << 57,
     max_calls: 1 << 62,
+    policy: Policy::Fill,
 };
 
 #[test]
@@ -30,6 +31,16 @@ fn configurations(rt: HostRuntime) {
         specsize: 0,
         max_issues: 0,
         max_calls: 0,
+        policy: Policy::Switch,
+    };
+    let many_cpus = Config {
+        cpus: 65,
+        nspec: 64,
+        ..LARGEST
+    };
+    let many_slots = Config {
+        nspec: 64,
+        ..LARGEST
     };
     let worn = Config {
         max_issues: (1 << 57) + 1,
@@ -40,6 +51,8 @@ fn configurations(rt: HostRuntime) {
         (SMALL, None),
         (LARGEST, None),
         (none, Some(StartFault::Cpus)),
+        (many_cpus, Some(StartFault::Cpus)),
+        (many_slots, Some(StartFault::Specs)),
         (not_of_eight, Some(StartFault::BufSize)),
         (worn, Some(StartFault::Issues)),
     ] {
@@ -74,6 +87,7 @@ fn small_values(rt: HostRuntime) {
     assert!(rt; Opening::Id(id).id() == id);
     assert!(rt; Opening::Busy.id() == SpecId::NONE);
     assert!(rt; DecideFate::Lost(2).answer() == Decided::Lost(2));
+    assert!(rt; Policy::Fill.is_fill() && !Policy::Switch.is_fill());
 }
 
 #[test]
@@ -81,6 +95,11 @@ fn laws() {
     prefix_law();
     acceptance_law();
     fate_law();
+    full_drops();
+    never_sealed();
+    closed_for_good();
+    empty_fits();
+    refused_closes();
     bare_shows();
     own_parts();
     own_reads();

@@ -7,17 +7,18 @@ use dspec_buffer::{ByteBuffer, ListBuffer, TraceBuffer};
 use dspec_core::{BeginFault, StartFault, StepFault, Stepped, World};
 use dspec_record::{DefaultAction, Enablings, Field, Schema, SchemaFault};
 
-/// The enablings 1 none, 2 [8], 3 [4].
-fn three_enablings() -> Result<Enablings, SchemaFault> {
+/// The enablings 1 none, 2 [8], 3 [1,2], 4 [4].
+pub fn four_enablings() -> Result<Enablings, SchemaFault> {
     let mut enablings = Enablings::new();
     enablings.enable(&[])?;
     enablings.enable(&[Field::Eight])?;
+    enablings.enable(&[Field::One, Field::Two])?;
     enablings.enable(&[Field::Four])?;
     Ok(enablings)
 }
 
 /// A record with one value.
-fn valued(epid: u32, value: u64) -> Rec {
+pub fn valued(epid: u32, value: u64) -> Rec {
     match Rec::new(epid, &[value]) {
         Some(rec) => rec,
         None => unreachable!(),
@@ -70,7 +71,7 @@ fn run<S: Schema, B: TraceBuffer<S>>(
 }
 
 /// Whole calls, one after another, each with the number of its steps.
-fn runs<S: Schema, B: TraceBuffer<S>>(
+pub fn runs<S: Schema, B: TraceBuffer<S>>(
     rt: &impl Abort,
     world: &mut World<S, B>,
     lines: &[(Line, u32)],
@@ -85,7 +86,7 @@ fn runs<S: Schema, B: TraceBuffer<S>>(
 }
 
 /// Closes the session of one CPU and compares its stream and its counts, before the close and by it.
-fn finish<S: Schema, B: TraceBuffer<S>>(
+pub fn finish<S: Schema, B: TraceBuffer<S>>(
     rt: &(impl Abort + AllocGlobal),
     world: World<S, B>,
     stream: &[Rec],
@@ -111,19 +112,19 @@ fn pad_records<B: TraceBuffer<Enablings>>(rt: &(impl Abort + AllocGlobal)) -> Re
         specsize: 32,
         ..SMALL
     };
-    let mut world: World<Enablings, B> = World::new(rt.alloc(), config, three_enablings()?)?;
+    let mut world: World<Enablings, B> = World::new(rt.alloc(), config, four_enablings()?)?;
     let lines = [
         (traces(bare(1), Traced::Kept), 1),
         (traces(valued(2, 7), Traced::Kept), 1),
         (traces(valued(2, 8), Traced::Dropped), 1),
-        (traces(valued(3, 9), Traced::Kept), 1),
+        (traces(valued(4, 9), Traced::Kept), 1),
         (traces(bare(1), Traced::Dropped), 1),
     ];
     runs(rt, &mut world, &lines)?;
     let mut report = counts(5, 3);
     report.dropped = 2;
     report.drops = 2;
-    finish(rt, world, &[bare(1), valued(2, 7), valued(3, 9)], report)
+    finish(rt, world, &[bare(1), valued(2, 7), valued(4, 9)], report)
 }
 
 #[test]
@@ -273,7 +274,7 @@ fn refused_calls(rt: HostRuntime) -> Result<(), Fail> {
 /// A world isn't made of a configuration with a fault.
 #[test]
 fn refused_world(rt: HostRuntime) {
-    let config = Config { cpus: 17, ..SMALL };
+    let config = Config { cpus: 65, ..SMALL };
     let refused = World::<DefaultAction, ListBuffer>::new(rt.alloc(), config, DefaultAction).err();
     assert_eq!(rt; refused, Some(StartFault::Cpus));
 }

@@ -10,6 +10,19 @@ const THREE_PRINTED: &str = "cpu 0 trace kept\ncpu 0 trace kept\ncpu 0 trace dro
     report cpu 0 offered 3 accepted 2 dropped 1 specdropped 0 lost 0 discarded 0 void 0 held 0 \
     drops 1 unavailable 0 busy 0 stopped 0 worn 0\nstream cpu 0: 1 2\n";
 
+const STAMPED: &[u8] = b"config 1 1 24 8 8 100\nheader 2\nrun 0 trace 1@7\nrun 0 trace 2\n";
+
+const STAMPED_PRINTED: &str = "cpu 0 trace kept\ncpu 0 trace kept\n\
+    report cpu 0 offered 2 accepted 2 dropped 0 specdropped 0 lost 0 discarded 0 void 0 held 0 \
+    drops 0 unavailable 0 busy 0 stopped 0 worn 0\nstream cpu 0: 1@7 2@0\n";
+
+const FILLED: &[u8] = b"config 1 1 24 8 8 100\nheader 2\npolicy fill\nenable 8\nenable\n\
+    run 0 trace 1@7 5\nrun 0 trace 2@8\n";
+
+const FILLED_PRINTED: &str = "cpu 0 trace kept\ncpu 0 trace dropped\n\
+    report cpu 0 offered 2 accepted 1 dropped 1 specdropped 0 lost 0 discarded 0 void 0 held 0 \
+    drops 1 unavailable 0 busy 0 stopped 0 worn 0\nstream cpu 0: 1@7(5)\n";
+
 const EMPTY_PRINTED: &str =
     "report cpu 0 offered 0 accepted 0 dropped 0 specdropped 0 lost 0 discarded 0 void 0 \
     held 0 drops 0 unavailable 0 busy 0 stopped 0 worn 0\nstream cpu 0:\n";
@@ -135,6 +148,14 @@ fn takes_input_up_to_the_limit(rt: HostRuntime) -> Result<(), Fail> {
     let mut long = schedule.as_slice();
     ends(&rt, &mut long, Err(RunFault::TooLong), "");
     Ok(())
+}
+
+#[test]
+fn plays_stamped_records(rt: HostRuntime) {
+    for (schedule, printed) in [(STAMPED, STAMPED_PRINTED), (FILLED, FILLED_PRINTED)] {
+        let mut input = schedule;
+        ends(&rt, &mut input, Ok(()), printed);
+    }
 }
 
 #[test]

@@ -4,4 +4,4 @@ use Rattle.dspec_record.proofs.Writing.{IsWriting}
 use Rattle.dspec_record.proofs.codec.put_record.Given as goal
 
 abbrev pub invariant-loop-i : goal.invariant-loop-i
-invariant-loop-i l = IsWriting (record_text l.fields l.rec) l.end l.out (drop l.i l.fields) (drop l.i l.values)
+invariant-loop-i l = IsWriting (record_text l.fn.header l.fields l.rec) l.end l.out (drop l.i l.fields) (drop l.i l.values)

@@ -5,4 +5,4 @@ use Rattle.dspec_record.proofs.layout.layout_of.Given as goal
 -- the fields that are left end, laid from `end` on, where all end
 abbrev pub invariant-loop-field : goal.invariant-loop-field
 invariant-loop-field l =
-    (fields_end l.end (drop l.field-index l.fields) ≡ fields_end fields_start l.fields) × (l.end ≤ 4 + 15 * l.field-index)
+    (fields_end l.end (drop l.field-index l.fields) ≡ fields_end (fields_start l.fn.header) l.fields) × (l.end ≤ 12 + 15 * l.field-index)

@@ -1,6 +1,6 @@
 use Rattle.std.proofs.Common.{◌∙◌, ap}
 use Rattle.dspec_table.proofs.Joining.{gathers}
-use Rattle.dspec_table.proofs.AtEnd.{at_last, at_rest, joined_rest}
+use Rattle.dspec_table.proofs.AtEnd.{at_last, at_rest, joined_rest, recalled_rest}
 use Rattle.dspec_table.proofs.gathering.collect.Goals as goal
 
 pub join_seat-requires : goal.join_seat-requires
@@ -24,6 +24,8 @@ loop-next-preserved c =
     let z = c.args.board.now.shared.table_id in
     record {
       place = (step.0 ∙ at.place.0, ap (λ m. m.0.who) step.2 ∙ at.place.1, ap (λ m. m.0.own) step.2 ∙ at.place.2);
+      knows = (ap (λ m. m.0.seen) step.2 ∙ at.knows.0, ap (λ m. m.0.asks) step.2 ∙ at.knows.1);
       seats = at_rest z c.loop-next.seats.items left next c.in-Some.ensures.items at.seats;
       joined = joined_rest z c.loop-next.seats.items left next c.in-Some.ensures.items c.args.seats.items c.loop-next.place.me.0 c.join_seat.new.seat.me.0 (ap (λ m. m.0.also) step.2) at.joined;
+      recalled = recalled_rest z c.loop-next.seats.items left next c.in-Some.ensures.items c.args.seats.items c.loop-next.place.me.0 c.join_seat.new.seat.me.0 (ap (λ m. m.0.past) step.2) at.recalled;
     }

@@ -1,6 +1,8 @@
 use Rattle.std.proofs.Common.{◌++◌, ap, ◌∙◌}
 use Rattle.std.specs.Prelude.{option_to_list}
+use Rattle.dspec_table.specs.Seats.{known}
 use Rattle.dspec_table_tests.proofs.Pairs.{first_is, second_is}
+use Rattle.dspec_table_tests.proofs.Openers.{none_unused}
 use Rattle.dspec_table_tests.proofs.tests.started.Goals as goal
 
 pub returns-clause-first : goal.returns-clause-first
@@ -18,3 +20,8 @@ returns-clause-second c =
     (c.pop.ensures.items ∙ ap (λ o. c.pop.new.self.items ++ option_to_list o) c.unwrap-second.ensures)
     (c.pop-2.ensures.items ∙ ap (λ o. c.pop-2.new.self.items ++ option_to_list o) c.unwrap-first.ensures)
     (c.in_ok-words.ensures.seats.0 ∙ c.small.ensures.sizes.0) c.in_ok-words.ensures.seats.1
+
+pub returns-clause-unused : goal.returns-clause-unused
+returns-clause-unused c =
+    let k = c.in_ok-words.words.config in
+    (none_unused k 0 (known c.unwrap-first.result).own (returns-clause-first c).2, none_unused k 1 (known c.unwrap-second.result).own (returns-clause-second c).2)

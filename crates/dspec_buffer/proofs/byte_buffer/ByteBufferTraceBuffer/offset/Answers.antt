@@ -1,6 +1,6 @@
-use Rattle.std.proofs.Common.{ap, arith}
+use Rattle.std.proofs.Common.{length, ap, ◌∙◌}
 use Rattle.dspec_buffer.proofs.SchemaLaws.{SchemaLaws}
-use Rattle.dspec_buffer.proofs.Keeping.{offset_is}
+use Rattle.dspec_buffer.proofs.Keeping.{extent_of_pieces}
 use Rattle.dspec_buffer.proofs.byte_buffer.ByteBufferTraceBuffer.offset.Goals as goal
 
 pub returns-clause-extent : goal.returns-clause-extent
@@ -11,6 +11,4 @@ returns-clause-extent g c = λ s ps h.
       texts_fit = g.met.S.Schema.texts_fit s;
       texts_differ = g.met.S.Schema.texts_differ s;
     } in
-    let within = c.self.invariant.within in
-    let long = c.self.inside.bytes.ok.0 in
-    offset_is (g.S.Schema.shape_of s) (g.S.Schema.accepted s) (g.S.Schema.text s) laws c.args.self.now c.self.inside.offset c.self.inside.bytes.items ps (ap (λ b. b.text) c.self.view_is) (omega arith) h
+    c.offset.ensures.text ∙ ap length h.text_is ∙ (extent_of_pieces (g.S.Schema.shape_of s) (g.S.Schema.accepted s) (g.S.Schema.text s) laws c.args.self.now ps h).long

@@ -17,6 +17,7 @@ use Rattle.dspec_play.proofs.Counts.{calls_counted, drops_counted, one_more}
 use Rattle.dspec_machine.proofs.OtherSides.{words_stay}
 use Rattle.dspec_machine.proofs.OneMore.{latest_first, shown_as, sides_set, map_set, adds_one}
 use Rattle.dspec_machine.proofs.PrincipalSides.{kept_side, dropped_side, stopped_side}
+use Rattle.dspec_deeds.proofs.ReportBounds.{has_room}
 use Rattle.dspec_deeds.proofs.Items.{kept_item}
 use Rattle.dspec_deeds.proofs.Results.{of_ok, of_err, of_true}
 use Rattle.dspec_machine.proofs.machine.Machine.enter_trace.Goals as goal
@@ -40,7 +41,7 @@ returns-clause-shown g c =
           let room = subst (λ f. OwnAllows (g.S.Schema.shape_of m.schema) m.config h (deed.Trace a r f)) w.in-Kept.is c.requires.legal.1.1 in
           let buffer = w.push-in-Kept-2 in
           let size = buffer.ensures.size ∙ shows.principal.sized in
-          let fitted = buffer.ensures.answer (active a h) shows.principal.has_pieces ∙ (ap (λ n. fits (g.S.Schema.shape_of m.schema) (active a h) (one r) n) shows.principal.sized ∙ sym room) in
+          let fitted = buffer.ensures.answer (active a h) shows.principal.has_pieces ∙ (ap (λ n. fits (g.S.Schema.shape_of m.schema) (active a h) (one r) n) shows.principal.sized ∙ has_room (g.S.Schema.shape_of m.schema) m.config a (one r) h (sym room)) in
           let pieces = of_true buffer.result fitted buffer.ensures.kept (active a h) shows.principal.has_pieces in
           let grown = of_ok w.push-in-Kept.result (sym w.is_err.ensures.value ∙ w.if-is_err.false) w.push-in-Kept.ensures.ok in
           let kept = kept_side g.B.TraceBuffer.has g.B.TraceBuffer.capacity m.schema m.config a h side shows r buffer.new.self size pieces in

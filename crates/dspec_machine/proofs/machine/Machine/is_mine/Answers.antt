@@ -1,7 +1,8 @@
 use Rattle.std.proofs.Common.{◌≡◌, ap, arith, sym, ◌∙◌, subst, ◌-◌, ◌+◌, ◌==◌, ◌<◌, Some}
 use Rattle.std.specs.Prelude.{slice_get}
 use Rattle.std.proofs.lemmas.Option.{slice_get_read}
-use Rattle.dspec_deeds.specs.History.{callers, is_among}
+use Rattle.dspec_deeds.specs.History.{callers, is_among, issue}
+use Rattle.dspec_deeds.proofs.Marks.{mark_tells}
 use Rattle.dspec_machine.specs.Machines.{history}
 use Rattle.dspec_machine.proofs.MachineReads.{side_read, slot_in_range, present_id}
 use Rattle.dspec_machine.proofs.machine.Machine.is_mine.Goals as goal
@@ -27,5 +28,6 @@ returns g c now =
     let here : c.slot.result - 1 ≡ c.args.id.slot - 1 = omega (arith, v) in
     let read = slice_get_read c.index.result.now.marks.items m.config.nspec (c.slot.result - 1) c.index-2.result.now (sym s.mark_count) lt c.index-2.ensures in
     let e = s.marks c.args.id.slot c.index-2.result.now slot (subst (λ i. slice_get c.index.result.now.marks.items i ≡ Some c.index-2.result.now) here read) in
+    let tells = mark_tells m.config c.args.cpu c.args.id.slot (history m) c.requires.sound in
     let f = ap (λ j. is_among c.args.cpu (callers j (history m))) (present_id c.args.id (history m) now) in
-    ap (λ i. c.index-2.result.now == (i + 1)) (w ∙ now) ∙ (sym e ∙ f)
+    ap (λ i. c.index-2.result.now == (i + 1)) (w ∙ now) ∙ (ap (λ n. n == issue c.args.id.slot (history m) + 1) e ∙ (sym tells.now ∙ f))

@@ -1,5 +1,5 @@
 -- The side shows the empty list: all numbers are 0, and all buffers empty.
-use Rattle.std.proofs.Common.{◌≡◌, ◌-◌, ◌==◌, false, [], replicate, refl, sym, subst, arith}
+use Rattle.std.proofs.Common.{◌≡◌, ◌-◌, [], replicate, refl, arith}
 use Rattle.dspec_machine.proofs.Starts.{one_made, zero_count, zero_read, zero_there}
 use Rattle.dspec_machine.proofs.machine.Machine.make_side.Goals as goal
 
@@ -19,8 +19,7 @@ returns-clause-shown g c =
       ack_count = zero_count k.nspec _ acks;
       acks = λ s at. zero_there k.nspec (s - 1) _ acks (let low = at.0 in let high = at.1 in omega arith);
       mark_count = zero_count k.nspec _ marks;
-      marks = λ s m at got. subst (λ n. false ≡ (n == 1)) (sym (zero_read k.nspec (s - 1) m _ marks (let low = at.0 in let high = at.1 in omega arith) got)) refl;
-      mark_bound = λ s m at got. let none = zero_read k.nspec (s - 1) m _ marks (let low = at.0 in let high = at.1 in omega arith) got in omega arith;
+      marks = λ s m at got. zero_read k.nspec (s - 1) m _ marks (let low = at.0 in let high = at.1 in omega arith) got;
       buffer_count = let count = c.loop.invariant.count in omega arith;
       speculative = λ s b at got. let made = c.loop.invariant.each (s - 1) b got in record { sized = made.0; has_pieces = made.1 schema };
       principal = record { sized = c.in_ok-make-2.ensures.size; has_pieces = c.in_ok-make-2.ensures.empty schema };

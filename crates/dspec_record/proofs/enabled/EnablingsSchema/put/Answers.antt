@@ -1,16 +1,25 @@
--- The slice is as long as the text of the record's own enabling.
-use Rattle.std.proofs.Common.{◌≡◌, List, Some, length, ◌∙◌, ap}
-use Rattle.dspec_record.specs.Schemas.{table_text, enabling_of, enabled}
+-- The slice is as long as the text of the record's own enabling, whichever the header is.
+use Rattle.std.proofs.Common.{◌≡◌, ◌≤◌, IsTrue, List, ℕ, Some, length, sym, ◌∙◌, ap}
+use Rattle.dspec_record.specs.Record.{Record}
+use Rattle.dspec_record.specs.EnablingRows.{EnabledRows}
+use Rattle.dspec_record.specs.Layout.{layout}
+use Rattle.dspec_record.specs.Schemas.{table_accepts, table_text, enabling_of, enabled}
 use Rattle.dspec_record.specs.declared.field.Field.{Field}
+use Rattle.dspec_record.specs.declared.header.Header.{Header}
 use Rattle.dspec_record.proofs.Gets.{enabled-row, length-accepted}
 use Rattle.dspec_record.proofs.enabled.EnablingsSchema.put.Goals as goal
 
+exact : (e : EnabledRows) (r : Record) (out : List ℕ) (found fs : List Field) (h : Header) → e.header ≡ h → Some found ≡ enabling_of e.rows r.epid → fs ≡ found → length fs ≤ 8 → IsTrue (table_accepts e.header (enabled e.rows) r) → length out ≡ length (table_text e.header (enabled e.rows) r) → length out ≡ (layout h fs).size
+exact e r out found fs h is row same few accepted long =
+    long ∙ length-accepted e.header (enabled e.rows) fs r (enabled-row e.rows r.epid found fs row same few) accepted
+    ∙ ap (λ d. (layout d fs).size) is
+
 pub put_record-requires-clause-exact : goal.put_record-requires-clause-exact
 put_record-requires-clause-exact c =
-    let fs : List Field = c.fields.result.now in
-    let found : Some c.in-Some.enabling.now ≡ enabling_of c.args.self.now c.args.rec.now.epid =
-    c.in-Some.ensures ∙ ap (enabling_of c.args.self.now) c.epid.ensures in
-    let row : enabled c.args.self.now c.args.rec.now.epid ≡ Some fs =
-    enabled-row c.args.self.now c.args.rec.now.epid c.in-Some.enabling.now fs found c.fields.ensures.fields c.fields.ensures.few in
-    let exact : length c.args.out.now ≡ length (table_text (enabled c.args.self.now) c.args.rec.now) = c.requires.exact in
-    exact ∙ length-accepted (enabled c.args.self.now) fs c.args.rec.now row c.requires.accepted
+    exact c.args.self.now c.args.rec.now c.args.out.now c.in-Some.enabling.now c.fields.result.now _ (sym c.header.ensures ∙ c.in-One.is)
+    (c.in-Some.ensures ∙ ap (enabling_of c.args.self.now.rows) c.epid.ensures) c.fields.ensures.fields c.fields.ensures.few c.requires.accepted c.requires.exact
+
+pub put_record-requires-in-Two-clause-exact : goal.put_record-requires-in-Two-clause-exact
+put_record-requires-in-Two-clause-exact c =
+    exact c.args.self.now c.args.rec.now c.args.out.now c.in-Some.enabling.now c.fields-in-Two.result.now _ (sym c.header.ensures ∙ c.in-Two.is)
+    (c.in-Some.ensures ∙ ap (enabling_of c.args.self.now.rows) c.epid.ensures) c.fields-in-Two.ensures.fields c.fields-in-Two.ensures.few c.requires.accepted c.requires.exact

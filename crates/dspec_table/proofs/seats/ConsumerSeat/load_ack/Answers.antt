@@ -1,4 +1,6 @@
-use Rattle.std.proofs.Common.{◌≡◌, true, subst, sym, refl}
+use Rattle.std.proofs.Common.{◌≡◌, true, subst, sym, refl, ap, ◌∙◌}
+use Rattle.dspec_deeds.specs.History.{word_at}
+use Rattle.dspec_table.proofs.Waiting.{awaited_stands}
 use Rattle.dspec_table.specs.Holders.{Holder, same_holder}
 use Rattle.dspec_table.proofs.Looking.{looks_ack}
 use Rattle.dspec_table.proofs.Places.{ack_within}
@@ -12,3 +14,9 @@ load-requires c =
       rw (c.ack_place-place.ensures, words.words_is) (ack_within words.config c.args.cpu c.args.slot c.requires.cpu c.requires.slot.1),
       looks_ack words.board.shared.key words.board.shared.table_id.slots seat.seat.id seat.seat.me (subst (λ (x : Holder). same_holder x x ≡ true) (sym seat.who_is) refl) seat.joins_none c.ack_place-place.result,
     )
+
+pub returns-clause-stands : goal.returns-clause-stands
+returns-clause-stands c s waits =
+    let seat = c.args.self.now in
+    let step = c.load.ensures.2.0 in
+    ap (λ v. word_at s v.seen) step.3 ∙ awaited_stands seat.seat.me.0 step.0 s seat.who_is step.1 waits

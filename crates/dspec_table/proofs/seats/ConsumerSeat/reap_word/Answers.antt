@@ -1,4 +1,7 @@
-use Rattle.std.proofs.Common.{◌≤◌, ◌^◌, ap, sym, subst, ◌∙◌, arith}
+use Rattle.std.proofs.Common.{◌≤◌, ◌^◌, ◌≡◌, true, ap, sym, subst, ◌∙◌, arith}
+use Rattle.dspec_word.specs.Code.{awaits}
+use Rattle.dspec_word.specs.Word.{SlotState}
+use Rattle.dspec_table.proofs.Waiting.{reaped_found}
 use Rattle.dspec_word.specs.Word.{word_number, released}
 use Rattle.dspec_deeds.specs.declared.config.Config.{Config}
 use Rattle.dspec_table.specs.Seats.{known_there}
@@ -31,3 +34,10 @@ of-requires c =
 
 pub returns-then-found-old-clause-step : goal.returns-then-found-old-clause-step
 returns-then-found-old-clause-step c = reaped_hit c.args.slot (known_there c.args.self.now) c.compare_exchange-found.new.seat.me.0 c.compare_exchange-found.result c.raw-old.result c.args.from c.if-found-old.true c.raw-old.ensures c.compare_exchange-found.ensures.2.0
+
+pub returns-clause-always : goal.returns-clause-always
+returns-clause-always c =
+    let seat = c.args.self.now in
+    let waits = subst (λ (w : SlotState). awaits w.code ≡ true) c.requires.last c.requires.call.waits in
+    let here = reaped_found seat.seat.me.0 c.compare_exchange-found.new.seat.me.0 c.args.slot c.compare_exchange-found.result _ seat.who_is waits c.compare_exchange-found.ensures.2.0 in
+    absurd (c.if-found-old.false (here ∙ sym (c.raw-old.ensures ∙ ap word_number c.requires.last)))

@@ -1,0 +1,13 @@
+pub mod Starts
+pub mod Makes
+pub mod Limits
+pub mod Tallies
+pub mod Quiet
+pub mod Ready
+pub mod Traces
+pub mod Mine
+pub mod Retries
+pub mod Reaches
+pub mod Places
+pub mod Grants
+pub mod Speaks

@@ -1,0 +1,52 @@
+-- What the ranges of a configuration give.
+use Rattle.std.proofs.Common.{◌≡◌, ℕ, ◌≤◌, ◌%◌, ◌^◌, ◌==◌, Bool, true, false, not, Option, Some, None, if◌then◌else◌, refl, arith}
+use Rattle.std.specs.Prelude.{nat_le}
+use Rattle.std.proofs.lemmas.Bool.Decides.{nat_tests}
+use Rattle.dspec_deeds.specs.declared.config.Config.{Config}
+use Rattle.dspec_deeds.specs.declared.config.StartFault.{StartFault}
+use Rattle.dspec_deeds.specs.declared.config.StartFault.TheVariants.{Cpus, Specs, BufSize, SpecSize, Issues, Calls}
+use Rattle.dspec_deeds.specs.Ranges.{is_between, is_size, start_fault}
+use Rattle.dspec_deeds.proofs.TestLemmas.{and_tells, same_number}
+
+pub record Within (low high n : ℕ) : Type 0 where
+  pub least : low ≤ n
+  pub most : n ≤ high
+
+pub record IsSize (n : ℕ) : Type 0 where
+  pub within : Within 8 1048576 n
+  pub whole : n % 8 ≡ 0
+
+pub record Limits (k : Config) : Type 0 where
+  pub cpus : Within 1 64 k.cpus
+  pub specs : Within 1 63 k.nspec
+  pub principal : IsSize k.bufsize
+  pub speculative : IsSize k.specsize
+  pub issues : k.max_issues ≤ 2 ^ 57
+  pub calls : k.max_calls ≤ 2 ^ 62
+
+passed : (b : Bool) (x : StartFault) (rest : Option StartFault) → (if not b then Some x else rest) ≡ None → (b ≡ true) × (rest ≡ None)
+passed true x rest e = (refl, e)
+passed false x rest e = absurd (cc (e))
+
+between : (low high n : ℕ) → is_between low high n ≡ true → Within low high n
+between low high n e = let both = and_tells (nat_le low n) (nat_le n high) e in (let a = both.0 in let b = both.1 in record { least = grind (arith, nat_tests); most = grind (arith, nat_tests) })
+
+sized : (n : ℕ) → is_size n ≡ true → IsSize n
+sized n e = let both = and_tells (is_between 8 1048576 n) (n % 8 == 0) e in record { within = between 8 1048576 n both.0; whole = same_number (n % 8) 0 both.1 }
+
+pub limits : (k : Config) → start_fault k ≡ None → Limits k
+limits k e =
+    let cpus = passed (is_between 1 64 k.cpus) Cpus _ e in
+    let specs = passed (is_between 1 63 k.nspec) Specs _ cpus.1 in
+    let principal = passed (is_size k.bufsize) BufSize _ specs.1 in
+    let speculative = passed (is_size k.specsize) SpecSize _ principal.1 in
+    let issues = passed (is_between 1 (2 ^ 57) k.max_issues) Issues _ speculative.1 in
+    let calls = passed (is_between 1 (2 ^ 62) k.max_calls) Calls _ issues.1 in
+    record {
+      cpus = between 1 64 k.cpus cpus.0;
+      specs = between 1 63 k.nspec specs.0;
+      principal = sized k.bufsize principal.0;
+      speculative = sized k.specsize speculative.0;
+      issues = (between 1 (2 ^ 57) k.max_issues issues.0).most;
+      calls = (between 1 (2 ^ 62) k.max_calls calls.0).most;
+    }

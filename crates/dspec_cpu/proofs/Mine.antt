@@ -1,0 +1,116 @@
+-- What the mark of a slot tells of an identifier: whether the CPU is a caller, where it isn't older than the mark.
+use Rattle.std.proofs.Common.{◌≡◌, ℕ, ◌+◌, ◌==◌, ◌≤◌, ◌<◌, Bool, true, false, ◌&&◌, ◌||◌, List, [], ◌∷◌, Some, None, if◌then◌else◌, refl, sym, ap, ◌∙◌, subst, ⊎_elim, arith, true≢false}
+use Rattle.dspec_word.specs.SpecId.{Speculation}
+use Rattle.dspec_deeds.specs.declared.config.Config.{Config}
+use Rattle.dspec_deeds.specs.declared.calls.Actor.TheVariants.{Cpu}
+use Rattle.dspec_deeds.specs.declared.deed.Deed.{Deed}
+use Rattle.dspec_deeds.specs.declared.deed.Deed.TheVariants.{Trace, Scan, Opened, Miss, Speculate, Commit, Discard, Settle, Seal, Release, Halt}
+use Rattle.dspec_deeds.specs.FateKinds.{spoken_granted, spoken_stopped}
+use Rattle.dspec_deeds.specs.History.{same_id, is_among, joined, callers, issue, present, part}
+use Rattle.dspec_deeds.specs.Legal.{IsSound}
+use Rattle.dspec_deeds.specs.Marks.{mark}
+use Rattle.dspec_deeds.specs.Own.{held}
+use Rattle.dspec_deeds.specs.Weaving.{bare}
+use Rattle.dspec_deeds.proofs.TestLemmas.{either_way, off, and_tells, same_number, number_is_itself, same_id_tells, id_is_itself, has_joined}
+use Rattle.dspec_deeds.proofs.PresentIds.{open_is_now, present_is}
+use Rattle.dspec_deeds.proofs.SoundLists.{granted_goes, answered_open}
+use Rattle.dspec_deeds.proofs.Marks.{mark_tells, mark_part}
+use Rattle.dspec_deeds.proofs.OwnReads.{reads, apart_bare}
+use Rattle.dspec_deeds.proofs.OwnSides.{tells_present}
+
+-- who was granted a speculation last is a caller of it
+pub marked_among : (c : ℕ) (id : Speculation) (h : List Deed) → mark c id.slot h ≡ id.issue + 1 → is_among c (callers id h) ≡ true
+marked_among c id [] e = absurd (omega arith)
+marked_among c id (Trace a r f ∷ h) e = marked_among c id h e
+marked_among c id (Scan a b ∷ h) e = marked_among c id h e
+marked_among c id (Opened a j ∷ h) e = marked_among c id h e
+marked_among c id (Miss a n b ∷ h) e = marked_among c id h e
+marked_among c id (Commit a j f ∷ h) e = marked_among c id h e
+marked_among c id (Discard a j f ∷ h) e = marked_among c id h e
+marked_among c id (Settle a j f ∷ h) e = marked_among c id h e
+marked_among c id (Seal a ∷ h) e = marked_among c id h e
+marked_among c id (Release n ∷ h) e = marked_among c id h e
+marked_among c id (Halt ∷ h) e = marked_among c id h e
+marked_among c id (Speculate a j r f ∷ h) e = go (spoken_granted f) (c == a) refl (id.slot == j.slot) refl (marked_among c id h) e
+  where
+    stays : (b : Bool) → is_among c (callers id h) ≡ true → is_among c (joined (if b then Some a else None) (callers id h)) ≡ true
+    stays false t = t
+    stays true t = has_joined c a (callers id h) ∙ last (c == a) t
+      where
+        last : (b : Bool) → is_among c (callers id h) ≡ true → (b || is_among c (callers id h)) ≡ true
+        last true t = refl
+        last false t = t
+
+    go : (g b : Bool) → (c == a) ≡ b → (s : Bool) → (id.slot == j.slot) ≡ s → (mark c id.slot h ≡ id.issue + 1 → is_among c (callers id h) ≡ true)
+        → (if g && (b && s) then j.issue + 1 else mark c id.slot h) ≡ id.issue + 1 → is_among c (joined (if g && same_id id j then Some a else None) (callers id h)) ≡ true
+    go false b bis s sis ih q = ih q
+    go true false bis s sis ih q = stays (same_id id j) (ih q)
+    go true true bis false sis ih q = stays (same_id id j) (ih q)
+    go true true bis true sis ih q =
+        let at = same_number id.slot j.slot sis in
+        let now : id.issue ≡ j.issue = omega arith in
+        let path : id ≡ j = λ i. record { issue = now i; slot = at i } in
+        let same : same_id id j ≡ true = subst (λ x. same_id id x ≡ true) path (id_is_itself id) in
+        rw same (has_joined c a (callers id h) ∙ rw bis refl)
+
+-- a caller's mark isn't older than the speculation
+pub among_marked : (k : Config) (c : ℕ) (id : Speculation) (h : List Deed) → IsSound k h → is_among c (callers id h) ≡ true → id.issue + 1 ≤ mark c id.slot h
+among_marked k c id [] s e = absurd (true≢false (sym e))
+among_marked k c id (Trace a r f ∷ h) s e = among_marked k c id h s.0 e
+among_marked k c id (Scan a b ∷ h) s e = among_marked k c id h s.0 e
+among_marked k c id (Opened a j ∷ h) s e = among_marked k c id h s.0 e
+among_marked k c id (Miss a n b ∷ h) s e = among_marked k c id h s.0 e
+among_marked k c id (Commit a j f ∷ h) s e = among_marked k c id h s.0 e
+among_marked k c id (Discard a j f ∷ h) s e = among_marked k c id h s.0 e
+among_marked k c id (Settle a j f ∷ h) s e = among_marked k c id h s.0 e
+among_marked k c id (Seal a ∷ h) s e = among_marked k c id h s.0 e
+among_marked k c id (Release n ∷ h) s e = among_marked k c id h s.0 e
+among_marked k c id (Halt ∷ h) s e = among_marked k c id h s.0 e
+among_marked k c id (Speculate a j r f ∷ h) s e = go (spoken_granted f) refl (c == a) refl (id.slot == j.slot) refl (among_marked k c id h s.0) e
+  where
+    only : (b : Bool) → (b ≡ true → (c == a) ≡ false) → is_among c (joined (if b then Some a else None) (callers id h)) ≡ true → is_among c (callers id h) ≡ true
+    only false un t = t
+    only true un t = ap (λ b. b || is_among c (callers id h)) (sym (un refl)) ∙ (sym (has_joined c a (callers id h)) ∙ t)
+
+    go : (g : Bool) → spoken_granted f ≡ g → (b : Bool) → (c == a) ≡ b → (n : Bool) → (id.slot == j.slot) ≡ n → (is_among c (callers id h) ≡ true → id.issue + 1 ≤ mark c id.slot h)
+        → is_among c (joined (if g && same_id id j then Some a else None) (callers id h)) ≡ true → id.issue + 1 ≤ (if g && (b && n) then j.issue + 1 else mark c id.slot h)
+    go false gis b bis n nis ih q = ih q
+    go true gis false bis n nis ih q = ih (only (same_id id j) (λ t. bis) q)
+    go true gis true bis false nis ih q = ih (only (same_id id j) (λ t. absurd (true≢false (sym (and_tells (id.issue == j.issue) (id.slot == j.slot) t).1 ∙ nis))) q)
+    go true gis true bis true nis ih q = ⊎_elim
+        (λ (t : same_id id j ≡ true). let now = ap (λ (x : Speculation). x.issue) (same_id_tells id j t) in omega arith)
+        (λ (other : same_id id j ≡ false).
+        let was : is_among c (callers id h) ≡ true = subst (λ b. is_among c (joined (if b then Some a else None) (callers id h)) ≡ true) other q in
+        let low = ih was in
+        let most = (mark_tells k c id.slot h s.0).bound in
+        let opened_now = answered_open h a j (spoken_stopped f) (spoken_granted f) (granted_goes f gis) gis s.1.1.1 in
+        let issues = open_is_now k h j s.0 opened_now in
+        let at : issue id.slot h ≡ issue j.slot h = ap (λ n. issue n h) (same_number id.slot j.slot nis) in
+        omega arith)
+        (either_way (same_id id j))
+
+-- so the mark tells, where the identifier isn't older than it
+pub mine_tells : (k : Config) (c : ℕ) (id : Speculation) (h : List Deed) → IsSound k h → mark c id.slot h ≤ id.issue + 1 → (mark c id.slot h == id.issue + 1) ≡ is_among c (callers id h)
+mine_tells k c id h s le = ⊎_elim
+    (λ (t : (mark c id.slot h == id.issue + 1) ≡ true). t ∙ sym (marked_among c id h (same_number (mark c id.slot h) (id.issue + 1) t)))
+    (λ (f : (mark c id.slot h == id.issue + 1) ≡ false). ⊎_elim
+    (λ (a : is_among c (callers id h) ≡ true). let low = among_marked k c id h s a in let e : mark c id.slot h ≡ id.issue + 1 = omega arith in off (mark c id.slot h == id.issue + 1) (subst (λ n. (n == id.issue + 1) ≡ true) (sym e) (number_is_itself (id.issue + 1))) f)
+    (λ (a : is_among c (callers id h) ≡ false). f ∙ sym a)
+    (either_way (is_among c (callers id h))))
+    (either_way (mark c id.slot h == id.issue + 1))
+
+-- the same of the CPU's own list, which is its part of a legal one
+pub own_mine_tells : (k : Config) (c : ℕ) (id : Speculation) (h own : List Deed) → IsSound k h → part (Cpu c) h ≡ own → mark c id.slot own ≤ id.issue + 1 → (mark c id.slot own == id.issue + 1) ≡ is_among c (callers id own)
+own_mine_tells k c id h own s its le =
+    let marks : mark c id.slot own ≡ mark c id.slot h = ap (mark c id.slot) (sym its) ∙ mark_part c id.slot h in
+    let calls : is_among c (callers id own) ≡ is_among c (callers id h) = ap (λ l. is_among c (callers id l)) (sym its) ∙ (reads k c h).apart.called id in
+    ap (λ m. m == id.issue + 1) marks ∙ (mine_tells k c id h s (subst (λ m. m ≤ id.issue + 1) marks le) ∙ sym calls)
+
+-- where the identifier is the slot's present one and the CPU isn't marked for it, the CPU holds nothing of it
+pub unmarked_empty : (k : Config) (c : ℕ) (id : Speculation) (h own p : List Deed) → c < k.cpus → IsSound k h → part (Cpu c) h ≡ own → bare p ≡ own → issue id.slot h ≡ id.issue → (mark c id.slot p == id.issue + 1) ≡ false → held c id p ≡ []
+unmarked_empty k c id h own p few s its is now none =
+    let here : present id.slot h ≡ id = present_is id h now in
+    let marks : mark c id.slot p ≡ mark c id.slot h = (apart_bare k c p).marking id.slot ∙ (ap (mark c id.slot) (is ∙ sym its) ∙ mark_part c id.slot h) in
+    let un : (mark c id.slot h == issue id.slot h + 1) ≡ false = ap (λ n. mark c id.slot h == n + 1) now ∙ (ap (λ m. m == id.issue + 1) (sym marks) ∙ none) in
+    let empty : held c id h ≡ [] = subst (λ x. held c x h ≡ []) here ((tells_present k c id.slot h few s).unmarked un) in
+    (apart_bare k c p).buffers id ∙ (ap (held c id) (is ∙ sym its) ∙ ((reads k c h).apart.buffers id ∙ empty))

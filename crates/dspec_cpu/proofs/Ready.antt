@@ -1,0 +1,124 @@
+-- A CPU can be called again.
+use Rattle.std.proofs.Common.{◌≡◌, ℕ, ◌<◌, ◌≤◌, ◌-◌, ◌^◌, Bool, List, ◌++◌, length, Option, Some, None, sym, ◌∙◌, ap, subst, arith}
+use Rattle.dspec_record.specs.Record.{Record}
+use Rattle.dspec_record.specs.declared.field.Shape.{Shape}
+use Rattle.dspec_buffer.specs.Stored.{Stored}
+use Rattle.dspec_deeds.specs.declared.config.Config.{Config}
+use Rattle.dspec_deeds.specs.declared.calls.Actor.TheVariants.{Cpu as CpuActor}
+use Rattle.dspec_deeds.specs.declared.deed.Deed.{Deed}
+use Rattle.dspec_deeds.specs.declared.report.Report.{Report}
+use Rattle.dspec_deeds.specs.History.{scan, part}
+use Rattle.dspec_deeds.specs.Legal.{IsSound}
+use Rattle.dspec_deeds.specs.Own.{is_drop, offers}
+use Rattle.dspec_deeds.specs.Ranges.{start_fault}
+use Rattle.dspec_deeds.specs.Reports.{report, total, one_if, speculative, records_of_report}
+use Rattle.dspec_deeds.proofs.OwnAccounts.{own_report}
+use Rattle.dspec_table.specs.declared.rule.View.{View}
+use Rattle.dspec_table.specs.declared.seats.Words.{Words}
+use Rattle.dspec_table.specs.Holders.{of_cpu, number_of, part_of}
+use Rattle.dspec_table.specs.Steps.{Entered}
+use Rattle.dspec_table.specs.Seats.{known, IsAt, cpu_of}
+use Rattle.dspec_cpu.specs.declared.cpu.Cpu.{Cpu}
+use Rattle.dspec_cpu.specs.declared.counts.Counts.{Counts}
+use Rattle.dspec_cpu.specs.Counting.{counts_of, with_fate, IsRoomy}
+use Rattle.dspec_cpu.specs.Reached.{Stands}
+use Rattle.dspec_cpu.specs.Lists.{HasList, IsReady}
+use Rattle.dspec_cpu.proofs.Tallies.{drops_since}
+use Rattle.dspec_cpu.proofs.Limits.{limits}
+
+-- behind the last of them
+pub stands_behind : (k : Config) (c : ℕ) (v w : View) (log ds : List Deed) → v.config ≡ k → v.who ≡ of_cpu c → Entered v log ds w → Stands k c v ds w
+stands_behind k c v w log ds config who entered =
+    let own : w.own ≡ ds ++ v.own = ap (λ (x : View). x.own) entered.view in
+    let seen : w.seen ≡ ds ++ log = ap (λ (x : View). x.seen) entered.view in
+    let its : part (CpuActor c) (ds ++ log) ≡ ds ++ v.own = subst (λ x. part_of x (ds ++ log) ≡ ds ++ v.own) who entered.own in
+    record {
+      sound = subst (λ h. IsSound k h) (sym seen) (subst (λ (x : Config). IsSound x (ds ++ log)) config entered.sound);
+      part_is = ap (part (CpuActor c)) seen ∙ (its ∙ sym own);
+      own = own;
+      config = ap (λ (x : View). x.config) entered.view;
+      who = ap (λ (x : View). x.who) entered.view;
+    }
+
+module _ (shape : ℕ → Option Shape) (accepted : Record → Bool) (text : Record → List ℕ) {S : Type 0} (words : Words) (cpu : Cpu S) (was : IsReady shape accepted text words cpu) where
+  -- the CPU's number, as its steps read it off the seat
+  pub number : number_of (known cpu.seat).who ≡ cpu.cpu
+  number = ap number_of cpu.seat.who_is ∙ was.seat
+
+  pub holder : (known cpu.seat).who ≡ of_cpu cpu.cpu
+  holder = cpu.seat.who_is ∙ ap of_cpu was.seat
+
+  pub set_up_is : (known cpu.seat).config ≡ cpu.config
+  set_up_is = was.at.1 ∙ was.config
+
+  -- no call of it is under way behind steps that end its call
+  pub ready_after : (new : Cpu S) (ds : List Deed) → cpu.cpu ≡ new.cpu → cpu.config ≡ new.config → IsAt words new.seat → cpu_of new.seat ≡ cpu_of cpu.seat → Stands cpu.config cpu.cpu (known cpu.seat) ds (known new.seat)
+      → scan cpu.config cpu.cpu (ds ++ (known cpu.seat).own) ≡ 0 → ((b : Stored) → new.spare ≡ Some b → b.size ≡ new.config.bufsize)
+      → (p : List Deed) → HasList shape accepted text new p → IsReady shape accepted text words new
+  ready_after new ds same_cpu same_config at seat stands idle spare p now = record {
+    at = at;
+    seat = seat ∙ (was.seat ∙ same_cpu);
+    config = was.config ∙ same_config;
+    checked = subst (λ (k : Config). start_fault k ≡ None) same_config was.checked;
+    idle = subst (λ (x : Config × ℕ). scan x.0 x.1 (known new.seat).own ≡ 0) (λ i. (same_config i, same_cpu i)) (ap (scan cpu.config cpu.cpu) stands.own ∙ idle);
+    sound = subst (λ (k : Config). IsSound k (known new.seat).seen) same_config stands.sound;
+    part_is = subst (λ (x : ℕ). part (CpuActor x) (known new.seat).seen ≡ (known new.seat).own) same_cpu stands.part_is;
+    spare = spare;
+    list = p;
+    listed = now;
+  }
+
+  -- no count is too large to be raised where a call is left
+  pub roomy : cpu.calls < cpu.config.max_calls → IsRoomy cpu.counts
+  roomy lt =
+      let p = was.list in
+      let within = (own_report shape cpu.config cpu.cpu 0 (known cpu.seat).seen p was.sound was.listed.shown.legal (was.listed.own ∙ sym was.part_is)).0 in
+      let called = was.listed.shown.side.called in
+      let most = (limits cpu.config was.checked).calls in
+      rw was.listed.shown.counted (record { offered = omega arith; accepted = omega arith; dropped = omega arith; specdropped = omega arith; lost = omega arith; discarded = omega arith; void = omega arith; drops = omega arith; unavailable = omega arith; busy = omega arith; stopped = omega arith })
+
+  -- nor are the drops since the last Seal
+  pub few_drops : cpu.calls < cpu.config.max_calls → cpu.drops < 2 ^ 63
+  few_drops lt =
+      let room = roomy lt in
+      let since = drops_since cpu.cpu was.list in
+      let is = was.listed.shown.side.drops in
+      let all = room.drops in
+      let counted : cpu.counts.drops ≡ total (λ d. one_if (is_drop cpu.cpu d)) was.list = ap (λ (n : Counts). n.drops) was.listed.shown.counted in
+      omega arith
+
+  -- the report of every list that it has balances
+  balanced : (p : List Deed) → HasList shape accepted text cpu p → offers cpu.cpu p ≡ records_of_report (report cpu.config cpu.cpu 0 p)
+  balanced p had = (own_report shape cpu.config cpu.cpu 0 (known cpu.seat).seen p was.sound had.shown.legal (had.own ∙ sym was.part_is)).1.sum
+
+  pub fated_within : with_fate cpu.counts ≤ cpu.counts.offered
+  fated_within = let sum = balanced was.list was.listed in rw was.listed.shown.counted (omega arith)
+
+  pub told : (p : List Deed) → HasList shape accepted text cpu p → (answer : Report)
+      → answer ≡ record {
+        offered = cpu.counts.offered;
+        accepted = cpu.counts.accepted;
+        dropped = cpu.counts.dropped;
+        specdropped = cpu.counts.specdropped;
+        lost = cpu.counts.lost;
+        discarded = cpu.counts.discarded;
+        void = cpu.counts.void;
+        held = cpu.counts.offered - with_fate cpu.counts;
+        drops = cpu.counts.drops;
+        unavailable = cpu.counts.unavailable;
+        busy = cpu.counts.busy;
+        stopped = cpu.counts.stopped;
+        worn = cpu.counts.worn;
+      }
+      → answer ≡ report cpu.config cpu.cpu cpu.counts.worn p
+  told p had answer is =
+      let sum = balanced p had in
+      let n : Counts = counts_of cpu.config cpu.cpu cpu.counts.worn p in
+      let left : n.offered - with_fate n ≡ length (speculative cpu.cpu p) = omega arith in
+      is ∙ (ap report_of had.shown.counted ∙ ap (λ (h : ℕ). record (report cpu.config cpu.cpu cpu.counts.worn p) { held = h }) left)
+    where
+      report_of : Counts → Report
+      report_of m = record { offered = m.offered; accepted = m.accepted; dropped = m.dropped; specdropped = m.specdropped; lost = m.lost; discarded = m.discarded; void = m.void; held = m.offered - with_fate m; drops = m.drops; unavailable = m.unavailable; busy = m.busy; stopped = m.stopped; worn = m.worn }
+
+  pub few : cpu.cpu < cpu.config.cpus
+  few = subst (λ (x : ℕ × Config). x.0 < x.1.cpus) (λ i. (was.seat i, set_up_is i)) cpu.seat.is_one

@@ -1,0 +1,217 @@
+-- The steps of a call on the word of its identifier's slot.
+use Rattle.std.proofs.Common.{◌≡◌, ◌≢◌, ℕ, ◌+◌, ◌-◌, ◌==◌, ◌<◌, ◌≤◌, ◌&&◌, Bool, true, false, [], if◌then◌else◌, refl, sym, ap, ◌∙◌, subst, ⊎_elim, arith}
+use Rattle.std.specs.Prelude.{nat_le}
+use Rattle.std.proofs.lemmas.Bool.Decides.{nat_tests}
+use Rattle.dspec_word.specs.SpecId.{Speculation}
+use Rattle.dspec_word.specs.Word.{SlotState, word_number}
+use Rattle.dspec_word.specs.Code.{code_number}
+use Rattle.dspec_word.specs.declared.code.Code.{Code}
+use Rattle.dspec_word.specs.declared.code.Code.TheVariants.{Inactive, Active, ActiveOne, ActiveMany, Committing, CommittingMany, Discarding}
+use Rattle.dspec_word.specs.declared.act.Act.{Act}
+use Rattle.dspec_word.specs.declared.act.Act.TheVariants.{Void, Granted, Attempt, Idle}
+use Rattle.dspec_word.specs.Tables.{speculate_act, commit_act, discard_act}
+use Rattle.dspec_deeds.specs.declared.config.Config.{Config}
+use Rattle.dspec_deeds.specs.declared.calls.CpuOp.{CpuOp}
+use Rattle.dspec_deeds.specs.declared.calls.CpuOp.TheVariants as op
+use Rattle.dspec_deeds.proofs.TestLemmas.{either_way, same_number}
+use Rattle.dspec_table.specs.declared.rule.View.{View}
+use Rattle.dspec_table.specs.declared.doing.Doing.{Doing}
+use Rattle.dspec_table.specs.Holders.{of_cpu, number_of}
+use Rattle.dspec_table.specs.Conditions.{IsOn, IsInFlight, MayLoad, MayTry, Attempts}
+use Rattle.dspec_table.specs.Steps.{Entered, LoadedWord, TriedWord}
+use Rattle.dspec_table.proofs.Flights.{quiet_word, loads_next, tries_next}
+use Rattle.dspec_cpu.specs.Calls.{rests, steps}
+use Rattle.dspec_cpu.specs.Reaching.{act_of, turns, left, is_attempt, releases_next, OwnsCommit, Shown}
+
+-- an exchange is attempted where a table's turns are left, and one more where a release is to come
+pub record IsTurn (n : ℕ) (code : Code) (to : SlotState) : Type 0 where
+  pub low : 1 ≤ code_number code
+  pub high : code_number code + 1 + releases_next (Attempt to) ≤ n
+
+to_is : {a b : SlotState} → Attempt a ≡ Attempt b → a ≡ b
+to_is e = cc (e)
+
+turn_by : (n : ℕ) (code : Code) (a b : SlotState) → Attempt a ≡ Attempt b → 1 ≤ code_number code → code_number code + 1 + releases_next (Attempt a) ≤ n → IsTurn n code b
+turn_by n code a b e low high = record { low = low; high = subst (λ (x : SlotState). code_number code + 1 + releases_next (Attempt x) ≤ n) (to_is e) high }
+
+speculate_turn : (i : ℕ) (mine : Bool) (code : Code) (to : SlotState) → speculate_act i mine code ≡ Attempt to → IsTurn 3 code to
+speculate_turn i mine Active to e = turn_by 3 Active _ to e (omega arith) (omega arith)
+speculate_turn i false ActiveOne to e = turn_by 3 ActiveOne _ to e (omega arith) (omega arith)
+speculate_turn i true ActiveOne to e = absurd (cc (e))
+speculate_turn i mine Inactive to e = absurd (cc (e))
+speculate_turn i mine ActiveMany to e = absurd (cc (e))
+speculate_turn i mine Committing to e = absurd (cc (e))
+speculate_turn i mine CommittingMany to e = absurd (cc (e))
+speculate_turn i mine Discarding to e = absurd (cc (e))
+
+commit_turn : (i : ℕ) (mine : Bool) (code : Code) (to : SlotState) → commit_act i mine code ≡ Attempt to → IsTurn 4 code to
+commit_turn i mine Active to e = turn_by 4 Active _ to e (omega arith) (omega arith)
+commit_turn i true ActiveOne to e = turn_by 4 ActiveOne _ to e (omega arith) (omega arith)
+commit_turn i false ActiveOne to e = turn_by 4 ActiveOne _ to e (omega arith) (omega arith)
+commit_turn i mine ActiveMany to e = turn_by 4 ActiveMany _ to e (omega arith) (omega arith)
+commit_turn i mine Inactive to e = absurd (cc (e))
+commit_turn i mine Committing to e = absurd (cc (e))
+commit_turn i mine CommittingMany to e = absurd (cc (e))
+commit_turn i mine Discarding to e = absurd (cc (e))
+
+discard_turn : (i : ℕ) (mine : Bool) (code : Code) (to : SlotState) → discard_act i mine code ≡ Attempt to → IsTurn 4 code to
+discard_turn i mine Active to e = turn_by 4 Active _ to e (omega arith) (omega arith)
+discard_turn i true ActiveOne to e = turn_by 4 ActiveOne _ to e (omega arith) (omega arith)
+discard_turn i false ActiveOne to e = turn_by 4 ActiveOne _ to e (omega arith) (omega arith)
+discard_turn i mine ActiveMany to e = turn_by 4 ActiveMany _ to e (omega arith) (omega arith)
+discard_turn i mine Inactive to e = absurd (cc (e))
+discard_turn i mine Committing to e = absurd (cc (e))
+discard_turn i mine CommittingMany to e = absurd (cc (e))
+discard_turn i mine Discarding to e = absurd (cc (e))
+
+-- and only at a word of the identifier's issue; nor is anything granted elsewhere
+pub here_or_void : (b : Bool) (a x : Act) → (if b then a else Void) ≡ x → x ≢ Void → (b ≡ true) × (a ≡ x)
+here_or_void true a x e n = (refl, e)
+here_or_void false a x e n = absurd (n (sym e))
+
+attempt_is : (to : SlotState) → Attempt to ≢ Void
+attempt_is to q = absurd (cc (q))
+
+pub record IsAttempted (n : ℕ) (id : Speculation) (word to : SlotState) : Type 0 where
+  pub now : (word.issue == id.issue) ≡ true
+  pub turn : IsTurn n word.code to
+
+pub attempted : (id : Speculation) (o : CpuOp) (word to : SlotState) (mine : Bool) → IsOn id o → act_of o word mine ≡ Attempt to → IsAttempted (turns o) id word to
+attempted id (op.Speculate j r) word to mine on e =
+    let both = here_or_void (word.issue == j.issue) (speculate_act word.issue mine word.code) (Attempt to) e (attempt_is to) in
+    record { now = subst (λ (x : Speculation). (word.issue == x.issue) ≡ true) on both.0; turn = speculate_turn word.issue mine word.code to both.1 }
+attempted id (op.Commit j) word to mine on e =
+    let both = here_or_void (word.issue == j.issue) (commit_act word.issue mine word.code) (Attempt to) e (attempt_is to) in
+    record { now = subst (λ (x : Speculation). (word.issue == x.issue) ≡ true) on both.0; turn = commit_turn word.issue mine word.code to both.1 }
+attempted id (op.Discard j) word to mine on e =
+    let both = here_or_void (word.issue == j.issue) (discard_act word.issue mine word.code) (Attempt to) e (attempt_is to) in
+    record { now = subst (λ (x : Speculation). (word.issue == x.issue) ≡ true) on both.0; turn = discard_turn word.issue mine word.code to both.1 }
+attempted id (op.Trace r) word to mine on e = absurd on
+attempted id op.Speculation word to mine on e = absurd on
+attempted id op.Service word to mine on e = absurd on
+
+pub attempts : (doing : Doing) (id : Speculation) (o : CpuOp) (word to : SlotState) → IsOn id o → act_of o word doing.mine ≡ Attempt to → Attempts doing word to o
+attempts doing id (op.Speculate j r) word to on e = e
+attempts doing id (op.Commit j) word to on e = e
+attempts doing id (op.Discard j) word to on e = e
+attempts doing id (op.Trace r) word to on e = absurd on
+attempts doing id op.Speculation word to on e = absurd on
+attempts doing id op.Service word to on e = absurd on
+
+-- turns that are left at a word
+left_here : (n : ℕ) (id : Speculation) (word to : SlotState) → IsAttempted n id word to → left n id word ≡ n - code_number word.code
+left_here n id word to a =
+    let low = a.turn.low in
+    let some : nat_le 1 (code_number word.code) ≡ true = grind (arith, nat_tests) in
+    rw (a.now, some) refl
+
+left_by : (n : ℕ) (w : SlotState) (b c : Bool) → (c ≡ true → 1 ≤ code_number w.code) → 1 ≤ n → (if b && c then n - code_number w.code else 0) + 1 ≤ n
+left_by n w true true low most = let l = low refl in omega arith
+left_by n w true false low most = omega arith
+left_by n w false c low most = omega arith
+
+pub left_bound : (n : ℕ) (id : Speculation) (w : SlotState) → 1 ≤ n → left n id w + 1 ≤ n
+left_bound n id w most = left_by n w (w.issue == id.issue) (nat_le 1 (code_number w.code)) (λ t. grind (arith, nat_tests)) most
+
+-- an exchange that failed leaves fewer
+pub fewer : (n : ℕ) (id : Speculation) (word to shown : SlotState) → IsAttempted n id word to → word_number word < word_number shown → left n id shown + 1 ≤ left n id word
+fewer n id word to shown a greater =
+    let here = left_here n id word to a in
+    let same = same_number word.issue id.issue a.now in
+    let high = a.turn.high in
+    ⊎_elim
+    (λ (t : (shown.issue == id.issue) ≡ true).
+    let too = same_number shown.issue id.issue t in
+    let after : left n id shown ≡ (if nat_le 1 (code_number shown.code) then n - code_number shown.code else 0) = ap (λ b. if b && nat_le 1 (code_number shown.code) then n - code_number shown.code else 0) t in
+    let less = cut (nat_le 1 (code_number shown.code)) (n - code_number shown.code) in
+    omega arith)
+    (λ (f : (shown.issue == id.issue) ≡ false).
+    let after : left n id shown ≡ 0 = ap (λ b. if b && nat_le 1 (code_number shown.code) then n - code_number shown.code else 0) f in
+    omega arith)
+    (either_way (shown.issue == id.issue))
+  where
+    cut : (b : Bool) (m : ℕ) → (if b then m else 0) ≤ m
+    cut true m = omega arith
+    cut false m = omega arith
+
+pub turns_some : (o : CpuOp) → 1 ≤ turns o
+turns_some (op.Speculate id r) = omega arith
+turns_some (op.Commit id) = omega arith
+turns_some (op.Discard id) = omega arith
+turns_some (op.Trace r) = omega arith
+turns_some op.Speculation = omega arith
+turns_some op.Service = omega arith
+
+flies : (k : Config) (v : View) (c slot : ℕ) (doing : Doing) (id : Speculation) (o : CpuOp) → IsOn id o → MayLoad k v c doing slot o → IsInFlight k v c doing id slot
+flies k v c slot doing id (op.Speculate j r) e f = subst (λ (x : Speculation). IsInFlight k v c doing x slot) e f
+flies k v c slot doing id (op.Commit j) e f = subst (λ (x : Speculation). IsInFlight k v c doing x slot) e f
+flies k v c slot doing id (op.Discard j) e f = subst (λ (x : Speculation). IsInFlight k v c doing x slot) e f
+flies k v c slot doing id (op.Trace r) e f = absurd e
+flies k v c slot doing id op.Speculation e f = absurd e
+flies k v c slot doing id op.Service e f = absurd e
+
+module _ (k : Config) (c : ℕ) (doing : Doing) (id : Speculation) (slot : ℕ) (v : View) (config : v.config ≡ k) (who : v.who ≡ of_cpu c) where
+  -- the first load
+  pub loaded : (shown : SlotState) (w : View) → IsInFlight k v c doing id slot → LoadedWord doing slot v shown w → Shown k c doing id slot v shown false w
+  loaded shown w flight step = record { before = v; waited = rests; stays = refl; who = refl; config = refl; flight = flight; last = step }
+
+  pub loaded_steps : (shown : SlotState) (w : View) → LoadedWord doing slot v shown w → w.steps + left (turns doing.op) id shown ≤ v.steps + turns doing.op
+  loaded_steps shown w step =
+      let one : w.steps ≡ v.steps + 1 = ap (λ (x : View). x.steps) step.3.view in
+      let most = left_bound (turns doing.op) id shown (turns_some doing.op) in
+      omega arith
+
+  module _ (word to : SlotState) (w : View) (on : IsOn id doing.op) (shows : Shown k c doing id slot v word false w) (e : act_of doing.op word doing.mine ≡ Attempt to) where
+    pub may_try : MayTry k w c doing slot word to
+    may_try = tries_next k shows.before w c slot doing id word to (shows.who ∙ who) on shows.flight shows.last (attempts doing id doing.op word to on e)
+
+    none_yet : Entered shows.before shows.last.0 [] w
+    none_yet = subst (λ ds. Entered shows.before shows.last.0 ds w) (quiet_word shows.before.config (number_of shows.before.who) slot doing word to doing.op (attempts doing id doing.op word to on e)) shows.last.3
+
+    -- an exchange
+    pub tried : (shown : SlotState) (hit : Bool) (new : View) → TriedWord doing slot w shown hit new → Shown k c doing id slot v shown hit new
+    tried shown hit new step = record {
+      before = w;
+      waited = steps w [] [] shows.last.0 shows.waited shows.last.1 none_yet refl;
+      stays = ap (λ (x : View). x.own) none_yet.view ∙ shows.stays;
+      who = ap (λ (x : View). x.who) none_yet.view ∙ shows.who;
+      config = ap (λ (x : View). x.config) none_yet.view ∙ shows.config;
+      flight = flies k w c slot doing id doing.op on may_try.0;
+      last = step;
+    }
+
+    -- one that failed leaves fewer, and no more steps than were left
+    pub fewer_left : (shown : SlotState) → word_number word < word_number shown → left (turns doing.op) id shown + 1 ≤ left (turns doing.op) id word
+    fewer_left shown greater = fewer (turns doing.op) id word to shown (attempted id doing.op word to doing.mine on e) greater
+
+    pub hit_steps : (new : View) → TriedWord doing slot w word true new → w.steps + left (turns doing.op) id word ≤ v.steps + turns doing.op → new.steps + releases_next (Attempt to) ≤ v.steps + turns doing.op
+    hit_steps new step le =
+        let a = attempted id doing.op word to doing.mine on e in
+        let here = left_here (turns doing.op) id word to a in
+        let high = a.turn.high in
+        let one : new.steps ≡ w.steps + 1 = ap (λ (x : View). x.steps) step.3.view in
+        omega arith
+
+pub no_attempt : (a : Act) → ((x : SlotState) → a ≡ Attempt x → ⊥) → is_attempt a ≡ false
+no_attempt Void n = refl
+no_attempt Granted n = refl
+no_attempt Idle n = refl
+no_attempt (Attempt x) n = absurd (n x refl)
+
+pub no_release : (a : Act) → ((x : SlotState) → a ≡ Attempt x → ⊥) → releases_next a ≡ 0
+no_release Void n = refl
+no_release Granted n = refl
+no_release Idle n = refl
+no_release (Attempt x) n = absurd (n x refl)
+
+pub step_made : (doing : Doing) (slot : ℕ) (v : View) (shown : SlotState) (w : View) → TriedWord doing slot v shown false w → w.steps ≡ v.steps + 1
+step_made doing slot v shown w step = ap (λ (x : View). x.steps) step.3.view
+
+pub loads : (k : Config) (v : View) (c slot : ℕ) (doing : Doing) (id : Speculation) → IsOn id doing.op → IsInFlight k v c doing id slot → MayLoad k v c doing slot doing.op
+loads = loads_next
+
+pub none_owned : (k : Config) (c slot : ℕ) (w : View) (a : Act) → ((x : SlotState) → a ≡ Attempt x → ⊥) → OwnsCommit k c slot w a
+none_owned k c slot w Void n = tt
+none_owned k c slot w Granted n = tt
+none_owned k c slot w Idle n = tt
+none_owned k c slot w (Attempt x) n = absurd (n x refl)

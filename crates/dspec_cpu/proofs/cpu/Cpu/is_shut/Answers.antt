@@ -1,0 +1,12 @@
+use Rattle.std.proofs.Common.{◌≡◌, ◌∙◌, ◌&&◌, sym, ap}
+use Rattle.std.specs.Prelude.{nat_lt}
+use Rattle.dspec_deeds.specs.Own.{full}
+use Rattle.dspec_deeds.proofs.FullBuffers.{full_counted}
+use Rattle.dspec_cpu.specs.declared.counts.Counts.{Counts}
+use Rattle.dspec_cpu.proofs.cpu.Cpu.is_shut.Goals as goal
+
+pub returns-then-is_fill : goal.returns-then-is_fill
+returns-then-is_fill g c = λ p shown.
+    let cpu = c.args.self.now in
+    let counted : nat_lt 0 cpu.counts.drops ≡ full cpu.cpu p = ap (λ (n : Counts). nat_lt 0 n.drops) shown.counted ∙ sym (full_counted cpu.cpu p) in
+    counted ∙ ap (λ b. b && full cpu.cpu p) (sym c.if-is_fill.true ∙ c.is_fill.ensures)

@@ -1,0 +1,106 @@
+-- Which lists of its own deeds a CPU has, the latest first, and whether it can be called.
+use Rattle.std.specs.Prelude.{ℕ, ◌≡◌, Bool, List, ◌++◌, reverse, Option, Some, None}
+use Rattle.dspec_record.specs.Record.{Record}
+use Rattle.dspec_record.specs.declared.field.Shape.{Shape}
+use Rattle.dspec_buffer.specs.Stored.{Stored}
+use Rattle.dspec_ring.specs.declared.batch.Batch.{Batch}
+use Rattle.dspec_deeds.specs.declared.config.Config.{Config}
+use Rattle.dspec_deeds.specs.declared.calls.Actor.TheVariants.{Cpu as CpuActor}
+use Rattle.dspec_deeds.specs.declared.deed.Deed.{Deed}
+use Rattle.dspec_deeds.specs.History.{part, scan}
+use Rattle.dspec_deeds.specs.Legal.{IsSound}
+use Rattle.dspec_deeds.specs.Owning.{IsOwn}
+use Rattle.dspec_deeds.specs.OwnShown.{SideParts, ShowsOwnSide, own_side}
+use Rattle.dspec_deeds.specs.Ranges.{start_fault}
+use Rattle.dspec_deeds.specs.Weaving.{bare}
+use Rattle.dspec_table.specs.declared.seats.Words.{Words}
+use Rattle.dspec_table.specs.declared.seats.CpuSeat.{CpuSeat}
+use Rattle.dspec_table.specs.Seats.{known, IsAt, set_up, cpu_of}
+use Rattle.dspec_ring.specs.Known.{CpuKnows}
+use Rattle.dspec_cpu.specs.declared.cpu.Cpu.{Cpu}
+use Rattle.dspec_cpu.specs.declared.shared.Shared.{Shared}
+use Rattle.dspec_cpu.specs.Counting.{counts_of}
+use Rattle.dspec_cpu.specs.Sealed.{HasSized, AreSealed, waiting}
+
+-- the words that all threads of a session share
+abbrev pub words_of : Shared → Words
+words_of shared = shared.words
+
+-- what a CPU's side shows of its deeds
+abbrev pub side_of : {S : Type 0} → Cpu S → SideParts Stored
+side_of cpu = record {
+  calls = cpu.calls;
+  seals = cpu.seals;
+  missed_busy = cpu.missed_busy;
+  acks = cpu.acks.items;
+  marks = cpu.marks.items;
+  speculative = cpu.speculative.items;
+  active = cpu.active;
+  drops = cpu.drops;
+}
+
+-- the batches that the CPU sealed, the latest first: the one in hand, and those handed on
+abbrev pub batches_of : {S : Type 0} → Cpu S → List Batch
+batches_of cpu = waiting cpu.in_hand ++ reverse cpu.end.handed
+
+-- how many calls were answered Worn
+abbrev pub worn_of : {S : Type 0} → Cpu S → ℕ
+worn_of cpu = cpu.counts.worn
+
+-- what it was made with, and its seat and its rings
+abbrev pub config_of : {S : Type 0} → Cpu S → Config
+config_of cpu = cpu.config
+
+abbrev pub number_in : {S : Type 0} → Cpu S → ℕ
+number_in cpu = cpu.cpu
+
+abbrev pub schema_of : {S : Type 0} → Cpu S → S
+schema_of cpu = cpu.schema
+
+abbrev pub seat_of : {S : Type 0} → Cpu S → CpuSeat
+seat_of cpu = cpu.seat
+
+abbrev pub end_of : {S : Type 0} → Cpu S → CpuKnows
+end_of cpu = cpu.end
+
+-- the buffer in hand that is active next
+abbrev pub spare_of : {S : Type 0} → Cpu S → Option Stored
+spare_of cpu = cpu.spare
+
+-- how many calls count towards the most that it makes
+abbrev pub calls_of : {S : Type 0} → Cpu S → ℕ
+calls_of cpu = cpu.calls
+
+-- it is the same CPU of the same session
+pub record IsSameCpu {S : Type 0} (old new : Cpu S) : Type 0 where
+  pub schema : new.schema ≡ old.schema
+  pub config : new.config ≡ old.config
+  pub number : new.cpu ≡ old.cpu
+  pub pair : new.end.pair ≡ old.end.pair
+
+module _ (shape : ℕ → Option Shape) (accepted : Record → Bool) (text : Record → List ℕ) {S : Type 0} where
+  -- the list is legal in the CPU's own part; and buffers, acknowledgements, marks, batches and counts show it
+  pub record IsShown (cpu : Cpu S) (p : List Deed) : Type 0 where
+    pub legal : IsOwn shape cpu.config cpu.cpu p
+    pub side : ShowsOwnSide (HasSized shape accepted text) cpu.config (own_side cpu.cpu p) (side_of cpu)
+    pub sealed : AreSealed shape accepted text cpu.config cpu.cpu p (batches_of cpu)
+    pub counted : cpu.counts ≡ counts_of cpu.config cpu.cpu (worn_of cpu) p
+
+  -- the CPU has the list: it shows it, and its seat has it without the Seals
+  pub record HasList (cpu : Cpu S) (p : List Deed) : Type 0 where
+    pub own : bare p ≡ (known cpu.seat).own
+    pub shown : IsShown cpu p
+
+  -- The CPU is one of that session, and no call of it is under way. What its seat has seen is legal, and the seat's list is its
+  -- part. There is a list that it has. A spare in hand has the size of a principal buffer.
+  pub record IsReady (words : Words) (cpu : Cpu S) : Type 0 where
+    pub at : IsAt words cpu.seat
+    pub seat : cpu_of cpu.seat ≡ cpu.cpu
+    pub config : set_up words ≡ cpu.config
+    pub checked : start_fault cpu.config ≡ None
+    pub idle : scan cpu.config cpu.cpu (known cpu.seat).own ≡ 0
+    pub sound : IsSound cpu.config (known cpu.seat).seen
+    pub part_is : part (CpuActor cpu.cpu) (known cpu.seat).seen ≡ (known cpu.seat).own
+    pub spare : (b : Stored) → cpu.spare ≡ Some b → b.size ≡ cpu.config.bufsize
+    pub list : List Deed
+    pub listed : HasList cpu list

@@ -1,0 +1,111 @@
+-- How far a call on an identifier comes: the steps on its slot's word, and the deeds by where it ended.
+use Rattle.std.specs.Prelude.{ℕ, ◌≡◌, ◌≤◌, ◌+◌, ◌-◌, ◌==◌, ◌&&◌, Bool, true, false, List, [], ◌∷◌, nat_le, if◌then◌else◌}
+use Rattle.dspec_word.specs.SpecId.{Speculation}
+use Rattle.dspec_word.specs.Word.{SlotState}
+use Rattle.dspec_word.specs.Code.{code_number, is_inactive}
+use Rattle.dspec_word.specs.declared.code.Code.{Code}
+use Rattle.dspec_word.specs.declared.code.Code.TheVariants.{Committing}
+use Rattle.dspec_word.specs.declared.act.Act.{Act}
+use Rattle.dspec_word.specs.declared.act.Act.TheVariants.{Void, Granted, Attempt, Idle}
+use Rattle.dspec_word.specs.Tables.{speculate_at, commit_at, discard_at}
+use Rattle.dspec_deeds.specs.declared.config.Config.{Config}
+use Rattle.dspec_deeds.specs.declared.calls.Actor.TheVariants.{Cpu as CpuActor}
+use Rattle.dspec_deeds.specs.declared.calls.CpuOp.{CpuOp}
+use Rattle.dspec_deeds.specs.declared.calls.CpuOp.TheVariants as op
+use Rattle.dspec_deeds.specs.declared.deed.SpeculateFate.TheVariants as spoken
+use Rattle.dspec_deeds.specs.declared.deed.DecideFate.TheVariants as decided
+use Rattle.dspec_deeds.specs.declared.deed.Deed.{Deed}
+use Rattle.dspec_deeds.specs.declared.deed.Deed.TheVariants.{Speculate, Commit, Discard, Release}
+use Rattle.dspec_deeds.specs.History.{issue, part}
+use Rattle.dspec_deeds.specs.Legal.{IsSound}
+use Rattle.dspec_table.specs.declared.rule.View.{View}
+use Rattle.dspec_table.specs.declared.doing.Doing.{Doing}
+use Rattle.dspec_table.specs.Acts.{commit_fate}
+use Rattle.dspec_table.specs.Conditions.{IsInFlight, IfCommitting, OwnCommit}
+use Rattle.dspec_table.specs.Steps.{TriedWord}
+use Rattle.dspec_cpu.specs.declared.reaching.Reach.{Reach}
+use Rattle.dspec_cpu.specs.declared.reaching.Reach.TheVariants as reach
+use Rattle.dspec_cpu.specs.Calls.{Goes}
+
+-- what the call does at the word of its slot
+abbrev pub act_of : CpuOp → SlotState → Bool → Act
+act_of (op.Speculate id r) w mine = speculate_at w id mine
+act_of (op.Commit id) w mine = commit_at w id mine
+act_of (op.Discard id) w mine = discard_at w id mine
+act_of o w mine = Idle
+
+-- how many steps on the word there are at most, a release of its own among them
+abbrev pub turns : CpuOp → ℕ
+turns (op.Speculate id r) = 3
+turns o = 4
+
+-- how many exchanges may come yet
+abbrev pub left : ℕ → Speculation → SlotState → ℕ
+left n id w = if (w.issue == id.issue) && nat_le 1 (code_number w.code) then n - code_number w.code else 0
+
+abbrev pub is_attempt : Act → Bool
+is_attempt (Attempt w) = true
+is_attempt a = false
+
+-- the slot is to be released next
+abbrev pub is_committing : Code → Bool
+is_committing Committing = true
+is_committing c = false
+
+abbrev pub releases_next : Act → ℕ
+releases_next (Attempt w) = if is_committing w.code then 1 else 0
+releases_next a = 0
+
+-- the last step, behind some that entered nothing: it found this word, and entered its deeds by it
+pub record Shown (k : Config) (c : ℕ) (doing : Doing) (id : Speculation) (slot : ℕ) (v : View) (word : SlotState) (hit : Bool) (w : View) : Type 0 where
+  pub before : View
+  pub waited : Goes v [] before
+  pub stays : before.own ≡ v.own
+  pub who : before.who ≡ v.who
+  pub config : before.config ≡ v.config
+  pub flight : IsInFlight k before c doing id slot
+  pub last : TriedWord doing slot before word hit w
+
+-- the steps on the word ended so: at a word that the table doesn't attempt, or by an exchange that it attempts
+pub record Ended (k : Config) (c : ℕ) (doing : Doing) (id : Speculation) (slot : ℕ) (v : View) (act : Act) (w : View) : Type 0 where
+  pub word : SlotState
+  pub acts : act_of doing.op word doing.mine ≡ act
+  pub last : Shown k c doing id slot v word (is_attempt act) w
+  pub bounded : w.steps + releases_next act ≤ v.steps + turns doing.op
+
+-- an exchange to Committing is the seat's own commit, which is to be released
+abbrev pub OwnsCommit : Config → ℕ → ℕ → View → Act → Type 0
+OwnsCommit k c slot w (Attempt to) = IfCommitting to.code (OwnCommit k w c record { issue = to.issue; slot = slot })
+OwnsCommit k c slot w a = Unit {0}
+
+-- the deeds of a call that came so far, the latest first
+abbrev pub reached_deeds : ℕ → Doing → CpuOp → Reach → List Deed
+reached_deeds c doing (op.Speculate id r) reach.Stopped = Speculate c id r spoken.Stopped ∷ []
+reached_deeds c doing (op.Speculate id r) reach.Void = Speculate c id r spoken.Void ∷ []
+reached_deeds c doing (op.Speculate id r) x = Speculate c id r (if doing.fits then spoken.Kept else spoken.Dropped) ∷ []
+reached_deeds c doing (op.Commit id) reach.Stopped = Commit c id decided.Stopped ∷ []
+reached_deeds c doing (op.Commit id) reach.Void = Commit c id decided.Void ∷ []
+reached_deeds c doing (op.Commit id) x = Commit c id (commit_fate doing) ∷ []
+reached_deeds c doing (op.Discard id) reach.Stopped = Discard c id decided.Stopped ∷ []
+reached_deeds c doing (op.Discard id) reach.Void = Discard c id decided.Void ∷ []
+reached_deeds c doing (op.Discard id) (reach.Done to) = if is_inactive to.code then Release id.slot ∷ Discard c id (decided.Thrown doing.count) ∷ [] else Discard c id (decided.Thrown doing.count) ∷ []
+reached_deeds c doing o x = []
+
+abbrev pub act_reached : Reach → Act
+act_reached (reach.Done to) = Attempt to
+act_reached reach.Granted = Granted
+act_reached x = Void
+
+-- granted or done
+abbrev pub is_reached : Reach → Bool
+is_reached (reach.Done to) = true
+is_reached reach.Granted = true
+is_reached x = false
+
+-- of a call that was granted or done: there was a legal list, of which the seat's list was its part, with the identifier as the
+-- slot's present one
+pub record IsPresentAt (k : Config) (c : ℕ) (id : Speculation) (own : List Deed) : Type 0 where
+  pub log : List Deed
+  pub sound : IsSound k log
+  pub its : part (CpuActor c) log ≡ own
+  pub now : issue id.slot log ≡ id.issue

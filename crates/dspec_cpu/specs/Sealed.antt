@@ -1,0 +1,39 @@
+-- The batches that a CPU's own list seals.
+use Rattle.std.specs.Prelude.{ℕ, ◌≡◌, Bool, List, [], ◌∷◌, length, slice_get, Option, Some, None}
+use Rattle.dspec_record.specs.Record.{Record}
+use Rattle.dspec_record.specs.declared.field.Shape.{Shape}
+use Rattle.dspec_buffer.specs.Extent.{Piece}
+use Rattle.dspec_buffer.specs.Stored.{Stored, HasPieces}
+use Rattle.dspec_ring.specs.declared.batch.Batch.{Batch}
+use Rattle.dspec_deeds.specs.declared.config.Config.{Config}
+use Rattle.dspec_deeds.specs.declared.deed.Deed.{Deed}
+use Rattle.dspec_deeds.specs.declared.deed.Deed.TheVariants.{Seal}
+use Rattle.dspec_deeds.specs.Own.{active, growing}
+
+module _ (shape : ℕ → Option Shape) (accepted : Record → Bool) (text : Record → List ℕ) where
+  -- a buffer of that size has these pieces
+  pub record HasSized (size : ℕ) (ps : List Piece) (b : Stored) : Type 0 where
+    pub sized : b.size ≡ size
+    pub has : HasPieces shape accepted text b ps
+
+  -- there is a buffer for each slot, and all are empty
+  pub record AreEmpty (k : Config) (bs : List Stored) : Type 0 where
+    pub count : length bs ≡ k.nspec
+    pub each : (i : ℕ) (b : Stored) → slice_get bs i ≡ Some b → HasSized k.specsize [] b
+
+  -- a batch that was sealed behind the list: its buffer has the pieces that were in the active buffer then
+  pub record IsSealed (k : Config) (c : ℕ) (p : List Deed) (b : Batch) : Type 0 where
+    pub of_cpu : b.cpu ≡ c
+    pub drops : b.drops ≡ (growing c p).drops
+    pub buffer : HasSized k.bufsize (active c p) b.buffer
+
+  -- these batches, the latest first, are those that the list seals
+  abbrev pub AreSealed : Config → ℕ → List Deed → List Batch → Type 0
+  AreSealed k c [] bs = bs ≡ []
+  AreSealed k c (Seal a ∷ p) bs = (b : Batch) × (rest : List Batch) × (bs ≡ b ∷ rest) × IsSealed k c p b × AreSealed k c p rest
+  AreSealed k c (d ∷ p) bs = AreSealed k c p bs
+
+-- a batch whose hand-over was refused
+abbrev pub waiting : Option Batch → List Batch
+waiting None = []
+waiting (Some b) = b ∷ []

@@ -1,0 +1,90 @@
+ghost use Rattle.std.specs.Prelude.{◌≡◌, ℕ, []};
+ghost use Rattle.dspec_deeds.specs.declared.config.Config.{Config};
+ghost use Rattle.dspec_cpu.specs.Counting.{IsRoomy, counts_of, one_more_worn, with_spoken, with_traced};
+
+use dspec_deeds::{SpeculateFate, TraceFate};
+
+/// What a CPU has counted: records offered and what became of them, and events. The records held are what is left.
+#[derive(Clone, Copy, Debug)]
+pub struct Counts {
+    pub offered: u64,
+    pub accepted: u64,
+    pub dropped: u64,
+    pub specdropped: u64,
+    pub lost: u64,
+    pub discarded: u64,
+    pub void: u64,
+    pub drops: u64,
+    pub unavailable: u64,
+    pub busy: u64,
+    pub stopped: u64,
+    pub worn: u64,
+}
+
+impl Counts {
+    /// Nothing counted.
+    pub(crate) fn zero() -> Self
+        ensures { (k : Config) (c : ℕ) → result ≡ counts_of k c 0 [] }
+    {
+        Counts {
+            offered: 0,
+            accepted: 0,
+            dropped: 0,
+            specdropped: 0,
+            lost: 0,
+            discarded: 0,
+            void: 0,
+            drops: 0,
+            unavailable: 0,
+            busy: 0,
+            stopped: 0,
+            worn: 0,
+        }
+    }
+
+    /// Counts a record that was traced.
+    #[inline]
+    pub(crate) fn trace(&mut self, fate: TraceFate)
+        requires roomy { IsRoomy self.old }
+        ensures { self.new ≡ with_traced fate self.old }
+    {
+        self.offered += 1;
+        match fate {
+            TraceFate::Kept => self.accepted += 1,
+            TraceFate::Dropped => {
+                self.dropped += 1;
+                self.drops += 1;
+            }
+            TraceFate::Stopped => {
+                self.void += 1;
+                self.stopped += 1;
+            }
+        }
+    }
+
+    /// Counts a record that was offered to a speculation.
+    pub(crate) fn speak(&mut self, fate: SpeculateFate)
+        requires roomy { IsRoomy self.old }
+        ensures { self.new ≡ with_spoken fate self.old }
+    {
+        self.offered += 1;
+        match fate {
+            SpeculateFate::Kept => {}
+            SpeculateFate::Dropped => self.specdropped += 1,
+            SpeculateFate::Void => self.void += 1,
+            SpeculateFate::Stopped => {
+                self.void += 1;
+                self.stopped += 1;
+            }
+        }
+    }
+
+    /// Counts a call that was answered Worn.
+    pub(crate) fn wear(&mut self)
+        ensures { self.new ≡ record self.old { worn = one_more_worn self.old.worn } }
+    {
+        if self.worn < u64::MAX {
+            self.worn += 1;
+        }
+    }
+}

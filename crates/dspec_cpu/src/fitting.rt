@@ -1,0 +1,71 @@
+ghost use Rattle.std.specs.Prelude.{◌≡◌, true, List, [], ◌∷◌, IsTrue, if◌then◌else◌};
+ghost use Rattle.dspec_buffer.specs.Extent.{Piece, one, fits};
+ghost use Rattle.dspec_deeds.specs.declared.deed.Deed.{Deed};
+ghost use Rattle.dspec_deeds.specs.Legal.{fits_principal, is_closed};
+
+use crate::cpu::Cpu;
+use crate::listed::Listed;
+use dspec_buffer::{ByteBuffer, TraceBuffer};
+use dspec_record::{Rec, Schema};
+
+/// Whether a record would fit.
+#[inline]
+pub(crate) fn would_fit<S: Schema>(buffer: &ByteBuffer, schema: &S, rec: &Rec) -> bool
+    requires accepted { IsTrue (S.accepted schema.now rec.now) }
+    ensures { (ps : List Piece) → ⟦<ByteBuffer as TraceBuffer<S>>⟧.has buffer.now schema.now ps
+        → result ≡ fits (S.shape_of schema.now) ps (one rec.now) buffer.now.size }
+{
+    let shape = schema.shape(rec.epid()).unwrap();
+    <ByteBuffer as TraceBuffer<S>>::fits(buffer, shape.align, shape.size)
+}
+
+impl<S: Schema> Cpu<S> {
+    /// Whether the active principal buffer takes nothing more but empty blocks: under Fill, once it has refused a reservation.
+    #[inline]
+    pub(crate) fn is_shut(&self) -> bool
+        ensures { (p : List Deed) → ⟦<Cpu<S> as Listed>⟧.is_shown self.now p → result ≡ is_closed self.now.config self.now.cpu p }
+    {
+        self.config.policy.is_fill() && self.counts.drops > 0
+    }
+
+    /// Whether the active principal buffer would take a record.
+    #[inline]
+    pub(crate) fn fits_record(&self, rec: &Rec) -> bool
+        requires accepted { IsTrue (S.accepted self.now.schema rec.now) }
+        ensures { (p : List Deed) → ⟦<Cpu<S> as Listed>⟧.is_shown self.now p
+            → result ≡ fits_principal (S.shape_of self.now.schema) self.now.config self.now.cpu (one rec.now) p }
+    {
+        would_fit(&self.active, &self.schema, rec) && !self.is_shut()
+    }
+}
+
+/// Whether a record would fit an empty buffer of this size.
+pub(crate) fn would_fit_empty<S: Schema>(schema: &S, rec: &Rec, size: u32) -> bool
+    requires accepted { IsTrue (S.accepted schema.now rec.now) }
+    ensures { result ≡ fits (S.shape_of schema.now) [] (one rec.now) size }
+{
+    let shape = schema.shape(rec.epid()).unwrap();
+    shape.size <= size
+}
+
+/// Keeps a record in a buffer, which is emptied before where what it has isn't of the same speculation.
+pub(crate) fn keep_in<S: Schema>(
+    buffer: &mut ByteBuffer,
+    schema: &S,
+    rec: &Rec,
+    mine: bool,
+    fit: bool,
+)
+    requires accepted { IsTrue (S.accepted schema.now rec.now) }
+    ensures size { buffer.new.size ≡ buffer.old.size }
+    ensures has { (ps : List Piece) → ⟦<ByteBuffer as TraceBuffer<S>>⟧.has buffer.old schema.now ps
+        → (fit ≡ true → fits (S.shape_of schema.now) (if mine then ps else []) (one rec.now) buffer.old.size ≡ true)
+        → ⟦<ByteBuffer as TraceBuffer<S>>⟧.has buffer.new schema.now (if fit then one rec.now ∷ (if mine then ps else []) else (if mine then ps else [])) }
+{
+    if !mine {
+        <ByteBuffer as TraceBuffer<S>>::clear(buffer);
+    }
+    if fit {
+        let _ = buffer.push(schema, rec);
+    }
+}

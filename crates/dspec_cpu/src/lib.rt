@@ -1,0 +1,23 @@
+//! The calls of one CPU of a session, over the shared words, its end of the rings and buffers of its own.
+//!
+//! A CPU has a list of its own deeds where its seat has that list without the Seals, the list is legal in the CPU's own part,
+//! and buffers, marks, acknowledgements, batches and counts show it (`specs/Lists.antt`). Each call appends the deeds of its
+//! answer (`specs/Calls.antt`) to every list that the CPU has. No call waits, and only `make` takes memory.
+#![tactic(auto)]
+
+mod counts;
+mod cpu;
+mod fitting;
+mod holding;
+mod listed;
+mod making;
+mod reaching;
+mod reporting;
+mod shared;
+mod speaking;
+mod tracing;
+
+pub use counts::Counts;
+pub use cpu::Cpu;
+pub use listed::Listed;
+pub use shared::Shared;

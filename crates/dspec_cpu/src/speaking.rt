@@ -1,0 +1,77 @@
+ghost use Rattle.std.specs.Prelude.{◌≡◌, ◌≤◌, ◌+◌, ◌↔◌, ◌++◌, List, IsTrue};
+ghost use Rattle.dspec_deeds.specs.declared.deed.Deed.{Deed};
+ghost use Rattle.dspec_table.specs.Seats.{known};
+ghost use Rattle.dspec_cpu.specs.Calls.{Goes, spoken_deeds, is_worn_spoken};
+ghost use Rattle.dspec_cpu.specs.Counting.{worn_after};
+ghost use Rattle.dspec_cpu.specs.Lists.{IsSameCpu, calls_of, config_of, number_in, schema_of, seat_of, words_of, worn_of};
+
+use crate::cpu::Cpu;
+use crate::holding::grant;
+use crate::listed::Listed;
+use crate::reaching::{Reach, go_on};
+use crate::shared::Shared;
+use dspec_deeds::{CpuOp, SpeculateFate, Spoken};
+use dspec_record::{Rec, Schema};
+use dspec_table::Doing;
+use dspec_word::SpecId;
+
+impl<S: Schema> Cpu<S> {
+    /// Traces an accepted record into the CPU's buffer of a speculation. Worn: the CPU had made all its calls, and the record
+    /// wasn't offered. Stopped: the session was stopped. Void: the identifier isn't open. Dropped: it didn't fit the rest of
+    /// that buffer; the CPU is a caller all the same.
+    pub fn speculate(&mut self, shared: &Shared, id: SpecId, rec: &Rec) -> Spoken
+        requires ready { ⟦<Cpu<S> as Listed>⟧.is_ready (words_of shared.now) self.old }
+        requires accepted { IsTrue (S.accepted (schema_of self.old) rec.now) }
+        ensures ready { ⟦<Cpu<S> as Listed>⟧.is_ready (words_of shared.now) self.new }
+        ensures same { IsSameCpu self.old self.new }
+        ensures worn { (result ≡ Spoken.Worn) ↔ ((config_of self.old).max_calls ≤ calls_of self.old) }
+        ensures wears { worn_of self.new ≡ worn_after (is_worn_spoken result) (worn_of self.old) }
+        ensures did { Goes (known (seat_of self.old)) (spoken_deeds (number_in self.old) id rec.now result) (known (seat_of self.new)) }
+        ensures bounded { (known (seat_of self.new)).steps ≤ (known (seat_of self.old)).steps + 4 }
+        ensures list { (p : List Deed) → ⟦<Cpu<S> as Listed>⟧.has_list self.old p
+            → ⟦<Cpu<S> as Listed>⟧.has_list self.new (spoken_deeds (number_in self.old) id rec.now result ++ p) }
+    {
+        if self.calls >= self.config.max_calls {
+            self.counts.wear();
+            return Spoken::Worn;
+        }
+        let inside = self.is_inside(id);
+        let mine = self.is_mine(id, inside);
+        let fits = self.fits_slot(id, rec, mine, inside);
+        let doing = Doing {
+            op: CpuOp::Speculate(id, *rec),
+            fits,
+            count: 0,
+            mine,
+        };
+        let reached = go_on(&mut self.seat, &shared.words, id, inside, &doing);
+        self.calls += 1;
+        match reached {
+            Reach::Stopped => {
+                self.counts.speak(SpeculateFate::Stopped);
+                Spoken::Stopped
+            }
+            Reach::Void => {
+                self.counts.speak(SpeculateFate::Void);
+                Spoken::Void
+            }
+            Reach::Granted | Reach::Done(_) => {
+                grant(
+                    &mut self.marks,
+                    &mut self.speculative,
+                    &self.schema,
+                    id,
+                    rec,
+                    mine,
+                    fits,
+                );
+                if !fits {
+                    self.counts.speak(SpeculateFate::Dropped);
+                    return Spoken::Dropped;
+                }
+                self.counts.speak(SpeculateFate::Kept);
+                Spoken::Kept
+            }
+        }
+    }
+}

@@ -1,0 +1,57 @@
+ghost use Rattle.std.specs.Prelude.{◌≡◌, ◌≤◌, ◌+◌, ◌↔◌, ◌++◌, List, IsTrue};
+ghost use Rattle.dspec_deeds.specs.declared.deed.Deed.{Deed};
+ghost use Rattle.dspec_table.specs.Seats.{known};
+ghost use Rattle.dspec_cpu.specs.Calls.{Goes, traced_deeds, is_worn_trace};
+ghost use Rattle.dspec_cpu.specs.Counting.{worn_after};
+ghost use Rattle.dspec_cpu.specs.Lists.{IsSameCpu, calls_of, config_of, number_in, schema_of, seat_of, words_of, worn_of};
+
+use crate::cpu::Cpu;
+use crate::listed::Listed;
+use crate::shared::Shared;
+use dspec_buffer::TraceBuffer;
+use dspec_deeds::{CpuOp, TraceFate, Traced};
+use dspec_record::{Rec, Schema};
+use dspec_table::Doing;
+
+impl<S: Schema> Cpu<S> {
+    /// Traces an accepted record into the active principal buffer. Worn: the CPU had made all its calls, and the record wasn't
+    /// offered. Stopped: the session was stopped. Dropped: it didn't fit the rest of the buffer.
+    pub fn trace(&mut self, shared: &Shared, rec: &Rec) -> Traced
+        requires ready { ⟦<Cpu<S> as Listed>⟧.is_ready (words_of shared.now) self.old }
+        requires accepted { IsTrue (S.accepted (schema_of self.old) rec.now) }
+        ensures ready { ⟦<Cpu<S> as Listed>⟧.is_ready (words_of shared.now) self.new }
+        ensures same { IsSameCpu self.old self.new }
+        ensures worn { (result ≡ Traced.Worn) ↔ ((config_of self.old).max_calls ≤ calls_of self.old) }
+        ensures wears { worn_of self.new ≡ worn_after (is_worn_trace result) (worn_of self.old) }
+        ensures did { Goes (known (seat_of self.old)) (traced_deeds (number_in self.old) rec.now result) (known (seat_of self.new)) }
+        ensures bounded { (known (seat_of self.new)).steps ≤ (known (seat_of self.old)).steps + 1 }
+        ensures list { (p : List Deed) → ⟦<Cpu<S> as Listed>⟧.has_list self.old p
+            → ⟦<Cpu<S> as Listed>⟧.has_list self.new (traced_deeds (number_in self.old) rec.now result ++ p) }
+    {
+        if self.calls >= self.config.max_calls {
+            self.counts.wear();
+            return Traced::Worn;
+        }
+        let fits = self.fits_record(rec);
+        let doing = Doing {
+            op: CpuOp::Trace(*rec),
+            fits,
+            count: 0,
+            mine: false,
+        };
+        let runs = self.seat.load_activity(&shared.words, &doing);
+        self.calls += 1;
+        if !runs {
+            self.counts.trace(TraceFate::Stopped);
+            return Traced::Stopped;
+        }
+        if !fits {
+            self.drops += 1;
+            self.counts.trace(TraceFate::Dropped);
+            return Traced::Dropped;
+        }
+        let _ = self.active.push(&self.schema, rec);
+        self.counts.trace(TraceFate::Kept);
+        Traced::Kept
+    }
+}

@@ -1,0 +1,5 @@
+//! Tests of a CPU's calls, on one thread. They stand in a crate of their own, so that the calls aren't proved again beside them.
+#![tactic(auto)]
+
+#[cfg(test)]
+mod tests;

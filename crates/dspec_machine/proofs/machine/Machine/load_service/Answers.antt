@@ -1,0 +1,87 @@
+-- The table's act at the word and the acknowledgement that the list shows.
+use Rattle.std.proofs.Common.{◌≡◌, ◌<◌, ◌+◌, ◌-◌, [], Some, sym, ap, ◌∙◌, subst, arith}
+use Rattle.std.specs.Prelude.{slice_get}
+use Rattle.std.proofs.lemmas.Option.{slice_get_read}
+use Rattle.dspec_word.specs.declared.act.Act.TheVariants.{Granted}
+use Rattle.dspec_word.specs.Word.{SlotState, CanBeReleased}
+use Rattle.dspec_word.specs.Tables.{settle_at}
+use Rattle.dspec_play.specs.declared.flight.Caller.{Caller}
+use Rattle.dspec_play.specs.declared.flight.CpuFlight.TheVariants as flight
+use Rattle.dspec_deeds.specs.History.{ack, word_at}
+use Rattle.dspec_play.specs.Coherent.{the_caller}
+use Rattle.dspec_machine.specs.Machines.{Makes, history, state_of}
+use Rattle.dspec_play.specs.Play.{Moved, served}
+use Rattle.dspec_machine.proofs.MachineReads.{side_read}
+use Rattle.dspec_machine.proofs.Makings.{adds_none, step_made}
+use Rattle.dspec_machine.proofs.OneMore.{word_there}
+use Rattle.dspec_play.proofs.ServiceMoves.{served_deeds, store_next, passed_by}
+use Rattle.dspec_play.proofs.StepReads.{can_be_released}
+use Rattle.dspec_machine.proofs.machine.Machine.load_service.Goals as goal
+
+pub index-acked-requires : goal.index-acked-requires
+index-acked-requires g c =
+    let m = c.args.self.now in
+    let s = c.args.slot in
+    let side = side_read g.B.TraceBuffer.has g.B.TraceBuffer.capacity m c.requires.shown c.args.cpu c.index.result.now c.requires.cpu c.index.ensures in
+    let n = side.ack_count in
+    let least = c.requires.slot.0 in
+    let most = c.requires.slot.1 in
+    omega (arith, n, least, most)
+
+pub settle_at-requires : goal.settle_at-requires
+settle_at-requires g c =
+    let m = c.args.self.now in
+    let s = c.args.slot in
+    let h = history m in
+    let word = word_there m.config h m.words.items s c.index-word.result.now c.requires.slot.0 c.requires.slot.1 c.requires.shown.words c.index-word.ensures in
+    subst CanBeReleased (sym word) (can_be_released m.config s h c.requires.coherent.ranges c.requires.coherent.legal.0)
+
+pub returns-in-Granted : goal.returns-in-Granted
+returns-in-Granted g c =
+    let m = c.args.self.now in
+    let k = m.config in
+    let a = c.args.cpu in
+    let s = c.args.slot in
+    let h = history m in
+    let shape = g.S.Schema.shape_of m.schema in
+    let me = the_caller (state_of m).callers a in
+    let w = c.index-word.result.now in
+    let word = word_there k h m.words.items s w c.requires.slot.0 c.requires.slot.1 c.requires.shown.words c.index-word.ensures in
+    let side = side_read g.B.TraceBuffer.has g.B.TraceBuffer.capacity m c.requires.shown a c.index.result.now c.requires.cpu c.index.ensures in
+    let lt : s - 1 < k.nspec = let least = c.requires.slot.0 in let most = c.requires.slot.1 in omega (arith, least, most) in
+    let read = slice_get_read c.index.result.now.acks.items k.nspec (s - 1) c.index-acked.result.now (sym side.ack_count) lt c.index-acked.ensures in
+    let shows : slice_get c.index.result.now.acks.items (s - 1) ≡ Some (ack a s h) = side.acks s c.requires.slot in
+    let acked : c.index-acked.result.now ≡ ack a s h = cc in
+    let act : settle_at (word_at s h) (ack a s h) ≡ Granted = sym (ap (λ (x : SlotState). settle_at x c.index-acked.result.now) word ∙ ap (settle_at (word_at s h)) acked) ∙ (sym c.settle_at.ensures ∙ c.in-Granted.is) in
+    step_made g.B.TraceBuffer.has g.B.TraceBuffer.capacity m m c.go_on.new.self a [] (λ (x : Caller). record x { flight = Some (flight.ServiceStore s w c.args.sum); steps = x.steps + 1 }) _ c.go_on.result
+    (adds_none m) c.go_on.ensures.shown c.go_on.ensures.state c.go_on.ensures.schema
+    (store_next shape k a h me s c.args.sum w (word_at s h) (settle_at (word_at s h) (ack a s h)) c.go_on.result word act c.go_on.ensures.answer)
+
+pub returns-in_default : goal.returns-in_default
+returns-in_default g c =
+    let has = g.B.TraceBuffer.has in
+    let capacity = g.B.TraceBuffer.capacity in
+    let m = c.args.self.now in
+    let k = m.config in
+    let a = c.args.cpu in
+    let s = c.args.slot in
+    let h = history m in
+    let shape = g.S.Schema.shape_of m.schema in
+    let me = the_caller (state_of m).callers a in
+    let w = c.index-word.result.now in
+    let word = word_there k h m.words.items s w c.requires.slot.0 c.requires.slot.1 c.requires.shown.words c.index-word.ensures in
+    let side = side_read has capacity m c.requires.shown a c.index.result.now c.requires.cpu c.index.ensures in
+    let lt : s - 1 < k.nspec = let least = c.requires.slot.0 in let most = c.requires.slot.1 in omega (arith, least, most) in
+    let read = slice_get_read c.index.result.now.acks.items k.nspec (s - 1) c.index-acked.result.now (sym side.ack_count) lt c.index-acked.ensures in
+    let shows : slice_get c.index.result.now.acks.items (s - 1) ≡ Some (ack a s h) = side.acks s c.requires.slot in
+    let acked : c.index-acked.result.now ≡ ack a s h = cc in
+    let act : c.settle_at.result ≡ settle_at (word_at s h) (ack a s h) = c.settle_at.ensures ∙ (ap (λ (x : SlotState). settle_at x c.index-acked.result.now) word ∙ ap (settle_at (word_at s h)) acked) in
+    let is = passed_by shape k a h me s c.args.sum (word_at s h) (settle_at (word_at s h) (ack a s h)) (λ e. c.in_default.not-Granted (act ∙ e)) in
+    let moved = served shape k a h me s [] c.args.sum in
+    let made : Makes has capacity m c.serve_next.new.self a moved c.serve_next.result = record {
+      shown = c.serve_next.ensures.shown;
+      state = c.serve_next.ensures.state ∙ ap (λ ds. (Rattle.dspec_play.specs.Turns.moved_to (state_of m) a record { caller = moved.caller; deeds = ds; answer = moved.answer }).state) (sym (served_deeds shape k a h me s [] c.args.sum));
+      schema = c.serve_next.ensures.schema;
+      answered = c.serve_next.ensures.answer;
+    } in
+    subst (λ (x : Moved). Makes has capacity m c.serve_next.new.self a x c.serve_next.result) (sym is) made

@@ -1,0 +1,20 @@
+-- The first fault among the words of a record or of an enabling.
+use Rattle.std.proofs.Common.{◌≡◌, ℕ, ◌≤◌, true, List, ◌∷◌, length, is_ok, Ok, Err, refl}
+use Rattle.std.proofs.lemmas.Bool.{le-leb}
+use Rattle.dspec_record.specs.EnablingRows.{EnabledRows}
+use Rattle.dspec_record.specs.declared.header.Header.{Header}
+use Rattle.dspec_schedule.specs.declared.fault.LineKind.{LineKind}
+use Rattle.dspec_schedule.specs.Calls.{epid_of, record_of}
+use Rattle.dspec_schedule.specs.SetUp.{enabling_of, field_of_word}
+use Rattle.dspec_schedule.specs.Steps.{each}
+use Rattle.dspec_schedule.specs.Words.{numbers_of}
+
+pub record_of-values_fault : (h : Header) (words : List (List ℕ)) (epid : List ℕ) (values : List (List ℕ)) (e : ℕ × ℕ) (kind : LineKind) → words ≡ epid ∷ values
+    → length values ≤ 8 → epid_of h epid ≡ Ok e → numbers_of values ≡ Err kind → Err kind ≡ record_of h words
+unfolding record_of
+record_of-values_fault h words epid values e kind parts few number fault = rw (parts, le-leb _ _ few, number, fault) refl
+
+pub enabling_of-field_fault : (rows : EnabledRows) (words : List (List ℕ)) (kind : LineKind)
+    → is_ok (numbers_of words) ≡ true → length words ≤ 8 → each field_of_word words ≡ Err kind → Err kind ≡ enabling_of true rows words
+unfolding enabling_of
+enabling_of-field_fault rows words kind numbers few fault = rw (numbers, le-leb _ _ few, fault) refl

@@ -1,0 +1,7 @@
+pub mod Calls
+pub mod Printed
+pub mod Reading
+pub mod Schedules
+pub mod SetUp
+pub mod Steps
+pub mod Words

@@ -1,0 +1,20 @@
+//! The text of a schedule and the text of its play: what the lines of a schedule say, or which of them has the first
+//! fault, and what the outcome of a play prints.
+//!
+//! It promises that what is read is the schedule that a text says, as a function of its bytes (`specs/Reading.antt`), that
+//! a line that is told is the first one with a fault, of its first kind, and that what is printed is the text of the
+//! outcome (`specs/Printed.antt`). It plays nothing: it stands on the types of `dspec_deeds` and `dspec_play` alone, and
+//! the program `specplay` stands between.
+#![tactic(auto)]
+
+pub mod fault;
+mod grammar;
+mod number;
+mod printing;
+pub mod schedule;
+mod setup;
+mod words;
+
+pub use fault::{LineKind, ScheduleFault};
+pub use printing::printed;
+pub use schedule::{Schedule, read_schedule};

@@ -1,0 +1,30 @@
+-- What contracts see of a session's consumer.
+use Rattle.std.specs.Prelude.{ℕ, List, length, slice_get}
+use Rattle.std.specs.Option.{option_map_or}
+use Rattle.dspec_deeds.specs.declared.config.Config.{Config}
+use Rattle.dspec_table.specs.declared.rule.View.{View}
+use Rattle.dspec_table.specs.declared.seats.Words.{Words}
+use Rattle.dspec_table.specs.declared.seats.ConsumerSeat.{ConsumerSeat}
+use Rattle.dspec_table.specs.Seats.{known_there, IsConsumerAt}
+use Rattle.dspec_ring.specs.Known.{ConsumerKnows}
+
+-- its seat at the words, and its ends of the CPUs' rings, in order
+pub record Consuming : Type 0 where
+  pub seat : ConsumerSeat
+  pub ends : List ConsumerKnows
+
+-- what the seat knows
+abbrev pub view_of : Consuming → View
+view_of x = known_there x.seat
+
+-- what the session was started with
+abbrev pub set_up_of : Consuming → Config
+set_up_of x = (view_of x).config
+
+-- how many batches of the CPU were taken
+abbrev pub taken_from : ℕ → Consuming → ℕ
+taken_from c x = option_map_or (λ e. length e.taken) (slice_get x.ends c) 0
+
+-- the consumer is one of these words'
+abbrev pub IsConsumerOf : Words → Consuming → Type 0
+IsConsumerOf words x = IsConsumerAt words x.seat

@@ -1,0 +1,60 @@
+-- A word that waits for every CPU stands until the consumer releases it.
+use Rattle.std.proofs.Common.{◌≡◌, ◌⊎◌, ℕ, true, false, ◌==◌, ◌||◌, List, ◌∷◌, None, refl, sym, ap, ◌∙◌, subst, ⊎_elim, true≢false}
+use Rattle.dspec_word.specs.Word.{word_number}
+use Rattle.dspec_word.specs.Code.{awaits}
+use Rattle.dspec_deeds.specs.declared.config.Config.{Config}
+use Rattle.dspec_deeds.specs.declared.calls.Actor.TheVariants.{Consumer}
+use Rattle.dspec_deeds.specs.declared.deed.Deed.{Deed}
+use Rattle.dspec_deeds.specs.declared.deed.Deed.TheVariants.{Release}
+use Rattle.dspec_deeds.specs.History.{opens, opened, present, verdict, is_undecided, releases, releaser, solo, same_actor, author, word_at}
+use Rattle.dspec_deeds.specs.Legal.{IsSound}
+use Rattle.dspec_deeds.proofs.TestLemmas.{either_way, same_number, or_true}
+use Rattle.dspec_deeds.proofs.StayingDecided.{decided_stands}
+use Rattle.dspec_deeds.proofs.Awaiting.{awaiting}
+use Rattle.dspec_table.specs.declared.rule.View.{View}
+use Rattle.dspec_table.specs.Holders.{Holder, of_consumer}
+use Rattle.dspec_table.specs.Since.{Since, here, more}
+use Rattle.dspec_table.specs.Steps.{Found, ReapedNumber}
+
+record Waits (s : ℕ) (h : List Deed) : Type 0 where
+  given : opened (present s h) h ≡ true
+  ruled : is_undecided (verdict (present s h) h) ≡ false
+  alone : solo (present s h) h ≡ None
+
+unreleased : (s : ℕ) (d : Deed) (h : List Deed) → same_actor Consumer (author d h) ≡ false → Waits s h → releases s d ≡ false
+unreleased s (Release n) h other held = ⊎_elim
+    (λ (t : (s == n) ≡ true).
+    let alone : solo (present n h) h ≡ None = subst (λ (x : ℕ). solo (present x h) h ≡ None) (same_number s n t) held.alone in
+    absurd (true≢false (sym (ap (λ o. same_actor Consumer (releaser o)) alone) ∙ other)))
+    (λ f. f)
+    (either_way (s == n))
+unreleased s d h other held = refl
+
+sound_since : (k : Config) (w : Holder) (seen log : List Deed) → IsSound k log → Since w seen log → IsSound k seen
+sound_since k w seen _ sound here = sound
+sound_since k w seen (d ∷ h) sound (more s other) = sound_since k w seen h sound.0 s
+
+waits_on : (k : Config) (s : ℕ) (seen log : List Deed) → IsSound k log → Waits s seen → Since of_consumer seen log → (word_at s log ≡ word_at s seen) × Waits s log
+waits_on k s seen _ sound held here = (refl, held)
+waits_on k s seen (d ∷ h) sound held (more rest other) =
+    let before = waits_on k s seen h sound.0 held rest in
+    let stands = decided_stands k s d h sound before.1.given before.1.ruled (unreleased s d h other before.1) in
+    let p : present s (d ∷ h) ≡ present s h = λ i. record { issue = stands.issues i; slot = s } in (
+      stands.word ∙ before.0,
+      record {
+        given = subst (λ j. opened j (d ∷ h) ≡ true) (sym p) (ap (λ b. opens (present s h) d || b) before.1.given ∙ or_true (opens (present s h) d));
+        ruled = ap is_undecided stands.verdicts ∙ before.1.ruled;
+        alone = stands.solos ∙ before.1.alone;
+      },
+    )
+
+-- by what a step of the consumer found
+pub awaited_stands : (v : View) (log : List Deed) (s : ℕ) → v.who ≡ of_consumer → Found v log → awaits (word_at s v.seen).code ≡ true → word_at s log ≡ word_at s v.seen
+awaited_stands v log s who found waits =
+    let since : Since of_consumer v.seen log = subst (λ x. Since x v.seen log) who found.since in
+    let is = awaiting v.config s v.seen (word_at s v.seen).code (sound_since v.config of_consumer v.seen log found.sound since) found.calm refl waits in
+    (waits_on v.config s v.seen log found.sound (record { given = is.given; ruled = is.ruled; alone = is.alone }) since).0
+
+-- the exchange that releases it finds it
+pub reaped_found : (v : View) (w : View) (s n : ℕ) (hit : Rattle.std.proofs.Common.Bool) → v.who ≡ of_consumer → awaits (word_at s v.seen).code ≡ true → ReapedNumber s v n hit w → n ≡ word_number (word_at s v.seen)
+reaped_found v w s n hit who waits step = step.1 ∙ ap word_number (step.2.2 ∙ awaited_stands v step.2.0 s who step.2.1 waits)

@@ -1,0 +1,72 @@
+//! Two CPUs that call speculate on one speculation of the first slot, of which one misses and tries again.
+ghost use Rattle.std.specs.Prelude.{◌≡◌, ◌≤◌, true, false};
+ghost use Rattle.dspec_record.specs.Record.{Record};
+ghost use Rattle.dspec_deeds.specs.declared.calls.CpuOp.TheVariants as op;
+ghost use Rattle.dspec_table.specs.Conditions.{MayLoad};
+ghost use Rattle.dspec_table.specs.Seats.{known, IsAt, set_up, cpu_of};
+
+use super::deciding::{begun, shown};
+use super::*;
+use dspec_record::Rec;
+use dspec_word::{Act, SpecId, speculate_at};
+
+/// Both are shown the word before either joins. The first joins; the second's exchange fails, shows the word with one caller, and
+/// its next one joins too.
+fn both_joined(
+    words: &Words,
+    first: &mut CpuSeat,
+    second: &mut CpuSeat,
+    id: SpecId,
+    rec: Rec,
+    call: &Doing,
+) -> Option<Word>
+    requires first { IsAt words.now first.old × MayLoad (set_up words.now) (known first.old) (cpu_of first.old) call.now 1 call.now.op }
+    requires second { IsAt words.now second.old × MayLoad (set_up words.now) (known second.old) (cpu_of second.old) call.now 1 call.now.op }
+    requires slots { 1 ≤ (set_up words.now).nspec }
+    requires op { call.now.op ≡ op.Speculate id rec }
+    ensures first { IsAt words.now first.new × (cpu_of first.new ≡ cpu_of first.old) }
+    ensures second { IsAt words.now second.new × (cpu_of second.new ≡ cpu_of second.old) }
+{
+    let ours = shown(words, first, call);
+    let theirs = shown(words, second, call);
+    let Act::Attempt(_ours) = speculate_at(ours, id, call.mine) else {
+        return None;
+    };
+    let Act::Attempt(_theirs) = speculate_at(theirs, id, call.mine) else {
+        return None;
+    };
+    let Ok(()) = first.join_word(words, 1, ours, call) else {
+        return None;
+    };
+    let Err(word) = second.join_word(words, 1, theirs, call) else {
+        return None;
+    };
+    let Act::Attempt(_again) = speculate_at(word, id, call.mine) else {
+        return None;
+    };
+    let Ok(()) = second.join_word(words, 1, word, call) else {
+        return None;
+    };
+    Some(word)
+}
+
+#[test]
+fn two_callers(rt: HostRuntime) -> Result<(), Fail> {
+    let Ok((words, first, mut second, consumer)) = started(rt.alloc()) else {
+        return Err(AllocError.into());
+    };
+    let (mut first, given) = threads::tried(&words, first);
+    let id = SpecId::of(0, 1);
+    let Some(rec) = Rec::new(1, &[]) else {
+        return Err("a record".into());
+    };
+    let call = doing(CpuOp::Speculate(id, rec));
+    let mut missed = None;
+    if begun(&words, &mut first, id, &call) && begun(&words, &mut second, id, &call) {
+        missed = both_joined(&words, &mut first, &mut second, id, rec, &call);
+    }
+    assert!(rt; given && missed == Some(Word::of(0, Code::ActiveOne)));
+    let last = ended(rt.alloc(), words, first, second, consumer)?;
+    assert!(rt; last.word(1) == Word::of(0, Code::ActiveMany));
+    Ok(())
+}

@@ -1,7 +1,0 @@
-use Rattle.std.proofs.Common.{◌≡◌, ◌++◌, take, string_bytes}
-use Rattle.specplay.specs.Printed.{records_text}
-use Rattle.specplay.proofs.printing.print_records.Given as goal
-
-abbrev pub invariant-loop-rec : goal.invariant-loop-rec
-invariant-loop-rec l =
-    string_bytes l.text ≡ string_bytes l.initial.text ++ records_text (take l.rec-index l.records)
