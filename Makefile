@@ -2,6 +2,7 @@
 SCHEDULE = examples/tutorial/01-three-traces.schedule
 PROGRAM = crates/specplay/out/specplay
 BENCH = crates/bench/out/bench
+BENCH_WORDS = crates/bench_words/out/bench_words
 ROUNDS = 50
 
 .PHONY: play test examples api mutants build bench bench-instructions build-bench
@@ -33,14 +34,18 @@ build:
 	@cd crates/specplay && rt run < ../../examples/cases/empty-session.schedule > /dev/null
 	@touch -r crates/specplay/out/begun $(PROGRAM)
 
-# What a record costs, in nanoseconds on this machine. No check asks for it.
+# What a record costs, in nanoseconds on this machine, and a load of activity, alone and beside another thread's exchanges. No
+# check asks for it.
 bench: build-bench
 	@$(BENCH) times $(ROUNDS)
+	@$(BENCH_WORDS) times
 
 # The same in instructions, where valgrind is installed.
 bench-instructions: build-bench
 	@crates/bench/instructions $(BENCH)
+	@crates/bench_words/instructions $(BENCH_WORDS)
 
 build-bench:
 	@command -v rt > /dev/null || { echo "make bench needs rt, the toolchain's command" >&2; exit 1; }
 	@cd crates/bench && rt run > /dev/null
+	@cd crates/bench_words && rt run > /dev/null

@@ -11,3 +11,8 @@ pub mod Reaches
 pub mod Places
 pub mod Grants
 pub mod Speaks
+pub mod Ones
+pub mod Copies
+pub mod Decisions
+pub mod Commits
+pub mod Discards

@@ -7,7 +7,7 @@ use Rattle.dspec_word.specs.Word.{SlotState}
 use Rattle.dspec_word.specs.declared.code.Code.{Code}
 use Rattle.dspec_word.specs.declared.code.Code.TheVariants.{Inactive, Active, ActiveOne, ActiveMany, Committing, CommittingMany, Discarding}
 use Rattle.dspec_word.specs.declared.act.Act.{Act}
-use Rattle.dspec_word.specs.declared.act.Act.TheVariants.{Void, Granted, Attempt, Idle}
+use Rattle.dspec_word.specs.declared.act.Act.TheVariants.{Void, Granted, Idle}
 use Rattle.dspec_word.specs.Tables.{speculate_act, commit_act, discard_act}
 use Rattle.dspec_deeds.specs.declared.config.Config.{Config}
 use Rattle.dspec_deeds.specs.declared.calls.Actor.TheVariants.{Cpu as CpuActor}
@@ -35,7 +35,7 @@ use Rattle.dspec_cpu.specs.Reaching.{act_of, act_reached, is_reached, is_attempt
 use Rattle.dspec_cpu.specs.Reached.{Reached}
 use Rattle.dspec_cpu.proofs.Mine.{own_mine_tells}
 use Rattle.dspec_cpu.proofs.Ready.{stands_behind}
-use Rattle.dspec_cpu.proofs.Retries.{here_or_void}
+use Rattle.dspec_cpu.proofs.Retries.{here_or_void, attempt_is}
 
 -- steps behind steps
 pub goes_on : {v u w : View} {ds es : List Deed} → Goes v ds u → Goes u es w → Goes v (es ++ ds) w
@@ -124,9 +124,6 @@ never_idle op.Service id word mine on e = absurd on
 granted_is : Granted ≢ Void
 granted_is q = absurd (cc (q))
 
-attempt_is : (to : SlotState) → Attempt to ≢ Void
-attempt_is to q = absurd (cc (q))
-
 -- the deeds of the last step
 ended_deeds : (k : Config) (c slot : ℕ) (doing : Doing) (id : Speculation) (word : SlotState) (o : CpuOp) (r : Reach) → IsOn id o → act_of o word doing.mine ≡ act_reached r
     → (r ≡ reach.Stopped → ⊥) → (if is_attempt (act_reached r) then at_hit c doing word o else at_word k c doing slot word o) ≡ reached_deeds c doing o r
@@ -173,6 +170,7 @@ module _ (k : Config) (c : ℕ) (doing : Doing) (id : Speculation) (v : View) (c
         goes = steps w _ _ step.0 rests step.1 entered (append_none _);
         stands = stands_behind k c v w step.0 _ config who entered;
         bounded = let no = ap releases_next void in omega arith;
+        acts = λ t. absurd (true≢false (sym t ∙ none));
         present = λ t. absurd (true≢false (sym t ∙ none));
       }
     where
@@ -210,8 +208,9 @@ module _ (k : Config) (c : ℕ) (doing : Doing) (id : Speculation) (v : View) (c
       let one : u.steps ≡ v.steps + 1 = ap (λ (x : View). x.steps) first.view in
       record {
         goes = steps w (reached_deeds c doing doing.op r) (reached_deeds c doing doing.op r) log (goes_on (steps u [] [] step.0 rests step.1 first refl) shown.waited) shown.last.1 entered (append_none _);
-        stands = record { sound = last.sound; part_is = last.part_is; own = last.own ∙ ap (λ l. reached_deeds c doing doing.op r ++ l) b_own; config = last.config ∙ (b_config ∙ sym config); who = last.who ∙ (b_who ∙ sym who) };
+        stands = record { sound = last.sound; part_is = last.part_is; own = last.own ∙ ap (λ l. reached_deeds c doing doing.op r ++ l) b_own; config = last.config ∙ (b_config ∙ sym config); who = last.who ∙ (b_who ∙ sym who); rests = last.rests };
         bounded = let le = ended.bounded in omega arith;
+        acts = λ t. (ended.word, ended.acts);
         present = λ t. (
           record {
             log = log;

@@ -7,7 +7,7 @@ use Rattle.dspec_deeds.specs.declared.config.Config.{Config}
 use Rattle.dspec_deeds.specs.declared.calls.Actor.TheVariants.{Cpu as CpuActor}
 use Rattle.dspec_deeds.specs.declared.deed.Deed.{Deed}
 use Rattle.dspec_deeds.specs.declared.report.Report.{Report}
-use Rattle.dspec_deeds.specs.History.{scan, part}
+use Rattle.dspec_deeds.specs.History.{owed, scan, part}
 use Rattle.dspec_deeds.specs.Legal.{IsSound}
 use Rattle.dspec_deeds.specs.Own.{is_drop, offers}
 use Rattle.dspec_deeds.specs.Ranges.{start_fault}
@@ -38,6 +38,7 @@ stands_behind k c v w log ds config who entered =
       own = own;
       config = ap (λ (x : View). x.config) entered.view;
       who = ap (λ (x : View). x.who) entered.view;
+      rests = ap owed seen ∙ entered.rests;
     }
 
 module _ (shape : ℕ → Option Shape) (accepted : Record → Bool) (text : Record → List ℕ) {S : Type 0} (words : Words) (cpu : Cpu S) (was : IsReady shape accepted text words cpu) where

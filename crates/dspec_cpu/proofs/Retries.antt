@@ -69,7 +69,7 @@ pub here_or_void : (b : Bool) (a x : Act) → (if b then a else Void) ≡ x → 
 here_or_void true a x e n = (refl, e)
 here_or_void false a x e n = absurd (n (sym e))
 
-attempt_is : (to : SlotState) → Attempt to ≢ Void
+pub attempt_is : (to : SlotState) → Attempt to ≢ Void
 attempt_is to q = absurd (cc (q))
 
 pub record IsAttempted (n : ℕ) (id : Speculation) (word to : SlotState) : Type 0 where

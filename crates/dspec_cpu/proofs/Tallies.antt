@@ -1,5 +1,5 @@
 -- What one deed more adds to the counts.
-use Rattle.std.proofs.Common.{◌≡◌, ℕ, ◌+◌, ◌≤◌, Bool, true, false, List, [], ◌∷◌, ◌++◌, if◌then◌else◌, arith, add-zero}
+use Rattle.std.proofs.Common.{◌≡◌, ℕ, ◌+◌, ◌≤◌, Bool, true, false, List, [], ◌∷◌, ◌++◌, if◌then◌else◌, arith, add-zero, true≢false}
 use Rattle.dspec_record.specs.Record.{Record}
 use Rattle.dspec_deeds.specs.declared.config.Config.{Config}
 use Rattle.dspec_deeds.specs.declared.deed.TraceFate.{TraceFate}
@@ -7,13 +7,16 @@ use Rattle.dspec_deeds.specs.declared.deed.TraceFate.TheVariants as traced
 use Rattle.dspec_word.specs.SpecId.{Speculation}
 use Rattle.dspec_deeds.specs.declared.deed.SpeculateFate.{SpeculateFate}
 use Rattle.dspec_deeds.specs.declared.deed.SpeculateFate.TheVariants as spoken
+use Rattle.dspec_deeds.specs.declared.deed.DecideFate.{DecideFate}
+use Rattle.dspec_deeds.specs.declared.deed.DecideFate.TheVariants as decided
+use Rattle.dspec_deeds.specs.FateKinds.{is_commit, is_discard}
 use Rattle.dspec_deeds.specs.declared.deed.Deed.{Deed}
-use Rattle.dspec_deeds.specs.declared.deed.Deed.TheVariants.{Trace, Speculate}
+use Rattle.dspec_deeds.specs.declared.deed.Deed.TheVariants.{Trace, Speculate, Commit, Discard, Release}
 use Rattle.dspec_deeds.specs.Own.{empty_batch, growing, is_drop, seals_now, accepts}
 use Rattle.dspec_deeds.specs.Reports.{total, one_if}
 use Rattle.dspec_deeds.proofs.TestLemmas.{number_is_itself}
 use Rattle.dspec_cpu.specs.declared.counts.Counts.{Counts}
-use Rattle.dspec_cpu.specs.Counting.{counts_of, with_traced, with_spoken}
+use Rattle.dspec_cpu.specs.Counting.{counts_of, with_traced, with_spoken, with_decided}
 
 module _ (k : Config) (c w : ℕ) (p : List Deed) where
   abbrev n : Counts
@@ -29,6 +32,26 @@ module _ (k : Config) (c w : ℕ) (p : List Deed) where
   spoken_counts id r spoken.Dropped = rw (number_is_itself c) (λ i. record n { offered = n.offered + 1; accepted = add-zero n.accepted i; dropped = add-zero n.dropped i; specdropped = n.specdropped + 1; lost = add-zero n.lost i; discarded = add-zero n.discarded i; void = n.void + 0; drops = add-zero n.drops i; unavailable = add-zero n.unavailable i; busy = add-zero n.busy i; stopped = n.stopped + 0 })
   spoken_counts id r spoken.Void = rw (number_is_itself c) (λ i. record n { offered = n.offered + 1; accepted = add-zero n.accepted i; dropped = add-zero n.dropped i; specdropped = n.specdropped + 0; lost = add-zero n.lost i; discarded = add-zero n.discarded i; void = n.void + 1; drops = add-zero n.drops i; unavailable = add-zero n.unavailable i; busy = add-zero n.busy i; stopped = n.stopped + 0 })
   spoken_counts id r spoken.Stopped = rw (number_is_itself c) (λ i. record n { offered = n.offered + 1; accepted = add-zero n.accepted i; dropped = add-zero n.dropped i; specdropped = n.specdropped + 0; lost = add-zero n.lost i; discarded = add-zero n.discarded i; void = n.void + 1; drops = add-zero n.drops i; unavailable = add-zero n.unavailable i; busy = add-zero n.busy i; stopped = n.stopped + 1 })
+
+  -- a commit is never thrown
+  pub commit_counts : (id : Speculation) (f : DecideFate) → is_discard f ≡ false → counts_of k c w (Commit c id f ∷ p) ≡ with_decided f n
+  commit_counts id (decided.Copied m) lawful = rw (number_is_itself c) (λ i. record n { offered = add-zero n.offered i; accepted = n.accepted + m; dropped = add-zero n.dropped i; specdropped = add-zero n.specdropped i; lost = n.lost + 0; discarded = n.discarded + 0; void = add-zero n.void i; drops = n.drops + 0; unavailable = add-zero n.unavailable i; busy = add-zero n.busy i; stopped = n.stopped + 0 })
+  commit_counts id (decided.Lost m) lawful = rw (number_is_itself c) (λ i. record n { offered = add-zero n.offered i; accepted = n.accepted + 0; dropped = add-zero n.dropped i; specdropped = add-zero n.specdropped i; lost = n.lost + m; discarded = n.discarded + 0; void = add-zero n.void i; drops = n.drops + 1; unavailable = add-zero n.unavailable i; busy = add-zero n.busy i; stopped = n.stopped + 0 })
+  commit_counts id (decided.Thrown m) lawful = absurd (true≢false lawful)
+  commit_counts id decided.Void lawful = λ i. record n { offered = add-zero n.offered i; accepted = n.accepted + 0; dropped = add-zero n.dropped i; specdropped = add-zero n.specdropped i; lost = n.lost + 0; discarded = n.discarded + 0; void = add-zero n.void i; drops = n.drops + 0; unavailable = add-zero n.unavailable i; busy = add-zero n.busy i; stopped = n.stopped + 0 }
+  commit_counts id decided.Stopped lawful = rw (number_is_itself c) (λ i. record n { offered = add-zero n.offered i; accepted = n.accepted + 0; dropped = add-zero n.dropped i; specdropped = add-zero n.specdropped i; lost = n.lost + 0; discarded = n.discarded + 0; void = add-zero n.void i; drops = n.drops + 0; unavailable = add-zero n.unavailable i; busy = add-zero n.busy i; stopped = n.stopped + 1 })
+
+  -- and a discard never a commit
+  pub discard_counts : (id : Speculation) (f : DecideFate) → is_commit f ≡ false → counts_of k c w (Discard c id f ∷ p) ≡ with_decided f n
+  discard_counts id (decided.Copied m) lawful = absurd (true≢false lawful)
+  discard_counts id (decided.Lost m) lawful = absurd (true≢false lawful)
+  discard_counts id (decided.Thrown m) lawful = rw (number_is_itself c) (λ i. record n { offered = add-zero n.offered i; accepted = n.accepted + 0; dropped = add-zero n.dropped i; specdropped = add-zero n.specdropped i; lost = n.lost + 0; discarded = n.discarded + m; void = add-zero n.void i; drops = n.drops + 0; unavailable = add-zero n.unavailable i; busy = add-zero n.busy i; stopped = n.stopped + 0 })
+  discard_counts id decided.Void lawful = λ i. record n { offered = add-zero n.offered i; accepted = n.accepted + 0; dropped = add-zero n.dropped i; specdropped = add-zero n.specdropped i; lost = n.lost + 0; discarded = n.discarded + 0; void = add-zero n.void i; drops = n.drops + 0; unavailable = add-zero n.unavailable i; busy = add-zero n.busy i; stopped = n.stopped + 0 }
+  discard_counts id decided.Stopped lawful = rw (number_is_itself c) (λ i. record n { offered = add-zero n.offered i; accepted = n.accepted + 0; dropped = add-zero n.dropped i; specdropped = add-zero n.specdropped i; lost = n.lost + 0; discarded = n.discarded + 0; void = add-zero n.void i; drops = n.drops + 0; unavailable = add-zero n.unavailable i; busy = add-zero n.busy i; stopped = n.stopped + 1 })
+
+  -- a release counts nothing
+  pub released_counts : (s : ℕ) → counts_of k c w (Release s ∷ p) ≡ n
+  released_counts s = λ i. record n { offered = add-zero n.offered i; accepted = add-zero n.accepted i; dropped = add-zero n.dropped i; specdropped = add-zero n.specdropped i; lost = add-zero n.lost i; discarded = add-zero n.discarded i; void = add-zero n.void i; drops = add-zero n.drops i; unavailable = add-zero n.unavailable i; busy = add-zero n.busy i; stopped = add-zero n.stopped i }
 
 -- the drops since the last Seal are among all drops
 pub drops_since : (c : ℕ) (p : List Deed) → (growing c p).drops ≤ total (λ d. one_if (is_drop c d)) p

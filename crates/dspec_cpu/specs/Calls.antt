@@ -1,15 +1,20 @@
 -- What the calls of a CPU did at the words, and the deeds of each by its answer.
-use Rattle.std.specs.Prelude.{ℕ, ◌≡◌, Bool, true, false, List, [], ◌∷◌, ◌++◌}
+use Rattle.std.specs.Prelude.{ℕ, ◌≡◌, Bool, true, false, List, [], ◌∷◌, ◌++◌, if◌then◌else◌, None}
 use Rattle.dspec_record.specs.Record.{Record}
 use Rattle.dspec_deeds.specs.declared.calls.Traced.{Traced}
 use Rattle.dspec_deeds.specs.declared.calls.Traced.TheVariants as traced
 use Rattle.dspec_word.specs.SpecId.{Speculation}
 use Rattle.dspec_deeds.specs.declared.calls.Spoken.{Spoken}
 use Rattle.dspec_deeds.specs.declared.calls.Spoken.TheVariants as spoken
+use Rattle.dspec_deeds.specs.declared.calls.Decided.{Decided}
+use Rattle.dspec_deeds.specs.declared.calls.Decided.TheVariants as decided
+use Rattle.dspec_deeds.specs.declared.deed.DecideFate.{DecideFate}
+use Rattle.dspec_deeds.specs.declared.deed.DecideFate.TheVariants as decide_fate
 use Rattle.dspec_deeds.specs.declared.deed.SpeculateFate.TheVariants as speculate_fate
 use Rattle.dspec_deeds.specs.declared.deed.TraceFate.TheVariants as trace_fate
 use Rattle.dspec_deeds.specs.declared.deed.Deed.{Deed}
-use Rattle.dspec_deeds.specs.declared.deed.Deed.TheVariants.{Trace, Speculate}
+use Rattle.dspec_deeds.specs.declared.deed.Deed.TheVariants.{Trace, Speculate, Release}
+use Rattle.dspec_deeds.specs.History.{solo}
 use Rattle.dspec_table.specs.declared.rule.View.{View}
 use Rattle.dspec_table.specs.Steps.{Found, Entered}
 
@@ -41,3 +46,35 @@ spoken_deeds c id r spoken.Stopped = Speculate c id r speculate_fate.Stopped ∷
 abbrev pub is_worn_spoken : Spoken → Bool
 is_worn_spoken spoken.Worn = true
 is_worn_spoken a = false
+
+-- a decision, behind which the CPU released the slot itself where it decided alone
+abbrev pub decision : Bool → ℕ → Deed → List Deed
+decision alone slot d = if alone then Release slot ∷ d ∷ [] else d ∷ []
+
+-- the deeds of a call of commit or discard that answered so, of what deed a fate is of
+abbrev pub decided_deeds : (DecideFate → Deed) → ℕ → Bool → Decided → List Deed
+decided_deeds of slot alone decided.Worn = []
+decided_deeds of slot alone decided.Stopped = of decide_fate.Stopped ∷ []
+decided_deeds of slot alone decided.Void = of decide_fate.Void ∷ []
+decided_deeds of slot alone (decided.Copied n) = decision alone slot (of (decide_fate.Copied n))
+decided_deeds of slot alone (decided.Lost n) = decision alone slot (of (decide_fate.Lost n))
+decided_deeds of slot alone (decided.Thrown n) = decision alone slot (of (decide_fate.Thrown n))
+
+abbrev pub is_worn_decided : Decided → Bool
+is_worn_decided decided.Worn = true
+is_worn_decided a = false
+
+-- the answer tells of a decision that was made
+abbrev pub is_decision : Decided → Bool
+is_decision (decided.Copied n) = true
+is_decision (decided.Lost n) = true
+is_decision (decided.Thrown n) = true
+is_decision a = false
+
+-- what a call of commit or discard did: where it decided and released nothing, others have to settle; and its deeds come in
+-- front of every list that the CPU had
+pub record Decides (of : DecideFate → Deed) (id : Speculation) (a : Decided) (had : List Deed → Type 0) (v : View) (has : List Deed → Type 0) (w : View) : Type 0 where
+  pub alone : Bool
+  pub did : Goes v (decided_deeds of id.slot alone a) w
+  pub waits : is_decision a ≡ true → alone ≡ false → solo id w.seen ≡ None
+  pub list : (p : List Deed) → had p → has (decided_deeds of id.slot alone a ++ p)

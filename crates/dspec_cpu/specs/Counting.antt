@@ -3,8 +3,9 @@ use Rattle.std.specs.Prelude.{ℕ, ◌+◌, ◌^◌, ◌<◌, Bool, nat_lt, List
 use Rattle.dspec_deeds.specs.declared.config.Config.{Config}
 use Rattle.dspec_deeds.specs.declared.deed.TraceFate.{TraceFate}
 use Rattle.dspec_deeds.specs.declared.deed.SpeculateFate.{SpeculateFate}
+use Rattle.dspec_deeds.specs.declared.deed.DecideFate.{DecideFate}
 use Rattle.dspec_deeds.specs.declared.deed.Deed.{Deed}
-use Rattle.dspec_deeds.specs.FateKinds.{trace_kept, trace_dropped, trace_stopped, spoken_dropped, spoken_nowhere, spoken_stopped}
+use Rattle.dspec_deeds.specs.FateKinds.{trace_kept, trace_dropped, trace_stopped, spoken_dropped, spoken_nowhere, spoken_stopped, is_copied, is_lost, is_discard, count_of, decided_stopped}
 use Rattle.dspec_deeds.specs.Own.{offers, is_drop}
 use Rattle.dspec_deeds.specs.Reports.{total, one_if, accepts_now, drops_now, specdrops_now, loses_now, discards_now, voids_now, stops_now, busy_fails, other_fails}
 use Rattle.dspec_cpu.specs.declared.counts.Counts.{Counts}
@@ -51,6 +52,16 @@ with_spoken f n = record n {
   specdropped = n.specdropped + one_if (spoken_dropped f);
   void = n.void + one_if (spoken_nowhere f);
   stopped = n.stopped + one_if (spoken_stopped f);
+}
+
+-- the counts with one decision more, or one settlement
+abbrev pub with_decided : DecideFate → Counts → Counts
+with_decided f n = record n {
+  accepted = n.accepted + (if is_copied f then count_of f else 0);
+  lost = n.lost + (if is_lost f then count_of f else 0);
+  discarded = n.discarded + (if is_discard f then count_of f else 0);
+  drops = n.drops + one_if (is_lost f);
+  stopped = n.stopped + one_if (decided_stopped f);
 }
 
 -- the records that are not held

@@ -1,16 +1,17 @@
 -- What stands behind the steps of a call.
 use Rattle.std.specs.Prelude.{ℕ, ◌≡◌, ◌≤◌, ◌+◌, true, List, ◌++◌}
 use Rattle.dspec_word.specs.SpecId.{Speculation}
+use Rattle.dspec_word.specs.Word.{SlotState}
 use Rattle.dspec_deeds.specs.declared.config.Config.{Config}
 use Rattle.dspec_deeds.specs.declared.calls.Actor.TheVariants.{Cpu as CpuActor}
 use Rattle.dspec_deeds.specs.declared.deed.Deed.{Deed}
-use Rattle.dspec_deeds.specs.History.{in_range, part}
+use Rattle.dspec_deeds.specs.History.{in_range, owed, part}
 use Rattle.dspec_deeds.specs.Legal.{IsSound}
 use Rattle.dspec_table.specs.declared.rule.View.{View}
 use Rattle.dspec_table.specs.declared.doing.Doing.{Doing}
 use Rattle.dspec_cpu.specs.declared.reaching.Reach.{Reach}
 use Rattle.dspec_cpu.specs.Calls.{Goes}
-use Rattle.dspec_cpu.specs.Reaching.{IsPresentAt, act_reached, is_reached, reached_deeds, releases_next, turns}
+use Rattle.dspec_cpu.specs.Reaching.{IsPresentAt, act_of, act_reached, is_reached, reached_deeds, releases_next, turns}
 
 -- behind the steps of a call that entered these deeds: what the seat has seen is legal, and its list is its part of that
 pub record Stands (k : Config) (c : ℕ) (v : View) (ds : List Deed) (w : View) : Type 0 where
@@ -19,10 +20,12 @@ pub record Stands (k : Config) (c : ℕ) (v : View) (ds : List Deed) (w : View) 
   pub own : w.own ≡ ds ++ v.own
   pub config : w.config ≡ v.config
   pub who : w.who ≡ v.who
+  pub rests : owed w.seen ≡ 0
 
 -- a call on an identifier came so far
 pub record Reached (k : Config) (c : ℕ) (doing : Doing) (id : Speculation) (v : View) (r : Reach) (w : View) : Type 0 where
   pub goes : Goes v (reached_deeds c doing doing.op r) w
   pub stands : Stands k c v (reached_deeds c doing doing.op r) w
   pub bounded : w.steps + releases_next (act_reached r) ≤ v.steps + 1 + turns doing.op
+  pub acts : is_reached r ≡ true → (word : SlotState) × (act_of doing.op word doing.mine ≡ act_reached r)
   pub present : is_reached r ≡ true → IsPresentAt k c id v.own × (in_range k id ≡ true)

@@ -16,7 +16,7 @@ use Rattle.dspec_deeds.specs.declared.deed.SpeculateFate.TheVariants as spoken
 use Rattle.dspec_deeds.specs.declared.deed.DecideFate.TheVariants as decided
 use Rattle.dspec_deeds.specs.declared.deed.Deed.{Deed}
 use Rattle.dspec_deeds.specs.declared.deed.Deed.TheVariants.{Speculate, Commit, Discard, Release}
-use Rattle.dspec_deeds.specs.History.{issue, part}
+use Rattle.dspec_deeds.specs.History.{issue, part, word_at}
 use Rattle.dspec_deeds.specs.Legal.{IsSound}
 use Rattle.dspec_table.specs.declared.rule.View.{View}
 use Rattle.dspec_table.specs.declared.doing.Doing.{Doing}
@@ -73,9 +73,9 @@ pub record Ended (k : Config) (c : ℕ) (doing : Doing) (id : Speculation) (slot
   pub last : Shown k c doing id slot v word (is_attempt act) w
   pub bounded : w.steps + releases_next act ≤ v.steps + turns doing.op
 
--- an exchange to Committing is the seat's own commit, which is to be released
+-- behind an exchange its word stands, and one to Committing is the seat's own commit, which is to be released
 abbrev pub OwnsCommit : Config → ℕ → ℕ → View → Act → Type 0
-OwnsCommit k c slot w (Attempt to) = IfCommitting to.code (OwnCommit k w c record { issue = to.issue; slot = slot })
+OwnsCommit k c slot w (Attempt to) = (word_at slot w.seen ≡ to) × IfCommitting to.code (OwnCommit k w c record { issue = to.issue; slot = slot })
 OwnsCommit k c slot w a = Unit {0}
 
 -- the deeds of a call that came so far, the latest first

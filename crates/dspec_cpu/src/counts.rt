@@ -1,8 +1,8 @@
 ghost use Rattle.std.specs.Prelude.{◌≡◌, ℕ, []};
 ghost use Rattle.dspec_deeds.specs.declared.config.Config.{Config};
-ghost use Rattle.dspec_cpu.specs.Counting.{IsRoomy, counts_of, one_more_worn, with_spoken, with_traced};
+ghost use Rattle.dspec_cpu.specs.Counting.{IsRoomy, counts_of, one_more_worn, with_decided, with_spoken, with_traced};
 
-use dspec_deeds::{SpeculateFate, TraceFate};
+use dspec_deeds::{DecideFate, SpeculateFate, TraceFate};
 
 /// What a CPU has counted: records offered and what became of them, and events. The records held are what is left.
 #[derive(Clone, Copy, Debug)]
@@ -76,6 +76,23 @@ impl Counts {
                 self.void += 1;
                 self.stopped += 1;
             }
+        }
+    }
+
+    /// Counts a decision, or a settlement.
+    pub(crate) fn decide(&mut self, fate: DecideFate)
+        requires roomy { IsRoomy self.old }
+        ensures { self.new ≡ with_decided fate self.old }
+    {
+        match fate {
+            DecideFate::Copied(count) => self.accepted += count as u64,
+            DecideFate::Lost(count) => {
+                self.lost += count as u64;
+                self.drops += 1;
+            }
+            DecideFate::Thrown(count) => self.discarded += count as u64,
+            DecideFate::Void => {}
+            DecideFate::Stopped => self.stopped += 1,
         }
     }
 

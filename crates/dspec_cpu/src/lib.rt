@@ -5,8 +5,10 @@
 //! answer (`specs/Calls.antt`) to every list that the CPU has. No call waits, and only `make` takes memory.
 #![tactic(auto)]
 
+mod blocks;
 mod counts;
 mod cpu;
+mod deciding;
 mod fitting;
 mod holding;
 mod listed;

@@ -1,5 +1,5 @@
 ghost use Rattle.std.specs.Prelude.{◌≡◌, ◌≤◌, ◌<◌, ◌+◌, ◌==◌, true, false, MatchResult, IfOk, IfErr};
-ghost use Rattle.dspec_deeds.specs.History.{in_range, scan};
+ghost use Rattle.dspec_deeds.specs.History.{in_range, scan, word_at};
 ghost use Rattle.dspec_deeds.specs.Marks.{mark};
 ghost use Rattle.dspec_table.specs.Conditions.{MayTry, IsInFlight, IsOn, IfCommitting, OwnCommit};
 ghost use Rattle.dspec_table.specs.Steps.{TriedWord};
@@ -50,6 +50,7 @@ fn exchange(
     ensures step { MatchResult result
         (λ _. TriedWord doing.now slot (known seat.old) from true (known seat.new))
         (λ shown. TriedWord doing.now slot (known seat.old) shown false (known seat.new)) }
+    ensures word { IfOk result (λ _. word_at slot (known seat.new).seen ≡ to) }
     ensures release { IfOk result (λ _. IfCommitting to.code (OwnCommit (set_up words.now) (known seat.new) (cpu_of seat.new) record { issue = to.issue; slot = slot })) }
     ensures greater { IfErr result (λ shown. word_number from < word_number shown) }
     ensures limit { IfErr result (λ shown. CanBeReleased shown) }

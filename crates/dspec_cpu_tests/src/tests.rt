@@ -13,6 +13,8 @@ use std::alloc::Global;
 use std::process::Abort;
 use std::test::Fail;
 
+mod deciding;
+
 /// One CPU, one slot and buffers of 8 bytes, two records each.
 fn small(policy: Policy, max_calls: u64) -> Config
     ensures { result.cpus ≡ 1 }

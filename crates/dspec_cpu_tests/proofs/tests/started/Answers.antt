@@ -1,4 +1,4 @@
-use Rattle.std.proofs.Common.{◌≡◌, ◌++◌, ap, ◌∙◌}
+use Rattle.std.proofs.Common.{◌++◌, ap, ◌∙◌}
 use Rattle.std.specs.Prelude.{option_to_list}
 use Rattle.dspec_table.specs.declared.rule.View.{View}
 use Rattle.dspec_cpu_tests.proofs.Lone.{stood_alone}

@@ -1,0 +1,129 @@
+-- A call of commit that decided: the list, the deeds and the steps behind it.
+use Rattle.std.proofs.Common.{◌≡◌, ◌≢◌, ℕ, ◌+◌, ◌-◌, ◌==◌, ◌≤◌, Bool, true, false, List, [], ◌∷◌, ◌++◌, length, map, Option, Some, if◌then◌else◌, refl, sym, ap, ◌∙◌, subst, arith, true≢false}
+use Rattle.std.specs.Prelude.{slice_get, slice_set}
+use Rattle.std.specs.Global.{Vec}
+use Rattle.dspec_record.specs.Record.{Record}
+use Rattle.dspec_record.specs.declared.field.Shape.{Shape}
+use Rattle.dspec_buffer.specs.Extent as extent
+use Rattle.dspec_buffer.specs.Extent.{Piece, fits}
+use Rattle.dspec_buffer.specs.Stored.{Stored, HasPieces}
+use Rattle.dspec_word.specs.SpecId.{Speculation}
+use Rattle.dspec_word.specs.Word.{SlotState}
+use Rattle.dspec_word.specs.declared.code.Code.TheVariants.{Committing}
+use Rattle.dspec_word.specs.declared.act.Act.TheVariants.{Attempt}
+use Rattle.dspec_deeds.specs.declared.calls.Decided.{Decided}
+use Rattle.dspec_deeds.specs.declared.deed.DecideFate.{DecideFate}
+use Rattle.dspec_deeds.specs.declared.deed.Deed.{Deed}
+use Rattle.dspec_deeds.specs.declared.deed.Deed.TheVariants.{Commit, Release}
+use Rattle.dspec_deeds.specs.Legal.{fits_principal}
+use Rattle.dspec_deeds.specs.Marks.{mark}
+use Rattle.dspec_deeds.specs.Own.{contents, held}
+use Rattle.dspec_deeds.proofs.TestLemmas.{same_number}
+use Rattle.dspec_table.specs.declared.rule.View.{View}
+use Rattle.dspec_table.specs.declared.seats.Words.{Words}
+use Rattle.dspec_table.specs.declared.seats.CpuSeat.{CpuSeat}
+use Rattle.dspec_table.specs.Seats.{known}
+use Rattle.dspec_table.specs.Steps.{ReleasedWord}
+use Rattle.dspec_cpu.specs.declared.cpu.Cpu.{Cpu}
+use Rattle.dspec_cpu.specs.declared.counts.Counts.{Counts}
+use Rattle.dspec_cpu.specs.declared.reaching.Reach.TheVariants as reach
+use Rattle.dspec_cpu.specs.Calls.{Goes, steps, Decides, decided_deeds}
+use Rattle.dspec_cpu.specs.Counting.{with_decided}
+use Rattle.dspec_cpu.specs.Lists.{HasList, IsReady, IsShown}
+use Rattle.dspec_cpu.specs.Reached.{Reached, Stands}
+use Rattle.dspec_cpu.specs.Reaching.{OwnsCommit, is_committing, releases_next}
+use Rattle.dspec_cpu.proofs.Copies.{commit_shown}
+use Rattle.dspec_cpu.proofs.Decisions.{committing, block_fate, block_answer, block_deeds, fate_commits, fate_throws_none, fate_copied, fate_count, fate_drops, IsCommitWord, left_by_commit, waits_many}
+use Rattle.dspec_cpu.proofs.Reaches.{slot_inside}
+use Rattle.dspec_cpu.proofs.Ready.{few, holder, set_up_is, stands_behind}
+use Rattle.dspec_cpu.proofs.Speaks.{nothing_held}
+
+module _ (shape : ℕ → Option Shape) (accepted : Record → Bool) (text : Record → List ℕ) {S : Type 0} (words : Words) (cpu : Cpu S) (ready : IsReady shape accepted text words cpu) (id : Speculation) (fit mine : Bool) (n : ℕ) (to : SlotState) (w : View)
+    (got : Reached cpu.config cpu.cpu (committing id fit n mine) id (known cpu.seat) (reach.Done to) w) where
+  abbrev v : View
+  v = known cpu.seat
+
+  abbrev f : DecideFate
+  f = block_fate fit n
+
+  pub slots : (1 ≤ id.slot) × (id.slot ≤ cpu.config.nspec)
+  slots = slot_inside cpu.config id (got.present refl).1
+
+  pub left : IsCommitWord id.issue to
+  left = let a = got.acts refl in left_by_commit id mine a.0 to a.1
+
+  abbrev EmptiedAt : ℕ → List Stored → Type 0
+  EmptiedAt place new = (b : Stored) → slice_get cpu.speculative.items place ≡ Some b
+      → (m : Stored) × (m.size ≡ b.size) × (new ≡ slice_set cpu.speculative.items place m)
+      × ((ps : List Piece) → HasPieces shape accepted text b ps → HasPieces shape accepted text m (if mine then [] else ps))
+
+  abbrev CopiedAt : ℕ → Stored → Type 0
+  CopiedAt place new = (ps : List Piece) (rs : List Record) (b : Stored) → slice_get cpu.speculative.items place ≡ Some b → HasPieces shape accepted text cpu.active ps → HasPieces shape accepted text b (map extent.one rs)
+      → (fit ≡ true → fits shape ps (extent.block (if mine then rs else [])) cpu.active.size ≡ true)
+      → HasPieces shape accepted text new (if fit then extent.block (if mine then rs else []) ∷ ps else ps)
+
+  -- what the call measured, of a list that the CPU has
+  pub record IsMeasured (p : List Deed) : Type 0 where
+    pub mine_is : mine ≡ (mark cpu.cpu id.slot p == id.issue + 1)
+    pub fitting : fit ≡ fits_principal shape cpu.config cpu.cpu (extent.block (if mine then contents (held cpu.cpu id p) else [])) p
+    pub counting : n ≡ length (if mine then contents (held cpu.cpu id p) else [])
+
+  pub block_shown : (p : List Deed) → HasList shape accepted text cpu p → IsMeasured p → (place : ℕ) → place ≡ id.slot - 1 → (seat : CpuSeat) (new : Vec Stored) → EmptiedAt place new.items → (kept : Stored) → kept.size ≡ cpu.active.size → CopiedAt place kept
+      → (drops : ℕ) → drops ≡ cpu.drops + (if fit then 0 else 1) → (counts : Counts) → counts ≡ with_decided f cpu.counts
+      → IsShown shape accepted text (record cpu { seat = seat; speculative = new; active = kept; calls = cpu.calls + 1; drops = drops; counts = counts }) (Commit cpu.cpu id f ∷ p)
+  block_shown p had m place at seat new emptied kept size has drops drops_is counts plus =
+      commit_shown shape accepted text cpu p had.shown id mine fit n slots.0 slots.1 (λ t. same_number (mark cpu.cpu id.slot p) (id.issue + 1) (sym m.mine_is ∙ t))
+      (nothing_held cpu.config cpu.cpu id v.own p mine (few shape accepted text words cpu ready) (got.present refl).0 had.own m.mine_is)
+      m.counting f (fate_commits fit n) (fate_copied fit n) (fate_throws_none fit n) (fate_count fit n) m.fitting
+      seat new (subst (λ i. EmptiedAt i new.items) at emptied) kept size (subst (λ i. CopiedAt i kept) at has) drops (drops_is ∙ ap (λ x. cpu.drops + x) (fate_drops fit n)) counts plus
+
+  -- it released nothing
+  pub decides_open : (a : Decided) → a ≡ block_answer fit n → (had has : List Deed → Type 0) → OwnsCommit cpu.config cpu.cpu id.slot w (Attempt to) → to.code ≢ Committing
+      → ((p : List Deed) → had p → has (Commit cpu.cpu id f ∷ p)) → Decides (Commit cpu.cpu id) id a had v has w
+  decides_open a is had has owns several list =
+      let deeds : Commit cpu.cpu id f ∷ [] ≡ decided_deeds (Commit cpu.cpu id) id.slot false a = sym (ap (decided_deeds (Commit cpu.cpu id) id.slot false) is ∙ block_deeds (Commit cpu.cpu id) id.slot false fit n) in
+      record {
+        alone = false;
+        did = subst (λ ds. Goes v ds w) deeds got.goes;
+        waits = λ d e. waits_many cpu.config id w.seen to got.stands.sound got.stands.rests owns.0 left several;
+        list = λ p was. subst (λ ds. has (ds ++ p)) deeds (list p was);
+      }
+
+  pub open_bounded : w.steps ≤ v.steps + 5
+  open_bounded = let le = got.bounded in omega arith
+
+  -- it released the slot
+  module _ (u : View) (slot : ℕ) (there : slot ≡ id.slot) (released : ReleasedWord slot w u) where
+    step : ReleasedWord id.slot w u
+    step = subst (λ s. ReleasedWord s w u) there released
+
+    pub decides_alone : (a : Decided) → a ≡ block_answer fit n → (had has : List Deed → Type 0)
+        → ((p : List Deed) → had p → has (Release id.slot ∷ Commit cpu.cpu id f ∷ p)) → Decides (Commit cpu.cpu id) id a had v has u
+    decides_alone a is had has list =
+        let deeds : Release id.slot ∷ Commit cpu.cpu id f ∷ [] ≡ decided_deeds (Commit cpu.cpu id) id.slot true a = sym (ap (decided_deeds (Commit cpu.cpu id) id.slot true) is ∙ block_deeds (Commit cpu.cpu id) id.slot true fit n) in
+        record {
+          alone = true;
+          did = subst (λ ds. Goes v ds u) deeds (steps u (Release id.slot ∷ []) _ step.0 got.goes step.1 step.2 refl);
+          waits = λ d e. absurd (true≢false e);
+          list = λ p was. subst (λ ds. has (ds ++ p)) deeds (list p was);
+        }
+
+    last : Stands cpu.config cpu.cpu w (Release id.slot ∷ []) u
+    last = stands_behind cpu.config cpu.cpu w u step.0 (Release id.slot ∷ []) (got.stands.config ∙ set_up_is shape accepted text words cpu ready) (got.stands.who ∙ holder shape accepted text words cpu ready) step.2
+
+    pub alone_stands : Stands cpu.config cpu.cpu v (Release id.slot ∷ Commit cpu.cpu id f ∷ []) u
+    alone_stands = record {
+      sound = last.sound;
+      part_is = last.part_is;
+      own = last.own ∙ ap (λ l. Release id.slot ∷ l) got.stands.own;
+      config = last.config ∙ got.stands.config;
+      who = last.who ∙ got.stands.who;
+      rests = last.rests;
+    }
+
+    pub alone_bounded : to.code ≡ Committing → u.steps ≤ v.steps + 5
+    alone_bounded is =
+        let next : releases_next (Attempt to) ≡ 1 = ap (λ x. if is_committing x then 1 else 0) is in
+        let one : u.steps ≡ w.steps + 1 = ap (λ (x : View). x.steps) step.2.view in
+        let le = got.bounded in
+        omega arith
