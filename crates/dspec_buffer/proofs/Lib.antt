@@ -20,4 +20,5 @@ pub mod Fitting
 pub mod Keeping
 pub mod Walks
 pub mod Listing
+pub mod Packed
 pub mod Upgrades

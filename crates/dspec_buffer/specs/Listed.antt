@@ -1,17 +1,26 @@
--- A buffer of records as contracts see it, and the pieces that it has.
-use Rattle.std.specs.Prelude.{◌≡◌, ℕ, Bool, IsTrue, All, List, reverse, Option}
+-- A buffer of texts without padding as contracts see it, and the pieces that it has.
+use Rattle.std.specs.Prelude.{◌≡◌, ◌≤◌, ℕ, Bool, IsTrue, All, List, length, drop, reverse, Option}
+use Rattle.std.specs.List.{flat_map}
 use Rattle.dspec_record.specs.Record.{Record}
 use Rattle.dspec_record.specs.declared.field.Shape.{Shape}
 use Rattle.dspec_buffer.specs.Extent.{Piece, records, extent}
 
--- its records in order, how far their texts would reach, and its size in bytes
+-- the texts of its records one behind another, how many there are, how far they would reach, and its size in bytes
 pub record Listed : Type 0 where
-  pub kept : List Record
+  pub texts : List ℕ
+  pub count : ℕ
   pub offset : ℕ
   pub size : ℕ
 
--- the records are those of these pieces, all accepted, and the offset is their extent
-pub record HasListed (shape : ℕ → Option Shape) (accepted : Record → Bool) (b : Listed) (ps : List Piece) : Type 0 where
+-- the texts are those of the records of these pieces, all accepted, the count is their number and the offset their extent
+pub record HasListed (shape : ℕ → Option Shape) (accepted : Record → Bool) (text : Record → List ℕ) (b : Listed) (ps : List Piece) : Type 0 where
   pub all_accepted : All (λ r. IsTrue (accepted r)) (records ps)
-  pub kept_are : b.kept ≡ reverse (records ps)
+  pub texts_are : b.texts ≡ flat_map text (reverse (records ps))
+  pub count_is : b.count ≡ length (records ps)
   pub offset_is : b.offset ≡ extent shape ps
+
+-- from this place on the texts are those of these records, all accepted
+pub record HasTexts (accepted : Record → Bool) (text : Record → List ℕ) (texts : List ℕ) (place : ℕ) (rs : List Record) : Type 0 where
+  pub within : place ≤ length texts
+  pub all_accepted : All (λ r. IsTrue (accepted r)) rs
+  pub texts_are : drop place texts ≡ flat_map text rs

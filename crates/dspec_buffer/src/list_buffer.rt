@@ -5,11 +5,16 @@ use std::alloc::{AllocError, Global};
 use std::fmt;
 use std::marker::Model;
 
-/// A buffer of records that are never laid out: it answers as a `ByteBuffer` of its size, and a walk's place is
-/// the number of records behind it. For models and tests.
+/// The most bytes of a record.
+const LONGEST: usize = 128;
+
+/// A buffer of records that are never laid out: it answers as a `ByteBuffer` of its size, but keeps the texts of its
+/// records one behind another, without the padding that they would stand behind, so that reading them back knows
+/// nothing of padding. A walk's place is how many bytes of these texts are behind it. For models and tests.
 #[derive(Drop)]
 pub struct ListBuffer {
-    records: Vec<Rec>,
+    texts: Vec<u8>,
+    count: u32,
     offset: u32,
     size: u32,
 }
@@ -26,48 +31,10 @@ impl Model for ListBuffer {
     ghost invariant = { IsListed };
 }
 
-impl ListBuffer {
-    ghost use Rattle.std.specs.Prelude.{◌≡◌, ◌≤◌, ◌==◌, [], length};
-
-    /// How far the texts of the records would reach, in bytes.
-    #[inline]
-    pub fn offset(&self) -> u32
-        ensures extent { result ≡ self.now.offset }
-        ensures within { result ≤ self.now.size }
-    {
-        self.offset
-    }
-
-    /// How many records there are, those in blocks among them.
-    #[inline]
-    pub fn count(&self) -> u32
-        ensures { result ≡ length self.now.kept }
-    {
-        self.records.len() as u32
-    }
-
-    /// Whether there is no record.
-    #[inline]
-    pub fn is_empty(&self) -> bool
-        ensures { result ≡ (length self.now.kept == 0) }
-    {
-        self.records.is_empty()
-    }
-
-    /// Throws all records away.
-    #[inline]
-    pub fn clear(&mut self)
-        ensures { self.new ≡ record { kept = []; offset = 0; size = self.old.size } }
-    {
-        self.records.clear();
-        self.offset = 0;
-    }
-}
-
 /// How many records there are, how far they would reach and of how many bytes.
 impl fmt::Debug for ListBuffer {
     fn fmt<W: fmt::Write>(&self, f: &mut fmt::Formatter<W>) -> fmt::Result {
-        let (count, offset, size) = (self.count(), self.offset(), self.size);
+        let (count, offset, size) = (self.count, self.offset, self.size);
         write!(
             f,
             "ListBuffer {{ count: {count}, offset: {offset}, size: {size} }}"
@@ -76,20 +43,22 @@ impl fmt::Debug for ListBuffer {
 }
 
 impl<S: Schema> TraceBuffer<S> for ListBuffer {
-    ghost use Rattle.std.specs.Prelude.{◌≡◌, drop};
-    ghost use Rattle.dspec_buffer.specs.Listed.{HasListed};
+    ghost use Rattle.dspec_buffer.specs.Listed.{HasListed, HasTexts};
+    ghost use Rattle.dspec_buffer.specs.Laws.Listed.{has_texts};
 
     ghost capacity = { λ b. b.size };
 
-    ghost has = { λ b s ps. HasListed (S.shape_of s) (S.accepted s) b ps };
+    ghost has = { λ b s ps. HasListed (S.shape_of s) (S.accepted s) (S.text s) b ps };
 
-    ghost has_ahead = { λ b s place rs. drop place b.kept ≡ rs };
+    ghost has_ahead = { λ b s place rs. HasTexts (S.accepted s) (S.text s) b.texts place rs };
 
-    ghost begins = { λ b s ps h. h.kept_are };
+    ghost begins = { λ b s ps h. has_texts (S.shape_of s) (S.accepted s) (S.text s) b ps h };
 
     fn make(alloc: Global, size: u32) -> Result<Self, AllocError> {
+        // room that is taken and not written takes no memory of the machine until records come
         Ok(ListBuffer {
-            records: Vec::with_capacity(alloc, size as usize / 4)?,
+            texts: Vec::with_capacity(alloc, size as usize)?,
+            count: 0,
             offset: 0,
             size,
         })
@@ -104,7 +73,11 @@ impl<S: Schema> TraceBuffer<S> for ListBuffer {
         let Some(place) = place_for(self.offset, self.size, shape.align, shape.size) else {
             return false;
         };
-        self.records.push(*rec).unwrap();
+        let mut room = [0; LONGEST];
+        let text = &mut room[..shape.size as usize];
+        schema.put(rec, text);
+        self.texts.extend_from_slice(text).unwrap();
+        self.count += 1;
         self.offset = place + shape.size;
         true
     }
@@ -118,29 +91,35 @@ impl<S: Schema> TraceBuffer<S> for ListBuffer {
         let Some(place) = place_for(offset, self.size, 8, size) else {
             return false;
         };
-        self.records.extend_from_slice(&other.records).unwrap();
+        self.texts.extend_from_slice(&other.texts).unwrap();
+        self.count += other.count;
         self.offset = place + size;
         true
     }
 
     fn clear(&mut self) {
-        self.clear();
+        self.texts.clear();
+        self.count = 0;
+        self.offset = 0;
     }
 
     fn offset(&self) -> u32 {
-        self.offset()
+        self.offset
     }
 
     fn count(&self) -> u32 {
-        self.count()
+        self.count
     }
 
     fn is_empty(&self) -> bool {
-        self.is_empty()
+        self.count == 0
     }
 
-    fn next(&self, _schema: &S, place: usize) -> Option<(Rec, usize)> {
-        let rec = self.records.get(place)?;
-        Some((*rec, place + 1))
+    fn next(&self, schema: &S, place: usize) -> Option<(Rec, usize)> {
+        let texts = self.texts.get(place..)?;
+        match schema.get(texts) {
+            Ok(found) => Some((found.0, place + found.1)),
+            Err(_) => None,
+        }
     }
 }

@@ -4,8 +4,9 @@
 //! It promises that each begin and each step leaves what the definition of a play says (`specs/Play.antt` and
 //! `specs/Turns.antt` of `dspec_play`), that the list of deeds is legal throughout (`specs/Legal.antt` of `dspec_deeds`), that
 //! words, buffers and counts show it (`specs/Machines.antt` of `dspec_machine`), and that the headline is true of it: `World`
-//! for every interleaving over any schema and any buffer, `play` for whole schedules over lists. Users name this crate alone:
-//! it gives what the three below it have.
+//! for every interleaving over any schema and any buffer, `play` for whole schedules over lists. Users `use` this crate alone:
+//! it gives what the three below it have. Where a `Series` is gone over by `for`, or a deed or a fault is printed, crates.txt
+//! names `dspec_deeds` and `dspec_play` too, in which those impls stand.
 #![tactic(auto)]
 
 mod player;

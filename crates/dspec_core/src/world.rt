@@ -21,6 +21,7 @@ use dspec_machine::Machine;
 use dspec_play::{BeginFault, Close, StepFault, Stepped};
 use dspec_record::{Rec, Schema};
 use std::alloc::{AllocError, Global};
+use std::fmt;
 use std::marker::Model;
 
 /// A session as its atomic steps left it, which contracts see as its schema, its deeds and the calls in flight.
@@ -39,6 +40,19 @@ impl<S: Schema, B: TraceBuffer<S>> Model for World<S, B> {
     ghost view = { λ w. session_of w.machine };
 
     ghost invariant = { λ w. IsKept B.has B.capacity S.shape_of S.accepted w.machine };
+}
+
+/// How many CPUs and slots it has, how many deeds were done, and whether it was stopped.
+impl<S: Schema, B: TraceBuffer<S>> fmt::Debug for World<S, B> {
+    fn fmt<W: fmt::Write>(&self, f: &mut fmt::Formatter<W>) -> fmt::Result {
+        let Config { cpus, nspec, .. } = self.machine.config;
+        let deeds = self.machine.deeds.len();
+        let stopped = self.machine.halted;
+        write!(
+            f,
+            "World {{ cpus: {cpus}, nspec: {nspec}, deeds: {deeds}, stopped: {stopped} }}"
+        )
+    }
 }
 
 impl<S: Schema, B: TraceBuffer<S>> World<S, B> {

@@ -72,10 +72,10 @@ module _ (shape : ℕ → Option Shape) (accepted : Record → Bool) (text : Rec
       → (drops : ℕ) → drops ≡ cpu.drops + (if fit then 0 else 1) → (counts : Counts) → counts ≡ with_decided f cpu.counts
       → IsShown shape accepted text (record cpu { seat = seat; speculative = new; active = kept; calls = cpu.calls + 1; drops = drops; counts = counts }) (Commit cpu.cpu id f ∷ p)
   block_shown p had m place at seat new emptied kept size has drops drops_is counts plus =
-      commit_shown shape accepted text cpu p had.shown id mine fit n slots.0 slots.1 (λ t. same_number (mark cpu.cpu id.slot p) (id.issue + 1) (sym m.mine_is ∙ t))
+      commit_shown shape accepted text p had.shown id mine fit n slots.0 slots.1 (λ t. same_number (mark cpu.cpu id.slot p) (id.issue + 1) (sym m.mine_is ∙ t))
       (nothing_held cpu.config cpu.cpu id v.own p mine (few shape accepted text words cpu ready) (got.present refl).0 had.own m.mine_is)
-      m.counting f (fate_commits fit n) (fate_copied fit n) (fate_throws_none fit n) (fate_count fit n) m.fitting
-      seat new (subst (λ i. EmptiedAt i new.items) at emptied) kept size (subst (λ i. CopiedAt i kept) at has) drops (drops_is ∙ ap (λ x. cpu.drops + x) (fate_drops fit n)) counts plus
+      m.counting f (fate_copied fit n) counts plus (fate_commits fit n) (fate_throws_none fit n) (fate_count fit n) m.fitting
+      new.items (subst (λ i. EmptiedAt i new.items) at emptied) kept size (subst (λ i. CopiedAt i kept) at has) drops (drops_is ∙ ap (λ x. cpu.drops + x) (fate_drops fit n))
 
   -- it released nothing
   pub decides_open : (a : Decided) → a ≡ block_answer fit n → (had has : List Deed → Type 0) → OwnsCommit cpu.config cpu.cpu id.slot w (Attempt to) → to.code ≢ Committing

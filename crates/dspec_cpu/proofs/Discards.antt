@@ -119,9 +119,9 @@ module _ (shape : ℕ → Option Shape) (accepted : Record → Bool) (text : Rec
       → HasList shape accepted text (record cpu { seat = seat; speculative = new; active = kept; calls = cpu.calls + 1; counts = counts }) (deeds ++ p)
   thrown_listed p had mine_is counting place at seat here new emptied kept size has counts plus = record {
     own = bare_too p (is_inactive to.code) ∙ (ap (λ l. deeds ++ l) had.own ∙ (sym got.stands.own ∙ sym (ap (λ (x : View). x.own) here)));
-    shown = released_too _ p (is_inactive to.code) (discard_shown shape accepted text cpu p had.shown id mine false n slots.0 slots.1 (λ t. same_number (mark cpu.cpu id.slot p) (id.issue + 1) (sym mine_is ∙ t))
+    shown = released_too (record cpu { seat = seat; speculative = new; active = kept; calls = cpu.calls + 1; counts = counts }) p (is_inactive to.code) (discard_shown shape accepted text p had.shown id mine false n slots.0 slots.1 (λ t. same_number (mark cpu.cpu id.slot p) (id.issue + 1) (sym mine_is ∙ t))
         (nothing_held cpu.config cpu.cpu id v.own p mine (few shape accepted text words cpu ready) (got.present refl).0 had.own mine_is)
-        counting refl seat new (subst (λ i. EmptiedAt i new.items) at emptied) kept size (subst (λ i. StaysAt i kept) at has) counts plus);
+        counting (fated.Thrown n) refl counts plus refl refl new.items (subst (λ i. EmptiedAt i new.items) at emptied) kept size (subst (λ i. StaysAt i kept) at has));
   }
 
   pub throws : (had has : List Deed → Type 0) → OwnsCommit cpu.config cpu.cpu id.slot w (Attempt to) → ((p : List Deed) → had p → has (deeds ++ p)) → Decides (Discard cpu.cpu id) id (decided.Thrown n) had v has w

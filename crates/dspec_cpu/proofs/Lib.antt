@@ -16,3 +16,16 @@ pub mod Copies
 pub mod Decisions
 pub mod Commits
 pub mod Discards
+pub mod Slots
+pub mod Scans
+pub mod Openings
+pub mod Seals
+pub mod Switches
+pub mod Heeding
+pub mod OwnBlocks
+pub mod Settlements
+pub mod Services
+pub mod ServedSlots
+pub mod Closes
+pub mod Rests
+pub mod LegalParts

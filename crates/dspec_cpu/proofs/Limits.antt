@@ -1,12 +1,17 @@
 -- What the ranges of a configuration give.
-use Rattle.std.proofs.Common.{◌≡◌, ℕ, ◌≤◌, ◌%◌, ◌^◌, ◌==◌, Bool, true, false, not, Option, Some, None, if◌then◌else◌, refl, arith}
+use Rattle.std.proofs.Common.{◌≡◌, ℕ, ◌<◌, ◌≤◌, ◌%◌, ◌^◌, ◌==◌, Bool, true, false, not, Option, Some, None, if◌then◌else◌, refl, arith}
 use Rattle.std.specs.Prelude.{nat_le}
 use Rattle.std.proofs.lemmas.Bool.Decides.{nat_tests}
 use Rattle.dspec_deeds.specs.declared.config.Config.{Config}
 use Rattle.dspec_deeds.specs.declared.config.StartFault.{StartFault}
 use Rattle.dspec_deeds.specs.declared.config.StartFault.TheVariants.{Cpus, Specs, BufSize, SpecSize, Issues, Calls}
 use Rattle.dspec_deeds.specs.Ranges.{is_between, is_size, start_fault}
+use Rattle.dspec_deeds.specs.declared.deed.DecideFate.{DecideFate}
+use Rattle.dspec_deeds.specs.declared.deed.DecideFate.TheVariants.{Copied, Lost, Thrown, Void, Stopped}
+use Rattle.dspec_deeds.specs.FateKinds.{count_of}
 use Rattle.dspec_deeds.proofs.TestLemmas.{and_tells, same_number}
+use Rattle.dspec_cpu.specs.declared.counts.Counts.{Counts}
+use Rattle.dspec_cpu.specs.Counting.{HasRoom, IsRoomy}
 
 pub record Within (low high n : ℕ) : Type 0 where
   pub least : low ≤ n
@@ -50,3 +55,11 @@ limits k e =
       issues = (between 1 (2 ^ 57) k.max_issues issues.0).most;
       calls = (between 1 (2 ^ 62) k.max_calls calls.0).most;
     }
+
+-- counts that have room for a call more have room for its decision
+pub has_room : (n : Counts) (f : DecideFate) → IsRoomy n → count_of f < 2 ^ 32 → HasRoom f n
+has_room n (Copied m) roomy few = record { accepted = omega arith; lost = omega arith; discarded = omega arith; drops = omega arith; stopped = omega arith }
+has_room n (Lost m) roomy few = record { accepted = omega arith; lost = omega arith; discarded = omega arith; drops = omega arith; stopped = omega arith }
+has_room n (Thrown m) roomy few = record { accepted = omega arith; lost = omega arith; discarded = omega arith; drops = omega arith; stopped = omega arith }
+has_room n Void roomy few = record { accepted = omega arith; lost = omega arith; discarded = omega arith; drops = omega arith; stopped = omega arith }
+has_room n Stopped roomy few = record { accepted = omega arith; lost = omega arith; discarded = omega arith; drops = omega arith; stopped = omega arith }

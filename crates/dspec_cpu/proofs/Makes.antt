@@ -1,5 +1,5 @@
 -- A CPU before its first call.
-use Rattle.std.proofs.Common.{◌≡◌, ℕ, ◌-◌, Bool, false, List, [], ◌++◌, reverse, replicate, Option, Some, None, sym, ap, ◌∙◌, subst, arith}
+use Rattle.std.proofs.Common.{◌≡◌, ℕ, ◌-◌, ◌≤◌, Bool, false, List, [], ◌++◌, length, reverse, replicate, Option, Some, None, sym, ap, ◌∙◌, subst, arith}
 use Rattle.dspec_record.specs.Record.{Record}
 use Rattle.dspec_record.specs.declared.field.Shape.{Shape}
 use Rattle.dspec_buffer.specs.Stored.{Stored}
@@ -13,7 +13,7 @@ use Rattle.dspec_deeds.specs.Legal.{IsSound}
 use Rattle.dspec_cpu.specs.declared.cpu.Cpu.{Cpu}
 use Rattle.dspec_cpu.specs.Counting.{counts_of}
 use Rattle.dspec_cpu.specs.Sealed.{HasSized, AreEmpty, waiting}
-use Rattle.dspec_cpu.specs.Lists.{HasList, IsReady}
+use Rattle.dspec_cpu.specs.Lists.{HasList, IsReady, batches_of, spare_count}
 use Rattle.dspec_cpu.proofs.Starts.{zero_there, zero_count}
 
 module _ (shape : ℕ → Option Shape) (accepted : Record → Bool) (text : Record → List ℕ) {S : Type 0} (cpu : Cpu S) where
@@ -33,6 +33,13 @@ module _ (shape : ℕ → Option Shape) (accepted : Record → Bool) (text : Rec
     pub counts : cpu.counts ≡ counts_of cpu.config cpu.cpu 0 []
 
   module _ (u : IsUnused) where
+    spare_most : (x : Option Stored) → spare_count x ≤ 1
+    spare_most None = omega arith
+    spare_most (Some b) = omega arith
+
+    none_sealed : batches_of cpu ≡ []
+    none_sealed = λ i. waiting (u.in_hand i) ++ reverse (u.handed i)
+
     pub unused_list : HasList shape accepted text cpu []
     unused_list = record {
       own = sym (ap (λ (v : View). v.own) u.seat);
@@ -51,7 +58,7 @@ module _ (shape : ℕ → Option Shape) (accepted : Record → Bool) (text : Rec
           principal = u.active;
           drops = u.drops;
         };
-        sealed = λ i. waiting (u.in_hand i) ++ reverse (u.handed i);
+        sealed = none_sealed;
         counted = u.counts ∙ ap (λ n. counts_of cpu.config cpu.cpu n []) (sym (ap (λ n. n.worn) u.counts));
       };
     }
@@ -67,6 +74,7 @@ module _ (shape : ℕ → Option Shape) (accepted : Record → Bool) (text : Rec
       sound = subst (λ (v : View). IsSound cpu.config v.seen) (sym u.seat) tt;
       part_is = ap (λ (v : View). part (CpuActor cpu.cpu) v.seen) u.seat ∙ sym (ap (λ (v : View). v.own) u.seat);
       spare = spare;
+      few = let none = ap length none_sealed in let most = spare_most cpu.spare in omega arith;
       list = [];
       listed = unused_list;
     }

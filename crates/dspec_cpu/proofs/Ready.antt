@@ -1,5 +1,5 @@
 -- A CPU can be called again.
-use Rattle.std.proofs.Common.{◌≡◌, ℕ, ◌<◌, ◌≤◌, ◌-◌, ◌^◌, Bool, List, ◌++◌, length, Option, Some, None, sym, ◌∙◌, ap, subst, arith}
+use Rattle.std.proofs.Common.{◌≡◌, ℕ, ◌+◌, ◌<◌, ◌≤◌, ◌-◌, ◌^◌, Bool, List, ◌++◌, length, Option, Some, None, sym, ◌∙◌, ap, subst, arith}
 use Rattle.dspec_record.specs.Record.{Record}
 use Rattle.dspec_record.specs.declared.field.Shape.{Shape}
 use Rattle.dspec_buffer.specs.Stored.{Stored}
@@ -22,7 +22,7 @@ use Rattle.dspec_cpu.specs.declared.cpu.Cpu.{Cpu}
 use Rattle.dspec_cpu.specs.declared.counts.Counts.{Counts}
 use Rattle.dspec_cpu.specs.Counting.{counts_of, with_fate, IsRoomy}
 use Rattle.dspec_cpu.specs.Reached.{Stands}
-use Rattle.dspec_cpu.specs.Lists.{HasList, IsReady}
+use Rattle.dspec_cpu.specs.Lists.{HasList, IsReady, batches_of, spare_count}
 use Rattle.dspec_cpu.proofs.Tallies.{drops_since}
 use Rattle.dspec_cpu.proofs.Limits.{limits}
 
@@ -41,6 +41,35 @@ stands_behind k c v w log ds config who entered =
       rests = ap owed seen ∙ entered.rests;
     }
 
+-- the report that is told of counts
+abbrev pub told_of : Counts → Report
+told_of m = record {
+  offered = m.offered;
+  accepted = m.accepted;
+  dropped = m.dropped;
+  specdropped = m.specdropped;
+  lost = m.lost;
+  discarded = m.discarded;
+  void = m.void;
+  held = m.offered - with_fate m;
+  drops = m.drops;
+  unavailable = m.unavailable;
+  busy = m.busy;
+  stopped = m.stopped;
+  worn = m.worn;
+}
+
+-- it is the report of the list whose counts they are, where that balances
+module _ (k : Config) (c : ℕ) (counts : Counts) (p : List Deed) (counted : counts ≡ counts_of k c counts.worn p) (sum : offers c p ≡ records_of_report (report k c 0 p)) where
+  pub fated_by : with_fate counts ≤ counts.offered
+  fated_by = rw counted (omega arith)
+
+  pub told_by : (answer : Report) → answer ≡ told_of counts → answer ≡ report k c counts.worn p
+  told_by answer is =
+      let n : Counts = counts_of k c counts.worn p in
+      let left : n.offered - with_fate n ≡ length (speculative c p) = omega arith in
+      is ∙ (ap told_of counted ∙ ap (λ (h : ℕ). record (report k c counts.worn p) { held = h }) left)
+
 module _ (shape : ℕ → Option Shape) (accepted : Record → Bool) (text : Record → List ℕ) {S : Type 0} (words : Words) (cpu : Cpu S) (was : IsReady shape accepted text words cpu) where
   -- the CPU's number, as its steps read it off the seat
   pub number : number_of (known cpu.seat).who ≡ cpu.cpu
@@ -55,8 +84,8 @@ module _ (shape : ℕ → Option Shape) (accepted : Record → Bool) (text : Rec
   -- no call of it is under way behind steps that end its call
   pub ready_after : (new : Cpu S) (ds : List Deed) → cpu.cpu ≡ new.cpu → cpu.config ≡ new.config → IsAt words new.seat → cpu_of new.seat ≡ cpu_of cpu.seat → Stands cpu.config cpu.cpu (known cpu.seat) ds (known new.seat)
       → scan cpu.config cpu.cpu (ds ++ (known cpu.seat).own) ≡ 0 → ((b : Stored) → new.spare ≡ Some b → b.size ≡ new.config.bufsize)
-      → (p : List Deed) → HasList shape accepted text new p → IsReady shape accepted text words new
-  ready_after new ds same_cpu same_config at seat stands idle spare p now = record {
+      → length (batches_of new) + spare_count new.spare ≤ 1 + length new.end.spares → (p : List Deed) → HasList shape accepted text new p → IsReady shape accepted text words new
+  ready_after new ds same_cpu same_config at seat stands idle spare not_many p now = record {
     at = at;
     seat = seat ∙ (was.seat ∙ same_cpu);
     config = was.config ∙ same_config;
@@ -65,6 +94,7 @@ module _ (shape : ℕ → Option Shape) (accepted : Record → Bool) (text : Rec
     sound = subst (λ (k : Config). IsSound k (known new.seat).seen) same_config stands.sound;
     part_is = subst (λ (x : ℕ). part (CpuActor x) (known new.seat).seen ≡ (known new.seat).own) same_cpu stands.part_is;
     spare = spare;
+    few = not_many;
     list = p;
     listed = now;
   }
@@ -93,33 +123,10 @@ module _ (shape : ℕ → Option Shape) (accepted : Record → Bool) (text : Rec
   balanced p had = (own_report shape cpu.config cpu.cpu 0 (known cpu.seat).seen p was.sound had.shown.legal (had.own ∙ sym was.part_is)).1.sum
 
   pub fated_within : with_fate cpu.counts ≤ cpu.counts.offered
-  fated_within = let sum = balanced was.list was.listed in rw was.listed.shown.counted (omega arith)
+  fated_within = fated_by cpu.config cpu.cpu cpu.counts was.list was.listed.shown.counted (balanced was.list was.listed)
 
-  pub told : (p : List Deed) → HasList shape accepted text cpu p → (answer : Report)
-      → answer ≡ record {
-        offered = cpu.counts.offered;
-        accepted = cpu.counts.accepted;
-        dropped = cpu.counts.dropped;
-        specdropped = cpu.counts.specdropped;
-        lost = cpu.counts.lost;
-        discarded = cpu.counts.discarded;
-        void = cpu.counts.void;
-        held = cpu.counts.offered - with_fate cpu.counts;
-        drops = cpu.counts.drops;
-        unavailable = cpu.counts.unavailable;
-        busy = cpu.counts.busy;
-        stopped = cpu.counts.stopped;
-        worn = cpu.counts.worn;
-      }
-      → answer ≡ report cpu.config cpu.cpu cpu.counts.worn p
-  told p had answer is =
-      let sum = balanced p had in
-      let n : Counts = counts_of cpu.config cpu.cpu cpu.counts.worn p in
-      let left : n.offered - with_fate n ≡ length (speculative cpu.cpu p) = omega arith in
-      is ∙ (ap report_of had.shown.counted ∙ ap (λ (h : ℕ). record (report cpu.config cpu.cpu cpu.counts.worn p) { held = h }) left)
-    where
-      report_of : Counts → Report
-      report_of m = record { offered = m.offered; accepted = m.accepted; dropped = m.dropped; specdropped = m.specdropped; lost = m.lost; discarded = m.discarded; void = m.void; held = m.offered - with_fate m; drops = m.drops; unavailable = m.unavailable; busy = m.busy; stopped = m.stopped; worn = m.worn }
+  pub told : (p : List Deed) → HasList shape accepted text cpu p → (answer : Report) → answer ≡ told_of cpu.counts → answer ≡ report cpu.config cpu.cpu cpu.counts.worn p
+  told p had answer is = told_by cpu.config cpu.cpu cpu.counts p had.shown.counted (balanced p had) answer is
 
   pub few : cpu.cpu < cpu.config.cpus
   few = subst (λ (x : ℕ × Config). x.0 < x.1.cpus) (λ i. (was.seat i, set_up_is i)) cpu.seat.is_one

@@ -9,9 +9,9 @@ use Rattle.dspec_deeds.specs.declared.deed.SpeculateFate.{SpeculateFate}
 use Rattle.dspec_deeds.specs.declared.deed.SpeculateFate.TheVariants as spoken
 use Rattle.dspec_deeds.specs.declared.deed.DecideFate.{DecideFate}
 use Rattle.dspec_deeds.specs.declared.deed.DecideFate.TheVariants as decided
-use Rattle.dspec_deeds.specs.FateKinds.{is_commit, is_discard}
+use Rattle.dspec_deeds.specs.FateKinds.{is_commit, is_discard, decided_stopped}
 use Rattle.dspec_deeds.specs.declared.deed.Deed.{Deed}
-use Rattle.dspec_deeds.specs.declared.deed.Deed.TheVariants.{Trace, Speculate, Commit, Discard, Release}
+use Rattle.dspec_deeds.specs.declared.deed.Deed.TheVariants.{Trace, Speculate, Commit, Discard, Settle, Release}
 use Rattle.dspec_deeds.specs.Own.{empty_batch, growing, is_drop, seals_now, accepts}
 use Rattle.dspec_deeds.specs.Reports.{total, one_if}
 use Rattle.dspec_deeds.proofs.TestLemmas.{number_is_itself}
@@ -48,6 +48,14 @@ module _ (k : Config) (c w : ℕ) (p : List Deed) where
   discard_counts id (decided.Thrown m) lawful = rw (number_is_itself c) (λ i. record n { offered = add-zero n.offered i; accepted = n.accepted + 0; dropped = add-zero n.dropped i; specdropped = add-zero n.specdropped i; lost = n.lost + 0; discarded = n.discarded + m; void = add-zero n.void i; drops = n.drops + 0; unavailable = add-zero n.unavailable i; busy = add-zero n.busy i; stopped = n.stopped + 0 })
   discard_counts id decided.Void lawful = λ i. record n { offered = add-zero n.offered i; accepted = n.accepted + 0; dropped = add-zero n.dropped i; specdropped = add-zero n.specdropped i; lost = n.lost + 0; discarded = n.discarded + 0; void = add-zero n.void i; drops = n.drops + 0; unavailable = add-zero n.unavailable i; busy = add-zero n.busy i; stopped = n.stopped + 0 }
   discard_counts id decided.Stopped lawful = rw (number_is_itself c) (λ i. record n { offered = add-zero n.offered i; accepted = n.accepted + 0; dropped = add-zero n.dropped i; specdropped = add-zero n.specdropped i; lost = n.lost + 0; discarded = n.discarded + 0; void = add-zero n.void i; drops = n.drops + 0; unavailable = add-zero n.unavailable i; busy = add-zero n.busy i; stopped = n.stopped + 1 })
+
+  -- a settlement is never stopped
+  pub settle_counts : (id : Speculation) (f : DecideFate) → decided_stopped f ≡ false → counts_of k c w (Settle c id f ∷ p) ≡ with_decided f n
+  settle_counts id (decided.Copied m) lawful = rw (number_is_itself c) (λ i. record n { offered = add-zero n.offered i; accepted = n.accepted + m; dropped = add-zero n.dropped i; specdropped = add-zero n.specdropped i; lost = n.lost + 0; discarded = n.discarded + 0; void = add-zero n.void i; drops = n.drops + 0; unavailable = add-zero n.unavailable i; busy = add-zero n.busy i; stopped = n.stopped + 0 })
+  settle_counts id (decided.Lost m) lawful = rw (number_is_itself c) (λ i. record n { offered = add-zero n.offered i; accepted = n.accepted + 0; dropped = add-zero n.dropped i; specdropped = add-zero n.specdropped i; lost = n.lost + m; discarded = n.discarded + 0; void = add-zero n.void i; drops = n.drops + 1; unavailable = add-zero n.unavailable i; busy = add-zero n.busy i; stopped = n.stopped + 0 })
+  settle_counts id (decided.Thrown m) lawful = rw (number_is_itself c) (λ i. record n { offered = add-zero n.offered i; accepted = n.accepted + 0; dropped = add-zero n.dropped i; specdropped = add-zero n.specdropped i; lost = n.lost + 0; discarded = n.discarded + m; void = add-zero n.void i; drops = n.drops + 0; unavailable = add-zero n.unavailable i; busy = add-zero n.busy i; stopped = n.stopped + 0 })
+  settle_counts id decided.Void lawful = λ i. record n { offered = add-zero n.offered i; accepted = n.accepted + 0; dropped = add-zero n.dropped i; specdropped = add-zero n.specdropped i; lost = n.lost + 0; discarded = n.discarded + 0; void = add-zero n.void i; drops = n.drops + 0; unavailable = add-zero n.unavailable i; busy = add-zero n.busy i; stopped = n.stopped + 0 }
+  settle_counts id decided.Stopped lawful = absurd (true≢false lawful)
 
   -- a release counts nothing
   pub released_counts : (s : ℕ) → counts_of k c w (Release s ∷ p) ≡ n

@@ -1,10 +1,12 @@
 -- The counts that a CPU keeps, read off its own list. The records held are what is left of those offered.
-use Rattle.std.specs.Prelude.{ℕ, ◌+◌, ◌^◌, ◌<◌, Bool, nat_lt, List, if◌then◌else◌}
+use Rattle.std.specs.Prelude.{ℕ, ◌+◌, ◌^◌, ◌<◌, Bool, true, false, nat_lt, List, if◌then◌else◌}
 use Rattle.dspec_deeds.specs.declared.config.Config.{Config}
 use Rattle.dspec_deeds.specs.declared.deed.TraceFate.{TraceFate}
 use Rattle.dspec_deeds.specs.declared.deed.SpeculateFate.{SpeculateFate}
 use Rattle.dspec_deeds.specs.declared.deed.DecideFate.{DecideFate}
 use Rattle.dspec_deeds.specs.declared.deed.Deed.{Deed}
+use Rattle.dspec_deeds.specs.declared.calls.Opening.{Opening}
+use Rattle.dspec_deeds.specs.declared.calls.Opening.TheVariants as opening
 use Rattle.dspec_deeds.specs.FateKinds.{trace_kept, trace_dropped, trace_stopped, spoken_dropped, spoken_nowhere, spoken_stopped, is_copied, is_lost, is_discard, count_of, decided_stopped}
 use Rattle.dspec_deeds.specs.Own.{offers, is_drop}
 use Rattle.dspec_deeds.specs.Reports.{total, one_if, accepts_now, drops_now, specdrops_now, loses_now, discards_now, voids_now, stops_now, busy_fails, other_fails}
@@ -64,6 +66,26 @@ with_decided f n = record n {
   stopped = n.stopped + one_if (decided_stopped f);
 }
 
+abbrev pub is_unavailable : Opening → Bool
+is_unavailable opening.Unavailable = true
+is_unavailable a = false
+
+abbrev pub is_busy_answer : Opening → Bool
+is_busy_answer opening.Busy = true
+is_busy_answer a = false
+
+abbrev pub is_stopped_opening : Opening → Bool
+is_stopped_opening opening.Stopped = true
+is_stopped_opening a = false
+
+-- the counts with one call of speculation more
+abbrev pub with_opening : Opening → Counts → Counts
+with_opening a n = record n {
+  unavailable = n.unavailable + one_if (is_unavailable a);
+  busy = n.busy + one_if (is_busy_answer a);
+  stopped = n.stopped + one_if (is_stopped_opening a);
+}
+
 -- the records that are not held
 abbrev pub with_fate : Counts → ℕ
 with_fate n = n.accepted + n.dropped + n.specdropped + n.lost + n.discarded + n.void
@@ -81,3 +103,11 @@ pub record IsRoomy (n : Counts) : Type 0 where
   pub unavailable : n.unavailable < 2 ^ 63
   pub busy : n.busy < 2 ^ 63
   pub stopped : n.stopped < 2 ^ 63
+
+-- a decision more can be counted, or a settlement
+pub record HasRoom (f : DecideFate) (n : Counts) : Type 0 where
+  pub accepted : (with_decided f n).accepted < 2 ^ 64
+  pub lost : (with_decided f n).lost < 2 ^ 64
+  pub discarded : (with_decided f n).discarded < 2 ^ 64
+  pub drops : (with_decided f n).drops < 2 ^ 64
+  pub stopped : (with_decided f n).stopped < 2 ^ 64

@@ -4,3 +4,8 @@ pub mod Lists
 pub mod Calls
 pub mod Reaching
 pub mod Reached
+pub mod Scans
+pub mod Switching
+pub mod Settled
+pub mod Serving
+pub mod Rests

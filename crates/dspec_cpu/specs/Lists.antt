@@ -1,5 +1,5 @@
 -- Which lists of its own deeds a CPU has, the latest first, and whether it can be called.
-use Rattle.std.specs.Prelude.{ℕ, ◌≡◌, Bool, List, ◌++◌, reverse, Option, Some, None}
+use Rattle.std.specs.Prelude.{ℕ, ◌≡◌, ◌≤◌, ◌+◌, Bool, List, ◌++◌, length, reverse, Option, Some, None}
 use Rattle.dspec_record.specs.Record.{Record}
 use Rattle.dspec_record.specs.declared.field.Shape.{Shape}
 use Rattle.dspec_buffer.specs.Stored.{Stored}
@@ -17,6 +17,7 @@ use Rattle.dspec_table.specs.declared.seats.Words.{Words}
 use Rattle.dspec_table.specs.declared.seats.CpuSeat.{CpuSeat}
 use Rattle.dspec_table.specs.Seats.{known, IsAt, set_up, cpu_of}
 use Rattle.dspec_ring.specs.Known.{CpuKnows}
+use Rattle.dspec_cpu.specs.declared.counts.Counts.{Counts}
 use Rattle.dspec_cpu.specs.declared.cpu.Cpu.{Cpu}
 use Rattle.dspec_cpu.specs.declared.shared.Shared.{Shared}
 use Rattle.dspec_cpu.specs.Counting.{counts_of}
@@ -67,6 +68,18 @@ end_of cpu = cpu.end
 abbrev pub spare_of : {S : Type 0} → Cpu S → Option Stored
 spare_of cpu = cpu.spare
 
+-- how many buffers that is
+abbrev pub spare_count : Option Stored → ℕ
+spare_count None = 0
+spare_count (Some b) = 1
+
+-- the batch whose hand-over was refused, and how many batches it sealed
+abbrev pub in_hand_of : {S : Type 0} → Cpu S → Option Batch
+in_hand_of cpu = cpu.in_hand
+
+abbrev pub seals_of : {S : Type 0} → Cpu S → ℕ
+seals_of cpu = cpu.seals
+
 -- how many calls count towards the most that it makes
 abbrev pub calls_of : {S : Type 0} → Cpu S → ℕ
 calls_of cpu = cpu.calls
@@ -78,22 +91,27 @@ pub record IsSameCpu {S : Type 0} (old new : Cpu S) : Type 0 where
   pub number : new.cpu ≡ old.cpu
   pub pair : new.end.pair ≡ old.end.pair
 
-module _ (shape : ℕ → Option Shape) (accepted : Record → Bool) (text : Record → List ℕ) {S : Type 0} where
-  -- the list is legal in the CPU's own part; and buffers, acknowledgements, marks, batches and counts show it
-  pub record IsShown (cpu : Cpu S) (p : List Deed) : Type 0 where
-    pub legal : IsOwn shape cpu.config cpu.cpu p
-    pub side : ShowsOwnSide (HasSized shape accepted text) cpu.config (own_side cpu.cpu p) (side_of cpu)
-    pub sealed : AreSealed shape accepted text cpu.config cpu.cpu p (batches_of cpu)
-    pub counted : cpu.counts ≡ counts_of cpu.config cpu.cpu (worn_of cpu) p
+module _ (shape : ℕ → Option Shape) (accepted : Record → Bool) (text : Record → List ℕ) where
+  -- The list is legal in the own part of this CPU, and numbers and buffers, batches, the latest first, and counts show it: a
+  -- CPU's, and what is left of it once its seat and its end of the rings are taken off.
+  pub record AreShown (k : Config) (c : ℕ) (parts : SideParts Stored) (batches : List Batch) (counts : Counts) (p : List Deed) : Type 0 where
+    pub legal : IsOwn shape k c p
+    pub side : ShowsOwnSide (HasSized shape accepted text) k (own_side c p) parts
+    pub sealed : AreSealed shape accepted text k c p batches
+    pub counted : counts ≡ counts_of k c counts.worn p
+
+  abbrev pub IsShown : {S : Type 0} → Cpu S → List Deed → Type 0
+  IsShown cpu p = AreShown cpu.config cpu.cpu (side_of cpu) (batches_of cpu) cpu.counts p
 
   -- the CPU has the list: it shows it, and its seat has it without the Seals
-  pub record HasList (cpu : Cpu S) (p : List Deed) : Type 0 where
+  pub record HasList {S : Type 0} (cpu : Cpu S) (p : List Deed) : Type 0 where
     pub own : bare p ≡ (known cpu.seat).own
     pub shown : IsShown cpu p
 
   -- The CPU is one of that session, and no call of it is under way. What its seat has seen is legal, and the seat's list is its
-  -- part. There is a list that it has. A spare in hand has the size of a principal buffer.
-  pub record IsReady (words : Words) (cpu : Cpu S) : Type 0 where
+  -- part. There is a list that it has. A spare in hand has the size of a principal buffer. The CPU has two principal buffers
+  -- beside those that came to it, and one is active: the batches that it sealed and a spare in hand are the others.
+  pub record IsReady {S : Type 0} (words : Words) (cpu : Cpu S) : Type 0 where
     pub at : IsAt words cpu.seat
     pub seat : cpu_of cpu.seat ≡ cpu.cpu
     pub config : set_up words ≡ cpu.config
@@ -102,5 +120,6 @@ module _ (shape : ℕ → Option Shape) (accepted : Record → Bool) (text : Rec
     pub sound : IsSound cpu.config (known cpu.seat).seen
     pub part_is : part (CpuActor cpu.cpu) (known cpu.seat).seen ≡ (known cpu.seat).own
     pub spare : (b : Stored) → cpu.spare ≡ Some b → b.size ≡ cpu.config.bufsize
+    pub few : length (batches_of cpu) + spare_count cpu.spare ≤ 1 + length cpu.end.spares
     pub list : List Deed
     pub listed : HasList cpu list

@@ -1,5 +1,6 @@
-ghost use Rattle.std.specs.Prelude.{◌≡◌, ◌<◌, ◌+◌, true, List, [], ◌∷◌, length, map, Some, slice_get, slice_set, if◌then◌else◌};
+ghost use Rattle.std.specs.Prelude.{◌≡◌, ◌<◌, ◌+◌, true, List, [], ◌∷◌, length, map, Some, slice_get, slice_set, ℕ, Option, if◌then◌else◌};
 ghost use Rattle.dspec_record.specs.Record.{Record};
+ghost use Rattle.dspec_record.specs.declared.field.Shape.{Shape};
 ghost use Rattle.dspec_buffer.specs.Extent.{Piece, one, block, fits};
 ghost use Rattle.dspec_buffer.specs.Stored.{Stored};
 ghost use Rattle.dspec_deeds.specs.declared.deed.Deed.{Deed};
@@ -7,10 +8,15 @@ ghost use Rattle.dspec_deeds.specs.History.{in_range};
 ghost use Rattle.dspec_deeds.specs.Legal.{fits_principal};
 ghost use Rattle.dspec_deeds.specs.Marks.{mark};
 ghost use Rattle.dspec_deeds.specs.Own.{active, contents, held};
+ghost use Rattle.dspec_cpu.specs.Counting.{counts_of};
+ghost use Rattle.dspec_cpu.specs.Sealed.{HasSized};
 
+use crate::counts::Counts;
 use crate::cpu::Cpu;
+use crate::fitting::is_shut;
 use crate::listed::Listed;
 use dspec_buffer::{ByteBuffer, TraceBuffer};
+use dspec_deeds::Config;
 use dspec_record::Schema;
 use dspec_word::SpecId;
 
@@ -60,18 +66,34 @@ pub(crate) fn end_block<S: Schema>(
     <ByteBuffer as TraceBuffer<S>>::clear(buffer);
 }
 
-impl<S: Schema> Cpu<S> {
-    // Whether the active principal buffer takes a block of so many records that has room there: unless it is closed, and then an
-    // empty one.
-    fn takes(&self, room: bool, count: u32) -> bool
-        ensures { (p : List Deed) → ⟦<Cpu<S> as Listed>⟧.is_shown self.now p → (rs : List Record) → count ≡ length rs
-            → room ≡ fits (S.shape_of self.now.schema) (active self.now.cpu p) (block rs) self.now.config.bufsize
-            → result ≡ fits_principal (S.shape_of self.now.schema) self.now.config self.now.cpu (block rs) p }
-    {
-        let shut = self.is_shut();
-        room && (count == 0 || !shut)
-    }
+// Whether the active principal buffer takes a block of so many records that has room there: unless it is closed, and then an
+// empty one.
+fn takes(config: &Config, counts: &Counts, room: bool, count: u32) -> bool
+    ensures { (shape : ℕ → Option Shape) (c worn : ℕ) (p : List Deed) (rs : List Record) → counts.now ≡ counts_of config.now c worn p → count ≡ length rs
+        → room ≡ fits shape (active c p) (block rs) config.now.bufsize → result ≡ fits_principal shape config.now c (block rs) p }
+{
+    let shut = is_shut(config, counts);
+    room && (count == 0 || !shut)
+}
 
+/// Whether the active principal buffer would take the whole text of a buffer, or no text at all, and how many records that has.
+pub(crate) fn measure_block<S: Schema>(
+    config: &Config,
+    counts: &Counts,
+    principal: &ByteBuffer,
+    buffer: &ByteBuffer,
+    mine: bool,
+) -> (bool, u32)
+    ensures fits { (s : S) (c worn : ℕ) (p : List Deed) (rs : List Record) → counts.now ≡ counts_of config.now c worn p
+        → HasSized (S.shape_of s) (S.accepted s) (S.text s) config.now.bufsize (active c p) principal.now → ⟦<ByteBuffer as TraceBuffer<S>>⟧.has buffer.now s (map one rs)
+        → result.0 ≡ fits_principal (S.shape_of s) config.now c (block (if mine then rs else [])) p }
+    ensures count { (s : S) (rs : List Record) → ⟦<ByteBuffer as TraceBuffer<S>>⟧.has buffer.now s (map one rs) → result.1 ≡ length (if mine then rs else []) }
+{
+    let (room, count) = measure::<S>(principal, buffer, mine);
+    (takes(config, counts, room, count), count)
+}
+
+impl<S: Schema> Cpu<S> {
     /// Whether the active principal buffer would take the CPU's block of the speculation, and how many records that has; nothing
     /// outside the slots.
     pub(crate) fn measure_slot(&self, id: SpecId, mine: bool, inside: bool) -> (bool, u32)
@@ -86,7 +108,6 @@ impl<S: Schema> Cpu<S> {
             return (false, 0);
         }
         let buffer = &self.speculative[id.slot() as usize - 1];
-        let (room, count) = measure::<S>(&self.active, buffer, mine);
-        (self.takes(room, count), count)
+        measure_block::<S>(&self.config, &self.counts, &self.active, buffer, mine)
     }
 }

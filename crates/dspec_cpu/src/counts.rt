@@ -1,8 +1,9 @@
-ghost use Rattle.std.specs.Prelude.{◌≡◌, ℕ, []};
+ghost use Rattle.std.specs.Prelude.{◌≡◌, ◌<◌, ◌^◌, ℕ, []};
 ghost use Rattle.dspec_deeds.specs.declared.config.Config.{Config};
-ghost use Rattle.dspec_cpu.specs.Counting.{IsRoomy, counts_of, one_more_worn, with_decided, with_spoken, with_traced};
+ghost use Rattle.dspec_deeds.specs.FateKinds.{count_of};
+ghost use Rattle.dspec_cpu.specs.Counting.{HasRoom, IsRoomy, counts_of, one_more_worn, with_decided, with_opening, with_spoken, with_traced};
 
-use dspec_deeds::{DecideFate, SpeculateFate, TraceFate};
+use dspec_deeds::{DecideFate, Opening, SpeculateFate, TraceFate};
 
 /// What a CPU has counted: records offered and what became of them, and events. The records held are what is left.
 #[derive(Clone, Copy, Debug)]
@@ -79,9 +80,9 @@ impl Counts {
         }
     }
 
-    /// Counts a decision, or a settlement.
+    /// Counts a decision, or a settlement. The number of records is one of 32 bits.
     pub(crate) fn decide(&mut self, fate: DecideFate)
-        requires roomy { IsRoomy self.old }
+        requires room { count_of fate < 2 ^ 32 → HasRoom fate self.old }
         ensures { self.new ≡ with_decided fate self.old }
     {
         match fate {
@@ -93,6 +94,19 @@ impl Counts {
             DecideFate::Thrown(count) => self.discarded += count as u64,
             DecideFate::Void => {}
             DecideFate::Stopped => self.stopped += 1,
+        }
+    }
+
+    /// Counts a call of speculation.
+    pub(crate) fn open(&mut self, answer: &Opening)
+        requires roomy { IsRoomy self.old }
+        ensures { self.new ≡ with_opening answer.now self.old }
+    {
+        match answer {
+            Opening::Unavailable => self.unavailable += 1,
+            Opening::Busy => self.busy += 1,
+            Opening::Stopped => self.stopped += 1,
+            Opening::Id(_) | Opening::Worn => {}
         }
     }
 

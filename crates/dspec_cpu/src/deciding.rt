@@ -15,8 +15,8 @@ use dspec_record::Schema;
 use dspec_table::Doing;
 use dspec_word::{Code, SpecId};
 
-// What becomes of a block, and the answer that tells it.
-fn fate_of(fits: bool, count: u32) -> (DecideFate, Decided)
+/// What becomes of a block, and the answer that tells it.
+pub(crate) fn fate_of(fits: bool, count: u32) -> (DecideFate, Decided)
     ensures fate { result.0 ≡ (if fits then DecideFate.Copied count else DecideFate.Lost count) }
     ensures answer { result.1 ≡ (if fits then Decided.Copied count else Decided.Lost count) }
 {
@@ -27,8 +27,8 @@ fn fate_of(fits: bool, count: u32) -> (DecideFate, Decided)
     }
 }
 
-// How many drops a block is.
-fn drops_of(fits: bool) -> u64
+/// How many drops a block is.
+pub(crate) fn drops_of(fits: bool) -> u64
     ensures { result ≡ (if fits then 0 else 1) }
 {
     if fits { 0 } else { 1 }

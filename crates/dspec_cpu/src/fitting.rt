@@ -1,11 +1,14 @@
-ghost use Rattle.std.specs.Prelude.{◌≡◌, true, List, [], ◌∷◌, IsTrue, if◌then◌else◌};
+ghost use Rattle.std.specs.Prelude.{◌≡◌, ℕ, true, List, [], ◌∷◌, IsTrue, if◌then◌else◌};
 ghost use Rattle.dspec_buffer.specs.Extent.{Piece, one, fits};
 ghost use Rattle.dspec_deeds.specs.declared.deed.Deed.{Deed};
 ghost use Rattle.dspec_deeds.specs.Legal.{fits_principal, is_closed};
+ghost use Rattle.dspec_cpu.specs.Counting.{counts_of};
 
+use crate::counts::Counts;
 use crate::cpu::Cpu;
 use crate::listed::Listed;
 use dspec_buffer::{ByteBuffer, TraceBuffer};
+use dspec_deeds::Config;
 use dspec_record::{Rec, Schema};
 
 /// Whether a record would fit.
@@ -19,15 +22,15 @@ pub(crate) fn would_fit<S: Schema>(buffer: &ByteBuffer, schema: &S, rec: &Rec) -
     <ByteBuffer as TraceBuffer<S>>::fits(buffer, shape.align, shape.size)
 }
 
-impl<S: Schema> Cpu<S> {
-    /// Whether the active principal buffer takes nothing more but empty blocks: under Fill, once it has refused a reservation.
-    #[inline]
-    pub(crate) fn is_shut(&self) -> bool
-        ensures { (p : List Deed) → ⟦<Cpu<S> as Listed>⟧.is_shown self.now p → result ≡ is_closed self.now.config self.now.cpu p }
-    {
-        self.config.policy.is_fill() && self.counts.drops > 0
-    }
+/// Whether the active principal buffer takes nothing more but empty blocks: under Fill, once it has refused a reservation.
+#[inline]
+pub(crate) fn is_shut(config: &Config, counts: &Counts) -> bool
+    ensures { (c worn : ℕ) (p : List Deed) → counts.now ≡ counts_of config.now c worn p → result ≡ is_closed config.now c p }
+{
+    config.policy.is_fill() && counts.drops > 0
+}
 
+impl<S: Schema> Cpu<S> {
     /// Whether the active principal buffer would take a record.
     #[inline]
     pub(crate) fn fits_record(&self, rec: &Rec) -> bool
@@ -35,7 +38,7 @@ impl<S: Schema> Cpu<S> {
         ensures { (p : List Deed) → ⟦<Cpu<S> as Listed>⟧.is_shown self.now p
             → result ≡ fits_principal (S.shape_of self.now.schema) self.now.config self.now.cpu (one rec.now) p }
     {
-        would_fit(&self.active, &self.schema, rec) && !self.is_shut()
+        would_fit(&self.active, &self.schema, rec) && !is_shut(&self.config, &self.counts)
     }
 }
 

@@ -12,8 +12,8 @@ use dspec_deeds::Report;
 use dspec_record::Schema;
 
 impl Counts {
-    // The report of what was counted: the records that have no other fate are held.
-    fn report(&self) -> Report
+    /// The report of what was counted: the records that have no other fate are held.
+    pub(crate) fn report(&self) -> Report
         requires enough { with_fate self.now ≤ self.now.offered }
         ensures { result ≡ record {
           offered = self.now.offered;

@@ -14,6 +14,8 @@ use std::process::Abort;
 use std::test::Fail;
 
 mod deciding;
+mod meeting;
+mod opening;
 
 /// One CPU, one slot and buffers of 8 bytes, two records each.
 fn small(policy: Policy, max_calls: u64) -> Config

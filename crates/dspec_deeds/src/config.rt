@@ -1,6 +1,9 @@
 ghost use Rattle.std.specs.Prelude.{◌≡◌, ◌≤◌, ◌^◌, ◌↔◌, IsTrue, IsOk, IfErr};
 ghost use Rattle.dspec_deeds.specs.Ranges.{start_fault, is_size, is_fill};
 
+use std::error::Error;
+use std::fmt;
+
 /// What becomes of a principal buffer that is full: the Guide's chapter on buffers has both.
 #[derive(Clone, Copy, Debug, PartialEq, Eq)]
 pub enum Policy {
@@ -44,13 +47,37 @@ pub struct Config {
 /// Why a session can't start, in the order in which the fields are looked at.
 #[derive(Clone, Copy, Debug, PartialEq, Eq)]
 pub enum StartFault {
+    /// Not 1 to 64 CPUs.
     Cpus,
+    /// Not 1 to 63 speculations.
     Specs,
+    /// A principal buffer of a size that isn't a multiple of 8 bytes from 8 bytes to a mebibyte.
     BufSize,
+    /// A speculative buffer of such a size.
     SpecSize,
+    /// Not 1 to 2^57 issues of a slot.
     Issues,
+    /// Not 1 to 2^62 calls of a CPU.
     Calls,
+    /// The fields are in range, and a growth was refused.
     Memory,
+}
+
+impl Error for StartFault {}
+
+/// As a schedule's refused `config` line is told, by the number that is out of range.
+impl fmt::Display for StartFault {
+    fn fmt<W: fmt::Write>(&self, f: &mut fmt::Formatter<W>) -> fmt::Result {
+        f.pad(match self {
+            StartFault::Cpus => "config refused: cpus",
+            StartFault::Specs => "config refused: nspec",
+            StartFault::BufSize => "config refused: bufsize",
+            StartFault::SpecSize => "config refused: specsize",
+            StartFault::Issues => "config refused: issues",
+            StartFault::Calls => "config refused: calls",
+            StartFault::Memory => "out of memory",
+        })
+    }
 }
 
 /// The largest size of a buffer, in bytes.

@@ -2,17 +2,30 @@
 /// void and held; the others count events.
 #[derive(Clone, Copy, Debug, Default, PartialEq, Eq)]
 pub struct Report {
+    /// Records handed to trace or speculate, by calls that weren't worn.
     pub offered: u64,
+    /// Records that the principal buffers took: traced ones, and those of copied blocks.
     pub accepted: u64,
+    /// Traced records that the principal buffer had no room for.
     pub dropped: u64,
+    /// Records that a speculative buffer had no room for.
     pub specdropped: u64,
+    /// Records of committed blocks that the principal buffer had no room for, each block whole.
     pub lost: u64,
+    /// Records thrown away by a discard.
     pub discarded: u64,
+    /// Records offered behind a stop, or to a speculation that wasn't open.
     pub void: u64,
+    /// Records that wait in speculative buffers for a decision, or for this CPU to settle it.
     pub held: u64,
+    /// Reservations that the principal buffer refused: one for each dropped record and for each lost block.
     pub drops: u64,
+    /// Calls of speculation that were answered Unavailable.
     pub unavailable: u64,
+    /// Calls of speculation that were answered Busy.
     pub busy: u64,
+    /// Calls that were answered Stopped.
     pub stopped: u64,
+    /// Calls that were answered Worn, of which nothing else is counted; no more are counted than 64 bits hold.
     pub worn: u64,
 }

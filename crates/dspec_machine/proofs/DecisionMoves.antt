@@ -79,7 +79,7 @@ act_reads Discard h c id w mine is told = discard_reads h c id w mine is told
 module _ (shape : ℕ → Option Shape) (k : Config) (c : ℕ) (h : List Deed) (me : Caller) (id : Speculation) where
   -- the first step
   pub begins : (d : Decision) → cpu_step shape k c h me (begun_of d id)
-      ≡ (if is_worn shape k c h me then wears shape k c h me (answer.Decided decided_answer.Worn)
+      ≡ (if is_worn k c h then wears shape k c h me (answer.Decided decided_answer.Worn)
       else if halted h then ends shape k c h me (deed_of d c id decided.Stopped ∷ []) (answer_of decided.Stopped)
       else if in_range k id then goes_on shape k c h me [] (load_of d id)
       else ends shape k c h me (deed_of d c id decided.Void ∷ []) (answer_of decided.Void))

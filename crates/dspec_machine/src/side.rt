@@ -14,6 +14,7 @@ use std::alloc::AllocError;
 /// slot, and what its calls and the consumer's left.
 #[derive(Drop)]
 pub struct Side<B> {
+    /// The call in flight, and what the consumer asked, took and gave back.
     pub caller: Caller,
     /// How many calls count towards the most that the CPU makes.
     pub calls: u64,
@@ -27,13 +28,17 @@ pub struct Side<B> {
     pub marks: Vec<u64>,
     /// The speculative buffer of each slot.
     pub speculative: Vec<B>,
+    /// The principal buffer that is written.
     pub active: B,
     /// The other principal buffer, wherever it is.
     pub second: B,
+    /// What the principal buffers accepted, in order.
     pub accepted: Series<Rec>,
+    /// What the consumer has taken, in order.
     pub taken: Series<Rec>,
-    /// The drops since the last seal, and those of the batch sealed last.
+    /// The drops since the last seal.
     pub drops: u64,
+    /// The drops of the batch sealed last.
     pub sealed_drops: u64,
 }
 

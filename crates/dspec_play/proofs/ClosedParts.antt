@@ -86,7 +86,7 @@ module _ (shape : ℕ → Option Shape) (k : Config) where
   slots_other x c (suc n) g other = slot_other x c (suc n) (closed_slots shape k c n g) other ∙ slots_other x c n g other
 
   -- all CPUs
-  cpus_words : (n : ℕ) (g : List Deed) → words_of (closed_cpus shape k n g) ≡ words_of g
+  pub cpus_words : (n : ℕ) (g : List Deed) → words_of (closed_cpus shape k n g) ≡ words_of g
   cpus_words zero g = refl
   cpus_words (suc n) g = slots_words n k.nspec (closed_cpus shape k n g) ∙ cpus_words n g
 

@@ -65,11 +65,6 @@ module _ (shape : ℕ → Option Shape) (k : Config) (c : ℕ) (h : List Deed) (
       → record { caller = record me { flight = Some (cpu.DiscardTry id v); steps = me.steps + 1 }; deeds = []; answer = a } ≡ shown_discard shape k c h me id w act
   discard_next v to act a is attempts none = rw (is, attempts, none) refl
 
-module _ (shape : ℕ → Option Shape) (k : Config) (c : ℕ) (h : List Deed) (me : Caller) where
-  -- a call that has ended
-  pub ended : (ds : List Deed) (a : Option Answer) (x : Answer) → a ≡ Some x → record { caller = record me { flight = None; steps = 0 }; deeds = ds; answer = a } ≡ ends shape k c h me ds x
-  ended ds a x e = rw e refl
-
 module _ (shape : ℕ → Option Shape) (k : Config) (c : ℕ) (h : List Deed) (me : Caller) (id : Speculation) where
   -- the one deed of a commit that decides
   pub committed_deeds : (act : Act) → (committed_by shape k c h me id act).deeds ≡ Commit c id (commit_fate shape k c h id) ∷ []

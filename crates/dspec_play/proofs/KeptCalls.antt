@@ -140,11 +140,11 @@ module _ (P : CpuOp → Type 0) where
     opens_with worn stopped x y z p q r = either worn x _ p (either stopped y z q r)
 
     begun_leaves : (o : CpuOp) → P o → Leaves (begun shape k c h me o)
-    begun_leaves (cpu_op.Trace r) e = opens_with (is_worn shape k c h me) (halted h) _ _ _ done done (either (fits_principal shape k c (one r) h) _ _ done done)
-    begun_leaves cpu_op.Speculation e = opens_with (is_worn shape k c h me) (halted h) _ _ _ done done (on (cpu.ScanLoad 1) e)
-    begun_leaves (cpu_op.Speculate id r) e = opens_with (is_worn shape k c h me) (halted h) _ _ _ done done (either (in_range k id) _ _ (on (cpu.SpeculateLoad id r) e) done)
-    begun_leaves (cpu_op.Commit id) e = opens_with (is_worn shape k c h me) (halted h) _ _ _ done done (either (in_range k id) _ _ (on (cpu.CommitLoad id) e) done)
-    begun_leaves (cpu_op.Discard id) e = opens_with (is_worn shape k c h me) (halted h) _ _ _ done done (either (in_range k id) _ _ (on (cpu.DiscardLoad id) e) done)
+    begun_leaves (cpu_op.Trace r) e = opens_with (is_worn k c h) (halted h) _ _ _ done done (either (fits_principal shape k c (one r) h) _ _ done done)
+    begun_leaves cpu_op.Speculation e = opens_with (is_worn k c h) (halted h) _ _ _ done done (on (cpu.ScanLoad 1) e)
+    begun_leaves (cpu_op.Speculate id r) e = opens_with (is_worn k c h) (halted h) _ _ _ done done (either (in_range k id) _ _ (on (cpu.SpeculateLoad id r) e) done)
+    begun_leaves (cpu_op.Commit id) e = opens_with (is_worn k c h) (halted h) _ _ _ done done (either (in_range k id) _ _ (on (cpu.CommitLoad id) e) done)
+    begun_leaves (cpu_op.Discard id) e = opens_with (is_worn k c h) (halted h) _ _ _ done done (either (in_range k id) _ _ (on (cpu.DiscardLoad id) e) done)
     begun_leaves cpu_op.Service e =
         either (is_fill k.policy) _ _
         (service_leaves 1 record { sealed = false; settled = 0 } (word_at 1 h) (settle_at (word_at 1 h) (ack c 1 h)) e)

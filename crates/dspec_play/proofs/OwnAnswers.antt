@@ -218,28 +218,28 @@ module _ (shape : ℕ → Option Shape) (k : Config) (c : ℕ) (h : List Deed) (
   begun_reads : (o : CpuOp) → Does o [] (begun shape k c h me o)
   begun_reads (cpu_op.Trace r) =
       let o = cpu_op.Trace r in
-      opens_with o (is_worn shape k c h me) (halted h) (wears shape k c h me (answer.Traced traced_answer.Worn)) _ _ (worn_out o (answer.Traced traced_answer.Worn) refl refl)
+      opens_with o (is_worn k c h) (halted h) (wears shape k c h me (answer.Traced traced_answer.Worn)) _ _ (worn_out o (answer.Traced traced_answer.Worn) refl refl)
       (done o [] (Trace c r traced.Stopped ∷ []) (answer.Traced traced_answer.Stopped) refl refl)
       (either o [] (fits_principal shape k c (one r) h) _ _ (done o [] (Trace c r traced.Kept ∷ []) (answer.Traced traced_answer.Kept) refl refl) (done o [] (Trace c r traced.Dropped ∷ []) (answer.Traced traced_answer.Dropped) refl refl))
   begun_reads cpu_op.Speculation =
       let o = cpu_op.Speculation in
       let fresh : false ≡ missed_busy c (Scan c true ∷ h) = rw (number_is_itself c) refl in
-      opens_with o (is_worn shape k c h me) (halted h) (wears shape k c h me (answer.Opening opening.Worn)) _ _ (worn_out o (answer.Opening opening.Worn) refl refl)
+      opens_with o (is_worn k c h) (halted h) (wears shape k c h me (answer.Opening opening.Worn)) _ _ (worn_out o (answer.Opening opening.Worn) refl refl)
       (done o [] (Scan c false ∷ []) (answer.Opening opening.Stopped) refl refl)
       (on o [] (Scan c true ∷ []) (cpu.ScanLoad 1) fresh)
   begun_reads (cpu_op.Speculate id r) =
       let o = cpu_op.Speculate id r in
-      opens_with o (is_worn shape k c h me) (halted h) (wears shape k c h me (answer.Spoken spoken_answer.Worn)) _ _ (worn_out o (answer.Spoken spoken_answer.Worn) refl refl)
+      opens_with o (is_worn k c h) (halted h) (wears shape k c h me (answer.Spoken spoken_answer.Worn)) _ _ (worn_out o (answer.Spoken spoken_answer.Worn) refl refl)
       (done o [] (Speculate c id r spoken.Stopped ∷ []) (answer.Spoken spoken_answer.Stopped) refl refl)
       (either o [] (in_range k id) _ _ (on o [] [] (cpu.SpeculateLoad id r) refl) (done o [] (Speculate c id r spoken.Void ∷ []) (answer.Spoken spoken_answer.Void) refl refl))
   begun_reads (cpu_op.Commit id) =
       let o = cpu_op.Commit id in
-      opens_with o (is_worn shape k c h me) (halted h) (wears shape k c h me (answer.Decided decided_answer.Worn)) _ _ (worn_out o (answer.Decided decided_answer.Worn) refl refl)
+      opens_with o (is_worn k c h) (halted h) (wears shape k c h me (answer.Decided decided_answer.Worn)) _ _ (worn_out o (answer.Decided decided_answer.Worn) refl refl)
       (done o [] (Commit c id decided.Stopped ∷ []) (answer.Decided decided_answer.Stopped) refl refl)
       (either o [] (in_range k id) _ _ (on o [] [] (cpu.CommitLoad id) refl) (done o [] (Commit c id decided.Void ∷ []) (answer.Decided decided_answer.Void) refl refl))
   begun_reads (cpu_op.Discard id) =
       let o = cpu_op.Discard id in
-      opens_with o (is_worn shape k c h me) (halted h) (wears shape k c h me (answer.Decided decided_answer.Worn)) _ _ (worn_out o (answer.Decided decided_answer.Worn) refl refl)
+      opens_with o (is_worn k c h) (halted h) (wears shape k c h me (answer.Decided decided_answer.Worn)) _ _ (worn_out o (answer.Decided decided_answer.Worn) refl refl)
       (done o [] (Discard c id decided.Stopped ∷ []) (answer.Decided decided_answer.Stopped) refl refl)
       (either o [] (in_range k id) _ _ (on o [] [] (cpu.DiscardLoad id) refl) (done o [] (Discard c id decided.Void ∷ []) (answer.Decided decided_answer.Void) refl refl))
   begun_reads cpu_op.Service =

@@ -138,11 +138,11 @@ module _ (shape : ℕ → Option Shape) (k : Config) (c : ℕ) (h : List Deed) (
   opens_with most worn stopped x y z p q r = either most worn x _ p (either most stopped y z q r)
 
   begun_ends : (o : CpuOp) → Advances (flight_bound k (cpu.Begun o)) (begun shape k c h me o)
-  begun_ends (cpu_op.Trace r) = opens_with 1 (is_worn shape k c h me) (halted h) _ _ _ (done _ _ _ refl refl) (done _ _ _ refl refl) (either 1 (fits_principal shape k c (one r) h) _ _ (done _ _ _ refl refl) (done _ _ _ refl refl))
-  begun_ends cpu_op.Speculation = opens_with (1 + 2 * k.nspec) (is_worn shape k c h me) (halted h) _ _ _ (done _ _ _ refl refl) (done _ _ _ refl refl) (on _ _ _ refl refl refl refl)
-  begun_ends (cpu_op.Speculate id r) = opens_with 4 (is_worn shape k c h me) (halted h) _ _ _ (done _ _ _ refl refl) (done _ _ _ refl refl) (either 4 (in_range k id) _ _ (on _ _ _ refl refl refl refl) (done _ _ _ refl refl))
-  begun_ends (cpu_op.Commit id) = opens_with 5 (is_worn shape k c h me) (halted h) _ _ _ (done _ _ _ refl refl) (done _ _ _ refl refl) (either 5 (in_range k id) _ _ (on _ _ _ refl refl refl refl) (done _ _ _ refl refl))
-  begun_ends (cpu_op.Discard id) = opens_with 5 (is_worn shape k c h me) (halted h) _ _ _ (done _ _ _ refl refl) (done _ _ _ refl refl) (either 5 (in_range k id) _ _ (on _ _ _ refl refl refl refl) (done _ _ _ refl refl))
+  begun_ends (cpu_op.Trace r) = opens_with 1 (is_worn k c h) (halted h) _ _ _ (done _ _ _ refl refl) (done _ _ _ refl refl) (either 1 (fits_principal shape k c (one r) h) _ _ (done _ _ _ refl refl) (done _ _ _ refl refl))
+  begun_ends cpu_op.Speculation = opens_with (1 + 2 * k.nspec) (is_worn k c h) (halted h) _ _ _ (done _ _ _ refl refl) (done _ _ _ refl refl) (on _ _ _ refl refl refl refl)
+  begun_ends (cpu_op.Speculate id r) = opens_with 4 (is_worn k c h) (halted h) _ _ _ (done _ _ _ refl refl) (done _ _ _ refl refl) (either 4 (in_range k id) _ _ (on _ _ _ refl refl refl refl) (done _ _ _ refl refl))
+  begun_ends (cpu_op.Commit id) = opens_with 5 (is_worn k c h) (halted h) _ _ _ (done _ _ _ refl refl) (done _ _ _ refl refl) (either 5 (in_range k id) _ _ (on _ _ _ refl refl refl refl) (done _ _ _ refl refl))
+  begun_ends (cpu_op.Discard id) = opens_with 5 (is_worn k c h) (halted h) _ _ _ (done _ _ _ refl refl) (done _ _ _ refl refl) (either 5 (in_range k id) _ _ (on _ _ _ refl refl refl refl) (done _ _ _ refl refl))
   begun_ends cpu_op.Service =
       either (3 + 2 * k.nspec) (is_fill k.policy) _ _
       (service_ends 1 record { sealed = false; settled = 0 } (word_at 1 h) (settle_at (word_at 1 h) (ack c 1 h)))

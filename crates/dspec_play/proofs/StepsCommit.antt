@@ -56,7 +56,7 @@ module _ (shape : ℕ → Option Shape) (k : Config) (c : ℕ) (h : List Deed) (
   void_stands id idle early shut = ends_by shape k c h me play (Commit c id decided.Void) (answer.Decided decided_answer.Void) play.rests (idle, refl, (early, sym shut)) tt refl (inl refl) refl idle
 
   pub commit_begins : (id : Speculation) → scan k c h ≡ 0 → me.steps ≡ 0 → StepStands shape k c h (begun shape k c h me (cpu_op.Commit id))
-  commit_begins id idle first = go (is_worn shape k c h me) (halted h) (in_range k id) refl refl
+  commit_begins id idle first = go (is_worn k c h) (halted h) (in_range k id) refl refl
     where
       go : (worn stopped inside : Bool) → halted h ≡ stopped → in_range k id ≡ inside
           → StepStands shape k c h

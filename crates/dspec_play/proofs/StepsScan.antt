@@ -43,7 +43,7 @@ scan_next k c s busy h at more = let own = number_is_itself c in rw (own, at, mo
 
 module _ (shape : ℕ → Option Shape) (k : Config) (c : ℕ) (h : List Deed) (me : Caller) (play : IsUnderWay shape k c h me) where
   pub scan_begins : scan k c h ≡ 0 → me.steps ≡ 0 → StepStands shape k c h (begun shape k c h me cpu_op.Speculation)
-  scan_begins idle first = go (is_worn shape k c h me) (halted h) refl
+  scan_begins idle first = go (is_worn k c h) (halted h) refl
     where
       go : (worn stopped : Bool) → halted h ≡ stopped
           → StepStands shape k c h

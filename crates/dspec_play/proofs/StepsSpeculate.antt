@@ -33,7 +33,7 @@ module _ (shape : ℕ → Option Shape) (k : Config) (c : ℕ) (h : List Deed) (
   void_stands id r idle early shut = ends_by shape k c h me play (Speculate c id r spoken.Void) _ play.rests (idle, (early, sym shut)) tt refl tt refl idle
 
   pub speculate_begins : (id : Speculation) (r : Record) → scan k c h ≡ 0 → me.steps ≡ 0 → StepStands shape k c h (begun shape k c h me (cpu_op.Speculate id r))
-  speculate_begins id r idle first = go (is_worn shape k c h me) (halted h) (in_range k id) refl refl
+  speculate_begins id r idle first = go (is_worn k c h) (halted h) (in_range k id) refl refl
     where
       go : (worn stopped inside : Bool) → halted h ≡ stopped → in_range k id ≡ inside
           → StepStands shape k c h

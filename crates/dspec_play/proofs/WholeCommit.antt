@@ -20,10 +20,10 @@ use Rattle.dspec_play.specs.declared.flight.Caller.{Caller}
 use Rattle.dspec_play.specs.declared.flight.CpuFlight.TheVariants as cpu
 use Rattle.dspec_deeds.specs.History.{halted, in_range, is_among, callers, is_open, issue, word_at, is_sole, is_sole_or_none}
 use Rattle.dspec_deeds.specs.Legal.{IsSound}
-use Rattle.dspec_play.specs.Play.{shown_commit, shown_discard, is_alone, is_release, same_word, goes_on, ends}
+use Rattle.dspec_play.specs.Play.{is_worn, shown_commit, shown_discard, is_alone, is_release, same_word, goes_on, ends}
 use Rattle.dspec_deeds.specs.Settling.{commit_fate, discard_fate}
 use Rattle.dspec_deeds.specs.Told.{answer_of}
-use Rattle.dspec_play.specs.Whole.{WholeCpu, whole_cpu, is_worn_out, enters}
+use Rattle.dspec_play.specs.Whole.{WholeCpu, whole_cpu, enters}
 use Rattle.dspec_deeds.proofs.TestLemmas.{off}
 use Rattle.dspec_deeds.proofs.WordActs.{commit_void, commit_attempt, discard_void, discard_attempt}
 use Rattle.dspec_play.proofs.WholeRuns.{whole, runs}
@@ -92,7 +92,7 @@ module _ (shape : ℕ → Option Shape) (k : Config) (c : ℕ) (h : List Deed) (
 
   pub commit_alone : (me : Caller) → runs shape k c 4 (begins me (cpu_op.Commit id)) h None ≡ whole (whole_cpu shape k c (idle me) h (cpu_op.Commit id))
   commit_alone me = starts shape k c 3 h me (cpu_op.Commit id) _
-      (both shape k c 3 h (is_worn_out shape k c h) _ _ _ _ (λ t. worn shape k c 3 h me _) (λ f.
+      (both shape k c 3 h (is_worn k c h) _ _ _ _ (λ t. worn shape k c 3 h me _) (λ f.
       both shape k c 3 h (halted h) _ _ _ _ (λ t. ended shape k c 3 h me _ _) (λ g.
       whole_not shape k c 3 h (is_open id h) _ _ _
       (λ shut. on_test shape k c 3 h (in_range k id) _ _ _ (λ t. goes shape k c 2 h (begins me (cpu_op.Commit id)) [] _ _ (shut_leads (later (begins me (cpu_op.Commit id)) (cpu.CommitLoad id)) shut commits refl)) (λ u. ended shape k c 3 h me _ _))
@@ -136,7 +136,7 @@ module _ (shape : ℕ → Option Shape) (k : Config) (c : ℕ) (h : List Deed) (
 
   pub discard_alone : (me : Caller) → runs shape k c 3 (begins me (cpu_op.Discard id)) h None ≡ whole (whole_cpu shape k c (idle me) h (cpu_op.Discard id))
   discard_alone me = starts shape k c 2 h me (cpu_op.Discard id) _
-      (both shape k c 2 h (is_worn_out shape k c h) _ _ _ _ (λ t. worn shape k c 2 h me _) (λ f.
+      (both shape k c 2 h (is_worn k c h) _ _ _ _ (λ t. worn shape k c 2 h me _) (λ f.
       both shape k c 2 h (halted h) _ _ _ _ (λ t. ended shape k c 2 h me _ _) (λ g.
       whole_not shape k c 2 h (is_open id h) _ _ _
       (λ shut. on_test shape k c 2 h (in_range k id) _ _ _ (λ t. goes shape k c 1 h (begins me (cpu_op.Discard id)) [] _ _ (shut_leads (later (begins me (cpu_op.Discard id)) (cpu.DiscardLoad id)) shut discards refl)) (λ u. ended shape k c 2 h me _ _))

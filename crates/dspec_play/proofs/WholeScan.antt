@@ -18,9 +18,9 @@ use Rattle.dspec_play.specs.declared.flight.Caller.{Caller}
 use Rattle.dspec_play.specs.declared.flight.CpuFlight.TheVariants as cpu
 use Rattle.dspec_deeds.specs.History.{halted, issue, present, is_free, is_busy, owed, scan, word_at}
 use Rattle.dspec_deeds.specs.Legal.{IsSound}
-use Rattle.dspec_play.specs.Play.{cpu_step, shown_scan, missed, same_word, ends, goes_on}
+use Rattle.dspec_play.specs.Play.{is_worn, cpu_step, shown_scan, missed, same_word, ends, goes_on}
 use Rattle.dspec_deeds.specs.Reports.{missed_busy}
-use Rattle.dspec_play.specs.Whole.{WholeCpu, whole_cpu, is_worn_out, enters, least_free, is_any_busy, missed_up, gives, or_slot}
+use Rattle.dspec_play.specs.Whole.{WholeCpu, whole_cpu, enters, least_free, is_any_busy, missed_up, gives, or_slot}
 use Rattle.dspec_deeds.proofs.TestLemmas.{number_is_itself}
 use Rattle.dspec_deeds.proofs.WordCodes.{busy_is, free_is}
 use Rattle.dspec_play.proofs.WholeRuns.{whole, runs}
@@ -131,7 +131,7 @@ module _ (shape : ℕ → Option Shape) (k : Config) (c : ℕ) (h : List Deed) (
 
   pub speculation_alone : (j : ℕ) (me : Caller) → suc j ≡ k.nspec → runs shape k c (suc (suc (suc (double j)))) (begins me cpu_op.Speculation) h None ≡ whole (whole_cpu shape k c (idle me) h cpu_op.Speculation)
   speculation_alone j me last = starts shape k c (suc (suc (double j))) h me cpu_op.Speculation _
-      (both shape k c (suc (suc (double j))) h (is_worn_out shape k c h) _ _ _ _ (λ t. worn shape k c _ h me _) (λ f.
+      (both shape k c (suc (suc (double j))) h (is_worn k c h) _ _ _ _ (λ t. worn shape k c _ h me _) (λ f.
       both shape k c (suc (suc (double j))) h (halted h) _ _ _ _ (λ t. ended shape k c _ h me _ _) (λ g.
       let running : true ≡ not (halted h) = sym (ap not g) in
       let first : suc (zero + j) ≡ k.nspec = omega arith in

@@ -19,8 +19,8 @@ use Rattle.dspec_play.specs.declared.flight.Caller.{Caller}
 use Rattle.dspec_play.specs.declared.flight.CpuFlight.TheVariants as cpu
 use Rattle.dspec_deeds.specs.History.{halted, in_range, is_among, callers, is_open, word_at}
 use Rattle.dspec_deeds.specs.Legal.{IsSound, fits_speculative}
-use Rattle.dspec_play.specs.Play.{shown_speculate, spoken_at, same_word}
-use Rattle.dspec_play.specs.Whole.{WholeCpu, whole_cpu, is_worn_out, enters}
+use Rattle.dspec_play.specs.Play.{is_worn, shown_speculate, spoken_at, same_word}
+use Rattle.dspec_play.specs.Whole.{WholeCpu, whole_cpu, enters}
 use Rattle.dspec_deeds.proofs.TestLemmas.{off}
 use Rattle.dspec_deeds.proofs.WordActs.{speculate_void, speculate_granted, speculate_attempt}
 use Rattle.dspec_play.proofs.WholeRuns.{whole, runs}
@@ -67,7 +67,7 @@ module _ (shape : ℕ → Option Shape) (k : Config) (c : ℕ) (h : List Deed) (
 
   pub speculate_alone : (me : Caller) → runs shape k c 3 (begins me (cpu_op.Speculate id r)) h None ≡ whole (whole_cpu shape k c (idle me) h (cpu_op.Speculate id r))
   speculate_alone me = starts shape k c 2 h me (cpu_op.Speculate id r) _
-      (both shape k c 2 h (is_worn_out shape k c h) _ _ _ _ (λ t. worn shape k c 2 h me _) (λ f.
+      (both shape k c 2 h (is_worn k c h) _ _ _ _ (λ t. worn shape k c 2 h me _) (λ f.
       both shape k c 2 h (halted h) _ _ _ _ (λ t. ended shape k c 2 h me _ _) (λ g.
       whole_not shape k c 2 h (is_open id h) _ _ _
       (λ shut. on_test shape k c 2 h (in_range k id) _ _ _ (λ t. goes shape k c 1 h (begins me (cpu_op.Speculate id r)) [] _ _ (shut_leads (later (begins me (cpu_op.Speculate id r)) (cpu.SpeculateLoad id r)) shut act refl)) (λ u. ended shape k c 2 h me _ _))

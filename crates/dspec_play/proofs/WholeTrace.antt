@@ -18,8 +18,8 @@ use Rattle.dspec_play.specs.declared.flight.CpuFlight.{CpuFlight}
 use Rattle.dspec_play.specs.declared.flight.CpuFlight.TheVariants as cpu
 use Rattle.dspec_deeds.specs.History.{halted, in_range, opened, verdict, is_undecided, is_open}
 use Rattle.dspec_deeds.specs.Legal.{IsSound, fits_principal}
-use Rattle.dspec_play.specs.Play.{Moved, goes_on, ends, wears, begun, cpu_step, same_word}
-use Rattle.dspec_play.specs.Whole.{WholeCpu, whole_cpu, is_worn_out, enters, wears_out}
+use Rattle.dspec_play.specs.Play.{is_worn, Moved, goes_on, ends, wears, begun, cpu_step, same_word}
+use Rattle.dspec_play.specs.Whole.{WholeCpu, whole_cpu, enters, wears_out}
 use Rattle.dspec_deeds.proofs.TestLemmas.{and_tells, number_is_itself}
 use Rattle.dspec_deeds.proofs.SoundLists.{opened_in_range}
 use Rattle.dspec_play.proofs.WholeRuns.{whole, runs, runs_stay, runs_more}
@@ -93,6 +93,6 @@ module _ (shape : ℕ → Option Shape) (k : Config) (c : ℕ) where
 
   pub trace_alone : (h : List Deed) (me : Caller) (r : Record) → runs shape k c 1 (begins me (cpu_op.Trace r)) h None ≡ whole (whole_cpu shape k c (idle me) h (cpu_op.Trace r))
   trace_alone h me r = starts 0 h me (cpu_op.Trace r) _
-      (both 0 h (is_worn_out shape k c h) _ _ _ _ (λ t. worn 0 h me _) (λ f.
+      (both 0 h (is_worn k c h) _ _ _ _ (λ t. worn 0 h me _) (λ f.
       both 0 h (halted h) _ _ _ _ (λ t. ended 0 h me _ _) (λ g.
       both 0 h (fits_principal shape k c (one r) h) _ _ _ _ (λ t. ended 0 h me _ _) (λ o. ended 0 h me _ _))))

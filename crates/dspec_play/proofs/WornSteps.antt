@@ -172,26 +172,26 @@ module _ (shape : ℕ → Option Shape) (k : Config) (c : ℕ) (h : List Deed) (
   begun_wears : (o : CpuOp) → Does (is_counted (op.Cpu o) && nat_le k.max_calls (calls c h)) 0 o (begun shape k c h me o)
   begun_wears (cpu_op.Trace r) =
       let o = cpu_op.Trace r in
-      opens o (is_worn shape k c h me) _ _ (worn_out o (answer.Traced traced_answer.Worn) refl)
+      opens o (is_worn k c h) _ _ (worn_out o (answer.Traced traced_answer.Worn) refl)
       (either 0 o (halted h) _ _ (done 0 o (Trace c r traced.Stopped ∷ []) _ refl refl now)
       (either 0 o (fits_principal shape k c (one r) h) _ _ (done 0 o (Trace c r traced.Kept ∷ []) _ refl refl now) (done 0 o (Trace c r traced.Dropped ∷ []) _ refl refl now)))
   begun_wears cpu_op.Speculation =
       let o = cpu_op.Speculation in
-      opens o (is_worn shape k c h me) _ _ (worn_out o (answer.Opening opening.Worn) refl)
+      opens o (is_worn k c h) _ _ (worn_out o (answer.Opening opening.Worn) refl)
       (either 0 o (halted h) _ _ (done 0 o (Scan c false ∷ []) _ refl refl now) (on 0 o (Scan c true ∷ []) (cpu.ScanLoad 1) now))
   begun_wears (cpu_op.Speculate id r) =
       let o = cpu_op.Speculate id r in
-      opens o (is_worn shape k c h me) _ _ (worn_out o (answer.Spoken spoken_answer.Worn) refl)
+      opens o (is_worn k c h) _ _ (worn_out o (answer.Spoken spoken_answer.Worn) refl)
       (either 0 o (halted h) _ _ (done 0 o (Speculate c id r spoken.Stopped ∷ []) _ refl refl now)
       (either 0 o (in_range k id) _ _ (on 0 o [] (cpu.SpeculateLoad id r) refl) (done 0 o (Speculate c id r spoken.Void ∷ []) _ refl refl now)))
   begun_wears (cpu_op.Commit id) =
       let o = cpu_op.Commit id in
-      opens o (is_worn shape k c h me) _ _ (worn_out o (answer.Decided decided_answer.Worn) refl)
+      opens o (is_worn k c h) _ _ (worn_out o (answer.Decided decided_answer.Worn) refl)
       (either 0 o (halted h) _ _ (done 0 o (Commit c id decided.Stopped ∷ []) _ refl refl now)
       (either 0 o (in_range k id) _ _ (on 0 o [] (cpu.CommitLoad id) refl) (done 0 o (Commit c id decided.Void ∷ []) _ refl refl now)))
   begun_wears (cpu_op.Discard id) =
       let o = cpu_op.Discard id in
-      opens o (is_worn shape k c h me) _ _ (worn_out o (answer.Decided decided_answer.Worn) refl)
+      opens o (is_worn k c h) _ _ (worn_out o (answer.Decided decided_answer.Worn) refl)
       (either 0 o (halted h) _ _ (done 0 o (Discard c id decided.Stopped ∷ []) _ refl refl now)
       (either 0 o (in_range k id) _ _ (on 0 o [] (cpu.DiscardLoad id) refl) (done 0 o (Discard c id decided.Void ∷ []) _ refl refl now)))
   begun_wears cpu_op.Service =

@@ -64,10 +64,11 @@ pub record Moved : Type 0 where
   pub deeds : List Deed
   pub answer : Option Answer
 
-module _ (shape : ℕ → Option Shape) (k : Config) (c : ℕ) (h : List Deed) (me : Caller) where
-  abbrev pub is_worn : Bool
-  is_worn = nat_le k.max_calls (calls c h)
+-- the CPU has entered as many calls as it may make: the next is worn
+abbrev pub is_worn : Config → ℕ → List Deed → Bool
+is_worn k c h = nat_le k.max_calls (calls c h)
 
+module _ (shape : ℕ → Option Shape) (k : Config) (c : ℕ) (h : List Deed) (me : Caller) where
   -- the call goes on: the next step is at that place
   abbrev pub goes_on : List Deed → CpuFlight → Moved
   goes_on ds f = record { caller = record me { flight = Some f; steps = me.steps + 1 }; deeds = ds; answer = None }
@@ -145,26 +146,26 @@ module _ (shape : ℕ → Option Shape) (k : Config) (c : ℕ) (h : List Deed) (
   -- the load of activity; in a service that of the ask, or where a full buffer closes, that of the first slot's word
   abbrev pub begun : CpuOp → Moved
   begun (cpu_op.Trace r) =
-      if is_worn then wears (answer.Traced traced_answer.Worn)
+      if is_worn k c h then wears (answer.Traced traced_answer.Worn)
       else if halted h then ends (Trace c r traced.Stopped ∷ []) (answer.Traced traced_answer.Stopped)
       else if fits_principal shape k c (one r) h then ends (Trace c r traced.Kept ∷ []) (answer.Traced traced_answer.Kept)
       else ends (Trace c r traced.Dropped ∷ []) (answer.Traced traced_answer.Dropped)
   begun cpu_op.Speculation =
-      if is_worn then wears (answer.Opening opening.Worn)
+      if is_worn k c h then wears (answer.Opening opening.Worn)
       else if halted h then ends (Scan c false ∷ []) (answer.Opening opening.Stopped)
       else goes_on (Scan c true ∷ []) (cpu.ScanLoad 1)
   begun (cpu_op.Speculate id r) =
-      if is_worn then wears (answer.Spoken spoken_answer.Worn)
+      if is_worn k c h then wears (answer.Spoken spoken_answer.Worn)
       else if halted h then ends (Speculate c id r spoken.Stopped ∷ []) (answer.Spoken spoken_answer.Stopped)
       else if in_range k id then goes_on [] (cpu.SpeculateLoad id r)
       else ends (Speculate c id r spoken.Void ∷ []) (answer.Spoken spoken_answer.Void)
   begun (cpu_op.Commit id) =
-      if is_worn then wears (answer.Decided decided_answer.Worn)
+      if is_worn k c h then wears (answer.Decided decided_answer.Worn)
       else if halted h then ends (Commit c id decided.Stopped ∷ []) (answer.Decided decided_answer.Stopped)
       else if in_range k id then goes_on [] (cpu.CommitLoad id)
       else ends (Commit c id decided.Void ∷ []) (answer.Decided decided_answer.Void)
   begun (cpu_op.Discard id) =
-      if is_worn then wears (answer.Decided decided_answer.Worn)
+      if is_worn k c h then wears (answer.Decided decided_answer.Worn)
       else if halted h then ends (Discard c id decided.Stopped ∷ []) (answer.Decided decided_answer.Stopped)
       else if in_range k id then goes_on [] (cpu.DiscardLoad id)
       else ends (Discard c id decided.Void ∷ []) (answer.Decided decided_answer.Void)

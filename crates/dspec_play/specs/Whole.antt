@@ -1,6 +1,6 @@
 -- Whole calls: what a call enters and answers where no other call overlaps it, said of the list that it finds.
 use Prim.Native.Nat.{zero, suc}
-use Rattle.std.specs.Prelude.{ℕ, ◌≡◌, ◌<◌, ◌⊎◌, ◌+◌, ◌-◌, ◌==◌, ◌^◌, nat_le, nat_lt, min, Bool, true, false, not, ◌&&◌, ◌||◌, is_none, List, [], ◌∷◌, slice_set, if◌then◌else◌, Option, Some, None}
+use Rattle.std.specs.Prelude.{ℕ, ◌≡◌, ◌<◌, ◌⊎◌, ◌+◌, ◌-◌, ◌==◌, ◌^◌, nat_lt, min, Bool, true, false, not, ◌&&◌, ◌||◌, is_none, List, [], ◌∷◌, slice_set, if◌then◌else◌, Option, Some, None}
 use Rattle.dspec_record.specs.declared.field.Shape.{Shape}
 use Rattle.dspec_buffer.specs.Extent.{one}
 use Rattle.dspec_word.specs.SpecId.{Speculation}
@@ -26,12 +26,12 @@ use Rattle.dspec_play.specs.declared.flight.Spare.{Spare}
 use Rattle.dspec_play.specs.declared.flight.Spare.TheVariants as spare
 use Rattle.dspec_deeds.specs.Ranges.{is_fill}
 use Rattle.dspec_deeds.specs.History.{halted, issue, present, Verdict, discarded, verdict, is_open, callers, is_sole, is_sole_or_none, solo, settled, is_free, is_busy}
-use Rattle.dspec_deeds.specs.Own.{calls, seals}
+use Rattle.dspec_deeds.specs.Own.{seals}
 use Rattle.dspec_deeds.specs.Legal.{fits_principal, fits_speculative}
 use Rattle.dspec_deeds.specs.Settling.{commit_fate, discard_fate}
 use Rattle.dspec_deeds.specs.Told.{answer_of}
 use Rattle.dspec_play.specs.Coherent.{the_caller, PlayState}
-use Rattle.dspec_play.specs.Play.{took}
+use Rattle.dspec_play.specs.Play.{is_worn, took}
 
 -- a batch that was taken is not given back
 abbrev pub is_out : Spare → Bool
@@ -103,9 +103,6 @@ module _ (shape : ℕ → Option Shape) (k : Config) (c : ℕ) where
   abbrev pub serves : Caller → List Deed → Bool → WholeCpu
   serves me h sealed = record { list = settled_up k.nspec h; caller = me; answer = answer.Served record { sealed = sealed; settled = settlements k.nspec h } }
 
-  abbrev pub is_worn_out : List Deed → Bool
-  is_worn_out h = nat_le k.max_calls (calls c h)
-
   -- a worn call is counted, and enters nothing
   abbrev pub wears_out : Caller → List Deed → Answer → WholeCpu
   wears_out me h a = record { list = h; caller = record me { worn = min (me.worn + 1) (2 ^ 64 - 1) }; answer = a }
@@ -115,28 +112,28 @@ module _ (shape : ℕ → Option Shape) (k : Config) (c : ℕ) where
 
   abbrev pub whole_cpu : Caller → List Deed → CpuOp → WholeCpu
   whole_cpu me h (cpu_op.Trace r) =
-      if is_worn_out h then wears_out me h (answer.Traced traced_answer.Worn)
+      if is_worn k c h then wears_out me h (answer.Traced traced_answer.Worn)
       else if halted h then enters me (Trace c r traced.Stopped ∷ h) (answer.Traced traced_answer.Stopped)
       else if fits_principal shape k c (one r) h then enters me (Trace c r traced.Kept ∷ h) (answer.Traced traced_answer.Kept)
       else enters me (Trace c r traced.Dropped ∷ h) (answer.Traced traced_answer.Dropped)
   whole_cpu me h cpu_op.Speculation =
-      if is_worn_out h then wears_out me h (answer.Opening opening.Worn)
+      if is_worn k c h then wears_out me h (answer.Opening opening.Worn)
       else if halted h then enters me (Scan c false ∷ h) (answer.Opening opening.Stopped)
       else scans me (Scan c true ∷ h)
   whole_cpu me h (cpu_op.Speculate id r) =
-      if is_worn_out h then wears_out me h (answer.Spoken spoken_answer.Worn)
+      if is_worn k c h then wears_out me h (answer.Spoken spoken_answer.Worn)
       else if halted h then enters me (Speculate c id r spoken.Stopped ∷ h) (answer.Spoken spoken_answer.Stopped)
       else if not (is_open id h) then enters me (Speculate c id r spoken.Void ∷ h) (answer.Spoken spoken_answer.Void)
       else if fits_speculative shape k c id r h then enters me (Speculate c id r spoken.Kept ∷ h) (answer.Spoken spoken_answer.Kept)
       else enters me (Speculate c id r spoken.Dropped ∷ h) (answer.Spoken spoken_answer.Dropped)
   whole_cpu me h (cpu_op.Commit id) =
-      if is_worn_out h then wears_out me h (answer.Decided decided_answer.Worn)
+      if is_worn k c h then wears_out me h (answer.Decided decided_answer.Worn)
       else if halted h then enters me (Commit c id decided.Stopped ∷ h) (answer.Decided decided_answer.Stopped)
       else if not (is_open id h) then enters me (Commit c id decided.Void ∷ h) (answer.Decided decided_answer.Void)
       else if is_sole_or_none c (callers id h) then enters me (Release id.slot ∷ Commit c id (commit_fate shape k c h id) ∷ h) (answer_of (commit_fate shape k c h id))
       else enters me (Commit c id (commit_fate shape k c h id) ∷ h) (answer_of (commit_fate shape k c h id))
   whole_cpu me h (cpu_op.Discard id) =
-      if is_worn_out h then wears_out me h (answer.Decided decided_answer.Worn)
+      if is_worn k c h then wears_out me h (answer.Decided decided_answer.Worn)
       else if halted h then enters me (Discard c id decided.Stopped ∷ h) (answer.Decided decided_answer.Stopped)
       else if not (is_open id h) then enters me (Discard c id decided.Void ∷ h) (answer.Decided decided_answer.Void)
       else if is_sole c (callers id h) then enters me (Release id.slot ∷ Discard c id (discard_fate shape k c h id) ∷ h) (answer_of (discard_fate shape k c h id))

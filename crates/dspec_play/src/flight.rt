@@ -9,28 +9,46 @@ use dspec_word::{SpecId, Word};
 /// word that was shown, which the next exchange expects.
 #[derive(Clone, Copy, Debug, PartialEq, Eq)]
 pub enum CpuFlight {
+    /// No step was made: activity is loaded next, or what a service begins with.
     Begun(CpuOp),
+    /// The slot's word is loaded next.
     ScanLoad(u32),
+    /// The exchange that opens the slot is next.
     ScanTry(u32, Word),
+    /// The word of the speculation's slot is loaded next.
     SpeculateLoad(SpecId, Rec),
+    /// The exchange that counts the CPU among the callers is next.
     SpeculateTry(SpecId, Rec, Word),
+    /// The word of the speculation's slot is loaded next.
     CommitLoad(SpecId),
+    /// The exchange that commits is next.
     CommitTry(SpecId, Word),
+    /// The commit waits for no other CPU and had this fate; the slot's release is next.
     CommitRelease(SpecId, DecideFate),
+    /// The word of the speculation's slot is loaded next.
     DiscardLoad(SpecId),
+    /// The exchange that discards is next.
     DiscardTry(SpecId, Word),
+    /// A batch is asked for and no spare is in hand: the pop of a spare is next.
     ServicePop,
+    /// A batch is sealed; its push to the consumer is next.
     ServicePush,
+    /// The slot's word is loaded next; the service has done so much.
     ServiceLoad(u32, Served),
+    /// What was decided of the slot is settled next, with the store of the acknowledgement.
     ServiceStore(u32, Word, Served),
 }
 
 /// A call of the consumer in flight. A clean goes over the slots, and over the CPUs that a decided slot waits for.
 #[derive(Clone, Copy, Debug, PartialEq, Eq)]
 pub enum ConsumerFlight {
+    /// No step was made.
     Begun(ConsumerOp),
+    /// The slot's word is loaded next; so many slots were released.
     CleanLoad(u32, u32),
+    /// The slot is decided; whether this CPU has acknowledged it is loaded next; so many slots were released.
     CleanAck(u32, Word, u32, u32),
+    /// Every CPU has acknowledged the slot: the exchange that releases it is next; so many were released before.
     CleanReap(u32, Word, u32),
 }
 
@@ -38,10 +56,15 @@ pub enum ConsumerFlight {
 /// its way to the consumer, with the consumer, or on its way back.
 #[derive(Clone, Copy, Debug, PartialEq, Eq)]
 pub enum Spare {
+    /// The CPU has it, empty, and has sealed nothing.
     InHand,
+    /// Sealed, and not pushed yet.
     Sealed,
+    /// On its way to the consumer.
     Handed,
+    /// The consumer reads it.
     Out,
+    /// On its way back to the CPU.
     GivenBack,
 }
 
@@ -49,18 +72,26 @@ pub enum Spare {
 /// how many batches were wanted, taken and given back, and how many calls were answered Worn.
 #[derive(Clone, Copy, Debug, PartialEq, Eq)]
 pub struct Caller {
+    /// The call in flight, if there is one.
     pub flight: Option<CpuFlight>,
+    /// How many steps the call in flight has made.
     pub steps: u32,
+    /// Where the second principal buffer is.
     pub spare: Spare,
+    /// How many batches the consumer has asked for.
     pub want: u64,
+    /// How many batches the consumer has taken.
     pub takes: u64,
+    /// How many calls were answered Worn.
     pub worn: u64,
 }
 
 /// The consumer's call in flight and its steps.
 #[derive(Clone, Copy, Debug, PartialEq, Eq)]
 pub struct ConsumerSide {
+    /// The call in flight, if there is one.
     pub flight: Option<ConsumerFlight>,
+    /// How many steps the call in flight has made.
     pub steps: u32,
 }
 

@@ -9,30 +9,43 @@ use thiserror::Error;
 /// seen in the text alone.
 #[derive(Clone, Copy, Debug, PartialEq, Eq, Error)]
 pub enum LineKind {
+    /// The line has a byte that isn't printable ASCII.
     #[error("byte outside printable ASCII")]
     NotPrintable,
+    /// The first line that says something isn't a `config` line, or there is none.
     #[error("no config line")]
     NoConfig,
+    /// A word that isn't one of the grammar's there.
     #[error("unknown word")]
     UnknownWord,
+    /// Not a number, or too large for its place.
     #[error("bad number")]
     BadNumber,
+    /// Too few words, or too many.
     #[error("wrong number of words")]
     WordCount,
+    /// The configuration is out of range.
     #[error("config refused: {}", refused_field(.0))]
     ConfigRefused(StartFault),
+    /// The enabling can't be made.
     #[error("bad enabling")]
     BadEnabling,
+    /// There is no CPU of that number.
     #[error("no such actor")]
     NoSuchActor,
+    /// A call of the actor is in flight.
     #[error("actor busy")]
     Busy,
+    /// No call of the actor is in flight.
     #[error("step of an idle actor")]
     IdleStep,
+    /// The schema doesn't accept the record.
     #[error("bad record")]
     BadRecord,
+    /// Not a header's line in its place.
     #[error("bad header")]
     BadHeader,
+    /// Not a policy's line in its place.
     #[error("bad policy")]
     BadPolicy,
 }
@@ -40,8 +53,10 @@ pub enum LineKind {
 /// Why a text gives no schedule, or its schedule no play. Lines are counted from 1.
 #[derive(Clone, Copy, Debug, PartialEq, Eq, Error)]
 pub enum ScheduleFault {
+    /// What is wrong with which line.
     #[error("line {line}: {kind}")]
     Line { line: u64, kind: LineKind },
+    /// A growth was refused.
     #[error("out of memory")]
     Memory,
 }

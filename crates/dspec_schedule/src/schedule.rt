@@ -17,7 +17,9 @@ use std::alloc::{AllocError, Global};
 /// action, which have a stamp under header 2.
 #[derive(Debug, Drop)]
 pub struct Schedule {
+    /// What the session is set up with.
     pub config: Config,
+    /// The line of the configuration.
     pub config_line: u64,
     /// The header that a line names; header 1 where none does.
     pub named_header: Option<Header>,
@@ -25,6 +27,7 @@ pub struct Schedule {
     pub is_policy_named: bool,
     /// The enablings, whose records have the header of all records.
     pub enablings: Option<Enablings>,
+    /// The turns, in order.
     pub turns: Vec<Turn>,
     /// The line of each turn.
     pub lines: Vec<u64>,

@@ -29,3 +29,8 @@ none_waiting es c d is none e there = ap (λ (x : ConsumerKnows). x.waiting) (sy
 -- how many were taken there
 pub taken_is : (es : List ConsumerKnows) (c : ℕ) (d : ConsumerKnows) → c < length es → d ≡ slice_index_or es c d → option_map_or (λ (e : ConsumerKnows). length e.taken) (slice_get es c) 0 ≡ length d.taken
 taken_is es c d lt is = ap (λ o. option_map_or (λ (e : ConsumerKnows). length e.taken) o 0) (slice_get_read es (length es) c d refl lt is)
+
+-- a list without elements, by its length
+pub none_in : {A : Type 0} (xs : List A) (n : ℕ) → n ≡ length xs → n ≡ 0 → xs ≡ []
+none_in [] n e z = refl
+none_in (x ∷ xs) n e z = absurd (omega arith)

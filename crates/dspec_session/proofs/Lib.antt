@@ -3,3 +3,12 @@ pub mod Ends
 pub mod Asks
 pub mod Waiting
 pub mod Acknowledging
+pub mod Passing
+pub mod Begins
+pub mod ClosingRecords
+pub mod ClosingRests
+pub mod ClosingLists
+pub mod Partings
+pub mod Leavings
+pub mod Ending
+pub mod FirstParted

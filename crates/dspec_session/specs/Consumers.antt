@@ -1,12 +1,12 @@
 -- What contracts see of a session's consumer.
-use Rattle.std.specs.Prelude.{ℕ, List, length, slice_get}
+use Rattle.std.specs.Prelude.{ℕ, ◌≡◌, List, length, map, slice_get}
 use Rattle.std.specs.Option.{option_map_or}
 use Rattle.dspec_deeds.specs.declared.config.Config.{Config}
 use Rattle.dspec_table.specs.declared.rule.View.{View}
 use Rattle.dspec_table.specs.declared.seats.Words.{Words}
 use Rattle.dspec_table.specs.declared.seats.ConsumerSeat.{ConsumerSeat}
 use Rattle.dspec_table.specs.Seats.{known_there, IsConsumerAt}
-use Rattle.dspec_ring.specs.Known.{ConsumerKnows}
+use Rattle.dspec_ring.specs.Known.{Pair, ConsumerKnows}
 
 -- its seat at the words, and its ends of the CPUs' rings, in order
 pub record Consuming : Type 0 where
@@ -28,3 +28,12 @@ taken_from c x = option_map_or (λ e. length e.taken) (slice_get x.ends c) 0
 -- the consumer is one of these words'
 abbrev pub IsConsumerOf : Words → Consuming → Type 0
 IsConsumerOf words x = IsConsumerAt words x.seat
+
+-- whose rings its ends are of, in the order of the CPUs
+abbrev pub pairs_of : Consuming → List Pair
+pairs_of x = map (λ (e : ConsumerKnows). e.pair) x.ends
+
+-- it is the same consumer of the same session
+pub record IsSameConsumer (old new : Consuming) : Type 0 where
+  pub config : set_up_of new ≡ set_up_of old
+  pub pairs : pairs_of new ≡ pairs_of old

@@ -5,3 +5,6 @@ pub mod Asking
 pub mod Batches
 pub mod Cleaning
 pub mod Stopping
+pub mod Sessions
+pub mod Closing
+pub mod Leaving

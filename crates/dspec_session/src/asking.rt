@@ -1,16 +1,18 @@
 ghost use Rattle.std.specs.Prelude.{◌≡◌, ◌<◌, ◌≤◌, MatchBool};
 ghost use Rattle.dspec_session.specs.Asking.{Asked};
-ghost use Rattle.dspec_session.specs.Consumers.{IsConsumerOf, set_up_of};
+ghost use Rattle.dspec_cpu.specs.Lists.{words_of};
+ghost use Rattle.dspec_session.specs.Consumers.{IsConsumerOf, IsSameConsumer, set_up_of};
 
 use crate::consumer::Consumer;
-use dspec_table::Words;
+use dspec_cpu::Shared;
 
 impl Consumer {
     /// Asks a CPU for the batch after those taken: its next service seals one. Answers false, and changes nothing, where there is
     /// no such CPU.
-    pub fn ask(&mut self, words: &Words, cpu: u32) -> bool
-        requires session { IsConsumerOf words.now self.old }
-        ensures session { IsConsumerOf words.now self.new }
+    pub fn ask(&mut self, shared: &Shared, cpu: u32) -> bool
+        requires session { IsConsumerOf (words_of shared.now) self.old }
+        ensures session { IsConsumerOf (words_of shared.now) self.new }
+        ensures same { IsSameConsumer self.old self.new }
         ensures asked { MatchBool result
             ((cpu < (set_up_of self.old).cpus) × Asked cpu self.old self.new)
             (((set_up_of self.old).cpus ≤ cpu) × (self.new ≡ self.old)) }
@@ -19,7 +21,7 @@ impl Consumer {
             return false;
         }
         let count = self.ends[cpu as usize].taken() + 1;
-        self.seat.store_ask(words, cpu, count);
+        self.seat.store_ask(shared.words(), cpu, count);
         true
     }
 }

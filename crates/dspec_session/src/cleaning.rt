@@ -3,9 +3,11 @@ ghost use Rattle.dspec_deeds.specs.History.{word_at};
 ghost use Rattle.dspec_table.specs.Seats.{known_there, IsConsumerAt, set_up};
 ghost use Rattle.dspec_word.specs.Code.{awaits};
 ghost use Rattle.dspec_session.specs.Cleaning.{Acknowledged, MissesOne, CleanedSlot, Cleaned};
-ghost use Rattle.dspec_session.specs.Consumers.{IsConsumerOf, view_of};
+ghost use Rattle.dspec_cpu.specs.Lists.{words_of};
+ghost use Rattle.dspec_session.specs.Consumers.{IsConsumerOf, IsSameConsumer, view_of};
 
 use crate::consumer::Consumer;
+use dspec_cpu::Shared;
 use dspec_deeds::Config;
 use dspec_table::{ConsumerSeat, Words};
 use dspec_word::Code;
@@ -78,12 +80,13 @@ fn clean_slots(seat: &mut ConsumerSeat, words: &Words, config: &Config) -> u32
 impl Consumer {
     /// Releases each slot whose speculation is decided and was settled by every CPU, and answers how many. It takes at most two
     /// steps and one for each CPU for a slot.
-    pub fn clean(&mut self, words: &Words) -> u32
-        requires session { IsConsumerOf words.now self.old }
-        ensures session { IsConsumerOf words.now self.new }
+    pub fn clean(&mut self, shared: &Shared) -> u32
+        requires session { IsConsumerOf (words_of shared.now) self.old }
+        ensures session { IsConsumerOf (words_of shared.now) self.new }
+        ensures same { IsSameConsumer self.old self.new }
         ensures cleaned { Cleaned result (view_of self.old) (view_of self.new) }
         ensures ends { self.new.ends ≡ self.old.ends }
     {
-        clean_slots(&mut self.seat, words, &self.config)
+        clean_slots(&mut self.seat, shared.words(), &self.config)
     }
 }

@@ -74,4 +74,17 @@ impl CountedEnd {
         self.given += 1;
         Ok(())
     }
+
+    /// The end itself. No more were given back than taken.
+    pub(crate) fn into_end(self) -> ConsumerEnd
+        ensures end { result ≡ self }
+        ensures order { length self.given ≤ length self.taken }
+    {
+        let CountedEnd {
+            end,
+            taken: _,
+            given: _,
+        } = self;
+        end
+    }
 }

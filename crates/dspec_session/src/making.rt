@@ -23,7 +23,8 @@ fn counted(alloc: Global, ends: Vec<ConsumerEnd>) -> Result<Vec<CountedEnd>, All
 }
 
 impl Consumer {
-    /// The consumer of a session that nobody has called yet: its seat, and its unused ends of the CPUs' rings, in order.
+    /// The consumer of a session that nobody has called yet: its seat, and its unused ends of the CPUs' rings, in order. It takes all memory that its
+    /// calls and the session's end will need.
     pub fn make(
         alloc: Global,
         config: &Config,
@@ -38,10 +39,13 @@ impl Consumer {
         ensures ends { IfOk result (λ consumer. consumer.ends ≡ ends.items) }
     {
         let ends = counted(alloc, ends)?;
+        let cpus = config.cpus as usize;
         Ok(Consumer {
             config: *config,
             seat,
             ends,
+            seats: Vec::with_capacity(alloc, cpus)?,
+            left: Vec::with_capacity(alloc, cpus)?,
         })
     }
 }

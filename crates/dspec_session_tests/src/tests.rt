@@ -2,8 +2,10 @@
 ghost use Rattle.std.specs.Prelude.{◌≡◌, IfOk, []};
 ghost use Rattle.dspec_ring.specs.Known.{IsUnusedCpu};
 ghost use Rattle.dspec_table.specs.Seats.{known, IsAt, set_up, cpu_of};
+ghost use Rattle.dspec_cpu.specs.Lists.{words_of};
 ghost use Rattle.dspec_session.specs.Consumers.{IsConsumerOf};
 
+use dspec_cpu::Shared;
 use dspec_deeds::{Config, CpuOp, Policy};
 use dspec_ring::{CpuEnd, pair};
 use dspec_session::Consumer;
@@ -14,6 +16,7 @@ use std::test::Fail;
 
 mod asking;
 mod batches;
+mod closing;
 mod stopping;
 
 /// Two CPUs and one slot, with principal buffers of 16 bytes.
@@ -44,13 +47,13 @@ fn doing(op: CpuOp) -> Doing
     }
 }
 
-/// A session that has just begun: its words, its CPUs' seats, the first CPU's end of its rings, and the consumer.
-fn begun(alloc: Global) -> Result<(Words, CpuSeat, CpuSeat, CpuEnd, Consumer), AllocError>
-    ensures first { IfOk result (λ r. IsAt r.0 r.1 × (cpu_of r.1 ≡ 0) × ((known r.1).own ≡ [])) }
-    ensures second { IfOk result (λ r. IsAt r.0 r.2 × (cpu_of r.2 ≡ 1) × ((known r.2).own ≡ [])) }
+/// A session that has just begun: what is shared, its CPUs' seats, the first CPU's end of its rings, and the consumer.
+fn begun(alloc: Global) -> Result<(Shared, CpuSeat, CpuSeat, CpuEnd, Consumer), AllocError>
+    ensures first { IfOk result (λ r. IsAt (words_of r.0) r.1 × (cpu_of r.1 ≡ 0) × ((known r.1).own ≡ [])) }
+    ensures second { IfOk result (λ r. IsAt (words_of r.0) r.2 × (cpu_of r.2 ≡ 1) × ((known r.2).own ≡ [])) }
     ensures end { IfOk result (λ r. IsUnusedCpu r.3) }
-    ensures consumer { IfOk result (λ r. IsConsumerOf r.0 r.4) }
-    ensures sizes { IfOk result (λ r. ((set_up r.0).cpus ≡ 2) × ((set_up r.0).nspec ≡ 1) × ((set_up r.0).max_issues ≡ 8)) }
+    ensures consumer { IfOk result (λ r. IsConsumerOf (words_of r.0) r.4) }
+    ensures sizes { IfOk result (λ r. ((set_up (words_of r.0)).cpus ≡ 2) × ((set_up (words_of r.0)).nspec ≡ 1) × ((set_up (words_of r.0)).max_issues ≡ 8)) }
 {
     let config = small();
     let Ok((words, mut seats, seat)) = Words::start(alloc, &config) else {
@@ -64,5 +67,5 @@ fn begun(alloc: Global) -> Result<(Words, CpuSeat, CpuSeat, CpuEnd, Consumer), A
     let consumer = Consumer::make(alloc, &config, seat, ends)?;
     let second = seats.pop().unwrap();
     let first = seats.pop().unwrap();
-    Ok((words, first, second, end, consumer))
+    Ok((Shared::make(words), first, second, end, consumer))
 }

@@ -4,8 +4,12 @@ use dspec_deeds::CpuOp;
 /// whether the CPU is a caller of the speculation. By it and by what a step showed, the deed is known.
 #[derive(Clone, Copy, Debug, PartialEq, Eq)]
 pub struct Doing {
+    /// The call.
     pub op: CpuOp,
+    /// Whether its record or block would fit.
     pub fits: bool,
+    /// The number of records in its block.
     pub count: u32,
+    /// Whether the CPU is a caller of the speculation.
     pub mine: bool,
 }

@@ -8,22 +8,35 @@ use std::collections::LinkedList;
 /// the consumer knows exactly, and any other seat as no more than they are; and what the seats joined into it knew then. No
 /// value of it is ever made.
 pub struct View {
+    /// What the words were set up with.
     pub config: Config,
+    /// Whose seat it is; none for a note.
     pub who: Option<Actor>,
+    /// Its own deeds, the latest first.
     pub own: LinkedList<Deed>,
+    /// Whose the seats were that were joined into it, with their deeds.
     pub also: LinkedList<(Option<Actor>, LinkedList<Deed>)>,
+    /// The deeds of all that it has seen.
     pub seen: LinkedList<Deed>,
+    /// What a note told it since its last step.
     pub told: LinkedList<Deed>,
+    /// How many steps it has made.
     pub steps: u64,
+    /// The asks of the CPUs, in order.
     pub asks: LinkedList<u64>,
+    /// What each seat joined into it knew.
     pub past: LinkedList<Past>,
 }
 
 /// What a seat knew when it was joined into another, for good: whose it was, its own deeds, what it had seen, and the asks.
 pub struct Past {
+    /// Whose seat it was.
     pub who: Option<Actor>,
+    /// Its own deeds.
     pub own: LinkedList<Deed>,
+    /// What it had seen.
     pub seen: LinkedList<Deed>,
+    /// The asks that it knew of.
     pub asks: LinkedList<u64>,
 }
 

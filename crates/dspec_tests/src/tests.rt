@@ -1,10 +1,13 @@
 //! Plays whose deeds are compared, calls of a world, and the happy path of each public call. Whole plays by their answers,
 //! streams and reports are schedules of `examples/`.
+//!
+//! What takes memory is asked once more where a growth was refused, and must then be served as if none had been. None is
+//! refused in an ordinary run; `.ci/refused-growth-player` refuses each growth of a test in turn.
 use dspec_core::{
-    Actor, Answer, Config, ConsumerOp, CpuOp, Decided, Deed, Op, Opening, PlayFault, Policy,
-    Report, Served, Spoken, Traced, Turn, play,
+    Actor, Answer, Config, ConsumerOp, CpuOp, Decided, Deed, Op, Opening, Outcome, PlayFault,
+    Policy, Report, Served, Spoken, Traced, Turn, play,
 };
-use dspec_record::Rec;
+use dspec_record::{DefaultAction, Rec};
 use dspec_word::SpecId;
 use std::process::Abort;
 use std::test::Fail;
@@ -12,6 +15,7 @@ use std::test::Fail;
 mod filled;
 mod large;
 mod plays;
+mod texts;
 mod values;
 mod worlds;
 
@@ -68,5 +72,13 @@ fn counts(offered: u64, accepted: u64) -> Report {
         offered,
         accepted,
         ..Report::default()
+    }
+}
+
+/// A play of the default action, asked for once more where a growth was refused.
+fn played(rt: &impl AllocGlobal, config: &Config, turns: &[Turn]) -> Result<Outcome, PlayFault> {
+    match play(rt.alloc(), config, DefaultAction, turns) {
+        Err(PlayFault::Memory) => play(rt.alloc(), config, DefaultAction, turns),
+        told => told,
     }
 }

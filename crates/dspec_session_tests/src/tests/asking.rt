@@ -4,14 +4,18 @@ use super::*;
 
 #[test]
 fn one_more_than_taken(rt: HostRuntime) -> Result<(), Fail> {
-    let (words, mut first, mut second, mut end, mut consumer) = begun(rt.alloc())?;
+    let (shared, mut first, mut second, mut end, mut consumer) = begun(rt.alloc())?;
     let call = doing(CpuOp::Service);
-    assert!(rt; consumer.ask(&words, 0) && !consumer.ask(&words, 2));
-    assert!(rt; first.load_ask(&words, &call) == 1 && second.load_ask(&words, &call) == 0);
-    assert!(rt; consumer.ask(&words, 0) && first.load_ask(&words, &call) == 1);
+    assert!(rt; consumer.ask(&shared, 0) && !consumer.ask(&shared, 2));
+    assert!(rt;
+        first.load_ask(shared.words(), &call) == 1 && second.load_ask(shared.words(), &call) == 0
+    );
+    assert!(rt; consumer.ask(&shared, 0) && first.load_ask(shared.words(), &call) == 1);
     let handed = batch(rt.alloc(), 0, 16, 0)?;
-    let _ = passed(&rt, &words, &mut end, &mut consumer, handed);
-    assert!(rt; first.load_ask(&words, &call) == 1 && consumer.ask(&words, 0));
-    assert!(rt; first.load_ask(&words, &call) == 2 && second.load_ask(&words, &call) == 0);
+    let _ = passed(&rt, &shared, &mut end, &mut consumer, handed);
+    assert!(rt; first.load_ask(shared.words(), &call) == 1 && consumer.ask(&shared, 0));
+    assert!(rt;
+        first.load_ask(shared.words(), &call) == 2 && second.load_ask(shared.words(), &call) == 0
+    );
     Ok(())
 }

@@ -1,5 +1,6 @@
 //! Batches that are taken, and given back or refused.
 ghost use Rattle.std.specs.Prelude.{◌≡◌, ◌<◌, ◌≤◌, ◌+◌, ◌%◌, ◌^◌, length};
+ghost use Rattle.dspec_cpu.specs.Lists.{words_of};
 ghost use Rattle.dspec_session.specs.Consumers.{IsConsumerOf};
 
 use super::*;
@@ -18,27 +19,27 @@ pub(super) fn batch(alloc: Global, cpu: u32, size: u32, drops: u64) -> Result<Ba
 /// Hands a batch of the first CPU on, and takes it.
 pub(super) fn passed(
     rt: &impl Abort,
-    words: &Words,
+    shared: &Shared,
     end: &mut CpuEnd,
     consumer: &mut Consumer,
     batch: Batch,
 ) -> Batch
     requires count { length end.old.handed < 2 ^ 62 }
-    requires session { IsConsumerOf words.now consumer.old }
+    requires session { IsConsumerOf (words_of shared.now) consumer.old }
     ensures count { length end.new.handed ≡ length end.old.handed + 1 }
-    ensures session { IsConsumerOf words.now consumer.new }
+    ensures session { IsConsumerOf (words_of shared.now) consumer.new }
 {
     assert!(rt; end.hand(batch).is_ok());
-    consumer.take(words, 0).expect(rt, "a batch")
+    consumer.take(shared, 0).expect(rt, "a batch")
 }
 
 /// Gives a batch back, and answers whether it was refused and came back itself.
-fn comes_back(words: &Words, consumer: &mut Consumer, batch: Batch) -> bool
-    requires session { IsConsumerOf words.now consumer.old }
-    ensures session { IsConsumerOf words.now consumer.new }
+fn comes_back(shared: &Shared, consumer: &mut Consumer, batch: Batch) -> bool
+    requires session { IsConsumerOf (words_of shared.now) consumer.old }
+    ensures session { IsConsumerOf (words_of shared.now) consumer.new }
 {
     let drops = batch.drops;
-    match consumer.give_back(words, batch) {
+    match consumer.give_back(shared, batch) {
         Ok(()) => false,
         Err(back) => back.drops == drops,
     }
@@ -46,15 +47,15 @@ fn comes_back(words: &Words, consumer: &mut Consumer, batch: Batch) -> bool
 
 #[test]
 fn taken_in_order(rt: HostRuntime) -> Result<(), Fail> {
-    let (words, _, _, mut end, mut consumer) = begun(rt.alloc())?;
-    assert!(rt; consumer.take(&words, 0).is_none() && consumer.take(&words, 2).is_none());
+    let (shared, _, _, mut end, mut consumer) = begun(rt.alloc())?;
+    assert!(rt; consumer.take(&shared, 0).is_none() && consumer.take(&shared, 2).is_none());
     assert!(rt; end.hand(batch(rt.alloc(), 0, 16, 1)?).is_ok());
     assert!(rt; end.hand(batch(rt.alloc(), 0, 16, 2)?).is_ok());
-    assert!(rt; consumer.take(&words, 1).is_none());
-    let first = consumer.take(&words, 0).expect(&rt, "the first");
-    let second = consumer.take(&words, 0).expect(&rt, "the second");
-    assert!(rt; first.drops == 1 && second.drops == 2 && consumer.take(&words, 0).is_none());
-    assert!(rt; consumer.give_back(&words, first).is_ok());
+    assert!(rt; consumer.take(&shared, 1).is_none());
+    let first = consumer.take(&shared, 0).expect(&rt, "the first");
+    let second = consumer.take(&shared, 0).expect(&rt, "the second");
+    assert!(rt; first.drops == 1 && second.drops == 2 && consumer.take(&shared, 0).is_none());
+    assert!(rt; consumer.give_back(&shared, first).is_ok());
     let spare = end.spare().expect(&rt, "a spare");
     assert!(rt; spare.drops == 1 && end.spare().is_none());
     Ok(())
@@ -63,35 +64,35 @@ fn taken_in_order(rt: HostRuntime) -> Result<(), Fail> {
 /// A batch of a CPU that isn't there, one of a CPU of which none is out, and one of another size come back.
 #[test]
 fn refused_by_what_they_are(rt: HostRuntime) -> Result<(), Fail> {
-    let (words, _, _, mut end, mut consumer) = begun(rt.alloc())?;
+    let (shared, _, _, mut end, mut consumer) = begun(rt.alloc())?;
     let stranger = batch(rt.alloc(), 2, 16, 1)?;
-    assert!(rt; comes_back(&words, &mut consumer, stranger));
+    assert!(rt; comes_back(&shared, &mut consumer, stranger));
     let early = batch(rt.alloc(), 0, 16, 2)?;
-    assert!(rt; comes_back(&words, &mut consumer, early));
+    assert!(rt; comes_back(&shared, &mut consumer, early));
     let handed = batch(rt.alloc(), 0, 16, 3)?;
-    let out = passed(&rt, &words, &mut end, &mut consumer, handed);
+    let out = passed(&rt, &shared, &mut end, &mut consumer, handed);
     let large = batch(rt.alloc(), 0, 24, 4)?;
-    assert!(rt; comes_back(&words, &mut consumer, large));
+    assert!(rt; comes_back(&shared, &mut consumer, large));
     let others = batch(rt.alloc(), 1, 16, 5)?;
-    assert!(rt; comes_back(&words, &mut consumer, others));
-    assert!(rt; !comes_back(&words, &mut consumer, out));
+    assert!(rt; comes_back(&shared, &mut consumer, others));
+    assert!(rt; !comes_back(&shared, &mut consumer, out));
     let late = batch(rt.alloc(), 0, 16, 6)?;
-    assert!(rt; comes_back(&words, &mut consumer, late) && end.spare().is_some());
+    assert!(rt; comes_back(&shared, &mut consumer, late) && end.spare().is_some());
     Ok(())
 }
 
 /// A third comes back while the CPU hasn't got the two before.
 #[test]
 fn refused_by_the_ring(rt: HostRuntime) -> Result<(), Fail> {
-    let (words, _, _, mut end, mut consumer) = begun(rt.alloc())?;
+    let (shared, _, _, mut end, mut consumer) = begun(rt.alloc())?;
     let handed = batch(rt.alloc(), 0, 16, 1)?;
-    let first = passed(&rt, &words, &mut end, &mut consumer, handed);
+    let first = passed(&rt, &shared, &mut end, &mut consumer, handed);
     let handed = batch(rt.alloc(), 0, 16, 2)?;
-    let second = passed(&rt, &words, &mut end, &mut consumer, handed);
+    let second = passed(&rt, &shared, &mut end, &mut consumer, handed);
     let handed = batch(rt.alloc(), 0, 16, 3)?;
-    let third = passed(&rt, &words, &mut end, &mut consumer, handed);
-    assert!(rt; !comes_back(&words, &mut consumer, first));
-    assert!(rt; !comes_back(&words, &mut consumer, second));
-    assert!(rt; comes_back(&words, &mut consumer, third));
+    let third = passed(&rt, &shared, &mut end, &mut consumer, handed);
+    assert!(rt; !comes_back(&shared, &mut consumer, first));
+    assert!(rt; !comes_back(&shared, &mut consumer, second));
+    assert!(rt; comes_back(&shared, &mut consumer, third));
     Ok(())
 }

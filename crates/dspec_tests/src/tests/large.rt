@@ -1,7 +1,5 @@
 //! The largest number of CPUs and of speculations.
 use super::*;
-use dspec_core::Outcome;
-use dspec_record::DefaultAction;
 use std::alloc::{AllocError, Global};
 
 /// All slots are given out, and all CPUs speculate into the last one; a commit of that by the last CPU is settled by the
@@ -54,7 +52,7 @@ fn sixty_four_cpus(rt: HostRuntime) -> Result<(), Fail> {
         ..SMALL
     };
     let turns = largest_play(rt.alloc())?;
-    let Outcome { close, answers } = play(rt.alloc(), &config, DefaultAction, &turns)?;
+    let Outcome { close, answers } = played(&rt, &config, &turns)?;
     let lines = answers.as_slice();
     assert!(rt; lines.len() == 196);
     for place in 0..lines.len() {

@@ -25,6 +25,43 @@ pub fn valued(epid: u32, value: u64) -> Rec {
     }
 }
 
+/// A world, asked for once more where a growth was refused.
+pub fn made<S: Schema, B: TraceBuffer<S>>(
+    rt: &impl AllocGlobal,
+    config: Config,
+    schema: S,
+) -> Result<World<S, B>, StartFault>
+    ensures { IfOk result (λ world. world.state.config ≡ config) }
+{
+    match World::new(rt.alloc(), config, schema) {
+        Err(StartFault::Memory) => World::new(rt.alloc(), config, schema),
+        told => told,
+    }
+}
+
+/// A step, which leaves the configuration as it is.
+fn step_once<S: Schema, B: TraceBuffer<S>>(
+    world: &mut World<S, B>,
+    actor: Actor,
+) -> Result<Stepped, StepFault>
+    ensures { world.new.state.config ≡ world.old.state.config }
+{
+    world.step(actor)
+}
+
+/// A step, made once more where a growth was refused.
+pub fn stepped<S: Schema, B: TraceBuffer<S>>(
+    world: &mut World<S, B>,
+    actor: Actor,
+) -> Result<Stepped, StepFault>
+    ensures { world.new.state.config ≡ world.old.state.config }
+{
+    match step_once(world, actor) {
+        Err(StepFault::Memory) => step_once(world, actor),
+        told => told,
+    }
+}
+
 /// Steps of a call that has begun, to its end: its answer, and how many there were.
 fn run_to_end<S: Schema, B: TraceBuffer<S>>(
     world: &mut World<S, B>,
@@ -37,7 +74,7 @@ fn run_to_end<S: Schema, B: TraceBuffer<S>>(
         if world.steps(actor) != made {
             return Err(Fail::from("a step isn't counted"));
         }
-        if let Stepped::Done(answer) = world.step(actor)? {
+        if let Stepped::Done(answer) = stepped(world, actor)? {
             return Ok((answer, made + 1));
         }
     }
@@ -85,34 +122,37 @@ pub fn runs<S: Schema, B: TraceBuffer<S>>(
     Ok(())
 }
 
-/// Closes the session of one CPU and compares its stream and its counts, before the close and by it.
+/// Closes the session of one CPU and compares its stream and its counts, before the close and by it. False where a growth was
+/// refused, which gives the world up.
 pub fn finish<S: Schema, B: TraceBuffer<S>>(
     rt: &(impl Abort + AllocGlobal),
     world: World<S, B>,
     stream: &[Rec],
     report: Report,
-) -> Result<(), Fail>
+) -> Result<bool, Fail>
     requires { world.state.config.cpus ≡ 1 }
 {
     assert!(rt; world.is_idle(Actor::Cpu(0)));
     assert!(rt; world.is_idle(Actor::Consumer));
     assert!(rt; world.accepted(0) == stream);
     assert_eq!(rt; world.report(0), report);
-    let close = world.finish(rt.alloc())?;
+    let Ok(close) = world.finish(rt.alloc()) else {
+        return Ok(false);
+    };
     let streams = close.accepted.as_slice();
     assert!(rt; streams.len() == 1 && streams[0].as_slice() == stream);
     assert!(rt; close.reports.as_slice() == [report].as_slice());
-    Ok(())
+    Ok(true)
 }
 
 /// Records that need padding, and two that don't fit.
-fn pad_records<B: TraceBuffer<Enablings>>(rt: &(impl Abort + AllocGlobal)) -> Result<(), Fail> {
+fn pad_records<B: TraceBuffer<Enablings>>(rt: &(impl Abort + AllocGlobal)) -> Result<bool, Fail> {
     let config = Config {
         bufsize: 32,
         specsize: 32,
         ..SMALL
     };
-    let mut world: World<Enablings, B> = World::new(rt.alloc(), config, four_enablings()?)?;
+    let mut world: World<Enablings, B> = made(rt, config, four_enablings()?)?;
     let lines = [
         (traces(bare(1), Traced::Kept), 1),
         (traces(valued(2, 7), Traced::Kept), 1),
@@ -129,8 +169,9 @@ fn pad_records<B: TraceBuffer<Enablings>>(rt: &(impl Abort + AllocGlobal)) -> Re
 
 #[test]
 fn padded_records(rt: HostRuntime) -> Result<(), Fail> {
-    pad_records::<ByteBuffer>(&rt)?;
-    pad_records::<ListBuffer>(&rt)
+    assert!(rt; pad_records::<ByteBuffer>(&rt)? || pad_records::<ByteBuffer>(&rt)?);
+    assert!(rt; pad_records::<ListBuffer>(&rt)? || pad_records::<ListBuffer>(&rt)?);
+    Ok(())
 }
 
 /// A record, then a block of one record, which has to be aligned to eight.
@@ -142,7 +183,7 @@ fn align_block<B: TraceBuffer<DefaultAction>>(
     ensures { IfOk result (λ world. world.state.config.cpus ≡ 1) }
 {
     let config = Config { bufsize, ..SMALL };
-    let mut world: World<DefaultAction, B> = World::new(rt.alloc(), config, DefaultAction)?;
+    let mut world: World<DefaultAction, B> = made(rt, config, DefaultAction)?;
     let id = SpecId::from_raw(1);
     let lines = [
         (traces(bare(1), Traced::Kept), 1),
@@ -157,28 +198,29 @@ fn align_block<B: TraceBuffer<DefaultAction>>(
 /// The block that doesn't fit, though its one record would, and the one that does.
 fn align_blocks<B: TraceBuffer<DefaultAction>>(
     rt: &(impl Abort + AllocGlobal),
-) -> Result<(), Fail> {
+) -> Result<bool, Fail> {
     let mut world: World<DefaultAction, B> = align_block(rt, 8, Decided::Lost(1))?;
     run(rt, &mut world, traces(bare(2), Traced::Kept), 1)?;
     let mut report = counts(3, 2);
     report.lost = 1;
     report.drops = 1;
-    finish(rt, world, &[bare(1), bare(2)], report)?;
+    if !finish(rt, world, &[bare(1), bare(2)], report)? {
+        return Ok(false);
+    }
     let world: World<DefaultAction, B> = align_block(rt, 16, Decided::Copied(1))?;
     finish(rt, world, &[bare(1), bare(1)], counts(2, 2))
 }
 
 #[test]
 fn aligned_block(rt: HostRuntime) -> Result<(), Fail> {
-    align_blocks::<ByteBuffer>(&rt)?;
-    align_blocks::<ListBuffer>(&rt)
+    assert!(rt; align_blocks::<ByteBuffer>(&rt)? || align_blocks::<ByteBuffer>(&rt)?);
+    assert!(rt; align_blocks::<ListBuffer>(&rt)? || align_blocks::<ListBuffer>(&rt)?);
+    Ok(())
 }
 
 /// A batch that is asked for, sealed and taken.
-#[test]
-fn taken(rt: HostRuntime) -> Result<(), Fail> {
-    let alloc = rt.alloc();
-    let mut world: World<DefaultAction, ByteBuffer> = World::new(alloc, SMALL, DefaultAction)?;
+fn take_batch(rt: &(impl Abort + AllocGlobal)) -> Result<bool, Fail> {
+    let mut world: World<DefaultAction, ByteBuffer> = made(rt, SMALL, DefaultAction)?;
     let served = Served {
         sealed: true,
         settled: 0,
@@ -194,11 +236,17 @@ fn taken(rt: HostRuntime) -> Result<(), Fail> {
         (whole(0, CpuOp::Service, Answer::Served(served)), 3),
         (traces(bare(2), Traced::Kept), 1),
     ];
-    runs(&rt, &mut world, &lines)?;
+    runs(rt, &mut world, &lines)?;
     assert!(rt; world.taken(0).is_empty());
-    run(&rt, &mut world, consumes(ConsumerOp::Take(0), took), 1)?;
+    run(rt, &mut world, consumes(ConsumerOp::Take(0), took), 1)?;
     assert!(rt; world.taken(0) == [bare(1)].as_slice());
-    finish(&rt, world, &[bare(1), bare(2)], counts(2, 2))
+    finish(rt, world, &[bare(1), bare(2)], counts(2, 2))
+}
+
+#[test]
+fn taken(rt: HostRuntime) -> Result<(), Fail> {
+    assert!(rt; take_batch(&rt)? || take_batch(&rt)?);
+    Ok(())
 }
 
 type Small = World<DefaultAction, ListBuffer>;
@@ -221,7 +269,7 @@ fn asks(rt: &impl Abort, world: &mut Small, op: ConsumerOp, told: Result<(), Beg
 fn steps(rt: &impl Abort, world: &mut Small, actor: Actor, told: Result<Stepped, StepFault>)
     ensures { world.new.state.config ≡ world.old.state.config }
 {
-    assert!(rt; world.step(actor) == told);
+    assert!(rt; stepped(world, actor) == told);
 }
 
 /// What a refused call may not change: whether the actors are idle, their steps, and the deeds.
@@ -243,7 +291,7 @@ fn no_record() -> CpuOp {
 /// Begins and steps that are refused, while both actors are idle and then while both are busy.
 #[test]
 fn refused_calls(rt: HostRuntime) -> Result<(), Fail> {
-    let mut world: Small = World::new(rt.alloc(), SMALL, DefaultAction)?;
+    let mut world: Small = made(&rt, SMALL, DefaultAction)?;
     begins(
         &rt,
         &mut world,

@@ -1,8 +1,11 @@
-use Rattle.std.proofs.Common.{◌≡◌, ◌++◌, ◌∷◌, [], Some, true, false, ap, sym, ◌∙◌, arith}
+use Rattle.std.proofs.Common.{◌≡◌, ◌++◌, Some, length, true, false, ap, sym, ◌∙◌, arith}
+use Rattle.std.proofs.lemmas.List.{length-take-le}
 use Rattle.dspec_buffer.specs.Extent.{one, extent, reserved, piece_align}
 use Rattle.dspec_buffer.proofs.Fitting.{refuses, admits, placed}
 use Rattle.dspec_buffer.proofs.Keeping.{fits_says, shape_says}
-use Rattle.dspec_buffer.proofs.Listing.{listed, one_accepted}
+use Rattle.dspec_buffer.proofs.Listing.{listed, one_accepted, one_text}
+use Rattle.dspec_buffer.proofs.SchemaLaws.{SchemaLaws}
+use Rattle.dspec_buffer.proofs.Texts.{text_facts}
 use Rattle.dspec_buffer.proofs.list_buffer.ListBufferTraceBuffer.push.Goals as goal
 
 pub place_for-requires-clause-aligned : goal.place_for-requires-clause-aligned
@@ -10,31 +13,81 @@ place_for-requires-clause-aligned g c =
     let s = c.args.schema.now in
     (g.met.S.Schema.shapes_fit s c.epid.result c.unwrap-shape.result (sym c.shape.ensures ∙ c.unwrap-shape.ensures)).aligned
 
+pub slice_bounds-room-end : goal.slice_bounds-room-end
+slice_bounds-room-end g c =
+    let s = c.args.schema.now in
+    let named : g.S.Schema.shape_of s c.args.rec.now.epid ≡ Some c.unwrap-shape.result = ap (g.S.Schema.shape_of s) (sym c.epid.ensures) ∙ sym c.shape.ensures ∙ c.unwrap-shape.ensures in
+    let fit = g.met.S.Schema.shapes_fit s c.args.rec.now.epid c.unwrap-shape.result named in
+    fit.bounded
+
+pub slice_bounds-text-end : goal.slice_bounds-text-end
+slice_bounds-text-end g c =
+    let s = c.args.schema.now in
+    let named : g.S.Schema.shape_of s c.args.rec.now.epid ≡ Some c.unwrap-shape.result = ap (g.S.Schema.shape_of s) (sym c.epid.ensures) ∙ sym c.shape.ensures ∙ c.unwrap-shape.ensures in
+    let fit = g.met.S.Schema.shapes_fit s c.args.rec.now.epid c.unwrap-shape.result named in
+    sym (length-take-le c.unwrap-shape.result.size _ fit.bounded)
+
+pub put-requires-clause-exact : goal.put-requires-clause-exact
+put-requires-clause-exact g c =
+    let s = c.args.schema.now in
+    let named : g.S.Schema.shape_of s c.args.rec.now.epid ≡ Some c.unwrap-shape.result = ap (g.S.Schema.shape_of s) (sym c.epid.ensures) ∙ sym c.shape.ensures ∙ c.unwrap-shape.ensures in
+    let fit = g.met.S.Schema.shapes_fit s c.args.rec.now.epid c.unwrap-shape.result named in
+    let laws : SchemaLaws (g.S.Schema.shape_of s) (g.S.Schema.accepted s) (g.S.Schema.text s) = record {
+      zero_has_none = g.met.S.Schema.zero_has_none s;
+      shapes_fit = g.met.S.Schema.shapes_fit s;
+      texts_fit = g.met.S.Schema.texts_fit s;
+      texts_differ = g.met.S.Schema.texts_differ s;
+    } in
+    let says = shape_says (g.S.Schema.shape_of s) c.args.rec.now c.unwrap-shape.result named in
+    let t = text_facts (g.S.Schema.shape_of s) (g.S.Schema.accepted s) (g.S.Schema.text s) laws c.args.rec.now c.requires in
+    length-take-le c.unwrap-shape.result.size _ fit.bounded ∙ sym (t.size ∙ says.0)
+
 pub unwrap-requires : goal.unwrap-requires
 unwrap-requires g c =
     let s = c.args.schema.now in
-    let fit = g.met.S.Schema.shapes_fit s c.epid.result c.unwrap-shape.result (sym c.shape.ensures ∙ c.unwrap-shape.ensures) in
+    let named : g.S.Schema.shape_of s c.args.rec.now.epid ≡ Some c.unwrap-shape.result = ap (g.S.Schema.shape_of s) (sym c.epid.ensures) ∙ sym c.shape.ensures ∙ c.unwrap-shape.ensures in
+    let fit = g.met.S.Schema.shapes_fit s c.args.rec.now.epid c.unwrap-shape.result named in
+    let laws : SchemaLaws (g.S.Schema.shape_of s) (g.S.Schema.accepted s) (g.S.Schema.text s) = record {
+      zero_has_none = g.met.S.Schema.zero_has_none s;
+      shapes_fit = g.met.S.Schema.shapes_fit s;
+      texts_fit = g.met.S.Schema.texts_fit s;
+      texts_differ = g.met.S.Schema.texts_differ s;
+    } in
+    let says = shape_says (g.S.Schema.shape_of s) c.args.rec.now c.unwrap-shape.result named in
+    let t = text_facts (g.S.Schema.shape_of s) (g.S.Schema.accepted s) (g.S.Schema.text s) laws c.args.rec.now c.requires in
+    let written : length c.put.new.out ≡ c.unwrap-shape.result.size = ap length c.put.ensures ∙ t.size ∙ says.0 in
     let with_epid = fit.with_epid in
     let p = placed c.self.inside.offset c.unwrap-shape.result.align c.unwrap-shape.result.size c.in-Some.place c.self.invariant.words fit.aligned fit.whole_words (λ z. omega arith) c.in-Some.ensures.0 in
     let above = p.above in
     let fitting = c.in-Some.ensures.1 in
-    let counted = c.self.invariant.counted in
+    let packed = c.self.invariant.packed in
     let room = c.self.invariant.room in
-    c.push.ensures.succeeds (omega arith)
+    c.extend_from_slice.ensures.succeeds (omega arith)
 
 pub invariant_of-self : goal.invariant_of-self
 invariant_of-self g c =
     let s = c.args.schema.now in
-    let fit = g.met.S.Schema.shapes_fit s c.epid.result c.unwrap-shape.result (sym c.shape.ensures ∙ c.unwrap-shape.ensures) in
+    let named : g.S.Schema.shape_of s c.args.rec.now.epid ≡ Some c.unwrap-shape.result = ap (g.S.Schema.shape_of s) (sym c.epid.ensures) ∙ sym c.shape.ensures ∙ c.unwrap-shape.ensures in
+    let fit = g.met.S.Schema.shapes_fit s c.args.rec.now.epid c.unwrap-shape.result named in
+    let laws : SchemaLaws (g.S.Schema.shape_of s) (g.S.Schema.accepted s) (g.S.Schema.text s) = record {
+      zero_has_none = g.met.S.Schema.zero_has_none s;
+      shapes_fit = g.met.S.Schema.shapes_fit s;
+      texts_fit = g.met.S.Schema.texts_fit s;
+      texts_differ = g.met.S.Schema.texts_differ s;
+    } in
+    let says = shape_says (g.S.Schema.shape_of s) c.args.rec.now c.unwrap-shape.result named in
+    let t = text_facts (g.S.Schema.shape_of s) (g.S.Schema.accepted s) (g.S.Schema.text s) laws c.args.rec.now c.requires in
+    let written : length c.put.new.out ≡ c.unwrap-shape.result.size = ap length c.put.ensures ∙ t.size ∙ says.0 in
     let with_epid = fit.with_epid in
     let p = placed c.self.inside.offset c.unwrap-shape.result.align c.unwrap-shape.result.size c.in-Some.place c.self.invariant.words fit.aligned fit.whole_words (λ z. omega arith) c.in-Some.ensures.0 in
     let above = p.above in
     let fitting = c.in-Some.ensures.1 in
-    let counted = c.self.invariant.counted in
+    let packed = c.self.invariant.packed in
     let room = c.self.invariant.room in
-    let more = c.push.ensures.upper_bound in
-    let grown = c.push.ensures.capacity in
-    record { within = fitting; words = p.words; bounded = c.self.invariant.bounded; counted = omega arith; room = omega arith }
+    let counted = c.self.invariant.counted in
+    let more = rw c.unwrap.ensures at c.extend_from_slice.ensures.len in
+    let grown = c.extend_from_slice.ensures.capacity in
+    record { within = fitting; words = p.words; bounded = c.self.invariant.bounded; counted = omega arith; packed = omega arith; room = omega arith }
 
 pub returns-in_default-clause-answer : goal.returns-in_default-clause-answer
 returns-in_default-clause-answer g c = λ ps h.
@@ -67,7 +120,11 @@ returns-clause-kept g c = λ ps h.
     let with_epid = fit.with_epid in
     let at = ap (λ b. b.offset) c.self.view_is ∙ h.offset_is in
     let p = placed c.self.inside.offset c.unwrap-shape.result.align c.unwrap-shape.result.size c.in-Some.place c.self.invariant.words fit.aligned fit.whole_words (λ z. omega arith) c.in-Some.ensures.0 in
-    let items = rw c.unwrap.ensures at c.push.ensures.items in
-    listed (g.S.Schema.shape_of s) (g.S.Schema.accepted s) c.args.self.now _ (one c.args.rec.now) ps h (one_accepted (g.S.Schema.shape_of s) (g.S.Schema.accepted s) c.args.rec.now c.requires)
-    (items ∙ ap (λ b. b.kept ++ c.args.rec.now ∷ []) c.self.view_is)
-    (p.end_is ∙ ap (λ z. reserved z c.unwrap-shape.result.align c.unwrap-shape.result.size) at ∙ ap (λ z. reserved (extent (g.S.Schema.shape_of s) ps) z c.unwrap-shape.result.size) (sym says.1) ∙ ap (λ z. reserved (extent (g.S.Schema.shape_of s) ps) (piece_align (g.S.Schema.shape_of s) (one c.args.rec.now)) z) (sym says.0))
+    let items = rw c.unwrap.ensures at c.extend_from_slice.ensures.items in
+    let count = ap (λ b. b.count) c.self.view_is in
+    listed (g.S.Schema.shape_of s) (g.S.Schema.accepted s) (g.S.Schema.text s) c.args.self.now _ (one c.args.rec.now) ps h (record {
+      all_accepted = one_accepted (g.S.Schema.shape_of s) (g.S.Schema.accepted s) (g.S.Schema.text s) c.args.rec.now c.requires;
+      texts_are = items ∙ ap (λ b. b.texts ++ c.put.new.out) c.self.view_is ∙ ap (λ z. c.args.self.now.texts ++ z) (c.put.ensures ∙ sym (one_text (g.S.Schema.shape_of s) (g.S.Schema.accepted s) (g.S.Schema.text s) c.args.rec.now));
+      count_is = omega arith;
+      offset_is = p.end_is ∙ ap (λ z. reserved z c.unwrap-shape.result.align c.unwrap-shape.result.size) at ∙ ap (λ z. reserved (extent (g.S.Schema.shape_of s) ps) z c.unwrap-shape.result.size) (sym says.1) ∙ ap (λ z. reserved (extent (g.S.Schema.shape_of s) ps) (piece_align (g.S.Schema.shape_of s) (one c.args.rec.now)) z) (sym says.0);
+    })

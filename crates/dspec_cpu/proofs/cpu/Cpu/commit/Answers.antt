@@ -13,6 +13,7 @@ use Rattle.dspec_cpu.specs.Counting.{with_decided}
 use Rattle.dspec_cpu.specs.Lists.{words_of}
 use Rattle.dspec_cpu.specs.Reached.{Reached}
 use Rattle.dspec_cpu.specs.Reaching.{OwnsCommit}
+use Rattle.dspec_cpu.proofs.Limits.{has_room}
 use Rattle.dspec_cpu.proofs.Ready.{roomy, few_drops, ready_after}
 use Rattle.dspec_cpu.proofs.Speaks.{own_mark}
 use Rattle.dspec_cpu.proofs.Decisions.{block_fate, committing, commits_now, uncommitted_shown, released_shown, worn_shown}
@@ -41,13 +42,13 @@ overflow_add-self-in-Done g c =
     most false = omega arith
 
 pub decide-requires : goal.decide-requires
-decide-requires g c = record { roomy = roomy _ _ _ (words_of c.args.shared.now) c.args.self.now c.requires.ready c.if-self.false }
+decide-requires g c = record { room = has_room _ _ (roomy _ _ _ (words_of c.args.shared.now) c.args.self.now c.requires.ready c.if-self.false) }
 
 pub decide-requires-in-Void : goal.decide-requires-in-Void
-decide-requires-in-Void g c = record { roomy = roomy _ _ _ (words_of c.args.shared.now) c.args.self.now c.requires.ready c.if-self.false }
+decide-requires-in-Void g c = record { room = has_room _ _ (roomy _ _ _ (words_of c.args.shared.now) c.args.self.now c.requires.ready c.if-self.false) }
 
 pub decide-requires-in-Done : goal.decide-requires-in-Done
-decide-requires-in-Done g c = record { roomy = roomy _ _ _ (words_of c.args.shared.now) c.args.self.now c.requires.ready c.if-self.false }
+decide-requires-in-Done g c = record { room = has_room _ _ (roomy _ _ _ (words_of c.args.shared.now) c.args.self.now c.requires.ready c.if-self.false) }
 
 pub returns-in-Stopped-clause-decides : goal.returns-in-Stopped-clause-decides
 returns-in-Stopped-clause-decides g c =
@@ -73,7 +74,7 @@ returns-in-Stopped-clause-ready g c =
     let mine = c.is_mine-mine.result in
     let w = known c.go_on-reached.new.seat in
     let got = subst (λ (x : Config × ℕ). Reached x.0 x.1 (committing id fit n mine) id (known cpu.seat) reach.Stopped w) (λ i. (ready.config i, ready.seat i)) c.in-Stopped.ensures.reached in
-    ready_after _ _ _ words cpu ready _ (Commit cpu.cpu id fated.Stopped ∷ []) refl refl c.go_on-reached.ensures.seat.0 c.go_on-reached.ensures.seat.1 got.stands ready.idle ready.spare (Commit cpu.cpu id fated.Stopped ∷ ready.list) ((returns-in-Stopped-clause-decides g c).list ready.list ready.listed)
+    ready_after _ _ _ words cpu ready _ (Commit cpu.cpu id fated.Stopped ∷ []) refl refl c.go_on-reached.ensures.seat.0 c.go_on-reached.ensures.seat.1 got.stands ready.idle ready.spare ready.few (Commit cpu.cpu id fated.Stopped ∷ ready.list) ((returns-in-Stopped-clause-decides g c).list ready.list ready.listed)
 
 pub returns-in-Void-clause-decides : goal.returns-in-Void-clause-decides
 returns-in-Void-clause-decides g c =
@@ -99,7 +100,7 @@ returns-in-Void-clause-ready g c =
     let mine = c.is_mine-mine.result in
     let w = known c.go_on-reached.new.seat in
     let got = subst (λ (x : Config × ℕ). Reached x.0 x.1 (committing id fit n mine) id (known cpu.seat) reach.Void w) (λ i. (ready.config i, ready.seat i)) c.in-Void.ensures.reached in
-    ready_after _ _ _ words cpu ready _ (Commit cpu.cpu id fated.Void ∷ []) refl refl c.go_on-reached.ensures.seat.0 c.go_on-reached.ensures.seat.1 got.stands ready.idle ready.spare (Commit cpu.cpu id fated.Void ∷ ready.list) ((returns-in-Void-clause-decides g c).list ready.list ready.listed)
+    ready_after _ _ _ words cpu ready _ (Commit cpu.cpu id fated.Void ∷ []) refl refl c.go_on-reached.ensures.seat.0 c.go_on-reached.ensures.seat.1 got.stands ready.idle ready.spare ready.few (Commit cpu.cpu id fated.Void ∷ ready.list) ((returns-in-Void-clause-decides g c).list ready.list ready.listed)
 
 pub release_word-requires-clause-call : goal.release_word-requires-clause-call
 release_word-requires-clause-call g c =
@@ -167,7 +168,7 @@ returns-in_default-clause-ready g c =
     let got = subst (λ (x : Config × ℕ). Reached x.0 x.1 (committing id fit n mine) id (known cpu.seat) (reach.Done to) w) (λ i. (ready.config i, ready.seat i)) c.in-Done.ensures.reached in
     let within = c.is_inside-inside.ensures ∙ (got.present refl).1 in
     let place : c.slot.result - 1 ≡ id.slot - 1 = ap (λ s. s - 1) c.slot.ensures.value in
-    ready_after _ _ _ words cpu ready _ (Commit cpu.cpu id (block_fate fit n) ∷ []) refl refl c.go_on-reached.ensures.seat.0 c.go_on-reached.ensures.seat.1 got.stands ready.idle ready.spare (Commit cpu.cpu id (block_fate fit n) ∷ ready.list)
+    ready_after _ _ _ words cpu ready _ (Commit cpu.cpu id (block_fate fit n) ∷ []) refl refl c.go_on-reached.ensures.seat.0 c.go_on-reached.ensures.seat.1 got.stands ready.idle ready.spare ready.few (Commit cpu.cpu id (block_fate fit n) ∷ ready.list)
     (let p = ready.list in let had = ready.listed in
     let marked = c.is_mine-mine.ensures within p had.shown in
     let tells : mine ≡ true → mark cpu.cpu id.slot p ≡ id.issue + 1 = λ t. same_number (mark cpu.cpu id.slot p) (id.issue + 1) (sym marked ∙ t) in
@@ -198,7 +199,7 @@ returns-in-Committing-clause-decides g c =
     let block = block_shown _ _ _ words cpu ready id fit mine n to w got p had record { mine_is = marked; fitting = c.measure_slot-fits.ensures.fits within p had.shown tells; counting = c.measure_slot-fits.ensures.count within p had.shown tells }
     (c.slot.result - 1) place c.go_on-reached.new.seat c.end_block.new.buffers (λ b at. let t = c.end_block.ensures.buffer b at in (t.0, t.1, t.2, λ ps h. t.3 cpu.schema ps h)) c.end_block.new.active c.end_block.ensures.size (λ ps rs b at. c.end_block.ensures.active cpu.schema ps rs b at)
     (cpu.drops + c.drops_of.result) (ap (λ x. cpu.drops + x) c.drops_of.ensures) c.decide-in-Done.new.self (subst (λ f. c.decide-in-Done.new.self ≡ with_decided f cpu.counts) c.fate_of-fate.ensures.fate c.decide-in-Done.ensures) in
-    record { own = ap (λ l. Release id.slot ∷ Commit cpu.cpu id (block_fate fit n) ∷ l) had.own ∙ sym stands.own; shown = released_shown _ _ _ _ (Commit cpu.cpu id (block_fate fit n) ∷ p) block id.slot refl c.release_word.new.self })
+    record { own = ap (λ l. Release id.slot ∷ Commit cpu.cpu id (block_fate fit n) ∷ l) had.own ∙ sym stands.own; shown = released_shown _ _ _ (record cpu { speculative = c.end_block.new.buffers; active = c.end_block.new.active; calls = cpu.calls + 1; drops = cpu.drops + c.drops_of.result; counts = c.decide-in-Done.new.self }) (Commit cpu.cpu id (block_fate fit n) ∷ p) block id.slot refl c.release_word.new.self })
 
 pub returns-in-Committing-clause-ready : goal.returns-in-Committing-clause-ready
 returns-in-Committing-clause-ready g c =
@@ -216,11 +217,11 @@ returns-in-Committing-clause-ready g c =
     let place : c.slot.result - 1 ≡ id.slot - 1 = ap (λ s. s - 1) c.slot.ensures.value in
     let u = known c.release_word.new.self in
     let stands = alone_stands _ _ _ words cpu ready id fit mine n to w got u c.slot-in-Committing.result c.slot-in-Committing.ensures.value c.release_word.ensures.step in
-    ready_after _ _ _ words cpu ready _ (Release id.slot ∷ Commit cpu.cpu id (block_fate fit n) ∷ []) refl refl c.release_word.ensures.seat.0 (c.release_word.ensures.seat.1 ∙ c.go_on-reached.ensures.seat.1) stands ready.idle ready.spare (Release id.slot ∷ Commit cpu.cpu id (block_fate fit n) ∷ ready.list)
+    ready_after _ _ _ words cpu ready _ (Release id.slot ∷ Commit cpu.cpu id (block_fate fit n) ∷ []) refl refl c.release_word.ensures.seat.0 (c.release_word.ensures.seat.1 ∙ c.go_on-reached.ensures.seat.1) stands ready.idle ready.spare ready.few (Release id.slot ∷ Commit cpu.cpu id (block_fate fit n) ∷ ready.list)
     (let p = ready.list in let had = ready.listed in
     let marked = c.is_mine-mine.ensures within p had.shown in
     let tells : mine ≡ true → mark cpu.cpu id.slot p ≡ id.issue + 1 = λ t. same_number (mark cpu.cpu id.slot p) (id.issue + 1) (sym marked ∙ t) in
     let block = block_shown _ _ _ words cpu ready id fit mine n to w got p had record { mine_is = marked; fitting = c.measure_slot-fits.ensures.fits within p had.shown tells; counting = c.measure_slot-fits.ensures.count within p had.shown tells }
     (c.slot.result - 1) place c.go_on-reached.new.seat c.end_block.new.buffers (λ b at. let t = c.end_block.ensures.buffer b at in (t.0, t.1, t.2, λ ps h. t.3 cpu.schema ps h)) c.end_block.new.active c.end_block.ensures.size (λ ps rs b at. c.end_block.ensures.active cpu.schema ps rs b at)
     (cpu.drops + c.drops_of.result) (ap (λ x. cpu.drops + x) c.drops_of.ensures) c.decide-in-Done.new.self (subst (λ f. c.decide-in-Done.new.self ≡ with_decided f cpu.counts) c.fate_of-fate.ensures.fate c.decide-in-Done.ensures) in
-    record { own = ap (λ l. Release id.slot ∷ Commit cpu.cpu id (block_fate fit n) ∷ l) had.own ∙ sym stands.own; shown = released_shown _ _ _ _ (Commit cpu.cpu id (block_fate fit n) ∷ p) block id.slot refl c.release_word.new.self })
+    record { own = ap (λ l. Release id.slot ∷ Commit cpu.cpu id (block_fate fit n) ∷ l) had.own ∙ sym stands.own; shown = released_shown _ _ _ (record cpu { speculative = c.end_block.new.buffers; active = c.end_block.new.active; calls = cpu.calls + 1; drops = cpu.drops + c.drops_of.result; counts = c.decide-in-Done.new.self }) (Commit cpu.cpu id (block_fate fit n) ∷ p) block id.slot refl c.release_word.new.self })

@@ -1,8 +1,9 @@
-use Rattle.std.proofs.Common.{◌≡◌, ◌∙◌, ◌-◌, List, [], length, get_or, Some, if◌then◌else◌, sym, ap, arith}
+use Rattle.std.proofs.Common.{◌≡◌, ◌∙◌, ◌-◌, List, length, get_or, Some, sym, ap, arith}
 use Rattle.std.proofs.lemmas.Option.{slice_get-get_or}
 use Rattle.dspec_record.specs.Record.{Record}
-use Rattle.dspec_buffer.specs.Extent.{block, fits}
-use Rattle.dspec_deeds.specs.Own.{active, contents, held}
+use Rattle.dspec_buffer.specs.Extent.{block}
+use Rattle.dspec_deeds.specs.Legal.{fits_principal}
+use Rattle.dspec_deeds.specs.Own.{contents, held}
 use Rattle.dspec_deeds.specs.OwnShown.{last_called}
 use Rattle.dspec_cpu.proofs.Ones.{mine_last}
 use Rattle.dspec_cpu.proofs.Reaches.{slot_inside}
@@ -17,7 +18,7 @@ returns-clause-count g c = λ within p shown marked.
     let place : c.slot.result - 1 ≡ id.slot - 1 = ap (λ n. n - 1) c.slot.ensures.value in
     let at = slice_get-get_or self.speculative.items (id.slot - 1) c.index-buffer.result.now (omega arith) ∙ ap (λ b. Some b) (ap (λ n. get_or self.speculative.items n c.index-buffer.result.now) (sym place) ∙ sym c.index-buffer.ensures) in
     let has = shown.side.speculative id.slot c.index-buffer.result.now low high at in
-    c.measure-room.ensures.count self.schema (contents (held self.cpu (last_called self.cpu id.slot p) p)) has.has ∙ ap length (mine_last self.cpu id p c.args.mine marked)
+    c.measure_block.ensures.count self.schema (contents (held self.cpu (last_called self.cpu id.slot p) p)) has.has ∙ ap length (mine_last self.cpu id p c.args.mine marked)
 
 pub returns-clause-fits : goal.returns-clause-fits
 returns-clause-fits g c = λ within p shown marked.
@@ -28,8 +29,5 @@ returns-clause-fits g c = λ within p shown marked.
     let place : c.slot.result - 1 ≡ id.slot - 1 = ap (λ n. n - 1) c.slot.ensures.value in
     let at = slice_get-get_or self.speculative.items (id.slot - 1) c.index-buffer.result.now (omega arith) ∙ ap (λ b. Some b) (ap (λ n. get_or self.speculative.items n c.index-buffer.result.now) (sym place) ∙ sym c.index-buffer.ensures) in
     let has = shown.side.speculative id.slot c.index-buffer.result.now low high at in
-    let rs : List Record = if c.args.mine then contents (held self.cpu id p) else [] in
-    let room = c.measure-room.ensures.fits self.schema (active self.cpu p) (contents (held self.cpu (last_called self.cpu id.slot p) p)) shown.side.principal.has has.has
-    ∙ (ap (λ (l : List Record). fits (g.S.Schema.shape_of self.schema) (active self.cpu p) (block l) self.active.size) (mine_last self.cpu id p c.args.mine marked)
-    ∙ ap (λ n. fits (g.S.Schema.shape_of self.schema) (active self.cpu p) (block rs) n) shown.side.principal.sized) in
-    c.takes.ensures p shown rs (returns-clause-count g c within p shown marked) room
+    c.measure_block.ensures.fits self.schema self.cpu self.counts.worn p (contents (held self.cpu (last_called self.cpu id.slot p) p)) shown.counted shown.side.principal has.has
+    ∙ ap (λ (l : List Record). fits_principal (g.S.Schema.shape_of self.schema) self.config self.cpu (block l) p) (mine_last self.cpu id p c.args.mine marked)

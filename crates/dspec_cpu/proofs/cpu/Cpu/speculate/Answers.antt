@@ -64,7 +64,7 @@ returns-in-Stopped-clause-ready g c =
     let mine = c.is_mine-mine.result in
     let w = known c.go_on-reached.new.seat in
     let got = subst (λ (x : Config × ℕ). Reached x.0 x.1 (asked id r fit mine) id (known cpu.seat) reach.Stopped w) (λ i. (ready.config i, ready.seat i)) c.in-Stopped.ensures.reached in
-    ready_after _ _ _ words cpu ready _ (Speculate cpu.cpu id r spoken.Stopped ∷ []) refl refl c.go_on-reached.ensures.seat.0 c.go_on-reached.ensures.seat.1 got.stands ready.idle ready.spare (Speculate cpu.cpu id r spoken.Stopped ∷ ready.list) (returns-in-Stopped-clause-list g c ready.list ready.listed)
+    ready_after _ _ _ words cpu ready _ (Speculate cpu.cpu id r spoken.Stopped ∷ []) refl refl c.go_on-reached.ensures.seat.0 c.go_on-reached.ensures.seat.1 got.stands ready.idle ready.spare ready.few (Speculate cpu.cpu id r spoken.Stopped ∷ ready.list) (returns-in-Stopped-clause-list g c ready.list ready.listed)
 
 pub returns-in-Void-clause-list : goal.returns-in-Void-clause-list
 returns-in-Void-clause-list g c =
@@ -90,7 +90,7 @@ returns-in-Void-clause-ready g c =
     let mine = c.is_mine-mine.result in
     let w = known c.go_on-reached.new.seat in
     let got = subst (λ (x : Config × ℕ). Reached x.0 x.1 (asked id r fit mine) id (known cpu.seat) reach.Void w) (λ i. (ready.config i, ready.seat i)) c.in-Void.ensures.reached in
-    ready_after _ _ _ words cpu ready _ (Speculate cpu.cpu id r spoken.Void ∷ []) refl refl c.go_on-reached.ensures.seat.0 c.go_on-reached.ensures.seat.1 got.stands ready.idle ready.spare (Speculate cpu.cpu id r spoken.Void ∷ ready.list) (returns-in-Void-clause-list g c ready.list ready.listed)
+    ready_after _ _ _ words cpu ready _ (Speculate cpu.cpu id r spoken.Void ∷ []) refl refl c.go_on-reached.ensures.seat.0 c.go_on-reached.ensures.seat.1 got.stands ready.idle ready.spare ready.few (Speculate cpu.cpu id r spoken.Void ∷ ready.list) (returns-in-Void-clause-list g c ready.list ready.listed)
 
 pub returns-then-not-fits-clause-list : goal.returns-then-not-fits-clause-list
 returns-then-not-fits-clause-list g c =
@@ -136,7 +136,7 @@ returns-then-not-fits-clause-ready g c =
     let got = subst (λ (x : Config × ℕ). Reached x.0 x.1 (asked id r fit mine) id (known cpu.seat) c.go_on-reached.result w) (λ i. (ready.config i, ready.seat i)) c.go_on-reached.ensures.reached in
     let deeds = grant_deeds cpu.cpu (asked id r fit mine) id r c.go_on-reached.result false grant c.if-not-fits.true in
     let stands = subst (λ ds. Stands cpu.config cpu.cpu (known cpu.seat) ds w) deeds got.stands in
-    ready_after _ _ _ words cpu ready _ (Speculate cpu.cpu id r spoken.Dropped ∷ []) refl refl c.go_on-reached.ensures.seat.0 c.go_on-reached.ensures.seat.1 stands ready.idle ready.spare (Speculate cpu.cpu id r spoken.Dropped ∷ ready.list) (returns-then-not-fits-clause-list g c ready.list ready.listed)
+    ready_after _ _ _ words cpu ready _ (Speculate cpu.cpu id r spoken.Dropped ∷ []) refl refl c.go_on-reached.ensures.seat.0 c.go_on-reached.ensures.seat.1 stands ready.idle ready.spare ready.few (Speculate cpu.cpu id r spoken.Dropped ∷ ready.list) (returns-then-not-fits-clause-list g c ready.list ready.listed)
 
 pub returns-else-not-fits-clause-list : goal.returns-else-not-fits-clause-list
 returns-else-not-fits-clause-list g c =
@@ -182,4 +182,4 @@ returns-else-not-fits-clause-ready g c =
     let got = subst (λ (x : Config × ℕ). Reached x.0 x.1 (asked id r fit mine) id (known cpu.seat) c.go_on-reached.result w) (λ i. (ready.config i, ready.seat i)) c.go_on-reached.ensures.reached in
     let deeds = grant_deeds cpu.cpu (asked id r fit mine) id r c.go_on-reached.result true grant c.if-not-fits.false in
     let stands = subst (λ ds. Stands cpu.config cpu.cpu (known cpu.seat) ds w) deeds got.stands in
-    ready_after _ _ _ words cpu ready _ (Speculate cpu.cpu id r spoken.Kept ∷ []) refl refl c.go_on-reached.ensures.seat.0 c.go_on-reached.ensures.seat.1 stands ready.idle ready.spare (Speculate cpu.cpu id r spoken.Kept ∷ ready.list) (returns-else-not-fits-clause-list g c ready.list ready.listed)
+    ready_after _ _ _ words cpu ready _ (Speculate cpu.cpu id r spoken.Kept ∷ []) refl refl c.go_on-reached.ensures.seat.0 c.go_on-reached.ensures.seat.1 stands ready.idle ready.spare ready.few (Speculate cpu.cpu id r spoken.Kept ∷ ready.list) (returns-else-not-fits-clause-list g c ready.list ready.listed)

@@ -1,0 +1,165 @@
+-- What shows a CPU's list behind a call of speculation.
+use Rattle.std.proofs.Common.{◌≡◌, ℕ, ◌+◌, ◌<◌, ◌≤◌, ◌==◌, Bool, true, false, not, ◌&&◌, List, [], ◌∷◌, ◌++◌, length, Option, if◌then◌else◌, refl, sym, ap, ◌∙◌, subst, ⊎_elim, arith, add-zero, true≢false}
+use Rattle.dspec_record.specs.Record.{Record}
+use Rattle.dspec_record.specs.declared.field.Shape.{Shape}
+use Rattle.dspec_word.specs.SpecId.{Speculation}
+use Rattle.dspec_deeds.specs.declared.config.Config.{Config}
+use Rattle.dspec_deeds.specs.declared.calls.Opening.{Opening}
+use Rattle.dspec_deeds.specs.declared.calls.Opening.TheVariants as opening
+use Rattle.dspec_deeds.specs.declared.deed.Deed.{Deed}
+use Rattle.dspec_deeds.specs.declared.deed.Deed.TheVariants.{Scan, Opened, Miss}
+use Rattle.dspec_deeds.specs.Own.{calls, growing}
+use Rattle.dspec_deeds.specs.Owning.{OwnRow, is_of}
+use Rattle.dspec_deeds.specs.Reports.{missed_busy, one_if}
+use Rattle.dspec_deeds.specs.Weaving.{bare}
+use Rattle.dspec_deeds.proofs.TestLemmas.{either_way, number_is_itself, same_number}
+use Rattle.dspec_table.specs.declared.seats.CpuSeat.{CpuSeat}
+use Rattle.dspec_cpu.specs.declared.cpu.Cpu.{Cpu}
+use Rattle.dspec_cpu.specs.declared.counts.Counts.{Counts}
+use Rattle.dspec_cpu.specs.Counting.{counts_of, with_opening}
+use Rattle.dspec_cpu.specs.Lists.{IsShown}
+use Rattle.dspec_cpu.specs.Scans.{misses, any_busy, opening_deeds, IsOpening, is_worn_opening}
+use Rattle.dspec_cpu.proofs.Quiet.{quiet, quiet_shown}
+
+-- what the deeds of a scan add to the counts
+module _ (k : Config) (c w : ℕ) where
+  -- a deed of a scan that ends no call
+  scan_counts : (p : List Deed) → counts_of k c w (Scan c true ∷ p) ≡ counts_of k c w p
+  scan_counts p = let n : Counts = counts_of k c w p in λ i. record n { offered = add-zero n.offered i; accepted = add-zero n.accepted i; dropped = add-zero n.dropped i; specdropped = add-zero n.specdropped i; lost = add-zero n.lost i; discarded = add-zero n.discarded i; void = add-zero n.void i; drops = add-zero n.drops i; unavailable = add-zero n.unavailable i; busy = add-zero n.busy i; stopped = add-zero n.stopped i }
+
+  stop_counts : (p : List Deed) → counts_of k c w (Scan c false ∷ p) ≡ with_opening opening.Stopped (counts_of k c w p)
+  stop_counts p = let n : Counts = counts_of k c w p in rw (number_is_itself c) (λ i. record n { offered = add-zero n.offered i; accepted = add-zero n.accepted i; dropped = add-zero n.dropped i; specdropped = add-zero n.specdropped i; lost = add-zero n.lost i; discarded = add-zero n.discarded i; void = add-zero n.void i; drops = add-zero n.drops i; unavailable = n.unavailable + 0; busy = n.busy + 0; stopped = n.stopped + 1 })
+
+  given_counts : (id : Speculation) (p : List Deed) → counts_of k c w (Opened c id ∷ p) ≡ with_opening (opening.Id id) (counts_of k c w p)
+  given_counts id p = let n : Counts = counts_of k c w p in λ i. record n { offered = add-zero n.offered i; accepted = add-zero n.accepted i; dropped = add-zero n.dropped i; specdropped = add-zero n.specdropped i; lost = add-zero n.lost i; discarded = add-zero n.discarded i; void = add-zero n.void i; drops = add-zero n.drops i; unavailable = n.unavailable + 0; busy = n.busy + 0; stopped = n.stopped + 0 }
+
+  module _ (s : ℕ) (b : Bool) (p : List Deed) where
+    abbrev n : Counts
+    n = counts_of k c w p
+
+    abbrev misses_now : Bool
+    misses_now = missed_busy c (Miss c s b ∷ p)
+
+    -- the Miss of a slot that isn't the last
+    miss_counts : (s == k.nspec) ≡ false → counts_of k c w (Miss c s b ∷ p) ≡ n
+    miss_counts at =
+        let one : n.unavailable + one_if (((s == k.nspec) && (c == c)) && not misses_now) ≡ n.unavailable = ap (λ x. n.unavailable + one_if ((x && (c == c)) && not misses_now)) at ∙ add-zero n.unavailable in
+        let two : n.busy + one_if (((s == k.nspec) && (c == c)) && misses_now) ≡ n.busy = ap (λ x. n.busy + one_if ((x && (c == c)) && misses_now)) at ∙ add-zero n.busy in
+        λ i. record n { offered = add-zero n.offered i; accepted = add-zero n.accepted i; dropped = add-zero n.dropped i; specdropped = add-zero n.specdropped i; lost = add-zero n.lost i; discarded = add-zero n.discarded i; void = add-zero n.void i; drops = add-zero n.drops i; unavailable = one i; busy = two i; stopped = add-zero n.stopped i }
+
+    -- the Miss of the last slot
+    last_busy : (s == k.nspec) ≡ true → misses_now ≡ true → counts_of k c w (Miss c s b ∷ p) ≡ with_opening opening.Busy n
+    last_busy at was =
+        λ i. record n { offered = add-zero n.offered i; accepted = add-zero n.accepted i; dropped = add-zero n.dropped i; specdropped = add-zero n.specdropped i; lost = add-zero n.lost i; discarded = add-zero n.discarded i; void = add-zero n.void i; drops = add-zero n.drops i; unavailable = n.unavailable + one_if ((at i && number_is_itself c i) && not (was i)); busy = n.busy + one_if ((at i && number_is_itself c i) && was i); stopped = n.stopped + 0 }
+
+    last_unavailable : (s == k.nspec) ≡ true → misses_now ≡ false → counts_of k c w (Miss c s b ∷ p) ≡ with_opening opening.Unavailable n
+    last_unavailable at was =
+        λ i. record n { offered = add-zero n.offered i; accepted = add-zero n.accepted i; dropped = add-zero n.dropped i; specdropped = add-zero n.specdropped i; lost = add-zero n.lost i; discarded = add-zero n.discarded i; void = add-zero n.void i; drops = add-zero n.drops i; unavailable = n.unavailable + one_if ((at i && number_is_itself c i) && not (was i)); busy = n.busy + one_if ((at i && number_is_itself c i) && was i); stopped = n.stopped + 0 }
+
+-- the same of all Misses
+module _ (k : Config) (c : ℕ) (p : List Deed) where
+  missed_calls : (bs : List Bool) → calls c ((misses c bs ++ Scan c true ∷ []) ++ p) ≡ calls c p + 1
+  missed_calls [] = rw (number_is_itself c) refl
+  missed_calls (b ∷ bs) = add-zero (calls c ((misses c bs ++ Scan c true ∷ []) ++ p)) ∙ missed_calls bs
+
+  missed_any : (bs : List Bool) → missed_busy c ((misses c bs ++ Scan c true ∷ []) ++ p) ≡ any_busy bs
+  missed_any [] = rw (number_is_itself c) refl
+  missed_any (true ∷ bs) = rw (number_is_itself c) refl
+  missed_any (false ∷ bs) = missed_any bs
+
+  missed_drops : (bs : List Bool) → (growing c ((misses c bs ++ Scan c true ∷ []) ++ p)).drops ≡ (growing c p).drops
+  missed_drops [] = add-zero (growing c p).drops
+  missed_drops (b ∷ bs) = add-zero (growing c ((misses c bs ++ Scan c true ∷ []) ++ p)).drops ∙ missed_drops bs
+
+  missed_counts : (w : ℕ) (bs : List Bool) → length bs < k.nspec → counts_of k c w ((misses c bs ++ Scan c true ∷ []) ++ p) ≡ counts_of k c w p
+  missed_counts w [] lt = scan_counts k c w p
+  missed_counts w (b ∷ bs) lt =
+      let not_last : (length bs + 1 == k.nspec) ≡ false = ⊎_elim (λ (t : (length bs + 1 == k.nspec) ≡ true). let e = same_number (length bs + 1) k.nspec t in absurd (omega arith)) (λ (f : (length bs + 1 == k.nspec) ≡ false). f) (either_way (length bs + 1 == k.nspec)) in
+      miss_counts k c w (length bs + 1) b ((misses c bs ++ Scan c true ∷ []) ++ p) not_last ∙ missed_counts w bs (omega arith)
+
+  all_counts : (w : ℕ) (bs : List Bool) (m : Bool) → 1 ≤ k.nspec → length bs ≡ k.nspec → any_busy bs ≡ m
+      → counts_of k c w ((misses c bs ++ Scan c true ∷ []) ++ p) ≡ with_opening (if m then opening.Busy else opening.Unavailable) (counts_of k c w p)
+  all_counts w [] m one all any = absurd (omega arith)
+  all_counts w (b ∷ bs) m one all any = go m any
+    where
+      last : (length bs + 1 == k.nspec) ≡ true
+      last = let e : length bs + 1 ≡ k.nspec = omega arith in subst (λ n. (n == k.nspec) ≡ true) (sym e) (number_is_itself k.nspec)
+
+      go : (m : Bool) → any_busy (b ∷ bs) ≡ m → counts_of k c w ((misses c (b ∷ bs) ++ Scan c true ∷ []) ++ p) ≡ with_opening (if m then opening.Busy else opening.Unavailable) (counts_of k c w p)
+      go true any = last_busy k c w (length bs + 1) b ((misses c bs ++ Scan c true ∷ []) ++ p) last (missed_any (b ∷ bs) ∙ any) ∙ ap (with_opening opening.Busy) (missed_counts w bs (omega arith))
+      go false any = last_unavailable k c w (length bs + 1) b ((misses c bs ++ Scan c true ∷ []) ++ p) last (missed_any (b ∷ bs) ∙ any) ∙ ap (with_opening opening.Unavailable) (missed_counts w bs (omega arith))
+
+  -- and of the whole call
+  opening_calls : (bs : List Bool) (a : Opening) → is_worn_opening a ≡ false → calls c (opening_deeds c bs a ++ p) ≡ calls c p + 1
+  opening_calls bs opening.Worn un = absurd (true≢false un)
+  opening_calls bs opening.Stopped un = rw (number_is_itself c) refl
+  opening_calls bs (opening.Id id) un = add-zero (calls c ((misses c bs ++ Scan c true ∷ []) ++ p)) ∙ missed_calls bs
+  opening_calls bs opening.Unavailable un = missed_calls bs
+  opening_calls bs opening.Busy un = missed_calls bs
+
+  opening_missed : (bs : List Bool) (a : Opening) → IsOpening k.nspec bs a → is_worn_opening a ≡ false → missed_busy c (opening_deeds c bs a ++ p) ≡ any_busy bs
+  opening_missed bs opening.Worn is un = absurd (true≢false un)
+  opening_missed bs opening.Stopped is un = rw (number_is_itself c) (sym (ap any_busy is))
+  opening_missed bs (opening.Id id) is un = missed_any bs
+  opening_missed bs opening.Unavailable is un = missed_any bs
+  opening_missed bs opening.Busy is un = missed_any bs
+
+  opening_drops : (bs : List Bool) (a : Opening) → (growing c (opening_deeds c bs a ++ p)).drops ≡ (growing c p).drops
+  opening_drops bs opening.Worn = refl
+  opening_drops bs opening.Stopped = add-zero (growing c p).drops
+  opening_drops bs (opening.Id id) = add-zero (growing c ((misses c bs ++ Scan c true ∷ []) ++ p)).drops ∙ missed_drops bs
+  opening_drops bs opening.Unavailable = missed_drops bs
+  opening_drops bs opening.Busy = missed_drops bs
+
+  opening_counts : (w : ℕ) (bs : List Bool) (a : Opening) → 1 ≤ k.nspec → IsOpening k.nspec bs a → is_worn_opening a ≡ false → counts_of k c w (opening_deeds c bs a ++ p) ≡ with_opening a (counts_of k c w p)
+  opening_counts w bs opening.Worn one is un = absurd (true≢false un)
+  opening_counts w bs opening.Stopped one is un = stop_counts k c w p
+  opening_counts w bs (opening.Id id) one is un =
+      let at = is.0 in let high = is.1 in
+      given_counts k c w id ((misses c bs ++ Scan c true ∷ []) ++ p) ∙ ap (with_opening (opening.Id id)) (missed_counts w bs (omega arith))
+  opening_counts w bs opening.Unavailable one is un = all_counts w bs false one is.0 is.1
+  opening_counts w bs opening.Busy one is un = all_counts w bs true one is.0 is.1
+
+module _ (shape : ℕ → Option Shape) (accepted : Record → Bool) (text : Record → List ℕ) {S : Type 0} (cpu : Cpu S) (p : List Deed) (was : IsShown shape accepted text cpu p) (seat : CpuSeat) where
+  abbrev shows : List Deed → Cpu S
+  shows ds = record cpu { seat = seat; calls = calls cpu.cpu (ds ++ p); missed_busy = missed_busy cpu.cpu (ds ++ p); drops = (growing cpu.cpu (ds ++ p)).drops; counts = counts_of cpu.config cpu.cpu cpu.counts.worn (ds ++ p) }
+
+  one_shown : (d : Deed) → quiet d ≡ true → is_of cpu.cpu d ≡ true → OwnRow shape cpu.config p d → IsShown shape accepted text (shows (d ∷ [])) (d ∷ p)
+  one_shown d still mine row = quiet_shown shape accepted text cpu p was d still mine row seat (calls cpu.cpu (d ∷ p)) (missed_busy cpu.cpu (d ∷ p)) (growing cpu.cpu (d ∷ p)).drops (counts_of cpu.config cpu.cpu cpu.counts.worn (d ∷ p)) refl refl refl refl
+
+  more_shown : (ds : List Deed) → IsShown shape accepted text (shows ds) (ds ++ p) → (d : Deed) → quiet d ≡ true → is_of cpu.cpu d ≡ true → OwnRow shape cpu.config (ds ++ p) d → IsShown shape accepted text (shows (d ∷ ds)) (d ∷ ds ++ p)
+  more_shown ds before d still mine row = quiet_shown shape accepted text (shows ds) (ds ++ p) before d still mine row seat (calls cpu.cpu (d ∷ ds ++ p)) (missed_busy cpu.cpu (d ∷ ds ++ p)) (growing cpu.cpu (d ∷ ds ++ p)).drops (counts_of cpu.config cpu.cpu cpu.counts.worn (d ∷ ds ++ p)) refl refl refl refl
+
+  misses_shown : (bs : List Bool) → IsShown shape accepted text (shows (misses cpu.cpu bs ++ Scan cpu.cpu true ∷ [])) ((misses cpu.cpu bs ++ Scan cpu.cpu true ∷ []) ++ p)
+  misses_shown [] = one_shown (Scan cpu.cpu true) refl (number_is_itself cpu.cpu) tt
+  misses_shown (b ∷ bs) = more_shown (misses cpu.cpu bs ++ Scan cpu.cpu true ∷ []) (misses_shown bs) (Miss cpu.cpu (length bs + 1) b) refl (number_is_itself cpu.cpu) tt
+
+  deeds_shown : (bs : List Bool) (a : Opening) → is_worn_opening a ≡ false → IsShown shape accepted text (shows (opening_deeds cpu.cpu bs a)) (opening_deeds cpu.cpu bs a ++ p)
+  deeds_shown bs opening.Worn un = absurd (true≢false un)
+  deeds_shown bs opening.Stopped un = one_shown (Scan cpu.cpu false) refl (number_is_itself cpu.cpu) tt
+  deeds_shown bs (opening.Id id) un = more_shown (misses cpu.cpu bs ++ Scan cpu.cpu true ∷ []) (misses_shown bs) (Opened cpu.cpu id) refl (number_is_itself cpu.cpu) tt
+  deeds_shown bs opening.Unavailable un = misses_shown bs
+  deeds_shown bs opening.Busy un = misses_shown bs
+
+  -- the CPU shows the longer list with one call more, whether a slot missed was decided, and the counts of the answer
+  pub opening_shown : (bs : List Bool) (a : Opening) (busy : Bool) (counts : Counts) → 1 ≤ cpu.config.nspec → IsOpening cpu.config.nspec bs a → is_worn_opening a ≡ false → busy ≡ any_busy bs → counts ≡ with_opening a cpu.counts
+      → IsShown shape accepted text (record cpu { seat = seat; calls = cpu.calls + 1; missed_busy = busy; counts = counts }) (opening_deeds cpu.cpu bs a ++ p)
+  opening_shown bs a busy counts one is un any plus =
+      let ds = opening_deeds cpu.cpu bs a in
+      let called : calls cpu.cpu (ds ++ p) ≡ cpu.calls + 1 = opening_calls cpu.config cpu.cpu p bs a un ∙ ap (λ n. n + 1) (sym was.side.called) in
+      let missed : missed_busy cpu.cpu (ds ++ p) ≡ busy = opening_missed cpu.config cpu.cpu p bs a is un ∙ sym any in
+      let dropped : (growing cpu.cpu (ds ++ p)).drops ≡ cpu.drops = opening_drops cpu.config cpu.cpu p bs a ∙ sym was.side.drops in
+      let counted : counts_of cpu.config cpu.cpu cpu.counts.worn (ds ++ p) ≡ counts = opening_counts cpu.config cpu.cpu p cpu.counts.worn bs a one is un ∙ (ap (with_opening a) (sym was.counted) ∙ sym plus) in
+      subst (λ (x : ℕ × Bool × ℕ × Counts). IsShown shape accepted text (record cpu { seat = seat; calls = x.0; missed_busy = x.1; drops = x.2; counts = x.3 }) (ds ++ p)) (λ i. (called i, missed i, dropped i, counted i)) (deeds_shown bs a un)
+
+-- no deed of the call is a Seal
+bare_misses : (c : ℕ) (p : List Deed) (bs : List Bool) → bare ((misses c bs ++ Scan c true ∷ []) ++ p) ≡ (misses c bs ++ Scan c true ∷ []) ++ bare p
+bare_misses c p [] = refl
+bare_misses c p (b ∷ bs) = ap (λ l. Miss c (length bs + 1) b ∷ l) (bare_misses c p bs)
+
+pub bare_opening : (c : ℕ) (p : List Deed) (bs : List Bool) (a : Opening) → bare (opening_deeds c bs a ++ p) ≡ opening_deeds c bs a ++ bare p
+bare_opening c p bs opening.Worn = refl
+bare_opening c p bs opening.Stopped = refl
+bare_opening c p bs (opening.Id id) = ap (λ l. Opened c id ∷ l) (bare_misses c p bs)
+bare_opening c p bs opening.Unavailable = bare_misses c p bs
+bare_opening c p bs opening.Busy = bare_misses c p bs

@@ -1,0 +1,120 @@
+-- The steps of a call of speculation.
+use Rattle.std.proofs.Common.{◌≡◌, ℕ, ◌+◌, ◌*◌, ◌<◌, ◌≤◌, ◌==◌, Bool, true, false, ◌||◌, List, [], ◌∷◌, ◌++◌, length, if◌then◌else◌, refl, sym, ap, ◌∙◌, subst, ⊎_elim, arith}
+use Rattle.dspec_word.specs.SpecId.{Speculation}
+use Rattle.dspec_deeds.specs.declared.config.Config.{Config}
+use Rattle.dspec_deeds.specs.declared.calls.Opening.{Opening}
+use Rattle.dspec_deeds.specs.declared.calls.Opening.TheVariants as opening
+use Rattle.dspec_deeds.specs.declared.deed.Deed.{Deed}
+use Rattle.dspec_deeds.specs.declared.deed.Deed.TheVariants.{Scan, Opened, Miss}
+use Rattle.dspec_deeds.specs.History.{scan}
+use Rattle.dspec_deeds.proofs.TestLemmas.{either_way, number_is_itself, same_number}
+use Rattle.dspec_table.specs.declared.rule.View.{View}
+use Rattle.dspec_table.specs.Holders.{of_cpu, number_of}
+use Rattle.dspec_table.specs.Steps.{Entered, LoadedActivity}
+use Rattle.dspec_cpu.specs.declared.scanning.Look.TheVariants as look
+use Rattle.dspec_cpu.specs.Calls.{rests, steps}
+use Rattle.dspec_cpu.specs.Scans.{Came, Looked, Scanned, misses, opening_deeds, IsOpening, is_worn_opening}
+use Rattle.dspec_cpu.proofs.Ready.{stands_behind}
+use Rattle.dspec_cpu.proofs.Reaches.{goes_on}
+use Rattle.dspec_cpu.proofs.Slots.{asked, stands_more}
+
+module _ (k : Config) (c : ℕ) (v : View) where
+  -- the load of activity
+  pub first : (b : Bool) (w : View) → v.config ≡ k → v.who ≡ of_cpu c → LoadedActivity asked v b w → (r : Bool) → (if b then false else true) ≡ r
+      → (ds : List Deed) → ds ≡ Scan c r ∷ [] → Rattle.dspec_cpu.specs.Calls.Goes v ds w × Rattle.dspec_cpu.specs.Reached.Stands k c v ds w × (w.steps ≡ v.steps + 1)
+  first b w config who step r is ds e =
+      let deeds : Scan (number_of v.who) (if b then false else true) ∷ [] ≡ ds = ap (λ n. Scan n (if b then false else true) ∷ []) (ap number_of who) ∙ (ap (λ x. Scan c x ∷ []) is ∙ sym e) in
+      let entered : Entered v step.0 ds w = subst (λ x. Entered v step.0 x w) deeds step.3 in (
+        steps w ds ds step.0 rests step.1 entered (append_none ds),
+        stands_behind k c v w step.0 ds config who entered,
+        ap (λ (x : View). x.steps) entered.view,
+      )
+    where
+      append_none : (l : List Deed) → l ≡ l ++ []
+      append_none [] = refl
+      append_none (d ∷ l) = ap (λ x. d ∷ x) (append_none l)
+
+  pub runs : (w : View) → v.config ≡ k → v.who ≡ of_cpu c → LoadedActivity asked v false w → Came k c v 0 false w
+  runs w config who step =
+      let r = first false w config who step true refl (Scan c true ∷ []) refl in
+      let one = r.2 in
+      record { missed = []; count = refl; any = refl; goes = r.0; stands = r.1; bounded = omega arith }
+
+  pub stops : (w : View) → v.config ≡ k → v.who ≡ of_cpu c → LoadedActivity asked v true w → Scanned k c v opening.Stopped false w
+  stops w config who step =
+      let r = first true w config who step false refl (Scan c false ∷ []) refl in
+      let one = r.2 in
+      record { missed = []; any = refl; answer = refl; unworn = refl; goes = r.0; stands = r.1; bounded = omega arith }
+
+  -- a slot was missed
+  pub goes_by : (n : ℕ) (busy b : Bool) (u w : View) → Came k c v n busy u → Looked k c (n + 1) u (look.Missed b) w → Came k c v (n + 1) (b || busy) w
+  goes_by n busy b u w came looked =
+      let bs = came.missed in
+      let here : Looked k c (length bs + 1) u (look.Missed b) w = subst (λ m. Looked k c (m + 1) u (look.Missed b) w) (sym came.count) looked in
+      let le = came.bounded in
+      let two = looked.bounded in
+      record {
+        missed = b ∷ bs;
+        count = let is = came.count in omega arith;
+        any = ap (λ x. b || x) came.any;
+        goes = goes_on came.goes here.goes;
+        stands = stands_more k c v u w (Miss c (length bs + 1) b) (misses c bs ++ Scan c true ∷ []) came.stands here.stands;
+        bounded = omega arith;
+      }
+
+  -- a slot was given out
+  pub gives : (n : ℕ) (busy : Bool) (id : Speculation) (u w : View) → n < k.nspec → Came k c v n busy u → Looked k c (n + 1) u (look.Given id) w → Scanned k c v (opening.Id id) busy w
+  gives n busy id u w lt came looked =
+      let le = came.bounded in
+      let two = looked.bounded in
+      let at : id.slot ≡ n + 1 = looked.given in
+      let is = came.count in
+      record {
+        missed = came.missed;
+        any = came.any;
+        answer = (omega arith, omega arith);
+        unworn = refl;
+        goes = goes_on came.goes looked.goes;
+        stands = stands_more k c v u w (Opened c id) (misses c came.missed ++ Scan c true ∷ []) came.stands looked.stands;
+        bounded = omega arith;
+      }
+
+  -- all were missed
+  pub ends : (n : ℕ) (busy : Bool) (w : View) → n ≡ k.nspec → Came k c v n busy w → (a : Opening) → a ≡ (if busy then opening.Busy else opening.Unavailable) → Scanned k c v a busy w
+  ends n true w all came a e = subst (λ (x : Opening). Scanned k c v x true w) (sym e) (let le = came.bounded in record { missed = came.missed; any = came.any; answer = (came.count ∙ all, sym came.any); unworn = refl; goes = came.goes; stands = came.stands; bounded = omega arith })
+  ends n false w all came a e = subst (λ (x : Opening). Scanned k c v x false w) (sym e) (let le = came.bounded in record { missed = came.missed; any = came.any; answer = (came.count ∙ all, sym came.any); unworn = refl; goes = came.goes; stands = came.stands; bounded = omega arith })
+
+-- the slot that the call has come to behind so many Misses
+come_to : (k : Config) (c : ℕ) (own : List Deed) (bs : List Bool) → length bs < k.nspec → scan k c ((misses c bs ++ Scan c true ∷ []) ++ own) ≡ length bs + 1
+come_to k c own [] lt = rw (number_is_itself c) refl
+come_to k c own (b ∷ bs) lt =
+    let was = come_to k c own bs (omega arith) in
+    let m : ℕ = scan k c ((misses c bs ++ Scan c true ∷ []) ++ own) in
+    let up : m + 1 ≡ length (b ∷ bs) + 1 = omega arith in
+    ⊎_elim
+    (λ (t : (m == k.nspec) ≡ true). let e = same_number m k.nspec t in absurd (omega arith))
+    (λ (f : (m == k.nspec) ≡ false). ap (λ x. if x then (if m == k.nspec then 0 else m + 1) else m) (number_is_itself c) ∙ (ap (λ x. if x then 0 else m + 1) f ∙ up))
+    (either_way (m == k.nspec))
+
+pub next_slot : (k : Config) (c n : ℕ) (busy : Bool) (v w : View) → n < k.nspec → Came k c v n busy w → scan k c w.own ≡ n + 1
+next_slot k c n busy v w lt came =
+    let is = came.count in
+    let here = come_to k c v.own came.missed (omega arith) in
+    ap (scan k c) came.stands.own ∙ (here ∙ ap (λ m. m + 1) is)
+
+-- no call is under way behind the answer
+all_missed : (k : Config) (c : ℕ) (own : List Deed) (bs : List Bool) → 1 ≤ k.nspec → length bs ≡ k.nspec → scan k c ((misses c bs ++ Scan c true ∷ []) ++ own) ≡ 0
+all_missed k c own [] one all = absurd (omega arith)
+all_missed k c own (b ∷ bs) one all =
+    let was = come_to k c own bs (omega arith) in
+    let m : ℕ = scan k c ((misses c bs ++ Scan c true ∷ []) ++ own) in
+    let e : m ≡ k.nspec = omega arith in
+    let same : (m == k.nspec) ≡ true = subst (λ n. (n == k.nspec) ≡ true) (sym e) (number_is_itself k.nspec) in
+    ap (λ x. if x then (if m == k.nspec then 0 else m + 1) else m) (number_is_itself c) ∙ ap (λ x. if x then 0 else m + 1) same
+
+pub idle_again : (k : Config) (c : ℕ) (own : List Deed) (bs : List Bool) (a : Opening) → 1 ≤ k.nspec → IsOpening k.nspec bs a → is_worn_opening a ≡ false → scan k c (opening_deeds c bs a ++ own) ≡ 0
+idle_again k c own bs opening.Worn one is un = absurd (Rattle.std.proofs.Common.true≢false un)
+idle_again k c own bs opening.Stopped one is un = rw (number_is_itself c) refl
+idle_again k c own bs (opening.Id id) one is un = rw (number_is_itself c) refl
+idle_again k c own bs opening.Unavailable one is un = all_missed k c own bs one is.0
+idle_again k c own bs opening.Busy one is un = all_missed k c own bs one is.0

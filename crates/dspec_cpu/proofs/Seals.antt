@@ -1,0 +1,117 @@
+-- How many batches a CPU's own list seals, and the list behind one Seal more.
+use Rattle.std.proofs.Common.{◌≡◌, ℕ, suc, ◌+◌, ◌<◌, ◌≤◌, ◌^◌, Bool, false, List, [], ◌∷◌, ◌++◌, length, reverse, if◌then◌else◌, Option, None, refl, sym, ap, ◌∙◌, subst, arith, add-zero}
+use Rattle.dspec_record.specs.Record.{Record}
+use Rattle.dspec_record.specs.declared.field.Shape.{Shape}
+use Rattle.dspec_buffer.specs.Stored.{Stored}
+use Rattle.dspec_ring.specs.declared.batch.Batch.{Batch}
+use Rattle.dspec_ring.specs.Known.{CpuKnows}
+use Rattle.dspec_deeds.specs.declared.config.Config.{Config}
+use Rattle.dspec_deeds.specs.declared.deed.Deed.{Deed}
+use Rattle.dspec_deeds.specs.declared.deed.Deed.TheVariants.{Trace, Scan, Opened, Miss, Speculate, Commit, Discard, Settle, Seal, Release, Halt}
+use Rattle.dspec_deeds.specs.History.{scan}
+use Rattle.dspec_deeds.specs.Own.{active, seals}
+use Rattle.dspec_deeds.specs.Owning.{IsOwn}
+use Rattle.dspec_deeds.specs.Ranges.{is_fill}
+use Rattle.dspec_deeds.proofs.OwnReads.{apart_bare}
+use Rattle.dspec_deeds.proofs.TestLemmas.{number_is_itself, same_number}
+use Rattle.dspec_table.specs.declared.seats.Words.{Words}
+use Rattle.dspec_table.specs.declared.seats.CpuSeat.{CpuSeat}
+use Rattle.dspec_table.specs.Seats.{known}
+use Rattle.dspec_cpu.specs.declared.cpu.Cpu.{Cpu}
+use Rattle.dspec_cpu.specs.Counting.{counts_of}
+use Rattle.dspec_cpu.specs.Lists.{HasList, IsReady, batches_of}
+use Rattle.dspec_cpu.specs.Sealed.{HasSized, AreSealed, waiting}
+use Rattle.dspec_cpu.specs.Switching.{batch_of, buffers_of}
+use Rattle.dspec_cpu.proofs.Limits.{limits}
+
+sealed_counts : (k : Config) (c w : ℕ) (p : List Deed) → counts_of k c w (Seal c ∷ p) ≡ counts_of k c w p
+sealed_counts k c w p =
+    let n = counts_of k c w p in
+    λ i. record n { offered = add-zero n.offered i; accepted = add-zero n.accepted i; dropped = add-zero n.dropped i; specdropped = add-zero n.specdropped i; lost = add-zero n.lost i; discarded = add-zero n.discarded i; void = add-zero n.void i; drops = add-zero n.drops i; unavailable = add-zero n.unavailable i; busy = add-zero n.busy i; stopped = add-zero n.stopped i }
+
+module _ (shape : ℕ → Option Shape) (accepted : Record → Bool) (text : Record → List ℕ) where
+  -- there are as many batches as Seals, and no more than the most calls
+  abbrev IsTold : Config → ℕ → List Batch → Type 0
+  IsTold k n bs = (length bs ≡ n) × (n ≤ k.max_calls)
+
+  on : (k : Config) (n : ℕ) (bs : List Batch) → IsTold k n bs → IsTold k (n + 0) bs
+  on k n bs t = subst (λ m. IsTold k m bs) (sym (add-zero n)) t
+
+  pub sealed_count : (k : Config) (c : ℕ) (p : List Deed) (bs : List Batch) → IsOwn shape k c p → AreSealed shape accepted text k c p bs → IsTold k (seals c p) bs
+  sealed_count k c [] bs own x = (ap length x, omega arith)
+  sealed_count k c (Seal a ∷ p) bs own x =
+      let was = sealed_count k c p x.1 own.0 x.4 in
+      let count = was.0 in
+      let most : seals c p < k.max_calls = subst (λ n. seals n p < k.max_calls) (sym (same_number c a own.1)) own.2.0 in
+      let more : length bs ≡ suc (length x.1) = ap length x.2 in
+      let told : IsTold k (seals c p + 1) bs = (omega arith, omega arith) in
+      subst (λ m. IsTold k m bs) (ap (λ b. seals c p + (if b then 1 else 0)) (sym own.1)) told
+  sealed_count k c (Trace a r f ∷ p) bs own x = on k (seals c p) bs (sealed_count k c p bs own.0 x)
+  sealed_count k c (Scan a b ∷ p) bs own x = on k (seals c p) bs (sealed_count k c p bs own.0 x)
+  sealed_count k c (Opened a id ∷ p) bs own x = on k (seals c p) bs (sealed_count k c p bs own.0 x)
+  sealed_count k c (Miss a s b ∷ p) bs own x = on k (seals c p) bs (sealed_count k c p bs own.0 x)
+  sealed_count k c (Speculate a id r f ∷ p) bs own x = on k (seals c p) bs (sealed_count k c p bs own.0 x)
+  sealed_count k c (Commit a id f ∷ p) bs own x = on k (seals c p) bs (sealed_count k c p bs own.0 x)
+  sealed_count k c (Discard a id f ∷ p) bs own x = on k (seals c p) bs (sealed_count k c p bs own.0 x)
+  sealed_count k c (Settle a id f ∷ p) bs own x = on k (seals c p) bs (sealed_count k c p bs own.0 x)
+  sealed_count k c (Release s ∷ p) bs own x = on k (seals c p) bs (sealed_count k c p bs own.0 x)
+  sealed_count k c (Halt ∷ p) bs own x = on k (seals c p) bs (sealed_count k c p bs own.0 x)
+
+  module _ {S : Type 0} (words : Words) (cpu : Cpu S) (ready : IsReady shape accepted text words cpu) where
+    pub batch_count : length (batches_of cpu) ≡ cpu.seals
+    batch_count = (sealed_count cpu.config cpu.cpu ready.list (batches_of cpu) ready.listed.shown.legal ready.listed.shown.sealed).0 ∙ sym ready.listed.shown.side.sealed
+
+    pub most_calls : cpu.config.max_calls ≤ 2 ^ 62
+    most_calls = (limits cpu.config ready.checked).calls
+
+    pub few_batches : length (batches_of cpu) ≤ 2 ^ 62
+    few_batches =
+        let told = sealed_count cpu.config cpu.cpu ready.list (batches_of cpu) ready.listed.shown.legal ready.listed.shown.sealed in
+        let count = told.0 in
+        let most = told.1 in
+        let all = most_calls in
+        omega arith
+
+    module _ (seat : CpuSeat) (same : (known seat).own ≡ (known cpu.seat).own) (p : List Deed) (had : HasList shape accepted text cpu p) where
+      -- the batches are where they were, or one of them went into the ring
+      pub kept_list : (end : CpuKnows) (in_hand : Option Batch) (spare : Option Stored) → waiting in_hand ++ reverse end.handed ≡ batches_of cpu
+          → HasList shape accepted text (record cpu { seat = seat; end = end; in_hand = in_hand; spare = spare }) p
+      kept_list end in_hand spare batches = record {
+        own = had.own ∙ sym same;
+        shown = record {
+          legal = had.shown.legal;
+          side = had.shown.side;
+          sealed = subst (AreSealed shape accepted text cpu.config cpu.cpu p) (sym batches) had.shown.sealed;
+          counted = had.shown.counted;
+        };
+      }
+
+      -- the active buffer is the latest batch, and an empty one is active
+      pub sealed_list : (end : CpuKnows) (in_hand : Option Batch) (next : Stored) → waiting in_hand ++ reverse end.handed ≡ batch_of cpu.cpu (buffers_of cpu) ∷ batches_of cpu
+          → HasSized shape accepted text cpu.config.bufsize [] next → cpu.seals < cpu.config.max_calls → is_fill cpu.config.policy ≡ false
+          → HasList shape accepted text (record cpu { seat = seat; end = end; in_hand = in_hand; spare = None; active = next; drops = 0; seals = cpu.seals + 1 }) (Seal cpu.cpu ∷ p)
+      sealed_list end in_hand next batches empty lt unfilled =
+          let itself = number_is_itself cpu.cpu in
+          let side = had.shown.side in
+          let idle : scan cpu.config cpu.cpu p ≡ 0 = (apart_bare cpu.config cpu.cpu p).scanning ∙ (ap (scan cpu.config cpu.cpu) had.own ∙ ready.idle) in
+          record {
+            own = had.own ∙ sym same;
+            shown = record {
+              legal = (had.shown.legal, itself, (subst (λ n. n < cpu.config.max_calls) side.sealed lt, idle, unfilled));
+              side = record {
+                called = side.called ∙ sym (add-zero _);
+                sealed = ap (λ n. n + 1) side.sealed ∙ ap (λ b. seals cpu.cpu p + (if b then 1 else 0)) (sym itself);
+                missed = side.missed;
+                ack_count = side.ack_count;
+                acks = side.acks;
+                mark_count = side.mark_count;
+                marks = side.marks;
+                buffer_count = side.buffer_count;
+                speculative = side.speculative;
+                principal = subst (λ ps. HasSized shape accepted text cpu.config.bufsize ps next) (ap (λ b. if b then [] else active cpu.cpu p) (sym itself)) empty;
+                drops = rw itself refl;
+              };
+              sealed = (batch_of cpu.cpu (buffers_of cpu), batches_of cpu, batches, record { of_cpu = refl; drops = side.drops; buffer = side.principal }, had.shown.sealed);
+              counted = had.shown.counted ∙ sym (sealed_counts cpu.config cpu.cpu cpu.counts.worn p);
+            };
+          }

@@ -1,0 +1,82 @@
+-- The slots of a scan.
+use Rattle.std.proofs.Common.{◌≡◌, ◌≢◌, ℕ, ◌+◌, Bool, true, false, ◌&&◌, List, [], ◌∷◌, if◌then◌else◌, refl, sym, ap, ◌∙◌, subst, arith}
+use Rattle.std.specs.Prelude.{nat_lt}
+use Rattle.dspec_word.specs.Word.{SlotState}
+use Rattle.dspec_word.specs.Code.{is_inactive, is_decided}
+use Rattle.dspec_word.specs.declared.act.Act.TheVariants.{Void, Attempt}
+use Rattle.dspec_word.specs.Tables.{attempt, open_at}
+use Rattle.dspec_word.specs.declared.code.Code.TheVariants.{Active}
+use Rattle.dspec_deeds.specs.declared.config.Config.{Config}
+use Rattle.dspec_deeds.specs.declared.calls.CpuOp.TheVariants as op
+use Rattle.dspec_deeds.specs.declared.deed.Deed.{Deed}
+use Rattle.dspec_deeds.specs.declared.deed.Deed.TheVariants.{Miss}
+use Rattle.dspec_table.specs.declared.rule.View.{View}
+use Rattle.dspec_table.specs.declared.doing.Doing.{Doing}
+use Rattle.dspec_table.specs.Holders.{of_cpu, number_of}
+use Rattle.dspec_table.specs.Acts as acts
+use Rattle.dspec_table.specs.Steps.{Entered, LoadedWord, OpenedWord}
+use Rattle.dspec_cpu.specs.declared.scanning.Look.{Look}
+use Rattle.dspec_cpu.specs.declared.scanning.Look.TheVariants as look
+use Rattle.dspec_cpu.specs.Calls.{rests, steps}
+use Rattle.dspec_cpu.specs.Reached.{Stands}
+use Rattle.dspec_cpu.specs.Scans.{Looked, IsGivenAt, look_deed}
+use Rattle.dspec_cpu.proofs.Ready.{stands_behind}
+
+abbrev pub asked : Doing
+asked = record { op = op.Speculation; fits = false; count = 0; mine = false }
+
+-- one deed more
+pub stands_more : (k : Config) (c : ℕ) (v u w : View) (d : Deed) (ds : List Deed) → Stands k c v ds u → Stands k c u (d ∷ []) w → Stands k c v (d ∷ ds) w
+stands_more k c v u w d ds a b = record {
+  sound = b.sound;
+  part_is = b.part_is;
+  own = b.own ∙ ap (λ l. d ∷ l) a.own;
+  config = b.config ∙ a.config;
+  who = b.who ∙ a.who;
+  rests = b.rests;
+}
+
+-- the table opens a slot or passes it
+pub passes : (w : SlotState) (most : ℕ) → ((to : SlotState) → open_at w most ≢ Attempt to) → open_at w most ≡ Void
+passes w most none = go (is_inactive w.code && nat_lt w.issue most) none
+  where
+    go : (b : Bool) → ((to : SlotState) → (if b then attempt w.issue Active else Void) ≢ Attempt to) → (if b then attempt w.issue Active else Void) ≡ Void
+    go true n = absurd (n record { issue = w.issue; code = Active } refl)
+    go false n = refl
+
+module _ (k : Config) (c slot : ℕ) (v : View) (config : v.config ≡ k) (who : v.who ≡ of_cpu c) where
+  -- the load showed a word that isn't free
+  pub passed : (shown : SlotState) (b : Bool) (w : View) → LoadedWord asked slot v shown w → open_at shown k.max_issues ≡ Void → b ≡ is_decided shown.code → Looked k c slot v (look.Missed b) w
+  passed shown b w step void is =
+      let deeds : acts.misses (number_of v.who) slot shown (open_at shown v.config.max_issues) ≡ Miss c slot b ∷ [] =
+      ap (λ (x : Config). acts.misses (number_of v.who) slot shown (open_at shown x.max_issues)) config
+      ∙ (ap (acts.misses (number_of v.who) slot shown) void
+      ∙ (ap (λ n. Miss n slot (is_decided shown.code) ∷ []) (ap number_of who) ∙ ap (λ x. Miss c slot x ∷ []) (sym is))) in
+      let entered : Entered v step.0 (Miss c slot b ∷ []) w = subst (λ ds. Entered v step.0 ds w) deeds step.3 in
+      let one : w.steps ≡ v.steps + 1 = ap (λ (x : View). x.steps) entered.view in
+      record {
+        goes = steps w (Miss c slot b ∷ []) (Miss c slot b ∷ []) step.0 rests step.1 entered refl;
+        stands = stands_behind k c v w step.0 (Miss c slot b ∷ []) config who entered;
+        bounded = omega arith;
+        given = tt;
+      }
+
+  -- the exchange from a free word
+  pub tried : (from to shown : SlotState) (hit : Bool) (u w : View) → LoadedWord asked slot v from u → open_at from k.max_issues ≡ Attempt to → OpenedWord slot u shown hit w
+      → (x : Look) → acts.at_open c slot shown hit ≡ look_deed c slot x ∷ [] → IsGivenAt slot x → Looked k c slot v x w
+  tried from to shown hit u w load free step x deed at =
+      let none : acts.misses (number_of v.who) slot from (open_at from v.config.max_issues) ≡ [] =
+      ap (λ (y : Config). acts.misses (number_of v.who) slot from (open_at from y.max_issues)) config ∙ ap (acts.misses (number_of v.who) slot from) free in
+      let first : Entered v load.0 [] u = subst (λ ds. Entered v load.0 ds u) none load.3 in
+      let u_config : u.config ≡ k = ap (λ (y : View). y.config) first.view ∙ config in
+      let u_who : u.who ≡ of_cpu c = ap (λ (y : View). y.who) first.view ∙ who in
+      let entered : Entered u step.0 (look_deed c slot x ∷ []) w = subst (λ ds. Entered u step.0 ds w) (ap (λ n. acts.at_open n slot shown hit) (ap number_of u_who) ∙ deed) step.3 in
+      let last = stands_behind k c u w step.0 (look_deed c slot x ∷ []) u_config u_who entered in
+      let one : u.steps ≡ v.steps + 1 = ap (λ (y : View). y.steps) first.view in
+      let two : w.steps ≡ u.steps + 1 = ap (λ (y : View). y.steps) entered.view in
+      record {
+        goes = steps w (look_deed c slot x ∷ []) (look_deed c slot x ∷ []) step.0 (steps u [] [] load.0 rests load.1 first refl) step.1 entered refl;
+        stands = record { sound = last.sound; part_is = last.part_is; own = last.own ∙ ap (λ (y : View). look_deed c slot x ∷ y.own) first.view; config = last.config ∙ (u_config ∙ sym config); who = last.who ∙ (u_who ∙ sym who); rests = last.rests };
+        bounded = omega arith;
+        given = at;
+      }

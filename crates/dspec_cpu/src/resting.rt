@@ -1,0 +1,120 @@
+ghost use Rattle.std.specs.Prelude.{◌≡◌, ◌≤◌, List, ◌++◌, reverse};
+ghost use Rattle.dspec_deeds.specs.declared.deed.Deed.{Deed};
+ghost use Rattle.dspec_deeds.specs.History.{word_at};
+ghost use Rattle.dspec_deeds.specs.Reports.{report};
+ghost use Rattle.dspec_play.specs.OwnClose.{own_closed};
+ghost use Rattle.dspec_ring.specs.declared.batch.Batch.{Batch};
+ghost use Rattle.dspec_table.specs.Last.{last_words};
+ghost use Rattle.dspec_table.specs.Showing.{Shows};
+ghost use Rattle.dspec_cpu.specs.Lists.{config_of, end_of, in_hand_of, number_in, schema_of, seat_of, worn_of};
+ghost use Rattle.dspec_cpu.specs.Rests.{AreItsWords, IsLegalPart, IsSameRest, config_of_rest, in_hand_of_rest, last_batch, number_of_rest, schema_of_rest, worn_of_rest};
+ghost use Rattle.dspec_cpu.specs.Sealed.{AreSealed, IsSealed, waiting};
+ghost use Rattle.dspec_cpu.specs.Settled.{IsPartOf};
+
+use crate::cpu::Cpu;
+use crate::listed::Listed;
+use crate::rest::CpuRest;
+use crate::rested::Rested;
+use dspec_deeds::Report;
+use dspec_record::Schema;
+use dspec_ring::{Batch, CpuEnd};
+use dspec_table::{CpuSeat, LastWords};
+
+impl<S: Schema> Cpu<S> {
+    /// Takes the CPU apart for the close of its session: its seat at the words, its end of the rings, and what is left. A spare
+    /// buffer in hand is let go.
+    pub fn part(self) -> (CpuSeat, CpuEnd, CpuRest<S>)
+        ensures seat { result.0 ≡ seat_of self }
+        ensures end { result.1 ≡ end_of self }
+        ensures same { (schema_of_rest result.2 ≡ schema_of self) × (config_of_rest result.2 ≡ config_of self) × (number_of_rest result.2 ≡ number_in self) }
+        ensures rest { (in_hand_of_rest result.2 ≡ in_hand_of self) × (worn_of_rest result.2 ≡ worn_of self) }
+        ensures list { (p : List Deed) → ⟦<Cpu<S> as Listed>⟧.is_shown self p → ⟦<CpuRest<S> as Rested>⟧.has_list result.2 (end_of self).handed p }
+    {
+        let Cpu {
+            schema,
+            config,
+            cpu,
+            seat,
+            end,
+            active,
+            speculative,
+            marks,
+            acks,
+            calls,
+            seals,
+            missed_busy,
+            drops,
+            spare: _,
+            in_hand,
+            counts,
+        } = self;
+        let rest = CpuRest {
+            schema,
+            config,
+            cpu,
+            active,
+            speculative,
+            marks,
+            acks,
+            calls,
+            seals,
+            missed_busy,
+            drops,
+            in_hand,
+            counts,
+        };
+        (seat, end, rest)
+    }
+}
+
+impl<S: Schema> CpuRest<S> {
+    /// Settles, slots upwards, what the CPU has still to settle, by the words that the session left: of each speculation that was
+    /// decided and waits for this CPU too, its block is copied whole to the active buffer, lost or thrown away.
+    pub fn settle(&mut self, last: &LastWords)
+        requires words { AreItsWords last.now (config_of_rest self.old) (number_of_rest self.old) }
+        requires some { (handed : List Batch) × (p : List Deed) × (log : List Deed) × ⟦<CpuRest<S> as Rested>⟧.has_list self.old handed p
+            × Shows (config_of_rest self.old) (last_words last.now) log × IsPartOf (config_of_rest self.old) (number_of_rest self.old) log p }
+        ensures same { IsSameRest self.old self.new }
+        ensures list { (handed : List Batch) (p log : List Deed) → ⟦<CpuRest<S> as Rested>⟧.has_list self.old handed p
+            → Shows (config_of_rest self.old) (last_words last.now) log → IsPartOf (config_of_rest self.old) (number_of_rest self.old) log p
+            → ⟦<CpuRest<S> as Rested>⟧.has_list self.new handed (own_closed (S.shape_of (schema_of_rest self.old)) (config_of_rest self.old) (λ s. word_at s log) (number_of_rest self.old) (config_of_rest self.old).nspec p) }
+    {
+        for below in 0..self.config.nspec {
+            self.settle_slot(last, below + 1);
+        }
+    }
+
+    /// The counts of the CPU.
+    pub fn report(&self) -> Report
+        requires { (handed : List Batch) × (p : List Deed) × (g : List Deed) × ⟦<CpuRest<S> as Rested>⟧.has_list self.now handed p
+            × IsLegalPart (S.shape_of (schema_of_rest self.now)) (config_of_rest self.now) (number_of_rest self.now) g p }
+        ensures { (handed : List Batch) (p g : List Deed) → ⟦<CpuRest<S> as Rested>⟧.has_list self.now handed p
+            → IsLegalPart (S.shape_of (schema_of_rest self.now)) (config_of_rest self.now) (number_of_rest self.now) g p
+            → result ≡ report (config_of_rest self.now) (number_of_rest self.now) (worn_of_rest self.now) p }
+    {
+        self.counts.report()
+    }
+
+    /// The batch whose hand-over was refused, if there is one, and the batch that was growing last.
+    pub fn batches(self) -> (Option<Batch>, Batch)
+        ensures rest { result.0 ≡ in_hand_of_rest self }
+        ensures last { result.1 ≡ last_batch self }
+        ensures sealed { (handed : List Batch) (p : List Deed) → ⟦<CpuRest<S> as Rested>⟧.has_list self handed p
+            → AreSealed (S.shape_of (schema_of_rest self)) (S.accepted (schema_of_rest self)) (S.text (schema_of_rest self)) (config_of_rest self) (number_of_rest self) p (waiting result.0 ++ reverse handed)
+            × IsSealed (S.shape_of (schema_of_rest self)) (S.accepted (schema_of_rest self)) (S.text (schema_of_rest self)) (config_of_rest self) (number_of_rest self) p result.1 }
+    {
+        let CpuRest {
+            cpu,
+            active,
+            drops,
+            in_hand,
+            ..
+        } = self;
+        let last = Batch {
+            cpu,
+            drops,
+            buffer: active,
+        };
+        (in_hand, last)
+    }
+}

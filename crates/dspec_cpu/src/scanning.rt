@@ -1,0 +1,91 @@
+ghost use Rattle.std.specs.Prelude.{◌≡◌, ◌≤◌, ◌^◌, false, if◌then◌else◌};
+ghost use Rattle.dspec_deeds.specs.History.{scan};
+ghost use Rattle.dspec_table.specs.Seats.{known, IsAt, set_up, cpu_of};
+ghost use Rattle.dspec_word.specs.Code.{is_decided};
+ghost use Rattle.dspec_cpu.specs.Scans.{Looked, Scanned};
+
+use dspec_deeds::{Config, CpuOp, Opening};
+use dspec_table::{CpuSeat, Doing, Words};
+use dspec_word::{Act, Code, SpecId, open_at};
+
+/// What became of one slot: its speculation was given out, or it was missed, decided or not.
+pub(crate) enum Look {
+    Given(SpecId),
+    Missed(bool),
+}
+
+// A call of speculation in flight.
+fn asking() -> Doing
+    ensures { result ≡ record { op = CpuOp.Speculation; fits = false; count = 0; mine = false } }
+{
+    Doing {
+        op: CpuOp::Speculation,
+        fits: false,
+        count: 0,
+        mine: false,
+    }
+}
+
+// Whether the speculation of the slot was committed or discarded, and the slot isn't released yet.
+fn decided(code: Code) -> bool
+    ensures { result ≡ is_decided code }
+{
+    match code {
+        Code::Committing | Code::CommittingMany | Code::Discarding => true,
+        Code::Inactive | Code::Active | Code::ActiveOne | Code::ActiveMany => false,
+    }
+}
+
+// One slot of a scan: its word is loaded, and where that is free an exchange gives out its speculation. An exchange that
+// failed isn't tried again: the word that it showed misses the slot.
+fn look_at(seat: &mut CpuSeat, words: &Words, slot: u32, max_issues: u64) -> Look
+    requires seat { IsAt words.now seat.old }
+    requires slot { (1 ≤ slot) × (slot ≤ (set_up words.now).nspec) × (slot ≤ 63) }
+    requires most { (max_issues ≡ (set_up words.now).max_issues) × (max_issues ≤ 2 ^ 57) }
+    requires came { scan (set_up words.now) (cpu_of seat.old) (known seat.old).own ≡ slot }
+    ensures seat { IsAt words.now seat.new × (cpu_of seat.new ≡ cpu_of seat.old) }
+    ensures looked { Looked (set_up words.now) (cpu_of seat.old) slot (known seat.old) result (known seat.new) }
+{
+    let doing = asking();
+    let word = seat.load_word(words, slot, &doing);
+    let Act::Attempt(_) = open_at(word, max_issues) else {
+        return Look::Missed(decided(word.code()));
+    };
+    match seat.open_word(words, slot, word, &doing) {
+        Ok(()) => Look::Given(SpecId::of(word.issue(), slot)),
+        Err(shown) => Look::Missed(decided(shown.code())),
+    }
+}
+
+// The answer of a scan that missed every slot.
+fn none_free(busy: bool) -> Opening
+    ensures { result ≡ (if busy then Opening.Busy else Opening.Unavailable) }
+{
+    if busy {
+        Opening::Busy
+    } else {
+        Opening::Unavailable
+    }
+}
+
+/// All steps of a call of speculation: a load of activity, and where the session runs the slots in turn, up to one that is given
+/// out. With the answer, whether a slot that was missed was decided.
+pub(crate) fn scan_slots(seat: &mut CpuSeat, words: &Words, config: &Config) -> (Opening, bool)
+    requires seat { IsAt words.now seat.old }
+    requires config { (config.now ≡ set_up words.now) × (1 ≤ config.now.nspec) × (config.now.nspec ≤ 63) × (config.now.max_issues ≤ 2 ^ 57) }
+    requires idle { scan (set_up words.now) (cpu_of seat.old) (known seat.old).own ≡ 0 }
+    ensures seat { IsAt words.now seat.new × (cpu_of seat.new ≡ cpu_of seat.old) }
+    ensures scanned { Scanned (set_up words.now) (cpu_of seat.old) (known seat.old) result.0 result.1 (known seat.new) }
+{
+    if !seat.load_activity(words, &asking()) {
+        return (Opening::Stopped, false);
+    }
+    let mut busy = false;
+    for place in 0..config.nspec {
+        match look_at(seat, words, place + 1, config.max_issues) {
+            Look::Given(id) => return (Opening::Id(id), busy),
+            Look::Missed(was_decided) => busy = was_decided || busy,
+        }
+    }
+    (none_free(busy), busy)
+}

@@ -1,0 +1,106 @@
+ghost use Rattle.std.specs.Prelude.{◌≡◌, ◌≤◌, ◌+◌, ◌^◌, ◌++◌, List, length, reverse};
+ghost use Rattle.dspec_deeds.specs.declared.deed.Deed.{Deed};
+ghost use Rattle.dspec_table.specs.Seats.{known};
+ghost use Rattle.dspec_cpu.specs.Lists.{IsSameCpu, batches_of, config_of, number_in, seat_of, spare_count};
+ghost use Rattle.dspec_cpu.specs.Sealed.{waiting};
+ghost use Rattle.dspec_cpu.specs.Switching.{FindsSpare, HandsOn, Heeds, IsSameBeside, Switches, buffers_of, emptied, with_seal};
+
+use crate::cpu::Cpu;
+use crate::listed::Listed;
+use crate::settling::serve;
+use dspec_buffer::ByteBuffer;
+use dspec_record::Schema;
+use dspec_ring::{Batch, CpuEnd};
+use dspec_table::Words;
+use std::mem;
+
+// Hands on the batch in hand, by one push. It stays in hand where the ring refuses it.
+fn hand_on(end: &mut CpuEnd, in_hand: &mut Option<Batch>)
+    requires few { length (waiting in_hand.old ++ reverse end.old.handed) ≤ 2 ^ 62 }
+    ensures { HandsOn end.old in_hand.old end.new in_hand.new }
+{
+    let Some(batch) = in_hand.take() else {
+        return;
+    };
+    if let Err(back) = end.hand(batch) {
+        *in_hand = Some(back);
+    }
+}
+
+// Finds the buffer that is active next: the spare in hand, or by one pop the next that was given back. A batch of another size
+// is dropped.
+fn find_spare(end: &mut CpuEnd, spare: &mut Option<ByteBuffer>, bufsize: u32)
+    ensures { FindsSpare bufsize end.old spare.old end.new spare.new }
+{
+    if spare.is_some() {
+        return;
+    }
+    let Some(came) = end.spare() else {
+        return;
+    };
+    let Batch { buffer, .. } = came;
+    if buffer.size() == bufsize {
+        *spare = Some(buffer);
+    }
+}
+
+// Makes the spare, cleared, the active buffer, and a batch of the one that was active.
+fn seal(cpu: u32, drops: u64, active: &mut ByteBuffer, mut spare: ByteBuffer) -> Batch
+    ensures batch { result ≡ record { cpu = cpu; drops = drops; buffer = active.old } }
+    ensures active { active.new ≡ emptied spare }
+{
+    spare.clear();
+    Batch {
+        cpu,
+        drops,
+        buffer: mem::replace(active, spare),
+    }
+}
+
+impl<S: Schema> Cpu<S> {
+    // Heeds an ask that was shown: where it is for a batch that isn't sealed yet, a Seal is left and there is a spare, the active
+    // buffer is sealed and handed on, and the spare is active. Never while a batch is in hand, which none may replace.
+    fn heed(&mut self, ask: u64) -> bool
+        requires count { length (batches_of self.old) ≡ self.old.seals }
+        requires most { self.old.config.max_calls ≤ 2 ^ 62 }
+        requires few { length (batches_of self.old) + spare_count self.old.spare ≤ 1 + length self.old.end.spares }
+        ensures beside { IsSameBeside self.old self.new × (self.new.seat ≡ self.old.seat) }
+        ensures heeds { Heeds self.old.config self.old.cpu ask (buffers_of self.old) result (buffers_of self.new) }
+    {
+        if ask <= self.seals || self.config.max_calls <= self.seals {
+            return false;
+        }
+        find_spare(&mut self.end, &mut self.spare, self.config.bufsize);
+        if self.in_hand.is_some() {
+            return false;
+        }
+        let Some(spare) = self.spare.take() else {
+            return false;
+        };
+        self.in_hand = Some(seal(self.cpu, self.drops, &mut self.active, spare));
+        self.drops = 0;
+        self.seals += 1;
+        hand_on(&mut self.end, &mut self.in_hand);
+        true
+    }
+
+    /// Switches the principal buffers, as the Guide's policy "switch" has it: a batch whose hand-over was refused is handed on
+    /// first; then, where the consumer asked for a batch that isn't sealed yet, the active buffer is sealed and handed on, and
+    /// a spare one is active. Answers whether it sealed. Under policy "fill" it does nothing.
+    pub(crate) fn switch(&mut self, words: &Words) -> bool
+        requires ready { ⟦<Cpu<S> as Listed>⟧.is_ready words.now self.old }
+        ensures ready { ⟦<Cpu<S> as Listed>⟧.is_ready words.now self.new }
+        ensures same { IsSameCpu self.old self.new }
+        ensures beside { IsSameBeside self.old self.new }
+        ensures bounded { (known (seat_of self.new)).steps ≤ (known (seat_of self.old)).steps + 1 }
+        ensures switches { Switches (config_of self.old) (number_in self.old) (known (seat_of self.old)) (buffers_of self.old) result (known (seat_of self.new)) (buffers_of self.new) }
+        ensures list { (p : List Deed) → ⟦<Cpu<S> as Listed>⟧.has_list self.old p → ⟦<Cpu<S> as Listed>⟧.has_list self.new (with_seal result (number_in self.old) p) }
+    {
+        if self.config.policy.is_fill() {
+            return false;
+        }
+        hand_on(&mut self.end, &mut self.in_hand);
+        let ask = self.seat.load_ask(words, &serve(false, 0, false));
+        self.heed(ask)
+    }
+}

@@ -1,0 +1,30 @@
+ghost use Rattle.std.specs.Prelude.{◌≡◌, ◌≤◌, ◌+◌, ◌*◌};
+ghost use Rattle.dspec_table.specs.Seats.{known};
+ghost use Rattle.dspec_cpu.specs.Lists.{IsSameCpu, config_of, number_in, seat_of, words_of, worn_of};
+ghost use Rattle.dspec_cpu.specs.Serving.{Serves};
+ghost use Rattle.dspec_cpu.specs.Switching.{buffers_of};
+
+use crate::cpu::Cpu;
+use crate::listed::Listed;
+use crate::shared::Shared;
+use dspec_deeds::Served;
+use dspec_record::Schema;
+
+impl<S: Schema> Cpu<S> {
+    /// Does what the CPU owes the consumer and the other CPUs: where the consumer asked for it, the principal buffers are
+    /// switched (the Guide's chapter on buffers), and what was decided elsewhere is settled in the CPU's own buffers (its chapter
+    /// on speculative tracing: "some time later"). The answer tells whether a batch was sealed, and how many speculations were
+    /// settled. It is never Worn, counts towards no bound on calls, and goes on after a stop.
+    pub fn service(&mut self, shared: &Shared) -> Served
+        requires ready { ⟦<Cpu<S> as Listed>⟧.is_ready (words_of shared.now) self.old }
+        ensures ready { ⟦<Cpu<S> as Listed>⟧.is_ready (words_of shared.now) self.new }
+        ensures same { IsSameCpu self.old self.new }
+        ensures wears { worn_of self.new ≡ worn_of self.old }
+        ensures bounded { (known (seat_of self.new)).steps ≤ (known (seat_of self.old)).steps + 1 + 2 * (config_of self.old).nspec }
+        ensures serves { Serves (config_of self.old) (number_in self.old) result (⟦<Cpu<S> as Listed>⟧.has_list self.old) (known (seat_of self.old)) (buffers_of self.old) (⟦<Cpu<S> as Listed>⟧.has_list self.new) (known (seat_of self.new)) (buffers_of self.new) }
+    {
+        let sealed = self.switch(&shared.words);
+        let settled = self.settle_slots(&shared.words);
+        Served { sealed, settled }
+    }
+}

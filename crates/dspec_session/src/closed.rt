@@ -1,0 +1,17 @@
+use crate::left::Left;
+use std::marker::Model;
+
+/// What is left of a session that has ended, CPU by CPU.
+#[derive(Drop)]
+pub struct Closed {
+    pub(crate) left: Vec<Left>,
+}
+
+impl Model for Closed {
+    ghost use Rattle.std.specs.Prelude.{List};
+    ghost use Rattle.dspec_session.specs.declared.left.Left.{Left};
+
+    ghost Value = { List Left };
+
+    ghost view = { λ i. i.left.items };
+}

@@ -1,0 +1,12 @@
+use crate::consumer::Consumer;
+use dspec_cpu::{Cpu, Shared};
+use dspec_record::Schema;
+
+/// A session: what its threads share, its CPUs, in order, and its consumer. A thread may take its CPU, or the consumer, by value
+/// and give it back.
+#[derive(Drop)]
+pub struct Session<S: Schema> {
+    pub shared: Shared,
+    pub cpus: Vec<Cpu<S>>,
+    pub consumer: Consumer,
+}
