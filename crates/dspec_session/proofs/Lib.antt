@@ -5,6 +5,7 @@ pub mod Waiting
 pub mod Acknowledging
 pub mod Passing
 pub mod Begins
+pub mod Callings
 pub mod ClosingRecords
 pub mod ClosingRests
 pub mod ClosingLists

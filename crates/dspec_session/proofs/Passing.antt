@@ -3,10 +3,10 @@ use Rattle.std.proofs.Common.{◌≡◌, ℕ, ◌<◌, List, length, map, refl, 
 use Rattle.std.specs.Prelude.{Option, Some, None, IfSome, IfNone, Result, Ok, Err, OnOk, OnErr, IfErr, slice_get, slice_set, slice_index_or}
 use Rattle.std.proofs.Math.Seq.{map-set_same}
 use Rattle.dspec_ring.specs.declared.batch.Batch.{Batch}
-use Rattle.dspec_ring.specs.Known.{Pair, ConsumerKnows}
+use Rattle.dspec_ring.specs.Known.{ConsumerKnows}
 use Rattle.dspec_table.specs.declared.seats.ConsumerSeat.{ConsumerSeat}
 use Rattle.dspec_table.specs.Seats.{known_there}
-use Rattle.dspec_session.specs.Consumers.{Consuming, IsSameConsumer}
+use Rattle.dspec_session.specs.Consumers.{IsSameConsumer}
 use Rattle.dspec_session.specs.Batches.{TookFrom, GivenTo, Took, GaveBack, IsRefused}
 use Rattle.dspec_session.proofs.Ends.{end_at}
 

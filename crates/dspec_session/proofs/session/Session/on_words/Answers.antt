@@ -1,4 +1,4 @@
-use Rattle.std.proofs.Common.{◌≡◌, ◌<◌, ◌∙◌, List, length, sym, ap, subst, arith}
+use Rattle.std.proofs.Common.{◌<◌, ◌∙◌, List, length, sym, ap, subst, arith}
 use Rattle.std.specs.Prelude.{Some, All}
 use Rattle.dspec_ring.specs.Known.{CpuKnows, ConsumerKnows, IsUnusedCpu, IsUnusedConsumer}
 use Rattle.dspec_table.specs.Seats.{known_there}

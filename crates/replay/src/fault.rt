@@ -1,0 +1,84 @@
+use dspec_play::PlayFault;
+use dspec_schedule::{LineKind, Schedule, ScheduleFault};
+use std::alloc::{AllocError, AllocFailed};
+use thiserror::Error;
+
+/// Why a replay failed. Lines are counted from 1.
+#[derive(Clone, Copy, Debug, PartialEq, Eq, Error)]
+pub enum ReplayFault {
+    #[error("line {line}: {kind}")]
+    Line { line: u64, kind: LineKind },
+    #[error("out of memory")]
+    Memory,
+    #[error("read or write fault")]
+    Device,
+    #[error("line {line}: no whole call")]
+    NoWholeCall { line: u64 },
+    #[error("cpu {cpu}: a buffer that is no text")]
+    NoText { cpu: u32 },
+}
+
+impl ReplayFault {
+    /// The exit status that tells of the fault: 1 for the schedule's own, 2 for memory, 3 for input and output, 5 for a line that
+    /// is no whole call, and 6 for a buffer of the session that can't be read back.
+    pub fn status(&self) -> u8 {
+        match self {
+            ReplayFault::Line { .. } => 1,
+            ReplayFault::Memory => 2,
+            ReplayFault::Device => 3,
+            ReplayFault::NoWholeCall { .. } => 5,
+            ReplayFault::NoText { .. } => 6,
+        }
+    }
+}
+
+impl From<AllocError> for ReplayFault {
+    fn from(_refused: AllocError) -> Self {
+        ReplayFault::Memory
+    }
+}
+
+impl From<ScheduleFault> for ReplayFault {
+    fn from(fault: ScheduleFault) -> Self {
+        match fault {
+            ScheduleFault::Line { line, kind } => ReplayFault::Line { line, kind },
+            ScheduleFault::Memory => ReplayFault::Memory,
+        }
+    }
+}
+
+/// Why a session doesn't go on with a schedule. Turns are counted from 0.
+#[derive(Clone, Copy, Debug, PartialEq, Eq)]
+pub enum Halt {
+    /// As the player refuses it.
+    Play(PlayFault),
+    /// The turn is no whole call.
+    NoWholeCall(usize),
+    /// A buffer of this CPU is no text.
+    NoText(u32),
+}
+
+impl From<AllocError> for Halt {
+    fn from(_refused: AllocError) -> Self {
+        Halt::Play(PlayFault::Memory)
+    }
+}
+
+impl<T: Drop> From<AllocFailed<T>> for Halt {
+    fn from(_refused: AllocFailed<T>) -> Self {
+        Halt::Play(PlayFault::Memory)
+    }
+}
+
+impl Halt {
+    /// The same, told at the line of its turn.
+    pub fn told(self, schedule: &Schedule) -> ReplayFault {
+        match self {
+            Halt::Play(fault) => ReplayFault::from(schedule.blame(fault)),
+            Halt::NoText(cpu) => ReplayFault::NoText { cpu },
+            Halt::NoWholeCall(turn) => ReplayFault::NoWholeCall {
+                line: schedule.lines.get(turn).copied().unwrap_or(0),
+            },
+        }
+    }
+}

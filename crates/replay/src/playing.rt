@@ -1,0 +1,123 @@
+ghost use Rattle.std.specs.Prelude.{◌≡◌, IfOk};
+ghost use Rattle.dspec_session.specs.Sessions.{IsSession};
+
+use crate::calls::{call_consumer, call_cpu};
+use crate::fault::Halt;
+use crate::taken::Basket;
+use dspec_cpu::{Cpu, Listed};
+use dspec_deeds::{Actor, Answer, Config, ConsumerOp, CpuOp, Op, StartFault, Turn};
+use dspec_play::{PlayFault, Series};
+use dspec_record::Schema;
+use dspec_session::Session;
+use std::alloc::Global;
+
+/// A schedule that is played on a session from one thread: the session, its schema, what was taken, and the calls that have
+/// ended.
+#[derive(Drop)]
+pub struct Playing<S: Schema> {
+    pub schema: S,
+    pub session: Session<S>,
+    pub basket: Basket,
+    pub answers: Series<(Actor, Op, Answer)>,
+}
+
+impl<S: Schema> Playing<S> {
+    /// A session that has just begun.
+    pub fn start(alloc: Global, config: &Config, schema: S) -> Result<Playing<S>, Halt>
+        ensures session { IfOk result (λ p. IsSession ⟦<Cpu<S> as Listed>⟧.is_ready p.schema p.session) }
+    {
+        let session = match Session::start(alloc, config, schema) {
+            Ok(session) => session,
+            Err(StartFault::Memory) => return Err(Halt::Play(PlayFault::Memory)),
+            Err(fault) => return Err(Halt::Play(PlayFault::Setup(fault))),
+        };
+        Ok(Playing {
+            schema,
+            session,
+            basket: Basket::new(alloc, config.cpus)?,
+            answers: Series::new(alloc),
+        })
+    }
+
+    /// A whole call of a CPU.
+    fn run_cpu(&mut self, number: usize, cpu: u32, op: CpuOp) -> Result<Answer, Halt>
+        requires session { IsSession ⟦<Cpu<S> as Listed>⟧.is_ready self.old.schema self.old.session }
+        ensures session { IsSession ⟦<Cpu<S> as Listed>⟧.is_ready self.new.schema self.new.session }
+    {
+        let session = &mut self.session;
+        let place = cpu as usize;
+        if place >= session.cpus.len() {
+            return Err(Halt::Play(PlayFault::NoSuchActor(number)));
+        }
+        match call_cpu(&session.shared, &self.schema, &mut session.cpus[place], op) {
+            Some(answer) => Ok(answer),
+            None => Err(Halt::Play(PlayFault::BadRecord(number))),
+        }
+    }
+
+    /// A whole call of the consumer.
+    fn run_consumer(&mut self, number: usize, op: ConsumerOp) -> Result<Answer, Halt>
+        requires session { IsSession ⟦<Cpu<S> as Listed>⟧.is_ready self.old.schema self.old.session }
+        ensures session { IsSession ⟦<Cpu<S> as Listed>⟧.is_ready self.new.schema self.new.session }
+    {
+        let session = &mut self.session;
+        if let ConsumerOp::Ask(cpu) | ConsumerOp::Take(cpu) | ConsumerOp::GiveBack(cpu) = op {
+            if cpu as usize >= session.cpus.len() {
+                return Err(Halt::Play(PlayFault::NoSuchActor(number)));
+            }
+        }
+        call_consumer(
+            &session.shared,
+            &self.schema,
+            &mut session.consumer,
+            &mut self.basket,
+            op,
+        )
+    }
+
+    /// The consumer meets each CPU, CPU 0 first: then each has seen what any other did before.
+    fn meet_all(&mut self)
+        requires session { IsSession ⟦<Cpu<S> as Listed>⟧.is_ready self.old.schema self.old.session }
+        ensures session { IsSession ⟦<Cpu<S> as Listed>⟧.is_ready self.new.schema self.new.session }
+    {
+        let session = &mut self.session;
+        for place in 0..session.cpus.len() {
+            session
+                .consumer
+                .meet(&session.shared, &mut session.cpus[place]);
+        }
+    }
+
+    /// A whole call, with who makes it and what it answers.
+    fn run(&mut self, number: usize, turn: Turn) -> Result<(Actor, Op, Answer), Halt>
+        requires session { IsSession ⟦<Cpu<S> as Listed>⟧.is_ready self.old.schema self.old.session }
+        ensures session { IsSession ⟦<Cpu<S> as Listed>⟧.is_ready self.new.schema self.new.session }
+    {
+        match turn {
+            Turn::RunCpu(cpu, op) => Ok((
+                Actor::Cpu(cpu),
+                Op::Cpu(op),
+                self.run_cpu(number, cpu, op)?,
+            )),
+            Turn::RunConsumer(op) => Ok((
+                Actor::Consumer,
+                Op::Consumer(op),
+                self.run_consumer(number, op)?,
+            )),
+            Turn::BeginCpu(..) | Turn::BeginConsumer(_) | Turn::Step(_) => {
+                Err(Halt::NoWholeCall(number))
+            }
+        }
+    }
+
+    /// One turn, which has to be a whole call, and then the meetings.
+    pub fn turn(&mut self, number: usize, turn: Turn) -> Result<(), Halt>
+        requires session { IsSession ⟦<Cpu<S> as Listed>⟧.is_ready self.old.schema self.old.session }
+        ensures session { IsSession ⟦<Cpu<S> as Listed>⟧.is_ready self.new.schema self.new.session }
+    {
+        let ended = self.run(number, turn)?;
+        self.meet_all();
+        self.answers.push(ended)?;
+        Ok(())
+    }
+}
