@@ -3,9 +3,10 @@ SCHEDULE = examples/tutorial/01-three-traces.schedule
 PROGRAM = crates/specplay/out/specplay
 BENCH = crates/bench/out/bench
 BENCH_WORDS = crates/bench_words/out/bench_words
+BENCH_CPU = crates/bench_cpu/out/bench_cpu
 ROUNDS = 50
 
-.PHONY: play test examples api mutants build bench bench-instructions build-bench
+.PHONY: play test examples api mutants soak build bench bench-instructions build-bench
 
 # Plays one schedule at once: with the proved program where it is built, else with the trial build of the same sources.
 play:
@@ -27,6 +28,10 @@ api:
 mutants:
 	@sh .ci/mutants $(CRATES)
 
+# What runs in threads, 1,000 times each; the gate runs it 50 and 20 times.
+soak:
+	@sh .ci/threads 1000 1000
+
 # Proves what the program stands on, and builds it; where nothing has changed, it is kept. It gets the time at which the build
 # began, so that what was edited meanwhile is newer, and play doesn't take the program for proved.
 build:
@@ -34,18 +39,21 @@ build:
 	@cd crates/specplay && rt run < ../../examples/cases/empty-session.schedule > /dev/null
 	@touch -r crates/specplay/out/begun $(PROGRAM)
 
-# What a record costs, in nanoseconds on this machine, and a load of activity, alone and beside another thread's exchanges. No
-# check asks for it.
+# What a record costs, in nanoseconds on this machine, and a load of activity, alone and beside another thread's exchanges; and
+# where valgrind is installed, what a CPU's calls take in instructions, beside a push alone. No check asks for it.
 bench: build-bench
 	@$(BENCH) times $(ROUNDS)
 	@$(BENCH_WORDS) times
+	@if command -v valgrind > /dev/null; then crates/bench_cpu/instructions $(BENCH_CPU) $(BENCH); fi
 
-# The same in instructions, where valgrind is installed.
+# All of it in instructions, where valgrind is installed.
 bench-instructions: build-bench
 	@crates/bench/instructions $(BENCH)
 	@crates/bench_words/instructions $(BENCH_WORDS)
+	@crates/bench_cpu/instructions $(BENCH_CPU) $(BENCH)
 
 build-bench:
 	@command -v rt > /dev/null || { echo "make bench needs rt, the toolchain's command" >&2; exit 1; }
 	@cd crates/bench && rt run > /dev/null
 	@cd crates/bench_words && rt run > /dev/null
+	@cd crates/bench_cpu && rt run > /dev/null

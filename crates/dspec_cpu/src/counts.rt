@@ -8,17 +8,29 @@ use dspec_deeds::{DecideFate, Opening, SpeculateFate, TraceFate};
 /// What a CPU has counted: records offered and what became of them, and events. The records held are what is left.
 #[derive(Clone, Copy, Debug)]
 pub struct Counts {
+    /// Records of the calls of trace and speculate that were not worn.
     pub offered: u64,
+    /// Records in the principal buffers, a committed block's with it.
     pub accepted: u64,
+    /// Records of trace with no room.
     pub dropped: u64,
+    /// Records of speculate with no room.
     pub specdropped: u64,
+    /// Records of committed blocks with no room, none of them copied.
     pub lost: u64,
+    /// Records that were kept speculatively and thrown away.
     pub discarded: u64,
+    /// Records offered to nothing: the session was stopped, or the speculation was not open.
     pub void: u64,
+    /// Events, not records: each refusal of a principal buffer, of a record or of a block.
     pub drops: u64,
+    /// Calls of speculation that were given no slot, where none waited to be released.
     pub unavailable: u64,
+    /// Calls of speculation that were given no slot, where one waited to be released.
     pub busy: u64,
+    /// Calls behind the stop of the session.
     pub stopped: u64,
+    /// Calls behind the most that the CPU may make.
     pub worn: u64,
 }
 

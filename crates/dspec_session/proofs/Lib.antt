@@ -13,3 +13,11 @@ pub mod Partings
 pub mod Leavings
 pub mod Ending
 pub mod FirstParted
+mod Crews
+mod Ended
+mod Fours
+mod Handles
+mod Opened
+mod Scanned
+mod Servings
+mod Worked

@@ -8,3 +8,8 @@ pub mod Stopping
 pub mod Sessions
 pub mod Closing
 pub mod Leaving
+pub mod Demonstrated
+pub mod Rising
+pub mod Rounds
+pub mod Crews
+pub mod Races

@@ -4,7 +4,8 @@
 //! A session stays one while its parts are called (`specs/Sessions.antt`). Contracts see the consumer as its seat at the words and
 //! its ends of the rings (`specs/Consumers.antt`), and each call says which steps the seat made and what went through which end;
 //! nothing else changes. `finish` promises, for whichever lists the CPUs have, one legal list of all deeds that closes them
-//! (`specs/Closing.antt`). No call waits, and none but `start` and `make` takes memory. Stands on `dspec_cpu`, `dspec_table` and
+//! (`specs/Closing.antt`). No call but `demo`, which runs a session in four threads, waits, and none but `demo`, `start` and
+//! `make` takes memory. Stands on `dspec_cpu`, `dspec_table` and
 //! `dspec_ring`.
 #![tactic(auto)]
 
@@ -14,7 +15,9 @@ mod cleaning;
 mod closed;
 mod consumer;
 mod counted;
+mod demonstration;
 mod finishing;
+mod gate;
 mod laws;
 mod left;
 mod looking;
@@ -27,5 +30,7 @@ mod stopping;
 
 pub use closed::Closed;
 pub use consumer::Consumer;
+pub use demonstration::{DemoFault, DemoLine, demo};
+pub use gate::{Free, Gate};
 pub use laws::{close_of_lists, one_batch_left};
 pub use session::Session;

@@ -6,7 +6,10 @@ use dspec_record::Schema;
 /// and give it back.
 #[derive(Drop)]
 pub struct Session<S: Schema> {
+    /// The words, which all threads call by reference.
     pub shared: Shared,
+    /// CPU c at place c.
     pub cpus: Vec<Cpu<S>>,
+    /// The one that takes batches.
     pub consumer: Consumer,
 }

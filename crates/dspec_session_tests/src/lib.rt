@@ -1,5 +1,5 @@
-//! Tests of a session's consumer, on one thread, over words and rings alone. They stand in a crate of their own, so that the
-//! consumer isn't proved again beside them.
+//! Tests of a session's consumer, on one thread, over words and rings alone, and of whole sessions that are called from one thread.
+//! They stand in a crate of their own, so that the session isn't proved again beside them.
 #![tactic(auto)]
 
 #[cfg(test)]

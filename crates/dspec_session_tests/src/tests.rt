@@ -16,8 +16,15 @@ use std::test::Fail;
 
 mod asking;
 mod batches;
-mod closing;
-mod stopping;
+mod calls;
+mod damage;
+mod demonstration;
+mod growths;
+mod limits;
+mod speculations;
+mod staging;
+mod switching;
+mod texts;
 
 /// Two CPUs and one slot, with principal buffers of 16 bytes.
 fn small() -> Config

@@ -1,3 +1,4 @@
 pub mod Runs
 pub mod Schedules
 pub mod Written
+pub mod Threads

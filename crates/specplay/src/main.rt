@@ -1,5 +1,6 @@
 //! `specplay` reads a schedule of calls from standard input, plays it, and prints the answers, the reports and the
-//! streams; its exit status and one line of standard error tell why it did not.
+//! streams; its exit status and one line of standard error tell why it did not. `specplay threads` runs a session of four CPUs
+//! in threads instead, and prints a line for each.
 //!
 //! It promises, for any reader and any writer (`runner::run`), that nothing is written before the whole play has
 //! succeeded, and that an input over the limit never succeeds (specs/Runs.antt). What is written is the print of the
@@ -11,34 +12,56 @@
 mod fault;
 mod input;
 mod runner;
+mod threads;
 
 use fault::RunFault;
+use std::fmt::Display;
 use std::process::ExitCode;
 use std::{env, io};
+use threads::run_threads;
 
-/// Whether the program was given an argument, which it takes none of; one that is no text is an argument too.
-fn has_arguments(rt: &HostRuntime) -> Result<bool, RunFault> {
-    match env::args(rt) {
-        Ok(words) => Ok(words.count() > 1),
-        Err(error) if error.kind() == io::ErrorKind::OutOfMemory => Err(RunFault::Memory),
-        Err(_) => Ok(true),
+/// What the command line asks for.
+enum Command {
+    Play,
+    Threads,
+    Nothing,
+}
+
+/// Without arguments the play of a schedule, with the one argument `threads` the demonstration. An argument that is no text asks
+/// for nothing.
+fn command_of(rt: &HostRuntime) -> Result<Command, RunFault> {
+    let mut words = match env::args(rt) {
+        Ok(words) => words,
+        Err(error) if error.kind() == io::ErrorKind::OutOfMemory => return Err(RunFault::Memory),
+        Err(_) => return Ok(Command::Nothing),
+    };
+    let _program = words.next();
+    let Some(word) = words.next() else {
+        return Ok(Command::Play);
+    };
+    if words.next().is_some() || word.as_str() != "threads" {
+        return Ok(Command::Nothing);
     }
+    Ok(Command::Threads)
+}
+
+/// Tells of a fault, and gives its exit status.
+fn told<F: Display + Drop>(rt: &HostRuntime, fault: F, status: u8) -> ExitCode {
+    let _ = eprintln!(rt; "specplay: {fault}");
+    ExitCode::from(status)
 }
 
 fn main(rt: HostRuntime) -> ExitCode {
-    let ended = match has_arguments(&rt) {
-        Ok(true) => {
-            let _ = eprintln!(rt; "specplay: usage: specplay [threads]");
-            return ExitCode::from(fault::USAGE_STATUS);
-        }
-        Ok(false) => runner::run(rt.alloc(), &mut rt.stdin(), &mut rt.stdout()),
-        Err(fault) => Err(fault),
-    };
-    match ended {
-        Ok(()) => ExitCode::SUCCESS,
-        Err(fault) => {
-            let _ = eprintln!(rt; "specplay: {fault}");
-            ExitCode::from(fault.status())
-        }
+    match command_of(&rt) {
+        Ok(Command::Play) => match runner::run(rt.alloc(), &mut rt.stdin(), &mut rt.stdout()) {
+            Ok(()) => ExitCode::SUCCESS,
+            Err(fault) => told(&rt, fault, fault.status()),
+        },
+        Ok(Command::Threads) => match run_threads(&rt, rt.alloc(), &mut rt.stdout()) {
+            Ok(()) => ExitCode::SUCCESS,
+            Err(fault) => told(&rt, fault, fault.status()),
+        },
+        Ok(Command::Nothing) => told(&rt, "usage: specplay [threads]", fault::USAGE_STATUS),
+        Err(fault) => told(&rt, fault, fault.status()),
     }
 }

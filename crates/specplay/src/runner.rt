@@ -61,7 +61,7 @@ fn play_schedule(alloc: Global, schedule: &Schedule) -> Result<Outcome, PlayFaul
 }
 
 /// Writes a text, and has it go out.
-fn write_whole<W: Write>(output: &mut W, text: &str) -> Result<(), RunFault>
+pub(crate) fn write_whole<W: Write>(output: &mut W, text: &str) -> Result<(), RunFault>
     ensures ok { OnOk result (Appends (W.contents output.old) (W.contents output.new) text.now) }
     ensures err { IfErr result (λ fault. fault ≡ RunFault.Write) }
     ensures cut_off { OnErr result (AppendsBeginning (W.contents output.old) (W.contents output.new) text.now) }

@@ -1,15 +1,18 @@
 //! `tour` takes the tracer of one CPU through a session. What its requests touched is recorded speculatively: it is kept of
-//! the request that failed, and thrown away of the one that didn't. The program prints what the consumer took, every deed,
-//! and the report.
+//! the request that failed, and thrown away of the one that didn't. The program prints what the consumer took and the report.
 #![tactic(auto)]
 
-ghost use Rattle.std.specs.Prelude.{◌≡◌};
+ghost use Rattle.std.specs.Prelude.{◌≡◌, IfOk, IsTrue, OnOk};
+ghost use Rattle.dspec_cpu.specs.Lists.{IsSameCpu, schema_of, words_of};
+ghost use Rattle.dspec_session.specs.Sessions.{IsSession};
 
 use anyhow::{Context, Result, bail, ensure};
-use dspec_buffer::ByteBuffer;
-use dspec_core::{Actor, Answer, Config, ConsumerOp, CpuOp, Op, Policy, Stepped, World};
-use dspec_record::{Enablings, Field, Rec};
-use dspec_word::SpecId;
+use dspec_buffer::read_all;
+use dspec_cpu::{Cpu, Listed, Shared};
+use dspec_deeds::{Config, Policy};
+use dspec_record::{Enablings, Field, Rec, Schema};
+use dspec_ring::Batch;
+use dspec_session::Session;
 
 /// One CPU with two slots, and buffers of 64 bytes.
 const CONFIG: Config = Config {
@@ -22,88 +25,74 @@ const CONFIG: Config = Config {
     policy: Policy::Switch,
 };
 
-/// No call of such a session makes more steps.
-const MOST_STEPS: u32 = 7;
-
-type Session = World<Enablings, ByteBuffer>;
-
-/// Atomic steps of a call that has begun, to its end: the identifier that it answers, or NONE.
-fn run(world: &mut Session, actor: Actor) -> Result<SpecId>
-    ensures { world.new.state.config ≡ world.old.state.config }
+/// A record of an enabling.
+fn record(schema: &Enablings, epid: u32, values: &[u64]) -> Result<Rec>
+    ensures accepted { IfOk result (λ rec. IsTrue (⟦<Enablings as Schema>⟧.accepted schema.now rec)) }
 {
-    for _ in 0..MOST_STEPS {
-        match world.step(actor)? {
-            Stepped::Going => {}
-            Stepped::Done(Answer::Opening(opening)) => return Ok(opening.id()),
-            Stepped::Done(_) => return Ok(SpecId::NONE),
-        }
-    }
-    bail!("the call goes on")
+    let rec = Rec::new(epid, values).context("too many values")?;
+    ensure!(schema.accepts(&rec), "no record of an enabling: {rec}");
+    Ok(rec)
 }
 
-/// A whole call of CPU 0 or of the consumer.
-fn call(world: &mut Session, op: Op) -> Result<SpecId>
-    ensures { world.new.state.config ≡ world.old.state.config }
+/// What the CPU does: one request fails and one doesn't, and three plain records are traced, of which the last has no room.
+fn serve(
+    shared: &Shared,
+    cpu: &mut Cpu<Enablings>,
+    schema: &Enablings,
+    request: u32,
+    touch: u32,
+) -> Result<()>
+    requires ready { ⟦<Cpu<Enablings> as Listed>⟧.is_ready (words_of shared.now) cpu.old }
+    requires schema { schema_of cpu.old ≡ schema.now }
+    ensures ready { OnOk result (⟦<Cpu<Enablings> as Listed>⟧.is_ready (words_of shared.now) cpu.new) }
+    ensures same { OnOk result (IsSameCpu cpu.old cpu.new) }
 {
-    match op {
-        Op::Cpu(op) => {
-            world.begin_cpu(0, op)?;
-            run(world, Actor::Cpu(0))
-        }
-        Op::Consumer(op) => {
-            world.begin_consumer(op)?;
-            run(world, Actor::Consumer)
-        }
-    }
-}
-
-/// A new speculation, to which each address that was touched is offered with its flag.
-fn follow(world: &mut Session, epid: u32, touched: &[[u64; 2]]) -> Result<SpecId>
-    ensures { world.new.state.config ≡ world.old.state.config }
-{
-    let id = call(world, Op::Cpu(CpuOp::Speculation))?;
-    for values in touched {
-        let rec = Rec::new(epid, values).context("too many values")?;
-        call(world, Op::Cpu(CpuOp::Speculate(id, rec)))?;
-    }
-    Ok(id)
-}
-
-/// One request that fails and one that doesn't, three plain records, and a batch for the consumer.
-fn trace(world: &mut Session, request: u32, touch: u32) -> Result<()>
-    ensures { world.new.state.config ≡ world.old.state.config }
-{
-    let failed = follow(world, touch, &[[4096, 5], [8192, 0]])?;
-    call(world, Op::Cpu(CpuOp::Commit(failed)))?;
-    let fine = follow(world, touch, &[[12288, 0]])?;
-    call(world, Op::Cpu(CpuOp::Discard(fine)))?;
-    for number in 7..10 {
-        let rec = Rec::new(request, &[number]).context("too many values")?;
-        call(world, Op::Cpu(CpuOp::Trace(rec)))?;
-    }
-    call(world, Op::Consumer(ConsumerOp::Ask(0)))?;
-    call(world, Op::Cpu(CpuOp::Service))?;
-    call(world, Op::Consumer(ConsumerOp::Take(0)))?;
+    let failed = cpu.speculation(shared).id();
+    cpu.speculate(shared, failed, &record(schema, touch, &[4096, 5])?);
+    cpu.speculate(shared, failed, &record(schema, touch, &[8192, 0])?);
+    cpu.commit(shared, failed);
+    let fine = cpu.speculation(shared).id();
+    cpu.speculate(shared, fine, &record(schema, touch, &[12288, 0])?);
+    cpu.discard(shared, fine);
+    cpu.trace(shared, &record(schema, request, &[7])?);
+    cpu.trace(shared, &record(schema, request, &[8])?);
+    cpu.trace(shared, &record(schema, request, &[9])?);
     Ok(())
 }
 
+/// The requests, and a batch of their records for the consumer.
+fn visit(
+    session: &mut Session<Enablings>,
+    schema: &Enablings,
+    request: u32,
+    touch: u32,
+) -> Result<Batch>
+    requires session { IsSession ⟦<Cpu<Enablings> as Listed>⟧.is_ready schema.now session.old }
+    ensures session { OnOk result (IsSession ⟦<Cpu<Enablings> as Listed>⟧.is_ready schema.now session.new) }
+{
+    if session.cpus.len() == 0 {
+        bail!("no CPU");
+    }
+    let shared = &session.shared;
+    let cpu = &mut session.cpus[0];
+    serve(shared, cpu, schema, request, touch)?;
+    session.consumer.ask(shared, 0);
+    cpu.service(shared);
+    let Some(batch) = session.consumer.take(shared, 0) else {
+        bail!("no batch");
+    };
+    Ok(batch)
+}
+
 fn main(rt: HostRuntime) -> Result<()> {
-    let mut enablings = Enablings::new();
-    let request = enablings.enable(&[Field::Four])?;
-    let touch = enablings.enable(&[Field::Eight, Field::One])?;
-    let mut world: Session = World::new(rt.alloc(), CONFIG, enablings)?;
-    trace(&mut world, request, touch)?;
-    for rec in world.taken(0) {
+    let mut schema = Enablings::new();
+    let request = schema.enable(&[Field::Four])?;
+    let touch = schema.enable(&[Field::Eight, Field::One])?;
+    let mut session = Session::start(rt.alloc(), &CONFIG, schema)?;
+    let batch = visit(&mut session, &schema, request, touch)?;
+    for rec in read_all(&schema, batch.buffer.bytes())? {
         println!(rt; "taken {rec}")?;
     }
-    let idle = world.is_idle(Actor::Cpu(0)) && world.is_idle(Actor::Consumer);
-    ensure!(idle, "a call is in flight");
-    let close = world.finish(rt.alloc())?;
-    for deed in &close.deeds {
-        println!(rt; "{deed}")?;
-    }
-    for report in &close.reports {
-        println!(rt; "{report:?}")?;
-    }
+    println!(rt; "{:?}", session.finish().report(0))?;
     Ok(())
 }

@@ -1,10 +1,11 @@
-ghost use Rattle.std.specs.Prelude.{◌≡◌, ◌<◌, ◌≤◌, ◌+◌, ◌^◌, [], Some, None, IfOk, OnErr};
+ghost use Rattle.std.specs.Prelude.{◌≡◌, ◌<◌, ◌≤◌, ◌+◌, ◌^◌, [], None, IfOk, OnErr};
 ghost use Rattle.dspec_deeds.specs.declared.calls.ConsumerOp.TheVariants as consumer_op;
 ghost use Rattle.dspec_play.specs.declared.flight.ConsumerFlight.TheVariants as flight;
 ghost use Rattle.dspec_play.specs.declared.flight.Spare.TheVariants as spare;
-ghost use Rattle.dspec_play.specs.Coherent.{IsCoherent, IsSlot, the_caller};
+ghost use Rattle.dspec_play.specs.Coherent.{IsSlot, the_caller};
 ghost use Rattle.dspec_deeds.specs.Legal.{IsAllowed};
 ghost use Rattle.dspec_machine.specs.Machines.{Cleans, IsShown, history, state_of};
+ghost use Rattle.dspec_machine.specs.Standing.{ConsumerStandsAt};
 ghost use Rattle.dspec_machine.specs.Steps.{CleansAs, takes_batch};
 ghost use Rattle.dspec_deeds.specs.Own.{seals};
 ghost use Rattle.dspec_play.specs.Play.{keeps_on, loads_slot, next_slot, stops};
@@ -22,10 +23,8 @@ use std::alloc::AllocError;
 impl<S: Schema, B: TraceBuffer<S>> Machine<S, B> {
     /// The one step of an ask: the store of one more than the batches taken.
     pub fn step_ask(&mut self, cpu: u32) -> Option<Answer>
-        requires shown { IsShown B.has B.capacity self.old }
-        requires coherent { IsCoherent (S.shape_of self.old.schema) (state_of self.old) }
+        requires stands { ConsumerStandsAt B.has B.capacity S.shape_of self.old (flight.Begun (consumer_op.Ask cpu)) }
         requires cpu { cpu < self.old.config.cpus }
-        requires flight { self.old.consumer.flight ≡ Some (flight.Begun (consumer_op.Ask cpu)) }
         ensures { CleansAs B.has B.capacity self.old self.new (flight.Begun (consumer_op.Ask cpu)) result }
     {
         let caller = &mut self.sides[cpu as usize].caller;
@@ -35,10 +34,8 @@ impl<S: Schema, B: TraceBuffer<S>> Machine<S, B> {
 
     /// The one step of a take: the pop of what was handed over.
     pub fn step_take(&mut self, cpu: u32) -> Result<Option<Answer>, AllocError>
-        requires shown { IsShown B.has B.capacity self.old }
-        requires coherent { IsCoherent (S.shape_of self.old.schema) (state_of self.old) }
+        requires stands { ConsumerStandsAt B.has B.capacity S.shape_of self.old (flight.Begun (consumer_op.Take cpu)) }
         requires cpu { cpu < self.old.config.cpus }
-        requires flight { self.old.consumer.flight ≡ Some (flight.Begun (consumer_op.Take cpu)) }
         ensures cleans { IfOk result (λ answer. CleansAs B.has B.capacity self.old self.new (flight.Begun (consumer_op.Take cpu)) answer) }
         ensures refused { OnErr result (self.new ≡ self.old) }
     {
@@ -73,10 +70,8 @@ impl<S: Schema, B: TraceBuffer<S>> Machine<S, B> {
 
     /// The one step of a give back: the push of the buffer that is out, or nothing.
     pub fn step_give_back(&mut self, cpu: u32) -> Option<Answer>
-        requires shown { IsShown B.has B.capacity self.old }
-        requires coherent { IsCoherent (S.shape_of self.old.schema) (state_of self.old) }
+        requires stands { ConsumerStandsAt B.has B.capacity S.shape_of self.old (flight.Begun (consumer_op.GiveBack cpu)) }
         requires cpu { cpu < self.old.config.cpus }
-        requires flight { self.old.consumer.flight ≡ Some (flight.Begun (consumer_op.GiveBack cpu)) }
         ensures { CleansAs B.has B.capacity self.old self.new (flight.Begun (consumer_op.GiveBack cpu)) result }
     {
         let side = &self.sides[cpu as usize];
@@ -89,9 +84,7 @@ impl<S: Schema, B: TraceBuffer<S>> Machine<S, B> {
 
     /// The one step of a stop: the store of activity.
     pub fn step_stop(&mut self) -> Result<Option<Answer>, AllocError>
-        requires shown { IsShown B.has B.capacity self.old }
-        requires coherent { IsCoherent (S.shape_of self.old.schema) (state_of self.old) }
-        requires flight { self.old.consumer.flight ≡ Some (flight.Begun consumer_op.Stop) }
+        requires stands { ConsumerStandsAt B.has B.capacity S.shape_of self.old (flight.Begun consumer_op.Stop) }
         ensures cleans { IfOk result (λ answer. CleansAs B.has B.capacity self.old self.new (flight.Begun consumer_op.Stop) answer) }
         ensures refused { OnErr result (self.new ≡ self.old) }
     {
@@ -151,9 +144,7 @@ impl<S: Schema, B: TraceBuffer<S>> Machine<S, B> {
 
     /// The first step of a clean: the load of the first slot's word.
     pub fn step_clean(&mut self) -> Option<Answer>
-        requires shown { IsShown B.has B.capacity self.old }
-        requires coherent { IsCoherent (S.shape_of self.old.schema) (state_of self.old) }
-        requires flight { self.old.consumer.flight ≡ Some (flight.Begun consumer_op.Clean) }
+        requires stands { ConsumerStandsAt B.has B.capacity S.shape_of self.old (flight.Begun consumer_op.Clean) }
         ensures { CleansAs B.has B.capacity self.old self.new (flight.Begun consumer_op.Clean) result }
     {
         self.load_slot(1, 0)
@@ -161,9 +152,7 @@ impl<S: Schema, B: TraceBuffer<S>> Machine<S, B> {
 
     /// The load of a slot's word.
     pub fn step_clean_load(&mut self, slot: u32, released: u32) -> Option<Answer>
-        requires shown { IsShown B.has B.capacity self.old }
-        requires coherent { IsCoherent (S.shape_of self.old.schema) (state_of self.old) }
-        requires flight { self.old.consumer.flight ≡ Some (flight.CleanLoad slot released) }
+        requires stands { ConsumerStandsAt B.has B.capacity S.shape_of self.old (flight.CleanLoad slot released) }
         ensures { CleansAs B.has B.capacity self.old self.new (flight.CleanLoad slot released) result }
     {
         self.load_slot(slot, released)
@@ -177,9 +166,7 @@ impl<S: Schema, B: TraceBuffer<S>> Machine<S, B> {
         cpu: u32,
         released: u32,
     ) -> Option<Answer>
-        requires shown { IsShown B.has B.capacity self.old }
-        requires coherent { IsCoherent (S.shape_of self.old.schema) (state_of self.old) }
-        requires flight { self.old.consumer.flight ≡ Some (flight.CleanAck slot word cpu released) }
+        requires stands { ConsumerStandsAt B.has B.capacity S.shape_of self.old (flight.CleanAck slot word cpu released) }
         ensures { CleansAs B.has B.capacity self.old self.new (flight.CleanAck slot word cpu released) result }
     {
         if self.sides[cpu as usize].acks[(slot - 1) as usize] <= word.issue() {
@@ -198,9 +185,7 @@ impl<S: Schema, B: TraceBuffer<S>> Machine<S, B> {
         word: Word,
         released: u32,
     ) -> Result<Option<Answer>, AllocError>
-        requires shown { IsShown B.has B.capacity self.old }
-        requires coherent { IsCoherent (S.shape_of self.old.schema) (state_of self.old) }
-        requires flight { self.old.consumer.flight ≡ Some (flight.CleanReap slot word released) }
+        requires stands { ConsumerStandsAt B.has B.capacity S.shape_of self.old (flight.CleanReap slot word released) }
         ensures cleans { IfOk result (λ answer. CleansAs B.has B.capacity self.old self.new (flight.CleanReap slot word released) answer) }
         ensures refused { OnErr result (self.new ≡ self.old) }
     {

@@ -1,4 +1,4 @@
-ghost use Rattle.std.specs.Prelude.{◌≡◌, ◌<◌, ◌^◌, ◌∷◌, ◌++◌, [], true, false, Some, None, IfOk, OnErr};
+ghost use Rattle.std.specs.Prelude.{◌≡◌, ◌<◌, ◌^◌, ◌∷◌, ◌++◌, [], true, false, None, IfOk, OnErr};
 ghost use Rattle.dspec_deeds.specs.declared.deed.Deed.TheVariants as deed;
 ghost use Rattle.dspec_play.specs.declared.flight.CpuFlight.TheVariants as flight;
 ghost use Rattle.dspec_deeds.specs.Ranges.{start_fault};
@@ -7,6 +7,7 @@ ghost use Rattle.dspec_deeds.specs.History.{in_range, issue, word_at};
 ghost use Rattle.dspec_play.specs.Coherent.{IsCoherent, the_caller};
 ghost use Rattle.dspec_machine.specs.Decisions.{begun_of, decides, deed_of, load_of, try_of};
 ghost use Rattle.dspec_machine.specs.Machines.{Makes, IsShown, history, state_of};
+ghost use Rattle.dspec_machine.specs.Standing.{StandsAt};
 ghost use Rattle.dspec_machine.specs.Steps.{StepsAs, commits, discards, ends_with, shows};
 ghost use Rattle.dspec_deeds.specs.Settling.{commit_fate};
 
@@ -27,10 +28,7 @@ impl<S: Schema, B: TraceBuffer<S>> Machine<S, B> {
         decision: Decision,
         id: SpecId,
     ) -> Result<Option<Answer>, AllocError>
-        requires shown { IsShown B.has B.capacity self.old }
-        requires coherent { IsCoherent (S.shape_of self.old.schema) (state_of self.old) }
-        requires cpu { cpu < self.old.config.cpus }
-        requires flight { (the_caller (state_of self.old).callers cpu).flight ≡ Some (begun_of decision id) }
+        requires stands { StandsAt B.has B.capacity S.shape_of self.old cpu (begun_of decision id) }
         ensures makes { IfOk result (λ answer. StepsAs B.has B.capacity S.shape_of self.old self.new cpu (begun_of decision id) answer) }
         ensures refused { OnErr result (self.new ≡ self.old) }
     {
@@ -53,10 +51,7 @@ impl<S: Schema, B: TraceBuffer<S>> Machine<S, B> {
         decision: Decision,
         id: SpecId,
     ) -> Result<Option<Answer>, AllocError>
-        requires shown { IsShown B.has B.capacity self.old }
-        requires coherent { IsCoherent (S.shape_of self.old.schema) (state_of self.old) }
-        requires cpu { cpu < self.old.config.cpus }
-        requires flight { (the_caller (state_of self.old).callers cpu).flight ≡ Some (load_of decision id) }
+        requires stands { StandsAt B.has B.capacity S.shape_of self.old cpu (load_of decision id) }
         ensures makes { IfOk result (λ answer. StepsAs B.has B.capacity S.shape_of self.old self.new cpu (load_of decision id) answer) }
         ensures refused { OnErr result (self.new ≡ self.old) }
     {
@@ -71,10 +66,7 @@ impl<S: Schema, B: TraceBuffer<S>> Machine<S, B> {
         id: SpecId,
         from: Word,
     ) -> Result<Option<Answer>, AllocError>
-        requires shown { IsShown B.has B.capacity self.old }
-        requires coherent { IsCoherent (S.shape_of self.old.schema) (state_of self.old) }
-        requires cpu { cpu < self.old.config.cpus }
-        requires flight { (the_caller (state_of self.old).callers cpu).flight ≡ Some (try_of decision id from) }
+        requires stands { StandsAt B.has B.capacity S.shape_of self.old cpu (try_of decision id from) }
         ensures makes { IfOk result (λ answer. StepsAs B.has B.capacity S.shape_of self.old self.new cpu (try_of decision id from) answer) }
         ensures refused { OnErr result (self.new ≡ self.old) }
     {
@@ -185,10 +177,7 @@ impl<S: Schema, B: TraceBuffer<S>> Machine<S, B> {
         id: SpecId,
         fate: DecideFate,
     ) -> Result<Option<Answer>, AllocError>
-        requires shown { IsShown B.has B.capacity self.old }
-        requires coherent { IsCoherent (S.shape_of self.old.schema) (state_of self.old) }
-        requires cpu { cpu < self.old.config.cpus }
-        requires flight { (the_caller (state_of self.old).callers cpu).flight ≡ Some (flight.CommitRelease id fate) }
+        requires stands { StandsAt B.has B.capacity S.shape_of self.old cpu (flight.CommitRelease id fate) }
         ensures makes { IfOk result (λ answer. StepsAs B.has B.capacity S.shape_of self.old self.new cpu (flight.CommitRelease id fate) answer) }
         ensures refused { OnErr result (self.new ≡ self.old) }
     {

@@ -1,12 +1,13 @@
-ghost use Rattle.std.specs.Prelude.{◌≡◌, ◌<◌, ◌≤◌, ◌+◌, ◌^◌, ◌∷◌, ◌++◌, [], Some, None, IfOk, OnErr};
+ghost use Rattle.std.specs.Prelude.{◌≡◌, ◌<◌, ◌≤◌, ◌+◌, ◌^◌, ◌∷◌, ◌++◌, [], None, IfOk, OnErr};
 ghost use Rattle.dspec_deeds.specs.declared.calls.CpuOp.TheVariants as cpu_op;
 ghost use Rattle.dspec_deeds.specs.declared.deed.Deed.TheVariants as deed;
 ghost use Rattle.dspec_play.specs.declared.flight.CpuFlight.TheVariants as flight;
 ghost use Rattle.dspec_deeds.specs.Ranges.{start_fault};
 ghost use Rattle.dspec_deeds.specs.Legal.{IsAllowed};
 ghost use Rattle.dspec_word.specs.Code.{is_decided};
-ghost use Rattle.dspec_play.specs.Coherent.{IsCoherent, the_caller};
+ghost use Rattle.dspec_play.specs.Coherent.{the_caller};
 ghost use Rattle.dspec_machine.specs.Machines.{Makes, IsShown, history, state_of};
+ghost use Rattle.dspec_machine.specs.Standing.{StandsAt};
 ghost use Rattle.dspec_machine.specs.Steps.{StepsAs, misses};
 
 use crate::machine::Machine;
@@ -20,10 +21,7 @@ use std::alloc::AllocError;
 impl<S: Schema, B: TraceBuffer<S>> Machine<S, B> {
     /// The first step of a call of speculation: the load of activity.
     pub fn step_scan(&mut self, cpu: u32) -> Result<Option<Answer>, AllocError>
-        requires shown { IsShown B.has B.capacity self.old }
-        requires coherent { IsCoherent (S.shape_of self.old.schema) (state_of self.old) }
-        requires cpu { cpu < self.old.config.cpus }
-        requires flight { (the_caller (state_of self.old).callers cpu).flight ≡ Some (flight.Begun cpu_op.Speculation) }
+        requires stands { StandsAt B.has B.capacity S.shape_of self.old cpu (flight.Begun cpu_op.Speculation) }
         ensures makes { IfOk result (λ answer. StepsAs B.has B.capacity S.shape_of self.old self.new cpu (flight.Begun cpu_op.Speculation) answer) }
         ensures refused { OnErr result (self.new ≡ self.old) }
     {
@@ -41,10 +39,7 @@ impl<S: Schema, B: TraceBuffer<S>> Machine<S, B> {
 
     /// The load of a slot's word.
     pub fn step_scan_load(&mut self, cpu: u32, slot: u32) -> Result<Option<Answer>, AllocError>
-        requires shown { IsShown B.has B.capacity self.old }
-        requires coherent { IsCoherent (S.shape_of self.old.schema) (state_of self.old) }
-        requires cpu { cpu < self.old.config.cpus }
-        requires flight { (the_caller (state_of self.old).callers cpu).flight ≡ Some (flight.ScanLoad slot) }
+        requires stands { StandsAt B.has B.capacity S.shape_of self.old cpu (flight.ScanLoad slot) }
         ensures makes { IfOk result (λ answer. StepsAs B.has B.capacity S.shape_of self.old self.new cpu (flight.ScanLoad slot) answer) }
         ensures refused { OnErr result (self.new ≡ self.old) }
     {
@@ -62,10 +57,7 @@ impl<S: Schema, B: TraceBuffer<S>> Machine<S, B> {
         slot: u32,
         from: Word,
     ) -> Result<Option<Answer>, AllocError>
-        requires shown { IsShown B.has B.capacity self.old }
-        requires coherent { IsCoherent (S.shape_of self.old.schema) (state_of self.old) }
-        requires cpu { cpu < self.old.config.cpus }
-        requires flight { (the_caller (state_of self.old).callers cpu).flight ≡ Some (flight.ScanTry slot from) }
+        requires stands { StandsAt B.has B.capacity S.shape_of self.old cpu (flight.ScanTry slot from) }
         ensures makes { IfOk result (λ answer. StepsAs B.has B.capacity S.shape_of self.old self.new cpu (flight.ScanTry slot from) answer) }
         ensures refused { OnErr result (self.new ≡ self.old) }
     {

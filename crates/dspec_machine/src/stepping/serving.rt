@@ -1,9 +1,10 @@
-ghost use Rattle.std.specs.Prelude.{◌≡◌, ◌<◌, ◌≤◌, ◌^◌, false, None, Some, IfOk, OnErr};
+ghost use Rattle.std.specs.Prelude.{◌≡◌, ◌<◌, ◌≤◌, ◌^◌, false, None, IfOk, OnErr};
 ghost use Rattle.dspec_deeds.specs.declared.calls.CpuOp.TheVariants as cpu_op;
 ghost use Rattle.dspec_play.specs.declared.flight.CpuFlight.TheVariants as flight;
 ghost use Rattle.dspec_deeds.specs.Ranges.{is_fill};
 ghost use Rattle.dspec_play.specs.Coherent.{IsCoherent, IsSlot, the_caller};
 ghost use Rattle.dspec_machine.specs.Machines.{IsShown, Makes, state_of};
+ghost use Rattle.dspec_machine.specs.Standing.{StandsAt};
 ghost use Rattle.dspec_machine.specs.Steps.{StepsAs, loads, serves, state_with, goes_on_at};
 
 use crate::machine::Machine;
@@ -17,10 +18,7 @@ use std::alloc::AllocError;
 impl<S: Schema, B: TraceBuffer<S>> Machine<S, B> {
     /// The first step of a call of service: the load of the ask, or under Fill that of the first slot's word.
     pub fn step_service(&mut self, cpu: u32) -> Result<Option<Answer>, AllocError>
-        requires shown { IsShown B.has B.capacity self.old }
-        requires coherent { IsCoherent (S.shape_of self.old.schema) (state_of self.old) }
-        requires cpu { cpu < self.old.config.cpus }
-        requires flight { (the_caller (state_of self.old).callers cpu).flight ≡ Some (flight.Begun cpu_op.Service) }
+        requires stands { StandsAt B.has B.capacity S.shape_of self.old cpu (flight.Begun cpu_op.Service) }
         ensures makes { IfOk result (λ answer. StepsAs B.has B.capacity S.shape_of self.old self.new cpu (flight.Begun cpu_op.Service) answer) }
         ensures refused { OnErr result (self.new ≡ self.old) }
     {
@@ -36,10 +34,7 @@ impl<S: Schema, B: TraceBuffer<S>> Machine<S, B> {
 
     // The load of the ask, which seals where the CPU is asked and has a spare.
     fn load_ask(&mut self, cpu: u32) -> Result<Option<Answer>, AllocError>
-        requires shown { IsShown B.has B.capacity self.old }
-        requires coherent { IsCoherent (S.shape_of self.old.schema) (state_of self.old) }
-        requires cpu { cpu < self.old.config.cpus }
-        requires flight { (the_caller (state_of self.old).callers cpu).flight ≡ Some (flight.Begun cpu_op.Service) }
+        requires stands { StandsAt B.has B.capacity S.shape_of self.old cpu (flight.Begun cpu_op.Service) }
         requires switched { is_fill self.old.config.policy ≡ false }
         ensures makes { IfOk result (λ answer. StepsAs B.has B.capacity S.shape_of self.old self.new cpu (flight.Begun cpu_op.Service) answer) }
         ensures refused { OnErr result (self.new ≡ self.old) }
@@ -57,10 +52,7 @@ impl<S: Schema, B: TraceBuffer<S>> Machine<S, B> {
 
     /// The pop of a spare, which seals where one came.
     pub fn step_service_pop(&mut self, cpu: u32) -> Result<Option<Answer>, AllocError>
-        requires shown { IsShown B.has B.capacity self.old }
-        requires coherent { IsCoherent (S.shape_of self.old.schema) (state_of self.old) }
-        requires cpu { cpu < self.old.config.cpus }
-        requires flight { (the_caller (state_of self.old).callers cpu).flight ≡ Some (flight.ServicePop) }
+        requires stands { StandsAt B.has B.capacity S.shape_of self.old cpu (flight.ServicePop) }
         ensures makes { IfOk result (λ answer. StepsAs B.has B.capacity S.shape_of self.old self.new cpu (flight.ServicePop) answer) }
         ensures refused { OnErr result (self.new ≡ self.old) }
     {
@@ -74,10 +66,7 @@ impl<S: Schema, B: TraceBuffer<S>> Machine<S, B> {
 
     /// The push of the batch that was sealed.
     pub fn step_service_push(&mut self, cpu: u32) -> Option<Answer>
-        requires shown { IsShown B.has B.capacity self.old }
-        requires coherent { IsCoherent (S.shape_of self.old.schema) (state_of self.old) }
-        requires cpu { cpu < self.old.config.cpus }
-        requires flight { (the_caller (state_of self.old).callers cpu).flight ≡ Some (flight.ServicePush) }
+        requires stands { StandsAt B.has B.capacity S.shape_of self.old cpu (flight.ServicePush) }
         ensures { StepsAs B.has B.capacity S.shape_of self.old self.new cpu (flight.ServicePush) result }
     {
         let caller = &mut self.sides[cpu as usize].caller;
@@ -95,10 +84,7 @@ impl<S: Schema, B: TraceBuffer<S>> Machine<S, B> {
 
     /// The load of a slot's word.
     pub fn step_service_load(&mut self, cpu: u32, slot: u32, sum: Served) -> Option<Answer>
-        requires shown { IsShown B.has B.capacity self.old }
-        requires coherent { IsCoherent (S.shape_of self.old.schema) (state_of self.old) }
-        requires cpu { cpu < self.old.config.cpus }
-        requires flight { (the_caller (state_of self.old).callers cpu).flight ≡ Some (flight.ServiceLoad slot sum) }
+        requires stands { StandsAt B.has B.capacity S.shape_of self.old cpu (flight.ServiceLoad slot sum) }
         ensures { StepsAs B.has B.capacity S.shape_of self.old self.new cpu (flight.ServiceLoad slot sum) result }
     {
         self.load_service(cpu, slot, sum)
@@ -130,10 +116,7 @@ impl<S: Schema, B: TraceBuffer<S>> Machine<S, B> {
         word: Word,
         sum: Served,
     ) -> Result<Option<Answer>, AllocError>
-        requires shown { IsShown B.has B.capacity self.old }
-        requires coherent { IsCoherent (S.shape_of self.old.schema) (state_of self.old) }
-        requires cpu { cpu < self.old.config.cpus }
-        requires flight { (the_caller (state_of self.old).callers cpu).flight ≡ Some (flight.ServiceStore slot word sum) }
+        requires stands { StandsAt B.has B.capacity S.shape_of self.old cpu (flight.ServiceStore slot word sum) }
         ensures makes { IfOk result (λ answer. StepsAs B.has B.capacity S.shape_of self.old self.new cpu (flight.ServiceStore slot word sum) answer) }
         ensures refused { OnErr result (self.new ≡ self.old) }
     {

@@ -1,4 +1,4 @@
-ghost use Rattle.std.specs.Prelude.{◌≡◌, ◌<◌, ◌+◌, ◌∷◌, ◌++◌, true, Some, None, IsTrue, IfOk, OnErr};
+ghost use Rattle.std.specs.Prelude.{◌≡◌, ◌<◌, ◌∷◌, ◌++◌, true, None, IsTrue, IfOk, OnErr};
 ghost use Rattle.dspec_deeds.specs.declared.calls.CpuOp.TheVariants as cpu_op;
 ghost use Rattle.dspec_deeds.specs.declared.deed.Deed.TheVariants as deed;
 ghost use Rattle.dspec_deeds.specs.declared.deed.SpeculateFate.TheVariants as spoken;
@@ -6,8 +6,8 @@ ghost use Rattle.dspec_play.specs.declared.flight.CpuFlight.TheVariants as fligh
 ghost use Rattle.dspec_deeds.specs.Ranges.{start_fault};
 ghost use Rattle.dspec_deeds.specs.Legal.{IsAllowed};
 ghost use Rattle.dspec_deeds.specs.History.{in_range, issue, word_at};
-ghost use Rattle.dspec_play.specs.Coherent.{IsCoherent, the_caller};
-ghost use Rattle.dspec_machine.specs.Machines.{Makes, IsShown, history, state_of};
+ghost use Rattle.dspec_machine.specs.Machines.{Makes, IsShown, history};
+ghost use Rattle.dspec_machine.specs.Standing.{StandsAt};
 ghost use Rattle.dspec_machine.specs.Steps.{StepsAs, speaks};
 
 use crate::machine::Machine;
@@ -26,10 +26,7 @@ impl<S: Schema, B: TraceBuffer<S>> Machine<S, B> {
         id: SpecId,
         rec: &Rec,
     ) -> Result<Option<Answer>, AllocError>
-        requires shown { IsShown B.has B.capacity self.old }
-        requires coherent { IsCoherent (S.shape_of self.old.schema) (state_of self.old) }
-        requires cpu { cpu < self.old.config.cpus }
-        requires flight { (the_caller (state_of self.old).callers cpu).flight ≡ Some (flight.Begun (cpu_op.Speculate id rec.now)) }
+        requires stands { StandsAt B.has B.capacity S.shape_of self.old cpu (flight.Begun (cpu_op.Speculate id rec.now)) }
         requires accepted { IsTrue (S.accepted self.old.schema rec.now) }
         ensures makes { IfOk result (λ answer. StepsAs B.has B.capacity S.shape_of self.old self.new cpu (flight.Begun (cpu_op.Speculate id rec.now)) answer) }
         ensures refused { OnErr result (self.new ≡ self.old) }
@@ -55,10 +52,7 @@ impl<S: Schema, B: TraceBuffer<S>> Machine<S, B> {
         id: SpecId,
         rec: &Rec,
     ) -> Result<Option<Answer>, AllocError>
-        requires shown { IsShown B.has B.capacity self.old }
-        requires coherent { IsCoherent (S.shape_of self.old.schema) (state_of self.old) }
-        requires cpu { cpu < self.old.config.cpus }
-        requires flight { (the_caller (state_of self.old).callers cpu).flight ≡ Some (flight.SpeculateLoad id rec.now) }
+        requires stands { StandsAt B.has B.capacity S.shape_of self.old cpu (flight.SpeculateLoad id rec.now) }
         requires accepted { IsTrue (S.accepted self.old.schema rec.now) }
         ensures makes { IfOk result (λ answer. StepsAs B.has B.capacity S.shape_of self.old self.new cpu (flight.SpeculateLoad id rec.now) answer) }
         ensures refused { OnErr result (self.new ≡ self.old) }
@@ -83,10 +77,7 @@ impl<S: Schema, B: TraceBuffer<S>> Machine<S, B> {
         rec: &Rec,
         from: Word,
     ) -> Result<Option<Answer>, AllocError>
-        requires shown { IsShown B.has B.capacity self.old }
-        requires coherent { IsCoherent (S.shape_of self.old.schema) (state_of self.old) }
-        requires cpu { cpu < self.old.config.cpus }
-        requires flight { (the_caller (state_of self.old).callers cpu).flight ≡ Some (flight.SpeculateTry id rec.now from) }
+        requires stands { StandsAt B.has B.capacity S.shape_of self.old cpu (flight.SpeculateTry id rec.now from) }
         requires accepted { IsTrue (S.accepted self.old.schema rec.now) }
         ensures makes { IfOk result (λ answer. StepsAs B.has B.capacity S.shape_of self.old self.new cpu (flight.SpeculateTry id rec.now from) answer) }
         ensures refused { OnErr result (self.new ≡ self.old) }

@@ -1,8 +1,7 @@
-ghost use Rattle.std.specs.Prelude.{◌≡◌, ◌<◌, Some, IsTrue, IfOk, OnErr};
+ghost use Rattle.std.specs.Prelude.{◌≡◌, IsTrue, IfOk, OnErr};
 ghost use Rattle.dspec_deeds.specs.declared.calls.CpuOp.TheVariants as cpu_op;
 ghost use Rattle.dspec_play.specs.declared.flight.CpuFlight.TheVariants as flight;
-ghost use Rattle.dspec_play.specs.Coherent.{IsCoherent, the_caller};
-ghost use Rattle.dspec_machine.specs.Machines.{IsShown, state_of};
+ghost use Rattle.dspec_machine.specs.Standing.{StandsAt};
 ghost use Rattle.dspec_machine.specs.Steps.{StepsAs};
 
 use crate::machine::Machine;
@@ -14,10 +13,7 @@ use std::alloc::AllocError;
 impl<S: Schema, B: TraceBuffer<S>> Machine<S, B> {
     /// The one step of a call of trace: the load of activity.
     pub fn step_trace(&mut self, cpu: u32, rec: &Rec) -> Result<Option<Answer>, AllocError>
-        requires shown { IsShown B.has B.capacity self.old }
-        requires coherent { IsCoherent (S.shape_of self.old.schema) (state_of self.old) }
-        requires cpu { cpu < self.old.config.cpus }
-        requires flight { (the_caller (state_of self.old).callers cpu).flight ≡ Some (flight.Begun (cpu_op.Trace rec.now)) }
+        requires stands { StandsAt B.has B.capacity S.shape_of self.old cpu (flight.Begun (cpu_op.Trace rec.now)) }
         requires accepted { IsTrue (S.accepted self.old.schema rec.now) }
         ensures makes { IfOk result (λ answer. StepsAs B.has B.capacity S.shape_of self.old self.new cpu (flight.Begun (cpu_op.Trace rec.now)) answer) }
         ensures refused { OnErr result (self.new ≡ self.old) }

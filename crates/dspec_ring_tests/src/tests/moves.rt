@@ -180,3 +180,11 @@ fn refused_growth(rt: HostRuntime) -> Result<(), Fail> {
     assert!(rt; drained.next().is_none());
     Ok(())
 }
+
+/// It asks once: where a growth is refused that is the answer.
+#[test]
+fn asked_once(rt: HostRuntime) -> Result<(), Fail> {
+    let (mut cpu, _consumer) = pair(rt.alloc())?;
+    assert!(rt; cpu.spare().is_none());
+    Ok(())
+}

@@ -1,7 +1,7 @@
 //! Batches that are taken, and given back or refused.
 ghost use Rattle.std.specs.Prelude.{◌≡◌, ◌<◌, ◌≤◌, ◌+◌, ◌%◌, ◌^◌, length};
 ghost use Rattle.dspec_cpu.specs.Lists.{words_of};
-ghost use Rattle.dspec_session.specs.Consumers.{IsConsumerOf};
+ghost use Rattle.dspec_session.specs.Consumers.{IsConsumerOf, IsSameConsumer};
 
 use super::*;
 use dspec_buffer::{ByteBuffer, TraceBuffer};
@@ -34,9 +34,10 @@ pub(super) fn passed(
 }
 
 /// Gives a batch back, and answers whether it was refused and came back itself.
-fn comes_back(shared: &Shared, consumer: &mut Consumer, batch: Batch) -> bool
+pub(super) fn comes_back(shared: &Shared, consumer: &mut Consumer, batch: Batch) -> bool
     requires session { IsConsumerOf (words_of shared.now) consumer.old }
     ensures session { IsConsumerOf (words_of shared.now) consumer.new }
+    ensures same { IsSameConsumer consumer.old consumer.new }
 {
     let drops = batch.drops;
     match consumer.give_back(shared, batch) {
@@ -58,26 +59,6 @@ fn taken_in_order(rt: HostRuntime) -> Result<(), Fail> {
     assert!(rt; consumer.give_back(&shared, first).is_ok());
     let spare = end.spare().expect(&rt, "a spare");
     assert!(rt; spare.drops == 1 && end.spare().is_none());
-    Ok(())
-}
-
-/// A batch of a CPU that isn't there, one of a CPU of which none is out, and one of another size come back.
-#[test]
-fn refused_by_what_they_are(rt: HostRuntime) -> Result<(), Fail> {
-    let (shared, _, _, mut end, mut consumer) = begun(rt.alloc())?;
-    let stranger = batch(rt.alloc(), 2, 16, 1)?;
-    assert!(rt; comes_back(&shared, &mut consumer, stranger));
-    let early = batch(rt.alloc(), 0, 16, 2)?;
-    assert!(rt; comes_back(&shared, &mut consumer, early));
-    let handed = batch(rt.alloc(), 0, 16, 3)?;
-    let out = passed(&rt, &shared, &mut end, &mut consumer, handed);
-    let large = batch(rt.alloc(), 0, 24, 4)?;
-    assert!(rt; comes_back(&shared, &mut consumer, large));
-    let others = batch(rt.alloc(), 1, 16, 5)?;
-    assert!(rt; comes_back(&shared, &mut consumer, others));
-    assert!(rt; !comes_back(&shared, &mut consumer, out));
-    let late = batch(rt.alloc(), 0, 16, 6)?;
-    assert!(rt; comes_back(&shared, &mut consumer, late) && end.spare().is_some());
     Ok(())
 }
 

@@ -24,8 +24,8 @@ returns-then-side-clause-makes g c =
     let h = history m in
     let me = the_caller (state_of m).callers a in
     let side = c.index-side.result.now in
-    let is : me ≡ side.caller = caller_there m.sides.items a side (side_got has capacity m c.requires.shown a side c.requires.cpu c.index-side.ensures) in
-    let sealed : side.seals ≡ seals a h = (side_read has capacity m c.requires.shown a side c.requires.cpu c.index-side.ensures).sealed in
+    let is : me ≡ side.caller = caller_there m.sides.items a side (side_got has capacity m c.requires.stands.shown a side c.requires.stands.cpu c.index-side.ensures) in
+    let sealed : side.seals ≡ seals a h = (side_read has capacity m c.requires.stands.shown a side c.requires.stands.cpu c.index-side.ensures).sealed in
     let want : side.caller.want ≡ me.want = ap (λ (x : Caller). x.want) (sym is) in
     let asks : (nat_lt (seals a h) me.want && nat_lt (seals a h) k.max_calls) ≡ false =
     elim c.then-side.branch [
@@ -46,8 +46,8 @@ returns-then-not-matches-clause-makes g c =
     let h = history m in
     let me = the_caller (state_of m).callers a in
     let side = c.index-side.result.now in
-    let is : me ≡ side.caller = caller_there m.sides.items a side (side_got has capacity m c.requires.shown a side c.requires.cpu c.index-side.ensures) in
-    let sealed : side.seals ≡ seals a h = (side_read has capacity m c.requires.shown a side c.requires.cpu c.index-side.ensures).sealed in
+    let is : me ≡ side.caller = caller_there m.sides.items a side (side_got has capacity m c.requires.stands.shown a side c.requires.stands.cpu c.index-side.ensures) in
+    let sealed : side.seals ≡ seals a h = (side_read has capacity m c.requires.stands.shown a side c.requires.stands.cpu c.index-side.ensures).sealed in
     let want : side.caller.want ≡ me.want = ap (λ (x : Caller). x.want) (sym is) in
     let asks : (nat_lt (seals a h) me.want && nat_lt (seals a h) k.max_calls) ≡ true =
     wanted (seals a h) me.want k.max_calls (subst (λ n. seals a h < n) want (subst (λ n. n < side.caller.want) sealed c.if-side.false)) (subst (λ n. n < k.max_calls) sealed c.if-side-self.false) in

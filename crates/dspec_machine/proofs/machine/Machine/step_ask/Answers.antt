@@ -14,21 +14,21 @@ pub overflow_add-caller : goal.overflow_add-caller
 overflow_add-caller g c =
     let m = c.args.self.now in
     let side = c.index_mut.result.now in
-    let got = side_got g.B.TraceBuffer.has g.B.TraceBuffer.capacity m c.requires.shown c.args.cpu side c.requires.cpu c.index_mut.ensures.value in
-    let fits : side.caller.takes + 1 < 2 ^ 64 = subst (λ (me : Caller). me.takes + 1 < 2 ^ 64) (caller_there m.sides.items c.args.cpu side got) (takes_fit (g.S.Schema.shape_of m.schema) (state_of m) c.requires.coherent c.args.cpu c.requires.cpu) in
+    let got = side_got g.B.TraceBuffer.has g.B.TraceBuffer.capacity m c.requires.stands.shown c.args.cpu side c.requires.cpu c.index_mut.ensures.value in
+    let fits : side.caller.takes + 1 < 2 ^ 64 = subst (λ (me : Caller). me.takes + 1 < 2 ^ 64) (caller_there m.sides.items c.args.cpu side got) (takes_fit (g.S.Schema.shape_of m.schema) (state_of m) c.requires.stands.coherent c.args.cpu c.requires.cpu) in
     omega arith
 
 pub stop_consumer-requires : goal.stop_consumer-requires
 stop_consumer-requires g c =
     let m = c.args.self.now in
     let side = c.index_mut.result.now in
-    let got = side_got g.B.TraceBuffer.has g.B.TraceBuffer.capacity m c.requires.shown c.args.cpu side c.requires.cpu c.index_mut.ensures.value in
-    record { shown = caller_moves g.B.TraceBuffer.has g.B.TraceBuffer.capacity m c.args.cpu side _ c.requires.shown got refl }
+    let got = side_got g.B.TraceBuffer.has g.B.TraceBuffer.capacity m c.requires.stands.shown c.args.cpu side c.requires.cpu c.index_mut.ensures.value in
+    record { shown = caller_moves g.B.TraceBuffer.has g.B.TraceBuffer.capacity m c.args.cpu side _ c.requires.stands.shown got refl }
 
 pub returns : goal.returns
 returns g c =
     let m = c.args.self.now in
     let side = c.index_mut.result.now in
-    let got = side_got g.B.TraceBuffer.has g.B.TraceBuffer.capacity m c.requires.shown c.args.cpu side c.requires.cpu c.index_mut.ensures.value in
+    let got = side_got g.B.TraceBuffer.has g.B.TraceBuffer.capacity m c.requires.stands.shown c.args.cpu side c.requires.cpu c.index_mut.ensures.value in
     let moves = state_moves m c.args.cpu side (λ (me : Caller). record me { want = me.takes + 1 }) got in
     puts_stops g.B.TraceBuffer.has g.B.TraceBuffer.capacity m _ _ c.args.cpu _ answer.AskDone _ moves refl c.stop_consumer.ensures

@@ -11,27 +11,27 @@ use Rattle.dspec_machine.proofs.machine.Machine.step_clean_ack.Goals as goal
 pub index-requires-2 : goal.index-requires-2
 index-requires-2 g c =
     let m = c.args.self.now in
-    let at = clean_stands (g.S.Schema.shape_of m.schema) (state_of m) c.requires.coherent _ c.requires.flight in
+    let at = clean_stands (g.S.Schema.shape_of m.schema) (state_of m) c.requires.stands.coherent _ c.requires.stands.flight in
     let slot = at.0 in
-    let count = (side_read g.B.TraceBuffer.has g.B.TraceBuffer.capacity m c.requires.shown c.args.cpu c.index.result.now at.2 c.index.ensures).ack_count in
+    let count = (side_read g.B.TraceBuffer.has g.B.TraceBuffer.capacity m c.requires.stands.shown c.args.cpu c.index.result.now at.2 c.index.ensures).ack_count in
     let low = slot.0 in
     let high = slot.1 in
     omega arith
 
 pub clean_next-requires-clause-steps : goal.clean_next-requires-clause-steps
-clean_next-requires-clause-steps g c = let m = c.args.self.now in clean_steps_fit (g.S.Schema.shape_of m.schema) (state_of m) c.requires.coherent _ c.requires.flight
+clean_next-requires-clause-steps g c = let m = c.args.self.now in clean_steps_fit (g.S.Schema.shape_of m.schema) (state_of m) c.requires.stands.coherent _ c.requires.stands.flight
 
 pub keep_on-requires-clause-steps : goal.keep_on-requires-clause-steps
-keep_on-requires-clause-steps g c = let m = c.args.self.now in clean_steps_fit (g.S.Schema.shape_of m.schema) (state_of m) c.requires.coherent _ c.requires.flight
+keep_on-requires-clause-steps g c = let m = c.args.self.now in clean_steps_fit (g.S.Schema.shape_of m.schema) (state_of m) c.requires.stands.coherent _ c.requires.stands.flight
 
 pub keep_on-requires-2-clause-steps : goal.keep_on-requires-2-clause-steps
-keep_on-requires-2-clause-steps g c = let m = c.args.self.now in clean_steps_fit (g.S.Schema.shape_of m.schema) (state_of m) c.requires.coherent _ c.requires.flight
+keep_on-requires-2-clause-steps g c = let m = c.args.self.now in clean_steps_fit (g.S.Schema.shape_of m.schema) (state_of m) c.requires.stands.coherent _ c.requires.stands.flight
 
 pub returns-then-index-issue : goal.returns-then-index-issue
 returns-then-index-issue g c =
     let m = c.args.self.now in
-    let at = clean_stands (g.S.Schema.shape_of m.schema) (state_of m) c.requires.coherent _ c.requires.flight in
-    let shows = side_read g.B.TraceBuffer.has g.B.TraceBuffer.capacity m c.requires.shown c.args.cpu c.index.result.now at.2 c.index.ensures in
+    let at = clean_stands (g.S.Schema.shape_of m.schema) (state_of m) c.requires.stands.coherent _ c.requires.stands.flight in
+    let shows = side_read g.B.TraceBuffer.has g.B.TraceBuffer.capacity m c.requires.stands.shown c.args.cpu c.index.result.now at.2 c.index.ensures in
     let low = at.0.0 in
     let high = at.0.1 in
     let acked = number_there c.index.result.now.acks.items m.config.nspec (c.args.slot - 1) c.index-2.result.now (ack c.args.cpu c.args.slot (history m)) shows.ack_count (omega arith) c.index-2.ensures (shows.acks c.args.slot at.0) in
@@ -43,8 +43,8 @@ returns-then-index-issue g c =
 pub returns-then-cpu-self : goal.returns-then-cpu-self
 returns-then-cpu-self g c =
     let m = c.args.self.now in
-    let at = clean_stands (g.S.Schema.shape_of m.schema) (state_of m) c.requires.coherent _ c.requires.flight in
-    let shows = side_read g.B.TraceBuffer.has g.B.TraceBuffer.capacity m c.requires.shown c.args.cpu c.index.result.now at.2 c.index.ensures in
+    let at = clean_stands (g.S.Schema.shape_of m.schema) (state_of m) c.requires.stands.coherent _ c.requires.stands.flight in
+    let shows = side_read g.B.TraceBuffer.has g.B.TraceBuffer.capacity m c.requires.stands.shown c.args.cpu c.index.result.now at.2 c.index.ensures in
     let low = at.0.0 in
     let high = at.0.1 in
     let acked = number_there c.index.result.now.acks.items m.config.nspec (c.args.slot - 1) c.index-2.result.now (ack c.args.cpu c.args.slot (history m)) shows.ack_count (omega arith) c.index-2.ensures (shows.acks c.args.slot at.0) in
@@ -58,8 +58,8 @@ returns-then-cpu-self g c =
 pub returns : goal.returns
 returns g c =
     let m = c.args.self.now in
-    let at = clean_stands (g.S.Schema.shape_of m.schema) (state_of m) c.requires.coherent _ c.requires.flight in
-    let shows = side_read g.B.TraceBuffer.has g.B.TraceBuffer.capacity m c.requires.shown c.args.cpu c.index.result.now at.2 c.index.ensures in
+    let at = clean_stands (g.S.Schema.shape_of m.schema) (state_of m) c.requires.stands.coherent _ c.requires.stands.flight in
+    let shows = side_read g.B.TraceBuffer.has g.B.TraceBuffer.capacity m c.requires.stands.shown c.args.cpu c.index.result.now at.2 c.index.ensures in
     let low = at.0.0 in
     let high = at.0.1 in
     let acked = number_there c.index.result.now.acks.items m.config.nspec (c.args.slot - 1) c.index-2.result.now (ack c.args.cpu c.args.slot (history m)) shows.ack_count (omega arith) c.index-2.ensures (shows.acks c.args.slot at.0) in

@@ -19,9 +19,9 @@ enter_release-requires-clause-legal g c =
     let s = c.args.slot in
     let from = c.args.word in
     let shape = g.S.Schema.shape_of m.schema in
-    let at = clean_stands shape (state_of m) c.requires.coherent (flight.CleanReap s from c.args.released) c.requires.flight in
+    let at = clean_stands shape (state_of m) c.requires.stands.coherent (flight.CleanReap s from c.args.released) c.requires.stands.flight in
     let w = c.index.result.now in
-    let word = word_there m.config (history m) m.words.items s w at.0.0 at.0.1 c.requires.shown.words c.index.ensures in
+    let word = word_there m.config (history m) m.words.items s w at.0.0 at.0.1 c.requires.stands.shown.words c.index.ensures in
     let test : not (same_word w from) ≡ false = ap not (sym (words_test w from)) ∙ (sym c.ne.ensures ∙ c.if-ne.false) in
     let same = was (same_word w from) test in
-    reap_legal shape (state_of m) c.requires.coherent s c.args.released from c.requires.flight (ap (λ x. same_word x from) (sym word) ∙ same)
+    reap_legal shape (state_of m) c.requires.stands.coherent s c.args.released from c.requires.stands.flight (ap (λ x. same_word x from) (sym word) ∙ same)

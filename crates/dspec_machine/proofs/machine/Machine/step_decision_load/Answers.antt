@@ -15,12 +15,12 @@ look-requires-clause-slot g c =
     let a = c.args.cpu in
     let st = state_of m in
     (load_stands (g.S.Schema.shape_of m.schema) m.config a (history m) (the_caller st.callers a) c.args.id c.args.decision
-    (flight_stands (g.S.Schema.shape_of m.schema) st c.requires.coherent a c.requires.cpu (load_of c.args.decision c.args.id) c.requires.flight)).in_range
+    (flight_stands (g.S.Schema.shape_of m.schema) st c.requires.stands.coherent a c.requires.stands.cpu (load_of c.args.decision c.args.id) c.requires.stands.flight)).in_range
 
 pub look-requires-clause-steps : goal.look-requires-clause-steps
 look-requires-clause-steps g c =
     let m = c.args.self.now in
-    steps_fit (g.S.Schema.shape_of m.schema) (state_of m) c.requires.coherent c.args.cpu c.requires.cpu (load_of c.args.decision c.args.id) c.requires.flight
+    steps_fit (g.S.Schema.shape_of m.schema) (state_of m) c.requires.stands.coherent c.args.cpu c.requires.stands.cpu (load_of c.args.decision c.args.id) c.requires.stands.flight
 
 pub look-requires-clause-legal : goal.look-requires-clause-legal
 look-requires-clause-legal g c =
@@ -28,7 +28,7 @@ look-requires-clause-legal g c =
     let a = c.args.cpu in
     let st = state_of m in
     let shape = g.S.Schema.shape_of m.schema in
-    step_legal shape st c.requires.coherent a c.requires.cpu (load_of c.args.decision c.args.id) c.requires.flight _ (load_shows shape m.config a (history m) (the_caller st.callers a) c.args.id c.args.decision)
+    step_legal shape st c.requires.stands.coherent a c.requires.stands.cpu (load_of c.args.decision c.args.id) c.requires.stands.flight _ (load_shows shape m.config a (history m) (the_caller st.callers a) c.args.id c.args.decision)
 
 pub returns-clause-makes : goal.returns-clause-makes
 returns-clause-makes g c =

@@ -18,8 +18,8 @@ pub stop_consumer-requires-2 : goal.stop_consumer-requires-2
 stop_consumer-requires-2 g c =
     let m = c.args.self.now in
     let side = c.index_mut.result.now in
-    let got = side_got g.B.TraceBuffer.has g.B.TraceBuffer.capacity m c.requires.shown c.args.cpu side c.requires.cpu c.index_mut.ensures.value in
-    record { shown = caller_moves g.B.TraceBuffer.has g.B.TraceBuffer.capacity m c.args.cpu side _ c.requires.shown got refl }
+    let got = side_got g.B.TraceBuffer.has g.B.TraceBuffer.capacity m c.requires.stands.shown c.args.cpu side c.requires.cpu c.index_mut.ensures.value in
+    record { shown = caller_moves g.B.TraceBuffer.has g.B.TraceBuffer.capacity m c.args.cpu side _ c.requires.stands.shown got refl }
 
 pub returns : goal.returns
 returns g c =
@@ -27,11 +27,11 @@ returns g c =
     let a = c.args.cpu in
     let me = the_caller (state_of m).callers a in
     let read = c.index-side.result.now in
-    let had = side_got g.B.TraceBuffer.has g.B.TraceBuffer.capacity m c.requires.shown a read c.requires.cpu c.index-side.ensures in
+    let had = side_got g.B.TraceBuffer.has g.B.TraceBuffer.capacity m c.requires.stands.shown a read c.requires.cpu c.index-side.ensures in
     let there : read.caller.spare ≡ spare.Out = elim c.match-matches.branch [ in-Out w ↦ w.in-Out.is | in_default w ↦ absurd (cc (w.matches-is, c.if-not-matches.false)) ] in
     let out : me.spare ≡ spare.Out = ap (λ (x : Caller). x.spare) (caller_there m.sides.items a read had) ∙ there in
     let side = c.index_mut.result.now in
-    let got = side_got g.B.TraceBuffer.has g.B.TraceBuffer.capacity m c.requires.shown a side c.requires.cpu c.index_mut.ensures.value in
+    let got = side_got g.B.TraceBuffer.has g.B.TraceBuffer.capacity m c.requires.stands.shown a side c.requires.cpu c.index_mut.ensures.value in
     let moves = state_moves m a side (λ (me : Caller). record me { spare = spare.GivenBack }) got in
     subst (λ (p : Spare). Cleans g.B.TraceBuffer.has g.B.TraceBuffer.capacity m c.stop_consumer-2.new.self (gives_at m.config (history m) m.consumer (state_of m).callers a me p) c.stop_consumer-2.result) (sym out)
     (puts_stops g.B.TraceBuffer.has g.B.TraceBuffer.capacity m _ _ a _ (answer.GaveBack true) _ moves refl c.stop_consumer-2.ensures)

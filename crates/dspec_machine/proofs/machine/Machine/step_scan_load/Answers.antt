@@ -24,9 +24,9 @@ open_at-requires g c =
     let m = c.args.self.now in
     let s = c.args.slot in
     let h = history m in
-    let at = flight_stands (g.S.Schema.shape_of m.schema) (state_of m) c.requires.coherent c.args.cpu c.requires.cpu (flight.ScanLoad s) c.requires.flight in
-    let word = word_there m.config h m.words.items s c.index-word.result.now at.0.0 at.0.1 c.requires.shown.words c.index-word.ensures in
-    subst CanBeReleased (sym word) (can_be_released m.config s h c.requires.coherent.ranges c.requires.coherent.legal.0)
+    let at = flight_stands (g.S.Schema.shape_of m.schema) (state_of m) c.requires.stands.coherent c.args.cpu c.requires.stands.cpu (flight.ScanLoad s) c.requires.stands.flight in
+    let word = word_there m.config h m.words.items s c.index-word.result.now at.0.0 at.0.1 c.requires.stands.shown.words c.index-word.ensures in
+    subst CanBeReleased (sym word) (can_be_released m.config s h c.requires.stands.coherent.ranges c.requires.stands.coherent.legal.0)
 
 pub miss-requires : goal.miss-requires
 miss-requires g c =
@@ -37,20 +37,20 @@ miss-requires g c =
     let h = history m in
     let shape = g.S.Schema.shape_of m.schema in
     let me = the_caller (state_of m).callers a in
-    let coherent = c.requires.coherent in
+    let coherent = c.requires.stands.coherent in
     let f = flight.ScanLoad s in
-    let at = flight_stands shape (state_of m) coherent a c.requires.cpu f c.requires.flight in
-    let word = word_there k h m.words.items s c.index-word.result.now at.0.0 at.0.1 c.requires.shown.words c.index-word.ensures in
+    let at = flight_stands shape (state_of m) coherent a c.requires.stands.cpu f c.requires.stands.flight in
+    let word = word_there k h m.words.items s c.index-word.result.now at.0.0 at.0.1 c.requires.stands.shown.words c.index-word.ensures in
     let is = shown_misses shape k a h me s (word_at s h) (open_at (word_at s h) k.max_issues)
     (λ to e. c.in_default.not-Attempt to (c.open_at.ensures ∙ (ap (λ (w : SlotState). open_at w k.max_issues) word ∙ e))) in
-    let legal = step_legal shape (state_of m) coherent a c.requires.cpu f c.requires.flight (missed shape k a h me s (word_at s h)) is in
+    let legal = step_legal shape (state_of m) coherent a c.requires.stands.cpu f c.requires.stands.flight (missed shape k a h me s (word_at s h)) is in
     record {
-      shown = c.requires.shown;
+      shown = c.requires.stands.shown;
       ranges = coherent.ranges;
       legal = subst (λ (w : SlotState). IsAllowed shape k (Miss a s (is_decided w.code) ∷ h)) (sym word) (subst (λ (ds : List Deed). IsAllowed shape k (ds ++ h)) (missed_deeds shape k a h me s (word_at s h)) legal);
-      cpu = c.requires.cpu;
+      cpu = c.requires.stands.cpu;
       slot = at.0.1;
-      steps = steps_fit shape (state_of m) coherent a c.requires.cpu f c.requires.flight;
+      steps = steps_fit shape (state_of m) coherent a c.requires.stands.cpu f c.requires.stands.flight;
     }
 
 pub returns-in-Attempt-clause-makes : goal.returns-in-Attempt-clause-makes
@@ -63,8 +63,8 @@ returns-in-Attempt-clause-makes g c =
     let shape = g.S.Schema.shape_of m.schema in
     let me = the_caller (state_of m).callers a in
     let w = c.index-word.result.now in
-    let at = flight_stands shape (state_of m) c.requires.coherent a c.requires.cpu (flight.ScanLoad s) c.requires.flight in
-    let word = word_there k h m.words.items s w at.0.0 at.0.1 c.requires.shown.words c.index-word.ensures in
+    let at = flight_stands shape (state_of m) c.requires.stands.coherent a c.requires.stands.cpu (flight.ScanLoad s) c.requires.stands.flight in
+    let word = word_there k h m.words.items s w at.0.0 at.0.1 c.requires.stands.shown.words c.index-word.ensures in
     let attempts : open_at (word_at s h) k.max_issues ≡ Attempt c.in-Attempt.field-0 = ap (λ (x : SlotState). open_at x k.max_issues) (sym word) ∙ (sym c.open_at.ensures ∙ c.in-Attempt.is) in
     step_made g.B.TraceBuffer.has g.B.TraceBuffer.capacity m m c.go_on.new.self a [] (λ (x : Caller). record x { flight = Some (flight.ScanTry s w); steps = x.steps + 1 }) _ c.go_on.result
     (adds_none m) c.go_on.ensures.shown c.go_on.ensures.state c.go_on.ensures.schema
@@ -79,8 +79,8 @@ returns-in_default g c =
     let h = history m in
     let shape = g.S.Schema.shape_of m.schema in
     let me = the_caller (state_of m).callers a in
-    let at = flight_stands shape (state_of m) c.requires.coherent a c.requires.cpu (flight.ScanLoad s) c.requires.flight in
-    let word = word_there k h m.words.items s c.index-word.result.now at.0.0 at.0.1 c.requires.shown.words c.index-word.ensures in
+    let at = flight_stands shape (state_of m) c.requires.stands.coherent a c.requires.stands.cpu (flight.ScanLoad s) c.requires.stands.flight in
+    let word = word_there k h m.words.items s c.index-word.result.now at.0.0 at.0.1 c.requires.stands.shown.words c.index-word.ensures in
     let is = shown_misses shape k a h me s (word_at s h) (open_at (word_at s h) k.max_issues)
     (λ to e. c.in_default.not-Attempt to (c.open_at.ensures ∙ (ap (λ (w : SlotState). open_at w k.max_issues) word ∙ e))) in
     record {

@@ -40,13 +40,13 @@ miss-requires-clause-legal g c =
     let shape = g.S.Schema.shape_of m.schema in
     let me = the_caller (state_of m).callers a in
     let f = flight.ScanTry s from in
-    let at = flight_stands shape (state_of m) c.requires.coherent a c.requires.cpu f c.requires.flight in
+    let at = flight_stands shape (state_of m) c.requires.stands.coherent a c.requires.stands.cpu f c.requires.stands.flight in
     let w = c.index.result.now in
-    let word = word_there k h m.words.items s w at.0.0 at.0.1 c.requires.shown.words c.index.ensures in
+    let word = word_there k h m.words.items s w at.0.0 at.0.1 c.requires.stands.shown.words c.index.ensures in
     let test : not (same_word w from) ≡ true = ap not (sym (words_test w from)) ∙ (sym c.ne.ensures ∙ c.if-ne.true) in
     let other : same_word (word_at s h) from ≡ false = ap (λ x. same_word x from) (sym word) ∙ was_not (same_word w from) test in
     let is : cpu_step shape k a h me f ≡ missed shape k a h me s (word_at s h) = rw other refl in
-    let legal = step_legal shape (state_of m) c.requires.coherent a c.requires.cpu f c.requires.flight _ is in
+    let legal = step_legal shape (state_of m) c.requires.stands.coherent a c.requires.stands.cpu f c.requires.stands.flight _ is in
     subst (λ (x : SlotState). IsAllowed shape k (Miss a s (is_decided x.code) ∷ h)) (sym word) (subst (λ (ds : List Deed). IsAllowed shape k (ds ++ h)) (missed_deeds shape k a h me s (word_at s h)) legal)
 
 pub returns-then-ne-clause-makes : goal.returns-then-ne-clause-makes
@@ -60,9 +60,9 @@ returns-then-ne-clause-makes g c =
     let shape = g.S.Schema.shape_of m.schema in
     let me = the_caller (state_of m).callers a in
     let f = flight.ScanTry s from in
-    let at = flight_stands shape (state_of m) c.requires.coherent a c.requires.cpu f c.requires.flight in
+    let at = flight_stands shape (state_of m) c.requires.stands.coherent a c.requires.stands.cpu f c.requires.stands.flight in
     let w = c.index.result.now in
-    let word = word_there k h m.words.items s w at.0.0 at.0.1 c.requires.shown.words c.index.ensures in
+    let word = word_there k h m.words.items s w at.0.0 at.0.1 c.requires.stands.shown.words c.index.ensures in
     let test : not (same_word w from) ≡ true = ap not (sym (words_test w from)) ∙ (sym c.ne.ensures ∙ c.if-ne.true) in
     let other : same_word (word_at s h) from ≡ false = ap (λ x. same_word x from) (sym word) ∙ was_not (same_word w from) test in
     let is : cpu_step shape k a h me f ≡ missed shape k a h me s (word_at s h) = rw other refl in
@@ -79,14 +79,14 @@ enter_opened-requires-clause-legal g c =
     let shape = g.S.Schema.shape_of m.schema in
     let me = the_caller (state_of m).callers a in
     let f = flight.ScanTry s from in
-    let at = flight_stands shape (state_of m) c.requires.coherent a c.requires.cpu f c.requires.flight in
+    let at = flight_stands shape (state_of m) c.requires.stands.coherent a c.requires.stands.cpu f c.requires.stands.flight in
     let w = c.index.result.now in
-    let word = word_there k h m.words.items s w at.0.0 at.0.1 c.requires.shown.words c.index.ensures in
+    let word = word_there k h m.words.items s w at.0.0 at.0.1 c.requires.stands.shown.words c.index.ensures in
     let test : not (same_word w from) ≡ false = ap not (sym (words_test w from)) ∙ (sym c.ne.ensures ∙ c.if-ne.false) in
     let same : same_word (word_at s h) from ≡ true = ap (λ x. same_word x from) (sym word) ∙ was (same_word w from) test in
     let named : c.of-id.result ≡ record { issue = from.issue; slot = s } = c.of-id.ensures ∙ ap (λ n. record { issue = n; slot = s }) c.issue.ensures.value in
     let is : cpu_step shape k a h me f ≡ ends shape k a h me (Opened a record { issue = from.issue; slot = s } ∷ []) (answer.Opening (opening.Id record { issue = from.issue; slot = s })) = rw same refl in
-    let legal = step_legal shape (state_of m) c.requires.coherent a c.requires.cpu f c.requires.flight _ is in
+    let legal = step_legal shape (state_of m) c.requires.stands.coherent a c.requires.stands.cpu f c.requires.stands.flight _ is in
     subst (λ (id : Speculation). IsAllowed shape k (Opened a id ∷ h)) (sym named) legal
 
 pub returns-clause-makes : goal.returns-clause-makes
@@ -99,9 +99,9 @@ returns-clause-makes g c =
     let h = history m in
     let shape = g.S.Schema.shape_of m.schema in
     let me = the_caller (state_of m).callers a in
-    let at = flight_stands shape (state_of m) c.requires.coherent a c.requires.cpu (flight.ScanTry s from) c.requires.flight in
+    let at = flight_stands shape (state_of m) c.requires.stands.coherent a c.requires.stands.cpu (flight.ScanTry s from) c.requires.stands.flight in
     let w = c.index.result.now in
-    let word = word_there k h m.words.items s w at.0.0 at.0.1 c.requires.shown.words c.index.ensures in
+    let word = word_there k h m.words.items s w at.0.0 at.0.1 c.requires.stands.shown.words c.index.ensures in
     let test : not (same_word w from) ≡ false = ap not (sym (words_test w from)) ∙ (sym c.ne.ensures ∙ c.if-ne.false) in
     let same : same_word (word_at s h) from ≡ true = ap (λ x. same_word x from) (sym word) ∙ was (same_word w from) test in
     let named : c.of-id.result ≡ record { issue = from.issue; slot = s } = c.of-id.ensures ∙ ap (λ n. record { issue = n; slot = s }) c.issue.ensures.value in

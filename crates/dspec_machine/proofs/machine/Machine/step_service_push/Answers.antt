@@ -13,6 +13,6 @@ returns g c =
     let m = c.args.self.now in
     let a = c.args.cpu in
     let side = c.index_mut.result.now in
-    let got = side_got has capacity m c.requires.shown a side c.requires.cpu c.index_mut.ensures.value in
+    let got = side_got has capacity m c.requires.stands.shown a side c.requires.stands.cpu c.index_mut.ensures.value in
     let change : Caller → Caller = λ me. record me { flight = Some (flight.ServiceLoad 1 record { sealed = true; settled = 0 }); steps = me.steps + 1; spare = spare.Handed } in
-    step_made has capacity m m _ a [] change _ None (adds_none m) (caller_moves has capacity m a side (change side.caller) c.requires.shown got refl) (state_moves m a side change got) refl refl
+    step_made has capacity m m _ a [] change _ None (adds_none m) (caller_moves has capacity m a side (change side.caller) c.requires.stands.shown got refl) (state_moves m a side change got) refl refl

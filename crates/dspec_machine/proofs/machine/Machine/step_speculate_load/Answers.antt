@@ -16,7 +16,7 @@ use Rattle.dspec_machine.proofs.machine.Machine.step_speculate_load.Goals as goa
 pub speculate_at-requires : goal.speculate_at-requires
 speculate_at-requires g c =
     let m = c.args.self.now in
-    subst CanBeReleased (sym c.word_of-word.ensures) (can_be_released m.config c.args.id.slot (history m) c.requires.coherent.ranges c.requires.coherent.legal.0)
+    subst CanBeReleased (sym c.word_of-word.ensures) (can_be_released m.config c.args.id.slot (history m) c.requires.stands.coherent.ranges c.requires.stands.coherent.legal.0)
 
 pub speak-requires-clause-legal : goal.speak-requires-clause-legal
 speak-requires-clause-legal g c =
@@ -31,7 +31,7 @@ speak-requires-clause-legal g c =
     let act : speculate_at (word_at id.slot h) id (is_among a (callers id h)) ≡ Granted =
     sym (speculate_reads h a id c.word_of-word.result c.is_mine-mine.result c.word_of-word.ensures c.is_mine-mine.ensures) ∙ (sym c.speculate_at.ensures ∙ c.in-Granted.is) in
     let is : cpu_step shape m.config a h me f ≡ spoken_at shape m.config a h me id r = rw act refl in
-    step_legal shape (state_of m) c.requires.coherent a c.requires.cpu f c.requires.flight _ is
+    step_legal shape (state_of m) c.requires.stands.coherent a c.requires.stands.cpu f c.requires.stands.flight _ is
 
 pub speak-requires-clause-word : goal.speak-requires-clause-word
 speak-requires-clause-word g c =
@@ -40,8 +40,8 @@ speak-requires-clause-word g c =
     let h = history m in
     let id = c.args.id in
     let r = c.args.rec.now in
-    let coherent = c.requires.coherent in
-    let at = flight_stands (g.S.Schema.shape_of m.schema) (state_of m) coherent a c.requires.cpu (flight.SpeculateLoad id r) c.requires.flight in
+    let coherent = c.requires.stands.coherent in
+    let at = flight_stands (g.S.Schema.shape_of m.schema) (state_of m) coherent a c.requires.stands.cpu (flight.SpeculateLoad id r) c.requires.stands.flight in
     let act : speculate_at (word_at id.slot h) id (is_among a (callers id h)) ≡ Granted =
     sym (speculate_reads h a id c.word_of-word.result c.is_mine-mine.result c.word_of-word.ensures c.is_mine-mine.ensures) ∙ (sym c.speculate_at.ensures ∙ c.in-Granted.is) in
     c.word_of-word.ensures ∙ word_granted m.config a h id r coherent.legal.0 coherent.rests at.0 act
@@ -59,4 +59,4 @@ enter_unspoken-requires-clause-legal g c =
     let acts = c.speculate_at.ensures ∙ speculate_reads h a id c.word_of-word.result c.is_mine-mine.result c.word_of-word.ensures c.is_mine-mine.ensures in
     let is = shown_voids shape m.config a h me id r (word_at id.slot h) (speculate_at (word_at id.slot h) id (is_among a (callers id h)))
     (λ e. c.in_default.not-Granted (acts ∙ e)) (λ to e. c.in_default.not-Attempt to (acts ∙ e)) in
-    step_legal shape (state_of m) c.requires.coherent a c.requires.cpu f c.requires.flight _ is
+    step_legal shape (state_of m) c.requires.stands.coherent a c.requires.stands.cpu f c.requires.stands.flight _ is

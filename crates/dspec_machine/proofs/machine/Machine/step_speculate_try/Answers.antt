@@ -21,7 +21,7 @@ use Rattle.dspec_machine.proofs.machine.Machine.step_speculate_try.Goals as goal
 pub speculate_at-act-requires : goal.speculate_at-act-requires
 speculate_at-act-requires g c =
     let m = c.args.self.now in
-    subst CanBeReleased (sym c.word_of-word.ensures) (can_be_released m.config c.args.id.slot (history m) c.requires.coherent.ranges c.requires.coherent.legal.0)
+    subst CanBeReleased (sym c.word_of-word.ensures) (can_be_released m.config c.args.id.slot (history m) c.requires.stands.coherent.ranges c.requires.stands.coherent.legal.0)
 
 pub speak-requires-clause-legal : goal.speak-requires-clause-legal
 speak-requires-clause-legal g c =
@@ -36,7 +36,7 @@ speak-requires-clause-legal g c =
     let same : same_word (word_at id.slot h) c.args.from ≡ true =
     ap (λ w. same_word w c.args.from) (sym c.word_of-word.ensures) ∙ (sym (words_test c.word_of-word.result c.args.from) ∙ (sym c.eq.ensures ∙ c.if-eq.true)) in
     let is : cpu_step shape m.config a h me f ≡ spoken_at shape m.config a h me id r = rw same refl in
-    step_legal shape (state_of m) c.requires.coherent a c.requires.cpu f c.requires.flight _ is
+    step_legal shape (state_of m) c.requires.stands.coherent a c.requires.stands.cpu f c.requires.stands.flight _ is
 
 pub speak-requires-clause-word : goal.speak-requires-clause-word
 speak-requires-clause-word g c =
@@ -45,8 +45,8 @@ speak-requires-clause-word g c =
     let h = history m in
     let id = c.args.id in
     let r = c.args.rec.now in
-    let coherent = c.requires.coherent in
-    let at = flight_stands (g.S.Schema.shape_of m.schema) (state_of m) coherent a c.requires.cpu (flight.SpeculateTry id r c.args.from) c.requires.flight in
+    let coherent = c.requires.stands.coherent in
+    let at = flight_stands (g.S.Schema.shape_of m.schema) (state_of m) coherent a c.requires.stands.cpu (flight.SpeculateTry id r c.args.from) c.requires.stands.flight in
     let act : speculate_at (word_at id.slot h) id (is_among a (callers id h)) ≡ Attempt c.in-Attempt.to =
     sym (speculate_reads h a id c.word_of-word.result c.is_mine-mine.result c.word_of-word.ensures c.is_mine-mine.ensures) ∙ (sym c.speculate_at-act.ensures ∙ c.in-Attempt.is) in
     word_joined m.config a h id r coherent.legal.0 coherent.rests at.0 c.in-Attempt.to act
@@ -66,7 +66,7 @@ speak-requires-in-Granted-clause-legal g c =
     let act : speculate_at (word_at id.slot h) id (is_among a (callers id h)) ≡ Granted =
     sym (speculate_reads h a id c.word_of-word.result c.is_mine-mine.result c.word_of-word.ensures c.is_mine-mine.ensures) ∙ (sym c.speculate_at-act.ensures ∙ c.in-Granted.is) in
     let is : cpu_step shape m.config a h me f ≡ spoken_at shape m.config a h me id r = rw other (rw act refl) in
-    step_legal shape (state_of m) c.requires.coherent a c.requires.cpu f c.requires.flight _ is
+    step_legal shape (state_of m) c.requires.stands.coherent a c.requires.stands.cpu f c.requires.stands.flight _ is
 
 pub speak-requires-in-Granted-clause-word : goal.speak-requires-in-Granted-clause-word
 speak-requires-in-Granted-clause-word g c =
@@ -75,8 +75,8 @@ speak-requires-in-Granted-clause-word g c =
     let h = history m in
     let id = c.args.id in
     let r = c.args.rec.now in
-    let coherent = c.requires.coherent in
-    let at = flight_stands (g.S.Schema.shape_of m.schema) (state_of m) coherent a c.requires.cpu (flight.SpeculateTry id r c.args.from) c.requires.flight in
+    let coherent = c.requires.stands.coherent in
+    let at = flight_stands (g.S.Schema.shape_of m.schema) (state_of m) coherent a c.requires.stands.cpu (flight.SpeculateTry id r c.args.from) c.requires.stands.flight in
     let act : speculate_at (word_at id.slot h) id (is_among a (callers id h)) ≡ Granted =
     sym (speculate_reads h a id c.word_of-word.result c.is_mine-mine.result c.word_of-word.ensures c.is_mine-mine.ensures) ∙ (sym c.speculate_at-act.ensures ∙ c.in-Granted.is) in
     c.word_of-word.ensures ∙ word_granted m.config a h id r coherent.legal.0 coherent.rests at.0 act
@@ -97,7 +97,7 @@ enter_unspoken-requires-clause-legal g c =
     let act = speculate_at (word_at id.slot h) id (is_among a (callers id h)) in
     let shown : cpu_step shape m.config a h me f ≡ shown_speculate shape m.config a h me id r (word_at id.slot h) act = rw other refl in
     let is = shown_voids shape m.config a h me id r (word_at id.slot h) act (λ e. c.in_default-act.not-Granted (acts ∙ e)) (λ to e. c.in_default-act.not-Attempt to (acts ∙ e)) in
-    step_legal shape (state_of m) c.requires.coherent a c.requires.cpu f c.requires.flight _ (shown ∙ is)
+    step_legal shape (state_of m) c.requires.stands.coherent a c.requires.stands.cpu f c.requires.stands.flight _ (shown ∙ is)
 
 pub returns-in-Attempt-act-clause-makes : goal.returns-in-Attempt-act-clause-makes
 returns-in-Attempt-act-clause-makes g c =

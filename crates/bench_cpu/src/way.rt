@@ -1,0 +1,133 @@
+//! The ways that a record can take through a CPU, each as one loop over many records.
+ghost use Rattle.std.specs.Prelude.{◌≡◌, IsTrue};
+ghost use Rattle.dspec_cpu.specs.Lists.{schema_of, words_of};
+
+use dspec_cpu::{Cpu, Listed, Shared};
+use dspec_deeds::{Decided, Opening, Spoken, Traced};
+use dspec_record::{Rec, Schema};
+use dspec_word::SpecId;
+
+/// How many records a speculation has.
+const BLOCK_RECORDS: u32 = 20;
+
+/// What becomes of a record.
+#[derive(Debug, Clone, Copy, PartialEq, Eq)]
+pub enum Way {
+    /// It is traced and kept.
+    Kept,
+    /// It is traced and dropped, since the buffer is full.
+    Dropped,
+    /// It is one of twenty of a speculation, which is opened, kept and committed.
+    Committed,
+    /// There is none: the CPU services, and nothing is owed.
+    Served,
+}
+
+/// All of them, in the order in which they are told.
+pub const WAYS: [Way; 4] = [Way::Kept, Way::Dropped, Way::Committed, Way::Served];
+
+impl Way {
+    pub fn name(self) -> &'static str {
+        match self {
+            Way::Kept => "kept",
+            Way::Dropped => "dropped",
+            Way::Committed => "committed",
+            Way::Served => "served",
+        }
+    }
+}
+
+/// One call of trace, which stays a call, as it is one where a probe fires.
+#[inline(never)]
+fn trace_one<S: Schema>(cpu: &mut Cpu<S>, shared: &Shared, rec: &Rec) -> bool
+    requires ready { ⟦<Cpu<S> as Listed>⟧.is_ready (words_of shared.now) cpu.old }
+    requires accepted { IsTrue (S.accepted (schema_of cpu.old) rec.now) }
+    ensures ready { ⟦<Cpu<S> as Listed>⟧.is_ready (words_of shared.now) cpu.new }
+    ensures schema { schema_of cpu.new ≡ schema_of cpu.old }
+{
+    cpu.trace(shared, rec) == Traced::Kept
+}
+
+/// Traces the record so many times: how often it was kept.
+pub fn trace_often<S: Schema>(cpu: &mut Cpu<S>, shared: &Shared, rec: &Rec, number: u32) -> u32
+    requires ready { ⟦<Cpu<S> as Listed>⟧.is_ready (words_of shared.now) cpu.old }
+    requires accepted { IsTrue (S.accepted (schema_of cpu.old) rec.now) }
+    ensures ready { ⟦<Cpu<S> as Listed>⟧.is_ready (words_of shared.now) cpu.new }
+    ensures schema { schema_of cpu.new ≡ schema_of cpu.old }
+{
+    let mut kept: u32 = 0;
+    for _ in 0..number {
+        if trace_one(cpu, shared, rec) {
+            kept = kept.wrapping_add(1);
+        }
+    }
+    kept
+}
+
+/// One call of speculate, a call like `trace_one`.
+#[inline(never)]
+fn speculate_one<S: Schema>(cpu: &mut Cpu<S>, shared: &Shared, id: SpecId, rec: &Rec) -> bool
+    requires ready { ⟦<Cpu<S> as Listed>⟧.is_ready (words_of shared.now) cpu.old }
+    requires accepted { IsTrue (S.accepted (schema_of cpu.old) rec.now) }
+    ensures ready { ⟦<Cpu<S> as Listed>⟧.is_ready (words_of shared.now) cpu.new }
+    ensures schema { schema_of cpu.new ≡ schema_of cpu.old }
+{
+    cpu.speculate(shared, id, rec) == Spoken::Kept
+}
+
+/// One speculation of twenty records: how many records its commit copied.
+fn commit_one<S: Schema>(cpu: &mut Cpu<S>, shared: &Shared, rec: &Rec) -> u32
+    requires ready { ⟦<Cpu<S> as Listed>⟧.is_ready (words_of shared.now) cpu.old }
+    requires accepted { IsTrue (S.accepted (schema_of cpu.old) rec.now) }
+    ensures ready { ⟦<Cpu<S> as Listed>⟧.is_ready (words_of shared.now) cpu.new }
+    ensures schema { schema_of cpu.new ≡ schema_of cpu.old }
+{
+    let Opening::Id(id) = cpu.speculation(shared) else {
+        return 0;
+    };
+    for _ in 0..BLOCK_RECORDS {
+        let _ = speculate_one(cpu, shared, id, rec);
+    }
+    match cpu.commit(shared, id) {
+        Decided::Copied(count) => count,
+        _ => 0,
+    }
+}
+
+/// As many whole speculations as so many records make: how many records were copied.
+pub fn commit_often<S: Schema>(cpu: &mut Cpu<S>, shared: &Shared, rec: &Rec, number: u32) -> u32
+    requires ready { ⟦<Cpu<S> as Listed>⟧.is_ready (words_of shared.now) cpu.old }
+    requires accepted { IsTrue (S.accepted (schema_of cpu.old) rec.now) }
+    ensures ready { ⟦<Cpu<S> as Listed>⟧.is_ready (words_of shared.now) cpu.new }
+    ensures schema { schema_of cpu.new ≡ schema_of cpu.old }
+{
+    let mut copied: u32 = 0;
+    for _ in 0..number / BLOCK_RECORDS {
+        copied = copied.wrapping_add(commit_one(cpu, shared, rec));
+    }
+    copied
+}
+
+/// One call of service, a call like `trace_one`: whether there was nothing to do.
+#[inline(never)]
+fn serve_one<S: Schema>(cpu: &mut Cpu<S>, shared: &Shared) -> bool
+    requires ready { ⟦<Cpu<S> as Listed>⟧.is_ready (words_of shared.now) cpu.old }
+    ensures ready { ⟦<Cpu<S> as Listed>⟧.is_ready (words_of shared.now) cpu.new }
+{
+    let served = cpu.service(shared);
+    !served.sealed && served.settled == 0
+}
+
+/// Services so many times: how often there was nothing to do.
+pub fn serve_often<S: Schema>(cpu: &mut Cpu<S>, shared: &Shared, number: u32) -> u32
+    requires ready { ⟦<Cpu<S> as Listed>⟧.is_ready (words_of shared.now) cpu.old }
+    ensures ready { ⟦<Cpu<S> as Listed>⟧.is_ready (words_of shared.now) cpu.new }
+{
+    let mut idle: u32 = 0;
+    for _ in 0..number {
+        if serve_one(cpu, shared) {
+            idle = idle.wrapping_add(1);
+        }
+    }
+    idle
+}

@@ -1,0 +1,240 @@
+//! Schedules of whole calls, played by the CPUs of a session in place of the player.
+ghost use Rattle.std.specs.Prelude.{◌≡◌, []};
+ghost use Rattle.dspec_table.specs.Seats.{IsConsumerAt, known_there, set_up};
+ghost use Rattle.dspec_cpu.specs.Lists.{schema_of, words_of};
+
+use crate::tests::playing::{Cpus, call, same, session};
+use crate::tests::taking::Taker;
+use dspec_cpu::{Cpu, Listed};
+use dspec_deeds::{Actor, Answer, ConsumerOp, Op, Report, StartFault, Turn};
+use dspec_play::{Close, Outcome, Series};
+use dspec_record::{DefaultAction, Header, Rec, Schema};
+use dspec_schedule::{Schedule, ScheduleFault, printed, read_schedule};
+use std::alloc::{AllocError, Global};
+use std::process::Abort;
+use std::test::Fail;
+
+/// A schedule of whole calls of two CPUs, and what it prints. Before the calls the consumer asks the first CPU for so many batches,
+/// and gives it buffers of these sizes, in bytes, that it never took; behind each call it may meet both CPUs.
+pub struct Row<'a> {
+    pub name: &'a str,
+    pub asked: u64,
+    pub lent: &'a [u32],
+    pub meets: bool,
+    pub schedule: &'a str,
+    pub wanted: &'a str,
+    /// The text of all of the first CPU's batches; empty where it isn't compared.
+    pub text: &'a [u8],
+}
+
+/// Asks the first CPU for so many batches, before any other ask.
+fn ask<S: Schema>(cpus: &mut Cpus<S>, count: u64)
+    requires consumer { IsConsumerAt (words_of cpus.old.shared) cpus.old.consumer }
+    requires unasked { ((known_there cpus.old.consumer).asks ≡ []) × ((set_up (words_of cpus.old.shared)).cpus ≡ 2) }
+    ensures consumer { IsConsumerAt (words_of cpus.new.shared) cpus.new.consumer }
+    ensures rest { (cpus.new.shared ≡ cpus.old.shared) × (cpus.new.first ≡ cpus.old.first) × (cpus.new.second ≡ cpus.old.second) }
+{
+    let shared = &cpus.shared;
+    cpus.consumer.store_ask(shared.words(), 0, count);
+}
+
+/// The answer of a whole call. The consumer stops the session, and takes of the first CPU and gives back to it.
+fn answer<S: Schema>(
+    rt: &impl Abort,
+    schema: &S,
+    cpus: &mut Cpus<S>,
+    taker: &mut Taker,
+    turn: Turn,
+) -> Result<(Actor, Op, Answer), Fail>
+    requires first { ⟦<Cpu<S> as Listed>⟧.is_ready (words_of cpus.old.shared) cpus.old.first }
+    requires second { ⟦<Cpu<S> as Listed>⟧.is_ready (words_of cpus.old.shared) cpus.old.second }
+    requires schemas { (schema_of cpus.old.first ≡ schema.now) × (schema_of cpus.old.second ≡ schema.now) }
+    requires consumer { IsConsumerAt (words_of cpus.old.shared) cpus.old.consumer }
+    ensures first { ⟦<Cpu<S> as Listed>⟧.is_ready (words_of cpus.new.shared) cpus.new.first }
+    ensures second { ⟦<Cpu<S> as Listed>⟧.is_ready (words_of cpus.new.shared) cpus.new.second }
+    ensures schemas { (schema_of cpus.new.first ≡ schema.now) × (schema_of cpus.new.second ≡ schema.now) }
+    ensures consumer { IsConsumerAt (words_of cpus.new.shared) cpus.new.consumer }
+{
+    match turn {
+        Turn::RunCpu(0, op) => {
+            let answer = call(rt, schema, &cpus.shared, &mut cpus.first, &op);
+            Ok((Actor::Cpu(0), Op::Cpu(op), answer))
+        }
+        Turn::RunCpu(_, op) => {
+            let answer = call(rt, schema, &cpus.shared, &mut cpus.second, &op);
+            Ok((Actor::Cpu(1), Op::Cpu(op), answer))
+        }
+        Turn::RunConsumer(op) => {
+            let answer = match op {
+                ConsumerOp::Stop => {
+                    let shared = &cpus.shared;
+                    cpus.consumer.store_activity(shared.words());
+                    Answer::StopDone
+                }
+                ConsumerOp::Take(0) => taker.take(schema)?,
+                ConsumerOp::GiveBack(0) => taker.give_back(),
+                _ => return Err("a call that isn't played here".into()),
+            };
+            Ok((Actor::Consumer, Op::Consumer(op), answer))
+        }
+        _ => Err("no whole call".into()),
+    }
+}
+
+/// The consumer meets both CPUs, where it is to.
+fn meet<S: Schema>(_schema: &S, cpus: &mut Cpus<S>, meets: bool)
+    requires first { ⟦<Cpu<S> as Listed>⟧.is_ready (words_of cpus.old.shared) cpus.old.first }
+    requires second { ⟦<Cpu<S> as Listed>⟧.is_ready (words_of cpus.old.shared) cpus.old.second }
+    requires schemas { (schema_of cpus.old.first ≡ _schema.now) × (schema_of cpus.old.second ≡ _schema.now) }
+    requires consumer { IsConsumerAt (words_of cpus.old.shared) cpus.old.consumer }
+    ensures first { ⟦<Cpu<S> as Listed>⟧.is_ready (words_of cpus.new.shared) cpus.new.first }
+    ensures second { ⟦<Cpu<S> as Listed>⟧.is_ready (words_of cpus.new.shared) cpus.new.second }
+    ensures schemas { (schema_of cpus.new.first ≡ _schema.now) × (schema_of cpus.new.second ≡ _schema.now) }
+    ensures consumer { IsConsumerAt (words_of cpus.new.shared) cpus.new.consumer }
+{
+    if !meets {
+        return;
+    }
+    let shared = &cpus.shared;
+    cpus.first.meet(shared, &mut cpus.consumer);
+    cpus.second.meet(shared, &mut cpus.consumer);
+}
+
+/// The reports of both CPUs.
+fn reported<S: Schema>(alloc: Global, cpus: &Cpus<S>) -> Result<Series<Report>, AllocError>
+    requires first { ⟦<Cpu<S> as Listed>⟧.is_ready (words_of cpus.now.shared) cpus.now.first }
+    requires second { ⟦<Cpu<S> as Listed>⟧.is_ready (words_of cpus.now.shared) cpus.now.second }
+{
+    let mut reports = Series::new(alloc);
+    reports.push(cpus.first.report(&cpus.shared))?;
+    reports.push(cpus.second.report(&cpus.shared))?;
+    Ok(reports)
+}
+
+/// What is left of a CPU behind what was taken of it: what waits in the ring, the batch that waits in hand, and the one that grew
+/// last.
+fn leave<S: Schema>(schema: &S, cpu: Cpu<S>, taker: &mut Taker) -> Result<(), Fail> {
+    taker.take(schema)?;
+    taker.take(schema)?;
+    let (_, _, rest) = cpu.part();
+    let (waiting, last) = rest.batches();
+    if let Some(batch) = waiting {
+        taker.read(schema, &batch)?;
+    }
+    taker.read(schema, &last)?;
+    Ok(())
+}
+
+/// Both streams, the first CPU's in front.
+fn streams(
+    alloc: Global,
+    near: Series<Rec>,
+    far: Series<Rec>,
+) -> Result<Series<Series<Rec>>, AllocError> {
+    let mut both = Series::new(alloc);
+    both.push(near)?;
+    both.push(far)?;
+    Ok(both)
+}
+
+/// The answers of all calls.
+fn answers<S: Schema>(
+    rt: &(impl Abort + AllocGlobal),
+    schema: &S,
+    cpus: &mut Cpus<S>,
+    taker: &mut Taker,
+    turns: &[Turn],
+    meets: bool,
+) -> Result<Series<(Actor, Op, Answer)>, Fail>
+    requires first { ⟦<Cpu<S> as Listed>⟧.is_ready (words_of cpus.old.shared) cpus.old.first }
+    requires second { ⟦<Cpu<S> as Listed>⟧.is_ready (words_of cpus.old.shared) cpus.old.second }
+    requires schemas { (schema_of cpus.old.first ≡ schema.now) × (schema_of cpus.old.second ≡ schema.now) }
+    requires consumer { IsConsumerAt (words_of cpus.old.shared) cpus.old.consumer }
+    ensures first { ⟦<Cpu<S> as Listed>⟧.is_ready (words_of cpus.new.shared) cpus.new.first }
+    ensures second { ⟦<Cpu<S> as Listed>⟧.is_ready (words_of cpus.new.shared) cpus.new.second }
+{
+    let mut answers = Series::new(rt.alloc());
+    for turn in turns {
+        answers.push(answer(rt, schema, cpus, taker, *turn)?)?;
+        meet(schema, cpus, meets);
+    }
+    Ok(answers)
+}
+
+/// The outcome of a play, once all calls were made, and the text of all of the first CPU's batches.
+fn outcome<S: Schema>(
+    alloc: Global,
+    schema: &S,
+    cpus: Cpus<S>,
+    near: Taker,
+    far: Taker,
+    answers: Series<(Actor, Op, Answer)>,
+) -> Result<(Outcome, Vec<u8>), Fail>
+    requires first { ⟦<Cpu<S> as Listed>⟧.is_ready (words_of cpus.shared) cpus.first }
+    requires second { ⟦<Cpu<S> as Listed>⟧.is_ready (words_of cpus.shared) cpus.second }
+{
+    let (mut near, mut far) = (near, far);
+    let reports = reported(alloc, &cpus)?;
+    let Cpus { first, second, .. } = cpus;
+    leave(schema, first, &mut near)?;
+    leave(schema, second, &mut far)?;
+    let close = Close {
+        deeds: Series::new(alloc),
+        accepted: streams(alloc, near.stream, far.stream)?,
+        reports,
+    };
+    Ok((Outcome { close, answers }, near.text))
+}
+
+/// Plays the calls of a schedule.
+fn play<S: Schema>(
+    rt: &(impl Abort + AllocGlobal),
+    schedule: &Schedule,
+    schema: S,
+    row: &Row<'_>,
+) -> Result<(Outcome, Vec<u8>), Fail>
+    requires two { schedule.now.config.cpus ≡ 2 }
+{
+    let alloc = rt.alloc();
+    let (mut cpus, near, far) = match session(alloc, &schedule.config, schema) {
+        Ok(begun) => begun,
+        Err(StartFault::Memory) => return Err(AllocError.into()),
+        Err(_) => return Err("a fault that isn't there".into()),
+    };
+    let mut near = Taker::new(alloc, near);
+    let far = Taker::new(alloc, far);
+    ask(&mut cpus, row.asked);
+    near.lend_all(rt, row.lent)?;
+    let turns = schedule.turns.as_slice();
+    let answers = answers(rt, &schema, &mut cpus, &mut near, turns, row.meets)?;
+    outcome(alloc, &schema, cpus, near, far, answers)
+}
+
+/// Plays a schedule, and compares what that prints, whole, and the text. Without enablings the records are those of the default
+/// action.
+pub fn played(rt: &(impl Abort + AllocGlobal), row: &Row<'_>) -> Result<(), Fail> {
+    let schedule = match read_schedule(rt.alloc(), row.schedule.as_bytes()) {
+        Ok(schedule) => schedule,
+        Err(ScheduleFault::Memory) => return Err(AllocError.into()),
+        Err(_) => return Err("no schedule".into()),
+    };
+    assert!(rt; schedule.config.cpus == 2);
+    let (outcome, text) = match schedule.enablings {
+        Some(enablings) => play(rt, &schedule, enablings, row)?,
+        None => play(rt, &schedule, DefaultAction, row)?,
+    };
+    let told = printed(rt.alloc(), Header::One, &outcome)?;
+    same(rt, (row.name, told.as_str()), (row.name, row.wanted));
+    if !row.text.is_empty() {
+        same(rt, (row.name, text.as_slice()), (row.name, row.text));
+    }
+    Ok(())
+}
+
+/// Plays schedules, each in a session of its own.
+pub fn play_all(rt: &(impl Abort + AllocGlobal), rows: &[Row<'_>]) -> Result<(), Fail> {
+    for row in rows {
+        played(rt, row)?;
+    }
+    Ok(())
+}

@@ -1,0 +1,82 @@
+//! What the consumer takes of a CPU.
+use dspec_buffer::{ByteBuffer, TraceBuffer, read_all};
+use dspec_deeds::Answer;
+use dspec_play::Series;
+use dspec_record::{DefaultAction, Rec, Schema};
+use dspec_ring::{Batch, ConsumerEnd};
+use std::alloc::{AllocError, Global};
+use std::process::Abort;
+use std::test::Fail;
+
+/// The end of one CPU's rings, the batches that were taken and not given back, and the texts and records of all that were taken.
+#[derive(Drop)]
+pub struct Taker {
+    end: ConsumerEnd,
+    out: Vec<Batch>,
+    pub text: Vec<u8>,
+    pub stream: Series<Rec>,
+}
+
+impl Taker {
+    pub fn new(alloc: Global, end: ConsumerEnd) -> Taker {
+        Taker {
+            end,
+            out: Vec::new(alloc),
+            text: Vec::new(alloc),
+            stream: Series::new(alloc),
+        }
+    }
+
+    /// Gives back buffers of these sizes that were never taken, as a strange consumer would.
+    pub fn lend_all(
+        &mut self,
+        rt: &(impl Abort + AllocGlobal),
+        sizes: &[u32],
+    ) -> Result<(), AllocError> {
+        for size in sizes {
+            assert!(rt; (8..=1_048_576).contains(size) && size % 8 == 0);
+            let buffer = <ByteBuffer as TraceBuffer<DefaultAction>>::make(rt.alloc(), *size)?;
+            let batch = Batch {
+                cpu: 0,
+                drops: 0,
+                buffer,
+            };
+            assert!(rt; self.end.give_back(batch).is_ok());
+        }
+        Ok(())
+    }
+
+    /// Reads a batch behind those before, and answers how many records it has.
+    pub fn read<S: Schema>(&mut self, schema: &S, batch: &Batch) -> Result<u32, Fail> {
+        let Ok(records) = read_all(schema, batch.buffer.bytes()) else {
+            return Err("no text of a buffer".into());
+        };
+        self.text.extend_from_slice(batch.buffer.bytes())?;
+        let mut count: u32 = 0;
+        for rec in records {
+            self.stream.push(rec)?;
+            count = count.wrapping_add(1);
+        }
+        Ok(count)
+    }
+
+    pub fn take<S: Schema>(&mut self, schema: &S) -> Result<Answer, Fail> {
+        let Some(batch) = self.end.take() else {
+            return Ok(Answer::TookNone);
+        };
+        let from = self.stream.len();
+        let count = self.read(schema, &batch)?;
+        let drops = batch.drops;
+        self.out.push(batch)?;
+        Ok(Answer::Took { drops, from, count })
+    }
+
+    /// Gives the batch that was taken first back, if one is out.
+    pub fn give_back(&mut self) -> Answer {
+        if self.out.is_empty() {
+            return Answer::GaveBack(false);
+        }
+        let batch = self.out.remove(0);
+        Answer::GaveBack(self.end.give_back(batch).is_ok())
+    }
+}

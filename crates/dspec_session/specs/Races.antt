@@ -1,0 +1,46 @@
+-- What the four threads leave of a session.
+use Rattle.std.specs.Prelude.{ℕ, ◌≡◌, ◌≤◌, ◌+◌, Bool, true, ◌&&◌, List, slice_get, Option, Some}
+use Rattle.dspec_record.specs.EnablingRows.{EnabledRows}
+use Rattle.dspec_deeds.specs.declared.deed.Deed.{Deed}
+use Rattle.dspec_deeds.specs.Own.{offers}
+use Rattle.dspec_cpu.specs.declared.cpu.Cpu.{Cpu}
+use Rattle.dspec_cpu.specs.Lists.{calls_of, config_of, words_of}
+use Rattle.dspec_session.specs.declared.session.Session.{Session}
+use Rattle.dspec_session.specs.Leaving.{Ready}
+use Rattle.dspec_session.specs.Sessions.{IsCpuOf, IsSession}
+use Rattle.dspec_cpu.specs.declared.shared.Shared.{Shared}
+use Rattle.dspec_ring.specs.Known.{Pair}
+use Rattle.dspec_session.specs.declared.left.Left.{Left}
+use Rattle.dspec_deeds.specs.Reports.{records_of_report}
+use Rattle.dspec_session.specs.declared.demonstration.four.Four.{Four}
+use Rattle.dspec_session.specs.declared.demonstration.lines.DemoLine.{DemoLine}
+use Rattle.dspec_record.specs.Schemas.{enabled, table_shape, table_accepts, table_text}
+use Rattle.dspec_session.specs.Demonstrated.{demonstrated, Has}
+
+-- the parts of one start, with the schema of the demonstration
+abbrev pub IsDemonstrated : Session EnabledRows → Type 0
+IsDemonstrated session = IsSession (Ready (λ s. table_shape s.header (enabled s.rows)) (λ s. table_accepts s.header (enabled s.rows)) (λ s. table_text s.header (enabled s.rows))) demonstrated session
+
+-- each CPU has a list with so many offers, where it had the empty list before
+abbrev pub HaveOffered : ℕ → List (Cpu EnabledRows) → Type 0
+HaveOffered n cpus = (c : ℕ) (cpu : Cpu EnabledRows) → slice_get cpus c ≡ Some cpu → (p : List Deed) × Has cpu p × (offers c p ≡ n)
+
+-- each CPU can make all calls of the demonstration
+abbrev pub HaveRoom : List (Cpu EnabledRows) → Type 0
+HaveRoom cpus = (c : ℕ) (cpu : Cpu EnabledRows) → slice_get cpus c ≡ Some cpu → calls_of cpu + 400 ≤ (config_of cpu).max_calls
+
+-- the CPU has its place in the session of those who share this
+abbrev pub IsAtPlace : Shared → Option Pair → ℕ → Cpu EnabledRows → Type 0
+IsAtPlace shared there c cpu = IsCpuOf (Ready (λ s. table_shape s.header (enabled s.rows)) (λ s. table_accepts s.header (enabled s.rows)) (λ s. table_text s.header (enabled s.rows))) demonstrated (words_of shared) c there cpu
+
+-- every worker finished
+abbrev pub all_finished : Four (Cpu EnabledRows × Bool) → Bool
+all_finished back = back.first.1 && (back.second.1 && (back.third.1 && back.fourth.1))
+
+-- what is left of each CPU tells of so many offers, and each of them has one fate
+abbrev pub AllTold : ℕ → List Left → Type 0
+AllTold n lefts = (c : ℕ) (l : Left) → slice_get lefts c ≡ Some l → (l.report.offered ≡ n) × (records_of_report l.report ≡ n)
+
+-- each line is of the CPU with the number of its place, of so many offers, and is balanced
+abbrev pub AllBalanced : ℕ → List DemoLine → Type 0
+AllBalanced n lines = (c : ℕ) (line : DemoLine) → slice_get lines c ≡ Some line → (line.cpu ≡ c) × (line.offered ≡ n) × (line.balanced ≡ true)

@@ -1,0 +1,53 @@
+ghost use Rattle.std.specs.Prelude.{◌≡◌, length};
+ghost use Rattle.dspec_session.specs.Demonstrated.{demonstrated};
+ghost use Rattle.dspec_session.specs.Races.{AllBalanced, AllTold, HaveOffered, IsDemonstrated};
+
+use super::four::Four;
+use super::lines::{DemoLine, line_of};
+use super::order::Order;
+use crate::closed::Closed;
+use crate::session::Session;
+use dspec_record::Enablings;
+
+// Stops the session, and ends it.
+fn end(session: Session<Enablings>) -> Closed
+    requires session { IsDemonstrated session }
+    requires four { length session.cpus.items ≡ 4 }
+    requires offered { HaveOffered 200 session.cpus.items }
+    ensures four { length result ≡ 4 }
+    ensures told { AllTold 200 result }
+{
+    let Session {
+        shared,
+        cpus,
+        consumer,
+    } = session;
+    let mut consumer = consumer;
+    consumer.stop(&shared);
+    let session = Session {
+        shared,
+        cpus,
+        consumer,
+    };
+    session.finish()
+}
+
+/// The lines of a session whose CPUs have finished, where what was taken from them had these orders.
+pub(crate) fn tell(
+    session: Session<Enablings>,
+    schema: &Enablings,
+    orders: Four<Order>,
+) -> [DemoLine; 4]
+    requires session { IsDemonstrated session }
+    requires four { length session.cpus.items ≡ 4 }
+    requires offered { HaveOffered 200 session.cpus.items }
+    ensures { AllBalanced 200 result }
+{
+    let closed = end(session);
+    [
+        line_of(&closed, schema, 0, orders.first),
+        line_of(&closed, schema, 1, orders.second),
+        line_of(&closed, schema, 2, orders.third),
+        line_of(&closed, schema, 3, orders.fourth),
+    ]
+}

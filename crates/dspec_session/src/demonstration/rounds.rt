@@ -1,0 +1,59 @@
+ghost use Rattle.dspec_session.specs.Consumers.{IsConsumerOf};
+ghost use Rattle.dspec_cpu.specs.Lists.{words_of};
+ghost use Rattle.dspec_session.specs.Rounds.{Stays};
+
+use super::four::Four;
+use super::order::Order;
+use crate::consumer::Consumer;
+use dspec_cpu::Shared;
+use dspec_record::Enablings;
+
+/// How many rounds the consumer makes.
+const ROUNDS: u32 = 1000;
+
+// Asks a CPU, takes a batch if there is one, reads it, and gives it back.
+fn visit(consumer: &mut Consumer, schema: &Enablings, shared: &Shared, cpu: u32, order: &mut Order)
+    requires { IsConsumerOf (words_of shared.now) consumer.old }
+    ensures { Stays (words_of shared.now) consumer.old consumer.new }
+{
+    consumer.ask(shared, cpu);
+    let Some(batch) = consumer.take(shared, cpu) else {
+        return;
+    };
+    order.read(schema, batch.buffer.bytes());
+    let _ = consumer.give_back(shared, batch);
+}
+
+// Visits each CPU.
+fn visit_all(consumer: &mut Consumer, schema: &Enablings, shared: &Shared, orders: &mut Four<Order>)
+    requires { IsConsumerOf (words_of shared.now) consumer.old }
+    ensures { Stays (words_of shared.now) consumer.old consumer.new }
+{
+    visit(consumer, schema, shared, 0, &mut orders.first);
+    visit(consumer, schema, shared, 1, &mut orders.second);
+    visit(consumer, schema, shared, 2, &mut orders.third);
+    visit(consumer, schema, shared, 3, &mut orders.fourth);
+}
+
+/// The consumer's rounds: each visits every CPU, and cleans. Of each CPU it follows the order of what it takes.
+pub(crate) fn serve(
+    consumer: Consumer,
+    schema: &Enablings,
+    shared: &Shared,
+) -> (Consumer, Four<Order>)
+    requires { IsConsumerOf (words_of shared.now) consumer }
+    ensures { Stays (words_of shared.now) consumer result.0 }
+{
+    let mut consumer = consumer;
+    let mut orders = Four {
+        first: Order::new(),
+        second: Order::new(),
+        third: Order::new(),
+        fourth: Order::new(),
+    };
+    for _ in 0..ROUNDS {
+        visit_all(&mut consumer, schema, shared, &mut orders);
+        consumer.clean(shared);
+    }
+    (consumer, orders)
+}

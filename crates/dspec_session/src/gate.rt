@@ -1,0 +1,25 @@
+/// Stands before and behind every call of the demonstration's CPUs, on the CPU's own thread. The calls of a CPU are counted
+/// from 1. It may hold a CPU back, and so make the calls of several overlap as a test wants them.
+pub trait Gate: Sync {
+    /// Whether the CPU goes on with this call. Where it doesn't, its thread ends.
+    fn before(&self, cpu: u32, call: u32) -> bool;
+
+    /// The call has returned.
+    fn after(&self, cpu: u32, call: u32);
+}
+
+/// Holds nobody back.
+#[derive(Clone, Copy, Debug, PartialEq, Eq)]
+pub struct Free;
+
+impl Gate for Free {
+    ghost use Rattle.std.specs.Prelude.{◌≡◌, true};
+
+    fn before(&self, _cpu: u32, _call: u32) -> bool
+        ensures { result ≡ true }
+    {
+        true
+    }
+
+    fn after(&self, _cpu: u32, _call: u32) {}
+}
