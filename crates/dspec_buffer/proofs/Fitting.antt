@@ -64,3 +64,12 @@ laid_back o a p n len items had xs out h k e m l within room pad =
     let front : length (take p xs) ≡ p = length-take-le p xs within in
     let long : length ws ≡ length (take p xs) + (length out + length (drop (p + n - p) (drop p xs))) = length-append (take p xs) (out ++ drop (p + n - p) (drop p xs)) ∙ ap (λ z. length (take p xs) + z) (length-append out (drop (p + n - p) (drop p xs))) in
     take-take (p + n) len (ws ++ drop (length ws) had) room ∙ take-append-le (p + n) ws (drop (length ws) had) (omega arith) ∙ laid o a p n items xs out h k e m l within pad
+
+-- padding and bytes written by a call, up to their end, once the slice is written back
+pub laid_whole : (o a p n len : ℕ) (items had new out : List ℕ) → o % 4 ≡ 0 → (a ≡ 4) ⊎ (a ≡ 8) → p ≡ rounded_up o a → n ≢ 0 → length out ≡ n → p + n ≤ len → p + n ≤ length new → take (p + n) new ≡ take o items ++ (replicate (p - o) 0 ++ out) → take (p + n) (take len (new ++ drop (length new) had)) ≡ take o items ++ padded o a out
+laid_whole o a p n len items had new [] h k e m l room whole written = absurd (m (sym l))
+laid_whole o a p n len items had new (b ∷ bs) h k e m l room whole written =
+    let facts = padding_facts o a h k in
+    let zeros : replicate (p - o) 0 ≡ padding o a = ap (λ z. replicate (z - o) 0) e ∙ sym facts.zeros in
+    take-take (p + n) len (new ++ drop (length new) had) room ∙ take-append-le (p + n) new (drop (length new) had) whole ∙ written
+    ∙ ap (λ z. take o items ++ (z ++ b ∷ bs)) zeros

@@ -1,6 +1,6 @@
 use crate::TraceBuffer;
 use crate::reader::next_of_text;
-use crate::reserving::{pad, place_for};
+use crate::reserving::{pad, place_for, put_behind};
 use dspec_record::{Rec, Schema};
 use std::alloc::{AllocError, Global};
 use std::fmt;
@@ -117,6 +117,7 @@ impl<S: Schema> TraceBuffer<S> for ByteBuffer {
         size == 0 || place_for(self.offset, self.size(), align, size).is_some()
     }
 
+    #[inline(always)]
     fn push(&mut self, schema: &S, rec: &Rec) -> bool {
         let shape = schema.shape(rec.epid()).unwrap();
         let Some(place) = place_for(self.offset, self.size(), shape.align, shape.size) else {
@@ -124,8 +125,8 @@ impl<S: Schema> TraceBuffer<S> for ByteBuffer {
         };
         let end = place + shape.size;
         let bytes = self.bytes.as_mut_slice();
-        pad(bytes, self.offset as usize, place as usize);
-        schema.put(rec, &mut bytes[place as usize..end as usize]);
+        let from = self.offset as usize;
+        put_behind(schema, rec, bytes, from, place as usize, end as usize);
         self.offset = end;
         self.count += 1;
         true

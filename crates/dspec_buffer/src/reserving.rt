@@ -1,5 +1,7 @@
-ghost use Rattle.std.specs.Prelude.{◌≡◌, ◌≤◌, ◌<◌, ◌+◌, ◌-◌, ◌%◌, ◌^◌, ◌⊎◌, ◌++◌, length, take, replicate, MatchOption};
+ghost use Rattle.std.specs.Prelude.{◌≡◌, ◌≤◌, ◌<◌, ◌+◌, ◌-◌, ◌%◌, ◌^◌, ◌⊎◌, ◌++◌, length, take, replicate, IsTrue, MatchOption};
 ghost use Rattle.dspec_record.specs.Layout.{rounded_up, after};
+
+use dspec_record::{Rec, Schema};
 
 /// The bytes of a padding word.
 const PADDING: [u8; 4] = [0; 4];
@@ -33,5 +35,50 @@ pub(crate) fn pad(bytes: &mut [u8], from: usize, to: usize)
 {
     if from < to {
         bytes[from..to].copy_from_slice(&PADDING);
+    }
+}
+
+// Writes a padding word and an accepted record behind it.
+#[inline(never)]
+fn put_padded<S: Schema>(
+    schema: &S,
+    rec: &Rec,
+    bytes: &mut [u8],
+    from: usize,
+    place: usize,
+    end: usize,
+)
+    requires accepted { IsTrue (S.accepted schema.now rec.now) }
+    requires gap { place ≡ from + 4 }
+    requires end { end ≡ place + length (S.text schema.now rec.now) }
+    requires within { end ≤ length bytes.old }
+    ensures { take end bytes.new ≡ take from bytes.old ++ (replicate (place - from) 0 ++ S.text schema.now rec.now) }
+{
+    pad(bytes, from, place);
+    schema.put(rec, &mut bytes[place..end]);
+}
+
+/// Writes an accepted record, and the padding word before it if there is room for one. A padded one is written by a call of
+/// its own: where there is no padding, nothing is stored between the question of the record's shape and its bytes, so that its
+/// row is looked up once.
+#[inline(always)]
+pub(crate) fn put_behind<S: Schema>(
+    schema: &S,
+    rec: &Rec,
+    bytes: &mut [u8],
+    from: usize,
+    place: usize,
+    end: usize,
+)
+    requires accepted { IsTrue (S.accepted schema.now rec.now) }
+    requires gap { (place ≡ from) ⊎ (place ≡ from + 4) }
+    requires end { end ≡ place + length (S.text schema.now rec.now) }
+    requires within { end ≤ length bytes.old }
+    ensures { take end bytes.new ≡ take from bytes.old ++ (replicate (place - from) 0 ++ S.text schema.now rec.now) }
+{
+    if from < place {
+        put_padded(schema, rec, bytes, from, place, end);
+    } else {
+        schema.put(rec, &mut bytes[place..end]);
     }
 }

@@ -68,6 +68,25 @@ module _ (shape : ℕ → Option Shape) (accepted : Record → Bool) (text : Rec
     nothing : Stored
     nothing = record { text = []; count = 0; size = 0 }
 
+    -- what the buffer answered, and what became of it
+    abbrev pub IsGranted : Bool → List Stored → Type 0
+    IsGranted kept new = (b : Stored) → slice_get cpu.speculative.items (id.slot - 1) ≡ Some b
+        → (n : Stored) × (n.size ≡ b.size) × (new ≡ slice_set cpu.speculative.items (id.slot - 1) n)
+        × ((ps : List Piece) → HasPieces shape accepted text b ps
+        → (kept ≡ fits shape (if mine then ps else []) (extent.one r) b.size)
+        × HasPieces shape accepted text n (if kept then extent.one r ∷ (if mine then ps else []) else (if mine then ps else [])))
+
+    -- what was told of the record before is what the buffer then answered
+    pub as_granted : (kept : Bool) (new : List Stored) → IsGranted kept new → fit ≡ kept
+    as_granted kept new told =
+        let count = was.side.buffer_count in
+        let at = slice_get-get_or cpu.speculative.items (id.slot - 1) nothing (omega arith) in
+        let b0 = get_or cpu.speculative.items (id.slot - 1) nothing in
+        let shows = was.side.speculative id.slot b0 low high at in
+        let answered : kept ≡ fits shape (if mine then last else []) (extent.one r) b0.size = ((told b0 at).3 last shows.has).0 in
+        let same : fits shape (if mine then last else []) (extent.one r) b0.size ≡ fit = rw (pieces, shows.sized) (sym fit_is) in
+        sym (answered ∙ same)
+
     module _ (f : SpeculateFate) (is_granted : spoken_granted f ≡ true) (is_kept : spoken_kept f ≡ fit) where
       abbrev deed : Deed
       deed = Speculate cpu.cpu id r f
@@ -82,25 +101,18 @@ module _ (shape : ℕ → Option Shape) (accepted : Record → Bool) (text : Rec
           split true = refl
           split false = refl
 
-      -- what became of the slot's buffer
-      abbrev pub IsGranted : List Stored → Type 0
-      IsGranted new = (b : Stored) → slice_get cpu.speculative.items (id.slot - 1) ≡ Some b
-          → (n : Stored) × (n.size ≡ b.size) × (new ≡ slice_set cpu.speculative.items (id.slot - 1) n)
-          × ((ps : List Piece) → HasPieces shape accepted text b ps → (fit ≡ true → fits shape (if mine then ps else []) (extent.one r) b.size ≡ true)
-          → HasPieces shape accepted text n (if fit then extent.one r ∷ (if mine then ps else []) else (if mine then ps else [])))
-
-      granted_buffers : (new : List Stored) → IsGranted new
+      granted_buffers : (kept : Bool) (new : List Stored) → IsGranted kept new
           → (length new ≡ cpu.config.nspec) × ((s : ℕ) (b : Stored) → 1 ≤ s → s ≤ cpu.config.nspec → slice_get new (s - 1) ≡ Some b
           → HasSized shape accepted text cpu.config.specsize (map extent.one (contents (held cpu.cpu (last_called cpu.cpu s (deed ∷ p)) (deed ∷ p)))) b)
-      granted_buffers new told =
+      granted_buffers kept new told =
           let count = was.side.buffer_count in
           let at = slice_get-get_or cpu.speculative.items (id.slot - 1) nothing (omega arith) in
           let b0 = get_or cpu.speculative.items (id.slot - 1) nothing in
           let t = told b0 at in
           let shows = was.side.speculative id.slot b0 low high at in
-          let enough : fit ≡ true → fits shape (if mine then last else []) (extent.one r) b0.size ≡ true = λ e. rw (pieces, shows.sized) (sym fit_is ∙ e) in
           let has : HasPieces shape accepted text t.0 (if fit then extent.one r ∷ map extent.one have else map extent.one have) =
-          subst (λ l. HasPieces shape accepted text t.0 (if fit then extent.one r ∷ l else l)) pieces (t.3 last shows.has enough) in (
+          subst (λ b. HasPieces shape accepted text t.0 (if b then extent.one r ∷ map extent.one have else map extent.one have)) (sym (as_granted kept new told))
+          (subst (λ l. HasPieces shape accepted text t.0 (if kept then extent.one r ∷ l else l)) pieces (t.3 last shows.has).1) in (
             ap length t.2 ∙ (length-set cpu.speculative.items (id.slot - 1) t.0 ∙ count),
             λ s b one_low one_high got. ⊎_elim
                 (λ (y : (s == id.slot) ≡ true).
@@ -159,11 +171,11 @@ module _ (shape : ℕ → Option Shape) (accepted : Record → Bool) (text : Rec
           )
 
       -- the CPU shows the list with the record in front
-      pub granted_shown : (seat : CpuSeat) (buffers : Vec Stored) → IsGranted buffers.items → (marks : Vec ℕ) → marks.items ≡ slice_set cpu.marks.items (id.slot - 1) (id.issue + 1)
+      pub granted_shown : (seat : CpuSeat) (kept : Bool) (buffers : Vec Stored) → IsGranted kept buffers.items → (marks : Vec ℕ) → marks.items ≡ slice_set cpu.marks.items (id.slot - 1) (id.issue + 1)
           → (counts : Counts) → counts ≡ with_spoken f cpu.counts
           → IsShown shape accepted text (record cpu { seat = seat; speculative = buffers; marks = marks; calls = cpu.calls + 1; counts = counts }) (deed ∷ p)
-      granted_shown seat buffers told marks is counts plus =
-          let b = granted_buffers buffers.items told in
+      granted_shown seat kept buffers told marks is counts plus =
+          let b = granted_buffers kept buffers.items told in
           let m = granted_marks marks.items is in
           let worn : counts.worn ≡ cpu.counts.worn = ap (λ (n : Counts). n.worn) plus in
           record {

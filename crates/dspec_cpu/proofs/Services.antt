@@ -1,5 +1,5 @@
 -- One slot of a service: the steps, the list and the CPU behind it.
-use Rattle.std.proofs.Common.{◌≡◌, ◌≢◌, ℕ, ◌+◌, ◌-◌, ◌*◌, ◌≤◌, ◌<◌, ◌^◌, Bool, true, false, List, [], ◌∷◌, ◌++◌, length, get_or, Option, Some, if◌then◌else◌, refl, sym, ap, ◌∙◌, subst, arith}
+use Rattle.std.proofs.Common.{◌≡◌, ◌≢◌, ℕ, ◌+◌, ◌-◌, ◌*◌, ◌≤◌, ◌<◌, ◌^◌, Bool, true, false, List, [], ◌∷◌, ◌++◌, ◌&&◌, nat_le, length, get_or, Option, Some, if◌then◌else◌, refl, sym, ap, ◌∙◌, subst, arith}
 use Rattle.std.proofs.lemmas.Option.{get_or_from_slice_get}
 use Rattle.std.specs.Global.{Vec}
 use Rattle.dspec_record.specs.Record.{Record}
@@ -7,6 +7,7 @@ use Rattle.dspec_record.specs.declared.field.Shape.{Shape}
 use Rattle.dspec_buffer.specs.Stored.{Stored}
 use Rattle.dspec_word.specs.SpecId.{Speculation}
 use Rattle.dspec_word.specs.Word.{SlotState}
+use Rattle.dspec_word.specs.Code.{awaits}
 use Rattle.dspec_word.specs.declared.act.Act.{Act}
 use Rattle.dspec_word.specs.declared.act.Act.TheVariants.{Void, Granted, Attempt, Idle}
 use Rattle.dspec_word.specs.Tables.{settle_at}
@@ -99,6 +100,16 @@ module _ (shape : ℕ → Option Shape) (accepted : Record → Bool) (text : Rec
   passed a is none = record {
     settles = [];
     slot_is = record { shown = word; loaded = u; load = step; granted = sym none ∙ ap is_granted (act_is a is); behind = (refl, refl) };
+    goes = load_goes;
+    bounded = let one = one_step in omega arith;
+    list = passed_list;
+  }
+
+  -- one that nobody waits for, whatever the acknowledgement is
+  pub passed_early : awaits word.code ≡ false → SlotDone cpu.cpu slot false (HasList shape accepted text cpu) v (HasList shape accepted text (record cpu { seat = seat })) u
+  passed_early idle = record {
+    settles = [];
+    slot_is = record { shown = word; loaded = u; load = step; granted = sym (ap (λ b. is_granted (if b && nat_le (ack cpu.cpu slot v.own) word.issue then Granted else Idle)) idle); behind = (refl, refl) };
     goes = load_goes;
     bounded = let one = one_step in omega arith;
     list = passed_list;

@@ -1,5 +1,5 @@
 -- A call of trace.
-use Rattle.std.proofs.Common.{◌≡◌, ℕ, ◌+◌, ◌==◌, Bool, true, false, List, [], ◌∷◌, Option, if◌then◌else◌, refl, sym, ap, ◌∙◌, subst, add-zero}
+use Rattle.std.proofs.Common.{◌≡◌, ℕ, ◌+◌, ◌==◌, ◌&&◌, not, Bool, true, false, List, [], ◌∷◌, Option, if◌then◌else◌, refl, sym, ap, ◌∙◌, subst, add-zero}
 use Rattle.dspec_record.specs.Record.{Record}
 use Rattle.dspec_record.specs.declared.field.Shape.{Shape}
 use Rattle.dspec_buffer.specs.Extent.{one, fits}
@@ -10,9 +10,9 @@ use Rattle.dspec_deeds.specs.declared.deed.TraceFate.{TraceFate}
 use Rattle.dspec_deeds.specs.declared.deed.TraceFate.TheVariants as traced
 use Rattle.dspec_deeds.specs.declared.deed.Deed.{Deed}
 use Rattle.dspec_deeds.specs.declared.deed.Deed.TheVariants.{Trace}
-use Rattle.dspec_deeds.specs.Legal.{fits_principal}
+use Rattle.dspec_deeds.specs.Legal.{fits_principal, is_closed}
 use Rattle.dspec_deeds.specs.Own.{active, seals}
-use Rattle.dspec_deeds.proofs.TestLemmas.{number_is_itself, and_tells}
+use Rattle.dspec_deeds.proofs.TestLemmas.{number_is_itself}
 use Rattle.dspec_table.specs.declared.rule.View.{View}
 use Rattle.dspec_table.specs.declared.doing.Doing.{Doing}
 use Rattle.dspec_table.specs.declared.seats.CpuSeat.{CpuSeat}
@@ -94,6 +94,13 @@ module _ (shape : ℕ → Option Shape) (accepted : Record → Bool) (text : Rec
     counted = counted r traced.Kept counts is;
   }
 
-  -- what fits the buffer beside its being closed
-  pub has_room : (r : Record) → fits_principal shape cpu.config cpu.cpu (one r) p ≡ true → fits shape (active cpu.cpu p) (one r) cpu.active.size ≡ true
-  has_room r fit = ap (λ n. fits shape (active cpu.cpu p) (one r) n) was.side.principal.sized ∙ (and_tells _ _ fit).0
+  -- a record that was refused, which left the buffer as it was
+  pub refused_shown : (r : Record) (seat : CpuSeat) (b : Stored) (counts : Counts) → fits_principal shape cpu.config cpu.cpu (one r) p ≡ false → b ≡ cpu.active → counts ≡ with_traced traced.Dropped cpu.counts
+      → IsShown shape accepted text (record cpu { seat = seat; active = b; calls = cpu.calls + 1; drops = cpu.drops + 1; counts = counts }) (Trace cpu.cpu r traced.Dropped ∷ p)
+  refused_shown r seat b counts fit same is =
+      subst (λ (b : Stored). IsShown shape accepted text (record cpu { seat = seat; active = b; calls = cpu.calls + 1; drops = cpu.drops + 1; counts = counts }) (Trace cpu.cpu r traced.Dropped ∷ p)) (sym same) (dropped_shown r seat counts fit is)
+
+  -- what was told of the record before is what the buffer then answered, which may be shut
+  pub as_kept : (r : Record) (fit shut kept : Bool) → fit ≡ fits_principal shape cpu.config cpu.cpu (one r) p → shut ≡ is_closed cpu.config cpu.cpu p → kept ≡ (fits shape (active cpu.cpu p) (one r) cpu.active.size && not shut) → fit ≡ kept
+  as_kept r fit shut kept told closed is =
+      told ∙ sym (is ∙ (ap (λ n. fits shape (active cpu.cpu p) (one r) n && not shut) was.side.principal.sized ∙ ap (λ b. fits shape (active cpu.cpu p) (one r) cpu.config.bufsize && not b) closed))

@@ -1,4 +1,5 @@
-ghost use Rattle.std.specs.Prelude.{◌≡◌, ℕ, true, List, [], ◌∷◌, IsTrue, if◌then◌else◌};
+ghost use Rattle.std.specs.Prelude.{◌≡◌, ◌&&◌, ℕ, not, true, List, [], ◌∷◌, IsTrue, if◌then◌else◌};
+ghost use Rattle.std.specs.Bool.{OnTrue, OnFalse};
 ghost use Rattle.dspec_buffer.specs.Extent.{Piece, one, fits};
 ghost use Rattle.dspec_deeds.specs.declared.deed.Deed.{Deed};
 ghost use Rattle.dspec_deeds.specs.Legal.{fits_principal, is_closed};
@@ -18,7 +19,10 @@ pub(crate) fn would_fit<S: Schema>(buffer: &ByteBuffer, schema: &S, rec: &Rec) -
     ensures { (ps : List Piece) → ⟦<ByteBuffer as TraceBuffer<S>>⟧.has buffer.now schema.now ps
         → result ≡ fits (S.shape_of schema.now) ps (one rec.now) buffer.now.size }
 {
-    let shape = schema.shape(rec.epid()).unwrap();
+    // An accepted record has a shape. Told so, where nobody asks for the answer no running code is left of the question.
+    let Some(shape) = schema.shape(rec.epid()) else {
+        return false;
+    };
     <ByteBuffer as TraceBuffer<S>>::fits(buffer, shape.align, shape.size)
 }
 
@@ -47,28 +51,47 @@ pub(crate) fn would_fit_empty<S: Schema>(schema: &S, rec: &Rec, size: u32) -> bo
     requires accepted { IsTrue (S.accepted schema.now rec.now) }
     ensures { result ≡ fits (S.shape_of schema.now) [] (one rec.now) size }
 {
-    let shape = schema.shape(rec.epid()).unwrap();
+    let Some(shape) = schema.shape(rec.epid()) else {
+        return false;
+    };
     shape.size <= size
 }
 
-/// Keeps a record in a buffer, which is emptied before where what it has isn't of the same speculation.
-pub(crate) fn keep_in<S: Schema>(
-    buffer: &mut ByteBuffer,
-    schema: &S,
-    rec: &Rec,
-    mine: bool,
-    fit: bool,
-)
+/// Keeps a record in a buffer, which is emptied before where what it has isn't of the same speculation. False where it doesn't
+/// fit.
+#[inline(always)]
+pub(crate) fn keep_in<S: Schema>(buffer: &mut ByteBuffer, schema: &S, rec: &Rec, mine: bool) -> bool
     requires accepted { IsTrue (S.accepted schema.now rec.now) }
     ensures size { buffer.new.size ≡ buffer.old.size }
+    ensures answer { (ps : List Piece) → ⟦<ByteBuffer as TraceBuffer<S>>⟧.has buffer.old schema.now ps
+        → result ≡ fits (S.shape_of schema.now) (if mine then ps else []) (one rec.now) buffer.old.size }
     ensures has { (ps : List Piece) → ⟦<ByteBuffer as TraceBuffer<S>>⟧.has buffer.old schema.now ps
-        → (fit ≡ true → fits (S.shape_of schema.now) (if mine then ps else []) (one rec.now) buffer.old.size ≡ true)
-        → ⟦<ByteBuffer as TraceBuffer<S>>⟧.has buffer.new schema.now (if fit then one rec.now ∷ (if mine then ps else []) else (if mine then ps else [])) }
+        → ⟦<ByteBuffer as TraceBuffer<S>>⟧.has buffer.new schema.now (if result then one rec.now ∷ (if mine then ps else []) else (if mine then ps else [])) }
 {
     if !mine {
         <ByteBuffer as TraceBuffer<S>>::clear(buffer);
     }
-    if fit {
-        let _ = buffer.push(schema, rec);
+    buffer.push(schema, rec)
+}
+
+/// Keeps a record in a principal buffer, where that isn't shut and the record fits.
+#[inline]
+pub(crate) fn keep_open<S: Schema>(
+    active: &mut ByteBuffer,
+    schema: &S,
+    rec: &Rec,
+    shut: bool,
+) -> bool
+    requires accepted { IsTrue (S.accepted schema.now rec.now) }
+    ensures size { active.new.size ≡ active.old.size }
+    ensures answer { (ps : List Piece) → ⟦<ByteBuffer as TraceBuffer<S>>⟧.has active.old schema.now ps
+        → result ≡ (fits (S.shape_of schema.now) ps (one rec.now) active.old.size && not shut) }
+    ensures kept { OnTrue result ((ps : List Piece) → ⟦<ByteBuffer as TraceBuffer<S>>⟧.has active.old schema.now ps
+        → ⟦<ByteBuffer as TraceBuffer<S>>⟧.has active.new schema.now (one rec.now ∷ ps)) }
+    ensures refused { OnFalse result (active.new ≡ active.old) }
+{
+    if shut {
+        return false;
     }
+    active.push(schema, rec)
 }

@@ -18,14 +18,15 @@ impl<S: Schema> Cpu<S> {
     pub(crate) fn is_inside(&self, id: SpecId) -> bool
         ensures { result ≡ in_range self.now.config id }
     {
-        1 <= id.slot() && id.slot() <= self.config.nspec
+        id.slot().wrapping_sub(1) < self.config.nspec
     }
 
     /// Whether the CPU is a caller of the speculation, by the slot's mark; false outside the slots.
     pub(crate) fn is_mine(&self, id: SpecId, inside: bool) -> bool
         requires inside { inside ≡ in_range self.now.config id }
         requires some { (p : List Deed) × ⟦<Cpu<S> as Listed>⟧.is_shown self.now p }
-        ensures { inside ≡ true → (p : List Deed) → ⟦<Cpu<S> as Listed>⟧.is_shown self.now p → result ≡ (mark self.now.cpu id.slot p == id.issue + 1) }
+        ensures is { inside ≡ true → (p : List Deed) → ⟦<Cpu<S> as Listed>⟧.is_shown self.now p → result ≡ (mark self.now.cpu id.slot p == id.issue + 1) }
+        ensures marked { result ≡ true → slice_get self.now.marks.items (id.slot - 1) ≡ Some (id.issue + 1) }
     {
         inside && self.marks[id.slot() as usize - 1] == id.issue() + 1
     }
@@ -51,7 +52,8 @@ impl<S: Schema> Cpu<S> {
 }
 
 /// Marks the speculation as granted and keeps the record, where it fits, in its buffer, which is emptied before where what it
-/// has is of an older speculation.
+/// has is of an older speculation. False where it doesn't fit.
+#[inline(always)]
 pub(crate) fn grant<S: Schema>(
     marks: &mut Vec<u64>,
     buffers: &mut Vec<ByteBuffer>,
@@ -59,18 +61,20 @@ pub(crate) fn grant<S: Schema>(
     id: SpecId,
     rec: &Rec,
     mine: bool,
-    fit: bool,
-)
+) -> bool
     requires slot { (1 ≤ id.slot) × (id.slot ≤ length buffers.old.items) × (id.slot ≤ length marks.old.items) }
+    requires marked { mine ≡ true → slice_get marks.old.items (id.slot - 1) ≡ Some (id.issue + 1) }
     requires accepted { IsTrue (S.accepted schema.now rec.now) }
     ensures marks { marks.new.items ≡ slice_set marks.old.items (id.slot - 1) (id.issue + 1) }
     ensures buffer { (b : Stored) → slice_get buffers.old.items (id.slot - 1) ≡ Some b
         → (n : Stored) × (n.size ≡ b.size) × (buffers.new.items ≡ slice_set buffers.old.items (id.slot - 1) n)
         × ((ps : List Piece) → ⟦<ByteBuffer as TraceBuffer<S>>⟧.has b schema.now ps
-        → (fit ≡ true → fits (S.shape_of schema.now) (if mine then ps else []) (one rec.now) b.size ≡ true)
-        → ⟦<ByteBuffer as TraceBuffer<S>>⟧.has n schema.now (if fit then one rec.now ∷ (if mine then ps else []) else (if mine then ps else []))) }
+        → (result ≡ fits (S.shape_of schema.now) (if mine then ps else []) (one rec.now) b.size)
+        × ⟦<ByteBuffer as TraceBuffer<S>>⟧.has n schema.now (if result then one rec.now ∷ (if mine then ps else []) else (if mine then ps else []))) }
 {
     let place = id.slot() as usize - 1;
-    marks[place] = id.issue() + 1;
-    keep_in(&mut buffers[place], schema, rec, mine, fit);
+    if !mine {
+        marks[place] = id.issue() + 1;
+    }
+    keep_in(&mut buffers[place], schema, rec, mine)
 }

@@ -22,6 +22,7 @@ pub(crate) enum Reach {
 }
 
 // What the call does at the word of its slot.
+#[inline(always)]
 fn act_at(op: &CpuOp, word: Word, mine: bool) -> Act
     requires { CanBeReleased word }
     ensures { result ≡ act_of op.now word mine }
@@ -35,6 +36,7 @@ fn act_at(op: &CpuOp, word: Word, mine: bool) -> Act
 }
 
 // The exchange of the call, from a word that its table attempts.
+#[inline(always)]
 fn exchange(
     seat: &mut CpuSeat,
     words: &Words,
@@ -63,6 +65,7 @@ fn exchange(
 
 // The steps on the word of the identifier's slot: a load, then exchanges, up to a word that the table doesn't attempt or to
 // an exchange that succeeds. One that failed showed a later word.
+#[inline(always)]
 fn work(seat: &mut CpuSeat, words: &Words, slot: u32, _id: SpecId, doing: &Doing) -> Act
     requires seat { IsAt words.now seat.old }
     requires slot { (1 ≤ slot) × (slot ≤ (set_up words.now).nspec) }
@@ -87,6 +90,7 @@ fn work(seat: &mut CpuSeat, words: &Words, slot: u32, _id: SpecId, doing: &Doing
 
 /// All steps of a call on an identifier but the release of its own commit: a load of activity, and where the session runs and
 /// the slot is one of it, the steps on its word.
+#[inline(always)]
 pub(crate) fn go_on(
     seat: &mut CpuSeat,
     words: &Words,

@@ -6,6 +6,7 @@ ghost use Rattle.dspec_deeds.specs.FateKinds.{is_copied, is_lost};
 ghost use Rattle.dspec_deeds.specs.History.{word_at};
 ghost use Rattle.dspec_deeds.specs.OwnShown.{SideParts};
 ghost use Rattle.dspec_play.specs.OwnClose.{own_closed_slot};
+ghost use Rattle.dspec_word.specs.Code.{awaits};
 ghost use Rattle.dspec_table.specs.Acts.{settle_fate};
 ghost use Rattle.dspec_table.specs.Last.{last_words};
 ghost use Rattle.dspec_table.specs.Seats.{known};
@@ -94,6 +95,14 @@ pub(crate) fn settle_block<S: Schema>(
     doing
 }
 
+// Whether a slot with this code waits for the CPUs.
+#[inline]
+fn waits(code: Code) -> bool
+    ensures { result ≡ awaits code }
+{
+    matches!(code, Code::CommittingMany | Code::Discarding)
+}
+
 impl<S: Schema> Cpu<S> {
     // One slot of a service: its word is loaded, and where it waits for this CPU too, its speculation is settled.
     fn settle_slot(&mut self, words: &Words, slot: u32) -> bool
@@ -107,6 +116,10 @@ impl<S: Schema> Cpu<S> {
         // Read for its range: no count is above it.
         let _calls = self.calls;
         let word = self.seat.load_word(words, slot, &serve(false, 0, false));
+        // asked first by itself: where nobody waits, which is most often, the acknowledgement isn't looked at
+        if !waits(word.code()) {
+            return false;
+        }
         match settle_at(word, self.acks[slot as usize - 1]) {
             Act::Granted => {
                 let doing = settle_block::<S>(

@@ -1,5 +1,7 @@
-ghost use Rattle.std.specs.Prelude.{◌≡◌, ◌≤◌, ◌+◌, ◌↔◌, ◌++◌, List, IsTrue};
+ghost use Rattle.std.specs.Prelude.{◌≡◌, ◌<◌, ◌≤◌, ◌+◌, ◌-◌, ◌==◌, ◌↔◌, ◌++◌, true, false, List, IsTrue, Some, slice_get};
 ghost use Rattle.dspec_deeds.specs.declared.deed.Deed.{Deed};
+ghost use Rattle.dspec_deeds.specs.History.{in_range};
+ghost use Rattle.dspec_deeds.specs.Marks.{mark};
 ghost use Rattle.dspec_table.specs.Seats.{known};
 ghost use Rattle.dspec_cpu.specs.Calls.{Goes, spoken_deeds, is_worn_spoken};
 ghost use Rattle.dspec_cpu.specs.Counting.{worn_after};
@@ -37,6 +39,32 @@ impl<S: Schema> Cpu<S> {
         }
         let inside = self.is_inside(id);
         let mine = self.is_mine(id, inside);
+        // the call once for a caller and once for another CPU, so that neither asks which it is
+        if mine {
+            self.offer(shared, id, rec, inside, true)
+        } else {
+            self.offer(shared, id, rec, inside, false)
+        }
+    }
+
+    // A call that isn't worn, of a CPU of which it is known whether it is a caller.
+    #[inline(always)]
+    fn offer(&mut self, shared: &Shared, id: SpecId, rec: &Rec, inside: bool, mine: bool) -> Spoken
+        requires ready { ⟦<Cpu<S> as Listed>⟧.is_ready (words_of shared.now) self.old }
+        requires calls { self.old.calls < self.old.config.max_calls }
+        requires accepted { IsTrue (S.accepted self.old.schema rec.now) }
+        requires inside { inside ≡ in_range self.old.config id }
+        requires mine { inside ≡ true → (p : List Deed) → ⟦<Cpu<S> as Listed>⟧.is_shown self.old p → mine ≡ (mark self.old.cpu id.slot p == id.issue + 1) }
+        requires marked { mine ≡ true → slice_get self.old.marks.items (id.slot - 1) ≡ Some (id.issue + 1) }
+        ensures ready { ⟦<Cpu<S> as Listed>⟧.is_ready (words_of shared.now) self.new }
+        ensures same { IsSameCpu self.old self.new }
+        ensures not_worn { is_worn_spoken result ≡ false }
+        ensures wears { worn_of self.new ≡ worn_of self.old }
+        ensures did { Goes (known (seat_of self.old)) (spoken_deeds (number_in self.old) id rec.now result) (known (seat_of self.new)) }
+        ensures bounded { (known (seat_of self.new)).steps ≤ (known (seat_of self.old)).steps + 4 }
+        ensures list { (p : List Deed) → ⟦<Cpu<S> as Listed>⟧.has_list self.old p
+            → ⟦<Cpu<S> as Listed>⟧.has_list self.new (spoken_deeds (number_in self.old) id rec.now result ++ p) }
+    {
         let fits = self.fits_slot(id, rec, mine, inside);
         let doing = Doing {
             op: CpuOp::Speculate(id, *rec),
@@ -56,16 +84,16 @@ impl<S: Schema> Cpu<S> {
                 Spoken::Void
             }
             Reach::Granted | Reach::Done(_) => {
-                grant(
+                // It answers as the test before the load did, which no running code asks any more.
+                let kept = grant(
                     &mut self.marks,
                     &mut self.speculative,
                     &self.schema,
                     id,
                     rec,
                     mine,
-                    fits,
                 );
-                if !fits {
+                if !kept {
                     self.counts.speak(SpeculateFate::Dropped);
                     return Spoken::Dropped;
                 }

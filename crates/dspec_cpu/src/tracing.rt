@@ -6,9 +6,9 @@ ghost use Rattle.dspec_cpu.specs.Counting.{worn_after};
 ghost use Rattle.dspec_cpu.specs.Lists.{IsSameCpu, calls_of, config_of, number_in, schema_of, seat_of, words_of, worn_of};
 
 use crate::cpu::Cpu;
+use crate::fitting::{is_shut, keep_open};
 use crate::listed::Listed;
 use crate::shared::Shared;
-use dspec_buffer::TraceBuffer;
 use dspec_deeds::{CpuOp, TraceFate, Traced};
 use dspec_record::{Rec, Schema};
 use dspec_table::Doing;
@@ -32,6 +32,7 @@ impl<S: Schema> Cpu<S> {
             self.counts.wear();
             return Traced::Worn;
         }
+        let shut = is_shut(&self.config, &self.counts);
         let fits = self.fits_record(rec);
         let doing = Doing {
             op: CpuOp::Trace(*rec),
@@ -45,12 +46,12 @@ impl<S: Schema> Cpu<S> {
             self.counts.trace(TraceFate::Stopped);
             return Traced::Stopped;
         }
-        if !fits {
+        // It answers as the test before the load did, which no running code asks any more.
+        if !keep_open(&mut self.active, &self.schema, rec, shut) {
             self.drops += 1;
             self.counts.trace(TraceFate::Dropped);
             return Traced::Dropped;
         }
-        let _ = self.active.push(&self.schema, rec);
         self.counts.trace(TraceFate::Kept);
         Traced::Kept
     }

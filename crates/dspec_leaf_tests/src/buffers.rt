@@ -90,7 +90,7 @@ fn pad_records<B: TraceBuffer<Enablings>>(
     same(rt, keep(rt, schema, &mut buffer, 1, &[]), (false, 32));
     same(rt, buffer.count(), 3);
     let kept = [rec(rt, 1, &[]), rec(rt, 2, &[7]), rec(rt, 4, &[9])];
-    assert!(rt; walks(schema, &buffer, &kept));
+    assert!(rt; walks(schema, &buffer, &kept) && !buffer.is_empty());
     Ok(buffer)
 }
 

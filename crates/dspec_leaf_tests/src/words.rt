@@ -122,6 +122,7 @@ fn numbers(rt: HostRuntime) {
     same(&rt, Word::of(3, Code::ActiveMany).raw(), 27);
     same(&rt, Word::from_raw(27), Some(Word::of(3, Code::ActiveMany)));
     same(&rt, Word::from_raw(31), None);
+    same(&rt, Word::of_number(27), Word::of(3, Code::ActiveMany));
     same(
         &rt,
         Word::from_raw(LAST_ISSUE * 8),

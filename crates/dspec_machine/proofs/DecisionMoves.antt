@@ -1,12 +1,10 @@
 -- What the steps of a call that decides make, for commit and discard alike.
-use Rattle.std.proofs.Common.{◌≡◌, ◌≢◌, ℕ, ◌+◌, ◌<◌, ◌==◌, Bool, true, false, not, ◌&&◌, List, [], ◌∷◌, ◌++◌, Option, Some, None, if◌then◌else◌, refl, sym, ap, ◌∙◌, subst}
-use denote.Enum.Bare.{sameb}
+use Rattle.std.proofs.Common.{◌≡◌, ◌≢◌, ℕ, ◌+◌, ◌<◌, ◌==◌, Bool, true, false, not, List, [], ◌∷◌, ◌++◌, Option, Some, None, if◌then◌else◌, refl, sym, ap, ◌∙◌, subst}
 use Rattle.dspec_record.specs.declared.field.Shape.{Shape}
 use Rattle.dspec_buffer.specs.Extent.{Piece}
-use Rattle.dspec_word.specs.contracts.code.Code.{the_type}
 use Rattle.dspec_word.specs.declared.act.Act.TheVariants.{Attempt}
 use Rattle.dspec_word.specs.SpecId.{Speculation}
-use Rattle.dspec_word.specs.Word.{SlotState}
+use Rattle.dspec_word.specs.Word.{SlotState, word_number}
 use Rattle.dspec_word.specs.Tables.{commit_at, discard_at}
 use Rattle.dspec_deeds.specs.declared.calls.Actor.TheVariants.{Cpu}
 use Rattle.dspec_deeds.specs.declared.calls.Answer.{Answer}
@@ -32,7 +30,8 @@ use Rattle.dspec_deeds.proofs.WordActs.{commit_attempt, discard_attempt}
 use Rattle.dspec_play.proofs.DecideMoves.{commit_leaves, commit_next, commit_voids, committed_deeds, discard_leaves, discard_next, discard_voids}
 use Rattle.dspec_play.proofs.StepReads.{flight_stands, step_legal}
 use Rattle.dspec_play.proofs.StepsWords.{same_word_tells}
-use Rattle.dspec_play.proofs.TableReads.{words_test, commit_reads, discard_reads}
+use Rattle.dspec_play.proofs.TableReads.{commit_reads, discard_reads}
+use Rattle.dspec_machine.proofs.WordNumbers.{words_test}
 use Rattle.dspec_machine.proofs.DoneSides.{no_commit_side, no_discard_side}
 use Rattle.dspec_machine.proofs.OtherSides.{words_stay}
 
@@ -64,10 +63,10 @@ granted : (b : Bool) → not b ≡ true → b ≡ false
 granted true e = cc (e)
 granted false e = refl
 
-expected : (now w from : SlotState) (test : Bool) → w ≡ now → test ≡ not ((w.issue == from.issue) && sameb the_type w.code from.code) → test ≡ false → same_word now from ≡ true
+expected : (now w from : SlotState) (test : Bool) → w ≡ now → test ≡ not (word_number w == word_number from) → test ≡ false → same_word now from ≡ true
 expected now w from test is tests e = ap (λ x. same_word x from) (sym is) ∙ denied (same_word w from) (ap not (sym (words_test w from)) ∙ (sym tests ∙ e))
 
-another : (now w from : SlotState) (test : Bool) → w ≡ now → test ≡ not ((w.issue == from.issue) && sameb the_type w.code from.code) → test ≡ true → same_word now from ≡ false
+another : (now w from : SlotState) (test : Bool) → w ≡ now → test ≡ not (word_number w == word_number from) → test ≡ true → same_word now from ≡ false
 another now w from test is tests e = ap (λ x. same_word x from) (sym is) ∙ granted (same_word w from) (ap not (sym (words_test w from)) ∙ (sym tests ∙ e))
 
 -- what the table was asked is what it says of the list
@@ -135,7 +134,7 @@ module _ (shape : ℕ → Option Shape) (st : PlayState) (coherent : IsCoherent 
   pub tried_slot : in_range st.config id ≡ true
   tried_slot = (try_stands shape st.config c st.deeds (the_caller st.callers c) id d from (flight_stands shape st coherent c lt (try_of d id from) flies)).0.in_range
 
-  module _ (w : SlotState) (test : Bool) (is : w ≡ word_at id.slot st.deeds) (tests : test ≡ not ((w.issue == from.issue) && sameb the_type w.code from.code)) where
+  module _ (w : SlotState) (test : Bool) (is : w ≡ word_at id.slot st.deeds) (tests : test ≡ not (word_number w == word_number from)) where
     -- where the word is another one
     pub fails : test ≡ true → cpu_step shape st.config c st.deeds (the_caller st.callers c) (try_of d id from) ≡ shown_by shape st.config c st.deeds (the_caller st.callers c) d id
     fails e = try_shows shape st.config c st.deeds (the_caller st.callers c) id d from (another (word_at id.slot st.deeds) w from test is tests e)

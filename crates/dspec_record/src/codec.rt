@@ -1,4 +1,4 @@
-ghost use Rattle.std.specs.Prelude.{◌≡◌, ◌≢◌, ◌≤◌, ◌<◌, ◌%◌, ◌++◌, ◌^◌, ◌↔◌, ℕ, List, ◌⊎◌, IsTrue, IfSome, IfNone, IfOk, IfErr, length, take, drop, replicate};
+ghost use Rattle.std.specs.Prelude.{◌≡◌, ◌≢◌, ◌≤◌, ◌<◌, ◌%◌, ◌++◌, ◌^◌, ◌↔◌, ℕ, List, ◌⊎◌, nat_le, IsTrue, IfSome, IfNone, IfOk, IfErr, length, take, drop, replicate};
 ghost use Rattle.dspec_record.specs.Record.{Record};
 ghost use Rattle.dspec_record.specs.Layout.{width, rounded_up, after, fields_start, layout};
 ghost use Rattle.dspec_record.specs.Reading.{front_epid};
@@ -88,19 +88,21 @@ fn put_field(field: Field, value: u64, end: usize, out: &mut [u8]) -> usize
     ensures clear { IsClearBehind result out.new }
 {
     let place = field.place(end);
-    write_wide(value, &mut out[place..]);
+    let wide = place + 8 <= out.len();
+    write_wide(value, wide, &mut out[place..]);
     place + field.width()
 }
 
 /// Writes the value's lowest 8, 4, 2 bytes or 1, the most that there is room for: stores of fixed sizes, the zeros
-/// of a gap behind a short value among them.
+/// of a gap behind a short value among them. Whether there is room for all eight the caller tells.
 #[inline]
-fn write_wide(value: u64, out: &mut [u8])
-    requires { 1 ≤ length out.old }
+fn write_wide(value: u64, wide: bool, out: &mut [u8])
+    requires wide { wide ≡ nat_le 8 (length out.old) }
+    requires some { 1 ≤ length out.old }
     ensures { IsWrittenWide value out.old out.new }
 {
     let bytes = value.to_le_bytes();
-    if out.len() >= 8 {
+    if wide {
         out[..8].copy_from_slice(&bytes);
     } else if out.len() >= 4 {
         out[..4].copy_from_slice(&bytes[..4]);

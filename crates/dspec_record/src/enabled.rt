@@ -35,6 +35,7 @@ impl Schema for Enablings {
         }
     }
 
+    #[inline(always)]
     fn put(&self, rec: &Rec, out: &mut [u8]) {
         let Some(enabling) = self.enabling(rec.epid()) else {
             unreachable!()

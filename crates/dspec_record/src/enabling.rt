@@ -179,7 +179,8 @@ impl Enablings {
     pub(crate) fn enabling(&self, epid: u32) -> Option<&Enabling>
         ensures { option_copied result ≡ enabling_of self.now.rows epid }
     {
-        if epid == 0 || epid > self.count {
+        // 0 becomes the greatest number, so that one question tells both refusals
+        if epid.wrapping_sub(1) >= self.count {
             return None;
         }
         Some(&self.rows[epid as usize - 1])

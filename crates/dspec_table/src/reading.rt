@@ -10,5 +10,5 @@ pub(crate) fn read_word(number: u64) -> Word
     ensures number { word_number result ≡ number }
     ensures limit { CanBeReleased result }
 {
-    Word::from_raw(number).unwrap()
+    Word::of_number(number)
 }

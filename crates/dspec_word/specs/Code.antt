@@ -1,5 +1,5 @@
 -- The codes as numbers, and the sets of codes that rules speak of.
-use Rattle.std.specs.Prelude.{ℕ, Bool, true, false}
+use Rattle.std.specs.Prelude.{ℕ, zero, suc, Bool, true, false}
 use Rattle.dspec_word.specs.declared.code.Code.{Code}
 use Rattle.dspec_word.specs.declared.code.Code.TheVariants.{Inactive, Active, ActiveOne, ActiveMany, Committing, CommittingMany, Discarding}
 
@@ -11,6 +11,16 @@ code_number ActiveMany = 3
 code_number Committing = 4
 code_number CommittingMany = 5
 code_number Discarding = 6
+
+-- the code of a number; of those above 6, which are no code's, the last
+abbrev pub code_of : ℕ → Code
+code_of zero = Inactive
+code_of (suc zero) = Active
+code_of (suc (suc zero)) = ActiveOne
+code_of (suc (suc (suc zero))) = ActiveMany
+code_of (suc (suc (suc (suc zero)))) = Committing
+code_of (suc (suc (suc (suc (suc zero))))) = CommittingMany
+code_of n = Discarding
 
 -- nothing is open in the slot
 abbrev pub is_inactive : Code → Bool

@@ -1,5 +1,5 @@
-ghost use Rattle.std.specs.Prelude.{◌≡◌, ◌≤◌, ◌↔◌, IsNone, IfSome};
-ghost use Rattle.dspec_word.specs.Code.{code_number};
+ghost use Rattle.std.specs.Prelude.{◌≡◌};
+ghost use Rattle.dspec_word.specs.Code.{code_number, code_of};
 
 /// Where the present speculation of a slot stands. The states are those of DTrace's kernel; the
 /// Solaris Dynamic Tracing Guide, "Speculative Tracing", says what may be done in them.
@@ -22,25 +22,25 @@ pub enum Code {
 }
 
 impl Code {
+    #[inline]
     pub(crate) fn number(self) -> u64
         ensures { result ≡ code_number self }
     {
         self as u64
     }
 
-    pub(crate) fn from_number(number: u64) -> Option<Code>
-        ensures refused { IsNone result ↔ (7 ≤ number) }
-        ensures value { IfSome result (λ code. code_number code ≡ number) }
+    #[inline]
+    pub(crate) fn of_number(number: u64) -> Code
+        ensures { result ≡ code_of number }
     {
         match number {
-            0 => Some(Code::Inactive),
-            1 => Some(Code::Active),
-            2 => Some(Code::ActiveOne),
-            3 => Some(Code::ActiveMany),
-            4 => Some(Code::Committing),
-            5 => Some(Code::CommittingMany),
-            6 => Some(Code::Discarding),
-            _ => None,
+            0 => Code::Inactive,
+            1 => Code::Active,
+            2 => Code::ActiveOne,
+            3 => Code::ActiveMany,
+            4 => Code::Committing,
+            5 => Code::CommittingMany,
+            _ => Code::Discarding,
         }
     }
 }

@@ -6,6 +6,7 @@ use crate::{Act, Code, SpecId, Word};
 
 /// What `speculate` does at the word of the identifier's slot. `mine`: the CPU is a caller of this
 /// speculation. The second caller makes it one of several CPUs, which no later call takes back.
+#[inline]
 pub fn speculate_at(word: Word, id: SpecId, mine: bool) -> Act
     requires { CanBeReleased word }
     ensures { result ≡ speculate_at word id mine }

@@ -48,12 +48,25 @@ fn replay_text(alloc: Global, text: &[u8]) -> Result<String, ReplayFault> {
     }
 }
 
+/// Reads an input to its end. A read that fails, or one too many, is a fault of the device.
+fn read_whole<R: Read>(alloc: Global, input: &mut R) -> Result<Vec<u8>, ReplayFault> {
+    let mut text = Vec::new(alloc);
+    let mut part = [0u8; 4096];
+    for _ in 0..u32::MAX {
+        let Ok(count) = input.read(&mut part) else {
+            return Err(ReplayFault::Device);
+        };
+        if count == 0 {
+            return Ok(text);
+        }
+        text.extend_from_slice(&part[..count])?;
+    }
+    Err(ReplayFault::Device)
+}
+
 /// Reads the whole input, and prints once the whole play has succeeded.
 fn run(rt: &HostRuntime) -> Result<(), ReplayFault> {
-    let mut text = Vec::new(rt.alloc());
-    if rt.stdin().read_to_end(&mut text).is_err() {
-        return Err(ReplayFault::Device);
-    }
+    let text = read_whole(rt.alloc(), &mut rt.stdin())?;
     let printed = replay_text(rt.alloc(), text.as_slice())?;
     if print!(rt; "{printed}").is_err() {
         return Err(ReplayFault::Device);

@@ -2,4 +2,4 @@ use Rattle.std.proofs.Common.{◌∙◌, sym}
 use Rattle.dspec_cpu.proofs.fitting.would_fit.Goals as goal
 
 pub fits-requires : goal.fits-requires
-fits-requires g c = (g.met.S.Schema.shapes_fit c.args.schema.now c.epid.result c.unwrap-shape.result (sym c.shape.ensures ∙ c.unwrap-shape.ensures)).aligned
+fits-requires g c = (g.met.S.Schema.shapes_fit c.args.schema.now c.epid.result c.in-Some.shape (sym c.shape.ensures ∙ c.in-Some.is)).aligned

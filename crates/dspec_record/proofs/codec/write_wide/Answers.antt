@@ -1,20 +1,25 @@
 -- Each branch writes the most bytes that there is room for.
-use Rattle.std.proofs.Common.{◌++◌, ◌∙◌, ap, take, drop, refl, inl, inr, arith}
+use Rattle.std.proofs.Common.{◌++◌, ◌∙◌, length, sym, ap, take, drop, refl, inl, inr, arith}
+use Rattle.std.proofs.lemmas.Bool.{leb-true, leb-false}
 use Rattle.dspec_record.proofs.codec.write_wide.Goals as goal
 
-pub returns-then-out-ge8 : goal.returns-then-out-ge8
-returns-then-out-ge8 c = record {
-  count = 8;
-  wide = inl (refl, omega arith);
-  bytes = ap (λ b. b ++ drop 8 c.args.out.now) (c.copy_from_slice.ensures.after ∙ c.to_le_bytes-bytes.ensures);
-}
+pub returns-then-wide : goal.returns-then-wide
+returns-then-wide c =
+    let long = leb-true 8 (length c.args.out.now) (sym c.requires.wide ∙ c.if-wide.true) in
+    record {
+      count = 8;
+      wide = inl (refl, long);
+      bytes = ap (λ b. b ++ drop 8 c.args.out.now) (c.copy_from_slice.ensures.after ∙ c.to_le_bytes-bytes.ensures);
+    }
 
 pub returns-then-out-ge4 : goal.returns-then-out-ge4
-returns-then-out-ge4 c = record {
-  count = 4;
-  wide = inr (inl (refl, omega arith, omega arith));
-  bytes = ap (λ b. b ++ drop 4 c.args.out.now) (c.copy_from_slice-then-out-ge4.ensures.after ∙ ap (take 4) c.to_le_bytes-bytes.ensures);
-}
+returns-then-out-ge4 c =
+    let short = leb-false 8 (length c.args.out.now) (sym c.requires.wide ∙ c.if-wide.false) in
+    record {
+      count = 4;
+      wide = inr (inl (refl, omega arith, omega arith));
+      bytes = ap (λ b. b ++ drop 4 c.args.out.now) (c.copy_from_slice-then-out-ge4.ensures.after ∙ ap (take 4) c.to_le_bytes-bytes.ensures);
+    }
 
 pub returns-then-out-ge2 : goal.returns-then-out-ge2
 returns-then-out-ge2 c = record {

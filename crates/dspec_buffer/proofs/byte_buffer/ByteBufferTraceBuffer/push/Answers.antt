@@ -1,8 +1,8 @@
 use Rattle.std.proofs.Common.{◌≡◌, Some, true, false, ap, sym, ◌∙◌, arith, length, take, replicate, ◌++◌, ◌-◌}
-use Rattle.dspec_buffer.specs.Extent.{one, extent, padded, piece_align}
+use Rattle.dspec_buffer.specs.Extent.{one, extent, padded}
 use Rattle.dspec_buffer.proofs.SchemaLaws.{SchemaLaws}
 use Rattle.dspec_buffer.proofs.Texts.{text_facts}
-use Rattle.dspec_buffer.proofs.Fitting.{refuses, admits, placed, laid_back}
+use Rattle.dspec_buffer.proofs.Fitting.{refuses, admits, placed, laid_whole}
 use Rattle.dspec_buffer.proofs.Keeping.{offset_is, fits_says, shape_says, kept, accepted_alone}
 use Rattle.dspec_buffer.proofs.byte_buffer.ByteBufferTraceBuffer.push.Goals as goal
 
@@ -11,8 +11,8 @@ place_for-requires-clause-aligned g c =
     let s = c.args.schema.now in
     (g.met.S.Schema.shapes_fit s c.epid.result c.unwrap-shape.result (sym c.shape.ensures ∙ c.unwrap-shape.ensures)).aligned
 
-pub pad-requires-clause-gap : goal.pad-requires-clause-gap
-pad-requires-clause-gap g c =
+pub put_behind-requires-clause-gap : goal.put_behind-requires-clause-gap
+put_behind-requires-clause-gap g c =
     let s = c.args.schema.now in
     let fit = g.met.S.Schema.shapes_fit s c.epid.result c.unwrap-shape.result (sym c.shape.ensures ∙ c.unwrap-shape.ensures) in
     let with_epid = fit.with_epid in
@@ -90,8 +90,9 @@ returns-clause-kept g c = λ ps h.
     let limit = c.size.ensures in
     let fitting = c.in-Some.ensures.1 in
     let slice = c.as_mut_slice-bytes.ensures.len in
-    let written : length c.put.new.out ≡ c.unwrap-shape.result.size = ap length c.put.ensures ∙ t.size ∙ says.0 in
-    let back = laid_back c.self.inside.offset c.unwrap-shape.result.align c.in-Some.place c.unwrap-shape.result.size c.self.inside.bytes.len c.self.inside.bytes.items c.self.inside.bytes.items c.pad.new.bytes c.put.new.out c.self.invariant.words fit.aligned c.in-Some.ensures.0 (λ z. omega arith) written (omega arith) (omega arith) (c.pad.ensures ∙ ap (λ z. take c.self.inside.offset z ++ replicate (c.in-Some.place - c.self.inside.offset) 0) c.as_mut_slice-bytes.ensures.value) in
+    let written : length (g.S.Schema.text s c.args.rec.now) ≡ c.unwrap-shape.result.size = t.size ∙ says.0 in
+    let back = laid_whole c.self.inside.offset c.unwrap-shape.result.align c.in-Some.place c.unwrap-shape.result.size c.self.inside.bytes.len c.self.inside.bytes.items c.self.inside.bytes.items c.put_behind.new.bytes (g.S.Schema.text s c.args.rec.now) c.self.invariant.words fit.aligned c.in-Some.ensures.0 (λ z. omega arith) written (omega arith) (omega arith)
+    (c.put_behind.ensures ∙ ap (λ z. take c.self.inside.offset z ++ (replicate (c.in-Some.place - c.self.inside.offset) 0 ++ g.S.Schema.text s c.args.rec.now)) c.as_mut_slice-bytes.ensures.value) in
     kept (g.S.Schema.shape_of s) (g.S.Schema.accepted s) (g.S.Schema.text s) laws c.args.self.now _ (one c.args.rec.now) ps h (accepted_alone (g.S.Schema.shape_of s) (g.S.Schema.accepted s) (g.S.Schema.text s) laws c.args.rec.now c.requires)
-    (back ∙ ap (λ z. z ++ padded c.self.inside.offset c.unwrap-shape.result.align c.put.new.out) (ap (λ b. b.text) c.self.view_is) ∙ ap (λ z. c.args.self.now.text ++ padded z c.unwrap-shape.result.align c.put.new.out) at ∙ ap (λ z. c.args.self.now.text ++ padded (extent (g.S.Schema.shape_of s) ps) z c.put.new.out) (sym says.1) ∙ ap (λ z. c.args.self.now.text ++ padded (extent (g.S.Schema.shape_of s) ps) (piece_align (g.S.Schema.shape_of s) (one c.args.rec.now)) z) c.put.ensures)
+    (back ∙ ap (λ z. z ++ padded c.self.inside.offset c.unwrap-shape.result.align (g.S.Schema.text s c.args.rec.now)) (ap (λ b. b.text) c.self.view_is) ∙ ap (λ z. c.args.self.now.text ++ padded z c.unwrap-shape.result.align (g.S.Schema.text s c.args.rec.now)) at ∙ ap (λ z. c.args.self.now.text ++ padded (extent (g.S.Schema.shape_of s) ps) z (g.S.Schema.text s c.args.rec.now)) (sym says.1))
     (let count = ap (λ b. b.count) c.self.view_is in omega arith)

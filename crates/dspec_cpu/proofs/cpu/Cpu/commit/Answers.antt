@@ -27,7 +27,7 @@ pub go_on-reached-requires-clause-mine : goal.go_on-reached-requires-clause-mine
 go_on-reached-requires-clause-mine g c = λ within.
     let cpu = c.args.self.now in
     let ready = c.requires.ready in
-    c.is_mine-mine.ensures within ready.list ready.listed.shown
+    c.is_mine-mine.ensures.is within ready.list ready.listed.shown
     ∙ (ap (λ m. m == c.args.id.issue + 1) (own_mark cpu.cpu c.args.id.slot (known cpu.seat).own ready.list cpu.config ready.listed.own)
     ∙ ap (λ n. mark n c.args.id.slot (known cpu.seat).own == c.args.id.issue + 1) (sym ready.seat))
 
@@ -133,7 +133,7 @@ returns-in_default-clause-decides g c =
     let owns = subst (λ (x : Config × ℕ). OwnsCommit x.0 x.1 id.slot w (Attempt to)) (λ i. (ready.config i, (c.go_on-reached.ensures.seat.1 ∙ ready.seat) i)) c.in-Done.ensures.release in
     let several : to.code ≢ Committing = λ e. absurd (c.in_default.not-Committing (c.code.ensures ∙ e)) in
     decides_open _ _ _ words cpu ready id fit mine n to w got c.fate_of-fate.result.1 c.fate_of-fate.ensures.answer _ _ owns several (λ p had.
-    let marked = c.is_mine-mine.ensures within p had.shown in
+    let marked = c.is_mine-mine.ensures.is within p had.shown in
     let tells : mine ≡ true → mark cpu.cpu id.slot p ≡ id.issue + 1 = λ t. same_number (mark cpu.cpu id.slot p) (id.issue + 1) (sym marked ∙ t) in
     let block = block_shown _ _ _ words cpu ready id fit mine n to w got p had record { mine_is = marked; fitting = c.measure_slot-fits.ensures.fits within p had.shown tells; counting = c.measure_slot-fits.ensures.count within p had.shown tells }
     (c.slot.result - 1) place c.go_on-reached.new.seat c.end_block.new.buffers (λ b at. let t = c.end_block.ensures.buffer b at in (t.0, t.1, t.2, λ ps h. t.3 cpu.schema ps h)) c.end_block.new.active c.end_block.ensures.size (λ ps rs b at. c.end_block.ensures.active cpu.schema ps rs b at)
@@ -170,7 +170,7 @@ returns-in_default-clause-ready g c =
     let place : c.slot.result - 1 ≡ id.slot - 1 = ap (λ s. s - 1) c.slot.ensures.value in
     ready_after _ _ _ words cpu ready _ (Commit cpu.cpu id (block_fate fit n) ∷ []) refl refl c.go_on-reached.ensures.seat.0 c.go_on-reached.ensures.seat.1 got.stands ready.idle ready.spare ready.few (Commit cpu.cpu id (block_fate fit n) ∷ ready.list)
     (let p = ready.list in let had = ready.listed in
-    let marked = c.is_mine-mine.ensures within p had.shown in
+    let marked = c.is_mine-mine.ensures.is within p had.shown in
     let tells : mine ≡ true → mark cpu.cpu id.slot p ≡ id.issue + 1 = λ t. same_number (mark cpu.cpu id.slot p) (id.issue + 1) (sym marked ∙ t) in
     let block = block_shown _ _ _ words cpu ready id fit mine n to w got p had record { mine_is = marked; fitting = c.measure_slot-fits.ensures.fits within p had.shown tells; counting = c.measure_slot-fits.ensures.count within p had.shown tells }
     (c.slot.result - 1) place c.go_on-reached.new.seat c.end_block.new.buffers (λ b at. let t = c.end_block.ensures.buffer b at in (t.0, t.1, t.2, λ ps h. t.3 cpu.schema ps h)) c.end_block.new.active c.end_block.ensures.size (λ ps rs b at. c.end_block.ensures.active cpu.schema ps rs b at)
@@ -194,7 +194,7 @@ returns-in-Committing-clause-decides g c =
     let u = known c.release_word.new.self in
     let stands = alone_stands _ _ _ words cpu ready id fit mine n to w got u c.slot-in-Committing.result c.slot-in-Committing.ensures.value c.release_word.ensures.step in
     decides_alone _ _ _ words cpu ready id fit mine n to w got u c.slot-in-Committing.result c.slot-in-Committing.ensures.value c.release_word.ensures.step c.fate_of-fate.result.1 c.fate_of-fate.ensures.answer _ _ (λ p had.
-    let marked = c.is_mine-mine.ensures within p had.shown in
+    let marked = c.is_mine-mine.ensures.is within p had.shown in
     let tells : mine ≡ true → mark cpu.cpu id.slot p ≡ id.issue + 1 = λ t. same_number (mark cpu.cpu id.slot p) (id.issue + 1) (sym marked ∙ t) in
     let block = block_shown _ _ _ words cpu ready id fit mine n to w got p had record { mine_is = marked; fitting = c.measure_slot-fits.ensures.fits within p had.shown tells; counting = c.measure_slot-fits.ensures.count within p had.shown tells }
     (c.slot.result - 1) place c.go_on-reached.new.seat c.end_block.new.buffers (λ b at. let t = c.end_block.ensures.buffer b at in (t.0, t.1, t.2, λ ps h. t.3 cpu.schema ps h)) c.end_block.new.active c.end_block.ensures.size (λ ps rs b at. c.end_block.ensures.active cpu.schema ps rs b at)
@@ -219,7 +219,7 @@ returns-in-Committing-clause-ready g c =
     let stands = alone_stands _ _ _ words cpu ready id fit mine n to w got u c.slot-in-Committing.result c.slot-in-Committing.ensures.value c.release_word.ensures.step in
     ready_after _ _ _ words cpu ready _ (Release id.slot ∷ Commit cpu.cpu id (block_fate fit n) ∷ []) refl refl c.release_word.ensures.seat.0 (c.release_word.ensures.seat.1 ∙ c.go_on-reached.ensures.seat.1) stands ready.idle ready.spare ready.few (Release id.slot ∷ Commit cpu.cpu id (block_fate fit n) ∷ ready.list)
     (let p = ready.list in let had = ready.listed in
-    let marked = c.is_mine-mine.ensures within p had.shown in
+    let marked = c.is_mine-mine.ensures.is within p had.shown in
     let tells : mine ≡ true → mark cpu.cpu id.slot p ≡ id.issue + 1 = λ t. same_number (mark cpu.cpu id.slot p) (id.issue + 1) (sym marked ∙ t) in
     let block = block_shown _ _ _ words cpu ready id fit mine n to w got p had record { mine_is = marked; fitting = c.measure_slot-fits.ensures.fits within p had.shown tells; counting = c.measure_slot-fits.ensures.count within p had.shown tells }
     (c.slot.result - 1) place c.go_on-reached.new.seat c.end_block.new.buffers (λ b at. let t = c.end_block.ensures.buffer b at in (t.0, t.1, t.2, λ ps h. t.3 cpu.schema ps h)) c.end_block.new.active c.end_block.ensures.size (λ ps rs b at. c.end_block.ensures.active cpu.schema ps rs b at)

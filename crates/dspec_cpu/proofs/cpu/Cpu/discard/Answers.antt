@@ -25,7 +25,7 @@ pub go_on-reached-requires-clause-mine : goal.go_on-reached-requires-clause-mine
 go_on-reached-requires-clause-mine g c = λ within.
     let cpu = c.args.self.now in
     let ready = c.requires.ready in
-    c.is_mine-mine.ensures within ready.list ready.listed.shown
+    c.is_mine-mine.ensures.is within ready.list ready.listed.shown
     ∙ (ap (λ m. m == c.args.id.issue + 1) (own_mark cpu.cpu c.args.id.slot (known cpu.seat).own ready.list cpu.config ready.listed.own)
     ∙ ap (λ n. mark n c.args.id.slot (known cpu.seat).own == c.args.id.issue + 1) (sym ready.seat))
 
@@ -101,7 +101,7 @@ returns-in-Done-clause-decides g c =
     let place : c.slot.result - 1 ≡ id.slot - 1 = ap (λ s. s - 1) c.slot.ensures.value in
     let owns = subst (λ (x : Config × ℕ). OwnsCommit x.0 x.1 id.slot w (Attempt to)) (λ i. (ready.config i, (c.go_on-reached.ensures.seat.1 ∙ ready.seat) i)) c.in-Done.ensures.release in
     throws _ _ _ words cpu ready id mine n to w got _ _ owns (λ p had.
-    let marked = c.is_mine-mine.ensures within p had.shown in
+    let marked = c.is_mine-mine.ensures.is within p had.shown in
     let tells : mine ≡ true → mark cpu.cpu id.slot p ≡ id.issue + 1 = λ t. same_number (mark cpu.cpu id.slot p) (id.issue + 1) (sym marked ∙ t) in
     thrown_listed _ _ _ words cpu ready id mine n to w got p had marked (c.measure_slot-count.ensures.count within p had.shown tells)
     (c.slot.result - 1) place c.go_on-reached.new.seat refl c.end_block.new.buffers (λ b at. let t = c.end_block.ensures.buffer b at in (t.0, t.1, t.2, λ ps h. t.3 cpu.schema ps h)) c.end_block.new.active c.end_block.ensures.size (λ ps rs b at. c.end_block.ensures.active cpu.schema ps rs b at)
@@ -123,7 +123,7 @@ returns-in-Done-clause-ready g c =
     let owns = subst (λ (x : Config × ℕ). OwnsCommit x.0 x.1 id.slot w (Attempt to)) (λ i. (ready.config i, (c.go_on-reached.ensures.seat.1 ∙ ready.seat) i)) c.in-Done.ensures.release in
     ready_after _ _ _ words cpu ready _ (deeds _ _ _ words cpu ready id mine n to w got) refl refl c.go_on-reached.ensures.seat.0 c.go_on-reached.ensures.seat.1 got.stands (still_idle _ _ _ words cpu ready id mine n to w got) ready.spare ready.few (deeds _ _ _ words cpu ready id mine n to w got ++ ready.list)
     (let p = ready.list in let had = ready.listed in
-    let marked = c.is_mine-mine.ensures within p had.shown in
+    let marked = c.is_mine-mine.ensures.is within p had.shown in
     let tells : mine ≡ true → mark cpu.cpu id.slot p ≡ id.issue + 1 = λ t. same_number (mark cpu.cpu id.slot p) (id.issue + 1) (sym marked ∙ t) in
     thrown_listed _ _ _ words cpu ready id mine n to w got p had marked (c.measure_slot-count.ensures.count within p had.shown tells)
     (c.slot.result - 1) place c.go_on-reached.new.seat refl c.end_block.new.buffers (λ b at. let t = c.end_block.ensures.buffer b at in (t.0, t.1, t.2, λ ps h. t.3 cpu.schema ps h)) c.end_block.new.active c.end_block.ensures.size (λ ps rs b at. c.end_block.ensures.active cpu.schema ps rs b at)

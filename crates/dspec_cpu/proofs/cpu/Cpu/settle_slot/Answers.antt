@@ -1,9 +1,10 @@
 use Rattle.std.proofs.Common.{◌<◌, ◌^◌, ◌∙◌, [], refl, sym, ap, arith}
+use Rattle.dspec_word.specs.Code.{awaits}
 use Rattle.dspec_deeds.specs.Closes.{is_granted}
 use Rattle.dspec_table.specs.Seats.{cpu_of, set_up}
 use Rattle.dspec_cpu.specs.Lists.{batches_of, side_of}
 use Rattle.dspec_cpu.proofs.Ready.{ready_after}
-use Rattle.dspec_cpu.proofs.Services.{can, load_stands, may_settle, not_granted, passed, passed_list, settle_stands, settled_list, slot_done}
+use Rattle.dspec_cpu.proofs.Services.{can, load_stands, may_settle, not_granted, passed, passed_early, passed_list, settle_stands, settled_list, slot_done}
 use Rattle.dspec_cpu.proofs.cpu.Cpu.settle_slot.Goals as goal
 
 pub settle_block-doing-requires : goal.settle_block-doing-requires
@@ -60,6 +61,21 @@ returns-in_default g c =
     let ready = c.requires.ready in
     let none = ap is_granted (sym c.settle_at.ensures) ∙ not_granted c.settle_at.result c.in_default.not-Granted in
     let done = passed _ _ _ c.args.words.now cpu ready c.args.slot c.requires.slot.0 c.requires.slot.1 c.load_word-word.new.self c.load_word-word.result c.serve.result c.serve.ensures c.load_word-word.ensures.step c.index.result.now c.index.ensures none in
+    record {
+      ready = ready_after _ _ _ c.args.words.now cpu ready (record cpu { seat = c.load_word-word.new.self }) [] refl refl c.load_word-word.ensures.seat.0 c.load_word-word.ensures.seat.1
+          (load_stands _ _ _ c.args.words.now cpu ready c.args.slot c.requires.slot.0 c.requires.slot.1 c.load_word-word.new.self c.load_word-word.result c.serve.result c.serve.ensures c.load_word-word.ensures.step)
+          ready.idle ready.spare ready.few ready.list (passed_list _ _ _ c.args.words.now cpu ready c.args.slot c.requires.slot.0 c.requires.slot.1 c.load_word-word.new.self c.load_word-word.result c.serve.result c.serve.ensures c.load_word-word.ensures.step ready.list ready.listed);
+      same = (record { schema = refl; config = refl; number = refl; pair = refl }, refl);
+      keeps = record { end = refl; spare = refl; in_hand = refl; seals = refl };
+      settled = done;
+    }
+
+pub returns-then-not-waits : goal.returns-then-not-waits
+returns-then-not-waits g c =
+    let cpu = c.args.self.now in
+    let ready = c.requires.ready in
+    let none = sym (c.waits.ensures ∙ ap awaits c.code.ensures) ∙ c.if-not-waits.true in
+    let done = passed_early _ _ _ c.args.words.now cpu ready c.args.slot c.requires.slot.0 c.requires.slot.1 c.load_word-word.new.self c.load_word-word.result c.serve.result c.serve.ensures c.load_word-word.ensures.step none in
     record {
       ready = ready_after _ _ _ c.args.words.now cpu ready (record cpu { seat = c.load_word-word.new.self }) [] refl refl c.load_word-word.ensures.seat.0 c.load_word-word.ensures.seat.1
           (load_stands _ _ _ c.args.words.now cpu ready c.args.slot c.requires.slot.0 c.requires.slot.1 c.load_word-word.new.self c.load_word-word.result c.serve.result c.serve.ensures c.load_word-word.ensures.step)

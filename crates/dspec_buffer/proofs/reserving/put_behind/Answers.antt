@@ -1,0 +1,15 @@
+use Rattle.std.proofs.Common.{◌≡◌, ◌+◌, ◌-◌, ◌++◌, length, take, replicate, sym, ap, ◌∙◌, arith}
+use Rattle.std.proofs.lemmas.Slice.{take-put_mid}
+use Rattle.dspec_buffer.proofs.reserving.put_behind.Goals as goal
+
+pub returns-else-from-place : goal.returns-else-from-place
+returns-else-from-place g c =
+    let from = c.args.from in
+    let place = c.args.place in
+    let here : place ≡ from = omega (arith, c.requires.gap) in
+    let nothing : 0 ≡ place - from = omega (arith, here) in
+    let long : c.args.end ≡ place + length c.put.new.out = c.requires.end ∙ ap (λ z. place + length z) (sym c.put.ensures) in
+    take-put_mid place (c.args.end - place) c.args.bytes.now c.put.new.out c.args.end long (omega arith)
+    ∙ ap (λ z. take z c.args.bytes.now ++ c.put.new.out) here
+    ∙ ap (λ z. take from c.args.bytes.now ++ (replicate z 0 ++ c.put.new.out)) nothing
+    ∙ ap (λ z. take from c.args.bytes.now ++ (replicate (place - from) 0 ++ z)) c.put.ensures

@@ -1,0 +1,9 @@
+use Rattle.std.proofs.Common.{◌∙◌, ap, nat_cmp}
+use Rattle.dspec_word.specs.Word.{word_number}
+use Rattle.dspec_word.specs.Laws.Words.{raw_is}
+use Rattle.dspec_word.proofs.word.WordOrd.cmp.Goals as goal
+
+pub returns : goal.returns
+returns c = c.cmp.ensures
+    ∙ ap (λ n. nat_cmp n c.t2-1.inside.raw) (raw_is c.t1-1.inside c.args.self.now c.t1-1.invariant c.t1-1.view_is)
+    ∙ ap (λ n. nat_cmp (word_number c.args.self.now) n) (raw_is c.t2-1.inside c.args.other.now c.t2-1.invariant c.t2-1.view_is)
