@@ -1,7 +1,7 @@
 //! What the arguments ask.
 
-use crate::subject::{SUBJECTS, Subject};
 use crate::way::{WAYS, Way};
+use dspec_samples::{SUBJECTS, Subject};
 
 /// The most records that one run takes: the largest buffer has room for so many of 24 bytes.
 pub const MOST_RECORDS: u32 = 40_000;

@@ -1,8 +1,8 @@
 //! What becomes of the records on each way, the same on every machine.
 
 use crate::ready::Ready;
-use crate::subject::SUBJECTS;
 use crate::way::WAYS;
+use dspec_samples::SUBJECTS;
 use std::io;
 
 /// How many records take each way.

@@ -10,15 +10,15 @@
 mod asking;
 mod checking;
 mod ready;
-mod subject;
+mod setup;
 mod timing;
 mod way;
 
 use asking::{Ask, MOST_RECORDS, ask_of};
+use dspec_samples::Subject;
 use ready::Ready;
 use std::process::ExitCode;
 use std::{env, io};
-use subject::Subject;
 use way::Way;
 
 /// The exit status where the arguments ask nothing that the program does.

@@ -1,8 +1,9 @@
 //! A subject's setup, whichever schema it has.
 
-use crate::subject::{Setup, Subject, Taken, enablings};
+use crate::setup::{Setup, Taken};
 use crate::way::Way;
 use dspec_record::{DefaultAction, Enablings, Rec, Schema, StampedAction};
+use dspec_samples::{Subject, timed_enablings};
 use std::alloc::Global;
 use std::io;
 
@@ -15,7 +16,7 @@ pub enum Ready {
 
 impl Ready {
     pub fn make(alloc: Global, subject: Subject) -> io::Result<Ready> {
-        let (Some(rec), Ok(enablings)) = (subject.record(), enablings()) else {
+        let (Some(rec), Ok(enablings)) = (subject.record(), timed_enablings()) else {
             return Err(no_setup());
         };
         match subject {

@@ -2,8 +2,8 @@
 
 use crate::asking::MOST_RECORDS;
 use crate::ready::Ready;
-use crate::subject::{SUBJECTS, Subject};
 use crate::way::{WAYS, Way};
+use dspec_samples::{SUBJECTS, Subject};
 use std::alloc::Global;
 use std::io;
 use std::time::Instant;

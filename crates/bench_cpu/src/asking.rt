@@ -1,41 +1,31 @@
 //! What the arguments ask.
-use crate::subject::{SUBJECTS, Size, Subject};
+use crate::taking::Size;
 use crate::way::{WAYS, Way};
+use dspec_samples::{Subject, UNSTAMPED};
 
 /// The most records that one run takes: so many of 24 bytes have room in a small buffer.
 const MOST_RECORDS: u32 = 20_000;
 
+/// One way, which so many records take in buffers of a size.
 #[derive(Debug, Clone, Copy, PartialEq, Eq)]
-pub enum Ask {
-    /// To take each way once and tell what became of the records.
-    Check,
-    /// To take one way by so many records.
-    Count {
-        way: Way,
-        subject: Subject,
-        size: Size,
-        number: u32,
-    },
+pub struct Run {
+    pub way: Way,
+    pub subject: Subject,
+    pub size: Size,
+    pub number: u32,
 }
 
-/// What the arguments behind the program's name ask; None where it is nothing that the program does.
-pub fn ask_of(words: &[String]) -> Option<Ask> {
-    match words {
-        [] | [_] => Some(Ask::Check),
-        [_, way, subject, size, number] => Some(Ask::Count {
-            way: WAYS
-                .iter()
-                .find(|known| known.name() == way.as_str())
-                .copied()?,
-            subject: SUBJECTS
-                .iter()
-                .find(|known| known.name() == subject.as_str())
-                .copied()?,
-            size: size_of(size.as_str())?,
-            number: count_of(number.as_str())?,
-        }),
-        _ => None,
-    }
+/// The run that four words ask for; None where they ask for nothing that the program does.
+pub fn run_of(way: &str, subject: &str, size: &str, number: &str) -> Option<Run> {
+    Some(Run {
+        way: WAYS.iter().find(|known| known.name() == way).copied()?,
+        subject: UNSTAMPED
+            .iter()
+            .find(|known| known.name() == subject)
+            .copied()?,
+        size: size_of(size)?,
+        number: count_of(number)?,
+    })
 }
 
 fn size_of(word: &str) -> Option<Size> {

@@ -8,53 +8,41 @@
 #![tactic(auto)]
 
 mod asking;
+mod checking;
 mod starting;
-mod subject;
+mod taking;
 mod way;
 
-use asking::{Ask, ask_of};
+use asking::run_of;
 use std::process::ExitCode;
 use std::{env, io};
-use subject::{SUBJECTS, Size, take};
-use way::WAYS;
+use taking::take;
 
 /// The exit status where the arguments ask nothing that the program does.
 const USAGE_STATUS: u8 = 2;
-
-/// How many records take each way when all are looked at.
-const CHECK_RECORDS: u32 = 1_000;
-
-fn check_all(rt: &HostRuntime) -> io::Result<()> {
-    for way in WAYS {
-        for subject in SUBJECTS {
-            let count = take(rt.alloc(), way, subject, Size::Small, CHECK_RECORDS).unwrap_or(0);
-            println!(rt; "{} {}: {count}", way.name(), subject.name())?;
-        }
-    }
-    Ok(())
-}
 
 fn main(rt: HostRuntime) -> io::Result<ExitCode> {
     let mut words = Vec::new(rt.alloc());
     for word in env::args(&rt)? {
         words.push(word)?;
     }
-    match ask_of(words.as_slice()) {
-        Some(Ask::Check) => check_all(&rt)?,
-        Some(
-            Ask::Count {
-                way,
-                subject,
-                size,
-                number,
-            },
-        ) => {
-            let _ = take(rt.alloc(), way, subject, size, number);
+    let asked = match words.as_slice() {
+        [] | [_] => {
+            checking::check_all(&rt)?;
+            return Ok(ExitCode::SUCCESS);
         }
-        None => {
-            eprintln!(rt; "bench_cpu: usage: bench_cpu [WAY RECORD SIZE NUMBER]")?;
-            return Ok(ExitCode::from(USAGE_STATUS));
-        }
-    }
+        [_, way, subject, size, number] => run_of(
+            way.as_str(),
+            subject.as_str(),
+            size.as_str(),
+            number.as_str(),
+        ),
+        _ => None,
+    };
+    let Some(run) = asked else {
+        eprintln!(rt; "bench_cpu: usage: bench_cpu [WAY RECORD SIZE NUMBER]")?;
+        return Ok(ExitCode::from(USAGE_STATUS));
+    };
+    let _ = take(rt.alloc(), run);
     Ok(ExitCode::SUCCESS)
 }

@@ -40,10 +40,10 @@ fn act_at(op: &CpuOp, word: Word, mine: bool) -> Act
 fn exchange(
     seat: &mut CpuSeat,
     words: &Words,
+    doing: &Doing,
     slot: u32,
     from: Word,
     to: Word,
-    doing: &Doing,
 ) -> Result<(), Word>
     requires seat { IsAt words.now seat.old }
     requires slot { (1 ≤ slot) × (slot ≤ (set_up words.now).nspec) }
@@ -81,7 +81,7 @@ fn work(seat: &mut CpuSeat, words: &Words, slot: u32, _id: SpecId, doing: &Doing
         let Act::Attempt(to) = act else {
             return act;
         };
-        match exchange(seat, words, slot, word, to, doing) {
+        match exchange(seat, words, doing, slot, word, to) {
             Ok(()) => return act,
             Err(shown) => word = shown,
         }

@@ -67,10 +67,10 @@ impl<S: Schema> Cpu<S> {
     {
         let fits = self.fits_slot(id, rec, mine, inside);
         let doing = Doing {
+            mine,
             op: CpuOp::Speculate(id, *rec),
             fits,
             count: 0,
-            mine,
         };
         let reached = go_on(&mut self.seat, &shared.words, id, inside, &doing);
         self.calls += 1;

@@ -4,7 +4,7 @@ use Rattle.std.specs.Prelude.{nat_lt}
 use Rattle.dspec_word.specs.SpecId.{Speculation}
 use Rattle.dspec_word.specs.Word.{word_number}
 use Rattle.dspec_word.specs.declared.code.Code.{Code}
-use Rattle.dspec_word.specs.declared.code.Code.TheVariants.{Inactive, Active, ActiveOne, ActiveMany, Committing, CommittingMany, Discarding}
+use Rattle.dspec_word.specs.declared.code.Code.TheVariants.{Inactive, Active, Committing, CommittingMany, Discarding}
 use Rattle.dspec_word.specs.Code.{code_number}
 use Rattle.dspec_deeds.specs.declared.config.Config.{Config}
 use Rattle.dspec_deeds.specs.declared.deed.Deed.{Deed}
@@ -12,19 +12,10 @@ use Rattle.dspec_deeds.specs.declared.deed.Deed.TheVariants.{Opened, Speculate, 
 use Rattle.dspec_deeds.specs.FateKinds.{spoken_granted, is_commit, is_discard}
 use Rattle.dspec_deeds.specs.History.{is_among, issue, present, opened, undecided, committed, callers, joined, standing, active_code, is_sole_or_none, code_at, word_at}
 use Rattle.dspec_deeds.specs.Legal.{IsSound}
+use Rattle.dspec_word.proofs.Numbers.{code_below}
 use Rattle.dspec_deeds.proofs.TestLemmas.{either_way, and_tells, not_false, same_number}
 use Rattle.dspec_deeds.proofs.PresentIds.{IsPresent, open_present}
 use Rattle.dspec_deeds.proofs.WordChanges.{touches, untouched, granted_open, commit_open, discard_open, opened_word, granted_word, committed_word, discarded_word, released_word}
-
--- the greatest code
-code_bound : (c : Code) → code_number c ≤ 6
-code_bound Inactive = omega arith
-code_bound Active = omega arith
-code_bound ActiveOne = omega arith
-code_bound ActiveMany = omega arith
-code_bound Committing = omega arith
-code_bound CommittingMany = omega arith
-code_bound Discarding = omega arith
 
 -- the greatest code of an open speculation
 active_bound : (cs : List ℕ) → code_number (active_code cs) ≤ 3
@@ -97,7 +88,7 @@ words_rise k t d h s = ⊎_elim
         (open_word id h (open_present k h id s.0 (discard_open k c id f h s both.0))) (discarded_word k c id f h s both.0)
         (let a = active_bound (callers id h) in omega arith))
     go (Release n) s hit =
-        let b = code_bound (code_at (present n h) h) in
+        let b = code_below (code_at (present n h) h) in
         let e : word_number (word_at n (Release n ∷ h)) ≡ (issue n h + 1) * 8 + 0 = ap word_number (released_word k n h s.0) in
         subst (λ x. word_number (word_at x h) ≤ word_number (word_at x (Release n ∷ h))) (sym (same_number t n hit))
         (subst (λ x. word_number (word_at n h) ≤ x) (sym e) (omega arith))

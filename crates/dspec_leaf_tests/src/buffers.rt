@@ -1,8 +1,10 @@
 //! Both buffers, and the reader of a stored text.
-use crate::records::four_enablings;
 use crate::same::same;
-use dspec_buffer::{ByteBuffer, ListBuffer, ReadFault, TraceBuffer, laws, read_all};
+use dspec_buffer::{ByteBuffer, ListBuffer, TraceBuffer, laws};
 use dspec_record::{DefaultAction, Enablings, Field, ReadKind, Rec, Schema};
+use dspec_samples::{
+    PADDED_TEXT, WHOLE_TEXTS, cut_fault, damaged, damages, fault, fault_of, four_enablings, is_read,
+};
 use std::alloc::AllocError;
 use std::process::Abort;
 use std::test::Fail;
@@ -51,32 +53,6 @@ pub fn walks<S: Schema, B: TraceBuffer<S>>(schema: &S, buffer: &B, wanted: &[Rec
     buffer.next(schema, place).is_none()
 }
 
-/// Whether the text is read as these records.
-pub fn reads<S: Schema>(schema: &S, text: &[u8], wanted: &[Rec]) -> bool {
-    let Ok(mut records) = read_all(schema, text) else {
-        return false;
-    };
-    for rec in wanted {
-        if records.next() != Some(*rec) {
-            return false;
-        }
-    }
-    records.next().is_none()
-}
-
-pub fn fault_of<S: Schema>(schema: &S, text: &[u8]) -> Option<ReadFault> {
-    read_all(schema, text).err()
-}
-
-fn fault(kind: ReadKind, at: usize) -> Option<ReadFault> {
-    Some(ReadFault { kind, at })
-}
-
-/// The text of the records 1, 2(7) and 4(9) of the four enablings.
-pub const PADDED_TEXT: [u8; 32] = [
-    1, 0, 0, 0, 0, 0, 0, 0, 2, 0, 0, 0, 0, 0, 0, 0, 7, 0, 0, 0, 0, 0, 0, 0, 4, 0, 0, 0, 9, 0, 0, 0,
-];
-
 /// Records that need padding, and two that don't fit.
 fn pad_records<B: TraceBuffer<Enablings>>(
     rt: &(impl Abort + AllocGlobal),
@@ -101,7 +77,7 @@ fn padded_records(rt: HostRuntime) -> Result<(), Fail> {
     same(&rt, bytes.bytes(), PADDED_TEXT.as_slice());
     same(&rt, bytes.size(), 32);
     let kept = [rec(&rt, 1, &[]), rec(&rt, 2, &[7]), rec(&rt, 4, &[9])];
-    assert!(rt; reads(&schema, bytes.bytes(), &kept));
+    assert!(rt; is_read(&schema, bytes.bytes(), &kept));
     TraceBuffer::<Enablings>::clear(&mut bytes);
     assert!(rt; bytes.bytes().is_empty() && walks(&schema, &bytes, &[]));
     let _list: ListBuffer = pad_records(&rt, &schema)?;
@@ -249,7 +225,7 @@ fn byte_buffer(rt: HostRuntime) -> Result<(), Fail> {
     same(&rt, keep(&rt, &schema, &mut bytes, 2, &[]), (false, 48));
     same(&rt, bytes.bytes().get(20..24), Some([0; 4].as_slice()));
     let (first, last) = (rec(&rt, 1, &[5, 6]), rec(&rt, 2, &[]));
-    assert!(rt; reads(&schema, bytes.bytes(), &[first, first, last]));
+    assert!(rt; is_read(&schema, bytes.bytes(), &[first, first, last]));
     let mut count = 0u8;
     if let Ok(records) = laws::read_back(&schema, &bytes) {
         for _rec in records {
@@ -263,7 +239,7 @@ fn byte_buffer(rt: HostRuntime) -> Result<(), Fail> {
 #[test]
 fn reader_faults(rt: HostRuntime) -> Result<(), Fail> {
     let schema = four_enablings()?;
-    assert!(rt; reads(&schema, &[], &[]));
+    assert!(rt; is_read(&schema, &[], &[]));
     same(
         &rt,
         fault_of(&schema, &[0, 0, 0, 0, 1, 0, 0, 0]),
@@ -301,7 +277,7 @@ fn reader_faults(rt: HostRuntime) -> Result<(), Fail> {
         fault_of(&DefaultAction, &twice),
         fault(ReadKind::Padding, 8),
     );
-    assert!(rt; reads(&DefaultAction, &[9, 0, 0, 0], &[rec(&rt, 9, &[])]));
+    assert!(rt; is_read(&DefaultAction, &[9, 0, 0, 0], &[rec(&rt, 9, &[])]));
     Ok(())
 }
 
@@ -311,19 +287,12 @@ fn truncated_texts(rt: HostRuntime) -> Result<(), Fail> {
     let kept = [rec(&rt, 1, &[]), rec(&rt, 2, &[7]), rec(&rt, 4, &[9])];
     for length in 0..=PADDED_TEXT.len() {
         let text = &PADDED_TEXT[..length];
-        let wanted = match length {
-            0 | 4 | 24 | 32 => None,
-            1..=3 => fault(ReadKind::Truncated, 0),
-            5..=7 => fault(ReadKind::Truncated, 4),
-            8 => fault(ReadKind::Padding, 4),
-            9..=23 => fault(ReadKind::Truncated, 8),
-            _ => fault(ReadKind::Truncated, 24),
-        };
+        let wanted = cut_fault(length);
         same(&rt, (length, fault_of(&schema, text)), (length, wanted));
     }
-    for (length, count) in [(0, 0), (4, 1), (24, 2), (32, 3)] {
+    for (length, count) in WHOLE_TEXTS {
         assert!(rt;
-            reads(&schema, &PADDED_TEXT[..length], &kept[..count]),
+            is_read(&schema, &PADDED_TEXT[..length], &kept[..count]),
             "at {length}"
         );
     }
@@ -333,21 +302,13 @@ fn truncated_texts(rt: HostRuntime) -> Result<(), Fail> {
 #[test]
 fn damaged_texts(rt: HostRuntime) -> Result<(), Fail> {
     let schema = four_enablings()?;
-    let damages = [
-        (13, 1, fault(ReadKind::GapNotZero, 8)),
-        (8, 9, fault(ReadKind::UnknownEpid, 8)),
-        (8, 0, fault(ReadKind::Padding, 8)),
-        (4, 1, None),
-    ];
-    for (at, byte, wanted) in damages {
-        let mut text = PADDED_TEXT;
-        text[at] = byte;
+    for (at, byte, wanted) in damages() {
+        let text = damaged(PADDED_TEXT, at, byte);
         same(&rt, (at, fault_of(&schema, &text)), (at, wanted));
     }
-    let mut text = PADDED_TEXT;
-    text[4] = 1;
+    let text = damaged(PADDED_TEXT, 4, 1);
     let (first, second, last) = (rec(&rt, 1, &[]), rec(&rt, 2, &[7]), rec(&rt, 4, &[9]));
-    assert!(rt; reads(&schema, &text, &[first, first, second, last]));
+    assert!(rt; is_read(&schema, &text, &[first, first, second, last]));
     Ok(())
 }
 

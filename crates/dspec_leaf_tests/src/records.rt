@@ -3,17 +3,8 @@ use crate::same::same;
 use dspec_record::{
     DefaultAction, Enablings, Field, ReadKind, Rec, Schema, SchemaFault, Shape, laws,
 };
+use dspec_samples::four_enablings;
 use std::test::Fail;
-
-/// The enablings 1 none, 2 [8], 3 [1, 2], 4 [4].
-pub fn four_enablings() -> Result<Enablings, SchemaFault> {
-    let mut enablings = Enablings::new();
-    enablings.enable(&[])?;
-    enablings.enable(&[Field::Eight])?;
-    enablings.enable(&[Field::One, Field::Two])?;
-    enablings.enable(&[Field::Four])?;
-    Ok(enablings)
-}
 
 /// Writes the record into a slice that fits it; whether it did.
 pub fn put_whole<S: Schema>(schema: &S, rec: &Rec, out: &mut [u8]) -> bool {

@@ -1,11 +1,12 @@
 //! Records with a stamp, by all three schemas, and texts that are upgraded to them.
-use crate::buffers::{PADDED_TEXT, buffer, fault_of, reads, walks};
-use crate::records::{four_enablings, put_whole, read};
+use crate::buffers::{buffer, walks};
+use crate::records::{put_whole, read};
 use crate::same::same;
 use dspec_buffer::{ByteBuffer, ListBuffer, ReadFault, TraceBuffer, UpgradeFault, upgrade};
 use dspec_record::{
     DefaultAction, Enablings, Field, Header, ReadKind, Rec, Schema, Shape, StampedAction, laws,
 };
+use dspec_samples::{PADDED_TEXT, fault_of, four_enablings, is_read};
 use std::process::Abort;
 use std::test::Fail;
 
@@ -146,7 +147,7 @@ fn stamped_traces(rt: HostRuntime) -> Result<(), Fail> {
     let bytes: ByteBuffer = trace_stamped(&rt)?;
     same(&rt, bytes.bytes(), STAMPED_TEXT.as_slice());
     let kept = [stamped(&rt, 1, 7, &[]), stamped(&rt, 2, 8, &[])];
-    assert!(rt; reads(&StampedAction, bytes.bytes(), &kept));
+    assert!(rt; is_read(&StampedAction, bytes.bytes(), &kept));
     let _list: ListBuffer = trace_stamped(&rt)?;
     Ok(())
 }
@@ -181,7 +182,7 @@ fn upgraded_texts(rt: HostRuntime) -> Result<(), Fail> {
         stamped(&rt, 2, 5, &[7]),
         stamped(&rt, 4, 5, &[9]),
     ];
-    assert!(rt; reads(&four_enablings()?.stamped(), to.bytes(), &wanted));
+    assert!(rt; is_read(&four_enablings()?.stamped(), to.bytes(), &wanted));
     for (size, number) in [(48, 2), (32, 1), (8, 0)] {
         let (answer, to) = upgraded(&rt, &PADDED_TEXT, size)?;
         same(&rt, answer, Err(UpgradeFault::Full(number)));

@@ -1,9 +1,9 @@
 //! What values and faults print.
 use crate::buffers::buffer;
-use crate::records::four_enablings;
 use crate::same::same;
 use dspec_buffer::{ByteBuffer, ListBuffer, ReadFault, TraceBuffer, UpgradeFault, read_all};
 use dspec_record::{Enablings, ReadKind, Rec, SchemaFault, StampedAction};
+use dspec_samples::four_enablings;
 use dspec_word::SpecId;
 use std::collections::HashSet;
 use std::fmt::Display;

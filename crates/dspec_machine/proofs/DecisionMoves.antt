@@ -31,7 +31,7 @@ use Rattle.dspec_play.proofs.DecideMoves.{commit_leaves, commit_next, commit_voi
 use Rattle.dspec_play.proofs.StepReads.{flight_stands, step_legal}
 use Rattle.dspec_play.proofs.StepsWords.{same_word_tells}
 use Rattle.dspec_play.proofs.TableReads.{commit_reads, discard_reads}
-use Rattle.dspec_machine.proofs.WordNumbers.{words_test}
+use Rattle.dspec_play.proofs.StepsWords.{words_test}
 use Rattle.dspec_machine.proofs.DoneSides.{no_commit_side, no_discard_side}
 use Rattle.dspec_machine.proofs.OtherSides.{words_stay}
 

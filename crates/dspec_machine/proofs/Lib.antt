@@ -10,7 +10,6 @@ pub mod PrincipalSides
 pub mod OwnParts
 pub mod CallSides
 pub mod DoneSides
-pub mod WordNumbers
 pub mod DecisionMoves
 pub mod EndedSides
 pub mod SoloDiscards

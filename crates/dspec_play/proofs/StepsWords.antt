@@ -11,32 +11,25 @@ use Rattle.dspec_word.specs.SpecId.{Speculation}
 use Rattle.dspec_word.specs.Word.{SlotState, word_number}
 use Rattle.dspec_word.specs.Tables.{speculate_at, speculate_act, commit_at, commit_act, discard_at, discard_act, open_at, settle_at}
 use Rattle.dspec_play.specs.Play.{same_word, is_alone}
+use Rattle.dspec_word.proofs.Numbers.{one_code, one_word}
 use Rattle.dspec_deeds.proofs.TestLemmas.{either_way, off, and_tells, same_number, number_is_itself}
 
 pub word_is_itself : (w : SlotState) → same_word w w ≡ true
 word_is_itself w = let a = number_is_itself w.issue in let b = number_is_itself (code_number w.code) in rw (a, b) refl
 
--- the code of a number
-abbrev code_of : ℕ → Code
-code_of n =
-    if n == 0 then Inactive else if n == 1 then Active else if n == 2 then ActiveOne else if n == 3 then ActiveMany
-    else if n == 4 then Committing else if n == 5 then CommittingMany else Discarding
-
-code_back : (c : Code) → code_of (code_number c) ≡ c
-code_back Inactive = refl
-code_back Active = refl
-code_back ActiveOne = refl
-code_back ActiveMany = refl
-code_back Committing = refl
-code_back CommittingMany = refl
-code_back Discarding = refl
-
 -- equal words
 pub same_word_tells : (v w : SlotState) → same_word v w ≡ true → v ≡ w
 same_word_tells v w e =
     let both = and_tells (v.issue == w.issue) (code_number v.code == code_number w.code) e in
-    let codes : v.code ≡ w.code = sym (code_back v.code) ∙ (ap code_of (same_number (code_number v.code) (code_number w.code) both.1) ∙ code_back w.code) in
+    let codes = one_code v.code w.code (same_number (code_number v.code) (code_number w.code) both.1) in
     λ i. record { issue = same_number v.issue w.issue both.0 i; code = codes i }
+
+-- words are tested by their numbers, plays test them by their parts
+pub words_test : (v w : SlotState) → (word_number v == word_number w) ≡ same_word v w
+words_test v w = ⊎_elim
+    (λ (e : same_word v w ≡ true). ap (λ x. word_number v == word_number x) (sym (same_word_tells v w e)) ∙ number_is_itself (word_number v) ∙ sym e)
+    (λ e. ⊎_elim (λ t. t ∙ sym (ap (same_word v) (sym (one_word v w (same_number (word_number v) (word_number w) t))) ∙ word_is_itself v)) (λ f. f ∙ sym e) (either_way (word_number v == word_number w)))
+    (either_way (same_word v w))
 
 -- another word of the same issue that is no less has a greater code
 pub code_rises : (from w : SlotState) (n : ℕ) → from.issue ≡ n → w.issue ≡ n → word_number from ≤ word_number w → same_word w from ≡ false → code_number from.code < code_number w.code

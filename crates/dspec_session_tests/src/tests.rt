@@ -6,10 +6,10 @@ ghost use Rattle.dspec_cpu.specs.Lists.{words_of};
 ghost use Rattle.dspec_session.specs.Consumers.{IsConsumerOf};
 
 use dspec_cpu::Shared;
-use dspec_deeds::{Config, CpuOp, Policy};
 use dspec_ring::{CpuEnd, pair};
+use dspec_samples::sized;
 use dspec_session::Consumer;
-use dspec_table::{CpuSeat, Doing, Words};
+use dspec_table::{CpuSeat, Words};
 use std::alloc::{AllocError, Global};
 use std::process::Abort;
 use std::test::Fail;
@@ -26,34 +26,6 @@ mod staging;
 mod switching;
 mod texts;
 
-/// Two CPUs and one slot, with principal buffers of 16 bytes.
-fn small() -> Config
-    ensures sizes { (result.cpus ≡ 2) × (result.nspec ≡ 1) }
-    ensures issues { result.max_issues ≡ 8 }
-{
-    Config {
-        cpus: 2,
-        nspec: 1,
-        bufsize: 16,
-        specsize: 64,
-        max_issues: 8,
-        max_calls: 100,
-        policy: Policy::Switch,
-    }
-}
-
-/// A call of this kind, with nothing to keep, by a CPU that is no caller.
-fn doing(op: CpuOp) -> Doing
-    ensures op { result.op ≡ op }
-{
-    Doing {
-        op,
-        fits: false,
-        count: 0,
-        mine: false,
-    }
-}
-
 /// A session that has just begun: what is shared, its CPUs' seats, the first CPU's end of its rings, and the consumer.
 fn begun(alloc: Global) -> Result<(Shared, CpuSeat, CpuSeat, CpuEnd, Consumer), AllocError>
     ensures first { IfOk result (λ r. IsAt (words_of r.0) r.1 × (cpu_of r.1 ≡ 0) × ((known r.1).own ≡ [])) }
@@ -62,7 +34,7 @@ fn begun(alloc: Global) -> Result<(Shared, CpuSeat, CpuSeat, CpuEnd, Consumer), 
     ensures consumer { IfOk result (λ r. IsConsumerOf (words_of r.0) r.4) }
     ensures sizes { IfOk result (λ r. ((set_up (words_of r.0)).cpus ≡ 2) × ((set_up (words_of r.0)).nspec ≡ 1) × ((set_up (words_of r.0)).max_issues ≡ 8)) }
 {
-    let config = small();
+    let config = sized(2, 1, 16, 64);
     let Ok((words, mut seats, seat)) = Words::start(alloc, &config) else {
         return Err(AllocError);
     };

@@ -1,7 +1,7 @@
 -- What a call answers, from the number that its exchange found.
 use Rattle.std.proofs.Common.{◌≡◌, ◌≢◌, ℕ, true, false, ◌==◌, sym, ◌∙◌, subst}
 use Rattle.dspec_word.specs.Word.{SlotState, word_number}
-use Rattle.dspec_table.proofs.Numbers.{one_word}
+use Rattle.dspec_word.proofs.Numbers.{one_word}
 use Rattle.dspec_deeds.proofs.TestLemmas.{number_is_itself, other_number}
 use Rattle.dspec_table.specs.declared.rule.View.{View}
 use Rattle.dspec_table.specs.declared.doing.Doing.{Doing}

@@ -1,4 +1,3 @@
-pub mod Numbers
 pub mod HolderTests
 pub mod OwnReading
 pub mod Pasts

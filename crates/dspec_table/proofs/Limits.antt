@@ -17,7 +17,7 @@ use Rattle.dspec_table.specs.declared.rule.View.{View}
 use Rattle.dspec_table.specs.Steps.{Found}
 use Rattle.dspec_table.specs.Showing.{IsWordNumber}
 use Rattle.dspec_word.specs.Code.{code_number}
-use Rattle.dspec_table.proofs.Numbers.{code_below}
+use Rattle.dspec_word.proofs.Numbers.{code_below}
 
 -- what was given out has an issue below the most
 pub issue_below : (k : Config) (h : List Deed) (id : Speculation) → IsSound k h → opened id h ≡ true → id.issue < k.max_issues

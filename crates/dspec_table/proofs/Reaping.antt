@@ -4,7 +4,7 @@ use prog.Atomic.{either}
 use Rattle.atomic_table.specs.Table.{Allows, Me}
 use Rattle.dspec_word.specs.Word.{SlotState, word_number, released}
 use Rattle.dspec_word.specs.declared.code.Code.TheVariants.{Inactive}
-use Rattle.dspec_table.proofs.Numbers.{one_word}
+use Rattle.dspec_word.proofs.Numbers.{one_word}
 use Rattle.dspec_deeds.specs.declared.config.Config.{Config}
 use Rattle.dspec_deeds.specs.declared.deed.Deed.{Deed}
 use Rattle.dspec_deeds.specs.declared.deed.Deed.TheVariants.{Release}

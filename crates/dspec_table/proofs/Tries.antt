@@ -9,7 +9,7 @@ use Rattle.dspec_word.specs.declared.code.Code.{Code}
 use Rattle.dspec_word.specs.declared.code.Code.TheVariants.{Inactive, Discarding}
 use Rattle.dspec_word.specs.Code.{is_inactive}
 use Rattle.dspec_word.specs.Tables.{speculate_at, commit_at, discard_at}
-use Rattle.dspec_table.proofs.Numbers.{one_word}
+use Rattle.dspec_word.proofs.Numbers.{one_word}
 use Rattle.dspec_deeds.specs.declared.config.Config.{Config}
 use Rattle.dspec_record.specs.Record.{Record}
 use Rattle.dspec_deeds.specs.declared.deed.Deed.{Deed}

@@ -1,5 +1,5 @@
 //! Seats in turn on one thread.
-ghost use Rattle.std.specs.Prelude.{◌≡◌, ◌≤◌, IfOk, IfSome, IfNone, true, false, [], ◌∷◌};
+ghost use Rattle.std.specs.Prelude.{◌≡◌, ◌≤◌, IfOk, IfSome, IfNone, true, [], ◌∷◌};
 ghost use Rattle.dspec_deeds.specs.declared.deed.Deed.TheVariants.{Scan};
 ghost use Rattle.dspec_table.specs.Conditions.{MayOpen, active};
 ghost use Rattle.dspec_table.specs.Last.{last_set_up, last_words, Ended};
@@ -7,7 +7,8 @@ ghost use Rattle.dspec_table.specs.Seats.{known, known_there, IsAt, IsConsumerAt
 ghost use Rattle.dspec_table_tests.specs.Opener.{Shut};
 ghost use Rattle.dspec_table_tests.specs.Calls.{Unused};
 
-use dspec_deeds::{Config, CpuOp, Policy, StartFault};
+use dspec_deeds::{Config, CpuOp, StartFault};
+use dspec_samples::{doing, sized};
 use dspec_table::{ConsumerSeat, CpuSeat, Doing, LastWords, Words};
 use dspec_word::{Code, Word};
 use std::alloc::{AllocError, Global};
@@ -27,28 +28,7 @@ fn small() -> Config
     ensures sizes { (result.cpus ≡ 2) × (result.nspec ≡ 1) }
     ensures issues { result.max_issues ≡ 8 }
 {
-    Config {
-        cpus: 2,
-        nspec: 1,
-        bufsize: 64,
-        specsize: 64,
-        max_issues: 8,
-        max_calls: 100,
-        policy: Policy::Switch,
-    }
-}
-
-/// A call of this kind, with nothing to keep, by a CPU that is no caller.
-fn doing(op: CpuOp) -> Doing
-    ensures op { result.op ≡ op }
-    ensures mine { result.mine ≡ false }
-{
-    Doing {
-        op,
-        fits: false,
-        count: 0,
-        mine: false,
-    }
+    sized(2, 1, 64, 64)
 }
 
 /// The words of a small session, and its three seats.

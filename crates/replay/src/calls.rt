@@ -1,45 +1,12 @@
-ghost use Rattle.std.specs.Prelude.{◌≡◌};
-ghost use Rattle.dspec_cpu.specs.Lists.{IsSameCpu, schema_of, words_of};
+ghost use Rattle.dspec_cpu.specs.Lists.{words_of};
 ghost use Rattle.dspec_session.specs.Consumers.{IsConsumerOf, IsSameConsumer};
 
 use crate::fault::Halt;
 use crate::taken::Basket;
-use dspec_cpu::{Cpu, Listed, Shared};
-use dspec_deeds::{Answer, ConsumerOp, CpuOp};
+use dspec_cpu::Shared;
+use dspec_deeds::{Answer, ConsumerOp};
 use dspec_record::Schema;
 use dspec_session::Consumer;
-
-/// A call of a CPU, or None, and nothing changes, where its record isn't one of the schema.
-pub fn call_cpu<S: Schema>(
-    shared: &Shared,
-    schema: &S,
-    cpu: &mut Cpu<S>,
-    op: CpuOp,
-) -> Option<Answer>
-    requires ready { ⟦<Cpu<S> as Listed>⟧.is_ready (words_of shared.now) cpu.old }
-    requires schema { schema_of cpu.old ≡ schema.now }
-    ensures ready { ⟦<Cpu<S> as Listed>⟧.is_ready (words_of shared.now) cpu.new }
-    ensures same { IsSameCpu cpu.old cpu.new }
-{
-    match op {
-        CpuOp::Trace(rec) => {
-            if !schema.accepts(&rec) {
-                return None;
-            }
-            Some(Answer::Traced(cpu.trace(shared, &rec)))
-        }
-        CpuOp::Speculation => Some(Answer::Opening(cpu.speculation(shared))),
-        CpuOp::Speculate(id, rec) => {
-            if !schema.accepts(&rec) {
-                return None;
-            }
-            Some(Answer::Spoken(cpu.speculate(shared, id, &rec)))
-        }
-        CpuOp::Commit(id) => Some(Answer::Decided(cpu.commit(shared, id))),
-        CpuOp::Discard(id) => Some(Answer::Decided(cpu.discard(shared, id))),
-        CpuOp::Service => Some(Answer::Served(cpu.service(shared))),
-    }
-}
 
 /// Gives the batch of a CPU that is out longest back, and says whether it went; there may be none.
 fn give_oldest_back(shared: &Shared, consumer: &mut Consumer, basket: &mut Basket, cpu: u32) -> bool

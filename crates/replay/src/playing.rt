@@ -1,9 +1,10 @@
-ghost use Rattle.std.specs.Prelude.{◌≡◌, IfOk};
+ghost use Rattle.std.specs.Prelude.{IfOk};
 ghost use Rattle.dspec_session.specs.Sessions.{IsSession};
 
-use crate::calls::{call_consumer, call_cpu};
+use crate::calls::call_consumer;
 use crate::fault::Halt;
 use crate::taken::Basket;
+use dspec_calls::{Uncalled, meet_all, run_cpu};
 use dspec_cpu::{Cpu, Listed};
 use dspec_deeds::{Actor, Answer, Config, ConsumerOp, CpuOp, Op, StartFault, Turn};
 use dspec_play::{PlayFault, Series};
@@ -44,14 +45,10 @@ impl<S: Schema> Playing<S> {
         requires session { IsSession ⟦<Cpu<S> as Listed>⟧.is_ready self.old.schema self.old.session }
         ensures session { IsSession ⟦<Cpu<S> as Listed>⟧.is_ready self.new.schema self.new.session }
     {
-        let session = &mut self.session;
-        let place = cpu as usize;
-        if place >= session.cpus.len() {
-            return Err(Halt::Play(PlayFault::NoSuchActor(number)));
-        }
-        match call_cpu(&session.shared, &self.schema, &mut session.cpus[place], op) {
-            Some(answer) => Ok(answer),
-            None => Err(Halt::Play(PlayFault::BadRecord(number))),
+        match run_cpu(&mut self.session, &self.schema, cpu, op) {
+            Ok(answer) => Ok(answer),
+            Err(Uncalled::NoSuchCpu) => Err(Halt::Play(PlayFault::NoSuchActor(number))),
+            Err(Uncalled::BadRecord) => Err(Halt::Play(PlayFault::BadRecord(number))),
         }
     }
 
@@ -73,19 +70,6 @@ impl<S: Schema> Playing<S> {
             &mut self.basket,
             op,
         )
-    }
-
-    /// The consumer meets each CPU, CPU 0 first: then each has seen what any other did before.
-    fn meet_all(&mut self)
-        requires session { IsSession ⟦<Cpu<S> as Listed>⟧.is_ready self.old.schema self.old.session }
-        ensures session { IsSession ⟦<Cpu<S> as Listed>⟧.is_ready self.new.schema self.new.session }
-    {
-        let session = &mut self.session;
-        for place in 0..session.cpus.len() {
-            session
-                .consumer
-                .meet(&session.shared, &mut session.cpus[place]);
-        }
     }
 
     /// A whole call, with who makes it and what it answers.
@@ -110,13 +94,13 @@ impl<S: Schema> Playing<S> {
         }
     }
 
-    /// One turn, which has to be a whole call, and then the meetings.
+    /// One turn, which has to be a whole call, and then the meetings of the consumer with each CPU.
     pub fn turn(&mut self, number: usize, turn: Turn) -> Result<(), Halt>
         requires session { IsSession ⟦<Cpu<S> as Listed>⟧.is_ready self.old.schema self.old.session }
         ensures session { IsSession ⟦<Cpu<S> as Listed>⟧.is_ready self.new.schema self.new.session }
     {
         let ended = self.run(number, turn)?;
-        self.meet_all();
+        meet_all(&mut self.session, &self.schema);
         self.answers.push(ended)?;
         Ok(())
     }

@@ -149,9 +149,9 @@ pub fn serve<R: Threads + Eprint + Sync>(
     ensures { IfOk result (λ r. IsWatched server.now.schema r.0) }
 {
     let Session {
+        consumer,
         shared,
         cpus,
-        consumer,
     } = session;
     let words = &shared;
     let (drained, cpus) = thread::join(

@@ -1,5 +1,5 @@
 //! Reservations in a principal buffer, by records and by blocks.
-use crate::tests::schedules::{Row, play_all};
+use crate::tests::schedules::{PLAIN, Row, play_all};
 use std::test::Fail;
 
 const ROWS: [Row<'static>; 7] = [
@@ -7,15 +7,9 @@ const ROWS: [Row<'static>; 7] = [
     // same.
     Row {
         name: "padded-records",
-        asked: 0,
-        lent: &[],
-        meets: false,
-        schedule: "config 2 1 32 8 8 100
-enable
-enable 8
-enable 1 2
-enable 4
-run 0 trace 1
+        config: "config 2 1 32 8 8 100",
+        enabled: true,
+        calls: "run 0 trace 1
 run 0 trace 2 7
 run 0 trace 2 8
 run 0 trace 4 9
@@ -39,48 +33,39 @@ cpu 1 discard 1 thrown 0
 cpu 0 discard 1 void
 report cpu 0 offered 7 accepted 3 dropped 2 specdropped 1 lost 0 discarded 0 void 0 held 1 drops 2 unavailable 0 busy 0 stopped 0 worn 0
 stream cpu 0: 1 2(7) 4(9)
-report cpu 1 offered 1 accepted 0 dropped 0 specdropped 1 lost 0 discarded 0 void 0 held 0 drops 0 unavailable 0 busy 0 stopped 0 worn 0
+",
+        second: "report cpu 1 offered 1 accepted 0 dropped 0 specdropped 1 lost 0 discarded 0 void 0 held 0 drops 0 unavailable 0 busy 0 stopped 0 worn 0
 stream cpu 1:
 ",
         text: &[
             1, 0, 0, 0, 0, 0, 0, 0, 2, 0, 0, 0, 0, 0, 0, 0, 7, 0, 0, 0, 0, 0, 0, 0, 4, 0, 0, 0, 9,
             0, 0, 0,
         ],
+        ..PLAIN
     },
     // A record that is larger than the buffer is always dropped.
     Row {
         name: "too-large-record",
-        asked: 0,
-        lent: &[],
-        meets: false,
-        schedule: "config 2 1 8 8 8 100
-enable
-enable 8
-enable 1 2
-enable 4
-run 0 trace 2 7
+        config: "config 2 1 8 8 8 100",
+        enabled: true,
+        calls: "run 0 trace 2 7
 run 1 trace 3 171 4660",
         wanted: "cpu 0 trace dropped
 cpu 1 trace kept
 report cpu 0 offered 1 accepted 0 dropped 1 specdropped 0 lost 0 discarded 0 void 0 held 0 drops 1 unavailable 0 busy 0 stopped 0 worn 0
 stream cpu 0:
-report cpu 1 offered 1 accepted 1 dropped 0 specdropped 0 lost 0 discarded 0 void 0 held 0 drops 0 unavailable 0 busy 0 stopped 0 worn 0
+",
+        second: "report cpu 1 offered 1 accepted 1 dropped 0 specdropped 0 lost 0 discarded 0 void 0 held 0 drops 0 unavailable 0 busy 0 stopped 0 worn 0
 stream cpu 1: 3(171,4660)
 ",
-        text: &[],
+        ..PLAIN
     },
     // A block that doesn't fit is lost whole, as one drop, though a part of it would fit.
     Row {
         name: "lost-block",
-        asked: 0,
-        lent: &[],
-        meets: false,
-        schedule: "config 2 1 16 16 8 100
-enable
-enable 8
-enable 1 2
-enable 4
-run 0 trace 4 9
+        config: "config 2 1 16 16 8 100",
+        enabled: true,
+        calls: "run 0 trace 4 9
 run 0 speculation
 run 0 speculate 1 1
 run 0 speculate 1 1
@@ -100,19 +85,14 @@ cpu 0 trace kept
 cpu 0 trace dropped
 report cpu 0 offered 6 accepted 2 dropped 1 specdropped 0 lost 3 discarded 0 void 0 held 0 drops 2 unavailable 0 busy 0 stopped 0 worn 0
 stream cpu 0: 4(9) 4(8)
-report cpu 1 offered 0 accepted 0 dropped 0 specdropped 0 lost 0 discarded 0 void 0 held 0 drops 0 unavailable 0 busy 0 stopped 0 worn 0
-stream cpu 1:
 ",
-        text: &[],
+        ..PLAIN
     },
     // A block is aligned to 8, so that four free bytes may not do.
     Row {
         name: "aligned-block",
-        asked: 0,
-        lent: &[],
-        meets: false,
-        schedule: "config 2 1 8 8 8 100
-run 0 trace 1
+        config: "config 2 1 8 8 8 100",
+        calls: "run 0 trace 1
 run 0 speculation
 run 0 speculate 1 1
 run 0 commit 1
@@ -124,19 +104,14 @@ cpu 0 commit 1 lost 1
 cpu 0 trace kept
 report cpu 0 offered 3 accepted 2 dropped 0 specdropped 0 lost 1 discarded 0 void 0 held 0 drops 1 unavailable 0 busy 0 stopped 0 worn 0
 stream cpu 0: 1 2
-report cpu 1 offered 0 accepted 0 dropped 0 specdropped 0 lost 0 discarded 0 void 0 held 0 drops 0 unavailable 0 busy 0 stopped 0 worn 0
-stream cpu 1:
 ",
-        text: &[],
+        ..PLAIN
     },
     // With 8 bytes more it has room, behind a padding word.
     Row {
         name: "aligned-block-with-room",
-        asked: 0,
-        lent: &[],
-        meets: false,
-        schedule: "config 2 1 16 8 8 100
-run 0 trace 1
+        config: "config 2 1 16 8 8 100",
+        calls: "run 0 trace 1
 run 0 speculation
 run 0 speculate 1 1
 run 0 commit 1
@@ -150,23 +125,17 @@ cpu 0 trace kept
 cpu 0 trace dropped
 report cpu 0 offered 4 accepted 3 dropped 1 specdropped 0 lost 0 discarded 0 void 0 held 0 drops 1 unavailable 0 busy 0 stopped 0 worn 0
 stream cpu 0: 1 1 2
-report cpu 1 offered 0 accepted 0 dropped 0 specdropped 0 lost 0 discarded 0 void 0 held 0 drops 0 unavailable 0 busy 0 stopped 0 worn 0
-stream cpu 1:
 ",
         text: &[1, 0, 0, 0, 0, 0, 0, 0, 1, 0, 0, 0, 2, 0, 0, 0],
+        ..PLAIN
     },
     // A block is copied as it stands in the speculative buffer.
     Row {
         name: "commit",
         asked: 1,
-        lent: &[],
-        meets: false,
-        schedule: "config 2 1 64 64 8 100
-enable
-enable 8
-enable 1 2
-enable 4
-run 0 speculation
+        config: "config 2 1 64 64 8 100",
+        enabled: true,
+        calls: "run 0 speculation
 run 0 speculate 1 1
 run 0 speculate 1 4 5
 run 0 commit 1
@@ -178,23 +147,16 @@ cpu 0 commit 1 copied 2
 cpu 0 speculation 65
 report cpu 0 offered 2 accepted 2 dropped 0 specdropped 0 lost 0 discarded 0 void 0 held 0 drops 0 unavailable 0 busy 0 stopped 0 worn 0
 stream cpu 0: 1 4(5)
-report cpu 1 offered 0 accepted 0 dropped 0 specdropped 0 lost 0 discarded 0 void 0 held 0 drops 0 unavailable 0 busy 0 stopped 0 worn 0
-stream cpu 1:
 ",
         text: &[1, 0, 0, 0, 4, 0, 0, 0, 5, 0, 0, 0],
+        ..PLAIN
     },
     // A record that a speculation holds is accepted behind one that was traced after it.
     Row {
         name: "acceptance-order",
-        asked: 0,
-        lent: &[],
-        meets: false,
-        schedule: "config 2 1 16 8 8 100
-enable
-enable 8
-enable 1 2
-enable 4
-run 0 speculation
+        config: "config 2 1 16 8 8 100",
+        enabled: true,
+        calls: "run 0 speculation
 run 0 speculate 1 4 9
 run 0 speculate 1 1
 run 0 trace 1
@@ -208,10 +170,11 @@ cpu 0 commit 1 copied 1
 cpu 1 trace kept
 report cpu 0 offered 3 accepted 2 dropped 0 specdropped 1 lost 0 discarded 0 void 0 held 0 drops 0 unavailable 0 busy 0 stopped 0 worn 0
 stream cpu 0: 1 4(9)
-report cpu 1 offered 1 accepted 1 dropped 0 specdropped 0 lost 0 discarded 0 void 0 held 0 drops 0 unavailable 0 busy 0 stopped 0 worn 0
+",
+        second: "report cpu 1 offered 1 accepted 1 dropped 0 specdropped 0 lost 0 discarded 0 void 0 held 0 drops 0 unavailable 0 busy 0 stopped 0 worn 0
 stream cpu 1: 2(5)
 ",
-        text: &[],
+        ..PLAIN
     },
 ];
 

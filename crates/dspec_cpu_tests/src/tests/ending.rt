@@ -1,5 +1,5 @@
 //! Calls behind a stop, and behind the last call that counts.
-use crate::tests::schedules::{Row, play_all};
+use crate::tests::schedules::{PLAIN, Row, play_all};
 use std::test::Fail;
 
 const ROWS: [Row<'static>; 3] = [
@@ -7,11 +7,8 @@ const ROWS: [Row<'static>; 3] = [
     // service isn't.
     Row {
         name: "stopped-and-worn",
-        asked: 0,
-        lent: &[],
-        meets: false,
-        schedule: "config 2 1 64 64 8 7
-run 0 speculation
+        config: "config 2 1 64 64 8 7",
+        calls: "run 0 speculation
 run 0 speculate 1 1
 run consumer stop
 run 0 trace 1
@@ -43,19 +40,17 @@ cpu 0 service sealed no settled 0
 cpu 1 trace stopped
 report cpu 0 offered 3 accepted 0 dropped 0 specdropped 0 lost 0 discarded 0 void 2 held 1 drops 0 unavailable 0 busy 0 stopped 5 worn 5
 stream cpu 0:
-report cpu 1 offered 1 accepted 0 dropped 0 specdropped 0 lost 0 discarded 0 void 1 held 0 drops 0 unavailable 0 busy 0 stopped 1 worn 0
+",
+        second: "report cpu 1 offered 1 accepted 0 dropped 0 specdropped 0 lost 0 discarded 0 void 1 held 0 drops 0 unavailable 0 busy 0 stopped 1 worn 0
 stream cpu 1:
 ",
-        text: &[],
+        ..PLAIN
     },
     // A slot is given out as often as it has issues.
     Row {
         name: "retired-slot",
-        asked: 0,
-        lent: &[],
-        meets: false,
-        schedule: "config 2 1 64 64 2 100
-run 0 speculation
+        config: "config 2 1 64 64 2 100",
+        calls: "run 0 speculation
 run 0 commit 1
 run 1 speculation
 run 1 commit 65
@@ -67,19 +62,15 @@ cpu 1 commit 65 copied 0
 cpu 0 speculation 0 unavailable
 report cpu 0 offered 0 accepted 0 dropped 0 specdropped 0 lost 0 discarded 0 void 0 held 0 drops 0 unavailable 1 busy 0 stopped 0 worn 0
 stream cpu 0:
-report cpu 1 offered 0 accepted 0 dropped 0 specdropped 0 lost 0 discarded 0 void 0 held 0 drops 0 unavailable 0 busy 0 stopped 0 worn 0
-stream cpu 1:
 ",
-        text: &[],
+        ..PLAIN
     },
     // A service behind a stop, and behind the last call, settles and seals all the same.
     Row {
         name: "service-behind-the-last-call",
         asked: 1,
-        lent: &[],
-        meets: false,
-        schedule: "config 2 1 64 64 8 2
-run 0 speculation
+        config: "config 2 1 64 64 8 2",
+        calls: "run 0 speculation
 run 1 speculate 1 7
 run 0 commit 1
 run consumer stop
@@ -101,10 +92,11 @@ cpu 0 service sealed yes settled 1
 consumer take 0 batch drops 0 records 0:
 report cpu 0 offered 0 accepted 0 dropped 0 specdropped 0 lost 0 discarded 0 void 0 held 0 drops 0 unavailable 0 busy 0 stopped 0 worn 1
 stream cpu 0:
-report cpu 1 offered 2 accepted 1 dropped 0 specdropped 0 lost 0 discarded 0 void 1 held 0 drops 0 unavailable 0 busy 0 stopped 1 worn 1
+",
+        second: "report cpu 1 offered 2 accepted 1 dropped 0 specdropped 0 lost 0 discarded 0 void 1 held 0 drops 0 unavailable 0 busy 0 stopped 1 worn 1
 stream cpu 1: 7
 ",
-        text: &[],
+        ..PLAIN
     },
 ];
 

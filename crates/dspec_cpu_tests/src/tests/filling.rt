@@ -1,5 +1,5 @@
 //! Policy Fill: a refused reservation closes the CPU's principal buffer for good.
-use crate::tests::schedules::{Row, play_all};
+use crate::tests::schedules::{PLAIN, Row, play_all};
 use std::test::Fail;
 
 const ROWS: [Row<'static>; 3] = [
@@ -8,15 +8,10 @@ const ROWS: [Row<'static>; 3] = [
     Row {
         name: "filled-buffer",
         asked: 1,
-        lent: &[],
-        meets: false,
-        schedule: "config 2 1 16 16 8 100
-policy fill
-enable
-enable 8
-enable 1 2
-enable 4
-run 0 trace 4 9
+        config: "config 2 1 16 16 8 100
+policy fill",
+        enabled: true,
+        calls: "run 0 trace 4 9
 run 0 trace 2 7
 run 0 trace 1
 run 0 speculation
@@ -40,20 +35,18 @@ consumer take 0 none
 cpu 1 trace kept
 report cpu 0 offered 4 accepted 1 dropped 2 specdropped 0 lost 1 discarded 0 void 0 held 0 drops 3 unavailable 0 busy 0 stopped 0 worn 0
 stream cpu 0: 4(9)
-report cpu 1 offered 1 accepted 1 dropped 0 specdropped 0 lost 0 discarded 0 void 0 held 0 drops 0 unavailable 0 busy 0 stopped 0 worn 0
+",
+        second: "report cpu 1 offered 1 accepted 1 dropped 0 specdropped 0 lost 0 discarded 0 void 0 held 0 drops 0 unavailable 0 busy 0 stopped 0 worn 0
 stream cpu 1: 1
 ",
-        text: &[],
+        ..PLAIN
     },
     // What a speculative buffer refuses closes nothing.
     Row {
         name: "filled-not-by-speculation",
-        asked: 0,
-        lent: &[],
-        meets: false,
-        schedule: "config 2 1 64 8 8 100
-policy fill
-run 0 speculation
+        config: "config 2 1 64 8 8 100
+policy fill",
+        calls: "run 0 speculation
 run 0 speculate 1 1
 run 0 speculate 1 2
 run 0 speculate 1 3
@@ -67,20 +60,15 @@ cpu 0 commit 1 copied 2
 cpu 0 trace kept
 report cpu 0 offered 4 accepted 3 dropped 0 specdropped 1 lost 0 discarded 0 void 0 held 0 drops 0 unavailable 0 busy 0 stopped 0 worn 0
 stream cpu 0: 1 2 4
-report cpu 1 offered 0 accepted 0 dropped 0 specdropped 0 lost 0 discarded 0 void 0 held 0 drops 0 unavailable 0 busy 0 stopped 0 worn 0
-stream cpu 1:
 ",
-        text: &[],
+        ..PLAIN
     },
     // A block that is lost at a service closes the buffer of that CPU too.
     Row {
         name: "filled-by-a-settlement",
-        asked: 0,
-        lent: &[],
-        meets: false,
-        schedule: "config 2 1 8 8 8 100
-policy fill
-run 1 trace 1
+        config: "config 2 1 8 8 8 100
+policy fill",
+        calls: "run 1 trace 1
 run 0 speculation
 run 1 speculate 1 2
 run 0 commit 1
@@ -98,10 +86,11 @@ cpu 0 service sealed no settled 1
 cpu 0 trace kept
 report cpu 0 offered 1 accepted 1 dropped 0 specdropped 0 lost 0 discarded 0 void 0 held 0 drops 0 unavailable 0 busy 0 stopped 0 worn 0
 stream cpu 0: 4
-report cpu 1 offered 3 accepted 1 dropped 1 specdropped 0 lost 1 discarded 0 void 0 held 0 drops 2 unavailable 0 busy 0 stopped 0 worn 0
+",
+        second: "report cpu 1 offered 3 accepted 1 dropped 1 specdropped 0 lost 1 discarded 0 void 0 held 0 drops 2 unavailable 0 busy 0 stopped 0 worn 0
 stream cpu 1: 1
 ",
-        text: &[],
+        ..PLAIN
     },
 ];
 

@@ -1,16 +1,13 @@
 //! What a service settles.
-use crate::tests::schedules::{Row, play_all};
+use crate::tests::schedules::{PLAIN, Row, play_all};
 use std::test::Fail;
 
 const ROWS: [Row<'static>; 3] = [
     // A block that doesn't fit when its CPU settles is lost.
     Row {
         name: "lost-at-settle",
-        asked: 0,
-        lent: &[],
-        meets: false,
-        schedule: "config 2 1 8 8 8 100
-run 0 trace 1
+        config: "config 2 1 8 8 8 100",
+        calls: "run 0 trace 1
 run 1 speculation
 run 0 speculate 1 2
 run 1 commit 1
@@ -22,19 +19,15 @@ cpu 1 commit 1 copied 0
 cpu 0 service sealed no settled 1
 report cpu 0 offered 2 accepted 1 dropped 0 specdropped 0 lost 1 discarded 0 void 0 held 0 drops 1 unavailable 0 busy 0 stopped 0 worn 0
 stream cpu 0: 1
-report cpu 1 offered 0 accepted 0 dropped 0 specdropped 0 lost 0 discarded 0 void 0 held 0 drops 0 unavailable 0 busy 0 stopped 0 worn 0
-stream cpu 1:
 ",
-        text: &[],
+        ..PLAIN
     },
     // A service that seals settles into the buffer that is active then.
     Row {
         name: "sealed-then-settled",
         asked: 1,
-        lent: &[],
-        meets: false,
-        schedule: "config 2 1 8 8 8 100
-run 0 trace 1
+        config: "config 2 1 8 8 8 100",
+        calls: "run 0 trace 1
 run 1 speculation
 run 0 speculate 1 2
 run 1 commit 1
@@ -48,19 +41,14 @@ cpu 0 service sealed yes settled 1
 consumer take 0 batch drops 0 records 1: 1
 report cpu 0 offered 2 accepted 2 dropped 0 specdropped 0 lost 0 discarded 0 void 0 held 0 drops 0 unavailable 0 busy 0 stopped 0 worn 0
 stream cpu 0: 1 2
-report cpu 1 offered 0 accepted 0 dropped 0 specdropped 0 lost 0 discarded 0 void 0 held 0 drops 0 unavailable 0 busy 0 stopped 0 worn 0
-stream cpu 1:
 ",
-        text: &[],
+        ..PLAIN
     },
     // All slots are settled in one service, upwards.
     Row {
         name: "settled-in-order",
-        asked: 0,
-        lent: &[],
-        meets: false,
-        schedule: "config 2 4 64 64 8 100
-run 1 speculation
+        config: "config 2 4 64 64 8 100",
+        calls: "run 1 speculation
 run 1 speculation
 run 1 speculation
 run 1 speculation
@@ -92,10 +80,8 @@ cpu 0 service sealed no settled 1
 cpu 1 service sealed no settled 4
 report cpu 0 offered 4 accepted 3 dropped 0 specdropped 0 lost 0 discarded 1 void 0 held 0 drops 0 unavailable 0 busy 0 stopped 0 worn 0
 stream cpu 0: 11 14 12
-report cpu 1 offered 0 accepted 0 dropped 0 specdropped 0 lost 0 discarded 0 void 0 held 0 drops 0 unavailable 0 busy 0 stopped 0 worn 0
-stream cpu 1:
 ",
-        text: &[],
+        ..PLAIN
     },
 ];
 

@@ -1,5 +1,5 @@
 //! Speculations that one of two CPUs, or both, trace to.
-use crate::tests::schedules::{Row, play_all};
+use crate::tests::schedules::{PLAIN, Row, play_all};
 use std::test::Fail;
 
 const ROWS: [Row<'static>; 6] = [
@@ -7,15 +7,9 @@ const ROWS: [Row<'static>; 6] = [
     // speculation void.
     Row {
         name: "commit-on-two-cpus",
-        asked: 0,
-        lent: &[],
-        meets: false,
-        schedule: "config 2 1 64 64 8 100
-enable
-enable 8
-enable 1 2
-enable 4
-run 0 speculation
+        config: "config 2 1 64 64 8 100",
+        enabled: true,
+        calls: "run 0 speculation
 run 1 speculation
 run 0 speculate 1 1
 run 1 speculate 1 4 5
@@ -43,23 +37,19 @@ cpu 0 service sealed no settled 1
 cpu 1 speculation 0 busy
 report cpu 0 offered 1 accepted 1 dropped 0 specdropped 0 lost 0 discarded 0 void 0 held 0 drops 0 unavailable 0 busy 1 stopped 0 worn 0
 stream cpu 0: 1
-report cpu 1 offered 2 accepted 1 dropped 0 specdropped 0 lost 0 discarded 0 void 1 held 0 drops 0 unavailable 1 busy 1 stopped 0 worn 0
+",
+        second: "report cpu 1 offered 2 accepted 1 dropped 0 specdropped 0 lost 0 discarded 0 void 1 held 0 drops 0 unavailable 1 busy 1 stopped 0 worn 0
 stream cpu 1: 4(5)
 ",
-        text: &[],
+        ..PLAIN
     },
     // The same where the consumer meets each CPU behind each call; both then know of the stop.
     Row {
         name: "met-on-two-cpus",
-        asked: 0,
-        lent: &[],
         meets: true,
-        schedule: "config 2 1 64 64 8 100
-enable
-enable 8
-enable 1 2
-enable 4
-run 0 speculation
+        config: "config 2 1 64 64 8 100",
+        enabled: true,
+        calls: "run 0 speculation
 run 0 speculate 1 1
 run 1 speculate 1 4 5
 run 0 commit 1
@@ -81,19 +71,17 @@ cpu 1 trace stopped
 cpu 0 discard 1 stopped
 report cpu 0 offered 1 accepted 1 dropped 0 specdropped 0 lost 0 discarded 0 void 0 held 0 drops 0 unavailable 0 busy 1 stopped 1 worn 0
 stream cpu 0: 1
-report cpu 1 offered 2 accepted 1 dropped 0 specdropped 0 lost 0 discarded 0 void 1 held 0 drops 0 unavailable 0 busy 0 stopped 1 worn 0
+",
+        second: "report cpu 1 offered 2 accepted 1 dropped 0 specdropped 0 lost 0 discarded 0 void 1 held 0 drops 0 unavailable 0 busy 0 stopped 1 worn 0
 stream cpu 1: 4(5)
 ",
-        text: &[],
+        ..PLAIN
     },
     // A CPU that traced nothing to a speculation has no block of it; where nobody did, a commit releases and a discard doesn't.
     Row {
         name: "untouched-committer",
-        asked: 0,
-        lent: &[],
-        meets: false,
-        schedule: "config 2 3 64 64 8 100
-run 0 speculation
+        config: "config 2 3 64 64 8 100",
+        calls: "run 0 speculation
 run 1 speculate 1 1
 run 0 commit 1
 run 1 commit 1
@@ -125,23 +113,18 @@ cpu 1 service sealed no settled 2
 cpu 0 service sealed no settled 2
 report cpu 0 offered 1 accepted 0 dropped 0 specdropped 0 lost 0 discarded 1 void 0 held 0 drops 0 unavailable 0 busy 0 stopped 0 worn 0
 stream cpu 0:
-report cpu 1 offered 1 accepted 1 dropped 0 specdropped 0 lost 0 discarded 0 void 0 held 0 drops 0 unavailable 0 busy 1 stopped 0 worn 0
+",
+        second: "report cpu 1 offered 1 accepted 1 dropped 0 specdropped 0 lost 0 discarded 0 void 0 held 0 drops 0 unavailable 0 busy 1 stopped 0 worn 0
 stream cpu 1: 1
 ",
-        text: &[],
+        ..PLAIN
     },
     // What the other CPU traced to a speculation that is discarded is thrown away by its service.
     Row {
         name: "discard-on-two-cpus",
-        asked: 0,
-        lent: &[],
-        meets: false,
-        schedule: "config 2 1 64 64 8 100
-enable
-enable 8
-enable 1 2
-enable 4
-run 0 speculation
+        config: "config 2 1 64 64 8 100",
+        enabled: true,
+        calls: "run 0 speculation
 run 0 speculate 1 1
 run 1 speculate 1 4 5
 run 1 speculate 1 1
@@ -161,23 +144,18 @@ cpu 0 service sealed no settled 1
 cpu 0 speculation 0 busy
 report cpu 0 offered 1 accepted 0 dropped 0 specdropped 0 lost 0 discarded 1 void 0 held 0 drops 0 unavailable 0 busy 1 stopped 0 worn 0
 stream cpu 0:
-report cpu 1 offered 3 accepted 0 dropped 0 specdropped 0 lost 0 discarded 2 void 1 held 0 drops 0 unavailable 0 busy 0 stopped 0 worn 0
+",
+        second: "report cpu 1 offered 3 accepted 0 dropped 0 specdropped 0 lost 0 discarded 2 void 1 held 0 drops 0 unavailable 0 busy 0 stopped 0 worn 0
 stream cpu 1:
 ",
-        text: &[],
+        ..PLAIN
     },
     // A discard of what nobody traced to leaves the slot busy.
     Row {
         name: "discard",
-        asked: 0,
-        lent: &[],
-        meets: false,
-        schedule: "config 2 1 64 64 8 100
-enable
-enable 8
-enable 1 2
-enable 4
-run 0 speculation
+        config: "config 2 1 64 64 8 100",
+        enabled: true,
+        calls: "run 0 speculation
 run 0 speculate 1 1
 run 0 speculate 1 4 5
 run 0 discard 1
@@ -199,19 +177,17 @@ cpu 0 speculation 0 busy
 cpu 1 speculate 65 void
 report cpu 0 offered 2 accepted 0 dropped 0 specdropped 0 lost 0 discarded 2 void 0 held 0 drops 0 unavailable 0 busy 2 stopped 0 worn 0
 stream cpu 0:
-report cpu 1 offered 1 accepted 0 dropped 0 specdropped 0 lost 0 discarded 0 void 1 held 0 drops 0 unavailable 0 busy 0 stopped 0 worn 0
+",
+        second: "report cpu 1 offered 1 accepted 0 dropped 0 specdropped 0 lost 0 discarded 0 void 1 held 0 drops 0 unavailable 0 busy 0 stopped 0 worn 0
 stream cpu 1:
 ",
-        text: &[],
+        ..PLAIN
     },
     // What was never given out, or names another issue or slot, is void.
     Row {
         name: "not-open",
-        asked: 0,
-        lent: &[],
-        meets: false,
-        schedule: "config 2 1 64 64 8 100
-run 0 speculation
+        config: "config 2 1 64 64 8 100",
+        calls: "run 0 speculation
 run 1 speculation
 run 0 speculate 0 1
 run 0 speculate 64 1
@@ -229,10 +205,11 @@ cpu 1 commit 65 void
 cpu 1 discard 2 void
 report cpu 0 offered 4 accepted 0 dropped 0 specdropped 0 lost 0 discarded 0 void 4 held 0 drops 0 unavailable 0 busy 0 stopped 0 worn 0
 stream cpu 0:
-report cpu 1 offered 0 accepted 0 dropped 0 specdropped 0 lost 0 discarded 0 void 0 held 0 drops 0 unavailable 1 busy 0 stopped 0 worn 0
+",
+        second: "report cpu 1 offered 0 accepted 0 dropped 0 specdropped 0 lost 0 discarded 0 void 0 held 0 drops 0 unavailable 1 busy 0 stopped 0 worn 0
 stream cpu 1:
 ",
-        text: &[],
+        ..PLAIN
     },
 ];
 

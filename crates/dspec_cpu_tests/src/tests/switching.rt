@@ -1,5 +1,5 @@
 //! Batches that a service seals, for the asks that came before.
-use crate::tests::schedules::{Row, play_all};
+use crate::tests::schedules::{PLAIN, Row, play_all};
 use std::test::Fail;
 
 const ROWS: [Row<'static>; 4] = [
@@ -8,10 +8,8 @@ const ROWS: [Row<'static>; 4] = [
     Row {
         name: "switched-batches",
         asked: 2,
-        lent: &[],
-        meets: false,
-        schedule: "config 2 1 8 8 8 100
-run 0 trace 1
+        config: "config 2 1 8 8 8 100",
+        calls: "run 0 trace 1
 run 0 service
 run 0 trace 2
 run 0 trace 3
@@ -45,19 +43,15 @@ consumer giveback 0 yes
 cpu 0 service sealed no settled 0
 report cpu 0 offered 5 accepted 4 dropped 1 specdropped 0 lost 0 discarded 0 void 0 held 0 drops 1 unavailable 0 busy 0 stopped 0 worn 0
 stream cpu 0: 1 2 3 5
-report cpu 1 offered 0 accepted 0 dropped 0 specdropped 0 lost 0 discarded 0 void 0 held 0 drops 0 unavailable 0 busy 0 stopped 0 worn 0
-stream cpu 1:
 ",
-        text: &[],
+        ..PLAIN
     },
     // As many batches are sealed at the most as a CPU has calls.
     Row {
         name: "seals-as-many-as-calls",
         asked: 5,
-        lent: &[],
-        meets: false,
-        schedule: "config 2 1 8 8 8 1
-run 0 trace 1
+        config: "config 2 1 8 8 8 1",
+        calls: "run 0 trace 1
 run 0 service
 run consumer take 0
 run consumer giveback 0
@@ -69,19 +63,15 @@ consumer giveback 0 yes
 cpu 0 service sealed no settled 0
 report cpu 0 offered 1 accepted 1 dropped 0 specdropped 0 lost 0 discarded 0 void 0 held 0 drops 0 unavailable 0 busy 0 stopped 0 worn 0
 stream cpu 0: 1
-report cpu 1 offered 0 accepted 0 dropped 0 specdropped 0 lost 0 discarded 0 void 0 held 0 drops 0 unavailable 0 busy 0 stopped 0 worn 0
-stream cpu 1:
 ",
-        text: &[],
+        ..PLAIN
     },
     // Where no batch comes back, none is sealed, and the buffer fills up.
     Row {
         name: "never-given-back",
         asked: 9,
-        lent: &[],
-        meets: false,
-        schedule: "config 2 1 8 8 8 100
-run 0 trace 1
+        config: "config 2 1 8 8 8 100",
+        calls: "run 0 trace 1
 run 0 service
 run consumer take 0
 run 0 trace 2
@@ -101,19 +91,15 @@ cpu 0 service sealed no settled 0
 consumer take 0 none
 report cpu 0 offered 4 accepted 3 dropped 1 specdropped 0 lost 0 discarded 0 void 0 held 0 drops 1 unavailable 0 busy 0 stopped 0 worn 0
 stream cpu 0: 1 2 3
-report cpu 1 offered 0 accepted 0 dropped 0 specdropped 0 lost 0 discarded 0 void 0 held 0 drops 0 unavailable 0 busy 0 stopped 0 worn 0
-stream cpu 1:
 ",
-        text: &[],
+        ..PLAIN
     },
     // A lost block is one drop of its batch, as a dropped record is.
     Row {
         name: "lost-blocks-in-batches",
         asked: 2,
-        lent: &[],
-        meets: false,
-        schedule: "config 2 1 8 8 8 100
-run 0 trace 1
+        config: "config 2 1 8 8 8 100",
+        calls: "run 0 trace 1
 run 0 speculation
 run 0 speculate 1 2
 run 0 speculate 1 3
@@ -141,10 +127,8 @@ cpu 0 service sealed yes settled 0
 consumer take 0 batch drops 0 records 1: 6
 report cpu 0 offered 6 accepted 3 dropped 1 specdropped 0 lost 2 discarded 0 void 0 held 0 drops 2 unavailable 0 busy 0 stopped 0 worn 0
 stream cpu 0: 1 4 6
-report cpu 1 offered 0 accepted 0 dropped 0 specdropped 0 lost 0 discarded 0 void 0 held 0 drops 0 unavailable 0 busy 0 stopped 0 worn 0
-stream cpu 1:
 ",
-        text: &[],
+        ..PLAIN
     },
 ];
 

@@ -1,5 +1,5 @@
 //! A consumer that gives back what it never took: a hand-over that the ring refuses, and a buffer of another size.
-use crate::tests::schedules::{Row, play_all};
+use crate::tests::schedules::{PLAIN, Row, play_all};
 use std::test::Fail;
 
 const ROWS: [Row<'static>; 3] = [
@@ -9,9 +9,8 @@ const ROWS: [Row<'static>; 3] = [
         name: "refused-batch",
         asked: 9,
         lent: &[8, 8],
-        meets: false,
-        schedule: "config 2 1 8 8 8 100
-run 0 trace 1
+        config: "config 2 1 8 8 8 100",
+        calls: "run 0 trace 1
 run 0 service
 run 0 trace 2
 run 0 service
@@ -45,19 +44,16 @@ cpu 0 service sealed yes settled 0
 consumer take 0 batch drops 0 records 1: 4
 report cpu 0 offered 4 accepted 4 dropped 0 specdropped 0 lost 0 discarded 0 void 0 held 0 drops 0 unavailable 0 busy 0 stopped 0 worn 0
 stream cpu 0: 1 2 3 4
-report cpu 1 offered 0 accepted 0 dropped 0 specdropped 0 lost 0 discarded 0 void 0 held 0 drops 0 unavailable 0 busy 0 stopped 0 worn 0
-stream cpu 1:
 ",
-        text: &[],
+        ..PLAIN
     },
     // What waits in hand at the end is left, between what was taken and what grew last.
     Row {
         name: "refused-batch-at-the-end",
         asked: 9,
         lent: &[8, 8],
-        meets: false,
-        schedule: "config 2 1 8 8 8 100
-run 0 trace 1
+        config: "config 2 1 8 8 8 100",
+        calls: "run 0 trace 1
 run 0 service
 run 0 trace 2
 run 0 service
@@ -73,19 +69,16 @@ cpu 0 service sealed yes settled 0
 cpu 0 trace kept
 report cpu 0 offered 4 accepted 4 dropped 0 specdropped 0 lost 0 discarded 0 void 0 held 0 drops 0 unavailable 0 busy 0 stopped 0 worn 0
 stream cpu 0: 1 2 3 4
-report cpu 1 offered 0 accepted 0 dropped 0 specdropped 0 lost 0 discarded 0 void 0 held 0 drops 0 unavailable 0 busy 0 stopped 0 worn 0
-stream cpu 1:
 ",
-        text: &[],
+        ..PLAIN
     },
     // A buffer of another size is no spare; the next one is.
     Row {
         name: "spare-of-another-size",
         asked: 9,
         lent: &[16, 8],
-        meets: false,
-        schedule: "config 2 1 8 8 8 100
-run 0 trace 1
+        config: "config 2 1 8 8 8 100",
+        calls: "run 0 trace 1
 run 0 service
 run 0 trace 2
 run 0 service
@@ -101,10 +94,8 @@ consumer take 0 batch drops 0 records 1: 1
 consumer take 0 batch drops 0 records 1: 2
 report cpu 0 offered 2 accepted 2 dropped 0 specdropped 0 lost 0 discarded 0 void 0 held 0 drops 0 unavailable 0 busy 0 stopped 0 worn 0
 stream cpu 0: 1 2
-report cpu 1 offered 0 accepted 0 dropped 0 specdropped 0 lost 0 discarded 0 void 0 held 0 drops 0 unavailable 0 busy 0 stopped 0 worn 0
-stream cpu 1:
 ",
-        text: &[],
+        ..PLAIN
     },
 ];
 

@@ -17,18 +17,8 @@ fn end(session: Session<Enablings>) -> Closed
     ensures four { length result ≡ 4 }
     ensures told { AllTold 200 result }
 {
-    let Session {
-        shared,
-        cpus,
-        consumer,
-    } = session;
-    let mut consumer = consumer;
-    consumer.stop(&shared);
-    let session = Session {
-        shared,
-        cpus,
-        consumer,
-    };
+    let mut session = session;
+    session.consumer.stop(&session.shared);
     session.finish()
 }
 

@@ -1,6 +1,8 @@
 //! What the CPUs are shown of an ask.
 use super::batches::{batch, passed};
 use super::*;
+use dspec_deeds::CpuOp;
+use dspec_samples::doing;
 
 #[test]
 fn one_more_than_taken(rt: HostRuntime) -> Result<(), Fail> {

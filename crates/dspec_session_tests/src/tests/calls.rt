@@ -1,7 +1,5 @@
 //! Calls of a session, with what each has to answer, as the tests write them, and what has to be left of a CPU.
-use dspec_deeds::{
-    Answer, Config, CpuOp, Decided, Opening, Policy, Report, Served, Spoken, Traced,
-};
+use dspec_deeds::{Answer, CpuOp, Decided, Opening, Report, Served, Spoken, Traced};
 use dspec_record::{Enablings, Field, Rec};
 use dspec_word::SpecId;
 use std::alloc::AllocError;
@@ -77,16 +75,12 @@ pub(super) fn left(last: &[u8], report: Report) -> Remains<'_> {
     }
 }
 
-/// So many CPUs, speculations and bytes of buffers, with eight issues of a slot and a hundred calls of a CPU.
-pub(super) fn sized(cpus: u32, nspec: u32, bufsize: u32, specsize: u32) -> Config {
-    Config {
-        cpus,
-        nspec,
-        bufsize,
-        specsize,
-        max_issues: 8,
-        max_calls: 100,
-        policy: Policy::Switch,
+/// The report of a CPU of which so many records were offered, and all accepted.
+pub(super) fn all_accepted(count: u64) -> Report {
+    Report {
+        offered: count,
+        accepted: count,
+        ..Report::default()
     }
 }
 

@@ -1,10 +1,10 @@
 //! Memory that is refused while a session is started, or its consumer is made. `.ci/refused-growth-player` refuses one growth after
 //! another in each of these tests; in an ordinary run none is refused.
-use super::calls::sized;
 use super::switching::switched;
 use super::*;
 use dspec_deeds::StartFault;
 use dspec_record::DefaultAction;
+use dspec_samples::sized;
 use dspec_session::Session;
 
 /// The consumer, and the words and rings that it stands on: refused, they are asked for once more.
@@ -27,8 +27,8 @@ fn refused_start(rt: HostRuntime) {
 /// A session of which a growth was refused is started once more, and then plays as ever.
 #[test]
 fn refused_session(rt: HostRuntime) {
-    let played = match switched(&rt, rt.alloc()) {
-        Err(AllocError) => switched(&rt, rt.alloc()),
+    let played = match switched(&rt) {
+        Err(AllocError) => switched(&rt),
         played => played,
     };
     assert!(rt; played.is_ok());

@@ -1,12 +1,13 @@
 //! What ends a session's services: used up slots and calls, filled buffers; and a session of as many CPUs and slots as may be.
 use super::calls::{
-    Remains, add_each, add_openings, add_rounds, ask, bare, clean, commit, enablings, left, opens,
-    service, sized, speculate, speculation, take_none, trace, valued,
+    Remains, add_each, add_openings, add_rounds, all_accepted, ask, bare, clean, commit, enablings,
+    left, opens, service, speculate, speculation, take_none, trace, valued,
 };
 use super::staging::{plays, shows};
 use dspec_deeds::Decided::{Copied, Lost};
 use dspec_deeds::{Answer, Config, CpuOp, Opening, Policy, Report, Served, Spoken, Traced};
 use dspec_record::DefaultAction;
+use dspec_samples::sized;
 use dspec_word::SpecId;
 use std::test::Fail;
 
@@ -26,14 +27,7 @@ fn retired(rt: HostRuntime) {
         unavailable: 1,
         ..Report::default()
     };
-    shows(
-        &rt,
-        rt.alloc(),
-        &config,
-        DefaultAction,
-        &calls,
-        &[left(&[], report)],
-    );
+    shows(&rt, &config, DefaultAction, &calls, &[left(&[], report)]);
 }
 
 /// A CPU that is called once; it is serviced all the same.
@@ -57,7 +51,6 @@ fn worn(rt: HostRuntime) {
     };
     shows(
         &rt,
-        rt.alloc(),
         &config,
         DefaultAction,
         &calls,
@@ -83,14 +76,7 @@ fn retired_slot(rt: HostRuntime) {
         unavailable: 1,
         ..Report::default()
     };
-    shows(
-        &rt,
-        rt.alloc(),
-        &config,
-        DefaultAction,
-        &calls,
-        &[left(&[], report)],
-    );
+    shows(&rt, &config, DefaultAction, &calls, &[left(&[], report)]);
 }
 
 /// The first refused reservation closes the buffer; an empty block is copied all the same, and nothing is sealed.
@@ -125,7 +111,7 @@ fn filled_buffer(rt: HostRuntime) {
         drops: 3,
         ..left(&[4, 0, 0, 0, 9, 0, 0, 0], report)
     }];
-    shows(&rt, rt.alloc(), &config, enablings(), &calls, &remains);
+    shows(&rt, &config, enablings(), &calls, &remains);
 }
 
 #[test]
@@ -149,7 +135,7 @@ fn filled_not_by_speculation(rt: HostRuntime) {
         ..Report::default()
     };
     let remains = [left(&[1, 0, 0, 0, 2, 0, 0, 0, 4, 0, 0, 0], report)];
-    shows(&rt, rt.alloc(), &config, DefaultAction, &calls, &remains);
+    shows(&rt, &config, DefaultAction, &calls, &remains);
 }
 
 /// All slots are opened, each CPU speaks to the last of them, and all settle it.
@@ -168,16 +154,11 @@ fn sixty_four_cpus(rt: HostRuntime) -> Result<(), Fail> {
     add_each(&mut calls, 63, &CpuOp::Service, &Answer::Served(served))?;
     let last = [clean(0), service(63, false, 1), clean(1), opens(0, 127)];
     add_rounds(&mut calls, 1, &last)?;
-    let report = Report {
-        offered: 1,
-        accepted: 1,
-        ..Report::default()
-    };
+    let report = all_accepted(1);
     let mut remains = [left(&[1, 0, 0, 0], report); 64];
     remains[0].report.unavailable = 1;
     plays(
         &rt,
-        rt.alloc(),
         &sized(64, 63, 64, 64),
         DefaultAction,
         calls.as_slice(),

@@ -1,12 +1,13 @@
 //! Speculations of a session: what is open, and what becomes of what was spoken to them, on one CPU and on two.
 use super::calls::{
-    Call, Remains, add_rounds, bare, clean, commit, discard, enablings, left, opens, service,
-    sized, speculate, speculation, stop, trace, valued,
+    Call, Remains, add_rounds, all_accepted, bare, clean, commit, discard, enablings, left, opens,
+    service, speculate, speculation, stop, trace, valued,
 };
 use super::staging::{plays, shows};
 use dspec_deeds::Decided::{Copied, Thrown};
 use dspec_deeds::{Config, Decided, Opening, Report, Spoken, Traced};
 use dspec_record::DefaultAction;
+use dspec_samples::sized;
 use std::test::Fail;
 
 #[test]
@@ -25,14 +26,7 @@ fn not_open(rt: HostRuntime) {
         ..Report::default()
     };
     let remains = [left(&[], report)];
-    shows(
-        &rt,
-        rt.alloc(),
-        &sized(1, 1, 64, 64),
-        DefaultAction,
-        &calls,
-        &remains,
-    );
+    shows(&rt, &sized(1, 1, 64, 64), DefaultAction, &calls, &remains);
 }
 
 /// A discard of what the CPU alone spoke frees the slot; one of what nobody spoke has to be serviced and cleaned.
@@ -58,14 +52,7 @@ fn discarded(rt: HostRuntime) {
         ..Report::default()
     };
     let remains = [left(&[], report)];
-    shows(
-        &rt,
-        rt.alloc(),
-        &sized(1, 1, 64, 64),
-        enablings(),
-        &calls,
-        &remains,
-    );
+    shows(&rt, &sized(1, 1, 64, 64), enablings(), &calls, &remains);
 }
 
 /// What `commit_on_two_cpus` calls.
@@ -86,11 +73,7 @@ fn commit_calls() -> [Call; 10] {
 
 /// What it leaves.
 fn commit_remains() -> [Remains<'static>; 2] {
-    let report = Report {
-        offered: 1,
-        accepted: 1,
-        ..Report::default()
-    };
+    let report = all_accepted(1);
     let first = Report { busy: 1, ..report };
     [
         left(&[1, 0, 0, 0], first),
@@ -103,7 +86,6 @@ fn commit_on_two_cpus(rt: HostRuntime) {
     let config = sized(2, 1, 64, 64);
     shows(
         &rt,
-        rt.alloc(),
         &config,
         enablings(),
         &commit_calls(),
@@ -122,7 +104,6 @@ fn met_on_two_cpus(rt: HostRuntime) -> Result<(), Fail> {
     let config = sized(2, 1, 64, 64);
     plays(
         &rt,
-        rt.alloc(),
         &config,
         enablings(),
         calls.as_slice(),
@@ -140,20 +121,9 @@ fn untouched_committer(rt: HostRuntime) {
         commit(1, 1, Decided::Void),
         service(1, false, 1),
     ];
-    let report = Report {
-        offered: 1,
-        accepted: 1,
-        ..Report::default()
-    };
+    let report = all_accepted(1);
     let remains = [left(&[], Report::default()), left(&[1, 0, 0, 0], report)];
-    shows(
-        &rt,
-        rt.alloc(),
-        &sized(2, 1, 64, 64),
-        DefaultAction,
-        &calls,
-        &remains,
-    );
+    shows(&rt, &sized(2, 1, 64, 64), DefaultAction, &calls, &remains);
 }
 
 /// What was spoken and never decided is held.
@@ -175,14 +145,7 @@ fn stopped(rt: HostRuntime) {
         ..Report::default()
     };
     let remains = [left(&[], report)];
-    shows(
-        &rt,
-        rt.alloc(),
-        &sized(1, 1, 64, 64),
-        DefaultAction,
-        &calls,
-        &remains,
-    );
+    shows(&rt, &sized(1, 1, 64, 64), DefaultAction, &calls, &remains);
 }
 
 /// One that both CPUs spoke to is decided on the first, and settled on the second at the end.
@@ -194,20 +157,9 @@ fn finish_settles(rt: HostRuntime) {
         speculate(1, 1, bare(2), Spoken::Kept),
         commit(0, 1, Copied(1)),
     ];
-    let report = Report {
-        offered: 1,
-        accepted: 1,
-        ..Report::default()
-    };
+    let report = all_accepted(1);
     let remains = [left(&[1, 0, 0, 0], report), left(&[2, 0, 0, 0], report)];
-    shows(
-        &rt,
-        rt.alloc(),
-        &sized(2, 1, 64, 64),
-        DefaultAction,
-        &calls,
-        &remains,
-    );
+    shows(&rt, &sized(2, 1, 64, 64), DefaultAction, &calls, &remains);
 }
 
 /// A CPU that never services keeps the slot from all others for good.
@@ -237,23 +189,12 @@ fn never_serviced(rt: HostRuntime) -> Result<(), Fail> {
         speculation(0, Opening::Busy),
     ];
     add_rounds(&mut calls, 99, &round)?;
-    let report = Report {
-        offered: 1,
-        accepted: 1,
-        ..Report::default()
-    };
+    let report = all_accepted(1);
     let first = Report {
         busy: 100,
         ..report
     };
     let remains = [left(&[1, 0, 0, 0], first), left(&[2, 0, 0, 0], report)];
-    plays(
-        &rt,
-        rt.alloc(),
-        &config,
-        DefaultAction,
-        calls.as_slice(),
-        &remains,
-    )?;
+    plays(&rt, &config, DefaultAction, calls.as_slice(), &remains)?;
     Ok(())
 }

@@ -1,13 +1,14 @@
 //! A whole session that is called from one thread: calls, each with what it has to answer, and what has to be left of each CPU.
-ghost use Rattle.std.specs.Prelude.{◌≡◌, IfOk};
-ghost use Rattle.dspec_cpu.specs.Lists.{IsSameCpu, schema_of, words_of};
+ghost use Rattle.std.specs.Prelude.{IfOk};
+ghost use Rattle.dspec_cpu.specs.Lists.{words_of};
 ghost use Rattle.dspec_session.specs.Consumers.{IsConsumerOf, IsSameConsumer};
 ghost use Rattle.dspec_session.specs.Sessions.{IsSession};
 
 use super::batches::comes_back;
 use super::calls::{Call, Dealing, Remains};
+use dspec_calls::{meet_all, run_cpu};
 use dspec_cpu::{Cpu, Listed, Shared};
-use dspec_deeds::{Answer, Config, CpuOp, Report};
+use dspec_deeds::{Config, Report};
 use dspec_record::Schema;
 use dspec_ring::Batch;
 use dspec_session::{Closed, Consumer, Session};
@@ -20,33 +21,6 @@ pub(super) struct Stage<S: Schema> {
     schema: S,
     session: Session<S>,
     out: Option<Batch>,
-}
-
-/// A call of a CPU, or None, and nothing changes, where its record isn't one of the schema.
-fn call_cpu<S: Schema>(shared: &Shared, schema: &S, cpu: &mut Cpu<S>, op: CpuOp) -> Option<Answer>
-    requires ready { ⟦<Cpu<S> as Listed>⟧.is_ready (words_of shared.now) cpu.old }
-    requires schema { schema_of cpu.old ≡ schema.now }
-    ensures ready { ⟦<Cpu<S> as Listed>⟧.is_ready (words_of shared.now) cpu.new }
-    ensures same { IsSameCpu cpu.old cpu.new }
-{
-    match op {
-        CpuOp::Trace(rec) => {
-            if !schema.accepts(&rec) {
-                return None;
-            }
-            Some(Answer::Traced(cpu.trace(shared, &rec)))
-        }
-        CpuOp::Speculation => Some(Answer::Opening(cpu.speculation(shared))),
-        CpuOp::Speculate(id, rec) => {
-            if !schema.accepts(&rec) {
-                return None;
-            }
-            Some(Answer::Spoken(cpu.speculate(shared, id, &rec)))
-        }
-        CpuOp::Commit(id) => Some(Answer::Decided(cpu.commit(shared, id))),
-        CpuOp::Discard(id) => Some(Answer::Decided(cpu.discard(shared, id))),
-        CpuOp::Service => Some(Answer::Served(cpu.service(shared))),
-    }
 }
 
 /// A call of the consumer, and whether it answers as it has to.
@@ -97,19 +71,6 @@ impl<S: Schema> Stage<S> {
         })
     }
 
-    /// What a call of a CPU answers; None where there is no such CPU, or its record isn't one of the schema.
-    fn run_cpu(&mut self, cpu: u32, op: CpuOp) -> Option<Answer>
-        requires session { IsSession ⟦<Cpu<S> as Listed>⟧.is_ready self.old.schema self.old.session }
-        ensures session { IsSession ⟦<Cpu<S> as Listed>⟧.is_ready self.new.schema self.new.session }
-    {
-        let session = &mut self.session;
-        let place = cpu as usize;
-        if place >= session.cpus.len() {
-            return None;
-        }
-        call_cpu(&session.shared, &self.schema, &mut session.cpus[place], op)
-    }
-
     /// Whether a call of the consumer answers as it has to.
     fn run_consumer(&mut self, dealing: Dealing) -> bool
         requires session { IsSession ⟦<Cpu<S> as Listed>⟧.is_ready self.old.schema self.old.session }
@@ -130,25 +91,14 @@ impl<S: Schema> Stage<S> {
         ensures session { IsSession ⟦<Cpu<S> as Listed>⟧.is_ready self.new.schema self.new.session }
     {
         match call {
-            Call::Cpu(cpu, op, answer) => self.run_cpu(cpu, op) == Some(answer),
+            Call::Cpu(cpu, op, answer) => {
+                run_cpu(&mut self.session, &self.schema, cpu, op) == Ok(answer)
+            }
             Call::Consumer(dealing) => self.run_consumer(dealing),
             Call::Meet => {
-                self.meet_all();
+                meet_all(&mut self.session, &self.schema);
                 true
             }
-        }
-    }
-
-    /// The consumer meets each CPU, CPU 0 first.
-    fn meet_all(&mut self)
-        requires session { IsSession ⟦<Cpu<S> as Listed>⟧.is_ready self.old.schema self.old.session }
-        ensures session { IsSession ⟦<Cpu<S> as Listed>⟧.is_ready self.new.schema self.new.session }
-    {
-        let session = &mut self.session;
-        for place in 0..session.cpus.len() {
-            session
-                .consumer
-                .meet(&session.shared, &mut session.cpus[place]);
         }
     }
 
@@ -210,14 +160,13 @@ impl Remains<'_> {
 
 /// A session from its start to its end.
 pub(super) fn plays<S: Schema>(
-    rt: &impl Abort,
-    alloc: Global,
+    rt: &(impl Abort + AllocGlobal),
     config: &Config,
     schema: S,
     calls: &[Call],
     remains: &[Remains<'_>],
 ) -> Result<(), AllocError> {
-    let mut stage = Stage::start(alloc, config, schema)?;
+    let mut stage = Stage::start(rt.alloc(), config, schema)?;
     stage.plays(rt, calls);
     let _closed = stage.finish(rt, remains);
     Ok(())
@@ -225,13 +174,12 @@ pub(super) fn plays<S: Schema>(
 
 /// The same with ample memory.
 pub(super) fn shows<S: Schema>(
-    rt: &impl Abort,
-    alloc: Global,
+    rt: &(impl Abort + AllocGlobal),
     config: &Config,
     schema: S,
     calls: &[Call],
     remains: &[Remains<'_>],
 ) {
-    let played = plays(rt, alloc, config, schema, calls, remains);
+    let played = plays(rt, config, schema, calls, remains);
     assert!(rt; played.is_ok(), "memory");
 }

@@ -1,17 +1,18 @@
 //! Batches that a session's CPU seals, and the consumer takes and gives back, or doesn't.
 use super::batches::batch;
 use super::calls::{
-    Remains, add_rounds, ask, bare, give_back, left, service, sized, take, take_none, trace,
+    Remains, add_rounds, all_accepted, ask, bare, give_back, left, service, take, take_none, trace,
 };
 use super::staging::{Stage, plays, shows};
 use dspec_deeds::{Report, Traced};
 use dspec_record::DefaultAction;
-use std::alloc::{AllocError, Global};
+use dspec_samples::sized;
+use std::alloc::AllocError;
 use std::process::Abort;
 use std::test::Fail;
 
 /// A second batch is sealed only once a buffer came back; meanwhile a record is dropped, which the batch tells.
-pub(super) fn switched(rt: &impl Abort, alloc: Global) -> Result<(), AllocError> {
+pub(super) fn switched(rt: &(impl Abort + AllocGlobal)) -> Result<(), AllocError> {
     let calls = [
         trace(0, bare(1), Traced::Kept),
         ask(0),
@@ -36,19 +37,12 @@ pub(super) fn switched(rt: &impl Abort, alloc: Global) -> Result<(), AllocError>
         ..Report::default()
     };
     let remains = [left(&[5, 0, 0, 0], report)];
-    plays(
-        rt,
-        alloc,
-        &sized(1, 1, 8, 8),
-        DefaultAction,
-        &calls,
-        &remains,
-    )
+    plays(rt, &sized(1, 1, 8, 8), DefaultAction, &calls, &remains)
 }
 
 #[test]
 fn switched_batches(rt: HostRuntime) -> Result<(), Fail> {
-    switched(&rt, rt.alloc())?;
+    switched(&rt)?;
     Ok(())
 }
 
@@ -61,23 +55,12 @@ fn finish_rests(rt: HostRuntime) {
         service(0, true, 0),
         trace(0, bare(2), Traced::Kept),
     ];
-    let report = Report {
-        offered: 2,
-        accepted: 2,
-        ..Report::default()
-    };
+    let report = all_accepted(2);
     let remains = [Remains {
         sealed: Some(&[1, 0, 0, 0]),
         ..left(&[2, 0, 0, 0], report)
     }];
-    shows(
-        &rt,
-        rt.alloc(),
-        &sized(1, 1, 8, 8),
-        DefaultAction,
-        &calls,
-        &remains,
-    );
+    shows(&rt, &sized(1, 1, 8, 8), DefaultAction, &calls, &remains);
 }
 
 /// A consumer that keeps the first batch: over a hundred rounds three records are kept, and 97 are dropped and counted.
@@ -115,14 +98,7 @@ fn never_given_back(rt: HostRuntime) -> Result<(), Fail> {
         ..left(&[1, 0, 0, 0, 1, 0, 0, 0], report)
     }];
     let config = sized(1, 1, 8, 8);
-    plays(
-        &rt,
-        rt.alloc(),
-        &config,
-        DefaultAction,
-        calls.as_slice(),
-        &remains,
-    )?;
+    plays(&rt, &config, DefaultAction, calls.as_slice(), &remains)?;
     Ok(())
 }
 
@@ -151,11 +127,7 @@ fn refused_give_back(rt: HostRuntime) -> Result<(), Fail> {
     );
     stage.refuses(&rt, batch(rt.alloc(), 0, 8, 7)?);
     stage.plays(&rt, &[service(0, true, 0), take(0, 0, &[2, 0, 0, 0])]);
-    let report = Report {
-        offered: 2,
-        accepted: 2,
-        ..Report::default()
-    };
+    let report = all_accepted(2);
     let _closed = stage.finish(&rt, &[left(&[], report)]);
     Ok(())
 }

@@ -1,23 +1,17 @@
 //! What the buffers of a session hold, byte by byte, on one CPU.
 use super::calls::{
-    Call, Remains, bare, commit, enablings, left, opens, sized, speculate, trace, valued,
+    Call, Remains, all_accepted, bare, commit, enablings, left, opens, speculate, trace, valued,
 };
 use super::staging::shows;
 use dspec_deeds::Decided::{Copied, Lost};
 use dspec_deeds::{Report, Spoken, Traced};
 use dspec_record::DefaultAction;
+use dspec_samples::{PADDED_TEXT, sized};
 
 #[test]
 fn empty_session(rt: HostRuntime) {
     let remains = [left(&[], Report::default())];
-    shows(
-        &rt,
-        rt.alloc(),
-        &sized(1, 1, 64, 64),
-        DefaultAction,
-        &[],
-        &remains,
-    );
+    shows(&rt, &sized(1, 1, 64, 64), DefaultAction, &[], &remains);
 }
 
 #[test]
@@ -38,20 +32,8 @@ fn three_traces(rt: HostRuntime) {
         drops: 1,
         ..left(&[1, 0, 0, 0, 2, 0, 0, 0], report)
     }];
-    shows(
-        &rt,
-        rt.alloc(),
-        &sized(1, 1, 8, 8),
-        DefaultAction,
-        &calls,
-        &remains,
-    );
+    shows(&rt, &sized(1, 1, 8, 8), DefaultAction, &calls, &remains);
 }
-
-/// The text of the records 1, 2(7) and 4(9) of the four enablings.
-pub(super) const PADDED_TEXT: [u8; 32] = [
-    1, 0, 0, 0, 0, 0, 0, 0, 2, 0, 0, 0, 0, 0, 0, 0, 7, 0, 0, 0, 0, 0, 0, 0, 4, 0, 0, 0, 9, 0, 0, 0,
-];
 
 /// What `padded_records` calls.
 pub(super) fn padded_calls() -> [Call; 5] {
@@ -78,14 +60,7 @@ fn padded_records(rt: HostRuntime) {
         ..left(&PADDED_TEXT, report)
     }];
     let config = sized(1, 1, 32, 32);
-    shows(
-        &rt,
-        rt.alloc(),
-        &config,
-        enablings(),
-        &padded_calls(),
-        &remains,
-    );
+    shows(&rt, &config, enablings(), &padded_calls(), &remains);
 }
 
 #[test]
@@ -101,14 +76,7 @@ fn too_large_record(rt: HostRuntime) {
         drops: 1,
         ..left(&[], report)
     }];
-    shows(
-        &rt,
-        rt.alloc(),
-        &sized(1, 1, 8, 8),
-        enablings(),
-        &calls,
-        &remains,
-    );
+    shows(&rt, &sized(1, 1, 8, 8), enablings(), &calls, &remains);
 }
 
 #[test]
@@ -120,20 +88,9 @@ fn committed(rt: HostRuntime) {
         commit(0, 1, Copied(2)),
         opens(0, 65),
     ];
-    let report = Report {
-        offered: 2,
-        accepted: 2,
-        ..Report::default()
-    };
+    let report = all_accepted(2);
     let remains = [left(&[1, 0, 0, 0, 4, 0, 0, 0, 5, 0, 0, 0], report)];
-    shows(
-        &rt,
-        rt.alloc(),
-        &sized(1, 1, 64, 64),
-        enablings(),
-        &calls,
-        &remains,
-    );
+    shows(&rt, &sized(1, 1, 64, 64), enablings(), &calls, &remains);
 }
 
 /// Two of the three records would fit, and none is copied.
@@ -159,14 +116,7 @@ fn lost_block(rt: HostRuntime) {
         drops: 1,
         ..left(&[4, 0, 0, 0, 9, 0, 0, 0], report)
     }];
-    shows(
-        &rt,
-        rt.alloc(),
-        &sized(1, 1, 16, 16),
-        enablings(),
-        &calls,
-        &remains,
-    );
+    shows(&rt, &sized(1, 1, 16, 16), enablings(), &calls, &remains);
 }
 
 #[test]
@@ -184,14 +134,7 @@ fn acceptance_order(rt: HostRuntime) {
         ..Report::default()
     };
     let remains = [left(&[4, 0, 0, 0, 9, 0, 0, 0], report)];
-    shows(
-        &rt,
-        rt.alloc(),
-        &sized(1, 1, 16, 8),
-        enablings(),
-        &calls,
-        &remains,
-    );
+    shows(&rt, &sized(1, 1, 16, 8), enablings(), &calls, &remains);
 }
 
 /// What is traced just before the commit stands in front of what was spoken first.
@@ -211,14 +154,7 @@ fn acceptance_order_trace_between(rt: HostRuntime) {
         ..Report::default()
     };
     let remains = [left(&[1, 0, 0, 0, 0, 0, 0, 0, 4, 0, 0, 0, 9, 0, 0, 0], report)];
-    shows(
-        &rt,
-        rt.alloc(),
-        &sized(1, 1, 16, 8),
-        enablings(),
-        &calls,
-        &remains,
-    );
+    shows(&rt, &sized(1, 1, 16, 8), enablings(), &calls, &remains);
 }
 
 /// Four bytes are free, and the block would begin at the next multiple of eight.
@@ -242,14 +178,7 @@ fn aligned_block(rt: HostRuntime) {
         drops: 1,
         ..left(&[1, 0, 0, 0, 2, 0, 0, 0], report)
     }];
-    shows(
-        &rt,
-        rt.alloc(),
-        &sized(1, 1, 8, 8),
-        DefaultAction,
-        &calls,
-        &remains,
-    );
+    shows(&rt, &sized(1, 1, 8, 8), DefaultAction, &calls, &remains);
 }
 
 #[test]
@@ -260,18 +189,7 @@ fn aligned_block_with_room(rt: HostRuntime) {
         speculate(0, 1, bare(1), Spoken::Kept),
         commit(0, 1, Copied(1)),
     ];
-    let report = Report {
-        offered: 2,
-        accepted: 2,
-        ..Report::default()
-    };
+    let report = all_accepted(2);
     let remains = [left(&[1, 0, 0, 0, 0, 0, 0, 0, 1, 0, 0, 0], report)];
-    shows(
-        &rt,
-        rt.alloc(),
-        &sized(1, 1, 16, 8),
-        DefaultAction,
-        &calls,
-        &remains,
-    );
+    shows(&rt, &sized(1, 1, 16, 8), DefaultAction, &calls, &remains);
 }

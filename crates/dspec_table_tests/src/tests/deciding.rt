@@ -1,27 +1,15 @@
 //! Decisions of the first slot: a commit that waits for no other CPU, and two CPUs that both decide, of which one misses.
-ghost use Rattle.std.specs.Prelude.{◌≡◌, ◌≤◌, true, false, IfSome};
-ghost use Rattle.dspec_table.specs.Conditions.{IsOn, MayLoad};
+ghost use Rattle.std.specs.Prelude.{◌≡◌, ◌≤◌, IfSome};
+ghost use Rattle.dspec_table.specs.Conditions.{MayLoad};
 ghost use Rattle.dspec_table.specs.Seats.{known, IsAt, set_up, cpu_of};
 ghost use Rattle.dspec_table_tests.specs.Calls.{Next, Unused};
 ghost use Rattle.dspec_word.specs.Word.{CanBeReleased};
 
 use super::*;
+use crate::calls::{begun, committed};
 use dspec_word::{Act, SpecId, commit_at, discard_at};
 
-/// The first step of a call on a speculation of the first slot, by a CPU that is no caller: whether the session runs.
-pub(super) fn begun(words: &Words, seat: &mut CpuSeat, id: SpecId, call: &Doing) -> bool
-    requires seat { IsAt words.now seat.old }
-    requires slots { (1 ≤ (set_up words.now).nspec) × (id.slot ≡ 1) }
-    requires on { IsOn id call.now.op }
-    requires unused { Unused (set_up words.now) (cpu_of seat.old) (known seat.old).own }
-    requires mine { call.now.mine ≡ false }
-    ensures seat { IsAt words.now seat.new × (cpu_of seat.new ≡ cpu_of seat.old) }
-    ensures may { result ≡ true → MayLoad (set_up words.now) (known seat.new) (cpu_of seat.old) call.now 1 call.now.op × Unused (set_up words.now) (cpu_of seat.old) (known seat.new).own }
-{
-    seat.load_activity(words, call)
-}
-
-/// Its load of the slot's word.
+/// A call's load of the slot's word.
 pub(super) fn shown(words: &Words, seat: &mut CpuSeat, call: &Doing) -> Word
     requires seat { IsAt words.now seat.old }
     requires slots { 1 ≤ (set_up words.now).nspec }
@@ -31,28 +19,6 @@ pub(super) fn shown(words: &Words, seat: &mut CpuSeat, call: &Doing) -> Word
     ensures limit { CanBeReleased result }
 {
     seat.load_word(words, 1, call)
-}
-
-/// The whole commit, by a CPU that is no caller: whether it went by Committing, and was released.
-fn committed(words: &Words, seat: &mut CpuSeat, id: SpecId, call: &Doing) -> bool
-    requires seat { IsAt words.now seat.old }
-    requires slots { (1 ≤ (set_up words.now).nspec) × (id.slot ≡ 1) }
-    requires op { call.now.op ≡ CpuOp.Commit id }
-    requires may { MayLoad (set_up words.now) (known seat.old) (cpu_of seat.old) call.now 1 call.now.op }
-    ensures seat { IsAt words.now seat.new × (cpu_of seat.new ≡ cpu_of seat.old) }
-{
-    let from = shown(words, seat, call);
-    let Act::Attempt(to) = commit_at(from, id, call.mine) else {
-        return false;
-    };
-    if seat.decide_word(words, 1, from, to, call).is_err() {
-        return false;
-    }
-    if to.code() != Code::Committing {
-        return false;
-    }
-    seat.release_word(words, 1, call);
-    true
 }
 
 /// A commit and a discard by two CPUs that are no callers, both shown the word before either decides. The discard is first, so the

@@ -5,8 +5,9 @@ ghost use Rattle.dspec_deeds.specs.declared.calls.CpuOp.TheVariants as op;
 ghost use Rattle.dspec_table.specs.Conditions.{MayLoad};
 ghost use Rattle.dspec_table.specs.Seats.{known, IsAt, set_up, cpu_of};
 
-use super::deciding::{begun, shown};
+use super::deciding::shown;
 use super::*;
+use crate::calls::begun;
 use dspec_record::Rec;
 use dspec_word::{Act, SpecId, speculate_at};
 

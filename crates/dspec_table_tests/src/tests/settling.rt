@@ -4,8 +4,9 @@ ghost use Rattle.dspec_deeds.specs.declared.calls.CpuOp.TheVariants as op;
 ghost use Rattle.dspec_table.specs.Seats.{known, IsAt, IsConsumerAt, set_up, cpu_of};
 ghost use Rattle.dspec_table_tests.specs.Calls.{Unused};
 
-use super::deciding::{begun, both_decided};
+use super::deciding::both_decided;
 use super::*;
+use crate::calls::begun;
 use dspec_word::{Act, SpecId, reap_at, settle_at};
 
 /// A service's visit of the first slot, by a CPU that has settled nothing of it: whether there was something to settle.

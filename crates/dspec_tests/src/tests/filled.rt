@@ -1,9 +1,10 @@
 //! Plays under policy Fill: the first refused reservation closes a CPU's principal buffer, and that alone does.
-use super::worlds::{finish, four_enablings, made, runs, valued};
+use super::worlds::{finish, made, runs, valued};
 use super::*;
 use dspec_buffer::{ByteBuffer, ListBuffer, TraceBuffer};
 use dspec_core::World;
 use dspec_record::Enablings;
+use dspec_samples::four_enablings;
 
 /// The first identifier that a session gives out.
 fn first() -> SpecId {

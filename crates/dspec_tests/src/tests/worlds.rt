@@ -5,17 +5,8 @@ ghost use Rattle.dspec_core.specs.Calls.{is_actor};
 use super::*;
 use dspec_buffer::{ByteBuffer, ListBuffer, TraceBuffer};
 use dspec_core::{BeginFault, StartFault, StepFault, Stepped, World};
-use dspec_record::{DefaultAction, Enablings, Field, Schema, SchemaFault};
-
-/// The enablings 1 none, 2 [8], 3 [1,2], 4 [4].
-pub fn four_enablings() -> Result<Enablings, SchemaFault> {
-    let mut enablings = Enablings::new();
-    enablings.enable(&[])?;
-    enablings.enable(&[Field::Eight])?;
-    enablings.enable(&[Field::One, Field::Two])?;
-    enablings.enable(&[Field::Four])?;
-    Ok(enablings)
-}
+use dspec_record::{DefaultAction, Enablings, Schema};
+use dspec_samples::four_enablings;
 
 /// A record with one value.
 pub fn valued(epid: u32, value: u64) -> Rec {

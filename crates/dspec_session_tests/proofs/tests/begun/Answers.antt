@@ -12,7 +12,7 @@ returns-clause-first c =
     (first_is words c.in-Ok.seats.items c.pop.new.self.items c.pop-2.new.self.items c.unwrap-first.result c.unwrap-second.result
     (c.pop.ensures.items ∙ ap (λ o. c.pop.new.self.items ++ option_to_list o) c.unwrap-second.ensures)
     (c.pop-2.ensures.items ∙ ap (λ o. c.pop-2.new.self.items ++ option_to_list o) c.unwrap-first.ensures)
-    (c.in-Ok.ensures.seats.0 ∙ c.small-config.ensures.sizes.0) c.in-Ok.ensures.seats.1)
+    (c.in-Ok.ensures.seats.0 ∙ c.sized-config.ensures.sizes.0) c.in-Ok.ensures.seats.1)
 
 pub returns-clause-second : goal.returns-clause-second
 returns-clause-second c =
@@ -21,4 +21,4 @@ returns-clause-second c =
     (second_is words c.in-Ok.seats.items c.pop.new.self.items c.pop-2.new.self.items c.unwrap-first.result c.unwrap-second.result
     (c.pop.ensures.items ∙ ap (λ o. c.pop.new.self.items ++ option_to_list o) c.unwrap-second.ensures)
     (c.pop-2.ensures.items ∙ ap (λ o. c.pop-2.new.self.items ++ option_to_list o) c.unwrap-first.ensures)
-    (c.in-Ok.ensures.seats.0 ∙ c.small-config.ensures.sizes.0) c.in-Ok.ensures.seats.1)
+    (c.in-Ok.ensures.seats.0 ∙ c.sized-config.ensures.sizes.0) c.in-Ok.ensures.seats.1)

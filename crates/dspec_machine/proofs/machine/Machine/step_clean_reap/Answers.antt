@@ -7,7 +7,7 @@ use Rattle.dspec_machine.specs.Machines.{Cleans, history, state_of}
 use Rattle.dspec_play.specs.Play.{next_slot, same_word}
 use Rattle.dspec_play.proofs.CleanReads.{clean_stands, reap_legal}
 use Rattle.dspec_machine.proofs.OneMore.{word_there}
-use Rattle.dspec_machine.proofs.WordNumbers.{words_test}
+use Rattle.dspec_play.proofs.StepsWords.{words_test}
 use Rattle.dspec_machine.proofs.machine.Machine.step_clean_reap.Goals as goal
 
 -- what a test denied tells

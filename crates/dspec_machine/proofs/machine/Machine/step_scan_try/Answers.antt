@@ -18,7 +18,7 @@ use Rattle.dspec_machine.proofs.Makings.{step_made}
 use Rattle.dspec_machine.proofs.OneMore.{word_there}
 use Rattle.dspec_play.proofs.ScanMoves.{missed_deeds, scan_opened}
 use Rattle.dspec_play.proofs.StepReads.{flight_stands, step_legal}
-use Rattle.dspec_machine.proofs.WordNumbers.{words_test}
+use Rattle.dspec_play.proofs.StepsWords.{words_test}
 use Rattle.dspec_machine.proofs.machine.Machine.step_scan_try.Goals as goal
 
 was : (b : Bool) → not b ≡ false → b ≡ true

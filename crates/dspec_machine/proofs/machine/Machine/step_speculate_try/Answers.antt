@@ -15,7 +15,7 @@ use Rattle.dspec_play.specs.Play.{Moved, cpu_step, same_word, shown_speculate, s
 use Rattle.dspec_machine.proofs.Makings.{adds_none, step_made}
 use Rattle.dspec_play.proofs.StepReads.{can_be_released, flight_stands, step_legal}
 use Rattle.dspec_play.proofs.TableReads.{speculate_reads}
-use Rattle.dspec_machine.proofs.WordNumbers.{words_test}
+use Rattle.dspec_play.proofs.StepsWords.{words_test}
 use Rattle.dspec_play.proofs.SpeculateMoves.{shown_voids, speculate_tried, word_granted, word_joined}
 use Rattle.dspec_machine.proofs.machine.Machine.step_speculate_try.Goals as goal
 

@@ -3,7 +3,7 @@ use Rattle.dspec_deeds.specs.History.{word_at}
 use Rattle.dspec_table.specs.Last.{last_words}
 use Rattle.dspec_table.specs.Showing.{IsWordNumber}
 use Rattle.dspec_table.proofs.AtEnd.{got_is}
-use Rattle.dspec_table.proofs.Numbers.{one_word}
+use Rattle.dspec_word.proofs.Numbers.{one_word}
 use Rattle.dspec_table.proofs.last.LastWords.word.Goals as goal
 
 pub read_word-requires : goal.read_word-requires

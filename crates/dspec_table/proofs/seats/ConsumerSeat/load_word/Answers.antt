@@ -4,7 +4,7 @@ use Rattle.dspec_deeds.specs.declared.config.Config.{Config}
 use Rattle.dspec_table.specs.Holders.{Holder, same_holder}
 use Rattle.dspec_table.specs.Steps.{LookedWord}
 use Rattle.dspec_table.specs.Seats.{known_there}
-use Rattle.dspec_table.proofs.Numbers.{one_word}
+use Rattle.dspec_word.proofs.Numbers.{one_word}
 use Rattle.dspec_table.proofs.Limits.{finds_word}
 use Rattle.dspec_table.proofs.Looking.{looks_word}
 use Rattle.dspec_table.proofs.seats.ConsumerSeat.load_word.Goals as goal

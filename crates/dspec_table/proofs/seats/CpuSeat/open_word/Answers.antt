@@ -3,7 +3,7 @@ use Rattle.dspec_word.specs.Word.{word_number}
 use Rattle.dspec_deeds.specs.declared.config.Config.{Config}
 use Rattle.dspec_table.specs.Seats.{known}
 use Rattle.dspec_table.specs.Conditions.{active}
-use Rattle.dspec_table.proofs.Numbers.{one_word}
+use Rattle.dspec_word.proofs.Numbers.{one_word}
 use Rattle.dspec_table.proofs.Limits.{finds_word}
 use Rattle.dspec_table.proofs.Grows.{shown_greater}
 use Rattle.dspec_table.proofs.Answered.{left_word}

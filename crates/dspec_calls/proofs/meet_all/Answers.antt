@@ -1,6 +1,6 @@
 use Rattle.std.proofs.Common.{◌<◌, ◌∙◌, length, length-set, refl, arith}
 use Rattle.dspec_session.proofs.Callings.{cpu_there, met_there}
-use Rattle.dspec_session_tests.proofs.tests.staging.Stage.meet_all.Goals as goal
+use Rattle.dspec_calls.proofs.meet_all.Goals as goal
 
 pub meet-requires-clause-ready : goal.meet-requires-clause-ready
 meet-requires-clause-ready g c =

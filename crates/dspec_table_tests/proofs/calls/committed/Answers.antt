@@ -5,7 +5,7 @@ use Rattle.dspec_table.specs.Seats.{known}
 use Rattle.dspec_table.proofs.Flights.{tries_again}
 use Rattle.dspec_table_tests.specs.Calls.{Unused}
 use Rattle.dspec_table_tests.proofs.Turns.{commits, tried_rests}
-use Rattle.bench_words.proofs.stirring.committed.Goals as goal
+use Rattle.dspec_table_tests.proofs.calls.committed.Goals as goal
 
 pub decide_word-requires-clause-call : goal.decide_word-requires-clause-call
 decide_word-requires-clause-call c =

@@ -1,9 +1,9 @@
-//! The records that are timed, by their schema and size, with the buffers that they are pushed into.
+//! The buffers that a timed record is pushed into.
 ghost use Rattle.std.specs.Prelude.{IsTrue};
 
 use crate::way::{BLOCK_RECORDS, Way, push_blocks, push_often, read_through};
 use dspec_buffer::{ByteBuffer, TraceBuffer};
-use dspec_record::{DefaultAction, Enablings, Field, Rec, Schema, SchemaFault};
+use dspec_record::{Rec, Schema};
 use std::alloc::{AllocError, Global};
 
 /// The size of the buffer that records go into, in bytes: the largest that there is.
@@ -13,67 +13,6 @@ const PRINCIPAL_SIZE: u32 = 1_048_576;
 const FULL_SIZE: u32 = 8;
 
 const BLOCK_SIZE: u32 = 1024;
-
-/// The stamp of the records that have one.
-const STAMP: u64 = 8_000_000_000_000_000_000;
-
-/// A record by its schema and its size in bytes. The stamped ones are those of 4 and 8 bytes with a stamp.
-#[derive(Debug, Clone, Copy, PartialEq, Eq)]
-pub enum Subject {
-    Default4,
-    Enabled4,
-    Enabled8,
-    Enabled24,
-    Stamped12,
-    Stamped16,
-}
-
-/// All of them, in the order in which they are told.
-pub const SUBJECTS: [Subject; 6] = [
-    Subject::Default4,
-    Subject::Enabled4,
-    Subject::Enabled8,
-    Subject::Enabled24,
-    Subject::Stamped12,
-    Subject::Stamped16,
-];
-
-impl Subject {
-    pub fn name(self) -> &'static str {
-        match self {
-            Subject::Default4 => "default-4",
-            Subject::Enabled4 => "enabled-4",
-            Subject::Enabled8 => "enabled-8",
-            Subject::Enabled24 => "enabled-24",
-            Subject::Stamped12 => "stamped-12",
-            Subject::Stamped16 => "stamped-16",
-        }
-    }
-
-    /// Its record. Its values have all the bytes that their fields have.
-    pub fn record(self) -> Option<Rec> {
-        match self {
-            Subject::Default4 => Rec::new(7, &[]),
-            Subject::Enabled4 => Rec::new(1, &[]),
-            Subject::Enabled8 => Rec::new(2, &[4_000_000_000]),
-            Subject::Enabled24 => Rec::new(
-                3,
-                &[200, 60_000, 4_000_000_000, 9_000_000_000_000_000_000],
-            ),
-            Subject::Stamped12 => Rec::stamped(7, STAMP, &[]),
-            Subject::Stamped16 => Rec::stamped(2, STAMP, &[4_000_000_000]),
-        }
-    }
-}
-
-/// The enablings of the subjects that have fields to enable: 1 none, 2 [4], 3 [1, 2, 4, 8].
-pub fn enablings() -> Result<Enablings, SchemaFault> {
-    let mut enablings = Enablings::new();
-    enablings.enable(&[])?;
-    enablings.enable(&[Field::Four])?;
-    enablings.enable(&[Field::One, Field::Two, Field::Four, Field::Eight])?;
-    Ok(enablings)
-}
 
 /// A record with all that its ways need.
 #[derive(Drop)]

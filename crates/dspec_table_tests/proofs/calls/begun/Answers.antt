@@ -2,7 +2,7 @@ use Rattle.std.proofs.Common.{Bool, not, subst}
 use Rattle.dspec_table.specs.Seats.{known}
 use Rattle.dspec_table.specs.Steps.{LoadedActivity}
 use Rattle.dspec_table_tests.proofs.Turns.{begins}
-use Rattle.dspec_table_tests.proofs.tests.deciding.begun.Goals as goal
+use Rattle.dspec_table_tests.proofs.calls.begun.Goals as goal
 
 pub returns-clause-may : goal.returns-clause-may
 returns-clause-may c runs =

@@ -1,25 +1,25 @@
 use Rattle.std.proofs.Common.{◌<◌, length, refl, arith}
 use Rattle.dspec_session.proofs.Callings.{cpu_there, met_there}
-use Rattle.replay.proofs.playing.Playing.run_cpu.Goals as goal
+use Rattle.dspec_calls.proofs.run_cpu.Goals as goal
 
 pub call_cpu-requires-clause-ready : goal.call_cpu-requires-clause-ready
 call_cpu-requires-clause-ready g c =
     let n = c.len.ensures in
     let inside = c.if-place-len.false in
-    (cpu_there _ _ c.args.self.now.session c.args.cpu c.index_mut.result.now c.requires.session (omega arith) c.index_mut.ensures.value).called
+    (cpu_there _ _ c.args.session.now c.args.cpu c.index_mut.result.now c.requires.session (omega arith) c.index_mut.ensures.value).called
 
 pub call_cpu-requires-clause-schema : goal.call_cpu-requires-clause-schema
 call_cpu-requires-clause-schema g c =
     let n = c.len.ensures in
     let inside = c.if-place-len.false in
-    (cpu_there _ _ c.args.self.now.session c.args.cpu c.index_mut.result.now c.requires.session (omega arith) c.index_mut.ensures.value).one
+    (cpu_there _ _ c.args.session.now c.args.cpu c.index_mut.result.now c.requires.session (omega arith) c.index_mut.ensures.value).one
 
 pub returns-in-Some : goal.returns-in-Some
 returns-in-Some g c =
     let n = c.len.ensures in
     let inside = c.if-place-len.false in
     record {
-      session = met_there _ _ c.args.self.now.session _ c.args.cpu c.index_mut.result.now c.call_cpu.new.cpu c.requires.session (omega arith) c.index_mut.ensures.value
+      session = met_there _ _ c.args.session.now _ c.args.cpu c.index_mut.result.now c.call_cpu.new.cpu c.requires.session (omega arith) c.index_mut.ensures.value
           c.call_cpu.ensures.ready c.call_cpu.ensures.same c.requires.session.consumer refl refl refl;
     }
 
@@ -28,6 +28,6 @@ returns-in-None g c =
     let n = c.len.ensures in
     let inside = c.if-place-len.false in
     record {
-      session = met_there _ _ c.args.self.now.session _ c.args.cpu c.index_mut.result.now c.call_cpu.new.cpu c.requires.session (omega arith) c.index_mut.ensures.value
+      session = met_there _ _ c.args.session.now _ c.args.cpu c.index_mut.result.now c.call_cpu.new.cpu c.requires.session (omega arith) c.index_mut.ensures.value
           c.call_cpu.ensures.ready c.call_cpu.ensures.same c.requires.session.consumer refl refl refl;
     }
