@@ -1,9 +1,9 @@
 -- A number is of one word at most.
-use Rattle.std.proofs.Common.{◌≡◌, ℕ, ◌==◌, ◌<◌, if◌then◌else◌, refl, sym, ap, ◌∙◌, arith}
+use Rattle.std.proofs.Common.{◌≡◌, ◌<◌, refl, sym, ap, ◌∙◌, arith}
 use Rattle.dspec_word.specs.declared.code.Code.{Code}
 use Rattle.dspec_word.specs.declared.code.Code.TheVariants.{Inactive, Active, ActiveOne, ActiveMany, Committing, CommittingMany, Discarding}
 use Rattle.dspec_word.specs.Word.{SlotState, word_number}
-use Rattle.dspec_word.specs.Code.{code_number}
+use Rattle.dspec_word.specs.Code.{code_number, code_of}
 
 pub code_below : (c : Code) → code_number c < 7
 code_below Inactive = omega arith
@@ -14,12 +14,7 @@ code_below Committing = omega arith
 code_below CommittingMany = omega arith
 code_below Discarding = omega arith
 
-code_of : ℕ → Code
-code_of n =
-    if n == 0 then Inactive else (if n == 1 then Active else (if n == 2 then ActiveOne else (if n == 3 then ActiveMany else (if n == 4 then Committing else (if n == 5 then CommittingMany else Discarding)))))
-
 code_back : (c : Code) → code_of (code_number c) ≡ c
-unfolding code_of
 code_back Inactive = refl
 code_back Active = refl
 code_back ActiveOne = refl
