@@ -7,8 +7,9 @@ use crate::consumer::Consumer;
 use dspec_cpu::Shared;
 
 impl Consumer {
-    /// Asks a CPU for the batch after those taken: its next service seals one. Answers false, and changes nothing, where there is
-    /// no such CPU.
+    /// Asks a CPU for the batch after those taken. A service that is shown the ask seals that batch where a spare is in hand or
+    /// came back; under policy fill none does. Asking again, before it is taken, asks for the same batch. Answers false, and
+    /// changes nothing, where there is no such CPU. One step.
     pub fn ask(&mut self, shared: &Shared, cpu: u32) -> bool
         requires session { IsConsumerOf (words_of shared.now) self.old }
         ensures session { IsConsumerOf (words_of shared.now) self.new }
