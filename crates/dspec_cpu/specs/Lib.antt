@@ -9,3 +9,4 @@ pub mod Switching
 pub mod Settled
 pub mod Serving
 pub mod Rests
+pub mod Keeping

@@ -3,7 +3,9 @@ ghost use Rattle.dspec_deeds.specs.declared.deed.Deed.TheVariants.{Commit, Disca
 ghost use Rattle.dspec_table.specs.Seats.{known};
 ghost use Rattle.dspec_cpu.specs.Calls.{Decides, is_worn_decided};
 ghost use Rattle.dspec_cpu.specs.Counting.{worn_after};
+ghost use Rattle.dspec_cpu.specs.Keeping.{WearsAlone};
 ghost use Rattle.dspec_cpu.specs.Lists.{IsSameCpu, calls_of, config_of, number_in, seat_of, words_of, worn_of};
+ghost use Rattle.dspec_cpu.specs.Settled.{KeepsBatches};
 
 use crate::blocks::end_block;
 use crate::cpu::Cpu;
@@ -42,7 +44,9 @@ impl<S: Schema> Cpu<S> {
         requires ready { ⟦<Cpu<S> as Listed>⟧.is_ready (words_of shared.now) self.old }
         ensures ready { ⟦<Cpu<S> as Listed>⟧.is_ready (words_of shared.now) self.new }
         ensures same { IsSameCpu self.old self.new }
+        ensures keeps { KeepsBatches self.old self.new }
         ensures worn { (result ≡ Decided.Worn) ↔ ((config_of self.old).max_calls ≤ calls_of self.old) }
+        ensures untouched { result ≡ Decided.Worn → WearsAlone self.old self.new }
         ensures wears { worn_of self.new ≡ worn_after (is_worn_decided result) (worn_of self.old) }
         ensures bounded { (known (seat_of self.new)).steps ≤ (known (seat_of self.old)).steps + 5 }
         ensures decides { Decides (Commit (number_in self.old) id) id result (⟦<Cpu<S> as Listed>⟧.has_list self.old) (known (seat_of self.old)) (⟦<Cpu<S> as Listed>⟧.has_list self.new) (known (seat_of self.new)) }
@@ -96,7 +100,9 @@ impl<S: Schema> Cpu<S> {
         requires ready { ⟦<Cpu<S> as Listed>⟧.is_ready (words_of shared.now) self.old }
         ensures ready { ⟦<Cpu<S> as Listed>⟧.is_ready (words_of shared.now) self.new }
         ensures same { IsSameCpu self.old self.new }
+        ensures keeps { KeepsBatches self.old self.new }
         ensures worn { (result ≡ Decided.Worn) ↔ ((config_of self.old).max_calls ≤ calls_of self.old) }
+        ensures untouched { result ≡ Decided.Worn → WearsAlone self.old self.new }
         ensures wears { worn_of self.new ≡ worn_after (is_worn_decided result) (worn_of self.old) }
         ensures bounded { (known (seat_of self.new)).steps ≤ (known (seat_of self.old)).steps + 5 }
         ensures decides { Decides (Discard (number_in self.old) id) id result (⟦<Cpu<S> as Listed>⟧.has_list self.old) (known (seat_of self.old)) (⟦<Cpu<S> as Listed>⟧.has_list self.new) (known (seat_of self.new)) }

@@ -3,6 +3,7 @@ ghost use Rattle.dspec_deeds.specs.declared.deed.Deed.{Deed};
 ghost use Rattle.dspec_table.specs.Meeting.{Met};
 ghost use Rattle.dspec_table.specs.Seats.{IsConsumerAt, known, known_there};
 ghost use Rattle.dspec_cpu.specs.Lists.{IsSameCpu, seat_of, words_of, worn_of};
+ghost use Rattle.dspec_cpu.specs.Keeping.{MovesItsSeat};
 
 use crate::cpu::Cpu;
 use crate::listed::Listed;
@@ -19,6 +20,7 @@ impl<S: Schema> Cpu<S> {
         ensures ready { ⟦<Cpu<S> as Listed>⟧.is_ready (words_of shared.now) self.new }
         ensures consumer { IsConsumerAt (words_of shared.now) consumer.new }
         ensures same { IsSameCpu self.old self.new × (worn_of self.new ≡ worn_of self.old) }
+        ensures keeps { MovesItsSeat self.old self.new }
         ensures met { Met (known (seat_of self.old)) (known_there consumer.old) (known (seat_of self.new)) (known_there consumer.new) }
         ensures list { (p : List Deed) → ⟦<Cpu<S> as Listed>⟧.has_list self.old p → ⟦<Cpu<S> as Listed>⟧.has_list self.new p }
     {

@@ -5,7 +5,9 @@ ghost use Rattle.dspec_deeds.specs.Marks.{mark};
 ghost use Rattle.dspec_table.specs.Seats.{known};
 ghost use Rattle.dspec_cpu.specs.Calls.{Goes, spoken_deeds, is_worn_spoken};
 ghost use Rattle.dspec_cpu.specs.Counting.{worn_after};
+ghost use Rattle.dspec_cpu.specs.Keeping.{WearsAlone};
 ghost use Rattle.dspec_cpu.specs.Lists.{IsSameCpu, calls_of, config_of, number_in, schema_of, seat_of, words_of, worn_of};
+ghost use Rattle.dspec_cpu.specs.Settled.{KeepsBatches};
 
 use crate::cpu::Cpu;
 use crate::holding::grant;
@@ -26,7 +28,9 @@ impl<S: Schema> Cpu<S> {
         requires accepted { IsTrue (S.accepted (schema_of self.old) rec.now) }
         ensures ready { ⟦<Cpu<S> as Listed>⟧.is_ready (words_of shared.now) self.new }
         ensures same { IsSameCpu self.old self.new }
+        ensures keeps { KeepsBatches self.old self.new }
         ensures worn { (result ≡ Spoken.Worn) ↔ ((config_of self.old).max_calls ≤ calls_of self.old) }
+        ensures untouched { result ≡ Spoken.Worn → WearsAlone self.old self.new }
         ensures wears { worn_of self.new ≡ worn_after (is_worn_spoken result) (worn_of self.old) }
         ensures did { Goes (known (seat_of self.old)) (spoken_deeds (number_in self.old) id rec.now result) (known (seat_of self.new)) }
         ensures bounded { (known (seat_of self.new)).steps ≤ (known (seat_of self.old)).steps + 4 }
@@ -58,6 +62,7 @@ impl<S: Schema> Cpu<S> {
         requires marked { mine ≡ true → slice_get self.old.marks.items (id.slot - 1) ≡ Some (id.issue + 1) }
         ensures ready { ⟦<Cpu<S> as Listed>⟧.is_ready (words_of shared.now) self.new }
         ensures same { IsSameCpu self.old self.new }
+        ensures keeps { KeepsBatches self.old self.new }
         ensures not_worn { is_worn_spoken result ≡ false }
         ensures wears { worn_of self.new ≡ worn_of self.old }
         ensures did { Goes (known (seat_of self.old)) (spoken_deeds (number_in self.old) id rec.now result) (known (seat_of self.new)) }

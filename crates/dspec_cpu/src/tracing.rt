@@ -3,7 +3,9 @@ ghost use Rattle.dspec_deeds.specs.declared.deed.Deed.{Deed};
 ghost use Rattle.dspec_table.specs.Seats.{known};
 ghost use Rattle.dspec_cpu.specs.Calls.{Goes, traced_deeds, is_worn_trace};
 ghost use Rattle.dspec_cpu.specs.Counting.{worn_after};
+ghost use Rattle.dspec_cpu.specs.Keeping.{WearsAlone};
 ghost use Rattle.dspec_cpu.specs.Lists.{IsSameCpu, calls_of, config_of, number_in, schema_of, seat_of, words_of, worn_of};
+ghost use Rattle.dspec_cpu.specs.Settled.{KeepsBatches};
 
 use crate::cpu::Cpu;
 use crate::fitting::{is_shut, keep_open};
@@ -21,7 +23,9 @@ impl<S: Schema> Cpu<S> {
         requires accepted { IsTrue (S.accepted (schema_of self.old) rec.now) }
         ensures ready { ⟦<Cpu<S> as Listed>⟧.is_ready (words_of shared.now) self.new }
         ensures same { IsSameCpu self.old self.new }
+        ensures keeps { KeepsBatches self.old self.new }
         ensures worn { (result ≡ Traced.Worn) ↔ ((config_of self.old).max_calls ≤ calls_of self.old) }
+        ensures untouched { result ≡ Traced.Worn → WearsAlone self.old self.new }
         ensures wears { worn_of self.new ≡ worn_after (is_worn_trace result) (worn_of self.old) }
         ensures did { Goes (known (seat_of self.old)) (traced_deeds (number_in self.old) rec.now result) (known (seat_of self.new)) }
         ensures bounded { (known (seat_of self.new)).steps ≤ (known (seat_of self.old)).steps + 1 }

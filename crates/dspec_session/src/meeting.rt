@@ -2,6 +2,7 @@ ghost use Rattle.std.specs.Prelude.{◌≡◌, List};
 ghost use Rattle.dspec_deeds.specs.declared.deed.Deed.{Deed};
 ghost use Rattle.dspec_table.specs.Meeting.{Met};
 ghost use Rattle.dspec_table.specs.Seats.{known};
+ghost use Rattle.dspec_cpu.specs.Keeping.{MovesItsSeat};
 ghost use Rattle.dspec_cpu.specs.Lists.{IsSameCpu, seat_of, words_of, worn_of};
 ghost use Rattle.dspec_session.specs.Consumers.{IsConsumerOf, IsSameConsumer, view_of};
 
@@ -19,6 +20,7 @@ impl Consumer {
         ensures same { IsSameConsumer self.old self.new }
         ensures ready { ⟦<Cpu<S> as Listed>⟧.is_ready (words_of shared.now) cpu.new }
         ensures same_cpu { IsSameCpu cpu.old cpu.new × (worn_of cpu.new ≡ worn_of cpu.old) }
+        ensures keeps { MovesItsSeat cpu.old cpu.new }
         ensures list { (p : List Deed) → ⟦<Cpu<S> as Listed>⟧.has_list cpu.old p → ⟦<Cpu<S> as Listed>⟧.has_list cpu.new p }
         ensures met { Met (known (seat_of cpu.old)) (view_of self.old) (known (seat_of cpu.new)) (view_of self.new) }
         ensures asks { (view_of self.new).asks ≡ (view_of self.old).asks }
