@@ -6,11 +6,15 @@ BENCH_WORDS = crates/bench_words/out/bench_words
 BENCH_CPU = crates/bench_cpu/out/bench_cpu
 ROUNDS = 50
 
-.PHONY: play test examples api edits mutants soak build bench bench-instructions build-bench
+.PHONY: check play test examples api edits mutants soak build bench bench-instructions build-bench
 
 # Plays one schedule at once: with the proved program where it is built, else with the trial build of the same sources.
 play:
 	@sh .ci/play "$(SCHEDULE)"
+
+# Proves one crate, and what it stands on where that has changed, as in make check CRATE=dspec_ring.
+check:
+	@cd "crates/$(CRATE)" && rt check
 
 # Everything: all proofs from nothing, the must-fail edits, the tests, the program, and the corpus.
 test:
