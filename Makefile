@@ -6,11 +6,15 @@ BENCH_WORDS = crates/bench_words/out/bench_words
 BENCH_CPU = crates/bench_cpu/out/bench_cpu
 ROUNDS = 50
 
-.PHONY: play test examples api mutants soak build bench bench-instructions build-bench
+.PHONY: check play test examples api edits mutants soak build bench bench-instructions build-bench
 
 # Plays one schedule at once: with the proved program where it is built, else with the trial build of the same sources.
 play:
 	@sh .ci/play "$(SCHEDULE)"
+
+# Proves one crate, and what it stands on where that has changed, as in make check CRATE=dspec_ring.
+check:
+	@cd "crates/$(CRATE)" && rt check
 
 # Everything: all proofs from nothing, the must-fail edits, the tests, the program, and the corpus.
 test:
@@ -23,6 +27,10 @@ examples: build
 # The list of public calls, docs/API.md, made from the sources; the gate compares it.
 api:
 	@sh .ci/api
+
+# The list of wrong bodies, docs/EDITS.md, made from the folders; the gate compares it, and that each edit fits its file.
+edits:
+	@sh .ci/edits
 
 # The wrong bodies that the gate leaves out, each of which the prover must refuse; CRATES names some crates alone.
 mutants:
