@@ -6,7 +6,7 @@ BENCH_WORDS = crates/bench_words/out/bench_words
 BENCH_CPU = crates/bench_cpu/out/bench_cpu
 ROUNDS = 50
 
-.PHONY: check play test examples api edits mutants soak build bench bench-instructions build-bench
+.PHONY: check play test examples api edits mutants rows soak build bench bench-instructions build-bench
 
 # Plays one schedule at once: with the proved program where it is built, else with the trial build of the same sources.
 play:
@@ -35,6 +35,10 @@ edits:
 # The wrong bodies that the gate leaves out, each of which the prover must refuse; CRATES names some crates alone.
 mutants:
 	@sh .ci/mutants $(CRATES)
+
+# Rows of the definitions of a play's steps and of the words' steps, turned one at a time: the law that both agree is refused.
+rows:
+	@sh .ci/rows
 
 # What runs in threads, 1,000 times each; the gate runs it 50 and 20 times.
 soak:
