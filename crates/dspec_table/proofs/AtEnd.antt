@@ -9,12 +9,7 @@ use Rattle.dspec_deeds.specs.declared.config.Config.{Config}
 use Rattle.dspec_deeds.specs.declared.deed.Deed.{Deed}
 use Rattle.dspec_table.specs.Holders.{Holder, of_cpu, of_consumer, part_of}
 use Rattle.dspec_table.specs.Since.{Since}
-use native.Mathlib.Decide.{dec_lt}
-use Rattle.dspec_deeds.specs.declared.calls.Actor.{Actor}
-use Rattle.dspec_deeds.specs.declared.calls.Actor.TheVariants.{Cpu}
-use Rattle.dspec_deeds.specs.History.{author, part, same_actor}
 use Rattle.dspec_deeds.specs.Legal.{HasAuthors}
-use Rattle.dspec_deeds.proofs.TestLemmas.{actor_is_itself}
 use Rattle.dspec_deeds.specs.Legal.{IsSound}
 use Rattle.dspec_table.specs.declared.rule.View.{View}
 use Rattle.dspec_table.specs.declared.seats.CpuSeat.{CpuSeat}
@@ -57,26 +52,9 @@ pub got_last : (xs : List CpuSeat) (x : CpuSeat) → slice_get (xs ++ x ∷ []) 
 got_last [] x = refl
 got_last (y ∷ ys) x = got_last ys x
 
-part_in : (log : List Deed) (ps : List (Holder × List Deed)) (p : Holder × List Deed) → Parts log ps → In p ps → part_of p.0 log ≡ p.1
+pub part_in : (log : List Deed) (ps : List (Holder × List Deed)) (p : Holder × List Deed) → Parts log ps → In p ps → part_of p.0 log ≡ p.1
 part_in log [] p all i = absurd i
 part_in log (x ∷ xs) p all i = ⊎_elim (λ (e : p ≡ x). subst (λ (y : Holder × List Deed). part_of y.0 log ≡ y.1) (sym e) all.0) (λ r. part_in log xs p all.1 r) i
-
--- a list with no deed of a CPU that there isn't
-pub has_authors : (k : Config) (h : List Deed) → ((c : ℕ) → k.cpus ≤ c → part (Cpu c) h ≡ []) → HasAuthors k h
-has_authors k [] none = tt
-has_authors k (d ∷ h) none = (has_authors k h (λ c beyond. rest c (same_actor (Cpu c) (author d h)) (none c beyond)), λ c by. one c by (dec_lt c k.cpus))
-  where
-    rest : (c : ℕ) (b : Bool) → (if b then d ∷ part (Cpu c) h else part (Cpu c) h) ≡ [] → part (Cpu c) h ≡ []
-    rest c true e = absurd (cc (e))
-    rest c false e = e
-
-    one : (c : ℕ) → author d h ≡ Cpu c → Dec (c < k.cpus) → c < k.cpus
-    one c by (yes p) = p
-    one c by (no p) =
-        let mine : same_actor (Cpu c) (author d h) ≡ true = subst (λ (x : Actor). same_actor (Cpu c) x ≡ true) (sym by) (actor_is_itself (Cpu c)) in
-        let le : k.cpus ≤ c = omega arith in
-        let e : (d ∷ part (Cpu c) h) ≡ [] = subst (λ (b : Bool). (if b then d ∷ part (Cpu c) h else part (Cpu c) h) ≡ []) mine (none c le) in
-        absurd (cc (e))
 
 pub ends : (key k : Config) (z : TableId) (id : ℕ) (v first : View) (seats : List CpuSeat) (ws xs : List ℕ) → key ≡ k → v.who ≡ first.who → v.own ≡ first.own → first.who ≡ of_consumer → v.seen ≡ first.seen → v.asks ≡ first.asks
     → ((c : ℕ) (s : CpuSeat) → slice_get seats c ≡ Some s → s.cpu ≡ c) → Joined seats v → Recalled seats v → Final (Seen (Kept key) id v) ws xs → Ended k ws seats first
@@ -95,7 +73,7 @@ ends key k z id v first seats ws xs is who own consumer seen asks order joined r
       sound = subst (λ x. IsSound x log) is kept.sound;
       rests = kept.rests;
       shows = subst (λ x. Shows x ws log) is (subst (λ l. Shows key l log) final.2 kept.shows);
-      authors = has_authors k log (λ c beyond. (kept.none c (subst (λ (x : Config). x.cpus ≤ c) (sym is) beyond)).1);
+      authors = subst (λ x. HasAuthors x log) is kept.authors;
       of_each = λ c s e. ap (λ x. part_of x log) (ap of_cpu (sym (order c s e)) ∙ sym s.who_is) ∙ part_in log v.also ((known s).who, (known s).own) mine.parts.1 (joined c s e);
       of_consumer = ap (λ x. part_of x log) (sym consumer ∙ sym who) ∙ (mine.parts.0 ∙ own);
       since_each = λ c s e.

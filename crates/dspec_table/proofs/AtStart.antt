@@ -1,19 +1,17 @@
 -- The rule holds at the start.
-use Rattle.std.proofs.Common.{◌≡◌, ℕ, zero, suc, ◌+◌, ◌≤◌, ◌<◌, true, false, ◌==◌, List, [], ◌∷◌, length, replicate, refl, sym, ap, ◌∙◌, subst, ⊎_elim, inr, arith}
+use Rattle.std.proofs.Common.{◌≡◌, ◌≢◌, ℕ, zero, suc, ◌+◌, ◌≤◌, ◌<◌, true, false, ◌==◌, List, [], ◌∷◌, length, replicate, refl, sym, ap, ◌∙◌, subst, ⊎_elim, inr, arith}
 use Rattle.std.specs.Prelude.{slice_index}
 use Rattle.std.proofs.lemmas.Bool.Decides.{nat_tests}
 use Rattle.std.proofs.Math.ListN.{length-replicate}
 use mathlib.Core.Option.{some, some-injective, some-ne-none}
 use lib.ListN.{get_elem?}
-use Rattle.std.specs.Prelude.{Some, None}
 use Rattle.atomic_table.specs.Table.{opening}
-use Rattle.dspec_deeds.specs.declared.calls.Actor.TheVariants.{Cpu, Consumer}
 use Rattle.dspec_deeds.specs.declared.config.Config.{Config}
-use Rattle.dspec_table.specs.Holders.{Holder, of_cpu, of_consumer, of_nobody}
+use Rattle.dspec_table.specs.Holders.{of_cpu, of_consumer}
 use Rattle.dspec_deeds.proofs.TestLemmas.{either_way, same_number}
 use Rattle.dspec_table.specs.declared.rule.View.{View}
 use Rattle.dspec_table.specs.Since.{here}
-use Rattle.dspec_table.specs.Rule.{times, total, Parts, Knows, KnowsAsks, Kept, cpus_from, newcomer}
+use Rattle.dspec_table.specs.Rule.{times, Parts, HaveSeats, Knows, KnowsAsks, Kept, cpus_from, newcomer}
 use Rattle.dspec_table.specs.Layout.{word_count, activity_place, ack_place, ask_place}
 
 zeros_at : (n i : ℕ) → slice_index (replicate n 0) i ≡ 0
@@ -28,12 +26,15 @@ none_below c a (suc n) lt =
     let r = none_below c (suc a) n (omega arith) in
     rw (apart, r) (omega arith)
 
-cpu_once : (c a n : ℕ) → times (of_cpu c) (cpus_from a n) ≤ 1
-cpu_once c a zero = omega arith
-cpu_once c a (suc n) = ⊎_elim
+cpu_once : (c a n : ℕ) → a ≤ c → c < a + n → times (of_cpu c) (cpus_from a n) ≡ 1
+cpu_once c a zero le lt = absurd (omega arith)
+cpu_once c a (suc n) le lt = ⊎_elim
     (λ (t : (c == a) ≡ true). let e = same_number c a t in let r = none_below c (suc a) n (omega arith) in rw (t, r) (omega arith))
-    (λ (f : (c == a) ≡ false). let r = cpu_once c (suc a) n in rw f (omega arith))
+    (λ (f : (c == a) ≡ false). let apart : c ≢ a = numbers_apart c a f in let r = cpu_once c (suc a) n (omega arith) (omega arith) in rw f (omega arith))
     (either_way (c == a))
+  where
+    numbers_apart : (c a : ℕ) → (c == a) ≡ false → c ≢ a
+    numbers_apart c a f = grind (arith, nat_tests)
 
 none_beyond : (c a n : ℕ) → a + n ≤ c → times (of_cpu c) (cpus_from a n) ≡ 0
 none_beyond c a zero le = refl
@@ -46,14 +47,12 @@ no_consumer : (a n : ℕ) → times of_consumer (cpus_from a n) ≡ 0
 no_consumer a zero = refl
 no_consumer a (suc n) = let r = no_consumer (suc a) n in omega arith
 
-no_nobody : (a n : ℕ) → times of_nobody (cpus_from a n) ≡ 0
-no_nobody a zero = refl
-no_nobody a (suc n) = let r = no_nobody (suc a) n in omega arith
-
-once_each : (k : Config) (w : Holder) → total w (newcomer k ∷ []) ≤ 1
-once_each k (Some (Cpu c)) = let r = cpu_once c 0 k.cpus in omega arith
-once_each k (Some Consumer) = let r = no_consumer 0 k.cpus in omega arith
-once_each k None = let r = no_nobody 0 k.cpus in omega arith
+new_seats : (k : Config) → HaveSeats k (newcomer k ∷ [])
+new_seats k = record {
+  cpus = λ c lt. let r = cpu_once c 0 k.cpus (omega arith) (omega arith) in omega arith;
+  consumer = let r = no_consumer 0 k.cpus in omega arith;
+  beyond = λ c le. let r = none_beyond c 0 k.cpus (omega arith) in omega arith;
+}
 
 no_parts : (a n : ℕ) → Parts [] (cpus_from a n)
 no_parts a zero = tt
@@ -81,7 +80,7 @@ starts k ws is = record {
     acks = λ c s x a b. ap (λ l. slice_index l (ack_place k c s)) is ∙ zeros_at (word_count k) (ack_place k c s);
   };
   knows = new_known k;
-  once = once_each k;
+  authors = tt;
+  seats = new_seats k;
   asks = new_asks k ws is;
-  none = λ c beyond. (let r = none_beyond c 0 k.cpus (omega arith) in omega arith, refl);
 }

@@ -17,21 +17,22 @@ use Rattle.dspec_table.specs.Since.{Since, here, more}
 use Rattle.dspec_table.specs.Rule.{holdings, times, total, Parts, Each, Remembers, Least, Knows, KnowsAsks, Kept}
 use Rattle.dspec_table.specs.Layout.{ask_place}
 use Rattle.dspec_table.specs.Notes.{nobody, without, dealt, greater, note, heard, answered, past_of, gathered}
-use Rattle.dspec_table.proofs.Keeps.{total_set, total_snoc, since_nothing, its_config}
+use Rattle.dspec_table.proofs.Totals.{total_set, total_snoc, same_seats}
+use Rattle.dspec_table.proofs.Keeps.{since_nothing, its_config}
 use Rattle.dspec_table.proofs.Pasts.{each_append, since_part}
 
 -- new views, known of the same log
-with_views : (k : Config) (st : State ℕ View) (kept : Kept k st) (views : List View) → ((j : ℕ) (u : View) → get_elem? views j ≡ some u → Knows k kept.log u) → ((w : Holder) → total w views ≤ total w st.views)
+with_views : (k : Config) (st : State ℕ View) (kept : Kept k st) (views : List View) → ((j : ℕ) (u : View) → get_elem? views j ≡ some u → Knows k kept.log u) → ((w : Holder) → total w views ≡ total w st.views)
     → ((j : ℕ) (u : View) → get_elem? views j ≡ some u → KnowsAsks k st.words u)
     → Kept k record { words = st.words; homes = st.homes; views = views }
-with_views k st kept views knows fewer asks = record {
+with_views k st kept views knows same asks = record {
   log = kept.log;
   sound = kept.sound;
   rests = kept.rests;
   shows = kept.shows;
   knows = knows;
-  once = λ w. let f = fewer w in let one = kept.once w in omega arith;
-  none = λ c beyond. (let f = fewer (of_cpu c) in let n = (kept.none c beyond).0 in omega arith, (kept.none c beyond).1);
+  authors = kept.authors;
+  seats = same_seats k st.views views same kept.seats;
   asks = asks;
 }
 
@@ -120,9 +121,9 @@ tells k id v st kept at =
 was_at : (views : List View) (id other : ℕ) (x w : View) → other ≢ id → get_elem? (set views id x) other ≡ some w → get_elem? views other ≡ some w
 was_at views id other x w apart e = ⊎_elim (λ (t : (other ≡ id) × (x ≡ w)). absurd (apart t.0)) (λ (t : (other ≢ id) × (get_elem? views other ≡ some w)). t.1) (at_set views id other x w e)
 
--- a join, where the one seat may know what it then does, and holds no more than both
+-- a join, where the one seat may know what it then does, and holds what both did
 joining : (k : Config) (id : ℕ) (v : View) (other : ℕ) (w both : View)
-    → ((log : List Deed) → Knows k log v → Knows k log w → Knows k log both) → ((words : List ℕ) → KnowsAsks k words v → KnowsAsks k words w → KnowsAsks k words both) → ((x : Holder) → times x (holdings both) ≤ times x (holdings v) + times x (holdings w))
+    → ((log : List Deed) → Knows k log v → Knows k log w → Knows k log both) → ((words : List ℕ) → KnowsAsks k words v → KnowsAsks k words w → KnowsAsks k words both) → ((x : Holder) → times x (holdings both) ≡ times x (holdings v) + times x (holdings w))
     → Joins (Kept k) id v other w both nobody
 joining k id v other w both knows asks counts st kept at apart there =
     let theirs_at = was_at st.views id other both w apart there in
@@ -156,8 +157,13 @@ greater_least (x ∷ xs) [] c n a b = a
 greater_least (x ∷ xs) (y ∷ ys) zero n a b = omega arith
 greater_least (x ∷ xs) (y ∷ ys) (suc c) n a b = greater_least xs ys c n a b
 
-pub hears : (k : Config) (id : ℕ) (v : View) (other : ℕ) (w : View) → Joins (Kept k) id v other w (heard v w) nobody
-hears k id v other w = joining k id v other w (heard v w)
+note_times : (x : Holder) (w : View) → w.who ≡ of_nobody → w.also ≡ [] → times x (holdings w) ≡ 0
+note_times x w who also =
+    subst (λ (y : Holder). (if same_holder x y then 1 else 0) + times x w.also ≡ 0) (sym who)
+    (subst (λ l. (if same_holder x of_nobody then 1 else 0) + times x l ≡ 0) (sym also) (nobody_times x))
+
+pub hears : (k : Config) (id : ℕ) (v : View) (other : ℕ) (w : View) → w.who ≡ of_nobody → w.also ≡ [] → Joins (Kept k) id v other w (heard v w) nobody
+hears k id v other w who also = joining k id v other w (heard v w)
     (λ log mine theirs. record { config = mine.config; parts = mine.parts; since = mine.since; told = since_nobody w.who w.seen log theirs.since; calm = mine.calm; past = mine.past })
     (λ words mine theirs. record {
       past = mine.past;
@@ -168,13 +174,13 @@ hears k id v other w = joining k id v other w (heard v w)
           let same = mine.exact is c lt in
           omega arith;
     })
-    (λ x. omega arith)
+    (λ x. let none = note_times x w who also in omega arith)
 
-pub answers : (k : Config) (id : ℕ) (v : View) (other : ℕ) (w : View) → Joins (Kept k) id v other w (answered v w) nobody
-answers k id v other w = joining k id v other w (answered v w)
+pub answers : (k : Config) (id : ℕ) (v : View) (other : ℕ) (w : View) → w.who ≡ of_nobody → w.also ≡ [] → Joins (Kept k) id v other w (answered v w) nobody
+answers k id v other w who also = joining k id v other w (answered v w)
     (λ log mine theirs. record { config = mine.config; parts = mine.parts; since = mine.since; told = since_nobody w.who w.seen log theirs.since; calm = mine.calm; past = mine.past })
     (λ words mine theirs. record { least = mine.least; past = mine.past; exact = mine.exact })
-    (λ x. omega arith)
+    (λ x. let none = note_times x w who also in omega arith)
 
 parts_append : (log : List Deed) (ps qs : List (Holder × List Deed)) → Parts log ps → Parts log qs → Parts log (ps ++ qs)
 parts_append log [] qs p q = q

@@ -1,5 +1,5 @@
 -- A seat's own deeds, added to the list, keep the rule, where the words show the longer list.
-use Rattle.std.proofs.Common.{◌≡◌, ◌≢◌, ℕ, zero, suc, ◌+◌, ◌≤◌, ◌<◌, Bool, true, false, if◌then◌else◌, ◌&&◌, List, [], ◌∷◌, ◌++◌, set, refl, sym, ap, ◌∙◌, subst, ⊎_elim, arith, true≢false}
+use Rattle.std.proofs.Common.{◌≡◌, ◌≢◌, ℕ, zero, suc, ◌+◌, ◌≤◌, ◌<◌, Bool, true, false, if◌then◌else◌, ◌&&◌, List, [], ◌∷◌, ◌++◌, set, refl, sym, ap, ◌∙◌, subst, ⊎_elim, arith, Some, true≢false}
 use Rattle.std.specs.Prelude.{slice_index, slice_set}
 use mathlib.Core.Option.{some, some-injective, some-ne-none}
 use lib.ListN.{get_elem?}
@@ -9,7 +9,7 @@ use Rattle.dspec_deeds.specs.declared.config.Config.{Config}
 use Rattle.dspec_deeds.specs.declared.deed.Deed.{Deed}
 use Rattle.dspec_table.specs.Holders.{Holder, of_cpu, of_nobody, doer, part_of, same_holder}
 use Rattle.dspec_deeds.specs.History.{owed, scan, late, halted, is_halt}
-use Rattle.dspec_deeds.specs.Legal.{IsSound, Follows}
+use Rattle.dspec_deeds.specs.Legal.{IsSound, Follows, HasAuthors}
 use Rattle.dspec_table.proofs.OwnReading.{scan_part}
 use Rattle.dspec_deeds.proofs.TestLemmas.{either_way, number_is_itself}
 use Rattle.dspec_table.proofs.HolderTests.{same_holder_tells, part_next}
@@ -17,11 +17,12 @@ use Rattle.dspec_table.specs.declared.rule.View.{View}
 use Rattle.dspec_table.specs.Showing.{Shows}
 use Rattle.dspec_table.specs.Since.{Since, here, more}
 use Rattle.dspec_table.specs.declared.rule.Past.{Past}
-use Rattle.dspec_table.specs.Rule.{holdings, times, total, Parts, Each, Remembers, Least, Knows, KnowsAsks, Kept}
+use Rattle.dspec_table.specs.Rule.{holdings, times, Parts, Each, Remembers, Least, Knows, KnowsAsks, Kept}
 use Rattle.dspec_table.specs.Layout.{ask_place}
 use Rattle.dspec_table.specs.Steps.{asking, acted, Found, Entered}
 use Rattle.dspec_table.proofs.Quiet.{IsQuiet, quiet_shows, same_words}
 use Rattle.dspec_table.proofs.Pasts.{each_map}
+use Rattle.dspec_table.proofs.Totals.{total_two, total_set, one_seat, same_seats, of_session}
 
 -- the deeds may follow one another, the first one last, and all are w's
 abbrev pub Adds : Config → Holder → List Deed → List Deed → Type 0
@@ -48,6 +49,10 @@ pub since_adds : (k : Config) (x w : Holder) (seen log ds : List Deed) → same_
 since_adds k x w seen log [] free a s = s
 since_adds k x w seen log (d ∷ ds) free a s = more (since_adds k x w seen log ds free a.0 s) (subst (λ y. same_holder x y ≡ false) (sym a.2) free)
 
+authors_add : (k : Config) (w : Holder) (log ds : List Deed) → ((c : ℕ) → w ≡ of_cpu c → c < k.cpus) → Adds k w log ds → HasAuthors k log → HasAuthors k (ds ++ log)
+authors_add k w log [] within a authors = authors
+authors_add k w log (d ∷ ds) within a authors = (authors_add k w log ds within a.0 authors, λ c by. within c (sym a.2 ∙ ap (λ x. Some x) by))
+
 -- everything goes on from nothing
 pub since_nothing : (log : List Deed) → Since of_nobody [] log
 since_nothing [] = here
@@ -63,9 +68,6 @@ not_held w x n free = ⊎_elim
     (λ f. f)
     (either_way (same_holder x w))
 
-holds_not : (w x : Holder) (n : ℕ) → (if same_holder w x then 1 else 0) + n ≡ 0 → same_holder w x ≡ false
-holds_not w x n free = ⊎_elim (λ (t : same_holder w x ≡ true). absurd (let m : 1 + n ≡ 0 = subst (λ b. (if b then 1 else 0) + n ≡ 0) t free in omega arith)) (λ f. f) (either_way (same_holder w x))
-
 parts_others : (k : Config) (w : Holder) (log ds : List Deed) (ps : List (Holder × List Deed)) → Adds k w log ds → times w ps ≡ 0 → Parts log ps → Parts (ds ++ log) ps
 parts_others k w log ds [] a free p = tt
 parts_others k w log ds (x ∷ xs) a free p = (part_others k x.0 w log ds (not_held w x.0 (times w xs) free) a ∙ p.0, parts_others k w log ds xs a (omega arith) p.1)
@@ -76,28 +78,6 @@ nobody_since k w seen log ds a s = since_adds k of_nobody w seen log ds refl a s
 -- what seats had seen goes on
 past_adds : (k : Config) (w : Holder) (log ds : List Deed) (ps : List Past) → Adds k w log ds → Each (Remembers log) ps → Each (Remembers (ds ++ log)) ps
 past_adds k w log ds ps a all = each_map (Remembers log) (Remembers (ds ++ log)) (λ p r. record { since = nobody_since k w p.seen log ds a r.since; own = r.own }) ps all
-
-pub total_at : (w : Holder) (views : List View) (a : ℕ) (v : View) → get_elem? views a ≡ some v → times w (holdings v) ≤ total w views
-total_at w [] a v e = absurd (some-ne-none v (sym e))
-total_at w (x ∷ xs) zero v e = let p = some-injective x v e in subst (λ (y : View). times w (holdings y) ≤ total w (x ∷ xs)) p (omega arith)
-total_at w (x ∷ xs) (suc a) v e = let r = total_at w xs a v e in omega arith
-
--- two seats at two places count both
-pub total_two : (w : Holder) (views : List View) (a b : ℕ) (v u : View) → a ≢ b → get_elem? views a ≡ some v → get_elem? views b ≡ some u → times w (holdings v) + times w (holdings u) ≤ total w views
-total_two w [] a b v u n e f = absurd (some-ne-none v (sym e))
-total_two w (x ∷ xs) zero zero v u n e f = absurd (n refl)
-total_two w (x ∷ xs) zero (suc b) v u n e f = let r = total_at w xs b u f in let p = some-injective x v e in subst (λ (y : View). times w (holdings y) + times w (holdings u) ≤ total w (x ∷ xs)) p (omega arith)
-total_two w (x ∷ xs) (suc a) zero v u n e f = let r = total_at w xs a v e in let p = some-injective x u f in subst (λ (y : View). times w (holdings v) + times w (holdings y) ≤ total w (x ∷ xs)) p (omega arith)
-total_two w (x ∷ xs) (suc a) (suc b) v u n e f = let r = total_two w xs a b v u (λ q. n (ap suc q)) e f in omega arith
-
-pub total_set : (w : Holder) (views : List View) (a : ℕ) (v u : View) → get_elem? views a ≡ some v → total w (set views a u) + times w (holdings v) ≡ total w views + times w (holdings u)
-total_set w [] a v u e = absurd (some-ne-none v (sym e))
-total_set w (x ∷ xs) zero v u e = let p = some-injective x v e in subst (λ (y : View). total w (u ∷ xs) + times w (holdings y) ≡ total w (x ∷ xs) + times w (holdings u)) p (omega arith)
-total_set w (x ∷ xs) (suc a) v u e = let r = total_set w xs a v u e in omega arith
-
-pub total_snoc : (w : Holder) (views : List View) (u : View) → total w (views ++ u ∷ []) ≡ total w views + times w (holdings u)
-total_snoc w [] u = omega arith
-total_snoc w (x ∷ xs) u = let r = total_snoc w xs u in omega arith
 
 -- a step of a seat with deeds of its own, after which it knows these asks
 pub acts_asking : (k : Config) (st : State ℕ View) (kept : Kept k st) (by : ℕ) (v : View) (carried : List (ℕ × ℕ)) → get_elem? st.views by ≡ some v → v.also ≡ [] → same_holder v.who v.who ≡ true
@@ -126,22 +106,18 @@ acts_asking k st kept by v carried at alone me ds i n asks adds rests shows own_
           (λ (t : (j ≢ by) × (get_elem? st.views j ≡ some u)).
           let theirs = kept.knows j u t.1 in
           let both = total_two v.who st.views by j v u (λ q. t.0 (sym q)) at t.1 in
-          let one = kept.once v.who in
+          let one = one_seat k st.views kept.seats v.who in
           let mine_once : 1 ≤ times v.who (holdings v) = subst (λ b. 1 ≤ (if b then 1 else 0) + times v.who v.also) (sym me) (omega arith) in
           let none : times v.who (holdings u) ≡ 0 = omega arith in
           record { config = theirs.config; parts = parts_others k v.who log ds (holdings u) adds none theirs.parts; since = since_adds k u.who v.who u.seen log ds (not_held v.who u.who (times v.who u.also) none) adds theirs.since; told = nobody_since k v.who u.told log ds adds theirs.told; calm = theirs.calm; past = past_adds k v.who log ds u.past adds theirs.past })
           (at_set st.views by j w u e);
-      once = λ x. let r = total_set x st.views by v w at in let one = kept.once x in omega arith;
-      none = λ c beyond.
-          let before = kept.none c beyond in
-          let one = total_at (of_cpu c) st.views by v at in
-          let not_me : times (of_cpu c) (holdings v) ≡ 0 = (let n = before.0 in omega arith) in
-          (let r = total_set (of_cpu c) st.views by v w at in let n = before.0 in omega arith, part_others k (of_cpu c) v.who log ds (holds_not (of_cpu c) v.who (times (of_cpu c) v.also) not_me) adds ∙ before.1);
+      authors = authors_add k v.who log ds (of_session k st.views kept.seats by v at me) adds kept.authors;
+      seats = same_seats k st.views (set st.views by w) (λ x. let r = total_set x st.views by v w at in omega arith) kept.seats;
       asks = λ j u e. ⊎_elim
           (λ (t : (j ≡ by) × (w ≡ u)). subst (KnowsAsks k (slice_set st.words i n)) t.1 own_asks)
           (λ (t : (j ≢ by) × (get_elem? st.views j ≡ some u)).
           let both = total_two v.who st.views by j v u (λ q. t.0 (sym q)) at t.1 in
-          let one = kept.once v.who in
+          let one = one_seat k st.views kept.seats v.who in
           let mine_once : 1 ≤ times v.who (holdings v) = subst (λ b. 1 ≤ (if b then 1 else 0) + times v.who v.also) (sym me) (omega arith) in
           let none : times v.who (holdings u) ≡ 0 = omega arith in
           other_asks u (not_held v.who u.who (times v.who u.also) none) (kept.asks j u t.1))

@@ -2,6 +2,7 @@ pub mod HolderTests
 pub mod OwnReading
 pub mod Pasts
 pub mod Quiet
+pub mod Totals
 pub mod Keeps
 pub mod Activity
 pub mod Loads
@@ -15,6 +16,7 @@ pub mod Changes
 pub mod Opens
 pub mod Grows
 pub mod AtEnd
+pub mod Owners
 pub mod Tries
 pub mod Answered
 pub mod Releases

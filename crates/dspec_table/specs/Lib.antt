@@ -11,3 +11,4 @@ pub mod Asks
 pub mod Meeting
 pub mod Seats
 pub mod Last
+pub mod Owners

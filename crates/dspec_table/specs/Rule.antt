@@ -10,7 +10,7 @@ use Rattle.dspec_table.specs.Layout.{ask_place}
 use Rattle.dspec_table.specs.Since.{Since}
 use Rattle.dspec_table.specs.Showing.{Shows}
 use Rattle.dspec_deeds.specs.History.{owed}
-use Rattle.dspec_deeds.specs.Legal.{IsSound}
+use Rattle.dspec_deeds.specs.Legal.{IsSound, HasAuthors}
 use Rattle.dspec_table.specs.declared.rule.View.{View}
 use Rattle.dspec_table.specs.declared.rule.Past.{Past}
 
@@ -59,14 +59,20 @@ pub record KnowsAsks (k : Config) (words : List ℕ) (v : View) : Type 0 where
   pub past : Each (λ p. Least k words p.asks) v.past
   pub exact : v.who ≡ of_consumer → (c : ℕ) → c < k.cpus → slice_index v.asks c ≡ slice_index words (ask_place k c)
 
+-- each actor of the session has exactly one seat, its own or one that it was joined into, and no other CPU has any
+pub record HaveSeats (k : Config) (views : List View) : Type 0 where
+  pub cpus : (c : ℕ) → c < k.cpus → total (of_cpu c) views ≡ 1
+  pub consumer : total of_consumer views ≡ 1
+  pub beyond : (c : ℕ) → k.cpus ≤ c → total (of_cpu c) views ≡ 0
+
 pub record Kept (k : Config) (st : State ℕ View) : Type 0 where
   pub log : List Deed
   pub sound : IsSound k log
   pub rests : owed log ≡ 0
+  pub authors : HasAuthors k log
   pub shows : Shows k st.words log
   pub knows : (by : ℕ) (v : View) → get_elem? st.views by ≡ some v → Knows k log v
-  pub once : (w : Holder) → total w st.views ≤ 1
-  pub none : (c : ℕ) → k.cpus ≤ c → (total (of_cpu c) st.views ≡ 0) × (part_of (of_cpu c) log ≡ [])
+  pub seats : HaveSeats k st.views
   pub asks : (by : ℕ) (v : View) → get_elem? st.views by ≡ some v → KnowsAsks k st.words v
 
 -- n CPUs from a on, with no deed

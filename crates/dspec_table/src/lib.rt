@@ -13,6 +13,7 @@ mod doing;
 mod ending;
 mod gathering;
 mod last;
+mod laws;
 mod layout;
 mod loading;
 mod meeting;
@@ -29,6 +30,7 @@ mod trying;
 
 pub use doing::Doing;
 pub use last::LastWords;
+pub use laws::deeds_have_seats;
 pub use layout::words_lie_apart;
 pub use rule::{OneList, Past, View};
 pub use seats::{ConsumerSeat, CpuSeat, Words};

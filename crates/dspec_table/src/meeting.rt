@@ -1,5 +1,5 @@
 ghost use Rattle.std.specs.Prelude.{◌≡◌, [], true};
-ghost use Rattle.dspec_table.specs.Holders.{same_holder};
+ghost use Rattle.dspec_table.specs.Holders.{of_nobody, same_holder};
 ghost use Rattle.dspec_table.specs.Steps.{Looked};
 ghost use Rattle.dspec_table.specs.Meeting.{Met};
 ghost use Rattle.dspec_table.specs.Notes.{answered, heard, note};
@@ -34,7 +34,7 @@ impl Words {
     // A CPU's seat takes in a note.
     fn hear(&self, place: &mut Place, told: Place)
         requires place { place.old.table_id ≡ self.now.board.shared.table_id }
-        requires note { (told.table_id ≡ self.now.board.shared.table_id) × (told.me.1 ≡ []) }
+        requires note { (told.table_id ≡ self.now.board.shared.table_id) × (told.me.1 ≡ []) × (told.me.0.who ≡ of_nobody) × (told.me.0.also ≡ []) }
         ensures place { (place.new.table_id ≡ place.old.table_id) × (place.new.me ≡ (heard place.old.me.0 told.me.0, place.old.me.1)) }
     {
         self.board.shared.join_seat::<Note>(place, told);
@@ -43,7 +43,7 @@ impl Words {
     // The consumer's seat takes in a note.
     fn hear_there(&self, place: &mut Place, told: Place)
         requires place { place.old.table_id ≡ self.now.board.shared.table_id }
-        requires note { (told.table_id ≡ self.now.board.shared.table_id) × (told.me.1 ≡ []) }
+        requires note { (told.table_id ≡ self.now.board.shared.table_id) × (told.me.1 ≡ []) × (told.me.0.who ≡ of_nobody) × (told.me.0.also ≡ []) }
         ensures place { (place.new.table_id ≡ place.old.table_id) × (place.new.me ≡ (answered place.old.me.0 told.me.0, place.old.me.1)) }
     {
         self.board.shared.join_seat::<Answer>(place, told);
