@@ -2,9 +2,11 @@
 //! consumer's meetings with all of them.
 #![tactic(auto)]
 
-ghost use Rattle.std.specs.Prelude.{◌≡◌};
+ghost use Rattle.std.specs.Prelude.{◌≡◌, None, Some, length, true, IfErr, IfOk, OnErr};
+ghost use Rattle.dspec_play.specs.Calls.{is_of};
 ghost use Rattle.dspec_cpu.specs.Lists.{IsSameCpu, schema_of, words_of};
 ghost use Rattle.dspec_session.specs.Sessions.{IsSession};
+ghost use Rattle.dspec_calls.specs.Called.{Calls, IsCalled, uncalled};
 
 use dspec_cpu::{Cpu, Listed, Shared};
 use dspec_deeds::{Answer, CpuOp};
@@ -20,34 +22,38 @@ pub enum Uncalled {
     BadRecord,
 }
 
-/// A call of a CPU, or None, and nothing changes, where its record isn't one of the schema.
-fn call_cpu<S: Schema>(shared: &Shared, schema: &S, cpu: &mut Cpu<S>, op: CpuOp) -> Option<Answer>
-    requires ready { ⟦<Cpu<S> as Listed>⟧.is_ready (words_of shared.now) cpu.old }
-    requires schema { schema_of cpu.old ≡ schema.now }
-    ensures ready { ⟦<Cpu<S> as Listed>⟧.is_ready (words_of shared.now) cpu.new }
-    ensures same { IsSameCpu cpu.old cpu.new }
+/// Whether the schema accepts the call's record, if it has one.
+fn is_accepted<S: Schema>(schema: &S, op: &CpuOp) -> bool
+    ensures { result ≡ is_of (S.accepted schema.now) op.now }
 {
     match op {
-        CpuOp::Trace(rec) => {
-            if !schema.accepts(&rec) {
-                return None;
-            }
-            Some(Answer::Traced(cpu.trace(shared, &rec)))
-        }
-        CpuOp::Speculation => Some(Answer::Opening(cpu.speculation(shared))),
-        CpuOp::Speculate(id, rec) => {
-            if !schema.accepts(&rec) {
-                return None;
-            }
-            Some(Answer::Spoken(cpu.speculate(shared, id, &rec)))
-        }
-        CpuOp::Commit(id) => Some(Answer::Decided(cpu.commit(shared, id))),
-        CpuOp::Discard(id) => Some(Answer::Decided(cpu.discard(shared, id))),
-        CpuOp::Service => Some(Answer::Served(cpu.service(shared))),
+        CpuOp::Trace(rec) => schema.accepts(rec),
+        CpuOp::Speculate(_, rec) => schema.accepts(rec),
+        _ => true,
     }
 }
 
-/// A whole call of a CPU of a session, by its number.
+/// A call of a CPU, whose record the schema accepts.
+fn call_cpu<S: Schema>(shared: &Shared, schema: &S, cpu: &mut Cpu<S>, op: &CpuOp) -> Answer
+    requires ready { ⟦<Cpu<S> as Listed>⟧.is_ready (words_of shared.now) cpu.old }
+    requires schema { schema_of cpu.old ≡ schema.now }
+    requires accepted { is_of (S.accepted schema.now) op.now ≡ true }
+    ensures ready { ⟦<Cpu<S> as Listed>⟧.is_ready (words_of shared.now) cpu.new }
+    ensures same { IsSameCpu cpu.old cpu.new }
+    ensures calls { Calls ⟦<Cpu<S> as Listed>⟧.has_list op.now result cpu.old cpu.new }
+{
+    match op {
+        CpuOp::Trace(rec) => Answer::Traced(cpu.trace(shared, rec)),
+        CpuOp::Speculation => Answer::Opening(cpu.speculation(shared)),
+        CpuOp::Speculate(id, rec) => Answer::Spoken(cpu.speculate(shared, *id, rec)),
+        CpuOp::Commit(id) => Answer::Decided(cpu.commit(shared, *id)),
+        CpuOp::Discard(id) => Answer::Decided(cpu.discard(shared, *id)),
+        CpuOp::Service => Answer::Served(cpu.service(shared)),
+    }
+}
+
+/// A whole call of a CPU of a session, by its number, or why it isn't made: NoSuchCpu, BadRecord, in that order. Of the session
+/// that CPU alone moves; where the call isn't made nothing does.
 pub fn run_cpu<S: Schema>(
     session: &mut Session<S>,
     schema: &S,
@@ -56,15 +62,24 @@ pub fn run_cpu<S: Schema>(
 ) -> Result<Answer, Uncalled>
     requires session { IsSession ⟦<Cpu<S> as Listed>⟧.is_ready schema.now session.old }
     ensures session { IsSession ⟦<Cpu<S> as Listed>⟧.is_ready schema.now session.new }
+    ensures allowed { IfOk result (λ _. uncalled (S.accepted schema.now) (length session.old.cpus.items) cpu op ≡ None) }
+    ensures called { IfOk result (λ answer. IsCalled ⟦<Cpu<S> as Listed>⟧.has_list cpu op answer session.old session.new) }
+    ensures refused { IfErr result (λ why. uncalled (S.accepted schema.now) (length session.old.cpus.items) cpu op ≡ Some why) }
+    ensures unchanged { OnErr result (session.new ≡ session.old) }
 {
     let place = cpu as usize;
     if place >= session.cpus.len() {
         return Err(Uncalled::NoSuchCpu);
     }
-    match call_cpu(&session.shared, schema, &mut session.cpus[place], op) {
-        Some(answer) => Ok(answer),
-        None => Err(Uncalled::BadRecord),
+    if !is_accepted(schema, &op) {
+        return Err(Uncalled::BadRecord);
     }
+    Ok(call_cpu(
+        &session.shared,
+        schema,
+        &mut session.cpus[place],
+        &op,
+    ))
 }
 
 /// The consumer meets each CPU of a session, CPU 0 first: then each has seen what any other did before.

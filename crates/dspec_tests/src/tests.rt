@@ -12,6 +12,7 @@ use dspec_word::SpecId;
 use std::process::Abort;
 use std::test::Fail;
 
+mod blocks;
 mod filled;
 mod large;
 mod plays;

@@ -15,11 +15,13 @@ use std::process::Abort;
 use std::test::Fail;
 
 /// A schedule of whole calls of two CPUs, and what it prints. Before the calls the consumer asks the first CPU for so many batches,
-/// and gives it buffers of these sizes, in bytes, that it never took; behind each call it may meet both CPUs.
+/// and gives it buffers of these sizes, in bytes, that it never took; those in stock it has too, and gives them back first. Behind
+/// each call it may meet both CPUs.
 pub struct Row<'a> {
     pub name: &'a str,
     pub asked: u64,
     pub lent: &'a [u32],
+    pub stock: &'a [u32],
     pub meets: bool,
     /// The schedule's lines in front of its enablings.
     pub config: &'a str,
@@ -46,6 +48,7 @@ pub const PLAIN: Row<'static> = Row {
     name: "",
     asked: 0,
     lent: &[],
+    stock: &[],
     meets: false,
     config: "",
     enabled: false,
@@ -251,6 +254,7 @@ fn play<S: Schema>(
     let far = Taker::new(alloc, far);
     ask(&mut cpus, row.asked);
     near.lend_all(rt, row.lent)?;
+    near.stock_all(rt, row.stock)?;
     let turns = schedule.turns.as_slice();
     let answers = answers(rt, &schema, &mut cpus, &mut near, turns, row.meets)?;
     outcome(alloc, &schema, cpus, near, far, answers)

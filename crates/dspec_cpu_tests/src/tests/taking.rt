@@ -17,6 +17,17 @@ pub struct Taker {
     pub stream: Series<Rec>,
 }
 
+/// An empty batch of the first CPU that it never sealed, with a buffer of this size in bytes.
+fn strange(rt: &(impl Abort + AllocGlobal), size: u32) -> Result<Batch, AllocError> {
+    assert!(rt; (8..=1_048_576).contains(&size) && size % 8 == 0);
+    let buffer = <ByteBuffer as TraceBuffer<DefaultAction>>::make(rt.alloc(), size)?;
+    Ok(Batch {
+        cpu: 0,
+        drops: 0,
+        buffer,
+    })
+}
+
 impl Taker {
     pub fn new(alloc: Global, end: ConsumerEnd) -> Taker {
         Taker {
@@ -34,14 +45,20 @@ impl Taker {
         sizes: &[u32],
     ) -> Result<(), AllocError> {
         for size in sizes {
-            assert!(rt; (8..=1_048_576).contains(size) && size % 8 == 0);
-            let buffer = <ByteBuffer as TraceBuffer<DefaultAction>>::make(rt.alloc(), *size)?;
-            let batch = Batch {
-                cpu: 0,
-                drops: 0,
-                buffer,
-            };
+            let batch = strange(rt, *size)?;
             assert!(rt; self.end.give_back(batch).is_ok());
+        }
+        Ok(())
+    }
+
+    /// Keeps buffers of these sizes, as if they had been taken: the first to be given back.
+    pub fn stock_all(
+        &mut self,
+        rt: &(impl Abort + AllocGlobal),
+        sizes: &[u32],
+    ) -> Result<(), AllocError> {
+        for size in sizes {
+            self.out.push(strange(rt, *size)?)?;
         }
         Ok(())
     }

@@ -1,4 +1,4 @@
-use crate::fault::Halt;
+use crate::halt::Halt;
 use dspec_buffer::read_all;
 use dspec_deeds::Answer;
 use dspec_play::Series;

@@ -1,6 +1,6 @@
 ghost use Rattle.dspec_session.specs.Sessions.{IsSession};
 
-use crate::fault::Halt;
+use crate::halt::Halt;
 use crate::playing::Playing;
 use dspec_cpu::{Cpu, Listed};
 use dspec_play::{Close, Outcome, Series};

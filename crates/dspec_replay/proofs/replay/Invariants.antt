@@ -3,7 +3,7 @@ use Rattle.dspec_table.specs.declared.seats.Words.{Words}
 use Rattle.dspec_cpu.specs.declared.cpu.Cpu.{Cpu}
 use Rattle.dspec_cpu.specs.Lists.{IsReady}
 use Rattle.dspec_session.specs.Sessions.{IsSession}
-use Rattle.replay.proofs.replay.Given as goal
+use Rattle.dspec_replay.proofs.replay.Given as goal
 
 abbrev pub invariant-loop-number : goal.invariant-loop-number
 invariant-loop-number g l =

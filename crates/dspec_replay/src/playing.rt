@@ -2,7 +2,7 @@ ghost use Rattle.std.specs.Prelude.{IfOk};
 ghost use Rattle.dspec_session.specs.Sessions.{IsSession};
 
 use crate::calls::call_consumer;
-use crate::fault::Halt;
+use crate::halt::Halt;
 use crate::taken::Basket;
 use dspec_calls::{Uncalled, meet_all, run_cpu};
 use dspec_cpu::{Cpu, Listed};

@@ -1,7 +1,7 @@
 ghost use Rattle.dspec_cpu.specs.Lists.{words_of};
 ghost use Rattle.dspec_session.specs.Consumers.{IsConsumerOf, IsSameConsumer};
 
-use crate::fault::Halt;
+use crate::halt::Halt;
 use crate::taken::Basket;
 use dspec_cpu::Shared;
 use dspec_deeds::{Answer, ConsumerOp};

@@ -1,0 +1,63 @@
+-- A call of a CPU of a session by its kind: why none is made, what one answered and did, and what else of the session moved.
+use Rattle.std.specs.Prelude.{ℕ, ◌≡◌, ◌≤◌, ◌++◌, ◌↔◌, Bool, nat_lt, List, Option, Some, None, if◌then◌else◌, slice_get, slice_set}
+use Rattle.dspec_record.specs.Record.{Record}
+use Rattle.dspec_deeds.specs.declared.calls.Answer.{Answer}
+use Rattle.dspec_deeds.specs.declared.calls.Answer.TheVariants as answer
+use Rattle.dspec_deeds.specs.declared.calls.CpuOp.{CpuOp}
+use Rattle.dspec_deeds.specs.declared.calls.CpuOp.TheVariants as op
+use Rattle.dspec_deeds.specs.declared.calls.Traced.TheVariants as traced
+use Rattle.dspec_deeds.specs.declared.calls.Opening.TheVariants as opening
+use Rattle.dspec_deeds.specs.declared.calls.Spoken.TheVariants as spoken
+use Rattle.dspec_deeds.specs.declared.calls.Decided.TheVariants as decided
+use Rattle.dspec_deeds.specs.declared.deed.Deed.{Deed}
+use Rattle.dspec_deeds.specs.declared.deed.Deed.TheVariants.{Commit, Discard}
+use Rattle.dspec_play.specs.Calls.{is_of}
+use Rattle.dspec_table.specs.Seats.{known}
+use Rattle.dspec_cpu.specs.declared.cpu.Cpu.{Cpu}
+use Rattle.dspec_cpu.specs.Calls.{Decides, Goes, spoken_deeds, traced_deeds}
+use Rattle.dspec_cpu.specs.Lists.{calls_of, config_of, number_in, seat_of}
+use Rattle.dspec_cpu.specs.Scans.{Opens}
+use Rattle.dspec_cpu.specs.Serving.{Serves}
+use Rattle.dspec_cpu.specs.Switching.{buffers_of}
+use Rattle.dspec_session.specs.declared.session.Session.{Session}
+use Rattle.dspec_calls.specs.declared.Uncalled.{Uncalled}
+use Rattle.dspec_calls.specs.declared.Uncalled.TheVariants.{BadRecord, NoSuchCpu}
+
+-- the refusal that is due, if one is: the CPU is looked for before the record is looked at
+abbrev pub uncalled : (Record → Bool) → ℕ → ℕ → CpuOp → Option Uncalled
+uncalled accepted cpus c o = if nat_lt c cpus then (if is_of accepted o then None else Some BadRecord) else Some NoSuchCpu
+
+module _ {S : Type 0} (has : Cpu S → List Deed → Type 0) where
+  -- an answer is Worn exactly where the CPU had made all its calls
+  abbrev pub WornBy : Type 0 → Cpu S → Type 0
+  WornBy worn old = worn ↔ ((config_of old).max_calls ≤ calls_of old)
+
+  -- these deeds were done, and come in front of every list that the CPU had
+  pub record Does (ds : List Deed) (old new : Cpu S) : Type 0 where
+    pub did : Goes (known (seat_of old)) ds (known (seat_of new))
+    pub list : (p : List Deed) → has old p → has new (ds ++ p)
+
+  -- the call answered so, as one of its kind, and did what that answer tells
+  abbrev pub Calls : CpuOp → Answer → Cpu S → Cpu S → Type 0
+  Calls (op.Trace r) (answer.Traced a) old new = Does (traced_deeds (number_in old) r a) old new × WornBy (a ≡ traced.Worn) old
+  Calls op.Speculation (answer.Opening a) old new =
+      Opens (config_of old) (number_in old) a (has old) (known (seat_of old)) (has new) (known (seat_of new)) × WornBy (a ≡ opening.Worn) old
+  Calls (op.Speculate id r) (answer.Spoken a) old new = Does (spoken_deeds (number_in old) id r a) old new × WornBy (a ≡ spoken.Worn) old
+  Calls (op.Commit id) (answer.Decided a) old new =
+      Decides (Commit (number_in old) id) id a (has old) (known (seat_of old)) (has new) (known (seat_of new)) × WornBy (a ≡ decided.Worn) old
+  Calls (op.Discard id) (answer.Decided a) old new =
+      Decides (Discard (number_in old) id) id a (has old) (known (seat_of old)) (has new) (known (seat_of new)) × WornBy (a ≡ decided.Worn) old
+  Calls op.Service (answer.Served a) old new =
+      Serves (config_of old) (number_in old) a (has old) (known (seat_of old)) (buffers_of old) (has new) (known (seat_of new)) (buffers_of new)
+  Calls o a old new = ⊥
+
+  -- the CPU of this number made the call, and nothing else of the session moved
+  pub record IsCalled (c : ℕ) (o : CpuOp) (a : Answer) (old new : Session S) : Type 0 where
+    pub was : Cpu S
+    pub now : Cpu S
+    pub there : slice_get old.cpus.items c ≡ Some was
+    pub number : number_in was ≡ c
+    pub calls : Calls o a was now
+    pub cpus : new.cpus.items ≡ slice_set old.cpus.items c now
+    pub shared : new.shared ≡ old.shared
+    pub consumer : new.consumer ≡ old.consumer
