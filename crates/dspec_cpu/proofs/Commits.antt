@@ -1,5 +1,5 @@
 -- A call of commit that decided: the list, the deeds and the steps behind it.
-use Rattle.std.proofs.Common.{◌≡◌, ◌≢◌, ℕ, ◌+◌, ◌-◌, ◌==◌, ◌≤◌, Bool, true, false, List, [], ◌∷◌, ◌++◌, length, map, Option, Some, if◌then◌else◌, refl, sym, ap, ◌∙◌, subst, arith, true≢false}
+use Rattle.std.proofs.Common.{◌≡◌, ◌≢◌, ℕ, ◌+◌, ◌-◌, ◌==◌, ◌≤◌, Bool, true, false, List, [], ◌∷◌, ◌++◌, length, map, Option, Some, if◌then◌else◌, refl, sym, ap, ◌∙◌, subst, inl, arith, true≢false}
 use Rattle.std.specs.Prelude.{slice_get, slice_set}
 use Rattle.std.specs.Global.{Vec}
 use Rattle.dspec_record.specs.Record.{Record}
@@ -103,7 +103,7 @@ module _ (shape : ℕ → Option Shape) (accepted : Record → Bool) (text : Rec
         let deeds : Release id.slot ∷ Commit cpu.cpu id f ∷ [] ≡ decided_deeds (Commit cpu.cpu id) id.slot true a = sym (ap (decided_deeds (Commit cpu.cpu id) id.slot true) is ∙ block_deeds (Commit cpu.cpu id) id.slot true fit n) in
         record {
           alone = true;
-          did = subst (λ ds. Goes v ds u) deeds (steps u (Release id.slot ∷ []) _ step.0 got.goes step.1 step.2 refl);
+          did = subst (λ ds. Goes v ds u) deeds (steps u (Release id.slot ∷ []) _ step.0 got.goes step.1 (inl step.2) refl);
           waits = λ d e. absurd (true≢false e);
           list = λ p was. subst (λ ds. has (ds ++ p)) deeds (list p was);
         }
@@ -119,6 +119,7 @@ module _ (shape : ℕ → Option Shape) (accepted : Record → Bool) (text : Rec
       config = last.config ∙ got.stands.config;
       who = last.who ∙ got.stands.who;
       rests = last.rests;
+      flight = last.flight;
     }
 
     pub alone_bounded : to.code ≡ Committing → u.steps ≤ v.steps + 5

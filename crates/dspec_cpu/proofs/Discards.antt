@@ -1,5 +1,5 @@
 -- A call of discard that decided: the list, the deeds and the steps behind it.
-use Rattle.std.proofs.Common.{◌≡◌, ℕ, ◌+◌, ◌-◌, ◌==◌, ◌≤◌, Bool, true, false, List, [], ◌∷◌, ◌++◌, length, map, Option, Some, if◌then◌else◌, refl, sym, ap, ◌∙◌, subst, arith, true≢false}
+use Rattle.std.proofs.Common.{◌≡◌, ℕ, ◌+◌, ◌-◌, ◌==◌, ◌≤◌, Bool, true, false, List, [], ◌∷◌, ◌++◌, length, map, Option, Some, None, if◌then◌else◌, refl, sym, ap, ◌∙◌, subst, arith, true≢false}
 use Rattle.std.specs.Prelude.{slice_get, slice_set}
 use Rattle.std.specs.Global.{Vec}
 use Rattle.dspec_record.specs.Record.{Record}
@@ -25,6 +25,7 @@ use Rattle.dspec_deeds.specs.Own.{contents, held}
 use Rattle.dspec_deeds.specs.Weaving.{bare}
 use Rattle.dspec_deeds.proofs.TestLemmas.{same_number}
 use Rattle.dspec_table.specs.declared.rule.View.{View}
+use Rattle.dspec_table.specs.Flights.{flight_after}
 use Rattle.dspec_table.specs.declared.doing.Doing.{Doing}
 use Rattle.dspec_table.specs.declared.seats.Words.{Words}
 use Rattle.dspec_table.specs.declared.seats.CpuSeat.{CpuSeat}
@@ -112,6 +113,14 @@ module _ (shape : ℕ → Option Shape) (accepted : Record → Bool) (text : Rec
       go : (b : Bool) → scan cpu.config cpu.cpu (decision b id.slot deed ++ v.own) ≡ 0
       go true = ready.idle
       go false = ready.idle
+
+  -- nor is one in flight
+  pub none_flies : flight_after cpu.config v.flight deeds ≡ None
+  none_flies = go (is_inactive to.code)
+    where
+      go : (b : Bool) → flight_after cpu.config v.flight (decision b id.slot deed) ≡ None
+      go true = refl
+      go false = refl
 
   pub thrown_listed : (p : List Deed) → HasList shape accepted text cpu p → mine ≡ (mark cpu.cpu id.slot p == id.issue + 1) → n ≡ length (if mine then contents (held cpu.cpu id p) else [])
       → (place : ℕ) → place ≡ id.slot - 1 → (seat : CpuSeat) → known seat ≡ w → (new : Vec Stored) → EmptiedAt place new.items → (kept : Stored) → kept.size ≡ cpu.active.size → StaysAt place kept

@@ -71,6 +71,7 @@ module _ (shape : ℕ → Option Shape) (accepted : Record → Bool) (text : Rec
       config = config;
       checked = fine;
       idle = ap (λ (v : View). scan cpu.config cpu.cpu v.own) u.seat;
+      flight = ap (λ (v : View). v.flight) u.seat;
       sound = subst (λ (v : View). IsSound cpu.config v.seen) (sym u.seat) tt;
       part_is = ap (λ (v : View). part (CpuActor cpu.cpu) v.seen) u.seat ∙ sym (ap (λ (v : View). v.own) u.seat);
       spare = spare;

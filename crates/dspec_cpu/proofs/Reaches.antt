@@ -1,5 +1,5 @@
 -- How far a call on an identifier comes.
-use Rattle.std.proofs.Common.{◌≡◌, ◌≢◌, ℕ, ◌+◌, ◌==◌, ◌≤◌, Bool, true, false, List, [], ◌∷◌, ◌++◌, if◌then◌else◌, refl, sym, ap, ◌∙◌, subst, arith, true≢false, append_assoc}
+use Rattle.std.proofs.Common.{◌≡◌, ◌≢◌, ℕ, ◌+◌, ◌==◌, ◌≤◌, Bool, true, false, List, [], ◌∷◌, ◌++◌, if◌then◌else◌, Option, Some, None, refl, sym, ap, ◌∙◌, subst, inl, arith, true≢false, append_assoc}
 use Rattle.std.specs.Prelude.{nat_le}
 use Rattle.std.proofs.lemmas.Bool.Decides.{nat_tests}
 use Rattle.dspec_word.specs.SpecId.{Speculation}
@@ -8,6 +8,7 @@ use Rattle.dspec_word.specs.declared.code.Code.{Code}
 use Rattle.dspec_word.specs.declared.code.Code.TheVariants.{Inactive, Active, ActiveOne, ActiveMany, Committing, CommittingMany, Discarding}
 use Rattle.dspec_word.specs.declared.act.Act.{Act}
 use Rattle.dspec_word.specs.declared.act.Act.TheVariants.{Void, Granted, Idle}
+use Rattle.dspec_word.specs.Code.{is_inactive}
 use Rattle.dspec_word.specs.Tables.{speculate_act, commit_act, discard_act}
 use Rattle.dspec_deeds.specs.declared.config.Config.{Config}
 use Rattle.dspec_deeds.specs.declared.calls.Actor.TheVariants.{Cpu as CpuActor}
@@ -16,7 +17,7 @@ use Rattle.dspec_deeds.specs.declared.calls.CpuOp.TheVariants as op
 use Rattle.dspec_deeds.specs.declared.deed.SpeculateFate.TheVariants as spoken
 use Rattle.dspec_deeds.specs.declared.deed.DecideFate.TheVariants as decided
 use Rattle.dspec_deeds.specs.declared.deed.Deed.{Deed}
-use Rattle.dspec_deeds.specs.declared.deed.Deed.TheVariants.{Speculate, Commit, Discard}
+use Rattle.dspec_deeds.specs.declared.deed.Deed.TheVariants.{Speculate, Commit, Discard, Release}
 use Rattle.dspec_deeds.specs.History.{in_range, part, scan}
 use Rattle.dspec_deeds.specs.Legal.{IsSound}
 use Rattle.dspec_deeds.specs.Marks.{mark}
@@ -26,15 +27,16 @@ use Rattle.dspec_table.specs.declared.doing.Doing.{Doing}
 use Rattle.dspec_table.specs.Holders.{of_cpu, number_of, part_of}
 use Rattle.dspec_table.specs.Acts.{at_activity, at_word, at_hit, at_exchange, speaks, void_commit, void_discard, discard_hits}
 use Rattle.dspec_table.specs.Conditions.{IsOn, IsInFlight}
+use Rattle.dspec_table.specs.Flights.{calling, flight_after}
 use Rattle.dspec_table.specs.Steps.{Entered, LoadedActivity}
-use Rattle.dspec_table.proofs.Flights.{quiet_activity, in_flight}
+use Rattle.dspec_table.proofs.Flights.{quiet_activity, in_flight, activity_enters}
 use Rattle.dspec_cpu.specs.declared.reaching.Reach.{Reach}
 use Rattle.dspec_cpu.specs.declared.reaching.Reach.TheVariants as reach
 use Rattle.dspec_cpu.specs.Calls.{Goes, rests, steps}
 use Rattle.dspec_cpu.specs.Reaching.{act_of, act_reached, is_reached, is_attempt, reached_deeds, releases_next, Ended}
 use Rattle.dspec_cpu.specs.Reached.{Reached}
 use Rattle.dspec_cpu.proofs.Mine.{own_mine_tells}
-use Rattle.dspec_cpu.proofs.Ready.{stands_behind}
+use Rattle.dspec_cpu.proofs.Ready.{stands_behind, stands_called}
 use Rattle.dspec_cpu.proofs.Retries.{here_or_void, attempt_is}
 
 -- steps behind steps
@@ -160,15 +162,38 @@ is_no_void reach.Granted t = granted_is
 is_no_void reach.Stopped t = absurd (true≢false (sym t))
 is_no_void reach.Void t = absurd (true≢false (sym t))
 
+-- where it ended no call is in flight
+reached_ends : (k : Config) (c : ℕ) (doing : Doing) (id : Speculation) (f : Option CpuOp) (o : CpuOp) (r : Reach) → IsOn id o → (r ≡ reach.Granted → (word : SlotState) × (act_of o word doing.mine ≡ Granted)) → flight_after k f (reached_deeds c doing o r) ≡ None
+reached_ends k c doing id f (op.Speculate j r) reach.Stopped on g = refl
+reached_ends k c doing id f (op.Speculate j r) reach.Void on g = refl
+reached_ends k c doing id f (op.Speculate j r) reach.Granted on g = refl
+reached_ends k c doing id f (op.Speculate j r) (reach.Done to) on g = refl
+reached_ends k c doing id f (op.Commit j) reach.Stopped on g = refl
+reached_ends k c doing id f (op.Commit j) reach.Void on g = refl
+reached_ends k c doing id f (op.Commit j) reach.Granted on g = refl
+reached_ends k c doing id f (op.Commit j) (reach.Done to) on g = refl
+reached_ends k c doing id f (op.Discard j) reach.Stopped on g = refl
+reached_ends k c doing id f (op.Discard j) reach.Void on g = refl
+reached_ends k c doing id f (op.Discard j) reach.Granted on g = let e = g refl in absurd (discard_grants_none e.0.issue doing.mine e.0.code (here_or_void (e.0.issue == j.issue) _ Granted e.1 granted_is).1)
+reached_ends k c doing id f (op.Discard j) (reach.Done to) on g = go (is_inactive to.code)
+  where
+    go : (b : Bool) → flight_after k f (if b then Release j.slot ∷ Discard c j (decided.Thrown doing.count) ∷ [] else Discard c j (decided.Thrown doing.count) ∷ []) ≡ None
+    go true = refl
+    go false = refl
+reached_ends k c doing id f (op.Trace r) x on g = absurd on
+reached_ends k c doing id f op.Speculation x on g = absurd on
+reached_ends k c doing id f op.Service x on g = absurd on
+
 module _ (k : Config) (c : ℕ) (doing : Doing) (id : Speculation) (v : View) (config : v.config ≡ k) (who : v.who ≡ of_cpu c) (on : IsOn id doing.op) where
   -- it ended at the load of activity
   at_once : (r : Reach) (w : View) (stopped : Bool) → (step : LoadedActivity doing v stopped w) → at_activity v.config (number_of v.who) doing doing.op stopped ≡ reached_deeds c doing doing.op r → is_reached r ≡ false → act_reached r ≡ Void → Reached k c doing id v r w
   at_once r w stopped step deeds none void =
-      let entered : Entered v step.0 (reached_deeds c doing doing.op r) w = subst (λ ds. Entered v step.0 ds w) deeds step.3 in
+      let entered : Entered (calling doing.op v) step.0 (reached_deeds c doing doing.op r) w = subst (λ ds. Entered (calling doing.op v) step.0 ds w) deeds step.3 in
+      let no_grant : r ≡ reach.Granted → (word : SlotState) × (act_of doing.op word doing.mine ≡ Granted) = λ e. absurd (true≢false (sym (ap is_reached e) ∙ none)) in
       let one : w.steps ≡ v.steps + 1 = ap (λ (x : View). x.steps) entered.view in
       record {
-        goes = steps w _ _ step.0 rests step.1 entered (append_none _);
-        stands = stands_behind k c v w step.0 _ config who entered;
+        goes = steps w _ _ step.0 rests step.1 (activity_enters doing v stopped w _ step deeds) (append_none _);
+        stands = stands_called k c doing.op v w _ (stands_behind k c (calling doing.op v) w step.0 _ config who entered) (reached_ends k c doing id (Some doing.op) doing.op r on no_grant ∙ sym (reached_ends k c doing id v.flight doing.op r on no_grant));
         bounded = let no = ap releases_next void in omega arith;
         acts = λ t. absurd (true≢false (sym t ∙ none));
         present = λ t. absurd (true≢false (sym t ∙ none));
@@ -194,7 +219,8 @@ module _ (k : Config) (c : ℕ) (doing : Doing) (id : Speculation) (v : View) (c
   pub behind : (u : View) → in_range k id ≡ true → LoadedActivity doing v false u → (r : Reach) (w : View) → Ended k c doing id id.slot u (act_reached r) w → (r ≡ reach.Stopped → ⊥) → Reached k c doing id v r w
   behind u inside step r w ended running =
       let quiet : at_activity v.config (number_of v.who) doing doing.op false ≡ [] = quiet_activity v.config (number_of v.who) doing id doing.op (ap (λ (x : Config). in_range x id) config ∙ inside) on in
-      let first : Entered v step.0 [] u = subst (λ ds. Entered v step.0 ds u) quiet step.3 in
+      let first : Entered (calling doing.op v) step.0 [] u = subst (λ ds. Entered (calling doing.op v) step.0 ds u) quiet step.3 in
+      let granted : r ≡ reach.Granted → (word : SlotState) × (act_of doing.op word doing.mine ≡ Granted) = λ e. (ended.word, ended.acts ∙ ap act_reached e) in
       let shown = ended.last in
       let b = shown.before in
       let b_config : b.config ≡ k = shown.config ∙ (ap (λ (x : View). x.config) first.view ∙ config) in
@@ -207,8 +233,8 @@ module _ (k : Config) (c : ℕ) (doing : Doing) (id : Speculation) (v : View) (c
       let last = stands_behind k c b w log (reached_deeds c doing doing.op r) b_config b_who entered in
       let one : u.steps ≡ v.steps + 1 = ap (λ (x : View). x.steps) first.view in
       record {
-        goes = steps w (reached_deeds c doing doing.op r) (reached_deeds c doing doing.op r) log (goes_on (steps u [] [] step.0 rests step.1 first refl) shown.waited) shown.last.1 entered (append_none _);
-        stands = record { sound = last.sound; part_is = last.part_is; own = last.own ∙ ap (λ l. reached_deeds c doing doing.op r ++ l) b_own; config = last.config ∙ (b_config ∙ sym config); who = last.who ∙ (b_who ∙ sym who); rests = last.rests };
+        goes = steps w (reached_deeds c doing doing.op r) (reached_deeds c doing doing.op r) log (goes_on (steps u [] [] step.0 rests step.1 (activity_enters doing v false u [] step quiet) refl) shown.waited) shown.last.1 (inl entered) (append_none _);
+        stands = record { sound = last.sound; part_is = last.part_is; own = last.own ∙ ap (λ l. reached_deeds c doing doing.op r ++ l) b_own; config = last.config ∙ (b_config ∙ sym config); who = last.who ∙ (b_who ∙ sym who); rests = last.rests; flight = last.flight ∙ (reached_ends k c doing id b.flight doing.op r on granted ∙ sym (reached_ends k c doing id v.flight doing.op r on granted)) };
         bounded = let le = ended.bounded in omega arith;
         acts = λ t. (ended.word, ended.acts);
         present = λ t. (

@@ -5,6 +5,7 @@ use Rattle.dspec_record.specs.declared.field.Shape.{Shape}
 use Rattle.dspec_buffer.specs.Stored.{Stored}
 use Rattle.dspec_deeds.specs.declared.config.Config.{Config}
 use Rattle.dspec_deeds.specs.declared.calls.Actor.TheVariants.{Cpu as CpuActor}
+use Rattle.dspec_deeds.specs.declared.calls.CpuOp.{CpuOp}
 use Rattle.dspec_deeds.specs.declared.deed.Deed.{Deed}
 use Rattle.dspec_deeds.specs.declared.report.Report.{Report}
 use Rattle.dspec_deeds.specs.History.{owed, scan, part}
@@ -16,6 +17,7 @@ use Rattle.dspec_deeds.proofs.OwnAccounts.{own_report}
 use Rattle.dspec_table.specs.declared.rule.View.{View}
 use Rattle.dspec_table.specs.declared.seats.Words.{Words}
 use Rattle.dspec_table.specs.Holders.{of_cpu, number_of, part_of}
+use Rattle.dspec_table.specs.Flights.{calling, flight_after}
 use Rattle.dspec_table.specs.Steps.{Entered}
 use Rattle.dspec_table.specs.Seats.{known, IsAt, cpu_of}
 use Rattle.dspec_cpu.specs.declared.cpu.Cpu.{Cpu}
@@ -39,7 +41,12 @@ stands_behind k c v w log ds config who entered =
       config = ap (λ (x : View). x.config) entered.view;
       who = ap (λ (x : View). x.who) entered.view;
       rests = ap owed seen ∙ entered.rests;
+      flight = ap (λ (x : View). x.flight) entered.view ∙ ap (λ (x : Config). flight_after x v.flight ds) config;
     }
+
+-- the same behind a load of activity, which had its call in flight
+pub stands_called : (k : Config) (c : ℕ) (o : CpuOp) (v w : View) (ds : List Deed) → Stands k c (calling o v) ds w → flight_after k (Some o) ds ≡ flight_after k v.flight ds → Stands k c v ds w
+stands_called k c o v w ds s same = record { sound = s.sound; part_is = s.part_is; own = s.own; config = s.config; who = s.who; rests = s.rests; flight = s.flight ∙ same }
 
 -- the report that is told of counts
 abbrev pub told_of : Counts → Report
@@ -83,14 +90,15 @@ module _ (shape : ℕ → Option Shape) (accepted : Record → Bool) (text : Rec
 
   -- no call of it is under way behind steps that end its call
   pub ready_after : (new : Cpu S) (ds : List Deed) → cpu.cpu ≡ new.cpu → cpu.config ≡ new.config → IsAt words new.seat → cpu_of new.seat ≡ cpu_of cpu.seat → Stands cpu.config cpu.cpu (known cpu.seat) ds (known new.seat)
-      → scan cpu.config cpu.cpu (ds ++ (known cpu.seat).own) ≡ 0 → ((b : Stored) → new.spare ≡ Some b → b.size ≡ new.config.bufsize)
+      → scan cpu.config cpu.cpu (ds ++ (known cpu.seat).own) ≡ 0 → flight_after cpu.config (known cpu.seat).flight ds ≡ None → ((b : Stored) → new.spare ≡ Some b → b.size ≡ new.config.bufsize)
       → length (batches_of new) + spare_count new.spare ≤ 1 + length new.end.spares → (p : List Deed) → HasList shape accepted text new p → IsReady shape accepted text words new
-  ready_after new ds same_cpu same_config at seat stands idle spare not_many p now = record {
+  ready_after new ds same_cpu same_config at seat stands idle over spare not_many p now = record {
     at = at;
     seat = seat ∙ (was.seat ∙ same_cpu);
     config = was.config ∙ same_config;
     checked = subst (λ (k : Config). start_fault k ≡ None) same_config was.checked;
     idle = subst (λ (x : Config × ℕ). scan x.0 x.1 (known new.seat).own ≡ 0) (λ i. (same_config i, same_cpu i)) (ap (scan cpu.config cpu.cpu) stands.own ∙ idle);
+    flight = stands.flight ∙ over;
     sound = subst (λ (k : Config). IsSound k (known new.seat).seen) same_config stands.sound;
     part_is = subst (λ (x : ℕ). part (CpuActor x) (known new.seat).seen ≡ (known new.seat).own) same_cpu stands.part_is;
     spare = spare;

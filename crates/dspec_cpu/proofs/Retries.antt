@@ -1,5 +1,5 @@
 -- The steps of a call on the word of its identifier's slot.
-use Rattle.std.proofs.Common.{◌≡◌, ◌≢◌, ℕ, ◌+◌, ◌-◌, ◌==◌, ◌<◌, ◌≤◌, ◌&&◌, Bool, true, false, [], if◌then◌else◌, refl, sym, ap, ◌∙◌, subst, ⊎_elim, arith}
+use Rattle.std.proofs.Common.{◌≡◌, ◌≢◌, ℕ, ◌+◌, ◌-◌, ◌==◌, ◌<◌, ◌≤◌, ◌&&◌, Bool, true, false, [], if◌then◌else◌, refl, sym, ap, ◌∙◌, subst, inl, ⊎_elim, arith}
 use Rattle.std.specs.Prelude.{nat_le}
 use Rattle.std.proofs.lemmas.Bool.Decides.{nat_tests}
 use Rattle.dspec_word.specs.SpecId.{Speculation}
@@ -172,7 +172,7 @@ module _ (k : Config) (c : ℕ) (doing : Doing) (id : Speculation) (slot : ℕ) 
     pub tried : (shown : SlotState) (hit : Bool) (new : View) → TriedWord doing slot w shown hit new → Shown k c doing id slot v shown hit new
     tried shown hit new step = record {
       before = w;
-      waited = steps w [] [] shows.last.0 shows.waited shows.last.1 none_yet refl;
+      waited = steps w [] [] shows.last.0 shows.waited shows.last.1 (inl none_yet) refl;
       stays = ap (λ (x : View). x.own) none_yet.view ∙ shows.stays;
       who = ap (λ (x : View). x.who) none_yet.view ∙ shows.who;
       config = ap (λ (x : View). x.config) none_yet.view ∙ shows.config;

@@ -1,20 +1,24 @@
 -- The steps of a call of speculation.
-use Rattle.std.proofs.Common.{◌≡◌, ℕ, ◌+◌, ◌*◌, ◌<◌, ◌≤◌, ◌==◌, Bool, true, false, ◌||◌, List, [], ◌∷◌, ◌++◌, length, if◌then◌else◌, refl, sym, ap, ◌∙◌, subst, ⊎_elim, arith}
+use Rattle.std.proofs.Common.{◌≡◌, ℕ, ◌+◌, ◌*◌, ◌<◌, ◌≤◌, ◌==◌, Bool, true, false, ◌||◌, List, [], ◌∷◌, ◌++◌, length, if◌then◌else◌, Option, Some, None, refl, sym, ap, ◌∙◌, subst, ⊎_elim, arith}
 use Rattle.dspec_word.specs.SpecId.{Speculation}
 use Rattle.dspec_deeds.specs.declared.config.Config.{Config}
+use Rattle.dspec_deeds.specs.declared.calls.CpuOp.{CpuOp}
+use Rattle.dspec_deeds.specs.declared.calls.CpuOp.TheVariants as op
 use Rattle.dspec_deeds.specs.declared.calls.Opening.{Opening}
 use Rattle.dspec_deeds.specs.declared.calls.Opening.TheVariants as opening
 use Rattle.dspec_deeds.specs.declared.deed.Deed.{Deed}
 use Rattle.dspec_deeds.specs.declared.deed.Deed.TheVariants.{Scan, Opened, Miss}
 use Rattle.dspec_deeds.specs.History.{scan}
-use Rattle.dspec_deeds.proofs.TestLemmas.{either_way, number_is_itself, same_number}
+use Rattle.dspec_deeds.proofs.TestLemmas.{either_way, number_is_itself, other_number, same_number}
 use Rattle.dspec_table.specs.declared.rule.View.{View}
 use Rattle.dspec_table.specs.Holders.{of_cpu, number_of}
+use Rattle.dspec_table.specs.Flights.{calling, flight_after}
 use Rattle.dspec_table.specs.Steps.{Entered, LoadedActivity}
+use Rattle.dspec_table.proofs.Flights.{activity_enters, flight_by_last}
 use Rattle.dspec_cpu.specs.declared.scanning.Look.TheVariants as look
 use Rattle.dspec_cpu.specs.Calls.{rests, steps}
 use Rattle.dspec_cpu.specs.Scans.{Came, Looked, Scanned, misses, opening_deeds, IsOpening, is_worn_opening}
-use Rattle.dspec_cpu.proofs.Ready.{stands_behind}
+use Rattle.dspec_cpu.proofs.Ready.{stands_behind, stands_called}
 use Rattle.dspec_cpu.proofs.Reaches.{goes_on}
 use Rattle.dspec_cpu.proofs.Slots.{asked, stands_more}
 
@@ -24,9 +28,10 @@ module _ (k : Config) (c : ℕ) (v : View) where
       → (ds : List Deed) → ds ≡ Scan c r ∷ [] → Rattle.dspec_cpu.specs.Calls.Goes v ds w × Rattle.dspec_cpu.specs.Reached.Stands k c v ds w × (w.steps ≡ v.steps + 1)
   first b w config who step r is ds e =
       let deeds : Scan (number_of v.who) (if b then false else true) ∷ [] ≡ ds = ap (λ n. Scan n (if b then false else true) ∷ []) (ap number_of who) ∙ (ap (λ x. Scan c x ∷ []) is ∙ sym e) in
-      let entered : Entered v step.0 ds w = subst (λ x. Entered v step.0 x w) deeds step.3 in (
-        steps w ds ds step.0 rests step.1 entered (append_none ds),
-        stands_behind k c v w step.0 ds config who entered,
+      let entered : Entered (calling op.Speculation v) step.0 ds w = subst (λ x. Entered (calling op.Speculation v) step.0 x w) deeds step.3 in
+      let same : flight_after k (Some op.Speculation) ds ≡ flight_after k v.flight ds = ap (flight_after k (Some op.Speculation)) e ∙ (flight_by_last k (Some op.Speculation) v.flight (Scan c r) [] [] ∙ ap (flight_after k v.flight) (sym e)) in (
+        steps w ds ds step.0 rests step.1 (activity_enters asked v b w ds step deeds) (append_none ds),
+        stands_called k c op.Speculation v w ds (stands_behind k c (calling op.Speculation v) w step.0 ds config who entered) same,
         ap (λ (x : View). x.steps) entered.view,
       )
     where
@@ -102,6 +107,17 @@ next_slot k c n busy v w lt came =
     let here = come_to k c v.own came.missed (omega arith) in
     ap (scan k c) came.stands.own ∙ (here ∙ ap (λ m. m + 1) is)
 
+-- and the call is in flight
+misses_fly : (k : Config) (c : ℕ) (f : Option CpuOp) (bs : List Bool) → length bs < k.nspec → flight_after k f (misses c bs ++ Scan c true ∷ []) ≡ Some op.Speculation
+misses_fly k c f [] lt = refl
+misses_fly k c f (b ∷ bs) lt =
+    let n : ℕ = length bs + 1 in
+    let apart : (n == k.nspec) ≡ false = other_number n k.nspec (λ e. omega arith) in
+    ap (λ (x : Bool). if x then None else Some op.Speculation) apart
+
+pub next_flight : (k : Config) (c n : ℕ) (busy : Bool) (v w : View) → n < k.nspec → Came k c v n busy w → w.flight ≡ Some op.Speculation
+next_flight k c n busy v w lt came = let is = came.count in came.stands.flight ∙ misses_fly k c v.flight came.missed (omega arith)
+
 -- no call is under way behind the answer
 all_missed : (k : Config) (c : ℕ) (own : List Deed) (bs : List Bool) → 1 ≤ k.nspec → length bs ≡ k.nspec → scan k c ((misses c bs ++ Scan c true ∷ []) ++ own) ≡ 0
 all_missed k c own [] one all = absurd (omega arith)
@@ -118,3 +134,19 @@ idle_again k c own bs opening.Stopped one is un = rw (number_is_itself c) refl
 idle_again k c own bs (opening.Id id) one is un = rw (number_is_itself c) refl
 idle_again k c own bs opening.Unavailable one is un = all_missed k c own bs one is.0
 idle_again k c own bs opening.Busy one is un = all_missed k c own bs one is.0
+
+all_flown : (k : Config) (c : ℕ) (f : Option CpuOp) (bs : List Bool) → 1 ≤ k.nspec → length bs ≡ k.nspec → flight_after k f (misses c bs ++ Scan c true ∷ []) ≡ None
+all_flown k c f [] one all = absurd (omega arith)
+all_flown k c f (b ∷ bs) one all =
+    let n : ℕ = length bs + 1 in
+    let e : n ≡ k.nspec = omega arith in
+    let same : (n == k.nspec) ≡ true = subst (λ m. (n == m) ≡ true) e (number_is_itself n) in
+    ap (λ (x : Bool). if x then None else Some op.Speculation) same
+
+-- nor in flight
+pub none_flies : (k : Config) (c : ℕ) (f : Option CpuOp) (bs : List Bool) (a : Opening) → 1 ≤ k.nspec → IsOpening k.nspec bs a → is_worn_opening a ≡ false → flight_after k f (opening_deeds c bs a) ≡ None
+none_flies k c f bs opening.Worn one is un = absurd (Rattle.std.proofs.Common.true≢false un)
+none_flies k c f bs opening.Stopped one is un = refl
+none_flies k c f bs (opening.Id id) one is un = refl
+none_flies k c f bs opening.Unavailable one is un = all_flown k c f bs one is.0
+none_flies k c f bs opening.Busy one is un = all_flown k c f bs one is.0

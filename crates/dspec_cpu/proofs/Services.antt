@@ -1,5 +1,5 @@
 -- One slot of a service: the steps, the list and the CPU behind it.
-use Rattle.std.proofs.Common.{◌≡◌, ◌≢◌, ℕ, ◌+◌, ◌-◌, ◌*◌, ◌≤◌, ◌<◌, ◌^◌, Bool, true, false, List, [], ◌∷◌, ◌++◌, ◌&&◌, nat_le, length, get_or, Option, Some, if◌then◌else◌, refl, sym, ap, ◌∙◌, subst, arith}
+use Rattle.std.proofs.Common.{◌≡◌, ◌≢◌, ℕ, ◌+◌, ◌-◌, ◌*◌, ◌≤◌, ◌<◌, ◌^◌, Bool, true, false, List, [], ◌∷◌, ◌++◌, ◌&&◌, nat_le, length, get_or, Option, Some, if◌then◌else◌, refl, sym, ap, ◌∙◌, subst, inl, arith}
 use Rattle.std.proofs.lemmas.Option.{get_or_from_slice_get}
 use Rattle.std.specs.Global.{Vec}
 use Rattle.dspec_record.specs.Record.{Record}
@@ -68,7 +68,7 @@ module _ (shape : ℕ → Option Shape) (accepted : Record → Bool) (text : Rec
   here = ap (λ (x : View). word_at slot x.seen) step.3.view ∙ sym step.2
 
   load_goes : Goes v [] u
-  load_goes = steps u [] [] step.0 rests step.1 step.3 refl
+  load_goes = steps u [] [] step.0 rests step.1 (inl step.3) refl
 
   one_step : u.steps ≡ v.steps + 1
   one_step = ap (λ (x : View). x.steps) step.3.view
@@ -170,7 +170,7 @@ module _ (shape : ℕ → Option Shape) (accepted : Record → Bool) (text : Rec
       slot_done = record {
         settles = deed ∷ [];
         slot_is = record { shown = word; loaded = u; load = step; granted = sym grants ∙ ap is_granted (act_is a kept); behind = (own, service, refl, stores) };
-        goes = steps w (deed ∷ []) (deed ∷ []) stores.0 load_goes stores.1 entered refl;
+        goes = steps w (deed ∷ []) (deed ∷ []) stores.0 load_goes stores.1 (inl entered) refl;
         bounded = let one = one_step in let two : w.steps ≡ u.steps + 1 = ap (λ (x : View). x.steps) entered.view in omega arith;
         list = settled_list;
       }

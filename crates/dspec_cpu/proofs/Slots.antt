@@ -1,5 +1,5 @@
 -- The slots of a scan.
-use Rattle.std.proofs.Common.{◌≡◌, ◌≢◌, ℕ, ◌+◌, Bool, true, false, ◌&&◌, List, [], ◌∷◌, if◌then◌else◌, refl, sym, ap, ◌∙◌, subst, arith}
+use Rattle.std.proofs.Common.{◌≡◌, ◌≢◌, ℕ, ◌+◌, Bool, true, false, ◌&&◌, List, [], ◌∷◌, if◌then◌else◌, refl, sym, ap, ◌∙◌, subst, inl, arith}
 use Rattle.std.specs.Prelude.{nat_lt}
 use Rattle.dspec_word.specs.Word.{SlotState}
 use Rattle.dspec_word.specs.Code.{is_inactive, is_decided}
@@ -15,6 +15,7 @@ use Rattle.dspec_table.specs.declared.doing.Doing.{Doing}
 use Rattle.dspec_table.specs.Holders.{of_cpu, number_of}
 use Rattle.dspec_table.specs.Acts as acts
 use Rattle.dspec_table.specs.Steps.{Entered, LoadedWord, OpenedWord}
+use Rattle.dspec_table.proofs.Flights.{flight_by_last}
 use Rattle.dspec_cpu.specs.declared.scanning.Look.{Look}
 use Rattle.dspec_cpu.specs.declared.scanning.Look.TheVariants as look
 use Rattle.dspec_cpu.specs.Calls.{rests, steps}
@@ -34,6 +35,7 @@ stands_more k c v u w d ds a b = record {
   config = b.config ∙ a.config;
   who = b.who ∙ a.who;
   rests = b.rests;
+  flight = b.flight ∙ flight_by_last k u.flight v.flight d [] ds;
 }
 
 -- the table opens a slot or passes it
@@ -55,7 +57,7 @@ module _ (k : Config) (c slot : ℕ) (v : View) (config : v.config ≡ k) (who :
       let entered : Entered v step.0 (Miss c slot b ∷ []) w = subst (λ ds. Entered v step.0 ds w) deeds step.3 in
       let one : w.steps ≡ v.steps + 1 = ap (λ (x : View). x.steps) entered.view in
       record {
-        goes = steps w (Miss c slot b ∷ []) (Miss c slot b ∷ []) step.0 rests step.1 entered refl;
+        goes = steps w (Miss c slot b ∷ []) (Miss c slot b ∷ []) step.0 rests step.1 (inl entered) refl;
         stands = stands_behind k c v w step.0 (Miss c slot b ∷ []) config who entered;
         bounded = omega arith;
         given = tt;
@@ -75,8 +77,8 @@ module _ (k : Config) (c slot : ℕ) (v : View) (config : v.config ≡ k) (who :
       let one : u.steps ≡ v.steps + 1 = ap (λ (y : View). y.steps) first.view in
       let two : w.steps ≡ u.steps + 1 = ap (λ (y : View). y.steps) entered.view in
       record {
-        goes = steps w (look_deed c slot x ∷ []) (look_deed c slot x ∷ []) step.0 (steps u [] [] load.0 rests load.1 first refl) step.1 entered refl;
-        stands = record { sound = last.sound; part_is = last.part_is; own = last.own ∙ ap (λ (y : View). look_deed c slot x ∷ y.own) first.view; config = last.config ∙ (u_config ∙ sym config); who = last.who ∙ (u_who ∙ sym who); rests = last.rests };
+        goes = steps w (look_deed c slot x ∷ []) (look_deed c slot x ∷ []) step.0 (steps u [] [] load.0 rests load.1 (inl first) refl) step.1 (inl entered) refl;
+        stands = record { sound = last.sound; part_is = last.part_is; own = last.own ∙ ap (λ (y : View). look_deed c slot x ∷ y.own) first.view; config = last.config ∙ (u_config ∙ sym config); who = last.who ∙ (u_who ∙ sym who); rests = last.rests; flight = last.flight ∙ flight_by_last k u.flight v.flight (look_deed c slot x) [] [] };
         bounded = omega arith;
         given = at;
       }

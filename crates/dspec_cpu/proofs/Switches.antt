@@ -90,6 +90,7 @@ stands_asked k c n v w config who loaded =
       config = ap (λ (x : View). x.config) view;
       who = ap (λ (x : View). x.who) view;
       rests = ap owed seen ∙ find.rests;
+      flight = ap (λ (x : View). x.flight) view;
     }
 
 -- all that a switch changes
@@ -160,7 +161,7 @@ module _ (shape : ℕ → Option Shape) (accepted : Record → Bool) (text : Rec
         → (sealed : Bool) (y : Buffers) → Heeds cpu.config cpu.cpu ask looked_at sealed y → IsReady shape accepted text words (with_buffers cpu seat y)
     heeded_ready seat at same loaded sealed y heeds =
         let stands = stands_asked cpu.config cpu.cpu ask (known cpu.seat) (known seat) (set_up_is shape accepted text words cpu ready) (holder shape accepted text words cpu ready) loaded in
-        ready_after shape accepted text words cpu ready (with_buffers cpu seat y) [] refl refl at same stands ready.idle (sized_after sealed y heeds) (few_after sealed y heeds)
+        ready_after shape accepted text words cpu ready (with_buffers cpu seat y) [] refl refl at same stands ready.idle ready.flight (sized_after sealed y heeds) (few_after sealed y heeds)
         (with_seal sealed cpu.cpu ready.list) (heeded_list seat stands.own sealed y heeds ready.list ready.listed)
 
     -- the whole switch

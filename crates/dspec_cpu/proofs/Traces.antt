@@ -17,7 +17,9 @@ use Rattle.dspec_table.specs.declared.rule.View.{View}
 use Rattle.dspec_table.specs.declared.doing.Doing.{Doing}
 use Rattle.dspec_table.specs.declared.seats.CpuSeat.{CpuSeat}
 use Rattle.dspec_table.specs.Holders.{of_cpu, number_of}
+use Rattle.dspec_table.specs.Flights.{calling}
 use Rattle.dspec_table.specs.Steps.{LoadedActivity, Entered}
+use Rattle.dspec_table.proofs.Flights.{activity_enters}
 use Rattle.dspec_cpu.specs.declared.cpu.Cpu.{Cpu}
 use Rattle.dspec_cpu.specs.declared.counts.Counts.{Counts}
 use Rattle.dspec_cpu.specs.Counting.{counts_of, with_traced}
@@ -26,7 +28,7 @@ use Rattle.dspec_cpu.specs.Lists.{IsShown}
 use Rattle.dspec_cpu.proofs.Tallies.{traced_counts}
 use Rattle.dspec_cpu.proofs.Quiet.{quiet_shown}
 use Rattle.dspec_cpu.specs.Reached.{Stands}
-use Rattle.dspec_cpu.proofs.Ready.{stands_behind}
+use Rattle.dspec_cpu.proofs.Ready.{stands_behind, stands_called}
 
 abbrev pub asked : Record → Bool → Doing
 asked r fit = record { op = op.Trace r; fits = fit; count = 0; mine = false }
@@ -43,10 +45,11 @@ pub record Traces (k : Config) (c : ℕ) (v w : View) (r : Record) (f : TraceFat
 pub traces : (k : Config) (c : ℕ) (v w : View) (r : Record) (fit b : Bool) (f : TraceFate) → v.config ≡ k → v.who ≡ of_cpu c → LoadedActivity (asked r fit) v b w → fate fit b ≡ f → Traces k c v w r f
 traces k c v w r fit b f config who step is =
     let named : number_of v.who ≡ c = ap number_of who in
-    let entered : Entered v step.0 (Trace c r f ∷ []) w = subst (λ (d : Deed). Entered v step.0 (d ∷ []) w) (λ i. Trace (named i) r (is i)) step.3 in
+    let deeds : Trace (number_of v.who) r (fate fit b) ∷ [] ≡ Trace c r f ∷ [] = λ i. Trace (named i) r (is i) ∷ [] in
+    let entered : Entered (calling (op.Trace r) v) step.0 (Trace c r f ∷ []) w = subst (λ ds. Entered (calling (op.Trace r) v) step.0 ds w) deeds step.3 in
     record {
-      goes = steps w (Trace c r f ∷ []) (Trace c r f ∷ []) step.0 rests step.1 entered refl;
-      stands = stands_behind k c v w step.0 (Trace c r f ∷ []) config who entered;
+      goes = steps w (Trace c r f ∷ []) (Trace c r f ∷ []) step.0 rests step.1 (activity_enters (asked r fit) v b w (Trace c r f ∷ []) step deeds) refl;
+      stands = stands_called k c (op.Trace r) v w (Trace c r f ∷ []) (stands_behind k c (calling (op.Trace r) v) w step.0 (Trace c r f ∷ []) config who entered) refl;
       one_step = ap (λ (x : View). x.steps) entered.view;
     }
 

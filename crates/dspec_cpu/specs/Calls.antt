@@ -16,13 +16,14 @@ use Rattle.dspec_deeds.specs.declared.deed.Deed.{Deed}
 use Rattle.dspec_deeds.specs.declared.deed.Deed.TheVariants.{Trace, Speculate, Release}
 use Rattle.dspec_deeds.specs.History.{solo}
 use Rattle.dspec_table.specs.declared.rule.View.{View}
-use Rattle.dspec_table.specs.Steps.{Found, Entered}
+use Rattle.dspec_table.specs.Steps.{Found, EnteredIn}
 
 -- steps of a seat, one behind the other, that entered these deeds, the latest first: each found a legal list, of which the
--- seat's list was its part, and left a legal one
+-- seat's list was its part, and left a legal one; the deeds of a call, but for settlements and releases, behind a load of activity of that
+-- very call that was running, or with it
 pub data Goes (v : View) : List Deed → View → Type 0 where
   rests : Goes v [] v
-  steps : {u : View} {ds : List Deed} (w : View) (new all log : List Deed) → Goes v ds u → Found u log → Entered u log new w → all ≡ new ++ ds → Goes v all w
+  steps : {u : View} {ds : List Deed} (w : View) (new all log : List Deed) → Goes v ds u → Found u log → EnteredIn u log new w → all ≡ new ++ ds → Goes v all w
 
 -- the deeds of a call of trace that answered so
 abbrev pub traced_deeds : ℕ → Record → Traced → List Deed

@@ -108,7 +108,7 @@ module _ (shape : ℕ → Option Shape) (accepted : Record → Bool) (text : Rec
     pub own : bare p ≡ (known cpu.seat).own
     pub shown : IsShown cpu p
 
-  -- The CPU is one of that session, and no call of it is under way. What its seat has seen is legal, and the seat's list is its
+  -- The CPU is one of that session, and no call of it is under way or in flight at its seat. What its seat has seen is legal, and the seat's list is its
   -- part. There is a list that it has. A spare in hand has the size of a principal buffer. The CPU has two principal buffers
   -- beside those that came to it, and one is active: the batches that it sealed and a spare in hand are the others.
   pub record IsReady {S : Type 0} (words : Words) (cpu : Cpu S) : Type 0 where
@@ -117,6 +117,7 @@ module _ (shape : ℕ → Option Shape) (accepted : Record → Bool) (text : Rec
     pub config : set_up words ≡ cpu.config
     pub checked : start_fault cpu.config ≡ None
     pub idle : scan cpu.config cpu.cpu (known cpu.seat).own ≡ 0
+    pub flight : (known cpu.seat).flight ≡ None
     pub sound : IsSound cpu.config (known cpu.seat).seen
     pub part_is : part (CpuActor cpu.cpu) (known cpu.seat).seen ≡ (known cpu.seat).own
     pub spare : (b : Stored) → cpu.spare ≡ Some b → b.size ≡ cpu.config.bufsize

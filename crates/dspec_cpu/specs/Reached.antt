@@ -9,11 +9,13 @@ use Rattle.dspec_deeds.specs.History.{in_range, owed, part}
 use Rattle.dspec_deeds.specs.Legal.{IsSound}
 use Rattle.dspec_table.specs.declared.rule.View.{View}
 use Rattle.dspec_table.specs.declared.doing.Doing.{Doing}
+use Rattle.dspec_table.specs.Flights.{flight_after}
 use Rattle.dspec_cpu.specs.declared.reaching.Reach.{Reach}
 use Rattle.dspec_cpu.specs.Calls.{Goes}
 use Rattle.dspec_cpu.specs.Reaching.{IsPresentAt, act_of, act_reached, is_reached, reached_deeds, releases_next, turns}
 
--- behind the steps of a call that entered these deeds: what the seat has seen is legal, and its list is its part of that
+-- behind the steps of a call that entered these deeds: what the seat has seen is legal, its list is its part of that, and in
+-- flight is what the deeds leave
 pub record Stands (k : Config) (c : ℕ) (v : View) (ds : List Deed) (w : View) : Type 0 where
   pub sound : IsSound k w.seen
   pub part_is : part (CpuActor c) w.seen ≡ w.own
@@ -21,6 +23,7 @@ pub record Stands (k : Config) (c : ℕ) (v : View) (ds : List Deed) (w : View) 
   pub config : w.config ≡ v.config
   pub who : w.who ≡ v.who
   pub rests : owed w.seen ≡ 0
+  pub flight : w.flight ≡ flight_after k v.flight ds
 
 -- a call on an identifier came so far
 pub record Reached (k : Config) (c : ℕ) (doing : Doing) (id : Speculation) (v : View) (r : Reach) (w : View) : Type 0 where

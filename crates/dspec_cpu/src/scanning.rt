@@ -1,4 +1,4 @@
-ghost use Rattle.std.specs.Prelude.{◌≡◌, ◌≤◌, ◌^◌, false, if◌then◌else◌};
+ghost use Rattle.std.specs.Prelude.{◌≡◌, ◌≤◌, ◌^◌, false, if◌then◌else◌, Some};
 ghost use Rattle.dspec_deeds.specs.History.{scan};
 ghost use Rattle.dspec_table.specs.Seats.{known, IsAt, set_up, cpu_of};
 ghost use Rattle.dspec_word.specs.Code.{is_decided};
@@ -42,7 +42,7 @@ fn look_at(seat: &mut CpuSeat, words: &Words, slot: u32, max_issues: u64) -> Loo
     requires seat { IsAt words.now seat.old }
     requires slot { (1 ≤ slot) × (slot ≤ (set_up words.now).nspec) × (slot ≤ 63) }
     requires most { (max_issues ≡ (set_up words.now).max_issues) × (max_issues ≤ 2 ^ 57) }
-    requires came { scan (set_up words.now) (cpu_of seat.old) (known seat.old).own ≡ slot }
+    requires came { (scan (set_up words.now) (cpu_of seat.old) (known seat.old).own ≡ slot) × ((known seat.old).flight ≡ Some CpuOp.Speculation) }
     ensures seat { IsAt words.now seat.new × (cpu_of seat.new ≡ cpu_of seat.old) }
     ensures looked { Looked (set_up words.now) (cpu_of seat.old) slot (known seat.old) result (known seat.new) }
 {

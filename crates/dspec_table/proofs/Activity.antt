@@ -1,5 +1,5 @@
 -- The load of activity.
-use Rattle.std.proofs.Common.{◌≡◌, ℕ, ◌≤◌, Bool, true, false, ◌==◌, not, if◌then◌else◌, List, [], ◌∷◌, refl, sym, ap, ◌∙◌, subst, ⊎_elim, arith}
+use Rattle.std.proofs.Common.{◌≡◌, ℕ, ◌≤◌, Bool, true, false, ◌==◌, not, if◌then◌else◌, List, [], ◌∷◌, ◌++◌, Some, refl, sym, ap, ◌∙◌, subst, ⊎_elim, arith}
 use Rattle.std.specs.Prelude.{slice_index}
 use Rattle.std.proofs.lemmas.Bool.Decides.{nat_tests}
 use Rattle.atomic_table.specs.Table.{keeps, Allows, Me}
@@ -20,10 +20,12 @@ use Rattle.dspec_table.specs.declared.doing.Doing.{Doing}
 use Rattle.dspec_table.specs.Rule.{Kept}
 use Rattle.dspec_table.specs.Showing.{activity}
 use Rattle.dspec_table.specs.Layout.{activity_place}
-use Rattle.dspec_table.specs.Steps.{acted, LoadedActivity}
+use Rattle.dspec_table.specs.Flights.{flight_after, calling}
+use Rattle.dspec_table.specs.Steps.{acted, Entered, LoadedActivity}
 use Rattle.dspec_table.specs.Acts.{at_activity}
 use Rattle.dspec_table.specs.Holders.{number_of}
-use Rattle.dspec_table.proofs.Keeps.{Owes, none_owed, acts_owed, enters_owed, finds, idle_log, is_cpu, its_config}
+use Rattle.dspec_table.proofs.InFlight.{activity_of}
+use Rattle.dspec_table.proofs.Keeps.{Owes, sound_adds, part_adds, none_owed, acts_owed, finds, idle_log, is_cpu, its_config}
 use Rattle.dspec_deeds.specs.declared.deed.TraceFate.TheVariants as traced
 use Rattle.dspec_deeds.specs.declared.deed.SpeculateFate.TheVariants as spoken
 use Rattle.dspec_deeds.specs.declared.deed.DecideFate.TheVariants as decided
@@ -90,10 +92,18 @@ loads_activity k slots id c me doing nspec who alone idle st kept homes at bound
     let mine = kept.knows id v at in
     let owe : Owes k v.who log (at_activity v.config (number_of v.who) doing doing.op (m == 1)) =
     subst (λ (p : Config × Holder). Owes k p.1 log (at_activity p.0 (number_of p.1) doing doing.op (m == 1))) (λ i. (sym (its_config k log v (is_cpu v c who) mine) i, sym who i))
-    (owes k c log doing nspec kept.sound kept.rests (idle_log k st kept id v c at who idle) doing.op (m == 1) (stopped_is log m kept.shows.active)) in (
-      acted v log (at_activity v.config (number_of v.who) doing doing.op (m == 1)),
+    (owes k c log doing nspec kept.sound kept.rests (idle_log k st kept id v c at who idle) doing.op (m == 1) (stopped_is log m kept.shows.active)) in
+    let ds : List Deed = at_activity v.config (number_of v.who) doing doing.op (m == 1) in
+    let called : Entered (calling doing.op v) log ds (acted (calling doing.op v) log ds) = record {
+      sound = subst (λ (x : Config). IsSound x (ds ++ log)) (sym (its_config k log v (is_cpu v c who) mine)) (sound_adds k v.who log ds kept.sound owe.adds);
+      rests = owe.rests;
+      own = part_adds k v.who log ds (is_cpu v c who) owe.adds ∙ ap (λ l. ds ++ l) mine.parts.0;
+      call = activity_of v.config (number_of v.who) doing doing.op (m == 1);
+      view = refl;
+    } in (
+      acted (calling doing.op v) log (at_activity v.config (number_of v.who) doing doing.op (m == 1)),
       keeps,
       tt,
-      acts_owed k st kept id v me.1 at alone (is_cpu v c who) _ (activity_place k) owe,
-      ((log, finds k st kept id v at (is_cpu v c who), stopped_is log m kept.shows.active, enters_owed k st kept id v at (is_cpu v c who) _ owe), refl),
+      acts_owed k st kept id v me.1 at alone (is_cpu v c who) ds (activity_place k) (flight_after v.config (Some doing.op) ds) owe,
+      ((log, finds k st kept id v at (is_cpu v c who), stopped_is log m kept.shows.active, called), refl),
     )

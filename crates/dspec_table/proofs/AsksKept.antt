@@ -77,7 +77,7 @@ stores_ask k slots id c n me lt who alone rises st kept homes at bound =
       asking v log [] asks,
       keeps,
       tt,
-      acts_asking k st kept id v me.1 at alone is_me [] (ask_place k c) n asks tt kept.rests (ask_shows k old c n log kept.shows)
+      acts_asking k st kept id v me.1 at alone is_me [] (ask_place k c) n asks v.flight tt kept.rests (ask_shows k old c n log kept.shows)
           (record {
             past = each_map (λ p. Least k old p.asks) (λ p. Least k new p.asks) (λ p least. below p.asks least) v.past mine.past;
             least = at_ask (λ d. d < k.cpus → slice_index asks d ≤ slice_index new (ask_place k d)) c
@@ -112,7 +112,7 @@ loads_ask k slots id c me lt who alone st kept homes at bound =
       asking v log [] asks,
       keeps,
       tt,
-      acts_asking k st kept id v me.1 at alone is_me [] (ask_place k c) n asks tt kept.rests (subst (λ ws. Shows k ws log) (sym same) kept.shows)
+      acts_asking k st kept id v me.1 at alone is_me [] (ask_place k c) n asks v.flight tt kept.rests (subst (λ ws. Shows k ws log) (sym same) kept.shows)
           (subst (λ ws. KnowsAsks k ws (asking v log [] asks)) (sym same) (record {
             past = mine.past;
             least = subst (λ (x : ℕ). (d : ℕ) → d < k.cpus → slice_index (with_ask v.asks x n) d ≤ slice_index st.words (ask_place k d)) (sym c')

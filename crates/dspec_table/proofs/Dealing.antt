@@ -1,5 +1,5 @@
 -- The seats of the CPUs, dealt out one by one.
-use Rattle.std.proofs.Common.{◌≡◌, ◌⊎◌, ℕ, zero, suc, ◌+◌, ◌-◌, ◌<◌, List, [], ◌∷◌, ◌++◌, length, Some, refl, sym, ap, ◌∙◌, subst, ⊎_elim, inl, inr, add-one, arith}
+use Rattle.std.proofs.Common.{◌≡◌, ◌⊎◌, ℕ, zero, suc, ◌+◌, ◌-◌, ◌<◌, List, [], ◌∷◌, ◌++◌, length, Some, None, refl, sym, ap, ◌∙◌, subst, ⊎_elim, inl, inr, add-one, arith}
 use Rattle.std.specs.Prelude.{slice_get}
 use Rattle.atomic_table.specs.Table.{Splits}
 use Rattle.atomic_table.specs.Seated.{TableId}
@@ -21,7 +21,7 @@ pub dealt_one : (k : Config) (c : ℕ) → c < k.cpus → dealt (dealing k c) �
 dealt_one k c lt = ap (λ l. first_of_those k l) (more_cpus c k.cpus lt)
 
 pub dealt_rest : (k : Config) (c : ℕ) → c < k.cpus → without (dealing k c) ≡ dealing k (c + 1)
-dealt_rest k c lt = ap (λ l. record { config = k; who = (dealing k c).who; own = []; also = others l; seen = []; told = []; steps = 0; asks = []; past = [] }) (more_cpus c k.cpus lt)
+dealt_rest k c lt = ap (λ l. record { config = k; who = (dealing k c).who; own = []; also = others l; seen = []; told = []; flight = None; steps = 0; asks = []; past = [] }) (more_cpus c k.cpus lt)
 
 pub deals_next : (key k : Config) (id c : ℕ) (v : View) → v ≡ dealing k c → c < k.cpus → Splits (Kept key) id v (without v) (dealt v)
 deals_next key k id c v is lt = subst (λ (x : View). Splits (Kept key) id x (without x) (dealt x)) (sym is) (deals key id (dealing k c) c (cpus_from (c + 1) (k.cpus - (c + 1))) refl (more_cpus c k.cpus lt))

@@ -1,5 +1,5 @@
 -- A call in flight on an identifier, behind each of its steps. No proof of this crate cites it; those of the crates above do.
-use Rattle.std.proofs.Common.{◌≡◌, ℕ, ◌+◌, ◌≤◌, ◌==◌, Bool, true, false, if◌then◌else◌, List, [], refl, sym, ap, ◌∙◌, subst}
+use Rattle.std.proofs.Common.{Option, Some, inr, ◌≡◌, ℕ, ◌+◌, ◌≤◌, ◌==◌, Bool, true, false, if◌then◌else◌, List, [], ◌∷◌, refl, sym, ap, ◌∙◌, subst}
 use Rattle.dspec_word.specs.declared.code.Code.{Code}
 use Rattle.dspec_word.specs.declared.code.Code.TheVariants.{Inactive, Active, ActiveOne, ActiveMany, Committing, CommittingMany, Discarding}
 use Rattle.dspec_word.specs.declared.act.Act.TheVariants.{Void, Attempt}
@@ -10,6 +10,7 @@ use Rattle.dspec_word.specs.Word.{SlotState}
 use Rattle.dspec_deeds.specs.declared.config.Config.{Config}
 use Rattle.dspec_deeds.specs.declared.calls.CpuOp.{CpuOp}
 use Rattle.dspec_deeds.specs.declared.calls.CpuOp.TheVariants as op
+use Rattle.dspec_deeds.specs.declared.deed.Deed.TheVariants.{Trace, Scan, Opened, Miss, Speculate, Commit, Discard, Settle, Seal, Release, Halt}
 use Rattle.dspec_deeds.specs.History.{is_among, callers, scan, late, in_range, word_at}
 use Rattle.dspec_deeds.specs.Marks.{mark}
 use Rattle.dspec_deeds.proofs.SoundLists.{running_not_late}
@@ -19,8 +20,28 @@ use Rattle.dspec_table.specs.Holders.{of_cpu, number_of}
 use Rattle.dspec_table.specs.Since.{Since}
 use Rattle.dspec_table.specs.Acts.{at_activity, at_word, speaks, void_commit, void_discard}
 use Rattle.dspec_table.specs.Conditions.{IsOn, IsInFlight, MayLoad, MayTry, Attempts, more_callers, joined_word}
-use Rattle.dspec_table.specs.Steps.{acted, LoadedActivity, LoadedWord}
+use Rattle.dspec_table.specs.Flights.{calling, flight_after}
+use Rattle.dspec_table.specs.Steps.{acted, Entered, EnteredIn, LoadedActivity, LoadedWord}
 use Rattle.dspec_table.proofs.Keeps.{late_since}
+
+-- what is in flight behind a deed doesn't ask what was before
+pub flight_by_last : (k : Config) (f g : Option CpuOp) (d : Deed) (ds es : List Deed) → flight_after k f (d ∷ ds) ≡ flight_after k g (d ∷ es)
+flight_by_last k f g (Trace c r x) ds es = refl
+flight_by_last k f g (Scan c true) ds es = refl
+flight_by_last k f g (Scan c false) ds es = refl
+flight_by_last k f g (Opened c id) ds es = refl
+flight_by_last k f g (Miss c s busy) ds es = refl
+flight_by_last k f g (Speculate c id r x) ds es = refl
+flight_by_last k f g (Commit c id x) ds es = refl
+flight_by_last k f g (Discard c id x) ds es = refl
+flight_by_last k f g (Settle c id x) ds es = refl
+flight_by_last k f g (Seal c) ds es = refl
+flight_by_last k f g (Release s) ds es = refl
+flight_by_last k f g Halt ds es = refl
+
+-- a load of activity as a step of a chain
+pub activity_enters : (doing : Doing) (v : View) (stopped : Bool) (w : View) (ds : List Deed) (step : LoadedActivity doing v stopped w) → at_activity v.config (number_of v.who) doing doing.op stopped ≡ ds → EnteredIn v step.0 ds w
+activity_enters doing v stopped w ds step e = inr (doing, sym e ∙ ap (at_activity v.config (number_of v.who) doing doing.op) step.2, subst (λ x. Entered (calling doing.op v) step.0 x w) e step.3)
 
 -- a load of activity that is running enters nothing
 pub quiet_activity : (k : Config) (c : ℕ) (doing : Doing) (id : Speculation) (o : CpuOp) → in_range k id ≡ true → IsOn id o → at_activity k c doing o false ≡ []
@@ -58,12 +79,13 @@ pub in_flight : (k : Config) (v w : View) (c : ℕ) (doing : Doing) (id : Specul
 in_flight k v w c doing id config inside on idle mine step =
     let log = step.0 in
     let none : at_activity v.config (number_of v.who) doing doing.op false ≡ [] = quiet_activity v.config (number_of v.who) doing id doing.op (subst (λ (x : Config). in_range x id ≡ true) (sym config) inside) on in
-    let view : w ≡ acted v log [] = step.3.view ∙ ap (acted v log) none in
+    let view : w ≡ acted (calling doing.op v) log [] = step.3.view ∙ ap (acted (calling doing.op v) log) none in
     let own : w.own ≡ v.own = ap (λ (x : View). x.own) view in
     let seen : w.seen ≡ log = ap (λ (x : View). x.seen) view in (
       refl,
       ap (scan k c) own ∙ idle,
       ap (late c) seen ∙ running_not_late c log (sym step.2),
+      ap (λ (x : View). x.flight) view,
       (λ recent. mine (subst (λ l. mark c id.slot l ≤ id.issue + 1) own recent) ∙ ap (λ l. is_among c (callers id l)) (sym own)),
     )
 
@@ -79,7 +101,8 @@ goes_on k v w c slot doing log o to shown view early may attempts = go o may att
       f.0,
       ap (scan k c) own ∙ f.1,
       ap (λ (x : View). late c x.seen) view ∙ (early ∙ f.2),
-      (λ recent. f.3 (subst (λ l. mark c id.slot l ≤ id.issue + 1) own recent) ∙ ap (λ l. is_among c (callers id l)) (sym own)),
+      ap (λ (x : View). x.flight) view ∙ f.3,
+      (λ recent. f.4 (subst (λ l. mark c id.slot l ≤ id.issue + 1) own recent) ∙ ap (λ l. is_among c (callers id l)) (sym own)),
     )
 
     go : (o : CpuOp) → MayLoad k v c doing slot o → Attempts doing shown to o → MayLoad k w c doing slot o

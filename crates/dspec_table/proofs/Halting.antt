@@ -1,5 +1,5 @@
 -- The consumer stops the session.
-use Rattle.std.proofs.Common.{◌≡◌, ◌≢◌, ℕ, Bool, true, false, List, [], ◌++◌, refl, sym, ◌∙◌, subst, arith}
+use Rattle.std.proofs.Common.{◌≡◌, ◌≢◌, ℕ, Bool, true, false, List, [], ◌++◌, Option, refl, sym, ◌∙◌, subst, arith}
 use Rattle.std.specs.Prelude.{slice_set}
 use Rattle.std.proofs.lemmas.List.{get_or-set_same, get_or-set_other}
 use Rattle.std.proofs.Math.ListN.{length-set}
@@ -14,7 +14,9 @@ use Rattle.dspec_table.specs.Showing.{Shows}
 use Rattle.dspec_table.specs.Layout.{activity_place, ack_place}
 use Rattle.dspec_table.proofs.Places.{after_activity}
 use Rattle.dspec_table.specs.Steps.{acted, StoredActivity}
+use Rattle.dspec_deeds.specs.declared.calls.CpuOp.{CpuOp}
 use Rattle.dspec_table.specs.Acts.{at_stop}
+use Rattle.dspec_table.specs.Flights.{AreOf}
 use Rattle.dspec_table.proofs.Keeps.{Adds, acts, enters, finds}
 use Rattle.dspec_table.proofs.Changes.{leaves_asks}
 
@@ -45,6 +47,10 @@ stops_log : (k : Config) (log : List Deed) (b : Bool) → halted log ≡ b → o
 stops_log k log true e rests = (tt, rests)
 stops_log k log false e rests = ((tt, (rests, e), refl), refl)
 
+stop_of : (flight : Option CpuOp) (b : Bool) → AreOf flight (at_stop b)
+stop_of flight true = tt
+stop_of flight false = (tt, tt)
+
 pub stops : (k : Config) (slots id : ℕ) (me : Me ℕ View) → me.0.who ≡ of_consumer → me.0.also ≡ [] → Allows (Kept k) slots id me (activity_place k) (λ _. 1) (λ _ w. StoredActivity me.0 w.0 × (w.1 ≡ me.1))
 stops k slots id me who alone st kept homes at bound =
     let v = me.0 in
@@ -56,5 +62,5 @@ stops k slots id me who alone st kept homes at bound =
       keeps,
       tt,
       acts k st kept id v me.1 at alone is_me (at_stop (halted log)) (activity_place k) 1 adds owe.1 (stop_shows k st.words log (halted log) refl kept.shows) (leaves_asks k st.words (activity_place k) 1 (omega arith)),
-      ((log, finds k st kept id v at is_me, enters k st kept id v at is_me (at_stop (halted log)) adds owe.1), refl),
+      ((log, finds k st kept id v at is_me, enters k st kept id v at is_me (at_stop (halted log)) adds owe.1 (stop_of v.flight (halted log))), refl),
     )

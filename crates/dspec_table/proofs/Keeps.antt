@@ -1,11 +1,12 @@
 -- A seat's own deeds, added to the list, keep the rule, where the words show the longer list.
-use Rattle.std.proofs.Common.{◌≡◌, ◌≢◌, ℕ, zero, suc, ◌+◌, ◌≤◌, ◌<◌, Bool, true, false, if◌then◌else◌, ◌&&◌, List, [], ◌∷◌, ◌++◌, set, refl, sym, ap, ◌∙◌, subst, ⊎_elim, arith, Some, true≢false}
+use Rattle.std.proofs.Common.{◌≡◌, ◌≢◌, ℕ, zero, suc, ◌+◌, ◌≤◌, ◌<◌, Bool, true, false, if◌then◌else◌, ◌&&◌, List, [], ◌∷◌, ◌++◌, set, refl, sym, ap, ◌∙◌, subst, ⊎_elim, arith, Option, Some, true≢false}
 use Rattle.std.specs.Prelude.{slice_index, slice_set}
 use mathlib.Core.Option.{some, some-injective, some-ne-none}
 use lib.ListN.{get_elem?}
 use Rattle.atomic_table.specs.Table.{State, keeps, Allows, Me, stepped}
 use Rattle.atomic_table.proofs.Lists.{at_set}
 use Rattle.dspec_deeds.specs.declared.config.Config.{Config}
+use Rattle.dspec_deeds.specs.declared.calls.CpuOp.{CpuOp}
 use Rattle.dspec_deeds.specs.declared.deed.Deed.{Deed}
 use Rattle.dspec_table.specs.Holders.{Holder, of_cpu, of_nobody, doer, part_of, same_holder}
 use Rattle.dspec_deeds.specs.History.{owed, scan, late, halted, is_halt}
@@ -19,6 +20,7 @@ use Rattle.dspec_table.specs.Since.{Since, here, more}
 use Rattle.dspec_table.specs.declared.rule.Past.{Past}
 use Rattle.dspec_table.specs.Rule.{holdings, times, Parts, Each, Remembers, Least, Knows, KnowsAsks, Kept}
 use Rattle.dspec_table.specs.Layout.{ask_place}
+use Rattle.dspec_table.specs.Flights.{AreOf, flight_after}
 use Rattle.dspec_table.specs.Steps.{asking, acted, Found, Entered}
 use Rattle.dspec_table.proofs.Quiet.{IsQuiet, quiet_shows, same_words}
 use Rattle.dspec_table.proofs.Pasts.{each_map}
@@ -79,15 +81,19 @@ nobody_since k w seen log ds a s = since_adds k of_nobody w seen log ds refl a s
 past_adds : (k : Config) (w : Holder) (log ds : List Deed) (ps : List Past) → Adds k w log ds → Each (Remembers log) ps → Each (Remembers (ds ++ log)) ps
 past_adds k w log ds ps a all = each_map (Remembers log) (Remembers (ds ++ log)) (λ p r. record { since = nobody_since k w p.seen log ds a r.since; own = r.own }) ps all
 
+-- the view, with such a call in flight
+abbrev pub flying : Option CpuOp → View → View
+flying f v = record v { flight = f }
+
 -- a step of a seat with deeds of its own, after which it knows these asks
 pub acts_asking : (k : Config) (st : State ℕ View) (kept : Kept k st) (by : ℕ) (v : View) (carried : List (ℕ × ℕ)) → get_elem? st.views by ≡ some v → v.also ≡ [] → same_holder v.who v.who ≡ true
-    → (ds : List Deed) (i n : ℕ) (asks : List ℕ) → Adds k v.who kept.log ds → owed (ds ++ kept.log) ≡ 0 → Shows k (slice_set st.words i n) (ds ++ kept.log)
-    → KnowsAsks k (slice_set st.words i n) (asking v kept.log ds asks)
+    → (ds : List Deed) (i n : ℕ) (asks : List ℕ) (f : Option CpuOp) → Adds k v.who kept.log ds → owed (ds ++ kept.log) ≡ 0 → Shows k (slice_set st.words i n) (ds ++ kept.log)
+    → KnowsAsks k (slice_set st.words i n) (flying f (asking v kept.log ds asks))
     → ((u : View) → same_holder u.who v.who ≡ false → KnowsAsks k st.words u → KnowsAsks k (slice_set st.words i n) u)
-    → Kept k (stepped st i n by carried (asking v kept.log ds asks) keeps)
-acts_asking k st kept by v carried at alone me ds i n asks adds rests shows own_asks other_asks =
+    → Kept k (stepped st i n by carried (flying f (asking v kept.log ds asks)) keeps)
+acts_asking k st kept by v carried at alone me ds i n asks f adds rests shows own_asks other_asks =
     let log = kept.log in
-    let w = asking v log ds asks in
+    let w = flying f (asking v log ds asks) in
     let mine = kept.knows by v at in
     record {
       log = ds ++ log;
@@ -142,19 +148,25 @@ same_asks k words new u left knows = record {
 }
 
 -- the same where it knows the asks that it knew
-pub acts : (k : Config) (st : State ℕ View) (kept : Kept k st) (by : ℕ) (v : View) (carried : List (ℕ × ℕ)) → get_elem? st.views by ≡ some v → v.also ≡ [] → same_holder v.who v.who ≡ true
-    → (ds : List Deed) (i n : ℕ) → Adds k v.who kept.log ds → owed (ds ++ kept.log) ≡ 0 → Shows k (slice_set st.words i n) (ds ++ kept.log) → LeavesAsks k st.words (slice_set st.words i n)
-    → Kept k (stepped st i n by carried (acted v kept.log ds) keeps)
-acts k st kept by v carried at alone me ds i n adds rests shows left =
+acts_flying : (k : Config) (st : State ℕ View) (kept : Kept k st) (by : ℕ) (v : View) (carried : List (ℕ × ℕ)) → get_elem? st.views by ≡ some v → v.also ≡ [] → same_holder v.who v.who ≡ true
+    → (ds : List Deed) (i n : ℕ) (f : Option CpuOp) → Adds k v.who kept.log ds → owed (ds ++ kept.log) ≡ 0 → Shows k (slice_set st.words i n) (ds ++ kept.log) → LeavesAsks k st.words (slice_set st.words i n)
+    → Kept k (stepped st i n by carried (flying f (acted v kept.log ds)) keeps)
+acts_flying k st kept by v carried at alone me ds i n f adds rests shows left =
     let new = slice_set st.words i n in
     let mine = kept.asks by v at in
-    acts_asking k st kept by v carried at alone me ds i n v.asks adds rests shows
+    acts_asking k st kept by v carried at alone me ds i n v.asks f adds rests shows
     (record {
       least = least_left k st.words new v.asks left mine.least;
       past = past_left k st.words new v.past left mine.past;
       exact = λ is c lt. mine.exact is c lt ∙ sym (left c lt);
     })
     (λ u other knows. same_asks k st.words new u left knows)
+
+-- and the call that its deeds leave in flight
+pub acts : (k : Config) (st : State ℕ View) (kept : Kept k st) (by : ℕ) (v : View) (carried : List (ℕ × ℕ)) → get_elem? st.views by ≡ some v → v.also ≡ [] → same_holder v.who v.who ≡ true
+    → (ds : List Deed) (i n : ℕ) → Adds k v.who kept.log ds → owed (ds ++ kept.log) ≡ 0 → Shows k (slice_set st.words i n) (ds ++ kept.log) → LeavesAsks k st.words (slice_set st.words i n)
+    → Kept k (stepped st i n by carried (acted v kept.log ds) keeps)
+acts k st kept by v carried at alone me ds i n = acts_flying k st kept by v carried at alone me ds i n (flight_after v.config v.flight ds)
 
 -- the seat of an actor has the configuration
 pub its_config : (k : Config) (log : List Deed) (v : View) → same_holder v.who v.who ≡ true → Knows k log v → v.config ≡ k
@@ -187,22 +199,23 @@ none_owed k w log rests = record { adds = tt; rests = rests; quiet = record { ac
 
 -- what the step leaves
 pub enters : (k : Config) (st : State ℕ View) (kept : Kept k st) (by : ℕ) (v : View) → get_elem? st.views by ≡ some v → same_holder v.who v.who ≡ true
-    → (ds : List Deed) → Adds k v.who kept.log ds → owed (ds ++ kept.log) ≡ 0 → Entered v kept.log ds (acted v kept.log ds)
-enters k st kept by v at who ds adds rests = record {
+    → (ds : List Deed) → Adds k v.who kept.log ds → owed (ds ++ kept.log) ≡ 0 → AreOf v.flight ds → Entered v kept.log ds (acted v kept.log ds)
+enters k st kept by v at who ds adds rests call = record {
   sound = subst (λ (x : Config). IsSound x (ds ++ kept.log)) (sym (its_config k kept.log v who (kept.knows by v at))) (sound_adds k v.who kept.log ds kept.sound adds);
   rests = rests;
   own = part_adds k v.who kept.log ds who adds ∙ ap (λ l. ds ++ l) (kept.knows by v at).parts.0;
+  call = call;
   view = refl;
 }
 
 pub enters_owed : (k : Config) (st : State ℕ View) (kept : Kept k st) (by : ℕ) (v : View) → get_elem? st.views by ≡ some v → same_holder v.who v.who ≡ true
-    → (ds : List Deed) → Owes k v.who kept.log ds → Entered v kept.log ds (acted v kept.log ds)
-enters_owed k st kept by v at who ds owe = enters k st kept by v at who ds owe.adds owe.rests
+    → (ds : List Deed) → Owes k v.who kept.log ds → AreOf v.flight ds → Entered v kept.log ds (acted v kept.log ds)
+enters_owed k st kept by v at who ds owe call = enters k st kept by v at who ds owe.adds owe.rests call
 
 pub acts_owed : (k : Config) (st : State ℕ View) (kept : Kept k st) (by : ℕ) (v : View) (carried : List (ℕ × ℕ)) → get_elem? st.views by ≡ some v → v.also ≡ [] → same_holder v.who v.who ≡ true
-    → (ds : List Deed) (i : ℕ) → Owes k v.who kept.log ds → Kept k (stepped st i (slice_index st.words i) by carried (acted v kept.log ds) keeps)
-acts_owed k st kept by v carried at alone me ds i owe =
-    acts k st kept by v carried at alone me ds i (slice_index st.words i) owe.adds owe.rests
+    → (ds : List Deed) (i : ℕ) (f : Option CpuOp) → Owes k v.who kept.log ds → Kept k (stepped st i (slice_index st.words i) by carried (flying f (acted v kept.log ds)) keeps)
+acts_owed k st kept by v carried at alone me ds i f owe =
+    acts_flying k st kept by v carried at alone me ds i (slice_index st.words i) f owe.adds owe.rests
     (subst (λ ws. Shows k ws (ds ++ kept.log)) (sym (same_words st.words i)) (quiet_shows k st.words kept.log (ds ++ kept.log) owe.quiet kept.shows))
     (λ c lt. ap (λ ws. slice_index ws (ask_place k c)) (same_words st.words i))
 
@@ -227,4 +240,4 @@ pub loads : (k : Config) (slots id c i : ℕ) (me : Me ℕ View) (T : ℕ → Vi
     → Allows (Kept k) slots id me i (λ n. n) (λ n w. T n w.0 × (w.1 ≡ me.1))
 loads k slots id c i me T who alone step st kept homes at bound =
     let r = step st kept at in
-    (acted me.0 kept.log r.0, keeps, tt, acts_owed k st kept id me.0 me.1 at alone (is_cpu me.0 c who) r.0 i r.1, (r.2, refl))
+    (acted me.0 kept.log r.0, keeps, tt, acts_owed k st kept id me.0 me.1 at alone (is_cpu me.0 c who) r.0 i (flight_after me.0.config me.0.flight r.0) r.1, (r.2, refl))

@@ -4,6 +4,7 @@ pub mod Pasts
 pub mod Quiet
 pub mod Totals
 pub mod Keeps
+pub mod InFlight
 pub mod Activity
 pub mod Loads
 pub mod Flights

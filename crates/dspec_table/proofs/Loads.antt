@@ -33,6 +33,7 @@ use Rattle.dspec_table.specs.Holders.{number_of}
 use Rattle.dspec_table.specs.Acts.{misses, speaks, void_commit, void_discard, at_word}
 use Rattle.dspec_table.specs.Conditions.{IsInFlight, MayLoad}
 use Rattle.dspec_table.specs.Steps.{LoadedNumber}
+use Rattle.dspec_table.proofs.InFlight.{word_of}
 use Rattle.dspec_table.proofs.Keeps.{Owes, none_owed, loads, finds, idle_log, late_since, enters_owed, is_cpu, its_config}
 use Rattle.dspec_deeds.specs.declared.deed.SpeculateFate.TheVariants as spoken
 use Rattle.dspec_deeds.specs.declared.calls.CpuOp.TheVariants as op
@@ -134,12 +135,12 @@ flies k st kept by v c slot doing id at who f =
           let marks : mark c id.slot v.own ≡ mark c id.slot kept.log = ap (mark c id.slot) (sym own) ∙ mark_part c id.slot kept.log in
           let bound = (mark_tells k c id.slot kept.log kept.sound).bound in
           let recent : mark c id.slot v.own ≤ id.issue + 1 = subst (λ (m : ℕ). m ≤ id.issue + 1) (sym marks) (subst (λ (i : ℕ). mark c id.slot kept.log ≤ i + 1) now bound) in
-          f.3 recent ∙ (ap (λ l. is_among c (callers id l)) (sym own) ∙ has_part k c id kept.log);
+          f.4 recent ∙ (ap (λ l. is_among c (callers id l)) (sym own) ∙ has_part k c id kept.log);
     }
 
 pub ready : (k : Config) (st : State ℕ View) (kept : Kept k st) (by : ℕ) (v : View) (c slot : ℕ) (doing : Doing) → get_elem? st.views by ≡ some v → v.who ≡ of_cpu c → (o : CpuOp) → MayLoad k v c doing slot o → IsReady k c kept.log doing slot o
 ready k st kept by v c slot doing at who (op.Trace r) m = tt
-ready k st kept by v c slot doing at who op.Speculation m = idle_log k st kept by v c at who m
+ready k st kept by v c slot doing at who op.Speculation m = idle_log k st kept by v c at who m.0
 ready k st kept by v c slot doing at who (op.Speculate id r) m = flies k st kept by v c slot doing id at who m
 ready k st kept by v c slot doing at who (op.Commit id) m = flies k st kept by v c slot doing id at who m
 ready k st kept by v c slot doing at who (op.Discard id) m = flies k st kept by v c slot doing id at who m
@@ -158,5 +159,5 @@ loads_word k slots id c slot me doing one most who alone may = loads k slots id 
     (owes k c log doing slot kept.sound kept.rests one doing.op (ready k st kept id v c slot doing at who doing.op may)) in (
       at_word v.config (number_of v.who) doing slot shown doing.op,
       owe,
-      (shown, kept.shows.slots slot one most, (log, finds k st kept id v at (is_cpu v c who), refl, enters_owed k st kept id v at (is_cpu v c who) _ owe)),
+      (shown, kept.shows.slots slot one most, (log, finds k st kept id v at (is_cpu v c who), refl, enters_owed k st kept id v at (is_cpu v c who) _ owe (word_of k v c doing slot v.config (number_of v.who) shown doing.op refl may))),
     ))

@@ -18,7 +18,7 @@ looks : (k : Config) (slots id i : ℕ) (me : Me ℕ View) (T : ℕ → View →
     → ((st : State ℕ View) (kept : Kept k st) → get_elem? st.views id ≡ some me.0 → T (slice_index st.words i) (acted me.0 kept.log []))
     → Allows (Kept k) slots id me i (λ n. n) (λ n w. T n w.0 × (w.1 ≡ me.1))
 looks k slots id i me T who alone step st kept homes at bound =
-    (acted me.0 kept.log [], keeps, tt, acts_owed k st kept id me.0 me.1 at alone who [] i (none_owed k me.0.who kept.log kept.rests), (step st kept at, refl))
+    (acted me.0 kept.log [], keeps, tt, acts_owed k st kept id me.0 me.1 at alone who [] i me.0.flight (none_owed k me.0.who kept.log kept.rests), (step st kept at, refl))
 
 module _ (k : Config) (slots id : ℕ) (me : Me ℕ View) (who : same_holder me.0.who me.0.who ≡ true) (alone : me.0.also ≡ []) where
   pub looks_up : Allows (Kept k) slots id me (activity_place k) (λ n. n) (λ n w. Looked me.0 w.0 × (w.1 ≡ me.1))

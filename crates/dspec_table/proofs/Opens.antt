@@ -25,6 +25,7 @@ use Rattle.dspec_table.specs.Holders.{number_of}
 use Rattle.dspec_table.specs.Acts.{at_open}
 use Rattle.dspec_table.specs.Conditions.{MayOpen}
 use Rattle.dspec_table.specs.Steps.{OpenedNumber}
+use Rattle.dspec_table.proofs.InFlight.{open_of}
 use Rattle.dspec_table.proofs.Keeps.{Owes, finds, idle_log, is_cpu}
 use Rattle.dspec_table.proofs.Changes.{Changes, exchanges}
 
@@ -77,6 +78,7 @@ opens_word k slots id c slot me from to one most who alone may = exchanges k slo
     (given_out k c slot log to kept.sound kept.rests one (idle_log k st kept id v c at who may.0) (ap (λ w. open_at w k.max_issues) same ∙ may.2)) in (
       at_open (number_of v.who) slot shown true,
       does,
+      open_of (number_of v.who) slot shown true v.flight may.3,
       (λ left. (shown, kept.shows.slots slot one most, (log, finds k st kept id v at (is_cpu v c who), refl, left), λ hit. does.now)),
     ))
     (λ st kept at other.
@@ -89,5 +91,6 @@ opens_word k slots id c slot me from to one most who alone may = exchanges k slo
       subst (λ (w : Holder). Owes k w log (at_open (number_of w) slot shown false)) (sym who)
           (missed k c slot log v.seen kept.sound kept.rests one (idle_log k st kept id v c at who may.0) (ap (λ (w : SlotState). is_inactive w.code) (sym may.1) ∙ open_inactive from to k.max_issues may.2)
           (subst (λ x. Since x v.seen log) who mine.since) apart),
+      open_of (number_of v.who) slot shown false v.flight may.3,
       (λ left. (shown, kept.shows.slots slot one most, (log, finds k st kept id v at (is_cpu v c who), refl, left), λ hit. absurd (true≢false (sym hit)))),
     ))

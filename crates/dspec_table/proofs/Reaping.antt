@@ -58,6 +58,7 @@ reaps k slots id s me from who alone may =
         now = ap word_number (ap released (sym issues) ∙ sym (released_word k s log kept.sound));
         change = record { active = refl; others = λ t apart. ap word_number (elsewhere t (Release s) log apart); acks = λ a t. refl };
       }),
+      (tt, tt),
       (λ left. (word_at s log, kept.shows.slots s may.low may.high, (log, finds k st kept id v at is_me, refl, left))),
     ))
-    (λ st kept at other. ([], none_owed k v.who kept.log kept.rests, (λ left. (word_at s kept.log, kept.shows.slots s may.low may.high, (kept.log, finds k st kept id v at is_me, refl, left)))))
+    (λ st kept at other. ([], none_owed k v.who kept.log kept.rests, tt, (λ left. (word_at s kept.log, kept.shows.slots s may.low may.high, (kept.log, finds k st kept id v at is_me, refl, left)))))

@@ -63,6 +63,7 @@ gives_back k slots id c me spec lt one most who alone may =
         now = ap word_number (ap released (sym issues) ∙ sym (released_word k s log kept.sound));
         change = record { active = refl; others = λ t apart. ap word_number (elsewhere t (Release s) log apart); acks = λ a t. refl };
       }),
+      (tt, tt),
       (λ left. (log, finds k st kept id v at (is_cpu v c who), left)),
     ))
     (λ st kept at other.

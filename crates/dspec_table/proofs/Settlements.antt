@@ -137,7 +137,7 @@ settles_word k slots id c me doing spec lt who alone may st kept homes at bound 
       keeps,
       tt,
       acts k st kept id v me.1 at alone (is_cpu v c who) ds (ack_place k c s) (spec.issue + 1) adds refl shows (leaves_all_asks k st.words c s (spec.issue + 1) one most),
-      ((log, finds k st kept id v at (is_cpu v c who), enters k st kept id v at (is_cpu v c who) ds adds refl), refl),
+      ((log, finds k st kept id v at (is_cpu v c who), enters k st kept id v at (is_cpu v c who) ds adds refl (tt, tt)), refl),
     )
   where
     not_yet : (b : Bool) → not b ≡ true → b ≡ false

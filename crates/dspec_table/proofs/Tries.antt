@@ -31,6 +31,7 @@ use Rattle.dspec_table.specs.Holders.{number_of}
 use Rattle.dspec_table.specs.Acts.{commit_fate, discard_hits, at_hit, at_exchange}
 use Rattle.dspec_table.specs.Conditions.{Attempts, MayTry}
 use Rattle.dspec_table.specs.Steps.{TriedNumber}
+use Rattle.dspec_table.proofs.InFlight.{exchange_of}
 use Rattle.dspec_table.proofs.Keeps.{Owes, finds, is_cpu, its_config}
 use Rattle.dspec_table.proofs.Changes.{Changes, exchanges}
 use Rattle.dspec_table.proofs.Loads.{Flies, IsReady, ready, owes, speculate_like, commit_like, discard_like}
@@ -172,6 +173,7 @@ tries_word k slots id c slot me doing from to one most who alone may = exchanges
     (hits k c log doing slot to kept.sound kept.rests doing.op (ready k st kept id v c slot doing at who doing.op may.0) (subst (λ w. Attempts doing w to doing.op) (sym same) may.1)) in (
       at_exchange v.config (number_of v.who) doing slot shown true,
       does,
+      exchange_of k v c doing slot v.config (number_of v.who) shown true may.0,
       (λ left. (shown, kept.shows.slots slot one most, (log, finds k st kept id v at (is_cpu v c who), refl, left), λ hit. does.now)),
     ))
     (λ st kept at other.
@@ -182,5 +184,6 @@ tries_word k slots id c slot me doing from to one most who alone may = exchanges
       at_exchange v.config (number_of v.who) doing slot shown false,
       subst (λ (p : Config × Holder). Owes k p.1 log (at_exchange p.0 (number_of p.1) doing slot shown false)) (λ i. (sym (its_config k log v (is_cpu v c who) mine) i, sym who i))
           (owes k c log doing slot kept.sound kept.rests one doing.op (ready k st kept id v c slot doing at who doing.op may.0)),
+      exchange_of k v c doing slot v.config (number_of v.who) shown false may.0,
       (λ left. (shown, kept.shows.slots slot one most, (log, finds k st kept id v at (is_cpu v c who), refl, left), λ hit. absurd (true≢false (sym hit)))),
     ))

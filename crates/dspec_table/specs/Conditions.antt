@@ -15,12 +15,12 @@ use Rattle.dspec_deeds.specs.Marks.{mark}
 use Rattle.dspec_table.specs.declared.rule.View.{View}
 use Rattle.dspec_table.specs.declared.doing.Doing.{Doing}
 
--- A call in flight on an identifier's slot, which was shown that the session runs. Whether the CPU is a caller is as its own
+-- A call in flight on an identifier's slot: a load of activity of this very call showed that the session runs. Whether the CPU is a caller is as its own
 -- list has it, where the identifier isn't older than the last speculation of the slot that was granted to it: an older one's
 -- word has another issue by then, and the tables don't ask.
 abbrev pub IsInFlight : Config → View → ℕ → Doing → Speculation → ℕ → Type 0
 IsInFlight k v c doing id slot =
-    (id.slot ≡ slot) × (scan k c v.own ≡ 0) × (late c v.seen ≡ false)
+    (id.slot ≡ slot) × (scan k c v.own ≡ 0) × (late c v.seen ≡ false) × (v.flight ≡ Some doing.op)
     × (mark c id.slot v.own ≤ id.issue + 1 → doing.mine ≡ is_among c (callers id v.own))
 
 -- the call is on the identifier
@@ -30,18 +30,20 @@ IsOn id (op.Commit j) = j ≡ id
 IsOn id (op.Discard j) = j ≡ id
 IsOn id o = ⊥
 
--- a load of a slot's word: in a speculation of the slot that it has come to, else of the identifier's slot
+-- a load of a slot's word: in a call of speculation in flight of the slot that it has come to, else of the identifier's slot
 abbrev pub MayLoad : Config → View → ℕ → Doing → ℕ → CpuOp → Type 0
 MayLoad k v c doing slot (op.Trace r) = Unit {0}
-MayLoad k v c doing slot op.Speculation = scan k c v.own ≡ slot
+MayLoad k v c doing slot op.Speculation = (scan k c v.own ≡ slot) × (v.flight ≡ Some op.Speculation)
 MayLoad k v c doing slot (op.Speculate id r) = IsInFlight k v c doing id slot
 MayLoad k v c doing slot (op.Commit id) = IsInFlight k v c doing id slot
 MayLoad k v c doing slot (op.Discard id) = IsInFlight k v c doing id slot
 MayLoad k v c doing slot op.Service = Unit {0}
 
--- the word from was shown last, and the table attempts to
+-- the word from was shown last to a call of speculation in flight, and the table attempts to
 abbrev pub MayOpen : Config → View → ℕ → ℕ → SlotState → SlotState → Type 0
-MayOpen k v c slot from to = (scan k c v.own ≡ slot) × (from ≡ word_at slot v.seen) × (open_at from k.max_issues ≡ Attempt to)
+MayOpen k v c slot from to =
+    (scan k c v.own ≡ slot) × (from ≡ word_at slot v.seen) × (open_at from k.max_issues ≡ Attempt to)
+    × (v.flight ≡ Some op.Speculation)
 
 abbrev pub active : SlotState → SlotState
 active w = record { issue = w.issue; code = Active }

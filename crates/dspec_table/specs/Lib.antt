@@ -5,6 +5,7 @@ pub mod Showing
 pub mod Rule
 pub mod Notes
 pub mod Acts
+pub mod Flights
 pub mod Steps
 pub mod Conditions
 pub mod Asks

@@ -1,5 +1,5 @@
 -- The rule of the words: one list of deeds, which the words show, and of which each seat knows its own part.
-use Rattle.std.specs.Prelude.{ℕ, zero, suc, ◌≡◌, ◌⊎◌, ◌<◌, ◌≤◌, ◌+◌, List, [], ◌∷◌, slice_index, if◌then◌else◌}
+use Rattle.std.specs.Prelude.{ℕ, zero, suc, ◌≡◌, ◌⊎◌, ◌<◌, ◌≤◌, ◌+◌, List, [], ◌∷◌, slice_index, if◌then◌else◌, None}
 use mathlib.Core.Option.{some}
 use lib.ListN.{get_elem?}
 use Rattle.atomic_table.specs.Table.{State}
@@ -81,4 +81,4 @@ cpus_from a zero = []
 cpus_from a (suc n) = (of_cpu a, []) ∷ cpus_from (suc a) n
 
 abbrev pub newcomer : Config → View
-newcomer k = record { config = k; who = of_consumer; own = []; also = cpus_from 0 k.cpus; seen = []; told = []; steps = 0; asks = []; past = [] }
+newcomer k = record { config = k; who = of_consumer; own = []; also = cpus_from 0 k.cpus; seen = []; told = []; flight = None; steps = 0; asks = []; past = [] }

@@ -1,5 +1,5 @@
 -- What a step does to its seat's view: by what it showed, and the deeds that it entered.
-use Rattle.std.specs.Prelude.{ℕ, ◌≡◌, ◌<◌, ◌≤◌, ◌+◌, Bool, true, List, [], ◌∷◌, ◌++◌, if◌then◌else◌}
+use Rattle.std.specs.Prelude.{ℕ, ◌≡◌, ◌⊎◌, ◌<◌, ◌≤◌, ◌+◌, Bool, true, List, [], ◌∷◌, ◌++◌, if◌then◌else◌}
 use Rattle.dspec_word.specs.SpecId.{Speculation}
 use Rattle.dspec_word.specs.Word.{SlotState, word_number}
 use Rattle.dspec_word.specs.declared.code.Code.{Code}
@@ -12,11 +12,12 @@ use Rattle.dspec_table.specs.declared.doing.Doing.{Doing}
 use Rattle.dspec_table.specs.Holders.{part_of, of_nobody, number_of}
 use Rattle.dspec_table.specs.Since.{Since}
 use Rattle.dspec_table.specs.Layout.{ack_place}
+use Rattle.dspec_table.specs.Flights.{AreOf, flight_after, calling}
 use Rattle.dspec_table.specs.Acts.{at_activity, at_word, at_open, at_exchange, settle_fate, at_stop}
 
 -- the view after deeds of its own behind the list that the step found, where it then knows these asks
 abbrev pub asking : View → List Deed → List Deed → List ℕ → View
-asking v log ds asks = record { config = v.config; who = v.who; own = ds ++ v.own; also = v.also; seen = ds ++ log; told = []; steps = v.steps + 1; asks = asks; past = v.past }
+asking v log ds asks = record { config = v.config; who = v.who; own = ds ++ v.own; also = v.also; seen = ds ++ log; told = []; flight = flight_after v.config v.flight ds; steps = v.steps + 1; asks = asks; past = v.past }
 
 -- the same with the asks that it knew
 abbrev pub acted : View → List Deed → List Deed → View
@@ -32,20 +33,28 @@ pub record Found (v : View) (log : List Deed) : Type 0 where
   pub own : part_of v.who log ≡ v.own
   pub calm : owed v.seen ≡ 0
 
--- the list that the step left is legal and owes nothing, the seat's part of it is the seat's list, and the view is the one
--- behind its deeds
+-- the list that the step left is legal and owes nothing, the seat's part of it is the seat's list, the deeds of a call are of
+-- the one in flight, and the view is the one behind its deeds
 pub record Entered (v : View) (log ds : List Deed) (w : View) : Type 0 where
   pub sound : IsSound v.config (ds ++ log)
   pub rests : owed (ds ++ log) ≡ 0
   pub own : part_of v.who (ds ++ log) ≡ ds ++ v.own
+  pub call : AreOf v.flight ds
   pub view : w ≡ acted v log ds
+
+-- what a step of a chain enters: a load of activity enters its call's deeds with that call in flight, any other step what it
+-- enters with the one that was
+abbrev pub EnteredIn : View → List Deed → List Deed → View → Type 0
+EnteredIn v log ds w =
+    Entered v log ds w
+    ⊎ ((doing : Doing) × (ds ≡ at_activity v.config (number_of v.who) doing doing.op (halted log)) × Entered (calling doing.op v) log ds w)
 
 -- the steps of a CPU
 
 abbrev pub LoadedActivity : Doing → View → Bool → View → Type 0
 LoadedActivity doing v stopped w =
     (log : List Deed) × Found v log × (stopped ≡ halted log)
-    × Entered v log (at_activity v.config (number_of v.who) doing doing.op stopped) w
+    × Entered (calling doing.op v) log (at_activity v.config (number_of v.who) doing doing.op stopped) w
 
 abbrev pub LoadedWord : Doing → ℕ → View → SlotState → View → Type 0
 LoadedWord doing slot v shown w =

@@ -1,10 +1,10 @@
 use atomic_table::{Seat, Table, TableRule};
-use dspec_deeds::{Actor, Config, Deed};
+use dspec_deeds::{Actor, Config, CpuOp, Deed};
 use std::alloc::Global;
 use std::collections::LinkedList;
 
 /// What a seat knows: whose it is (a note is nobody's), its own deeds, those of the seats that were joined into it, the deeds
-/// of all that it has seen, what a note told it since its last step, how many steps it made, and the asks of each CPU, which
+/// of all that it has seen, what a note told it since its last step, its call in flight, how many steps it made, and the asks of each CPU, which
 /// the consumer knows exactly, and any other seat as no more than they are; and what the seats joined into it knew then. No
 /// value of it is ever made.
 pub struct View {
@@ -20,6 +20,8 @@ pub struct View {
     pub seen: LinkedList<Deed>,
     /// What a note told it since its last step.
     pub told: LinkedList<Deed>,
+    /// The call in flight: a load of activity showed it that the session runs, and it hasn't ended.
+    pub flight: Option<CpuOp>,
     /// How many steps it has made.
     pub steps: u64,
     /// The asks of the CPUs, in order.

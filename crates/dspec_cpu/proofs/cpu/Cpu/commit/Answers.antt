@@ -74,7 +74,7 @@ returns-in-Stopped-clause-ready g c =
     let mine = c.is_mine-mine.result in
     let w = known c.go_on-reached.new.seat in
     let got = subst (λ (x : Config × ℕ). Reached x.0 x.1 (committing id fit n mine) id (known cpu.seat) reach.Stopped w) (λ i. (ready.config i, ready.seat i)) c.in-Stopped.ensures.reached in
-    ready_after _ _ _ words cpu ready _ (Commit cpu.cpu id fated.Stopped ∷ []) refl refl c.go_on-reached.ensures.seat.0 c.go_on-reached.ensures.seat.1 got.stands ready.idle ready.spare ready.few (Commit cpu.cpu id fated.Stopped ∷ ready.list) ((returns-in-Stopped-clause-decides g c).list ready.list ready.listed)
+    ready_after _ _ _ words cpu ready _ (Commit cpu.cpu id fated.Stopped ∷ []) refl refl c.go_on-reached.ensures.seat.0 c.go_on-reached.ensures.seat.1 got.stands ready.idle refl ready.spare ready.few (Commit cpu.cpu id fated.Stopped ∷ ready.list) ((returns-in-Stopped-clause-decides g c).list ready.list ready.listed)
 
 pub returns-in-Void-clause-decides : goal.returns-in-Void-clause-decides
 returns-in-Void-clause-decides g c =
@@ -100,7 +100,7 @@ returns-in-Void-clause-ready g c =
     let mine = c.is_mine-mine.result in
     let w = known c.go_on-reached.new.seat in
     let got = subst (λ (x : Config × ℕ). Reached x.0 x.1 (committing id fit n mine) id (known cpu.seat) reach.Void w) (λ i. (ready.config i, ready.seat i)) c.in-Void.ensures.reached in
-    ready_after _ _ _ words cpu ready _ (Commit cpu.cpu id fated.Void ∷ []) refl refl c.go_on-reached.ensures.seat.0 c.go_on-reached.ensures.seat.1 got.stands ready.idle ready.spare ready.few (Commit cpu.cpu id fated.Void ∷ ready.list) ((returns-in-Void-clause-decides g c).list ready.list ready.listed)
+    ready_after _ _ _ words cpu ready _ (Commit cpu.cpu id fated.Void ∷ []) refl refl c.go_on-reached.ensures.seat.0 c.go_on-reached.ensures.seat.1 got.stands ready.idle refl ready.spare ready.few (Commit cpu.cpu id fated.Void ∷ ready.list) ((returns-in-Void-clause-decides g c).list ready.list ready.listed)
 
 pub release_word-requires-clause-call : goal.release_word-requires-clause-call
 release_word-requires-clause-call g c =
@@ -168,7 +168,7 @@ returns-in_default-clause-ready g c =
     let got = subst (λ (x : Config × ℕ). Reached x.0 x.1 (committing id fit n mine) id (known cpu.seat) (reach.Done to) w) (λ i. (ready.config i, ready.seat i)) c.in-Done.ensures.reached in
     let within = c.is_inside-inside.ensures ∙ (got.present refl).1 in
     let place : c.slot.result - 1 ≡ id.slot - 1 = ap (λ s. s - 1) c.slot.ensures.value in
-    ready_after _ _ _ words cpu ready _ (Commit cpu.cpu id (block_fate fit n) ∷ []) refl refl c.go_on-reached.ensures.seat.0 c.go_on-reached.ensures.seat.1 got.stands ready.idle ready.spare ready.few (Commit cpu.cpu id (block_fate fit n) ∷ ready.list)
+    ready_after _ _ _ words cpu ready _ (Commit cpu.cpu id (block_fate fit n) ∷ []) refl refl c.go_on-reached.ensures.seat.0 c.go_on-reached.ensures.seat.1 got.stands ready.idle refl ready.spare ready.few (Commit cpu.cpu id (block_fate fit n) ∷ ready.list)
     (let p = ready.list in let had = ready.listed in
     let marked = c.is_mine-mine.ensures.is within p had.shown in
     let tells : mine ≡ true → mark cpu.cpu id.slot p ≡ id.issue + 1 = λ t. same_number (mark cpu.cpu id.slot p) (id.issue + 1) (sym marked ∙ t) in
@@ -217,7 +217,7 @@ returns-in-Committing-clause-ready g c =
     let place : c.slot.result - 1 ≡ id.slot - 1 = ap (λ s. s - 1) c.slot.ensures.value in
     let u = known c.release_word.new.self in
     let stands = alone_stands _ _ _ words cpu ready id fit mine n to w got u c.slot-in-Committing.result c.slot-in-Committing.ensures.value c.release_word.ensures.step in
-    ready_after _ _ _ words cpu ready _ (Release id.slot ∷ Commit cpu.cpu id (block_fate fit n) ∷ []) refl refl c.release_word.ensures.seat.0 (c.release_word.ensures.seat.1 ∙ c.go_on-reached.ensures.seat.1) stands ready.idle ready.spare ready.few (Release id.slot ∷ Commit cpu.cpu id (block_fate fit n) ∷ ready.list)
+    ready_after _ _ _ words cpu ready _ (Release id.slot ∷ Commit cpu.cpu id (block_fate fit n) ∷ []) refl refl c.release_word.ensures.seat.0 (c.release_word.ensures.seat.1 ∙ c.go_on-reached.ensures.seat.1) stands ready.idle refl ready.spare ready.few (Release id.slot ∷ Commit cpu.cpu id (block_fate fit n) ∷ ready.list)
     (let p = ready.list in let had = ready.listed in
     let marked = c.is_mine-mine.ensures.is within p had.shown in
     let tells : mine ≡ true → mark cpu.cpu id.slot p ≡ id.issue + 1 = λ t. same_number (mark cpu.cpu id.slot p) (id.issue + 1) (sym marked ∙ t) in

@@ -15,7 +15,7 @@ use Rattle.dspec_cpu.proofs.Limits.{has_room}
 use Rattle.dspec_cpu.proofs.Ready.{roomy, ready_after}
 use Rattle.dspec_cpu.proofs.Speaks.{own_mark}
 use Rattle.dspec_cpu.proofs.Decisions.{undiscarded_shown, worn_shown}
-use Rattle.dspec_cpu.proofs.Discards.{discarding, deeds, still_idle, thrown_listed, throws, thrown_bounded}
+use Rattle.dspec_cpu.proofs.Discards.{discarding, deeds, none_flies, still_idle, thrown_listed, throws, thrown_bounded}
 use Rattle.dspec_cpu.proofs.cpu.Cpu.discard.Goals as goal
 
 pub returns-then-self-clause-decides : goal.returns-then-self-clause-decides
@@ -60,7 +60,7 @@ returns-in-Stopped-clause-ready g c =
     let mine = c.is_mine-mine.result in
     let w = known c.go_on-reached.new.seat in
     let got = subst (λ (x : Config × ℕ). Reached x.0 x.1 (discarding id n mine) id (known cpu.seat) reach.Stopped w) (λ i. (ready.config i, ready.seat i)) c.in-Stopped.ensures.reached in
-    ready_after _ _ _ words cpu ready _ (Discard cpu.cpu id fated.Stopped ∷ []) refl refl c.go_on-reached.ensures.seat.0 c.go_on-reached.ensures.seat.1 got.stands ready.idle ready.spare ready.few (Discard cpu.cpu id fated.Stopped ∷ ready.list) ((returns-in-Stopped-clause-decides g c).list ready.list ready.listed)
+    ready_after _ _ _ words cpu ready _ (Discard cpu.cpu id fated.Stopped ∷ []) refl refl c.go_on-reached.ensures.seat.0 c.go_on-reached.ensures.seat.1 got.stands ready.idle refl ready.spare ready.few (Discard cpu.cpu id fated.Stopped ∷ ready.list) ((returns-in-Stopped-clause-decides g c).list ready.list ready.listed)
 
 pub returns-in-Void-clause-decides : goal.returns-in-Void-clause-decides
 returns-in-Void-clause-decides g c =
@@ -84,7 +84,7 @@ returns-in-Void-clause-ready g c =
     let mine = c.is_mine-mine.result in
     let w = known c.go_on-reached.new.seat in
     let got = subst (λ (x : Config × ℕ). Reached x.0 x.1 (discarding id n mine) id (known cpu.seat) reach.Void w) (λ i. (ready.config i, ready.seat i)) c.in-Void.ensures.reached in
-    ready_after _ _ _ words cpu ready _ (Discard cpu.cpu id fated.Void ∷ []) refl refl c.go_on-reached.ensures.seat.0 c.go_on-reached.ensures.seat.1 got.stands ready.idle ready.spare ready.few (Discard cpu.cpu id fated.Void ∷ ready.list) ((returns-in-Void-clause-decides g c).list ready.list ready.listed)
+    ready_after _ _ _ words cpu ready _ (Discard cpu.cpu id fated.Void ∷ []) refl refl c.go_on-reached.ensures.seat.0 c.go_on-reached.ensures.seat.1 got.stands ready.idle refl ready.spare ready.few (Discard cpu.cpu id fated.Void ∷ ready.list) ((returns-in-Void-clause-decides g c).list ready.list ready.listed)
 
 pub returns-in-Done-clause-decides : goal.returns-in-Done-clause-decides
 returns-in-Done-clause-decides g c =
@@ -121,7 +121,7 @@ returns-in-Done-clause-ready g c =
     let within = c.is_inside-inside.ensures ∙ (got.present refl).1 in
     let place : c.slot.result - 1 ≡ id.slot - 1 = ap (λ s. s - 1) c.slot.ensures.value in
     let owns = subst (λ (x : Config × ℕ). OwnsCommit x.0 x.1 id.slot w (Attempt to)) (λ i. (ready.config i, (c.go_on-reached.ensures.seat.1 ∙ ready.seat) i)) c.in-Done.ensures.release in
-    ready_after _ _ _ words cpu ready _ (deeds _ _ _ words cpu ready id mine n to w got) refl refl c.go_on-reached.ensures.seat.0 c.go_on-reached.ensures.seat.1 got.stands (still_idle _ _ _ words cpu ready id mine n to w got) ready.spare ready.few (deeds _ _ _ words cpu ready id mine n to w got ++ ready.list)
+    ready_after _ _ _ words cpu ready _ (deeds _ _ _ words cpu ready id mine n to w got) refl refl c.go_on-reached.ensures.seat.0 c.go_on-reached.ensures.seat.1 got.stands (still_idle _ _ _ words cpu ready id mine n to w got) (none_flies _ _ _ words cpu ready id mine n to w got) ready.spare ready.few (deeds _ _ _ words cpu ready id mine n to w got ++ ready.list)
     (let p = ready.list in let had = ready.listed in
     let marked = c.is_mine-mine.ensures.is within p had.shown in
     let tells : mine ≡ true → mark cpu.cpu id.slot p ≡ id.issue + 1 = λ t. same_number (mark cpu.cpu id.slot p) (id.issue + 1) (sym marked ∙ t) in

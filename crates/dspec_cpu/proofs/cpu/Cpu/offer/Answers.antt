@@ -61,7 +61,7 @@ returns-in-Stopped-clause-ready g c =
     let mine = c.args.mine in
     let w = known c.go_on-reached.new.seat in
     let got = subst (λ (x : Config × ℕ). Reached x.0 x.1 (asked id r fit mine) id (known cpu.seat) reach.Stopped w) (λ i. (ready.config i, ready.seat i)) c.in-Stopped.ensures.reached in
-    ready_after _ _ _ words cpu ready _ (Speculate cpu.cpu id r spoken.Stopped ∷ []) refl refl c.go_on-reached.ensures.seat.0 c.go_on-reached.ensures.seat.1 got.stands ready.idle ready.spare ready.few (Speculate cpu.cpu id r spoken.Stopped ∷ ready.list) (returns-in-Stopped-clause-list g c ready.list ready.listed)
+    ready_after _ _ _ words cpu ready _ (Speculate cpu.cpu id r spoken.Stopped ∷ []) refl refl c.go_on-reached.ensures.seat.0 c.go_on-reached.ensures.seat.1 got.stands ready.idle refl ready.spare ready.few (Speculate cpu.cpu id r spoken.Stopped ∷ ready.list) (returns-in-Stopped-clause-list g c ready.list ready.listed)
 
 pub returns-in-Void-clause-list : goal.returns-in-Void-clause-list
 returns-in-Void-clause-list g c =
@@ -87,7 +87,7 @@ returns-in-Void-clause-ready g c =
     let mine = c.args.mine in
     let w = known c.go_on-reached.new.seat in
     let got = subst (λ (x : Config × ℕ). Reached x.0 x.1 (asked id r fit mine) id (known cpu.seat) reach.Void w) (λ i. (ready.config i, ready.seat i)) c.in-Void.ensures.reached in
-    ready_after _ _ _ words cpu ready _ (Speculate cpu.cpu id r spoken.Void ∷ []) refl refl c.go_on-reached.ensures.seat.0 c.go_on-reached.ensures.seat.1 got.stands ready.idle ready.spare ready.few (Speculate cpu.cpu id r spoken.Void ∷ ready.list) (returns-in-Void-clause-list g c ready.list ready.listed)
+    ready_after _ _ _ words cpu ready _ (Speculate cpu.cpu id r spoken.Void ∷ []) refl refl c.go_on-reached.ensures.seat.0 c.go_on-reached.ensures.seat.1 got.stands ready.idle refl ready.spare ready.few (Speculate cpu.cpu id r spoken.Void ∷ ready.list) (returns-in-Void-clause-list g c ready.list ready.listed)
 
 pub returns-then-not-kept-clause-list : goal.returns-then-not-kept-clause-list
 returns-then-not-kept-clause-list g c =
@@ -154,7 +154,7 @@ returns-then-not-kept-clause-ready g c =
     ∙ c.if-not-kept.true in
     let deeds = grant_deeds cpu.cpu (asked id r fit mine) id r c.go_on-reached.result false grant fit_is in
     let stands = subst (λ ds. Stands cpu.config cpu.cpu (known cpu.seat) ds w) deeds got.stands in
-    ready_after _ _ _ words cpu ready _ (Speculate cpu.cpu id r spoken.Dropped ∷ []) refl refl c.go_on-reached.ensures.seat.0 c.go_on-reached.ensures.seat.1 stands ready.idle ready.spare ready.few (Speculate cpu.cpu id r spoken.Dropped ∷ ready.list) (returns-then-not-kept-clause-list g c ready.list ready.listed)
+    ready_after _ _ _ words cpu ready _ (Speculate cpu.cpu id r spoken.Dropped ∷ []) refl refl c.go_on-reached.ensures.seat.0 c.go_on-reached.ensures.seat.1 stands ready.idle refl ready.spare ready.few (Speculate cpu.cpu id r spoken.Dropped ∷ ready.list) (returns-then-not-kept-clause-list g c ready.list ready.listed)
 
 pub returns-else-not-kept-clause-list : goal.returns-else-not-kept-clause-list
 returns-else-not-kept-clause-list g c =
@@ -221,7 +221,7 @@ returns-else-not-kept-clause-ready g c =
     ∙ c.if-not-kept.false in
     let deeds = grant_deeds cpu.cpu (asked id r fit mine) id r c.go_on-reached.result true grant fit_is in
     let stands = subst (λ ds. Stands cpu.config cpu.cpu (known cpu.seat) ds w) deeds got.stands in
-    ready_after _ _ _ words cpu ready _ (Speculate cpu.cpu id r spoken.Kept ∷ []) refl refl c.go_on-reached.ensures.seat.0 c.go_on-reached.ensures.seat.1 stands ready.idle ready.spare ready.few (Speculate cpu.cpu id r spoken.Kept ∷ ready.list) (returns-else-not-kept-clause-list g c ready.list ready.listed)
+    ready_after _ _ _ words cpu ready _ (Speculate cpu.cpu id r spoken.Kept ∷ []) refl refl c.go_on-reached.ensures.seat.0 c.go_on-reached.ensures.seat.1 stands ready.idle refl ready.spare ready.few (Speculate cpu.cpu id r spoken.Kept ∷ ready.list) (returns-else-not-kept-clause-list g c ready.list ready.listed)
 
 pub returns-then-not-kept-clause-did : goal.returns-then-not-kept-clause-did
 returns-then-not-kept-clause-did g c =

@@ -53,7 +53,7 @@ returns-in-Granted-clause-ready g c =
     c.settle_block-doing.result c.settle_block-doing.ensures.op c.store_ack.new.self c.issue.result c.issue.ensures.value c.store_ack.ensures.step c.settle_block-doing.new.principal c.settle_block-doing.new.buffers c.settle_block-doing.new.acks c.settle_block-doing.new.drops c.settle_block-doing.new.counts (λ p may. c.settle_block-doing.ensures.settled cpu.schema cpu.cpu (side_of cpu) (batches_of cpu) p may) in
     let now = settled_list _ _ _ c.args.words.now cpu ready c.args.slot c.requires.slot.0 c.requires.slot.1 c.load_word-word.new.self c.load_word-word.result c.serve.result c.serve.ensures c.load_word-word.ensures.step c.index.result.now c.index.ensures grants small
     c.settle_block-doing.result c.settle_block-doing.ensures.op c.store_ack.new.self c.issue.result c.issue.ensures.value c.store_ack.ensures.step c.settle_block-doing.new.principal c.settle_block-doing.new.buffers c.settle_block-doing.new.acks c.settle_block-doing.new.drops c.settle_block-doing.new.counts (λ p may. c.settle_block-doing.ensures.settled cpu.schema cpu.cpu (side_of cpu) (batches_of cpu) p may) ready.list ready.listed in
-    ready_after _ _ _ c.args.words.now cpu ready new _ refl refl c.store_ack.ensures.seat.0 (c.store_ack.ensures.seat.1 ∙ c.load_word-word.ensures.seat.1) stands ready.idle ready.spare ready.few _ now
+    ready_after _ _ _ c.args.words.now cpu ready new _ refl refl c.store_ack.ensures.seat.0 (c.store_ack.ensures.seat.1 ∙ c.load_word-word.ensures.seat.1) stands ready.idle refl ready.spare ready.few _ now
 
 pub returns-in_default : goal.returns-in_default
 returns-in_default g c =
@@ -64,7 +64,7 @@ returns-in_default g c =
     record {
       ready = ready_after _ _ _ c.args.words.now cpu ready (record cpu { seat = c.load_word-word.new.self }) [] refl refl c.load_word-word.ensures.seat.0 c.load_word-word.ensures.seat.1
           (load_stands _ _ _ c.args.words.now cpu ready c.args.slot c.requires.slot.0 c.requires.slot.1 c.load_word-word.new.self c.load_word-word.result c.serve.result c.serve.ensures c.load_word-word.ensures.step)
-          ready.idle ready.spare ready.few ready.list (passed_list _ _ _ c.args.words.now cpu ready c.args.slot c.requires.slot.0 c.requires.slot.1 c.load_word-word.new.self c.load_word-word.result c.serve.result c.serve.ensures c.load_word-word.ensures.step ready.list ready.listed);
+          ready.idle ready.flight ready.spare ready.few ready.list (passed_list _ _ _ c.args.words.now cpu ready c.args.slot c.requires.slot.0 c.requires.slot.1 c.load_word-word.new.self c.load_word-word.result c.serve.result c.serve.ensures c.load_word-word.ensures.step ready.list ready.listed);
       same = (record { schema = refl; config = refl; number = refl; pair = refl }, refl);
       keeps = record { end = refl; spare = refl; in_hand = refl; seals = refl };
       settled = done;
@@ -79,7 +79,7 @@ returns-then-not-waits g c =
     record {
       ready = ready_after _ _ _ c.args.words.now cpu ready (record cpu { seat = c.load_word-word.new.self }) [] refl refl c.load_word-word.ensures.seat.0 c.load_word-word.ensures.seat.1
           (load_stands _ _ _ c.args.words.now cpu ready c.args.slot c.requires.slot.0 c.requires.slot.1 c.load_word-word.new.self c.load_word-word.result c.serve.result c.serve.ensures c.load_word-word.ensures.step)
-          ready.idle ready.spare ready.few ready.list (passed_list _ _ _ c.args.words.now cpu ready c.args.slot c.requires.slot.0 c.requires.slot.1 c.load_word-word.new.self c.load_word-word.result c.serve.result c.serve.ensures c.load_word-word.ensures.step ready.list ready.listed);
+          ready.idle ready.flight ready.spare ready.few ready.list (passed_list _ _ _ c.args.words.now cpu ready c.args.slot c.requires.slot.0 c.requires.slot.1 c.load_word-word.new.self c.load_word-word.result c.serve.result c.serve.ensures c.load_word-word.ensures.step ready.list ready.listed);
       same = (record { schema = refl; config = refl; number = refl; pair = refl }, refl);
       keeps = record { end = refl; spare = refl; in_hand = refl; seals = refl };
       settled = done;

@@ -8,7 +8,7 @@ use Rattle.dspec_cpu.proofs.Decisions.{worn_shown}
 use Rattle.dspec_cpu.proofs.Limits.{limits}
 use Rattle.dspec_cpu.proofs.Openings.{bare_opening, opening_shown}
 use Rattle.dspec_cpu.proofs.Ready.{roomy, ready_after}
-use Rattle.dspec_cpu.proofs.Scans.{idle_again}
+use Rattle.dspec_cpu.proofs.Scans.{idle_again, none_flies}
 use Rattle.dspec_cpu.proofs.cpu.Cpu.speculation.Goals as goal
 
 pub returns-then-self-clause-opens : goal.returns-then-self-clause-opens
@@ -48,4 +48,4 @@ returns-clause-ready g c =
     let got = subst (λ (x : Config × ℕ). Scanned x.0 x.1 (known cpu.seat) a busy w) (λ i. (ready.config i, ready.seat i)) c.scan_slots-answer.ensures.scanned in
     let some = (limits cpu.config ready.checked).specs.least in
     ready_after _ _ _ words cpu ready _ (opening_deeds cpu.cpu got.missed a) refl refl c.scan_slots-answer.ensures.seat.0 c.scan_slots-answer.ensures.seat.1 got.stands
-    (idle_again cpu.config cpu.cpu (known cpu.seat).own got.missed a some got.answer got.unworn) ready.spare ready.few (opening_deeds cpu.cpu got.missed a ++ ready.list) ((returns-clause-opens g c).list ready.list ready.listed)
+    (idle_again cpu.config cpu.cpu (known cpu.seat).own got.missed a some got.answer got.unworn) (none_flies cpu.config cpu.cpu (known cpu.seat).flight got.missed a some got.answer got.unworn) ready.spare ready.few (opening_deeds cpu.cpu got.missed a ++ ready.list) ((returns-clause-opens g c).list ready.list ready.listed)

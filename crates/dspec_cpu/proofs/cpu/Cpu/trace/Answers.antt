@@ -59,7 +59,7 @@ returns-then-not-runs-clause-ready g c =
     let w = known c.load_activity-runs.new.self in
     let step = subst (λ b. LoadedActivity (asked c.args.rec.now fit) (known cpu.seat) (not b) w) c.if-not-runs.true c.load_activity-runs.ensures.step in
     let did = traces cpu.config cpu.cpu (known cpu.seat) w c.args.rec.now fit true traced.Stopped (set_up_is _ _ _ words cpu ready) (holder _ _ _ words cpu ready) step refl in
-    ready_after _ _ _ words cpu ready _ (Trace cpu.cpu c.args.rec.now traced.Stopped ∷ []) refl refl c.load_activity-runs.ensures.seat.0 c.load_activity-runs.ensures.seat.1 did.stands ready.idle ready.spare ready.few (Trace cpu.cpu c.args.rec.now traced.Stopped ∷ ready.list) (returns-then-not-runs-clause-list g c ready.list ready.listed)
+    ready_after _ _ _ words cpu ready _ (Trace cpu.cpu c.args.rec.now traced.Stopped ∷ []) refl refl c.load_activity-runs.ensures.seat.0 c.load_activity-runs.ensures.seat.1 did.stands ready.idle refl ready.spare ready.few (Trace cpu.cpu c.args.rec.now traced.Stopped ∷ ready.list) (returns-then-not-runs-clause-list g c ready.list ready.listed)
 
 pub returns-then-not-keep_open-clause-did : goal.returns-then-not-keep_open-clause-did
 returns-then-not-keep_open-clause-did g c =
@@ -95,7 +95,7 @@ returns-then-not-keep_open-clause-ready g c =
     let w = known c.load_activity-runs.new.self in
     let step = subst (λ b. LoadedActivity (asked c.args.rec.now fit) (known cpu.seat) (not b) w) c.if-not-runs.false c.load_activity-runs.ensures.step in
     let did = traces cpu.config cpu.cpu (known cpu.seat) w c.args.rec.now fit false traced.Dropped (set_up_is _ _ _ words cpu ready) (holder _ _ _ words cpu ready) step (ap (λ b. if b then traced.Kept else traced.Dropped) fit_no) in
-    ready_after _ _ _ words cpu ready _ (Trace cpu.cpu c.args.rec.now traced.Dropped ∷ []) refl refl c.load_activity-runs.ensures.seat.0 c.load_activity-runs.ensures.seat.1 did.stands ready.idle ready.spare ready.few (Trace cpu.cpu c.args.rec.now traced.Dropped ∷ ready.list) (returns-then-not-keep_open-clause-list g c ready.list ready.listed)
+    ready_after _ _ _ words cpu ready _ (Trace cpu.cpu c.args.rec.now traced.Dropped ∷ []) refl refl c.load_activity-runs.ensures.seat.0 c.load_activity-runs.ensures.seat.1 did.stands ready.idle refl ready.spare ready.few (Trace cpu.cpu c.args.rec.now traced.Dropped ∷ ready.list) (returns-then-not-keep_open-clause-list g c ready.list ready.listed)
 
 pub returns-clause-did : goal.returns-clause-did
 returns-clause-did g c =
@@ -131,4 +131,4 @@ returns-clause-ready g c =
     let w = known c.load_activity-runs.new.self in
     let step = subst (λ b. LoadedActivity (asked c.args.rec.now fit) (known cpu.seat) (not b) w) c.if-not-runs.false c.load_activity-runs.ensures.step in
     let did = traces cpu.config cpu.cpu (known cpu.seat) w c.args.rec.now fit false traced.Kept (set_up_is _ _ _ words cpu ready) (holder _ _ _ words cpu ready) step (ap (λ b. if b then traced.Kept else traced.Dropped) fit_yes) in
-    ready_after _ _ _ words cpu ready _ (Trace cpu.cpu c.args.rec.now traced.Kept ∷ []) refl refl c.load_activity-runs.ensures.seat.0 c.load_activity-runs.ensures.seat.1 did.stands ready.idle ready.spare ready.few (Trace cpu.cpu c.args.rec.now traced.Kept ∷ ready.list) (returns-clause-list g c ready.list ready.listed)
+    ready_after _ _ _ words cpu ready _ (Trace cpu.cpu c.args.rec.now traced.Kept ∷ []) refl refl c.load_activity-runs.ensures.seat.0 c.load_activity-runs.ensures.seat.1 did.stands ready.idle refl ready.spare ready.few (Trace cpu.cpu c.args.rec.now traced.Kept ∷ ready.list) (returns-clause-list g c ready.list ready.listed)
