@@ -3,6 +3,7 @@ ghost use Rattle.dspec_deeds.specs.declared.deed.Deed.TheVariants.{Commit, Disca
 ghost use Rattle.dspec_table.specs.Seats.{known};
 ghost use Rattle.dspec_cpu.specs.Calls.{Decides, is_worn_decided};
 ghost use Rattle.dspec_cpu.specs.Counting.{worn_after};
+ghost use Rattle.dspec_cpu.specs.Stops.{StopsWhereMet, is_stopped_decided};
 ghost use Rattle.dspec_cpu.specs.Lists.{IsSameCpu, calls_of, config_of, number_in, seat_of, words_of, worn_of};
 
 use crate::blocks::end_block;
@@ -45,6 +46,7 @@ impl<S: Schema> Cpu<S> {
         ensures worn { (result ≡ Decided.Worn) ↔ ((config_of self.old).max_calls ≤ calls_of self.old) }
         ensures wears { worn_of self.new ≡ worn_after (is_worn_decided result) (worn_of self.old) }
         ensures bounded { (known (seat_of self.new)).steps ≤ (known (seat_of self.old)).steps + 5 }
+        ensures stops { StopsWhereMet (known (seat_of self.old)) (is_worn_decided result) (is_stopped_decided result) (known (seat_of self.new)) }
         ensures decides { Decides (Commit (number_in self.old) id) id result (⟦<Cpu<S> as Listed>⟧.has_list self.old) (known (seat_of self.old)) (⟦<Cpu<S> as Listed>⟧.has_list self.new) (known (seat_of self.new)) }
     {
         if self.calls >= self.config.max_calls {
@@ -99,6 +101,7 @@ impl<S: Schema> Cpu<S> {
         ensures worn { (result ≡ Decided.Worn) ↔ ((config_of self.old).max_calls ≤ calls_of self.old) }
         ensures wears { worn_of self.new ≡ worn_after (is_worn_decided result) (worn_of self.old) }
         ensures bounded { (known (seat_of self.new)).steps ≤ (known (seat_of self.old)).steps + 5 }
+        ensures stops { StopsWhereMet (known (seat_of self.old)) (is_worn_decided result) (is_stopped_decided result) (known (seat_of self.new)) }
         ensures decides { Decides (Discard (number_in self.old) id) id result (⟦<Cpu<S> as Listed>⟧.has_list self.old) (known (seat_of self.old)) (⟦<Cpu<S> as Listed>⟧.has_list self.new) (known (seat_of self.new)) }
     {
         if self.calls >= self.config.max_calls {

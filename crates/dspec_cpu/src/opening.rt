@@ -2,6 +2,7 @@ ghost use Rattle.std.specs.Prelude.{◌≡◌, ◌≤◌, ◌+◌, ◌*◌, ◌�
 ghost use Rattle.dspec_table.specs.Seats.{known};
 ghost use Rattle.dspec_cpu.specs.Counting.{worn_after};
 ghost use Rattle.dspec_cpu.specs.Lists.{IsSameCpu, calls_of, config_of, number_in, seat_of, words_of, worn_of};
+ghost use Rattle.dspec_cpu.specs.Stops.{StopsWhereMet, is_stopped_opening};
 ghost use Rattle.dspec_cpu.specs.Scans.{Opens, is_worn_opening};
 
 use crate::cpu::Cpu;
@@ -22,6 +23,7 @@ impl<S: Schema> Cpu<S> {
         ensures worn { (result ≡ Opening.Worn) ↔ ((config_of self.old).max_calls ≤ calls_of self.old) }
         ensures wears { worn_of self.new ≡ worn_after (is_worn_opening result) (worn_of self.old) }
         ensures bounded { (known (seat_of self.new)).steps ≤ (known (seat_of self.old)).steps + 1 + 2 * (config_of self.old).nspec }
+        ensures stops { StopsWhereMet (known (seat_of self.old)) (is_worn_opening result) (is_stopped_opening result) (known (seat_of self.new)) }
         ensures opens { Opens (config_of self.old) (number_in self.old) result (⟦<Cpu<S> as Listed>⟧.has_list self.old) (known (seat_of self.old)) (⟦<Cpu<S> as Listed>⟧.has_list self.new) (known (seat_of self.new)) }
     {
         if self.calls >= self.config.max_calls {
