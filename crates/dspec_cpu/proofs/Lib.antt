@@ -7,6 +7,7 @@ pub mod Ready
 pub mod Traces
 pub mod Mine
 pub mod Retries
+pub mod Stopping
 pub mod Reaches
 pub mod Places
 pub mod Grants

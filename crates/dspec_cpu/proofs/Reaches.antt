@@ -35,6 +35,8 @@ use Rattle.dspec_cpu.specs.declared.reaching.Reach.TheVariants as reach
 use Rattle.dspec_cpu.specs.Calls.{Goes, rests, steps}
 use Rattle.dspec_cpu.specs.Reaching.{act_of, act_reached, is_reached, is_attempt, reached_deeds, releases_next, Ended}
 use Rattle.dspec_cpu.specs.Reached.{Reached}
+use Rattle.dspec_cpu.specs.Stops.{StopsWhereMet, is_stopped_reach}
+use Rattle.dspec_cpu.proofs.Stopping.{shown_stop, shown_running}
 use Rattle.dspec_cpu.proofs.Mine.{own_mine_tells}
 use Rattle.dspec_cpu.proofs.Ready.{stands_behind, stands_called}
 use Rattle.dspec_cpu.proofs.Retries.{here_or_void, attempt_is}
@@ -162,6 +164,12 @@ is_no_void reach.Granted t = granted_is
 is_no_void reach.Stopped t = absurd (true≢false (sym t))
 is_no_void reach.Void t = absurd (true≢false (sym t))
 
+pub unstopped : (r : Reach) → (r ≡ reach.Stopped → ⊥) → is_stopped_reach r ≡ false
+unstopped reach.Stopped n = absurd (n refl)
+unstopped reach.Void n = refl
+unstopped reach.Granted n = refl
+unstopped (reach.Done to) n = refl
+
 -- where it ended no call is in flight
 reached_ends : (k : Config) (c : ℕ) (doing : Doing) (id : Speculation) (f : Option CpuOp) (o : CpuOp) (r : Reach) → IsOn id o → (r ≡ reach.Granted → (word : SlotState) × (act_of o word doing.mine ≡ Granted)) → flight_after k f (reached_deeds c doing o r) ≡ None
 reached_ends k c doing id f (op.Speculate j r) reach.Stopped on g = refl
@@ -186,28 +194,33 @@ reached_ends k c doing id f op.Service x on g = absurd on
 
 module _ (k : Config) (c : ℕ) (doing : Doing) (id : Speculation) (v : View) (config : v.config ≡ k) (who : v.who ≡ of_cpu c) (on : IsOn id doing.op) where
   -- it ended at the load of activity
-  at_once : (r : Reach) (w : View) (stopped : Bool) → (step : LoadedActivity doing v stopped w) → at_activity v.config (number_of v.who) doing doing.op stopped ≡ reached_deeds c doing doing.op r → is_reached r ≡ false → act_reached r ≡ Void → Reached k c doing id v r w
-  at_once r w stopped step deeds none void =
+  at_once : (r : Reach) (w : View) (stopped : Bool) → (step : LoadedActivity doing v stopped w) → at_activity v.config (number_of v.who) doing doing.op stopped ≡ reached_deeds c doing doing.op r → is_reached r ≡ false → act_reached r ≡ Void → is_stopped_reach r ≡ stopped → Reached k c doing id v r w
+  at_once r w stopped step deeds none void answered =
       let entered : Entered (calling doing.op v) step.0 (reached_deeds c doing doing.op r) w = subst (λ ds. Entered (calling doing.op v) step.0 ds w) deeds step.3 in
       let no_grant : r ≡ reach.Granted → (word : SlotState) × (act_of doing.op word doing.mine ≡ Granted) = λ e. absurd (true≢false (sym (ap is_reached e) ∙ none)) in
       let one : w.steps ≡ v.steps + 1 = ap (λ (x : View). x.steps) entered.view in
       record {
         goes = steps w _ _ step.0 rests step.1 (activity_enters doing v stopped w _ step deeds) (append_none _);
         stands = stands_called k c doing.op v w _ (stands_behind k c (calling doing.op v) w step.0 _ config who entered) (reached_ends k c doing id (Some doing.op) doing.op r on no_grant ∙ sym (reached_ends k c doing id v.flight doing.op r on no_grant));
+        stops = subst (λ b. StopsWhereMet v false b w) (sym answered) (heeds stopped step);
         bounded = let no = ap releases_next void in omega arith;
         acts = λ t. absurd (true≢false (sym t ∙ none));
         present = λ t. absurd (true≢false (sym t ∙ none));
       }
     where
+      heeds : (b : Bool) → LoadedActivity doing v b w → StopsWhereMet v false b w
+      heeds true s = shown_stop doing v w s
+      heeds false s = shown_running doing v w w s
+
       append_none : (ds : List Deed) → ds ≡ ds ++ []
       append_none [] = refl
       append_none (d ∷ ds) = ap (λ l. d ∷ l) (append_none ds)
 
   pub at_stop : (w : View) → LoadedActivity doing v true w → Reached k c doing id v reach.Stopped w
-  at_stop w step = at_once reach.Stopped w true step (ap (λ n. at_activity v.config n doing doing.op true) (ap number_of who) ∙ stopped_deeds v.config c doing id doing.op on) refl refl
+  at_stop w step = at_once reach.Stopped w true step (ap (λ n. at_activity v.config n doing doing.op true) (ap number_of who) ∙ stopped_deeds v.config c doing id doing.op on) refl refl refl
 
   pub outside : (w : View) → in_range k id ≡ false → LoadedActivity doing v false w → Reached k c doing id v reach.Void w
-  outside w out step = at_once reach.Void w false step (ap (λ n. at_activity v.config n doing doing.op false) (ap number_of who) ∙ outside_deeds v.config c doing id doing.op on (ap (λ (x : Config). in_range x id) config ∙ out)) refl refl
+  outside w out step = at_once reach.Void w false step (ap (λ n. at_activity v.config n doing doing.op false) (ap number_of who) ∙ outside_deeds v.config c doing id doing.op on (ap (λ (x : Config). in_range x id) config ∙ out)) refl refl refl
 
   -- it goes on to the word
   pub flight : (u : View) → in_range k id ≡ true → scan k c v.own ≡ 0 → doing.mine ≡ (mark c id.slot v.own == id.issue + 1) → LoadedActivity doing v false u → IsInFlight k u c doing id id.slot
@@ -235,6 +248,7 @@ module _ (k : Config) (c : ℕ) (doing : Doing) (id : Speculation) (v : View) (c
       record {
         goes = steps w (reached_deeds c doing doing.op r) (reached_deeds c doing doing.op r) log (goes_on (steps u [] [] step.0 rests step.1 (activity_enters doing v false u [] step quiet) refl) shown.waited) shown.last.1 (inl entered) (append_none _);
         stands = record { sound = last.sound; part_is = last.part_is; own = last.own ∙ ap (λ l. reached_deeds c doing doing.op r ++ l) b_own; config = last.config ∙ (b_config ∙ sym config); who = last.who ∙ (b_who ∙ sym who); rests = last.rests; flight = last.flight ∙ (reached_ends k c doing id b.flight doing.op r on granted ∙ sym (reached_ends k c doing id v.flight doing.op r on granted)) };
+        stops = subst (λ b. StopsWhereMet v false b w) (sym (unstopped r running)) (shown_running doing v u w step);
         bounded = let le = ended.bounded in omega arith;
         acts = λ t. (ended.word, ended.acts);
         present = λ t. (

@@ -20,6 +20,7 @@ use Rattle.dspec_cpu.specs.Calls.{rests, steps}
 use Rattle.dspec_cpu.specs.Scans.{Came, Looked, Scanned, misses, opening_deeds, IsOpening, is_worn_opening}
 use Rattle.dspec_cpu.proofs.Ready.{stands_behind, stands_called}
 use Rattle.dspec_cpu.proofs.Reaches.{goes_on}
+use Rattle.dspec_cpu.proofs.Stopping.{shown_stop, shown_running, heeded}
 use Rattle.dspec_cpu.proofs.Slots.{asked, stands_more}
 
 module _ (k : Config) (c : ℕ) (v : View) where
@@ -43,13 +44,13 @@ module _ (k : Config) (c : ℕ) (v : View) where
   runs w config who step =
       let r = first false w config who step true refl (Scan c true ∷ []) refl in
       let one = r.2 in
-      record { missed = []; count = refl; any = refl; goes = r.0; stands = r.1; bounded = omega arith }
+      record { missed = []; count = refl; any = refl; goes = r.0; stands = r.1; runs = shown_running asked v w w step; bounded = omega arith }
 
   pub stops : (w : View) → v.config ≡ k → v.who ≡ of_cpu c → LoadedActivity asked v true w → Scanned k c v opening.Stopped false w
   stops w config who step =
       let r = first true w config who step false refl (Scan c false ∷ []) refl in
       let one = r.2 in
-      record { missed = []; any = refl; answer = refl; unworn = refl; goes = r.0; stands = r.1; bounded = omega arith }
+      record { missed = []; any = refl; answer = refl; unworn = refl; goes = r.0; stands = r.1; stops = shown_stop asked v w step; bounded = omega arith }
 
   -- a slot was missed
   pub goes_by : (n : ℕ) (busy b : Bool) (u w : View) → Came k c v n busy u → Looked k c (n + 1) u (look.Missed b) w → Came k c v (n + 1) (b || busy) w
@@ -64,6 +65,7 @@ module _ (k : Config) (c : ℕ) (v : View) where
         any = ap (λ x. b || x) came.any;
         goes = goes_on came.goes here.goes;
         stands = stands_more k c v u w (Miss c (length bs + 1) b) (misses c bs ++ Scan c true ∷ []) came.stands here.stands;
+        runs = heeded v u w came.runs;
         bounded = omega arith;
       }
 
@@ -81,13 +83,14 @@ module _ (k : Config) (c : ℕ) (v : View) where
         unworn = refl;
         goes = goes_on came.goes looked.goes;
         stands = stands_more k c v u w (Opened c id) (misses c came.missed ++ Scan c true ∷ []) came.stands looked.stands;
+        stops = heeded v u w came.runs;
         bounded = omega arith;
       }
 
   -- all were missed
   pub ends : (n : ℕ) (busy : Bool) (w : View) → n ≡ k.nspec → Came k c v n busy w → (a : Opening) → a ≡ (if busy then opening.Busy else opening.Unavailable) → Scanned k c v a busy w
-  ends n true w all came a e = subst (λ (x : Opening). Scanned k c v x true w) (sym e) (let le = came.bounded in record { missed = came.missed; any = came.any; answer = (came.count ∙ all, sym came.any); unworn = refl; goes = came.goes; stands = came.stands; bounded = omega arith })
-  ends n false w all came a e = subst (λ (x : Opening). Scanned k c v x false w) (sym e) (let le = came.bounded in record { missed = came.missed; any = came.any; answer = (came.count ∙ all, sym came.any); unworn = refl; goes = came.goes; stands = came.stands; bounded = omega arith })
+  ends n true w all came a e = subst (λ (x : Opening). Scanned k c v x true w) (sym e) (let le = came.bounded in record { missed = came.missed; any = came.any; answer = (came.count ∙ all, sym came.any); unworn = refl; goes = came.goes; stands = came.stands; stops = came.runs; bounded = omega arith })
+  ends n false w all came a e = subst (λ (x : Opening). Scanned k c v x false w) (sym e) (let le = came.bounded in record { missed = came.missed; any = came.any; answer = (came.count ∙ all, sym came.any); unworn = refl; goes = came.goes; stands = came.stands; stops = came.runs; bounded = omega arith })
 
 -- the slot that the call has come to behind so many Misses
 come_to : (k : Config) (c : ℕ) (own : List Deed) (bs : List Bool) → length bs < k.nspec → scan k c ((misses c bs ++ Scan c true ∷ []) ++ own) ≡ length bs + 1

@@ -2,6 +2,7 @@ pub mod Counting
 pub mod Sealed
 pub mod Lists
 pub mod Calls
+pub mod Stops
 pub mod Reaching
 pub mod Reached
 pub mod Scans

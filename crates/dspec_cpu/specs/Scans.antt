@@ -10,6 +10,7 @@ use Rattle.dspec_cpu.specs.declared.scanning.Look.{Look}
 use Rattle.dspec_cpu.specs.declared.scanning.Look.TheVariants as look
 use Rattle.dspec_cpu.specs.Calls.{Goes}
 use Rattle.dspec_cpu.specs.Reached.{Stands}
+use Rattle.dspec_cpu.specs.Stops.{StopsWhereMet, is_stopped_opening}
 
 -- the deed of one slot
 abbrev pub look_deed : ℕ → ℕ → Look → Deed
@@ -72,6 +73,7 @@ pub record Came (k : Config) (c : ℕ) (v : View) (n : ℕ) (busy : Bool) (w : V
   pub any : busy ≡ any_busy missed
   pub goes : Goes v (misses c missed ++ Scan c true ∷ []) w
   pub stands : Stands k c v (misses c missed ++ Scan c true ∷ []) w
+  pub runs : StopsWhereMet v false false w
   pub bounded : w.steps ≤ v.steps + 1 + 2 * n
 
 -- a scan came to its answer, and one of the slots that it missed was decided or none
@@ -82,4 +84,5 @@ pub record Scanned (k : Config) (c : ℕ) (v : View) (a : Opening) (busy : Bool)
   pub unworn : is_worn_opening a ≡ false
   pub goes : Goes v (opening_deeds c missed a) w
   pub stands : Stands k c v (opening_deeds c missed a) w
+  pub stops : StopsWhereMet v false (is_stopped_opening a) w
   pub bounded : w.steps ≤ v.steps + 1 + 2 * k.nspec

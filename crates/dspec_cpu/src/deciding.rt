@@ -4,6 +4,7 @@ ghost use Rattle.dspec_table.specs.Seats.{known};
 ghost use Rattle.dspec_cpu.specs.Calls.{Decides, is_worn_decided};
 ghost use Rattle.dspec_cpu.specs.Counting.{worn_after};
 ghost use Rattle.dspec_cpu.specs.Keeping.{WearsAlone};
+ghost use Rattle.dspec_cpu.specs.Stops.{StopsWhereMet, is_stopped_decided};
 ghost use Rattle.dspec_cpu.specs.Lists.{IsSameCpu, calls_of, config_of, number_in, seat_of, words_of, worn_of};
 ghost use Rattle.dspec_cpu.specs.Settled.{KeepsBatches};
 
@@ -49,6 +50,7 @@ impl<S: Schema> Cpu<S> {
         ensures untouched { result ≡ Decided.Worn → WearsAlone self.old self.new }
         ensures wears { worn_of self.new ≡ worn_after (is_worn_decided result) (worn_of self.old) }
         ensures bounded { (known (seat_of self.new)).steps ≤ (known (seat_of self.old)).steps + 5 }
+        ensures stops { StopsWhereMet (known (seat_of self.old)) (is_worn_decided result) (is_stopped_decided result) (known (seat_of self.new)) }
         ensures decides { Decides (Commit (number_in self.old) id) id result (⟦<Cpu<S> as Listed>⟧.has_list self.old) (known (seat_of self.old)) (⟦<Cpu<S> as Listed>⟧.has_list self.new) (known (seat_of self.new)) }
     {
         if self.calls >= self.config.max_calls {
@@ -105,6 +107,7 @@ impl<S: Schema> Cpu<S> {
         ensures untouched { result ≡ Decided.Worn → WearsAlone self.old self.new }
         ensures wears { worn_of self.new ≡ worn_after (is_worn_decided result) (worn_of self.old) }
         ensures bounded { (known (seat_of self.new)).steps ≤ (known (seat_of self.old)).steps + 5 }
+        ensures stops { StopsWhereMet (known (seat_of self.old)) (is_worn_decided result) (is_stopped_decided result) (known (seat_of self.new)) }
         ensures decides { Decides (Discard (number_in self.old) id) id result (⟦<Cpu<S> as Listed>⟧.has_list self.old) (known (seat_of self.old)) (⟦<Cpu<S> as Listed>⟧.has_list self.new) (known (seat_of self.new)) }
     {
         if self.calls >= self.config.max_calls {

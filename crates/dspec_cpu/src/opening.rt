@@ -4,6 +4,7 @@ ghost use Rattle.dspec_cpu.specs.Counting.{worn_after};
 ghost use Rattle.dspec_cpu.specs.Keeping.{WearsAlone};
 ghost use Rattle.dspec_cpu.specs.Lists.{IsSameCpu, calls_of, config_of, number_in, seat_of, words_of, worn_of};
 ghost use Rattle.dspec_cpu.specs.Settled.{KeepsBatches};
+ghost use Rattle.dspec_cpu.specs.Stops.{StopsWhereMet, is_stopped_opening};
 ghost use Rattle.dspec_cpu.specs.Scans.{Opens, is_worn_opening};
 
 use crate::cpu::Cpu;
@@ -26,6 +27,7 @@ impl<S: Schema> Cpu<S> {
         ensures untouched { result ≡ Opening.Worn → WearsAlone self.old self.new }
         ensures wears { worn_of self.new ≡ worn_after (is_worn_opening result) (worn_of self.old) }
         ensures bounded { (known (seat_of self.new)).steps ≤ (known (seat_of self.old)).steps + 1 + 2 * (config_of self.old).nspec }
+        ensures stops { StopsWhereMet (known (seat_of self.old)) (is_worn_opening result) (is_stopped_opening result) (known (seat_of self.new)) }
         ensures opens { Opens (config_of self.old) (number_in self.old) result (⟦<Cpu<S> as Listed>⟧.has_list self.old) (known (seat_of self.old)) (⟦<Cpu<S> as Listed>⟧.has_list self.new) (known (seat_of self.new)) }
     {
         if self.calls >= self.config.max_calls {

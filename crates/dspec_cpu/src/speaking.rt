@@ -6,6 +6,7 @@ ghost use Rattle.dspec_table.specs.Seats.{known};
 ghost use Rattle.dspec_cpu.specs.Calls.{Goes, spoken_deeds, is_worn_spoken};
 ghost use Rattle.dspec_cpu.specs.Counting.{worn_after};
 ghost use Rattle.dspec_cpu.specs.Keeping.{WearsAlone};
+ghost use Rattle.dspec_cpu.specs.Stops.{StopsWhereMet, is_stopped_spoken};
 ghost use Rattle.dspec_cpu.specs.Lists.{IsSameCpu, calls_of, config_of, number_in, schema_of, seat_of, words_of, worn_of};
 ghost use Rattle.dspec_cpu.specs.Settled.{KeepsBatches};
 
@@ -34,6 +35,7 @@ impl<S: Schema> Cpu<S> {
         ensures wears { worn_of self.new ≡ worn_after (is_worn_spoken result) (worn_of self.old) }
         ensures did { Goes (known (seat_of self.old)) (spoken_deeds (number_in self.old) id rec.now result) (known (seat_of self.new)) }
         ensures bounded { (known (seat_of self.new)).steps ≤ (known (seat_of self.old)).steps + 4 }
+        ensures stops { StopsWhereMet (known (seat_of self.old)) (is_worn_spoken result) (is_stopped_spoken result) (known (seat_of self.new)) }
         ensures list { (p : List Deed) → ⟦<Cpu<S> as Listed>⟧.has_list self.old p
             → ⟦<Cpu<S> as Listed>⟧.has_list self.new (spoken_deeds (number_in self.old) id rec.now result ++ p) }
     {
@@ -67,6 +69,7 @@ impl<S: Schema> Cpu<S> {
         ensures wears { worn_of self.new ≡ worn_of self.old }
         ensures did { Goes (known (seat_of self.old)) (spoken_deeds (number_in self.old) id rec.now result) (known (seat_of self.new)) }
         ensures bounded { (known (seat_of self.new)).steps ≤ (known (seat_of self.old)).steps + 4 }
+        ensures stops { StopsWhereMet (known (seat_of self.old)) false (is_stopped_spoken result) (known (seat_of self.new)) }
         ensures list { (p : List Deed) → ⟦<Cpu<S> as Listed>⟧.has_list self.old p
             → ⟦<Cpu<S> as Listed>⟧.has_list self.new (spoken_deeds (number_in self.old) id rec.now result ++ p) }
     {

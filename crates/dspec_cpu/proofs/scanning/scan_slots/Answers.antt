@@ -33,10 +33,11 @@ pub look_at-requires-clause-came : goal.look_at-requires-clause-came
 look_at-requires-clause-came c =
     let k = set_up c.args.words.now in
     let seat = c.args.seat.now in
-    let lt = subst (λ (x : Config). c.loop-place.place < x.nspec) c.requires.config.0 c.loop-place-test.true in
-    (ap (λ n. scan k n (known c.loop-place.seat).own) c.loop-place.invariant.seat.1
-    ∙ next_slot k (cpu_of seat) c.loop-place.place c.loop-place.busy (known seat) (known c.loop-place.seat) lt c.loop-place.invariant.came,
-    next_flight k (cpu_of seat) c.loop-place.place c.loop-place.busy (known seat) (known c.loop-place.seat) lt c.loop-place.invariant.came)
+    let lt = subst (λ (x : Config). c.loop-place.place < x.nspec) c.requires.config.0 c.loop-place-test.true in (
+      ap (λ n. scan k n (known c.loop-place.seat).own) c.loop-place.invariant.seat.1
+          ∙ next_slot k (cpu_of seat) c.loop-place.place c.loop-place.busy (known seat) (known c.loop-place.seat) lt c.loop-place.invariant.came,
+      next_flight k (cpu_of seat) c.loop-place.place c.loop-place.busy (known seat) (known c.loop-place.seat) lt c.loop-place.invariant.came,
+    )
 
 pub returns-in-Given-clause-seat : goal.returns-in-Given-clause-seat
 returns-in-Given-clause-seat c = (c.look_at.ensures.seat.0, c.look_at.ensures.seat.1 ∙ c.loop-place.invariant.seat.1)

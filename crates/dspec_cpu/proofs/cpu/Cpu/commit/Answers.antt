@@ -18,6 +18,7 @@ use Rattle.dspec_cpu.proofs.Ready.{roomy, few_drops, ready_after}
 use Rattle.dspec_cpu.proofs.Speaks.{own_mark}
 use Rattle.dspec_cpu.proofs.Decisions.{block_fate, committing, commits_now, uncommitted_shown, released_shown, worn_shown}
 use Rattle.dspec_cpu.proofs.Commits.{left, block_shown, decides_open, open_bounded, decides_alone, alone_stands}
+use Rattle.dspec_cpu.proofs.Stopping.{worn_out, heeded, copied_stops}
 use Rattle.dspec_cpu.proofs.cpu.Cpu.commit.Goals as goal
 
 pub returns-then-self-clause-decides : goal.returns-then-self-clause-decides
@@ -225,3 +226,21 @@ returns-in-Committing-clause-ready g c =
     (c.slot.result - 1) place c.go_on-reached.new.seat c.end_block.new.buffers (λ b at. let t = c.end_block.ensures.buffer b at in (t.0, t.1, t.2, λ ps h. t.3 cpu.schema ps h)) c.end_block.new.active c.end_block.ensures.size (λ ps rs b at. c.end_block.ensures.active cpu.schema ps rs b at)
     (cpu.drops + c.drops_of.result) (ap (λ x. cpu.drops + x) c.drops_of.ensures) c.decide-in-Done.new.self (subst (λ f. c.decide-in-Done.new.self ≡ with_decided f cpu.counts) c.fate_of-fate.ensures.fate c.decide-in-Done.ensures) in
     record { own = ap (λ l. Release id.slot ∷ Commit cpu.cpu id (block_fate fit n) ∷ l) had.own ∙ sym stands.own; shown = released_shown _ _ _ (record cpu { speculative = c.end_block.new.buffers; active = c.end_block.new.active; calls = cpu.calls + 1; drops = cpu.drops + c.drops_of.result; counts = c.decide-in-Done.new.self }) (Commit cpu.cpu id (block_fate fit n) ∷ p) block id.slot refl c.release_word.new.self })
+
+pub returns-then-self-clause-stops : goal.returns-then-self-clause-stops
+returns-then-self-clause-stops g c = worn_out (known c.args.self.now.seat) (known c.args.self.now.seat)
+
+pub returns-in-Stopped-clause-stops : goal.returns-in-Stopped-clause-stops
+returns-in-Stopped-clause-stops g c = c.in-Stopped.ensures.reached.stops
+
+pub returns-in-Void-clause-stops : goal.returns-in-Void-clause-stops
+returns-in-Void-clause-stops g c = c.in-Void.ensures.reached.stops
+
+pub returns-in_default-clause-stops : goal.returns-in_default-clause-stops
+returns-in_default-clause-stops g c =
+    copied_stops (known c.args.self.now.seat) (known c.go_on-reached.new.seat) c.fate_of-fate.result.1 c.measure_slot-fits.result.0 c.measure_slot-fits.result.1 c.fate_of-fate.ensures.answer c.in-Done.ensures.reached.stops
+
+pub returns-in-Committing-clause-stops : goal.returns-in-Committing-clause-stops
+returns-in-Committing-clause-stops g c =
+    copied_stops (known c.args.self.now.seat) (known c.release_word.new.self) c.fate_of-fate.result.1 c.measure_slot-fits.result.0 c.measure_slot-fits.result.1 c.fate_of-fate.ensures.answer
+    (heeded (known c.args.self.now.seat) (known c.go_on-reached.new.seat) (known c.release_word.new.self) c.in-Done.ensures.reached.stops)

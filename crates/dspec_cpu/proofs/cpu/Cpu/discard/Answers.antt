@@ -16,6 +16,7 @@ use Rattle.dspec_cpu.proofs.Ready.{roomy, ready_after}
 use Rattle.dspec_cpu.proofs.Speaks.{own_mark}
 use Rattle.dspec_cpu.proofs.Decisions.{undiscarded_shown, worn_shown}
 use Rattle.dspec_cpu.proofs.Discards.{discarding, deeds, none_flies, still_idle, thrown_listed, throws, thrown_bounded}
+use Rattle.dspec_cpu.proofs.Stopping.{worn_out}
 use Rattle.dspec_cpu.proofs.cpu.Cpu.discard.Goals as goal
 
 pub returns-then-self-clause-decides : goal.returns-then-self-clause-decides
@@ -144,3 +145,15 @@ returns-in-Done-clause-bounded g c =
     let place : c.slot.result - 1 ≡ id.slot - 1 = ap (λ s. s - 1) c.slot.ensures.value in
     let owns = subst (λ (x : Config × ℕ). OwnsCommit x.0 x.1 id.slot w (Attempt to)) (λ i. (ready.config i, (c.go_on-reached.ensures.seat.1 ∙ ready.seat) i)) c.in-Done.ensures.release in
     thrown_bounded _ _ _ words cpu ready id mine n to w got
+
+pub returns-then-self-clause-stops : goal.returns-then-self-clause-stops
+returns-then-self-clause-stops g c = worn_out (known c.args.self.now.seat) (known c.args.self.now.seat)
+
+pub returns-in-Stopped-clause-stops : goal.returns-in-Stopped-clause-stops
+returns-in-Stopped-clause-stops g c = c.in-Stopped.ensures.reached.stops
+
+pub returns-in-Void-clause-stops : goal.returns-in-Void-clause-stops
+returns-in-Void-clause-stops g c = c.in-Void.ensures.reached.stops
+
+pub returns-in-Done-clause-stops : goal.returns-in-Done-clause-stops
+returns-in-Done-clause-stops g c = c.in-Done.ensures.reached.stops

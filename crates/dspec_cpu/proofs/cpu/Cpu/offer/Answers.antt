@@ -7,12 +7,13 @@ use Rattle.dspec_table.specs.Seats.{known}
 use Rattle.dspec_cpu.specs.Calls.{Goes}
 use Rattle.dspec_cpu.specs.declared.reaching.Reach.TheVariants as reach
 use Rattle.dspec_cpu.specs.Reached.{Stands, Reached}
-use Rattle.dspec_cpu.proofs.Reaches.{slot_inside}
+use Rattle.dspec_cpu.proofs.Reaches.{slot_inside, unstopped, is_running}
 use Rattle.dspec_deeds.proofs.TestLemmas.{same_number}
 use Rattle.dspec_cpu.specs.Lists.{words_of}
 use Rattle.dspec_cpu.proofs.Ready.{roomy, few, ready_after}
 use Rattle.dspec_cpu.proofs.Speaks.{asked, grants, grant_deeds, nothing_held, own_mark, unspoken_shown}
 use Rattle.dspec_cpu.proofs.Grants.{as_granted, granted_shown}
+use Rattle.dspec_cpu.specs.Stops.{StopsWhereMet}
 use Rattle.dspec_cpu.proofs.cpu.Cpu.offer.Goals as goal
 
 pub go_on-reached-requires-clause-mine : goal.go_on-reached-requires-clause-mine
@@ -276,3 +277,21 @@ returns-else-not-kept-clause-did g c =
     ∙ c.if-not-kept.false in
     let deeds = grant_deeds cpu.cpu (asked id r fit mine) id r c.go_on-reached.result true grant fit_is in
     subst (λ ds. Goes (known cpu.seat) ds w) deeds got.goes
+
+pub returns-in-Stopped-clause-stops : goal.returns-in-Stopped-clause-stops
+returns-in-Stopped-clause-stops g c = c.in-Stopped.ensures.reached.stops
+
+pub returns-in-Void-clause-stops : goal.returns-in-Void-clause-stops
+returns-in-Void-clause-stops g c = c.in-Void.ensures.reached.stops
+
+pub returns-then-not-kept-clause-stops : goal.returns-then-not-kept-clause-stops
+returns-then-not-kept-clause-stops g c =
+    let r = c.go_on-reached.result in
+    let w = known c.go_on-reached.new.seat in
+    subst (λ b. StopsWhereMet (known c.args.self.now.seat) false b w) (unstopped r (is_running r (grants r c.in-Granted.is))) c.go_on-reached.ensures.reached.stops
+
+pub returns-else-not-kept-clause-stops : goal.returns-else-not-kept-clause-stops
+returns-else-not-kept-clause-stops g c =
+    let r = c.go_on-reached.result in
+    let w = known c.go_on-reached.new.seat in
+    subst (λ b. StopsWhereMet (known c.args.self.now.seat) false b w) (unstopped r (is_running r (grants r c.in-Granted.is))) c.go_on-reached.ensures.reached.stops

@@ -9,6 +9,8 @@ use Rattle.dspec_cpu.proofs.Limits.{limits}
 use Rattle.dspec_cpu.proofs.Openings.{bare_opening, opening_shown}
 use Rattle.dspec_cpu.proofs.Ready.{roomy, ready_after}
 use Rattle.dspec_cpu.proofs.Scans.{idle_again, none_flies}
+use Rattle.dspec_cpu.specs.Stops.{StopsWhereMet, is_stopped_opening}
+use Rattle.dspec_cpu.proofs.Stopping.{worn_out}
 use Rattle.dspec_cpu.proofs.cpu.Cpu.speculation.Goals as goal
 
 pub returns-then-self-clause-opens : goal.returns-then-self-clause-opens
@@ -49,3 +51,11 @@ returns-clause-ready g c =
     let some = (limits cpu.config ready.checked).specs.least in
     ready_after _ _ _ words cpu ready _ (opening_deeds cpu.cpu got.missed a) refl refl c.scan_slots-answer.ensures.seat.0 c.scan_slots-answer.ensures.seat.1 got.stands
     (idle_again cpu.config cpu.cpu (known cpu.seat).own got.missed a some got.answer got.unworn) (none_flies cpu.config cpu.cpu (known cpu.seat).flight got.missed a some got.answer got.unworn) ready.spare ready.few (opening_deeds cpu.cpu got.missed a ++ ready.list) ((returns-clause-opens g c).list ready.list ready.listed)
+
+pub returns-then-self-clause-stops : goal.returns-then-self-clause-stops
+returns-then-self-clause-stops g c = worn_out (known c.args.self.now.seat) (known c.args.self.now.seat)
+
+pub returns-clause-stops : goal.returns-clause-stops
+returns-clause-stops g c =
+    let got = c.scan_slots-answer.ensures.scanned in
+    subst (λ b. StopsWhereMet (known c.args.self.now.seat) b (is_stopped_opening c.scan_slots-answer.result.0) (known c.scan_slots-answer.new.seat)) (sym got.unworn) got.stops

@@ -9,6 +9,7 @@ use Rattle.dspec_cpu.specs.Calls.{rests}
 use Rattle.dspec_cpu.specs.Lists.{words_of, worn_of}
 use Rattle.dspec_cpu.proofs.Ready.{roomy, few_drops, ready_after, set_up_is, holder}
 use Rattle.dspec_cpu.proofs.Traces.{traces, asked, stopped_shown, refused_shown, kept_shown, as_kept}
+use Rattle.dspec_cpu.proofs.Stopping.{worn_out, shown_stop, shown_running}
 use Rattle.dspec_cpu.proofs.cpu.Cpu.trace.Goals as goal
 
 pub returns-then-self-clause-did : goal.returns-then-self-clause-did
@@ -132,3 +133,27 @@ returns-clause-ready g c =
     let step = subst (λ b. LoadedActivity (asked c.args.rec.now fit) (known cpu.seat) (not b) w) c.if-not-runs.false c.load_activity-runs.ensures.step in
     let did = traces cpu.config cpu.cpu (known cpu.seat) w c.args.rec.now fit false traced.Kept (set_up_is _ _ _ words cpu ready) (holder _ _ _ words cpu ready) step (ap (λ b. if b then traced.Kept else traced.Dropped) fit_yes) in
     ready_after _ _ _ words cpu ready _ (Trace cpu.cpu c.args.rec.now traced.Kept ∷ []) refl refl c.load_activity-runs.ensures.seat.0 c.load_activity-runs.ensures.seat.1 did.stands ready.idle refl ready.spare ready.few (Trace cpu.cpu c.args.rec.now traced.Kept ∷ ready.list) (returns-clause-list g c ready.list ready.listed)
+
+pub returns-then-self-clause-stops : goal.returns-then-self-clause-stops
+returns-then-self-clause-stops g c = worn_out (known c.args.self.now.seat) (known c.args.self.now.seat)
+
+pub returns-then-not-runs-clause-stops : goal.returns-then-not-runs-clause-stops
+returns-then-not-runs-clause-stops g c =
+    let cpu = c.args.self.now in
+    let w = known c.load_activity-runs.new.self in
+    let step = subst (λ b. LoadedActivity (asked c.args.rec.now c.fits_record-fits.result) (known cpu.seat) (not b) w) c.if-not-runs.true c.load_activity-runs.ensures.step in
+    shown_stop (asked c.args.rec.now c.fits_record-fits.result) (known cpu.seat) w step
+
+pub returns-then-not-keep_open-clause-stops : goal.returns-then-not-keep_open-clause-stops
+returns-then-not-keep_open-clause-stops g c =
+    let cpu = c.args.self.now in
+    let w = known c.load_activity-runs.new.self in
+    let step = subst (λ b. LoadedActivity (asked c.args.rec.now c.fits_record-fits.result) (known cpu.seat) (not b) w) c.if-not-runs.false c.load_activity-runs.ensures.step in
+    shown_running (asked c.args.rec.now c.fits_record-fits.result) (known cpu.seat) w w step
+
+pub returns-clause-stops : goal.returns-clause-stops
+returns-clause-stops g c =
+    let cpu = c.args.self.now in
+    let w = known c.load_activity-runs.new.self in
+    let step = subst (λ b. LoadedActivity (asked c.args.rec.now c.fits_record-fits.result) (known cpu.seat) (not b) w) c.if-not-runs.false c.load_activity-runs.ensures.step in
+    shown_running (asked c.args.rec.now c.fits_record-fits.result) (known cpu.seat) w w step

@@ -1,0 +1,56 @@
+-- A call heeds a stop that its seat was shown.
+use Rattle.std.proofs.Common.{◌≡◌, ℕ, Bool, true, false, ◌||◌, List, [], ◌∷◌, ◌++◌, if◌then◌else◌, refl, sym, ap, ◌∙◌, subst, true≢false}
+use Rattle.dspec_deeds.specs.declared.calls.Decided.{Decided}
+use Rattle.dspec_deeds.specs.declared.calls.Decided.TheVariants as decided
+use Rattle.dspec_deeds.specs.declared.deed.Deed.{Deed}
+use Rattle.dspec_deeds.specs.History.{halted, is_halt}
+use Rattle.dspec_table.specs.declared.doing.Doing.{Doing}
+use Rattle.dspec_table.specs.declared.rule.View.{View}
+use Rattle.dspec_table.specs.Acts.{at_activity}
+use Rattle.dspec_table.specs.Holders.{Holder, number_of}
+use Rattle.dspec_table.specs.Since.{Since, here, more}
+use Rattle.dspec_table.specs.Steps.{LoadedActivity}
+use Rattle.dspec_cpu.specs.Calls.{is_worn_decided}
+use Rattle.dspec_cpu.specs.Stops.{StopsWhereMet, is_stopped_decided}
+
+or_yes : (a b : Bool) → b ≡ true → (a || b) ≡ true
+or_yes true b e = refl
+or_yes false b e = e
+
+halted_since : (w : Holder) (seen log : List Deed) → Since w seen log → halted seen ≡ true → halted log ≡ true
+halted_since w seen _ here e = e
+halted_since w seen (d ∷ h) (more s other) e = or_yes (is_halt d) (halted h) (halted_since w seen h s e)
+
+halted_behind : (ds log : List Deed) → halted log ≡ true → halted (ds ++ log) ≡ true
+halted_behind [] log e = e
+halted_behind (d ∷ ds) log e = or_yes (is_halt d) (halted (ds ++ log)) (halted_behind ds log e)
+
+-- the load of activity showed a stop
+pub shown_stop : (doing : Doing) (v w : View) → LoadedActivity doing v true w → StopsWhereMet v false true w
+shown_stop doing v w step = record {
+  met = λ met unworn. refl;
+  only = λ t. ap (λ (x : View). halted x.seen) step.3.view ∙ halted_behind (at_activity v.config (number_of v.who) doing doing.op true) step.0 (sym step.2);
+}
+
+-- or that the session runs, whatever came then
+pub shown_running : (doing : Doing) (v u w : View) → LoadedActivity doing v false u → StopsWhereMet v false false w
+shown_running doing v u w step = record {
+  met = λ met unworn. absurd (true≢false (sym (halted_since v.who v.seen step.0 step.1.since met) ∙ sym step.2));
+  only = λ t. absurd (true≢false (sym t));
+}
+
+-- a worn call is answered otherwise
+pub worn_out : (v w : View) → StopsWhereMet v true false w
+worn_out v w = record { met = λ met unworn. absurd (true≢false unworn); only = λ t. absurd (true≢false (sym t)) }
+
+-- one that wasn't answered so heeds as far as it came
+pub heeded : (v u w : View) → StopsWhereMet v false false u → StopsWhereMet v false false w
+heeded v u w s = record { met = s.met; only = λ t. absurd (true≢false (sym t)) }
+
+-- a commit that copied or lost its block
+pub copied_stops : (v w : View) (a : Decided) (fit : Bool) (n : ℕ) → a ≡ (if fit then decided.Copied n else decided.Lost n) → StopsWhereMet v false false w → StopsWhereMet v (is_worn_decided a) (is_stopped_decided a) w
+copied_stops v w a fit n is s = subst (λ x. StopsWhereMet v (is_worn_decided x) (is_stopped_decided x) w) (sym is) (go fit)
+  where
+    go : (b : Bool) → StopsWhereMet v (is_worn_decided (if b then decided.Copied n else decided.Lost n)) (is_stopped_decided (if b then decided.Copied n else decided.Lost n)) w
+    go true = s
+    go false = s
