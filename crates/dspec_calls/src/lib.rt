@@ -86,6 +86,7 @@ pub fn run_cpu<S: Schema>(
 pub fn meet_all<S: Schema>(session: &mut Session<S>, _schema: &S)
     requires session { IsSession ⟦<Cpu<S> as Listed>⟧.is_ready _schema.now session.old }
     ensures session { IsSession ⟦<Cpu<S> as Listed>⟧.is_ready _schema.now session.new }
+    ensures cpus { length session.new.cpus.items ≡ length session.old.cpus.items }
 {
     for place in 0..session.cpus.len() {
         session

@@ -1,5 +1,8 @@
 //! Random configurations, schemas and turns.
 
+ghost use Rattle.std.specs.Prelude.{◌<◌, ◌≡◌, [], All, IfOk, IsSome};
+ghost use Rattle.dspec_replay.specs.Replayed.{whole_call_of};
+
 use crate::dice::Dice;
 use crate::records::record;
 use crate::sample::{MOST_FIELDS, Probe, Sample};
@@ -173,7 +176,9 @@ fn consumer_op(dice: &mut Dice, cpu: u32) -> ConsumerOp {
 }
 
 /// A whole call.
-fn turn(dice: &mut Dice, guess: &mut Guess, sample: &Sample) -> Turn {
+fn turn(dice: &mut Dice, guess: &mut Guess, sample: &Sample) -> Turn
+    ensures { IsSome (whole_call_of result) }
+{
     let cpus = sample.schedule.config.cpus;
     let cpu = if dice.once_in(STRANGE_CPU_IN) {
         cpus
@@ -188,7 +193,9 @@ fn turn(dice: &mut Dice, guess: &mut Guess, sample: &Sample) -> Turn {
 }
 
 /// A random schedule without turns.
-fn without_turns(alloc: Global, dice: &mut Dice) -> Result<Sample, AllocError> {
+fn without_turns(alloc: Global, dice: &mut Dice) -> Result<Sample, AllocError>
+    ensures { IfOk result (λ sample. sample.schedule.turns.items ≡ []) }
+{
     let config = config(dice);
     let header = if dice.once_in(3) {
         Header::Two
@@ -209,8 +216,10 @@ fn without_turns(alloc: Global, dice: &mut Dice) -> Result<Sample, AllocError> {
     Ok(Sample { probes, schedule })
 }
 
-/// A random schedule.
-pub fn sample(alloc: Global, dice: &mut Dice) -> Result<Sample, AllocError> {
+/// A random schedule, of whole calls alone.
+pub fn sample(alloc: Global, dice: &mut Dice) -> Result<Sample, AllocError>
+    ensures whole { IfOk result (λ sample. All (λ turn. IsSome (whole_call_of turn)) sample.schedule.turns.items) }
+{
     let mut sample = without_turns(alloc, dice)?;
     let mut guess = Guess {
         issues: [0; MOST_SPECS],
