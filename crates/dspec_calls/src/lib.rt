@@ -74,12 +74,7 @@ pub fn run_cpu<S: Schema>(
     if !is_accepted(schema, &op) {
         return Err(Uncalled::BadRecord);
     }
-    Ok(call_cpu(
-        &session.shared,
-        schema,
-        &mut session.cpus[place],
-        &op,
-    ))
+    Ok(call_cpu(&session.shared, schema, &mut session.cpus[place], &op))
 }
 
 /// The consumer meets each CPU of a session, CPU 0 first: then each has seen what any other did before.

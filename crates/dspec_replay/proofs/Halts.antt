@@ -67,9 +67,9 @@ module _ (accepted : Record → Bool) (k : Config) (ts : List Turn) where
       let cons : drop i ts ≡ t ∷ drop (suc i) ts = drop-cons ts i d lt ∙ ap (λ x. x ∷ drop (suc i) ts) (sym is) in
       due_by (turn_halt accepted n i t) (schedule_halt accepted k ts) h
       (λ x some.
-        let here : turn_halt accepted k.cpus i t ≡ Some x = subst (λ m. turn_halt accepted m i t ≡ Some x) all some in
-        ap (λ f. first_of (setup_halt f) (first_halt accepted k.cpus 0 ts)) fine
-        ∙ (sym s.halts ∙ (ap (λ l. first_halt accepted k.cpus i l) cons ∙ ap (λ q. first_of q (first_halt accepted k.cpus (i + 1) (drop (suc i) ts))) here)))
+      let here : turn_halt accepted k.cpus i t ≡ Some x = subst (λ m. turn_halt accepted m i t ≡ Some x) all some in
+      ap (λ f. first_of (setup_halt f) (first_halt accepted k.cpus 0 ts)) fine
+      ∙ (sym s.halts ∙ (ap (λ l. first_halt accepted k.cpus i l) cons ∙ ap (λ q. first_of q (first_halt accepted k.cpus (i + 1) (drop (suc i) ts))) here)))
       due
 
   -- behind the last turn none was refused

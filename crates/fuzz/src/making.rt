@@ -21,8 +21,10 @@ const MOST_SPECS: usize = 4;
 /// The most turns of a schedule.
 const MOST_TURNS: u32 = 96;
 
-/// A configuration in so many, and a CPU of a turn in so many, is one that there isn't.
+/// A configuration or a size in so many is one that is refused.
 const STRANGE_IN: u32 = 60;
+
+/// A CPU of a turn in so many is one that there isn't.
 const STRANGE_CPU_IN: u32 = 800;
 
 /// A size of buffers; seldom one that is refused.
@@ -220,6 +222,8 @@ fn without_turns(alloc: Global, dice: &mut Dice) -> Result<Sample, AllocError>
 pub fn sample(alloc: Global, dice: &mut Dice) -> Result<Sample, AllocError>
     ensures whole { IfOk result (λ sample. All (λ turn. IsSome (whole_call_of turn)) sample.schedule.turns.items) }
 {
+    // The check knows a turn's parts by the types that are named in this function.
+    let _named: Option<CpuOp> = None;
     let mut sample = without_turns(alloc, dice)?;
     let mut guess = Guess {
         issues: [0; MOST_SPECS],
