@@ -74,18 +74,14 @@ pub fn run_cpu<S: Schema>(
     if !is_accepted(schema, &op) {
         return Err(Uncalled::BadRecord);
     }
-    Ok(call_cpu(
-        &session.shared,
-        schema,
-        &mut session.cpus[place],
-        &op,
-    ))
+    Ok(call_cpu(&session.shared, schema, &mut session.cpus[place], &op))
 }
 
 /// The consumer meets each CPU of a session, CPU 0 first: then each has seen what any other did before.
 pub fn meet_all<S: Schema>(session: &mut Session<S>, _schema: &S)
     requires session { IsSession ⟦<Cpu<S> as Listed>⟧.is_ready _schema.now session.old }
     ensures session { IsSession ⟦<Cpu<S> as Listed>⟧.is_ready _schema.now session.new }
+    ensures cpus { length session.new.cpus.items ≡ length session.old.cpus.items }
 {
     for place in 0..session.cpus.len() {
         session

@@ -1,5 +1,7 @@
+ghost use Rattle.std.specs.Prelude.{IfErr};
 ghost use Rattle.dspec_cpu.specs.Lists.{words_of};
 ghost use Rattle.dspec_session.specs.Consumers.{IsConsumerOf, IsSameConsumer};
+ghost use Rattle.dspec_replay.specs.Replayed.{IsSudden};
 
 use crate::halt::Halt;
 use crate::taken::Basket;
@@ -31,6 +33,7 @@ pub fn call_consumer<S: Schema>(
     requires session { IsConsumerOf (words_of shared.now) consumer.old }
     ensures session { IsConsumerOf (words_of shared.now) consumer.new }
     ensures same { IsSameConsumer consumer.old consumer.new }
+    ensures refused { IfErr result IsSudden }
 {
     match op {
         ConsumerOp::Ask(cpu) => {

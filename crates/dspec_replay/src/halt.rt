@@ -1,3 +1,7 @@
+ghost use Rattle.std.specs.Prelude.{◌≡◌};
+ghost use Rattle.dspec_play.specs.declared.outcome.PlayFault.TheVariants as play_fault;
+ghost use Rattle.dspec_replay.specs.declared.halt.Halt.TheVariants as halting;
+
 use dspec_play::PlayFault;
 use std::alloc::{AllocError, AllocFailed};
 
@@ -13,12 +17,16 @@ pub enum Halt {
 }
 
 impl From<AllocError> for Halt {
+    ghost from_gives = { λ _ halt. halt ≡ halting.Play play_fault.Memory };
+
     fn from(_refused: AllocError) -> Self {
         Halt::Play(PlayFault::Memory)
     }
 }
 
 impl<T: Drop> From<AllocFailed<T>> for Halt {
+    ghost from_gives = { λ _ halt. halt ≡ halting.Play play_fault.Memory };
+
     fn from(_refused: AllocFailed<T>) -> Self {
         Halt::Play(PlayFault::Memory)
     }

@@ -1,5 +1,8 @@
 //! What the player and a session make of a schedule.
 
+ghost use Rattle.std.specs.Prelude.{◌≡◌};
+ghost use Rattle.fuzz.specs.Comparing.{IsAlike, IsRefusedAlike};
+
 use crate::sample::Sample;
 use dspec_core::play;
 use dspec_deeds::{Config, Turn};
@@ -68,7 +71,12 @@ pub fn both_told(alloc: Global, sample: &Sample) -> Result<(Told, Told), AllocEr
 }
 
 /// How both compare.
-pub fn verdict_of(player: &Told, session: &Told) -> Verdict {
+pub fn verdict_of(player: &Told, session: &Told) -> Verdict
+    ensures alike { result ≡ Verdict.Alike → IsAlike player.now session.now }
+    ensures refused { result ≡ Verdict.RefusedAlike → IsRefusedAlike player.now session.now }
+    ensures same_text { IsAlike player.now session.now → result ≡ Verdict.Alike }
+    ensures same_fault { IsRefusedAlike player.now session.now → result ≡ Verdict.RefusedAlike }
+{
     match (player, session) {
         (Told::Printed(one), Told::Printed(other)) if one == other => Verdict::Alike,
         (Told::Refused(one), Told::Refused(other)) if one == other => Verdict::RefusedAlike,

@@ -60,12 +60,17 @@ fn run(rt: &HostRuntime, ask: Ask) -> io::Result<bool> {
     Ok(found.is_none())
 }
 
-fn main(rt: HostRuntime) -> io::Result<ExitCode> {
+/// What the arguments ask, if it is something that the program does.
+fn asked(rt: &HostRuntime) -> io::Result<Option<Ask>> {
     let mut words = Vec::new(rt.alloc());
-    for word in env::args(&rt)? {
+    for word in env::args(rt)? {
         words.push(word)?;
     }
-    let Some(ask) = ask_of(words.as_slice()) else {
+    Ok(ask_of(words.as_slice()))
+}
+
+fn main(rt: HostRuntime) -> io::Result<ExitCode> {
+    let Some(ask) = asked(&rt)? else {
         eprintln!(rt; "fuzz: usage: fuzz SEED COUNT")?;
         return Ok(ExitCode::from(USAGE_STATUS));
     };

@@ -1,5 +1,8 @@
 //! Random configurations, schemas and turns.
 
+ghost use Rattle.std.specs.Prelude.{◌<◌, ◌≡◌, [], All, IfOk, IsSome};
+ghost use Rattle.dspec_replay.specs.Replayed.{whole_call_of};
+
 use crate::dice::Dice;
 use crate::records::record;
 use crate::sample::{MOST_FIELDS, Probe, Sample};
@@ -18,8 +21,10 @@ const MOST_SPECS: usize = 4;
 /// The most turns of a schedule.
 const MOST_TURNS: u32 = 96;
 
-/// A configuration in so many, and a CPU of a turn in so many, is one that there isn't.
+/// A configuration or a size in so many is one that is refused.
 const STRANGE_IN: u32 = 60;
+
+/// A CPU of a turn in so many is one that there isn't.
 const STRANGE_CPU_IN: u32 = 800;
 
 /// A size of buffers; seldom one that is refused.
@@ -173,7 +178,9 @@ fn consumer_op(dice: &mut Dice, cpu: u32) -> ConsumerOp {
 }
 
 /// A whole call.
-fn turn(dice: &mut Dice, guess: &mut Guess, sample: &Sample) -> Turn {
+fn turn(dice: &mut Dice, guess: &mut Guess, sample: &Sample) -> Turn
+    ensures { IsSome (whole_call_of result) }
+{
     let cpus = sample.schedule.config.cpus;
     let cpu = if dice.once_in(STRANGE_CPU_IN) {
         cpus
@@ -188,7 +195,9 @@ fn turn(dice: &mut Dice, guess: &mut Guess, sample: &Sample) -> Turn {
 }
 
 /// A random schedule without turns.
-fn without_turns(alloc: Global, dice: &mut Dice) -> Result<Sample, AllocError> {
+fn without_turns(alloc: Global, dice: &mut Dice) -> Result<Sample, AllocError>
+    ensures { IfOk result (λ sample. sample.schedule.turns.items ≡ []) }
+{
     let config = config(dice);
     let header = if dice.once_in(3) {
         Header::Two
@@ -209,8 +218,12 @@ fn without_turns(alloc: Global, dice: &mut Dice) -> Result<Sample, AllocError> {
     Ok(Sample { probes, schedule })
 }
 
-/// A random schedule.
-pub fn sample(alloc: Global, dice: &mut Dice) -> Result<Sample, AllocError> {
+/// A random schedule, of whole calls alone.
+pub fn sample(alloc: Global, dice: &mut Dice) -> Result<Sample, AllocError>
+    ensures whole { IfOk result (λ sample. All (λ turn. IsSome (whole_call_of turn)) sample.schedule.turns.items) }
+{
+    // The check knows a turn's parts by the types that are named in this function.
+    let _named: Option<CpuOp> = None;
     let mut sample = without_turns(alloc, dice)?;
     let mut guess = Guess {
         issues: [0; MOST_SPECS],

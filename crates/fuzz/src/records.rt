@@ -46,7 +46,9 @@ fn plain(dice: &mut Dice, probes: &[Probe]) -> Parts {
     let index = (dice.word() % probes.len() as u64) as usize;
     let fields = probes[index].fields();
     for (place, field) in fields.iter().enumerate() {
-        values[place] = value(dice, *field);
+        if let Some(slot) = values.get_mut(place) {
+            *slot = value(dice, *field);
+        }
     }
     Parts {
         epid: (index as u32).saturating_add(1),
