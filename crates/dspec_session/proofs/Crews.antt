@@ -11,8 +11,8 @@ use Rattle.dspec_session.specs.declared.session.Session.{Session}
 use Rattle.dspec_session.specs.Consumers.{Consuming, pairs_of}
 use Rattle.dspec_session.specs.declared.demonstration.four.Four.{Four}
 use Rattle.dspec_session.specs.Crews.{AllCanWork, AllWorked}
-use Rattle.dspec_session.specs.Demonstrated.{CanWork, IsBack, Has, Worked}
-use Rattle.dspec_session.specs.Races.{HaveOffered, HaveRoom, IsDemonstrated, IsAtPlace, all_finished}
+use Rattle.dspec_session.specs.Demonstrated.{CanWork, CpuRounds, IsBack, Has, Worked}
+use Rattle.dspec_session.specs.Races.{HaveMade, HaveOffered, HaveRoom, IsDemonstrated, IsAtPlace, all_finished}
 use Rattle.dspec_session.specs.Rounds.{Stays}
 use Rattle.dspec_session.proofs.Fours.{at_each}
 
@@ -53,10 +53,10 @@ module _ (session : Session EnabledRows) (f : Four (Cpu EnabledRows)) (back : Fo
       let P : ℕ → Cpu EnabledRows → Type 0 = λ i x. IsAtPlace session.shared (slice_get (pairs_of consumer) i) i x in
       let same : (i : ℕ) → slice_get (pairs_of consumer) i ≡ slice_get (pairs_of session.consumer) i = λ i. ap (λ l. slice_get l i) stays.same.pairs in
       at_each P back.first.0 back.second.0 back.third.0 back.fourth.0
-      (cpu_back session.shared 0 _ _ f.first back.first.0 (same 0) worked.first.back (is.each 0 f.first (ap (λ l. slice_get l 0) e)))
-      (cpu_back session.shared 1 _ _ f.second back.second.0 (same 1) worked.second.back (is.each 1 f.second (ap (λ l. slice_get l 1) e)))
-      (cpu_back session.shared 2 _ _ f.third back.third.0 (same 2) worked.third.back (is.each 2 f.third (ap (λ l. slice_get l 2) e)))
-      (cpu_back session.shared 3 _ _ f.fourth back.fourth.0 (same 3) worked.fourth.back (is.each 3 f.fourth (ap (λ l. slice_get l 3) e)))
+      (cpu_back session.shared 0 _ _ f.first back.first.0 (same 0) worked.first.worked.back (is.each 0 f.first (ap (λ l. slice_get l 0) e)))
+      (cpu_back session.shared 1 _ _ f.second back.second.0 (same 1) worked.second.worked.back (is.each 1 f.second (ap (λ l. slice_get l 1) e)))
+      (cpu_back session.shared 2 _ _ f.third back.third.0 (same 2) worked.third.worked.back (is.each 2 f.third (ap (λ l. slice_get l 2) e)))
+      (cpu_back session.shared 3 _ _ f.fourth back.fourth.0 (same 3) worked.fourth.worked.back (is.each 3 f.fourth (ap (λ l. slice_get l 3) e)))
       c y (ap (λ l. slice_get l c) (sym put) ∙ at)
 
   pub four_again : length new ≡ length session.cpus.items
@@ -75,8 +75,18 @@ module _ (session : Session EnabledRows) (f : Four (Cpu EnabledRows)) (back : Fo
   all_offered fresh finished c y at =
       let all = each_finished back.first.1 back.second.1 back.third.1 back.fourth.1 finished in
       at_each (λ i x. (p : _) × Has x p × (offers i p ≡ 200)) back.first.0 back.second.0 back.third.0 back.fourth.0
-      (offered 0 f.first back.first.0 back.first.1 fresh (ap (λ l. slice_get l 0) e) worked.first all.0)
-      (offered 1 f.second back.second.0 back.second.1 fresh (ap (λ l. slice_get l 1) e) worked.second all.1)
-      (offered 2 f.third back.third.0 back.third.1 fresh (ap (λ l. slice_get l 2) e) worked.third all.2)
-      (offered 3 f.fourth back.fourth.0 back.fourth.1 fresh (ap (λ l. slice_get l 3) e) worked.fourth all.3)
+      (offered 0 f.first back.first.0 back.first.1 fresh (ap (λ l. slice_get l 0) e) worked.first.worked all.0)
+      (offered 1 f.second back.second.0 back.second.1 fresh (ap (λ l. slice_get l 1) e) worked.second.worked all.1)
+      (offered 2 f.third back.third.0 back.third.1 fresh (ap (λ l. slice_get l 2) e) worked.third.worked all.2)
+      (offered 3 f.fourth back.fourth.0 back.fourth.1 fresh (ap (λ l. slice_get l 3) e) worked.fourth.worked all.3)
+      c y (ap (λ l. slice_get l c) (sym put) ∙ at)
+
+  pub all_made : all_finished back ≡ true → HaveMade session.cpus.items new
+  all_made finished c y at =
+      let all = each_finished back.first.1 back.second.1 back.third.1 back.fourth.1 finished in
+      at_each (λ i x. (old : Cpu EnabledRows) × (slice_get session.cpus.items i ≡ Some old) × CpuRounds old 100 x) back.first.0 back.second.0 back.third.0 back.fourth.0
+      (f.first, ap (λ l. slice_get l 0) e, worked.first.rounds all.0)
+      (f.second, ap (λ l. slice_get l 1) e, worked.second.rounds all.1)
+      (f.third, ap (λ l. slice_get l 2) e, worked.third.rounds all.2)
+      (f.fourth, ap (λ l. slice_get l 3) e, worked.fourth.rounds all.3)
       c y (ap (λ l. slice_get l c) (sym put) ∙ at)

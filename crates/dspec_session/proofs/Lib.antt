@@ -14,10 +14,12 @@ pub mod Leavings
 pub mod Ending
 pub mod FirstParted
 mod Crews
+mod Done
 mod Ended
 mod Fours
 mod Handles
 mod Opened
 mod Scanned
 mod Servings
+mod Visited
 mod Worked

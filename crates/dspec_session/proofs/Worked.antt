@@ -1,10 +1,10 @@
 -- Calls of one CPU, one behind the other.
-use Rattle.std.proofs.Common.{◌≡◌, ℕ, ◌+◌, true, ◌∙◌, refl, subst, arith}
+use Rattle.std.proofs.Common.{◌≡◌, ℕ, ◌+◌, ◌*◌, true, ◌∙◌, refl, subst, arith}
 use Rattle.dspec_record.specs.EnablingRows.{EnabledRows}
 use Rattle.dspec_deeds.specs.Own.{offers}
 use Rattle.dspec_cpu.specs.declared.cpu.Cpu.{Cpu}
 use Rattle.dspec_cpu.specs.declared.shared.Shared.{Shared}
-use Rattle.dspec_session.specs.Demonstrated.{Called, IsBack, Offers, Served, Worked}
+use Rattle.dspec_session.specs.Demonstrated.{Called, IsBack, IsCallable, Offers, Served, Worked}
 
 back_again : (shared : Shared) (x y z : Cpu EnabledRows) → IsBack shared x y → IsBack shared y z → IsBack shared x z
 back_again shared x y z a b = record {
@@ -35,4 +35,19 @@ and_served calls m shared x y z a b = record {
   back = back_again shared x y z a.back b.back;
   called = (let most = a.called in let e = b.called in omega arith);
   offered = λ _. offers_more m 0 shared x y z a.back (a.offered refl) b.offered;
+}
+
+-- rounds, and one more
+pub none_worked : (shared : Shared) (x : Cpu EnabledRows) → IsCallable shared x → Worked shared (4 * 0) (2 * 0) x x true
+none_worked shared x ready = record {
+  back = record { ready = ready; same = record { schema = refl; config = refl; number = refl; pair = refl }; worn = refl };
+  called = omega arith;
+  offered = λ _ p had. (p, had, omega arith);
+}
+
+pub round_worked : (n : ℕ) (shared : Shared) (x y z : Cpu EnabledRows) → Worked shared (4 * n) (2 * n) x y true → Worked shared 4 2 y z true → Worked shared (4 * (n + 1)) (2 * (n + 1)) x z true
+round_worked n shared x y z a b = record {
+  back = back_again shared x y z a.back b.back;
+  called = (let most = a.called in let e = b.called in omega arith);
+  offered = λ _ p had. let (q, has, count) = offers_more (2 * n) 2 shared x y z a.back (a.offered refl) (b.offered refl) p had in (q, has, omega arith);
 }

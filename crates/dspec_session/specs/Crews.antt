@@ -4,7 +4,7 @@ use Rattle.dspec_record.specs.EnablingRows.{EnabledRows}
 use Rattle.dspec_cpu.specs.declared.cpu.Cpu.{Cpu}
 use Rattle.dspec_cpu.specs.declared.shared.Shared.{Shared}
 use Rattle.dspec_session.specs.declared.demonstration.four.Four.{Four}
-use Rattle.dspec_session.specs.Demonstrated.{CanWork, Worked}
+use Rattle.dspec_session.specs.Demonstrated.{CameBack, CanWork}
 
 -- each can make its rounds
 pub record AllCanWork (shared : Shared) (cpus : Four (Cpu EnabledRows)) : Type 0 where
@@ -15,7 +15,7 @@ pub record AllCanWork (shared : Shared) (cpus : Four (Cpu EnabledRows)) : Type 0
 
 -- each came back to its place
 pub record AllWorked (shared : Shared) (cpus : Four (Cpu EnabledRows)) (back : Four (Cpu EnabledRows × Bool)) : Type 0 where
-  pub first : Worked shared 400 200 cpus.first back.first.0 back.first.1
-  pub second : Worked shared 400 200 cpus.second back.second.0 back.second.1
-  pub third : Worked shared 400 200 cpus.third back.third.0 back.third.1
-  pub fourth : Worked shared 400 200 cpus.fourth back.fourth.0 back.fourth.1
+  pub first : CameBack shared cpus.first back.first.0 back.first.1
+  pub second : CameBack shared cpus.second back.second.0 back.second.1
+  pub third : CameBack shared cpus.third back.third.0 back.third.1
+  pub fourth : CameBack shared cpus.fourth back.fourth.0 back.fourth.1

@@ -11,5 +11,7 @@ pub mod Leaving
 pub mod Demonstrated
 pub mod Rising
 pub mod Rounds
+pub mod Visits
 pub mod Crews
 pub mod Races
+pub mod Results

@@ -7,7 +7,7 @@ use Rattle.dspec_cpu.specs.declared.cpu.Cpu.{Cpu}
 use Rattle.dspec_cpu.specs.Lists.{calls_of, config_of, words_of}
 use Rattle.dspec_session.specs.declared.session.Session.{Session}
 use Rattle.dspec_session.specs.Leaving.{Ready}
-use Rattle.dspec_session.specs.Sessions.{IsCpuOf, IsSession}
+use Rattle.dspec_session.specs.Sessions.{IsCpuOf, IsFresh, IsSession}
 use Rattle.dspec_cpu.specs.declared.shared.Shared.{Shared}
 use Rattle.dspec_ring.specs.Known.{Pair}
 use Rattle.dspec_session.specs.declared.left.Left.{Left}
@@ -15,7 +15,7 @@ use Rattle.dspec_deeds.specs.Reports.{records_of_report}
 use Rattle.dspec_session.specs.declared.demonstration.four.Four.{Four}
 use Rattle.dspec_session.specs.declared.demonstration.lines.DemoLine.{DemoLine}
 use Rattle.dspec_record.specs.Schemas.{enabled, table_shape, table_accepts, table_text}
-use Rattle.dspec_session.specs.Demonstrated.{demonstrated, Has}
+use Rattle.dspec_session.specs.Demonstrated.{CpuRounds, demonstrated, Has}
 
 -- the parts of one start, with the schema of the demonstration
 abbrev pub IsDemonstrated : Session EnabledRows → Type 0
@@ -24,6 +24,14 @@ IsDemonstrated session = IsSession (Ready (λ s. table_shape s.header (enabled s
 -- each CPU has a list with so many offers, where it had the empty list before
 abbrev pub HaveOffered : ℕ → List (Cpu EnabledRows) → Type 0
 HaveOffered n cpus = (c : ℕ) (cpu : Cpu EnabledRows) → slice_get cpus c ≡ Some cpu → (p : List Deed) × Has cpu p × (offers c p ≡ n)
+
+-- nothing was asked of any CPU yet
+abbrev pub AreFresh : List (Cpu EnabledRows) → Type 0
+AreFresh cpus = (c : ℕ) (cpu : Cpu EnabledRows) → slice_get cpus c ≡ Some cpu → IsFresh Has cpu
+
+-- each CPU made a hundred rounds since it was the one at its place among the first
+abbrev pub HaveMade : List (Cpu EnabledRows) → List (Cpu EnabledRows) → Type 0
+HaveMade olds news = (c : ℕ) (new : Cpu EnabledRows) → slice_get news c ≡ Some new → (old : Cpu EnabledRows) × (slice_get olds c ≡ Some old) × CpuRounds old 100 new
 
 -- each CPU can make all calls of the demonstration
 abbrev pub HaveRoom : List (Cpu EnabledRows) → Type 0

@@ -1,5 +1,6 @@
 ghost use Rattle.std.specs.Prelude.{IfOk};
 ghost use Rattle.dspec_session.specs.Races.{AllBalanced};
+ghost use Rattle.dspec_session.specs.Results.{IsDone};
 
 mod calling;
 mod crew;
@@ -11,16 +12,18 @@ mod order;
 mod race;
 mod records;
 mod rounds;
+mod showing;
 mod team;
 mod working;
 
-use crate::gate::Gate;
+use crate::gate::{Gate, PassedBy, RoundGate};
 use dspec_deeds::StartFault;
-use ending::tell;
+use ending::stop;
 pub use lines::DemoLine;
 use opening::open;
 use race::race;
 use records::enable;
+pub use showing::Demonstration;
 use std::alloc::Global;
 use std::error::Error;
 use std::fmt;
@@ -51,15 +54,15 @@ impl fmt::Display for DemoFault {
 }
 
 /// Runs a session of four CPUs, each in a thread of its own, while its consumer asks, takes, gives back and cleans in this one,
-/// and tells of each CPU. A CPU makes a hundred rounds of five calls: a trace, a speculation, a record offered to it, a decision,
-/// which is a commit in every other round, and a service. The gate stands around each call. Each worker is started by a call of
-/// its own, and all have ended before this answers.
-pub fn demo<G: Gate, R: Threads + Wait>(
+/// and stops it. A CPU makes a hundred rounds of five calls: a trace, a speculation, a record offered to it, a decision, which
+/// is a commit in every other round, and a service; the consumer makes a thousand rounds. The gate stands around each call and
+/// behind each round. Each worker is started by a call of its own, and all have ended before this answers.
+pub fn demonstrate<G: RoundGate, R: Threads + Wait>(
     rt: &R,
     alloc: Global,
     gate: &G,
-) -> Result<[DemoLine; 4], DemoFault>
-    ensures { IfOk result (λ lines. AllBalanced 200 lines) }
+) -> Result<Demonstration, DemoFault>
+    ensures { IfOk result IsDone }
 {
     let schema = enable();
     let session = match open(alloc, schema) {
@@ -72,5 +75,21 @@ pub fn demo<G: Gate, R: Threads + Wait>(
     if !raced.finished {
         return Err(DemoFault::GateShut);
     }
-    Ok(tell(raced.session, &schema, raced.orders))
+    Ok(Demonstration {
+        session: stop(raced.session),
+        schema,
+        orders: raced.orders,
+    })
+}
+
+/// The lines of a demonstration of whose consumer's rounds the gate isn't told.
+pub fn demo<G: Gate, R: Threads + Wait>(
+    rt: &R,
+    alloc: Global,
+    gate: &G,
+) -> Result<[DemoLine; 4], DemoFault>
+    ensures { IfOk result (λ lines. AllBalanced 200 lines) }
+{
+    let shown = demonstrate(rt, alloc, &PassedBy { gate })?;
+    Ok(shown.lines())
 }

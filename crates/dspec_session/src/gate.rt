@@ -8,6 +8,13 @@ pub trait Gate: Sync {
     fn after(&self, cpu: u32, call: u32);
 }
 
+/// A gate that stands behind every round of the demonstration's consumer too, on the consumer's thread. It may hold the consumer
+/// back until the CPUs have made calls, and the CPUs until it has made rounds, so that batches come whatever the schedule.
+pub trait RoundGate: Gate {
+    /// The consumer has made so many rounds.
+    fn round(&self, rounds: u32);
+}
+
 /// Holds nobody back.
 #[derive(Clone, Copy, Debug, PartialEq, Eq)]
 pub struct Free;
@@ -22,4 +29,24 @@ impl Gate for Free {
     }
 
     fn after(&self, _cpu: u32, _call: u32) {}
+}
+
+/// A gate that the consumer passes by.
+#[derive(Drop)]
+pub(crate) struct PassedBy<'a, G: Gate> {
+    pub(crate) gate: &'a G,
+}
+
+impl<G: Gate> Gate for PassedBy<'_, G> {
+    fn before(&self, cpu: u32, call: u32) -> bool {
+        self.gate.before(cpu, call)
+    }
+
+    fn after(&self, cpu: u32, call: u32) {
+        self.gate.after(cpu, call);
+    }
+}
+
+impl<G: Gate> RoundGate for PassedBy<'_, G> {
+    fn round(&self, _rounds: u32) {}
 }

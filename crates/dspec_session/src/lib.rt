@@ -30,7 +30,7 @@ mod stopping;
 
 pub use closed::Closed;
 pub use consumer::Consumer;
-pub use demonstration::{DemoFault, DemoLine, demo};
-pub use gate::{Free, Gate};
+pub use demonstration::{DemoFault, DemoLine, Demonstration, demo, demonstrate};
+pub use gate::{Free, Gate, RoundGate};
 pub use laws::{close_of_lists, one_batch_left};
 pub use session::Session;

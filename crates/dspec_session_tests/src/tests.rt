@@ -18,6 +18,7 @@ mod asking;
 mod batches;
 mod calls;
 mod damage;
+mod demonstrated;
 mod demonstration;
 mod growths;
 mod limits;

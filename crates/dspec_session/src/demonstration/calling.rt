@@ -1,4 +1,4 @@
-ghost use Rattle.dspec_session.specs.Demonstrated.{CanWork, Called, IsCallable, Served};
+ghost use Rattle.dspec_session.specs.Demonstrated.{CanWork, Called, Decides, IsCallable, Opens, Served, Serviced, Speaks, Traces};
 
 use super::records::valued_record;
 use dspec_cpu::{Cpu, Shared};
@@ -8,7 +8,8 @@ use dspec_word::SpecId;
 /// Traces record 1 with this value.
 pub(crate) fn trace(cpu: &mut Cpu<Enablings>, shared: &Shared, value: u32)
     requires { CanWork shared.now 1 cpu.old }
-    ensures { Called shared.now 1 cpu.old cpu.new }
+    ensures called { Called shared.now 1 cpu.old cpu.new }
+    ensures traces { Traces value cpu.old cpu.new }
 {
     cpu.trace(shared, &valued_record(1, value));
 }
@@ -16,7 +17,8 @@ pub(crate) fn trace(cpu: &mut Cpu<Enablings>, shared: &Shared, value: u32)
 /// Asks for a speculation.
 pub(crate) fn speculation(cpu: &mut Cpu<Enablings>, shared: &Shared) -> SpecId
     requires { CanWork shared.now 1 cpu.old }
-    ensures { Called shared.now 0 cpu.old cpu.new }
+    ensures called { Called shared.now 0 cpu.old cpu.new }
+    ensures opens { Opens result cpu.old cpu.new }
 {
     cpu.speculation(shared).id()
 }
@@ -24,7 +26,8 @@ pub(crate) fn speculation(cpu: &mut Cpu<Enablings>, shared: &Shared) -> SpecId
 /// Speculates record 2 with this value.
 pub(crate) fn speculate(cpu: &mut Cpu<Enablings>, shared: &Shared, id: SpecId, value: u32)
     requires { CanWork shared.now 1 cpu.old }
-    ensures { Called shared.now 1 cpu.old cpu.new }
+    ensures called { Called shared.now 1 cpu.old cpu.new }
+    ensures speaks { Speaks id value cpu.old cpu.new }
 {
     cpu.speculate(shared, id, &valued_record(2, value));
 }
@@ -32,7 +35,8 @@ pub(crate) fn speculate(cpu: &mut Cpu<Enablings>, shared: &Shared, id: SpecId, v
 /// Decides the speculation: commits it, or throws it away.
 pub(crate) fn decide(cpu: &mut Cpu<Enablings>, shared: &Shared, id: SpecId, commits: bool)
     requires { CanWork shared.now 1 cpu.old }
-    ensures { Called shared.now 0 cpu.old cpu.new }
+    ensures called { Called shared.now 0 cpu.old cpu.new }
+    ensures decides { Decides commits id cpu.old cpu.new }
 {
     if commits {
         cpu.commit(shared, id);
@@ -44,7 +48,8 @@ pub(crate) fn decide(cpu: &mut Cpu<Enablings>, shared: &Shared, id: SpecId, comm
 /// Serves the consumer and the other CPUs. It counts as no call.
 pub(crate) fn service(cpu: &mut Cpu<Enablings>, shared: &Shared)
     requires { IsCallable shared.now cpu.old }
-    ensures { Served shared.now cpu.old cpu.new }
+    ensures served { Served shared.now cpu.old cpu.new }
+    ensures services { Serviced cpu.old cpu.new }
 {
     cpu.service(shared);
 }

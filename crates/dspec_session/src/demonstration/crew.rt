@@ -2,15 +2,16 @@ ghost use Rattle.std.specs.Prelude.{◌≡◌, IfSome, IsSome};
 ghost use Rattle.dspec_cpu.specs.Lists.{words_of};
 ghost use Rattle.dspec_session.specs.Consumers.{IsConsumerOf};
 ghost use Rattle.dspec_session.specs.Crews.{AllCanWork, AllWorked};
-ghost use Rattle.dspec_session.specs.Demonstrated.{CanWork, Worked};
+ghost use Rattle.dspec_session.specs.Demonstrated.{CameBack, CanWork};
 ghost use Rattle.dspec_session.specs.Rounds.{Stays};
+ghost use Rattle.dspec_session.specs.Visits.{ConsumerRounds, none_taken};
 
 use super::four::Four;
 use super::order::Order;
 use super::rounds::serve;
 use super::working::work;
 use crate::consumer::Consumer;
-use crate::gate::Gate;
+use crate::gate::{Gate, RoundGate};
 use dspec_cpu::{Cpu, Shared};
 use dspec_record::Enablings;
 use std::snapshot::Snapshot;
@@ -37,7 +38,7 @@ impl<'a> Drop for SameCpu<'a> {
 }
 
 impl<'a> Promise<Back> for SameCpu<'a> {
-    ghost kept_by = { λ p back. Worked p.shared.now 400 200 p.taken.value back.0 back.1 };
+    ghost kept_by = { λ p back. CameBack p.shared.now p.taken.value back.0 back.1 };
 }
 
 /// A worker that was started.
@@ -63,7 +64,7 @@ fn start<'s, 'e, G: Gate>(
         promise,
         move || -> Back
             requires { CanWork shared.now 400 cpu }
-            ensures { Worked shared.entry.now 400 200 cpu result.0 result.1 }
+            ensures { CameBack shared.entry.now cpu result.0 result.1 }
         { work(cpu, number, shared, gate) },
     );
     worker.ok()
@@ -72,7 +73,7 @@ fn start<'s, 'e, G: Gate>(
 /// Waits for a worker that was started to end.
 fn join<'e, R: Threads>(rt: &R, worker: Option<Worker<'e>>) -> Option<Back>
     ensures { IfSome result (λ back. IsSome worker.entry
-        × IfSome worker.entry (λ w. Worked w.promise.shared.now 400 200 w.promise.taken.value back.0 back.1)) }
+        × IfSome worker.entry (λ w. CameBack w.promise.shared.now w.promise.taken.value back.0 back.1)) }
 {
     match worker {
         Some(worker) => Some(worker.join(rt)),
@@ -89,7 +90,7 @@ pub(crate) struct Crew {
 
 /// Each CPU makes its calls in a thread of its own, while the consumer makes its rounds in this one. None: not all of the threads
 /// could be made; those that were have ended.
-pub(crate) fn run<G: Gate, R: Threads + Wait>(
+pub(crate) fn run<G: RoundGate, R: Threads + Wait>(
     rt: &R,
     gate: &G,
     schema: &Enablings,
@@ -101,6 +102,7 @@ pub(crate) fn run<G: Gate, R: Threads + Wait>(
     requires consumer { IsConsumerOf (words_of shared.now) consumer }
     ensures workers { IfSome result (λ crew. AllWorked shared.now cpus crew.workers) }
     ensures consumer { IfSome result (λ crew. Stays (words_of shared.now) consumer crew.consumer) }
+    ensures rounds { IfSome result (λ crew. ConsumerRounds schema.now consumer none_taken 1000 crew.consumer crew.orders) }
 {
     let Four {
         first,
@@ -116,12 +118,13 @@ pub(crate) fn run<G: Gate, R: Threads + Wait>(
             requires consumer { IsConsumerOf (words_of shared.now) consumer }
             ensures workers { IfSome result (λ crew. AllWorked shared.entry.now (record { first = first; second = second; third = third; fourth = fourth }) crew.workers) }
             ensures consumer { IfSome result (λ crew. Stays (words_of shared.entry.now) consumer crew.consumer) }
+            ensures rounds { IfSome result (λ crew. ConsumerRounds schema.entry.now consumer none_taken 1000 crew.consumer crew.orders) }
         {
             let first = start(scope, first, 0, shared, gate);
             let second = start(scope, second, 1, shared, gate);
             let third = start(scope, third, 2, shared, gate);
             let fourth = start(scope, fourth, 3, shared, gate);
-            let (consumer, orders) = serve(consumer, schema, shared);
+            let (consumer, orders) = serve(consumer, schema, shared, gate);
             let first = join(rt, first);
             let second = join(rt, second);
             let third = join(rt, third);

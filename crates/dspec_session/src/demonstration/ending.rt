@@ -1,5 +1,6 @@
 ghost use Rattle.std.specs.Prelude.{◌≡◌, length};
-ghost use Rattle.dspec_session.specs.Demonstrated.{demonstrated};
+ghost use Rattle.dspec_session.specs.Stopping.{Stopped};
+ghost use Rattle.dspec_session.specs.Results.{AllFollow, IsEndOf};
 ghost use Rattle.dspec_session.specs.Races.{AllBalanced, AllTold, HaveOffered, IsDemonstrated};
 
 use super::four::Four;
@@ -9,16 +10,27 @@ use crate::closed::Closed;
 use crate::session::Session;
 use dspec_record::Enablings;
 
-// Stops the session, and ends it.
+/// Stops the session.
+pub(crate) fn stop(session: Session<Enablings>) -> Session<Enablings>
+    requires { IsDemonstrated session }
+    ensures session { IsDemonstrated result }
+    ensures cpus { result.cpus ≡ session.cpus }
+    ensures stopped { Stopped session.consumer result.consumer }
+{
+    let mut session = session;
+    session.consumer.stop(&session.shared);
+    session
+}
+
+// Ends the session.
 fn end(session: Session<Enablings>) -> Closed
     requires session { IsDemonstrated session }
     requires four { length session.cpus.items ≡ 4 }
     requires offered { HaveOffered 200 session.cpus.items }
     ensures four { length result ≡ 4 }
     ensures told { AllTold 200 result }
+    ensures closed { IsEndOf session result }
 {
-    let mut session = session;
-    session.consumer.stop(&session.shared);
     session.finish()
 }
 
@@ -31,7 +43,8 @@ pub(crate) fn tell(
     requires session { IsDemonstrated session }
     requires four { length session.cpus.items ≡ 4 }
     requires offered { HaveOffered 200 session.cpus.items }
-    ensures { AllBalanced 200 result }
+    ensures balanced { AllBalanced 200 result }
+    ensures ordered { AllFollow schema.now session orders result }
 {
     let closed = end(session);
     [

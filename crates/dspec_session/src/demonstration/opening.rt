@@ -1,7 +1,7 @@
 ghost use Rattle.std.specs.Prelude.{◌≡◌, IfOk, length};
 ghost use Rattle.dspec_deeds.specs.declared.config.Policy.TheVariants.{Switch};
 ghost use Rattle.dspec_session.specs.Demonstrated.{demonstrated};
-ghost use Rattle.dspec_session.specs.Races.{HaveOffered, HaveRoom, IsDemonstrated};
+ghost use Rattle.dspec_session.specs.Races.{AreFresh, HaveOffered, HaveRoom, IsDemonstrated};
 
 use crate::session::Session;
 use dspec_deeds::{Config, Policy, StartFault};
@@ -31,6 +31,7 @@ pub(crate) fn open(alloc: Global, schema: Enablings) -> Result<Session<Enablings
     ensures four { IfOk result (λ s. length s.cpus.items ≡ 4) }
     ensures room { IfOk result (λ s. HaveRoom s.cpus.items) }
     ensures fresh { IfOk result (λ s. HaveOffered 0 s.cpus.items) }
+    ensures unused { IfOk result (λ s. AreFresh s.cpus.items) }
 {
     Session::start(alloc, &demo_config(), schema)
 }

@@ -1,11 +1,12 @@
 ghost use Rattle.std.specs.Prelude.{◌≡◌, true, IfSome, length};
-ghost use Rattle.dspec_session.specs.Races.{all_finished, HaveOffered, HaveRoom, IsDemonstrated};
+ghost use Rattle.dspec_session.specs.Races.{all_finished, HaveMade, HaveOffered, HaveRoom, IsDemonstrated};
+ghost use Rattle.dspec_session.specs.Visits.{ConsumerRounds, none_taken};
 
 use super::crew::{Back, Crew, run};
 use super::four::Four;
 use super::order::Order;
 use super::team::{put_all, take_all};
-use crate::gate::Gate;
+use crate::gate::RoundGate;
 use crate::session::Session;
 use dspec_record::Enablings;
 use std::sync::Wait;
@@ -27,7 +28,7 @@ fn have_finished(workers: &Four<Back>) -> bool
 }
 
 /// Runs a session of four CPUs in threads. None: not all of the threads could be made; those that were have ended.
-pub(crate) fn race<G: Gate, R: Threads + Wait>(
+pub(crate) fn race<G: RoundGate, R: Threads + Wait>(
     rt: &R,
     gate: &G,
     schema: &Enablings,
@@ -40,6 +41,8 @@ pub(crate) fn race<G: Gate, R: Threads + Wait>(
     ensures session { IfSome result (λ raced. IsDemonstrated raced.session) }
     ensures four { IfSome result (λ raced. length raced.session.cpus.items ≡ 4) }
     ensures offered { IfSome result (λ raced. raced.finished ≡ true → HaveOffered 200 raced.session.cpus.items) }
+    ensures consumer { IfSome result (λ raced. ConsumerRounds schema.now session.consumer none_taken 1000 raced.session.consumer raced.orders) }
+    ensures rounds { IfSome result (λ raced. raced.finished ≡ true → HaveMade session.cpus.items raced.session.cpus.items) }
 {
     let Session {
         shared,

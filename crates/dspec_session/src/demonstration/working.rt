@@ -1,5 +1,5 @@
-ghost use Rattle.std.specs.Prelude.{◌<◌};
-ghost use Rattle.dspec_session.specs.Demonstrated.{CanWork, Worked};
+ghost use Rattle.std.specs.Prelude.{◌≡◌, ◌<◌, true};
+ghost use Rattle.dspec_session.specs.Demonstrated.{CanWork, CpuRounds, MadeRound, Worked};
 
 use super::calling::{decide, service, speculate, speculation, trace};
 use crate::gate::Gate;
@@ -22,7 +22,8 @@ fn make_round<G: Gate>(
 ) -> bool
     requires cpu { CanWork shared.now 4 cpu.old }
     requires few { round < 100 }
-    ensures { Worked shared.now 4 2 cpu.old cpu.new result }
+    ensures worked { Worked shared.now 4 2 cpu.old cpu.new result }
+    ensures made { result ≡ true → MadeRound round cpu.old cpu.new }
 {
     let call = CALLS * round;
     if !gate.before(number, call + 1) {
@@ -61,7 +62,8 @@ pub(crate) fn work<G: Gate>(
     gate: &G,
 ) -> (Cpu<Enablings>, bool)
     requires { CanWork shared.now 400 cpu }
-    ensures { Worked shared.now 400 200 cpu result.0 result.1 }
+    ensures worked { Worked shared.now 400 200 cpu result.0 result.1 }
+    ensures rounds { result.1 ≡ true → CpuRounds cpu 100 result.0 }
 {
     let mut cpu = cpu;
     for round in 0..ROUNDS {

@@ -1,8 +1,8 @@
 //! The demonstration, in four threads: nobody held back, two CPUs that wait for each other, and gates that are shut.
+use super::demonstrated::{Returned, comes_to};
 use dspec_session::{DemoFault, DemoLine, Free, Gate, demo};
 use std::sync::atomic::{AtomicU64, Ordering};
 use std::test::Fail;
-use std::thread::yield_now;
 
 /// The line of a CPU that made all its calls.
 fn finished(cpu: u32) -> DemoLine {
@@ -25,14 +25,11 @@ fn threads_demo(rt: HostRuntime) -> Result<(), Fail> {
     Ok(())
 }
 
-/// How often a CPU looks whether the other is there.
-const TURNS: u32 = 100_000_000;
-
 /// CPUs 0 and 1 each wait before their first call until the other is there too. It counts the calls that returned.
 #[derive(Drop)]
 struct Meeting {
     here: [AtomicU64; 2],
-    returned: [AtomicU64; 4],
+    returned: Returned,
 }
 
 impl Gate for Meeting {
@@ -41,20 +38,11 @@ impl Gate for Meeting {
             return true;
         }
         self.here[cpu as usize].store(1, Ordering::SeqCst);
-        let other = &self.here[1 - cpu as usize];
-        for _ in 0..TURNS {
-            if other.load(Ordering::SeqCst) == 1 {
-                return true;
-            }
-            yield_now();
-        }
-        false
+        comes_to(&self.here[1 - cpu as usize], 1)
     }
 
     fn after(&self, cpu: u32, _call: u32) {
-        if let Some(returned) = self.returned.get(cpu as usize) {
-            returned.fetch_add(1, Ordering::SeqCst);
-        }
+        self.returned.count(cpu);
     }
 }
 
@@ -62,16 +50,11 @@ impl Gate for Meeting {
 fn gated_demo(rt: HostRuntime) -> Result<(), Fail> {
     let gate = Meeting {
         here: [AtomicU64::new(0), AtomicU64::new(0)],
-        returned: [
-            AtomicU64::new(0),
-            AtomicU64::new(0),
-            AtomicU64::new(0),
-            AtomicU64::new(0),
-        ],
+        returned: Returned::none(),
     };
     assert!(rt; demo(&rt, rt.alloc(), &gate) == Ok(all_finished()));
-    for returned in &gate.returned {
-        assert!(rt; returned.load(Ordering::SeqCst) == 500);
+    for calls in &gate.returned.calls {
+        assert!(rt; calls.load(Ordering::SeqCst) == 500);
     }
     Ok(())
 }

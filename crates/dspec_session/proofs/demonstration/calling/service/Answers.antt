@@ -4,8 +4,8 @@ use Rattle.dspec_cpu.specs.Switching.{with_seal}
 use Rattle.dspec_session.proofs.Servings.{service_reads}
 use Rattle.dspec_session.proofs.demonstration.calling.service.Goals as goal
 
-pub returns : goal.returns
-returns c =
+pub returns-clause-served : goal.returns-clause-served
+returns-clause-served c =
     let s = c.service.ensures.serves in
     let number = c.args.cpu.now.cpu in
     let sealed = c.service.result.sealed in
@@ -19,3 +19,6 @@ returns c =
           ∙ sym was.shown.side.called;
       offered = λ p had. (s.settles ++ with_seal sealed number p, s.list p had, (service_reads _ number _ _ s.settles p sealed s.slots).0);
     }
+
+pub returns-clause-services : goal.returns-clause-services
+returns-clause-services c = (c.service.result, c.service.ensures.serves)

@@ -5,8 +5,8 @@ use Rattle.dspec_cpu.specs.Scans.{opening_deeds}
 use Rattle.dspec_session.proofs.Scanned.{opening_offers, opening_calls, not_worn}
 use Rattle.dspec_session.proofs.demonstration.calling.speculation.Goals as goal
 
-pub returns : goal.returns
-returns c =
+pub returns-clause-called : goal.returns-clause-called
+returns-clause-called c =
     let o = c.speculation.ensures.opens in
     let a = c.speculation.result in
     let p = c.requires.ready.list in
@@ -23,3 +23,6 @@ returns c =
           ∙ ap (λ n. n + 1) (sym was.shown.side.called);
       offered = λ p had. (opening_deeds c.args.cpu.now.cpu o.missed a ++ p, o.list p had, opening_offers c.args.cpu.now.cpu o.missed a p);
     }
+
+pub returns-clause-opens : goal.returns-clause-opens
+returns-clause-opens c = let o = c.speculation.ensures.opens in (o.missed, c.speculation.result, c.id.ensures, o.list)

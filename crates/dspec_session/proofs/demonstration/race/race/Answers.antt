@@ -1,5 +1,5 @@
 use Rattle.std.proofs.Common.{sym, ◌∙◌}
-use Rattle.dspec_session.proofs.Crews.{all_can_work, places_back, four_again, all_offered}
+use Rattle.dspec_session.proofs.Crews.{all_can_work, places_back, four_again, all_offered, all_made}
 use Rattle.dspec_session.proofs.demonstration.race.race.Goals as goal
 
 pub run-requires-clause-cpus : goal.run-requires-clause-cpus
@@ -21,3 +21,8 @@ pub returns-clause-offered : goal.returns-clause-offered
 returns-clause-offered g c finished =
     all_offered c.args.session c.take_all-team.result c.in_ok-crew.crew.workers c.requires.session c.take_all-team.ensures.all c.in_ok-crew.ensures.workers c.put_all.new.cpus.items c.put_all.ensures
     c.requires.fresh (sym c.have_finished-finished.ensures ∙ finished)
+
+pub returns-clause-rounds : goal.returns-clause-rounds
+returns-clause-rounds g c finished =
+    all_made c.args.session c.take_all-team.result c.in_ok-crew.crew.workers c.requires.session c.take_all-team.ensures.all c.in_ok-crew.ensures.workers c.put_all.new.cpus.items c.put_all.ensures
+    (sym c.have_finished-finished.ensures ∙ finished)

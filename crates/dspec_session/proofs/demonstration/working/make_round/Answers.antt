@@ -1,14 +1,28 @@
 use Rattle.dspec_session.proofs.Worked.{begun, one_more, and_served}
 use Rattle.dspec_session.proofs.demonstration.working.make_round.Goals as goal
 
-pub returns : goal.returns
-returns g c =
+pub returns-clause-worked : goal.returns-clause-worked
+returns-clause-worked g c =
     let s = c.args.shared.now in
     let x = c.args.cpu.now in
     and_served 4 2 s x _ _
     (one_more 3 2 0 s x _ _
     (one_more 2 1 1 s x _ _
-    (one_more 1 1 0 s x _ _ (begun 1 s x _ c.trace.ensures) c.speculation-id.ensures)
-    c.speculate.ensures)
-    c.decide.ensures)
-    c.service.ensures
+    (one_more 1 1 0 s x _ _ (begun 1 s x _ c.trace.ensures.called) c.speculation-id.ensures.called)
+    c.speculate.ensures.called)
+    c.decide.ensures.called)
+    c.service.ensures.served
+
+pub returns-clause-made : goal.returns-clause-made
+returns-clause-made g c = λ _. record {
+  id = c.speculation-id.result;
+  traced = c.trace.new.cpu;
+  opened = c.speculation-id.new.cpu;
+  spoken = c.speculate.new.cpu;
+  decided = c.decide.new.cpu;
+  traces = c.trace.ensures.traces;
+  opens = c.speculation-id.ensures.opens;
+  speaks = c.speculate.ensures.speaks;
+  decides = c.decide.ensures.decides;
+  services = c.service.ensures.services;
+}

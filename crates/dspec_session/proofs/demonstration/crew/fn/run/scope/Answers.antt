@@ -12,4 +12,5 @@ returns g c =
         fourth = is_back c.start-fourth.result _ _ _ _ _ _ c.start-fourth.ensures.shared c.start-fourth.ensures.taken c.in_ok-fourth.ensures;
       };
       consumer = search rules;
+      rounds = search rules;
     }
