@@ -25,6 +25,7 @@ use Rattle.dspec_table.specs.declared.rule.View.{View}
 use Rattle.dspec_table.specs.Acts.{at_activity, at_word, at_open, at_exchange, settle_fate}
 use Rattle.dspec_deeds.specs.declared.deed.Deed.TheVariants.{Settle}
 use Rattle.dspec_table.specs.Holders.{number_of}
+use Rattle.dspec_table.specs.Flights.{calling}
 use Rattle.dspec_table.specs.Steps.{Found, Entered, LoadedWord, OpenedWord, TriedWord}
 use Rattle.dspec_steps.specs.SameSteps.{IsSameCall, slot_of, seat_deeds, IsMine, SeatStep, Exchanges, IsBehind, IsPlayed}
 use Rattle.dspec_steps.proofs.SameDeeds.{same_deeds}
@@ -90,11 +91,11 @@ seat_did doing v w (cpu.Begun cpu_op.Service) (inr (n, (log, found, least, view)
     seen = ap (λ (x : View). x.seen) view ∙ sym (ap (λ o. at_activity v.config (number_of v.who) doing o (halted log) ++ log) op);
   },
 )
-seat_did doing v w (cpu.Begun (cpu_op.Trace r)) (stopped, (log, found, is, entered)) = (log, found, λ op. did (λ b. at_activity v.config (number_of v.who) doing doing.op b) stopped (halted log) v w log is entered)
-seat_did doing v w (cpu.Begun cpu_op.Speculation) (stopped, (log, found, is, entered)) = (log, found, λ op. did (λ b. at_activity v.config (number_of v.who) doing doing.op b) stopped (halted log) v w log is entered)
-seat_did doing v w (cpu.Begun (cpu_op.Speculate id r)) (stopped, (log, found, is, entered)) = (log, found, λ op. did (λ b. at_activity v.config (number_of v.who) doing doing.op b) stopped (halted log) v w log is entered)
-seat_did doing v w (cpu.Begun (cpu_op.Commit id)) (stopped, (log, found, is, entered)) = (log, found, λ op. did (λ b. at_activity v.config (number_of v.who) doing doing.op b) stopped (halted log) v w log is entered)
-seat_did doing v w (cpu.Begun (cpu_op.Discard id)) (stopped, (log, found, is, entered)) = (log, found, λ op. did (λ b. at_activity v.config (number_of v.who) doing doing.op b) stopped (halted log) v w log is entered)
+seat_did doing v w (cpu.Begun (cpu_op.Trace r)) (stopped, (log, found, is, entered)) = (log, found, λ op. did (λ b. at_activity v.config (number_of v.who) doing doing.op b) stopped (halted log) (calling doing.op v) w log is entered)
+seat_did doing v w (cpu.Begun cpu_op.Speculation) (stopped, (log, found, is, entered)) = (log, found, λ op. did (λ b. at_activity v.config (number_of v.who) doing doing.op b) stopped (halted log) (calling doing.op v) w log is entered)
+seat_did doing v w (cpu.Begun (cpu_op.Speculate id r)) (stopped, (log, found, is, entered)) = (log, found, λ op. did (λ b. at_activity v.config (number_of v.who) doing doing.op b) stopped (halted log) (calling doing.op v) w log is entered)
+seat_did doing v w (cpu.Begun (cpu_op.Commit id)) (stopped, (log, found, is, entered)) = (log, found, λ op. did (λ b. at_activity v.config (number_of v.who) doing doing.op b) stopped (halted log) (calling doing.op v) w log is entered)
+seat_did doing v w (cpu.Begun (cpu_op.Discard id)) (stopped, (log, found, is, entered)) = (log, found, λ op. did (λ b. at_activity v.config (number_of v.who) doing doing.op b) stopped (halted log) (calling doing.op v) w log is entered)
 seat_did doing v w (cpu.ScanLoad s) step = let d = loaded doing s v w step in (d.0, d.1, λ op. d.2)
 seat_did doing v w (cpu.ScanTry s from) step = let d = opened_at s from v w step in (d.0, d.1, λ op. d.2)
 seat_did doing v w (cpu.SpeculateLoad id r) step = let d = loaded doing id.slot v w step in (d.0, d.1, λ op. d.2)
@@ -130,4 +131,4 @@ seat_plays doing v w f step =
 pub mine_known : (k : Config) (v : View) (c : ℕ) (doing : Doing) (id : Speculation) (slot : ℕ) (p : List Deed) → v.own ≡ bare p → IsInFlight k v c doing id slot → IsMine c p id doing
 mine_known k v c doing id slot p own flight least =
     let marks : mark c id.slot p ≡ mark c id.slot v.own = (apart_bare k c p).marking id.slot ∙ ap (mark c id.slot) (sym own) in
-    flight.3 (subst (λ n. n ≤ id.issue + 1) marks least) ∙ ap (λ l. is_among c (callers id l)) own ∙ sym ((apart_bare k c p).called id)
+    flight.4 (subst (λ n. n ≤ id.issue + 1) marks least) ∙ ap (λ l. is_among c (callers id l)) own ∙ sym ((apart_bare k c p).called id)
