@@ -51,7 +51,7 @@ fn plain(dice: &mut Dice, probes: &[Probe]) -> Parts {
         }
     }
     Parts {
-        epid: (index as u32).saturating_add(1),
+        epid: u32::try_from(index).unwrap_or(0).saturating_add(1),
         values,
         count: fields.len(),
     }
