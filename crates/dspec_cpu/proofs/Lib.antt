@@ -23,6 +23,7 @@ pub mod Openings
 pub mod Seals
 pub mod Switches
 pub mod Heeding
+pub mod RingMoves
 pub mod OwnBlocks
 pub mod Settlements
 pub mod Services

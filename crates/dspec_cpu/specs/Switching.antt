@@ -3,7 +3,7 @@ use Rattle.std.specs.Prelude.{ℕ, ◌≡◌, ◌≢◌, ◌<◌, ◌≤◌, ◌
 use mathlib.Core.List.{IsPrefix}
 use Rattle.dspec_buffer.specs.Stored.{Stored}
 use Rattle.dspec_ring.specs.declared.batch.Batch.{Batch}
-use Rattle.dspec_ring.specs.Known.{CpuKnows}
+use Rattle.dspec_ring.specs.Known.{CpuKnows, cpu_moved}
 use Rattle.dspec_deeds.specs.declared.config.Config.{Config}
 use Rattle.dspec_deeds.specs.declared.deed.Deed.{Deed}
 use Rattle.dspec_deeds.specs.declared.deed.Deed.TheVariants.{Seal}
@@ -34,34 +34,37 @@ with_buffers cpu seat x = record cpu { seat = seat; end = x.end; in_hand = x.in_
 abbrev pub IsSameBeside : {S : Type 0} → Cpu S → Cpu S → Type 0
 IsSameBeside old new = new ≡ with_buffers old new.seat (buffers_of new)
 
--- the batch went into the ring
+-- the batch went into the ring, by one push
 pub record IsHanded (e : CpuKnows) (b : Batch) (f : CpuKnows) : Type 0 where
   pub pair : f.pair ≡ e.pair
   pub handed : f.handed ≡ e.handed ++ b ∷ []
   pub room : e.room ≤ f.room + 1
   pub spares : f.spares ≡ e.spares
   pub waiting : f.waiting ≡ e.waiting
+  pub moves : f.moves ≡ e.moves + 1
 
--- a batch in hand is handed on, or stays in hand, and that only where the ring has no free place that the end knows of
+-- A batch in hand is handed on, or stays in hand, and that only where the ring has no free place that the end knows of: one push
+-- either way, and no move where there is none.
 abbrev pub HandsOn : CpuKnows → Option Batch → CpuKnows → Option Batch → Type 0
 HandsOn e None f left = (f ≡ e) × (left ≡ None)
 HandsOn e (Some b) f None = IsHanded e b f
-HandsOn e (Some b) f (Some back) = (back ≡ b) × (f ≡ e) × (e.room ≡ 0)
+HandsOn e (Some b) f (Some back) = (back ≡ b) × (f ≡ cpu_moved e) × (e.room ≡ 0)
 
--- a batch came out of the ring
+-- a batch came out of the ring, by one pop
 pub record HasCome (e : CpuKnows) (b : Batch) (f : CpuKnows) : Type 0 where
   pub pair : f.pair ≡ e.pair
   pub handed : f.handed ≡ e.handed
   pub room : f.room ≡ e.room
   pub spares : f.spares ≡ e.spares ++ b ∷ []
   pub next : IsPrefix e.waiting (b ∷ f.waiting)
+  pub moves : f.moves ≡ e.moves + 1
 
--- The spare is the one in hand. Where there is none the ring is asked for the next: a buffer of that size. There is no spare
--- where the ring gave nothing, though it does where the end knows of one, or gave a buffer of another size.
+-- The spare is the one in hand. Where there is none the ring is asked for the next, by one pop: a buffer of that size. There is no
+-- spare where the ring gave nothing, though it does where the end knows of one, or gave a buffer of another size.
 abbrev pub FindsSpare : ℕ → CpuKnows → Option Stored → CpuKnows → Option Stored → Type 0
 FindsSpare size e (Some b) f found = (f ≡ e) × (found ≡ Some b)
 FindsSpare size e None f (Some b) = (came : Batch) × HasCome e came f × (b ≡ came.buffer) × (b.size ≡ size)
-FindsSpare size e None f None = ((f ≡ e) × (e.waiting ≡ [])) ⊎ ((came : Batch) × HasCome e came f × (came.buffer.size ≢ size))
+FindsSpare size e None f None = ((f ≡ cpu_moved e) × (e.waiting ≡ [])) ⊎ ((came : Batch) × HasCome e came f × (came.buffer.size ≢ size))
 
 -- a buffer without pieces
 abbrev pub emptied : Stored → Stored
@@ -90,6 +93,11 @@ pub data Switches (k : Config) (c : ℕ) (v : View) (x : Buffers) : Bool → Vie
   never : is_fill k.policy ≡ true → Switches k c v x false v x
   looked : is_fill k.policy ≡ false → (e : CpuKnows) (left : Option Batch) → HandsOn x.end x.in_hand e left → (ask : ℕ) (w : View) → LoadedAsk c v ask w
       → (sealed : Bool) (y : Buffers) → Heeds k c ask (record x { end = e; in_hand = left }) sealed y → Switches k c v x sealed w y
+
+-- how many moves of its rings a service makes at most: one for a batch in hand, one for a spare, and one for the batch sealed
+abbrev pub most_moves : Option Batch → ℕ
+most_moves None = 2
+most_moves (Some b) = 3
 
 -- the list with the Seal in front, where there was one
 abbrev pub with_seal : Bool → ℕ → List Deed → List Deed

@@ -1,9 +1,9 @@
 ghost use Rattle.std.specs.Prelude.{◌≡◌, ◌≤◌, ◌+◌, ◌^◌, ◌++◌, List, length, reverse};
 ghost use Rattle.dspec_deeds.specs.declared.deed.Deed.{Deed};
 ghost use Rattle.dspec_table.specs.Seats.{known};
-ghost use Rattle.dspec_cpu.specs.Lists.{IsSameCpu, batches_of, config_of, number_in, seat_of, spare_count};
+ghost use Rattle.dspec_cpu.specs.Lists.{IsSameCpu, batches_of, config_of, end_of, in_hand_of, number_in, seat_of, spare_count};
 ghost use Rattle.dspec_cpu.specs.Sealed.{waiting};
-ghost use Rattle.dspec_cpu.specs.Switching.{FindsSpare, HandsOn, Heeds, IsSameBeside, Switches, buffers_of, emptied, with_seal};
+ghost use Rattle.dspec_cpu.specs.Switching.{FindsSpare, HandsOn, Heeds, IsSameBeside, Switches, buffers_of, emptied, most_moves, with_seal};
 
 use crate::cpu::Cpu;
 use crate::listed::Listed;
@@ -93,6 +93,7 @@ impl<S: Schema> Cpu<S> {
         ensures same { IsSameCpu self.old self.new }
         ensures beside { IsSameBeside self.old self.new }
         ensures bounded { (known (seat_of self.new)).steps ≤ (known (seat_of self.old)).steps + 1 }
+        ensures moves { (end_of self.new).moves ≤ (end_of self.old).moves + most_moves (in_hand_of self.old) }
         ensures switches { Switches (config_of self.old) (number_in self.old) (known (seat_of self.old)) (buffers_of self.old) result (known (seat_of self.new)) (buffers_of self.new) }
         ensures list { (p : List Deed) → ⟦<Cpu<S> as Listed>⟧.has_list self.old p → ⟦<Cpu<S> as Listed>⟧.has_list self.new (with_seal result (number_in self.old) p) }
     {

@@ -15,18 +15,20 @@ module _ {T A P : Type 0} where
 
 abbrev pub cpu_knows : Inside → CpuKnows
 cpu_knows end = record {
-  pair = record { batches = pushed_into end.batches; spares = popped_from end.spares };
-  handed = sent end.batches;
-  room = known_free end.batches;
-  spares = received end.spares;
-  waiting = known_items end.spares;
+  pair = record { batches = pushed_into end.rings.pushing; spares = popped_from end.rings.popping };
+  handed = sent end.rings.pushing;
+  room = known_free end.rings.pushing;
+  spares = received end.rings.popping;
+  waiting = known_items end.rings.popping;
+  moves = end.rings.moves.count;
 }
 
 abbrev pub consumer_knows : ConsumerInside → ConsumerKnows
 consumer_knows end = record {
-  pair = record { batches = popped_from end.batches; spares = pushed_into end.spares };
-  taken = received end.batches;
-  waiting = known_items end.batches;
-  given = sent end.spares;
-  room = known_free end.spares;
+  pair = record { batches = popped_from end.rings.popping; spares = pushed_into end.rings.pushing };
+  taken = received end.rings.popping;
+  waiting = known_items end.rings.popping;
+  given = sent end.rings.pushing;
+  room = known_free end.rings.pushing;
+  moves = end.rings.moves.count;
 }

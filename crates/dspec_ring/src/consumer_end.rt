@@ -1,14 +1,13 @@
 use crate::Batch;
 use crate::numbered::Numbered;
-use rtrb::{Consumer, Producer, PushError};
-use std::alloc::Global;
+use crate::rings::Rings;
+use rtrb::AnyItems;
 use std::marker::Model;
 
 /// The consumer's end of one CPU's rings: it takes batches and gives their buffers back. It can move to another thread.
 #[derive(Drop)]
 pub struct ConsumerEnd {
-    pub(crate) batches: Consumer<Batch, Global, Numbered>,
-    pub(crate) spares: Producer<Batch>,
+    pub(crate) rings: Rings<AnyItems, Numbered>,
 }
 
 impl Model for ConsumerEnd {
@@ -24,6 +23,7 @@ impl Model for ConsumerEnd {
 impl ConsumerEnd {
     ghost use Rattle.std.specs.Prelude.{◌≡◌, ◌<◌, ◌≤◌, ◌+◌, ◌^◌, [], ◌∷◌, ◌++◌, length, OnOk, OnErr, IfErr, IfSome, IfNone};
     ghost use mathlib.Core.List.{IsPrefix};
+    ghost use Rattle.dspec_ring.specs.Known.{consumer_moved};
 
     /// The next batch that was handed on: one pop. None where none has arrived, as far as this end can see.
     pub fn take(&mut self) -> Option<Batch>
@@ -32,10 +32,11 @@ impl ConsumerEnd {
         ensures took { IfSome result (λ batch. self.new.taken ≡ self.old.taken ++ batch ∷ []) }
         ensures next { IfSome result (λ batch. IsPrefix self.old.waiting (batch ∷ self.new.waiting)) }
         ensures counted { IfSome result (λ _. length self.old.taken < 2 ^ 62) }
-        ensures none { IfNone result (self.new ≡ self.old) }
+        ensures moves { self.new.moves ≡ self.old.moves + 1 }
+        ensures none { IfNone result (self.new ≡ consumer_moved self.old) }
         ensures empty { IfNone result (self.old.waiting ≡ []) }
     {
-        self.batches.pop().ok()
+        self.rings.pop()
     }
 
     /// Gives a batch back as a spare: one push. A refused one comes back; a ring refuses where the CPU has not yet got the
@@ -45,12 +46,10 @@ impl ConsumerEnd {
         ensures taken { (self.new.taken ≡ self.old.taken) × (self.new.waiting ≡ self.old.waiting) }
         ensures given { OnOk result (self.new.given ≡ self.old.given ++ batch ∷ []) }
         ensures room { OnOk result (self.old.room ≤ self.new.room + 1) }
-        ensures refused { IfErr result (λ back. (back ≡ batch) × (self.new ≡ self.old)) }
+        ensures moves { self.new.moves ≡ self.old.moves + 1 }
+        ensures refused { IfErr result (λ back. (back ≡ batch) × (self.new ≡ consumer_moved self.old)) }
         ensures full { OnErr result (self.old.room ≡ 0) }
     {
-        match self.spares.push(batch) {
-            Ok(()) => Ok(()),
-            Err(PushError::Full(back)) => Err(back),
-        }
+        self.rings.push(batch)
     }
 }

@@ -1,15 +1,14 @@
 use crate::Batch;
 use crate::numbered::Numbered;
-use rtrb::{Consumer, Producer, PushError};
-use std::alloc::Global;
+use crate::rings::Rings;
+use rtrb::AnyItems;
 use std::marker::Model;
 
 /// The end of a CPU: it hands batches on, and gets back buffers that the consumer has done with. It can move to another
 /// thread.
 #[derive(Drop)]
 pub struct CpuEnd {
-    pub(crate) batches: Producer<Batch, Global, Numbered>,
-    pub(crate) spares: Consumer<Batch>,
+    pub(crate) rings: Rings<Numbered, AnyItems>,
 }
 
 impl Model for CpuEnd {
@@ -25,6 +24,7 @@ impl Model for CpuEnd {
 impl CpuEnd {
     ghost use Rattle.std.specs.Prelude.{◌≡◌, ◌<◌, ◌≤◌, ◌+◌, ◌^◌, [], ◌∷◌, ◌++◌, length, OnOk, OnErr, IfErr, IfSome, IfNone};
     ghost use mathlib.Core.List.{IsPrefix};
+    ghost use Rattle.dspec_ring.specs.Known.{cpu_moved};
 
     /// Hands a batch on: one push. A refused one comes back; a ring refuses where the consumer has not yet taken the two
     /// before, as far as this end can see.
@@ -34,13 +34,11 @@ impl CpuEnd {
         ensures spares { (self.new.spares ≡ self.old.spares) × (self.new.waiting ≡ self.old.waiting) }
         ensures handed { OnOk result (self.new.handed ≡ self.old.handed ++ batch ∷ []) }
         ensures room { OnOk result (self.old.room ≤ self.new.room + 1) }
-        ensures refused { IfErr result (λ back. (back ≡ batch) × (self.new ≡ self.old)) }
+        ensures moves { self.new.moves ≡ self.old.moves + 1 }
+        ensures refused { IfErr result (λ back. (back ≡ batch) × (self.new ≡ cpu_moved self.old)) }
         ensures full { OnErr result (self.old.room ≡ 0) }
     {
-        match self.batches.push(batch) {
-            Ok(()) => Ok(()),
-            Err(PushError::Full(back)) => Err(back),
-        }
+        self.rings.push(batch)
     }
 
     /// The next batch that was given back: one pop. None where none has arrived, as far as this end can see.
@@ -49,9 +47,10 @@ impl CpuEnd {
         ensures handed { (self.new.handed ≡ self.old.handed) × (self.new.room ≡ self.old.room) }
         ensures came { IfSome result (λ spare. self.new.spares ≡ self.old.spares ++ spare ∷ []) }
         ensures next { IfSome result (λ spare. IsPrefix self.old.waiting (spare ∷ self.new.waiting)) }
-        ensures none { IfNone result (self.new ≡ self.old) }
+        ensures moves { self.new.moves ≡ self.old.moves + 1 }
+        ensures none { IfNone result (self.new ≡ cpu_moved self.old) }
         ensures empty { IfNone result (self.old.waiting ≡ []) }
     {
-        self.spares.pop().ok()
+        self.rings.pop()
     }
 }

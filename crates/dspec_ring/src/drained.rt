@@ -47,14 +47,10 @@ pub fn drain_beside(cpu: CpuEnd, consumer: ConsumerEnd) -> Drained
     ensures batches { consumer.taken ++ result ≡ cpu.handed }
     ensures spares { IsPrefix cpu.spares consumer.given }
 {
-    let CpuEnd {
-        batches: mut handing,
-        spares: mut coming,
-    } = cpu;
-    let ConsumerEnd {
-        batches: mut taking,
-        spares: mut giving,
-    } = consumer;
+    let CpuEnd { rings } = cpu;
+    let (mut handing, mut coming) = rings.apart();
+    let ConsumerEnd { rings } = consumer;
+    let (mut giving, mut taking) = rings.apart();
     taking.slots_beside(&mut handing);
     coming.slots_beside(&mut giving);
     Drained { batches: taking }

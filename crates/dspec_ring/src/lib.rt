@@ -11,8 +11,10 @@ mod batch;
 mod consumer_end;
 mod cpu_end;
 mod drained;
+mod moves;
 mod numbered;
 mod pairing;
+mod rings;
 
 pub use batch::Batch;
 pub use consumer_end::ConsumerEnd;

@@ -2,6 +2,7 @@ ghost use Rattle.std.specs.Prelude.{◌≡◌, IfOk};
 ghost use Rattle.dspec_ring.specs.Known.{IsUnusedCpu, IsUnusedConsumer};
 
 use crate::numbered::Numbered;
+use crate::rings::Rings;
 use crate::{ConsumerEnd, CpuEnd};
 use rtrb::RingBuffer;
 use std::alloc::{AllocError, Global};
@@ -19,12 +20,10 @@ pub fn pair(alloc: Global) -> Result<(CpuEnd, ConsumerEnd), AllocError>
     let (handing, taking) = RingBuffer::with_protocol::<Global, Numbered>(alloc, PLACES)?;
     let (giving, coming) = RingBuffer::new(alloc, PLACES)?;
     let cpu = CpuEnd {
-        batches: handing,
-        spares: coming,
+        rings: Rings::new(handing, coming),
     };
     let consumer = ConsumerEnd {
-        batches: taking,
-        spares: giving,
+        rings: Rings::new(giving, taking),
     };
     Ok((cpu, consumer))
 }

@@ -1,6 +1,6 @@
 -- The ends of the rings, in a list.
-use Rattle.std.proofs.Common.{◌≡◌, ℕ, ◌<◌, List, [], ◌∷◌, length, refl, sym, ap, ◌∙◌, arith}
-use Rattle.std.specs.Prelude.{slice_get, slice_set, slice_index_or, remove, Option, Some, None, IfNone}
+use Rattle.std.proofs.Common.{◌≡◌, ℕ, ◌<◌, List, [], ◌∷◌, length, refl, ap, ◌∙◌, arith}
+use Rattle.std.specs.Prelude.{slice_get, slice_set, slice_index_or, remove, Some}
 use Rattle.std.specs.Option.{option_map_or}
 use Rattle.dspec_ring.specs.Known.{ConsumerKnows}
 use Rattle.std.proofs.lemmas.List.{set-get_or}
@@ -12,19 +12,12 @@ first_and_rest [] x some is = absurd (omega arith)
 first_and_rest (y ∷ ys) x some is = ap (λ z. z ∷ ys) is
 
 -- an element put back where it stands
-pub put_back : {A : Type 0} (xs : List A) (i : ℕ) (x y : A) → x ≡ slice_index_or xs i x → y ≡ x → slice_set xs i y ≡ xs
-put_back xs i x y is same = ap (λ z. slice_set xs i z) (same ∙ is) ∙ set-get_or xs i x
-
-pub none_weaker : {A P Q : Type 0} (r : Option A) → (P → Q) → IfNone r P → IfNone r Q
-none_weaker None f h = f h
-none_weaker (Some x) f h = tt
+pub put_back : {A : Type 0} (xs : List A) (i : ℕ) (x : A) → x ≡ slice_index_or xs i x → slice_set xs i x ≡ xs
+put_back xs i x is = ap (λ z. slice_set xs i z) is ∙ set-get_or xs i x
 
 -- the end of the CPU c
 pub end_at : (es : List ConsumerKnows) (c : ℕ) (d e : ConsumerKnows) → d ≡ slice_index_or es c d → slice_get es c ≡ Some e → d ≡ e
 end_at es c d e is there = is ∙ get_or_from_slice_get es c e d there
-
-pub none_waiting : (es : List ConsumerKnows) (c : ℕ) (d : ConsumerKnows) → d ≡ slice_index_or es c d → d.waiting ≡ [] → (e : ConsumerKnows) → slice_get es c ≡ Some e → e.waiting ≡ []
-none_waiting es c d is none e there = ap (λ (x : ConsumerKnows). x.waiting) (sym (end_at es c d e is there)) ∙ none
 
 -- how many were taken there
 pub taken_is : (es : List ConsumerKnows) (c : ℕ) (d : ConsumerKnows) → c < length es → d ≡ slice_index_or es c d → option_map_or (λ (e : ConsumerKnows). length e.taken) (slice_get es c) 0 ≡ length d.taken

@@ -1,5 +1,5 @@
-ghost use Rattle.std.specs.Prelude.{◌≡◌, ◌<◌, ◌≤◌, [], OnOk, OnErr, IfErr, IfSome, IfNone};
-ghost use Rattle.dspec_session.specs.Batches.{Took, GaveBack, IsRefused, HasNoneWaiting};
+ghost use Rattle.std.specs.Prelude.{◌≡◌, OnOk, OnErr, IfErr, IfSome, IfNone};
+ghost use Rattle.dspec_session.specs.Batches.{Took, FoundNone, GaveBack, IsRefused};
 ghost use Rattle.dspec_cpu.specs.Lists.{words_of};
 ghost use Rattle.dspec_session.specs.Consumers.{IsConsumerOf, IsSameConsumer, set_up_of};
 
@@ -8,13 +8,13 @@ use dspec_cpu::Shared;
 use dspec_ring::Batch;
 
 impl Consumer {
-    /// The next batch of a CPU: one pop. None where nothing arrived, or there is no such CPU.
+    /// The next batch of a CPU: one pop. None where nothing arrived, or, without a pop, where there is no such CPU.
     pub fn take(&mut self, _shared: &Shared, cpu: u32) -> Option<Batch>
         requires session { IsConsumerOf (words_of _shared.now) self.old }
         ensures session { IsConsumerOf (words_of _shared.now) self.new }
         ensures same { IsSameConsumer self.old self.new }
         ensures took { IfSome result (λ batch. Took cpu batch self.old self.new) }
-        ensures none { IfNone result ((self.new ≡ self.old) × HasNoneWaiting cpu self.old) }
+        ensures none { IfNone result (FoundNone cpu self.old self.new) }
     {
         if cpu >= self.config.cpus {
             return None;
@@ -23,15 +23,15 @@ impl Consumer {
         end.take()
     }
 
-    /// Gives a batch back to its CPU as a spare: one push. It comes back, and nothing changes, where its CPU isn't one of the
-    /// session, none of that CPU's batches is out, its buffer hasn't the size of a principal buffer, or the ring refuses it.
+    /// Gives a batch back to its CPU as a spare: one push. It comes back where the ring refuses it, and, without a push, where its
+    /// CPU isn't one of the session, none of that CPU's batches is out, or its buffer hasn't the size of a principal buffer.
     pub fn give_back(&mut self, _shared: &Shared, batch: Batch) -> Result<(), Batch>
         requires session { IsConsumerOf (words_of _shared.now) self.old }
         ensures session { IsConsumerOf (words_of _shared.now) self.new }
         ensures same { IsSameConsumer self.old self.new }
         ensures given { OnOk result (GaveBack batch self.old self.new) }
-        ensures refused { IfErr result (λ back. (back ≡ batch) × (self.new ≡ self.old)) }
-        ensures why { OnErr result (IsRefused batch self.old) }
+        ensures refused { IfErr result (λ back. back ≡ batch) }
+        ensures why { OnErr result (IsRefused batch self.old self.new) }
     {
         if batch.cpu >= self.config.cpus || batch.buffer.size() != self.config.bufsize {
             return Err(batch);

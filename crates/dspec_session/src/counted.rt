@@ -23,7 +23,7 @@ impl Model for CountedEnd {
 
 impl CountedEnd {
     ghost use Rattle.std.specs.Prelude.{◌≡◌, ◌<◌, ◌≤◌, ◌^◌, [], length, MatchBool, IfSome, IfNone, OnOk, IfErr, OnErr};
-    ghost use Rattle.dspec_ring.specs.Known.{IsUnusedConsumer};
+    ghost use Rattle.dspec_ring.specs.Known.{IsUnusedConsumer, consumer_moved};
     ghost use Rattle.dspec_session.specs.Batches.{TookFrom, GivenTo};
 
     /// An end through which nothing went yet.
@@ -53,21 +53,22 @@ impl CountedEnd {
         self.given < self.taken
     }
 
-    /// The next batch, counted.
+    /// The next batch, counted: one pop.
     pub(crate) fn take(&mut self) -> Option<Batch>
         ensures took { IfSome result (λ batch. TookFrom batch self.old self.new) }
-        ensures none { IfNone result ((self.new ≡ self.old) × (self.old.waiting ≡ [])) }
+        ensures none { IfNone result ((self.new ≡ consumer_moved self.old) × (self.old.waiting ≡ [])) }
     {
         let batch = self.end.take()?;
         self.taken += 1;
         Some(batch)
     }
 
-    /// Gives a batch back, counted. A refused one comes back.
+    /// Gives a batch back, counted: one push. A refused one comes back.
     pub(crate) fn give_back(&mut self, batch: Batch) -> Result<(), Batch>
         requires out { length self.old.given < length self.old.taken }
         ensures given { OnOk result (GivenTo batch self.old self.new) }
-        ensures refused { IfErr result (λ back. (back ≡ batch) × (self.new ≡ self.old)) }
+        ensures taken { self.new.taken ≡ self.old.taken }
+        ensures refused { IfErr result (λ back. (back ≡ batch) × (self.new ≡ consumer_moved self.old)) }
         ensures full { OnErr result (self.old.room ≡ 0) }
     {
         self.end.give_back(batch)?;

@@ -1,4 +1,5 @@
 use Rattle.std.proofs.Common.{ℕ, ◌∙◌, ap, subst, arith}
+use Rattle.dspec_ring.specs.Known.{CpuKnows}
 use Rattle.dspec_deeds.specs.declared.config.Config.{Config}
 use Rattle.dspec_table.specs.Seats.{known}
 use Rattle.dspec_cpu.specs.declared.cpu.Cpu.{Cpu}
@@ -20,6 +21,12 @@ returns-clause-bounded g c =
     let slots = ap (λ (k : Config). k.nspec) c.switch-sealed.ensures.same.config in
     let first = c.switch-sealed.ensures.bounded in
     let after = c.settle_slots-settled.ensures.settled.bounded in
+    omega arith
+
+pub returns-clause-moves : goal.returns-clause-moves
+returns-clause-moves g c =
+    let first = c.switch-sealed.ensures.moves in
+    let same = ap (λ (e : CpuKnows). e.moves) c.settle_slots-settled.ensures.keeps.end in
     omega arith
 
 pub returns-clause-serves : goal.returns-clause-serves

@@ -2,7 +2,8 @@ use Rattle.std.proofs.Common.{List, length, sym, ap, ◌∙◌, subst}
 use Rattle.dspec_deeds.specs.declared.deed.Deed.{Deed}
 use Rattle.dspec_cpu.specs.declared.cpu.Cpu.{Cpu}
 use Rattle.dspec_cpu.specs.Lists.{HasList, IsReady}
-use Rattle.dspec_cpu.specs.Switching.{never, with_seal}
+use Rattle.dspec_cpu.specs.Switching.{buffers_of, never, with_seal}
+use Rattle.dspec_cpu.proofs.RingMoves.{switched_moves}
 use Rattle.dspec_cpu.proofs.Seals.{batch_count, few_batches}
 use Rattle.dspec_cpu.proofs.Switches.{passed, switched_by, switched_is, switched_list, switched_ready, switched_same}
 use Rattle.dspec_cpu.proofs.cpu.Cpu.switch.Goals as goal
@@ -44,3 +45,10 @@ returns-clause-switches g c =
     let cpu = c.args.self.now in
     switched_by _ _ _ c.args.words.now cpu c.requires.ready (sym c.is_fill.ensures ∙ c.if-is_fill.false) c.hand_on.new.end c.hand_on.new.in_hand c.hand_on.ensures c.load_ask-ask.result
     c.load_ask-ask.new.self c.load_ask-ask.ensures.seat.0 c.load_ask-ask.ensures.seat.1 c.load_ask-ask.ensures.step c.heed.new.self c.heed.ensures.beside c.heed.result c.heed.ensures.heeds
+
+pub returns-clause-moves : goal.returns-clause-moves
+returns-clause-moves g c =
+    let cpu = c.args.self.now in
+    switched_moves _ _ _ (buffers_of cpu) c.heed.result _ (buffers_of c.heed.new.self)
+    (switched_by _ _ _ c.args.words.now cpu c.requires.ready (sym c.is_fill.ensures ∙ c.if-is_fill.false) c.hand_on.new.end c.hand_on.new.in_hand c.hand_on.ensures c.load_ask-ask.result
+    c.load_ask-ask.new.self c.load_ask-ask.ensures.seat.0 c.load_ask-ask.ensures.seat.1 c.load_ask-ask.ensures.step c.heed.new.self c.heed.ensures.beside c.heed.result c.heed.ensures.heeds)

@@ -1,7 +1,7 @@
 use Rattle.std.proofs.Common.{◌<◌, ◌∙◌, ℕ, length, refl, sym, ap, subst}
 use Rattle.std.proofs.lemmas.Option.{slice_get_read}
 use Rattle.dspec_deeds.specs.declared.config.Config.{Config}
-use Rattle.dspec_session.proofs.Passing.{gave_same, gave_there, refused_full}
+use Rattle.dspec_session.proofs.Passing.{gave_same, gave_there, none_out, refused_full}
 use Rattle.dspec_session.proofs.consumer.Consumer.give_back.Goals as goal
 
 pub returns-clause-same : goal.returns-clause-same
@@ -22,5 +22,14 @@ returns-clause-given c =
 
 pub returns-clause-why : goal.returns-clause-why
 returns-clause-why c =
+    let ends = c.self.inside.ends.items in
+    let cpu = c.args.batch.cpu in
+    let within : cpu < length ends = subst (λ (n : ℕ). cpu < n) (sym c.self.invariant.all) c.if-batch-self.false in
     rw (← c.self.view_is)
-    (refused_full c.self.inside.seat c.self.inside.ends.items c.args.batch c.index_mut-end.result.now c.give_back.new.self c.index_mut-end.ensures.value c.give_back.result c.give_back.ensures.full)
+    (refused_full c.self.inside.seat ends c.args.batch c.index_mut-end.result.now c.give_back.new.self c.index_mut-end.ensures.value c.give_back.result
+    (slice_get_read ends (length ends) cpu c.index_mut-end.result.now refl within c.index_mut-end.ensures.value) c.give_back.ensures.refused c.give_back.ensures.full)
+
+pub returns-then-not-has_out-clause-why : goal.returns-then-not-has_out-clause-why
+returns-then-not-has_out-clause-why c =
+    rw (← c.self.view_is)
+    (none_out c.self.inside.seat c.self.inside.ends.items c.args.batch c.index_mut-end.result.now c.index_mut-end.result.now c.index_mut-end.ensures.value c.if-not-has_out.ensures)

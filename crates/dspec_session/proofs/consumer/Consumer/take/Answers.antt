@@ -1,25 +1,16 @@
-use Rattle.std.proofs.Common.{◌∙◌, ℕ, ◌<◌, List, length, refl, sym, ap, subst}
+use Rattle.std.proofs.Common.{ℕ, ◌<◌, length, refl, sym, subst}
 use Rattle.std.proofs.lemmas.Option.{slice_get_read}
 use Rattle.dspec_deeds.specs.declared.config.Config.{Config}
-use Rattle.dspec_ring.specs.Known.{ConsumerKnows}
-use Rattle.dspec_session.specs.Consumers.{Consuming}
-use Rattle.dspec_session.specs.Batches.{HasNoneWaiting}
-use Rattle.dspec_session.proofs.Passing.{took_same, took_there}
-use Rattle.dspec_session.proofs.Ends.{put_back, none_weaker, none_waiting}
+use Rattle.dspec_session.proofs.Passing.{took_none, took_same, took_there}
 use Rattle.dspec_session.proofs.consumer.Consumer.take.Goals as goal
 
 pub returns-clause-none : goal.returns-clause-none
 returns-clause-none c =
-    let seat = c.self.inside.seat in
     let ends = c.self.inside.ends.items in
-    let old = c.index_mut-end.result.now in
-    let is = c.index_mut-end.ensures.value in
-    none_weaker c.take.result
-    (λ h. (
-      ap (λ (es : List ConsumerKnows). record { seat = seat; ends = es }) (put_back ends c.args.cpu old c.take.new.self is h.0) ∙ c.self.view_is,
-      subst (λ (x : Consuming). HasNoneWaiting c.args.cpu x) c.self.view_is (none_waiting ends c.args.cpu old is h.1),
-    ))
-    c.take.ensures.none
+    let within : c.args.cpu < length ends = subst (λ (n : ℕ). c.args.cpu < n) (sym c.self.invariant.all) c.if-cpu-self.false in
+    rw (← c.self.view_is)
+    (took_none c.self.inside.seat ends c.args.cpu c.index_mut-end.result.now c.take.new.self c.index_mut-end.ensures.value c.take.result
+    (slice_get_read ends (length ends) c.args.cpu c.index_mut-end.result.now refl within c.index_mut-end.ensures.value) c.take.ensures.none)
 
 pub returns-clause-same : goal.returns-clause-same
 returns-clause-same c =

@@ -1,0 +1,49 @@
+-- How many moves of its rings a CPU makes.
+use Rattle.std.proofs.Common.{◌≡◌, ℕ, ◌+◌, ◌≤◌, Bool, Option, Some, None, refl, ap, arith, inl, inr}
+use Rattle.dspec_buffer.specs.Stored.{Stored}
+use Rattle.dspec_ring.specs.declared.batch.Batch.{Batch}
+use Rattle.dspec_ring.specs.Known.{CpuKnows}
+use Rattle.dspec_deeds.specs.declared.config.Config.{Config}
+use Rattle.dspec_table.specs.declared.rule.View.{View}
+use Rattle.dspec_cpu.specs.Switching.{Buffers, FindsSpare, HandsOn, Heeds, not_asked, worn_out, no_spare, held_up, switched, Switches, never, looked, most_moves}
+
+-- one push for a batch in hand
+handing : Option Batch → ℕ
+handing None = 0
+handing (Some b) = 1
+
+handed_by : (e : CpuKnows) (w : Option Batch) (f : CpuKnows) (left : Option Batch) → HandsOn e w f left → f.moves ≤ e.moves + handing w
+unfolding handing
+handed_by e None f left h = let same = ap (λ (x : CpuKnows). x.moves) h.0 in omega arith
+handed_by e (Some b) f None h = let one = h.moves in omega arith
+handed_by e (Some b) f (Some back) h = let one = ap (λ (x : CpuKnows). x.moves) h.1 in omega arith
+
+found_by : (size : ℕ) (e : CpuKnows) (x : Option Stored) (f : CpuKnows) (y : Option Stored) → FindsSpare size e x f y → f.moves ≤ e.moves + 1
+found_by size e (Some b) f y h = let same = ap (λ (x : CpuKnows). x.moves) h.0 in omega arith
+found_by size e None f (Some b) h = let one = h.1.moves in omega arith
+found_by size e None f None (inl h) = let one = ap (λ (x : CpuKnows). x.moves) h.0 in omega arith
+found_by size e None f None (inr h) = let one = h.1.moves in omega arith
+
+heeded_by : (k : Config) (c ask : ℕ) (x : Buffers) (sealed : Bool) (y : Buffers) → Heeds k c ask x sealed y → y.end.moves ≤ x.end.moves + 2
+unfolding handing
+heeded_by k c ask x sealed y (not_asked le) = omega arith
+heeded_by k c ask x sealed y (worn_out lt le) = omega arith
+heeded_by k c ask x sealed y (no_spare lt below f finds) = let found = found_by k.bufsize x.end x.spare f None finds in omega arith
+heeded_by k c ask x sealed y (held_up lt below f s finds b is more) = let found = found_by k.bufsize x.end x.spare f (Some s) finds in omega arith
+heeded_by k c ask x sealed y (switched lt below f s finds none g left hands) =
+    let found = found_by k.bufsize x.end x.spare f (Some s) finds in
+    let handed = handed_by f (Some _) g left hands in
+    omega arith
+
+most : (w : Option Batch) → handing w + 2 ≡ most_moves w
+unfolding handing
+most None = refl
+most (Some b) = refl
+
+pub switched_moves : (k : Config) (c : ℕ) (v : View) (x : Buffers) (sealed : Bool) (w : View) (y : Buffers) → Switches k c v x sealed w y → y.end.moves ≤ x.end.moves + most_moves x.in_hand
+switched_moves k c v x sealed w y (never fill) = omega arith
+switched_moves k c v x sealed w y (looked unfilled e left hands ask u loaded s z heeds) =
+    let first = handed_by x.end x.in_hand e left hands in
+    let then_at_most = heeded_by k c ask (record x { end = e; in_hand = left }) s z heeds in
+    let all = most x.in_hand in
+    omega arith
