@@ -1,8 +1,6 @@
-ghost use Rattle.std.specs.Prelude.{◌≡◌, IfErr, IfOk};
 ghost use Rattle.dspec_session.specs.Sessions.{IsSession};
-ghost use Rattle.dspec_replay.specs.Replayed.{IsSudden};
 
-use crate::halt::Halt;
+use crate::fault::Halt;
 use crate::playing::Playing;
 use dspec_cpu::{Cpu, Listed};
 use dspec_play::{Close, Outcome, Series};
@@ -13,8 +11,6 @@ impl<S: Schema> Playing<S> {
     /// Ends the session, and gives what a play leaves, but for the deeds: what is left of each CPU is read behind what was taken.
     pub fn close(self, alloc: Global) -> Result<Outcome, Halt>
         requires session { IsSession ⟦<Cpu<S> as Listed>⟧.is_ready self.schema self.session }
-        ensures answers { IfOk result (λ outcome. outcome.answers ≡ self.answers) }
-        ensures refused { IfErr result IsSudden }
     {
         let mut basket = self.basket;
         let mut reports = Series::new(alloc);

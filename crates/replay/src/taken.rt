@@ -1,7 +1,4 @@
-ghost use Rattle.std.specs.Prelude.{IfErr};
-ghost use Rattle.dspec_replay.specs.Replayed.{IsSudden};
-
-use crate::halt::Halt;
+use crate::fault::Halt;
 use dspec_buffer::read_all;
 use dspec_deeds::Answer;
 use dspec_play::Series;
@@ -30,9 +27,7 @@ fn read_back<S: Schema>(
     batch: &Batch,
     cpu: u32,
     stream: &mut Series<Rec>,
-) -> Result<Answer, Halt>
-    ensures { IfErr result IsSudden }
-{
+) -> Result<Answer, Halt> {
     let Ok(records) = read_all(schema, batch.buffer.bytes()) else {
         return Err(Halt::NoText(cpu));
     };
@@ -63,9 +58,7 @@ impl Basket {
     }
 
     /// A batch of the CPU is read, and is out from then on.
-    pub fn add<S: Schema>(&mut self, schema: &S, cpu: u32, batch: Batch) -> Result<Answer, Halt>
-        ensures { IfErr result IsSudden }
-    {
+    pub fn add<S: Schema>(&mut self, schema: &S, cpu: u32, batch: Batch) -> Result<Answer, Halt> {
         let Some(taken) = self.taken.get_mut(cpu as usize) else {
             return Ok(Answer::TookNone);
         };
@@ -75,9 +68,7 @@ impl Basket {
     }
 
     /// A batch of the CPU that is left at the end is read.
-    pub fn read<S: Schema>(&mut self, schema: &S, cpu: u32, batch: &Batch) -> Result<(), Halt>
-        ensures { IfErr result IsSudden }
-    {
+    pub fn read<S: Schema>(&mut self, schema: &S, cpu: u32, batch: &Batch) -> Result<(), Halt> {
         let Some(taken) = self.taken.get_mut(cpu as usize) else {
             return Ok(());
         };

@@ -1,9 +1,7 @@
-ghost use Rattle.std.specs.Prelude.{IfErr};
 ghost use Rattle.dspec_cpu.specs.Lists.{words_of};
 ghost use Rattle.dspec_session.specs.Consumers.{IsConsumerOf, IsSameConsumer};
-ghost use Rattle.dspec_replay.specs.Replayed.{IsSudden};
 
-use crate::halt::Halt;
+use crate::fault::Halt;
 use crate::taken::Basket;
 use dspec_cpu::Shared;
 use dspec_deeds::{Answer, ConsumerOp};
@@ -33,7 +31,6 @@ pub fn call_consumer<S: Schema>(
     requires session { IsConsumerOf (words_of shared.now) consumer.old }
     ensures session { IsConsumerOf (words_of shared.now) consumer.new }
     ensures same { IsSameConsumer consumer.old consumer.new }
-    ensures refused { IfErr result IsSudden }
 {
     match op {
         ConsumerOp::Ask(cpu) => {

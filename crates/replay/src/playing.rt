@@ -1,11 +1,8 @@
-ghost use Rattle.std.specs.Prelude.{◌≡◌, ◌×◌, ◌++◌, ◌∷◌, [], None, Some, length, map, IfErr, IfOk, OnOk};
-ghost use Rattle.dspec_deeds.specs.Ranges.{start_fault};
+ghost use Rattle.std.specs.Prelude.{IfOk};
 ghost use Rattle.dspec_session.specs.Sessions.{IsSession};
-ghost use Rattle.dspec_deeds.specs.declared.calls.Turn.TheVariants.{RunCpu, RunConsumer};
-ghost use Rattle.dspec_replay.specs.Replayed.{IsDue, IsSamePlay, call_of, setup_halt, turn_halt, whole_call_of};
 
 use crate::calls::call_consumer;
-use crate::halt::Halt;
+use crate::fault::Halt;
 use crate::taken::Basket;
 use dspec_calls::{Uncalled, meet_all, run_cpu};
 use dspec_cpu::{Cpu, Listed};
@@ -29,11 +26,6 @@ impl<S: Schema> Playing<S> {
     /// A session that has just begun.
     pub fn start(alloc: Global, config: &Config, schema: S) -> Result<Playing<S>, Halt>
         ensures session { IfOk result (λ p. IsSession ⟦<Cpu<S> as Listed>⟧.is_ready p.schema p.session) }
-        ensures schema { IfOk result (λ p. p.schema ≡ schema) }
-        ensures cpus { IfOk result (λ p. length p.session.cpus.items ≡ config.now.cpus) }
-        ensures empty { IfOk result (λ p. p.answers ≡ []) }
-        ensures allowed { IfOk result (λ _. start_fault config.now ≡ None) }
-        ensures refused { IfErr result (IsDue (setup_halt (start_fault config.now))) }
     {
         let session = match Session::start(alloc, config, schema) {
             Ok(session) => session,
@@ -52,10 +44,6 @@ impl<S: Schema> Playing<S> {
     fn run_cpu(&mut self, number: usize, cpu: u32, op: CpuOp) -> Result<Answer, Halt>
         requires session { IsSession ⟦<Cpu<S> as Listed>⟧.is_ready self.old.schema self.old.session }
         ensures session { IsSession ⟦<Cpu<S> as Listed>⟧.is_ready self.new.schema self.new.session }
-        ensures same { IsSamePlay self.old self.new }
-        ensures answers { self.new.answers ≡ self.old.answers }
-        ensures allowed { IfOk result (λ _. turn_halt (S.accepted self.old.schema) (length self.old.session.cpus.items) number (RunCpu cpu op) ≡ None) }
-        ensures refused { IfErr result (IsDue (turn_halt (S.accepted self.old.schema) (length self.old.session.cpus.items) number (RunCpu cpu op))) }
     {
         match run_cpu(&mut self.session, &self.schema, cpu, op) {
             Ok(answer) => Ok(answer),
@@ -68,10 +56,6 @@ impl<S: Schema> Playing<S> {
     fn run_consumer(&mut self, number: usize, op: ConsumerOp) -> Result<Answer, Halt>
         requires session { IsSession ⟦<Cpu<S> as Listed>⟧.is_ready self.old.schema self.old.session }
         ensures session { IsSession ⟦<Cpu<S> as Listed>⟧.is_ready self.new.schema self.new.session }
-        ensures same { IsSamePlay self.old self.new }
-        ensures answers { self.new.answers ≡ self.old.answers }
-        ensures allowed { IfOk result (λ _. turn_halt (S.accepted self.old.schema) (length self.old.session.cpus.items) number (RunConsumer op) ≡ None) }
-        ensures refused { IfErr result (IsDue (turn_halt (S.accepted self.old.schema) (length self.old.session.cpus.items) number (RunConsumer op))) }
     {
         let session = &mut self.session;
         if let ConsumerOp::Ask(cpu) | ConsumerOp::Take(cpu) | ConsumerOp::GiveBack(cpu) = op {
@@ -92,11 +76,6 @@ impl<S: Schema> Playing<S> {
     fn run(&mut self, number: usize, turn: Turn) -> Result<(Actor, Op, Answer), Halt>
         requires session { IsSession ⟦<Cpu<S> as Listed>⟧.is_ready self.old.schema self.old.session }
         ensures session { IsSession ⟦<Cpu<S> as Listed>⟧.is_ready self.new.schema self.new.session }
-        ensures same { IsSamePlay self.old self.new }
-        ensures answers { self.new.answers ≡ self.old.answers }
-        ensures its { IfOk result (λ ended. call_of ended ≡ whole_call_of turn) }
-        ensures allowed { IfOk result (λ _. turn_halt (S.accepted self.old.schema) (length self.old.session.cpus.items) number turn ≡ None) }
-        ensures refused { IfErr result (IsDue (turn_halt (S.accepted self.old.schema) (length self.old.session.cpus.items) number turn)) }
     {
         match turn {
             Turn::RunCpu(cpu, op) => Ok((
@@ -119,10 +98,6 @@ impl<S: Schema> Playing<S> {
     pub fn turn(&mut self, number: usize, turn: Turn) -> Result<(), Halt>
         requires session { IsSession ⟦<Cpu<S> as Listed>⟧.is_ready self.old.schema self.old.session }
         ensures session { IsSession ⟦<Cpu<S> as Listed>⟧.is_ready self.new.schema self.new.session }
-        ensures same { IsSamePlay self.old self.new }
-        ensures answered { OnOk result (map call_of self.new.answers ≡ map call_of self.old.answers ++ whole_call_of turn ∷ []) }
-        ensures allowed { IfOk result (λ _. turn_halt (S.accepted self.old.schema) (length self.old.session.cpus.items) number turn ≡ None) }
-        ensures refused { IfErr result (IsDue (turn_halt (S.accepted self.old.schema) (length self.old.session.cpus.items) number turn)) }
     {
         let ended = self.run(number, turn)?;
         meet_all(&mut self.session, &self.schema);

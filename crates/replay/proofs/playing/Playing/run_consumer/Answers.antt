@@ -1,6 +1,6 @@
 use Rattle.std.proofs.Common.{refl}
 use Rattle.dspec_session.proofs.Callings.{consumer_called}
-use Rattle.dspec_replay.proofs.playing.Playing.run_consumer.Goals as goal
+use Rattle.replay.proofs.playing.Playing.run_consumer.Goals as goal
 
 pub returns : goal.returns
 returns g c =
