@@ -4,7 +4,7 @@ use Rattle.dspec_record.specs.EnablingRows.{EnabledRows}
 use Rattle.dspec_record.specs.Schemas.{enabled, table_shape, table_accepts, table_text}
 use Rattle.dspec_ring.specs.declared.batch.Batch.{Batch}
 use Rattle.dspec_session.specs.Asking.{Asked}
-use Rattle.dspec_session.specs.Batches.{GaveBack, HasNoneWaiting, IsRefused, Took}
+use Rattle.dspec_session.specs.Batches.{FoundNone, GaveBack, IsRefused, Took}
 use Rattle.dspec_session.specs.Cleaning.{Cleaned}
 use Rattle.dspec_session.specs.Consumers.{Consuming, set_up_of, view_of}
 use Rattle.dspec_session.specs.declared.demonstration.four.Four.{Four}
@@ -22,14 +22,14 @@ none_taken = record { first = none_read; second = none_read; third = none_read; 
 abbrev pub FollowsBatch : EnabledRows → Batch → Order → Order → Type 0
 FollowsBatch s b o u = Follows (table_shape s.header (enabled s.rows)) (table_accepts s.header (enabled s.rows)) (table_text s.header (enabled s.rows)) b.buffer.text o u
 
--- it was given back, or nothing changed and it is refused
+-- it was given back, or it is refused
 abbrev pub IsBackOrRefused : Batch → Consuming → Consuming → Type 0
-IsBackOrRefused b x y = GaveBack b x y ⊎ ((y ≡ x) × IsRefused b x)
+IsBackOrRefused b x y = GaveBack b x y ⊎ IsRefused b x y
 
 -- none came, or a batch came out of the ring, was followed, and went back
 abbrev pub IsTaken : EnabledRows → ℕ → Consuming → Order → Consuming → Order → Type 0
 IsTaken s c x o y u =
-    ((y ≡ x) × HasNoneWaiting c x × (u ≡ o))
+    (FoundNone c x y × (u ≡ o))
     ⊎ ((b : Batch) × (z : Consuming) × Took c b x z × FollowsBatch s b o u × IsBackOrRefused b z y)
 
 -- the CPU was asked, and then a batch of it taken
