@@ -1,11 +1,14 @@
 //! What the demonstration did: its CPUs and its consumer in step, so that batches come whatever the schedule, and nobody held back.
+ghost use Rattle.std.specs.Prelude.{◌≡◌, length};
 ghost use Rattle.dspec_session.specs.Results.{IsDone};
+ghost use Rattle.dspec_session.specs.Sessions.{IsSession};
 
 use super::calls::valued;
 use dspec_calls::run_cpu;
+use dspec_cpu::{Cpu, Listed};
 use dspec_deeds::{Answer, CpuOp, Decided, Opening, Report, Spoken, Traced};
-use dspec_record::Rec;
-use dspec_session::{Closed, Demonstration, Gate, RoundGate, demonstrate};
+use dspec_record::Enablings;
+use dspec_session::{Closed, Demonstration, Gate, RoundGate, Session, demonstrate};
 use dspec_word::SpecId;
 use std::process::Abort;
 use std::sync::atomic::{AtomicU64, Ordering};
@@ -86,50 +89,71 @@ const LATE: u64 = 2;
 
 /// A hundred records were traced, and a hundred speculated. Those of fifty rounds were discarded, the others committed.
 fn tells_of_rounds(report: &Report) -> bool {
-    let committed = report.accepted + report.dropped + report.lost;
-    let decided = committed + report.discarded;
+    let traced = report.accepted.saturating_add(report.dropped);
+    let committed = traced.saturating_add(report.lost);
+    let decided = committed.saturating_add(report.discarded);
     report.offered == 200 + LATE
-        && report.specdropped + report.held + report.worn == 0
-        && decided + report.void == report.offered
+        && report.specdropped == 0
+        && report.held == 0
+        && report.worn == 0
+        && decided.saturating_add(report.void) == report.offered
         && report.void <= LATE + FEW
         && committed <= 150
         && report.discarded <= 50
-        && report.accepted + report.dropped >= 100
+        && traced >= 100
         && report.stopped == 5
 }
 
-/// The calls that a stop ends, and what they answer then.
-fn late_calls(rec: Rec) -> [(CpuOp, Answer); 5] {
-    let none = SpecId::NONE;
-    [
-        (CpuOp::Trace(rec), Answer::Traced(Traced::Stopped)),
-        (CpuOp::Speculation, Answer::Opening(Opening::Stopped)),
-        (CpuOp::Speculate(none, rec), Answer::Spoken(Spoken::Stopped)),
-        (CpuOp::Commit(none), Answer::Decided(Decided::Stopped)),
-        (CpuOp::Discard(none), Answer::Decided(Decided::Stopped)),
-    ]
+/// Whether a CPU answers a call so.
+fn answers(
+    session: &mut Session<Enablings>,
+    schema: &Enablings,
+    cpu: u32,
+    op: CpuOp,
+    answer: Answer,
+) -> bool
+    requires { IsSession ⟦<Cpu<Enablings> as Listed>⟧.is_ready schema.now session.old }
+    ensures { IsSession ⟦<Cpu<Enablings> as Listed>⟧.is_ready schema.now session.new }
+{
+    run_cpu(session, schema, cpu, op) == Ok(answer)
 }
 
-/// Calls each CPU, which has to answer that the session was stopped, and ends the session: its reports have to tell of all rounds.
+/// Each of the five calls of a CPU that a stop ends, which has to answer that the session was stopped.
+fn is_stopped(rt: &impl Abort, session: &mut Session<Enablings>, schema: &Enablings, cpu: u32)
+    requires { IsSession ⟦<Cpu<Enablings> as Listed>⟧.is_ready schema.now session.old }
+    ensures { IsSession ⟦<Cpu<Enablings> as Listed>⟧.is_ready schema.now session.new }
+{
+    let rec = valued(1, 100);
+    let none = SpecId::NONE;
+    let traced = Answer::Traced(Traced::Stopped);
+    let opening = Answer::Opening(Opening::Stopped);
+    let spoken = Answer::Spoken(Spoken::Stopped);
+    let decided = Answer::Decided(Decided::Stopped);
+    let one = answers(session, schema, cpu, CpuOp::Trace(rec), traced);
+    let two = answers(session, schema, cpu, CpuOp::Speculation, opening);
+    let three = answers(session, schema, cpu, CpuOp::Speculate(none, rec), spoken);
+    let four = answers(session, schema, cpu, CpuOp::Commit(none), decided);
+    let five = answers(session, schema, cpu, CpuOp::Discard(none), decided);
+    assert!(rt; one && two && three && four && five, "CPU {cpu}");
+}
+
+/// Calls each CPU behind the stop, and ends the session: its reports have to tell of all rounds.
 fn ends(rt: &impl Abort, shown: Demonstration) -> Closed
     requires { IsDone shown }
+    ensures { length result ≡ 4 }
 {
     let Demonstration {
         mut session,
         schema,
         ..
     } = shown;
-    let cpus = session.cpus.len() as u32;
-    for cpu in 0..cpus {
-        for (op, answer) in late_calls(valued(1, 100)) {
-            assert!(rt;
-                run_cpu(&mut session, &schema, cpu, op) == Ok(answer),
-                "CPU {cpu}"
-            );
-        }
-    }
+    is_stopped(rt, &mut session, &schema, 0);
+    is_stopped(rt, &mut session, &schema, 1);
+    is_stopped(rt, &mut session, &schema, 2);
+    is_stopped(rt, &mut session, &schema, 3);
+    assert!(rt; session.cpus.len() == 4);
     let closed = session.finish();
-    for cpu in 0..cpus {
+    for cpu in 0..4 {
         assert!(rt; tells_of_rounds(closed.report(cpu)), "CPU {cpu}");
     }
     closed
