@@ -5,8 +5,10 @@ BENCH = crates/bench/out/bench
 BENCH_WORDS = crates/bench_words/out/bench_words
 BENCH_CPU = crates/bench_cpu/out/bench_cpu
 ROUNDS = 50
+COUNT = 100000
+SEED = 1
 
-.PHONY: check play test examples api edits mutants rows soak build bench bench-instructions build-bench
+.PHONY: check play test examples api edits mutants rows soak fuzz build bench bench-instructions build-bench
 
 # Plays one schedule at once: with the proved program where it is built, else with the trial build of the same sources.
 play:
@@ -40,9 +42,15 @@ mutants:
 rows:
 	@sh .ci/rows
 
-# What runs in threads, 1,000 times each; the gate runs it 50 and 20 times.
+# What runs in threads, so many times each, as in make soak COUNT=5000; the gate runs it 50, 20 and 20 times.
+soak: COUNT = 1000
 soak:
-	@sh .ci/threads 1000 1000
+	@sh .ci/threads "$(COUNT)" "$(COUNT)"
+	@sh .ci/torture "$(COUNT)" "$(SEED)"
+
+# Random schedules of whole calls, by the player and on a session; the gate plays 2,000.
+fuzz:
+	@sh .ci/fuzz "$(COUNT)" "$(SEED)"
 
 # Proves what the program stands on, and builds it; where nothing has changed, it is kept. It gets the time at which the build
 # began, so that what was edited meanwhile is newer, and play doesn't take the program for proved.

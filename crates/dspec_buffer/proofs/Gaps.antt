@@ -1,5 +1,5 @@
 -- Padding words in bytes: four zero bytes are an EPID of 0.
-use Rattle.std.proofs.Common.{◌≡◌, ◌+◌, ◌-◌, ◌%◌, ◌≤◌, ◌<◌, ◌++◌, ℕ, true, Option, Some, None, List, [], ◌∷◌, length, take, drop, get_or, inl, inr, refl, sym, ap, ◌∙◌, arith, ⊎_elim, nat_lt, nat_eq, if◌then◌else◌, length-drop, Fits, w8}
+use Rattle.std.proofs.Common.{◌≡◌, ◌+◌, ◌-◌, ◌%◌, ◌≤◌, ◌<◌, ◌++◌, ℕ, true, Option, Some, None, List, [], ◌∷◌, length, take, drop, get_or, inl, inr, refl, sym, ap, ◌∙◌, arith, ⊎_elim, nat_lt, nat_eq, if◌then◌else◌, length-drop}
 use Rattle.std.specs.Option.{option_eq}
 use Rattle.std.proofs.lemmas.Nat.{le_bytes_4}
 use Rattle.std.proofs.lemmas.Bool.{cases_lt, lt-ltb, le-ltb}
@@ -18,19 +18,9 @@ epid_named xs e h =
     (λ long. let k = rw (le-ltb (length xs) 4 long) at h in (long, cc))
     (cases_lt (length xs) 4)
 
-pub epid_missing : (xs : List ℕ) → None ≡ (if nat_lt (length xs) 4 then None else Some (front_epid xs)) → length xs < 4
-epid_missing xs h =
-    ⊎_elim
-    (λ short. short)
-    (λ long. let k = rw (le-ltb (length xs) 4 long) at h in cc)
-    (cases_lt (length xs) 4)
-
 is_some_zero : (o : Option ℕ) → true ≡ option_eq nat_eq o (Some 0) → o ≡ Some 0
 is_some_zero None h = cc
 is_some_zero (Some e) h = ⊎_elim (λ p. ap Some p.1) (λ p. let k = p.0 in cc) (eqb_tells e 0)
-
-AllBytes : List ℕ → Type 0
-AllBytes xs = (i : ℕ) → Fits w8 (get_or xs i 0)
 
 -- an EPID of 0 is a padding word
 zeros : (xs : List ℕ) → 4 ≤ length xs → ((i : ℕ) → get_or xs i 0 < 256) → front_epid xs ≡ 0 → take 4 xs ≡ padding_word

@@ -1,5 +1,5 @@
 -- What a schema reads at the front of bytes, as a reader at some place answers it.
-use Rattle.std.proofs.Common.{◌≡◌, ◌≢◌, ◌+◌, ◌-◌, ◌%◌, ◌<◌, ◌++◌, ℕ, Bool, Option, Some, None, Err, List, length, drop, inl, inr, sym, ap, subst, ◌∙◌, arith, ⊎_elim, length-append, length-drop}
+use Rattle.std.proofs.Common.{◌≡◌, ◌+◌, ◌-◌, ◌%◌, ◌<◌, ◌++◌, ℕ, Bool, Option, Err, List, length, drop, inl, inr, sym, ap, subst, ◌∙◌, arith, ⊎_elim, length-append, length-drop}
 use Rattle.std.proofs.lemmas.Bool.Decides.{eqb_tells}
 use Rattle.std.proofs.lemmas.List.{take-append-drop, drop-drop}
 use Rattle.dspec_record.specs.Record.{Record}
@@ -13,15 +13,6 @@ use Rattle.dspec_buffer.proofs.SchemaLaws.{SchemaLaws}
 use Rattle.dspec_buffer.proofs.Texts.{text_facts}
 
 module _ (shape : ℕ → Option Shape) (accepted : Record → Bool) (text : Record → List ℕ) (laws : SchemaLaws shape accepted text) where
-  -- an alignment is never 0
-  pub align_positive : (e : ℕ) (h : Shape) → shape e ≡ Some h → 0 < h.align
-  align_positive e h k =
-      ⊎_elim (λ p. let q : h.align ≡ 4 = p in omega arith) (λ p. let q : h.align ≡ 8 = p in omega arith) (laws.shapes_fit e h k).aligned
-
-  -- an EPID that has a shape isn't 0
-  pub shape_named : (e : ℕ) (h : Shape) → shape e ≡ Some h → e ≢ 0
-  shape_named e h k z = let n : shape e ≡ None = ap shape z ∙ laws.zero_has_none in cc
-
   -- where nothing is misaligned, an EPID that has a shape stands at a multiple of its alignment
   named_aligned : (at : ℕ) (left : List ℕ) (h : Shape) → ¬ FaultHere shape accepted text Misaligned at left → NamesShape shape left h → at % h.align ≡ 0
   named_aligned at left h fine n = ⊎_elim (λ p. p.1) (λ p. absurd (fine (h, (n, p.1)))) (eqb_tells (at % h.align) 0)

@@ -20,10 +20,6 @@ module _ (shape : ℕ → Option Shape) (accepted : Record → Bool) (text : Rec
   pub remaining_at_start : (b : List ℕ) (rs : List Record) → BufferText shape accepted text 0 b rs → Remaining shape accepted text b 0
   remaining_at_start b rs h = remaining_of b 0 rs (record { within = omega arith; ahead = h })
 
-  pub text_left : (b : List ℕ) (rs : List Record) (m : Remaining shape accepted text b 0) → BufferText shape accepted text 0 b rs → BufferText shape accepted text 0 b m.0
-  text_left b rs m h =
-      subst (λ qs. BufferText shape accepted text 0 b qs) (m.1.1 rs (record { within = omega arith; ahead = h })) h
-
   -- what a step says where the records ahead are known to be there
   abbrev pub StepsOn : List ℕ → ℕ → Option (Record × ℕ) → Type 0
   StepsOn b o step = (rs : List Record) → HasAhead shape accepted text b o rs → Steps (HasAhead shape accepted text b) rs step

@@ -1,5 +1,5 @@
 -- Texts one behind another: what is read at a place where the records behind it are known.
-use Rattle.std.proofs.Common.{◌≡◌, ◌+◌, ◌<◌, ◌++◌, ℕ, Bool, IsTrue, Option, Some, None, Ok, Err, List, [], ◌∷◌, length, take, drop, refl, sym, ap, subst, ◌∙◌, arith, inl, inr, length-append, length-drop}
+use Rattle.std.proofs.Common.{◌≡◌, ◌+◌, ◌++◌, ℕ, Bool, IsTrue, Option, Some, None, Ok, Err, List, [], ◌∷◌, length, take, drop, refl, sym, ap, subst, ◌∙◌, arith, inl, inr, length-append, length-drop}
 use Rattle.std.proofs.lemmas.List.{take-append-drop, take_at, drop-drop, append_cancel_left}
 use Rattle.std.specs.List.{flat_map}
 use Rattle.dspec_record.specs.Record.{Record}
@@ -89,7 +89,3 @@ module _ (shape : ℕ → Option Shape) (accepted : Record → Bool) (text : Rec
   steps_none texts place [] k h f = refl
   steps_none texts place (q ∷ qs) k h f =
       absurd (no_fault k q (flat_map text qs) (first_accepted accepted q qs h.all_accepted) (subst (λ z. Answers shape accepted text z (Err k)) h.texts_are f))
-
-  -- a place past the end is none of a walk
-  pub steps_past : (texts : List ℕ) (place : ℕ) (rs : List Record) → HasTexts accepted text texts place rs → length texts < place → Steps (HasTexts accepted text texts) rs None
-  steps_past texts place rs h past = let within = h.within in absurd (omega arith)

@@ -2,9 +2,6 @@
 use Rattle.std.proofs.Common.{◌≡◌, ◌≢◌, ◌+◌, ◌%◌, ◌⊎◌, ℕ, inl, inr, arith}
 use Rattle.dspec_record.specs.Layout.{rounded_up}
 
-pub IsAlignment : ℕ → Type 0
-IsAlignment a = (a ≡ 4) ⊎ (a ≡ 8)
-
 -- what rounding up does: nothing, or one word up to a multiple of eight
 pub record IsRounded (o a p : ℕ) : Type 0 where
   pub multiple : p % a ≡ 0

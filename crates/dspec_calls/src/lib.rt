@@ -23,7 +23,7 @@ pub enum Uncalled {
 }
 
 /// Whether the schema accepts the call's record, if it has one.
-fn is_accepted<S: Schema>(schema: &S, op: &CpuOp) -> bool
+pub fn is_accepted<S: Schema>(schema: &S, op: &CpuOp) -> bool
     ensures { result ≡ is_of (S.accepted schema.now) op.now }
 {
     match op {
@@ -34,7 +34,7 @@ fn is_accepted<S: Schema>(schema: &S, op: &CpuOp) -> bool
 }
 
 /// A call of a CPU, whose record the schema accepts.
-fn call_cpu<S: Schema>(shared: &Shared, schema: &S, cpu: &mut Cpu<S>, op: &CpuOp) -> Answer
+pub fn call_cpu<S: Schema>(shared: &Shared, schema: &S, cpu: &mut Cpu<S>, op: &CpuOp) -> Answer
     requires ready { ⟦<Cpu<S> as Listed>⟧.is_ready (words_of shared.now) cpu.old }
     requires schema { schema_of cpu.old ≡ schema.now }
     requires accepted { is_of (S.accepted schema.now) op.now ≡ true }

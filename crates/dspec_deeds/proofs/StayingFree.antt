@@ -57,7 +57,3 @@ free_or_taken k c s w d h sound other inactive was = let no_scan = is_scan_other
     (either_way (opens_slot s d)))
     (λ (taken : opened_since c s h ≡ true). inr (rw (no_scan, taken) (or_true (opens_slot s d))))
     was
-
--- what was given out since the CPU's last Scan stays so under others' deeds
-pub since_other : (c s : ℕ) (d : Deed) (h : List Deed) → same_actor (Cpu c) (author d h) ≡ false → opened_since c s h ≡ true → opened_since c s (d ∷ h) ≡ true
-since_other c s d h other taken = let no_scan = is_scan_other c d h other in rw (no_scan, taken) (or_true (opens_slot s d))

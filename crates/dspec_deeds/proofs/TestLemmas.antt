@@ -82,10 +82,6 @@ id_is_itself a = rw (number_is_itself a.issue, number_is_itself a.slot)
 pub other_slot : (a b : Speculation) → a.slot ≢ b.slot → same_id a b ≡ false
 other_slot a b n = grind (arith, nat_tests)
 
--- identifiers of another issue
-pub other_issue : (a b : Speculation) → a.issue ≢ b.issue → same_id a b ≡ false
-other_issue a b n = grind (arith, nat_tests)
-
 -- equal actors
 pub same_actor_tells : (v w : Actor) → same_actor v w ≡ true → v ≡ w
 same_actor_tells (Cpu a) (Cpu b) e = ap Cpu (same_number a b e)

@@ -113,17 +113,6 @@ committing_tells s h e = go (opened (present s h) h) (verdict (present s h) h) (
         (b, record { given = eo; ruled = ev; alone = (λ i. solo_of (ev i) (ec i)) ∙ ap (λ x. if x then Some b else None) (sole (is_sole_or_none b cs) shown) })
     go true (discarded b) cs eo ev ec e = let shown : Discarding ≡ Committing = sym (λ i. if eo i then standing (ev i) (ec i) else Inactive) ∙ e in absurd (cc (shown))
 
--- such a commit has that code
-pub committing_code : (s c : ℕ) (h : List Deed) → IsCommitting s c h → (word_at s h).code ≡ Committing
-committing_code s c h is =
-    let alone : (if is_sole_or_none c (callers (present s h) h) then Some c else None) ≡ Some c = sym (ap (λ v. solo_of v (callers (present s h) h)) is.ruled) ∙ is.alone in
-    let sole = go (is_sole_or_none c (callers (present s h) h)) alone in
-    rw (is.given, is.ruled, sole) refl
-  where
-    go : (b : Bool) → (if b then Some c else None) ≡ Some c → b ≡ true
-    go true e = refl
-    go false e = absurd (cc (e))
-
 -- a decided speculation that no CPU decided alone waits for every CPU
 pub decided_awaits : (k : Config) (s : ℕ) (h : List Deed) → IsSound k h → is_undecided (verdict (present s h) h) ≡ false → solo (present s h) h ≡ None → awaits (word_at s h).code ≡ true
 decided_awaits k s h sound ruled none = rw (decided_given k h (present s h) sound ruled) (go (verdict (present s h) h) (callers (present s h) h) ruled none)

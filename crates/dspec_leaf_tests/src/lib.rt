@@ -1,9 +1,13 @@
-//! Tests of `dspec_record`, `dspec_buffer` and `dspec_word`, by worked examples. They stand in a crate above these, so
-//! that none of the three is proved again with its tests.
+//! Tests of `dspec_record`, `dspec_buffer`, `dspec_word`, `dspec_dice` and `dspec_logs`, by worked examples. They stand in a crate
+//! above these, so that none of them is proved again with its tests.
 #![tactic(auto)]
 
 #[cfg(test)]
 mod buffers;
+#[cfg(test)]
+mod dice;
+#[cfg(test)]
+mod logs;
 #[cfg(test)]
 mod records;
 #[cfg(test)]

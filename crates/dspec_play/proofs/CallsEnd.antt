@@ -5,19 +5,17 @@ use Rattle.dspec_record.specs.declared.field.Shape.{Shape}
 use Rattle.dspec_deeds.specs.declared.calls.Actor.{Actor}
 use Rattle.dspec_deeds.specs.declared.calls.Actor.TheVariants as actor
 use Rattle.dspec_deeds.specs.declared.calls.Answer.{Answer}
-use Rattle.dspec_deeds.specs.declared.calls.ConsumerOp.{ConsumerOp}
 use Rattle.dspec_deeds.specs.declared.calls.CpuOp.{CpuOp}
 use Rattle.dspec_play.specs.declared.flight.Caller.{Caller}
 use Rattle.dspec_play.specs.declared.flight.ConsumerFlight.{ConsumerFlight}
-use Rattle.dspec_play.specs.declared.flight.ConsumerFlight.TheVariants as consumer
 use Rattle.dspec_play.specs.declared.flight.CpuFlight.{CpuFlight}
 use Rattle.dspec_play.specs.declared.flight.CpuFlight.TheVariants as cpu
 use Rattle.dspec_play.specs.Play.{Moved, Cleaned, cpu_step, consumer_step}
 use Rattle.dspec_play.specs.Coherent.{StandsCaller, StandsSide, the_caller, PlayState, IsCoherent, idle_caller}
-use Rattle.dspec_play.specs.Turns.{begin_cpu, begin_consumer, Stepped, moved_to, cleaned_to, step_cpu, step_consumer, on_to_end}
+use Rattle.dspec_play.specs.Turns.{begin_cpu, Stepped, moved_to, cleaned_to, step_cpu, step_consumer, on_to_end}
 use Rattle.dspec_deeds.proofs.SetUp.{set_up}
-use Rattle.dspec_play.proofs.Coherence.{begin_cpu_coherent, begin_consumer_coherent, step_cpu_coherent, step_consumer_coherent}
-use Rattle.dspec_play.specs.Bounds.{op_bound, flight_bound, consumer_bound, clean_bound}
+use Rattle.dspec_play.proofs.Coherence.{begin_cpu_coherent, step_cpu_coherent, step_consumer_coherent}
+use Rattle.dspec_play.specs.Bounds.{op_bound, flight_bound, clean_bound}
 use Rattle.dspec_play.proofs.Bounded.{cpu_below, clean_below}
 use Rattle.dspec_play.proofs.StepEnds.{HasEnded, HasGoneOn, HasClosed, HasKeptOn, cpu_advances, clean_advances}
 
@@ -93,7 +91,3 @@ module _ (shape : ℕ → Option Shape) where
       let first : Caller = record (the_caller st.callers c) { flight = Some (cpu.Begun o); steps = 0 } in
       let here : the_caller (begin_cpu c o st).callers c ≡ first = get_or-set_same st.callers c first idle_caller (let count = ok.count in omega arith) in
       cpu_ends (op_bound st.config o) c (begin_cpu c o st) (cpu.Begun o) (begin_cpu_coherent shape st c o ok lt idle) lt (ap (λ (x : Caller). x.flight) here) (omega arith)
-
-  -- a whole call of the consumer has its answer
-  pub consumer_call_answers : (o : ConsumerOp) (st : PlayState) → IsCoherent shape st → HasAnswered actor.Consumer (on_to_end shape (consumer_bound st.config o) actor.Consumer (begin_consumer o st) None)
-  consumer_call_answers o st ok = consumer_ends (consumer_bound st.config o) (begin_consumer o st) (consumer.Begun o) (begin_consumer_coherent shape st o ok) refl (omega arith)

@@ -201,10 +201,3 @@ closing_closes shape k h fine rest =
       none_held = empty;
       waits = λ c j id lt is. waits_undecided shape k (closing shape k h) c j id done.0.rest.legal (empty c id lt) is;
     }
-
--- where nothing is decided alone, nothing decided is left unsettled by a CPU
-pub closing_settles : (shape : ℕ → Option Shape) (k : Config) (h : List Deed) → start_fault k ≡ None → CanClose shape k h → ((s : ℕ) → solo (present s h) h ≡ None)
-    → (c s : ℕ) → c < k.cpus → 1 ≤ s → s ≤ k.nspec → is_undecided (verdict (present s (closing shape k h)) (closing shape k h)) ≡ false → settled c (present s (closing shape k h)) (closing shape k h) ≡ true
-closing_settles shape k h fine rest alone c s lt one le ruled =
-    let done = cpus_settle shape k fine k.cpus h rest (omega arith) in
-    done.1 c s lt one le (decided_awaits k s (closing shape k h) done.0.rest.legal.0 ruled (done.0.solos s ∙ alone s))

@@ -68,9 +68,6 @@ RunsOn shape a total done st before now answers =
     (p : Playing) → IsAt st before p → (q : Playing) × (IsAt now answers q × (to_end shape (total - done) a q ≡ to_end shape total a p))
 
 module _ (shape : ℕ → Option Shape) (a : Actor) (total : ℕ) where
-  pub runs_first : (st : PlayState) (answers : List Ended) → RunsOn shape a total 0 st answers st answers
-  runs_first st answers p at = let all : total - 0 ≡ total = omega arith in (p, (at, ap (λ n. to_end shape n a p) all))
-
   -- one more step
   pub runs_on : (done : ℕ) (st : PlayState) (before : List Ended) (now new : PlayState) (answers after : List Ended) → done < total → is_idle a now ≡ false
       → ((p : Playing) → IsAt now answers p → IsAt new after (stepped shape a p))
@@ -92,11 +89,3 @@ module _ (shape : ℕ → Option Shape) (a : Actor) (total : ℕ) where
   runs_idle done st before now answers idle runs p at =
       let q = runs p at in
       subst (λ x. IsAt now answers x) (sym (idle_stays (total - done) q.0 (subst (λ s. is_idle a s ≡ true) q.1.0.state idle)) ∙ q.1.1) q.1.0
-
-  -- and where all steps are made
-  pub runs_through : (done : ℕ) (st : PlayState) (before : List Ended) (now : PlayState) (answers : List Ended) → done ≡ total
-      → RunsOn shape a total done st before now answers → (p : Playing) → IsAt st before p → IsAt now answers (to_end shape total a p)
-  runs_through done st before now answers all runs p at =
-      let q = runs p at in
-      let none : total - done ≡ 0 = omega arith in
-      subst (λ x. IsAt now answers x) (ap (λ n. to_end shape n a q.0) (sym none) ∙ q.1.1) q.1.0

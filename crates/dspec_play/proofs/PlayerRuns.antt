@@ -5,7 +5,6 @@ use Rattle.std.proofs.lemmas.List.{map-append}
 use Rattle.dspec_record.specs.declared.field.Shape.{Shape}
 use Rattle.dspec_record.specs.Record.{Record}
 use Rattle.dspec_deeds.specs.declared.calls.Actor.{Actor}
-use Rattle.dspec_deeds.specs.declared.calls.Actor.TheVariants as actor
 use Rattle.dspec_deeds.specs.declared.calls.Turn.{Turn}
 use Rattle.dspec_deeds.specs.declared.config.Config.{Config}
 use Rattle.dspec_deeds.specs.declared.deed.Deed.{Deed}
@@ -77,21 +76,6 @@ module _ (shape : ℕ → Option Shape) (accepts : Record → Bool) (k : Config)
 -- behind so many CPUs' runs
 abbrev pub RanCpus : (ℕ → Option Shape) → ℕ → PlayState → List Ended → PlayState → List Ended → Type 0
 RanCpus shape n st before now answers = (p : Playing) → IsAt st before p → IsAt now answers (cpus_ran shape n p)
-
-module _ (shape : ℕ → Option Shape) where
-  -- one more CPU
-  pub ran_more : (n : ℕ) (st now new : PlayState) (before answers after : List Ended)
-      → ((p : Playing) → IsAt now answers p → IsAt new after (ran shape (actor.Cpu n) p))
-      → RanCpus shape n st before now answers → RanCpus shape (n + 1) st before new after
-  ran_more n st now new before answers after next s p at =
-      subst (λ m. IsAt new after (cpus_ran shape m p)) (sym (add-one n)) (next (cpus_ran shape n p) (s p at))
-
-  -- all CPUs, then the consumer
-  pub ran_all : (k : Config) (st now new : PlayState) (before answers after : List Ended) → st.config ≡ k
-      → ((p : Playing) → IsAt now answers p → IsAt new after (ran shape actor.Consumer p))
-      → RanCpus shape k.cpus st before now answers → (p : Playing) → IsAt st before p → IsAt new after (all_ran shape p)
-  ran_all k st now new before answers after is next s p at =
-      subst (λ (m : Config). IsAt new after (ran shape actor.Consumer (cpus_ran shape m.cpus p))) (sym is ∙ ap (λ (x : PlayState). x.config) at.state) (next (cpus_ran shape k.cpus p) (s p at))
 
 same_map : {X : Type 0} (f g : ℕ → X) (n : ℕ) → ((c : ℕ) → c < n → f c ≡ g c) → map f (numbers_below n) ≡ map g (numbers_below n)
 same_map f g zero e = refl

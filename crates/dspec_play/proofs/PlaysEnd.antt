@@ -1,18 +1,16 @@
 -- A whole play is coherent, and at its end no call is in flight.
-use Rattle.std.proofs.Common.{◌≡◌, ℕ, zero, suc, ◌+◌, ◌*◌, ◌<◌, ◌≤◌, Bool, true, false, ◌==◌, List, Option, Some, None, if◌then◌else◌, refl, sym, ap, ◌∙◌, subst, ⊎_elim, arith}
+use Rattle.std.proofs.Common.{◌≡◌, ℕ, zero, suc, ◌+◌, ◌*◌, ◌<◌, ◌≤◌, Bool, true, false, ◌==◌, Option, Some, None, if◌then◌else◌, refl, sym, ap, ◌∙◌, subst, ⊎_elim, arith}
 use Rattle.std.specs.Prelude.{is_none}
 use Rattle.std.proofs.lemmas.Bool.Decides.{nat_tests}
 use Rattle.std.proofs.lemmas.List.{get_or-set_same, get_or-set_other}
 use Rattle.std.proofs.Math.Nat.{mul-le-mul_right}
 use Rattle.dspec_record.specs.declared.field.Shape.{Shape}
-use Rattle.dspec_record.specs.Record.{Record}
 use Rattle.dspec_deeds.specs.declared.config.Config.{Config}
 use Rattle.dspec_deeds.specs.declared.calls.Actor.{Actor}
 use Rattle.dspec_deeds.specs.declared.calls.Actor.TheVariants as actor
 use Rattle.dspec_deeds.specs.declared.calls.ConsumerOp.TheVariants as consumer_op
 use Rattle.dspec_deeds.specs.declared.calls.CpuOp.{CpuOp}
 use Rattle.dspec_deeds.specs.declared.calls.CpuOp.TheVariants as cpu_op
-use Rattle.dspec_deeds.specs.declared.calls.Turn.{Turn}
 use Rattle.dspec_play.specs.declared.flight.Caller.{Caller}
 use Rattle.dspec_play.specs.declared.flight.ConsumerFlight.{ConsumerFlight}
 use Rattle.dspec_play.specs.declared.flight.ConsumerFlight.TheVariants as consumer
@@ -22,14 +20,14 @@ use Rattle.dspec_play.specs.Bounds.{op_bound, flight_bound, clean_bound, most_st
 use Rattle.dspec_play.specs.Calls.{is_actor, is_idle}
 use Rattle.dspec_play.specs.Coherent.{StandsCaller, StandsSide, IsCoherent, the_caller, idle_caller}
 use Rattle.dspec_play.specs.Play.{Moved, Cleaned, cpu_step, consumer_step}
-use Rattle.dspec_play.specs.Plays.{Playing, stepped, to_end, ran, cpus_ran, all_ran, played, play_fault}
+use Rattle.dspec_play.specs.Plays.{Playing, stepped, to_end, ran, cpus_ran, all_ran}
 use Rattle.dspec_deeds.proofs.SetUp.{set_up}
 use Rattle.dspec_deeds.proofs.TestLemmas.{either_way, same_number, numbers_differ}
-use Rattle.dspec_play.proofs.Coherence.{start_coherent, begin_cpu_coherent, begin_consumer_coherent, step_cpu_coherent, step_consumer_coherent}
+use Rattle.dspec_play.proofs.Coherence.{begin_cpu_coherent, begin_consumer_coherent, step_cpu_coherent, step_consumer_coherent}
 use Rattle.dspec_play.proofs.FlightsStay.{flights_stay}
 use Rattle.dspec_play.proofs.Bounded.{cpu_below, clean_below}
 use Rattle.dspec_play.proofs.StepEnds.{HasEnded, HasGoneOn, HasClosed, HasKeptOn, cpu_advances, clean_advances}
-use Rattle.dspec_play.proofs.PlaysCarry.{behind_cpu_step, behind_consumer_step, cpu_stepped_is, consumer_stepped_is, is_nothing, IsCarried, IsKept, ran_carries, cpus_ran_carries, play_carries}
+use Rattle.dspec_play.proofs.PlaysCarry.{behind_cpu_step, behind_consumer_step, cpu_stepped_is, consumer_stepped_is, is_nothing, IsCarried, IsKept, ran_carries, cpus_ran_carries}
 
 -- a coherent play of the configuration
 pub record IsCoherentPlay (shape : ℕ → Option Shape) (k : Config) (p : Playing) : Type 0 where
@@ -78,10 +76,6 @@ module _ (shape : ℕ → Option Shape) where
     cpu_begins = λ c o p was lt idle. record { config = was.config; coherent = begin_cpu_coherent shape p.state c o was.coherent (subst (λ (x : Config). c < x.cpus) (sym was.config) lt) idle };
     consumer_begins = λ o p was about idle. record { config = was.config; coherent = begin_consumer_coherent shape p.state o was.coherent };
   }
-
-  -- a play that isn't refused is coherent at its end
-  pub played_coherent : (accepts : Record → Bool) (k : Config) (ts : List Turn) → play_fault shape accepts k ts ≡ None → IsCoherent shape (played shape k ts).state
-  played_coherent accepts k ts e = (play_carries shape accepts k (IsCoherentPlay shape k) (coherence_kept k) ts (λ fine. record { config = refl; coherent = start_coherent shape k fine }) e).coherent
 
   -- where no call of the actor is in flight, there is nothing to run
   pub ended_stays : (n : ℕ) (a : Actor) (p : Playing) → is_idle a p.state ≡ true → to_end shape n a p ≡ p

@@ -8,7 +8,6 @@ use Rattle.dspec_deeds.specs.declared.calls.Actor.{Actor}
 use Rattle.dspec_deeds.specs.declared.calls.Actor.TheVariants as actor
 use Rattle.dspec_deeds.specs.declared.calls.Actor.TheVariants.{Cpu, Consumer}
 use Rattle.dspec_deeds.specs.declared.calls.Answer.{Answer}
-use Rattle.dspec_deeds.specs.declared.calls.CpuOp.{CpuOp}
 use Rattle.dspec_deeds.specs.declared.deed.DecideFate.{DecideFate}
 use Rattle.dspec_deeds.specs.declared.deed.DecideFate.TheVariants as decided
 use Rattle.dspec_deeds.specs.declared.deed.Deed.{Deed}
@@ -22,7 +21,7 @@ use Rattle.dspec_deeds.specs.History.{same_id, issue, present, Verdict, undecide
 use Rattle.dspec_deeds.specs.Legal.{IsSound}
 use Rattle.dspec_play.specs.Play.{cpu_step, consumer_step}
 use Rattle.dspec_play.specs.Coherent.{StandsSide, the_caller, PlayState, IsCoherent, idle_caller}
-use Rattle.dspec_play.specs.Turns.{at_start, begin_cpu, step_cpu, step_consumer, step, on_to_end}
+use Rattle.dspec_play.specs.Turns.{step_cpu, step_consumer, step, on_to_end}
 use Rattle.dspec_deeds.proofs.TestLemmas.{either_way, number_is_itself, same_number, numbers_differ}
 use Rattle.dspec_deeds.proofs.SoundLists.{issue_grows, opened_by_now}
 use Rattle.dspec_deeds.proofs.PresentIds.{decided_shut, decided_given, open_is_now}
@@ -182,21 +181,6 @@ consumer_keeps_solo shape st f ok was is s a alone =
     let before : IsAboutToRelease k st.callers a id = subst (IsAboutToRelease k st.callers a) p (was s a (subst (λ j. solo j h ≡ Some a) (sym p) old)) in
     still_about k st.callers m.callers a id (flights_stay k h st.side st.callers ok.count f a before.within) before
 
--- before the first turn nothing is decided
-pub start_solo : (k : Config) → SoloInFlight k [] (at_start k).callers
-start_solo k s a e = absurd (cc (e))
-
-pub begin_cpu_solo : (shape : ℕ → Option Shape) (st : PlayState) (c : ℕ) (o : CpuOp) → IsCoherent shape st → SoloInFlight st.config st.deeds st.callers → (the_caller st.callers c).flight ≡ None
-    → SoloInFlight st.config st.deeds (begin_cpu c o st).callers
-begin_cpu_solo shape st c o ok was idle s a alone =
-    let before = was s a alone in
-    let apart : (a == c) ≡ false = ⊎_elim
-    (λ (t : (a == c) ≡ true). let at = subst (λ x. (the_caller st.callers x).flight ≡ Some (cpu.CommitRelease (present s st.deeds) before.fate)) (same_number a c t) before.flight in absurd (cc (at, idle)))
-    (λ (t : (a == c) ≡ false). t)
-    (either_way (a == c)) in
-    let there = get_or-set_other st.callers c a (record (the_caller st.callers c) { flight = Some (cpu.Begun o); steps = 0 }) idle_caller (numbers_differ a c apart) in
-    still_about st.config st.callers (begin_cpu c o st).callers a (present s st.deeds) (ap (λ (x : Caller). x.flight) there) before
-
 module _ (shape : ℕ → Option Shape) where
   step_cpu_solo : (st : PlayState) (c : ℕ) (f : Option CpuFlight) → IsCoherent shape st → SoloInFlight st.config st.deeds st.callers → c < st.config.cpus → (the_caller st.callers c).flight ≡ f
       → SoloInFlight st.config (step_cpu shape c st f).state.deeds (step_cpu shape c st f).state.callers
@@ -224,11 +208,3 @@ module _ (shape : ℕ → Option Shape) where
       let same = step_config shape a st in
       subst (λ k. SoloInFlight k (on_to_end shape n a new (step shape a st).answer).state.deeds (on_to_end shape n a new (step shape a st).answer).state.callers) same
       (on_to_end_solo n a new (step shape a st).answer (step_coherent shape a st ok there) (subst (λ k. SoloInFlight k new.deeds new.callers) (sym same) (step_solo a st ok was there)) (subst (λ k. IsActor k a) (sym same) there))
-
--- where no call of a CPU is in flight, nothing present is decided alone
-pub none_alone : (st : PlayState) → SoloInFlight st.config st.deeds st.callers → ((c : ℕ) → c < st.config.cpus → (the_caller st.callers c).flight ≡ None) → (s : ℕ) → solo (present s st.deeds) st.deeds ≡ None
-none_alone st was idle s = go (solo (present s st.deeds) st.deeds) refl
-  where
-    go : (o : Option ℕ) → solo (present s st.deeds) st.deeds ≡ o → o ≡ None
-    go None e = refl
-    go (Some a) e = let now = was s a e in let none = idle a now.within in let flight = now.flight in absurd (cc (none, flight))

@@ -1,14 +1,12 @@
 -- A record's text while it is written.
-use Rattle.std.proofs.Common.{◌≡◌, ◌≤◌, ◌<◌, ◌-◌, ◌++◌, ◌%◌, ◌^◌, ℕ, ltb, IsTrue, List, [], ◌∷◌, length, take, drop, replicate, sym, ◌∙◌, ap, arith}
-use Rattle.std.proofs.lemmas.List.{append_assoc, take_all, take-append-drop, length-drop}
-use Rattle.std.proofs.lemmas.Bool.{ltb-true}
+use Rattle.std.proofs.Common.{◌≡◌, ◌≤◌, ◌-◌, ◌++◌, ◌%◌, ℕ, IsTrue, List, [], ◌∷◌, length, take, drop, replicate, sym, ◌∙◌, ap, arith}
+use Rattle.std.proofs.lemmas.List.{take_all, take-append-drop, length-drop}
 use Rattle.dspec_record.specs.Record.{Record}
 use Rattle.dspec_record.specs.Layout.{width, rounded_up, after, fields_start, fields_end, layout}
-use Rattle.dspec_record.specs.RecordText.{little_endian, gap, header_text, fields_text, record_text, fits}
+use Rattle.dspec_record.specs.RecordText.{gap, header_text, fields_text, record_text, fits}
 use Rattle.dspec_record.specs.Writing.{IsClearBehind}
 use Rattle.dspec_record.proofs.Clearing.{clear-part}
 use Rattle.dspec_record.specs.Laws.Layouts.{rounded_up-ge, fields_end-ge, layout-IsShape}
-use Rattle.dspec_record.specs.Laws.Texts.{both}
 use Rattle.dspec_record.specs.declared.field.Field.{Field}
 use Rattle.dspec_record.specs.declared.field.Field.TheVariants.{Four}
 use Rattle.dspec_record.specs.declared.header.Header.{Header}
@@ -34,11 +32,6 @@ IsWriting-start h fs r out few fit header long clear =
       clear = clear;
     }
 
--- what is needed to write the next field
-pub IsWriting-holds : (text : List ℕ) (end : ℕ) (out : List ℕ) (f : Field) (fs : List Field) (v : ℕ) (vs : List ℕ) → IsWriting text end out (f ∷ fs) (v ∷ vs) → v < 256 ^ width f
-IsWriting-holds text end out f fs v vs w =
-    ltb-true v (256 ^ width f) (both (ltb v (256 ^ width f)) (fits fs vs) w.fit).0
-
 pub IsWriting-room : (text : List ℕ) (end : ℕ) (out : List ℕ) (f : Field) (fs : List Field) (vs : List ℕ) → IsWriting text end out (f ∷ fs) vs → after end (width f) (width f) ≤ length out
 IsWriting-room text end out f fs vs w =
     let next : ℕ = after end (width f) (width f) in
@@ -47,21 +40,6 @@ IsWriting-room text end out f fs vs w =
 pub IsWriting-near : (text : List ℕ) (end : ℕ) (out : List ℕ) (fs : List Field) (vs : List ℕ) → IsWriting text end out fs vs → end ≤ length out
 IsWriting-near text end out fs vs w =
     omega (arith, w.exact, fields_end-ge end fs, rounded_up-ge Four (fields_end end fs))
-
-pub IsWriting-more : (text : List ℕ) (end : ℕ) (out out' : List ℕ) (f : Field) (fs : List Field) (v : ℕ) (vs : List ℕ) → IsWriting text end out (f ∷ fs) (v ∷ vs) → length out' ≡ length out → take (after end (width f) (width f)) out' ≡ take end out ++ (gap end (width f) ++ little_endian (width f) v) → IsClearBehind (after end (width f) (width f)) out' → IsWriting text (after end (width f) (width f)) out' fs vs
-IsWriting-more text end out out' f fs v vs w long put clear =
-    let next : ℕ = after end (width f) (width f) in
-    record {
-      laid = ap (λ xs. xs ++ fields_text next fs vs) put ∙ three (take end out) (gap end (width f)) (little_endian (width f) v) (fields_text next fs vs) ∙ w.laid;
-      exact = w.exact ∙ sym long;
-      short = omega (arith, w.short);
-      whole = omega (arith, w.whole);
-      clear = clear;
-      fit = (both (ltb v (256 ^ width f)) (fits fs vs) w.fit).1;
-    }
-  where
-    three : (a b c x : List ℕ) → a ++ (b ++ c) ++ x ≡ a ++ (b ++ (c ++ x))
-    three a b c x = simp append_assoc
 
 -- with the zeros behind the last field the text is whole
 pub IsWriting-end : (text : List ℕ) (end : ℕ) (out : List ℕ) (vs : List ℕ) → IsWriting text end out [] vs → out ≡ text

@@ -145,12 +145,6 @@ greater_left (x ∷ xs) [] c = omega arith
 greater_left (x ∷ xs) (y ∷ ys) zero = omega arith
 greater_left (x ∷ xs) (y ∷ ys) (suc c) = greater_left xs ys c
 
-pub greater_right : (xs ys : List ℕ) (c : ℕ) → slice_index ys c ≤ slice_index (greater xs ys) c
-greater_right [] ys c = omega arith
-greater_right (x ∷ xs) [] c = omega arith
-greater_right (x ∷ xs) (y ∷ ys) zero = omega arith
-greater_right (x ∷ xs) (y ∷ ys) (suc c) = greater_right xs ys c
-
 greater_least : (xs ys : List ℕ) (c n : ℕ) → slice_index xs c ≤ n → slice_index ys c ≤ n → slice_index (greater xs ys) c ≤ n
 greater_least [] ys c n a b = b
 greater_least (x ∷ xs) [] c n a b = a

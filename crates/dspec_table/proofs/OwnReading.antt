@@ -4,7 +4,7 @@ use Rattle.dspec_word.specs.SpecId.{Speculation}
 use Rattle.dspec_deeds.specs.declared.config.Config.{Config}
 use Rattle.dspec_deeds.specs.declared.calls.Actor.TheVariants.{Cpu}
 use Rattle.dspec_deeds.specs.declared.deed.Deed.{Deed}
-use Rattle.dspec_deeds.specs.History.{scan, is_among, callers, settled, ack, part}
+use Rattle.dspec_deeds.specs.History.{scan, is_among, callers, ack, part}
 use Rattle.dspec_deeds.proofs.OwnReads.{reads}
 
 pub scan_part : (k : Config) (c : ℕ) (h : List Deed) → scan k c (part (Cpu c) h) ≡ scan k c h
@@ -12,9 +12,6 @@ scan_part k c h = (reads k c h).apart.scanning
 
 pub has_part : (k : Config) (c : ℕ) (id : Speculation) (h : List Deed) → is_among c (callers id (part (Cpu c) h)) ≡ is_among c (callers id h)
 has_part k c id h = (reads k c h).apart.called id
-
-pub settled_part : (k : Config) (c : ℕ) (id : Speculation) (h : List Deed) → settled c id (part (Cpu c) h) ≡ settled c id h
-settled_part k c id h = (reads k c h).apart.settling id
 
 pub ack_part : (k : Config) (c s : ℕ) (h : List Deed) → ack c s (part (Cpu c) h) ≡ ack c s h
 ack_part k c s h = (reads k c h).apart.acks s

@@ -1,6 +1,6 @@
-use dspec_play::PlayFault;
+use dspec_replay::Halt;
 use dspec_schedule::{LineKind, Schedule, ScheduleFault};
-use std::alloc::{AllocError, AllocFailed};
+use std::alloc::AllocError;
 use thiserror::Error;
 
 /// Why a replay failed. Lines are counted from 1.
@@ -47,38 +47,13 @@ impl From<ScheduleFault> for ReplayFault {
     }
 }
 
-/// Why a session doesn't go on with a schedule. Turns are counted from 0.
-#[derive(Clone, Copy, Debug, PartialEq, Eq)]
-pub enum Halt {
-    /// As the player refuses it.
-    Play(PlayFault),
-    /// The turn is no whole call.
-    NoWholeCall(usize),
-    /// A buffer of this CPU is no text.
-    NoText(u32),
-}
-
-impl From<AllocError> for Halt {
-    fn from(_refused: AllocError) -> Self {
-        Halt::Play(PlayFault::Memory)
-    }
-}
-
-impl<T: Drop> From<AllocFailed<T>> for Halt {
-    fn from(_refused: AllocFailed<T>) -> Self {
-        Halt::Play(PlayFault::Memory)
-    }
-}
-
-impl Halt {
-    /// The same, told at the line of its turn.
-    pub fn told(self, schedule: &Schedule) -> ReplayFault {
-        match self {
-            Halt::Play(fault) => ReplayFault::from(schedule.blame(fault)),
-            Halt::NoText(cpu) => ReplayFault::NoText { cpu },
-            Halt::NoWholeCall(turn) => ReplayFault::NoWholeCall {
-                line: schedule.lines.get(turn).copied().unwrap_or(0),
-            },
-        }
+/// The same of a session that doesn't go on, told at the line of its turn.
+pub fn told(halt: Halt, schedule: &Schedule) -> ReplayFault {
+    match halt {
+        Halt::Play(fault) => ReplayFault::from(schedule.blame(fault)),
+        Halt::NoText(cpu) => ReplayFault::NoText { cpu },
+        Halt::NoWholeCall(turn) => ReplayFault::NoWholeCall {
+            line: schedule.lines.get(turn).copied().unwrap_or(0),
+        },
     }
 }

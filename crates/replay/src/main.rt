@@ -6,45 +6,21 @@
 //! refuses with the player's line on standard error, and one with a line that is no whole call with a status of its own.
 #![tactic(auto)]
 
-mod calls;
-mod closing;
 mod fault;
-mod playing;
-mod taken;
 
-use dspec_play::Outcome;
-use dspec_record::{DefaultAction, Header, Schema, StampedAction};
-use dspec_schedule::{Schedule, printed, read_schedule};
-use fault::{Halt, ReplayFault};
-use playing::Playing;
+use dspec_replay::replay_schedule;
+use dspec_schedule::{printed, read_schedule};
+use fault::{ReplayFault, told};
 use std::alloc::Global;
 use std::io::Read;
 use std::process::ExitCode;
-
-/// Plays the turns of a schedule under a schema, and ends the session.
-fn replay<S: Schema>(alloc: Global, schedule: &Schedule, schema: S) -> Result<Outcome, Halt> {
-    let mut playing = Playing::start(alloc, &schedule.config, schema)?;
-    for (number, turn) in schedule.turns.iter().enumerate() {
-        playing.turn(number, *turn)?;
-    }
-    playing.close(alloc)
-}
-
-/// The play of a schedule under its enablings, else under the default action of its header.
-fn replay_schedule(alloc: Global, schedule: &Schedule) -> Result<Outcome, Halt> {
-    match (schedule.enablings, schedule.header()) {
-        (Some(enablings), _) => replay(alloc, schedule, enablings),
-        (None, Header::One) => replay(alloc, schedule, DefaultAction),
-        (None, Header::Two) => replay(alloc, schedule, StampedAction),
-    }
-}
 
 /// What a text prints.
 fn replay_text(alloc: Global, text: &[u8]) -> Result<String, ReplayFault> {
     let schedule = read_schedule(alloc, text)?;
     match replay_schedule(alloc, &schedule) {
         Ok(outcome) => Ok(printed(alloc, schedule.header(), &outcome)?),
-        Err(halt) => Err(halt.told(&schedule)),
+        Err(halt) => Err(told(halt, &schedule)),
     }
 }
 

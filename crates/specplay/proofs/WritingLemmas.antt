@@ -1,13 +1,9 @@
 -- A text that is written piece by piece.
-use Rattle.std.proofs.Common.{◌≡◌, ℕ, List, [], ◌++◌, Option, Some, None, Result, Err, IfSome, OnErr, refl, sym, ap, ◌∙◌, append_assoc, append-nil, take, drop, subst, take-append-drop}
+use Rattle.std.proofs.Common.{◌≡◌, ℕ, List, [], ◌++◌, Option, Some, None, Result, Err, IfSome, OnErr, sym, ap, ◌∙◌, append_assoc, append-nil, take, drop, subst, take-append-drop}
 use Rattle.std.specs.Io.KnownBytes.{Appends, Keeps}
 use Rattle.specplay.specs.declared.fault.RunFault.{RunFault}
 use Rattle.specplay.specs.Schedules.{IsCutOff, Prints}
 use Rattle.specplay.specs.Written.{AppendsBefore, AppendsBeginning}
-
-appends_none : (a : Option (List ℕ)) → Appends a a []
-appends_none None = tt
-appends_none (Some xs) = sym (append-nil xs)
 
 appends_more : (a b c : Option (List ℕ)) (front piece : List ℕ) → Appends a b front → Appends b c piece → Appends a c (front ++ piece)
 appends_more None b c front piece one two = tt
@@ -21,10 +17,6 @@ appends_kept (Some xs) None c front one two = absurd one
 appends_kept (Some xs) (Some ys) None front one two = absurd two
 appends_kept (Some xs) (Some ys) (Some zs) front one two = two ∙ one
 
--- nothing is written, and the whole text is left
-pub nothing_written : (a : Option (List ℕ)) (text : List ℕ) → AppendsBefore a a text text
-nothing_written a text = ([], refl, appends_none a)
-
 -- one more piece
 pub piece_written : (a b c : Option (List ℕ)) (text rest : List ℕ) (count : ℕ) → AppendsBefore a b text rest → Appends b c (take count rest)
     → AppendsBefore a c text (drop count rest)
@@ -37,10 +29,6 @@ piece_written a b c text rest count (front, whole, before) piece = (
 -- nothing more
 pub rest_kept : (a b c : Option (List ℕ)) (text rest : List ℕ) → AppendsBefore a b text rest → Keeps b c → AppendsBefore a c text rest
 rest_kept a b c text rest (front, whole, before) kept = (front, whole, appends_kept a b c front before kept)
-
--- nothing is left
-pub all_written : (a b : Option (List ℕ)) (text : List ℕ) → AppendsBefore a b text [] → Appends a b text
-all_written a b text (front, whole, before) = subst (Appends a b) (sym (whole ∙ append-nil front)) before
 
 -- a text that was written whole, before nothing more was
 pub whole_before : (a b c : Option (List ℕ)) (text : List ℕ) → Appends a b text → Keeps b c → AppendsBeginning a c text

@@ -2,3 +2,4 @@ pub mod Runs
 pub mod Schedules
 pub mod Written
 pub mod Threads
+pub mod Lines

@@ -1,4 +1,5 @@
-ghost use Rattle.std.specs.Prelude.{◌≡◌, ◌≢◌, IfErr};
+ghost use Rattle.std.specs.Prelude.{◌≡◌, ◌≢◌, ◌++◌, IfErr, IfOk, OnOk, string_bytes};
+ghost use Rattle.specplay.specs.Lines.{CutOff, Printed, line_text, lines_text, yes_no};
 ghost use Rattle.specplay.specs.Threads.{status_of_threads};
 
 use crate::runner::write_whole;
@@ -57,31 +58,45 @@ impl From<DemoFault> for ThreadsFault {
 }
 
 // As it is printed.
-fn yes_or_no(holds: bool) -> &'static str {
+fn yes_or_no(holds: bool) -> &'static str
+    ensures { result.now ≡ yes_no holds }
+{
     if holds { "yes" } else { "no" }
 }
 
+// The line of a CPU.
+fn print_line(text: &mut String, line: &DemoLine) -> Result<(), AllocError>
+    ensures { OnOk result (string_bytes text.new ≡ string_bytes text.old ++ line_text line.now) }
+{
+    let (cpu, offered) = (line.cpu, line.offered);
+    let (balanced, ordered) = (yes_or_no(line.balanced), yes_or_no(line.ordered));
+    writeln!(
+        text,
+        "cpu {cpu} offered {offered} balanced {balanced} ordered {ordered}"
+    )
+}
+
 /// One line a CPU.
-fn text_of(alloc: Global, lines: &[DemoLine; 4]) -> Result<String, AllocError> {
+fn text_of(alloc: Global, lines: &[DemoLine; 4]) -> Result<String, AllocError>
+    ensures { IfOk result (λ text. string_bytes text ≡ lines_text lines.now) }
+{
     let mut text = String::new(alloc);
     for line in lines {
-        let (cpu, offered) = (line.cpu, line.offered);
-        let (balanced, ordered) = (yes_or_no(line.balanced), yes_or_no(line.ordered));
-        writeln!(
-            text,
-            "cpu {cpu} offered {offered} balanced {balanced} ordered {ordered}"
-        )?;
+        print_line(&mut text, line)?;
     }
     Ok(text)
 }
 
-/// Runs the demonstration with nobody held back, and writes its lines. Nothing is written before it has succeeded.
+/// Runs the demonstration with nobody held back, and writes its lines. Nothing is written before it has succeeded; after a write
+/// fault a beginning of the lines has been.
 pub fn run_threads<R: Threads + Wait, W: Write>(
     rt: &R,
     alloc: Global,
     output: &mut W,
 ) -> Result<(), ThreadsFault>
     ensures unwritten { IfErr result (λ fault. fault ≢ ThreadsFault.Write → output.new ≡ output.old) }
+    ensures printed { OnOk result (Printed (W.contents output.old) (W.contents output.new)) }
+    ensures cut_off { result ≡ Err ThreadsFault.Write → CutOff (W.contents output.old) (W.contents output.new) }
 {
     let lines = demo(rt, alloc, &Free)?;
     let text = text_of(alloc, &lines)?;

@@ -1,5 +1,5 @@
 -- Bounds on a layout: fields never end before they begin, nor more than eight bytes a field behind it.
-use Rattle.std.proofs.Common.{◌≡◌, ◌≤◌, ◌<◌, ◌+◌, ◌*◌, ◌⊎◌, ℕ, Bool, true, false, cond, List, [], ◌∷◌, length, refl, inl, inr, ap, ◌∙◌, arith}
+use Rattle.std.proofs.Common.{◌≡◌, ◌≤◌, ◌+◌, ◌*◌, ◌⊎◌, ℕ, Bool, true, false, cond, List, [], ◌∷◌, length, refl, inl, inr, ap, ◌∙◌, arith}
 use Rattle.std.specs.List.{list_any}
 use Rattle.dspec_record.specs.Layout.{width, rounded_up, after, fields_start, fields_end, is_eight, layout}
 use Rattle.dspec_record.specs.Reading.{IsShape}
@@ -13,18 +13,6 @@ rounded_up-ge One o = omega arith
 rounded_up-ge Two o = omega arith
 rounded_up-ge Four o = omega arith
 rounded_up-ge Eight o = omega arith
-
-pub rounded_up-lt : (f : Field) (o : ℕ) → rounded_up o (width f) < o + width f
-rounded_up-lt One o = omega arith
-rounded_up-lt Two o = omega arith
-rounded_up-lt Four o = omega arith
-rounded_up-lt Eight o = omega arith
-
-pub width-le : (f : Field) → width f ≤ 8
-width-le One = omega arith
-width-le Two = omega arith
-width-le Four = omega arith
-width-le Eight = omega arith
 
 after-le : (f : Field) (o : ℕ) → rounded_up (after o (width f) (width f)) 8 ≤ rounded_up o 8 + 8
 after-le One o = omega arith

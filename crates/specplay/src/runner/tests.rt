@@ -135,6 +135,41 @@ fn tells_of_a_failed_write(rt: HostRuntime) {
     assert!(rt; taken.as_slice() == printed);
 }
 
+/// A writer that holds what it takes until it is flushed.
+#[derive(Drop)]
+struct Holding {
+    held: Vec<u8>,
+    out: Vec<u8>,
+}
+
+impl Write for Holding {
+    fn write(&mut self, bytes: &[u8]) -> io::Result<usize> {
+        match self.held.extend_from_slice(bytes) {
+            Ok(()) => Ok(bytes.len()),
+            Err(_) => Ok(0),
+        }
+    }
+
+    fn flush(&mut self) -> io::Result<()> {
+        match self.out.append(&mut self.held) {
+            Ok(()) => Ok(()),
+            Err(_) => Err(io::Error::from(io::ErrorKind::OutOfMemory)),
+        }
+    }
+}
+
+/// What is told as written has gone out.
+#[test]
+fn flushes_what_it_prints(rt: HostRuntime) {
+    let mut input = THREE_TRACES;
+    let mut output = Holding {
+        held: Vec::new(rt.alloc()),
+        out: Vec::new(rt.alloc()),
+    };
+    assert!(rt; run(rt.alloc(), &mut input, &mut output) == Ok(()));
+    assert_eq!(rt; output.out.as_slice(), THREE_PRINTED.as_bytes());
+}
+
 #[test]
 fn takes_input_up_to_the_limit(rt: HostRuntime) -> Result<(), Fail> {
     let mut schedule = b"config 1 1 64 64 8 100\n".to_vec(rt.alloc())?;

@@ -1,0 +1,27 @@
+//! Logs of a session's calls, and the comparison of what they answered with what was recorded and reported: what a program of random
+//! calls on threads stands on. A contradiction is a rule of the session that was broken; that none is found promises nothing.
+#![tactic(auto)]
+
+mod answers;
+mod blocks;
+mod calls;
+mod checking;
+mod damages;
+mod due;
+mod flaws;
+mod identifiers;
+mod logging;
+mod made;
+mod order;
+mod records;
+mod stories;
+mod sums;
+
+pub use answers::identifier_in;
+pub use checking::check;
+pub use damages::{DAMAGES, Damage, found};
+pub use flaws::{Checked, Flaw, Halt, Kind, Number};
+pub use logging::{Called, Log};
+pub use records::{KINDS, enable, record_of};
+pub use stories::{Part, Story, Stream};
+pub use sums::Sums;

@@ -1,0 +1,78 @@
+-- Schedules of whole calls on a session: which call a turn is, and why a turn or a whole schedule isn't played.
+use Rattle.std.specs.Prelude.{ℕ, ◌≡◌, ◌+◌, Bool, nat_lt, true, List, [], ◌∷◌, length, Option, Some, None, if◌then◌else◌}
+use Rattle.dspec_record.specs.Record.{Record}
+use Rattle.dspec_deeds.specs.declared.calls.Actor.{Actor}
+use Rattle.dspec_deeds.specs.declared.calls.Actor.TheVariants as actor
+use Rattle.dspec_deeds.specs.declared.calls.Answer.{Answer}
+use Rattle.dspec_deeds.specs.declared.calls.ConsumerOp.{ConsumerOp}
+use Rattle.dspec_deeds.specs.declared.calls.ConsumerOp.TheVariants as consumer_op
+use Rattle.dspec_deeds.specs.declared.calls.Op.{Op}
+use Rattle.dspec_deeds.specs.declared.calls.Op.TheVariants as op
+use Rattle.dspec_deeds.specs.declared.calls.Turn.{Turn}
+use Rattle.dspec_deeds.specs.declared.calls.Turn.TheVariants.{BeginCpu, BeginConsumer, Step, RunCpu, RunConsumer}
+use Rattle.dspec_deeds.specs.declared.config.Config.{Config}
+use Rattle.dspec_deeds.specs.declared.config.StartFault.{StartFault}
+use Rattle.dspec_deeds.specs.Ranges.{start_fault}
+use Rattle.dspec_play.specs.declared.outcome.PlayFault.TheVariants as play_fault
+use Rattle.dspec_play.specs.Calls.{is_of}
+use Rattle.dspec_play.specs.Plays.{Ended}
+use Rattle.dspec_replay.specs.declared.halt.Halt.{Halt}
+use Rattle.dspec_replay.specs.declared.playing.Playing.{Playing}
+use Rattle.dspec_replay.specs.declared.halt.Halt.TheVariants.{Play, NoText, NoWholeCall}
+
+-- who makes the whole call that a turn is, and which call it is
+abbrev pub whole_call_of : Turn → Option (Actor × Op)
+whole_call_of (RunCpu c o) = Some (actor.Cpu c, op.Cpu o)
+whole_call_of (RunConsumer o) = Some (actor.Consumer, op.Consumer o)
+whole_call_of t = None
+
+-- the same of a call that ended
+abbrev pub call_of : Ended → Option (Actor × Op)
+call_of e = Some (e.0, e.1)
+
+-- the CPU that a call of the consumer is about, if it is about one, is one of so many
+abbrev pub is_about : ℕ → ConsumerOp → Bool
+is_about n (consumer_op.Ask c) = nat_lt c n
+is_about n (consumer_op.Take c) = nat_lt c n
+is_about n (consumer_op.GiveBack c) = nat_lt c n
+is_about n o = true
+
+-- why the turn with a number isn't played by a session of so many CPUs
+abbrev pub turn_halt : (Record → Bool) → ℕ → ℕ → Turn → Option Halt
+turn_halt accepted n i (RunCpu c o) =
+    if nat_lt c n then (if is_of accepted o then None else Some (Play (play_fault.BadRecord i))) else Some (Play (play_fault.NoSuchActor i))
+turn_halt accepted n i (RunConsumer o) = if is_about n o then None else Some (Play (play_fault.NoSuchActor i))
+turn_halt accepted n i t = Some (NoWholeCall i)
+
+-- the first of two that is due, if one is
+abbrev pub first_of : Option Halt → Option Halt → Option Halt
+first_of None b = b
+first_of (Some h) b = Some h
+
+-- the first of these turns, numbered from there on, that isn't played
+abbrev pub first_halt : (Record → Bool) → ℕ → ℕ → List Turn → Option Halt
+first_halt accepted n i [] = None
+first_halt accepted n i (t ∷ ts) = first_of (turn_halt accepted n i t) (first_halt accepted n (i + 1) ts)
+
+abbrev pub setup_halt : Option StartFault → Option Halt
+setup_halt None = None
+setup_halt (Some f) = Some (Play (play_fault.Setup f))
+
+-- why a schedule isn't played: its configuration, else its first turn that can't be
+abbrev pub schedule_halt : (Record → Bool) → Config → List Turn → Option Halt
+schedule_halt accepted k ts = first_of (setup_halt (start_fault k)) (first_halt accepted k.cpus 0 ts)
+
+-- a halt is the one that is due; want of memory, and a buffer that can't be read back, may come at any time
+abbrev pub IsDue : Option Halt → Halt → Type 0
+IsDue due (Play play_fault.Memory) = Unit {0}
+IsDue due (NoText c) = Unit {0}
+IsDue due h = due ≡ Some h
+
+-- it may come at any time
+abbrev pub IsSudden : Halt → Type 0
+IsSudden h = (due : Option Halt) → IsDue due h
+
+-- what a call leaves of a session that is played on: its schema, and how many CPUs it has
+pub record IsSamePlay {S : Type 0} (old new : Playing S) : Type 0 where
+  pub schema : new.schema ≡ old.schema
+  pub cpus : length new.session.cpus.items ≡ length old.session.cpus.items

@@ -1,0 +1,60 @@
+ghost use Rattle.std.specs.Prelude.{◌≡◌, ◌<◌, length, IfErr, IfOk};
+ghost use Rattle.dspec_session.specs.Sessions.{IsSession};
+ghost use Rattle.dspec_replay.specs.Replayed.{IsSudden};
+
+use crate::halt::Halt;
+use crate::playing::Playing;
+use crate::taken::Basket;
+use dspec_cpu::{Cpu, Listed};
+use dspec_deeds::Report;
+use dspec_play::{Close, Outcome, Series};
+use dspec_record::Schema;
+use dspec_session::Closed;
+use std::alloc::Global;
+
+/// What is left of a CPU is read behind what was taken of it, and its report is put down.
+fn read_left<S: Schema>(
+    closed: &Closed,
+    schema: &S,
+    cpu: u32,
+    basket: &mut Basket,
+    reports: &mut Series<Report>,
+) -> Result<(), Halt>
+    requires { cpu < length closed.now }
+    ensures { IfErr result IsSudden }
+{
+    let (sealed, last) = closed.rest(cpu);
+    if let Some(batch) = sealed {
+        basket.read(schema, cpu, batch)?;
+    }
+    basket.read(schema, cpu, last)?;
+    reports.push(*closed.report(cpu))?;
+    Ok(())
+}
+
+impl<S: Schema> Playing<S> {
+    /// Ends the session, and gives what a play leaves, but for the deeds: what is left of each CPU is read behind what was taken.
+    pub fn close(self, alloc: Global) -> Result<Outcome, Halt>
+        requires session { IsSession ⟦<Cpu<S> as Listed>⟧.is_ready self.schema self.session }
+        ensures answers { IfOk result (λ outcome. outcome.answers ≡ self.answers) }
+        ensures refused { IfErr result IsSudden }
+    {
+        let mut basket = self.basket;
+        let mut reports = Series::new(alloc);
+        let cpus = self.session.cpus.len() as u32;
+        let closed = self.session.finish();
+        for cpu in 0..cpus {
+            read_left(&closed, &self.schema, cpu, &mut basket, &mut reports)?;
+        }
+        let accepted = basket.streams(alloc)?;
+        let deeds = Series::new(alloc);
+        Ok(Outcome {
+            close: Close {
+                deeds,
+                accepted,
+                reports,
+            },
+            answers: self.answers,
+        })
+    }
+}

@@ -1,0 +1,17 @@
+//! A schedule of whole calls on a session, from one thread: the consumer meets each CPU behind each call, and the end leaves what
+//! a play of the same schedule leaves, but for the deeds. The answers and the counts are the session's; the records are read back
+//! from the texts of the batches taken and of what is left.
+//!
+//! It promises that it ends, and makes each call under that call's conditions; that each turn is made, in order, by its actor; and
+//! that a refusal is due. That it answers as the player does isn't promised: `examples/replay` and the program `fuzz` compare both.
+#![tactic(auto)]
+
+mod calls;
+mod closing;
+pub mod halt;
+mod playing;
+mod replaying;
+mod taken;
+
+pub use halt::Halt;
+pub use replaying::{replay, replay_schedule};

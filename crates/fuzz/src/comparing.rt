@@ -1,0 +1,85 @@
+//! What the player and a session make of a schedule.
+
+ghost use Rattle.std.specs.Prelude.{◌≡◌};
+ghost use Rattle.fuzz.specs.Comparing.{IsAlike, IsRefusedAlike};
+
+use crate::sample::Sample;
+use dspec_core::play;
+use dspec_deeds::{Config, Turn};
+use dspec_play::{Outcome, PlayFault};
+use dspec_record::{DefaultAction, Header, StampedAction};
+use dspec_replay::{Halt, replay_schedule};
+use dspec_schedule::{Schedule, printed};
+use std::alloc::{AllocError, Global};
+
+/// What one of the two made of a schedule.
+#[derive(Debug, PartialEq, Drop)]
+pub enum Told {
+    /// It played it, and this is printed.
+    Printed(String),
+    /// It refused it.
+    Refused(PlayFault),
+    /// The session couldn't go on where the player has to.
+    Halted(Halt),
+}
+
+/// How both compare.
+#[derive(Debug, Clone, Copy, PartialEq, Eq)]
+pub enum Verdict {
+    /// Both print the same.
+    Alike,
+    /// Both refuse it, and tell the same.
+    RefusedAlike,
+    /// Anything else.
+    Differ,
+}
+
+/// The play of a schedule, by the player.
+fn play_schedule(alloc: Global, schedule: &Schedule) -> Result<Outcome, PlayFault> {
+    let (config, turns) = (&schedule.config, schedule.turns.as_slice());
+    match (schedule.enablings, schedule.header()) {
+        (Some(enablings), _) => play(alloc, config, enablings, turns),
+        (None, Header::One) => play(alloc, config, DefaultAction, turns),
+        (None, Header::Two) => play(alloc, config, StampedAction, turns),
+    }
+}
+
+/// What the player makes of a schedule.
+fn player_told(alloc: Global, schedule: &Schedule) -> Result<Told, AllocError> {
+    match play_schedule(alloc, schedule) {
+        Ok(outcome) => Ok(Told::Printed(printed(alloc, schedule.header(), &outcome)?)),
+        Err(PlayFault::Memory) => Err(AllocError),
+        Err(fault) => Ok(Told::Refused(fault)),
+    }
+}
+
+/// What a session makes of a schedule.
+fn session_told(alloc: Global, schedule: &Schedule) -> Result<Told, AllocError> {
+    match replay_schedule(alloc, schedule) {
+        Ok(outcome) => Ok(Told::Printed(printed(alloc, schedule.header(), &outcome)?)),
+        Err(Halt::Play(PlayFault::Memory)) => Err(AllocError),
+        Err(Halt::Play(fault)) => Ok(Told::Refused(fault)),
+        Err(halt) => Ok(Told::Halted(halt)),
+    }
+}
+
+/// What each of the two makes of a schedule, the player's in front.
+pub fn both_told(alloc: Global, sample: &Sample) -> Result<(Told, Told), AllocError> {
+    let player = player_told(alloc, &sample.schedule)?;
+    let session = session_told(alloc, &sample.schedule)?;
+    Ok((player, session))
+}
+
+/// How both compare.
+pub fn verdict_of(player: &Told, session: &Told) -> Verdict
+    ensures alike { result ≡ Verdict.Alike → IsAlike player.now session.now }
+    ensures refused { result ≡ Verdict.RefusedAlike → IsRefusedAlike player.now session.now }
+    ensures same_text { IsAlike player.now session.now → result ≡ Verdict.Alike }
+    ensures same_fault { IsRefusedAlike player.now session.now → result ≡ Verdict.RefusedAlike }
+{
+    match (player, session) {
+        (Told::Printed(one), Told::Printed(other)) if one == other => Verdict::Alike,
+        (Told::Refused(one), Told::Refused(other)) if one == other => Verdict::RefusedAlike,
+        _ => Verdict::Differ,
+    }
+}

@@ -1,0 +1,32 @@
+-- What the demonstration prints: a line for each CPU.
+use Rattle.std.specs.Prelude.{ℕ, ◌≡◌, Bool, true, false, List, ◌++◌, length, Option, codes, decimal}
+use Rattle.std.specs.List.{flat_map}
+use Rattle.std.specs.Io.KnownBytes.{Appends}
+use Rattle.dspec_session.specs.declared.demonstration.lines.DemoLine.{DemoLine}
+use Rattle.dspec_session.specs.Races.{AllBalanced}
+use Rattle.specplay.specs.Written.{AppendsBeginning}
+
+abbrev pub yes_no : Bool → List ℕ
+yes_no true = codes "yes"
+yes_no false = codes "no"
+
+-- the line of a CPU
+abbrev pub line_text : DemoLine → List ℕ
+line_text line = codes "cpu " ++ decimal line.cpu ++ codes " offered " ++ decimal line.offered
+    ++ codes " balanced " ++ yes_no line.balanced ++ codes " ordered " ++ yes_no line.ordered ++ codes "\n"
+
+abbrev pub lines_text : List DemoLine → List ℕ
+lines_text lines = flat_map line_text lines
+
+-- four lines, each of which tells of 200 offered records that are balanced
+pub record Told (lines : List DemoLine) : Type 0 where
+  pub four : length lines ≡ 4
+  pub balanced : AllBalanced 200 lines
+
+-- the lines that the demonstration answered were written, one behind the other
+abbrev pub Printed : Option (List ℕ) → Option (List ℕ) → Type 0
+Printed old new = (lines : List DemoLine) × Told lines × Appends old new (lines_text lines)
+
+-- they were written as far as to some place
+abbrev pub CutOff : Option (List ℕ) → Option (List ℕ) → Type 0
+CutOff old new = (lines : List DemoLine) × Told lines × AppendsBeginning old new (lines_text lines)
