@@ -1,18 +1,22 @@
 # Short targets; README.md says what each takes.
-SCHEDULE = examples/tutorial/01-three-traces.schedule
+SCHEDULE =
+SCHEDULES = $(SCHEDULE)
 PROGRAM = crates/specplay/out/specplay
 BENCH = crates/bench/out/bench
-BENCH_WORDS = crates/bench_words/out/bench_words
-BENCH_CPU = crates/bench_cpu/out/bench_cpu
 ROUNDS = 50
 COUNT = 100000
 SEED = 1
 
-.PHONY: check play test examples api edits mutants rows soak fuzz build bench bench-instructions build-bench
+.PHONY: no_goal check play test examples api edits mutants rows soak fuzz build bench bench-instructions build-bench
 
-# Plays one schedule at once: with the proved program where it is built, else with the trial build of the same sources.
+# Plays one schedule, or several (SCHEDULES="a b"), at once: with the proved program where it is built, else with the trial build of the
+# same sources.
 play:
-	@sh .ci/play "$(SCHEDULE)"
+	@sh .ci/play $(SCHEDULES)
+
+# A schedule is no goal, though it is a file.
+%.schedule: no_goal
+	@echo "$@ is no goal: make play SCHEDULE=$@" >&2; exit 2
 
 # Proves one crate, and what it stands on where that has changed, as in make check CRATE=dspec_ring.
 check:
@@ -62,18 +66,14 @@ build:
 # What a record costs, in nanoseconds on this machine, and a load of activity, alone and beside another thread's exchanges; and
 # where valgrind is installed, what a CPU's calls take in instructions, beside a push alone. No check asks for it.
 bench: build-bench
-	@$(BENCH) times $(ROUNDS)
-	@$(BENCH_WORDS) times
-	@if command -v valgrind > /dev/null; then crates/bench_cpu/instructions $(BENCH_CPU) $(BENCH); fi
+	@$(BENCH) push times $(ROUNDS)
+	@$(BENCH) loads times
+	@if command -v valgrind > /dev/null; then crates/bench/instructions $(BENCH) cpu; fi
 
 # All of it in instructions, where valgrind is installed.
 bench-instructions: build-bench
 	@crates/bench/instructions $(BENCH)
-	@crates/bench_words/instructions $(BENCH_WORDS)
-	@crates/bench_cpu/instructions $(BENCH_CPU) $(BENCH)
 
 build-bench:
 	@command -v rt > /dev/null || { echo "make bench needs rt, the toolchain's command" >&2; exit 1; }
 	@cd crates/bench && rt run > /dev/null
-	@cd crates/bench_words && rt run > /dev/null
-	@cd crates/bench_cpu && rt run > /dev/null

@@ -1,56 +1,61 @@
-//! `bench` says what one record costs on its way into a buffer and out of it.
+//! `bench` says what a record costs: on its way into a buffer and out of it, and through a CPU's calls; and what a trace's load of
+//! activity costs.
 //!
-//! Without an argument it takes each way once, for every record that it knows, and prints what became of the
-//! records, the same on every machine. `bench times ROUNDS` times the ways and prints a table of nanoseconds a
-//! record. `bench count WAY RECORD NUMBER` takes one way by so many records and prints nothing: a tool that counts
-//! instructions runs it twice, and the difference of both counts is what the further records cost. Nothing is
-//! promised of times. Stands on `dspec_record` and `dspec_buffer`.
+//! Without an argument it takes each way once, for every record that it knows, and prints what came of it, the same on every machine.
+//!
+//! - `bench push times ROUNDS` times the ways into and out of a buffer, and prints a table of nanoseconds a record; `bench push count
+//!   WAY RECORD NUMBER` takes one of these ways by so many records.
+//! - `bench cpu WAY RECORD SIZE NUMBER` takes one way through a CPU by so many records, in small or in large buffers.
+//! - `bench loads NUMBER` makes so many loads of activity, and prints how many showed that the session runs; `bench loads times` times
+//!   them, alone and beside another thread's exchanges on a slot's word.
+//!
+//! A tool that counts instructions runs a way twice: the difference of both counts is what the further records cost. Nothing is
+//! promised of times.
 #![tactic(auto)]
 
-mod asking;
-mod checking;
-mod ready;
-mod setup;
-mod timing;
-mod way;
+mod cpu;
+mod loads;
+mod push;
 
-use asking::{Ask, MOST_RECORDS, ask_of};
-use dspec_samples::Subject;
-use ready::Ready;
 use std::process::ExitCode;
+use std::sync::Wait;
+use std::thread::Threads;
 use std::{env, io};
-use way::Way;
 
 /// The exit status where the arguments ask nothing that the program does.
 const USAGE_STATUS: u8 = 2;
 
-/// Takes one way by so many records. What is prepared doesn't depend on their number.
-fn take_once(rt: &HostRuntime, way: Way, subject: Subject, number: u32) -> io::Result<()> {
-    let mut ready = Ready::make(rt.alloc(), subject)?;
-    ready.prepare(way, MOST_RECORDS);
-    let _ = ready.take(way, number);
-    Ok(())
+/// Takes every way once, and prints what came of it.
+fn check_all<R: Threads + Wait>(threads: &R, rt: &HostRuntime) -> io::Result<()> {
+    push::check_all(rt)?;
+    cpu::check_all(rt)?;
+    loads::check(threads, rt)
+}
+
+/// What the words behind the program's name ask for, if it's something that the program does.
+fn run<R: Threads + Wait>(threads: &R, rt: &HostRuntime, words: &[String]) -> io::Result<bool> {
+    let Some((first, rest)) = words.split_first() else {
+        check_all(threads, rt)?;
+        return Ok(true);
+    };
+    match first.as_str() {
+        "push" => push::run(rt, rest),
+        "cpu" => cpu::run(rt, rest),
+        "loads" => loads::run(threads, rt, rest),
+        _ => Ok(false),
+    }
 }
 
 fn main(rt: HostRuntime) -> io::Result<ExitCode> {
     let mut words = Vec::new(rt.alloc());
-    for word in env::args(&rt)? {
+    for word in env::args(&rt)?.skip(1) {
         words.push(word)?;
     }
-    match ask_of(words.as_slice()) {
-        Some(Ask::Check) => checking::check_all(&rt)?,
-        Some(Ask::Times(rounds)) => timing::time_all(&rt, rounds)?,
-        Some(
-            Ask::Count {
-                way,
-                subject,
-                number,
-            },
-        ) => take_once(&rt, way, subject, number)?,
-        None => {
-            eprintln!(rt; "bench: usage: bench [times ROUNDS | count WAY RECORD NUMBER]")?;
-            return Ok(ExitCode::from(USAGE_STATUS));
-        }
+    if run(&rt, &rt, words.as_slice())? {
+        return Ok(ExitCode::SUCCESS);
     }
-    Ok(ExitCode::SUCCESS)
+    eprintln!(rt;
+        "bench: usage: bench [push times ROUNDS | push count WAY RECORD NUMBER | cpu WAY RECORD SIZE NUMBER | loads NUMBER | loads times]"
+    )?;
+    Ok(ExitCode::from(USAGE_STATUS))
 }

@@ -47,10 +47,12 @@ module _ (shape : ℕ → Option Shape) (accepted : Record → Bool) (text : Rec
 
   pub no_fault_ahead : (b : List ℕ) (o : ℕ) (fault : ReadFault) (rs : List Record) → FaultIs shape accepted text b o fault → HasAhead shape accepted text b o rs → ⊥
   no_fault_ahead b o fault rs f h =
-      no_text_here shape accepted text laws fault.kind o (drop o b) f.gap f.left rs f.is_gap f.bytes_are (subst (λ m. FaultHere shape accepted text fault.kind m f.left) f.place_is f.fault_here) h.ahead
+      no_text_here shape accepted text laws fault.kind o (drop o b) f.gap f.left rs f.is_gap f.bytes_are
+      (subst (λ m. FaultHere shape accepted text fault.kind m f.left) f.place_is f.fault_here) h.ahead
 
   -- a step of a walk
-  pub walks_on : (b : List ℕ) (o : ℕ) (rs : List Record) (result : Result (Option (Record × ℕ)) ReadFault) → ReadsNext shape accepted text b o result → HasAhead shape accepted text b o rs → MatchResult result (λ step. Steps (HasAhead shape accepted text b) rs step) (λ _. ⊥)
+  pub walks_on : (b : List ℕ) (o : ℕ) (rs : List Record) (result : Result (Option (Record × ℕ)) ReadFault) → ReadsNext shape accepted text b o result
+      → HasAhead shape accepted text b o rs → MatchResult result (λ step. Steps (HasAhead shape accepted text b) rs step) (λ _. ⊥)
   walks_on b o rs (Ok None) n h = rw (none_at_end b o rs n h.ahead) refl
   walks_on b o rs (Ok (Some (r, next))) n h =
       let a = advances b o r next rs n h in

@@ -3,7 +3,8 @@
 use Rattle.std.proofs.Common.{◌≡◌, ◌+◌, ◌*◌, ◌%◌, ◌≤◌, ◌⊎◌, ◌++◌, ℕ, Bool, Option, List, [], ◌∷◌, length, inr, refl, sym, ap, ◌∙◌, arith, length-append}
 use Rattle.dspec_record.specs.Record.{Record}
 use Rattle.dspec_record.specs.declared.field.Shape.{Shape}
-use Rattle.dspec_buffer.specs.Extent.{Piece, one, block, records, records_of, reserved, size_of, align_of, extent_of_records, extent, piece_size, piece_align, piece_bytes, bytes_of_records, bytes, padded}
+use Rattle.dspec_buffer.specs.Extent.{Piece, one, block, records, records_of, reserved, size_of, align_of}
+use Rattle.dspec_buffer.specs.Extent.{extent_of_records, extent, piece_size, piece_align, piece_bytes, bytes_of_records, bytes, padded}
 use Rattle.dspec_buffer.proofs.SchemaLaws.{SchemaLaws}
 use Rattle.dspec_buffer.proofs.Texts.{text_facts}
 use Rattle.dspec_buffer.proofs.Padding.{length-padded, reserved_facts}
@@ -31,7 +32,8 @@ module _ (shape : ℕ → Option Shape) (accepted : Record → Bool) (text : Rec
       record {
         words = q.words;
         counted = omega arith;
-        long = length-append (bytes_of_records shape text rs) (padded (extent_of_records shape rs) (align_of shape r) (text r)) ∙ ap (λ n. n + length (padded (extent_of_records shape rs) (align_of shape r) (text r))) i.long ∙ l ∙ ap (reserved (extent_of_records shape rs) (align_of shape r)) size;
+        long = length-append (bytes_of_records shape text rs) (padded (extent_of_records shape rs) (align_of shape r) (text r))
+            ∙ ap (λ n. n + length (padded (extent_of_records shape rs) (align_of shape r) (text r))) i.long ∙ l ∙ ap (reserved (extent_of_records shape rs) (align_of shape r)) size;
       }
 
   -- what is reserved for a piece
@@ -65,5 +67,6 @@ module _ (shape : ℕ → Option Shape) (accepted : Record → Bool) (text : Rec
       record {
         words = q.words;
         counted = rw n (omega arith);
-        long = length-append (bytes shape text ps) (padded (extent shape ps) (piece_align shape p) (piece_bytes shape text p)) ∙ ap (λ n. n + length (padded (extent shape ps) (piece_align shape p) (piece_bytes shape text p))) i.long ∙ l ∙ ap (reserved (extent shape ps) (piece_align shape p)) f.long;
+        long = length-append (bytes shape text ps) (padded (extent shape ps) (piece_align shape p) (piece_bytes shape text p))
+            ∙ ap (λ n. n + length (padded (extent shape ps) (piece_align shape p) (piece_bytes shape text p))) i.long ∙ l ∙ ap (reserved (extent shape ps) (piece_align shape p)) f.long;
       }

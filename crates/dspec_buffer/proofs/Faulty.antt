@@ -12,7 +12,8 @@ use Rattle.dspec_buffer.proofs.OneReading.{goes_on}
 
 module _ (shape : ℕ → Option Shape) (accepted : Record → Bool) (text : Record → List ℕ) (laws : SchemaLaws shape accepted text) where
   -- behind a gap with a fault there is no text
-  pub no_text_here : (k : ReadKind) (o : ℕ) (b gap left : List ℕ) (qs : List Record) → IsGap o gap → b ≡ gap ++ left → FaultHere shape accepted text k (o + length gap) left → BufferText shape accepted text o b qs → ⊥
+  pub no_text_here : (k : ReadKind) (o : ℕ) (b gap left : List ℕ) (qs : List Record) → IsGap o gap → b ≡ gap ++ left → FaultHere shape accepted text k (o + length gap) left
+      → BufferText shape accepted text o b qs → ⊥
   no_text_here k o b gap left [] i e f t =
       let l = fault_long shape accepted text laws k (o + length gap) left f in
       let n : length gap + length left ≡ 0 = sym (length-append gap left) ∙ ap length (sym e ∙ t) in

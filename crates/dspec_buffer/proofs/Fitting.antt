@@ -1,5 +1,6 @@
 -- Where a piece is placed, and that it is refused just where it doesn't fit.
-use Rattle.std.proofs.Common.{◌≡◌, ◌≢◌, ◌+◌, ◌-◌, ◌%◌, ◌≤◌, ◌<◌, ◌⊎◌, ◌++◌, ℕ, true, false, List, [], ◌∷◌, length, take, drop, replicate, inl, inr, sym, ap, ◌∙◌, arith, ⊎_elim, nat_le, Option, Some, None, append_assoc, length-append}
+use Rattle.std.proofs.Common.{◌≡◌, ◌≢◌, ◌+◌, ◌-◌, ◌%◌, ◌≤◌, ◌<◌, ◌⊎◌, ◌++◌, ℕ, true, false, List, [], ◌∷◌, length}
+use Rattle.std.proofs.Common.{take, drop, replicate, inl, inr, sym, ap, ◌∙◌, arith, ⊎_elim, nat_le, Option, Some, None, append_assoc, length-append}
 use Rattle.std.proofs.lemmas.Bool.Decides.{leb_tells}
 use Rattle.std.proofs.lemmas.Slice.{take-put_mid}
 use Rattle.std.proofs.lemmas.List.{length-take-le, take-take, take-append-le}
@@ -50,23 +51,28 @@ placed o a n p h k w m e =
     }
 
 -- bytes behind the padding, written into a slice: up to their end the slice has what it had, the padding and the bytes
-pub laid : (o a p n : ℕ) (items xs out : List ℕ) → o % 4 ≡ 0 → (a ≡ 4) ⊎ (a ≡ 8) → p ≡ rounded_up o a → n ≢ 0 → length out ≡ n → p ≤ length xs → take p xs ≡ take o items ++ replicate (p - o) 0 → take (p + n) (put_mid p (p + n - p) xs out) ≡ take o items ++ padded o a out
+pub laid : (o a p n : ℕ) (items xs out : List ℕ) → o % 4 ≡ 0 → (a ≡ 4) ⊎ (a ≡ 8) → p ≡ rounded_up o a → n ≢ 0 → length out ≡ n → p ≤ length xs
+    → take p xs ≡ take o items ++ replicate (p - o) 0 → take (p + n) (put_mid p (p + n - p) xs out) ≡ take o items ++ padded o a out
 laid o a p n items xs [] h k e m l within pad = absurd (m (sym l))
 laid o a p n items xs (b ∷ bs) h k e m l within pad =
     let facts = padding_facts o a h k in
     let zeros : replicate (p - o) 0 ≡ padding o a = ap (λ z. replicate (z - o) 0) e ∙ sym facts.zeros in
-    take-put_mid p (p + n - p) xs (b ∷ bs) (p + n) (ap (λ z. p + z) (sym l)) within ∙ ap (λ z. z ++ b ∷ bs) (pad ∙ ap (λ z. take o items ++ z) zeros) ∙ append_assoc (take o items) (padding o a) (b ∷ bs)
+    take-put_mid p (p + n - p) xs (b ∷ bs) (p + n) (ap (λ z. p + z) (sym l)) within ∙ ap (λ z. z ++ b ∷ bs) (pad ∙ ap (λ z. take o items ++ z) zeros)
+    ∙ append_assoc (take o items) (padding o a) (b ∷ bs)
 
 -- the same of a `Vec` that had some items, once the slice is written back to it
-pub laid_back : (o a p n len : ℕ) (items had xs out : List ℕ) → o % 4 ≡ 0 → (a ≡ 4) ⊎ (a ≡ 8) → p ≡ rounded_up o a → n ≢ 0 → length out ≡ n → p ≤ length xs → p + n ≤ len → take p xs ≡ take o items ++ replicate (p - o) 0 → take (p + n) (take len (put_mid p (p + n - p) xs out ++ drop (length (put_mid p (p + n - p) xs out)) had)) ≡ take o items ++ padded o a out
+pub laid_back : (o a p n len : ℕ) (items had xs out : List ℕ) → o % 4 ≡ 0 → (a ≡ 4) ⊎ (a ≡ 8) → p ≡ rounded_up o a → n ≢ 0 → length out ≡ n → p ≤ length xs → p + n ≤ len
+    → take p xs ≡ take o items ++ replicate (p - o) 0 → take (p + n) (take len (put_mid p (p + n - p) xs out ++ drop (length (put_mid p (p + n - p) xs out)) had)) ≡ take o items ++ padded o a out
 laid_back o a p n len items had xs out h k e m l within room pad =
     let ws = put_mid p (p + n - p) xs out in
     let front : length (take p xs) ≡ p = length-take-le p xs within in
-    let long : length ws ≡ length (take p xs) + (length out + length (drop (p + n - p) (drop p xs))) = length-append (take p xs) (out ++ drop (p + n - p) (drop p xs)) ∙ ap (λ z. length (take p xs) + z) (length-append out (drop (p + n - p) (drop p xs))) in
+    let long : length ws ≡ length (take p xs) + (length out + length (drop (p + n - p) (drop p xs))) =
+    length-append (take p xs) (out ++ drop (p + n - p) (drop p xs)) ∙ ap (λ z. length (take p xs) + z) (length-append out (drop (p + n - p) (drop p xs))) in
     take-take (p + n) len (ws ++ drop (length ws) had) room ∙ take-append-le (p + n) ws (drop (length ws) had) (omega arith) ∙ laid o a p n items xs out h k e m l within pad
 
 -- padding and bytes written by a call, up to their end, once the slice is written back
-pub laid_whole : (o a p n len : ℕ) (items had new out : List ℕ) → o % 4 ≡ 0 → (a ≡ 4) ⊎ (a ≡ 8) → p ≡ rounded_up o a → n ≢ 0 → length out ≡ n → p + n ≤ len → p + n ≤ length new → take (p + n) new ≡ take o items ++ (replicate (p - o) 0 ++ out) → take (p + n) (take len (new ++ drop (length new) had)) ≡ take o items ++ padded o a out
+pub laid_whole : (o a p n len : ℕ) (items had new out : List ℕ) → o % 4 ≡ 0 → (a ≡ 4) ⊎ (a ≡ 8) → p ≡ rounded_up o a → n ≢ 0 → length out ≡ n → p + n ≤ len
+    → p + n ≤ length new → take (p + n) new ≡ take o items ++ (replicate (p - o) 0 ++ out) → take (p + n) (take len (new ++ drop (length new) had)) ≡ take o items ++ padded o a out
 laid_whole o a p n len items had new [] h k e m l room whole written = absurd (m (sym l))
 laid_whole o a p n len items had new (b ∷ bs) h k e m l room whole written =
     let facts = padding_facts o a h k in

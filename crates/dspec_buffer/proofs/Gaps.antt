@@ -1,5 +1,6 @@
 -- Padding words in bytes: four zero bytes are an EPID of 0.
-use Rattle.std.proofs.Common.{◌≡◌, ◌+◌, ◌-◌, ◌%◌, ◌≤◌, ◌<◌, ◌++◌, ℕ, true, Option, Some, None, List, [], ◌∷◌, length, take, drop, get_or, inl, inr, refl, sym, ap, ◌∙◌, arith, ⊎_elim, nat_lt, nat_eq, if◌then◌else◌, length-drop}
+use Rattle.std.proofs.Common.{◌≡◌, ◌+◌, ◌-◌, ◌%◌, ◌≤◌, ◌<◌, ◌++◌, ℕ, true, Option, Some, None, List, [], ◌∷◌, length}
+use Rattle.std.proofs.Common.{take, drop, get_or, inl, inr, refl, sym, ap, ◌∙◌, arith, ⊎_elim, nat_lt, nat_eq, if◌then◌else◌, length-drop}
 use Rattle.std.specs.Option.{option_eq}
 use Rattle.std.proofs.lemmas.Nat.{le_bytes_4}
 use Rattle.std.proofs.lemmas.Bool.{cases_lt, lt-ltb, le-ltb}
@@ -40,7 +41,8 @@ zeros xs long bytes e =
     append_none (x ∷ l) = ap (λ m. x ∷ m) (append_none l)
 
 -- a padding word that is skipped
-pub skips_word : (b : List ℕ) (o : ℕ) (e : Option ℕ) → o % 8 ≡ 4 → 4 < length b - o → ((i : ℕ) → get_or b i 0 < 256) → e ≡ (if nat_lt (length (take (length b - o) (drop o b))) 4 then None else Some (front_epid (take (length b - o) (drop o b)))) → true ≡ option_eq nat_eq e (Some 0) → SkipsGap b o (o + 4)
+pub skips_word : (b : List ℕ) (o : ℕ) (e : Option ℕ) → o % 8 ≡ 4 → 4 < length b - o → ((i : ℕ) → get_or b i 0 < 256)
+    → e ≡ (if nat_lt (length (take (length b - o) (drop o b))) 4 then None else Some (front_epid (take (length b - o) (drop o b)))) → true ≡ option_eq nat_eq e (Some 0) → SkipsGap b o (o + 4)
 skips_word b o e at long bytes is zero =
     let rest : take (length b - o) (drop o b) ≡ drop o b = take_rest b o in
     let is' = rw rest at is in

@@ -24,7 +24,8 @@ moved_gap o k g h i = ⊎_elim inl (λ p. inr (p.0, let q : o % 8 ≡ 4 = p.1 in
 
 module _ (shape : ℕ → Option Shape) (accepted : Record → Bool) (text : Record → List ℕ) (laws : SchemaLaws shape accepted text) where
   -- one text behind another
-  pub glued : (o : ℕ) (x y : List ℕ) (rs qs : List Record) → BufferText shape accepted text o x rs → BufferText shape accepted text (o + length x) y qs → BufferText shape accepted text o (x ++ y) (rs ++ qs)
+  pub glued : (o : ℕ) (x y : List ℕ) (rs qs : List Record) → BufferText shape accepted text o x rs → BufferText shape accepted text (o + length x) y qs
+      → BufferText shape accepted text o (x ++ y) (rs ++ qs)
   glued o x y [] qs h k =
       let n : o + length x ≡ o = let l : length x ≡ 0 = ap length h in omega arith in
       subst (λ z. BufferText shape accepted text o z qs) (sym (ap (λ z. z ++ y) h)) (subst (λ m. BufferText shape accepted text m y qs) n k)
@@ -32,8 +33,17 @@ module _ (shape : ℕ → Option Shape) (accepted : Record → Bool) (text : Rec
       let e : x ++ y ≡ g ++ (text r ++ (rest ++ y)) =
       ap (λ z. z ++ y) s.bytes_are ∙ append_assoc g (text r ++ rest) y ∙ ap (λ z. g ++ z) (append_assoc (text r) rest y) in
       let l = next_long shape accepted text laws o x g r rest s in
-      let n : o + length x ≡ o + length g + length (text r) + length rest = omega arith in
-      (g, (rest ++ y, (record { is_accepted = s.is_accepted; is_gap = s.is_gap; aligned = s.aligned; bytes_are = e }, glued (o + length g + length (text r)) rest y rs qs h (subst (λ m. BufferText shape accepted text m y qs) n k))))
+      let n : o + length x ≡ o + length g + length (text r) + length rest = omega arith in (
+        g,
+        (
+          rest ++ y,
+          (
+            record { is_accepted = s.is_accepted; is_gap = s.is_gap; aligned = s.aligned; bytes_are = e },
+            glued (o + length g + length (text r)) rest y rs qs h
+                (subst (λ m. BufferText shape accepted text m y qs) n k),
+          ),
+        ),
+      )
 
   -- a text moved by a multiple of eight is the text of the same records
   pub moved : (k o : ℕ) (x : List ℕ) (rs : List Record) → k % 8 ≡ 0 → BufferText shape accepted text o x rs → BufferText shape accepted text (k + o) x rs
@@ -57,7 +67,8 @@ module _ (shape : ℕ → Option Shape) (accepted : Record → Bool) (text : Rec
       )
 
   -- a text of some records may stand behind a gap
-  pub behind_gap : (o : ℕ) (gap x : List ℕ) (r : Record) (rs : List Record) → IsGap o gap → BufferText shape accepted text (o + length gap) x (r ∷ rs) → BufferText shape accepted text o (gap ++ x) (r ∷ rs)
+  pub behind_gap : (o : ℕ) (gap x : List ℕ) (r : Record) (rs : List Record) → IsGap o gap → BufferText shape accepted text (o + length gap) x (r ∷ rs)
+      → BufferText shape accepted text o (gap ++ x) (r ∷ rs)
   behind_gap o gap x r rs (inl e) h =
       let n : o + length gap ≡ o = let l : length gap ≡ 0 = ap length e in omega arith in
       subst (λ z. BufferText shape accepted text o z (r ∷ rs)) (sym (ap (λ z. z ++ x) e)) (subst (λ m. BufferText shape accepted text m x (r ∷ rs)) n h)

@@ -17,7 +17,8 @@ module _ (shape : ℕ → Option Shape) (accepted : Record → Bool) (text : Rec
   named_aligned : (at : ℕ) (left : List ℕ) (h : Shape) → ¬ FaultHere shape accepted text Misaligned at left → NamesShape shape left h → at % h.align ≡ 0
   named_aligned at left h fine n = ⊎_elim (λ p. p.1) (λ p. absurd (fine (h, (n, p.1)))) (eqb_tells (at % h.align) 0)
 
-  pub got_record : (b : List ℕ) (at : ℕ) (r : Record) (n : ℕ) → at < length b → ¬ FaultHere shape accepted text Misaligned at (drop at b) → BeginsWith accepted text (drop at b) r n → StandsHere shape accepted text b at r (at + n)
+  pub got_record : (b : List ℕ) (at : ℕ) (r : Record) (n : ℕ) → at < length b → ¬ FaultHere shape accepted text Misaligned at (drop at b)
+      → BeginsWith accepted text (drop at b) r n → StandsHere shape accepted text b at r (at + n)
   got_record b at r n in' fine h =
       let t = text_facts shape accepted text laws r h.is_accepted in
       let bytes : drop at b ≡ text r ++ drop n (drop at b) = sym (take-append-drop n (drop at b)) ∙ ap (λ z. z ++ drop n (drop at b)) h.front in
@@ -36,7 +37,8 @@ module _ (shape : ℕ → Option Shape) (accepted : Record → Bool) (text : Rec
         within = omega arith;
       }
 
-  pub got_fault : (k : ReadKind) (at : ℕ) (left : List ℕ) → 0 < length left → NoGapAt at left → ¬ FaultHere shape accepted text Misaligned at left → Answers shape accepted text left (Err k) → FaultHere shape accepted text k at left
+  pub got_fault : (k : ReadKind) (at : ℕ) (left : List ℕ) → 0 < length left → NoGapAt at left → ¬ FaultHere shape accepted text Misaligned at left
+      → Answers shape accepted text left (Err k) → FaultHere shape accepted text k at left
   got_fault Truncated at left in' gap fine (inl f) = inl (in', f)
   got_fault Truncated at left in' gap fine (inr f) = inr (f.0, ((f.1, named_aligned at left f.0 fine f.1), f.2))
   got_fault Padding at left in' gap fine f = (f.0, f.1, gap f.0 f.1)

@@ -4,7 +4,8 @@ use Rattle.std.proofs.lemmas.List.{length-take-le, nil_from_length, append-nil}
 use Rattle.std.proofs.lemmas.List.Elements.{All-append, All-cons, All-nil}
 use Rattle.dspec_record.specs.Record.{Record}
 use Rattle.dspec_record.specs.declared.field.Shape.{Shape}
-use Rattle.dspec_buffer.specs.Extent.{Piece, one, block, reserved, fits, records, records_of, size_of, align_of, extent, extent_of_records, piece_align, piece_size, piece_bytes, padded, bytes, bytes_of_records}
+use Rattle.dspec_buffer.specs.Extent.{Piece, one, block, reserved, piece_fits, records, records_of, size_of, align_of}
+use Rattle.dspec_buffer.specs.Extent.{extent, extent_of_records, piece_align, piece_size, piece_bytes, padded, bytes, bytes_of_records}
 use Rattle.dspec_buffer.specs.Stored.{Stored, HasPieces}
 use Rattle.dspec_buffer.proofs.SchemaLaws.{SchemaLaws}
 use Rattle.dspec_buffer.proofs.Accepted.{AllAccepted}
@@ -36,7 +37,8 @@ module _ (shape : ℕ → Option Shape) (accepted : Record → Bool) (text : Rec
   offset_is b o items ps e l h =
       sym (length-take-le o items l) ∙ ap length (e ∙ h.text_is) ∙ (extent_of_pieces b ps h).long
 
-  pub kept : (b b' : Stored) (p : Piece) (ps : List Piece) → HasPieces shape accepted text b ps → AllAccepted accepted (records_of p) → b'.text ≡ b.text ++ padded (extent shape ps) (piece_align shape p) (piece_bytes shape text p) → b'.count ≡ b.count + length (records_of p) → HasPieces shape accepted text b' (p ∷ ps)
+  pub kept : (b b' : Stored) (p : Piece) (ps : List Piece) → HasPieces shape accepted text b ps → AllAccepted accepted (records_of p)
+      → b'.text ≡ b.text ++ padded (extent shape ps) (piece_align shape p) (piece_bytes shape text p) → b'.count ≡ b.count + length (records_of p) → HasPieces shape accepted text b' (p ∷ ps)
   kept b b' p ps h own t n =
       let count = h.count_is in
       record {
@@ -49,7 +51,8 @@ module _ (shape : ℕ → Option Shape) (accepted : Record → Bool) (text : Rec
   accepted_alone r h = All-cons (λ q. IsTrue (accepted q)) r [] h (All-nil (λ q. IsTrue (accepted q)))
 
 -- what is said of an offset, an alignment and a size is said of the piece
-pub fits_says : (shape : ℕ → Option Shape) (p : Piece) (ps : List Piece) (o a n limit size : ℕ) (b : Bool) → o ≡ extent shape ps → piece_align shape p ≡ a → piece_size shape p ≡ n → limit ≡ size → b ≡ nat_le (reserved o a n) limit → b ≡ fits shape ps p size
+pub fits_says : (shape : ℕ → Option Shape) (p : Piece) (ps : List Piece) (o a n limit size : ℕ) (b : Bool) → o ≡ extent shape ps → piece_align shape p ≡ a
+    → piece_size shape p ≡ n → limit ≡ size → b ≡ nat_le (reserved o a n) limit → b ≡ piece_fits shape ps p size
 fits_says shape p ps o a n limit size b e d m l k =
     subst (λ z. b ≡ nat_le (reserved (extent shape ps) (piece_align shape p) z) size) (sym m)
     (subst (λ z. b ≡ nat_le (reserved (extent shape ps) z n) size) (sym d)
@@ -83,7 +86,8 @@ module _ (shape : ℕ → Option Shape) (accepted : Record → Bool) (text : Rec
       sym (extent-alone shape rs) ∙ sym (offset_is shape accepted text laws b o items (map one rs) e l h)
 
   -- an empty block leaves a buffer as it is
-  pub kept_empty : (b other : Stored) (ps : List Piece) (rs : List Record) → HasPieces shape accepted text b ps → HasPieces shape accepted text other (map one rs) → extent_of_records shape rs ≡ 0 → HasPieces shape accepted text b (block rs ∷ ps)
+  pub kept_empty : (b other : Stored) (ps : List Piece) (rs : List Record) → HasPieces shape accepted text b ps → HasPieces shape accepted text other (map one rs)
+      → extent_of_records shape rs ≡ 0 → HasPieces shape accepted text b (block rs ∷ ps)
   kept_empty b other ps rs h k e =
       let f = block_of other rs k in
       let counted = f.counted in

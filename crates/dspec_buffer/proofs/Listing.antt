@@ -22,7 +22,8 @@ module _ (shape : ℕ → Option Shape) (accepted : Record → Bool) (text : Rec
 
   pub listed : (b b' : Listed) (p : Piece) (ps : List Piece) → HasListed shape accepted text b ps → Grows b b' p ps → HasListed shape accepted text b' (p ∷ ps)
   listed b b' p ps h k =
-      let behind : flat_map text (reverse (records ps) ++ reverse (records_of p)) ≡ flat_map text (reverse (records ps)) ++ flat_map text (reverse (records_of p)) = flat_map-append text (reverse (records ps)) (reverse (records_of p)) in
+      let behind : flat_map text (reverse (records ps) ++ reverse (records_of p)) ≡ flat_map text (reverse (records ps)) ++ flat_map text (reverse (records_of p)) =
+      flat_map-append text (reverse (records ps)) (reverse (records_of p)) in
       let more = k.count_is in
       let count = h.count_is in
       let both = length-append (records_of p) (records ps) in
@@ -55,7 +56,8 @@ module _ (shape : ℕ → Option Shape) (accepted : Record → Bool) (text : Rec
   }
 
   -- an empty block leaves a buffer as it is
-  pub listed_empty : (b other : Listed) (ps : List Piece) (rs : List Record) → HasListed shape accepted text b ps → HasListed shape accepted text other (map one rs) → other.offset ≡ 0 → other.count ≡ 0 → HasListed shape accepted text b (block rs ∷ ps)
+  pub listed_empty : (b other : Listed) (ps : List Piece) (rs : List Record) → HasListed shape accepted text b ps → HasListed shape accepted text other (map one rs)
+      → other.offset ≡ 0 → other.count ≡ 0 → HasListed shape accepted text b (block rs ∷ ps)
   listed_empty b other ps rs h k e l =
       let f = listed_block other rs k in
       let nil : rs ≡ [] = nil_from_length rs (sym f.count_is ∙ l) in

@@ -89,7 +89,8 @@ module _ (shape : ℕ → Option Shape) (accepted : Record → Bool) (text : Rec
   fault_long GapNotZero at left f = let l = (f.1.0.0).four in omega arith
 
   -- behind a gap there is either a fault or a next record
-  pub fault_excludes : (k : ReadKind) (o : ℕ) (b gap left g : List ℕ) (q : Record) (x : List ℕ) → IsGap o gap → b ≡ gap ++ left → FaultHere shape accepted text k (o + length gap) left → StandsNext shape accepted text o b g q x → ⊥
+  pub fault_excludes : (k : ReadKind) (o : ℕ) (b gap left g : List ℕ) (q : Record) (x : List ℕ) → IsGap o gap → b ≡ gap ++ left
+      → FaultHere shape accepted text k (o + length gap) left → StandsNext shape accepted text o b g q x → ⊥
   fault_excludes k o b gap left g q x i e f s =
       let e' : gap ++ left ≡ g ++ (text q ++ x) = sym e ∙ s.bytes_are in
       let t = text_facts shape accepted text laws q s.is_accepted in

@@ -8,7 +8,8 @@ use Rattle.dspec_buffer.proofs.Nexts.{SameNext, next_same, next_long, next_not_n
 
 module _ (shape : ℕ → Option Shape) (accepted : Record → Bool) (text : Record → List ℕ) (laws : SchemaLaws shape accepted text) where
   -- what follows a record follows it wherever the same record is next
-  pub follows : (o : ℕ) (g g' : List ℕ) (q r : Record) (x y : List ℕ) (qs : List Record) → SameNext shape accepted text laws g g' q r x y → BufferText shape accepted text (o + length g' + length (text r)) y qs → BufferText shape accepted text (o + length g + length (text q)) x qs
+  pub follows : (o : ℕ) (g g' : List ℕ) (q r : Record) (x y : List ℕ) (qs : List Record) → SameNext shape accepted text laws g g' q r x y
+      → BufferText shape accepted text (o + length g' + length (text r)) y qs → BufferText shape accepted text (o + length g + length (text q)) x qs
   follows o g g' q r x y qs same h =
       let P : List ℕ → Record → List ℕ → Type 0 = λ a p z. BufferText shape accepted text (o + length a + length (text p)) z qs in
       subst (λ a. P a q x) (sym same.same_gap) (subst (λ p. P g' p x) (sym same.same_record) (subst (λ z. P g' r z) (sym same.same_rest) h))

@@ -60,7 +60,8 @@ module _ (shape : ℕ → Option Shape) (accepted : Record → Bool) (text : Rec
       omega arith
 
   -- the record that is read is the first of those before the walk, and the others are before it at the next place
-  pub steps_over : (texts : List ℕ) (place : ℕ) (rs : List Record) (r : Record) (n : ℕ) → HasTexts accepted text texts place rs → Answers shape accepted text (drop place texts) (Ok (r, n)) → Steps (HasTexts accepted text texts) rs (Some (r, place + n))
+  pub steps_over : (texts : List ℕ) (place : ℕ) (rs : List Record) (r : Record) (n : ℕ) → HasTexts accepted text texts place rs
+      → Answers shape accepted text (drop place texts) (Ok (r, n)) → Steps (HasTexts accepted text texts) rs (Some (r, place + n))
   steps_over texts place [] r n h k =
       absurd (nothing (r, n) (subst (λ z. Answers shape accepted text z (Ok (r, n))) h.texts_are k))
   steps_over texts place (q ∷ qs) r n h k =
@@ -68,7 +69,8 @@ module _ (shape : ℕ → Option Shape) (accepted : Record → Bool) (text : Rec
       let both : text r ++ drop n (drop place texts) ≡ text q ++ flat_map text qs = sym front ∙ h.texts_are in
       let q_accepted = first_accepted accepted q qs h.all_accepted in
       let same : r ≡ q = laws.texts_differ r q (drop n (drop place texts)) (flat_map text qs) k.is_accepted q_accepted both in
-      let rest : drop n (drop place texts) ≡ flat_map text qs = append_cancel_left (text q) (drop n (drop place texts)) (flat_map text qs) (ap (λ z. text z ++ drop n (drop place texts)) (sym same) ∙ both) in
+      let rest : drop n (drop place texts) ≡ flat_map text qs =
+      append_cancel_left (text q) (drop n (drop place texts)) (flat_map text qs) (ap (λ z. text z ++ drop n (drop place texts)) (sym same) ∙ both) in
       let long = ap length front ∙ long_text r (drop n (drop place texts)) in
       let l = length-drop place texts in
       let within = h.within in
@@ -85,7 +87,8 @@ module _ (shape : ℕ → Option Shape) (accepted : Record → Bool) (text : Rec
       )
 
   -- nothing is read at the end alone
-  pub steps_none : (texts : List ℕ) (place : ℕ) (rs : List Record) (k : ReadKind) → HasTexts accepted text texts place rs → Answers shape accepted text (drop place texts) (Err k) → Steps (HasTexts accepted text texts) rs None
+  pub steps_none : (texts : List ℕ) (place : ℕ) (rs : List Record) (k : ReadKind) → HasTexts accepted text texts place rs
+      → Answers shape accepted text (drop place texts) (Err k) → Steps (HasTexts accepted text texts) rs None
   steps_none texts place [] k h f = refl
   steps_none texts place (q ∷ qs) k h f =
       absurd (no_fault k q (flat_map text qs) (first_accepted accepted q qs h.all_accepted) (subst (λ z. Answers shape accepted text z (Err k)) h.texts_are f))

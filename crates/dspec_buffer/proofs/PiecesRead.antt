@@ -15,7 +15,8 @@ use Rattle.dspec_buffer.proofs.Gluing.{glued, moved, behind_gap, alone}
 
 module _ (shape : ℕ → Option Shape) (accepted : Record → Bool) (text : Record → List ℕ) (laws : SchemaLaws shape accepted text) where
   -- a text behind the padding that its place needs
-  padded_text : (o a : ℕ) (x : List ℕ) (rs : List Record) → IsPadding o a (padding o a) → BufferText shape accepted text (o + length (padding o a)) x rs → BufferText shape accepted text o (padded o a x) rs
+  padded_text : (o a : ℕ) (x : List ℕ) (rs : List Record) → IsPadding o a (padding o a) → BufferText shape accepted text (o + length (padding o a)) x rs
+      → BufferText shape accepted text o (padded o a x) rs
   padded_text o a [] [] p h = refl
   padded_text o a (b ∷ x) [] p h = cc
   padded_text o a [] (r ∷ rs) p (g, (rest, (s, h))) =
@@ -34,7 +35,8 @@ module _ (shape : ℕ → Option Shape) (accepted : Record → Bool) (text : Rec
       let long : o ≡ 0 + length (bytes_of_records shape text rs) = let l = i.long in omega arith in
       let last : BufferText shape accepted text o (padded o (align_of shape r) (text r)) (r ∷ []) =
       padded_text o (align_of shape r) (text r) (r ∷ []) p (alone shape accepted text laws (o + length (padding o (align_of shape r))) r k p.aligned) in
-      let whole = glued shape accepted text laws 0 (bytes_of_records shape text rs) (padded o (align_of shape r) (text r)) (reverse rs) (r ∷ []) (records_read rs others) (subst (λ m. BufferText shape accepted text m (padded o (align_of shape r) (text r)) (r ∷ [])) long last) in
+      let whole = glued shape accepted text laws 0 (bytes_of_records shape text rs) (padded o (align_of shape r) (text r)) (reverse rs) (r ∷ []) (records_read rs others)
+      (subst (λ m. BufferText shape accepted text m (padded o (align_of shape r) (text r)) (r ∷ [])) long last) in
       subst (λ qs. BufferText shape accepted text 0 (bytes_of_records shape text (r ∷ rs)) qs) (sym (reverse-append (r ∷ []) rs)) whole
 
   -- the bytes of a piece at a place that is aligned for it
@@ -42,7 +44,8 @@ module _ (shape : ℕ → Option Shape) (accepted : Record → Bool) (text : Rec
   piece_read o (one r) h m = alone shape accepted text laws o r (first_accepted accepted r [] h) m
   piece_read o (block rs) h m =
       let n : o + 0 ≡ o = omega arith in
-      subst (λ k. BufferText shape accepted text k (bytes_of_records shape text rs) (reverse rs)) n (moved shape accepted text laws o 0 (bytes_of_records shape text rs) (reverse rs) m (records_read rs h))
+      subst (λ k. BufferText shape accepted text k (bytes_of_records shape text rs) (reverse rs)) n
+      (moved shape accepted text laws o 0 (bytes_of_records shape text rs) (reverse rs) m (records_read rs h))
 
   pub pieces_read : (ps : List Piece) → AllAccepted accepted (records ps) → BufferText shape accepted text 0 (bytes shape text ps) (reverse (records ps))
   pieces_read [] h = refl
@@ -56,5 +59,7 @@ module _ (shape : ℕ → Option Shape) (accepted : Record → Bool) (text : Rec
       let long : o ≡ 0 + length (bytes shape text ps) = let l = i.long in omega arith in
       let last : BufferText shape accepted text o (padded o (piece_align shape p) (piece_bytes shape text p)) (reverse (records_of p)) =
       padded_text o (piece_align shape p) (piece_bytes shape text p) (reverse (records_of p)) d (piece_read (o + length (padding o (piece_align shape p))) p own d.aligned) in
-      let whole = glued shape accepted text laws 0 (bytes shape text ps) (padded o (piece_align shape p) (piece_bytes shape text p)) (reverse (records ps)) (reverse (records_of p)) (pieces_read ps others) (subst (λ m. BufferText shape accepted text m (padded o (piece_align shape p) (piece_bytes shape text p)) (reverse (records_of p))) long last) in
+      let whole = glued shape accepted text laws 0 (bytes shape text ps) (padded o (piece_align shape p) (piece_bytes shape text p)) (reverse (records ps))
+      (reverse (records_of p)) (pieces_read ps others)
+      (subst (λ m. BufferText shape accepted text m (padded o (piece_align shape p) (piece_bytes shape text p)) (reverse (records_of p))) long last) in
       subst (λ qs. BufferText shape accepted text 0 (bytes shape text (p ∷ ps)) qs) (sym (reverse-append (records_of p) (records ps))) whole

@@ -1,5 +1,6 @@
 -- A buffer while a text is upgraded into it, record by record.
-use Rattle.std.proofs.Common.{leb, ◌≡◌, ◌≤◌, ◌<◌, ◌⊎◌, ◌+◌, ◌++◌, ◌^◌, ◌&&◌, ℕ, Bool, true, false, IsTrue, Option, List, [], ◌∷◌, length, map, reverse, refl, sym, ap, subst, ◌∙◌, arith, append_assoc, ⊎_elim}
+use Rattle.std.proofs.Common.{leb, ◌≡◌, ◌≤◌, ◌<◌, ◌⊎◌, ◌+◌, ◌++◌, ◌^◌, ◌&&◌, ℕ, Bool, true, false, IsTrue, Option}
+use Rattle.std.proofs.Common.{List, [], ◌∷◌, length, map, reverse, refl, sym, ap, subst, ◌∙◌, arith, append_assoc, ⊎_elim}
 use Rattle.std.specs.Option.{option_map_or}
 use Rattle.std.proofs.lemmas.Bool.{lt-ltb, leb-true, leb-false}
 use Rattle.std.proofs.lemmas.Bool.Decides.{eqb_tells}
@@ -15,7 +16,7 @@ use Rattle.dspec_record.specs.declared.header.Header.{Header}
 use Rattle.dspec_record.specs.declared.header.Header.TheVariants.{Two}
 use Rattle.dspec_record.specs.declared.field.Shape.{Shape}
 use Rattle.dspec_buffer.specs.Extent.{Piece, one, records, reserved, align_of, size_of}
-use Rattle.dspec_buffer.specs.Extent.{fits as fitting}
+use Rattle.dspec_buffer.specs.Extent.{piece_fits}
 use Rattle.dspec_buffer.specs.BufferText.{BufferText}
 use Rattle.dspec_buffer.specs.Stored.{Stored, HasPieces}
 use Rattle.dspec_buffer.specs.Upgrading.{stamped, all_stamped, IsOldText, new_extent, HasNew, IsUpgradable, IsUpgraded, FillsUp}
@@ -26,7 +27,8 @@ use Rattle.dspec_buffer.proofs.Texts.{text_facts}
 use Rattle.dspec_buffer.proofs.Keeping.{records-alone}
 
 -- the records of a text are accepted
-pub text_accepted : (shape : ℕ → Option Shape) (accepted : Record → Bool) (text : Record → List ℕ) (o : ℕ) (b : List ℕ) (rs : List Record) → BufferText shape accepted text o b rs → AllAccepted accepted rs
+pub text_accepted : (shape : ℕ → Option Shape) (accepted : Record → Bool) (text : Record → List ℕ) (o : ℕ) (b : List ℕ) (rs : List Record)
+    → BufferText shape accepted text o b rs → AllAccepted accepted rs
 text_accepted shape accepted text o b [] h = All-nil (λ r. IsTrue (accepted r))
 text_accepted shape accepted text o b (r ∷ rs) (gap, (rest, (stands, h))) =
     All-cons (λ q. IsTrue (accepted q)) r rs stands.is_accepted (text_accepted shape accepted text (o + length gap + length (text r)) rest rs h)
@@ -71,13 +73,16 @@ count-done stamp rs =
     ∙ length-reverse (map (stamped stamp) rs) ∙ length-map rs (stamped stamp)
 
 module _ (old : EnabledRows) (stamp : ℕ) (text : List ℕ) (size : ℕ) where
-  pub upgrading-accepted : (to : Stored) (r : Record) (left : List Record) → stamp < 2 ^ 64 → IsUpgrading old stamp text size to (r ∷ left) → IsTrue (table_accepts Two (enabled old.rows) (stamped stamp r))
+  pub upgrading-accepted : (to : Stored) (r : Record) (left : List Record) → stamp < 2 ^ 64 → IsUpgrading old stamp text size to (r ∷ left)
+      → IsTrue (table_accepts Two (enabled old.rows) (stamped stamp r))
   upgrading-accepted to r left small h =
       let accepted : Record → Bool = table_accepts old.header (enabled old.rows) in
       let all = text_accepted (table_shape old.header (enabled old.rows)) accepted (table_text old.header (enabled old.rows)) 0 text (h.done ++ r ∷ left) h.is_text in
       stamped-accepted old.header (enabled old.rows) r stamp small (first_accepted accepted r left (back_accepted accepted h.done (r ∷ left) all))
 
-  upgrading-next : (to new : Stored) (r : Record) (left : List Record) (h : IsUpgrading old stamp text size to (r ∷ left)) → HasNew old new (one (stamped stamp r) ∷ all_stamped stamp h.done) → new_extent old (one (stamped stamp r) ∷ all_stamped stamp h.done) ≤ size → new.size ≡ to.size → IsUpgrading old stamp text size new left
+  upgrading-next : (to new : Stored) (r : Record) (left : List Record) (h : IsUpgrading old stamp text size to (r ∷ left))
+      → HasNew old new (one (stamped stamp r) ∷ all_stamped stamp h.done) → new_extent old (one (stamped stamp r) ∷ all_stamped stamp h.done) ≤ size → new.size ≡ to.size
+      → IsUpgrading old stamp text size new left
   upgrading-next to new r left h kept fit same =
       let more = one-more stamp h.done r in
       let Kept : List Piece → Type 0 = λ ps. HasNew old new ps in
@@ -101,7 +106,8 @@ module _ (old : EnabledRows) (stamp : ℕ) (text : List ℕ) (size : ℕ) where
         kept = h.kept;
       }
 
-  upgrading-full : (to : Stored) (r : Record) (left : List Record) (h : IsUpgrading old stamp text size to (r ∷ left)) → size < new_extent old (one (stamped stamp r) ∷ all_stamped stamp h.done) → FillsUp old stamp text size to.count
+  upgrading-full : (to : Stored) (r : Record) (left : List Record) (h : IsUpgrading old stamp text size to (r ∷ left))
+      → size < new_extent old (one (stamped stamp r) ∷ all_stamped stamp h.done) → FillsUp old stamp text size to.count
   upgrading-full to r left h over = record {
     before = h.done;
     first = r;
@@ -116,7 +122,7 @@ module _ (old : EnabledRows) (stamp : ℕ) (text : List ℕ) (size : ℕ) where
 abbrev pub Answers : EnabledRows → Stored → Record → Bool → Type 0
 Answers new to q b =
     (ps : List Piece) → HasPieces (table_shape new.header (enabled new.rows)) (table_accepts new.header (enabled new.rows)) (table_text new.header (enabled new.rows)) to ps
-    → b ≡ fitting (table_shape new.header (enabled new.rows)) ps (one q) to.size
+    → b ≡ piece_fits (table_shape new.header (enabled new.rows)) ps (one q) to.size
 
 abbrev pub Keeps : EnabledRows → Stored → Record → Stored → Type 0
 Keeps new to q to' =
@@ -128,24 +134,29 @@ with_stamps old = record { header = Two; rows = old.rows }
 
 module _ (old : EnabledRows) (stamp : ℕ) (text : List ℕ) (size : ℕ) where
   -- a record that was refused is the first that doesn't fit
-  pub upgrading-refused : (to : Stored) (r q : Record) (left : List Record) (new : EnabledRows) (b : Bool) → IsUpgrading old stamp text size to (r ∷ left) → new ≡ with_stamps old → q ≡ stamped stamp r → Answers new to q b → b ≡ false → FillsUp old stamp text size to.count
+  pub upgrading-refused : (to : Stored) (r q : Record) (left : List Record) (new : EnabledRows) (b : Bool) → IsUpgrading old stamp text size to (r ∷ left)
+      → new ≡ with_stamps old → q ≡ stamped stamp r → Answers new to q b → b ≡ false → FillsUp old stamp text size to.count
   upgrading-refused to r q left new b h is same answer refused =
       let answer' : Answers (with_stamps old) to (stamped stamp r) b = subst (λ p. Answers (with_stamps old) to p b) same (subst (λ e. Answers e to q b) is answer) in
       let fit : b ≡ leb (new_extent old (one (stamped stamp r) ∷ all_stamped stamp h.done)) to.size = answer' (all_stamped stamp h.done) h.kept in
-      let over : to.size < new_extent old (one (stamped stamp r) ∷ all_stamped stamp h.done) = leb-false (new_extent old (one (stamped stamp r) ∷ all_stamped stamp h.done)) to.size (sym fit ∙ refused) in
+      let over : to.size < new_extent old (one (stamped stamp r) ∷ all_stamped stamp h.done) =
+      leb-false (new_extent old (one (stamped stamp r) ∷ all_stamped stamp h.done)) to.size (sym fit ∙ refused) in
       upgrading-full old stamp text size to r left h (omega (arith, over, h.same))
 
   -- one that was kept is done
-  pub upgrading-pushed : (to to' : Stored) (r q : Record) (left : List Record) (new : EnabledRows) (b : Bool) → IsUpgrading old stamp text size to (r ∷ left) → new ≡ with_stamps old → q ≡ stamped stamp r → Answers new to q b → b ≡ true → Keeps new to q to' → to'.size ≡ to.size → IsUpgrading old stamp text size to' left
+  pub upgrading-pushed : (to to' : Stored) (r q : Record) (left : List Record) (new : EnabledRows) (b : Bool) → IsUpgrading old stamp text size to (r ∷ left)
+      → new ≡ with_stamps old → q ≡ stamped stamp r → Answers new to q b → b ≡ true → Keeps new to q to' → to'.size ≡ to.size → IsUpgrading old stamp text size to' left
   upgrading-pushed to to' r q left new b h is same answer pushed keeps long =
       let answer' : Answers (with_stamps old) to (stamped stamp r) b = subst (λ p. Answers (with_stamps old) to p b) same (subst (λ e. Answers e to q b) is answer) in
       let keeps' : Keeps (with_stamps old) to (stamped stamp r) to' = subst (λ p. Keeps (with_stamps old) to p to') same (subst (λ e. Keeps e to q to') is keeps) in
       let fit : b ≡ leb (new_extent old (one (stamped stamp r) ∷ all_stamped stamp h.done)) to.size = answer' (all_stamped stamp h.done) h.kept in
-      let within : new_extent old (one (stamped stamp r) ∷ all_stamped stamp h.done) ≤ to.size = leb-true (new_extent old (one (stamped stamp r) ∷ all_stamped stamp h.done)) to.size (sym fit ∙ pushed) in
+      let within : new_extent old (one (stamped stamp r) ∷ all_stamped stamp h.done) ≤ to.size =
+      leb-true (new_extent old (one (stamped stamp r) ∷ all_stamped stamp h.done)) to.size (sym fit ∙ pushed) in
       upgrading-next old stamp text size to to' r left h (keeps' (all_stamped stamp h.done) h.kept) (omega (arith, within, h.same)) long
 
   -- the record that comes next is accepted with the stamp
-  pub upgrading-next-accepted : (to : Stored) (r q : Record) (left : List Record) (new : EnabledRows) → stamp < 2 ^ 64 → IsUpgrading old stamp text size to (r ∷ left) → new ≡ with_stamps old → q ≡ stamped stamp r → IsTrue (table_accepts new.header (enabled new.rows) q)
+  pub upgrading-next-accepted : (to : Stored) (r q : Record) (left : List Record) (new : EnabledRows) → stamp < 2 ^ 64 → IsUpgrading old stamp text size to (r ∷ left)
+      → new ≡ with_stamps old → q ≡ stamped stamp r → IsTrue (table_accepts new.header (enabled new.rows) q)
   upgrading-next-accepted to r q left new small h is same =
       let Accepts : EnabledRows → Type 0 = λ e. IsTrue (table_accepts e.header (enabled e.rows) q) in
       let Accepted : Record → Type 0 = λ p. IsTrue (table_accepts Two (enabled old.rows) p) in
@@ -175,10 +186,14 @@ module _ (old : EnabledRows) (stamp : ℕ) (text : List ℕ) (size : ℕ) where
   fills-not-upgradable n small f u =
       let accepted : Record → Bool = table_accepts old.header (enabled old.rows) in
       let same : u.all ≡ f.before ++ f.first ∷ f.behind =
-      one_reading (table_shape old.header (enabled old.rows)) accepted (table_text old.header (enabled old.rows)) (laws_of old.header old.rows) 0 text u.all (f.before ++ f.first ∷ f.behind) u.is_text f.is_text in
+      one_reading (table_shape old.header (enabled old.rows)) accepted (table_text old.header (enabled old.rows)) (laws_of old.header old.rows) 0 text u.all
+      (f.before ++ f.first ∷ f.behind) u.is_text f.is_text in
       let ok = text_accepted (table_shape old.header (enabled old.rows)) accepted (table_text old.header (enabled old.rows)) 0 text (f.before ++ f.first ∷ f.behind) f.is_text in
       let behind : AllAccepted accepted f.behind = others_accepted accepted f.first f.behind (back_accepted accepted f.before (f.first ∷ f.behind) ok) in
-      let on : new_extent old (all_stamped stamp (f.before ++ f.first ∷ [])) ≤ new_extent old (all_stamped stamp (f.before ++ f.first ∷ [] ++ f.behind)) = reach (f.before ++ f.first ∷ []) f.behind small behind in
-      let whole : new_extent old (all_stamped stamp (f.before ++ f.first ∷ [] ++ f.behind)) ≡ new_extent old (all_stamped stamp u.all) = ap (λ rs. new_extent old (all_stamped stamp rs)) (append_assoc f.before (f.first ∷ []) f.behind ∙ sym same) in
-      let first : new_extent old (all_stamped stamp (f.before ++ f.first ∷ [])) ≡ new_extent old (one (stamped stamp f.first) ∷ all_stamped stamp f.before) = ap (new_extent old) (one-more stamp f.before f.first) in
+      let on : new_extent old (all_stamped stamp (f.before ++ f.first ∷ [])) ≤ new_extent old (all_stamped stamp (f.before ++ f.first ∷ [] ++ f.behind)) =
+      reach (f.before ++ f.first ∷ []) f.behind small behind in
+      let whole : new_extent old (all_stamped stamp (f.before ++ f.first ∷ [] ++ f.behind)) ≡ new_extent old (all_stamped stamp u.all) =
+      ap (λ rs. new_extent old (all_stamped stamp rs)) (append_assoc f.before (f.first ∷ []) f.behind ∙ sym same) in
+      let first : new_extent old (all_stamped stamp (f.before ++ f.first ∷ [])) ≡ new_extent old (one (stamped stamp f.first) ∷ all_stamped stamp f.before) =
+      ap (new_extent old) (one-more stamp f.before f.first) in
       omega (arith, on, whole, first, f.over, u.fit)

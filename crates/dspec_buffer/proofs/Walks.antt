@@ -33,11 +33,14 @@ module _ (shape : ℕ → Option Shape) (accepted : Record → Bool) (text : Rec
       (λ p. p)
       h
 
-  pub walk_from : (b : Stored) (place : ℕ) (rs : List Record) (step : Option (Record × ℕ)) → ((qs : List Record) → HasAhead shape accepted text b.text place qs → Steps (HasAhead shape accepted text b.text) qs step) → IsAhead (HasPieces shape accepted text b) (HasAhead shape accepted text b.text) place rs → Steps (IsAhead (HasPieces shape accepted text b) (HasAhead shape accepted text b.text)) rs step
+  pub walk_from : (b : Stored) (place : ℕ) (rs : List Record) (step : Option (Record × ℕ))
+      → ((qs : List Record) → HasAhead shape accepted text b.text place qs → Steps (HasAhead shape accepted text b.text) qs step)
+      → IsAhead (HasPieces shape accepted text b) (HasAhead shape accepted text b.text) place rs → Steps (IsAhead (HasPieces shape accepted text b) (HasAhead shape accepted text b.text)) rs step
   walk_from b place rs step read h =
       steps_weaker (HasAhead shape accepted text b.text) (IsAhead (HasPieces shape accepted text b) (HasAhead shape accepted text b.text)) rs step (λ o qs k. inr k) (read rs (is_ahead b place rs h))
 
   -- bytes that are a text are read as its records
-  pub read_all_reads : (bs : List ℕ) (rs : List Record) (result : Result (List Record) ReadFault) → BufferText shape accepted text 0 bs rs → IfOk result (λ qs. BufferText shape accepted text 0 bs qs) → OnErr result ((qs : List Record) → ¬ BufferText shape accepted text 0 bs qs) → IsOkAnd result (λ qs. qs ≡ rs)
+  pub read_all_reads : (bs : List ℕ) (rs : List Record) (result : Result (List Record) ReadFault) → BufferText shape accepted text 0 bs rs
+      → IfOk result (λ qs. BufferText shape accepted text 0 bs qs) → OnErr result ((qs : List Record) → ¬ BufferText shape accepted text 0 bs qs) → IsOkAnd result (λ qs. qs ≡ rs)
   read_all_reads bs rs (Ok qs) h k l = one_reading shape accepted text laws 0 bs qs rs k h
   read_all_reads bs rs (Err f) h k l = absurd (l rs h)

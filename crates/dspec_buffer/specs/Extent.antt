@@ -50,8 +50,8 @@ module _ (shape : ℕ → Option Shape) where
   extent (p ∷ ps) = reserved (extent ps) (piece_align p) (piece_size p)
 
   -- whether a piece fits behind these into a buffer of so many bytes
-  abbrev pub fits : List Piece → Piece → ℕ → Bool
-  fits ps p size = nat_le (extent (p ∷ ps)) size
+  abbrev pub piece_fits : List Piece → Piece → ℕ → Bool
+  piece_fits ps p size = nat_le (extent (p ∷ ps)) size
 
 abbrev pub padding_word : List ℕ
 padding_word = 0 ∷ 0 ∷ 0 ∷ 0 ∷ []

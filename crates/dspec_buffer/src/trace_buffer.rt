@@ -1,7 +1,7 @@
 ghost use Rattle.std.specs.Prelude.{◌≡◌, ◌≤◌, ◌%◌, ◌^◌, ◌⊎◌, ◌↔◌, ℕ, IsTrue, IfOk, List, [], ◌∷◌, length, map, reverse, nat_le, Option};
 ghost use Rattle.std.specs.Bool.{OnTrue, OnFalse};
 ghost use Rattle.dspec_record.specs.Record.{Record};
-ghost use Rattle.dspec_buffer.specs.Extent.{Piece, one, block, records, reserved, extent, fits};
+ghost use Rattle.dspec_buffer.specs.Extent.{Piece, one, block, records, reserved, extent, piece_fits};
 ghost use Rattle.dspec_buffer.specs.Walking.{Steps};
 
 use dspec_record::{Rec, Schema};
@@ -38,7 +38,7 @@ pub trait TraceBuffer<S: Schema>: Drop {
         requires { IsTrue (S.accepted schema.now rec.now) }
         ensures size { capacity self.new ≡ capacity self.old }
         ensures answer { (ps : List Piece) → has self.old schema.now ps
-            → result ≡ fits (S.shape_of schema.now) ps (one rec.now) (capacity self.old) }
+            → result ≡ piece_fits (S.shape_of schema.now) ps (one rec.now) (capacity self.old) }
         ensures kept { OnTrue result ((ps : List Piece) → has self.old schema.now ps
             → has self.new schema.now (one rec.now ∷ ps)) }
         ensures refused { OnFalse result (self.new ≡ self.old) };
@@ -48,7 +48,7 @@ pub trait TraceBuffer<S: Schema>: Drop {
     fn push_block(&mut self, other: &Self) -> bool
         ensures size { capacity self.new ≡ capacity self.old }
         ensures answer { (s : S) (ps : List Piece) (rs : List Record) → has self.old s ps → has other.now s (map one rs)
-            → result ≡ fits (S.shape_of s) ps (block rs) (capacity self.old) }
+            → result ≡ piece_fits (S.shape_of s) ps (block rs) (capacity self.old) }
         ensures kept { OnTrue result ((s : S) (ps : List Piece) (rs : List Record) → has self.old s ps
             → has other.now s (map one rs) → has self.new s (block rs ∷ ps)) }
         ensures refused { OnFalse result (self.new ≡ self.old) };

@@ -11,7 +11,7 @@ use Rattle.dspec_deeds.specs.declared.calls.Spoken.TheVariants as spoken
 use Rattle.dspec_deeds.specs.declared.calls.Decided.TheVariants as decided
 use Rattle.dspec_deeds.specs.declared.deed.Deed.{Deed}
 use Rattle.dspec_deeds.specs.declared.deed.Deed.TheVariants.{Commit, Discard}
-use Rattle.dspec_play.specs.Calls.{is_of}
+use Rattle.dspec_play.specs.Calls.{record_passes}
 use Rattle.dspec_table.specs.Seats.{known}
 use Rattle.dspec_cpu.specs.declared.cpu.Cpu.{Cpu}
 use Rattle.dspec_cpu.specs.Calls.{Decides, Goes, spoken_deeds, traced_deeds}
@@ -25,7 +25,7 @@ use Rattle.dspec_calls.specs.declared.Uncalled.TheVariants.{BadRecord, NoSuchCpu
 
 -- the refusal that is due, if one is: the CPU is looked for before the record is looked at
 abbrev pub uncalled : (Record → Bool) → ℕ → ℕ → CpuOp → Option Uncalled
-uncalled accepted cpus c o = if nat_lt c cpus then (if is_of accepted o then None else Some BadRecord) else Some NoSuchCpu
+uncalled accepted cpus c o = if nat_lt c cpus then (if record_passes accepted o then None else Some BadRecord) else Some NoSuchCpu
 
 module _ {S : Type 0} (has : Cpu S → List Deed → Type 0) where
   -- an answer is Worn exactly where the CPU had made all its calls

@@ -3,7 +3,7 @@
 #![tactic(auto)]
 
 ghost use Rattle.std.specs.Prelude.{◌≡◌, None, Some, length, true, IfErr, IfOk, OnErr};
-ghost use Rattle.dspec_play.specs.Calls.{is_of};
+ghost use Rattle.dspec_play.specs.Calls.{record_passes};
 ghost use Rattle.dspec_cpu.specs.Lists.{IsSameCpu, schema_of, words_of};
 ghost use Rattle.dspec_session.specs.Sessions.{IsSession};
 ghost use Rattle.dspec_calls.specs.Called.{Calls, IsCalled, uncalled};
@@ -24,7 +24,7 @@ pub enum Uncalled {
 
 /// Whether the schema accepts the call's record, if it has one.
 pub fn is_accepted<S: Schema>(schema: &S, op: &CpuOp) -> bool
-    ensures { result ≡ is_of (S.accepted schema.now) op.now }
+    ensures { result ≡ record_passes (S.accepted schema.now) op.now }
 {
     match op {
         CpuOp::Trace(rec) => schema.accepts(rec),
@@ -37,7 +37,7 @@ pub fn is_accepted<S: Schema>(schema: &S, op: &CpuOp) -> bool
 pub fn call_cpu<S: Schema>(shared: &Shared, schema: &S, cpu: &mut Cpu<S>, op: &CpuOp) -> Answer
     requires ready { ⟦<Cpu<S> as Listed>⟧.is_ready (words_of shared.now) cpu.old }
     requires schema { schema_of cpu.old ≡ schema.now }
-    requires accepted { is_of (S.accepted schema.now) op.now ≡ true }
+    requires accepted { record_passes (S.accepted schema.now) op.now ≡ true }
     ensures ready { ⟦<Cpu<S> as Listed>⟧.is_ready (words_of shared.now) cpu.new }
     ensures same { IsSameCpu cpu.old cpu.new }
     ensures calls { Calls ⟦<Cpu<S> as Listed>⟧.has_list op.now result cpu.old cpu.new }

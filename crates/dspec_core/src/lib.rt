@@ -9,6 +9,7 @@
 //! names `dspec_deeds` and `dspec_play` too, in which those impls stand.
 #![tactic(auto)]
 
+mod actor;
 mod player;
 mod world;
 

@@ -5,10 +5,11 @@ ghost use Rattle.dspec_play.specs.Calls.{begin_consumer_fault, begin_cpu_fault, 
 ghost use Rattle.dspec_deeds.specs.Closes.{reports, streams};
 ghost use Rattle.dspec_deeds.specs.Headline.{Headline};
 ghost use Rattle.dspec_deeds.specs.Legal.{IsLegal};
-ghost use Rattle.dspec_play.specs.Plays.{Ended, IsAt, Playing, all_ran, answers_of, begin_refusal, begun_consumer, begun_cpu, deeds_of, play_fault, ran, refusal, step_refusal, stepped, turned, worn_count};
+ghost use Rattle.dspec_play.specs.Plays.{EndedCall, IsPlayingAt, Playing, all_ran, answers_of, begin_refusal, begun_consumer, begun_cpu, deeds_of, play_fault, ran, refusal, step_refusal, stepped, turned, worn_count};
 ghost use Rattle.dspec_play.specs.Promised.{HasHeadline};
 ghost use Rattle.dspec_deeds.specs.Ranges.{start_fault};
 
+use crate::actor::is_actor;
 use crate::world::World;
 use dspec_buffer::{ListBuffer, TraceBuffer};
 use dspec_deeds::{Actor, Answer, Config, ConsumerOp, CpuOp, Op, StartFault, Turn};
@@ -24,16 +25,6 @@ fn begin_refused(fault: BeginFault, number: usize) -> PlayFault
         BeginFault::NoSuchActor => PlayFault::NoSuchActor(number),
         BeginFault::Busy => PlayFault::Busy(number),
         BeginFault::BadRecord => PlayFault::BadRecord(number),
-    }
-}
-
-// Whether the actor is one of the session's.
-fn is_actor(config: &Config, actor: Actor) -> bool
-    ensures { result ≡ is_actor config.now actor }
-{
-    match actor {
-        Actor::Cpu(cpu) => cpu < config.cpus,
-        Actor::Consumer => true,
     }
 }
 
@@ -56,8 +47,8 @@ fn step_actor<S: Schema, B: TraceBuffer<S>>(
 ) -> Result<(), AllocError>
     requires exists { is_actor world.old.state.config actor ≡ true }
     requires busy { is_idle actor world.old.state ≡ false }
-    ensures stepped { OnOk result ((p : Playing) → IsAt world.old.state answers.old p
-        → IsAt world.new.state answers.new (stepped (S.shape_of world.old.schema) actor p)) }
+    ensures stepped { OnOk result ((p : Playing) → IsPlayingAt world.old.state answers.old p
+        → IsPlayingAt world.new.state answers.new (stepped (S.shape_of world.old.schema) actor p)) }
     ensures schema { world.new.schema ≡ world.old.schema }
     ensures config { world.new.state.config ≡ world.old.state.config }
     ensures promised { HasHeadline (S.shape_of world.new.schema) world.new.state }
@@ -86,8 +77,8 @@ fn run_actor<S: Schema, B: TraceBuffer<S>>(
     requires fine { start_fault config.now ≡ None }
     requires exists { is_actor config.now actor ≡ true }
     requires promised { HasHeadline (S.shape_of world.old.schema) world.old.state }
-    ensures ran { OnOk result ((p : Playing) → IsAt world.old.state answers.old p
-        → IsAt world.new.state answers.new (ran (S.shape_of world.old.schema) actor p)) }
+    ensures ran { OnOk result ((p : Playing) → IsPlayingAt world.old.state answers.old p
+        → IsPlayingAt world.new.state answers.new (ran (S.shape_of world.old.schema) actor p)) }
     ensures schema { world.new.schema ≡ world.old.schema }
     ensures config { world.new.state.config ≡ world.old.state.config }
     ensures promised { HasHeadline (S.shape_of world.new.schema) world.new.state }
@@ -109,7 +100,7 @@ fn begin_cpu<S: Schema, B: TraceBuffer<S>>(
     number: usize,
 ) -> Result<(), PlayFault>
     ensures allowed { OnOk result (begin_cpu_fault (S.accepted world.old.schema) cpu op world.old.state ≡ None) }
-    ensures begun { OnOk result ((answers : List Ended) (p : Playing) → IsAt world.old.state answers p → IsAt world.new.state answers (begun_cpu cpu op p)) }
+    ensures begun { OnOk result ((answers : List EndedCall) (p : Playing) → IsPlayingAt world.old.state answers p → IsPlayingAt world.new.state answers (begun_cpu cpu op p)) }
     ensures schema { world.new.schema ≡ world.old.schema }
     ensures config { world.new.state.config ≡ world.old.state.config }
     ensures promised { HasHeadline (S.shape_of world.new.schema) world.new.state }
@@ -128,7 +119,7 @@ fn begin_consumer<S: Schema, B: TraceBuffer<S>>(
     number: usize,
 ) -> Result<(), PlayFault>
     ensures allowed { OnOk result (begin_consumer_fault op world.old.state ≡ None) }
-    ensures begun { OnOk result ((answers : List Ended) (p : Playing) → IsAt world.old.state answers p → IsAt world.new.state answers (begun_consumer op p)) }
+    ensures begun { OnOk result ((answers : List EndedCall) (p : Playing) → IsPlayingAt world.old.state answers p → IsPlayingAt world.new.state answers (begun_consumer op p)) }
     ensures schema { world.new.schema ≡ world.old.schema }
     ensures config { world.new.state.config ≡ world.old.state.config }
     ensures promised { HasHeadline (S.shape_of world.new.schema) world.new.state }
@@ -151,8 +142,8 @@ fn step_turn<S: Schema, B: TraceBuffer<S>>(
     requires config { world.old.state.config ≡ config.now }
     requires promised { HasHeadline (S.shape_of world.old.schema) world.old.state }
     ensures allowed { OnOk result (idle_step_fault actor world.old.state ≡ None) }
-    ensures stepped { OnOk result ((p : Playing) → IsAt world.old.state answers.old p
-        → IsAt world.new.state answers.new (stepped (S.shape_of world.old.schema) actor p)) }
+    ensures stepped { OnOk result ((p : Playing) → IsPlayingAt world.old.state answers.old p
+        → IsPlayingAt world.new.state answers.new (stepped (S.shape_of world.old.schema) actor p)) }
     ensures schema { world.new.schema ≡ world.old.schema }
     ensures config { world.new.state.config ≡ world.old.state.config }
     ensures promised { HasHeadline (S.shape_of world.new.schema) world.new.state }
@@ -180,8 +171,8 @@ fn take_turn<S: Schema, B: TraceBuffer<S>>(
     requires fine { start_fault config.now ≡ None }
     requires promised { HasHeadline (S.shape_of world.old.schema) world.old.state }
     ensures allowed { OnOk result (refusal (S.shape_of world.old.schema) (S.accepted world.old.schema) number turn.now world.old.state ≡ None) }
-    ensures turned { OnOk result ((p : Playing) → IsAt world.old.state answers.old p
-        → IsAt world.new.state answers.new (turned (S.shape_of world.old.schema) turn.now p)) }
+    ensures turned { OnOk result ((p : Playing) → IsPlayingAt world.old.state answers.old p
+        → IsPlayingAt world.new.state answers.new (turned (S.shape_of world.old.schema) turn.now p)) }
     ensures schema { world.new.schema ≡ world.old.schema }
     ensures config { world.new.state.config ≡ world.old.state.config }
     ensures promised { HasHeadline (S.shape_of world.new.schema) world.new.state }
@@ -214,8 +205,8 @@ fn run_all<S: Schema, B: TraceBuffer<S>>(
     requires config { world.old.state.config ≡ config.now }
     requires fine { start_fault config.now ≡ None }
     requires promised { HasHeadline (S.shape_of world.old.schema) world.old.state }
-    ensures ran { OnOk result ((p : Playing) → IsAt world.old.state answers.old p
-        → IsAt world.new.state answers.new (all_ran (S.shape_of world.old.schema) p)) }
+    ensures ran { OnOk result ((p : Playing) → IsPlayingAt world.old.state answers.old p
+        → IsPlayingAt world.new.state answers.new (all_ran (S.shape_of world.old.schema) p)) }
     ensures schema { world.new.schema ≡ world.old.schema }
     ensures config { world.new.state.config ≡ world.old.state.config }
     ensures promised { HasHeadline (S.shape_of world.new.schema) world.new.state }

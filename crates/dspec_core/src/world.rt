@@ -4,7 +4,7 @@ ghost use Rattle.dspec_deeds.specs.declared.config.StartFault.TheVariants as sta
 ghost use Rattle.dspec_play.specs.declared.refusal.StepFault.TheVariants as refusal;
 ghost use Rattle.dspec_play.specs.declared.refusal.Stepped.TheVariants as stepped;
 ghost use Rattle.dspec_play.specs.Bounds.{steps_limit};
-ghost use Rattle.dspec_play.specs.Calls.{begin_consumer_fault, begin_cpu_fault, call_of, idle_step_fault, is_about, is_actor, is_idle, is_of, steps_of, told_step};
+ghost use Rattle.dspec_play.specs.Calls.{begin_consumer_fault, begin_cpu_fault, call_of, idle_step_fault, is_about, is_actor, is_idle, record_passes, steps_of, told_step};
 ghost use Rattle.dspec_deeds.specs.Closes.{reports, streams, closing};
 ghost use Rattle.dspec_play.specs.Coherent.{the_caller};
 ghost use Rattle.dspec_deeds.specs.Headline.{Headline};
@@ -15,6 +15,7 @@ ghost use Rattle.dspec_deeds.specs.Ranges.{start_fault};
 ghost use Rattle.dspec_deeds.specs.Reports.{report};
 ghost use Rattle.dspec_play.specs.Turns.{at_start, begin_consumer, begin_cpu, step};
 
+use crate::actor::is_actor;
 use dspec_buffer::TraceBuffer;
 use dspec_deeds::{Actor, Answer, Config, ConsumerOp, CpuOp, Deed, Op, Report, StartFault};
 use dspec_machine::Machine;
@@ -95,7 +96,7 @@ impl<S: Schema, B: TraceBuffer<S>> World<S, B> {
 
     // Whether the schema accepts the call's record, if it has one.
     fn is_accepted(&self, op: &CpuOp) -> bool
-        ensures { result ≡ is_of (S.accepted self.now.schema) op.now }
+        ensures { result ≡ record_passes (S.accepted self.now.schema) op.now }
     {
         match op {
             CpuOp::Trace(rec) => self.machine.schema.accepts(rec),
@@ -165,11 +166,7 @@ impl<S: Schema, B: TraceBuffer<S>> World<S, B> {
         ensures there { result ≡ is_actor self.now.state.config actor }
         ensures promised { HasHeadline (S.shape_of self.now.schema) self.now.state }
     {
-        let cpus = self.machine.config.cpus;
-        match actor {
-            Actor::Cpu(cpu) => cpu < cpus,
-            Actor::Consumer => true,
-        }
+        is_actor(&self.machine.config, actor)
     }
 
     // One atomic step of the actor's call in flight, with the answer where it is the call's last.

@@ -12,7 +12,7 @@ use Rattle.dspec_deeds.specs.Settling.{settle_fate}
 use Rattle.dspec_deeds.proofs.TestLemmas.{either_way, same_number}
 use Rattle.dspec_play.specs.OwnClose.{own_closed, own_closed_slot}
 use Rattle.dspec_table.specs.Showing.{Shows}
-use Rattle.dspec_cpu.specs.Rests.{CanClose}
+use Rattle.dspec_cpu.specs.Rests.{CanCloseBehind}
 use Rattle.dspec_cpu.specs.Settled.{IsPartOf, shown_at}
 use Rattle.dspec_cpu.proofs.Settlements.{ack_is, settles_on}
 
@@ -43,13 +43,17 @@ module _ (shape : ℕ → Option Shape) (k : Config) (c : ℕ) (words : List ℕ
 
       next : Came n (closed n) → Came (suc n) (own_closed_slot shape k shown c (suc n) (closed n))
       next was = ⊎_elim
-          (λ (t : is_granted (settle_at (shown (suc n)) (ack c (suc n) (closed n))) ≡ true). subst (λ b. Came (suc n) (if b then Settle c (shown_at (suc n) (shown (suc n))) (settle_fate shape k c (closed n) (shown_at (suc n) (shown (suc n))) (shown (suc n)).code) ∷ closed n else closed n)) (sym t) (record {
+          (λ (t : is_granted (settle_at (shown (suc n)) (ack c (suc n) (closed n))) ≡ true). subst
+          (λ b. Came (suc n) (if b then Settle c (shown_at (suc n) (shown (suc n)))
+          (settle_fate shape k c (closed n) (shown_at (suc n) (shown (suc n))) (shown (suc n)).code) ∷ closed n else closed n)) (sym t) (record {
             now = Settle c (shown_at (suc n) (shown (suc n))) (settle_fate shape k c (closed n) (shown_at (suc n) (shown (suc n))) (shown (suc n)).code) ∷ was.now;
             part_is = settles_on shape k c was.now (closed n) was.part_is (suc n) (shown (suc n)) (was.stand (suc n)) t;
             stand = λ s. was.stand s;
             acks = λ s lt. other s lt ∙ was.acks s (omega arith);
           }))
-          (λ (f : is_granted (settle_at (shown (suc n)) (ack c (suc n) (closed n))) ≡ false). subst (λ b. Came (suc n) (if b then Settle c (shown_at (suc n) (shown (suc n))) (settle_fate shape k c (closed n) (shown_at (suc n) (shown (suc n))) (shown (suc n)).code) ∷ closed n else closed n)) (sym f) (record {
+          (λ (f : is_granted (settle_at (shown (suc n)) (ack c (suc n) (closed n))) ≡ false). subst
+          (λ b. Came (suc n) (if b then Settle c (shown_at (suc n) (shown (suc n)))
+          (settle_fate shape k c (closed n) (shown_at (suc n) (shown (suc n))) (shown (suc n)).code) ∷ closed n else closed n)) (sym f) (record {
             now = was.now;
             part_is = was.part_is;
             stand = was.stand;
@@ -58,7 +62,7 @@ module _ (shape : ℕ → Option Shape) (k : Config) (c : ℕ) (words : List ℕ
           (either_way (is_granted (settle_at (shown (suc n)) (ack c (suc n) (closed n)))))
 
   -- the next slot can be settled
-  pub can_close : (n : ℕ) → (now : List Deed) × CanClose k c (n + 1) words log now (closed n)
+  pub can_close : (n : ℕ) → (now : List Deed) × CanCloseBehind k c (n + 1) words log now (closed n)
   can_close n =
       let was = came n in (
         was.now,

@@ -5,7 +5,7 @@ use Rattle.std.specs.Global.{Vec}
 use Rattle.dspec_record.specs.Record.{Record}
 use Rattle.dspec_record.specs.declared.field.Shape.{Shape}
 use Rattle.dspec_buffer.specs.Extent as extent
-use Rattle.dspec_buffer.specs.Extent.{Piece, fits}
+use Rattle.dspec_buffer.specs.Extent.{Piece, piece_fits}
 use Rattle.dspec_buffer.specs.Stored.{Stored, HasPieces}
 use Rattle.dspec_word.specs.SpecId.{Speculation}
 use Rattle.dspec_word.specs.Word.{SlotState}
@@ -38,7 +38,8 @@ use Rattle.dspec_cpu.proofs.Reaches.{slot_inside}
 use Rattle.dspec_cpu.proofs.Ready.{few, holder, set_up_is, stands_behind}
 use Rattle.dspec_cpu.proofs.Speaks.{nothing_held}
 
-module _ (shape : ℕ → Option Shape) (accepted : Record → Bool) (text : Record → List ℕ) {S : Type 0} (words : Words) (cpu : Cpu S) (ready : IsReady shape accepted text words cpu) (id : Speculation) (fit mine : Bool) (n : ℕ) (to : SlotState) (w : View)
+module _ (shape : ℕ → Option Shape) (accepted : Record → Bool) (text : Record → List ℕ) {S : Type 0} (words : Words) (cpu : Cpu S)
+    (ready : IsReady shape accepted text words cpu) (id : Speculation) (fit mine : Bool) (n : ℕ) (to : SlotState) (w : View)
     (got : Reached cpu.config cpu.cpu (committing id fit n mine) id (known cpu.seat) (reach.Done to) w) where
   abbrev v : View
   v = known cpu.seat
@@ -58,8 +59,9 @@ module _ (shape : ℕ → Option Shape) (accepted : Record → Bool) (text : Rec
       × ((ps : List Piece) → HasPieces shape accepted text b ps → HasPieces shape accepted text m (if mine then [] else ps))
 
   abbrev CopiedAt : ℕ → Stored → Type 0
-  CopiedAt place new = (ps : List Piece) (rs : List Record) (b : Stored) → slice_get cpu.speculative.items place ≡ Some b → HasPieces shape accepted text cpu.active ps → HasPieces shape accepted text b (map extent.one rs)
-      → (fit ≡ true → fits shape ps (extent.block (if mine then rs else [])) cpu.active.size ≡ true)
+  CopiedAt place new = (ps : List Piece) (rs : List Record) (b : Stored) → slice_get cpu.speculative.items place ≡ Some b → HasPieces shape accepted text cpu.active ps
+      → HasPieces shape accepted text b (map extent.one rs)
+      → (fit ≡ true → piece_fits shape ps (extent.block (if mine then rs else [])) cpu.active.size ≡ true)
       → HasPieces shape accepted text new (if fit then extent.block (if mine then rs else []) ∷ ps else ps)
 
   -- what the call measured, of a list that the CPU has
@@ -68,7 +70,8 @@ module _ (shape : ℕ → Option Shape) (accepted : Record → Bool) (text : Rec
     pub fitting : fit ≡ fits_principal shape cpu.config cpu.cpu (extent.block (if mine then contents (held cpu.cpu id p) else [])) p
     pub counting : n ≡ length (if mine then contents (held cpu.cpu id p) else [])
 
-  pub block_shown : (p : List Deed) → HasList shape accepted text cpu p → IsMeasured p → (place : ℕ) → place ≡ id.slot - 1 → (seat : CpuSeat) (new : Vec Stored) → EmptiedAt place new.items → (kept : Stored) → kept.size ≡ cpu.active.size → CopiedAt place kept
+  pub block_shown : (p : List Deed) → HasList shape accepted text cpu p → IsMeasured p → (place : ℕ) → place ≡ id.slot - 1 → (seat : CpuSeat) (new : Vec Stored)
+      → EmptiedAt place new.items → (kept : Stored) → kept.size ≡ cpu.active.size → CopiedAt place kept
       → (drops : ℕ) → drops ≡ cpu.drops + (if fit then 0 else 1) → (counts : Counts) → counts ≡ with_decided f cpu.counts
       → IsShown shape accepted text (record cpu { seat = seat; speculative = new; active = kept; calls = cpu.calls + 1; drops = drops; counts = counts }) (Commit cpu.cpu id f ∷ p)
   block_shown p had m place at seat new emptied kept size has drops drops_is counts plus =
@@ -81,7 +84,8 @@ module _ (shape : ℕ → Option Shape) (accepted : Record → Bool) (text : Rec
   pub decides_open : (a : Decided) → a ≡ block_answer fit n → (had has : List Deed → Type 0) → OwnsCommit cpu.config cpu.cpu id.slot w (Attempt to) → to.code ≢ Committing
       → ((p : List Deed) → had p → has (Commit cpu.cpu id f ∷ p)) → Decides (Commit cpu.cpu id) id a had v has w
   decides_open a is had has owns several list =
-      let deeds : Commit cpu.cpu id f ∷ [] ≡ decided_deeds (Commit cpu.cpu id) id.slot false a = sym (ap (decided_deeds (Commit cpu.cpu id) id.slot false) is ∙ block_deeds (Commit cpu.cpu id) id.slot false fit n) in
+      let deeds : Commit cpu.cpu id f ∷ [] ≡ decided_deeds (Commit cpu.cpu id) id.slot false a =
+      sym (ap (decided_deeds (Commit cpu.cpu id) id.slot false) is ∙ block_deeds (Commit cpu.cpu id) id.slot false fit n) in
       record {
         alone = false;
         did = subst (λ ds. Goes v ds w) deeds got.goes;
@@ -100,7 +104,8 @@ module _ (shape : ℕ → Option Shape) (accepted : Record → Bool) (text : Rec
     pub decides_alone : (a : Decided) → a ≡ block_answer fit n → (had has : List Deed → Type 0)
         → ((p : List Deed) → had p → has (Release id.slot ∷ Commit cpu.cpu id f ∷ p)) → Decides (Commit cpu.cpu id) id a had v has u
     decides_alone a is had has list =
-        let deeds : Release id.slot ∷ Commit cpu.cpu id f ∷ [] ≡ decided_deeds (Commit cpu.cpu id) id.slot true a = sym (ap (decided_deeds (Commit cpu.cpu id) id.slot true) is ∙ block_deeds (Commit cpu.cpu id) id.slot true fit n) in
+        let deeds : Release id.slot ∷ Commit cpu.cpu id f ∷ [] ≡ decided_deeds (Commit cpu.cpu id) id.slot true a =
+        sym (ap (decided_deeds (Commit cpu.cpu id) id.slot true) is ∙ block_deeds (Commit cpu.cpu id) id.slot true fit n) in
         record {
           alone = true;
           did = subst (λ ds. Goes v ds u) deeds (steps u (Release id.slot ∷ []) _ step.0 got.goes step.1 (inl step.2) refl);
@@ -109,7 +114,8 @@ module _ (shape : ℕ → Option Shape) (accepted : Record → Bool) (text : Rec
         }
 
     last : Stands cpu.config cpu.cpu w (Release id.slot ∷ []) u
-    last = stands_behind cpu.config cpu.cpu w u step.0 (Release id.slot ∷ []) (got.stands.config ∙ set_up_is shape accepted text words cpu ready) (got.stands.who ∙ holder shape accepted text words cpu ready) step.2
+    last = stands_behind cpu.config cpu.cpu w u step.0 (Release id.slot ∷ []) (got.stands.config ∙ set_up_is shape accepted text words cpu ready)
+        (got.stands.who ∙ holder shape accepted text words cpu ready) step.2
 
     pub alone_stands : Stands cpu.config cpu.cpu v (Release id.slot ∷ Commit cpu.cpu id f ∷ []) u
     alone_stands = record {

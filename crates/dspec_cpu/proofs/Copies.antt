@@ -1,12 +1,13 @@
 -- A block that was copied, lost or thrown away.
-use Rattle.std.proofs.Common.{◌≡◌, ◌≢◌, ℕ, suc, ◌+◌, ◌-◌, ◌==◌, ◌≤◌, Bool, true, false, ◌&&◌, List, [], ◌∷◌, length, map, get_or, Option, Some, if◌then◌else◌, refl, sym, ap, ◌∙◌, subst, ⊎_elim, arith, length-set, add-zero, true≢false}
+use Rattle.std.proofs.Common.{◌≡◌, ◌≢◌, ℕ, suc, ◌+◌, ◌-◌, ◌==◌, ◌≤◌, Bool, true, false, ◌&&◌, List, [], ◌∷◌, length}
+use Rattle.std.proofs.Common.{map, get_or, Option, Some, if◌then◌else◌, refl, sym, ap, ◌∙◌, subst, ⊎_elim, arith, length-set, add-zero, true≢false}
 use Rattle.std.specs.Prelude.{slice_get, slice_set}
 use Rattle.std.proofs.lemmas.Bool.Decides.{nat_tests}
 use Rattle.std.proofs.lemmas.Option.{slice_get-get_or}
 use Rattle.dspec_record.specs.Record.{Record}
 use Rattle.dspec_record.specs.declared.field.Shape.{Shape}
 use Rattle.dspec_buffer.specs.Extent as extent
-use Rattle.dspec_buffer.specs.Extent.{Piece, fits}
+use Rattle.dspec_buffer.specs.Extent.{Piece, piece_fits}
 use Rattle.dspec_buffer.specs.Stored.{Stored, HasPieces}
 use Rattle.dspec_ring.specs.declared.batch.Batch.{Batch}
 use Rattle.dspec_word.specs.SpecId.{Speculation}
@@ -33,7 +34,8 @@ use Rattle.dspec_cpu.proofs.Tallies.{commit_counts, discard_counts, settle_count
 use Rattle.dspec_cpu.proofs.Places.{got_set, got_other}
 use Rattle.dspec_cpu.proofs.Ones.{last_is, mine_last}
 
-module _ (shape : ℕ → Option Shape) (accepted : Record → Bool) (text : Record → List ℕ) {k : Config} {c : ℕ} {side : SideParts Stored} {batches : List Batch} {counts : Counts} (p : List Deed) (was : AreShown shape accepted text k c side batches counts p) (id : Speculation) (mine fit : Bool) (n : ℕ)
+module _ (shape : ℕ → Option Shape) (accepted : Record → Bool) (text : Record → List ℕ) {k : Config} {c : ℕ} {side : SideParts Stored} {batches : List Batch}
+    {counts : Counts} (p : List Deed) (was : AreShown shape accepted text k c side batches counts p) (id : Speculation) (mine fit : Bool) (n : ℕ)
     (low : 1 ≤ id.slot) (high : id.slot ≤ k.nspec) (marked : mine ≡ true → mark c id.slot p ≡ id.issue + 1) (empty : mine ≡ false → held c id p ≡ [])
     (counting : n ≡ length (if mine then contents (held c id p) else [])) where
   abbrev have : List Record
@@ -63,8 +65,9 @@ module _ (shape : ℕ → Option Shape) (accepted : Record → Bool) (text : Rec
       × ((ps : List Piece) → HasPieces shape accepted text b ps → HasPieces shape accepted text m (if mine then [] else ps))
 
   abbrev pub Copied : Stored → Type 0
-  Copied new = (ps : List Piece) (rs : List Record) (b : Stored) → slice_get side.speculative (id.slot - 1) ≡ Some b → HasPieces shape accepted text side.active ps → HasPieces shape accepted text b (map extent.one rs)
-      → (fit ≡ true → fits shape ps (extent.block (if mine then rs else [])) side.active.size ≡ true)
+  Copied new = (ps : List Piece) (rs : List Record) (b : Stored) → slice_get side.speculative (id.slot - 1) ≡ Some b → HasPieces shape accepted text side.active ps
+      → HasPieces shape accepted text b (map extent.one rs)
+      → (fit ≡ true → piece_fits shape ps (extent.block (if mine then rs else [])) side.active.size ≡ true)
       → HasPieces shape accepted text new (if fit then extent.block (if mine then rs else []) ∷ ps else ps)
 
   -- a deed that ends the block, and touches no other buffer, nor a mark or a batch
@@ -77,7 +80,7 @@ module _ (shape : ℕ → Option Shape) (accepted : Record → Bool) (text : Rec
     pub marks : (s : ℕ) → mark c s (deed ∷ p) ≡ mark c s p
     pub sealing : seals c (deed ∷ p) ≡ seals c p
     pub missing : missed_busy c (deed ∷ p) ≡ missed_busy c p
-    pub room : fit ≡ true → fits shape (active c p) (extent.block (if mine then have else [])) k.bufsize ≡ true
+    pub room : fit ≡ true → piece_fits shape (active c p) (extent.block (if mine then have else [])) k.bufsize ≡ true
 
   -- the numbers, and the counts, behind it
   record AreNumbers (deed : Deed) (n_calls : ℕ) (acked : List ℕ) (n_drops : ℕ) (now : Counts) : Type 0 where
@@ -116,12 +119,14 @@ module _ (shape : ℕ → Option Shape) (accepted : Record → Bool) (text : Rec
           λ s b one_low one_high got. ⊎_elim
               (λ (y : (s == id.slot) ≡ true).
               let same = same_number s id.slot y in
-              let is : b ≡ t.0 = some_is (sym got ∙ (ap (λ l. slice_get l (s - 1)) t.2 ∙ (ap (λ x. slice_get (slice_set side.speculative (id.slot - 1) t.0) (x - 1)) same ∙ got_set side.speculative (id.slot - 1) t.0 (omega arith)))) in
+              let is : b ≡ t.0 = some_is (sym got ∙ (ap (λ l. slice_get l (s - 1)) t.2
+              ∙ (ap (λ x. slice_get (slice_set side.speculative (id.slot - 1) t.0) (x - 1)) same ∙ got_set side.speculative (id.slot - 1) t.0 (omega arith)))) in
               subst (λ (q : ℕ × Stored). HasSized shape accepted text k.specsize (map extent.one (contents (held c (last_called c q.0 p) (deed ∷ p)))) q.1) (λ i. (sym same i, sym is i))
               (record { sized = t.1 ∙ shows.sized; has = subst (λ l. HasPieces shape accepted text t.0 l) pieces (t.3 (ones (held c it p)) shows.has) }))
               (λ (z : (s == id.slot) ≡ false).
               let apart : s ≢ id.slot = grind (arith, nat_tests) in
-              let now : held c (last_called c s p) (deed ∷ p) ≡ held c (last_called c s p) p = ends.holds (last_called c s p) ∙ ap (λ q. if q then [] else held c (last_called c s p) p) (other_slot (last_called c s p) id apart) in
+              let now : held c (last_called c s p) (deed ∷ p) ≡ held c (last_called c s p) p =
+              ends.holds (last_called c s p) ∙ ap (λ q. if q then [] else held c (last_called c s p) p) (other_slot (last_called c s p) id apart) in
               let before = sym (got_other side.speculative (id.slot - 1) (s - 1) t.0 (omega arith)) ∙ (ap (λ l. slice_get l (s - 1)) (sym t.2) ∙ got) in
               subst (λ l. HasSized shape accepted text k.specsize (map extent.one (contents l)) b) (sym now) (was.side.speculative s b one_low one_high before))
               (either_way (s == id.slot)),
@@ -137,16 +142,19 @@ module _ (shape : ℕ → Option Shape) (accepted : Record → Bool) (text : Rec
         let shows = was.side.speculative id.slot b0 low high at in
         let rs = contents (held c (last_called c id.slot p) p) in
         let lasts = mine_last c id p mine marked in
-        let enough : fit ≡ true → fits shape (active c p) (extent.block (if mine then rs else [])) side.active.size ≡ true = λ e. ap (λ l. fits shape (active c p) (extent.block l) side.active.size) lasts
-        ∙ (ap (λ m. fits shape (active c p) (extent.block (if mine then have else [])) m) was.side.principal.sized ∙ ends.room e) in
+        let enough : fit ≡ true → piece_fits shape (active c p) (extent.block (if mine then rs else [])) side.active.size ≡ true =
+        λ e. ap (λ l. piece_fits shape (active c p) (extent.block l) side.active.size) lasts
+        ∙ (ap (λ m. piece_fits shape (active c p) (extent.block (if mine then have else [])) m) was.side.principal.sized ∙ ends.room e) in
         let has = told (active c p) rs b0 at was.side.principal.has shows.has enough in
         record {
           sized = size ∙ was.side.principal.sized;
-          has = subst (λ l. HasPieces shape accepted text new l) (sym ends.principal) (subst (λ l. HasPieces shape accepted text new (if fit then extent.block l ∷ active c p else active c p)) (lasts ∙ mine_held) has);
+          has = subst (λ l. HasPieces shape accepted text new l) (sym ends.principal)
+              (subst (λ l. HasPieces shape accepted text new (if fit then extent.block l ∷ active c p else active c p)) (lasts ∙ mine_held) has);
         }
 
     -- such a deed in front is shown
-    block_shown : (called : ℕ) (acks : List ℕ) (drops : ℕ) (now : Counts) → AreNumbers deed called acks drops now → (new : List Stored) → Emptied new → (kept : Stored) → kept.size ≡ side.active.size → Copied kept
+    block_shown : (called : ℕ) (acks : List ℕ) (drops : ℕ) (now : Counts) → AreNumbers deed called acks drops now → (new : List Stored) → Emptied new → (kept : Stored)
+        → kept.size ≡ side.active.size → Copied kept
         → AreShown shape accepted text k c (record side { calls = called; acks = acks; speculative = new; active = kept; drops = drops }) batches now (deed ∷ p)
     block_shown called acks drops now numbers new emptied kept size has =
         let b = buffers new emptied in
@@ -161,7 +169,8 @@ module _ (shape : ℕ → Option Shape) (accepted : Record → Bool) (text : Rec
             mark_count = was.side.mark_count;
             marks = λ s one_low one_high. was.side.marks s one_low one_high ∙ ap Some (sym (ends.marks s));
             buffer_count = b.0;
-            speculative = λ s x one_low one_high got. subst (λ j. HasSized shape accepted text k.specsize (map extent.one (contents (held c j (deed ∷ p)))) x) (last_stays s) (b.1 s x one_low one_high got);
+            speculative = λ s x one_low one_high got. subst (λ j. HasSized shape accepted text k.specsize (map extent.one (contents (held c j (deed ∷ p)))) x) (last_stays s)
+                (b.1 s x one_low one_high got);
             principal = principal kept size has;
             drops = numbers.drops;
           };
@@ -210,7 +219,14 @@ module _ (shape : ℕ → Option Shape) (accepted : Record → Bool) (text : Rec
           room = λ e. (and_tells _ _ (sym fitting ∙ e)).0;
         })
         (side.calls + 1) side.acks drops now
-        (record { called = ap (λ m. m + 1) was.side.called ∙ one_call _; ack_count = was.side.ack_count; acks = was.side.acks; drops = loses drops drops_is; counted = counted (Commit c id f) (λ w. commit_counts k c w p id f thrown) })
+        (record {
+          called = ap (λ m. m + 1) was.side.called ∙ one_call _;
+          ack_count = was.side.ack_count;
+          acks = was.side.acks;
+          drops = loses drops drops_is;
+          counted = counted
+              (Commit c id f) (λ w. commit_counts k c w p id f thrown);
+        })
         new emptied kept size has
 
     -- with the discard
@@ -229,11 +245,18 @@ module _ (shape : ℕ → Option Shape) (accepted : Record → Bool) (text : Rec
           room = λ e. absurd (true≢false (sym e ∙ none));
         })
         (side.calls + 1) side.acks side.drops now
-        (record { called = ap (λ m. m + 1) was.side.called ∙ one_call _; ack_count = was.side.ack_count; acks = was.side.acks; drops = was.side.drops ∙ sym (add-zero _); counted = counted (Discard c id (fated.Thrown n)) (λ w. discard_counts k c w p id (fated.Thrown n) refl ∙ ap (λ x. with_decided x (counts_of k c w p)) (sym is)) })
+        (record {
+          called = ap (λ m. m + 1) was.side.called ∙ one_call _;
+          ack_count = was.side.ack_count;
+          acks = was.side.acks;
+          drops = was.side.drops
+              ∙ sym (add-zero _);
+          counted = counted (Discard c id (fated.Thrown n)) (λ w. discard_counts k c w p id (fated.Thrown n) refl ∙ ap (λ x. with_decided x (counts_of k c w p)) (sym is));
+        })
         new emptied kept size has
 
     -- and with the settlement, which the slot's acknowledgement tells
-    pub settle_shown : decided_stopped f ≡ false → OwnRow shape k p (Settle c id f) → (fit ≡ true → fits shape (active c p) (extent.block (if mine then have else [])) k.bufsize ≡ true)
+    pub settle_shown : decided_stopped f ≡ false → OwnRow shape k p (Settle c id f) → (fit ≡ true → piece_fits shape (active c p) (extent.block (if mine then have else [])) k.bufsize ≡ true)
         → (new : List Stored) → Emptied new → (kept : Stored) → kept.size ≡ side.active.size → Copied kept → (drops : ℕ) → drops ≡ side.drops + (if is_lost f then 1 else 0)
         → (acks : List ℕ) → acks ≡ slice_set side.acks (id.slot - 1) (id.issue + 1)
         → AreShown shape accepted text k c (record side { acks = acks; speculative = new; active = kept; drops = drops }) batches now (Settle c id f ∷ p)
@@ -250,7 +273,14 @@ module _ (shape : ℕ → Option Shape) (accepted : Record → Bool) (text : Rec
           room = room;
         })
         side.calls acks drops now
-        (record { called = was.side.called ∙ sym (add-zero (calls c p)); ack_count = told.0; acks = told.1; drops = loses drops drops_is; counted = counted (Settle c id f) (λ w. settle_counts k c w p id f runs) })
+        (record {
+          called = was.side.called ∙ sym (add-zero (calls c p));
+          ack_count = told.0;
+          acks = told.1;
+          drops = loses drops drops_is;
+          counted = counted (Settle c id f)
+              (λ w. settle_counts k c w p id f runs);
+        })
         new emptied kept size has
       where
         ack_now : (s : ℕ) → ack c s (Settle c id f ∷ p) ≡ (if s == id.slot then id.issue + 1 else ack c s p)

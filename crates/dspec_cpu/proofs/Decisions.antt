@@ -98,30 +98,35 @@ left_by_commit id mine word to e =
     subst (λ n. IsCommitWord n to) (same_number word.issue id.issue both.0) (commit_leaves word.issue mine word.code to both.1)
 
 -- the commit that stands is the one in flight
-pub commits_now : (k : Config) (c slot : ℕ) (id : Speculation) (w : View) (to : SlotState) → slot ≡ id.slot → IsCommitWord id.issue to → to.code ≡ Committing → OwnsCommit k c id.slot w (Attempt to) → CommitsNow k w c slot (op.Commit id)
+pub commits_now : (k : Config) (c slot : ℕ) (id : Speculation) (w : View) (to : SlotState) → slot ≡ id.slot → IsCommitWord id.issue to → to.code ≡ Committing
+    → OwnsCommit k c id.slot w (Attempt to) → CommitsNow k w c slot (op.Commit id)
 commits_now k c slot id w to at word is owns =
     let own : OwnCommit k w c record { issue = to.issue; slot = id.slot } = subst (λ x. IfCommitting x (OwnCommit k w c record { issue = to.issue; slot = id.slot })) is owns.1 in
     (sym at, subst (λ n. OwnCommit k w c record { issue = n; slot = id.slot }) word.issue own)
 
 -- behind an exchange that waits for others, no CPU decided alone
-pub waits_at : (k : Config) (id : Speculation) (h : List Deed) (to : SlotState) (c : Code) → IsSound k h → owed h ≡ 0 → word_at id.slot h ≡ to → to.issue ≡ id.issue → to.code ≡ c → awaits c ≡ true → solo id h ≡ None
+pub waits_at : (k : Config) (id : Speculation) (h : List Deed) (to : SlotState) (c : Code) → IsSound k h → owed h ≡ 0 → word_at id.slot h ≡ to → to.issue ≡ id.issue
+    → to.code ≡ c → awaits c ≡ true → solo id h ≡ None
 waits_at k id h to c sound rests now same is waits =
     let at : issue id.slot h ≡ id.issue = ap (λ (x : SlotState). x.issue) now ∙ same in
     subst (λ (x : Speculation). solo x h ≡ None) (present_is id h at) (awaiting k id.slot h c sound rests (ap (λ (x : SlotState). x.code) now ∙ is) waits).alone
 
-pub waits_many : (k : Config) (id : Speculation) (h : List Deed) (to : SlotState) → IsSound k h → owed h ≡ 0 → word_at id.slot h ≡ to → IsCommitWord id.issue to → to.code ≢ Committing → solo id h ≡ None
+pub waits_many : (k : Config) (id : Speculation) (h : List Deed) (to : SlotState) → IsSound k h → owed h ≡ 0 → word_at id.slot h ≡ to → IsCommitWord id.issue to
+    → to.code ≢ Committing → solo id h ≡ None
 waits_many k id h to sound rests now word n =
     waits_at k id h to CommittingMany sound rests now word.issue (⊎_elim (λ (e : to.code ≡ Committing). absurd (n e)) (λ (e : to.code ≡ CommittingMany). e) word.code) refl
 
 module _ (shape : ℕ → Option Shape) (accepted : Record → Bool) (text : Record → List ℕ) {S : Type 0} (cpu : Cpu S) (p : List Deed) (was : IsShown shape accepted text cpu p) where
   -- a commit that decided nothing
-  pub uncommitted_shown : (id : Speculation) (f : DecideFate) → is_commit f ≡ false → is_discard f ≡ false → is_lost f ≡ false → quiet (Commit cpu.cpu id f) ≡ true → (seat : CpuSeat) (counts : Counts) → counts ≡ with_decided f cpu.counts
+  pub uncommitted_shown : (id : Speculation) (f : DecideFate) → is_commit f ≡ false → is_discard f ≡ false → is_lost f ≡ false → quiet (Commit cpu.cpu id f) ≡ true
+      → (seat : CpuSeat) (counts : Counts) → counts ≡ with_decided f cpu.counts
       → IsShown shape accepted text (record cpu { seat = seat; calls = cpu.calls + 1; counts = counts }) (Commit cpu.cpu id f ∷ p)
   uncommitted_shown id f none throws loses still seat counts plus =
       let worn : counts.worn ≡ cpu.counts.worn = ap (λ (n : Counts). n.worn) plus in
       quiet_shown shape accepted text cpu p was (Commit cpu.cpu id f) still (number_is_itself cpu.cpu) (rw none tt) seat (cpu.calls + 1) cpu.missed_busy cpu.drops counts
       (ap (λ n. n + 1) was.side.called ∙ one_call cpu.cpu _) was.side.missed (was.side.drops ∙ no_drop (is_lost f) (cpu.cpu == cpu.cpu) _ loses)
-      (plus ∙ (ap (with_decided f) was.counted ∙ (sym (commit_counts cpu.config cpu.cpu cpu.counts.worn p id f throws) ∙ ap (λ n. counts_of cpu.config cpu.cpu n (Commit cpu.cpu id f ∷ p)) (sym worn))))
+      (plus ∙ (ap (with_decided f) was.counted
+      ∙ (sym (commit_counts cpu.config cpu.cpu cpu.counts.worn p id f throws) ∙ ap (λ n. counts_of cpu.config cpu.cpu n (Commit cpu.cpu id f ∷ p)) (sym worn))))
     where
       one_call : (c n : ℕ) → n + 1 ≡ n + (if c == c then 1 else 0)
       one_call c n = rw (number_is_itself c) refl
@@ -131,13 +136,15 @@ module _ (shape : ℕ → Option Shape) (accepted : Record → Bool) (text : Rec
       no_drop false x n e = sym (add-zero n)
 
   -- a discard that decided nothing
-  pub undiscarded_shown : (id : Speculation) (f : DecideFate) → is_discard f ≡ false → is_commit f ≡ false → quiet (Discard cpu.cpu id f) ≡ true → (seat : CpuSeat) (counts : Counts) → counts ≡ with_decided f cpu.counts
+  pub undiscarded_shown : (id : Speculation) (f : DecideFate) → is_discard f ≡ false → is_commit f ≡ false → quiet (Discard cpu.cpu id f) ≡ true
+      → (seat : CpuSeat) (counts : Counts) → counts ≡ with_decided f cpu.counts
       → IsShown shape accepted text (record cpu { seat = seat; calls = cpu.calls + 1; counts = counts }) (Discard cpu.cpu id f ∷ p)
   undiscarded_shown id f none copies still seat counts plus =
       let worn : counts.worn ≡ cpu.counts.worn = ap (λ (n : Counts). n.worn) plus in
       quiet_shown shape accepted text cpu p was (Discard cpu.cpu id f) still (number_is_itself cpu.cpu) (rw none tt) seat (cpu.calls + 1) cpu.missed_busy cpu.drops counts
       (ap (λ n. n + 1) was.side.called ∙ one_call cpu.cpu _) was.side.missed (was.side.drops ∙ sym (add-zero _))
-      (plus ∙ (ap (with_decided f) was.counted ∙ (sym (discard_counts cpu.config cpu.cpu cpu.counts.worn p id f copies) ∙ ap (λ n. counts_of cpu.config cpu.cpu n (Discard cpu.cpu id f ∷ p)) (sym worn))))
+      (plus ∙ (ap (with_decided f) was.counted
+      ∙ (sym (discard_counts cpu.config cpu.cpu cpu.counts.worn p id f copies) ∙ ap (λ n. counts_of cpu.config cpu.cpu n (Discard cpu.cpu id f ∷ p)) (sym worn))))
     where
       one_call : (c n : ℕ) → n + 1 ≡ n + (if c == c then 1 else 0)
       one_call c n = rw (number_is_itself c) refl

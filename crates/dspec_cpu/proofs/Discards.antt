@@ -5,7 +5,7 @@ use Rattle.std.specs.Global.{Vec}
 use Rattle.dspec_record.specs.Record.{Record}
 use Rattle.dspec_record.specs.declared.field.Shape.{Shape}
 use Rattle.dspec_buffer.specs.Extent as extent
-use Rattle.dspec_buffer.specs.Extent.{Piece, fits}
+use Rattle.dspec_buffer.specs.Extent.{Piece, piece_fits}
 use Rattle.dspec_buffer.specs.Stored.{Stored, HasPieces}
 use Rattle.dspec_word.specs.SpecId.{Speculation}
 use Rattle.dspec_word.specs.Word.{SlotState}
@@ -74,7 +74,8 @@ left_by_discard id mine word to e =
     let both = here_or_void (word.issue == id.issue) (discard_act word.issue mine word.code) (Attempt to) e (attempt_is to) in
     subst (λ n. IsDiscardWord n to) (same_number word.issue id.issue both.0) (discard_leaves word.issue mine word.code to both.1)
 
-module _ (shape : ℕ → Option Shape) (accepted : Record → Bool) (text : Record → List ℕ) {S : Type 0} (words : Words) (cpu : Cpu S) (ready : IsReady shape accepted text words cpu) (id : Speculation) (mine : Bool) (n : ℕ) (to : SlotState) (w : View)
+module _ (shape : ℕ → Option Shape) (accepted : Record → Bool) (text : Record → List ℕ) {S : Type 0} (words : Words) (cpu : Cpu S)
+    (ready : IsReady shape accepted text words cpu) (id : Speculation) (mine : Bool) (n : ℕ) (to : SlotState) (w : View)
     (got : Reached cpu.config cpu.cpu (discarding id n mine) id (known cpu.seat) (reach.Done to) w) where
   abbrev v : View
   v = known cpu.seat
@@ -95,8 +96,9 @@ module _ (shape : ℕ → Option Shape) (accepted : Record → Bool) (text : Rec
       × ((ps : List Piece) → HasPieces shape accepted text b ps → HasPieces shape accepted text m (if mine then [] else ps))
 
   abbrev StaysAt : ℕ → Stored → Type 0
-  StaysAt place new = (ps : List Piece) (rs : List Record) (b : Stored) → slice_get cpu.speculative.items place ≡ Some b → HasPieces shape accepted text cpu.active ps → HasPieces shape accepted text b (map extent.one rs)
-      → (false ≡ true → fits shape ps (extent.block (if mine then rs else [])) cpu.active.size ≡ true)
+  StaysAt place new = (ps : List Piece) (rs : List Record) (b : Stored) → slice_get cpu.speculative.items place ≡ Some b → HasPieces shape accepted text cpu.active ps
+      → HasPieces shape accepted text b (map extent.one rs)
+      → (false ≡ true → piece_fits shape ps (extent.block (if mine then rs else [])) cpu.active.size ≡ true)
       → HasPieces shape accepted text new ps
 
   released_too : (new : Cpu S) (p : List Deed) (b : Bool) → IsShown shape accepted text new (deed ∷ p) → IsShown shape accepted text new (decision b id.slot deed ++ p)
@@ -128,12 +130,14 @@ module _ (shape : ℕ → Option Shape) (accepted : Record → Bool) (text : Rec
       → HasList shape accepted text (record cpu { seat = seat; speculative = new; active = kept; calls = cpu.calls + 1; counts = counts }) (deeds ++ p)
   thrown_listed p had mine_is counting place at seat here new emptied kept size has counts plus = record {
     own = bare_too p (is_inactive to.code) ∙ (ap (λ l. deeds ++ l) had.own ∙ (sym got.stands.own ∙ sym (ap (λ (x : View). x.own) here)));
-    shown = released_too (record cpu { seat = seat; speculative = new; active = kept; calls = cpu.calls + 1; counts = counts }) p (is_inactive to.code) (discard_shown shape accepted text p had.shown id mine false n slots.0 slots.1 (λ t. same_number (mark cpu.cpu id.slot p) (id.issue + 1) (sym mine_is ∙ t))
+    shown = released_too (record cpu { seat = seat; speculative = new; active = kept; calls = cpu.calls + 1; counts = counts }) p (is_inactive to.code)
+        (discard_shown shape accepted text p had.shown id mine false n slots.0 slots.1 (λ t. same_number (mark cpu.cpu id.slot p) (id.issue + 1) (sym mine_is ∙ t))
         (nothing_held cpu.config cpu.cpu id v.own p mine (few shape accepted text words cpu ready) (got.present refl).0 had.own mine_is)
         counting (fated.Thrown n) refl counts plus refl refl new.items (subst (λ i. EmptiedAt i new.items) at emptied) kept size (subst (λ i. StaysAt i kept) at has));
   }
 
-  pub throws : (had has : List Deed → Type 0) → OwnsCommit cpu.config cpu.cpu id.slot w (Attempt to) → ((p : List Deed) → had p → has (deeds ++ p)) → Decides (Discard cpu.cpu id) id (decided.Thrown n) had v has w
+  pub throws : (had has : List Deed → Type 0) → OwnsCommit cpu.config cpu.cpu id.slot w (Attempt to) → ((p : List Deed) → had p → has (deeds ++ p))
+      → Decides (Discard cpu.cpu id) id (decided.Thrown n) had v has w
   throws had has owns list =
       let a = got.acts refl in
       let left = left_by_discard id mine a.0 to a.1 in

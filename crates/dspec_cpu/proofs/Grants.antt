@@ -1,5 +1,6 @@
 -- A record that was granted: the slot's mark and buffer.
-use Rattle.std.proofs.Common.{◌≡◌, ◌≢◌, ℕ, ◌+◌, ◌-◌, ◌==◌, ◌≤◌, Bool, true, false, ◌&&◌, List, [], ◌∷◌, length, map, get_or, Option, Some, if◌then◌else◌, refl, sym, ap, ◌∙◌, subst, ⊎_elim, arith, length-set, add-zero}
+use Rattle.std.proofs.Common.{◌≡◌, ◌≢◌, ℕ, ◌+◌, ◌-◌, ◌==◌, ◌≤◌, Bool, true, false, ◌&&◌, List, [], ◌∷◌, length}
+use Rattle.std.proofs.Common.{map, get_or, Option, Some, if◌then◌else◌, refl, sym, ap, ◌∙◌, subst, ⊎_elim, arith, length-set, add-zero}
 use Rattle.std.specs.Prelude.{slice_get, slice_set}
 use Rattle.std.specs.Global.{Vec}
 use Rattle.std.proofs.lemmas.Bool.Decides.{nat_tests}
@@ -7,7 +8,7 @@ use Rattle.std.proofs.lemmas.Option.{slice_get-get_or}
 use Rattle.dspec_record.specs.Record.{Record}
 use Rattle.dspec_record.specs.declared.field.Shape.{Shape}
 use Rattle.dspec_buffer.specs.Extent as extent
-use Rattle.dspec_buffer.specs.Extent.{Piece, fits}
+use Rattle.dspec_buffer.specs.Extent.{Piece, piece_fits}
 use Rattle.dspec_buffer.specs.Stored.{Stored, HasPieces}
 use Rattle.dspec_word.specs.SpecId.{Speculation}
 use Rattle.dspec_deeds.specs.declared.deed.SpeculateFate.{SpeculateFate}
@@ -28,7 +29,8 @@ use Rattle.dspec_cpu.specs.Lists.{IsShown}
 use Rattle.dspec_cpu.proofs.Tallies.{spoken_counts}
 use Rattle.dspec_cpu.proofs.Places.{got_set, got_other}
 
-module _ (shape : ℕ → Option Shape) (accepted : Record → Bool) (text : Record → List ℕ) {S : Type 0} (cpu : Cpu S) (p : List Deed) (was : IsShown shape accepted text cpu p) (id : Speculation) (r : Record) (mine fit : Bool)
+module _ (shape : ℕ → Option Shape) (accepted : Record → Bool) (text : Record → List ℕ) {S : Type 0} (cpu : Cpu S) (p : List Deed) (was : IsShown shape accepted text cpu p)
+    (id : Speculation) (r : Record) (mine fit : Bool)
     (low : 1 ≤ id.slot) (high : id.slot ≤ cpu.config.nspec) where
   abbrev have : List Record
   have = contents (held cpu.cpu id p)
@@ -37,7 +39,7 @@ module _ (shape : ℕ → Option Shape) (accepted : Record → Bool) (text : Rec
   pub record IsKnown : Type 0 where
     pub marked : mine ≡ (mark cpu.cpu id.slot p == id.issue + 1)
     pub empty : mine ≡ false → held cpu.cpu id p ≡ []
-    pub fitting : fit ≡ fits shape (map extent.one (if mine then have else [])) (extent.one r) cpu.config.specsize
+    pub fitting : fit ≡ piece_fits shape (map extent.one (if mine then have else [])) (extent.one r) cpu.config.specsize
 
   module _ (known : IsKnown) where
     mine_held : (if mine then have else []) ≡ have
@@ -47,8 +49,8 @@ module _ (shape : ℕ → Option Shape) (accepted : Record → Bool) (text : Rec
         go true e = refl
         go false e = sym (e refl)
 
-    pub fit_is : fit ≡ fits shape (map extent.one have) (extent.one r) cpu.config.specsize
-    fit_is = known.fitting ∙ ap (λ (l : List Record). fits shape (map extent.one l) (extent.one r) cpu.config.specsize) mine_held
+    pub fit_is : fit ≡ piece_fits shape (map extent.one have) (extent.one r) cpu.config.specsize
+    fit_is = known.fitting ∙ ap (λ (l : List Record). piece_fits shape (map extent.one l) (extent.one r) cpu.config.specsize) mine_held
 
     -- what the slot's buffer has of the speculation
     abbrev last : List Piece
@@ -73,7 +75,7 @@ module _ (shape : ℕ → Option Shape) (accepted : Record → Bool) (text : Rec
     IsGranted kept new = (b : Stored) → slice_get cpu.speculative.items (id.slot - 1) ≡ Some b
         → (n : Stored) × (n.size ≡ b.size) × (new ≡ slice_set cpu.speculative.items (id.slot - 1) n)
         × ((ps : List Piece) → HasPieces shape accepted text b ps
-        → (kept ≡ fits shape (if mine then ps else []) (extent.one r) b.size)
+        → (kept ≡ piece_fits shape (if mine then ps else []) (extent.one r) b.size)
         × HasPieces shape accepted text n (if kept then extent.one r ∷ (if mine then ps else []) else (if mine then ps else [])))
 
     -- what was told of the record before is what the buffer then answered
@@ -83,8 +85,8 @@ module _ (shape : ℕ → Option Shape) (accepted : Record → Bool) (text : Rec
         let at = slice_get-get_or cpu.speculative.items (id.slot - 1) nothing (omega arith) in
         let b0 = get_or cpu.speculative.items (id.slot - 1) nothing in
         let shows = was.side.speculative id.slot b0 low high at in
-        let answered : kept ≡ fits shape (if mine then last else []) (extent.one r) b0.size = ((told b0 at).3 last shows.has).0 in
-        let same : fits shape (if mine then last else []) (extent.one r) b0.size ≡ fit = rw (pieces, shows.sized) (sym fit_is) in
+        let answered : kept ≡ piece_fits shape (if mine then last else []) (extent.one r) b0.size = ((told b0 at).3 last shows.has).0 in
+        let same : piece_fits shape (if mine then last else []) (extent.one r) b0.size ≡ fit = rw (pieces, shows.sized) (sym fit_is) in
         sym (answered ∙ same)
 
     module _ (f : SpeculateFate) (is_granted : spoken_granted f ≡ true) (is_kept : spoken_kept f ≡ fit) where
@@ -97,7 +99,8 @@ module _ (shape : ℕ → Option Shape) (accepted : Record → Bool) (text : Rec
       held_now : (j : Speculation) → contents (held cpu.cpu j (deed ∷ p)) ≡ (if fit && same_id j id then r ∷ contents (held cpu.cpu j p) else contents (held cpu.cpu j p))
       held_now j = rw (is_kept, number_is_itself cpu.cpu) (split (fit && same_id j id))
         where
-          split : (b : Bool) → contents (if b then record { number = offers cpu.cpu p; content = r } ∷ held cpu.cpu j p else held cpu.cpu j p) ≡ (if b then r ∷ contents (held cpu.cpu j p) else contents (held cpu.cpu j p))
+          split : (b : Bool) → contents (if b then record { number = offers cpu.cpu p; content = r } ∷ held cpu.cpu j p else held cpu.cpu j p)
+              ≡ (if b then r ∷ contents (held cpu.cpu j p) else contents (held cpu.cpu j p))
           split true = refl
           split false = refl
 
@@ -121,7 +124,8 @@ module _ (shape : ℕ → Option Shape) (accepted : Record → Bool) (text : Rec
                 let issues : mark cpu.cpu s (deed ∷ p) - 1 ≡ id.issue = omega arith in
                 let it : last_called cpu.cpu s (deed ∷ p) ≡ id = λ i. record { issue = issues i; slot = same i } in
                 let now : contents (held cpu.cpu id (deed ∷ p)) ≡ (if fit then r ∷ have else have) = held_now id ∙ (rw (id_is_itself id) (flat fit)) in
-                let is : b ≡ t.0 = some_is (sym got ∙ (ap (λ l. slice_get l (s - 1)) t.2 ∙ (ap (λ x. slice_get (slice_set cpu.speculative.items (id.slot - 1) t.0) (x - 1)) same ∙ got_set cpu.speculative.items (id.slot - 1) t.0 (omega arith)))) in
+                let is : b ≡ t.0 = some_is (sym got ∙ (ap (λ l. slice_get l (s - 1)) t.2
+                ∙ (ap (λ x. slice_get (slice_set cpu.speculative.items (id.slot - 1) t.0) (x - 1)) same ∙ got_set cpu.speculative.items (id.slot - 1) t.0 (omega arith)))) in
                 subst (λ x. HasSized shape accepted text cpu.config.specsize (map extent.one (contents (held cpu.cpu (last_called cpu.cpu s (deed ∷ p)) (deed ∷ p)))) x) (sym is)
                 (subst (λ j. HasSized shape accepted text cpu.config.specsize (map extent.one (contents (held cpu.cpu j (deed ∷ p)))) t.0) (sym it)
                 (subst (λ l. HasSized shape accepted text cpu.config.specsize (map extent.one l) t.0) (sym now)
@@ -130,7 +134,8 @@ module _ (shape : ℕ → Option Shape) (accepted : Record → Bool) (text : Rec
                 let m : mark cpu.cpu s (deed ∷ p) ≡ mark cpu.cpu s p = mark_now s ∙ ap (λ q. if q then id.issue + 1 else mark cpu.cpu s p) n in
                 let it : last_called cpu.cpu s (deed ∷ p) ≡ last_called cpu.cpu s p = ap (λ x. record { issue = x - 1; slot = s }) m in
                 let apart : s ≢ id.slot = grind (arith, nat_tests) in
-                let now : contents (held cpu.cpu (last_called cpu.cpu s p) (deed ∷ p)) ≡ contents (held cpu.cpu (last_called cpu.cpu s p) p) = held_now (last_called cpu.cpu s p) ∙ (rw (other_slot (last_called cpu.cpu s p) id apart) (none fit _ _)) in
+                let now : contents (held cpu.cpu (last_called cpu.cpu s p) (deed ∷ p)) ≡ contents (held cpu.cpu (last_called cpu.cpu s p) p) =
+                held_now (last_called cpu.cpu s p) ∙ (rw (other_slot (last_called cpu.cpu s p) id apart) (none fit _ _)) in
                 let before = sym (got_other cpu.speculative.items (id.slot - 1) (s - 1) t.0 (omega arith)) ∙ (ap (λ l. slice_get l (s - 1)) (sym t.2) ∙ got) in
                 subst (λ j. HasSized shape accepted text cpu.config.specsize (map extent.one (contents (held cpu.cpu j (deed ∷ p)))) b) (sym it)
                 (subst (λ l. HasSized shape accepted text cpu.config.specsize (map extent.one l) b) (sym now) (was.side.speculative s b one_low one_high before)))

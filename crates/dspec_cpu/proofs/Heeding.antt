@@ -24,7 +24,8 @@ module _ (k : Config) (c ask : ℕ) (x : Buffers) (lt : x.seals < ask) (below : 
       subst (λ t. Heeds k c ask x false (record x { end = f; spare = t })) (sym gone) (no_spare lt below f (subst (FindsSpare k.bufsize x.end x.spare f) none finds))
 
   -- more spares came than batches were handed
-  more_came : (b : Batch) → x.in_hand ≡ Some b → (t : Stored) → s ≡ Some t → length (waiting x.in_hand ++ reverse x.end.handed) + spare_count x.spare ≤ 1 + length x.end.spares → length f.handed < length f.spares
+  more_came : (b : Batch) → x.in_hand ≡ Some b → (t : Stored) → s ≡ Some t
+      → length (waiting x.in_hand ++ reverse x.end.handed) + spare_count x.spare ≤ 1 + length x.end.spares → length f.handed < length f.spares
   more_came b is t at few =
       let found_is = found k.bufsize x.end x.spare f s finds in
       let all = found_is.few (length (waiting x.in_hand ++ reverse x.end.handed)) few in
@@ -42,7 +43,8 @@ module _ (k : Config) (c ask : ℕ) (x : Buffers) (lt : x.seals < ask) (below : 
       subst (λ u. Heeds k c ask x false (record x { end = f; spare = u })) (sym at) (held_up lt below f t (subst (FindsSpare k.bufsize x.end x.spare f) at finds) b.0 b.1 (more_came b.0 b.1 t at few))
 
   pub sealed_now : (t : Stored) (after : Option Stored) (next : Stored) (batch : Batch) (g : CpuKnows) (left : Option Batch) → s ≡ Some t → is_some x.in_hand ≡ false → after ≡ None
-      → batch ≡ batch_of c x → next ≡ emptied t → HandsOn f (Some batch) g left → Heeds k c ask x true (record { end = g; in_hand = left; spare = after; active = next; drops = 0; seals = x.seals + 1 })
+      → batch ≡ batch_of c x → next ≡ emptied t → HandsOn f (Some batch) g left
+      → Heeds k c ask x true (record { end = g; in_hand = left; spare = after; active = next; drops = 0; seals = x.seals + 1 })
   sealed_now t after next batch g left at none gone made cleared hands =
       subst (λ (q : Option Stored × Stored). Heeds k c ask x true (record { end = g; in_hand = left; spare = q.0; active = q.1; drops = 0; seals = x.seals + 1 })) (λ i. (sym gone i, sym cleared i))
       (switched lt below f t (subst (FindsSpare k.bufsize x.end x.spare f) at finds) (none_of x.in_hand none) g left (subst (λ b. HandsOn f (Some b) g left) made hands))

@@ -63,7 +63,8 @@ module _ (shape : ℕ → Option Shape) (accepted : Record → Bool) (text : Rec
       };
     }
 
-    pub unused_ready : (words : Words) → IsAt words cpu.seat → set_up words ≡ cpu.config → cpu_of cpu.seat ≡ cpu.cpu → start_fault cpu.config ≡ None → ((b : Stored) → cpu.spare ≡ Some b → b.size ≡ cpu.config.bufsize)
+    pub unused_ready : (words : Words) → IsAt words cpu.seat → set_up words ≡ cpu.config → cpu_of cpu.seat ≡ cpu.cpu → start_fault cpu.config ≡ None
+        → ((b : Stored) → cpu.spare ≡ Some b → b.size ≡ cpu.config.bufsize)
         → IsReady shape accepted text words cpu
     unused_ready words at config number fine spare = record {
       at = at;

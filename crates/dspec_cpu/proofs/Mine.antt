@@ -94,20 +94,23 @@ pub mine_tells : (k : Config) (c : ℕ) (id : Speculation) (h : List Deed) → I
 mine_tells k c id h s le = ⊎_elim
     (λ (t : (mark c id.slot h == id.issue + 1) ≡ true). t ∙ sym (marked_among c id h (same_number (mark c id.slot h) (id.issue + 1) t)))
     (λ (f : (mark c id.slot h == id.issue + 1) ≡ false). ⊎_elim
-    (λ (a : is_among c (callers id h) ≡ true). let low = among_marked k c id h s a in let e : mark c id.slot h ≡ id.issue + 1 = omega arith in off (mark c id.slot h == id.issue + 1) (subst (λ n. (n == id.issue + 1) ≡ true) (sym e) (number_is_itself (id.issue + 1))) f)
+    (λ (a : is_among c (callers id h) ≡ true). let low = among_marked k c id h s a in let e : mark c id.slot h ≡ id.issue + 1 = omega arith in off
+    (mark c id.slot h == id.issue + 1) (subst (λ n. (n == id.issue + 1) ≡ true) (sym e) (number_is_itself (id.issue + 1))) f)
     (λ (a : is_among c (callers id h) ≡ false). f ∙ sym a)
     (either_way (is_among c (callers id h))))
     (either_way (mark c id.slot h == id.issue + 1))
 
 -- the same of the CPU's own list, which is its part of a legal one
-pub own_mine_tells : (k : Config) (c : ℕ) (id : Speculation) (h own : List Deed) → IsSound k h → part (Cpu c) h ≡ own → mark c id.slot own ≤ id.issue + 1 → (mark c id.slot own == id.issue + 1) ≡ is_among c (callers id own)
+pub own_mine_tells : (k : Config) (c : ℕ) (id : Speculation) (h own : List Deed) → IsSound k h → part (Cpu c) h ≡ own → mark c id.slot own ≤ id.issue + 1
+    → (mark c id.slot own == id.issue + 1) ≡ is_among c (callers id own)
 own_mine_tells k c id h own s its le =
     let marks : mark c id.slot own ≡ mark c id.slot h = ap (mark c id.slot) (sym its) ∙ mark_part c id.slot h in
     let calls : is_among c (callers id own) ≡ is_among c (callers id h) = ap (λ l. is_among c (callers id l)) (sym its) ∙ (reads k c h).apart.called id in
     ap (λ m. m == id.issue + 1) marks ∙ (mine_tells k c id h s (subst (λ m. m ≤ id.issue + 1) marks le) ∙ sym calls)
 
 -- where the identifier is the slot's present one and the CPU isn't marked for it, the CPU holds nothing of it
-pub unmarked_empty : (k : Config) (c : ℕ) (id : Speculation) (h own p : List Deed) → c < k.cpus → IsSound k h → part (Cpu c) h ≡ own → bare p ≡ own → issue id.slot h ≡ id.issue → (mark c id.slot p == id.issue + 1) ≡ false → held c id p ≡ []
+pub unmarked_empty : (k : Config) (c : ℕ) (id : Speculation) (h own p : List Deed) → c < k.cpus → IsSound k h → part (Cpu c) h ≡ own → bare p ≡ own
+    → issue id.slot h ≡ id.issue → (mark c id.slot p == id.issue + 1) ≡ false → held c id p ≡ []
 unmarked_empty k c id h own p few s its is now none =
     let here : present id.slot h ≡ id = present_is id h now in
     let marks : mark c id.slot p ≡ mark c id.slot h = (apart_bare k c p).marking id.slot ∙ (ap (mark c id.slot) (is ∙ sym its) ∙ mark_part c id.slot h) in

@@ -27,6 +27,7 @@ pub last_is : (c : ℕ) (id : Speculation) (p : List Deed) → mark c id.slot p 
 last_is c id p m = let issues : mark c id.slot p - 1 ≡ id.issue = omega arith in λ i. record { issue = issues i; slot = id.slot }
 
 -- what the buffer of the slot has of the speculation
-pub mine_last : (c : ℕ) (id : Speculation) (p : List Deed) (mine : Bool) → (mine ≡ true → mark c id.slot p ≡ id.issue + 1) → (if mine then contents (held c (last_called c id.slot p) p) else []) ≡ (if mine then contents (held c id p) else [])
+pub mine_last : (c : ℕ) (id : Speculation) (p : List Deed) (mine : Bool) → (mine ≡ true → mark c id.slot p ≡ id.issue + 1)
+    → (if mine then contents (held c (last_called c id.slot p) p) else []) ≡ (if mine then contents (held c id p) else [])
 mine_last c id p true m = ap (λ j. contents (held c j p)) (last_is c id p (m refl))
 mine_last c id p false m = refl

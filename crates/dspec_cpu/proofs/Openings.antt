@@ -1,5 +1,6 @@
 -- What shows a CPU's list behind a call of speculation.
-use Rattle.std.proofs.Common.{◌≡◌, ℕ, ◌+◌, ◌<◌, ◌≤◌, ◌==◌, Bool, true, false, not, ◌&&◌, List, [], ◌∷◌, ◌++◌, length, Option, if◌then◌else◌, refl, sym, ap, ◌∙◌, subst, ⊎_elim, arith, add-zero, true≢false}
+use Rattle.std.proofs.Common.{◌≡◌, ℕ, ◌+◌, ◌<◌, ◌≤◌, ◌==◌, Bool, true, false, not, ◌&&◌, List, [], ◌∷◌}
+use Rattle.std.proofs.Common.{◌++◌, length, Option, if◌then◌else◌, refl, sym, ap, ◌∙◌, subst, ⊎_elim, arith, add-zero, true≢false}
 use Rattle.dspec_record.specs.Record.{Record}
 use Rattle.dspec_record.specs.declared.field.Shape.{Shape}
 use Rattle.dspec_word.specs.SpecId.{Speculation}
@@ -25,13 +26,50 @@ use Rattle.dspec_cpu.proofs.Quiet.{quiet, quiet_shown}
 module _ (k : Config) (c w : ℕ) where
   -- a deed of a scan that ends no call
   scan_counts : (p : List Deed) → counts_of k c w (Scan c true ∷ p) ≡ counts_of k c w p
-  scan_counts p = let n : Counts = counts_of k c w p in λ i. record n { offered = add-zero n.offered i; accepted = add-zero n.accepted i; dropped = add-zero n.dropped i; specdropped = add-zero n.specdropped i; lost = add-zero n.lost i; discarded = add-zero n.discarded i; void = add-zero n.void i; drops = add-zero n.drops i; unavailable = add-zero n.unavailable i; busy = add-zero n.busy i; stopped = add-zero n.stopped i }
+  scan_counts p = let n : Counts = counts_of k c w p in λ i. record n {
+    offered = add-zero n.offered i;
+    accepted = add-zero n.accepted i;
+    dropped = add-zero n.dropped i;
+    specdropped = add-zero n.specdropped i;
+    lost = add-zero n.lost i;
+    discarded = add-zero n.discarded i;
+    void = add-zero n.void i;
+    drops = add-zero n.drops i;
+    unavailable = add-zero n.unavailable i;
+    busy = add-zero n.busy i;
+    stopped = add-zero n.stopped i;
+  }
 
   stop_counts : (p : List Deed) → counts_of k c w (Scan c false ∷ p) ≡ with_opening opening.Stopped (counts_of k c w p)
-  stop_counts p = let n : Counts = counts_of k c w p in rw (number_is_itself c) (λ i. record n { offered = add-zero n.offered i; accepted = add-zero n.accepted i; dropped = add-zero n.dropped i; specdropped = add-zero n.specdropped i; lost = add-zero n.lost i; discarded = add-zero n.discarded i; void = add-zero n.void i; drops = add-zero n.drops i; unavailable = n.unavailable + 0; busy = n.busy + 0; stopped = n.stopped + 1 })
+  stop_counts p = let n : Counts = counts_of k c w p in rw (number_is_itself c)
+      (λ i. record n {
+        offered = add-zero n.offered i;
+        accepted = add-zero n.accepted i;
+        dropped = add-zero n.dropped i;
+        specdropped = add-zero n.specdropped i;
+        lost = add-zero n.lost i;
+        discarded = add-zero n.discarded i;
+        void = add-zero n.void i;
+        drops = add-zero n.drops i;
+        unavailable = n.unavailable + 0;
+        busy = n.busy + 0;
+        stopped = n.stopped + 1;
+      })
 
   given_counts : (id : Speculation) (p : List Deed) → counts_of k c w (Opened c id ∷ p) ≡ with_opening (opening.Id id) (counts_of k c w p)
-  given_counts id p = let n : Counts = counts_of k c w p in λ i. record n { offered = add-zero n.offered i; accepted = add-zero n.accepted i; dropped = add-zero n.dropped i; specdropped = add-zero n.specdropped i; lost = add-zero n.lost i; discarded = add-zero n.discarded i; void = add-zero n.void i; drops = add-zero n.drops i; unavailable = n.unavailable + 0; busy = n.busy + 0; stopped = n.stopped + 0 }
+  given_counts id p = let n : Counts = counts_of k c w p in λ i. record n {
+    offered = add-zero n.offered i;
+    accepted = add-zero n.accepted i;
+    dropped = add-zero n.dropped i;
+    specdropped = add-zero n.specdropped i;
+    lost = add-zero n.lost i;
+    discarded = add-zero n.discarded i;
+    void = add-zero n.void i;
+    drops = add-zero n.drops i;
+    unavailable = n.unavailable + 0;
+    busy = n.busy + 0;
+    stopped = n.stopped + 0;
+  }
 
   module _ (s : ℕ) (b : Bool) (p : List Deed) where
     abbrev n : Counts
@@ -43,18 +81,57 @@ module _ (k : Config) (c w : ℕ) where
     -- the Miss of a slot that isn't the last
     miss_counts : (s == k.nspec) ≡ false → counts_of k c w (Miss c s b ∷ p) ≡ n
     miss_counts at =
-        let one : n.unavailable + one_if (((s == k.nspec) && (c == c)) && not misses_now) ≡ n.unavailable = ap (λ x. n.unavailable + one_if ((x && (c == c)) && not misses_now)) at ∙ add-zero n.unavailable in
+        let one : n.unavailable + one_if (((s == k.nspec) && (c == c)) && not misses_now) ≡ n.unavailable =
+        ap (λ x. n.unavailable + one_if ((x && (c == c)) && not misses_now)) at ∙ add-zero n.unavailable in
         let two : n.busy + one_if (((s == k.nspec) && (c == c)) && misses_now) ≡ n.busy = ap (λ x. n.busy + one_if ((x && (c == c)) && misses_now)) at ∙ add-zero n.busy in
-        λ i. record n { offered = add-zero n.offered i; accepted = add-zero n.accepted i; dropped = add-zero n.dropped i; specdropped = add-zero n.specdropped i; lost = add-zero n.lost i; discarded = add-zero n.discarded i; void = add-zero n.void i; drops = add-zero n.drops i; unavailable = one i; busy = two i; stopped = add-zero n.stopped i }
+        λ i. record n {
+          offered = add-zero n.offered i;
+          accepted = add-zero n.accepted i;
+          dropped = add-zero n.dropped i;
+          specdropped = add-zero n.specdropped i;
+          lost = add-zero n.lost i;
+          discarded = add-zero n.discarded i;
+          void = add-zero n.void i;
+          drops = add-zero n.drops i;
+          unavailable = one i;
+          busy = two i;
+          stopped = add-zero n.stopped i;
+        }
 
     -- the Miss of the last slot
     last_busy : (s == k.nspec) ≡ true → misses_now ≡ true → counts_of k c w (Miss c s b ∷ p) ≡ with_opening opening.Busy n
     last_busy at was =
-        λ i. record n { offered = add-zero n.offered i; accepted = add-zero n.accepted i; dropped = add-zero n.dropped i; specdropped = add-zero n.specdropped i; lost = add-zero n.lost i; discarded = add-zero n.discarded i; void = add-zero n.void i; drops = add-zero n.drops i; unavailable = n.unavailable + one_if ((at i && number_is_itself c i) && not (was i)); busy = n.busy + one_if ((at i && number_is_itself c i) && was i); stopped = n.stopped + 0 }
+        λ i. record n {
+          offered = add-zero n.offered i;
+          accepted = add-zero n.accepted i;
+          dropped = add-zero n.dropped i;
+          specdropped = add-zero n.specdropped i;
+          lost = add-zero n.lost i;
+          discarded = add-zero n.discarded i;
+          void = add-zero n.void i;
+          drops = add-zero n.drops i;
+          unavailable =
+              n.unavailable + one_if ((at i && number_is_itself c i) && not (was i));
+          busy = n.busy + one_if ((at i && number_is_itself c i) && was i);
+          stopped = n.stopped + 0;
+        }
 
     last_unavailable : (s == k.nspec) ≡ true → misses_now ≡ false → counts_of k c w (Miss c s b ∷ p) ≡ with_opening opening.Unavailable n
     last_unavailable at was =
-        λ i. record n { offered = add-zero n.offered i; accepted = add-zero n.accepted i; dropped = add-zero n.dropped i; specdropped = add-zero n.specdropped i; lost = add-zero n.lost i; discarded = add-zero n.discarded i; void = add-zero n.void i; drops = add-zero n.drops i; unavailable = n.unavailable + one_if ((at i && number_is_itself c i) && not (was i)); busy = n.busy + one_if ((at i && number_is_itself c i) && was i); stopped = n.stopped + 0 }
+        λ i. record n {
+          offered = add-zero n.offered i;
+          accepted = add-zero n.accepted i;
+          dropped = add-zero n.dropped i;
+          specdropped = add-zero n.specdropped i;
+          lost = add-zero n.lost i;
+          discarded = add-zero n.discarded i;
+          void = add-zero n.void i;
+          drops = add-zero n.drops i;
+          unavailable =
+              n.unavailable + one_if ((at i && number_is_itself c i) && not (was i));
+          busy = n.busy + one_if ((at i && number_is_itself c i) && was i);
+          stopped = n.stopped + 0;
+        }
 
 -- the same of all Misses
 module _ (k : Config) (c : ℕ) (p : List Deed) where
@@ -74,7 +151,9 @@ module _ (k : Config) (c : ℕ) (p : List Deed) where
   missed_counts : (w : ℕ) (bs : List Bool) → length bs < k.nspec → counts_of k c w ((misses c bs ++ Scan c true ∷ []) ++ p) ≡ counts_of k c w p
   missed_counts w [] lt = scan_counts k c w p
   missed_counts w (b ∷ bs) lt =
-      let not_last : (length bs + 1 == k.nspec) ≡ false = ⊎_elim (λ (t : (length bs + 1 == k.nspec) ≡ true). let e = same_number (length bs + 1) k.nspec t in absurd (omega arith)) (λ (f : (length bs + 1 == k.nspec) ≡ false). f) (either_way (length bs + 1 == k.nspec)) in
+      let not_last : (length bs + 1 == k.nspec) ≡ false =
+      ⊎_elim (λ (t : (length bs + 1 == k.nspec) ≡ true). let e = same_number (length bs + 1) k.nspec t in absurd (omega arith))
+      (λ (f : (length bs + 1 == k.nspec) ≡ false). f) (either_way (length bs + 1 == k.nspec)) in
       miss_counts k c w (length bs + 1) b ((misses c bs ++ Scan c true ∷ []) ++ p) not_last ∙ missed_counts w bs (omega arith)
 
   all_counts : (w : ℕ) (bs : List Bool) (m : Bool) → 1 ≤ k.nspec → length bs ≡ k.nspec → any_busy bs ≡ m
@@ -87,7 +166,8 @@ module _ (k : Config) (c : ℕ) (p : List Deed) where
 
       go : (m : Bool) → any_busy (b ∷ bs) ≡ m → counts_of k c w ((misses c (b ∷ bs) ++ Scan c true ∷ []) ++ p) ≡ with_opening (if m then opening.Busy else opening.Unavailable) (counts_of k c w p)
       go true any = last_busy k c w (length bs + 1) b ((misses c bs ++ Scan c true ∷ []) ++ p) last (missed_any (b ∷ bs) ∙ any) ∙ ap (with_opening opening.Busy) (missed_counts w bs (omega arith))
-      go false any = last_unavailable k c w (length bs + 1) b ((misses c bs ++ Scan c true ∷ []) ++ p) last (missed_any (b ∷ bs) ∙ any) ∙ ap (with_opening opening.Unavailable) (missed_counts w bs (omega arith))
+      go false any = last_unavailable k c w (length bs + 1) b ((misses c bs ++ Scan c true ∷ []) ++ p) last (missed_any (b ∷ bs) ∙ any)
+          ∙ ap (with_opening opening.Unavailable) (missed_counts w bs (omega arith))
 
   -- and of the whole call
   opening_calls : (bs : List Bool) (a : Opening) → is_worn_opening a ≡ false → calls c (opening_deeds c bs a ++ p) ≡ calls c p + 1
@@ -111,7 +191,8 @@ module _ (k : Config) (c : ℕ) (p : List Deed) where
   opening_drops bs opening.Unavailable = missed_drops bs
   opening_drops bs opening.Busy = missed_drops bs
 
-  opening_counts : (w : ℕ) (bs : List Bool) (a : Opening) → 1 ≤ k.nspec → IsOpening k.nspec bs a → is_worn_opening a ≡ false → counts_of k c w (opening_deeds c bs a ++ p) ≡ with_opening a (counts_of k c w p)
+  opening_counts : (w : ℕ) (bs : List Bool) (a : Opening) → 1 ≤ k.nspec → IsOpening k.nspec bs a → is_worn_opening a ≡ false
+      → counts_of k c w (opening_deeds c bs a ++ p) ≡ with_opening a (counts_of k c w p)
   opening_counts w bs opening.Worn one is un = absurd (true≢false un)
   opening_counts w bs opening.Stopped one is un = stop_counts k c w p
   opening_counts w bs (opening.Id id) one is un =
@@ -122,13 +203,22 @@ module _ (k : Config) (c : ℕ) (p : List Deed) where
 
 module _ (shape : ℕ → Option Shape) (accepted : Record → Bool) (text : Record → List ℕ) {S : Type 0} (cpu : Cpu S) (p : List Deed) (was : IsShown shape accepted text cpu p) (seat : CpuSeat) where
   abbrev shows : List Deed → Cpu S
-  shows ds = record cpu { seat = seat; calls = calls cpu.cpu (ds ++ p); missed_busy = missed_busy cpu.cpu (ds ++ p); drops = (growing cpu.cpu (ds ++ p)).drops; counts = counts_of cpu.config cpu.cpu cpu.counts.worn (ds ++ p) }
+  shows ds = record cpu {
+    seat = seat;
+    calls = calls cpu.cpu (ds ++ p);
+    missed_busy = missed_busy cpu.cpu (ds ++ p);
+    drops = (growing cpu.cpu (ds ++ p)).drops;
+    counts = counts_of cpu.config cpu.cpu cpu.counts.worn (ds ++ p);
+  }
 
   one_shown : (d : Deed) → quiet d ≡ true → is_of cpu.cpu d ≡ true → OwnRow shape cpu.config p d → IsShown shape accepted text (shows (d ∷ [])) (d ∷ p)
-  one_shown d still mine row = quiet_shown shape accepted text cpu p was d still mine row seat (calls cpu.cpu (d ∷ p)) (missed_busy cpu.cpu (d ∷ p)) (growing cpu.cpu (d ∷ p)).drops (counts_of cpu.config cpu.cpu cpu.counts.worn (d ∷ p)) refl refl refl refl
+  one_shown d still mine row = quiet_shown shape accepted text cpu p was d still mine row seat (calls cpu.cpu (d ∷ p)) (missed_busy cpu.cpu (d ∷ p))
+      (growing cpu.cpu (d ∷ p)).drops (counts_of cpu.config cpu.cpu cpu.counts.worn (d ∷ p)) refl refl refl refl
 
-  more_shown : (ds : List Deed) → IsShown shape accepted text (shows ds) (ds ++ p) → (d : Deed) → quiet d ≡ true → is_of cpu.cpu d ≡ true → OwnRow shape cpu.config (ds ++ p) d → IsShown shape accepted text (shows (d ∷ ds)) (d ∷ ds ++ p)
-  more_shown ds before d still mine row = quiet_shown shape accepted text (shows ds) (ds ++ p) before d still mine row seat (calls cpu.cpu (d ∷ ds ++ p)) (missed_busy cpu.cpu (d ∷ ds ++ p)) (growing cpu.cpu (d ∷ ds ++ p)).drops (counts_of cpu.config cpu.cpu cpu.counts.worn (d ∷ ds ++ p)) refl refl refl refl
+  more_shown : (ds : List Deed) → IsShown shape accepted text (shows ds) (ds ++ p) → (d : Deed) → quiet d ≡ true → is_of cpu.cpu d ≡ true
+      → OwnRow shape cpu.config (ds ++ p) d → IsShown shape accepted text (shows (d ∷ ds)) (d ∷ ds ++ p)
+  more_shown ds before d still mine row = quiet_shown shape accepted text (shows ds) (ds ++ p) before d still mine row seat (calls cpu.cpu (d ∷ ds ++ p))
+      (missed_busy cpu.cpu (d ∷ ds ++ p)) (growing cpu.cpu (d ∷ ds ++ p)).drops (counts_of cpu.config cpu.cpu cpu.counts.worn (d ∷ ds ++ p)) refl refl refl refl
 
   misses_shown : (bs : List Bool) → IsShown shape accepted text (shows (misses cpu.cpu bs ++ Scan cpu.cpu true ∷ [])) ((misses cpu.cpu bs ++ Scan cpu.cpu true ∷ []) ++ p)
   misses_shown [] = one_shown (Scan cpu.cpu true) refl (number_is_itself cpu.cpu) tt
@@ -142,15 +232,18 @@ module _ (shape : ℕ → Option Shape) (accepted : Record → Bool) (text : Rec
   deeds_shown bs opening.Busy un = misses_shown bs
 
   -- the CPU shows the longer list with one call more, whether a slot missed was decided, and the counts of the answer
-  pub opening_shown : (bs : List Bool) (a : Opening) (busy : Bool) (counts : Counts) → 1 ≤ cpu.config.nspec → IsOpening cpu.config.nspec bs a → is_worn_opening a ≡ false → busy ≡ any_busy bs → counts ≡ with_opening a cpu.counts
+  pub opening_shown : (bs : List Bool) (a : Opening) (busy : Bool) (counts : Counts) → 1 ≤ cpu.config.nspec → IsOpening cpu.config.nspec bs a → is_worn_opening a ≡ false
+      → busy ≡ any_busy bs → counts ≡ with_opening a cpu.counts
       → IsShown shape accepted text (record cpu { seat = seat; calls = cpu.calls + 1; missed_busy = busy; counts = counts }) (opening_deeds cpu.cpu bs a ++ p)
   opening_shown bs a busy counts one is un any plus =
       let ds = opening_deeds cpu.cpu bs a in
       let called : calls cpu.cpu (ds ++ p) ≡ cpu.calls + 1 = opening_calls cpu.config cpu.cpu p bs a un ∙ ap (λ n. n + 1) (sym was.side.called) in
       let missed : missed_busy cpu.cpu (ds ++ p) ≡ busy = opening_missed cpu.config cpu.cpu p bs a is un ∙ sym any in
       let dropped : (growing cpu.cpu (ds ++ p)).drops ≡ cpu.drops = opening_drops cpu.config cpu.cpu p bs a ∙ sym was.side.drops in
-      let counted : counts_of cpu.config cpu.cpu cpu.counts.worn (ds ++ p) ≡ counts = opening_counts cpu.config cpu.cpu p cpu.counts.worn bs a one is un ∙ (ap (with_opening a) (sym was.counted) ∙ sym plus) in
-      subst (λ (x : ℕ × Bool × ℕ × Counts). IsShown shape accepted text (record cpu { seat = seat; calls = x.0; missed_busy = x.1; drops = x.2; counts = x.3 }) (ds ++ p)) (λ i. (called i, missed i, dropped i, counted i)) (deeds_shown bs a un)
+      let counted : counts_of cpu.config cpu.cpu cpu.counts.worn (ds ++ p) ≡ counts =
+      opening_counts cpu.config cpu.cpu p cpu.counts.worn bs a one is un ∙ (ap (with_opening a) (sym was.counted) ∙ sym plus) in
+      subst (λ (x : ℕ × Bool × ℕ × Counts). IsShown shape accepted text (record cpu { seat = seat; calls = x.0; missed_busy = x.1; drops = x.2; counts = x.3 }) (ds ++ p))
+      (λ i. (called i, missed i, dropped i, counted i)) (deeds_shown bs a un)
 
 -- no deed of the call is a Seal
 bare_misses : (c : ℕ) (p : List Deed) (bs : List Bool) → bare ((misses c bs ++ Scan c true ∷ []) ++ p) ≡ (misses c bs ++ Scan c true ∷ []) ++ bare p

@@ -5,7 +5,7 @@ use Rattle.std.proofs.lemmas.Option.{slice_get-get_or, get_or_from_slice_get}
 use Rattle.dspec_record.specs.Record.{Record}
 use Rattle.dspec_record.specs.declared.field.Shape.{Shape}
 use Rattle.dspec_buffer.specs.Extent as extent
-use Rattle.dspec_buffer.specs.Extent.{fits}
+use Rattle.dspec_buffer.specs.Extent.{piece_fits}
 use Rattle.dspec_buffer.specs.Stored.{Stored, HasPieces}
 use Rattle.dspec_ring.specs.declared.batch.Batch.{Batch}
 use Rattle.dspec_word.specs.SpecId.{Speculation}
@@ -24,7 +24,7 @@ use Rattle.dspec_deeds.specs.Owning.{OwnRow}
 use Rattle.dspec_deeds.specs.OwnShown.{SideParts, last_called}
 use Rattle.dspec_deeds.specs.Settling as settling
 use Rattle.dspec_deeds.proofs.TestLemmas.{same_number, and_tells}
-use Rattle.dspec_table.specs.Acts.{settle_fate}
+use Rattle.dspec_table.specs.Acts.{fate_of_settlement}
 use Rattle.dspec_cpu.specs.declared.counts.Counts.{Counts}
 use Rattle.dspec_cpu.specs.Counting.{with_decided}
 use Rattle.dspec_cpu.specs.Lists.{AreShown}
@@ -37,7 +37,8 @@ pub lawful : (shape : ℕ → Option Shape) (k : Config) (c : ℕ) (p : List Dee
 lawful shape k c p id Discarding = refl
 lawful shape k c p id code = go (fits_principal shape k c (extent.block (contents (held c id p))) p) refl
   where
-    go : (b : Bool) → fits_principal shape k c (extent.block (contents (held c id p))) p ≡ b → OwnRow shape k p (Settle c id (if b then fated.Copied (length (held c id p)) else fated.Lost (length (held c id p))))
+    go : (b : Bool) → fits_principal shape k c (extent.block (contents (held c id p))) p ≡ b
+        → OwnRow shape k p (Settle c id (if b then fated.Copied (length (held c id p)) else fated.Lost (length (held c id p))))
     go true e = (refl, sym e)
     go false e = (refl, sym e)
 
@@ -49,7 +50,8 @@ goes_on shape k c p id code = go (fits_principal shape k c (extent.block (conten
     go true = refl
     go false = refl
 
-module _ (shape : ℕ → Option Shape) (accepted : Record → Bool) (text : Record → List ℕ) {k : Config} {c : ℕ} {side : SideParts Stored} {batches : List Batch} {counts : Counts} {id : Speculation} {code : Code} (p : List Deed) (can : CanSettle shape accepted text k c side batches counts id code p) where
+module _ (shape : ℕ → Option Shape) (accepted : Record → Bool) (text : Record → List ℕ) {k : Config} {c : ℕ} {side : SideParts Stored} {batches : List Batch}
+    {counts : Counts} {id : Speculation} {code : Code} (p : List Deed) (can : CanSettle shape accepted text k c side batches counts id code p) where
   abbrev pub f : DecideFate
   f = settling.settle_fate shape k c p id code
 
@@ -84,19 +86,20 @@ module _ (shape : ℕ → Option Shape) (accepted : Record → Bool) (text : Rec
 
   module _ {mine fit : Bool} {n : ℕ} (m : IsMeasured mine fit n) where
     -- the fate by what was measured is the one by the CPU's own list
-    pub fate_is : settle_fate (serving fit n mine) code ≡ f
+    pub fate_is : fate_of_settlement (serving fit n mine) code ≡ f
     fate_is = go code
       where
         all : n ≡ length (held c id p)
         all = count_is shape accepted text p can.shown id mine false n can.low can.high m.marked m.empty m.counting
 
         room : fit ≡ fits_principal shape k c (extent.block (contents (held c id p))) p
-        room = m.fitting ∙ ap (λ (l : List Record). fits_principal shape k c (extent.block l) p) (mine_held shape accepted text p can.shown id mine false n can.low can.high m.marked m.empty m.counting)
+        room = m.fitting ∙ ap (λ (l : List Record). fits_principal shape k c (extent.block l) p)
+            (mine_held shape accepted text p can.shown id mine false n can.low can.high m.marked m.empty m.counting)
 
         commits : (if fit then fated.Copied n else fated.Lost n) ≡ settling.commit_fate shape k c p id
         commits = λ i. if room i then fated.Copied (all i) else fated.Lost (all i)
 
-        go : (x : Code) → settle_fate (serving fit n mine) x ≡ settling.settle_fate shape k c p id x
+        go : (x : Code) → fate_of_settlement (serving fit n mine) x ≡ settling.settle_fate shape k c p id x
         go Discarding = ap fated.Thrown all
         go Inactive = commits
         go Active = commits
@@ -106,14 +109,14 @@ module _ (shape : ℕ → Option Shape) (accepted : Record → Bool) (text : Rec
         go CommittingMany = commits
 
     -- what is copied has room
-    has_room : is_copied f ≡ true → fits shape (active c p) (extent.block (if mine then contents (held c id p) else [])) k.bufsize ≡ true
+    has_room : is_copied f ≡ true → piece_fits shape (active c p) (extent.block (if mine then contents (held c id p) else [])) k.bufsize ≡ true
     has_room e = (and_tells _ _ (sym m.fitting ∙ go code (ap is_copied fate_is ∙ e))).0
       where
         copies : (b : Bool) → is_copied (if b then fated.Copied n else fated.Lost n) ≡ true → b ≡ true
         copies true e = refl
         copies false e = absurd (true≢false (sym e))
 
-        go : (x : Code) → is_copied (settle_fate (serving fit n mine) x) ≡ true → fit ≡ true
+        go : (x : Code) → is_copied (fate_of_settlement (serving fit n mine) x) ≡ true → fit ≡ true
         go Discarding e = absurd (true≢false (sym e))
         go Inactive e = copies fit e
         go Active e = copies fit e
@@ -123,7 +126,8 @@ module _ (shape : ℕ → Option Shape) (accepted : Record → Bool) (text : Rec
         go CommittingMany e = copies fit e
 
     -- so the Settle is shown
-    pub block_settled : (copy : Bool) → is_copied f ≡ copy → (new : List Stored) → Emptied shape accepted text p can.shown id mine copy n can.low can.high m.marked m.empty m.counting new → (kept : Stored) → kept.size ≡ side.active.size
+    pub block_settled : (copy : Bool) → is_copied f ≡ copy → (new : List Stored)
+        → Emptied shape accepted text p can.shown id mine copy n can.low can.high m.marked m.empty m.counting new → (kept : Stored) → kept.size ≡ side.active.size
         → Copied shape accepted text p can.shown id mine copy n can.low can.high m.marked m.empty m.counting kept → (drops : ℕ) → drops ≡ side.drops + (if is_lost f then 1 else 0)
         → (acks : List ℕ) → acks ≡ slice_set side.acks (id.slot - 1) (id.issue + 1) → (now : Counts) → now ≡ with_decided f counts
         → AreShown shape accepted text k c (record side { acks = acks; speculative = new; active = kept; drops = drops }) batches now (Settle c id f ∷ p)

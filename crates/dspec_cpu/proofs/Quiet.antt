@@ -110,7 +110,8 @@ module _ (shape : ℕ → Option Shape) (accepted : Record → Bool) (text : Rec
         → IsShown shape accepted text (record cpu { seat = seat; calls = n; missed_busy = missed; drops = drops; counts = counts }) (d ∷ p)
     quiet_shown d e mine row seat n missed drops counts call_is missed_is drops_is counts_is =
         let l = leaves cpu.cpu d p e in
-        let same : (s : ℕ) → contents (held cpu.cpu (last_called cpu.cpu s p) p) ≡ contents (held cpu.cpu (last_called cpu.cpu s (d ∷ p)) (d ∷ p)) = λ s. ap contents (sym (l.holds (last_called cpu.cpu s (d ∷ p)) ∙ ap (λ m. held cpu.cpu record { issue = m - 1; slot = s } p) (l.marks s))) in
+        let same : (s : ℕ) → contents (held cpu.cpu (last_called cpu.cpu s p) p) ≡ contents (held cpu.cpu (last_called cpu.cpu s (d ∷ p)) (d ∷ p)) =
+        λ s. ap contents (sym (l.holds (last_called cpu.cpu s (d ∷ p)) ∙ ap (λ m. held cpu.cpu record { issue = m - 1; slot = s } p) (l.marks s))) in
         record {
           legal = (was.legal, mine, row);
           side = record {

@@ -33,7 +33,7 @@ use Rattle.dspec_table.proofs.Flights.{quiet_activity, in_flight, activity_enter
 use Rattle.dspec_cpu.specs.declared.reaching.Reach.{Reach}
 use Rattle.dspec_cpu.specs.declared.reaching.Reach.TheVariants as reach
 use Rattle.dspec_cpu.specs.Calls.{Goes, rests, steps}
-use Rattle.dspec_cpu.specs.Reaching.{act_of, act_reached, is_reached, is_attempt, reached_deeds, releases_next, Ended}
+use Rattle.dspec_cpu.specs.Reaching.{act_of, act_reached, is_reached, is_attempt, reached_deeds, releases_next, EndsAtWord}
 use Rattle.dspec_cpu.specs.Reached.{Reached}
 use Rattle.dspec_cpu.specs.Stops.{StopsWhereMet, is_stopped_reach}
 use Rattle.dspec_cpu.proofs.Stopping.{shown_stop, shown_running}
@@ -145,7 +145,8 @@ ended_deeds k c slot doing id word (op.Trace r) x on e n = absurd on
 ended_deeds k c slot doing id word op.Speculation x on e n = absurd on
 ended_deeds k c slot doing id word op.Service x on e n = absurd on
 
-exchange_is : (k : Config) (c : ℕ) (doing : Doing) (slot : ℕ) (word : SlotState) (b : Bool) → at_exchange k c doing slot word b ≡ (if b then at_hit c doing word doing.op else at_word k c doing slot word doing.op)
+exchange_is : (k : Config) (c : ℕ) (doing : Doing) (slot : ℕ) (word : SlotState) (b : Bool)
+    → at_exchange k c doing slot word b ≡ (if b then at_hit c doing word doing.op else at_word k c doing slot word doing.op)
 exchange_is k c doing slot word true = refl
 exchange_is k c doing slot word false = refl
 
@@ -171,7 +172,8 @@ unstopped reach.Granted n = refl
 unstopped (reach.Done to) n = refl
 
 -- where it ended no call is in flight
-reached_ends : (k : Config) (c : ℕ) (doing : Doing) (id : Speculation) (f : Option CpuOp) (o : CpuOp) (r : Reach) → IsOn id o → (r ≡ reach.Granted → (word : SlotState) × (act_of o word doing.mine ≡ Granted)) → flight_after k f (reached_deeds c doing o r) ≡ None
+reached_ends : (k : Config) (c : ℕ) (doing : Doing) (id : Speculation) (f : Option CpuOp) (o : CpuOp) (r : Reach) → IsOn id o
+    → (r ≡ reach.Granted → (word : SlotState) × (act_of o word doing.mine ≡ Granted)) → flight_after k f (reached_deeds c doing o r) ≡ None
 reached_ends k c doing id f (op.Speculate j r) reach.Stopped on g = refl
 reached_ends k c doing id f (op.Speculate j r) reach.Void on g = refl
 reached_ends k c doing id f (op.Speculate j r) reach.Granted on g = refl
@@ -182,7 +184,8 @@ reached_ends k c doing id f (op.Commit j) reach.Granted on g = refl
 reached_ends k c doing id f (op.Commit j) (reach.Done to) on g = refl
 reached_ends k c doing id f (op.Discard j) reach.Stopped on g = refl
 reached_ends k c doing id f (op.Discard j) reach.Void on g = refl
-reached_ends k c doing id f (op.Discard j) reach.Granted on g = let e = g refl in absurd (discard_grants_none e.0.issue doing.mine e.0.code (here_or_void (e.0.issue == j.issue) _ Granted e.1 granted_is).1)
+reached_ends k c doing id f (op.Discard j) reach.Granted on g =
+    let e = g refl in absurd (discard_grants_none e.0.issue doing.mine e.0.code (here_or_void (e.0.issue == j.issue) _ Granted e.1 granted_is).1)
 reached_ends k c doing id f (op.Discard j) (reach.Done to) on g = go (is_inactive to.code)
   where
     go : (b : Bool) → flight_after k f (if b then Release j.slot ∷ Discard c j (decided.Thrown doing.count) ∷ [] else Discard c j (decided.Thrown doing.count) ∷ []) ≡ None
@@ -194,14 +197,17 @@ reached_ends k c doing id f op.Service x on g = absurd on
 
 module _ (k : Config) (c : ℕ) (doing : Doing) (id : Speculation) (v : View) (config : v.config ≡ k) (who : v.who ≡ of_cpu c) (on : IsOn id doing.op) where
   -- it ended at the load of activity
-  at_once : (r : Reach) (w : View) (stopped : Bool) → (step : LoadedActivity doing v stopped w) → at_activity v.config (number_of v.who) doing doing.op stopped ≡ reached_deeds c doing doing.op r → is_reached r ≡ false → act_reached r ≡ Void → is_stopped_reach r ≡ stopped → Reached k c doing id v r w
+  at_once : (r : Reach) (w : View) (stopped : Bool) → (step : LoadedActivity doing v stopped w)
+      → at_activity v.config (number_of v.who) doing doing.op stopped ≡ reached_deeds c doing doing.op r → is_reached r ≡ false → act_reached r ≡ Void
+      → is_stopped_reach r ≡ stopped → Reached k c doing id v r w
   at_once r w stopped step deeds none void answered =
       let entered : Entered (calling doing.op v) step.0 (reached_deeds c doing doing.op r) w = subst (λ ds. Entered (calling doing.op v) step.0 ds w) deeds step.3 in
       let no_grant : r ≡ reach.Granted → (word : SlotState) × (act_of doing.op word doing.mine ≡ Granted) = λ e. absurd (true≢false (sym (ap is_reached e) ∙ none)) in
       let one : w.steps ≡ v.steps + 1 = ap (λ (x : View). x.steps) entered.view in
       record {
         goes = steps w _ _ step.0 rests step.1 (activity_enters doing v stopped w _ step deeds) (append_none _);
-        stands = stands_called k c doing.op v w _ (stands_behind k c (calling doing.op v) w step.0 _ config who entered) (reached_ends k c doing id (Some doing.op) doing.op r on no_grant ∙ sym (reached_ends k c doing id v.flight doing.op r on no_grant));
+        stands = stands_called k c doing.op v w _ (stands_behind k c (calling doing.op v) w step.0 _ config who entered)
+            (reached_ends k c doing id (Some doing.op) doing.op r on no_grant ∙ sym (reached_ends k c doing id v.flight doing.op r on no_grant));
         stops = subst (λ b. StopsWhereMet v false b w) (sym answered) (heeds stopped step);
         bounded = let no = ap releases_next void in omega arith;
         acts = λ t. absurd (true≢false (sym t ∙ none));
@@ -220,7 +226,8 @@ module _ (k : Config) (c : ℕ) (doing : Doing) (id : Speculation) (v : View) (c
   at_stop w step = at_once reach.Stopped w true step (ap (λ n. at_activity v.config n doing doing.op true) (ap number_of who) ∙ stopped_deeds v.config c doing id doing.op on) refl refl refl
 
   pub outside : (w : View) → in_range k id ≡ false → LoadedActivity doing v false w → Reached k c doing id v reach.Void w
-  outside w out step = at_once reach.Void w false step (ap (λ n. at_activity v.config n doing doing.op false) (ap number_of who) ∙ outside_deeds v.config c doing id doing.op on (ap (λ (x : Config). in_range x id) config ∙ out)) refl refl refl
+  outside w out step = at_once reach.Void w false step
+      (ap (λ n. at_activity v.config n doing doing.op false) (ap number_of who) ∙ outside_deeds v.config c doing id doing.op on (ap (λ (x : Config). in_range x id) config ∙ out)) refl refl refl
 
   -- it goes on to the word
   pub flight : (u : View) → in_range k id ≡ true → scan k c v.own ≡ 0 → doing.mine ≡ (mark c id.slot v.own == id.issue + 1) → LoadedActivity doing v false u → IsInFlight k u c doing id id.slot
@@ -229,9 +236,11 @@ module _ (k : Config) (c : ℕ) (doing : Doing) (id : Speculation) (v : View) (c
       let its : part (CpuActor c) step.0 ≡ v.own = subst (λ x. part_of x step.0 ≡ v.own) who step.1.own in
       in_flight k v u c doing id config inside on idle (λ le. mine ∙ own_mine_tells k c id step.0 v.own sound its le) step
 
-  pub behind : (u : View) → in_range k id ≡ true → LoadedActivity doing v false u → (r : Reach) (w : View) → Ended k c doing id id.slot u (act_reached r) w → (r ≡ reach.Stopped → ⊥) → Reached k c doing id v r w
+  pub behind : (u : View) → in_range k id ≡ true → LoadedActivity doing v false u → (r : Reach) (w : View) → EndsAtWord k c doing id id.slot u (act_reached r) w
+      → (r ≡ reach.Stopped → ⊥) → Reached k c doing id v r w
   behind u inside step r w ended running =
-      let quiet : at_activity v.config (number_of v.who) doing doing.op false ≡ [] = quiet_activity v.config (number_of v.who) doing id doing.op (ap (λ (x : Config). in_range x id) config ∙ inside) on in
+      let quiet : at_activity v.config (number_of v.who) doing doing.op false ≡ [] =
+      quiet_activity v.config (number_of v.who) doing id doing.op (ap (λ (x : Config). in_range x id) config ∙ inside) on in
       let first : Entered (calling doing.op v) step.0 [] u = subst (λ ds. Entered (calling doing.op v) step.0 ds u) quiet step.3 in
       let granted : r ≡ reach.Granted → (word : SlotState) × (act_of doing.op word doing.mine ≡ Granted) = λ e. (ended.word, ended.acts ∙ ap act_reached e) in
       let shown = ended.last in
@@ -241,13 +250,25 @@ module _ (k : Config) (c : ℕ) (doing : Doing) (id : Speculation) (v : View) (c
       let b_own : b.own ≡ v.own = shown.stays ∙ ap (λ (x : View). x.own) first.view in
       let log = shown.last.0 in
       let deeds : at_exchange b.config (number_of b.who) doing id.slot ended.word (is_attempt (act_reached r)) ≡ reached_deeds c doing doing.op r =
-      ap (λ n. at_exchange b.config n doing id.slot ended.word (is_attempt (act_reached r))) (ap number_of b_who) ∙ (exchange_is b.config c doing id.slot ended.word (is_attempt (act_reached r)) ∙ ended_deeds b.config c id.slot doing id ended.word doing.op r on ended.acts running) in
+      ap (λ n. at_exchange b.config n doing id.slot ended.word (is_attempt (act_reached r))) (ap number_of b_who)
+      ∙ (exchange_is b.config c doing id.slot ended.word (is_attempt (act_reached r)) ∙ ended_deeds b.config c id.slot doing id ended.word doing.op r on ended.acts running) in
       let entered : Entered b log (reached_deeds c doing doing.op r) w = subst (λ ds. Entered b log ds w) deeds shown.last.3 in
       let last = stands_behind k c b w log (reached_deeds c doing doing.op r) b_config b_who entered in
       let one : u.steps ≡ v.steps + 1 = ap (λ (x : View). x.steps) first.view in
       record {
-        goes = steps w (reached_deeds c doing doing.op r) (reached_deeds c doing doing.op r) log (goes_on (steps u [] [] step.0 rests step.1 (activity_enters doing v false u [] step quiet) refl) shown.waited) shown.last.1 (inl entered) (append_none _);
-        stands = record { sound = last.sound; part_is = last.part_is; own = last.own ∙ ap (λ l. reached_deeds c doing doing.op r ++ l) b_own; config = last.config ∙ (b_config ∙ sym config); who = last.who ∙ (b_who ∙ sym who); rests = last.rests; flight = last.flight ∙ (reached_ends k c doing id b.flight doing.op r on granted ∙ sym (reached_ends k c doing id v.flight doing.op r on granted)) };
+        goes = steps w (reached_deeds c doing doing.op r) (reached_deeds c doing doing.op r) log
+            (goes_on (steps u [] [] step.0 rests step.1 (activity_enters doing v false u [] step quiet) refl) shown.waited) shown.last.1 (inl entered) (append_none _);
+        stands = record {
+          sound = last.sound;
+          part_is = last.part_is;
+          own = last.own ∙ ap (λ l. reached_deeds c doing doing.op r ++ l) b_own;
+          config = last.config
+              ∙ (b_config ∙ sym config);
+          who = last.who ∙ (b_who ∙ sym who);
+          rests = last.rests;
+          flight =
+              last.flight ∙ (reached_ends k c doing id b.flight doing.op r on granted ∙ sym (reached_ends k c doing id v.flight doing.op r on granted));
+        };
         stops = subst (λ b. StopsWhereMet v false b w) (sym (unstopped r running)) (shown_running doing v u w step);
         bounded = let le = ended.bounded in omega arith;
         acts = λ t. (ended.word, ended.acts);
@@ -275,5 +296,6 @@ is_running r t e = true≢false (sym t ∙ ap is_reached e)
 pub void_running : reach.Void ≡ reach.Stopped → ⊥
 void_running e = cc (e)
 
-pub at_seat : (k : Config) (doing : Doing) (id : Speculation) (v : View) (act : Act) (w : View) (c d slot there : ℕ) → c ≡ d → slot ≡ there → Ended k c doing id slot v act w → Ended k d doing id there v act w
-at_seat k doing id v act w c d slot there same at e = subst (λ (x : ℕ × ℕ). Ended k x.0 doing id x.1 v act w) (λ i. (same i, at i)) e
+pub at_seat : (k : Config) (doing : Doing) (id : Speculation) (v : View) (act : Act) (w : View) (c d slot there : ℕ) → c ≡ d → slot ≡ there
+    → EndsAtWord k c doing id slot v act w → EndsAtWord k d doing id there v act w
+at_seat k doing id v act w c d slot there same at e = subst (λ (x : ℕ × ℕ). EndsAtWord k x.0 doing id x.1 v act w) (λ i. (same i, at i)) e

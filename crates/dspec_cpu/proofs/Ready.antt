@@ -89,7 +89,8 @@ module _ (shape : ℕ → Option Shape) (accepted : Record → Bool) (text : Rec
   set_up_is = was.at.1 ∙ was.config
 
   -- no call of it is under way behind steps that end its call
-  pub ready_after : (new : Cpu S) (ds : List Deed) → cpu.cpu ≡ new.cpu → cpu.config ≡ new.config → IsAt words new.seat → cpu_of new.seat ≡ cpu_of cpu.seat → Stands cpu.config cpu.cpu (known cpu.seat) ds (known new.seat)
+  pub ready_after : (new : Cpu S) (ds : List Deed) → cpu.cpu ≡ new.cpu → cpu.config ≡ new.config → IsAt words new.seat → cpu_of new.seat ≡ cpu_of cpu.seat
+      → Stands cpu.config cpu.cpu (known cpu.seat) ds (known new.seat)
       → scan cpu.config cpu.cpu (ds ++ (known cpu.seat).own) ≡ 0 → flight_after cpu.config (known cpu.seat).flight ds ≡ None → ((b : Stored) → new.spare ≡ Some b → b.size ≡ new.config.bufsize)
       → length (batches_of new) + spare_count new.spare ≤ 1 + length new.end.spares → (p : List Deed) → HasList shape accepted text new p → IsReady shape accepted text words new
   ready_after new ds same_cpu same_config at seat stands idle over spare not_many p now = record {
@@ -114,7 +115,19 @@ module _ (shape : ℕ → Option Shape) (accepted : Record → Bool) (text : Rec
       let within = (own_report shape cpu.config cpu.cpu 0 (known cpu.seat).seen p was.sound was.listed.shown.legal (was.listed.own ∙ sym was.part_is)).0 in
       let called = was.listed.shown.side.called in
       let most = (limits cpu.config was.checked).calls in
-      rw was.listed.shown.counted (record { offered = omega arith; accepted = omega arith; dropped = omega arith; specdropped = omega arith; lost = omega arith; discarded = omega arith; void = omega arith; drops = omega arith; unavailable = omega arith; busy = omega arith; stopped = omega arith })
+      rw was.listed.shown.counted (record {
+        offered = omega arith;
+        accepted = omega arith;
+        dropped = omega arith;
+        specdropped = omega arith;
+        lost = omega arith;
+        discarded = omega arith;
+        void = omega arith;
+        drops = omega arith;
+        unavailable = omega arith;
+        busy = omega arith;
+        stopped = omega arith;
+      })
 
   -- nor are the drops since the last Seal
   pub few_drops : cpu.calls < cpu.config.max_calls → cpu.drops < 2 ^ 63

@@ -20,33 +20,37 @@ use Rattle.dspec_table.specs.Showing.{Shows}
 use Rattle.dspec_cpu.specs.declared.counts.Counts.{Counts}
 use Rattle.dspec_cpu.specs.declared.rest.CpuRest.{CpuRest}
 use Rattle.dspec_cpu.specs.Lists.{AreShown}
-use Rattle.dspec_cpu.specs.Rests.{AreItsWords, CanClose, RestHasList, batches_of_rest, side_of_rest}
+use Rattle.dspec_cpu.specs.Rests.{AreItsWords, CanCloseBehind, RestHasList, batches_of_rest, side_of_rest}
 use Rattle.dspec_cpu.specs.Settled.{CanSettle, shown_at}
 use Rattle.dspec_cpu.proofs.Settlements.{can_settle}
 
-module _ (shape : ℕ → Option Shape) (accepted : Record → Bool) (text : Record → List ℕ) {S : Type 0} (rest : CpuRest S) (last : LastWords) (its : AreItsWords last rest.config rest.cpu) (slot : ℕ) (low : 1 ≤ slot) (high : slot ≤ rest.config.nspec)
+module _ (shape : ℕ → Option Shape) (accepted : Record → Bool) (text : Record → List ℕ) {S : Type 0} (rest : CpuRest S) (last : LastWords)
+    (its : AreItsWords last rest.config rest.cpu) (slot : ℕ) (low : 1 ≤ slot) (high : slot ≤ rest.config.nspec)
     (word : SlotState) (word_is : (log : List Deed) → Shows (last_set_up last) (last_words last) log → word ≡ word_at slot log) where
   shows_last : (log : List Deed) → Shows rest.config (last_words last) log → Shows (last_set_up last) (last_words last) log
   shows_last log sh = subst (λ (k : Config). Shows k (last_words last) log) (sym its.set_up) sh
 
   module _ (a : ℕ) (a_is : (log : List Deed) → Shows (last_set_up last) (last_words last) log → a ≡ ack rest.cpu slot log) where
-    acked : (log now p : List Deed) → CanClose rest.config rest.cpu slot (last_words last) log now p → settle_at word a ≡ settle_at word (ack rest.cpu slot p)
+    acked : (log now p : List Deed) → CanCloseBehind rest.config rest.cpu slot (last_words last) log now p → settle_at word a ≡ settle_at word (ack rest.cpu slot p)
     acked log now p closes = ap (settle_at word) (a_is log (shows_last log closes.shows) ∙ sym closes.ack)
 
     module _ (grants : is_granted (settle_at word a) ≡ true) (small : rest.calls < 2 ^ 64) where
-      granted : (log now p : List Deed) → CanClose rest.config rest.cpu slot (last_words last) log now p → is_granted (settle_at word (ack rest.cpu slot p)) ≡ true
+      granted : (log now p : List Deed) → CanCloseBehind rest.config rest.cpu slot (last_words last) log now p → is_granted (settle_at word (ack rest.cpu slot p)) ≡ true
       granted log now p closes = sym (ap is_granted (acked log now p closes)) ∙ grants
 
-      pub can : (handed : List Batch) (log now p : List Deed) → RestHasList shape accepted text rest handed p → CanClose rest.config rest.cpu slot (last_words last) log now p
+      pub can : (handed : List Batch) (log now p : List Deed) → RestHasList shape accepted text rest handed p → CanCloseBehind rest.config rest.cpu slot (last_words last) log now p
           → CanSettle shape accepted text rest.config rest.cpu (side_of_rest rest) (batches_of_rest rest handed) rest.counts (shown_at slot word) word.code p
       can handed log now p had closes = can_settle shape rest.config rest.cpu now p closes.part_is slot word (closes.word ∙ sym (word_is log (shows_last log closes.shows))) (granted log now p closes)
           accepted text (side_of_rest rest) (batches_of_rest rest handed) rest.counts had low high its.one small
 
       -- and the settlement is that of the close
-      pub closed : (handed : List Batch) (log now p : List Deed) → CanClose rest.config rest.cpu slot (last_words last) log now p → (side : SideParts Stored) (counts : Counts)
-          → AreShown shape accepted text rest.config rest.cpu side (batches_of_rest rest handed) counts (Settle rest.cpu (shown_at slot word) (settle_fate shape rest.config rest.cpu p (shown_at slot word) word.code) ∷ p)
+      pub closed : (handed : List Batch) (log now p : List Deed) → CanCloseBehind rest.config rest.cpu slot (last_words last) log now p → (side : SideParts Stored) (counts : Counts)
+          → AreShown shape accepted text rest.config rest.cpu side (batches_of_rest rest handed) counts
+          (Settle rest.cpu (shown_at slot word) (settle_fate shape rest.config rest.cpu p (shown_at slot word) word.code) ∷ p)
           → AreShown shape accepted text rest.config rest.cpu side (batches_of_rest rest handed) counts (own_closed_slot shape rest.config (λ s. word_at s log) rest.cpu slot p)
       closed handed log now p closes side counts shown =
-          let next : SlotState → List Deed = λ w. if is_granted (settle_at w (ack rest.cpu slot p)) then Settle rest.cpu (shown_at slot w) (settle_fate shape rest.config rest.cpu p (shown_at slot w) w.code) ∷ p else p in
+          let next : SlotState → List Deed = λ w. if is_granted (settle_at w (ack rest.cpu slot p)) then Settle rest.cpu (shown_at slot w)
+          (settle_fate shape rest.config rest.cpu p (shown_at slot w) w.code) ∷ p else p in
           subst (λ w. AreShown shape accepted text rest.config rest.cpu side (batches_of_rest rest handed) counts (next w)) (word_is log (shows_last log closes.shows))
-          (subst (λ b. AreShown shape accepted text rest.config rest.cpu side (batches_of_rest rest handed) counts (if b then Settle rest.cpu (shown_at slot word) (settle_fate shape rest.config rest.cpu p (shown_at slot word) word.code) ∷ p else p)) (sym (granted log now p closes)) shown)
+          (subst (λ b. AreShown shape accepted text rest.config rest.cpu side (batches_of_rest rest handed) counts
+          (if b then Settle rest.cpu (shown_at slot word) (settle_fate shape rest.config rest.cpu p (shown_at slot word) word.code) ∷ p else p)) (sym (granted log now p closes)) shown)

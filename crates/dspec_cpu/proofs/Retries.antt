@@ -122,7 +122,8 @@ fewer n id word to shown a greater =
     ⊎_elim
     (λ (t : (shown.issue == id.issue) ≡ true).
     let too = same_number shown.issue id.issue t in
-    let after : left n id shown ≡ (if nat_le 1 (code_number shown.code) then n - code_number shown.code else 0) = ap (λ b. if b && nat_le 1 (code_number shown.code) then n - code_number shown.code else 0) t in
+    let after : left n id shown ≡ (if nat_le 1 (code_number shown.code) then n - code_number shown.code else 0) =
+    ap (λ b. if b && nat_le 1 (code_number shown.code) then n - code_number shown.code else 0) t in
     let less = cut (nat_le 1 (code_number shown.code)) (n - code_number shown.code) in
     omega arith)
     (λ (f : (shown.issue == id.issue) ≡ false).
@@ -166,7 +167,8 @@ module _ (k : Config) (c : ℕ) (doing : Doing) (id : Speculation) (slot : ℕ) 
     may_try = tries_next k shows.before w c slot doing id word to (shows.who ∙ who) on shows.flight shows.last (attempts doing id doing.op word to on e)
 
     none_yet : Entered shows.before shows.last.0 [] w
-    none_yet = subst (λ ds. Entered shows.before shows.last.0 ds w) (quiet_word shows.before.config (number_of shows.before.who) slot doing word to doing.op (attempts doing id doing.op word to on e)) shows.last.3
+    none_yet = subst (λ ds. Entered shows.before shows.last.0 ds w)
+        (quiet_word shows.before.config (number_of shows.before.who) slot doing word to doing.op (attempts doing id doing.op word to on e)) shows.last.3
 
     -- an exchange
     pub tried : (shown : SlotState) (hit : Bool) (new : View) → TriedWord doing slot w shown hit new → Shown k c doing id slot v shown hit new
@@ -184,7 +186,8 @@ module _ (k : Config) (c : ℕ) (doing : Doing) (id : Speculation) (slot : ℕ) 
     pub fewer_left : (shown : SlotState) → word_number word < word_number shown → left (turns doing.op) id shown + 1 ≤ left (turns doing.op) id word
     fewer_left shown greater = fewer (turns doing.op) id word to shown (attempted id doing.op word to doing.mine on e) greater
 
-    pub hit_steps : (new : View) → TriedWord doing slot w word true new → w.steps + left (turns doing.op) id word ≤ v.steps + turns doing.op → new.steps + releases_next (Attempt to) ≤ v.steps + turns doing.op
+    pub hit_steps : (new : View) → TriedWord doing slot w word true new → w.steps + left (turns doing.op) id word ≤ v.steps + turns doing.op
+        → new.steps + releases_next (Attempt to) ≤ v.steps + turns doing.op
     hit_steps new step le =
         let a = attempted id doing.op word to doing.mine on e in
         let here = left_here (turns doing.op) id word to a in

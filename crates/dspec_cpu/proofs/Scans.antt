@@ -17,7 +17,7 @@ use Rattle.dspec_table.specs.Steps.{Entered, LoadedActivity}
 use Rattle.dspec_table.proofs.Flights.{activity_enters, flight_by_last}
 use Rattle.dspec_cpu.specs.declared.scanning.Look.TheVariants as look
 use Rattle.dspec_cpu.specs.Calls.{rests, steps}
-use Rattle.dspec_cpu.specs.Scans.{Came, Looked, Scanned, misses, opening_deeds, IsOpening, is_worn_opening}
+use Rattle.dspec_cpu.specs.Scans.{Came, LookedAtSlot, Scanned, misses, opening_deeds, IsOpening, is_worn_opening}
 use Rattle.dspec_cpu.proofs.Ready.{stands_behind, stands_called}
 use Rattle.dspec_cpu.proofs.Reaches.{goes_on}
 use Rattle.dspec_cpu.proofs.Stopping.{shown_stop, shown_running, heeded}
@@ -30,7 +30,8 @@ module _ (k : Config) (c : ℕ) (v : View) where
   first b w config who step r is ds e =
       let deeds : Scan (number_of v.who) (if b then false else true) ∷ [] ≡ ds = ap (λ n. Scan n (if b then false else true) ∷ []) (ap number_of who) ∙ (ap (λ x. Scan c x ∷ []) is ∙ sym e) in
       let entered : Entered (calling op.Speculation v) step.0 ds w = subst (λ x. Entered (calling op.Speculation v) step.0 x w) deeds step.3 in
-      let same : flight_after k (Some op.Speculation) ds ≡ flight_after k v.flight ds = ap (flight_after k (Some op.Speculation)) e ∙ (flight_by_last k (Some op.Speculation) v.flight (Scan c r) [] [] ∙ ap (flight_after k v.flight) (sym e)) in (
+      let same : flight_after k (Some op.Speculation) ds ≡ flight_after k v.flight ds =
+      ap (flight_after k (Some op.Speculation)) e ∙ (flight_by_last k (Some op.Speculation) v.flight (Scan c r) [] [] ∙ ap (flight_after k v.flight) (sym e)) in (
         steps w ds ds step.0 rests step.1 (activity_enters asked v b w ds step deeds) (append_none ds),
         stands_called k c op.Speculation v w ds (stands_behind k c (calling op.Speculation v) w step.0 ds config who entered) same,
         ap (λ (x : View). x.steps) entered.view,
@@ -53,10 +54,10 @@ module _ (k : Config) (c : ℕ) (v : View) where
       record { missed = []; any = refl; answer = refl; unworn = refl; goes = r.0; stands = r.1; stops = shown_stop asked v w step; bounded = omega arith }
 
   -- a slot was missed
-  pub goes_by : (n : ℕ) (busy b : Bool) (u w : View) → Came k c v n busy u → Looked k c (n + 1) u (look.Missed b) w → Came k c v (n + 1) (b || busy) w
+  pub goes_by : (n : ℕ) (busy b : Bool) (u w : View) → Came k c v n busy u → LookedAtSlot k c (n + 1) u (look.Missed b) w → Came k c v (n + 1) (b || busy) w
   goes_by n busy b u w came looked =
       let bs = came.missed in
-      let here : Looked k c (length bs + 1) u (look.Missed b) w = subst (λ m. Looked k c (m + 1) u (look.Missed b) w) (sym came.count) looked in
+      let here : LookedAtSlot k c (length bs + 1) u (look.Missed b) w = subst (λ m. LookedAtSlot k c (m + 1) u (look.Missed b) w) (sym came.count) looked in
       let le = came.bounded in
       let two = looked.bounded in
       record {
@@ -70,7 +71,7 @@ module _ (k : Config) (c : ℕ) (v : View) where
       }
 
   -- a slot was given out
-  pub gives : (n : ℕ) (busy : Bool) (id : Speculation) (u w : View) → n < k.nspec → Came k c v n busy u → Looked k c (n + 1) u (look.Given id) w → Scanned k c v (opening.Id id) busy w
+  pub gives : (n : ℕ) (busy : Bool) (id : Speculation) (u w : View) → n < k.nspec → Came k c v n busy u → LookedAtSlot k c (n + 1) u (look.Given id) w → Scanned k c v (opening.Id id) busy w
   gives n busy id u w lt came looked =
       let le = came.bounded in
       let two = looked.bounded in
@@ -89,8 +90,28 @@ module _ (k : Config) (c : ℕ) (v : View) where
 
   -- all were missed
   pub ends : (n : ℕ) (busy : Bool) (w : View) → n ≡ k.nspec → Came k c v n busy w → (a : Opening) → a ≡ (if busy then opening.Busy else opening.Unavailable) → Scanned k c v a busy w
-  ends n true w all came a e = subst (λ (x : Opening). Scanned k c v x true w) (sym e) (let le = came.bounded in record { missed = came.missed; any = came.any; answer = (came.count ∙ all, sym came.any); unworn = refl; goes = came.goes; stands = came.stands; stops = came.runs; bounded = omega arith })
-  ends n false w all came a e = subst (λ (x : Opening). Scanned k c v x false w) (sym e) (let le = came.bounded in record { missed = came.missed; any = came.any; answer = (came.count ∙ all, sym came.any); unworn = refl; goes = came.goes; stands = came.stands; stops = came.runs; bounded = omega arith })
+  ends n true w all came a e = subst (λ (x : Opening). Scanned k c v x true w) (sym e)
+      (let le = came.bounded in record {
+        missed = came.missed;
+        any = came.any;
+        answer = (came.count ∙ all, sym came.any);
+        unworn = refl;
+        goes = came.goes;
+        stands = came.stands;
+        stops = came.runs;
+        bounded = omega arith;
+      })
+  ends n false w all came a e = subst (λ (x : Opening). Scanned k c v x false w) (sym e)
+      (let le = came.bounded in record {
+        missed = came.missed;
+        any = came.any;
+        answer = (came.count ∙ all, sym came.any);
+        unworn = refl;
+        goes = came.goes;
+        stands = came.stands;
+        stops = came.runs;
+        bounded = omega arith;
+      })
 
 -- the slot that the call has come to behind so many Misses
 come_to : (k : Config) (c : ℕ) (own : List Deed) (bs : List Bool) → length bs < k.nspec → scan k c ((misses c bs ++ Scan c true ∷ []) ++ own) ≡ length bs + 1
@@ -147,7 +168,8 @@ all_flown k c f (b ∷ bs) one all =
     ap (λ (x : Bool). if x then None else Some op.Speculation) same
 
 -- nor in flight
-pub none_flies : (k : Config) (c : ℕ) (f : Option CpuOp) (bs : List Bool) (a : Opening) → 1 ≤ k.nspec → IsOpening k.nspec bs a → is_worn_opening a ≡ false → flight_after k f (opening_deeds c bs a) ≡ None
+pub none_flies : (k : Config) (c : ℕ) (f : Option CpuOp) (bs : List Bool) (a : Opening) → 1 ≤ k.nspec → IsOpening k.nspec bs a → is_worn_opening a ≡ false
+    → flight_after k f (opening_deeds c bs a) ≡ None
 none_flies k c f bs opening.Worn one is un = absurd (Rattle.std.proofs.Common.true≢false un)
 none_flies k c f bs opening.Stopped one is un = refl
 none_flies k c f bs (opening.Id id) one is un = refl

@@ -27,7 +27,21 @@ use Rattle.dspec_cpu.proofs.Limits.{limits}
 sealed_counts : (k : Config) (c w : ℕ) (p : List Deed) → counts_of k c w (Seal c ∷ p) ≡ counts_of k c w p
 sealed_counts k c w p =
     let n = counts_of k c w p in
-    λ i. record n { offered = add-zero n.offered i; accepted = add-zero n.accepted i; dropped = add-zero n.dropped i; specdropped = add-zero n.specdropped i; lost = add-zero n.lost i; discarded = add-zero n.discarded i; void = add-zero n.void i; drops = add-zero n.drops i; unavailable = add-zero n.unavailable i; busy = add-zero n.busy i; stopped = add-zero n.stopped i }
+    λ i. record n {
+      offered = add-zero n.offered i;
+      accepted = add-zero n.accepted i;
+      dropped = add-zero n.dropped i;
+      specdropped = add-zero n.specdropped i;
+      lost = add-zero
+          n.lost i;
+      discarded = add-zero n.discarded i;
+      void = add-zero n.void i;
+      drops = add-zero n.drops i;
+      unavailable = add-zero n.unavailable i;
+      busy =
+          add-zero n.busy i;
+      stopped = add-zero n.stopped i;
+    }
 
 module _ (shape : ℕ → Option Shape) (accepted : Record → Bool) (text : Record → List ℕ) where
   -- there are as many batches as Seals, and no more than the most calls

@@ -29,7 +29,8 @@ pub none_settled : (c : ℕ) (had : List Deed → Type 0) (v : View) → Settled
 none_settled c had v = record { settles = []; slots = (refl, refl); number = refl; goes = rests; bounded = omega arith; list = λ p h. h }
 
 -- one slot more
-pub slot_more : (c n count : ℕ) (had mid has : List Deed → Type 0) (v u w : View) (hit : Bool) → Settled c n count had v mid u → SlotDone c (n + 1) hit mid u has w → Settled c (n + 1) (if hit then count + 1 else count) had v has w
+pub slot_more : (c n count : ℕ) (had mid has : List Deed → Type 0) (v u w : View) (hit : Bool) → Settled c n count had v mid u → SlotDone c (n + 1) hit mid u has w
+    → Settled c (n + 1) (if hit then count + 1 else count) had v has w
 slot_more c n count had mid has v u w hit was done =
     let here = done.settles in
     let before = was.settles in

@@ -1,5 +1,6 @@
 -- One slot of a service: the steps, the list and the CPU behind it.
-use Rattle.std.proofs.Common.{◌≡◌, ◌≢◌, ℕ, ◌+◌, ◌-◌, ◌*◌, ◌≤◌, ◌<◌, ◌^◌, Bool, true, false, List, [], ◌∷◌, ◌++◌, ◌&&◌, nat_le, length, get_or, Option, Some, if◌then◌else◌, refl, sym, ap, ◌∙◌, subst, inl, arith}
+use Rattle.std.proofs.Common.{◌≡◌, ◌≢◌, ℕ, ◌+◌, ◌-◌, ◌*◌, ◌≤◌, ◌<◌, ◌^◌, Bool, true, false, List, [], ◌∷◌}
+use Rattle.std.proofs.Common.{◌++◌, ◌&&◌, nat_le, length, get_or, Option, Some, if◌then◌else◌, refl, sym, ap, ◌∙◌, subst, inl, arith}
 use Rattle.std.proofs.lemmas.Option.{get_or_from_slice_get}
 use Rattle.std.specs.Global.{Vec}
 use Rattle.dspec_record.specs.Record.{Record}
@@ -22,7 +23,7 @@ use Rattle.dspec_table.specs.declared.doing.Doing.{Doing}
 use Rattle.dspec_table.specs.declared.rule.View.{View}
 use Rattle.dspec_table.specs.declared.seats.CpuSeat.{CpuSeat}
 use Rattle.dspec_table.specs.declared.seats.Words.{Words}
-use Rattle.dspec_table.specs.Acts.{settle_fate}
+use Rattle.dspec_table.specs.Acts.{fate_of_settlement}
 use Rattle.dspec_table.specs.Conditions.{MaySettle}
 use Rattle.dspec_table.specs.Holders.{number_of}
 use Rattle.dspec_table.specs.Seats.{known}
@@ -50,7 +51,8 @@ granted_is Void e = absurd (Rattle.std.proofs.Common.true≢false (sym e))
 granted_is (Attempt w) e = absurd (Rattle.std.proofs.Common.true≢false (sym e))
 granted_is Idle e = absurd (Rattle.std.proofs.Common.true≢false (sym e))
 
-module _ (shape : ℕ → Option Shape) (accepted : Record → Bool) (text : Record → List ℕ) {S : Type 0} (words : Words) (cpu : Cpu S) (ready : IsReady shape accepted text words cpu) (slot : ℕ) (low : 1 ≤ slot) (high : slot ≤ cpu.config.nspec)
+module _ (shape : ℕ → Option Shape) (accepted : Record → Bool) (text : Record → List ℕ) {S : Type 0} (words : Words) (cpu : Cpu S)
+    (ready : IsReady shape accepted text words cpu) (slot : ℕ) (low : 1 ≤ slot) (high : slot ≤ cpu.config.nspec)
     (seat : CpuSeat) (word : SlotState) (doing : Doing) (asked : doing ≡ serving false 0 false) (loaded : LoadedWord doing slot (known cpu.seat) word (known seat)) where
   abbrev v : View
   v = known cpu.seat
@@ -109,7 +111,14 @@ module _ (shape : ℕ → Option Shape) (accepted : Record → Bool) (text : Rec
   pub passed_early : awaits word.code ≡ false → SlotDone cpu.cpu slot false (HasList shape accepted text cpu) v (HasList shape accepted text (record cpu { seat = seat })) u
   passed_early idle = record {
     settles = [];
-    slot_is = record { shown = word; loaded = u; load = step; granted = sym (ap (λ b. is_granted (if b && nat_le (ack cpu.cpu slot v.own) word.issue then Granted else Idle)) idle); behind = (refl, refl) };
+    slot_is = record {
+      shown = word;
+      loaded = u;
+      load = step;
+      granted = sym
+          (ap (λ b. is_granted (if b && nat_le (ack cpu.cpu slot v.own) word.issue then Granted else Idle)) idle);
+      behind = (refl, refl);
+    };
     goes = load_goes;
     bounded = let one = one_step in omega arith;
     list = passed_list;
@@ -124,7 +133,8 @@ module _ (shape : ℕ → Option Shape) (accepted : Record → Bool) (text : Rec
     granted p had = ap (λ n. is_granted (settle_at word n)) (sym (ack_kept p had a kept)) ∙ grants
 
     pub can : (p : List Deed) → HasList shape accepted text cpu p → CanSettle shape accepted text cpu.config cpu.cpu (side_of cpu) (batches_of cpu) cpu.counts id word.code p
-    can p had = can_settle shape cpu.config cpu.cpu u.seen p (part_now p had) slot word here (granted p had) accepted text (side_of cpu) (batches_of cpu) cpu.counts had.shown low high (few shape accepted text words cpu ready) small
+    can p had = can_settle shape cpu.config cpu.cpu u.seen p (part_now p had) slot word here (granted p had) accepted text (side_of cpu) (batches_of cpu) cpu.counts had.shown
+        low high (few shape accepted text words cpu ready) small
 
     pub may_settle : (k : Config) (c i : ℕ) → k ≡ cpu.config → c ≡ cpu.cpu → i ≡ word.issue → MaySettle k u c record { issue = i; slot = slot }
     may_settle k c i config number issue = subst (λ (x : Config × ℕ × ℕ). MaySettle x.0 u x.1 record { issue = x.2; slot = slot }) (λ j. (sym config j, sym number j, sym issue j))
@@ -133,12 +143,16 @@ module _ (shape : ℕ → Option Shape) (accepted : Record → Bool) (text : Rec
           low = low;
           high = high;
           issue = ap (λ (w : SlotState). w.issue) here;
-          granted = granted_is _ (ap (λ (w : SlotState). is_granted (settle_at w (ack cpu.cpu slot u.own))) here ∙ (ap (λ l. is_granted (settle_at word (ack cpu.cpu slot l))) load_stands.own ∙ (ap is_granted (sym (act_is a kept)) ∙ grants)));
+          granted = granted_is _ (ap (λ (w : SlotState). is_granted (settle_at w (ack cpu.cpu slot u.own))) here
+              ∙ (ap (λ l. is_granted (settle_at word (ack cpu.cpu slot l))) load_stands.own ∙ (ap is_granted (sym (act_is a kept)) ∙ grants)));
         })
 
-    module _ (own : Doing) (service : own.op ≡ op.Service) (last : CpuSeat) (i : ℕ) (i_is : i ≡ word.issue) (stored : SettledWord own record { issue = i; slot = slot } (word_at slot u.seen).code u (known last))
+    module _ (own : Doing) (service : own.op ≡ op.Service) (last : CpuSeat) (i : ℕ) (i_is : i ≡ word.issue)
+        (stored : SettledWord own record { issue = i; slot = slot } (word_at slot u.seen).code u (known last))
         (active : Stored) (speculative : Vec Stored) (acks : Vec ℕ) (drops : ℕ) (counts : Counts)
-        (block : (p : List Deed) → CanSettle shape accepted text cpu.config cpu.cpu (side_of cpu) (batches_of cpu) cpu.counts id word.code p → BlockSettled shape accepted text cpu.config cpu.cpu (side_of (record cpu { seat = last; active = active; speculative = speculative; acks = acks; drops = drops; counts = counts })) counts (batches_of cpu) id word.code own p) where
+        (block : (p : List Deed) → CanSettle shape accepted text cpu.config cpu.cpu (side_of cpu) (batches_of cpu) cpu.counts id word.code p
+        → BlockSettled shape accepted text cpu.config cpu.cpu
+        (side_of (record cpu { seat = last; active = active; speculative = speculative; acks = acks; drops = drops; counts = counts })) counts (batches_of cpu) id word.code own p) where
       abbrev pub new : Cpu S
       new = record cpu { seat = last; active = active; speculative = speculative; acks = acks; drops = drops; counts = counts }
 
@@ -146,17 +160,18 @@ module _ (shape : ℕ → Option Shape) (accepted : Record → Bool) (text : Rec
       w = known last
 
       abbrev pub deed : Deed
-      deed = Settle cpu.cpu id (settle_fate own word.code)
+      deed = Settle cpu.cpu id (fate_of_settlement own word.code)
 
       stores : SettledWord own id word.code u w
       stores = subst (λ (x : ℕ × SlotState). SettledWord own record { issue = x.0; slot = slot } x.1.code u w) (λ j. (i_is j, here j)) stored
 
       entered : Entered u stores.0 (deed ∷ []) w
-      entered = subst (λ n. Entered u stores.0 (Settle n id (settle_fate own word.code) ∷ []) w) (ap number_of (load_stands.who ∙ holder shape accepted text words cpu ready)) stores.2
+      entered = subst (λ n. Entered u stores.0 (Settle n id (fate_of_settlement own word.code) ∷ []) w) (ap number_of (load_stands.who ∙ holder shape accepted text words cpu ready)) stores.2
 
       pub settle_stands : Stands cpu.config cpu.cpu v (deed ∷ []) w
       settle_stands = stands_more cpu.config cpu.cpu v u w deed [] load_stands
-          (stands_behind cpu.config cpu.cpu u w stores.0 (deed ∷ []) (load_stands.config ∙ set_up_is shape accepted text words cpu ready) (load_stands.who ∙ holder shape accepted text words cpu ready) entered)
+          (stands_behind cpu.config cpu.cpu u w stores.0 (deed ∷ []) (load_stands.config ∙ set_up_is shape accepted text words cpu ready)
+          (load_stands.who ∙ holder shape accepted text words cpu ready) entered)
 
       pub settled_list : (p : List Deed) → HasList shape accepted text cpu p → HasList shape accepted text new (deed ∷ p)
       settled_list p had =

@@ -52,7 +52,8 @@ grant_tells w acked e = go (awaits w.code) (nat_le acked w.issue) e
 
 fate_fits : (shape : ℕ → Option Shape) (k : Config) (c : ℕ) (p : List Deed) (id : Speculation) (code : Code) → awaits code ≡ true → settles_as code (settling.settle_fate shape k c p id code) ≡ true
 fate_fits shape k c p id Discarding e = refl
-fate_fits shape k c p id CommittingMany e = go (Rattle.dspec_deeds.specs.Legal.fits_principal shape k c (Rattle.dspec_buffer.specs.Extent.block (Rattle.dspec_deeds.specs.Own.contents (held c id p))) p)
+fate_fits shape k c p id CommittingMany e =
+    go (Rattle.dspec_deeds.specs.Legal.fits_principal shape k c (Rattle.dspec_buffer.specs.Extent.block (Rattle.dspec_deeds.specs.Own.contents (held c id p))) p)
   where
     go : (b : Bool) → is_commit (if b then fated.Copied (length (held c id p)) else fated.Lost (length (held c id p))) ≡ true
     go true = refl
@@ -67,7 +68,8 @@ fate_fits shape k c p id Committing e = absurd (true≢false (sym e))
 pub ack_is : (k : Config) (c slot : ℕ) (log p : List Deed) → bare p ≡ part (CpuActor c) log → ack c slot p ≡ ack c slot log
 ack_is k c slot log p is = (apart_bare k c p).acks slot ∙ (ap (ack c slot) is ∙ ack_part k c slot log)
 
-module _ (shape : ℕ → Option Shape) (k : Config) (c : ℕ) (log p : List Deed) (its : IsPartOf k c log p) (slot : ℕ) (word : SlotState) (here : word_at slot log ≡ word) (granted : is_granted (settle_at word (ack c slot p)) ≡ true) where
+module _ (shape : ℕ → Option Shape) (k : Config) (c : ℕ) (log p : List Deed) (its : IsPartOf k c log p) (slot : ℕ) (word : SlotState) (here : word_at slot log ≡ word)
+    (granted : is_granted (settle_at word (ack c slot p)) ≡ true) where
   abbrev pub id : Speculation
   id = shown_at slot word
 

@@ -20,7 +20,7 @@ use Rattle.dspec_cpu.specs.declared.scanning.Look.{Look}
 use Rattle.dspec_cpu.specs.declared.scanning.Look.TheVariants as look
 use Rattle.dspec_cpu.specs.Calls.{rests, steps}
 use Rattle.dspec_cpu.specs.Reached.{Stands}
-use Rattle.dspec_cpu.specs.Scans.{Looked, IsGivenAt, look_deed}
+use Rattle.dspec_cpu.specs.Scans.{LookedAtSlot, IsGivenAt, look_deed}
 use Rattle.dspec_cpu.proofs.Ready.{stands_behind}
 
 abbrev pub asked : Doing
@@ -48,11 +48,11 @@ passes w most none = go (is_inactive w.code && nat_lt w.issue most) none
 
 module _ (k : Config) (c slot : ℕ) (v : View) (config : v.config ≡ k) (who : v.who ≡ of_cpu c) where
   -- the load showed a word that isn't free
-  pub passed : (shown : SlotState) (b : Bool) (w : View) → LoadedWord asked slot v shown w → open_at shown k.max_issues ≡ Void → b ≡ is_decided shown.code → Looked k c slot v (look.Missed b) w
+  pub passed : (shown : SlotState) (b : Bool) (w : View) → LoadedWord asked slot v shown w → open_at shown k.max_issues ≡ Void → b ≡ is_decided shown.code → LookedAtSlot k c slot v (look.Missed b) w
   passed shown b w step void is =
-      let deeds : acts.misses (number_of v.who) slot shown (open_at shown v.config.max_issues) ≡ Miss c slot b ∷ [] =
-      ap (λ (x : Config). acts.misses (number_of v.who) slot shown (open_at shown x.max_issues)) config
-      ∙ (ap (acts.misses (number_of v.who) slot shown) void
+      let deeds : acts.miss_at (number_of v.who) slot shown (open_at shown v.config.max_issues) ≡ Miss c slot b ∷ [] =
+      ap (λ (x : Config). acts.miss_at (number_of v.who) slot shown (open_at shown x.max_issues)) config
+      ∙ (ap (acts.miss_at (number_of v.who) slot shown) void
       ∙ (ap (λ n. Miss n slot (is_decided shown.code) ∷ []) (ap number_of who) ∙ ap (λ x. Miss c slot x ∷ []) (sym is))) in
       let entered : Entered v step.0 (Miss c slot b ∷ []) w = subst (λ ds. Entered v step.0 ds w) deeds step.3 in
       let one : w.steps ≡ v.steps + 1 = ap (λ (x : View). x.steps) entered.view in
@@ -65,10 +65,10 @@ module _ (k : Config) (c slot : ℕ) (v : View) (config : v.config ≡ k) (who :
 
   -- the exchange from a free word
   pub tried : (from to shown : SlotState) (hit : Bool) (u w : View) → LoadedWord asked slot v from u → open_at from k.max_issues ≡ Attempt to → OpenedWord slot u shown hit w
-      → (x : Look) → acts.at_open c slot shown hit ≡ look_deed c slot x ∷ [] → IsGivenAt slot x → Looked k c slot v x w
+      → (x : Look) → acts.at_open c slot shown hit ≡ look_deed c slot x ∷ [] → IsGivenAt slot x → LookedAtSlot k c slot v x w
   tried from to shown hit u w load free step x deed at =
-      let none : acts.misses (number_of v.who) slot from (open_at from v.config.max_issues) ≡ [] =
-      ap (λ (y : Config). acts.misses (number_of v.who) slot from (open_at from y.max_issues)) config ∙ ap (acts.misses (number_of v.who) slot from) free in
+      let none : acts.miss_at (number_of v.who) slot from (open_at from v.config.max_issues) ≡ [] =
+      ap (λ (y : Config). acts.miss_at (number_of v.who) slot from (open_at from y.max_issues)) config ∙ ap (acts.miss_at (number_of v.who) slot from) free in
       let first : Entered v load.0 [] u = subst (λ ds. Entered v load.0 ds u) none load.3 in
       let u_config : u.config ≡ k = ap (λ (y : View). y.config) first.view ∙ config in
       let u_who : u.who ≡ of_cpu c = ap (λ (y : View). y.who) first.view ∙ who in
@@ -78,7 +78,16 @@ module _ (k : Config) (c slot : ℕ) (v : View) (config : v.config ≡ k) (who :
       let two : w.steps ≡ u.steps + 1 = ap (λ (y : View). y.steps) entered.view in
       record {
         goes = steps w (look_deed c slot x ∷ []) (look_deed c slot x ∷ []) step.0 (steps u [] [] load.0 rests load.1 (inl first) refl) step.1 (inl entered) refl;
-        stands = record { sound = last.sound; part_is = last.part_is; own = last.own ∙ ap (λ (y : View). look_deed c slot x ∷ y.own) first.view; config = last.config ∙ (u_config ∙ sym config); who = last.who ∙ (u_who ∙ sym who); rests = last.rests; flight = last.flight ∙ flight_by_last k u.flight v.flight (look_deed c slot x) [] [] };
+        stands = record {
+          sound = last.sound;
+          part_is = last.part_is;
+          own = last.own ∙ ap (λ (y : View). look_deed c slot x ∷ y.own) first.view;
+          config = last.config
+              ∙ (u_config ∙ sym config);
+          who = last.who ∙ (u_who ∙ sym who);
+          rests = last.rests;
+          flight = last.flight ∙ flight_by_last k u.flight v.flight (look_deed c slot x) [] [];
+        };
         bounded = omega arith;
         given = at;
       }

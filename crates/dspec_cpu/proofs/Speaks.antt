@@ -39,11 +39,14 @@ IsGrant x = (x ≡ reach.Granted) ⊎ ((to : SlotState) × (x ≡ reach.Done to)
 pub grants : (x : Reach) → IsGrant x → is_reached x ≡ true
 grants x g = ⊎_elim (λ (e : x ≡ reach.Granted). ap is_reached e) (λ (e : (to : SlotState) × (x ≡ reach.Done to)). ap is_reached e.1) g
 
-pub grant_deeds : (c : ℕ) (doing : Doing) (id : Speculation) (r : Record) (x : Reach) (b : Bool) → IsGrant x → doing.fits ≡ b → reached_deeds c doing (op.Speculate id r) x ≡ Speculate c id r (if b then spoken.Kept else spoken.Dropped) ∷ []
-grant_deeds c doing id r x b g is = ⊎_elim (λ (e : x ≡ reach.Granted). ap (reached_deeds c doing (op.Speculate id r)) e) (λ (e : (to : SlotState) × (x ≡ reach.Done to)). ap (reached_deeds c doing (op.Speculate id r)) e.1) g ∙ ap (λ y. Speculate c id r (if y then spoken.Kept else spoken.Dropped) ∷ []) is
+pub grant_deeds : (c : ℕ) (doing : Doing) (id : Speculation) (r : Record) (x : Reach) (b : Bool) → IsGrant x → doing.fits ≡ b
+    → reached_deeds c doing (op.Speculate id r) x ≡ Speculate c id r (if b then spoken.Kept else spoken.Dropped) ∷ []
+grant_deeds c doing id r x b g is = ⊎_elim (λ (e : x ≡ reach.Granted). ap (reached_deeds c doing (op.Speculate id r)) e)
+    (λ (e : (to : SlotState) × (x ≡ reach.Done to)). ap (reached_deeds c doing (op.Speculate id r)) e.1) g ∙ ap (λ y. Speculate c id r (if y then spoken.Kept else spoken.Dropped) ∷ []) is
 
 -- what the CPU holds of a speculation that was granted and that it isn't marked for: nothing
-pub nothing_held : (k : Config) (c : ℕ) (id : Speculation) (own p : List Deed) (mine : Bool) → c < k.cpus → IsPresentAt k c id own → bare p ≡ own → mine ≡ (mark c id.slot p == id.issue + 1) → mine ≡ false → held c id p ≡ []
+pub nothing_held : (k : Config) (c : ℕ) (id : Speculation) (own p : List Deed) (mine : Bool) → c < k.cpus → IsPresentAt k c id own → bare p ≡ own
+    → mine ≡ (mark c id.slot p == id.issue + 1) → mine ≡ false → held c id p ≡ []
 nothing_held k c id own p mine few at is marked none = unmarked_empty k c id at.log own p few at.sound at.its is at.now (sym marked ∙ none)
 
 -- the mark as the seat's own list has it
@@ -52,7 +55,8 @@ own_mark c s own p k is = (apart_bare k c p).marking s ∙ ap (mark c s) is
 
 module _ (shape : ℕ → Option Shape) (accepted : Record → Bool) (text : Record → List ℕ) {S : Type 0} (cpu : Cpu S) (p : List Deed) (was : IsShown shape accepted text cpu p) where
   -- a record that was granted nowhere
-  pub unspoken_shown : (id : Speculation) (r : Record) (f : SpeculateFate) → quiet (Speculate cpu.cpu id r f) ≡ true → spoken_granted f ≡ false → (seat : CpuSeat) (counts : Counts) → counts ≡ with_spoken f cpu.counts
+  pub unspoken_shown : (id : Speculation) (r : Record) (f : SpeculateFate) → quiet (Speculate cpu.cpu id r f) ≡ true → spoken_granted f ≡ false
+      → (seat : CpuSeat) (counts : Counts) → counts ≡ with_spoken f cpu.counts
       → IsShown shape accepted text (record cpu { seat = seat; calls = cpu.calls + 1; counts = counts }) (Speculate cpu.cpu id r f ∷ p)
   unspoken_shown id r f still nowhere seat counts plus =
       let worn : counts.worn ≡ cpu.counts.worn = ap (λ (n : Counts). n.worn) plus in

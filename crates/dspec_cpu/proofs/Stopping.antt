@@ -48,7 +48,8 @@ pub heeded : (v u w : View) → StopsWhereMet v false false u → StopsWhereMet 
 heeded v u w s = record { met = s.met; only = λ t. absurd (true≢false (sym t)) }
 
 -- a commit that copied or lost its block
-pub copied_stops : (v w : View) (a : Decided) (fit : Bool) (n : ℕ) → a ≡ (if fit then decided.Copied n else decided.Lost n) → StopsWhereMet v false false w → StopsWhereMet v (is_worn_decided a) (is_stopped_decided a) w
+pub copied_stops : (v w : View) (a : Decided) (fit : Bool) (n : ℕ) → a ≡ (if fit then decided.Copied n else decided.Lost n) → StopsWhereMet v false false w
+    → StopsWhereMet v (is_worn_decided a) (is_stopped_decided a) w
 copied_stops v w a fit n is s = subst (λ x. StopsWhereMet v (is_worn_decided x) (is_stopped_decided x) w) (sym is) (go fit)
   where
     go : (b : Bool) → StopsWhereMet v (is_worn_decided (if b then decided.Copied n else decided.Lost n)) (is_stopped_decided (if b then decided.Copied n else decided.Lost n)) w

@@ -21,7 +21,8 @@ use Rattle.dspec_cpu.specs.declared.cpu.Cpu.{Cpu}
 use Rattle.dspec_cpu.specs.Lists.{HasList, IsReady, IsSameCpu, batches_of, spare_count}
 use Rattle.dspec_cpu.specs.Reached.{Stands}
 use Rattle.dspec_cpu.specs.Sealed.{HasSized, waiting}
-use Rattle.dspec_cpu.specs.Switching.{Buffers, FindsSpare, HandsOn, Heeds, not_asked, worn_out, no_spare, held_up, switched, IsSameBeside, Switches, looked, batch_of, buffers_of, emptied, with_buffers, with_seal}
+use Rattle.dspec_cpu.specs.Switching.{Buffers, FindsSpare, HandsOn, Heeds, not_asked, worn_out, no_spare, held_up, switched}
+use Rattle.dspec_cpu.specs.Switching.{IsSameBeside, Switches, looked, batch_of, buffers_of, emptied, with_buffers, with_seal}
 use Rattle.dspec_cpu.proofs.Ready.{holder, ready_after, set_up_is}
 use Rattle.dspec_cpu.proofs.Seals.{kept_list, sealed_list}
 
@@ -121,7 +122,8 @@ module _ (shape : ℕ → Option Shape) (accepted : Record → Bool) (text : Rec
     heeded_list seat same sealed y (held_up lt below f s finds b is more) p had = kept_list shape accepted text words cpu ready seat same p had f left (Some s) (batches_left f (Some s) finds)
     heeded_list seat same sealed y (switched lt below f s finds none g last gives) p had =
         sealed_list shape accepted text words cpu ready seat same p had g last (emptied s)
-        ((passed f (Some (batch_of cpu.cpu looked_at)) g last gives).batches ∙ ap (λ bs. batch_of cpu.cpu (buffers_of cpu) ∷ bs) (ap (λ w. waiting w ++ reverse f.handed) (sym none) ∙ batches_left f (Some s) finds))
+        ((passed f (Some (batch_of cpu.cpu looked_at)) g last gives).batches ∙ ap (λ bs. batch_of cpu.cpu (buffers_of cpu) ∷ bs)
+        (ap (λ w. waiting w ++ reverse f.handed) (sym none) ∙ batches_left f (Some s) finds))
         (emptied_sized cpu.config.bufsize s ((found cpu.config.bufsize e cpu.spare f (Some s) finds).sized ready.spare s refl)) below unfilled
 
     -- the CPU has no buffer more than came to it
@@ -129,7 +131,8 @@ module _ (shape : ℕ → Option Shape) (accepted : Record → Bool) (text : Rec
     few_left = subst (λ (q : List Batch × List Batch). length q.0 + spare_count cpu.spare ≤ 1 + length q.1) (λ i. (sym batches i, sym (passed cpu.end cpu.in_hand e left hands).spares i)) ready.few
 
     few_found : (f : CpuKnows) (s : Option Stored) → FindsSpare cpu.config.bufsize e cpu.spare f s → length (waiting left ++ reverse f.handed) + spare_count s ≤ 1 + length f.spares
-    few_found f s finds = (found cpu.config.bufsize e cpu.spare f s finds).few _ (subst (λ bs. length (waiting left ++ reverse bs) + spare_count cpu.spare ≤ 1 + length e.spares) (sym (found cpu.config.bufsize e cpu.spare f s finds).handed) few_left)
+    few_found f s finds = (found cpu.config.bufsize e cpu.spare f s finds).few _
+        (subst (λ bs. length (waiting left ++ reverse bs) + spare_count cpu.spare ≤ 1 + length e.spares) (sym (found cpu.config.bufsize e cpu.spare f s finds).handed) few_left)
 
     few_after : (sealed : Bool) (y : Buffers) → Heeds cpu.config cpu.cpu ask looked_at sealed y → length (waiting y.in_hand ++ reverse y.end.handed) + spare_count y.spare ≤ 1 + length y.end.spares
     few_after sealed y (not_asked le) = few_left
@@ -155,7 +158,8 @@ module _ (shape : ℕ → Option Shape) (accepted : Record → Bool) (text : Rec
     pair_after sealed y (worn_out lt le) = refl
     pair_after sealed y (no_spare lt below f finds) = (found cpu.config.bufsize e cpu.spare f None finds).pair
     pair_after sealed y (held_up lt below f s finds b is more) = (found cpu.config.bufsize e cpu.spare f (Some s) finds).pair
-    pair_after sealed y (switched lt below f s finds none g last gives) = (passed f (Some (batch_of cpu.cpu looked_at)) g last gives).pair ∙ (found cpu.config.bufsize e cpu.spare f (Some s) finds).pair
+    pair_after sealed y (switched lt below f s finds none g last gives) =
+        (passed f (Some (batch_of cpu.cpu looked_at)) g last gives).pair ∙ (found cpu.config.bufsize e cpu.spare f (Some s) finds).pair
 
     heeded_ready : (seat : CpuSeat) → IsAt words seat → cpu_of seat ≡ cpu_of cpu.seat → LoadedAsk cpu.cpu (known cpu.seat) ask (known seat)
         → (sealed : Bool) (y : Buffers) → Heeds cpu.config cpu.cpu ask looked_at sealed y → IsReady shape accepted text words (with_buffers cpu seat y)

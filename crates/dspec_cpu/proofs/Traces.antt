@@ -2,7 +2,7 @@
 use Rattle.std.proofs.Common.{◌≡◌, ℕ, ◌+◌, ◌==◌, ◌&&◌, not, Bool, true, false, List, [], ◌∷◌, Option, if◌then◌else◌, refl, sym, ap, ◌∙◌, subst, add-zero}
 use Rattle.dspec_record.specs.Record.{Record}
 use Rattle.dspec_record.specs.declared.field.Shape.{Shape}
-use Rattle.dspec_buffer.specs.Extent.{one, fits}
+use Rattle.dspec_buffer.specs.Extent.{one, piece_fits}
 use Rattle.dspec_buffer.specs.Stored.{Stored, HasPieces}
 use Rattle.dspec_deeds.specs.declared.config.Config.{Config}
 use Rattle.dspec_deeds.specs.declared.calls.CpuOp.TheVariants as op
@@ -76,7 +76,8 @@ module _ (shape : ℕ → Option Shape) (accepted : Record → Bool) (text : Rec
       (ap (λ n. n + 1) was.side.called ∙ one_call cpu.cpu _) was.side.missed (ap (λ n. n + 1) was.side.drops ∙ one_call cpu.cpu _) (counted r traced.Dropped counts is)
 
   -- a record that was kept
-  pub kept_shown : (r : Record) (seat : CpuSeat) (b : Stored) (counts : Counts) → fits_principal shape cpu.config cpu.cpu (one r) p ≡ true → b.size ≡ cpu.active.size → HasPieces shape accepted text b (one r ∷ active cpu.cpu p)
+  pub kept_shown : (r : Record) (seat : CpuSeat) (b : Stored) (counts : Counts) → fits_principal shape cpu.config cpu.cpu (one r) p ≡ true → b.size ≡ cpu.active.size
+      → HasPieces shape accepted text b (one r ∷ active cpu.cpu p)
       → counts ≡ with_traced traced.Kept cpu.counts → IsShown shape accepted text (record cpu { seat = seat; active = b; calls = cpu.calls + 1; counts = counts }) (Trace cpu.cpu r traced.Kept ∷ p)
   kept_shown r seat b counts fit size has is = record {
     legal = (was.legal, number_is_itself cpu.cpu, sym fit);
@@ -98,12 +99,16 @@ module _ (shape : ℕ → Option Shape) (accepted : Record → Bool) (text : Rec
   }
 
   -- a record that was refused, which left the buffer as it was
-  pub refused_shown : (r : Record) (seat : CpuSeat) (b : Stored) (counts : Counts) → fits_principal shape cpu.config cpu.cpu (one r) p ≡ false → b ≡ cpu.active → counts ≡ with_traced traced.Dropped cpu.counts
+  pub refused_shown : (r : Record) (seat : CpuSeat) (b : Stored) (counts : Counts) → fits_principal shape cpu.config cpu.cpu (one r) p ≡ false → b ≡ cpu.active
+      → counts ≡ with_traced traced.Dropped cpu.counts
       → IsShown shape accepted text (record cpu { seat = seat; active = b; calls = cpu.calls + 1; drops = cpu.drops + 1; counts = counts }) (Trace cpu.cpu r traced.Dropped ∷ p)
   refused_shown r seat b counts fit same is =
-      subst (λ (b : Stored). IsShown shape accepted text (record cpu { seat = seat; active = b; calls = cpu.calls + 1; drops = cpu.drops + 1; counts = counts }) (Trace cpu.cpu r traced.Dropped ∷ p)) (sym same) (dropped_shown r seat counts fit is)
+      subst (λ (b : Stored). IsShown shape accepted text (record cpu { seat = seat; active = b; calls = cpu.calls + 1; drops = cpu.drops + 1; counts = counts })
+      (Trace cpu.cpu r traced.Dropped ∷ p)) (sym same) (dropped_shown r seat counts fit is)
 
   -- what was told of the record before is what the buffer then answered, which may be shut
-  pub as_kept : (r : Record) (fit shut kept : Bool) → fit ≡ fits_principal shape cpu.config cpu.cpu (one r) p → shut ≡ is_closed cpu.config cpu.cpu p → kept ≡ (fits shape (active cpu.cpu p) (one r) cpu.active.size && not shut) → fit ≡ kept
+  pub as_kept : (r : Record) (fit shut kept : Bool) → fit ≡ fits_principal shape cpu.config cpu.cpu (one r) p → shut ≡ is_closed cpu.config cpu.cpu p
+      → kept ≡ (piece_fits shape (active cpu.cpu p) (one r) cpu.active.size && not shut) → fit ≡ kept
   as_kept r fit shut kept told closed is =
-      told ∙ sym (is ∙ (ap (λ n. fits shape (active cpu.cpu p) (one r) n && not shut) was.side.principal.sized ∙ ap (λ b. fits shape (active cpu.cpu p) (one r) cpu.config.bufsize && not b) closed))
+      told ∙ sym (is ∙ (ap (λ n. piece_fits shape (active cpu.cpu p) (one r) n && not shut) was.side.principal.sized
+      ∙ ap (λ b. piece_fits shape (active cpu.cpu p) (one r) cpu.config.bufsize && not b) closed))

@@ -11,6 +11,7 @@ use Rattle.dspec_deeds.specs.FateKinds.{trace_kept, trace_dropped, trace_stopped
 use Rattle.dspec_deeds.specs.Own.{offers, is_drop}
 use Rattle.dspec_deeds.specs.Reports.{total, one_if, accepts_now, drops_now, specdrops_now, loses_now, discards_now, voids_now, stops_now, busy_fails, other_fails}
 use Rattle.dspec_cpu.specs.declared.counts.Counts.{Counts}
+use Rattle.dspec_cpu.specs.Stops.{is_stopped_opening}
 
 -- the counts of a list, and of so many calls that were answered Worn
 abbrev pub counts_of : Config → ℕ → ℕ → List Deed → Counts
@@ -73,10 +74,6 @@ is_unavailable a = false
 abbrev pub is_busy_answer : Opening → Bool
 is_busy_answer opening.Busy = true
 is_busy_answer a = false
-
-abbrev pub is_stopped_opening : Opening → Bool
-is_stopped_opening opening.Stopped = true
-is_stopped_opening a = false
 
 -- the counts with one call of speculation more
 abbrev pub with_opening : Opening → Counts → Counts

@@ -20,7 +20,7 @@ use Rattle.dspec_deeds.specs.History.{issue, part, word_at}
 use Rattle.dspec_deeds.specs.Legal.{IsSound}
 use Rattle.dspec_table.specs.declared.rule.View.{View}
 use Rattle.dspec_table.specs.declared.doing.Doing.{Doing}
-use Rattle.dspec_table.specs.Acts.{commit_fate}
+use Rattle.dspec_table.specs.Acts.{fate_of_commit}
 use Rattle.dspec_table.specs.Conditions.{IsInFlight, IfCommitting, OwnCommit}
 use Rattle.dspec_table.specs.Steps.{TriedWord}
 use Rattle.dspec_cpu.specs.declared.reaching.Reach.{Reach}
@@ -67,7 +67,7 @@ pub record Shown (k : Config) (c : ℕ) (doing : Doing) (id : Speculation) (slot
   pub last : TriedWord doing slot before word hit w
 
 -- the steps on the word ended so: at a word that the table doesn't attempt, or by an exchange that it attempts
-pub record Ended (k : Config) (c : ℕ) (doing : Doing) (id : Speculation) (slot : ℕ) (v : View) (act : Act) (w : View) : Type 0 where
+pub record EndsAtWord (k : Config) (c : ℕ) (doing : Doing) (id : Speculation) (slot : ℕ) (v : View) (act : Act) (w : View) : Type 0 where
   pub word : SlotState
   pub acts : act_of doing.op word doing.mine ≡ act
   pub last : Shown k c doing id slot v word (is_attempt act) w
@@ -85,7 +85,7 @@ reached_deeds c doing (op.Speculate id r) reach.Void = Speculate c id r spoken.V
 reached_deeds c doing (op.Speculate id r) x = Speculate c id r (if doing.fits then spoken.Kept else spoken.Dropped) ∷ []
 reached_deeds c doing (op.Commit id) reach.Stopped = Commit c id decided.Stopped ∷ []
 reached_deeds c doing (op.Commit id) reach.Void = Commit c id decided.Void ∷ []
-reached_deeds c doing (op.Commit id) x = Commit c id (commit_fate doing) ∷ []
+reached_deeds c doing (op.Commit id) x = Commit c id (fate_of_commit doing) ∷ []
 reached_deeds c doing (op.Discard id) reach.Stopped = Discard c id decided.Stopped ∷ []
 reached_deeds c doing (op.Discard id) reach.Void = Discard c id decided.Void ∷ []
 reached_deeds c doing (op.Discard id) (reach.Done to) = if is_inactive to.code then Release id.slot ∷ Discard c id (decided.Thrown doing.count) ∷ [] else Discard c id (decided.Thrown doing.count) ∷ []

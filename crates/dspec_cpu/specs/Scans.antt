@@ -23,7 +23,7 @@ IsGivenAt slot (look.Given id) = id.slot ≡ slot
 IsGivenAt slot (look.Missed busy) = Unit {0}
 
 -- one slot of a scan
-pub record Looked (k : Config) (c slot : ℕ) (v : View) (x : Look) (w : View) : Type 0 where
+pub record LookedAtSlot (k : Config) (c slot : ℕ) (v : View) (x : Look) (w : View) : Type 0 where
   pub goes : Goes v (look_deed c slot x ∷ []) w
   pub stands : Stands k c v (look_deed c slot x ∷ []) w
   pub bounded : w.steps ≤ v.steps + 2

@@ -25,7 +25,7 @@ use Rattle.dspec_deeds.specs.Settling as settling
 use Rattle.dspec_deeds.specs.Weaving.{bare}
 use Rattle.dspec_table.specs.declared.doing.Doing.{Doing}
 use Rattle.dspec_table.specs.declared.rule.View.{View}
-use Rattle.dspec_table.specs.Acts.{settle_fate}
+use Rattle.dspec_table.specs.Acts.{fate_of_settlement}
 use Rattle.dspec_table.specs.Steps.{LoadedWord, SettledWord}
 use Rattle.dspec_cpu.specs.declared.counts.Counts.{Counts}
 use Rattle.dspec_cpu.specs.declared.cpu.Cpu.{Cpu}
@@ -45,7 +45,7 @@ serving fit n mine = record { op = op.Service; fits = fit; count = n; mine = min
 abbrev pub SettledBehind : Bool → ℕ → ℕ → SlotState → View → List Deed → View → Type 0
 SettledBehind false c slot shown v ds w = (ds ≡ []) × (v ≡ w)
 SettledBehind true c slot shown v ds w =
-    (doing : Doing) × (doing.op ≡ op.Service) × (ds ≡ Settle c (shown_at slot shown) (settle_fate doing shown.code) ∷ [])
+    (doing : Doing) × (doing.op ≡ op.Service) × (ds ≡ Settle c (shown_at slot shown) (fate_of_settlement doing shown.code) ∷ [])
     × SettledWord doing (shown_at slot shown) shown.code v w
 
 -- one slot of a service: its word is loaded, and settled exactly where the table grants it to the CPU's acknowledgement
@@ -114,5 +114,5 @@ module _ (shape : ℕ → Option Shape) (accepted : Record → Bool) (text : Rec
 
   -- the block is settled: as the code says, by whether it fits and how many records it has; and the Settle is shown too
   pub record BlockSettled (k : Config) (c : ℕ) (new : SideParts Stored) (now : Counts) (batches : List Batch) (id : Speculation) (code : Code) (doing : Doing) (p : List Deed) : Type 0 where
-    pub fate : settle_fate doing code ≡ settling.settle_fate shape k c p id code
+    pub fate : fate_of_settlement doing code ≡ settling.settle_fate shape k c p id code
     pub shown : AreShown shape accepted text k c new batches now (Settle c id (settling.settle_fate shape k c p id code) ∷ p)

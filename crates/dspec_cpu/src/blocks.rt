@@ -1,7 +1,7 @@
 ghost use Rattle.std.specs.Prelude.{◌≡◌, ◌<◌, ◌+◌, true, List, [], ◌∷◌, length, map, Some, slice_get, slice_set, ℕ, Option, if◌then◌else◌};
 ghost use Rattle.dspec_record.specs.Record.{Record};
 ghost use Rattle.dspec_record.specs.declared.field.Shape.{Shape};
-ghost use Rattle.dspec_buffer.specs.Extent.{Piece, one, block, fits};
+ghost use Rattle.dspec_buffer.specs.Extent.{Piece, one, block, piece_fits};
 ghost use Rattle.dspec_buffer.specs.Stored.{Stored};
 ghost use Rattle.dspec_deeds.specs.declared.deed.Deed.{Deed};
 ghost use Rattle.dspec_deeds.specs.History.{in_range};
@@ -27,7 +27,7 @@ pub(crate) fn measure<S: Schema>(
     mine: bool,
 ) -> (bool, u32)
     ensures fits { (s : S) (ps : List Piece) (rs : List Record) → ⟦<ByteBuffer as TraceBuffer<S>>⟧.has active.now s ps → ⟦<ByteBuffer as TraceBuffer<S>>⟧.has buffer.now s (map one rs)
-        → result.0 ≡ fits (S.shape_of s) ps (block (if mine then rs else [])) active.now.size }
+        → result.0 ≡ piece_fits (S.shape_of s) ps (block (if mine then rs else [])) active.now.size }
     ensures count { (s : S) (rs : List Record) → ⟦<ByteBuffer as TraceBuffer<S>>⟧.has buffer.now s (map one rs) → result.1 ≡ length (if mine then rs else []) }
 {
     if !mine {
@@ -50,7 +50,7 @@ pub(crate) fn end_block<S: Schema>(
     ensures size { active.new.size ≡ active.old.size }
     ensures active { (s : S) (ps : List Piece) (rs : List Record) (b : Stored) → slice_get buffers.old.items place ≡ Some b
         → ⟦<ByteBuffer as TraceBuffer<S>>⟧.has active.old s ps → ⟦<ByteBuffer as TraceBuffer<S>>⟧.has b s (map one rs)
-        → (fit ≡ true → fits (S.shape_of s) ps (block (if mine then rs else [])) active.old.size ≡ true)
+        → (fit ≡ true → piece_fits (S.shape_of s) ps (block (if mine then rs else [])) active.old.size ≡ true)
         → ⟦<ByteBuffer as TraceBuffer<S>>⟧.has active.new s (if fit then block (if mine then rs else []) ∷ ps else ps) }
     ensures buffer { (b : Stored) → slice_get buffers.old.items place ≡ Some b
         → (n : Stored) × (n.size ≡ b.size) × (buffers.new.items ≡ slice_set buffers.old.items place n)
@@ -70,7 +70,7 @@ pub(crate) fn end_block<S: Schema>(
 // empty one.
 fn takes(config: &Config, counts: &Counts, room: bool, count: u32) -> bool
     ensures { (shape : ℕ → Option Shape) (c worn : ℕ) (p : List Deed) (rs : List Record) → counts.now ≡ counts_of config.now c worn p → count ≡ length rs
-        → room ≡ fits shape (active c p) (block rs) config.now.bufsize → result ≡ fits_principal shape config.now c (block rs) p }
+        → room ≡ piece_fits shape (active c p) (block rs) config.now.bufsize → result ≡ fits_principal shape config.now c (block rs) p }
 {
     let shut = is_shut(config, counts);
     room && (count == 0 || !shut)

@@ -1,6 +1,6 @@
 ghost use Rattle.std.specs.Prelude.{◌≡◌, ◌&&◌, ℕ, not, true, List, [], ◌∷◌, IsTrue, if◌then◌else◌};
 ghost use Rattle.std.specs.Bool.{OnTrue, OnFalse};
-ghost use Rattle.dspec_buffer.specs.Extent.{Piece, one, fits};
+ghost use Rattle.dspec_buffer.specs.Extent.{Piece, one, piece_fits};
 ghost use Rattle.dspec_deeds.specs.declared.deed.Deed.{Deed};
 ghost use Rattle.dspec_deeds.specs.Legal.{fits_principal, is_closed};
 ghost use Rattle.dspec_cpu.specs.Counting.{counts_of};
@@ -17,7 +17,7 @@ use dspec_record::{Rec, Schema};
 pub(crate) fn would_fit<S: Schema>(buffer: &ByteBuffer, schema: &S, rec: &Rec) -> bool
     requires accepted { IsTrue (S.accepted schema.now rec.now) }
     ensures { (ps : List Piece) → ⟦<ByteBuffer as TraceBuffer<S>>⟧.has buffer.now schema.now ps
-        → result ≡ fits (S.shape_of schema.now) ps (one rec.now) buffer.now.size }
+        → result ≡ piece_fits (S.shape_of schema.now) ps (one rec.now) buffer.now.size }
 {
     // An accepted record has a shape. Told so, where nobody asks for the answer no running code is left of the question.
     let Some(shape) = schema.shape(rec.epid()) else {
@@ -49,7 +49,7 @@ impl<S: Schema> Cpu<S> {
 /// Whether a record would fit an empty buffer of this size.
 pub(crate) fn would_fit_empty<S: Schema>(schema: &S, rec: &Rec, size: u32) -> bool
     requires accepted { IsTrue (S.accepted schema.now rec.now) }
-    ensures { result ≡ fits (S.shape_of schema.now) [] (one rec.now) size }
+    ensures { result ≡ piece_fits (S.shape_of schema.now) [] (one rec.now) size }
 {
     let Some(shape) = schema.shape(rec.epid()) else {
         return false;
@@ -64,7 +64,7 @@ pub(crate) fn keep_in<S: Schema>(buffer: &mut ByteBuffer, schema: &S, rec: &Rec,
     requires accepted { IsTrue (S.accepted schema.now rec.now) }
     ensures size { buffer.new.size ≡ buffer.old.size }
     ensures answer { (ps : List Piece) → ⟦<ByteBuffer as TraceBuffer<S>>⟧.has buffer.old schema.now ps
-        → result ≡ fits (S.shape_of schema.now) (if mine then ps else []) (one rec.now) buffer.old.size }
+        → result ≡ piece_fits (S.shape_of schema.now) (if mine then ps else []) (one rec.now) buffer.old.size }
     ensures has { (ps : List Piece) → ⟦<ByteBuffer as TraceBuffer<S>>⟧.has buffer.old schema.now ps
         → ⟦<ByteBuffer as TraceBuffer<S>>⟧.has buffer.new schema.now (if result then one rec.now ∷ (if mine then ps else []) else (if mine then ps else [])) }
 {
@@ -85,7 +85,7 @@ pub(crate) fn keep_open<S: Schema>(
     requires accepted { IsTrue (S.accepted schema.now rec.now) }
     ensures size { active.new.size ≡ active.old.size }
     ensures answer { (ps : List Piece) → ⟦<ByteBuffer as TraceBuffer<S>>⟧.has active.old schema.now ps
-        → result ≡ (fits (S.shape_of schema.now) ps (one rec.now) active.old.size && not shut) }
+        → result ≡ (piece_fits (S.shape_of schema.now) ps (one rec.now) active.old.size && not shut) }
     ensures kept { OnTrue result ((ps : List Piece) → ⟦<ByteBuffer as TraceBuffer<S>>⟧.has active.old schema.now ps
         → ⟦<ByteBuffer as TraceBuffer<S>>⟧.has active.new schema.now (one rec.now ∷ ps)) }
     ensures refused { OnFalse result (active.new ≡ active.old) }

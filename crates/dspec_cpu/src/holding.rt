@@ -1,5 +1,5 @@
 ghost use Rattle.std.specs.Prelude.{◌≡◌, ◌<◌, ◌≤◌, ◌+◌, ◌-◌, ◌==◌, true, List, [], ◌∷◌, length, map, IsTrue, Some, slice_get, slice_set, if◌then◌else◌};
-ghost use Rattle.dspec_buffer.specs.Extent.{Piece, one, fits};
+ghost use Rattle.dspec_buffer.specs.Extent.{Piece, one, piece_fits};
 ghost use Rattle.dspec_buffer.specs.Stored.{Stored};
 ghost use Rattle.dspec_deeds.specs.declared.deed.Deed.{Deed};
 ghost use Rattle.dspec_deeds.specs.History.{in_range};
@@ -38,7 +38,7 @@ impl<S: Schema> Cpu<S> {
         requires some { (p : List Deed) × ⟦<Cpu<S> as Listed>⟧.is_shown self.now p }
         requires accepted { IsTrue (S.accepted self.now.schema rec.now) }
         ensures { inside ≡ true → (p : List Deed) → ⟦<Cpu<S> as Listed>⟧.is_shown self.now p → (mine ≡ true → mark self.now.cpu id.slot p ≡ id.issue + 1)
-            → result ≡ fits (S.shape_of self.now.schema) (map one (if mine then contents (held self.now.cpu id p) else [])) (one rec.now) self.now.config.specsize }
+            → result ≡ piece_fits (S.shape_of self.now.schema) (map one (if mine then contents (held self.now.cpu id p) else [])) (one rec.now) self.now.config.specsize }
     {
         if !inside {
             return false;
@@ -69,7 +69,7 @@ pub(crate) fn grant<S: Schema>(
     ensures buffer { (b : Stored) → slice_get buffers.old.items (id.slot - 1) ≡ Some b
         → (n : Stored) × (n.size ≡ b.size) × (buffers.new.items ≡ slice_set buffers.old.items (id.slot - 1) n)
         × ((ps : List Piece) → ⟦<ByteBuffer as TraceBuffer<S>>⟧.has b schema.now ps
-        → (result ≡ fits (S.shape_of schema.now) (if mine then ps else []) (one rec.now) b.size)
+        → (result ≡ piece_fits (S.shape_of schema.now) (if mine then ps else []) (one rec.now) b.size)
         × ⟦<ByteBuffer as TraceBuffer<S>>⟧.has n schema.now (if result then one rec.now ∷ (if mine then ps else []) else (if mine then ps else []))) }
 {
     let place = id.slot() as usize - 1;

@@ -6,7 +6,7 @@ ghost use Rattle.dspec_table.specs.Steps.{TriedWord};
 ghost use Rattle.dspec_table.specs.Seats.{known, IsAt, set_up, cpu_of};
 ghost use Rattle.dspec_word.specs.Word.{word_number, CanBeReleased};
 ghost use Rattle.dspec_cpu.specs.Reached.{Reached};
-ghost use Rattle.dspec_cpu.specs.Reaching.{act_of, act_reached, Ended, OwnsCommit};
+ghost use Rattle.dspec_cpu.specs.Reaching.{act_of, act_reached, EndsAtWord, OwnsCommit};
 
 use dspec_deeds::CpuOp;
 use dspec_table::{CpuSeat, Doing, Words};
@@ -72,7 +72,7 @@ fn work(seat: &mut CpuSeat, words: &Words, slot: u32, _id: SpecId, doing: &Doing
     requires on { IsOn _id doing.now.op }
     requires call { IsInFlight (set_up words.now) (known seat.old) (cpu_of seat.old) doing.now _id slot }
     ensures seat { IsAt words.now seat.new × (cpu_of seat.new ≡ cpu_of seat.old) }
-    ensures ended { Ended (set_up words.now) (cpu_of seat.old) doing.now _id slot (known seat.old) result (known seat.new) }
+    ensures ended { EndsAtWord (set_up words.now) (cpu_of seat.old) doing.now _id slot (known seat.old) result (known seat.new) }
     ensures release { OwnsCommit (set_up words.now) (cpu_of seat.new) slot (known seat.new) result }
 {
     let mut word = seat.load_word(words, slot, doing);

@@ -2,7 +2,7 @@ ghost use Rattle.std.specs.Prelude.{◌≡◌, ◌≤◌, ◌^◌, false, if◌t
 ghost use Rattle.dspec_deeds.specs.History.{scan};
 ghost use Rattle.dspec_table.specs.Seats.{known, IsAt, set_up, cpu_of};
 ghost use Rattle.dspec_word.specs.Code.{is_decided};
-ghost use Rattle.dspec_cpu.specs.Scans.{Looked, Scanned};
+ghost use Rattle.dspec_cpu.specs.Scans.{LookedAtSlot, Scanned};
 
 use dspec_deeds::{Config, CpuOp, Opening};
 use dspec_table::{CpuSeat, Doing, Words};
@@ -44,7 +44,7 @@ fn look_at(seat: &mut CpuSeat, words: &Words, slot: u32, max_issues: u64) -> Loo
     requires most { (max_issues ≡ (set_up words.now).max_issues) × (max_issues ≤ 2 ^ 57) }
     requires came { (scan (set_up words.now) (cpu_of seat.old) (known seat.old).own ≡ slot) × ((known seat.old).flight ≡ Some CpuOp.Speculation) }
     ensures seat { IsAt words.now seat.new × (cpu_of seat.new ≡ cpu_of seat.old) }
-    ensures looked { Looked (set_up words.now) (cpu_of seat.old) slot (known seat.old) result (known seat.new) }
+    ensures looked { LookedAtSlot (set_up words.now) (cpu_of seat.old) slot (known seat.old) result (known seat.new) }
 {
     let doing = asking();
     let word = seat.load_word(words, slot, &doing);

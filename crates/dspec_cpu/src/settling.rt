@@ -7,11 +7,11 @@ ghost use Rattle.dspec_deeds.specs.History.{word_at};
 ghost use Rattle.dspec_deeds.specs.OwnShown.{SideParts};
 ghost use Rattle.dspec_play.specs.OwnClose.{own_closed_slot};
 ghost use Rattle.dspec_word.specs.Code.{awaits};
-ghost use Rattle.dspec_table.specs.Acts.{settle_fate};
+ghost use Rattle.dspec_table.specs.Acts.{fate_of_settlement};
 ghost use Rattle.dspec_table.specs.Last.{last_words};
 ghost use Rattle.dspec_table.specs.Seats.{known};
 ghost use Rattle.dspec_cpu.specs.Lists.{IsSameCpu, config_of, number_in, seat_of, worn_of};
-ghost use Rattle.dspec_cpu.specs.Rests.{AreItsWords, CanClose, IsSameRest, config_of_rest, number_of_rest, schema_of_rest};
+ghost use Rattle.dspec_cpu.specs.Rests.{AreItsWords, CanCloseBehind, IsSameRest, config_of_rest, number_of_rest, schema_of_rest};
 ghost use Rattle.dspec_cpu.specs.Settled.{BlockSettled, CanSettle, KeepsBatches, Settled, SlotDone, serving, shown_at, with_parts};
 
 use crate::blocks::{end_block, measure_block};
@@ -41,7 +41,7 @@ pub(crate) fn serve(fits: bool, count: u32, mine: bool) -> Doing
 
 // What becomes of the block, by the code of the word that was shown.
 fn fate_at(code: Code, doing: &Doing) -> DecideFate
-    ensures { result ≡ settle_fate doing.now code }
+    ensures { result ≡ fate_of_settlement doing.now code }
 {
     match code {
         Code::Discarding => DecideFate::Thrown(doing.count),
@@ -165,10 +165,10 @@ impl<S: Schema> CpuRest<S> {
         requires words { AreItsWords last.now (config_of_rest self.old) (number_of_rest self.old) }
         requires slot { (1 ≤ slot) × (slot ≤ (config_of_rest self.old).nspec) }
         requires some { (handed : List Batch) × (p : List Deed) × (log : List Deed) × (now : List Deed) × ⟦<CpuRest<S> as Rested>⟧.has_list self.old handed p
-            × CanClose (config_of_rest self.old) (number_of_rest self.old) slot (last_words last.now) log now p }
+            × CanCloseBehind (config_of_rest self.old) (number_of_rest self.old) slot (last_words last.now) log now p }
         ensures same { IsSameRest self.old self.new }
         ensures list { (handed : List Batch) (p log now : List Deed) → ⟦<CpuRest<S> as Rested>⟧.has_list self.old handed p
-            → CanClose (config_of_rest self.old) (number_of_rest self.old) slot (last_words last.now) log now p
+            → CanCloseBehind (config_of_rest self.old) (number_of_rest self.old) slot (last_words last.now) log now p
             → ⟦<CpuRest<S> as Rested>⟧.has_list self.new handed (own_closed_slot (S.shape_of (schema_of_rest self.old)) (config_of_rest self.old) (λ s. word_at s log) (number_of_rest self.old) slot p) }
     {
         // Read for its range: no count is above it.

@@ -66,7 +66,8 @@ taken_ruled k c (Settle a j g) h id f s m t =
 taken_ruled k c d h id f s m t = off (same_id id id) (id_is_itself id) (sym (m.empty id))
 
 -- a record stays so placed when a buffer is emptied
-placed_emptied : (c : ℕ) (d : Deed) (h : List Deed) (id : Speculation) (f : Fate) → Empties c d h id f → (is_taken f ≡ true → has_commit id (d ∷ h) ≡ true) → (g : Option Fate) (x : Option Speculation) → Placed g x h → Placed (option_map (settled_as id f) g) x (d ∷ h)
+placed_emptied : (c : ℕ) (d : Deed) (h : List Deed) (id : Speculation) (f : Fate) → Empties c d h id f → (is_taken f ≡ true → has_commit id (d ∷ h) ≡ true)
+    → (g : Option Fate) (x : Option Speculation) → Placed g x h → Placed (option_map (settled_as id f) g) x (d ∷ h)
 placed_emptied c d h id f m ruled None x p = tt
 placed_emptied c d h id f m ruled (Some taken) x p = placed_still (Some taken) x d h p
 placed_emptied c d h id f m ruled (Some dropped) x p = tt
@@ -115,7 +116,8 @@ taken_committed (Some void) x h id p e le = absurd (omega arith)
 taken_committed (Some (waiting j)) x h id p e le = absurd (omega arith)
 
 -- what was accepted and offered to a speculation was committed
-accepted_committed : (shape : ℕ → Option Shape) (k : Config) (c : ℕ) (h : List Deed) → IsAllowed shape k h → (j : ℕ) (id : Speculation) → destination c j h ≡ Some id → 1 ≤ times j (accepted c h) → has_commit id h ≡ true
+accepted_committed : (shape : ℕ → Option Shape) (k : Config) (c : ℕ) (h : List Deed) → IsAllowed shape k h → (j : ℕ) (id : Speculation) → destination c j h ≡ Some id
+    → 1 ≤ times j (accepted c h) → has_commit id h ≡ true
 accepted_committed shape k c h l j id e le =
     taken_committed (fate c j h) (destination c j h) h id (placed shape k c j h l) e (let same = times_taken c j h (legal_accounts shape k c h l) in omega arith)
 

@@ -14,7 +14,8 @@ use Rattle.dspec_deeds.proofs.SoundLists.{issue_grows}
 use Rattle.dspec_deeds.proofs.WordChanges.{ack_stays}
 
 -- the settlement that a test found
-settlement : (c s : ℕ) (d : Deed) (h : List Deed) (k : Config) → IsSound k (d ∷ h) → acks c s d ≡ true → (ack c s (d ∷ h) ≡ issue s h + 1) × (settles c (present s h) d ≡ true) × (issue s (d ∷ h) ≡ issue s h)
+settlement : (c s : ℕ) (d : Deed) (h : List Deed) (k : Config) → IsSound k (d ∷ h) → acks c s d ≡ true
+    → (ack c s (d ∷ h) ≡ issue s h + 1) × (settles c (present s h) d ≡ true) × (issue s (d ∷ h) ≡ issue s h)
 settlement c s (Settle a id f) h k sound t =
     let both = and_tells (c == a) (s == id.slot) t in
     let slot = same_number s id.slot both.1 in

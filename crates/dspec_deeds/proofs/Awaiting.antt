@@ -8,7 +8,8 @@ use Rattle.dspec_deeds.specs.declared.config.Config.{Config}
 use Rattle.dspec_deeds.specs.declared.deed.DecideFate.{DecideFate}
 use Rattle.dspec_deeds.specs.declared.deed.Deed.{Deed}
 use Rattle.dspec_deeds.specs.FateKinds.{is_commit, is_discard}
-use Rattle.dspec_deeds.specs.History.{present, opened, Verdict, undecided, committed, discarded, verdict, is_undecided, callers, standing, active_code, is_sole, is_sole_or_none, word_at, is_busy, solo, solo_of, owed}
+use Rattle.dspec_deeds.specs.History.{present, opened, Verdict, undecided, committed, discarded, verdict, is_undecided, callers}
+use Rattle.dspec_deeds.specs.History.{standing, active_code, is_sole, is_sole_or_none, word_at, is_busy, solo, solo_of, owed}
 use Rattle.dspec_deeds.specs.Legal.{SettlesAs, IsSound}
 use Rattle.dspec_deeds.proofs.TestLemmas.{either_way, off, and_tells}
 use Rattle.dspec_deeds.proofs.WordCodes.{decided_awaits}
@@ -40,7 +41,8 @@ awaiting k s h c sound rests is a = go (opened (present s h) h) (verdict (presen
     many true e = absurd (true≢false (sym a ∙ ap awaits (sym e)))
     many false e = refl
 
-    go : (o : Bool) (v : Verdict) (cs : List ℕ) → opened (present s h) h ≡ o → verdict (present s h) h ≡ v → callers (present s h) h ≡ cs → (if opened (present s h) h then standing (verdict (present s h) h) (callers (present s h) h) else Inactive) ≡ c → IsAwaiting s h c
+    go : (o : Bool) (v : Verdict) (cs : List ℕ) → opened (present s h) h ≡ o → verdict (present s h) h ≡ v → callers (present s h) h ≡ cs
+        → (if opened (present s h) h then standing (verdict (present s h) h) (callers (present s h) h) else Inactive) ≡ c → IsAwaiting s h c
     go false v cs eo ev ec e = absurd (true≢false (sym a ∙ ap awaits (sym e ∙ ap (λ b. if b then standing (verdict (present s h) h) (callers (present s h) h) else Inactive) eo)))
     go true undecided cs eo ev ec e =
         let shown : active_code cs ≡ c = sym (λ i. if eo i then standing (ev i) (ec i) else Inactive) ∙ e in

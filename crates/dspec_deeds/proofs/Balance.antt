@@ -17,7 +17,8 @@ one_fate void n = omega arith
 one_fate (waiting id) n = omega arith
 
 -- what the counts of a deed add up to
-counted : (c : ℕ) (d : Deed) (f : Fate) (n : ℕ) → Counts c d f n → accepts_now c d + drops_now c d + specdrops_now c d + loses_now c d + discards_now c d + voids_now c d + (if is_waiting f then n else 0) ≡ n
+counted : (c : ℕ) (d : Deed) (f : Fate) (n : ℕ) → Counts c d f n
+    → accepts_now c d + drops_now c d + specdrops_now c d + loses_now c d + discards_now c d + voids_now c d + (if is_waiting f then n else 0) ≡ n
 counted c d f n s =
     let a = s.accepts in
     let b = s.drops in
@@ -53,6 +54,7 @@ balance k c worn (d ∷ h) l = step (l.1) (balance k c worn h l.0)
         let gone = m.gone in
         rw m.offered (last gone n less)
       where
-        last : is_waiting f ≡ false → accepts_now c d + drops_now c d + specdrops_now c d + loses_now c d + discards_now c d + voids_now c d + (if is_waiting f then length (held c i h) else 0) ≡ length (held c i h)
+        last : is_waiting f ≡ false → accepts_now c d + drops_now c d + specdrops_now c d + loses_now c d + discards_now c d + voids_now c d +
+            (if is_waiting f then length (held c i h) else 0) ≡ length (held c i h)
             → length (speculative c (d ∷ h)) + length (held c i h) ≡ length (speculative c h) → offers c h + 0 ≡ records_of_report (report k c worn (d ∷ h))
         last g n less = let all : accepts_now c d + drops_now c d + specdrops_now c d + loses_now c d + discards_now c d + voids_now c d + 0 ≡ length (held c i h) = rw g at n in omega arith

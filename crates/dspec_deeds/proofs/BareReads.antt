@@ -5,7 +5,8 @@ use Rattle.dspec_deeds.specs.declared.config.Config.{Config}
 use Rattle.dspec_deeds.specs.declared.deed.Deed.{Deed}
 use Rattle.dspec_deeds.specs.declared.deed.Deed.TheVariants.{Trace, Scan, Opened, Miss, Speculate, Commit, Discard, Settle, Seal, Release, Halt}
 use Rattle.dspec_deeds.specs.FateKinds.{is_discard}
-use Rattle.dspec_deeds.specs.History.{halted, is_halt, issue, releases, opened, opens, verdict, ruling, latest, callers, calls_on, joined, is_sole, solo, solo_of, present, settled, settles, scan, scanned, opened_since, is_scan, opens_slot, owing, author, releaser, code_at, standing, word_at, ack, acks, issue_of}
+use Rattle.dspec_deeds.specs.History.{halted, is_halt, issue, releases, opened, opens, verdict, ruling, latest, callers, calls_on, joined, is_sole, solo, solo_of, present}
+use Rattle.dspec_deeds.specs.History.{settled, settles, scan, scanned, opened_since, is_scan, opens_slot, owing, author, releaser, code_at, standing, word_at, ack, acks, issue_of}
 use Rattle.dspec_word.specs.declared.code.Code.TheVariants.{Inactive}
 use Rattle.dspec_deeds.specs.Legal.{is_seal}
 use Rattle.dspec_deeds.proofs.TestLemmas.{either_way}
@@ -17,7 +18,8 @@ seal_is (Seal c) e = (c, refl)
 seal_is d e = absurd (true≢false (sym e))
 
 -- what is read off deed by deed, and passes over Seals, reads the same off the bare list
-pub reads_bare : {A : Type 0} (F : List Deed → A) (step : Deed → A → A) → ((d : Deed) (h : List Deed) → F (d ∷ h) ≡ step d (F h)) → ((c : ℕ) (x : A) → step (Seal c) x ≡ x) → (h : List Deed) → F h ≡ F (bare h)
+pub reads_bare : {A : Type 0} (F : List Deed → A) (step : Deed → A → A) → ((d : Deed) (h : List Deed) → F (d ∷ h) ≡ step d (F h)) → ((c : ℕ) (x : A) → step (Seal c) x ≡ x)
+    → (h : List Deed) → F h ≡ F (bare h)
 reads_bare F step each over [] = refl
 reads_bare F step each over (d ∷ h) = ⊎_elim
     (λ (t : is_seal d ≡ true).

@@ -13,7 +13,9 @@ use Rattle.dspec_deeds.specs.declared.deed.DecideFate.TheVariants as decided
 use Rattle.dspec_deeds.specs.declared.deed.Deed.{Deed}
 use Rattle.dspec_deeds.specs.declared.deed.Deed.TheVariants.{Trace, Speculate, Commit, Discard, Settle, Release, Halt}
 use Rattle.dspec_deeds.specs.FateKinds.{trace_stopped, spoken_stopped, spoken_granted, decided_stopped, is_commit, is_discard}
-use Rattle.dspec_deeds.specs.History.{same_id, halted, is_halt, issue, releases, present, opened, opens, Verdict, undecided, committed, discarded, verdict, ruling, latest, callers, calls_on, joined, is_sole, solo, solo_of, settled, settles, scan, scanned, opened_since, is_scan, opens_slot, owed, author, releaser, same_actor, late, code_at, standing, word_at, ack, acks, issue_of}
+use Rattle.dspec_deeds.specs.History.{same_id, halted, is_halt, issue, releases, present, opened, opens, Verdict, undecided, committed, discarded, verdict}
+use Rattle.dspec_deeds.specs.History.{ruling, latest, callers, calls_on, joined, is_sole, solo, solo_of, settled, settles, scan, scanned, opened_since}
+use Rattle.dspec_deeds.specs.History.{is_scan, opens_slot, owed, author, releaser, same_actor, late, code_at, standing, word_at, ack, acks, issue_of}
 use Rattle.dspec_deeds.specs.Legal.{Facts, facts, SettlesAs, AnswersBy, FollowsBy, IsSound, HasAuthors}
 use Rattle.dspec_deeds.specs.CommonDeeds.{common_traced, common_spoken, common_decided, common_deed, common_deeds, IsSameInCommon, AreSameInCommon}
 use Rattle.dspec_deeds.specs.Weaving.{ShowsAlike}
@@ -92,7 +94,8 @@ of_issue Halt = refl
 of_issue d = refl
 
 -- What is read off deed by deed, each deed adding the same.
-reads_common : {A : Type 0} (F : List Deed → A) (step : Deed → A → A) → ((d : Deed) (h : List Deed) → F (d ∷ h) ≡ step d (F h)) → ((d : Deed) (x : A) → step (common_deed d) x ≡ step d x) → (h : List Deed) → F (common_deeds h) ≡ F h
+reads_common : {A : Type 0} (F : List Deed → A) (step : Deed → A → A) → ((d : Deed) (h : List Deed) → F (d ∷ h) ≡ step d (F h))
+    → ((d : Deed) (x : A) → step (common_deed d) x ≡ step d x) → (h : List Deed) → F (common_deeds h) ≡ F h
 reads_common F step each same [] = refl
 reads_common F step each same (d ∷ h) = each (common_deed d) (common_deeds h) ∙ (same d (F (common_deeds h)) ∙ (ap (step d) (reads_common F step each same h) ∙ sym (each d h)))
 
@@ -146,7 +149,8 @@ code_common : (id : Speculation) (h : List Deed) → code_at id (common_deeds h)
 code_common id h = λ i. if opened_common id h i then standing (verdict_common id h i) (callers_common id h i) else Inactive
 
 word_common : (s : ℕ) (h : List Deed) → word_at s (common_deeds h) ≡ word_at s h
-word_common s h = ap (λ (j : Speculation). record { issue = j.issue; code = code_at j (common_deeds h) }) (present_common s h) ∙ ap (λ x. record { issue = issue s h; code = x }) (code_common (present s h) h)
+word_common s h = ap (λ (j : Speculation). record { issue = j.issue; code = code_at j (common_deeds h) }) (present_common s h)
+    ∙ ap (λ x. record { issue = issue s h; code = x }) (code_common (present s h) h)
 
 facts_common : (k : Config) (h : List Deed) → facts k (common_deeds h) ≡ facts k h
 facts_common k h = λ i. record {

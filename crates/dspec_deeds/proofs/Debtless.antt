@@ -39,7 +39,8 @@ module _ (k : Config) where
       let was : IsThrown s a h = record { by = t.by; alone = subst (λ cs. is_sole a cs ≡ true) same.1 t.alone } in
       clash h s a sound.0 was (debt h s a sound.0 was) sound.1.0
   debt (Commit c j f ∷ h) s a sound t = ⊎_elim
-      (λ (hit : (is_commit f && same_id (present s h) j) ≡ true). let v : committed c ≡ discarded a = subst (λ b. latest (if b then committed c else undecided) (verdict (present s h) h) ≡ discarded a) hit t.by in absurd (cc (v)))
+      (λ (hit : (is_commit f && same_id (present s h) j) ≡ true). let v : committed c
+      ≡ discarded a = subst (λ b. latest (if b then committed c else undecided) (verdict (present s h) h) ≡ discarded a) hit t.by in absurd (cc (v)))
       (λ (miss : (is_commit f && same_id (present s h) j) ≡ false).
       let v : verdict (present s h) h ≡ discarded a = subst (λ b. latest (if b then committed c else undecided) (verdict (present s h) h) ≡ discarded a) miss t.by in
       let was : IsThrown s a h = record { by = v; alone = t.alone } in

@@ -219,13 +219,24 @@ own_speculate c id r spoken.Stopped h = let e = number_is_itself c in record {
 undecided_commit : (c : ℕ) (id : Speculation) (f : DecideFate) (h : List Deed) → is_commit f ≡ false → Idle c (Commit c id f) h
 undecided_commit c id (decided.Copied n) h e = absurd (true≢false e)
 undecided_commit c id (decided.Lost n) h e = absurd (true≢false e)
-undecided_commit c id (decided.Thrown n) h e = record { offered = refl; empty = λ j. refl; holds = λ j. refl; accepted = refl; added = refl; counts = record { accepts = refl; drops = refl; discards = refl; voids = refl } }
-undecided_commit c id decided.Void h e = record { offered = refl; empty = λ j. refl; holds = λ j. refl; accepted = refl; added = refl; counts = record { accepts = refl; drops = refl; discards = refl; voids = refl } }
-undecided_commit c id decided.Stopped h e = record { offered = refl; empty = λ j. refl; holds = λ j. refl; accepted = refl; added = refl; counts = record { accepts = refl; drops = refl; discards = refl; voids = refl } }
+undecided_commit c id (decided.Thrown n) h e =
+    record { offered = refl; empty = λ j. refl; holds = λ j. refl; accepted = refl; added = refl; counts = record { accepts = refl; drops = refl; discards = refl; voids = refl } }
+undecided_commit c id decided.Void h e =
+    record { offered = refl; empty = λ j. refl; holds = λ j. refl; accepted = refl; added = refl; counts = record { accepts = refl; drops = refl; discards = refl; voids = refl } }
+undecided_commit c id decided.Stopped h e =
+    record { offered = refl; empty = λ j. refl; holds = λ j. refl; accepted = refl; added = refl; counts = record { accepts = refl; drops = refl; discards = refl; voids = refl } }
 
 -- a discard that decides nothing
 undecided_discard : (c : ℕ) (id : Speculation) (f : DecideFate) (h : List Deed) → is_discard f ≡ false → Idle c (Discard c id f) h
-undecided_discard c id f h e = record { offered = refl; empty = λ j. rw e; holds = λ j. rw e; accepted = refl; added = refl; counts = record { accepts = refl; drops = refl; discards = rw e; voids = refl } }
+undecided_discard c id f h e = record {
+  offered = refl;
+  empty = λ j. rw e;
+  holds = λ j. rw e;
+  accepted = refl;
+  added = refl;
+  counts = record
+      { accepts = refl; drops = refl; discards = rw e; voids = refl };
+}
 
 -- the number of records told is the number of those that were held
 pub copied_commit : (c : ℕ) (id : Speculation) (n : ℕ) (h : List Deed) → n ≡ length (held c id h) → Empties c (Commit c id (decided.Copied n)) h id taken
@@ -328,7 +339,8 @@ own_discard shape k c id decided.Void h o = idle (undecided_discard c id decided
 own_discard shape k c id decided.Stopped h o = idle (undecided_discard c id decided.Stopped h refl)
 
 -- a legal settlement empties
-own_settle : (shape : ℕ → Option Shape) (k : Config) (c : ℕ) (id : Speculation) (f : DecideFate) (h : List Deed) → (is_commit f ≡ false → is_discard f ≡ true) → OwnAllows shape k h (Settle c id f) → Effect c (Settle c id f) h
+own_settle : (shape : ℕ → Option Shape) (k : Config) (c : ℕ) (id : Speculation) (f : DecideFate) (h : List Deed) → (is_commit f ≡ false → is_discard f ≡ true)
+    → OwnAllows shape k h (Settle c id f) → Effect c (Settle c id f) h
 own_settle shape k c id (decided.Copied n) h s o = emptying id taken (copied_settle c id n h o.0)
 own_settle shape k c id (decided.Lost n) h s o = emptying id dropped (lost_settle c id n h o.0)
 own_settle shape k c id (decided.Thrown n) h s o = emptying id discarded (thrown_settle c id n h o)
@@ -366,7 +378,15 @@ effect shape k c (Settle a id f) h s o = ⊎_elim
     (λ (t : (c == a) ≡ true). subst (λ x. OwnAllows shape k h (Settle x id f) → Effect c (Settle x id f) h) (same_number c a t) (own_settle shape k c id f h s) o)
     (λ (n : (c == a) ≡ false). idle (other_settle c a id f h n))
     (either_way (c == a))
-effect shape k c d h s o = idle (record { offered = refl; empty = λ id. refl; holds = λ id. refl; accepted = refl; added = refl; counts = record { accepts = refl; drops = refl; discards = refl; voids = refl } })
+effect shape k c d h s o = idle (record {
+  offered = refl;
+  empty = λ id. refl;
+  holds = λ id. refl;
+  accepted = refl;
+  added = refl;
+  counts = record
+      { accepts = refl; drops = refl; discards = refl; voids = refl };
+})
 
 -- each deed of the list has one of the three effects for the CPU
 abbrev pub Accounts : ℕ → List Deed → Type 0

@@ -10,7 +10,8 @@ use Rattle.dspec_deeds.specs.declared.deed.Deed.{Deed}
 use Rattle.dspec_deeds.specs.declared.deed.Deed.TheVariants.{Speculate, Commit, Discard, Settle, Release}
 use Rattle.dspec_deeds.specs.declared.calls.Actor.TheVariants.{Cpu}
 use Rattle.dspec_deeds.specs.FateKinds.{spoken_granted, spoken_kept, is_commit, is_discard}
-use Rattle.dspec_deeds.specs.History.{same_id, same_actor, author, is_among, issue, releases, present, opened, Verdict, undecided, committed, discarded, verdict, ruling, latest, is_undecided, is_open, callers, joined, is_sole, is_sole_or_none, solo, solo_of, settled, settles}
+use Rattle.dspec_deeds.specs.History.{same_id, same_actor, author, is_among, issue, releases, present, opened, Verdict, undecided, committed, discarded, verdict}
+use Rattle.dspec_deeds.specs.History.{ruling, latest, is_undecided, is_open, callers, joined, is_sole, is_sole_or_none, solo, solo_of, settled, settles}
 use Rattle.dspec_deeds.specs.Own.{Offer, keeps, empties, held}
 use Rattle.dspec_deeds.specs.Legal.{IsSound}
 use Rattle.dspec_deeds.proofs.TestLemmas.{either_way, off, and_tells, and_false, or_none, or_tells, same_number, same_id_tells, has_joined}
@@ -203,7 +204,8 @@ past_empty k c id (d ∷ h) lt s past = ⊎_elim
     go d s r now = absurd (true≢false (sym r))
 
 -- another's deed leaves what the CPU has in its buffer of the slot's present speculation
-pub present_other : (k : Config) (c s : ℕ) (d : Deed) (h : List Deed) → c < k.cpus → IsSound k (d ∷ h) → same_actor (Cpu c) (author d h) ≡ false → held c (present s (d ∷ h)) (d ∷ h) ≡ held c (present s h) h
+pub present_other : (k : Config) (c s : ℕ) (d : Deed) (h : List Deed) → c < k.cpus → IsSound k (d ∷ h) → same_actor (Cpu c) (author d h) ≡ false
+    → held c (present s (d ∷ h)) (d ∷ h) ≡ held c (present s h) h
 present_other k c s d h lt sound other = ⊎_elim
     (λ (t : releases s d ≡ true). go d sound t)
     (λ (f : releases s d ≡ false). ap (λ (m : ℕ). held c record { issue = m; slot = s } (d ∷ h)) (let same : issue s (d ∷ h) ≡ issue s h = rw f refl in same) ∙ held_other c (present s h) d h other)

@@ -84,7 +84,8 @@ gained_below test never c d h id f m (suc j) =
     more false = omega arith
 
 -- the records of an emptied buffer leave the waiting ones
-left_below : (c : ℕ) (d : Deed) (h : List Deed) (id : Speculation) (f : Fate) → Empties c d h id f → (n : ℕ) → fates_below is_waiting c (d ∷ h) n + fates_below (waits_for id) c h n ≡ fates_below is_waiting c h n
+left_below : (c : ℕ) (d : Deed) (h : List Deed) (id : Speculation) (f : Fate) → Empties c d h id f → (n : ℕ)
+    → fates_below is_waiting c (d ∷ h) n + fates_below (waits_for id) c h n ≡ fates_below is_waiting c h n
 left_below c d h id f m zero = refl
 left_below c d h id f m (suc j) =
     let before = left_below c d h id f m j in

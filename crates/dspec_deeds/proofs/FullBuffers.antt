@@ -3,7 +3,7 @@ use Rattle.std.proofs.Common.{◌≡◌, ℕ, ◌+◌, Bool, true, false, ◌&&�
 use Rattle.std.specs.Prelude.{nat_lt}
 use Rattle.std.proofs.lemmas.Bool.Decides.{nat_tests}
 use Rattle.dspec_record.specs.declared.field.Shape.{Shape}
-use Rattle.dspec_buffer.specs.Extent.{Piece, one, block, fits}
+use Rattle.dspec_buffer.specs.Extent.{Piece, one, block, piece_fits}
 use Rattle.dspec_deeds.specs.declared.config.Config.{Config}
 use Rattle.dspec_record.specs.Record.{Record}
 use Rattle.dspec_word.specs.SpecId.{Speculation}
@@ -70,7 +70,7 @@ module _ (shape : ℕ → Option Shape) (k : Config) (c : ℕ) where
 
   -- a closed buffer takes a piece without records alone
   closed_takes : (p : Piece) (h : List Deed) → is_fill k.policy ≡ true → full c h ≡ true → is_empty p ≡ false → fits_principal shape k c p h ≡ false
-  closed_takes p h fill was some = rw (some, fill, was) (and_false (fits shape (active c h) p k.bufsize))
+  closed_takes p h fill was some = rw (some, fill, was) (and_false (piece_fits shape (active c h) p k.bufsize))
 
   -- a buffer that is copied though closed has no record
   copies_none : (os : List Offer) (h : List Deed) → is_fill k.policy ≡ true → full c h ≡ true → true ≡ fits_principal shape k c (block (contents os)) h → os ≡ []
@@ -113,13 +113,15 @@ module _ (shape : ℕ → Option Shape) (k : Config) (c : ℕ) (h : List Deed) w
   trace_refused r traced.Stopped row runs refused = absurd (true≢false runs)
 
   -- a commit's block that is refused
-  pub commit_refused : (id : Speculation) (f : DecideFate) → OwnAllows shape k h (Commit c id f) → is_commit f ≡ true → fits_principal shape k c (block (contents (held c id h))) h ≡ false → full c (Commit c id f ∷ h) ≡ true
+  pub commit_refused : (id : Speculation) (f : DecideFate) → OwnAllows shape k h (Commit c id f) → is_commit f ≡ true
+      → fits_principal shape k c (block (contents (held c id h))) h ≡ false → full c (Commit c id f ∷ h) ≡ true
   commit_refused id (decided.Copied n) row decides refused = absurd (true≢false (row.1 ∙ refused))
   commit_refused id (decided.Lost n) row decides refused = let own = number_is_itself c in rw own refl
   commit_refused id f row decides refused = absurd (true≢false (sym decides))
 
   -- a settlement's
-  pub settle_refused : (id : Speculation) (f : DecideFate) → OwnAllows shape k h (Settle c id f) → is_commit f ≡ true → fits_principal shape k c (block (contents (held c id h))) h ≡ false → full c (Settle c id f ∷ h) ≡ true
+  pub settle_refused : (id : Speculation) (f : DecideFate) → OwnAllows shape k h (Settle c id f) → is_commit f ≡ true
+      → fits_principal shape k c (block (contents (held c id h))) h ≡ false → full c (Settle c id f ∷ h) ≡ true
   settle_refused id (decided.Copied n) row decides refused = absurd (true≢false (row.1 ∙ refused))
   settle_refused id (decided.Lost n) row decides refused = let own = number_is_itself c in rw own refl
   settle_refused id f row decides refused = absurd (true≢false (sym decides))

@@ -121,7 +121,8 @@ emptied_tally id j f (Some dropped) g = either (same_id j id) 0
 emptied_tally id j f (Some discarded) g = either (same_id j id) 0
 emptied_tally id j f (Some void) g = either (same_id j id) 0
 emptied_tally id j f (Some (waiting i)) g = ⊎_elim
-    (λ (t : same_id i id ≡ true). rw (t, not_waiting j f g) (subst (λ (x : Speculation). ◌≡◌ {A = ℕ} 0 (if same_id j x then 0 else (if same_id j i then 1 else 0))) (same_id_tells i id t) (none (same_id j i))))
+    (λ (t : same_id i id ≡ true). rw (t, not_waiting j f g)
+    (subst (λ (x : Speculation). ◌≡◌ {A = ℕ} 0 (if same_id j x then 0 else (if same_id j i then 1 else 0))) (same_id_tells i id t) (none (same_id j i))))
     (λ (n : same_id i id ≡ false). rw n (other n (same_id j id) refl))
     (either_way (same_id i id))
   where
@@ -164,7 +165,8 @@ times_held c j id (d ∷ h) l = step (l.1) (times_held c j id h l.0)
         rest false = e
 
 -- of the emptied buffer's records each has the new fate
-pub emptied_gains : (test : Fate → Bool) → ((i : Speculation) → test (waiting i) ≡ false) → (id : Speculation) (f : Fate) (x : Option Fate) → tally test (option_map (settled_as id f) x) ≡ (if test f then tally (waits_for id) x else 0) + tally test x
+pub emptied_gains : (test : Fate → Bool) → ((i : Speculation) → test (waiting i) ≡ false) → (id : Speculation) (f : Fate) (x : Option Fate)
+    → tally test (option_map (settled_as id f) x) ≡ (if test f then tally (waits_for id) x else 0) + tally test x
 emptied_gains test never id f None = adds (test f) 0
 emptied_gains test never id f (Some taken) = adds (test f) (if test taken then 1 else 0)
 emptied_gains test never id f (Some dropped) = adds (test f) (if test dropped then 1 else 0)

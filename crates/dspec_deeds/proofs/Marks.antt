@@ -71,14 +71,16 @@ mark_tells k c s (Release n ∷ h) sound =
     (either_way (s == n))
 mark_tells k c s (Speculate a j r f ∷ h) sound = go (mark_tells k c s h sound.0) (spoken_granted f) refl
   where
-    go : (was : Tells c s (issue s h) (mark c s h) (callers (present s h) h)) → (b : Bool) → spoken_granted f ≡ b → Tells c s (issue s h) (if b && ((c == a) && (s == j.slot)) then j.issue + 1 else mark c s h) (joined (if b && same_id (present s h) j then Some a else None) (callers (present s h) h))
+    go : (was : Tells c s (issue s h) (mark c s h) (callers (present s h) h)) → (b : Bool) → spoken_granted f ≡ b
+        → Tells c s (issue s h) (if b && ((c == a) && (s == j.slot)) then j.issue + 1 else mark c s h) (joined (if b && same_id (present s h) j then Some a else None) (callers (present s h) h))
     go was false e = was
     go was true e = ⊎_elim
         (λ (t : (s == j.slot) ≡ true).
         let at = same_number s j.slot t in
         let now_open = answered_open h a j (spoken_stopped f) (spoken_granted f) (granted_goes f e) e sound.1.1.1 in
         let issues : issue j.slot h ≡ j.issue = ⊎_elim (λ (q : (issue j.slot h == j.issue) ≡ true). same_number (issue j.slot h) j.issue q)
-        (λ (q : (issue j.slot h == j.issue) ≡ false). off (is_open j h) now_open (open_is_present k h j sound.0 (λ (p : issue j.slot h ≡ j.issue). true≢false (sym (grind (arith, nat_tests)) ∙ q)))) (either_way (issue j.slot h == j.issue)) in
+        (λ (q : (issue j.slot h == j.issue) ≡ false). off (is_open j h) now_open
+        (open_is_present k h j sound.0 (λ (p : issue j.slot h ≡ j.issue). true≢false (sym (grind (arith, nat_tests)) ∙ q)))) (either_way (issue j.slot h == j.issue)) in
         let is : j.issue ≡ issue s h = sym issues ∙ ap (λ x. issue x h) (sym at) in
         let back = sym is in
         let path : present s h ≡ j = λ i. record { issue = back i; slot = at i } in
@@ -88,7 +90,8 @@ mark_tells k c s (Speculate a j r f ∷ h) sound = go (mark_tells k c s h sound.
         (λ (other : (c == a) ≡ false). rw (same, t, other) record { now = has_joined c a (callers (present s h) h) ∙ (rw other was.now); bound = was.bound })
         (either_way (c == a)))
         (λ (n : (s == j.slot) ≡ false).
-        let no : same_id (present s h) j ≡ false = ⊎_elim (λ (q : same_id (present s h) j ≡ true). off (s == j.slot) (and_tells (issue s h == j.issue) (s == j.slot) q).1 n) (λ q. q) (either_way (same_id (present s h) j)) in
+        let no : same_id (present s h) j ≡ false = ⊎_elim (λ (q : same_id (present s h) j ≡ true). off (s == j.slot) (and_tells (issue s h == j.issue) (s == j.slot) q).1 n)
+        (λ q. q) (either_way (same_id (present s h) j)) in
         rw (no, n) (flat (c == a)))
         (either_way (s == j.slot))
       where

@@ -57,7 +57,8 @@ bare_due k (d ∷ p) due = ⊎_elim
 
 module _ (shape : ℕ → Option Shape) (k : Config) where
   own_effect : (c : ℕ) (d : Deed) (p : List Deed) → IsDecisive d → OwnRow shape k p d → Effect c d p
-  own_effect c (Release s) p due row = idle (record { offered = refl; empty = λ id. refl; holds = λ id. refl; accepted = refl; added = refl; counts = record { accepts = refl; drops = refl; discards = refl; voids = refl } })
+  own_effect c (Release s) p due row = idle
+      (record { offered = refl; empty = λ id. refl; holds = λ id. refl; accepted = refl; added = refl; counts = record { accepts = refl; drops = refl; discards = refl; voids = refl } })
   own_effect c d p due row = effect shape k c d p due row
 
   own_accounts : (c : ℕ) (p : List Deed) → IsOwn shape k c p → AreDue k p → Accounts c p

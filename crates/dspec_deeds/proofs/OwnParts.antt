@@ -2,7 +2,7 @@
 use Rattle.std.proofs.Common.{◌≡◌, ◌<◌, ℕ, Bool, true, false, if◌then◌else◌, List, [], ◌∷◌, Option, refl, sym, ap, ◌∙◌, subst, ⊎_elim, true≢false}
 use Rattle.std.specs.Prelude.{MatchBool, map, length}
 use Rattle.dspec_record.specs.declared.field.Shape.{Shape}
-use Rattle.dspec_buffer.specs.Extent.{one, fits}
+use Rattle.dspec_buffer.specs.Extent.{one, piece_fits}
 use Rattle.dspec_deeds.specs.declared.config.Config.{Config}
 use Rattle.dspec_deeds.specs.declared.calls.Actor.TheVariants.{Cpu}
 use Rattle.dspec_deeds.specs.declared.deed.Deed.{Deed}
@@ -35,19 +35,19 @@ module _ (shape : ℕ → Option Shape) (k : Config) where
   carry c (Speculate a id r f) g h own kept e row =
       let is = same_number c a own in
       let os : held a id g ≡ held a id h = subst (λ x. held x id g ≡ held x id h) is (e.apart.buffers id) in
-      subst (λ (qs : List Offer). MatchBool (spoken_granted f) (spoken_kept f ≡ fits shape (map one (contents qs)) (one r) k.specsize) (Unit {0})) os row
+      subst (λ (qs : List Offer). MatchBool (spoken_granted f) (spoken_kept f ≡ piece_fits shape (map one (contents qs)) (one r) k.specsize) (Unit {0})) os row
   carry c (Commit a id f) g h own kept e row =
       let now : ReadsAlike k a g h = subst (λ x. ReadsAlike k x g h) (same_number c a own) e in
-      let fits = block_alike shape k a id g h now in
-      subst (λ (q : List Offer × Bool). MatchBool (is_commit f) ((count_of f ≡ length q.0) × (is_copied f ≡ q.1)) (Unit {0})) (λ i. (now.apart.buffers id i, fits i)) row
+      let piece_fits = block_alike shape k a id g h now in
+      subst (λ (q : List Offer × Bool). MatchBool (is_commit f) ((count_of f ≡ length q.0) × (is_copied f ≡ q.1)) (Unit {0})) (λ i. (now.apart.buffers id i, piece_fits i)) row
   carry c (Discard a id f) g h own kept e row =
       let is = same_number c a own in
       let os : held a id g ≡ held a id h = subst (λ x. held x id g ≡ held x id h) is (e.apart.buffers id) in
       subst (λ (qs : List Offer). MatchBool (is_discard f) (count_of f ≡ length qs) (Unit {0})) os row
   carry c (Settle a id f) g h own kept e row =
       let now : ReadsAlike k a g h = subst (λ x. ReadsAlike k x g h) (same_number c a own) e in
-      let fits = block_alike shape k a id g h now in
-      subst (λ (q : List Offer × Bool). MatchBool (is_discard f) (count_of f ≡ length q.0) ((count_of f ≡ length q.0) × (is_copied f ≡ q.1))) (λ i. (now.apart.buffers id i, fits i)) row
+      let piece_fits = block_alike shape k a id g h now in
+      subst (λ (q : List Offer × Bool). MatchBool (is_discard f) (count_of f ≡ length q.0) ((count_of f ≡ length q.0) × (is_copied f ≡ q.1))) (λ i. (now.apart.buffers id i, piece_fits i)) row
   carry c (Seal a) g h own kept e row =
       let is = same_number c a own in
       let n : seals a g ≡ seals a h = subst (λ x. seals x g ≡ seals x h) is e.sealing in

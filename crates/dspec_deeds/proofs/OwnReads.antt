@@ -6,14 +6,17 @@ use Rattle.dspec_deeds.specs.declared.config.Config.{Config}
 use Rattle.dspec_deeds.specs.declared.calls.Actor.TheVariants.{Cpu}
 use Rattle.dspec_deeds.specs.declared.deed.Deed.{Deed}
 use Rattle.dspec_deeds.specs.declared.deed.Deed.TheVariants.{Trace, Scan, Miss, Speculate, Commit, Discard, Settle, Seal}
-use Rattle.dspec_deeds.specs.FateKinds.{trace_kept, trace_dropped, trace_stopped, spoken_kept, spoken_dropped, spoken_nowhere, spoken_stopped, decided_stopped, is_commit, is_discard, is_copied, is_lost, count_of}
+use Rattle.dspec_deeds.specs.FateKinds.{trace_kept, trace_dropped, trace_stopped, spoken_kept, spoken_dropped, spoken_nowhere, spoken_stopped}
+use Rattle.dspec_deeds.specs.FateKinds.{decided_stopped, is_commit, is_discard, is_copied, is_lost, count_of}
 use Rattle.dspec_deeds.specs.History.{same_actor, author, part, scanned, is_among, joined, calls_on, callers, settles, acks, issue_of}
-use Rattle.dspec_deeds.specs.Reports.{Spoken, total, one_if, accepts_now, drops_now, specdrops_now, loses_now, discards_now, voids_now, stops_now, adds_now, speculative, missed_busy, fails_now, busy_fails, other_fails, report}
-use Rattle.dspec_deeds.specs.Own.{contents, number_of, offered_by, is_call, seals_now, keeps, empties, held, accepts, active, empty_batch, is_drop}
+use Rattle.dspec_deeds.specs.Reports.{Spoken, total, one_if, accepts_now, drops_now, specdrops_now, loses_now, discards_now, voids_now}
+use Rattle.dspec_deeds.specs.Reports.{stops_now, adds_now, speculative, missed_busy, fails_now, busy_fails, other_fails, report}
+use Rattle.dspec_deeds.specs.Own.{contents, one_if_record, offered_by, is_call, seals_now, keeps, empties, held, accepts, active, empty_batch, is_drop}
 use Rattle.dspec_record.specs.declared.field.Shape.{Shape}
-use Rattle.dspec_buffer.specs.Extent.{Piece, one, block, fits}
+use Rattle.dspec_buffer.specs.Extent.{Piece, one, block, piece_fits}
 use Rattle.dspec_deeds.proofs.TestLemmas.{either_way, and_false, has_joined, other_number}
-use Rattle.dspec_deeds.proofs.StayingOwn.{scan_other, held_other, offers_other, calls_other, accepted_other, seals_other, active_other, growing_other, batches_other, is_drop_other, full_other, has_other, settled_other, ack_other, missed_other}
+use Rattle.dspec_deeds.proofs.StayingOwn.{scan_other, held_other, offers_other, calls_other, accepted_other, seals_other, active_other, growing_other}
+use Rattle.dspec_deeds.proofs.StayingOwn.{batches_other, is_drop_other, full_other, has_other, settled_other, ack_other, missed_other}
 use Rattle.dspec_deeds.specs.Ranges.{is_fill}
 use Rattle.dspec_deeds.specs.Legal.{is_seal, is_empty, fits_principal}
 use Rattle.dspec_deeds.specs.Marks.{mark, mark_after}
@@ -72,7 +75,7 @@ module _ (k : Config) (c : ℕ) (d : Deed) (g h : List Deed) (e : ReadsApart k c
       let says = said d in
       record {
         scanning = ap (scanned k c d) e.scanning;
-        offering = ap (λ n. n + number_of (offered_by c d)) e.offering;
+        offering = ap (λ n. n + one_if_record (offered_by c d)) e.offering;
         calling = ap (λ n. n + (if is_call c d then 1 else 0)) e.calling;
         buffers = λ id. kept id d;
         taking = let enters = entered d in λ i. enters i ++ e.taking i;
@@ -84,7 +87,7 @@ module _ (k : Config) (c : ℕ) (d : Deed) (g h : List Deed) (e : ReadsApart k c
         missing = here;
         spoken = λ i. says i ++ filter (λ p. not (empties c p.0 d)) (e.spoken i);
         reporting = λ worn. λ i. record {
-          offered = e.offering i + number_of (offered_by c d);
+          offered = e.offering i + one_if_record (offered_by c d);
           accepted = (e.reporting worn i).accepted + accepts_now c d;
           dropped = (e.reporting worn i).dropped + drops_now c d;
           specdropped = (e.reporting worn i).specdropped + specdrops_now c d;
@@ -350,7 +353,7 @@ reads k c (d ∷ h) = ⊎_elim
 
 -- what fits the principal buffer fits it alike
 pub fits_alike : (shape : ℕ → Option Shape) (k : Config) (c : ℕ) (p : Piece) (g h : List Deed) → ReadsAlike k c g h → fits_principal shape k c p g ≡ fits_principal shape k c p h
-fits_alike shape k c p g h e = λ i. fits shape (e.principal i) p k.bufsize && (is_empty p || not (is_fill k.policy && e.apart.closing i))
+fits_alike shape k c p g h e = λ i. piece_fits shape (e.principal i) p k.bufsize && (is_empty p || not (is_fill k.policy && e.apart.closing i))
 
 -- and so does the buffer of a speculation
 pub block_alike : (shape : ℕ → Option Shape) (k : Config) (c : ℕ) (id : Speculation) (g h : List Deed) → ReadsAlike k c g h

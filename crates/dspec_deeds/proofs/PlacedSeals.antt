@@ -106,7 +106,8 @@ module _ (shape : ℕ → Option Shape) (k : Config) where
       (either_way (is_seal d))
 
   -- so the list is legal, and owes nothing
-  pub placed_legal : (w : List Deed) → ArePlaced w → IsSound k (bare w) → owed (bare w) ≡ 0 → HasAuthors k w → ((c : ℕ) → c < k.cpus → IsOwn shape k c (part (Cpu c) w)) → IsAllowed shape k w × (owed w ≡ 0)
+  pub placed_legal : (w : List Deed) → ArePlaced w → IsSound k (bare w) → owed (bare w) ≡ 0 → HasAuthors k w → ((c : ℕ) → c < k.cpus → IsOwn shape k c (part (Cpu c) w))
+      → IsAllowed shape k w × (owed w ≡ 0)
   placed_legal w placed sound none authors own =
       let fitting = fitting_of_own shape k w authors own in
       let put = put_there w placed sound fitting (inl none) in

@@ -39,7 +39,15 @@ records_append (b ∷ xs) ys = rw (records_append xs ys) (sym (append_assoc (rev
 sealed_records : (bs : List Batch) → reverse (contents (batch_offers bs)) ≡ batch_records (reverse bs)
 sealed_records [] = refl
 sealed_records (b ∷ bs) =
-    rw (contents_append b.offers (batch_offers bs), reverse-append (contents b.offers) (contents (batch_offers bs)), reverse-append (b ∷ []) bs, records_append (reverse bs) (b ∷ []), append-nil (reverse (contents b.offers)), sealed_records bs) refl
+    rw (
+      contents_append b.offers (batch_offers bs),
+      reverse-append (contents b.offers) (contents (batch_offers bs)),
+      reverse-append (b ∷ []) bs,
+      records_append (reverse bs)
+          (b ∷ []),
+      append-nil (reverse (contents b.offers)),
+      sealed_records bs,
+    ) refl
 
 -- the stream is the records of all batches, then those of the growing one
 pub stream_in_batches : (c : ℕ) (h : List Deed) → stream c h ≡ batch_records (reverse (batches c h)) ++ reverse (contents (growing c h).offers)

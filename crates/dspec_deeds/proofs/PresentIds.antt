@@ -40,7 +40,8 @@ past_closed k (d ∷ h) id s past = ⊎_elim
   where
     not_given : (d : Deed) → IsSound k (d ∷ h) → id.issue < issue id.slot h → opens id d ≡ false
     not_given (Opened c j) s before = ⊎_elim
-        (λ (t : same_id id j ≡ true). let now : j.issue ≡ issue j.slot h = s.1.1.3 in let e : id.issue ≡ issue id.slot h = subst (λ (x : Speculation). x.issue ≡ issue x.slot h) (sym (same_id_tells id j t)) now in absurd (omega arith))
+        (λ (t : same_id id j ≡ true). let now : j.issue ≡ issue j.slot h = s.1.1.3 in let e : id.issue
+        ≡ issue id.slot h = subst (λ (x : Speculation). x.issue ≡ issue x.slot h) (sym (same_id_tells id j t)) now in absurd (omega arith))
         (λ f. f)
         (either_way (same_id id j))
     not_given d s before = refl

@@ -1,9 +1,10 @@
 -- The counts of a report are at most the calls that the CPU made.
-use Rattle.std.proofs.Common.{◌≡◌, ℕ, ◌+◌, ◌≤◌, ◌<◌, Bool, true, false, not, ◌&&◌, ◌||◌, ◌==◌, nat_le, if◌then◌else◌, List, [], ◌∷◌, length, Option, None, Some, refl, sym, ◌∙◌, subst, ⊎_elim, arith, true≢false}
+use Rattle.std.proofs.Common.{◌≡◌, ℕ, ◌+◌, ◌≤◌, ◌<◌, Bool, true, false, not, ◌&&◌, ◌||◌, ◌==◌, nat_le, if◌then◌else◌}
+use Rattle.std.proofs.Common.{List, [], ◌∷◌, length, Option, None, Some, refl, sym, ◌∙◌, subst, ⊎_elim, arith, true≢false}
 use Rattle.std.proofs.lemmas.Bool.Decides.{nat_tests}
 use Rattle.dspec_record.specs.declared.field.Shape.{Shape}
 use Rattle.dspec_word.specs.SpecId.{Speculation}
-use Rattle.dspec_buffer.specs.Extent.{Piece, one, block, extent, fits}
+use Rattle.dspec_buffer.specs.Extent.{Piece, one, block, extent, piece_fits}
 use Rattle.dspec_deeds.specs.declared.config.Config.{Config}
 use Rattle.dspec_deeds.specs.declared.deed.TraceFate.TheVariants as traced
 use Rattle.dspec_deeds.specs.declared.deed.DecideFate.{DecideFate}
@@ -12,7 +13,7 @@ use Rattle.dspec_deeds.specs.declared.deed.Deed.{Deed}
 use Rattle.dspec_deeds.specs.declared.deed.Deed.TheVariants.{Trace, Scan, Opened, Miss, Speculate, Commit, Discard, Settle, Seal, Release}
 use Rattle.dspec_deeds.specs.FateKinds.{trace_stopped, spoken_stopped, decided_stopped, is_copied}
 use Rattle.dspec_deeds.specs.History.{scan, scanned}
-use Rattle.dspec_deeds.specs.Own.{Offer, contents, offered_by, number_of, offers, is_call, calls, held, active, is_drop, seals}
+use Rattle.dspec_deeds.specs.Own.{Offer, contents, offered_by, one_if_record, offers, is_call, calls, held, active, is_drop, seals}
 use Rattle.dspec_deeds.specs.Legal.{is_empty, is_closed, fits_principal, IsSound, OwnAllows, IsFitting, CopiesOrLoses, IsAllowed}
 use Rattle.dspec_deeds.specs.Reports.{total, one_if, drops_now, loses_now, stops_now, fails_now, missed_busy, busy_fails, other_fails, report, CountsWithin}
 use Rattle.dspec_deeds.proofs.TestLemmas.{either_way, and_tells, and_false, same_number}
@@ -38,15 +39,16 @@ sound_scanned k (Miss c n busy ∷ h) s = (sound_scanned k h s.0, (s.1.1.0, s.1.
 sound_scanned k (d ∷ h) s = (sound_scanned k h s.0, tt)
 
 -- what a deed offers, fails or begins takes a call
-call_covers : (k : Config) (c : ℕ) (d : Deed) (h : List Deed) → IsScanned k h d → number_of (offered_by c d) + one_if (fails_now k c d) + pending (scanned k c d (scan k c h)) ≤ pending (scan k c h) + (if is_call c d then 1 else 0)
+call_covers : (k : Config) (c : ℕ) (d : Deed) (h : List Deed) → IsScanned k h d
+    → one_if_record (offered_by c d) + one_if (fails_now k c d) + pending (scanned k c d (scan k c h)) ≤ pending (scan k c h) + (if is_call c d then 1 else 0)
 call_covers k c (Trace a r f) h s = step (c == a)
   where
-    step : (b : Bool) → number_of (if b then Some r else None) + 0 + pending (scan k c h) ≤ pending (scan k c h) + (if b then 1 else 0)
+    step : (b : Bool) → one_if_record (if b then Some r else None) + 0 + pending (scan k c h) ≤ pending (scan k c h) + (if b then 1 else 0)
     step true = omega arith
     step false = omega arith
 call_covers k c (Speculate a id r f) h s = step (c == a)
   where
-    step : (b : Bool) → number_of (if b then Some r else None) + 0 + pending (scan k c h) ≤ pending (scan k c h) + (if b then 1 else 0)
+    step : (b : Bool) → one_if_record (if b then Some r else None) + 0 + pending (scan k c h) ≤ pending (scan k c h) + (if b then 1 else 0)
     step true = omega arith
     step false = omega arith
 call_covers k c (Scan a running) h s = step (c == a) running
@@ -139,14 +141,15 @@ module _ (shape : ℕ → Option Shape) (k : Config) where
   Within c h = nat_le (extent shape (active c h)) k.bufsize ≡ true
 
   -- a piece that fits has room
-  pub has_room : (c : ℕ) (p : Piece) (h : List Deed) → fits_principal shape k c p h ≡ true → fits shape (active c h) p k.bufsize ≡ true
-  has_room c p h e = (and_tells (fits shape (active c h) p k.bufsize) (is_empty p || not (is_closed k c h)) e).0
+  pub has_room : (c : ℕ) (p : Piece) (h : List Deed) → fits_principal shape k c p h ≡ true → piece_fits shape (active c h) p k.bufsize ≡ true
+  has_room c p h e = (and_tells (piece_fits shape (active c h) p k.bufsize) (is_empty p || not (is_closed k c h)) e).0
 
   -- a buffer that takes a piece that fits
-  kept_within : (c a : ℕ) (h : List Deed) (p : Piece) (b : Bool) → b ≡ fits_principal shape k a p h → Within c h → nat_le (extent shape (if b && (c == a) then p ∷ active c h else active c h)) k.bufsize ≡ true
+  kept_within : (c a : ℕ) (h : List Deed) (p : Piece) (b : Bool) → b ≡ fits_principal shape k a p h → Within c h
+      → nat_le (extent shape (if b && (c == a) then p ∷ active c h else active c h)) k.bufsize ≡ true
   kept_within c a h p false e w = w
   kept_within c a h p true e w = ⊎_elim
-      (λ (t : (c == a) ≡ true). rw t (subst (λ x. fits shape (active x h) p k.bufsize ≡ true) (sym (same_number c a t)) (has_room a p h (sym e))))
+      (λ (t : (c == a) ≡ true). rw t (subst (λ x. piece_fits shape (active x h) p k.bufsize ≡ true) (sym (same_number c a t)) (has_room a p h (sym e))))
       (λ (n : (c == a) ≡ false). rw n w)
       (either_way (c == a))
 
@@ -160,7 +163,7 @@ module _ (shape : ℕ → Option Shape) (k : Config) where
       step true e = ⊎_elim
           (λ (t : (c == a) ≡ true).
           let at = same_number c a t in
-          rw t (subst (λ x. fits shape (active x h) (block (contents (held x id h))) k.bufsize ≡ true) (sym at) (has_room a (block (contents (held a id h))) h (sym (o e).1 ∙ e))))
+          rw t (subst (λ x. piece_fits shape (active x h) (block (contents (held x id h))) k.bufsize ≡ true) (sym at) (has_room a (block (contents (held a id h))) h (sym (o e).1 ∙ e))))
           (λ (n : (c == a) ≡ false). rw n w)
           (either_way (c == a))
 

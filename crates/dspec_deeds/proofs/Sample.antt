@@ -46,7 +46,10 @@ it_is : woven 2 p h ≡ w
 it_is = refl
 
 sound : IsSound k h
-sound = ((((((tt, (refl, (refl, refl))), (refl, (refl, omega arith, refl, refl))), (refl, (refl, (refl, refl)))), (refl, (refl, refl))), (refl, (refl, refl, (refl, refl)))), (inr refl, ((refl, inl (λ e. cc e)), release_free)))
+sound = (
+  (((((tt, (refl, (refl, refl))), (refl, (refl, omega arith, refl, refl))), (refl, (refl, (refl, refl)))), (refl, (refl, refl))), (refl, (refl, refl, (refl, refl)))),
+  (inr refl, ((refl, inl (λ e. cc e)), release_free)),
+)
   where
     release_free : (c : ℕ) → Cpu 0 ≡ Cpu c → scan k c (Discard 0 id (decided.Thrown 1) ∷ Trace 1 r traced.Kept ∷ started) ≡ 0
     release_free c by = let same : 0 ≡ c = cc in subst (λ x. scan k x (Discard 0 id (decided.Thrown 1) ∷ Trace 1 r traced.Kept ∷ started) ≡ 0) same refl

@@ -19,7 +19,8 @@ abbrev pub IsOwnRelease : Deed → List Deed → Type 0
 IsOwnRelease d h = (s : ℕ) × (d ≡ Release s) × ((c : ℕ) → IsLastOf c h → author d h ≡ Cpu c)
 
 -- behind a discard by the one caller the Release of its slot is that caller's
-released_by : (k : Config) (a : ℕ) (id : Speculation) (f : DecideFate) (h : List Deed) → IsSound k (Discard a id f ∷ h) → is_discard f ≡ true → is_sole a (callers id h) ≡ true → author (Release id.slot) (Discard a id f ∷ h) ≡ Cpu a
+released_by : (k : Config) (a : ℕ) (id : Speculation) (f : DecideFate) (h : List Deed) → IsSound k (Discard a id f ∷ h) → is_discard f ≡ true
+    → is_sole a (callers id h) ≡ true → author (Release id.slot) (Discard a id f ∷ h) ≡ Cpu a
 released_by k a id f h sound throws sole =
     let is_open_then : is_open id h ≡ true = answered_open h a id (decided_stopped f) (is_discard f) (discard_goes f throws) throws sound.1.1.2 in
     let now = open_is_now k h id sound.0 is_open_then in

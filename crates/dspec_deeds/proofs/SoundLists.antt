@@ -11,7 +11,7 @@ use Rattle.dspec_deeds.specs.declared.deed.Deed.{Deed}
 use Rattle.dspec_deeds.specs.declared.deed.Deed.TheVariants.{Scan, Opened, Miss, Speculate, Commit, Discard}
 use Rattle.dspec_deeds.specs.FateKinds.{spoken_granted, spoken_stopped, is_commit, is_discard, decided_stopped}
 use Rattle.dspec_deeds.specs.History.{same_id, halted, issue, releases, opens, opened, verdict, undecided, is_undecided, is_open, callers, scan, late, is_halt}
-use Rattle.dspec_deeds.specs.Legal.{Answers, IsSound}
+use Rattle.dspec_deeds.specs.Legal.{StopsOrActs, IsSound}
 use Rattle.dspec_deeds.proofs.TestLemmas.{either_way, off, and_tells, or_none, or_tells, same_id_tells}
 
 -- a granted record was not stopped
@@ -38,7 +38,8 @@ discard_goes decided.Void e = refl
 discard_goes decided.Stopped e = absurd (true≢false (sym e))
 
 -- what was done was done to an open speculation
-pub answered_open : (h : List Deed) (c : ℕ) (id : Speculation) (stopped done : Bool) → stopped ≡ false → done ≡ true → Answers (halted h) (late c h) (is_open id h) stopped done → is_open id h ≡ true
+pub answered_open : (h : List Deed) (c : ℕ) (id : Speculation) (stopped done : Bool) → stopped ≡ false → done ≡ true
+    → StopsOrActs (halted h) (late c h) (is_open id h) stopped done → is_open id h ≡ true
 answered_open h c id true done s t a = absurd (true≢false s)
 answered_open h c id false done s t a = sym a.1 ∙ t
 
@@ -47,7 +48,8 @@ abbrev pub Unseen : Speculation → List Deed → Type 0
 Unseen id h = (verdict id h ≡ undecided) × (callers id h ≡ [])
 
 -- no record is granted to what was not given out
-not_called : (h : List Deed) (c : ℕ) (id j : Speculation) (f : SpeculateFate) → opened id h ≡ false → Answers (halted h) (late c h) (is_open j h) (spoken_stopped f) (spoken_granted f) → (spoken_granted f && same_id id j) ≡ false
+not_called : (h : List Deed) (c : ℕ) (id j : Speculation) (f : SpeculateFate) → opened id h ≡ false
+    → StopsOrActs (halted h) (late c h) (is_open j h) (spoken_stopped f) (spoken_granted f) → (spoken_granted f && same_id id j) ≡ false
 not_called h c id j f un a = ⊎_elim
     (λ (t : (spoken_granted f && same_id id j) ≡ true).
     let both = and_tells (spoken_granted f) (same_id id j) t in
@@ -58,7 +60,8 @@ not_called h c id j f un a = ⊎_elim
     (either_way (spoken_granted f && same_id id j))
 
 -- no decision is made of what was not given out
-not_decided : (h : List Deed) (c : ℕ) (id j : Speculation) (stopped done : Bool) → (done ≡ true → stopped ≡ false) → opened id h ≡ false → Answers (halted h) (late c h) (is_open j h) stopped done → (done && same_id id j) ≡ false
+not_decided : (h : List Deed) (c : ℕ) (id j : Speculation) (stopped done : Bool) → (done ≡ true → stopped ≡ false) → opened id h ≡ false
+    → StopsOrActs (halted h) (late c h) (is_open j h) stopped done → (done && same_id id j) ≡ false
 not_decided h c id j stopped done goes un a = ⊎_elim
     (λ (t : (done && same_id id j) ≡ true).
     let both = and_tells done (same_id id j) t in
@@ -87,7 +90,8 @@ issue_grows s d h = ⊎_elim
 -- no speculation of a later issue was given out
 pub opened_by_now : (k : Config) (h : List Deed) (id : Speculation) → IsSound k h → opened id h ≡ true → id.issue ≤ issue id.slot h
 opened_by_now k [] id s is = absurd (true≢false (sym is))
-opened_by_now k (d ∷ h) id s is = ⊎_elim (here d s) (λ (t : opened id h ≡ true). let a = opened_by_now k h id s.0 t in let b = issue_grows id.slot d h in omega arith) (or_tells (opens id d) (opened id h) is)
+opened_by_now k (d ∷ h) id s is = ⊎_elim (here d s) (λ (t : opened id h ≡ true). let a = opened_by_now k h id s.0 t in let b = issue_grows id.slot d h in omega arith)
+    (or_tells (opens id d) (opened id h) is)
   where
     here : (d : Deed) → IsSound k (d ∷ h) → opens id d ≡ true → id.issue ≤ issue id.slot (d ∷ h)
     here (Opened c j) s t = subst (λ (x : Speculation). x.issue ≤ issue x.slot h) (sym (same_id_tells id j t)) (let e = s.1.1.3 in omega arith)
@@ -128,5 +132,6 @@ opened_in_range k [] id n s is = absurd (true≢false (sym is))
 opened_in_range k (d ∷ h) id n s is = ⊎_elim (here d s) (λ (t : opened id h ≡ true). opened_in_range k h id n s.0 t) (or_tells (opens id d) (opened id h) is)
   where
     here : (d : Deed) → IsSound k (d ∷ h) → opens id d ≡ true → (1 ≤ id.slot) × (id.slot ≤ k.nspec)
-    here (Opened c j) s t = let at : scan k c h ≡ j.slot = s.1.1.0 in let le = scan_bound k h c n in let one : 1 ≤ j.slot = s.1.1.1 in subst (λ (x : Speculation). (1 ≤ x.slot) × (x.slot ≤ k.nspec)) (sym (same_id_tells id j t)) (one, omega arith)
+    here (Opened c j) s t = let at : scan k c h ≡ j.slot = s.1.1.0 in let le = scan_bound k h c n in let one : 1 ≤ j.slot =
+        s.1.1.1 in subst (λ (x : Speculation). (1 ≤ x.slot) × (x.slot ≤ k.nspec)) (sym (same_id_tells id j t)) (one, omega arith)
     here d s t = absurd (true≢false (sym t))

@@ -40,7 +40,8 @@ spoken_emptied : (c : ℕ) (d : Deed) (h : List Deed) (id : Speculation) (f : Fa
 spoken_emptied c d h id f m = rw m.added refl
 
 -- nothing of an emptied buffer is left, and all of the others
-spoken_left : (c : ℕ) (d : Deed) (i id : Speculation) → ((j : Speculation) → empties c j d ≡ same_id j i) → (ps : List Spoken) → spoken_to id (left_by c d ps) ≡ (if same_id id i then [] else spoken_to id ps)
+spoken_left : (c : ℕ) (d : Deed) (i id : Speculation) → ((j : Speculation) → empties c j d ≡ same_id j i) → (ps : List Spoken)
+    → spoken_to id (left_by c d ps) ≡ (if same_id id i then [] else spoken_to id ps)
 spoken_left c d i id e [] = empty (same_id id i)
   where
     empty : (b : Bool) → ◌≡◌ {A = List Offer} [] (if b then [] else [])
@@ -48,7 +49,8 @@ spoken_left c d i id e [] = empty (same_id id i)
     empty false = refl
 spoken_left c d i id e (p ∷ ps) = step (same_id p.0 i) refl (same_id id i) refl (spoken_left c d i id e ps)
   where
-    step : (a : Bool) → same_id p.0 i ≡ a → (b : Bool) → same_id id i ≡ b → spoken_to id (left_by c d ps) ≡ (if same_id id i then [] else spoken_to id ps) → spoken_to id (left_by c d (p ∷ ps)) ≡ (if same_id id i then [] else spoken_to id (p ∷ ps))
+    step : (a : Bool) → same_id p.0 i ≡ a → (b : Bool) → same_id id i ≡ b → spoken_to id (left_by c d ps) ≡ (if same_id id i then [] else spoken_to id ps)
+        → spoken_to id (left_by c d (p ∷ ps)) ≡ (if same_id id i then [] else spoken_to id (p ∷ ps))
     step true a true b l =
         let gone : empties c p.0 d ≡ true = e p.0 ∙ a in
         let rest : spoken_to id (left_by c d ps) ≡ [] = rw b at l in
@@ -73,7 +75,8 @@ length_left : (c : ℕ) (d : Deed) (i : Speculation) → ((j : Speculation) → 
 length_left c d i e [] = refl
 length_left c d i e (p ∷ ps) = rw (e p.0, same_id_back i p.0) (step (same_id p.0 i) (length_left c d i e ps))
   where
-    step : (a : Bool) → length (left_by c d ps) + length (spoken_to i ps) ≡ length ps → length (if not a then p ∷ left_by c d ps else left_by c d ps) + length (if a then p.1 ∷ spoken_to i ps else spoken_to i ps) ≡ length (p ∷ ps)
+    step : (a : Bool) → length (left_by c d ps) + length (spoken_to i ps) ≡ length ps
+        → length (if not a then p ∷ left_by c d ps else left_by c d ps) + length (if a then p.1 ∷ spoken_to i ps else spoken_to i ps) ≡ length (p ∷ ps)
     step true l = omega arith
     step false l = omega arith
 
@@ -95,7 +98,8 @@ held_spoken c id (d ∷ h) l = step (l.1) (held_spoken c id h l.0)
     step (emptying i f m) e = rw (spoken_emptied c d h i f m, m.holds id, spoken_left c d i id m.empty (speculative c h), e) refl
 
 -- the speculative records are fewer by those of the emptied buffer
-pub spoken_fewer : (c : ℕ) (d : Deed) (h : List Deed) (id : Speculation) (f : Fate) → Accounts c h → Empties c d h id f → length (speculative c (d ∷ h)) + length (held c id h) ≡ length (speculative c h)
+pub spoken_fewer : (c : ℕ) (d : Deed) (h : List Deed) (id : Speculation) (f : Fate) → Accounts c h → Empties c d h id f
+    → length (speculative c (d ∷ h)) + length (held c id h) ≡ length (speculative c h)
 spoken_fewer c d h id f l m =
     rw (spoken_emptied c d h id f m, sym (held_spoken c id h l)) (length_left c d id m.empty (speculative c h))
 

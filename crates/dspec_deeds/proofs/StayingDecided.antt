@@ -7,16 +7,18 @@ use Rattle.dspec_deeds.specs.declared.calls.Actor.TheVariants.{Cpu}
 use Rattle.dspec_deeds.specs.declared.deed.Deed.{Deed}
 use Rattle.dspec_deeds.specs.declared.deed.Deed.TheVariants.{Speculate, Commit, Discard, Release}
 use Rattle.dspec_deeds.specs.FateKinds.{spoken_granted, spoken_stopped, is_commit, is_discard, decided_stopped}
-use Rattle.dspec_deeds.specs.History.{same_id, halted, late, issue, releases, present, opens, opened, verdict, is_undecided, is_open, callers, standing, code_at, same_actor, author, releaser, solo, solo_of, settled}
-use Rattle.dspec_deeds.specs.Legal.{Answers, IsSound}
-pub use Rattle.dspec_deeds.specs.OthersDeeds.{WaitsFor, Stands}
+use Rattle.dspec_deeds.specs.History.{same_id, halted, late, issue, releases, present, opens, opened, verdict, is_undecided}
+use Rattle.dspec_deeds.specs.History.{is_open, callers, standing, code_at, same_actor, author, releaser, solo, solo_of, settled}
+use Rattle.dspec_deeds.specs.Legal.{StopsOrActs, IsSound}
+pub use Rattle.dspec_deeds.specs.OthersDeeds.{WaitsFor, StandsAsBefore}
 use Rattle.dspec_deeds.proofs.TestLemmas.{either_way, off, or_true, and_tells, same_number, same_id_tells, cpu_is_itself}
 use Rattle.dspec_deeds.proofs.SoundLists.{answered_open, granted_goes, commit_goes, discard_goes}
 use Rattle.dspec_deeds.proofs.PresentIds.{decided_shut}
 use Rattle.dspec_deeds.proofs.StayingOwn.{settled_other}
 
 -- what is done to a speculation is done to an open one
-not_done : (h : List Deed) (c : ℕ) (id j : Speculation) (stopped done : Bool) → (done ≡ true → stopped ≡ false) → is_open id h ≡ false → Answers (halted h) (late c h) (is_open j h) stopped done → (done && same_id id j) ≡ false
+not_done : (h : List Deed) (c : ℕ) (id j : Speculation) (stopped done : Bool) → (done ≡ true → stopped ≡ false) → is_open id h ≡ false
+    → StopsOrActs (halted h) (late c h) (is_open j h) stopped done → (done && same_id id j) ≡ false
 not_done h c id j stopped done goes shut a = ⊎_elim
     (λ (t : (done && same_id id j) ≡ true).
     let both = and_tells done (same_id id j) t in
@@ -47,7 +49,8 @@ waited_unreleased k c s (Release n) h lt sound other held = ⊎_elim
 waited_unreleased k c s d h lt sound other held = refl
 
 -- a decided speculation stands where it is not released
-pub decided_stands : (k : Config) (s : ℕ) (d : Deed) (h : List Deed) → IsSound k (d ∷ h) → opened (present s h) h ≡ true → is_undecided (verdict (present s h) h) ≡ false → releases s d ≡ false → Stands s h (d ∷ h)
+pub decided_stands : (k : Config) (s : ℕ) (d : Deed) (h : List Deed) → IsSound k (d ∷ h) → opened (present s h) h ≡ true → is_undecided (verdict (present s h) h) ≡ false
+    → releases s d ≡ false → StandsAsBefore s h (d ∷ h)
 decided_stands k s d h sound given ruled kept =
     let id = present s h in
     let issues : issue s (d ∷ h) ≡ issue s h = rw kept refl in
@@ -64,7 +67,8 @@ decided_stands k s d h sound given ruled kept =
     }
 
 -- another's deed leaves what waits for the CPU
-pub waits_stays : (k : Config) (c s : ℕ) (d : Deed) (h : List Deed) → c < k.cpus → IsSound k (d ∷ h) → same_actor (Cpu c) (author d h) ≡ false → WaitsFor k c s h → WaitsFor k c s (d ∷ h) × Stands s h (d ∷ h)
+pub waits_stays : (k : Config) (c s : ℕ) (d : Deed) (h : List Deed) → c < k.cpus → IsSound k (d ∷ h) → same_actor (Cpu c) (author d h) ≡ false → WaitsFor k c s h
+    → WaitsFor k c s (d ∷ h) × StandsAsBefore s h (d ∷ h)
 waits_stays k c s d h lt sound other held =
     let id = present s h in
     let stands = decided_stands k s d h sound held.given held.ruled (waited_unreleased k c s d h lt sound other held) in

@@ -42,7 +42,8 @@ free_stays k s d h sound un shut =
     let now : opened (present s h) (d ∷ h) ≡ false = rw (b, un) refl in
     let later : opened (present s (d ∷ h)) (d ∷ h) ≡ false = subst (λ n. opened record { issue = n; slot = s } (d ∷ h) ≡ false) (sym issues) now in
     let codes : code_at (present s (d ∷ h)) (d ∷ h) ≡ code_at (present s h) h =
-    ap (λ b. if b then standing (verdict (present s (d ∷ h)) (d ∷ h)) (callers (present s (d ∷ h)) (d ∷ h)) else Inactive) later ∙ sym (ap (λ b. if b then standing (verdict (present s h) h) (callers (present s h) h) else Inactive) un) in
+    ap (λ b. if b then standing (verdict (present s (d ∷ h)) (d ∷ h)) (callers (present s (d ∷ h)) (d ∷ h)) else Inactive) later
+    ∙ sym (ap (λ b. if b then standing (verdict (present s h) h) (callers (present s h) h) else Inactive) un) in
     λ i. record { issue = issues i; code = codes i }
 
 -- another's deed leaves the word of a free slot, or the slot was given out since

@@ -10,7 +10,8 @@ use Rattle.dspec_word.specs.declared.code.Code.TheVariants.{Inactive, ActiveMany
 use Rattle.dspec_word.specs.Tables.{speculate_at, speculate_act, commit_at, commit_act, discard_at, discard_act}
 use Rattle.dspec_deeds.specs.declared.config.Config.{Config}
 use Rattle.dspec_deeds.specs.declared.deed.Deed.{Deed}
-use Rattle.dspec_deeds.specs.History.{is_among, issue, present, opened, Verdict, undecided, committed, discarded, verdict, is_undecided, is_open, callers, joined, standing, active_code, is_sole, is_sole_or_none, code_at, word_at}
+use Rattle.dspec_deeds.specs.History.{is_among, issue, present, opened, Verdict, undecided, committed, discarded, verdict, is_undecided}
+use Rattle.dspec_deeds.specs.History.{is_open, callers, joined, standing, active_code, is_sole, is_sole_or_none, code_at, word_at}
 use Rattle.dspec_deeds.specs.Legal.{IsSound}
 use Rattle.dspec_deeds.proofs.TestLemmas.{either_way, off, or_false, same_number}
 use Rattle.dspec_deeds.proofs.PresentIds.{open_is_present, present_is}
@@ -23,7 +24,8 @@ at_word id h table void is e = ⊎_elim
     (λ (t : (issue id.slot h == id.issue) ≡ true).
     let now = same_number (issue id.slot h) id.issue t in
     inl (now, ap (λ j. table (code_at j h)) (sym (present_is id h now)) ∙ subst (λ b. (if b then table (code_at (present id.slot h) h) else void) ≡ is) t e))
-    (λ (f : (issue id.slot h == id.issue) ≡ false). inr ((λ now. off (issue id.slot h == id.issue) (grind (arith, nat_tests)) f), subst (λ b. (if b then table (code_at (present id.slot h) h) else void) ≡ is) f e))
+    (λ (f : (issue id.slot h == id.issue) ≡ false). inr
+    ((λ now. off (issue id.slot h == id.issue) (grind (arith, nat_tests)) f), subst (λ b. (if b then table (code_at (present id.slot h) h) else void) ≡ is) f e))
     (either_way (issue id.slot h == id.issue))
 
 -- a speculate that the table ends names no open speculation
@@ -46,7 +48,8 @@ speculate_void k h id mine s e = ⊎_elim
 pub speculate_granted : (k : Config) (h : List Deed) (id : Speculation) (c : ℕ) → IsSound k h → speculate_at (word_at id.slot h) id (is_among c (callers id h)) ≡ Granted
     → (is_open id h ≡ true) × (standing (verdict id h) (joined (Some c) (callers id h)) ≡ standing (verdict id h) (callers id h))
 speculate_granted k h id c s e = ⊎_elim
-    (λ (t : (issue id.slot h ≡ id.issue) × (speculate_act (issue id.slot h) (is_among c (callers id h)) (code_at id h) ≡ Granted)). go (opened id h) (verdict id h) (callers id h) (is_among c (callers id h)) refl t.1)
+    (λ (t : (issue id.slot h ≡ id.issue) × (speculate_act (issue id.slot h) (is_among c (callers id h)) (code_at id h) ≡ Granted)). go (opened id h) (verdict id h)
+    (callers id h) (is_among c (callers id h)) refl t.1)
     (λ (t : (issue id.slot h ≢ id.issue) × (◌≡◌ {A = Act} Void Granted)). absurd (cc (t.1)))
     (at_word id h (speculate_act (issue id.slot h) (is_among c (callers id h))) Void Granted e)
   where

@@ -78,7 +78,8 @@ pub discard_open : (k : Config) (c : ℕ) (id : Speculation) (f : DecideFate) (h
 discard_open k c id f h s t = answered_open h c id (decided_stopped f) (is_discard f) (discard_goes f t) t s.1.1.2
 
 -- the word of a slot, by the code of its present speculation
-word_by : (id : Speculation) (new h : List Deed) (w : Code) → present id.slot h ≡ id → issue id.slot new ≡ issue id.slot h → code_at id new ≡ w → word_at id.slot new ≡ record { issue = issue id.slot h; code = w }
+word_by : (id : Speculation) (new h : List Deed) (w : Code) → present id.slot h ≡ id → issue id.slot new ≡ issue id.slot h → code_at id new ≡ w
+    → word_at id.slot new ≡ record { issue = issue id.slot h; code = w }
 word_by id new h w is same e =
     let p : present id.slot new ≡ id = (λ i. record { issue = same i; slot = id.slot }) ∙ is in
     λ i. record { issue = same i; code = (ap (λ j. code_at j new) p ∙ e) i }

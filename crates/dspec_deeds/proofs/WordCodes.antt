@@ -8,7 +8,8 @@ use Rattle.dspec_word.specs.Code.{is_inactive, is_decided, awaits}
 use Rattle.dspec_word.specs.Tables.{open_at}
 use Rattle.dspec_deeds.specs.declared.config.Config.{Config}
 use Rattle.dspec_deeds.specs.declared.deed.Deed.{Deed}
-use Rattle.dspec_deeds.specs.History.{issue, present, opened, Verdict, undecided, committed, discarded, verdict, is_undecided, callers, standing, active_code, is_sole_or_none, word_at, solo, solo_of, is_free, is_busy}
+use Rattle.dspec_deeds.specs.History.{issue, present, opened, Verdict, undecided, committed, discarded, verdict, is_undecided}
+use Rattle.dspec_deeds.specs.History.{callers, standing, active_code, is_sole_or_none, word_at, solo, solo_of, is_free, is_busy}
 use Rattle.dspec_deeds.specs.Legal.{IsSound}
 use Rattle.dspec_deeds.proofs.TestLemmas.{either_way}
 use Rattle.dspec_deeds.proofs.SoundLists.{unseen}
@@ -71,7 +72,8 @@ open_void k h s e = sym (free_is k h s) ∙ go (is_inactive (word_at s h).code &
     go false e = refl
 
 -- an exchange that opens goes for a free slot
-pub open_attempt : (k : Config) (h : List Deed) (s : ℕ) (new : SlotState) → open_at (word_at s h) k.max_issues ≡ Attempt new → (is_free k s h ≡ true) × (new ≡ record { issue = issue s h; code = Active })
+pub open_attempt : (k : Config) (h : List Deed) (s : ℕ) (new : SlotState) → open_at (word_at s h) k.max_issues ≡ Attempt new
+    → (is_free k s h ≡ true) × (new ≡ record { issue = issue s h; code = Active })
 open_attempt k h s new e = let r = go (is_inactive (word_at s h).code && nat_lt (issue s h) k.max_issues) e in (sym (free_is k h s) ∙ r.0, r.1)
   where
     go : (b : Bool) → (if b then Attempt record { issue = issue s h; code = Active } else Void) ≡ Attempt new → (b ≡ true) × (new ≡ record { issue = issue s h; code = Active })
@@ -105,7 +107,8 @@ committing_tells s h e = go (opened (present s h) h) (verdict (present s h) h) (
     sole true e = refl
     sole false e = absurd (cc (e))
 
-    go : (o : Bool) (v : Verdict) (cs : List ℕ) → opened (present s h) h ≡ o → verdict (present s h) h ≡ v → callers (present s h) h ≡ cs → (if opened (present s h) h then standing (verdict (present s h) h) (callers (present s h) h) else Inactive) ≡ Committing → (c : ℕ) × IsCommitting s c h
+    go : (o : Bool) (v : Verdict) (cs : List ℕ) → opened (present s h) h ≡ o → verdict (present s h) h ≡ v → callers (present s h) h ≡ cs
+        → (if opened (present s h) h then standing (verdict (present s h) h) (callers (present s h) h) else Inactive) ≡ Committing → (c : ℕ) × IsCommitting s c h
     go false v cs eo ev ec e = let shown : Inactive ≡ Committing = sym (λ i. if eo i then standing (verdict (present s h) h) (callers (present s h) h) else Inactive) ∙ e in absurd (cc (shown))
     go true undecided cs eo ev ec e = absurd (active_no cs (sym (λ i. if eo i then standing (ev i) (ec i) else Inactive) ∙ e))
     go true (committed b) cs eo ev ec e =

@@ -10,7 +10,7 @@ use Rattle.dspec_deeds.specs.History.{owed, author, part, same_actor}
 use Rattle.dspec_deeds.specs.Legal.{HasAuthors, IsSound, is_seal}
 use Rattle.dspec_deeds.proofs.TestLemmas.{either_way, same_number, number_is_itself, cpu_is_itself}
 use Rattle.dspec_deeds.specs.Owning.{is_of, IsOwn, ReadsAlike}
-use Rattle.dspec_deeds.specs.Weaving.{bare, IsPlaced, ArePlaced, lead, behind, taken_off, seals_of, woven, HaveLists, ShowsAlike, IsWoven}
+use Rattle.dspec_deeds.specs.Weaving.{bare, IsPlaced, ArePlaced, lead, behind, taken_off, seals_behind, woven, HaveLists, ShowsAlike, IsWoven}
 use Rattle.dspec_deeds.proofs.OwnReads.{reads}
 use Rattle.dspec_deeds.proofs.BareReads.{author_bare, shows_bare}
 use Rattle.dspec_deeds.proofs.SealsPut.{AreSeals, placed_on, bare_on, own_on, other_on, authors_on, front_bare, front_consumer, front_own, front_authors, front_placed}
@@ -149,7 +149,7 @@ module _ (shape : ℕ → Option Shape) (k : Config) where
   -- one deed more, whosever it is
   lay : (d : Deed) (h : List Deed) (p : ℕ → List Deed) (v : Actor) → author d h ≡ v → HasAuthors k (d ∷ h) → HaveLists shape k p (d ∷ h)
       → ((q : ℕ → List Deed) → HaveLists shape k q h → IsLaid q h (woven k.cpus q h))
-      → IsLaid p (d ∷ h) (seals_of v p ++ d ∷ woven k.cpus (taken_off v p) h)
+      → IsLaid p (d ∷ h) (seals_behind v p ++ d ∷ woven k.cpus (taken_off v p) h)
   lay d h p Consumer is whose lists below =
       let q : ℕ → List Deed = λ a. p a in
       let under : HaveLists shape k q h = record { own = lists.own; parts = λ c lt. lists.parts c lt ∙ others_part d h Consumer is (Cpu c) refl } in

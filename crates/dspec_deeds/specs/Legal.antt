@@ -2,7 +2,7 @@
 use Rattle.std.specs.Prelude.{ℕ, ◌≡◌, ◌≢◌, ◌<◌, ◌≤◌, ◌⊎◌, ◌&&◌, ◌||◌, nat_lt, Bool, true, false, not, List, [], ◌∷◌, length, MatchBool, Option, None}
 use Rattle.dspec_record.specs.declared.field.Shape.{Shape}
 use Rattle.dspec_record.specs.Record.{Record}
-use Rattle.dspec_buffer.specs.Extent.{Piece, one, block, fits}
+use Rattle.dspec_buffer.specs.Extent.{Piece, one, block, piece_fits}
 use Rattle.dspec_word.specs.SpecId.{Speculation}
 use Rattle.dspec_deeds.specs.declared.config.Config.{Config}
 use Rattle.dspec_deeds.specs.declared.calls.Actor.TheVariants.{Cpu}
@@ -11,15 +11,16 @@ use Rattle.dspec_deeds.specs.declared.deed.Deed.{Deed}
 use Rattle.dspec_deeds.specs.declared.deed.Deed.TheVariants.{Trace, Scan, Opened, Miss, Speculate, Commit, Discard, Settle, Seal, Release, Halt}
 use Rattle.dspec_deeds.specs.Ranges.{is_fill}
 use Rattle.dspec_deeds.specs.FateKinds.{trace_stopped, trace_kept, spoken_stopped, spoken_granted, spoken_kept, decided_stopped, is_commit, is_discard, is_copied, count_of}
-use Rattle.dspec_deeds.specs.History.{halted, issue, Verdict, undecided, committed, discarded, opened, callers, releaser, solo_of, verdict, is_undecided, settled, scan, opened_since, author, part, late, owed}
+use Rattle.dspec_deeds.specs.History.{halted, issue, Verdict, undecided, committed, discarded, opened, callers, releaser, solo_of}
+use Rattle.dspec_deeds.specs.History.{verdict, is_undecided, settled, scan, opened_since, author, part, late, owed}
 use Rattle.dspec_deeds.specs.Own.{Offer, contents, held, active, full, seals}
 
 -- The common part: what rests on others' deeds.
 
 -- a call that was shown that the session runs goes on after a stop, if its CPU has done nothing since; it does what it
 -- asks for exactly where the speculation is open
-abbrev pub Answers : Bool → Bool → Bool → Bool → Bool → Type 0
-Answers halt tardy is_open stopped done = MatchBool stopped (halt ≡ true) ((tardy ≡ false) × (done ≡ is_open))
+abbrev pub StopsOrActs : Bool → Bool → Bool → Bool → Bool → Type 0
+StopsOrActs halt tardy is_open stopped done = MatchBool stopped (halt ≡ true) ((tardy ≡ false) × (done ≡ is_open))
 
 -- a settlement does what the decision says
 abbrev pub SettlesAs : Verdict → DecideFate → Type 0
@@ -58,7 +59,7 @@ abbrev pub at_present : ℕ → Facts → Speculation
 at_present s x = record { issue = x.issues s; slot = s }
 
 abbrev pub AnswersBy : Facts → ℕ → Speculation → Bool → Bool → Type 0
-AnswersBy x c id stopped done = Answers x.halt (x.tardy c) (x.given id && is_undecided (x.ruled id)) stopped done
+AnswersBy x c id stopped done = StopsOrActs x.halt (x.tardy c) (x.given id && is_undecided (x.ruled id)) stopped done
 
 abbrev pub is_free_by : Config → Facts → ℕ → Bool
 is_free_by k x s = not (x.given (at_present s x)) && nat_lt (x.issues s) k.max_issues
@@ -124,11 +125,11 @@ is_closed k c h = is_fill k.policy && full c h
 module _ (shape : ℕ → Option Shape) (k : Config) where
   -- a piece fits the rest of the active principal buffer, and that isn't closed to it
   abbrev pub fits_principal : ℕ → Piece → List Deed → Bool
-  fits_principal c p h = fits shape (active c h) p k.bufsize && (is_empty p || not (is_closed k c h))
+  fits_principal c p h = piece_fits shape (active c h) p k.bufsize && (is_empty p || not (is_closed k c h))
 
   -- a speculative record fits the rest of the CPU's buffer of the speculation
   abbrev pub fits_speculative : ℕ → Speculation → Record → List Deed → Bool
-  fits_speculative c id r h = fits shape (Rattle.std.specs.Prelude.map one (contents (held c id h))) (one r) k.specsize
+  fits_speculative c id r h = piece_fits shape (Rattle.std.specs.Prelude.map one (contents (held c id h))) (one r) k.specsize
 
   -- a buffer is copied whole exactly where its block fits, and its number of records is told
   abbrev pub CopiesOrLoses : ℕ → List Deed → List Offer → DecideFate → Type 0

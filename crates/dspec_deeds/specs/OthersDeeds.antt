@@ -14,7 +14,7 @@ pub record WaitsFor (k : Config) (c s : ℕ) (h : List Deed) : Type 0 where
   pub waits : (solo (present s h) h ≡ Some c) ⊎ ((solo (present s h) h ≡ None) × (settled c (present s h) h ≡ false))
 
 -- the same speculation, with the same decision and callers, so the same word
-pub record Stands (s : ℕ) (h new : List Deed) : Type 0 where
+pub record StandsAsBefore (s : ℕ) (h new : List Deed) : Type 0 where
   pub issues : issue s new ≡ issue s h
   pub word : word_at s new ≡ word_at s h
   pub verdicts : verdict (present s new) new ≡ verdict (present s h) h
@@ -30,4 +30,4 @@ pub record LeavesStanding (k : Config) (c : ℕ) (d : Deed) (h : List Deed) : Ty
   pub own : ReadsAlike k c (d ∷ h) h
   pub early : late c h ≡ false → late c (d ∷ h) ≡ false
   pub free : (s : ℕ) (w : SlotState) → is_inactive w.code ≡ true → HasOrTaken c s w h → HasOrTaken c s w (d ∷ h)
-  pub waits : (s : ℕ) → WaitsFor k c s h → WaitsFor k c s (d ∷ h) × Stands s h (d ∷ h)
+  pub waits : (s : ℕ) → WaitsFor k c s h → WaitsFor k c s (d ∷ h) × StandsAsBefore s h (d ∷ h)

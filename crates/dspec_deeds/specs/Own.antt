@@ -23,14 +23,14 @@ offered_by c (Trace a r f) = if c == a then Some r else None
 offered_by c (Speculate a id r f) = if c == a then Some r else None
 offered_by c d = None
 
-abbrev pub number_of : Option Record → ℕ
-number_of None = 0
-number_of (Some r) = 1
+abbrev pub one_if_record : Option Record → ℕ
+one_if_record None = 0
+one_if_record (Some r) = 1
 
 -- how many records the CPU offered
 abbrev pub offers : ℕ → List Deed → ℕ
 offers c [] = 0
-offers c (d ∷ h) = offers c h + number_of (offered_by c d)
+offers c (d ∷ h) = offers c h + one_if_record (offered_by c d)
 
 -- whether a call counts towards the most that a CPU makes
 abbrev pub is_call : ℕ → Deed → Bool

@@ -5,7 +5,8 @@ use Rattle.dspec_deeds.specs.declared.config.Config.{Config}
 use Rattle.dspec_deeds.specs.declared.deed.Deed.{Deed}
 use Rattle.dspec_deeds.specs.declared.deed.Deed.TheVariants.{Trace, Scan, Miss, Speculate, Commit, Discard, Settle}
 use Rattle.dspec_deeds.specs.declared.report.Report.{Report}
-use Rattle.dspec_deeds.specs.FateKinds.{trace_kept, trace_dropped, trace_stopped, spoken_kept, spoken_dropped, spoken_nowhere, spoken_stopped, decided_stopped, is_discard, is_copied, is_lost, count_of}
+use Rattle.dspec_deeds.specs.FateKinds.{trace_kept, trace_dropped, trace_stopped, spoken_kept, spoken_dropped, spoken_nowhere}
+use Rattle.dspec_deeds.specs.FateKinds.{spoken_stopped, decided_stopped, is_discard, is_copied, is_lost, count_of}
 use Rattle.dspec_deeds.specs.Own.{Offer, offers, empties, is_drop}
 
 -- the sum over the deeds of what each adds

@@ -49,9 +49,9 @@ taken_off (Cpu c) p a = if a == c then behind (p a) else p a
 taken_off Consumer p a = p a
 
 -- the Seals that come directly behind an actor's latest deed
-abbrev pub seals_of : Actor → (ℕ → List Deed) → List Deed
-seals_of (Cpu c) p = lead (p c)
-seals_of Consumer p = []
+abbrev pub seals_behind : Actor → (ℕ → List Deed) → List Deed
+seals_behind (Cpu c) p = lead (p c)
+seals_behind Consumer p = []
 
 -- the lists of the first CPUs, one behind another
 abbrev pub front : ℕ → (ℕ → List Deed) → List Deed
@@ -61,7 +61,7 @@ front (suc n) p = p n ++ front n p
 -- each Seal directly behind the deed that stands before it in its CPU's list, at the front where there is none
 abbrev pub woven : ℕ → (ℕ → List Deed) → List Deed → List Deed
 woven n p [] = front n p
-woven n p (d ∷ h) = seals_of (author d h) p ++ d ∷ woven n (taken_off (author d h) p) h
+woven n p (d ∷ h) = seals_behind (author d h) p ++ d ∷ woven n (taken_off (author d h) p) h
 
 -- what is read off the deeds of all is the same in both lists
 pub record ShowsAlike (g h : List Deed) : Type 0 where

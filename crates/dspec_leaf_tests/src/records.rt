@@ -102,6 +102,25 @@ fn enabling_limits(rt: HostRuntime) -> Result<(), Fail> {
     Ok(())
 }
 
+/// How many enablings there are, what the fields of each are, and how wide.
+#[test]
+fn fields_of_enablings(rt: HostRuntime) -> Result<(), Fail> {
+    let enablings = four_enablings()?;
+    same(&rt, enablings.count(), 4);
+    same(&rt, Enablings::new().count(), 0);
+    same(&rt, enablings.fields(0), None);
+    same(&rt, enablings.fields(1), Some([].as_slice()));
+    same(
+        &rt,
+        enablings.fields(3),
+        Some([Field::One, Field::Two].as_slice()),
+    );
+    same(&rt, enablings.fields(5), None);
+    let all = [Field::One, Field::Two, Field::Four, Field::Eight];
+    same(&rt, all.map(Field::width), [1, 2, 4, 8]);
+    Ok(())
+}
+
 /// What the schema reads at the front of the bytes.
 pub fn read<S: Schema>(schema: &S, bytes: &[u8]) -> Result<(Rec, usize), ReadKind> {
     schema.get(bytes)

@@ -1,10 +1,11 @@
 -- What the end of a CPU's block of a speculation leaves of its side.
-use Rattle.std.proofs.Common.{◌≡◌, ◌≢◌, ◌⊎◌, ⊎_elim, ◌==◌, None, ℕ, zero, suc, ◌+◌, ◌-◌, ◌<◌, true, false, List, [], ◌∷◌, ◌++◌, length, map, reverse, set, Option, Some, refl, sym, ap, ◌∙◌, subst, true≢false, arith}
+use Rattle.std.proofs.Common.{◌≡◌, ◌≢◌, ◌⊎◌, ⊎_elim, ◌==◌, None, ℕ, zero, suc, ◌+◌, ◌-◌, ◌<◌, true, false, List, []}
+use Rattle.std.proofs.Common.{◌∷◌, ◌++◌, length, map, reverse, set, Option, Some, refl, sym, ap, ◌∙◌, subst, true≢false, arith}
 use Rattle.std.specs.Prelude.{Result, Ok, Err, OnOk, OnErr, slice_get, if◌then◌else◌}
 use Rattle.std.proofs.lemmas.List.{reverse-append, append-nil}
 use Rattle.dspec_record.specs.declared.field.Shape.{Shape}
 use Rattle.dspec_record.specs.Record.{Record}
-use Rattle.dspec_buffer.specs.Extent.{Piece, one, block, fits}
+use Rattle.dspec_buffer.specs.Extent.{Piece, one, block, piece_fits}
 use Rattle.dspec_word.specs.SpecId.{Speculation}
 use Rattle.dspec_deeds.specs.declared.config.Config.{Config}
 use Rattle.dspec_deeds.specs.declared.deed.DecideFate.{DecideFate}
@@ -16,7 +17,7 @@ use Rattle.dspec_deeds.specs.Own.{Offer, accepted, active, calls, contents, held
 use Rattle.dspec_machine.specs.declared.side.Side.{Side}
 use Rattle.dspec_deeds.specs.History.{present, ack, acks, Verdict, undecided, committed, discarded, verdict, is_undecided}
 use Rattle.dspec_play.specs.Coherent.{IsSlot}
-use Rattle.dspec_machine.specs.Shown.{ShowsSide, HasPieces}
+use Rattle.dspec_machine.specs.Shown.{ShowsSide, HoldsPieces}
 use Rattle.dspec_deeds.specs.Legal.{IsSound, SettlesAs, OwnAllows}
 use Rattle.dspec_deeds.specs.Ranges.{start_fault}
 use Rattle.dspec_deeds.proofs.ReportBounds.{has_room}
@@ -53,13 +54,13 @@ stream_grows c decided.Stopped os h = append-nil (stream c h)
 
 -- a copied buffer's block fits: at a commit
 pub commit_fits : (shape : ℕ → Option Shape) (k : Config) (c : ℕ) (id : Speculation) (f : DecideFate) (h : List Deed) → OwnAllows shape k h (Commit c id f) → is_copied f ≡ true
-    → fits shape (active c h) (block (contents (held c id h))) k.bufsize ≡ true
+    → piece_fits shape (active c h) (block (contents (held c id h))) k.bufsize ≡ true
 commit_fits shape k c id (decided.Copied n) h allows e = has_room shape k c (block (contents (held c id h))) h (sym allows.1)
 commit_fits shape k c id f h allows e = absurd (true≢false (sym e))
 
 -- and at a settlement
 pub settle_fits : (shape : ℕ → Option Shape) (k : Config) (c : ℕ) (id : Speculation) (f : DecideFate) (h : List Deed) → OwnAllows shape k h (Settle c id f) → is_copied f ≡ true
-    → fits shape (active c h) (block (contents (held c id h))) k.bufsize ≡ true
+    → piece_fits shape (active c h) (block (contents (held c id h))) k.bufsize ≡ true
 settle_fits shape k c id (decided.Copied n) h allows e = has_room shape k c (block (contents (held c id h))) h (sym allows.1)
 settle_fits shape k c id f h allows e = absurd (true≢false (sym e))
 
@@ -73,7 +74,7 @@ module _ {S B : Type 0} (has_pieces : B → S → List Piece → Type 0) (capaci
   -- what closing a block makes of a side
   pub record Closes (place : ℕ) (f : DecideFate) (old new : Side B) : Type 0 where
     pub active : (s : S) (ps : List Piece) (rs : List Record) (b : B) → slice_get old.speculative.items place ≡ Some b → has_pieces old.active s ps → has_pieces b s (map one rs)
-        → (is_copied f ≡ true → fits (shape_of s) ps (block rs) (capacity old.active) ≡ true) → has_pieces new.active s (if is_copied f then block rs ∷ ps else ps)
+        → (is_copied f ≡ true → piece_fits (shape_of s) ps (block rs) (capacity old.active) ≡ true) → has_pieces new.active s (if is_copied f then block rs ∷ ps else ps)
     pub active_size : capacity new.active ≡ capacity old.active
     pub emptied : (b : B) → slice_get old.speculative.items place ≡ Some b
         → (n : B) × ((capacity n ≡ capacity b) × ((s : S) → has_pieces n s []) × (new.speculative.items ≡ set old.speculative.items place n))
@@ -84,22 +85,23 @@ module _ {S B : Type 0} (has_pieces : B → S → List Piece → Type 0) (capaci
     -- the side once its block is closed, its records are in the stream, and `put` tells its calls and its acknowledgements
     pub closed_side : IsEnding c d id f h → present id.slot h ≡ id → IsSlot k id.slot → place ≡ id.slot - 1 → slice_get old.speculative.items place ≡ Some b
         → mid ≡ record old { calls = put.calls; acks = put.acks; accepted = old.accepted ++ (if is_copied f then reverse (contents (held c id h)) else []) }
-        → (is_copied f ≡ true → fits (shape_of schema) (active c h) (block (contents (held c id h))) k.bufsize ≡ true) → Closes place f mid new
+        → (is_copied f ≡ true → piece_fits (shape_of schema) (active c h) (block (contents (held c id h))) k.bufsize ≡ true) → Closes place f mid new
         → put.calls ≡ calls c (d ∷ h) → length put.acks.items ≡ k.nspec → ((s : ℕ) → IsSlot k s → slice_get put.acks.items (s - 1) ≡ Some (ack c s (d ∷ h)))
         → ShowsSide has_pieces capacity schema k c h old → ShowsSide has_pieces capacity schema k c (d ∷ h) new
     closed_side ends is slot at got mids fitting closes calling ack_count acks was =
         let os = held c id h in
-        let its : HasPieces has_pieces capacity schema k.specsize (map one (contents os)) b =
-        subst (λ j. HasPieces has_pieces capacity schema k.specsize (map one (contents (held c j h))) b) is
+        let its : HoldsPieces has_pieces capacity schema k.specsize (map one (contents os)) b =
+        subst (λ j. HoldsPieces has_pieces capacity schema k.specsize (map one (contents (held c j h))) b) is
         (was.speculative id.slot b slot (subst (λ n. slice_get old.speculative.items n ≡ Some b) at got)) in
         let got' : slice_get mid.speculative.items place ≡ Some b = ap (λ s. slice_get s.speculative.items place) mids ∙ got in
         let same : mid.active ≡ old.active = ap (λ s. s.active) mids in
-        let room : is_copied f ≡ true → fits (shape_of schema) (active c h) (block (contents os)) (capacity mid.active) ≡ true =
-        λ e. ap (λ n. fits (shape_of schema) (active c h) (block (contents os)) n) (ap capacity same ∙ was.principal.sized) ∙ fitting e in
+        let room : is_copied f ≡ true → piece_fits (shape_of schema) (active c h) (block (contents os)) (capacity mid.active) ≡ true =
+        λ e. ap (λ n. piece_fits (shape_of schema) (active c h) (block (contents os)) n) (ap capacity same ∙ was.principal.sized) ∙ fitting e in
         let pieces = closes.active schema (active c h) (contents os) b got' (subst (λ a. has_pieces a schema (active c h)) (sym same) was.principal.has_pieces) its.has_pieces room in
         let n = closes.emptied b got' in
         let bare = ap (λ s. s.speculative.items) mids in
-        let full : HasPieces has_pieces capacity schema k.bufsize (pieces_of f os (active c h)) new.active = record { sized = closes.active_size ∙ (ap capacity same ∙ was.principal.sized); has_pieces = pieces } in
+        let full : HoldsPieces has_pieces capacity schema k.bufsize (pieces_of f os (active c h)) new.active =
+        record { sized = closes.active_size ∙ (ap capacity same ∙ was.principal.sized); has_pieces = pieces } in
         let does : Ends has_pieces capacity schema k c id f h old new = record {
           emptied = n.0;
           empty = record { sized = n.1.0 ∙ its.sized; has_pieces = n.1.1 schema };
@@ -141,7 +143,8 @@ settling k c id f h fine sound =
 
 -- the acknowledgements after a settlement
 pub acks_set : (k : Config) (c : ℕ) (id : Speculation) (f : DecideFate) (h : List Deed) (xs : List ℕ) (place n : ℕ) → IsSlot k id.slot → IsSound k (Settle c id f ∷ h) → length xs ≡ k.nspec
-    → place ≡ id.slot - 1 → n ≡ id.issue + 1 → ((s : ℕ) → IsSlot k s → slice_get xs (s - 1) ≡ Some (ack c s h)) → (s : ℕ) → IsSlot k s → slice_get (set xs place n) (s - 1) ≡ Some (ack c s (Settle c id f ∷ h))
+    → place ≡ id.slot - 1 → n ≡ id.issue + 1 → ((s : ℕ) → IsSlot k s → slice_get xs (s - 1) ≡ Some (ack c s h)) → (s : ℕ) → IsSlot k s
+    → slice_get (set xs place n) (s - 1) ≡ Some (ack c s (Settle c id f ∷ h))
 acks_set k c id f h xs place n slot sound count at number was s within = go (either_way (s == id.slot))
   where
     go : ((s == id.slot) ≡ true) ⊎ ((s == id.slot) ≡ false) → slice_get (set xs place n) (s - 1) ≡ Some (ack c s (Settle c id f ∷ h))

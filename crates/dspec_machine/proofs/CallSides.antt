@@ -16,7 +16,7 @@ use Rattle.dspec_deeds.specs.Own.{contents, held, keeps, empties, calls, is_call
 use Rattle.dspec_deeds.specs.Legal.{IsSound, OwnAllows, fits_speculative}
 use Rattle.dspec_deeds.specs.Ranges.{start_fault}
 use Rattle.dspec_play.specs.Coherent.{IsSlot}
-use Rattle.dspec_machine.specs.Shown.{HasPieces}
+use Rattle.dspec_machine.specs.Shown.{HoldsPieces}
 use Rattle.dspec_deeds.proofs.TestLemmas.{and_false, number_is_itself, other_number, other_slot, id_is_itself}
 use Rattle.dspec_deeds.proofs.SoundLists.{opened_in_range}
 use Rattle.dspec_deeds.proofs.PresentIds.{open_present}
@@ -45,7 +45,8 @@ pub unnamed : (b c j : Bool) → j ≡ false → (b && (c && j)) ≡ false
 unnamed b c j e = rw (e, and_false c, and_false b) refl
 
 -- a kept record fits the CPU's buffer of its speculation
-pub kept_fits : (shape : ℕ → Option Shape) (k : Config) (c : ℕ) (id : Speculation) (r : Record) (f : SpeculateFate) (h : List Deed) → OwnAllows shape k h (Speculate c id r f) → spoken_granted f ≡ true → spoken_kept f ≡ true
+pub kept_fits : (shape : ℕ → Option Shape) (k : Config) (c : ℕ) (id : Speculation) (r : Record) (f : SpeculateFate) (h : List Deed) → OwnAllows shape k h (Speculate c id r f)
+    → spoken_granted f ≡ true → spoken_kept f ≡ true
     → fits_speculative shape k c id r h ≡ true
 kept_fits shape k c id r f h allows granted kept =
     let Family : Bool → Type 0 = λ b. MatchBool b (spoken_kept f ≡ fits_speculative shape k c id r h) (Unit {0}) in
@@ -93,16 +94,17 @@ module _ {S B : Type 0} (has_pieces : B → S → List Piece → Type 0) (capaci
       → EachSlot k (IsBuffer has_pieces capacity schema k c h) xs → EachSlot k (IsBuffer has_pieces capacity schema k c (d ∷ h)) xs
   buffers_stay d h xs issues same was s x slot got =
       let both : held c (present s (d ∷ h)) (d ∷ h) ≡ held c (present s h) h = ap (λ (n : ℕ). held c record { issue = n; slot = s } (d ∷ h)) (issues s) ∙ same (present s h) in
-      subst (λ os. HasPieces has_pieces capacity schema k.specsize (map one (contents os)) x) (sym both) (was s x slot got)
+      subst (λ os. HoldsPieces has_pieces capacity schema k.specsize (map one (contents os)) x) (sym both) (was s x slot got)
 
   -- the buffers of all slots where that of the present speculation of one is changed
-  pub buffers_set : (d : Deed) (h : List Deed) (id : Speculation) (xs : List B) (b : B) → ((s : ℕ) → issue s (d ∷ h) ≡ issue s h) → ((j : Speculation) → same_id j id ≡ false → held c j (d ∷ h) ≡ held c j h)
-      → present id.slot h ≡ id → IsSlot k id.slot → length xs ≡ k.nspec → HasPieces has_pieces capacity schema k.specsize (map one (contents (held c id (d ∷ h)))) b
+  pub buffers_set : (d : Deed) (h : List Deed) (id : Speculation) (xs : List B) (b : B) → ((s : ℕ) → issue s (d ∷ h) ≡ issue s h)
+      → ((j : Speculation) → same_id j id ≡ false → held c j (d ∷ h) ≡ held c j h)
+      → present id.slot h ≡ id → IsSlot k id.slot → length xs ≡ k.nspec → HoldsPieces has_pieces capacity schema k.specsize (map one (contents (held c id (d ∷ h)))) b
       → EachSlot k (IsBuffer has_pieces capacity schema k c h) xs → EachSlot k (IsBuffer has_pieces capacity schema k c (d ∷ h)) (set xs (id.slot - 1) b)
   buffers_set d h id xs b issues others is slot count here was =
       slot_set k (IsBuffer has_pieces capacity schema k c h) (IsBuffer has_pieces capacity schema k c (d ∷ h)) xs id.slot b slot count
-      (λ s x apart w. subst (λ os. HasPieces has_pieces capacity schema k.specsize (map one (contents os)) x)
+      (λ s x apart w. subst (λ os. HoldsPieces has_pieces capacity schema k.specsize (map one (contents os)) x)
       (sym (ap (λ (n : ℕ). held c record { issue = n; slot = s } (d ∷ h)) (issues s) ∙ others (present s h) (other_slot (present s h) id apart))) w)
-      (subst (λ os. HasPieces has_pieces capacity schema k.specsize (map one (contents os)) b)
+      (subst (λ os. HoldsPieces has_pieces capacity schema k.specsize (map one (contents os)) b)
       (sym (ap (λ (n : ℕ). held c record { issue = n; slot = id.slot } (d ∷ h)) (issues id.slot) ∙ ap (λ j. held c j (d ∷ h)) is)) here)
       was

@@ -14,18 +14,19 @@ use Rattle.dspec_deeds.specs.Own.{taken}
 use Rattle.dspec_play.specs.Play.{changes, stops}
 use Rattle.dspec_play.specs.Coherent.{PlayState}
 use Rattle.dspec_machine.specs.Shown.{ShowsSide}
-use Rattle.dspec_machine.specs.Machines.{IsShown, Cleans, history, state_of}
+use Rattle.dspec_machine.specs.Machines.{IsShownMachine, Cleans, history, state_of}
 use Rattle.dspec_deeds.proofs.TestLemmas.{either_way, same_number, numbers_differ}
 use Rattle.dspec_deeds.proofs.Places.{got_set, got_other}
 
 -- what a play knows of a machine where one CPU's side is another
-pub state_puts : {S B : Type 0} (m : Machine S B) (c : ℕ) (new : Side B) → state_of (record m { sides = with_item m.sides c new }) ≡ record (state_of m) { callers = set (state_of m).callers c new.caller }
+pub state_puts : {S B : Type 0} (m : Machine S B) (c : ℕ) (new : Side B)
+    → state_of (record m { sides = with_item m.sides c new }) ≡ record (state_of m) { callers = set (state_of m).callers c new.caller }
 state_puts {B = B} m c new = ap (λ x. record (state_of m) { callers = x }) (map-set (λ (s : Side B). s.caller) m.sides.items c new)
 
 module _ {S B : Type 0} (has : B → S → List Piece → Type 0) (capacity : B → ℕ) where
   -- a machine shows its list with another side of a CPU that shows it
-  pub side_puts : (m : Machine S B) (c : ℕ) (side new : Side B) → IsShown has capacity m → slice_get m.sides.items c ≡ Some side → ShowsSide has capacity m.schema m.config c (history m) new
-      → IsShown has capacity (record m { sides = with_item m.sides c new })
+  pub side_puts : (m : Machine S B) (c : ℕ) (side new : Side B) → IsShownMachine has capacity m → slice_get m.sides.items c ≡ Some side → ShowsSide has capacity m.schema m.config c (history m) new
+      → IsShownMachine has capacity (record m { sides = with_item m.sides c new })
   side_puts m c side new was got shows = record {
     words = was.words;
     active = was.active;
@@ -63,8 +64,10 @@ module _ {S B : Type 0} (has : B → S → List Piece → Type 0) (capacity : B 
   }
 
   -- a step that changed one CPU's side and ended
-  pub puts_stops : (m n left : Machine S B) (c : ℕ) (me : Caller) (last : Answer) (a : Option Answer) → state_of n ≡ record (state_of m) { callers = set (state_of m).callers c me } → n.schema ≡ m.schema
-      → Cleans has capacity n left (stops n.config (history n) n.consumer (state_of n).callers [] last) a → Cleans has capacity m left (changes m.config (history m) m.consumer (state_of m).callers c me last) a
+  pub puts_stops : (m n left : Machine S B) (c : ℕ) (me : Caller) (last : Answer) (a : Option Answer)
+      → state_of n ≡ record (state_of m) { callers = set (state_of m).callers c me } → n.schema ≡ m.schema
+      → Cleans has capacity n left (stops n.config (history n) n.consumer (state_of n).callers [] last) a
+      → Cleans has capacity m left (changes m.config (history m) m.consumer (state_of m).callers c me last) a
   puts_stops m n left c me last a state schema done = record {
     shown = done.shown;
     state = done.state ∙ ap (λ (st : PlayState). record st { side = record { flight = None; steps = 0 } }) state;

@@ -17,10 +17,13 @@ one_more_cpu f n xs new x is more e =
     more ∙ ((λ i. is i ++ e i ∷ []) ∙ (sym (map-append f (numbers_below n) (n ∷ [])) ∙ ap (λ m. map f (numbers_below m)) (sym (add-one n))))
 
 -- what was collected of all CPUs of a machine that the close has brought to that list
-pub streams_there : {S B : Type 0} (m n : Machine S B) (g : List Deed) (xs : List (List Record)) (c : ℕ) → state_of n ≡ record (state_of m) { deeds = g } → xs ≡ map (λ a. stream a (history n)) (numbers_below c) → c ≡ n.config.cpus → xs ≡ streams m.config g
+pub streams_there : {S B : Type 0} (m n : Machine S B) (g : List Deed) (xs : List (List Record)) (c : ℕ) → state_of n ≡ record (state_of m) { deeds = g }
+    → xs ≡ map (λ a. stream a (history n)) (numbers_below c) → c ≡ n.config.cpus → xs ≡ streams m.config g
 streams_there m n g xs c state is all = is ∙ (ap (λ a. map (λ a. stream a (history n)) (numbers_below a)) all ∙ ap (λ (st : PlayState). streams st.config st.deeds) state)
 
-pub reports_there : {S B : Type 0} (m n : Machine S B) (g : List Deed) (xs : List Report) (c : ℕ) → state_of n ≡ record (state_of m) { deeds = g } → xs ≡ map (λ a. report n.config a (the_caller (state_of n).callers a).worn (history n)) (numbers_below c) → c ≡ n.config.cpus
+pub reports_there : {S B : Type 0} (m n : Machine S B) (g : List Deed) (xs : List Report) (c : ℕ) → state_of n ≡ record (state_of m) { deeds = g }
+    → xs ≡ map (λ a. report n.config a (the_caller (state_of n).callers a).worn (history n)) (numbers_below c) → c ≡ n.config.cpus
     → xs ≡ reports m.config (λ a. (the_caller (state_of m).callers a).worn) g
 reports_there m n g xs c state is all =
-    is ∙ (ap (λ b. map (λ a. report n.config a (the_caller (state_of n).callers a).worn (history n)) (numbers_below b)) all ∙ ap (λ (st : PlayState). reports st.config (λ a. (the_caller st.callers a).worn) st.deeds) state)
+    is ∙ (ap (λ b. map (λ a. report n.config a (the_caller (state_of n).callers a).worn (history n)) (numbers_below b)) all
+    ∙ ap (λ (st : PlayState). reports st.config (λ a. (the_caller st.callers a).worn) st.deeds) state)

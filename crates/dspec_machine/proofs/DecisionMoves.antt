@@ -23,8 +23,8 @@ use Rattle.dspec_deeds.specs.Legal.{IsAllowed}
 use Rattle.dspec_deeds.specs.Settling.{commit_fate}
 use Rattle.dspec_deeds.specs.Told.{answer_of}
 use Rattle.dspec_play.specs.Coherent.{Expects, IsCoherent, OnItsWay, PlayState, StandsCpu, the_caller}
-use Rattle.dspec_play.specs.Play.{cpu_step, goes_on, ends, wears, is_worn, same_word, committed_by, discarded_by}
-use Rattle.dspec_machine.specs.Decisions.{act_of, deed_of, decides, begun_of, load_of, try_of, shown_by}
+use Rattle.dspec_play.specs.Play.{cpu_step, call_goes_on, ends, wears, is_worn, same_word, committed_by, discarded_by}
+use Rattle.dspec_machine.specs.Decisions.{act_of_decision, deed_of, decides, begun_of, load_of, try_of, shown_by}
 use Rattle.dspec_machine.specs.Shown.{ShowsSide, ShowsWords}
 use Rattle.dspec_deeds.proofs.WordActs.{commit_attempt, discard_attempt}
 use Rattle.dspec_play.proofs.DecideMoves.{commit_leaves, commit_next, commit_voids, committed_deeds, discard_leaves, discard_next, discard_voids}
@@ -71,7 +71,7 @@ another now w from test is tests e = ap (λ x. same_word x from) (sym is) ∙ gr
 
 -- what the table was asked is what it says of the list
 pub act_reads : (d : Decision) (h : List Deed) (c : ℕ) (id : Speculation) (w : SlotState) (mine : Bool) → w ≡ word_at id.slot h → (id.issue ≡ issue id.slot h → mine ≡ is_among c (callers id h))
-    → act_of d w id mine ≡ act_of d (word_at id.slot h) id (is_among c (callers id h))
+    → act_of_decision d w id mine ≡ act_of_decision d (word_at id.slot h) id (is_among c (callers id h))
 act_reads Commit h c id w mine is told = commit_reads h c id w mine is told
 act_reads Discard h c id w mine is told = discard_reads h c id w mine is told
 
@@ -80,7 +80,7 @@ module _ (shape : ℕ → Option Shape) (k : Config) (c : ℕ) (h : List Deed) (
   pub begins : (d : Decision) → cpu_step shape k c h me (begun_of d id)
       ≡ (if is_worn k c h then wears shape k c h me (answer.Decided decided_answer.Worn)
       else if halted h then ends shape k c h me (deed_of d c id decided.Stopped ∷ []) (answer_of decided.Stopped)
-      else if in_range k id then goes_on shape k c h me [] (load_of d id)
+      else if in_range k id then call_goes_on shape k c h me [] (load_of d id)
       else ends shape k c h me (deed_of d c id decided.Void ∷ []) (answer_of decided.Void))
   begins Commit = refl
   begins Discard = refl
@@ -99,18 +99,18 @@ module _ (shape : ℕ → Option Shape) (k : Config) (c : ℕ) (h : List Deed) (
   load_stands Commit at = at.0
   load_stands Discard at = at.0
 
-  try_stands : (d : Decision) (from : SlotState) → StandsCpu k c h me (try_of d id from) → OnItsWay k c h id × Expects (act_of d from id (is_among c (callers id h))) from id h
+  try_stands : (d : Decision) (from : SlotState) → StandsCpu k c h me (try_of d id from) → OnItsWay k c h id × Expects (act_of_decision d from id (is_among c (callers id h))) from id h
   try_stands Commit from at = (at.0, at.1)
   try_stands Discard from at = (at.0, at.1)
 
   -- the table attempts nothing
-  pub shown_voids : (d : Decision) → ((to : SlotState) → act_of d (word_at id.slot h) id (is_among c (callers id h)) ≢ Attempt to)
+  pub shown_voids : (d : Decision) → ((to : SlotState) → act_of_decision d (word_at id.slot h) id (is_among c (callers id h)) ≢ Attempt to)
       → shown_by shape k c h me d id ≡ ends shape k c h me (deed_of d c id decided.Void ∷ []) (answer_of decided.Void)
   shown_voids Commit none = commit_voids shape k c h me id (word_at id.slot h) (commit_at (word_at id.slot h) id (is_among c (callers id h))) none
   shown_voids Discard none = discard_voids shape k c h me id (word_at id.slot h) (discard_at (word_at id.slot h) id (is_among c (callers id h))) none
 
   -- the table attempts an exchange, which is next
-  pub shown_next : (d : Decision) (v to : SlotState) (a : Option Answer) → v ≡ word_at id.slot h → act_of d (word_at id.slot h) id (is_among c (callers id h)) ≡ Attempt to → a ≡ None
+  pub shown_next : (d : Decision) (v to : SlotState) (a : Option Answer) → v ≡ word_at id.slot h → act_of_decision d (word_at id.slot h) id (is_among c (callers id h)) ≡ Attempt to → a ≡ None
       → record { caller = record me { flight = Some (try_of d id v); steps = me.steps + 1 }; deeds = []; answer = a } ≡ shown_by shape k c h me d id
   shown_next Commit v to a is act none = commit_next shape k c h me id (word_at id.slot h) v to (commit_at (word_at id.slot h) id (is_among c (callers id h))) a is act none
   shown_next Discard v to a is act none = discard_next shape k c h me id (word_at id.slot h) v to (discard_at (word_at id.slot h) id (is_among c (callers id h))) a is act none
@@ -119,17 +119,20 @@ module _ (shape : ℕ → Option Shape) (k : Config) (c : ℕ) (h : List Deed) (
   try_commits : (from to : SlotState) → same_word (word_at id.slot h) from ≡ true → commit_at (word_at id.slot h) id (is_among c (callers id h)) ≡ Attempt to
       → cpu_step shape k c h me (try_of Commit id from) ≡ committed_by shape k c h me id (Attempt to)
   try_commits from to same act =
-      let expected : commit_at from id (is_among c (callers id h)) ≡ Attempt to = ap (λ (w : SlotState). commit_at w id (is_among c (callers id h))) (sym (same_word_tells (word_at id.slot h) from same)) ∙ act in
+      let expected : commit_at from id (is_among c (callers id h)) ≡ Attempt to =
+      ap (λ (w : SlotState). commit_at w id (is_among c (callers id h))) (sym (same_word_tells (word_at id.slot h) from same)) ∙ act in
       rw same (ap (committed_by shape k c h me id) expected)
 
   try_discards : (from to : SlotState) → same_word (word_at id.slot h) from ≡ true → discard_at (word_at id.slot h) id (is_among c (callers id h)) ≡ Attempt to
       → cpu_step shape k c h me (try_of Discard id from) ≡ discarded_by shape k c h me id (Attempt to)
   try_discards from to same act =
-      let expected : discard_at from id (is_among c (callers id h)) ≡ Attempt to = ap (λ (w : SlotState). discard_at w id (is_among c (callers id h))) (sym (same_word_tells (word_at id.slot h) from same)) ∙ act in
+      let expected : discard_at from id (is_among c (callers id h)) ≡ Attempt to =
+      ap (λ (w : SlotState). discard_at w id (is_among c (callers id h))) (sym (same_word_tells (word_at id.slot h) from same)) ∙ act in
       rw same (ap (discarded_by shape k c h me id) expected)
 
 -- an exchange that is tried, in a coherent state, and the word that it is shown
-module _ (shape : ℕ → Option Shape) (st : PlayState) (coherent : IsCoherent shape st) (c : ℕ) (lt : c < st.config.cpus) (d : Decision) (id : Speculation) (from : SlotState) (flies : (the_caller st.callers c).flight ≡ Some (try_of d id from)) where
+module _ (shape : ℕ → Option Shape) (st : PlayState) (coherent : IsCoherent shape st) (c : ℕ) (lt : c < st.config.cpus) (d : Decision) (id : Speculation) (from : SlotState)
+    (flies : (the_caller st.callers c).flight ≡ Some (try_of d id from)) where
   -- it is about a slot of the session
   pub tried_slot : in_range st.config id ≡ true
   tried_slot = (try_stands shape st.config c st.deeds (the_caller st.callers c) id d from (flight_stands shape st coherent c lt (try_of d id from) flies)).0.in_range
@@ -140,15 +143,17 @@ module _ (shape : ℕ → Option Shape) (st : PlayState) (coherent : IsCoherent 
     fails e = try_shows shape st.config c st.deeds (the_caller st.callers c) id d from (another (word_at id.slot st.deeds) w from test is tests e)
 
     -- where it is the one that was expected, the table attempts
-    pub attempts : (mine : Bool) → (id.issue ≡ issue id.slot st.deeds → mine ≡ is_among c (callers id st.deeds)) → test ≡ false → ((to : SlotState) → act_of d w id mine ≢ Attempt to) → ⊥
+    pub attempts : (mine : Bool) → (id.issue ≡ issue id.slot st.deeds → mine ≡ is_among c (callers id st.deeds)) → test ≡ false → ((to : SlotState) → act_of_decision d w id mine ≢ Attempt to) → ⊥
     attempts mine told e none =
         let expects = (try_stands shape st.config c st.deeds (the_caller st.callers c) id d from (flight_stands shape st coherent c lt (try_of d id from) flies)).1 in
-        let now = ap (λ (x : SlotState). act_of d x id (is_among c (callers id st.deeds))) (same_word_tells (word_at id.slot st.deeds) from (expected (word_at id.slot st.deeds) w from test is tests e)) in
+        let now = ap (λ (x : SlotState). act_of_decision d x id (is_among c (callers id st.deeds)))
+        (same_word_tells (word_at id.slot st.deeds) from (expected (word_at id.slot st.deeds) w from test is tests e)) in
         none expects.to (act_reads d st.deeds c id w mine is told ∙ (now ∙ expects.attempts))
 
-    module _ (mine : Bool) (told : id.issue ≡ issue id.slot st.deeds → mine ≡ is_among c (callers id st.deeds)) (to : SlotState) (same : test ≡ false) (act : act_of d w id mine ≡ Attempt to) where
-      acts : (x : Decision) → d ≡ x → act_of x (word_at id.slot st.deeds) id (is_among c (callers id st.deeds)) ≡ Attempt to
-      acts x e = ap (λ y. act_of y (word_at id.slot st.deeds) id (is_among c (callers id st.deeds))) (sym e) ∙ (sym (act_reads d st.deeds c id w mine is told) ∙ act)
+    module _ (mine : Bool) (told : id.issue ≡ issue id.slot st.deeds → mine ≡ is_among c (callers id st.deeds)) (to : SlotState) (same : test ≡ false)
+        (act : act_of_decision d w id mine ≡ Attempt to) where
+      acts : (x : Decision) → d ≡ x → act_of_decision x (word_at id.slot st.deeds) id (is_among c (callers id st.deeds)) ≡ Attempt to
+      acts x e = ap (λ y. act_of_decision y (word_at id.slot st.deeds) id (is_among c (callers id st.deeds))) (sym e) ∙ (sym (act_reads d st.deeds c id w mine is told) ∙ act)
 
       -- a commit: its step, that its deed is legal, the word that it leaves, and that the speculation is the present one
       pub commit_is : d ≡ Commit → cpu_step shape st.config c st.deeds (the_caller st.callers c) (try_of d id from) ≡ committed_by shape st.config c st.deeds (the_caller st.callers c) id (Attempt to)
@@ -166,7 +171,8 @@ module _ (shape : ℕ → Option Shape) (st : PlayState) (coherent : IsCoherent 
       commit_present e = sym (commit_attempt st.config st.deeds id c to coherent.legal.0 (acts Commit e)).0
 
       -- and a discard
-      pub discard_is : d ≡ Discard → cpu_step shape st.config c st.deeds (the_caller st.callers c) (try_of d id from) ≡ discarded_by shape st.config c st.deeds (the_caller st.callers c) id (Attempt to)
+      pub discard_is : d ≡ Discard → cpu_step shape st.config c st.deeds (the_caller st.callers c) (try_of d id from) ≡ discarded_by shape st.config c st.deeds
+          (the_caller st.callers c) id (Attempt to)
       discard_is e = ap (λ x. cpu_step shape st.config c st.deeds (the_caller st.callers c) (try_of x id from)) e
           ∙ try_discards shape st.config c st.deeds (the_caller st.callers c) id from to (expected (word_at id.slot st.deeds) w from test is tests same) (acts Discard e)
 
@@ -180,12 +186,14 @@ module _ (shape : ℕ → Option Shape) (st : PlayState) (coherent : IsCoherent 
       discard_present e = sym (discard_attempt st.config st.deeds id c to coherent.legal.0 (acts Discard e)).0
 
 -- the words after a call that decided nothing
-pub undecided_words : (d : Decision) (k : Config) (c : ℕ) (id : Speculation) (f : DecideFate) (h : List Deed) (words : List SlotState) → decides d f ≡ false → ShowsWords k h words → ShowsWords k (deed_of d c id f ∷ h) words
+pub undecided_words : (d : Decision) (k : Config) (c : ℕ) (id : Speculation) (f : DecideFate) (h : List Deed) (words : List SlotState) → decides d f ≡ false
+    → ShowsWords k h words → ShowsWords k (deed_of d c id f ∷ h) words
 undecided_words Commit k c id f h words none was = words_stay k (deed_of Commit c id f) h words (λ t. rw none refl) was
 undecided_words Discard k c id f h words none was = words_stay k (deed_of Discard c id f) h words (λ t. rw none refl) was
 
 -- and its CPU's side
-pub undecided_side : {S B : Type 0} (is_among : B → S → List Piece → Type 0) (capacity : B → ℕ) (schema : S) (k : Config) (c : ℕ) (d : Decision) (id : Speculation) (f : DecideFate) (h : List Deed) (side : Side B) → decides d f ≡ false
+pub undecided_side : {S B : Type 0} (is_among : B → S → List Piece → Type 0) (capacity : B → ℕ) (schema : S) (k : Config) (c : ℕ) (d : Decision) (id : Speculation)
+    (f : DecideFate) (h : List Deed) (side : Side B) → decides d f ≡ false
     → ShowsSide is_among capacity schema k c h side → ShowsSide is_among capacity schema k c (deed_of d c id f ∷ h) record side { calls = side.calls + 1 }
 undecided_side is_among capacity schema k c Commit id f h side none was = no_commit_side is_among capacity schema k c id f h side none was
 undecided_side is_among capacity schema k c Discard id f h side none was = no_discard_side is_among capacity schema k c id f h side none was

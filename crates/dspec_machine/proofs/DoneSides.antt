@@ -15,7 +15,7 @@ use Rattle.dspec_machine.specs.declared.side.Side.{Side}
 use Rattle.dspec_deeds.specs.FateKinds.{spoken_granted, is_commit, is_discard}
 use Rattle.dspec_deeds.specs.History.{issue, present}
 use Rattle.dspec_deeds.specs.Own.{active}
-use Rattle.dspec_machine.specs.Shown.{ShowsSide, HasPieces}
+use Rattle.dspec_machine.specs.Shown.{ShowsSide, HoldsPieces}
 use Rattle.dspec_play.specs.Coherent.{IsSlot}
 use Rattle.dspec_deeds.proofs.TestLemmas.{number_is_itself}
 use Rattle.dspec_deeds.specs.Marks.{mark}
@@ -77,7 +77,8 @@ module _ {S B : Type 0} (has_pieces : B → S → List Piece → Type 0) (capaci
       was
 
   -- the side after a granted record
-  pub spoken_side : (id : Speculation) (r : Record) (f : SpeculateFate) (h : List Deed) (old new : Side B) → spoken_granted f ≡ true → issue id.slot h ≡ id.issue → present id.slot h ≡ id → IsSlot k id.slot
+  pub spoken_side : (id : Speculation) (r : Record) (f : SpeculateFate) (h : List Deed) (old new : Side B) → spoken_granted f ≡ true → issue id.slot h ≡ id.issue
+      → present id.slot h ≡ id → IsSlot k id.slot
       → Speaks id old new → length new.speculative.items ≡ k.nspec → EachSlot k (IsBuffer has_pieces capacity schema k c (Speculate c id r f ∷ h)) new.speculative.items
       → ShowsSide has_pieces capacity schema k c h old → ShowsSide has_pieces capacity schema k c (Speculate c id r f ∷ h) new
   spoken_side id r f h old new e now is slot does count buffers was =
@@ -90,7 +91,7 @@ module _ {S B : Type 0} (has_pieces : B → S → List Piece → Type 0) (capaci
         marks = subst (EachSlot k (λ s m. m ≡ mark c s (Speculate c id r f ∷ h))) (sym does.marks) (marks_granted k c id r f h old.marks.items e slot was.mark_count was.marks);
         buffer_count = count;
         buffers = buffers;
-        principal = subst (HasPieces has_pieces capacity schema k.bufsize (active c h)) (sym does.active) was.principal;
+        principal = subst (HoldsPieces has_pieces capacity schema k.bufsize (active c h)) (sym does.active) was.principal;
         accepted = does.accepted ∙ was.accepted;
         drops = let same = was.drops in let kept = does.drops in omega arith;
       }

@@ -14,7 +14,7 @@ use Rattle.dspec_deeds.specs.FateKinds.{is_commit, is_discard, is_copied, is_los
 use Rattle.dspec_deeds.specs.History.{same_id, issue, present, ack}
 use Rattle.dspec_deeds.specs.Own.{Offer, accepts, accepted, active, contents, growing, held, calls, seals_now, is_drop}
 use Rattle.dspec_deeds.specs.Reports.{missed_busy}
-use Rattle.dspec_machine.specs.Shown.{ShowsSide, HasPieces}
+use Rattle.dspec_machine.specs.Shown.{ShowsSide, HoldsPieces}
 use Rattle.dspec_play.specs.Coherent.{IsSlot}
 use Rattle.dspec_deeds.proofs.TestLemmas.{number_is_itself, id_is_itself}
 use Rattle.dspec_deeds.specs.Marks.{mark}
@@ -106,9 +106,9 @@ module _ {S B : Type 0} (has_pieces : B → S → List Piece → Type 0) (capaci
   -- what the end of a block makes of the buffers and the drops
   pub record Ends (id : Speculation) (f : DecideFate) (h : List Deed) (old new : Side B) : Type 0 where
     pub emptied : B
-    pub empty : HasPieces has_pieces capacity schema k.specsize [] emptied
+    pub empty : HoldsPieces has_pieces capacity schema k.specsize [] emptied
     pub buffers : new.speculative.items ≡ set old.speculative.items (id.slot - 1) emptied
-    pub principal : HasPieces has_pieces capacity schema k.bufsize (pieces_of f (held c id h) (active c h)) new.active
+    pub principal : HoldsPieces has_pieces capacity schema k.bufsize (pieces_of f (held c id h) (active c h)) new.active
     pub accepted : new.accepted ≡ reverse (contents (copied_of f (held c id h) ++ accepted c h))
     pub drops : new.drops ≡ old.drops + (if is_lost f then 1 else 0)
 
@@ -128,8 +128,8 @@ module _ {S B : Type 0} (has_pieces : B → S → List Piece → Type 0) (capaci
         buffer_count = ap length does.buffers ∙ (length-set old.speculative.items (id.slot - 1) does.emptied ∙ was.buffer_count);
         buffers = subst (EachSlot k (IsBuffer has_pieces capacity schema k c (d ∷ h))) (sym does.buffers)
             (buffers_set has_pieces capacity schema k c d h id old.speculative.items does.emptied ends.issues ends.others is slot was.buffer_count
-            (subst (λ os. HasPieces has_pieces capacity schema k.specsize (map one (contents os)) does.emptied) (sym ends.empty) does.empty) was.speculative);
-        principal = subst (λ ps. HasPieces has_pieces capacity schema k.bufsize ps new.active) (sym ends.pieces) does.principal;
+            (subst (λ os. HoldsPieces has_pieces capacity schema k.specsize (map one (contents os)) does.emptied) (sym ends.empty) does.empty) was.speculative);
+        principal = subst (λ ps. HoldsPieces has_pieces capacity schema k.bufsize ps new.active) (sym ends.pieces) does.principal;
         accepted = does.accepted ∙ ap (λ os. reverse (contents (os ++ accepted c h))) (sym ends.takes);
         drops = does.drops ∙ (ap (λ n. n + (if is_lost f then 1 else 0)) was.drops ∙ sym dropping);
       }
@@ -139,7 +139,7 @@ module _ {S B : Type 0} (has_pieces : B → S → List Piece → Type 0) (capaci
       dropping = let unsealed = ends.unsealed in let lost = ends.lost in rw (unsealed, lost) refl
 
   -- what is thrown away leaves all but the buffer
-  pub thrown : (id : Speculation) (f : DecideFate) (h : List Deed) (old new : Side B) → is_discard f ≡ true → (b : B) → HasPieces has_pieces capacity schema k.specsize [] b
+  pub thrown : (id : Speculation) (f : DecideFate) (h : List Deed) (old new : Side B) → is_discard f ≡ true → (b : B) → HoldsPieces has_pieces capacity schema k.specsize [] b
       → new.speculative.items ≡ set old.speculative.items (id.slot - 1) b → new.active ≡ old.active → new.accepted ≡ old.accepted → new.drops ≡ old.drops
       → ShowsSide has_pieces capacity schema k c h old → Ends id f h old new
   thrown id f h old new e b empty buffers active' accepted' drops' was =
@@ -149,7 +149,7 @@ module _ {S B : Type 0} (has_pieces : B → S → List Piece → Type 0) (capaci
         emptied = b;
         empty = empty;
         buffers = buffers;
-        principal = rw uncopied (subst (HasPieces has_pieces capacity schema k.bufsize (active c h)) (sym active') was.principal);
+        principal = rw uncopied (subst (HoldsPieces has_pieces capacity schema k.bufsize (active c h)) (sym active') was.principal);
         accepted = rw uncopied (accepted' ∙ was.accepted);
         drops = rw kept (omega arith);
       }

@@ -9,9 +9,9 @@ use Rattle.dspec_play.specs.declared.flight.ConsumerFlight.{ConsumerFlight}
 use Rattle.dspec_play.specs.declared.flight.CpuFlight.{CpuFlight}
 use Rattle.dspec_play.specs.declared.flight.CpuFlight.TheVariants as flight
 use Rattle.dspec_machine.specs.declared.machine.Machine.{Machine}
-use Rattle.dspec_play.specs.Calls.{consumer_op_of, is_of, is_about}
+use Rattle.dspec_play.specs.Calls.{consumer_op_of, record_passes, is_about}
 use Rattle.dspec_play.specs.Coherent.{PlayState, IsCoherent, the_caller}
-use Rattle.dspec_machine.specs.Machines.{IsShown, Makes, Cleans, history, state_of}
+use Rattle.dspec_machine.specs.Machines.{IsShownMachine, Makes, Cleans, history, state_of}
 use Rattle.dspec_play.specs.Play.{cpu_step, consumer_step}
 use Rattle.dspec_play.specs.Turns.{begin_cpu, moved_to, cleaned_to}
 use Rattle.dspec_machine.specs.Worlds.{IsKept}
@@ -22,7 +22,7 @@ use Rattle.dspec_play.proofs.KeptCalls.{AllPass, some_passes, set_passes, step_p
 module _ {S B : Type 0} (has : B → S → List Piece → Type 0) (capacity : B → ℕ) (shape_of : S → ℕ → Option Shape) (accepted : S → Record → Bool) where
   -- the record of a call, if it has one, is accepted
   abbrev pub IsFit : S → CpuOp → Type 0
-  IsFit schema o = is_of (accepted schema) o ≡ true
+  IsFit schema o = record_passes (accepted schema) o ≡ true
 
   -- what is kept of a play's state
   pub record KeepsState (schema : S) (st : PlayState) : Type 0 where
@@ -34,13 +34,14 @@ module _ {S B : Type 0} (has : B → S → List Piece → Type 0) (capacity : B 
   state_kept m was = record { coherent = was.coherent; accepted_records = was.accepted_records; about = was.about }
 
   -- a machine that shows its list and whose state is kept
-  pub kept_as : (m : Machine S B) (schema : S) (st : PlayState) → IsShown has capacity m → state_of m ≡ st → m.schema ≡ schema → KeepsState schema st → IsKept has capacity shape_of accepted m
+  pub kept_as : (m : Machine S B) (schema : S) (st : PlayState) → IsShownMachine has capacity m → state_of m ≡ st → m.schema ≡ schema → KeepsState schema st → IsKept has capacity shape_of accepted m
   kept_as m schema st shown state same keeps =
       let here : KeepsState m.schema (state_of m) = subst (λ s. KeepsState s (state_of m)) (sym same) (subst (KeepsState schema) (sym state) keeps) in
       record { shown = shown; coherent = here.coherent; accepted_records = here.accepted_records; about = here.about }
 
   -- a call of a CPU that begins
-  pub begin_keeps : (schema : S) (st : PlayState) (c : ℕ) (o : CpuOp) → c < st.config.cpus → (the_caller st.callers c).flight ≡ None → is_of (accepted schema) o ≡ true → KeepsState schema st → KeepsState schema (begin_cpu c o st)
+  pub begin_keeps : (schema : S) (st : PlayState) (c : ℕ) (o : CpuOp) → c < st.config.cpus → (the_caller st.callers c).flight ≡ None
+      → record_passes (accepted schema) o ≡ true → KeepsState schema st → KeepsState schema (begin_cpu c o st)
   begin_keeps schema st c o lt idle passes was = record {
     coherent = begin_cpu_coherent (shape_of schema) st c o was.coherent lt idle;
     accepted_records = set_passes (IsFit schema) st.config.cpus st.callers c _ was.coherent.count was.accepted_records (some_passes (IsFit schema) (flight.Begun o) passes);

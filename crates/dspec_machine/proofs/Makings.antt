@@ -15,7 +15,7 @@ use Rattle.dspec_deeds.specs.Own.{taken}
 use Rattle.dspec_play.specs.Play.{Moved}
 use Rattle.dspec_play.specs.Coherent.{PlayState, the_caller}
 use Rattle.dspec_machine.specs.Shown.{ShowsSide}
-use Rattle.dspec_machine.specs.Machines.{IsShown, Adds, Makes, history, state_of}
+use Rattle.dspec_machine.specs.Machines.{IsShownMachine, Adds, Makes, history, state_of}
 use Rattle.dspec_deeds.proofs.TestLemmas.{either_way, same_number, numbers_differ}
 use Rattle.dspec_deeds.proofs.Places.{got_set, got_other}
 use Rattle.dspec_machine.proofs.OneMore.{caller_there}
@@ -38,7 +38,8 @@ state_moves {B = B} m c side change e =
 
 module _ {S B : Type 0} (has : B → S → List Piece → Type 0) (capacity : B → ℕ) where
   -- a side shows the list whatever its caller does next
-  side_moves : (schema : S) (k : Config) (c : ℕ) (h : List Deed) (side : Side B) (me : Caller) → me.takes ≡ side.caller.takes → ShowsSide has capacity schema k c h side → ShowsSide has capacity schema k c h (record side { caller = me })
+  side_moves : (schema : S) (k : Config) (c : ℕ) (h : List Deed) (side : Side B) (me : Caller) → me.takes ≡ side.caller.takes → ShowsSide has capacity schema k c h side
+      → ShowsSide has capacity schema k c h (record side { caller = me })
   side_moves schema k c h side me e s = record {
     called = s.called;
     sealed = s.sealed;
@@ -58,7 +59,8 @@ module _ {S B : Type 0} (has : B → S → List Piece → Type 0) (capacity : B 
   }
 
   -- a machine shows its list whatever a caller does next
-  pub caller_moves : (m : Machine S B) (c : ℕ) (side : Side B) (me : Caller) → IsShown has capacity m → slice_get m.sides.items c ≡ Some side → me.takes ≡ side.caller.takes → IsShown has capacity (with_caller m c side me)
+  pub caller_moves : (m : Machine S B) (c : ℕ) (side : Side B) (me : Caller) → IsShownMachine has capacity m → slice_get m.sides.items c ≡ Some side
+      → me.takes ≡ side.caller.takes → IsShownMachine has capacity (with_caller m c side me)
   caller_moves m c side me was got e = record {
     words = was.words;
     active = was.active;
@@ -77,7 +79,7 @@ module _ {S B : Type 0} (has : B → S → List Piece → Type 0) (capacity : B 
   }
 
   -- a step that entered its deeds and then moved its caller
-  pub step_made : (m n left : Machine S B) (c : ℕ) (ds : List Deed) (change : Caller → Caller) (moved : Moved) (answer : Option Answer) → Adds ds m n → IsShown has capacity left
+  pub step_made : (m n left : Machine S B) (c : ℕ) (ds : List Deed) (change : Caller → Caller) (moved : Moved) (answer : Option Answer) → Adds ds m n → IsShownMachine has capacity left
       → state_of left ≡ record (state_of n) { callers = set (state_of n).callers c (change (the_caller (state_of n).callers c)) } → left.schema ≡ n.schema
       → record { caller = change (the_caller (state_of m).callers c); deeds = ds; answer = answer } ≡ moved → Makes has capacity m left c moved answer
   step_made m n left c ds change moved answer adds shown state schema is =

@@ -15,7 +15,7 @@ use Rattle.dspec_deeds.specs.History.{halted, author, same_actor, word_at}
 use Rattle.dspec_play.specs.Coherent.{the_caller}
 use Rattle.dspec_deeds.specs.Legal.{IsSound}
 use Rattle.dspec_machine.specs.Shown.{ShowsWords, ShowsSide}
-use Rattle.dspec_machine.specs.Machines.{IsShown, Adds, history}
+use Rattle.dspec_machine.specs.Machines.{IsShownMachine, Adds, history}
 use Rattle.dspec_deeds.proofs.TestLemmas.{either_way, same_number, numbers_differ}
 use Rattle.dspec_deeds.proofs.Places.{got_set, got_other}
 use Rattle.dspec_machine.proofs.OtherSides.{other_side}
@@ -51,7 +51,7 @@ module _ {S B : Type 0} (has : B → S → List Piece → Type 0) (capacity : B 
     pub sides : AllShow n.schema n.config h n.sides.items
 
   -- a machine that shows its list
-  pub shown_as : (n : Machine S B) (h : List Deed) → history n ≡ h → ShownAs h n → IsShown has capacity n
+  pub shown_as : (n : Machine S B) (h : List Deed) → history n ≡ h → ShownAs h n → IsShownMachine has capacity n
   shown_as n h e s = record {
     words = subst (λ g. ShowsWords n.config g n.words.items) (sym e) s.words;
     active = s.active ∙ ap halted (sym e);
@@ -98,7 +98,8 @@ module _ {S B : Type 0} (has : B → S → List Piece → Type 0) (capacity : B 
         other_side has capacity schema k a d h s sound other (omega arith) (was a s got)
 
   -- the sides after a release
-  pub sides_released : (schema : S) (k : Config) (slot : ℕ) (h : List Deed) (sides : List (Side B)) → IsSound k (Release slot ∷ h) → length sides ≡ k.cpus → AllShow schema k h sides → AllShow schema k (Release slot ∷ h) sides
+  pub sides_released : (schema : S) (k : Config) (slot : ℕ) (h : List Deed) (sides : List (Side B)) → IsSound k (Release slot ∷ h) → length sides ≡ k.cpus
+      → AllShow schema k h sides → AllShow schema k (Release slot ∷ h) sides
   sides_released schema k slot h sides sound count was a s got =
       let within = slice_get_within sides a s got in
       released_side has capacity schema k a slot h s sound (omega arith) (was a s got)

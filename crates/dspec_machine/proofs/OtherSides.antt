@@ -12,7 +12,7 @@ use Rattle.dspec_deeds.specs.History.{same_actor, author, word_at}
 use Rattle.dspec_deeds.specs.Own.{contents, batch_records}
 use Rattle.dspec_deeds.specs.Legal.{IsSound}
 use Rattle.dspec_play.specs.Coherent.{IsSlot}
-use Rattle.dspec_machine.specs.Shown.{ShowsWords, ShowsSide, HasPieces, HasRecords, first_or_empty}
+use Rattle.dspec_machine.specs.Shown.{ShowsWords, ShowsSide, HoldsPieces, HasRecords, first_or_empty}
 use Rattle.dspec_deeds.proofs.TestLemmas.{either_way, same_number, numbers_differ}
 use Rattle.dspec_deeds.proofs.StayingOwn.{missed_other, ack_other, calls_other, accepted_other, seals_other, active_other, growing_other, batches_other}
 use Rattle.dspec_deeds.specs.Marks.{mark}
@@ -34,8 +34,8 @@ module _ {S B : Type 0} (has_pieces : B → S → List Piece → Type 0) (capaci
     mark_count = was.mark_count;
     marks = λ s m slot e. was.marks s m slot e ∙ sym (mark_other c s d h (mark c s h) other);
     buffer_count = was.buffer_count;
-    speculative = λ s b slot e. subst (λ os. HasPieces has_pieces capacity schema k.specsize (map one (contents os)) b) (sym (present_other k c s d h lt sound other)) (was.speculative s b slot e);
-    principal = subst (λ ps. HasPieces has_pieces capacity schema k.bufsize ps side.active) (sym (active_other c d h other)) was.principal;
+    speculative = λ s b slot e. subst (λ os. HoldsPieces has_pieces capacity schema k.specsize (map one (contents os)) b) (sym (present_other k c s d h lt sound other)) (was.speculative s b slot e);
+    principal = subst (λ ps. HoldsPieces has_pieces capacity schema k.bufsize ps side.active) (sym (active_other c d h other)) was.principal;
     second = subst (λ bs. HasRecords has_pieces capacity schema k.bufsize (contents (first_or_empty bs).offers) side.second) (sym (batches_other c d h other)) was.second;
     accepted = was.accepted ∙ ap (λ os. reverse (contents os)) (sym (accepted_other c d h other));
     took = was.took ∙ ap (λ bs. batch_records (take side.caller.takes (reverse bs))) (sym (batches_other c d h other));

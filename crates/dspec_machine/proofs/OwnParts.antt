@@ -9,7 +9,7 @@ use Rattle.dspec_deeds.specs.History.{present, ack}
 use Rattle.dspec_deeds.specs.Own.{active, batches, batch_records, calls, contents, growing, held, seals, seals_now, stream}
 use Rattle.dspec_deeds.specs.Reports.{missed_busy}
 use Rattle.dspec_play.specs.Coherent.{IsSlot}
-use Rattle.dspec_machine.specs.Shown.{ShowsSide, HasPieces, HasRecords, first_or_empty}
+use Rattle.dspec_machine.specs.Shown.{ShowsSide, HoldsPieces, HasRecords, first_or_empty}
 use Rattle.dspec_deeds.proofs.TestLemmas.{either_way, same_number, numbers_differ}
 use Rattle.dspec_deeds.proofs.Places.{got_set, got_other}
 use Rattle.dspec_deeds.specs.Marks.{mark}
@@ -54,7 +54,7 @@ pub record KeepsRest {B : Type 0} (old new : Side B) : Type 0 where
 module _ {S B : Type 0} (has_pieces : B → S → List Piece → Type 0) (capacity : B → ℕ) (schema : S) (k : Config) (c : ℕ) where
   -- the buffer of a slot
   abbrev pub IsBuffer : List Deed → ℕ → B → Type 0
-  IsBuffer h s b = HasPieces has_pieces capacity schema k.specsize (map one (contents (held c (present s h) h))) b
+  IsBuffer h s b = HoldsPieces has_pieces capacity schema k.specsize (map one (contents (held c (present s h) h))) b
 
   -- what such a deed may change shows the list
   pub record ShowsParts (h : List Deed) (new : Side B) : Type 0 where
@@ -65,7 +65,7 @@ module _ {S B : Type 0} (has_pieces : B → S → List Piece → Type 0) (capaci
     pub marks : EachSlot k (λ s m. m ≡ mark c s h) new.marks.items
     pub buffer_count : length new.speculative.items ≡ k.nspec
     pub buffers : EachSlot k (IsBuffer h) new.speculative.items
-    pub principal : HasPieces has_pieces capacity schema k.bufsize (active c h) new.active
+    pub principal : HoldsPieces has_pieces capacity schema k.bufsize (active c h) new.active
     pub accepted : new.accepted ≡ stream c h
     pub drops : new.drops ≡ (growing c h).drops
 

@@ -80,7 +80,8 @@ module _ {S B : Type 0} (has : B → S → List Piece → Type 0) (capacity : B 
       go false = refl
 
   -- a record that was granted nothing
-  pub unspoken_side : (id : Speculation) (r : Record) (f : SpeculateFate) → spoken_granted f ≡ false → ShowsSide has capacity schema k c (Speculate c id r f ∷ h) (record side { calls = side.calls + 1 })
+  pub unspoken_side : (id : Speculation) (r : Record) (f : SpeculateFate) → spoken_granted f ≡ false
+      → ShowsSide has capacity schema k c (Speculate c id r f ∷ h) (record side { calls = side.calls + 1 })
   unspoken_side id r spoken.Kept none = absurd (cc (none))
   unspoken_side id r spoken.Dropped none = absurd (cc (none))
   unspoken_side id r spoken.Void none = record {

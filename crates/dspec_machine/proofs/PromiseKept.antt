@@ -11,7 +11,8 @@ use Rattle.dspec_machine.specs.Worlds.{session_of}
 use Rattle.dspec_deeds.proofs.Headlines.{headline}
 
 -- a coherent machine's session has the headline
-pub promise_kept : {S B : Type 0} (shape_of : S → ℕ → Option Shape) (m : Machine S B) (w : Session S) → session_of m ≡ w → IsCoherent (shape_of m.schema) (state_of m) → HasHeadline (shape_of w.schema) w.state
+pub promise_kept : {S B : Type 0} (shape_of : S → ℕ → Option Shape) (m : Machine S B) (w : Session S) → session_of m ≡ w → IsCoherent (shape_of m.schema) (state_of m)
+    → HasHeadline (shape_of w.schema) w.state
 promise_kept {S} {B} shape_of m w is ok =
     subst (λ (v : Session S). HasHeadline (shape_of v.schema) v.state) is
     record { coherent = ok; headline = λ c. headline (shape_of m.schema) m.config c (state_of m).deeds ok.legal }

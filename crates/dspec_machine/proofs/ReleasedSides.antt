@@ -9,7 +9,7 @@ use Rattle.dspec_machine.specs.declared.side.Side.{Side}
 use Rattle.dspec_deeds.specs.History.{issue, present}
 use Rattle.dspec_deeds.specs.Own.{contents, held}
 use Rattle.dspec_deeds.specs.Legal.{IsSound}
-use Rattle.dspec_machine.specs.Shown.{ShowsSide, HasPieces}
+use Rattle.dspec_machine.specs.Shown.{ShowsSide, HoldsPieces}
 use Rattle.dspec_deeds.proofs.TestLemmas.{either_way, same_number}
 use Rattle.dspec_deeds.proofs.PresentIds.{later_unopened}
 use Rattle.dspec_deeds.proofs.Emptied.{release_empty, unopened_empty}
@@ -45,7 +45,7 @@ module _ {S B : Type 0} (has_pieces : B → S → List Piece → Type 0) (capaci
     mark_count = was.mark_count;
     marks = was.marks;
     buffer_count = was.buffer_count;
-    speculative = λ s b slot e. subst (λ os. HasPieces has_pieces capacity schema k.specsize (map one (contents os)) b) (sym (held_released k c n s h lt sound)) (was.speculative s b slot e);
+    speculative = λ s b slot e. subst (λ os. HoldsPieces has_pieces capacity schema k.specsize (map one (contents os)) b) (sym (held_released k c n s h lt sound)) (was.speculative s b slot e);
     principal = was.principal;
     second = was.second;
     accepted = was.accepted;

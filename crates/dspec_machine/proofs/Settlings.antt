@@ -15,7 +15,7 @@ use Rattle.dspec_machine.specs.declared.side.Side.{Side}
 use Rattle.dspec_deeds.specs.History.{present, word_at, ack}
 use Rattle.dspec_play.specs.Coherent.{IsSlot, PlayState}
 use Rattle.dspec_deeds.specs.Closes.{CanClose, is_granted, closed_slot, closed_slots, closed_cpus}
-use Rattle.dspec_machine.specs.Machines.{IsShown, Adds, history, state_of}
+use Rattle.dspec_machine.specs.Machines.{IsShownMachine, Adds, history, state_of}
 use Rattle.dspec_deeds.specs.Settling.{settle_fate}
 use Rattle.dspec_deeds.specs.Ranges.{start_fault}
 use Rattle.dspec_play.proofs.Closing.{slot_settles}
@@ -58,7 +58,8 @@ module _ {S B : Type 0} where
     pub schema : n.schema ≡ m.schema
 
   -- the list that a machine shows can close where it was brought there
-  pub can_close_there : (shape_of : S → ℕ → Option Shape) (m n : Machine S B) (g : List Deed) → Settles m n g → CanClose (shape_of m.schema) m.config g → CanClose (shape_of n.schema) n.config (history n)
+  pub can_close_there : (shape_of : S → ℕ → Option Shape) (m n : Machine S B) (g : List Deed) → Settles m n g → CanClose (shape_of m.schema) m.config g
+      → CanClose (shape_of n.schema) n.config (history n)
   can_close_there shape_of m n g is closes =
       subst (λ (x : S). CanClose (shape_of x) n.config (history n)) (sym is.schema)
       (subst (λ (st : PlayState). CanClose (shape_of m.schema) st.config st.deeds) (sym is.state) closes)
@@ -74,7 +75,8 @@ module _ {S B : Type 0} where
   pub settles_one : (m n : Machine S B) (d : Deed) (g : List Deed) → d ∷ history m ≡ g → Adds (d ∷ []) m n → Settles m n g
   settles_one m n d g e adds = record { state = adds.state ∙ ap (λ ds. record (state_of m) { deeds = ds }) e; schema = adds.schema }
 
-  module _ (has : B → S → List Piece → Type 0) (capacity : B → ℕ) (m : Machine S B) (shown : IsShown has capacity m) (c s : ℕ) (lt : c < m.config.cpus) (slot : IsSlot m.config s) (side : Side B) (is : side ≡ get_or m.sides.items c side) where
+  module _ (has : B → S → List Piece → Type 0) (capacity : B → ℕ) (m : Machine S B) (shown : IsShownMachine has capacity m) (c s : ℕ) (lt : c < m.config.cpus)
+      (slot : IsSlot m.config s) (side : Side B) (is : side ≡ get_or m.sides.items c side) where
     -- the acknowledgement that an index reads
     pub ack_read : (a : ℕ) → a ≡ get_or side.acks.items (s - 1) a → a ≡ ack c s (history m)
     ack_read a e =

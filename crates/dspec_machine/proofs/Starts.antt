@@ -15,7 +15,7 @@ use Rattle.dspec_play.specs.Coherent.{the_caller, idle_caller}
 use Rattle.dspec_deeds.specs.Ranges.{start_fault}
 use Rattle.dspec_play.specs.Turns.{idle_callers, at_start}
 use Rattle.dspec_machine.specs.Shown.{ShowsSide}
-use Rattle.dspec_machine.specs.Machines.{IsShown, history, state_of}
+use Rattle.dspec_machine.specs.Machines.{IsShownMachine, history, state_of}
 use Rattle.dspec_play.proofs.Coherence.{start_coherent}
 use Rattle.dspec_machine.proofs.Keepings.{KeepsState}
 use Rattle.dspec_machine.proofs.OneMore.{shown_as}
@@ -64,7 +64,8 @@ pub zero_read : (n i m : ℕ) (xs : List ℕ) → xs ≡ replicate n 0 → i < n
 zero_read n i m xs e lt got = let there = zero_there n i xs e lt in cc
 
 -- the callers of so many sides that have made no call
-pub callers_idle : {B : Type 0} (n : ℕ) (sides : List (Side B)) → length sides ≡ n → ((i : ℕ) (side : Side B) → slice_get sides i ≡ Some side → side.caller ≡ idle_caller) → map (λ s. s.caller) sides ≡ idle_callers n
+pub callers_idle : {B : Type 0} (n : ℕ) (sides : List (Side B)) → length sides ≡ n → ((i : ℕ) (side : Side B) → slice_get sides i ≡ Some side → side.caller ≡ idle_caller)
+    → map (λ s. s.caller) sides ≡ idle_callers n
 callers_idle zero [] count each = refl
 callers_idle zero (s ∷ sides) count each = absurd (omega arith)
 callers_idle (suc n) [] count each = absurd (omega arith)
@@ -98,7 +99,8 @@ module _ {S B : Type 0} (has : B → S → List Piece → Type 0) (capacity : B 
   HasBegun k side = ((schema : S) (c : ℕ) → ShowsSide has capacity schema k c [] side) × (side.caller ≡ idle_caller)
 
   -- a machine before the first deed
-  pub machine_at_start : (m : Machine S B) → m.deeds ≡ [] → m.halted ≡ false → Made IsFree m.config.nspec m.words.items → Made (HasBegun m.config) m.config.cpus m.sides.items → IsShown has capacity m
+  pub machine_at_start : (m : Machine S B) → m.deeds ≡ [] → m.halted ≡ false → Made IsFree m.config.nspec m.words.items → Made (HasBegun m.config) m.config.cpus m.sides.items
+      → IsShownMachine has capacity m
   machine_at_start m none runs words sides =
       shown_as has capacity m [] (ap reverse none) record {
         words = record {

@@ -5,13 +5,14 @@ use Rattle.std.proofs.lemmas.List.{append_assoc, length-reverse, reverse-append}
 use Rattle.dspec_record.specs.Record.{Record}
 use Rattle.dspec_deeds.specs.declared.deed.Deed.{Deed}
 use Rattle.dspec_deeds.specs.Own.{Batch, empty_batch, batches, batch_records, contents, seals, taken}
-use Rattle.dspec_machine.specs.Shown.{first_or_empty, last_batch}
+use Rattle.dspec_machine.specs.Shown.{first_or_empty, batch_of_last_seal}
 use Rattle.dspec_machine.proofs.PrincipalSides.{batches_sealed}
 
 -- the records of batches put together
 records_append : (xs ys : List Batch) → batch_records (xs ++ ys) ≡ batch_records xs ++ batch_records ys
 records_append [] ys = refl
-records_append (x ∷ xs) ys = ap (λ (rs : List Record). reverse (contents x.offers) ++ rs) (records_append xs ys) ∙ sym (append_assoc (reverse (contents x.offers)) (batch_records xs) (batch_records ys))
+records_append (x ∷ xs) ys = ap (λ (rs : List Record). reverse (contents x.offers) ++ rs) (records_append xs ys)
+    ∙ sym (append_assoc (reverse (contents x.offers)) (batch_records xs) (batch_records ys))
 
 last_of : (bs : List Batch) (n : ℕ) → length bs ≡ n + 1 → get_or (reverse bs) n empty_batch ≡ first_or_empty bs
 last_of [] n e = absurd (omega arith)
@@ -36,9 +37,9 @@ more_of (b ∷ bs) n e =
 
 module _ (c : ℕ) (h : List Deed) (takes : ℕ) (sealed : seals c h ≡ takes + 1) where
   -- the next batch is the one sealed last
-  pub next_batch : get_or (reverse (batches c h)) takes empty_batch ≡ last_batch c h
+  pub next_batch : get_or (reverse (batches c h)) takes empty_batch ≡ batch_of_last_seal c h
   next_batch = last_of (batches c h) takes (batches_sealed c h ∙ sealed)
 
   -- what is taken once it is
-  pub taken_more : taken (takes + 1) c h ≡ taken takes c h ++ reverse (contents (last_batch c h).offers)
+  pub taken_more : taken (takes + 1) c h ≡ taken takes c h ++ reverse (contents (batch_of_last_seal c h).offers)
   taken_more = more_of (batches c h) takes (batches_sealed c h ∙ sealed)

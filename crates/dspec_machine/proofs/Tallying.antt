@@ -11,7 +11,7 @@ use Rattle.dspec_machine.specs.declared.reporting.Tally.{Tally}
 use Rattle.dspec_deeds.specs.Legal.{IsAllowed}
 use Rattle.dspec_deeds.specs.Own.{offers}
 use Rattle.dspec_deeds.specs.Reports.{missed_busy, speculative, report}
-use Rattle.dspec_machine.specs.Tallies.{tally_of, missed_after, counted, CountsFit, with_fate}
+use Rattle.dspec_machine.specs.Tallies.{tally_of, missed_after, counted, CountsFit, report_with_fate}
 use Rattle.dspec_deeds.proofs.DeedEffects.{legal_accounts}
 use Rattle.dspec_deeds.proofs.Balance.{balance}
 use Rattle.dspec_play.proofs.Counts.{calls_counted}
@@ -64,23 +64,26 @@ module _ (shape : ℕ → Option Shape) (k : Config) (c : ℕ) where
       }
 
   -- one more deed of a legal list can be counted
-  pub more_fits : (ds all : List Deed) (i : ℕ) (d : Deed) (t : Tally) → t ≡ tally_of k c (reverse (take i ds)) → i < length ds → d ≡ get_or ds i d → length ds < 2 ^ 64 → ds ≡ all → IsAllowed shape k (reverse all) → CountsFit (counted k c d t).counts
+  pub more_fits : (ds all : List Deed) (i : ℕ) (d : Deed) (t : Tally) → t ≡ tally_of k c (reverse (take i ds)) → i < length ds → d ≡ get_or ds i d → length ds < 2 ^ 64
+      → ds ≡ all → IsAllowed shape k (reverse all) → CountsFit (counted k c d t).counts
   more_fits ds all i d t is lt read fit same l =
       let rest = reverse (drop (i + 1) ds) in
       let h = reverse (take i ds) in
-      let split : reverse ds ≡ rest ++ (d ∷ h) = ap reverse (sym (take-append-drop (i + 1) ds)) ∙ (reverse-append (take (i + 1) ds) (drop (i + 1) ds) ∙ ap (λ (xs : List Deed). rest ++ xs) (one_further ds i d lt read)) in
+      let split : reverse ds ≡ rest ++ (d ∷ h) =
+      ap reverse (sym (take-append-drop (i + 1) ds)) ∙ (reverse-append (take (i + 1) ds) (drop (i + 1) ds) ∙ ap (λ (xs : List Deed). rest ++ xs) (one_further ds i d lt read)) in
       let legal : IsAllowed shape k (d ∷ h) = earlier_legal rest (d ∷ h) (subst (IsAllowed shape k) (sym (ap reverse same) ∙ split) l) in
       let within : i ≤ length ds = omega arith in
       let long : length h ≡ i = length-reverse (take i ds) ∙ length-take-le i ds within in
       subst (λ (u : Tally). CountsFit u.counts) (tally_more k c d h ∙ ap (counted k c d) (sym is)) (counts_fit (d ∷ h) legal (omega arith))
 
   -- the records that have a fate were offered
-  pub fates_within : (h : List Deed) (t : Tally) → t ≡ tally_of k c h → IsAllowed shape k h → with_fate t.counts ≤ t.counts.offered
+  pub fates_within : (h : List Deed) (t : Tally) → t ≡ tally_of k c h → IsAllowed shape k h → report_with_fate t.counts ≤ t.counts.offered
   fates_within h t is l = rw is (let sum = balance k c 0 h (legal_accounts shape k c h l) in omega arith)
 
   -- the others are held
-  pub others_held : (h : List Deed) (t : Tally) (worn same : ℕ) (p : Report) → t ≡ tally_of k c h → same ≡ worn → IsAllowed shape k h → p ≡ record t.counts { held = t.counts.offered - with_fate t.counts; worn = worn } → p ≡ report k c same h
+  pub others_held : (h : List Deed) (t : Tally) (worn same : ℕ) (p : Report) → t ≡ tally_of k c h → same ≡ worn → IsAllowed shape k h
+      → p ≡ record t.counts { held = t.counts.offered - report_with_fate t.counts; worn = worn } → p ≡ report k c same h
   others_held h t worn same p is e l made =
       let sum = balance k c worn h (legal_accounts shape k c h l) in
-      let left : offers c h - with_fate (tally_of k c h).counts ≡ length (speculative c h) = omega arith in
+      let left : offers c h - report_with_fate (tally_of k c h).counts ≡ length (speculative c h) = omega arith in
       made ∙ rw (e, is) (ap (λ (n : ℕ). record (report k c worn h) { held = n }) left)

@@ -20,9 +20,9 @@ use Rattle.dspec_deeds.specs.History.{is_among, callers, word_at}
 use Rattle.dspec_play.specs.Play.{Moved, shown_commit, shown_discard}
 
 -- what the call does at a word, by its table
-abbrev pub act_of : Decision → SlotState → Speculation → Bool → Act
-act_of Commit w id mine = commit_at w id mine
-act_of Discard w id mine = discard_at w id mine
+abbrev pub act_of_decision : Decision → SlotState → Speculation → Bool → Act
+act_of_decision Commit w id mine = commit_at w id mine
+act_of_decision Discard w id mine = discard_at w id mine
 
 -- the deed that it enters
 abbrev pub deed_of : Decision → ℕ → Speculation → DecideFate → Deed

@@ -6,7 +6,7 @@ use Rattle.dspec_deeds.specs.declared.deed.Deed.{Deed}
 use Rattle.dspec_machine.specs.declared.machine.Machine.{Machine}
 use Rattle.dspec_machine.specs.declared.side.Side.{Side}
 use Rattle.dspec_deeds.specs.History.{halted}
-use Rattle.dspec_play.specs.Play.{Moved, Cleaned}
+use Rattle.dspec_play.specs.Play.{Moved, ConsumerStep}
 use Rattle.dspec_play.specs.Coherent.{PlayState}
 use Rattle.dspec_play.specs.Turns.{moved_to, cleaned_to}
 use Rattle.dspec_machine.specs.Shown.{ShowsWords, ShowsSide}
@@ -20,7 +20,7 @@ abbrev pub state_of : {S B : Type 0} → Machine S B → PlayState
 state_of m = record { config = m.config; deeds = history m; callers = map (λ s. s.caller) m.sides.items; side = m.consumer }
 
 module _ {S B : Type 0} (has : B → S → List Piece → Type 0) (capacity : B → ℕ) where
-  pub record IsShown (m : Machine S B) : Type 0 where
+  pub record IsShownMachine (m : Machine S B) : Type 0 where
     pub words : ShowsWords m.config (history m) m.words.items
     pub active : m.halted ≡ halted (history m)
     pub side_count : length m.sides.items ≡ m.config.cpus
@@ -33,14 +33,14 @@ pub record Adds {S B : Type 0} (ds : List Deed) (m n : Machine S B) : Type 0 whe
 
 -- a step of a CPU makes this of a machine, with that answer
 pub record Makes {S B : Type 0} (has : B → S → List Piece → Type 0) (capacity : B → ℕ) (m n : Machine S B) (c : ℕ) (moved : Moved) (answer : Option Answer) : Type 0 where
-  pub shown : IsShown has capacity n
+  pub shown : IsShownMachine has capacity n
   pub state : state_of n ≡ (moved_to (state_of m) c moved).state
   pub schema : n.schema ≡ m.schema
   pub answered : answer ≡ moved.answer
 
 -- a step of the consumer makes this of a machine, with that answer
-pub record Cleans {S B : Type 0} (has : B → S → List Piece → Type 0) (capacity : B → ℕ) (m n : Machine S B) (cleaned : Cleaned) (answer : Option Answer) : Type 0 where
-  pub shown : IsShown has capacity n
+pub record Cleans {S B : Type 0} (has : B → S → List Piece → Type 0) (capacity : B → ℕ) (m n : Machine S B) (cleaned : ConsumerStep) (answer : Option Answer) : Type 0 where
+  pub shown : IsShownMachine has capacity n
   pub state : state_of n ≡ (cleaned_to (state_of m) cleaned).state
   pub schema : n.schema ≡ m.schema
   pub answered : answer ≡ cleaned.answer

@@ -18,8 +18,8 @@ abbrev pub first_or_empty : List Batch → Batch
 first_or_empty [] = empty_batch
 first_or_empty (b ∷ bs) = b
 
-abbrev pub last_batch : ℕ → List Deed → Batch
-last_batch c h = first_or_empty (batches c h)
+abbrev pub batch_of_last_seal : ℕ → List Deed → Batch
+batch_of_last_seal c h = first_or_empty (batches c h)
 
 -- the words show the list: the word of slot s stands at place s - 1
 pub record ShowsWords (k : Config) (h : List Deed) (words : List SlotState) : Type 0 where
@@ -41,7 +41,7 @@ parts_of side = record {
 
 module _ {S B : Type 0} (has : B → S → List Piece → Type 0) (capacity : B → ℕ) (schema : S) where
   -- a buffer of that size has these pieces
-  pub record HasPieces (size : ℕ) (ps : List Piece) (b : B) : Type 0 where
+  pub record HoldsPieces (size : ℕ) (ps : List Piece) (b : B) : Type 0 where
     pub sized : capacity b ≡ size
     pub has_pieces : has b schema ps
 
@@ -65,10 +65,10 @@ module _ {S B : Type 0} (has : B → S → List Piece → Type 0) (capacity : B 
     pub mark_count : length side.marks.items ≡ k.nspec
     pub marks : (s m : ℕ) → IsSlot k s → slice_get side.marks.items (s - 1) ≡ Some m → m ≡ mark c s h
     pub buffer_count : length side.speculative.items ≡ k.nspec
-    pub speculative : (s : ℕ) (b : B) → IsSlot k s → slice_get side.speculative.items (s - 1) ≡ Some b → HasPieces k.specsize (map one (contents (held c (present s h) h))) b
-    pub principal : HasPieces k.bufsize (active c h) side.active
-    pub second : HasRecords k.bufsize (contents (last_batch c h).offers) side.second
+    pub speculative : (s : ℕ) (b : B) → IsSlot k s → slice_get side.speculative.items (s - 1) ≡ Some b → HoldsPieces k.specsize (map one (contents (held c (present s h) h))) b
+    pub principal : HoldsPieces k.bufsize (active c h) side.active
+    pub second : HasRecords k.bufsize (contents (batch_of_last_seal c h).offers) side.second
     pub accepted : side.accepted ≡ stream c h
     pub took : side.taken ≡ taken side.caller.takes c h
     pub drops : side.drops ≡ (growing c h).drops
-    pub sealed_drops : side.sealed_drops ≡ (last_batch c h).drops
+    pub sealed_drops : side.sealed_drops ≡ (batch_of_last_seal c h).drops

@@ -6,17 +6,17 @@ use Rattle.dspec_play.specs.declared.flight.ConsumerFlight.{ConsumerFlight}
 use Rattle.dspec_play.specs.declared.flight.CpuFlight.{CpuFlight}
 use Rattle.dspec_machine.specs.declared.machine.Machine.{Machine}
 use Rattle.dspec_play.specs.Coherent.{IsCoherent, the_caller}
-use Rattle.dspec_machine.specs.Machines.{IsShown, state_of}
+use Rattle.dspec_machine.specs.Machines.{IsShownMachine, state_of}
 
 -- the machine shows its list of deeds, each call in flight stands where its deeds have brought it, and that CPU's is at that place
 pub record StandsAt {S B : Type 0} (has : B → S → List Piece → Type 0) (capacity : B → ℕ) (shape_of : S → ℕ → Option Shape) (m : Machine S B) (c : ℕ) (f : CpuFlight) : Type 0 where
-  pub shown : IsShown has capacity m
+  pub shown : IsShownMachine has capacity m
   pub coherent : IsCoherent (shape_of m.schema) (state_of m)
   pub cpu : c < m.config.cpus
   pub flight : (the_caller (state_of m).callers c).flight ≡ Some f
 
 -- the same, and the consumer's call is at that place
 pub record ConsumerStandsAt {S B : Type 0} (has : B → S → List Piece → Type 0) (capacity : B → ℕ) (shape_of : S → ℕ → Option Shape) (m : Machine S B) (f : ConsumerFlight) : Type 0 where
-  pub shown : IsShown has capacity m
+  pub shown : IsShownMachine has capacity m
   pub coherent : IsCoherent (shape_of m.schema) (state_of m)
   pub flight : m.consumer.flight ≡ Some f

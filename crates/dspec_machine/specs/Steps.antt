@@ -18,7 +18,7 @@ use Rattle.dspec_play.specs.declared.flight.Spare.{Spare}
 use Rattle.dspec_play.specs.declared.flight.Spare.TheVariants as spare
 use Rattle.dspec_machine.specs.declared.decision.Decision.{Decision}
 use Rattle.dspec_machine.specs.declared.machine.Machine.{Machine}
-use Rattle.dspec_play.specs.Play.{Moved, Cleaned, ends, cpu_step, consumer_step, spoken_at, committed_by, discarded_by, missed, loads_service, served, takes_at}
+use Rattle.dspec_play.specs.Play.{Moved, ConsumerStep, ends, cpu_step, consumer_step, spoken_at, committed_by, discarded_by, missed, loads_service, served, takes_at}
 use Rattle.dspec_play.specs.Coherent.{PlayState, the_caller}
 use Rattle.dspec_machine.specs.Decisions.{deed_of, shown_by}
 use Rattle.dspec_machine.specs.Machines.{Makes, Cleans, history, state_of}
@@ -53,14 +53,14 @@ module _ {S B : Type 0} (shape_of : S → ℕ → Option Shape) (m : Machine S B
   abbrev pub step_at : CpuFlight → Moved
   step_at f = cpu_step (shape_of m.schema) m.config c (history m) (caller_at m c) f
 
-  abbrev pub speaks : Speculation → Record → Moved
-  speaks id r = spoken_at (shape_of m.schema) m.config c (history m) (caller_at m c) id r
+  abbrev pub moved_speak : Speculation → Record → Moved
+  moved_speak id r = spoken_at (shape_of m.schema) m.config c (history m) (caller_at m c) id r
 
-  abbrev pub commits : Speculation → SlotState → Moved
-  commits id to = committed_by (shape_of m.schema) m.config c (history m) (caller_at m c) id (Attempt to)
+  abbrev pub moved_commit : Speculation → SlotState → Moved
+  moved_commit id to = committed_by (shape_of m.schema) m.config c (history m) (caller_at m c) id (Attempt to)
 
-  abbrev pub discards : Speculation → SlotState → Moved
-  discards id to = discarded_by (shape_of m.schema) m.config c (history m) (caller_at m c) id (Attempt to)
+  abbrev pub moved_discard : Speculation → SlotState → Moved
+  moved_discard id to = discarded_by (shape_of m.schema) m.config c (history m) (caller_at m c) id (Attempt to)
 
   -- what the word that is shown makes of a call that decides
   abbrev pub shows : Decision → Speculation → Moved
@@ -70,21 +70,21 @@ module _ {S B : Type 0} (shape_of : S → ℕ → Option Shape) (m : Machine S B
   abbrev pub ends_with : Decision → Speculation → DecideFate → Moved
   ends_with d id f = ends (shape_of m.schema) m.config c (history m) (caller_at m c) (deed_of d c id f ∷ []) (answer_of f)
 
-  abbrev pub misses : ℕ → SlotState → Moved
-  misses s w = missed (shape_of m.schema) m.config c (history m) (caller_at m c) s w
+  abbrev pub moved_miss : ℕ → SlotState → Moved
+  moved_miss s w = missed (shape_of m.schema) m.config c (history m) (caller_at m c) s w
 
   abbrev pub loads : ℕ → Served → Moved
   loads s sum = loads_service (shape_of m.schema) m.config c (history m) (caller_at m c) s sum
 
-  abbrev pub serves : ℕ → Served → Moved
-  serves s sum = served (shape_of m.schema) m.config c (history m) (caller_at m c) s [] sum
+  abbrev pub moved_service : ℕ → Served → Moved
+  moved_service s sum = served (shape_of m.schema) m.config c (history m) (caller_at m c) s [] sum
 
 -- the step of a CPU whose call is at that place makes this of a machine, with that answer
 abbrev pub StepsAs : {S B : Type 0} → (B → S → List Piece → Type 0) → (B → ℕ) → (S → ℕ → Option Shape) → Machine S B → Machine S B → ℕ → CpuFlight → Option Answer → Type 0
 StepsAs has capacity shape_of m n c f answer = Makes has capacity m n c (step_at shape_of m c f) answer
 
 -- a take of a CPU's batch, by where its second buffer is
-abbrev pub takes_batch : {S B : Type 0} → Machine S B → ℕ → Spare → Cleaned
+abbrev pub takes_batch : {S B : Type 0} → Machine S B → ℕ → Spare → ConsumerStep
 takes_batch m c place = takes_at m.config (history m) m.consumer (state_of m).callers c (caller_at m c) place
 
 -- the step of the consumer whose call is at that place makes this of a machine, with that answer

@@ -9,7 +9,7 @@ use Rattle.dspec_deeds.specs.declared.deed.Deed.TheVariants.{Trace, Scan, Miss, 
 use Rattle.dspec_deeds.specs.declared.report.Report.{Report}
 use Rattle.dspec_machine.specs.declared.reporting.Tally.{Tally}
 use Rattle.dspec_deeds.specs.FateKinds.{trace_kept, trace_dropped, trace_stopped, spoken_dropped, spoken_nowhere, spoken_stopped, decided_stopped, is_discard, is_copied, is_lost, count_of}
-use Rattle.dspec_deeds.specs.Own.{offered_by, number_of, is_drop}
+use Rattle.dspec_deeds.specs.Own.{offered_by, one_if_record, is_drop}
 use Rattle.dspec_deeds.specs.Reports.{one_if, accepts_now, drops_now, specdrops_now, loses_now, discards_now, voids_now, stops_now, fails_now, missed_busy, report}
 
 -- the tally of a list: its report, which leaves the records held out, and whether a missed slot was decided
@@ -26,7 +26,7 @@ missed_after c d missed = missed
 abbrev pub counted : Config → ℕ → Deed → Tally → Tally
 counted k c d t = record {
   counts = record {
-    offered = t.counts.offered + number_of (offered_by c d);
+    offered = t.counts.offered + one_if_record (offered_by c d);
     accepted = t.counts.accepted + accepts_now c d;
     dropped = t.counts.dropped + drops_now c d;
     specdropped = t.counts.specdropped + specdrops_now c d;
@@ -55,8 +55,8 @@ counts_for c (Settle a id f) = c == a
 counts_for c d = false
 
 -- the counts after one more record that the CPU traced, and one that it offered to a speculation
-abbrev pub with_traced : TraceFate → Report → Report
-with_traced f p = record p {
+abbrev pub report_with_traced : TraceFate → Report → Report
+report_with_traced f p = record p {
   offered = p.offered + 1;
   accepted = p.accepted + one_if (trace_kept f);
   dropped = p.dropped + one_if (trace_dropped f);
@@ -65,8 +65,8 @@ with_traced f p = record p {
   stopped = p.stopped + one_if (trace_stopped f);
 }
 
-abbrev pub with_spoken : SpeculateFate → Report → Report
-with_spoken f p = record p {
+abbrev pub report_with_spoken : SpeculateFate → Report → Report
+report_with_spoken f p = record p {
   offered = p.offered + 1;
   specdropped = p.specdropped + one_if (spoken_dropped f);
   void = p.void + one_if (spoken_nowhere f);
@@ -121,5 +121,5 @@ pub record CountsFit (p : Report) : Type 0 where
   pub stopped : p.stopped < 2 ^ 64
 
 -- the records that are not held
-abbrev pub with_fate : Report → ℕ
-with_fate p = p.accepted + p.dropped + p.specdropped + p.lost + p.discarded + p.void
+abbrev pub report_with_fate : Report → ℕ
+report_with_fate p = p.accepted + p.dropped + p.specdropped + p.lost + p.discarded + p.void

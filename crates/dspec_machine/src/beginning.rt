@@ -1,5 +1,5 @@
 ghost use Rattle.std.specs.Prelude.{◌≡◌, ◌<◌, true, None};
-ghost use Rattle.dspec_play.specs.Calls.{is_of, is_about};
+ghost use Rattle.dspec_play.specs.Calls.{record_passes, is_about};
 ghost use Rattle.dspec_play.specs.Coherent.{the_caller};
 ghost use Rattle.dspec_machine.specs.Machines.{state_of};
 ghost use Rattle.dspec_play.specs.Turns.{begin_cpu, begin_consumer};
@@ -17,7 +17,7 @@ impl<S: Schema, B: TraceBuffer<S>> Machine<S, B> {
         requires kept { IsKept B.has B.capacity S.shape_of S.accepted self.old }
         requires cpu { cpu < self.old.config.cpus }
         requires idle { (the_caller (state_of self.old).callers cpu).flight ≡ None }
-        requires accepted { is_of (S.accepted self.old.schema) op ≡ true }
+        requires accepted { record_passes (S.accepted self.old.schema) op ≡ true }
         ensures kept { IsKept B.has B.capacity S.shape_of S.accepted self.new }
         ensures state { state_of self.new ≡ begin_cpu cpu op (state_of self.old) }
         ensures schema { self.new.schema ≡ self.old.schema }

@@ -1,6 +1,6 @@
 ghost use Rattle.std.specs.Prelude.{◌≡◌};
 ghost use Rattle.dspec_word.specs.Word.{CanBeReleased};
-ghost use Rattle.dspec_machine.specs.Decisions.{act_of, deed_of, load_of, try_of};
+ghost use Rattle.dspec_machine.specs.Decisions.{act_of_decision, deed_of, load_of, try_of};
 
 use dspec_deeds::{DecideFate, Deed};
 use dspec_play::CpuFlight;
@@ -17,7 +17,7 @@ impl Decision {
     /// What the call does at the word of the identifier's slot, by its table.
     pub fn act(self, word: Word, id: SpecId, mine: bool) -> Act
         requires { CanBeReleased word }
-        ensures { result ≡ act_of self word id mine }
+        ensures { result ≡ act_of_decision self word id mine }
     {
         match self {
             Decision::Commit => commit_at(word, id, mine),

@@ -1,7 +1,7 @@
 ghost use Rattle.std.specs.Prelude.{◌≡◌, ◌<◌, None, IfOk, OnOk, reverse};
 ghost use Rattle.dspec_deeds.specs.Closes.{CanClose, reports, streams, closed_slot, closed_slots, closing};
 ghost use Rattle.dspec_play.specs.Coherent.{IsSlot, the_caller};
-ghost use Rattle.dspec_machine.specs.Machines.{IsShown, history, state_of};
+ghost use Rattle.dspec_machine.specs.Machines.{IsShownMachine, history, state_of};
 ghost use Rattle.dspec_deeds.specs.Ranges.{start_fault};
 
 use crate::machine::Machine;
@@ -14,12 +14,12 @@ use std::alloc::{AllocError, Global};
 impl<S: Schema, B: TraceBuffer<S>> Machine<S, B> {
     // Settles what a slot's speculation still waits for of the CPU, if it waits for it.
     fn close_slot(&mut self, cpu: u32, slot: u32) -> Result<(), AllocError>
-        requires shown { IsShown B.has B.capacity self.old }
+        requires shown { IsShownMachine B.has B.capacity self.old }
         requires fine { start_fault self.old.config ≡ None }
         requires can_close { CanClose (S.shape_of self.old.schema) self.old.config (history self.old) }
         requires cpu { cpu < self.old.config.cpus }
         requires slot { IsSlot self.old.config slot }
-        ensures shown { OnOk result (IsShown B.has B.capacity self.new) }
+        ensures shown { OnOk result (IsShownMachine B.has B.capacity self.new) }
         ensures can_close { OnOk result (CanClose (S.shape_of self.new.schema) self.new.config (history self.new)) }
         ensures settled { OnOk result (state_of self.new ≡ record (state_of self.old) { deeds = closed_slot (S.shape_of self.old.schema) self.old.config cpu slot (history self.old) }) }
         ensures schema { OnOk result (self.new.schema ≡ self.old.schema) }
@@ -36,11 +36,11 @@ impl<S: Schema, B: TraceBuffer<S>> Machine<S, B> {
 
     // Settles what is still waited for of the CPU, slot by slot upwards.
     fn close_cpu(&mut self, cpu: u32) -> Result<(), AllocError>
-        requires shown { IsShown B.has B.capacity self.old }
+        requires shown { IsShownMachine B.has B.capacity self.old }
         requires fine { start_fault self.old.config ≡ None }
         requires can_close { CanClose (S.shape_of self.old.schema) self.old.config (history self.old) }
         requires cpu { cpu < self.old.config.cpus }
-        ensures shown { OnOk result (IsShown B.has B.capacity self.new) }
+        ensures shown { OnOk result (IsShownMachine B.has B.capacity self.new) }
         ensures can_close { OnOk result (CanClose (S.shape_of self.new.schema) self.new.config (history self.new)) }
         ensures settled { OnOk result (state_of self.new ≡ record (state_of self.old) { deeds = closed_slots (S.shape_of self.old.schema) self.old.config cpu self.old.config.nspec (history self.old) }) }
         ensures schema { OnOk result (self.new.schema ≡ self.old.schema) }
@@ -53,10 +53,10 @@ impl<S: Schema, B: TraceBuffer<S>> Machine<S, B> {
 
     // Settles all that is decided and not acknowledged, CPU by CPU.
     fn close(&mut self) -> Result<(), AllocError>
-        requires shown { IsShown B.has B.capacity self.old }
+        requires shown { IsShownMachine B.has B.capacity self.old }
         requires fine { start_fault self.old.config ≡ None }
         requires can_close { CanClose (S.shape_of self.old.schema) self.old.config (history self.old) }
-        ensures shown { OnOk result (IsShown B.has B.capacity self.new) }
+        ensures shown { OnOk result (IsShownMachine B.has B.capacity self.new) }
         ensures can_close { OnOk result (CanClose (S.shape_of self.new.schema) self.new.config (history self.new)) }
         ensures settled { OnOk result (state_of self.new ≡ record (state_of self.old) { deeds = closing (S.shape_of self.old.schema) self.old.config (history self.old) }) }
         ensures schema { OnOk result (self.new.schema ≡ self.old.schema) }
@@ -70,7 +70,7 @@ impl<S: Schema, B: TraceBuffer<S>> Machine<S, B> {
     /// Settles, CPU by CPU and slot by slot upwards, what is decided and not acknowledged, and hands out the deeds, the
     /// accepted records and the reports.
     pub fn finish(mut self, alloc: Global) -> Result<Close, AllocError>
-        requires shown { IsShown B.has B.capacity self }
+        requires shown { IsShownMachine B.has B.capacity self }
         requires fine { start_fault self.config ≡ None }
         requires can_close { CanClose (S.shape_of self.schema) self.config (history self) }
         ensures deeds { IfOk result (λ close. close.deeds ≡ reverse (closing (S.shape_of self.schema) self.config (history self))) }

@@ -2,10 +2,10 @@ ghost use Rattle.std.specs.Prelude.{ℕ, ◌≡◌, ◌-◌, ◌<◌, ◌≤◌,
 ghost use Rattle.dspec_deeds.specs.declared.config.Config.{Config};
 ghost use Rattle.dspec_play.specs.Coherent.{the_caller};
 ghost use Rattle.dspec_deeds.specs.Legal.{IsAllowed};
-ghost use Rattle.dspec_machine.specs.Machines.{IsShown, history, state_of};
+ghost use Rattle.dspec_machine.specs.Machines.{IsShownMachine, history, state_of};
 ghost use Rattle.dspec_deeds.specs.Ranges.{start_fault};
 ghost use Rattle.dspec_deeds.specs.Reports.{report};
-ghost use Rattle.dspec_machine.specs.Tallies.{CountsFit, counted, counts_for, tally_of, with_block, with_commit, with_discard, with_fate, with_miss, with_scan, with_settle, with_spoken, with_traced};
+ghost use Rattle.dspec_machine.specs.Tallies.{CountsFit, counted, counts_for, tally_of, with_block, with_commit, with_discard, report_with_fate, with_miss, with_scan, with_settle, report_with_spoken, report_with_traced};
 
 use crate::machine::Machine;
 use dspec_buffer::TraceBuffer;
@@ -52,8 +52,8 @@ impl Tally {
 
     // Counts a record that the CPU traced.
     fn count_traced(&mut self, fate: TraceFate)
-        requires fit { CountsFit (with_traced fate self.old.counts) }
-        ensures { self.new ≡ record self.old { counts = with_traced fate self.old.counts } }
+        requires fit { CountsFit (report_with_traced fate self.old.counts) }
+        ensures { self.new ≡ record self.old { counts = report_with_traced fate self.old.counts } }
     {
         self.counts.offered += 1;
         match fate {
@@ -71,8 +71,8 @@ impl Tally {
 
     // Counts a record that the CPU offered to a speculation.
     fn count_spoken(&mut self, fate: SpeculateFate)
-        requires fit { CountsFit (with_spoken fate self.old.counts) }
-        ensures { self.new ≡ record self.old { counts = with_spoken fate self.old.counts } }
+        requires fit { CountsFit (report_with_spoken fate self.old.counts) }
+        ensures { self.new ≡ record self.old { counts = report_with_spoken fate self.old.counts } }
     {
         self.counts.offered += 1;
         match fate {
@@ -161,8 +161,8 @@ impl Tally {
 
     /// The report of all that was counted. The records that have no other fate are held.
     fn report(&self, worn: u64) -> Report
-        requires enough { with_fate self.now.counts ≤ self.now.counts.offered }
-        ensures { result ≡ record self.now.counts { held = self.now.counts.offered - with_fate self.now.counts; worn = worn } }
+        requires enough { report_with_fate self.now.counts ≤ self.now.counts.offered }
+        ensures { result ≡ record self.now.counts { held = self.now.counts.offered - report_with_fate self.now.counts; worn = worn } }
     {
         let counts = self.counts;
         let with_fate = counts.accepted
@@ -182,7 +182,7 @@ impl Tally {
 impl<S: Schema, B: TraceBuffer<S>> Machine<S, B> {
     /// The counts of a CPU so far. It takes no atomic step, and one pass over the deeds.
     pub fn report(&self, cpu: u32) -> Report
-        requires shown { IsShown B.has B.capacity self.now }
+        requires shown { IsShownMachine B.has B.capacity self.now }
         requires fine { start_fault self.now.config ≡ None }
         requires legal { IsAllowed (S.shape_of self.now.schema) self.now.config (history self.now) }
         requires cpu { cpu < self.now.config.cpus }

@@ -1,5 +1,5 @@
 ghost use Rattle.std.specs.Prelude.{◌≡◌, ◌<◌, ◌+◌, ◌++◌, ◌^◌, true, List, [], ◌∷◌, length, map, reverse, OnOk, OnErr, slice_get, slice_set, Some, if◌then◌else◌};
-ghost use Rattle.dspec_buffer.specs.Extent.{Piece, one, block, fits};
+ghost use Rattle.dspec_buffer.specs.Extent.{Piece, one, block, piece_fits};
 ghost use Rattle.dspec_record.specs.Record.{Record};
 ghost use Rattle.dspec_deeds.specs.FateKinds.{is_copied, is_lost};
 
@@ -102,7 +102,7 @@ impl<B> Side<B> {
         requires drops { self.old.drops + 1 < 2 ^ 64 }
         ensures active { (s : S) (ps : List Piece) (rs : List Record) (b : B)
             → slice_get self.old.speculative.items place ≡ Some b → B.has self.old.active s ps → B.has b s (map one rs)
-            → (is_copied fate.now ≡ true → fits (S.shape_of s) ps (block rs) (B.capacity self.old.active) ≡ true)
+            → (is_copied fate.now ≡ true → piece_fits (S.shape_of s) ps (block rs) (B.capacity self.old.active) ≡ true)
             → B.has self.new.active s (if is_copied fate.now then block rs ∷ ps else ps) }
         ensures active_size { B.capacity self.new.active ≡ B.capacity self.old.active }
         ensures emptied { (b : B) → slice_get self.old.speculative.items place ≡ Some b

@@ -10,7 +10,7 @@ use Rattle.dspec_play.specs.declared.flight.Caller.{Caller}
 use Rattle.dspec_play.specs.declared.flight.ConsumerFlight.{ConsumerFlight}
 use Rattle.dspec_play.specs.declared.flight.CpuFlight.{CpuFlight}
 use Rattle.dspec_play.specs.declared.flight.CpuFlight.TheVariants as cpu
-use Rattle.dspec_play.specs.Play.{Moved, Cleaned, cpu_step, consumer_step}
+use Rattle.dspec_play.specs.Play.{Moved, ConsumerStep, cpu_step, consumer_step}
 use Rattle.dspec_play.specs.Coherent.{StandsCaller, StandsSide, the_caller, PlayState, IsCoherent, idle_caller}
 use Rattle.dspec_play.specs.Turns.{begin_cpu, Stepped, moved_to, cleaned_to, step_cpu, step_consumer, on_to_end}
 use Rattle.dspec_deeds.proofs.SetUp.{set_up}
@@ -36,15 +36,18 @@ module _ (shape : ℕ → Option Shape) where
   finished (suc n) a st x idle = record { told = x; answers = refl; idle = idle }
 
   -- a CPU's call in flight ends
-  pub cpu_ends : (n c : ℕ) (st : PlayState) (f : CpuFlight) → IsCoherent shape st → c < st.config.cpus → (the_caller st.callers c).flight ≡ Some f → flight_bound st.config f ≤ n + (the_caller st.callers c).steps
+  pub cpu_ends : (n c : ℕ) (st : PlayState) (f : CpuFlight) → IsCoherent shape st → c < st.config.cpus → (the_caller st.callers c).flight ≡ Some f
+      → flight_bound st.config f ≤ n + (the_caller st.callers c).steps
       → HasAnswered (actor.Cpu c) (on_to_end shape n (actor.Cpu c) st None)
   cpu_ends zero c st f ok lt is most =
-      let low = cpu_below st.config c st.deeds (the_caller st.callers c) (set_up st.config ok.ranges).1 f (subst (StandsCaller st.config c st.deeds (the_caller st.callers c)) is (ok.stands c lt).flight) in
+      let low = cpu_below st.config c st.deeds (the_caller st.callers c) (set_up st.config ok.ranges).1 f
+      (subst (StandsCaller st.config c st.deeds (the_caller st.callers c)) is (ok.stands c lt).flight) in
       absurd (omega arith)
   cpu_ends (suc n) c st f ok lt is most =
       subst (λ x. HasAnswered (actor.Cpu c) (on_to_end shape n (actor.Cpu c) (step_cpu shape c st x).state (step_cpu shape c st x).answer)) (sym is)
       (⊎_elim
-      (λ (e : HasEnded m). subst (λ r. HasAnswered (actor.Cpu c) (on_to_end shape n (actor.Cpu c) new r)) (sym e.answers) (finished n (actor.Cpu c) new e.told (ap (λ (x : Caller). x.flight) here ∙ e.idle)))
+      (λ (e : HasEnded m). subst (λ r. HasAnswered (actor.Cpu c) (on_to_end shape n (actor.Cpu c) new r)) (sym e.answers)
+      (finished n (actor.Cpu c) new e.told (ap (λ (x : Caller). x.flight) here ∙ e.idle)))
       (λ (g : HasGoneOn st.config (the_caller st.callers c) (flight_bound st.config f) m).
       let steps : (the_caller new.callers c).steps ≡ (the_caller st.callers c).steps + 1 = ap (λ (x : Caller). x.steps) here ∙ g.counted in
       let bound = g.bound in
@@ -78,7 +81,7 @@ module _ (shape : ℕ → Option Shape) where
       (consumer_ends n new g.next (step_consumer_coherent shape st (Some f) ok is) g.flight (omega arith)))
       (clean_advances st.config st.deeds st.side st.callers f))
     where
-      m : Cleaned
+      m : ConsumerStep
       m = consumer_step st.config st.deeds st.side st.callers f
 
       new : PlayState

@@ -1,5 +1,6 @@
 -- What a coherent state tells an atomic step of the consumer before it is made.
-use Rattle.std.proofs.Common.{◌≡◌, ◌≢◌, ℕ, ◌+◌, ◌-◌, ◌*◌, ◌^◌, ◌<◌, ◌≤◌, ◌==◌, Bool, true, false, not, ◌&&◌, List, [], ◌∷◌, ◌++◌, length, get_or, Option, Some, None, if◌then◌else◌, refl, sym, ◌∙◌, subst, arith}
+use Rattle.std.proofs.Common.{◌≡◌, ◌≢◌, ℕ, ◌+◌, ◌-◌, ◌*◌, ◌^◌, ◌<◌, ◌≤◌, ◌==◌, Bool, true, false, not, ◌&&◌}
+use Rattle.std.proofs.Common.{List, [], ◌∷◌, ◌++◌, length, get_or, Option, Some, None, if◌then◌else◌, refl, sym, ◌∙◌, subst, arith}
 use Rattle.std.specs.Prelude.{nat_le, slice_get}
 use Rattle.std.proofs.lemmas.Option.{slice_get_read}
 use Rattle.std.proofs.lemmas.Bool.Decides.{nat_tests}
@@ -23,7 +24,7 @@ use Rattle.dspec_deeds.specs.Ranges.{is_between, is_size, start_fault}
 use Rattle.dspec_deeds.specs.History.{word_at}
 use Rattle.dspec_deeds.specs.Legal.{IsAllowed}
 use Rattle.dspec_deeds.specs.Own.{seals}
-use Rattle.dspec_play.specs.Play.{Cleaned, consumer_step, keeps_on, next_slot, same_word, stops}
+use Rattle.dspec_play.specs.Play.{ConsumerStep, consumer_step, keeps_on, next_slot, same_word, stops}
 use Rattle.dspec_play.specs.Coherent.{PlayState, IsCoherent, StandsConsumer, StandsSide, the_caller}
 use Rattle.dspec_deeds.proofs.TestLemmas.{and_tells}
 use Rattle.dspec_play.proofs.Counts.{takes_sealed}
@@ -37,7 +38,9 @@ cpus_tell true rest e = refl
 cpus_tell false rest e = absurd (cc (e))
 
 -- what they say of the calls
-calls_tell : (b0 b1 b2 b3 b4 b5 : Bool) → (if not b0 then Some Cpus else (if not b1 then Some Specs else (if not b2 then Some BufSize else (if not b3 then Some SpecSize else (if not b4 then Some Issues else (if not b5 then Some Calls else None)))))) ≡ None → b5 ≡ true
+calls_tell : (b0 b1 b2 b3 b4 b5 : Bool) →
+    (if not b0 then Some Cpus else (if not b1 then Some
+    Specs else (if not b2 then Some BufSize else (if not b3 then Some SpecSize else (if not b4 then Some Issues else (if not b5 then Some Calls else None)))))) ≡ None → b5 ≡ true
 calls_tell true true true true true true e = refl
 calls_tell true true true true true false e = absurd (cc (e))
 calls_tell true true true true false b5 e = absurd (cc (e))
@@ -94,8 +97,8 @@ module _ (shape : ℕ → Option Shape) (st : PlayState) (coherent : IsCoherent 
     clean_steps_fit = few_steps st.config st.deeds st.side f (slots_fit st.config coherent.ranges) (cpus_fit st.config coherent.ranges) clean_stands
 
     -- the deeds of its step are legal
-    pub clean_legal : (cleaned : Cleaned) → consumer_step st.config st.deeds st.side st.callers f ≡ cleaned → IsAllowed shape st.config (cleaned.deeds ++ st.deeds)
-    clean_legal cleaned e = subst (λ (m : Cleaned). IsAllowed shape st.config (m.deeds ++ st.deeds)) e
+    pub clean_legal : (cleaned : ConsumerStep) → consumer_step st.config st.deeds st.side st.callers f ≡ cleaned → IsAllowed shape st.config (cleaned.deeds ++ st.deeds)
+    clean_legal cleaned e = subst (λ (m : ConsumerStep). IsAllowed shape st.config (m.deeds ++ st.deeds)) e
         (consumer_keeps shape st.config st.deeds st.side st.callers coherent.ranges coherent.legal coherent.rests coherent.count coherent.stands f clean_stands).goes.legal
 
 -- the exchange is tried where the word awaits the acknowledgements
@@ -125,12 +128,13 @@ number_there ns count i n is e lt read there =
 next_deeds : (k : Config) (h : List Deed) (side : ConsumerSide) (all : List Caller) (s n : ℕ) (ds : List Deed) → (next_slot k h side all s ds n).deeds ≡ ds
 next_deeds k h side all s n ds = go (s == k.nspec)
   where
-    go : (b : Bool) → (if◌then◌else◌ {A = Cleaned} b (stops k h side all ds (answer.Cleaned n)) (keeps_on k h side all ds (consumer.CleanLoad (s + 1) n))).deeds ≡ ds
+    go : (b : Bool) → (if◌then◌else◌ {A = ConsumerStep} b (stops k h side all ds (answer.Cleaned n)) (keeps_on k h side all ds (consumer.CleanLoad (s + 1) n))).deeds ≡ ds
     go true = refl
     go false = refl
 
 -- the release of a clean's exchange is legal
-pub reap_legal : (shape : ℕ → Option Shape) (st : PlayState) (coherent : IsCoherent shape st) (s n : ℕ) (w : SlotState) → st.side.flight ≡ Some (consumer.CleanReap s w n) → same_word (word_at s st.deeds) w ≡ true
+pub reap_legal : (shape : ℕ → Option Shape) (st : PlayState) (coherent : IsCoherent shape st) (s n : ℕ) (w : SlotState) → st.side.flight ≡ Some (consumer.CleanReap s w n)
+    → same_word (word_at s st.deeds) w ≡ true
     → IsAllowed shape st.config (Release s ∷ st.deeds)
 reap_legal shape st coherent s n w is same =
     let step : consumer_step st.config st.deeds st.side st.callers (consumer.CleanReap s w n) ≡ next_slot st.config st.deeds st.side st.callers s (Release s ∷ []) (n + 1) = rw same refl in

@@ -20,7 +20,8 @@ module _ (shape : ℕ → Option Shape) (k : Config) where
       let f = closed_slots shape k c n g in
       either (is_granted (settle_at (word_at (suc n) f) (ack c (suc n) f))) (present (suc n) f) (settle_fate shape k c f (present (suc n) f) (word_at (suc n) f).code) (slots_authors c n g lt authors)
     where
-      either : (b : Bool) (id : Speculation) (x : DecideFate) → HasAuthors k (closed_slots shape k c n g) → HasAuthors k (if b then Settle c id x ∷ closed_slots shape k c n g else closed_slots shape k c n g)
+      either : (b : Bool) (id : Speculation) (x : DecideFate) → HasAuthors k (closed_slots shape k c n g)
+          → HasAuthors k (if b then Settle c id x ∷ closed_slots shape k c n g else closed_slots shape k c n g)
       either true id x all = (all, λ a by. let same : c ≡ a = cc in subst (λ y. y < k.cpus) same lt)
       either false id x all = all
 

@@ -18,7 +18,7 @@ use Rattle.dspec_play.specs.declared.flight.Spare.TheVariants as spare
 use Rattle.dspec_deeds.specs.History.{issue, present, opened, verdict, is_undecided, solo, settled, word_at, ack}
 use Rattle.dspec_deeds.specs.Own.{seals, held}
 use Rattle.dspec_deeds.specs.Legal.{IsAllowed}
-use Rattle.dspec_play.specs.Play.{served, ends, goes_on}
+use Rattle.dspec_play.specs.Play.{served, ends, call_goes_on}
 use Rattle.dspec_deeds.specs.Settling.{settle_fate}
 use Rattle.dspec_deeds.specs.Ranges.{start_fault}
 use Rattle.dspec_play.specs.Coherent.{IsSlot, StandsCaller, CallerStands, the_caller, PlayState, IsCoherent}
@@ -59,7 +59,7 @@ IsSettledAt c s h = awaits (word_at s h).code ≡ true → settled c (present s 
 served_deeds : (shape : ℕ → Option Shape) (k : Config) (c : ℕ) (h : List Deed) (me : Caller) (s : ℕ) (ds : List Deed) (sum : Served) → (served shape k c h me s ds sum).deeds ≡ ds
 served_deeds shape k c h me s ds sum = go (s == k.nspec)
   where
-    go : (b : Bool) → (if b then ends shape k c h me ds (answer.Served sum) else goes_on shape k c h me ds (cpu.ServiceLoad (s + 1) sum)).deeds ≡ ds
+    go : (b : Bool) → (if b then ends shape k c h me ds (answer.Served sum) else call_goes_on shape k c h me ds (cpu.ServiceLoad (s + 1) sum)).deeds ≡ ds
     go true = refl
     go false = refl
 
@@ -102,7 +102,13 @@ module _ (shape : ℕ → Option Shape) (k : Config) (fine : start_fault k ≡ N
       let not_yet : settled c (present s h) h ≡ false = not_true (settled c (present s h) h) (sym (ack_tells k c s h rest.legal.0) ∙ both.1) in
       let goes = settles_legally c s h rest lt slot both.0 not_yet in
       rw (granted_is (awaits (word_at s h).code && nat_le (ack c s h) (issue s h)), t) (
-        record { rest = record { legal = goes.legal; rests = goes.rests; idle = rest.idle }; words = λ t. refl; kept = λ b id e. settled_stays b id (Settle c (present s h) (settle_fate shape k c h (present s h) (word_at s h).code)) h e; solos = λ t. refl },
+        record {
+          rest = record { legal = goes.legal; rests = goes.rests; idle = rest.idle };
+          words = λ t. refl;
+          kept = λ b id e. settled_stays b id
+              (Settle c (present s h) (settle_fate shape k c h (present s h) (word_at s h).code)) h e;
+          solos = λ t. refl;
+        },
         λ w. rw (number_is_itself c, id_is_itself (present s h)) refl,
       ))
       (λ (f : (awaits (word_at s h).code && nat_le (ack c s h) (issue s h)) ≡ false).

@@ -59,7 +59,8 @@ pushes_any spare.Out next p = tt
 pushes_any spare.GivenBack next p = tt
 
 -- a call of a CPU that begins
-pub begin_cpu_coherent : (shape : ℕ → Option Shape) (st : PlayState) (c : ℕ) (o : CpuOp) → IsCoherent shape st → c < st.config.cpus → (the_caller st.callers c).flight ≡ None → IsCoherent shape (begin_cpu c o st)
+pub begin_cpu_coherent : (shape : ℕ → Option Shape) (st : PlayState) (c : ℕ) (o : CpuOp) → IsCoherent shape st → c < st.config.cpus → (the_caller st.callers c).flight ≡ None
+    → IsCoherent shape (begin_cpu c o st)
 begin_cpu_coherent shape st c o ok lt idle =
     let me = the_caller st.callers c in
     let was = ok.stands c lt in
@@ -98,7 +99,8 @@ module _ (shape : ℕ → Option Shape) where
       go None = refl
       go (Some f) = refl
 
-  pub step_cpu_coherent : (st : PlayState) (c : ℕ) (f : Option CpuFlight) → IsCoherent shape st → c < st.config.cpus → (the_caller st.callers c).flight ≡ f → IsCoherent shape (step_cpu shape c st f).state
+  pub step_cpu_coherent : (st : PlayState) (c : ℕ) (f : Option CpuFlight) → IsCoherent shape st → c < st.config.cpus → (the_caller st.callers c).flight ≡ f
+      → IsCoherent shape (step_cpu shape c st f).state
   step_cpu_coherent st c None ok lt is = ok
   step_cpu_coherent st c (Some f) ok lt is =
       let k = st.config in
@@ -111,7 +113,8 @@ module _ (shape : ℕ → Option Shape) where
         legal = did.goes.legal;
         authors = authors_go_on k (actor.Cpu c) m.deeds h (λ a e. let same : c ≡ a = cc in subst (λ x. x < k.cpus) same lt) ok.authors did.goes.by;
         rests = did.goes.rests;
-        stands = set_stands k (m.deeds ++ h) st.callers c m.caller ok.count (λ b less apart. others_stand shape k (actor.Cpu c) b m.deeds h (the_caller st.callers b) ok.rests did.goes apart less (ok.stands b less)) (λ less. did.stands);
+        stands = set_stands k (m.deeds ++ h) st.callers c m.caller ok.count
+            (λ b less apart. others_stand shape k (actor.Cpu c) b m.deeds h (the_caller st.callers b) ok.rests did.goes apart less (ok.stands b less)) (λ less. did.stands);
         side = side_stands shape k c m.deeds h ok.rests did.goes st.side st.side.flight ok.side;
       }
 
@@ -119,7 +122,16 @@ module _ (shape : ℕ → Option Shape) where
   step_consumer_coherent st None ok is = ok
   step_consumer_coherent st (Some f) ok is =
       let did = consumer_keeps shape st.config st.deeds st.side st.callers ok.ranges ok.legal ok.rests ok.count ok.stands f (subst (StandsSide st.config st.deeds st.side) is ok.side) in
-      record { ranges = ok.ranges; count = did.count; legal = did.goes.legal; authors = authors_go_on st.config actor.Consumer _ st.deeds (λ a e. absurd (cc e)) ok.authors did.goes.by; rests = did.goes.rests; stands = did.stand; side = did.side }
+      record {
+        ranges = ok.ranges;
+        count = did.count;
+        legal = did.goes.legal;
+        authors = authors_go_on st.config actor.Consumer _ st.deeds (λ a e. absurd (cc e)) ok.authors
+            did.goes.by;
+        rests = did.goes.rests;
+        stands = did.stand;
+        side = did.side;
+      }
 
   -- one atomic step
   pub step_coherent : (a : Actor) (st : PlayState) → IsCoherent shape st → IsActor st.config a → IsCoherent shape (step shape a st).state

@@ -25,7 +25,7 @@ use Rattle.dspec_play.specs.declared.flight.Spare.TheVariants as spare
 use Rattle.dspec_deeds.specs.History.{halted, issue, present, settled, releaser, author, owed, word_at, ack}
 use Rattle.dspec_deeds.specs.Own.{seals}
 use Rattle.dspec_deeds.specs.Legal.{IsAllowed}
-use Rattle.dspec_play.specs.Play.{Cleaned, same_word, consumer_step, consumer_begun, changes, stops, takes_at, gives_at, next_slot, loads_slot, loads_ack, reaps}
+use Rattle.dspec_play.specs.Play.{ConsumerStep, same_word, consumer_step, consumer_begun, changes, stops, takes_at, gives_at, next_slot, loads_slot, loads_ack, reaps}
 use Rattle.dspec_deeds.specs.Ranges.{start_fault}
 use Rattle.dspec_play.specs.Coherent.{IsSlot, StandsCaller, SettledBelow, StandsConsumer, StandsSide, SpareCounts, CallerStands, the_caller, idle_caller}
 use Rattle.dspec_deeds.proofs.TestLemmas.{either_way, same_number, numbers_differ}
@@ -99,7 +99,7 @@ set_stands k h all a me count stand st c lt = ⊎_elim
     (either_way (c == a))
 
 -- what a step of the consumer keeps
-pub record ConsumerKeeps (shape : ℕ → Option Shape) (k : Config) (h : List Deed) (m : Cleaned) : Type 0 where
+pub record ConsumerKeeps (shape : ℕ → Option Shape) (k : Config) (h : List Deed) (m : ConsumerStep) : Type 0 where
   pub goes : GoesOn shape k Consumer m.deeds h
   pub side : StandsSide k (m.deeds ++ h) m.side m.side.flight
   pub count : length m.callers ≡ k.cpus

@@ -1,5 +1,6 @@
 -- The counters of a side fit: each is at most the number of the deeds. The issue of what was given out fits a word.
-use Rattle.std.proofs.Common.{◌≡◌, ℕ, ◌+◌, ◌<◌, ◌≤◌, ◌^◌, Bool, true, false, not, Option, Some, None, true≢false, List, [], ◌∷◌, ◌++◌, length, reverse, if◌then◌else◌, refl, ap, ◌∙◌, sym, subst, ⊎_elim, arith, length-append}
+use Rattle.std.proofs.Common.{◌≡◌, ℕ, ◌+◌, ◌<◌, ◌≤◌, ◌^◌, Bool, true, false, not, Option, Some, None, true≢false, List}
+use Rattle.std.proofs.Common.{[], ◌∷◌, ◌++◌, length, reverse, if◌then◌else◌, refl, ap, ◌∙◌, sym, subst, ⊎_elim, arith, length-append}
 use Rattle.std.specs.Prelude.{nat_lt, nat_le}
 use Rattle.std.proofs.lemmas.Bool.Decides.{nat_tests}
 use Rattle.std.proofs.lemmas.List.{length-reverse}
@@ -68,7 +69,8 @@ issue_below k (d ∷ h) id s e = ⊎_elim
 issue_below k [] id s e = absurd (true≢false (sym e))
 
 -- what a configuration's ranges say of the issues
-most_issues : (b0 b1 b2 b3 b4 : Bool) (rest : Option StartFault) → (if not b0 then Some Cpus else (if not b1 then Some Specs else (if not b2 then Some BufSize else (if not b3 then Some SpecSize else (if not b4 then Some Issues else rest))))) ≡ None → b4 ≡ true
+most_issues : (b0 b1 b2 b3 b4 : Bool) (rest : Option StartFault)
+    → (if not b0 then Some Cpus else (if not b1 then Some Specs else (if not b2 then Some BufSize else (if not b3 then Some SpecSize else (if not b4 then Some Issues else rest))))) ≡ None → b4 ≡ true
 most_issues true true true true true rest e = refl
 most_issues true true true true false rest e = absurd (cc (e))
 most_issues true true true false b4 rest e = absurd (cc (e))

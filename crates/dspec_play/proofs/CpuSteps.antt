@@ -21,7 +21,8 @@ use Rattle.dspec_play.proofs.StepsCommit.{commit_begins, commit_loads, commit_tr
 use Rattle.dspec_play.proofs.StepsDiscard.{discard_begins, discard_loads, discard_tries}
 use Rattle.dspec_play.proofs.StepsService.{service_begins, service_pops, service_pushes, service_loads, service_stores}
 
-begins_stand : (shape : ℕ → Option Shape) (k : Config) (c : ℕ) (h : List Deed) (me : Caller) → IsUnderWay shape k c h me → (o : CpuOp) → scan k c h ≡ 0 → me.steps ≡ 0 → StepStands shape k c h (begun shape k c h me o)
+begins_stand : (shape : ℕ → Option Shape) (k : Config) (c : ℕ) (h : List Deed) (me : Caller) → IsUnderWay shape k c h me → (o : CpuOp) → scan k c h ≡ 0 → me.steps ≡ 0
+    → StepStands shape k c h (begun shape k c h me o)
 begins_stand shape k c h me play (cpu_op.Trace r) idle first = trace_begins shape k c h me play r idle
 begins_stand shape k c h me play cpu_op.Speculation idle first = scan_begins shape k c h me play idle first
 begins_stand shape k c h me play (cpu_op.Speculate id r) idle first = speculate_begins shape k c h me play id r idle first
@@ -29,7 +30,8 @@ begins_stand shape k c h me play (cpu_op.Commit id) idle first = commit_begins s
 begins_stand shape k c h me play (cpu_op.Discard id) idle first = discard_begins shape k c h me play id idle first
 begins_stand shape k c h me play cpu_op.Service idle first = service_begins shape k c h me play idle first
 
-module _ (shape : ℕ → Option Shape) (k : Config) (c : ℕ) (h : List Deed) (me : Caller) (ranges : start_fault k ≡ None) (legal : IsAllowed shape k h) (rests : owed h ≡ 0) (stands : CallerStands k c h me) where
+module _ (shape : ℕ → Option Shape) (k : Config) (c : ℕ) (h : List Deed) (me : Caller) (ranges : start_fault k ≡ None) (legal : IsAllowed shape k h) (rests : owed h ≡ 0)
+    (stands : CallerStands k c h me) where
   -- at each step but the push, no sealed batch waits for its push
   under_way : (f : CpuFlight) → me.flight ≡ Some f → f ≢ cpu.ServicePush → IsUnderWay shape k c h me
   under_way f is other = record { ranges = ranges; legal = legal; rests = rests; counts = stands.counts; pushes = pushes_not me.spare f me.flight is other stands.pushes; want = stands.want }

@@ -44,13 +44,15 @@ inactive_test Discarding = refl
 
 module _ (shape : ℕ → Option Shape) (k : Config) (c : ℕ) (h : List Deed) (me : Caller) (id : Speculation) (w : SlotState) where
   -- the table attempts nothing
-  pub commit_voids : (act : Act) → ((to : SlotState) → act ≢ Attempt to) → shown_commit shape k c h me id w act ≡ ends shape k c h me (Commit c id decided.Void ∷ []) (answer.Decided decided_answer.Void)
+  pub commit_voids : (act : Act) → ((to : SlotState) → act ≢ Attempt to)
+      → shown_commit shape k c h me id w act ≡ ends shape k c h me (Commit c id decided.Void ∷ []) (answer.Decided decided_answer.Void)
   commit_voids Void none = refl
   commit_voids Granted none = refl
   commit_voids (Attempt to) none = absurd (none to refl)
   commit_voids Idle none = refl
 
-  pub discard_voids : (act : Act) → ((to : SlotState) → act ≢ Attempt to) → shown_discard shape k c h me id w act ≡ ends shape k c h me (Discard c id decided.Void ∷ []) (answer.Decided decided_answer.Void)
+  pub discard_voids : (act : Act) → ((to : SlotState) → act ≢ Attempt to)
+      → shown_discard shape k c h me id w act ≡ ends shape k c h me (Discard c id decided.Void ∷ []) (answer.Decided decided_answer.Void)
   discard_voids Void none = refl
   discard_voids Granted none = refl
   discard_voids (Attempt to) none = absurd (none to refl)
@@ -89,7 +91,8 @@ module _ (shape : ℕ → Option Shape) (k : Config) (c : ℕ) (h : List Deed) (
   discards_alone to e = let alone : is_inactive to.code ≡ true = sym (inactive_test to.code) ∙ e in rw alone refl
 
   -- the word that a discard leaves
-  pub discard_leaves : (to : SlotState) → IsSound k h → discard_at (word_at id.slot h) id (is_among c (callers id h)) ≡ Attempt to → IsSound k ((discarded_by shape k c h me id (Attempt to)).deeds ++ h)
+  pub discard_leaves : (to : SlotState) → IsSound k h → discard_at (word_at id.slot h) id (is_among c (callers id h)) ≡ Attempt to
+      → IsSound k ((discarded_by shape k c h me id (Attempt to)).deeds ++ h)
       → to ≡ word_at id.slot ((discarded_by shape k c h me id (Attempt to)).deeds ++ h)
   discard_leaves to sound e =
       let did = discard_attempt k h id c to sound e in

@@ -13,7 +13,7 @@ use Rattle.dspec_play.specs.declared.flight.ConsumerSide.{ConsumerSide}
 use Rattle.dspec_play.specs.declared.flight.Spare.{Spare}
 use Rattle.dspec_play.specs.declared.flight.Spare.TheVariants as spare
 use Rattle.dspec_deeds.specs.History.{halted, word_at, ack}
-use Rattle.dspec_play.specs.Play.{Cleaned, same_word, consumer_step, takes_at, gives_at, next_slot, loads_slot}
+use Rattle.dspec_play.specs.Play.{ConsumerStep, same_word, consumer_step, takes_at, gives_at, next_slot, loads_slot}
 use Rattle.dspec_play.specs.Coherent.{the_caller, idle_caller}
 use Rattle.dspec_deeds.proofs.TestLemmas.{either_way, same_number, numbers_differ}
 
@@ -21,7 +21,7 @@ module _ (k : Config) (h : List Deed) (side : ConsumerSide) (all : List Caller) 
   abbrev pub SameFlights : List Caller → Type 0
   SameFlights new = (c : ℕ) → c < k.cpus → (the_caller new c).flight ≡ (the_caller all c).flight
 
-  either : (b : Bool) (x y : Cleaned) → SameFlights x.callers → SameFlights y.callers → SameFlights (if b then x else y).callers
+  either : (b : Bool) (x y : ConsumerStep) → SameFlights x.callers → SameFlights y.callers → SameFlights (if b then x else y).callers
   either true x y p q = p
   either false x y p q = q
 

@@ -31,7 +31,8 @@ use Rattle.dspec_deeds.specs.History.{halted, in_range, word_at, ack}
 use Rattle.dspec_deeds.specs.Own.{seals}
 use Rattle.dspec_deeds.specs.Legal.{fits_principal, fits_speculative}
 use Rattle.dspec_play.specs.Calls.{op_of, consumer_op_of}
-use Rattle.dspec_play.specs.Play.{Moved, Cleaned, same_word, is_alone, is_release, is_worn, is_mine, spoken_at, shown_speculate, shown_commit, shown_discard, missed, shown_scan, asked, begun, popped, served, shown_service, cpu_step, takes_at, gives_at, next_slot, loads_slot, consumer_step}
+use Rattle.dspec_play.specs.Play.{Moved, ConsumerStep, same_word, is_alone, is_release, is_worn, is_mine, spoken_at, shown_speculate, shown_commit, shown_discard, missed}
+use Rattle.dspec_play.specs.Play.{shown_scan, asked, begun, popped, served, shown_service, cpu_step, takes_at, gives_at, next_slot, loads_slot, consumer_step}
 use Rattle.dspec_play.specs.Coherent.{the_caller, idle_caller}
 use Rattle.dspec_deeds.proofs.TestLemmas.{either_way, same_number, numbers_differ}
 
@@ -184,7 +185,7 @@ module _ (P : ConsumerOp → Type 0) where
   ended f e = absurd (cc (e))
 
   module _ (k : Config) (h : List Deed) (side : ConsumerSide) (all : List Caller) where
-    one_of : (b : Bool) (x y : Cleaned) → Goes x.side.flight → Goes y.side.flight → Goes (if b then x else y).side.flight
+    one_of : (b : Bool) (x y : ConsumerStep) → Goes x.side.flight → Goes y.side.flight → Goes (if b then x else y).side.flight
     one_of true x y p q = p
     one_of false x y p q = q
 

@@ -120,8 +120,14 @@ module _ (k : Config) (w : Actor) (c : ℕ) (other : same_actor (Cpu c) w ≡ fa
   stands_cpu : c < k.cpus → owed h ≡ 0 → (me : Caller) (f : CpuFlight) → StandsCpu k c h me f → StandsCpu k c (ds ++ h) me f
   stands_cpu lt rests me (cpu.Begun o) st = (scan_stays ∙ st.0, st.1)
   stands_cpu lt rests me (cpu.ScanLoad s) st = (st.0, scan_stays ∙ st.1, st.2)
-  stands_cpu lt rests me (cpu.ScanTry s from) st =
-      (st.0, scan_stays ∙ st.1, st.2, st.3, across (λ g. (word_at s g ≡ from) ⊎ (opened_since c s g ≡ true)) (λ x g sd o e. free_or_taken k c s from x g sd o (open_inactive from st.3.0 k.max_issues st.3.1) e) st.4)
+  stands_cpu lt rests me (cpu.ScanTry s from) st = (
+    st.0,
+    scan_stays ∙ st.1,
+    st.2,
+    st.3,
+    across (λ g. (word_at s g ≡ from) ⊎ (opened_since c s g ≡ true))
+        (λ x g sd o e. free_or_taken k c s from x g sd o (open_inactive from st.3.0 k.max_issues st.3.1) e) st.4,
+  )
   stands_cpu lt rests me (cpu.SpeculateLoad id r) st = (on_its_way id st.0, st.1)
   stands_cpu lt rests me (cpu.SpeculateTry id r from) st = (on_its_way id st.0, expects (speculate_at from id) from id st.1, st.2)
   stands_cpu lt rests me (cpu.CommitLoad id) st = (on_its_way id st.0, st.1)

@@ -39,7 +39,8 @@ use Rattle.dspec_deeds.specs.Ranges.{is_fill}
 use Rattle.dspec_deeds.specs.History.{author, same_actor, halted, in_range, word_at, ack}
 use Rattle.dspec_deeds.specs.Own.{seals}
 use Rattle.dspec_deeds.specs.Legal.{fits_principal, fits_speculative}
-use Rattle.dspec_play.specs.Play.{Moved, same_word, is_alone, is_release, is_worn, is_mine, ends, wears, goes_on, spoken_at, shown_speculate, shown_commit, shown_discard, missed, shown_scan, asked, begun, popped, served, shown_service, cpu_step}
+use Rattle.dspec_play.specs.Play.{Moved, same_word, is_alone, is_release, is_worn, is_mine, ends, wears, call_goes_on, spoken_at, shown_speculate}
+use Rattle.dspec_play.specs.Play.{shown_commit, shown_discard, missed, shown_scan, asked, begun, popped, served, shown_service, cpu_step}
 use Rattle.dspec_deeds.specs.Settling.{commit_fate, discard_fate, settle_fate}
 use Rattle.dspec_deeds.specs.Told.{answer_of}
 use Rattle.dspec_play.specs.Plays.{is_worn_answer}
@@ -138,7 +139,7 @@ module _ (shape : ℕ → Option Shape) (k : Config) (c : ℕ) (h : List Deed) (
   worn_out o a is worn = record { holds = tt; reads = is; wears = rw worn refl }
 
   -- a call that goes on
-  on : (o : CpuOp) (own ds : List Deed) (f : CpuFlight) → OwnDeeds c (ds ++ h) f (ds ++ own) → Does o own (goes_on shape k c h me ds f)
+  on : (o : CpuOp) (own ds : List Deed) (f : CpuFlight) → OwnDeeds c (ds ++ h) f (ds ++ own) → Does o own (call_goes_on shape k c h me ds f)
   on o own ds f owns = record { holds = owns; reads = tt; wears = refl }
 
   -- a decision's fate is its answer
@@ -170,7 +171,8 @@ module _ (shape : ℕ → Option Shape) (k : Config) (c : ℕ) (h : List Deed) (
   missed_reads own s w e =
       let now = busy_now c s (is_decided w.code) h own e in
       either cpu_op.Speculation own (s == k.nspec) _ _
-      (done cpu_op.Speculation own (Miss c s (is_decided w.code) ∷ []) _ (ap (λ (b : Bool). answer.Opening (if b then opening.Busy else opening.Unavailable)) (sym now)) (fails_unworn (missed_busy c (Miss c s (is_decided w.code) ∷ h))))
+      (done cpu_op.Speculation own (Miss c s (is_decided w.code) ∷ []) _ (ap (λ (b : Bool). answer.Opening (if b then opening.Busy else opening.Unavailable)) (sym now))
+      (fails_unworn (missed_busy c (Miss c s (is_decided w.code) ∷ h))))
       (on cpu_op.Speculation own (Miss c s (is_decided w.code) ∷ []) (cpu.ScanLoad (s + 1)) now)
 
   scan_reads : (own : List Deed) (s : ℕ) (w : SlotState) (a : Act) → is_busy_among own ≡ missed_busy c h → Does cpu_op.Speculation own (shown_scan shape k c h me s w a)
@@ -220,7 +222,8 @@ module _ (shape : ℕ → Option Shape) (k : Config) (c : ℕ) (h : List Deed) (
       let o = cpu_op.Trace r in
       opens_with o (is_worn k c h) (halted h) (wears shape k c h me (answer.Traced traced_answer.Worn)) _ _ (worn_out o (answer.Traced traced_answer.Worn) refl refl)
       (done o [] (Trace c r traced.Stopped ∷ []) (answer.Traced traced_answer.Stopped) refl refl)
-      (either o [] (fits_principal shape k c (one r) h) _ _ (done o [] (Trace c r traced.Kept ∷ []) (answer.Traced traced_answer.Kept) refl refl) (done o [] (Trace c r traced.Dropped ∷ []) (answer.Traced traced_answer.Dropped) refl refl))
+      (either o [] (fits_principal shape k c (one r) h) _ _ (done o [] (Trace c r traced.Kept ∷ []) (answer.Traced traced_answer.Kept) refl refl)
+      (done o [] (Trace c r traced.Dropped ∷ []) (answer.Traced traced_answer.Dropped) refl refl))
   begun_reads cpu_op.Speculation =
       let o = cpu_op.Speculation in
       let fresh : false ≡ missed_busy c (Scan c true ∷ h) = rw (number_is_itself c) refl in
@@ -256,16 +259,19 @@ module _ (shape : ℕ → Option Shape) (k : Config) (c : ℕ) (h : List Deed) (
   cpu_step_reads (cpu.Begun o) own was = from o own [] _ was (begun_reads o)
   cpu_step_reads (cpu.ScanLoad s) own was = scan_reads own s (word_at s h) (open_at (word_at s h) k.max_issues) was
   cpu_step_reads (cpu.ScanTry s w) own was = either cpu_op.Speculation own (same_word (word_at s h) w) _ _ (done _ own _ _ refl refl) (missed_reads own s (word_at s h) was)
-  cpu_step_reads (cpu.SpeculateLoad id r) own was = from (cpu_op.Speculate id r) own [] _ was (speculate_reads id r (word_at id.slot h) (speculate_at (word_at id.slot h) id (is_mine shape k c h me id)))
+  cpu_step_reads (cpu.SpeculateLoad id r) own was =
+      from (cpu_op.Speculate id r) own [] _ was (speculate_reads id r (word_at id.slot h) (speculate_at (word_at id.slot h) id (is_mine shape k c h me id)))
   cpu_step_reads (cpu.SpeculateTry id r w) own was =
       from (cpu_op.Speculate id r) own [] _ was
-      (either (cpu_op.Speculate id r) [] (same_word (word_at id.slot h) w) _ _ (spoken_reads id r) (speculate_reads id r (word_at id.slot h) (speculate_at (word_at id.slot h) id (is_mine shape k c h me id))))
+      (either (cpu_op.Speculate id r) [] (same_word (word_at id.slot h) w) _ _ (spoken_reads id r)
+      (speculate_reads id r (word_at id.slot h) (speculate_at (word_at id.slot h) id (is_mine shape k c h me id))))
   cpu_step_reads (cpu.CommitLoad id) own was = from (cpu_op.Commit id) own [] _ was (commit_reads id (word_at id.slot h) (commit_at (word_at id.slot h) id (is_mine shape k c h me id)))
   cpu_step_reads (cpu.CommitTry id w) own was =
       let f = commit_fate shape k c h id in
       from (cpu_op.Commit id) own [] _ was
       (either (cpu_op.Commit id) [] (same_word (word_at id.slot h) w) _ _
-      (either (cpu_op.Commit id) [] (is_alone (commit_at w id (is_mine shape k c h me id))) _ _ (on (cpu_op.Commit id) [] (Commit c id f ∷ []) (cpu.CommitRelease id f) refl) (decides (cpu_op.Commit id) [] (Commit c id f ∷ []) f refl))
+      (either (cpu_op.Commit id) [] (is_alone (commit_at w id (is_mine shape k c h me id))) _ _ (on (cpu_op.Commit id) [] (Commit c id f ∷ []) (cpu.CommitRelease id f) refl)
+      (decides (cpu_op.Commit id) [] (Commit c id f ∷ []) f refl))
       (commit_reads id (word_at id.slot h) (commit_at (word_at id.slot h) id (is_mine shape k c h me id))))
   cpu_step_reads (cpu.CommitRelease id f) own was = from (cpu_op.Commit id) own (Commit c id f ∷ []) _ was (decides (cpu_op.Commit id) (Commit c id f ∷ []) (Release id.slot ∷ []) f refl)
   cpu_step_reads (cpu.DiscardLoad id) own was = from (cpu_op.Discard id) own [] _ was (discard_reads id (word_at id.slot h) (discard_at (word_at id.slot h) id (is_mine shape k c h me id)))
@@ -273,10 +279,12 @@ module _ (shape : ℕ → Option Shape) (k : Config) (c : ℕ) (h : List Deed) (
       let f = discard_fate shape k c h id in
       from (cpu_op.Discard id) own [] _ was
       (either (cpu_op.Discard id) [] (same_word (word_at id.slot h) w) _ _
-      (either (cpu_op.Discard id) [] (is_release (discard_at w id (is_mine shape k c h me id))) _ _ (decides (cpu_op.Discard id) [] (Release id.slot ∷ Discard c id f ∷ []) f refl) (decides (cpu_op.Discard id) [] (Discard c id f ∷ []) f refl))
+      (either (cpu_op.Discard id) [] (is_release (discard_at w id (is_mine shape k c h me id))) _ _
+      (decides (cpu_op.Discard id) [] (Release id.slot ∷ Discard c id f ∷ []) f refl) (decides (cpu_op.Discard id) [] (Discard c id f ∷ []) f refl))
       (discard_reads id (word_at id.slot h) (discard_at (word_at id.slot h) id (is_mine shape k c h me id))))
   cpu_step_reads cpu.ServicePop own was = from cpu_op.Service own [] _ was (popped_reads me.spare)
   cpu_step_reads cpu.ServicePush own was = from cpu_op.Service own (Seal c ∷ []) _ was record { holds = (refl, refl); reads = tt; wears = refl }
   cpu_step_reads (cpu.ServiceLoad s sum) own was = service_reads own s sum (word_at s h) (settle_at (word_at s h) (ack c s h)) was
   cpu_step_reads (cpu.ServiceStore s w sum) own was =
-      served_reads own s (Settle c record { issue = w.issue; slot = s } (settle_fate shape k c h record { issue = w.issue; slot = s } w.code) ∷ []) record { sealed = sum.sealed; settled = sum.settled + 1 } (was.0, ap (λ n. n + 1) was.1)
+      served_reads own s (Settle c record { issue = w.issue; slot = s } (settle_fate shape k c h record { issue = w.issue; slot = s } w.code) ∷ []) record
+      { sealed = sum.sealed; settled = sum.settled + 1 } (was.0, ap (λ n. n + 1) was.1)

@@ -22,7 +22,7 @@ use Rattle.dspec_play.specs.Calls.{consumer_op_of, is_about}
 use Rattle.dspec_play.specs.Coherent.{SpareCounts, CallerStands, PlayState, the_caller, idle_caller}
 use Rattle.dspec_deeds.specs.History.{halted, word_at, ack}
 use Rattle.dspec_deeds.specs.Own.{seals}
-use Rattle.dspec_play.specs.Play.{Cleaned, same_word, keeps_on, stops, changes, takes_at, gives_at, next_slot, loads_slot, loads_ack, reaps, consumer_begun, consumer_step, took}
+use Rattle.dspec_play.specs.Play.{ConsumerStep, same_word, keeps_on, stops, changes, takes_at, gives_at, next_slot, loads_slot, loads_ack, reaps, consumer_begun, consumer_step, took}
 use Rattle.dspec_play.specs.Whole.{is_out}
 use Rattle.dspec_deeds.proofs.TestLemmas.{either_way, same_number, numbers_differ}
 use Rattle.dspec_play.proofs.OwnAnswers.{Tells}
@@ -45,12 +45,12 @@ module _ (st : PlayState) (count : length st.callers ≡ st.config.cpus) (stands
   SameWorn new = (c : ℕ) → c < st.config.cpus → (the_caller new c).worn ≡ (the_caller st.callers c).worn
 
   -- what a step makes of a call that had entered those deeds
-  pub record CleanReads (o : ConsumerOp) (own : List Deed) (m : Cleaned) : Type 0 where
+  pub record CleanReads (o : ConsumerOp) (own : List Deed) (m : ConsumerStep) : Type 0 where
     pub holds : OwnsClean st.config m.side.flight (m.deeds ++ own)
     pub reads : Tells m.answer (answer_of_consumer o st (m.deeds ++ own))
     pub wears_not : SameWorn m.callers
 
-  either : (o : ConsumerOp) (own : List Deed) (b : Bool) (x y : Cleaned) → CleanReads o own x → CleanReads o own y → CleanReads o own (if b then x else y)
+  either : (o : ConsumerOp) (own : List Deed) (b : Bool) (x y : ConsumerStep) → CleanReads o own x → CleanReads o own y → CleanReads o own (if b then x else y)
   either o own true x y p q = p
   either o own false x y p q = q
 
@@ -69,7 +69,8 @@ module _ (st : PlayState) (count : length st.callers ≡ st.config.cpus) (stands
   ended o own ds a is = record { holds = tt; reads = is; wears_not = λ c lt. refl }
 
   -- a call that ends and changes a CPU's side
-  changes_one : (o : ConsumerOp) (own : List Deed) (c : ℕ) (me : Caller) (a : Answer) → a ≡ answer_of_consumer o st own → me.worn ≡ (the_caller st.callers c).worn → CleanReads o own (changes st.config st.deeds st.side st.callers c me a)
+  changes_one : (o : ConsumerOp) (own : List Deed) (c : ℕ) (me : Caller) (a : Answer) → a ≡ answer_of_consumer o st own → me.worn ≡ (the_caller st.callers c).worn
+      → CleanReads o own (changes st.config st.deeds st.side st.callers c me a)
   changes_one o own c me a is same = record { holds = tt; reads = is; wears_not = changed c me same }
 
   -- a call that goes on
@@ -78,7 +79,8 @@ module _ (st : PlayState) (count : length st.callers ≡ st.config.cpus) (stands
 
   next_reads : (own : List Deed) (s n : ℕ) (ds : List Deed) → release_count (ds ++ own) ≡ n → CleanReads consumer_op.Clean own (next_slot st.config st.deeds st.side st.callers s ds n)
   next_reads own s n ds e =
-      either consumer_op.Clean own (s == st.config.nspec) _ _ (ended consumer_op.Clean own ds (answer.Cleaned n) (ap (λ i. answer.Cleaned i) (sym e))) (kept consumer_op.Clean own ds (consumer.CleanLoad (s + 1) n) e)
+      either consumer_op.Clean own (s == st.config.nspec) _ _ (ended consumer_op.Clean own ds (answer.Cleaned n) (ap (λ i. answer.Cleaned i) (sym e)))
+      (kept consumer_op.Clean own ds (consumer.CleanLoad (s + 1) n) e)
 
   load_reads : (own : List Deed) (s n : ℕ) → release_count own ≡ n → CleanReads consumer_op.Clean own (loads_slot st.config st.deeds st.side st.callers s n)
   load_reads own s n e = either consumer_op.Clean own (awaits (word_at s st.deeds).code) _ _ (kept consumer_op.Clean own [] (consumer.CleanAck s (word_at s st.deeds) 0 n) e) (next_reads own s n [] e)
@@ -116,7 +118,8 @@ module _ (st : PlayState) (count : length st.callers ≡ st.config.cpus) (stands
   takes_reads c spare.Handed is n =
       let more : nat_lt (the_caller st.callers c).takes (seals c st.deeds) ≡ true = grind (arith, nat_tests) in
       let some : took (the_caller st.callers c).takes c st.deeds ≡ take_told c spare.Handed = rw more refl in
-      changes_one (consumer_op.Take c) [] c (record (the_caller st.callers c) { spare = spare.Out; takes = (the_caller st.callers c).takes + 1 }) (took (the_caller st.callers c).takes c st.deeds) (told_at c spare.Handed _ is some) refl
+      changes_one (consumer_op.Take c) [] c (record (the_caller st.callers c) { spare = spare.Out; takes = (the_caller st.callers c).takes + 1 })
+      (took (the_caller st.callers c).takes c st.deeds) (told_at c spare.Handed _ is some) refl
   takes_reads c spare.Out is n =
       let no : nat_lt (the_caller st.callers c).takes (seals c st.deeds) ≡ false = grind (arith, nat_tests) in
       ended (consumer_op.Take c) [] [] answer.TookNone (told_at c spare.Out answer.TookNone is (takes_none c no))
@@ -127,7 +130,8 @@ module _ (st : PlayState) (count : length st.callers ≡ st.config.cpus) (stands
   gave_at : (c : ℕ) (place : Spare) → (the_caller st.callers c).spare ≡ place → answer.GaveBack (is_out place) ≡ answer_of_consumer (consumer_op.GiveBack c) st []
   gave_at c place is = sym (ap (λ (p : Spare). answer.GaveBack (is_out p)) is)
 
-  gives_reads : (c : ℕ) (place : Spare) → (the_caller st.callers c).spare ≡ place → CleanReads (consumer_op.GiveBack c) [] (gives_at st.config st.deeds st.side st.callers c (the_caller st.callers c) place)
+  gives_reads : (c : ℕ) (place : Spare) → (the_caller st.callers c).spare ≡ place
+      → CleanReads (consumer_op.GiveBack c) [] (gives_at st.config st.deeds st.side st.callers c (the_caller st.callers c) place)
   gives_reads c spare.InHand is = ended (consumer_op.GiveBack c) [] [] (answer.GaveBack false) (gave_at c spare.InHand is)
   gives_reads c spare.Sealed is = ended (consumer_op.GiveBack c) [] [] (answer.GaveBack false) (gave_at c spare.Sealed is)
   gives_reads c spare.Handed is = ended (consumer_op.GiveBack c) [] [] (answer.GaveBack false) (gave_at c spare.Handed is)

@@ -22,9 +22,10 @@ use Rattle.dspec_play.specs.declared.flight.CpuFlight.{CpuFlight}
 use Rattle.dspec_play.specs.declared.flight.CpuFlight.TheVariants as cpu
 use Rattle.dspec_play.specs.Calls.{op_of, consumer_op_of, is_about}
 use Rattle.dspec_play.specs.Coherent.{StandsSide, PlayState, the_caller, idle_caller}
-use Rattle.dspec_play.specs.Play.{Moved, Cleaned, cpu_step, consumer_step}
+use Rattle.dspec_play.specs.Play.{Moved, ConsumerStep, cpu_step, consumer_step}
 use Rattle.dspec_deeds.specs.Ranges.{start_fault}
-use Rattle.dspec_play.specs.Plays.{Ended, Noted, ended, read_off, IsReadOff, Playing, note, with_entered, playing_at_start, begun_cpu, begun_consumer, played, answers_of, play_fault, is_worn_answer, is_by, worn_answers, worn_count}
+use Rattle.dspec_play.specs.Plays.{EndedCall, Noted, ended, read_off, IsReadOff, Playing, with_note, with_entered, playing_at_start}
+use Rattle.dspec_play.specs.Plays.{begun_cpu, begun_consumer, played, answers_of, play_fault, is_worn_answer, is_by, worn_answers, worn_count}
 use Rattle.dspec_deeds.proofs.TestLemmas.{either_way, number_is_itself, same_number, numbers_differ}
 use Rattle.dspec_play.proofs.Coherence.{idle_at, start_coherent}
 use Rattle.dspec_play.proofs.CpuSteps.{cpu_step_stands}
@@ -44,7 +45,8 @@ pub record IsRead (shape : ℕ → Option Shape) (k : Config) (p : Playing) : Ty
   pub worn : (c : ℕ) → c < p.state.config.cpus → (the_caller p.state.callers c).worn ≡ worn_count (map ended p.noted) c
 
 -- a call that is noted where it ended
-noted_reads : (a : Actor) (o : Op) (ds : List Deed) (st : PlayState) (r : Option Answer) (ns : List Noted) → Tells r (read_off o ds st) → AllByRecursion IsReadOff ns → AllByRecursion IsReadOff (note a o ds st r ns)
+noted_reads : (a : Actor) (o : Op) (ds : List Deed) (st : PlayState) (r : Option Answer) (ns : List Noted) → Tells r (read_off o ds st) → AllByRecursion IsReadOff ns
+    → AllByRecursion IsReadOff (with_note a o ds st r ns)
 noted_reads a o ds st None ns is all = all
 noted_reads a o ds st (Some x) ns is all = (is, all)
 
@@ -58,21 +60,25 @@ one_worn n w most true e = ap (λ x. min (x + 1) most) e ∙ worn_more w most
 one_worn n w most false e = e ∙ ap (λ x. min x most) (let same : w ≡ w + 0 = omega arith in same)
 
 -- the count behind a call of the CPU that is noted
-worn_noted : (c : ℕ) (o : Op) (ds : List Deed) (st : PlayState) (r : Option Answer) (ns : List Noted) (n : ℕ) → n ≡ worn_count (map ended ns) c → worn_behind n r ≡ worn_count (map ended (note (actor.Cpu c) o ds st r ns)) c
+worn_noted : (c : ℕ) (o : Op) (ds : List Deed) (st : PlayState) (r : Option Answer) (ns : List Noted) (n : ℕ) → n ≡ worn_count (map ended ns) c
+    → worn_behind n r ≡ worn_count (map ended (with_note (actor.Cpu c) o ds st r ns)) c
 worn_noted c o ds st None ns n e = e
 worn_noted c o ds st (Some a) ns n e =
-    subst (λ (b : Bool). (if is_worn_answer a then min (n + 1) (2 ^ 64 - 1) else n) ≡ min (worn_answers c (map ended ns) + (if b && is_worn_answer a then 1 else 0)) (2 ^ 64 - 1)) (sym (number_is_itself c))
+    subst (λ (b : Bool). (if is_worn_answer a then min (n + 1) (2 ^ 64 - 1) else n) ≡ min (worn_answers c (map ended ns) + (if b && is_worn_answer a then 1 else 0))
+    (2 ^ 64 - 1)) (sym (number_is_itself c))
     (one_worn n (worn_answers c (map ended ns)) (2 ^ 64 - 1) (is_worn_answer a) e)
 
 -- another's call leaves the count
-worn_beside : (c : ℕ) (a : Actor) (o : Op) (ds : List Deed) (st : PlayState) (r : Option Answer) (ns : List Noted) → is_by c a ≡ false → worn_count (map ended ns) c ≡ worn_count (map ended (note a o ds st r ns)) c
+worn_beside : (c : ℕ) (a : Actor) (o : Op) (ds : List Deed) (st : PlayState) (r : Option Answer) (ns : List Noted) → is_by c a ≡ false
+    → worn_count (map ended ns) c ≡ worn_count (map ended (with_note a o ds st r ns)) c
 worn_beside c a o ds st None ns other = refl
 worn_beside c a o ds st (Some x) ns other =
     subst (λ (b : Bool). min (worn_answers c (map ended ns)) (2 ^ 64 - 1) ≡ min (worn_answers c (map ended ns) + (if b && is_worn_answer x then 1 else 0)) (2 ^ 64 - 1)) (sym other)
     (ap (λ n. min n (2 ^ 64 - 1)) (let same : worn_answers c (map ended ns) ≡ worn_answers c (map ended ns) + 0 = omega arith in same))
 
 -- of each CPU, where one CPU's side is replaced
-pub put : (n : ℕ) (P : ℕ → Caller → Type 0) (all : List Caller) (c : ℕ) (me : Caller) → length all ≡ n → ((b : ℕ) → b < n → (b == c) ≡ false → P b (the_caller all b)) → (c < n → P c me) → (b : ℕ) → b < n → P b (the_caller (slice_set all c me) b)
+pub put : (n : ℕ) (P : ℕ → Caller → Type 0) (all : List Caller) (c : ℕ) (me : Caller) → length all ≡ n → ((b : ℕ) → b < n → (b == c) ≡ false → P b (the_caller all b))
+    → (c < n → P c me) → (b : ℕ) → b < n → P b (the_caller (slice_set all c me) b)
 put n P all c me count others now b lt = ⊎_elim
     (λ (t : (b == c) ≡ true).
     let is = same_number b c t in
@@ -134,15 +140,17 @@ module _ (shape : ℕ → Option Shape) (k : Config) where
       let m : Moved = cpu_step shape st.config c st.deeds me f in
       let ds : List Deed = m.deeds ++ p.entered c in
       let did = cpu_step_stands shape st.config c st.deeds me ok.ranges ok.legal ok.rests (ok.stands c within) f is in
-      let reads : ReadsOff c st.deeds me (op_of f) (p.entered c) m = cpu_step_reads shape st.config c st.deeds me f (p.entered c) (subst (λ (x : Option CpuFlight). OwnsCall c st.deeds x (p.entered c)) is (was.own c within)) in
+      let reads : ReadsOff c st.deeds me (op_of f) (p.entered c) m =
+      cpu_step_reads shape st.config c st.deeds me f (p.entered c) (subst (λ (x : Option CpuFlight). OwnsCall c st.deeds x (p.entered c)) is (was.own c within)) in
       record {
         play = (coherence_carried shape k).cpu_steps c p f was.play lt is;
         noted = noted_reads (actor.Cpu c) (op.Cpu (op_of f)) ds st m.answer p.noted reads.reads was.noted;
         own = put st.config.cpus (λ b (x : Caller). OwnsCall b (m.deeds ++ st.deeds) x.flight (with_entered c ds p.entered b)) st.callers c m.caller ok.count
-            (λ b less other. put_beside c b (m.deeds ++ st.deeds) (the_caller st.callers b).flight ds p.entered other (others_own b (actor.Cpu c) other m.deeds st.deeds did.goes.by (the_caller st.callers b).flight (p.entered b) (was.own b less)))
+            (λ b less other. put_beside c b (m.deeds ++ st.deeds) (the_caller st.callers b).flight ds p.entered other
+            (others_own b (actor.Cpu c) other m.deeds st.deeds did.goes.by (the_caller st.callers b).flight (p.entered b) (was.own b less)))
             (λ less. put_here c (m.deeds ++ st.deeds) m.caller.flight ds p.entered reads.holds);
         cleaned = was.cleaned;
-        worn = put st.config.cpus (λ b (x : Caller). x.worn ≡ worn_count (map ended (note (actor.Cpu c) (op.Cpu (op_of f)) ds st m.answer p.noted)) b) st.callers c m.caller ok.count
+        worn = put st.config.cpus (λ b (x : Caller). x.worn ≡ worn_count (map ended (with_note (actor.Cpu c) (op.Cpu (op_of f)) ds st m.answer p.noted)) b) st.callers c m.caller ok.count
             (λ b less other. was.worn b less ∙ worn_beside b (actor.Cpu c) (op.Cpu (op_of f)) ds st m.answer p.noted other)
             (λ less. reads.wears ∙ worn_noted c (op.Cpu (op_of f)) ds st m.answer p.noted me.worn (was.worn c within));
       }
@@ -151,10 +159,11 @@ module _ (shape : ℕ → Option Shape) (k : Config) where
   consumer_steps p f was is =
       let st : PlayState = p.state in
       let ok = was.play.coherent in
-      let m : Cleaned = consumer_step st.config st.deeds st.side st.callers f in
+      let m : ConsumerStep = consumer_step st.config st.deeds st.side st.callers f in
       let ds : List Deed = m.deeds ++ p.cleaned in
       let did = consumer_keeps shape st.config st.deeds st.side st.callers ok.ranges ok.legal ok.rests ok.count ok.stands f (subst (StandsSide st.config st.deeds st.side) is ok.side) in
-      let reads : CleanReads st ok.count ok.stands (consumer_op_of f) p.cleaned m = consumer_step_reads st ok.count ok.stands f p.cleaned (subst (λ (x : Option ConsumerFlight). OwnsClean st.config x p.cleaned) is was.cleaned) in
+      let reads : CleanReads st ok.count ok.stands (consumer_op_of f) p.cleaned m =
+      consumer_step_reads st ok.count ok.stands f p.cleaned (subst (λ (x : Option ConsumerFlight). OwnsClean st.config x p.cleaned) is was.cleaned) in
       record {
         play = (coherence_carried shape k).consumer_steps p f was.play is;
         noted = noted_reads actor.Consumer (op.Consumer (consumer_op_of f)) ds st m.answer p.noted reads.reads was.noted;
@@ -179,7 +188,7 @@ pub played_reads : (shape : ℕ → Option Shape) (accepts : Record → Bool) (k
 played_reads shape accepts k ts e = (play_reads shape accepts k ts e).noted
 
 -- the worn calls of one list and another
-worn_both : (c : ℕ) (es fs : List Ended) → worn_answers c (es ++ fs) ≡ worn_answers c es + worn_answers c fs
+worn_both : (c : ℕ) (es fs : List EndedCall) → worn_answers c (es ++ fs) ≡ worn_answers c es + worn_answers c fs
 worn_both c [] fs = omega arith
 worn_both c (e ∷ es) fs = let more = worn_both c es fs in omega arith
 
@@ -187,7 +196,8 @@ worn_both c (e ∷ es) fs = let more = worn_both c es fs in omega arith
 worn_reversed : (c : ℕ) (ns : List Noted) → worn_answers c (map ended (reverse ns)) ≡ worn_answers c (map ended ns)
 worn_reversed c [] = refl
 worn_reversed c (n ∷ ns) =
-    let last : worn_answers c (map ended (reverse ns ++ (n ∷ []))) ≡ worn_answers c (map ended (reverse ns)) + worn_answers c (map ended (n ∷ [])) = ap (worn_answers c) (map-append ended (reverse ns) (n ∷ [])) ∙ worn_both c (map ended (reverse ns)) (ended n ∷ []) in
+    let last : worn_answers c (map ended (reverse ns ++ (n ∷ []))) ≡ worn_answers c (map ended (reverse ns)) + worn_answers c (map ended (n ∷ [])) =
+    ap (worn_answers c) (map-append ended (reverse ns) (n ∷ [])) ∙ worn_both c (map ended (reverse ns)) (ended n ∷ []) in
     let turns : worn_answers c (map ended (reverse (n ∷ ns))) ≡ worn_answers c (map ended (reverse ns ++ (n ∷ []))) = ap (λ xs. worn_answers c (map ended xs)) (reverse-append (n ∷ []) ns) in
     let before = worn_reversed c ns in
     omega arith

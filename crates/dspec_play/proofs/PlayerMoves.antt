@@ -11,7 +11,7 @@ use Rattle.dspec_play.specs.declared.flight.CpuFlight.{CpuFlight}
 use Rattle.dspec_play.specs.declared.refusal.Stepped.TheVariants.{Done}
 use Rattle.dspec_play.specs.Calls.{cpu_call_of, consumer_call_of, call_of, is_idle, told_step}
 use Rattle.dspec_play.specs.Coherent.{PlayState, the_caller}
-use Rattle.dspec_play.specs.Plays.{Ended, IsAt, Noted, Playing, cpu_stepped, consumer_stepped, ended, note, stepped, to_end}
+use Rattle.dspec_play.specs.Plays.{EndedCall, IsPlayingAt, Noted, Playing, cpu_stepped, consumer_stepped, ended, with_note, stepped, to_end}
 use Rattle.dspec_play.specs.Turns.{step}
 
 -- the latest call to end is put down last
@@ -24,34 +24,36 @@ told_done None x e = absurd (cc (e))
 told_done (Some y) x e = cc (e)
 
 -- the answers once a call has ended
-abbrev pub with_answer : Actor → Op → Option Answer → List Ended → List Ended
+abbrev pub with_answer : Actor → Op → Option Answer → List EndedCall → List EndedCall
 with_answer a o None answers = answers
 with_answer a o (Some r) answers = answers ++ (a, o, r) ∷ []
 
 module _ (shape : ℕ → Option Shape) where
-  noted_last : (a : Actor) (o : Op) (ds : List _) (st : PlayState) (r : Option Answer) (ns : List Noted) → with_answer a o r (map ended (reverse ns)) ≡ map ended (reverse (note a o ds st r ns))
+  noted_last : (a : Actor) (o : Op) (ds : List _) (st : PlayState) (r : Option Answer) (ns : List Noted) → with_answer a o r (map ended (reverse ns)) ≡ map ended (reverse (with_note a o ds st r ns))
   noted_last a o ds st None ns = refl
   noted_last a o ds st (Some r) ns = sym (put_last record { by = a; call = o; answer = r; deeds = ds; found = st } ns)
 
   cpu_goes : (c : ℕ) (p : Playing) (f : Option CpuFlight) → (the_caller p.state.callers c).flight ≡ f → is_none f ≡ false
-      → IsAt (step shape (actor.Cpu c) p.state).state (with_answer (actor.Cpu c) (cpu_call_of f) (step shape (actor.Cpu c) p.state).answer (map ended (reverse p.noted))) (cpu_stepped shape c p f)
+      → IsPlayingAt (step shape (actor.Cpu c) p.state).state
+      (with_answer (actor.Cpu c) (cpu_call_of f) (step shape (actor.Cpu c) p.state).answer (map ended (reverse p.noted))) (cpu_stepped shape c p f)
   cpu_goes c p None is busy = absurd (true≢false busy)
   cpu_goes c p (Some f) is busy = record { state = refl; told = noted_last (actor.Cpu c) (cpu_call_of (Some f)) _ p.state (step shape (actor.Cpu c) p.state).answer p.noted }
 
   consumer_goes : (p : Playing) (f : Option ConsumerFlight) → p.state.side.flight ≡ f → is_none f ≡ false
-      → IsAt (step shape actor.Consumer p.state).state (with_answer actor.Consumer (consumer_call_of f) (step shape actor.Consumer p.state).answer (map ended (reverse p.noted))) (consumer_stepped shape p f)
+      → IsPlayingAt (step shape actor.Consumer p.state).state
+      (with_answer actor.Consumer (consumer_call_of f) (step shape actor.Consumer p.state).answer (map ended (reverse p.noted))) (consumer_stepped shape p f)
   consumer_goes p None is busy = absurd (true≢false busy)
   consumer_goes p (Some f) is busy = record { state = refl; told = noted_last actor.Consumer (consumer_call_of (Some f)) _ p.state (step shape actor.Consumer p.state).answer p.noted }
 
   goes : (a : Actor) (p : Playing) → is_idle a p.state ≡ false
-      → IsAt (step shape a p.state).state (with_answer a (call_of a p.state) (step shape a p.state).answer (map ended (reverse p.noted))) (stepped shape a p)
+      → IsPlayingAt (step shape a p.state).state (with_answer a (call_of a p.state) (step shape a p.state).answer (map ended (reverse p.noted))) (stepped shape a p)
   goes (actor.Cpu c) p busy = cpu_goes c p (the_caller p.state.callers c).flight refl busy
   goes actor.Consumer p busy = consumer_goes p p.state.side.flight refl busy
 
   -- a step of an actor that is busy, whose call goes on or has its answer put down
-  pub step_at : (a : Actor) (st now : PlayState) (answers after : List Ended) (r : Option Answer) → is_idle a st ≡ false
+  pub step_at : (a : Actor) (st now : PlayState) (answers after : List EndedCall) (r : Option Answer) → is_idle a st ≡ false
       → now ≡ (step shape a st).state → (step shape a st).answer ≡ r → after ≡ with_answer a (call_of a st) r answers
-      → (p : Playing) → IsAt st answers p → IsAt now after (stepped shape a p)
+      → (p : Playing) → IsPlayingAt st answers p → IsPlayingAt now after (stepped shape a p)
   step_at a st now answers after r busy is told put p at =
       let there = goes a p (subst (λ s. is_idle a s ≡ false) at.state busy) in
       record {
@@ -59,18 +61,18 @@ module _ (shape : ℕ → Option Shape) where
         told = put
             ∙ (ap (λ (s : PlayState). with_answer a (call_of a s) r answers) at.state
             ∙ (ap (λ (x : Option Answer). with_answer a (call_of a p.state) x answers) (sym told ∙ ap (λ s. (step shape a s).answer) at.state)
-            ∙ (ap (λ (l : List Ended). with_answer a (call_of a p.state) (step shape a p.state).answer l) at.told ∙ there.told)));
+            ∙ (ap (λ (l : List EndedCall). with_answer a (call_of a p.state) (step shape a p.state).answer l) at.told ∙ there.told)));
       }
 
 -- after so many steps of an actor, a play goes on to the same end
-abbrev pub RunsOn : (ℕ → Option Shape) → Actor → ℕ → ℕ → PlayState → List Ended → PlayState → List Ended → Type 0
+abbrev pub RunsOn : (ℕ → Option Shape) → Actor → ℕ → ℕ → PlayState → List EndedCall → PlayState → List EndedCall → Type 0
 RunsOn shape a total done st before now answers =
-    (p : Playing) → IsAt st before p → (q : Playing) × (IsAt now answers q × (to_end shape (total - done) a q ≡ to_end shape total a p))
+    (p : Playing) → IsPlayingAt st before p → (q : Playing) × (IsPlayingAt now answers q × (to_end shape (total - done) a q ≡ to_end shape total a p))
 
 module _ (shape : ℕ → Option Shape) (a : Actor) (total : ℕ) where
   -- one more step
-  pub runs_on : (done : ℕ) (st : PlayState) (before : List Ended) (now new : PlayState) (answers after : List Ended) → done < total → is_idle a now ≡ false
-      → ((p : Playing) → IsAt now answers p → IsAt new after (stepped shape a p))
+  pub runs_on : (done : ℕ) (st : PlayState) (before : List EndedCall) (now new : PlayState) (answers after : List EndedCall) → done < total → is_idle a now ≡ false
+      → ((p : Playing) → IsPlayingAt now answers p → IsPlayingAt new after (stepped shape a p))
       → RunsOn shape a total done st before now answers → RunsOn shape a total (done + 1) st before new after
   runs_on done st before now new answers after lt busy next runs p at =
       let q = runs p at in
@@ -84,8 +86,8 @@ module _ (shape : ℕ → Option Shape) (a : Actor) (total : ℕ) where
   idle_stays (suc n) q idle = rw idle refl
 
   -- where no call of the actor is in flight, its run has come to its end
-  pub runs_idle : (done : ℕ) (st : PlayState) (before : List Ended) (now : PlayState) (answers : List Ended) → is_idle a now ≡ true
-      → RunsOn shape a total done st before now answers → (p : Playing) → IsAt st before p → IsAt now answers (to_end shape total a p)
+  pub runs_idle : (done : ℕ) (st : PlayState) (before : List EndedCall) (now : PlayState) (answers : List EndedCall) → is_idle a now ≡ true
+      → RunsOn shape a total done st before now answers → (p : Playing) → IsPlayingAt st before p → IsPlayingAt now answers (to_end shape total a p)
   runs_idle done st before now answers idle runs p at =
       let q = runs p at in
-      subst (λ x. IsAt now answers x) (sym (idle_stays (total - done) q.0 (subst (λ s. is_idle a s ≡ true) q.1.0.state idle)) ∙ q.1.1) q.1.0
+      subst (λ x. IsPlayingAt now answers x) (sym (idle_stays (total - done) q.0 (subst (λ s. is_idle a s ≡ true) q.1.0.state idle)) ∙ q.1.1) q.1.0

@@ -12,16 +12,17 @@ use Rattle.dspec_play.specs.declared.outcome.PlayFault.{PlayFault}
 use Rattle.dspec_play.specs.Calls.{is_actor, is_idle}
 use Rattle.dspec_deeds.specs.Closes.{numbers_below, reports}
 use Rattle.dspec_play.specs.Coherent.{PlayState, IsCoherent, the_caller}
-use Rattle.dspec_play.specs.Plays.{Ended, IsAt, Playing, all_ran, all_turned, cpus_ran, or_else, play_fault, played, playing_at_start, ran, refusal, setup_fault, turn_fault, turned, worn_count}
+use Rattle.dspec_play.specs.Plays.{EndedCall, IsPlayingAt, Playing, all_ran, all_turned, cpus_ran, or_else, play_fault}
+use Rattle.dspec_play.specs.Plays.{played, playing_at_start, ran, refusal, setup_fault, turn_fault, turned, worn_count}
 use Rattle.dspec_deeds.specs.Ranges.{start_fault}
 use Rattle.dspec_deeds.specs.Reports.{report}
 use Rattle.dspec_play.proofs.OwnAnswersPlay.{played_wears}
 use Rattle.dspec_play.proofs.PlaysEnd.{all_ran_idle}
 
 -- behind so many turns a play goes on to the same end, and to the same refusal
-pub record IsSoFar (shape : ℕ → Option Shape) (accepts : Record → Bool) (k : Config) (ts : List Turn) (i : ℕ) (now : PlayState) (answers : List Ended) : Type 0 where
+pub record IsSoFar (shape : ℕ → Option Shape) (accepts : Record → Bool) (k : Config) (ts : List Turn) (i : ℕ) (now : PlayState) (answers : List EndedCall) : Type 0 where
   pub playing : Playing
-  pub at : IsAt now answers playing
+  pub at : IsPlayingAt now answers playing
   pub faults : turn_fault shape accepts i (drop i ts) playing ≡ turn_fault shape accepts 0 ts (playing_at_start k)
   pub turns : all_turned shape (drop i ts) playing ≡ all_turned shape ts (playing_at_start k)
 
@@ -31,8 +32,8 @@ module _ (shape : ℕ → Option Shape) (accepts : Record → Bool) (k : Config)
   so_far_first now is = record { playing = playing_at_start k; at = record { state = is; told = refl }; faults = refl; turns = refl }
 
   -- one more turn
-  pub so_far_more : (i : ℕ) (t d : Turn) (now new : PlayState) (answers after : List Ended) → i < length ts → t ≡ get_or ts i d → refusal shape accepts i t now ≡ None
-      → ((p : Playing) → IsAt now answers p → IsAt new after (turned shape t p))
+  pub so_far_more : (i : ℕ) (t d : Turn) (now new : PlayState) (answers after : List EndedCall) → i < length ts → t ≡ get_or ts i d → refusal shape accepts i t now ≡ None
+      → ((p : Playing) → IsPlayingAt now answers p → IsPlayingAt new after (turned shape t p))
       → IsSoFar shape accepts k ts i now answers → IsSoFar shape accepts k ts (i + 1) new after
   so_far_more i t d now new answers after lt is none next s =
       let cons : drop i ts ≡ t ∷ drop (suc i) ts = drop-cons ts i d lt ∙ ap (λ x. x ∷ drop (suc i) ts) (sym is) in
@@ -49,7 +50,7 @@ module _ (shape : ℕ → Option Shape) (accepts : Record → Bool) (k : Config)
       }
 
   -- the turn is the one that the play is refused by
-  pub so_far_refused : (i : ℕ) (t d : Turn) (now : PlayState) (answers : List Ended) (fault : PlayFault) → i < length ts → t ≡ get_or ts i d → refusal shape accepts i t now ≡ Some fault
+  pub so_far_refused : (i : ℕ) (t d : Turn) (now : PlayState) (answers : List EndedCall) (fault : PlayFault) → i < length ts → t ≡ get_or ts i d → refusal shape accepts i t now ≡ Some fault
       → start_fault k ≡ None → IsSoFar shape accepts k ts i now answers → play_fault shape accepts k ts ≡ Some fault
   so_far_refused i t d now answers fault lt is some fine s =
       let cons : drop i ts ≡ t ∷ drop (suc i) ts = drop-cons ts i d lt ∙ ap (λ x. x ∷ drop (suc i) ts) (sym is) in
@@ -65,17 +66,17 @@ module _ (shape : ℕ → Option Shape) (accepts : Record → Bool) (k : Config)
   drop_all (x ∷ xs) (suc i) le = drop_all xs i (omega arith)
 
   -- behind the last turn the play is that of all turns, and none was refused
-  pub so_far_last : (i : ℕ) (now : PlayState) (answers : List Ended) → length ts ≤ i → IsSoFar shape accepts k ts i now answers → IsAt now answers (all_turned shape ts (playing_at_start k))
-  so_far_last i now answers le s = subst (λ x. IsAt now answers x) (ap (λ l. all_turned shape l s.playing) (sym (drop_all ts i le)) ∙ s.turns) s.at
+  pub so_far_last : (i : ℕ) (now : PlayState) (answers : List EndedCall) → length ts ≤ i → IsSoFar shape accepts k ts i now answers → IsPlayingAt now answers (all_turned shape ts (playing_at_start k))
+  so_far_last i now answers le s = subst (λ x. IsPlayingAt now answers x) (ap (λ l. all_turned shape l s.playing) (sym (drop_all ts i le)) ∙ s.turns) s.at
 
-  pub so_far_unrefused : (i : ℕ) (now : PlayState) (answers : List Ended) → length ts ≤ i → start_fault k ≡ None → IsSoFar shape accepts k ts i now answers → play_fault shape accepts k ts ≡ None
+  pub so_far_unrefused : (i : ℕ) (now : PlayState) (answers : List EndedCall) → length ts ≤ i → start_fault k ≡ None → IsSoFar shape accepts k ts i now answers → play_fault shape accepts k ts ≡ None
   so_far_unrefused i now answers le fine s =
       ap (λ f. or_else (setup_fault f) (turn_fault shape accepts 0 ts (playing_at_start k))) fine
       ∙ (sym s.faults ∙ ap (λ l. turn_fault shape accepts i l s.playing) (drop_all ts i le))
 
 -- behind so many CPUs' runs
-abbrev pub RanCpus : (ℕ → Option Shape) → ℕ → PlayState → List Ended → PlayState → List Ended → Type 0
-RanCpus shape n st before now answers = (p : Playing) → IsAt st before p → IsAt now answers (cpus_ran shape n p)
+abbrev pub RanCpus : (ℕ → Option Shape) → ℕ → PlayState → List EndedCall → PlayState → List EndedCall → Type 0
+RanCpus shape n st before now answers = (p : Playing) → IsPlayingAt st before p → IsPlayingAt now answers (cpus_ran shape n p)
 
 same_map : {X : Type 0} (f g : ℕ → X) (n : ℕ) → ((c : ℕ) → c < n → f c ≡ g c) → map f (numbers_below n) ≡ map g (numbers_below n)
 same_map f g zero e = refl
@@ -89,14 +90,14 @@ pub same_reports : (k : Config) (f g : ℕ → ℕ) (h : List Deed) → ((c : �
 same_reports k f g h e = same_map (λ c. report k c (f c) h) (λ c. report k c (g c) h) k.cpus (λ c lt. ap (λ n. report k c n h) (e c lt))
 
 -- behind all runs no call is in flight
-pub all_idle : (shape : ℕ → Option Shape) (st new : PlayState) (before after : List Ended) (q : Playing) → IsAt st before q → IsAt new after (all_ran shape q)
+pub all_idle : (shape : ℕ → Option Shape) (st new : PlayState) (before after : List EndedCall) (q : Playing) → IsPlayingAt st before q → IsPlayingAt new after (all_ran shape q)
     → IsCoherent shape st → new.config ≡ st.config → (a : Actor) → is_actor new.config a ≡ true → is_idle a new ≡ true
 all_idle shape st new before after q at ran ok same a is =
     subst (λ (s : PlayState). is_idle a s ≡ true) (sym ran.state)
     (all_ran_idle shape q (subst (IsCoherent shape) at.state ok) a (subst (λ k. is_actor k a ≡ true) (same ∙ ap (λ (s : PlayState). s.config) at.state) is))
 
 -- the worn calls of each CPU are those that were answered Worn
-pub worn_as_told : (shape : ℕ → Option Shape) (accepts : Record → Bool) (k : Config) (ts : List Turn) (now : PlayState) (answers : List Ended) → play_fault shape accepts k ts ≡ None
-    → IsAt now answers (played shape k ts) → (c : ℕ) → c < k.cpus → (the_caller now.callers c).worn ≡ worn_count answers c
+pub worn_as_told : (shape : ℕ → Option Shape) (accepts : Record → Bool) (k : Config) (ts : List Turn) (now : PlayState) (answers : List EndedCall) → play_fault shape accepts k ts ≡ None
+    → IsPlayingAt now answers (played shape k ts) → (c : ℕ) → c < k.cpus → (the_caller now.callers c).worn ≡ worn_count answers c
 worn_as_told shape accepts k ts now answers none at c lt =
-    ap (λ (s : PlayState). (the_caller s.callers c).worn) at.state ∙ (played_wears shape accepts k ts c none lt ∙ ap (λ (l : List Ended). worn_count l c) (sym at.told))
+    ap (λ (s : PlayState). (the_caller s.callers c).worn) at.state ∙ (played_wears shape accepts k ts c none lt ∙ ap (λ (l : List EndedCall). worn_count l c) (sym at.told))

@@ -20,12 +20,13 @@ use Rattle.dspec_play.specs.declared.refusal.BeginFault.{BeginFault}
 use Rattle.dspec_play.specs.declared.refusal.BeginFault.TheVariants as begin_fault
 use Rattle.dspec_play.specs.declared.refusal.StepFault.TheVariants as step_fault
 use Rattle.dspec_play.specs.Bounds.{most_steps}
-use Rattle.dspec_play.specs.Calls.{op_of, consumer_op_of, is_of, is_about, is_actor, is_idle, begin_cpu_fault, begin_consumer_fault}
+use Rattle.dspec_play.specs.Calls.{op_of, consumer_op_of, record_passes, is_about, is_actor, is_idle, begin_cpu_fault, begin_consumer_fault}
 use Rattle.dspec_play.specs.Coherent.{PlayState, the_caller}
 use Rattle.dspec_play.specs.Play.{cpu_step, consumer_step}
 use Rattle.dspec_deeds.specs.Ranges.{start_fault}
 use Rattle.dspec_play.specs.Turns.{moved_to, cleaned_to, step_cpu, step_consumer}
-use Rattle.dspec_play.specs.Plays.{Playing, note, with_entered, playing_at_start, begun_cpu, begun_consumer, cpu_stepped, consumer_stepped, stepped, to_end, ran, turned, all_turned, cpus_ran, all_ran, played, begin_refusal, step_refusal, or_else, setup_fault, refusal, turn_fault, play_fault}
+use Rattle.dspec_play.specs.Plays.{Playing, with_note, with_entered, playing_at_start, begun_cpu, begun_consumer, cpu_stepped, consumer_stepped, stepped, to_end, ran, turned}
+use Rattle.dspec_play.specs.Plays.{all_turned, cpus_ran, all_ran, played, begin_refusal, step_refusal, or_else, setup_fault, refusal, turn_fault, play_fault}
 
 module _ (shape : ℕ → Option Shape) where
   -- a play behind a step of a CPU's call in flight
@@ -35,7 +36,7 @@ module _ (shape : ℕ → Option Shape) where
       record p {
         state = (moved_to p.state c m).state;
         entered = with_entered c (m.deeds ++ p.entered c) p.entered;
-        noted = note (actor.Cpu c) (op.Cpu (op_of f)) (m.deeds ++ p.entered c) p.state m.answer p.noted;
+        noted = with_note (actor.Cpu c) (op.Cpu (op_of f)) (m.deeds ++ p.entered c) p.state m.answer p.noted;
       }
 
   -- a play behind a step of the consumer's call in flight
@@ -45,7 +46,7 @@ module _ (shape : ℕ → Option Shape) where
       record p {
         state = (cleaned_to p.state m).state;
         cleaned = m.deeds ++ p.cleaned;
-        noted = note actor.Consumer (op.Consumer (consumer_op_of f)) (m.deeds ++ p.cleaned) p.state m.answer p.noted;
+        noted = with_note actor.Consumer (op.Consumer (consumer_op_of f)) (m.deeds ++ p.cleaned) p.state m.answer p.noted;
       }
 
   -- a step of a CPU's call in flight
@@ -57,7 +58,7 @@ module _ (shape : ℕ → Option Shape) where
       record p {
         state = (step_cpu shape c p.state x).state;
         entered = with_entered c (m.deeds ++ p.entered c) p.entered;
-        noted = note (actor.Cpu c) (op.Cpu (op_of f)) (m.deeds ++ p.entered c) p.state (step_cpu shape c p.state x).answer p.noted;
+        noted = with_note (actor.Cpu c) (op.Cpu (op_of f)) (m.deeds ++ p.entered c) p.state (step_cpu shape c p.state x).answer p.noted;
       }) is
 
   -- a step of the consumer's call in flight
@@ -69,7 +70,7 @@ module _ (shape : ℕ → Option Shape) where
       record p {
         state = (step_consumer shape p.state x).state;
         cleaned = m.deeds ++ p.cleaned;
-        noted = note actor.Consumer (op.Consumer (consumer_op_of f)) (m.deeds ++ p.cleaned) p.state (step_consumer shape p.state x).answer p.noted;
+        noted = with_note actor.Consumer (op.Consumer (consumer_op_of f)) (m.deeds ++ p.cleaned) p.state (step_consumer shape p.state x).answer p.noted;
       }) is
 
   -- a step of an actor with no call in flight
@@ -131,7 +132,7 @@ below a b e = grind (arith, nat_tests)
 cpu_may_begin : (accepts : Record → Bool) (c : ℕ) (o : CpuOp) (st : PlayState) → begin_cpu_fault accepts c o st ≡ None → (c < st.config.cpus) × ((the_caller st.callers c).flight ≡ None)
 cpu_may_begin accepts c o st e =
     let one = passes (nat_lt c st.config.cpus) begin_fault.NoSuchActor _ e in
-    let two = passes (is_idle (actor.Cpu c) st) begin_fault.Busy (if not (is_of accepts o) then Some begin_fault.BadRecord else None) one.1 in
+    let two = passes (is_idle (actor.Cpu c) st) begin_fault.Busy (if not (record_passes accepts o) then Some begin_fault.BadRecord else None) one.1 in
     (below c st.config.cpus one.0, is_nothing (the_caller st.callers c).flight two.0)
 
 consumer_may_begin : (o : ConsumerOp) (st : PlayState) → begin_consumer_fault o st ≡ None → (is_about st.config o ≡ true) × (st.side.flight ≡ None)

@@ -19,7 +19,7 @@ use Rattle.dspec_play.specs.declared.flight.CpuFlight.TheVariants as cpu
 use Rattle.dspec_play.specs.Bounds.{op_bound, flight_bound, clean_bound, most_steps}
 use Rattle.dspec_play.specs.Calls.{is_actor, is_idle}
 use Rattle.dspec_play.specs.Coherent.{StandsCaller, StandsSide, IsCoherent, the_caller, idle_caller}
-use Rattle.dspec_play.specs.Play.{Moved, Cleaned, cpu_step, consumer_step}
+use Rattle.dspec_play.specs.Play.{Moved, ConsumerStep, cpu_step, consumer_step}
 use Rattle.dspec_play.specs.Plays.{Playing, stepped, to_end, ran, cpus_ran, all_ran}
 use Rattle.dspec_deeds.proofs.SetUp.{set_up}
 use Rattle.dspec_deeds.proofs.TestLemmas.{either_way, same_number, numbers_differ}
@@ -83,10 +83,12 @@ module _ (shape : ℕ → Option Shape) where
   ended_stays (suc n) a p idle = rw idle refl
 
   -- a CPU's call in flight ends
-  cpu_idles : (n c : ℕ) (p : Playing) (f : CpuFlight) → IsCoherent shape p.state → c < p.state.config.cpus → (the_caller p.state.callers c).flight ≡ Some f → flight_bound p.state.config f ≤ n + (the_caller p.state.callers c).steps
+  cpu_idles : (n c : ℕ) (p : Playing) (f : CpuFlight) → IsCoherent shape p.state → c < p.state.config.cpus → (the_caller p.state.callers c).flight ≡ Some f
+      → flight_bound p.state.config f ≤ n + (the_caller p.state.callers c).steps
       → is_idle (actor.Cpu c) (to_end shape n (actor.Cpu c) p).state ≡ true
   cpu_idles zero c p f ok lt is most =
-      let low = cpu_below p.state.config c p.state.deeds (the_caller p.state.callers c) (set_up p.state.config ok.ranges).1 f (subst (StandsCaller p.state.config c p.state.deeds (the_caller p.state.callers c)) is (ok.stands c lt).flight) in
+      let low = cpu_below p.state.config c p.state.deeds (the_caller p.state.callers c) (set_up p.state.config ok.ranges).1 f
+      (subst (StandsCaller p.state.config c p.state.deeds (the_caller p.state.callers c)) is (ok.stands c lt).flight) in
       absurd (omega arith)
   cpu_idles (suc n) c p f ok lt is most =
       subst (λ (b : Bool). is_idle (actor.Cpu c) (if b then p else to_end shape n (actor.Cpu c) (stepped shape (actor.Cpu c) p)).state ≡ true) (sym (ap (λ (x : Option CpuFlight). is_none x) is))
@@ -117,7 +119,8 @@ module _ (shape : ℕ → Option Shape) where
       let low = clean_below p.state.config p.state.deeds p.state.side (set_up p.state.config ok.ranges).1 f (subst (StandsSide p.state.config p.state.deeds p.state.side) is ok.side) in
       absurd (omega arith)
   consumer_idles (suc n) p f ok is most =
-      subst (λ (b : Bool). is_idle actor.Consumer (if b then p else to_end shape n actor.Consumer (stepped shape actor.Consumer p)).state ≡ true) (sym (ap (λ (x : Option ConsumerFlight). is_none x) is))
+      subst (λ (b : Bool). is_idle actor.Consumer (if b then p else to_end shape n actor.Consumer (stepped shape actor.Consumer p)).state ≡ true)
+      (sym (ap (λ (x : Option ConsumerFlight). is_none x) is))
       (subst (λ (q : Playing). is_idle actor.Consumer (to_end shape n actor.Consumer q).state ≡ true) (sym (consumer_stepped_is shape p f is))
       (⊎_elim
       (λ (e : HasClosed m).
@@ -129,7 +132,7 @@ module _ (shape : ℕ → Option Shape) where
       consumer_idles n new g.next (step_consumer_coherent shape p.state (Some f) ok is) g.flight (omega arith))
       (clean_advances p.state.config p.state.deeds p.state.side p.state.callers f)))
     where
-      m : Cleaned
+      m : ConsumerStep
       m = consumer_step p.state.config p.state.deeds p.state.side p.state.callers f
 
       new : Playing
@@ -171,7 +174,8 @@ module _ (shape : ℕ → Option Shape) where
       play = (coherence_carried k).cpu_steps c p f was.play lt is;
       there = was.there;
       idle = ⊎_elim
-          (λ (t : (d == c) ≡ true). let busy : (the_caller p.state.callers d).flight ≡ Some f = subst (λ x. (the_caller p.state.callers x).flight ≡ Some f) (sym (same_number d c t)) is in let none = was.idle in absurd (cc (busy, none)))
+          (λ (t : (d == c) ≡ true). let busy : (the_caller p.state.callers d).flight ≡ Some f = subst (λ x. (the_caller p.state.callers x).flight ≡ Some f)
+          (sym (same_number d c t)) is in let none = was.idle in absurd (cc (busy, none)))
           (λ (e : (d == c) ≡ false). ap (λ (y : Caller). y.flight) (get_or-set_other p.state.callers c d _ idle_caller (numbers_differ d c e)) ∙ was.idle)
           (either_way (d == c));
     };
@@ -193,7 +197,8 @@ module _ (shape : ℕ → Option Shape) where
       ⊎_elim
       (λ (t : (d == n) ≡ true).
       let is : d ≡ n = same_number d n t in
-      let idle : is_idle (actor.Cpu n) (ran shape (actor.Cpu n) before).state ≡ true = ran_idle (actor.Cpu n) before now.coherent (subst (λ (x : Config). is_actor x (actor.Cpu n) ≡ true) (sym now.config) there) in
+      let idle : is_idle (actor.Cpu n) (ran shape (actor.Cpu n) before).state ≡ true =
+      ran_idle (actor.Cpu n) before now.coherent (subst (λ (x : Config). is_actor x (actor.Cpu n) ≡ true) (sym now.config) there) in
       let within : n < k.cpus = omega arith in
       subst (λ x. IsResting k x (cpus_ran shape (suc n) p)) (sym is) record {
         play = ran_carries shape k (IsCoherentPlay shape k) (coherence_carried k) (actor.Cpu n) before now there;
@@ -211,7 +216,8 @@ module _ (shape : ℕ → Option Shape) where
   all_ran_idle p ok (actor.Cpu d) there =
       let k : Config = p.state.config in
       let lt : d < k.cpus = grind (arith, nat_tests) in
-      let rest = ran_carries shape k (IsResting k d) (rest_carried k d) actor.Consumer (cpus_ran shape k.cpus p) (cpus_rest k k.cpus d p record { config = refl; coherent = ok } (omega arith) lt) refl in
+      let rest = ran_carries shape k (IsResting k d) (rest_carried k d) actor.Consumer (cpus_ran shape k.cpus p)
+      (cpus_rest k k.cpus d p record { config = refl; coherent = ok } (omega arith) lt) refl in
       ap (λ (y : Option CpuFlight). is_none y) rest.idle
   all_ran_idle p ok actor.Consumer there =
       let k : Config = p.state.config in

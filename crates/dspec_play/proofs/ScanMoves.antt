@@ -16,15 +16,16 @@ use Rattle.dspec_play.specs.declared.flight.Caller.{Caller}
 use Rattle.dspec_play.specs.declared.flight.CpuFlight.TheVariants as cpu
 use Rattle.dspec_deeds.specs.History.{word_at}
 use Rattle.dspec_deeds.specs.Reports.{missed_busy}
-use Rattle.dspec_play.specs.Play.{ends, goes_on, missed, shown_scan, same_word, cpu_step}
+use Rattle.dspec_play.specs.Play.{ends, call_goes_on, missed, shown_scan, same_word, cpu_step}
 
 module _ (shape : ℕ → Option Shape) (k : Config) (c : ℕ) (h : List Deed) (me : Caller) (s : ℕ) where
   -- the one deed of a slot that can't be given
   pub missed_deeds : (w : SlotState) → (missed shape k c h me s w).deeds ≡ Miss c s (is_decided w.code) ∷ []
   missed_deeds w = go (s == k.nspec)
     where
-      go : (last : Bool) → (if last then ends shape k c h me (Miss c s (is_decided w.code) ∷ []) (answer.Opening (if missed_busy c (Miss c s (is_decided w.code) ∷ h) then opening.Busy else opening.Unavailable))
-          else goes_on shape k c h me (Miss c s (is_decided w.code) ∷ []) (cpu.ScanLoad (s + 1))).deeds ≡ Miss c s (is_decided w.code) ∷ []
+      go : (last : Bool) → (if last then ends shape k c h me (Miss c s (is_decided w.code) ∷ [])
+          (answer.Opening (if missed_busy c (Miss c s (is_decided w.code) ∷ h) then opening.Busy else opening.Unavailable))
+          else call_goes_on shape k c h me (Miss c s (is_decided w.code) ∷ []) (cpu.ScanLoad (s + 1))).deeds ≡ Miss c s (is_decided w.code) ∷ []
       go true = refl
       go false = refl
 
@@ -41,6 +42,7 @@ module _ (shape : ℕ → Option Shape) (k : Config) (c : ℕ) (h : List Deed) (
   scan_tried w now to act a is attempts none = rw (is, attempts, none) refl
 
   -- the exchange succeeds
-  pub scan_opened : (from : SlotState) (id : Speculation) (a : Option Answer) → same_word (word_at s h) from ≡ true → id ≡ record { issue = from.issue; slot = s } → a ≡ Some (answer.Opening (opening.Id id))
+  pub scan_opened : (from : SlotState) (id : Speculation) (a : Option Answer) → same_word (word_at s h) from ≡ true → id ≡ record { issue = from.issue; slot = s }
+      → a ≡ Some (answer.Opening (opening.Id id))
       → record { caller = record me { flight = None; steps = 0 }; deeds = Opened c id ∷ []; answer = a } ≡ cpu_step shape k c h me (cpu.ScanTry s from)
   scan_opened from id a same is tells = rw (same, tells, is) refl

@@ -28,11 +28,13 @@ pub idle_closes : (shape : ℕ → Option Shape) (st : PlayState) → IsCoherent
 idle_closes shape st ok idle = can_close shape st ok (λ c lt. none_is (the_caller st.callers c).flight (idle (actor.Cpu c) (is_there st.config c lt)))
 
 -- what is so of the list at the close is so of the deeds that are handed out
-pub told_in_order : {E : Type 0} (P : List Deed → Close → Type 0) (ds : List Deed) (r : Result Close E) → IfOk r (λ close. close.deeds ≡ reverse ds) → IfOk r (P ds) → IfOk r (λ close. P (reverse close.deeds) close)
+pub told_in_order : {E : Type 0} (P : List Deed → Close → Type 0) (ds : List Deed) (r : Result Close E) → IfOk r (λ close. close.deeds ≡ reverse ds) → IfOk r (P ds)
+    → IfOk r (λ close. P (reverse close.deeds) close)
 told_in_order P ds (Ok close) e p = subst (λ xs. P xs close) (sym (ap reverse e ∙ reverse-reverse ds)) p
 told_in_order P ds (Err x) e p = tt
 
 -- the list at the close is legal
-pub closes_legally : (shape : ℕ → Option Shape) (st : PlayState) → IsCoherent shape st → ((a : Actor) → is_actor st.config a ≡ true → is_idle a st ≡ true) → IsLegal shape st.config (closing shape st.config st.deeds)
+pub closes_legally : (shape : ℕ → Option Shape) (st : PlayState) → IsCoherent shape st → ((a : Actor) → is_actor st.config a ≡ true → is_idle a st ≡ true)
+    → IsLegal shape st.config (closing shape st.config st.deeds)
 closes_legally shape st ok idle =
     ((closing_closes shape st.config st.deeds ok.ranges (idle_closes shape st ok idle)).rest.legal, closing_authors shape st.config st.deeds ok.authors)

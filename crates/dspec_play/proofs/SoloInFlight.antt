@@ -1,5 +1,6 @@
 -- What a CPU decided alone is being released by that CPU's call in flight.
-use Rattle.std.proofs.Common.{◌≡◌, ◌⊎◌, ℕ, zero, suc, ◌<◌, ◌≤◌, Bool, true, false, ◌==◌, ◌&&◌, List, [], ◌∷◌, ◌++◌, slice_set, Option, Some, None, if◌then◌else◌, refl, sym, ap, ◌∙◌, subst, ⊎_elim, inl, inr, arith}
+use Rattle.std.proofs.Common.{◌≡◌, ◌⊎◌, ℕ, zero, suc, ◌<◌, ◌≤◌, Bool, true, false, ◌==◌, ◌&&◌, List, [], ◌∷◌}
+use Rattle.std.proofs.Common.{◌++◌, slice_set, Option, Some, None, if◌then◌else◌, refl, sym, ap, ◌∙◌, subst, ⊎_elim, inl, inr, arith}
 use Rattle.std.proofs.lemmas.List.{get_or-set_same, get_or-set_other}
 use Rattle.dspec_record.specs.declared.field.Shape.{Shape}
 use Rattle.dspec_word.specs.SpecId.{Speculation}
@@ -91,7 +92,8 @@ alone_by c a false e = absurd (cc (e))
 
 commits_alone : (c a : ℕ) (id : Speculation) (f : DecideFate) (h : List Deed) → solo id h ≡ None → solo id (Commit c id f ∷ h) ≡ Some a → c ≡ a
 commits_alone c a id f h before after = ⊎_elim
-    (λ (t : (is_commit f && same_id id id) ≡ true). alone_by c a (is_sole_or_none c (callers id h)) (subst (λ b. solo_of (latest (if b then committed c else undecided) (verdict id h)) (callers id h) ≡ Some a) t after))
+    (λ (t : (is_commit f && same_id id id) ≡ true). alone_by c a (is_sole_or_none c (callers id h))
+    (subst (λ b. solo_of (latest (if b then committed c else undecided) (verdict id h)) (callers id h) ≡ Some a) t after))
     (λ (t : (is_commit f && same_id id id) ≡ false).
     let same : solo id h ≡ Some a = subst (λ b. solo_of (latest (if b then committed c else undecided) (verdict id h)) (callers id h) ≡ Some a) t after in
     absurd (cc (same, before)))
@@ -100,7 +102,8 @@ commits_alone c a id f h before after = ⊎_elim
 module _ (shape : ℕ → Option Shape) (st : PlayState) (ok : IsCoherent shape st) (was : SoloInFlight st.config st.deeds st.callers) where
   -- a step of a CPU
   cpu_keeps_solo : (c : ℕ) (f : CpuFlight) → c < st.config.cpus → (the_caller st.callers c).flight ≡ Some f
-      → SoloInFlight st.config ((cpu_step shape st.config c st.deeds (the_caller st.callers c) f).deeds ++ st.deeds) (slice_set st.callers c (cpu_step shape st.config c st.deeds (the_caller st.callers c) f).caller)
+      → SoloInFlight st.config ((cpu_step shape st.config c st.deeds (the_caller st.callers c) f).deeds ++ st.deeds)
+      (slice_set st.callers c (cpu_step shape st.config c st.deeds (the_caller st.callers c) f).caller)
   cpu_keeps_solo c f lt is s a alone = go (solo (present s (ds ++ h)) h) refl
     where
       k : Config
@@ -150,7 +153,8 @@ module _ (shape : ℕ → Option Shape) (st : PlayState) (ok : IsCoherent shape 
           let before : IsAboutToRelease k st.callers a id = subst (IsAboutToRelease k st.callers a) p (was s a (subst (λ j. solo j h ≡ Some a) (sym p) old)) in
           ⊎_elim
           (λ (t : (a == c) ≡ true).
-          let at : (the_caller st.callers c).flight ≡ Some (cpu.CommitRelease id before.fate) = subst (λ x. (the_caller st.callers x).flight ≡ Some (cpu.CommitRelease id before.fate)) (same_number a c t) before.flight in
+          let at : (the_caller st.callers c).flight ≡ Some (cpu.CommitRelease id before.fate) =
+          subst (λ x. (the_caller st.callers x).flight ≡ Some (cpu.CommitRelease id before.fate)) (same_number a c t) before.flight in
           let f_is : f ≡ cpu.CommitRelease id before.fate = cc (is, at) in
           let e : ds ≡ Release s ∷ [] = ap (λ x. (cpu_step shape st.config c st.deeds (the_caller st.callers c) x).deeds) f_is in
           let next : issue s (Release s ∷ h) ≡ suc (issue s h) = rw (number_is_itself s) refl in
@@ -207,4 +211,5 @@ module _ (shape : ℕ → Option Shape) where
       let new = (step shape a st).state in
       let same = step_config shape a st in
       subst (λ k. SoloInFlight k (on_to_end shape n a new (step shape a st).answer).state.deeds (on_to_end shape n a new (step shape a st).answer).state.callers) same
-      (on_to_end_solo n a new (step shape a st).answer (step_coherent shape a st ok there) (subst (λ k. SoloInFlight k new.deeds new.callers) (sym same) (step_solo a st ok was there)) (subst (λ k. IsActor k a) (sym same) there))
+      (on_to_end_solo n a new (step shape a st).answer (step_coherent shape a st ok there)
+      (subst (λ k. SoloInFlight k new.deeds new.callers) (sym same) (step_solo a st ok was there)) (subst (λ k. IsActor k a) (sym same) there))

@@ -59,7 +59,8 @@ module _ (shape : ℕ → Option Shape) (st : PlayState) (ok : IsCoherent shape 
   moved_caller c m there = let count = ok.count in get_or-set_same st.callers c m.caller idle_caller (omega arith)
 
   -- what a step of a CPU decides alone is released in that step, its call's last, or is next
-  pub decided_alone : (c : ℕ) → c < st.config.cpus → (id : Speculation) → solo id st.deeds ≡ None → solo id (step shape (Cpu c) st).state.deeds ≢ None → IsReleasing c id st.deeds (step shape (Cpu c) st)
+  pub decided_alone : (c : ℕ) → c < st.config.cpus → (id : Speculation) → solo id st.deeds ≡ None → solo id (step shape (Cpu c) st).state.deeds ≢ None
+      → IsReleasing c id st.deeds (step shape (Cpu c) st)
   decided_alone c there id before after = go (the_caller st.callers c).flight refl after
     where
       go : (f : Option CpuFlight) → (the_caller st.callers c).flight ≡ f → solo id (step_cpu shape c st f).state.deeds ≢ None → IsReleasing c id st.deeds (step_cpu shape c st f)

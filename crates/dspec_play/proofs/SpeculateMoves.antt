@@ -27,7 +27,8 @@ use Rattle.dspec_deeds.proofs.WordActs.{speculate_granted, speculate_attempt}
 use Rattle.dspec_deeds.proofs.WordChanges.{granted_word}
 
 -- the table grants nothing and attempts nothing
-pub shown_voids : (shape : ℕ → Option Shape) (k : Config) (c : ℕ) (h : List Deed) (me : Caller) (id : Speculation) (r : Record) (w : SlotState) (act : Act) → act ≢ Granted → ((to : SlotState) → act ≢ Attempt to)
+pub shown_voids : (shape : ℕ → Option Shape) (k : Config) (c : ℕ) (h : List Deed) (me : Caller) (id : Speculation) (r : Record) (w : SlotState) (act : Act) → act ≢ Granted
+    → ((to : SlotState) → act ≢ Attempt to)
     → shown_speculate shape k c h me id r w act ≡ ends shape k c h me (Speculate c id r spoken.Void ∷ []) (answer.Spoken spoken_answer.Void)
 shown_voids shape k c h me id r w Void bare none = refl
 shown_voids shape k c h me id r w Granted bare none = absurd (bare refl)
@@ -35,7 +36,8 @@ shown_voids shape k c h me id r w (Attempt to) bare none = absurd (none to refl)
 shown_voids shape k c h me id r w Idle bare none = refl
 
 -- the table attempts an exchange, which is next, behind a word that wasn't expected
-pub speculate_tried : (shape : ℕ → Option Shape) (k : Config) (c : ℕ) (h : List Deed) (me : Caller) (id : Speculation) (r : Record) (from w to : SlotState) (a : Option Answer) → same_word (word_at id.slot h) from ≡ false
+pub speculate_tried : (shape : ℕ → Option Shape) (k : Config) (c : ℕ) (h : List Deed) (me : Caller) (id : Speculation) (r : Record) (from w to : SlotState)
+    (a : Option Answer) → same_word (word_at id.slot h) from ≡ false
     → speculate_at (word_at id.slot h) id (is_among c (callers id h)) ≡ Attempt to → w ≡ word_at id.slot h → a ≡ None
     → record { caller = record me { flight = Some (cpu.SpeculateTry id r w); steps = me.steps + 1 }; deeds = []; answer = a } ≡ cpu_step shape k c h me (cpu.SpeculateTry id r from)
 speculate_tried shape k c h me id r from w to a other act is none = rw (is, none) (rw other (rw act refl))

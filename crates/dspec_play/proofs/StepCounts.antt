@@ -36,7 +36,8 @@ clean_few k h side (Some f) some at = clean_below k h side some f at
 
 -- the call in flight has made fewer steps than its bound
 pub steps_below : (shape : ℕ → Option Shape) (st : PlayState) (a : Actor) → IsCoherent shape st → is_actor st.config a ≡ true → steps_of a st < steps_limit a st
-steps_below shape st (actor.Cpu c) ok there = cpu_few st.config c st.deeds (the_caller st.callers c) (the_caller st.callers c).flight (set_up st.config ok.ranges).1 (ok.stands c (is_below st.config c there)).flight
+steps_below shape st (actor.Cpu c) ok there =
+    cpu_few st.config c st.deeds (the_caller st.callers c) (the_caller st.callers c).flight (set_up st.config ok.ranges).1 (ok.stands c (is_below st.config c there)).flight
 steps_below shape st actor.Consumer ok there = clean_few st.config st.deeds st.side st.side.flight (set_up st.config ok.ranges).1 ok.side
 
 no_answer : {P : Type 0} (a : Answer) (r : Option Answer) → r ≡ Some a → r ≡ None → P
@@ -54,14 +55,16 @@ step_counted shape st (actor.Cpu c) ok there busy = go (the_caller st.callers c)
         let lt = is_below st.config c there in
         let here : the_caller (slice_set st.callers c m.caller) c ≡ m.caller = get_or-set_same st.callers c m.caller idle_caller (let count = ok.count in omega arith) in
         ap (λ (x : Caller). x.steps) here
-        ∙ ⊎_elim (λ (e : HasEnded m). no_answer e.told m.answer e.answers n) (λ (g : HasGoneOn st.config (the_caller st.callers c) (flight_bound st.config f) m). g.counted) (cpu_advances shape st.config c st.deeds (the_caller st.callers c) f)
+        ∙ ⊎_elim (λ (e : HasEnded m). no_answer e.told m.answer e.answers n) (λ (g : HasGoneOn st.config (the_caller st.callers c) (flight_bound st.config f) m). g.counted)
+        (cpu_advances shape st.config c st.deeds (the_caller st.callers c) f)
 step_counted shape st actor.Consumer ok there busy = go st.side.flight busy
   where
     go : (f : Option ConsumerFlight) → is_none f ≡ false → (step_consumer shape st f).answer ≡ None → (step_consumer shape st f).state.side.steps ≡ st.side.steps + 1
     go None b n = absurd (cc (b))
     go (Some f) b n =
         let m = consumer_step st.config st.deeds st.side st.callers f in
-        ⊎_elim (λ (e : HasClosed m). no_answer e.told m.answer e.answers n) (λ (g : HasKeptOn st.config st.side (clean_bound st.config f) m). g.counted) (clean_advances st.config st.deeds st.side st.callers f)
+        ⊎_elim (λ (e : HasClosed m). no_answer e.told m.answer e.answers n) (λ (g : HasKeptOn st.config st.side (clean_bound st.config f) m). g.counted)
+        (clean_advances st.config st.deeds st.side st.callers f)
 
 -- the same, of a step that a machine makes or a refused growth prevents
 pub made_counted : {E : Type 0} (shape : ℕ → Option Shape) (at st new : PlayState) (a b : Actor) (r : Result (Option Answer) E)

@@ -29,7 +29,8 @@ use Rattle.dspec_deeds.specs.Ranges.{is_fill}
 use Rattle.dspec_deeds.specs.History.{halted, in_range, word_at, ack}
 use Rattle.dspec_deeds.specs.Own.{seals}
 use Rattle.dspec_deeds.specs.Legal.{fits_principal, fits_speculative}
-use Rattle.dspec_play.specs.Play.{Moved, Cleaned, same_word, is_alone, is_release, is_worn, is_mine, spoken_at, shown_speculate, shown_commit, shown_discard, missed, shown_scan, asked, begun, popped, served, shown_service, cpu_step, takes_at, gives_at, next_slot, loads_slot, consumer_step}
+use Rattle.dspec_play.specs.Play.{Moved, ConsumerStep, same_word, is_alone, is_release, is_worn, is_mine, spoken_at, shown_speculate, shown_commit, shown_discard, missed}
+use Rattle.dspec_play.specs.Play.{shown_scan, asked, begun, popped, served, shown_service, cpu_step, takes_at, gives_at, next_slot, loads_slot, consumer_step}
 use Rattle.dspec_play.specs.Coherent.{the_caller}
 use Rattle.dspec_play.specs.Bounds.{flight_bound, clean_bound}
 
@@ -48,12 +49,12 @@ pub record HasGoneOn (k : Config) (me : Caller) (most : ℕ) (m : Moved) : Type 
   pub counted : m.caller.steps ≡ me.steps + 1
 
 -- the same, of a step of the consumer
-pub record HasClosed (m : Cleaned) : Type 0 where
+pub record HasClosed (m : ConsumerStep) : Type 0 where
   pub told : Answer
   pub answers : m.answer ≡ Some told
   pub idle : m.side.flight ≡ None
 
-pub record HasKeptOn (k : Config) (side : ConsumerSide) (most : ℕ) (m : Cleaned) : Type 0 where
+pub record HasKeptOn (k : Config) (side : ConsumerSide) (most : ℕ) (m : ConsumerStep) : Type 0 where
   pub next : ConsumerFlight
   pub answers : m.answer ≡ None
   pub flight : m.side.flight ≡ Some next
@@ -138,11 +139,15 @@ module _ (shape : ℕ → Option Shape) (k : Config) (c : ℕ) (h : List Deed) (
   opens_with most worn stopped x y z p q r = either most worn x _ p (either most stopped y z q r)
 
   begun_ends : (o : CpuOp) → Advances (flight_bound k (cpu.Begun o)) (begun shape k c h me o)
-  begun_ends (cpu_op.Trace r) = opens_with 1 (is_worn k c h) (halted h) _ _ _ (done _ _ _ refl refl) (done _ _ _ refl refl) (either 1 (fits_principal shape k c (one r) h) _ _ (done _ _ _ refl refl) (done _ _ _ refl refl))
+  begun_ends (cpu_op.Trace r) = opens_with 1 (is_worn k c h) (halted h) _ _ _ (done _ _ _ refl refl) (done _ _ _ refl refl)
+      (either 1 (fits_principal shape k c (one r) h) _ _ (done _ _ _ refl refl) (done _ _ _ refl refl))
   begun_ends cpu_op.Speculation = opens_with (1 + 2 * k.nspec) (is_worn k c h) (halted h) _ _ _ (done _ _ _ refl refl) (done _ _ _ refl refl) (on _ _ _ refl refl refl refl)
-  begun_ends (cpu_op.Speculate id r) = opens_with 4 (is_worn k c h) (halted h) _ _ _ (done _ _ _ refl refl) (done _ _ _ refl refl) (either 4 (in_range k id) _ _ (on _ _ _ refl refl refl refl) (done _ _ _ refl refl))
-  begun_ends (cpu_op.Commit id) = opens_with 5 (is_worn k c h) (halted h) _ _ _ (done _ _ _ refl refl) (done _ _ _ refl refl) (either 5 (in_range k id) _ _ (on _ _ _ refl refl refl refl) (done _ _ _ refl refl))
-  begun_ends (cpu_op.Discard id) = opens_with 5 (is_worn k c h) (halted h) _ _ _ (done _ _ _ refl refl) (done _ _ _ refl refl) (either 5 (in_range k id) _ _ (on _ _ _ refl refl refl refl) (done _ _ _ refl refl))
+  begun_ends (cpu_op.Speculate id r) = opens_with 4 (is_worn k c h) (halted h) _ _ _ (done _ _ _ refl refl) (done _ _ _ refl refl)
+      (either 4 (in_range k id) _ _ (on _ _ _ refl refl refl refl) (done _ _ _ refl refl))
+  begun_ends (cpu_op.Commit id) = opens_with 5 (is_worn k c h) (halted h) _ _ _ (done _ _ _ refl refl) (done _ _ _ refl refl)
+      (either 5 (in_range k id) _ _ (on _ _ _ refl refl refl refl) (done _ _ _ refl refl))
+  begun_ends (cpu_op.Discard id) = opens_with 5 (is_worn k c h) (halted h) _ _ _ (done _ _ _ refl refl) (done _ _ _ refl refl)
+      (either 5 (in_range k id) _ _ (on _ _ _ refl refl refl refl) (done _ _ _ refl refl))
   begun_ends cpu_op.Service =
       either (3 + 2 * k.nspec) (is_fill k.policy) _ _
       (service_ends 1 record { sealed = false; settled = 0 } (word_at 1 h) (settle_at (word_at 1 h) (ack c 1 h)))
@@ -179,17 +184,18 @@ module _ (shape : ℕ → Option Shape) (k : Config) (c : ℕ) (h : List Deed) (
 
 module _ (k : Config) (h : List Deed) (side : ConsumerSide) (all : List Caller) where
   -- what a step of the consumer makes of its call
-  abbrev pub CleanAdvances : ℕ → Cleaned → Type 0
+  abbrev pub CleanAdvances : ℕ → ConsumerStep → Type 0
   CleanAdvances most m = HasClosed m ⊎ HasKeptOn k side most m
 
-  one_of : (most : ℕ) (b : Bool) (x y : Cleaned) → CleanAdvances most x → CleanAdvances most y → CleanAdvances most (if b then x else y)
+  one_of : (most : ℕ) (b : Bool) (x y : ConsumerStep) → CleanAdvances most x → CleanAdvances most y → CleanAdvances most (if b then x else y)
   one_of most true x y p q = p
   one_of most false x y p q = q
 
-  closed : (most : ℕ) (m : Cleaned) (a : Answer) → m.answer ≡ Some a → m.side.flight ≡ None → CleanAdvances most m
+  closed : (most : ℕ) (m : ConsumerStep) (a : Answer) → m.answer ≡ Some a → m.side.flight ≡ None → CleanAdvances most m
   closed most m a e idle = inl record { told = a; answers = e; idle = idle }
 
-  kept : (m : Cleaned) (f : ConsumerFlight) → m.answer ≡ None → m.side.flight ≡ Some f → clean_bound k f ≡ k.nspec * (k.cpus + 2) → m.side.steps ≡ side.steps + 1 → CleanAdvances (k.nspec * (k.cpus + 2)) m
+  kept : (m : ConsumerStep) (f : ConsumerFlight) → m.answer ≡ None → m.side.flight ≡ Some f → clean_bound k f ≡ k.nspec * (k.cpus + 2) → m.side.steps ≡ side.steps + 1
+      → CleanAdvances (k.nspec * (k.cpus + 2)) m
   kept m f e goes same steps = inr record { next = f; answers = e; flight = goes; bound = same; counted = steps }
 
   next_ends : (s n : ℕ) (ds : List Deed) → CleanAdvances (k.nspec * (k.cpus + 2)) (next_slot k h side all s ds n)

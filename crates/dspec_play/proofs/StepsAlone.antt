@@ -54,7 +54,8 @@ beside_rests Halt h next e = refl
 pub none_rules : (c : ℕ) (h : List Deed) (next : Option CpuFlight) (told : Option Answer) → KeepsSoloRule c h [] next told
 none_rules c h next told id before after = absurd (after before)
 
-pub one_rules : (k : Config) (c : ℕ) (d : Deed) (h : List Deed) (next : Option CpuFlight) (told : Option Answer) → IsSound k (d ∷ h) → author d h ≡ Cpu c → DecidesBeside d h next → KeepsSoloRule c h (d ∷ []) next told
+pub one_rules : (k : Config) (c : ℕ) (d : Deed) (h : List Deed) (next : Option CpuFlight) (told : Option Answer) → IsSound k (d ∷ h) → author d h ≡ Cpu c
+    → DecidesBeside d h next → KeepsSoloRule c h (d ∷ []) next told
 one_rules k c (Trace a r f) h next told s by beside id before after = absurd (after before)
 one_rules k c (Scan a run) h next told s by beside id before after = absurd (after before)
 one_rules k c (Opened a j) h next told s by beside id before after = absurd (after before)
@@ -72,7 +73,8 @@ one_rules k c (Commit a j f) h next told s by beside id before after = ⊎_elim
     let is : j ≡ id = sym (same_id_tells id j both.1) in
     ⊎_elim
     (λ (none : (is_commit f && is_sole_or_none a (callers j h)) ≡ false).
-    let others : is_sole_or_none a (callers id h) ≡ false = sym (ap (λ b. b && is_sole_or_none a (callers id h)) both.0) ∙ subst (λ x. (is_commit f && is_sole_or_none a (callers x h)) ≡ false) is none in
+    let others : is_sole_or_none a (callers id h) ≡ false =
+    sym (ap (λ b. b && is_sole_or_none a (callers id h)) both.0) ∙ subst (λ x. (is_commit f && is_sole_or_none a (callers x h)) ≡ false) is none in
     absurd (after (ap (λ b. solo_of (latest (if b then committed a else undecided) (verdict id h)) (callers id h)) t ∙ ap (λ b. if b then Some a else None) others)))
     (λ (releases : next ≡ Some (cpu.CommitRelease j f)).
     let mine : a ≡ c = cc in

@@ -21,10 +21,11 @@ use Rattle.dspec_deeds.specs.declared.deed.Deed.TheVariants.{Commit, Release}
 use Rattle.dspec_play.specs.declared.flight.Caller.{Caller}
 use Rattle.dspec_play.specs.declared.flight.CpuFlight.TheVariants as cpu
 use Rattle.dspec_deeds.specs.FateKinds.{is_commit}
-use Rattle.dspec_deeds.specs.History.{halted, scan, is_among, issue, opened, committed, verdict, is_undecided, is_sole_or_none, solo, releaser, part, standing, callers, present, word_at, is_open, in_range, late}
+use Rattle.dspec_deeds.specs.History.{halted, scan, is_among, issue, opened, committed, verdict, is_undecided, is_sole_or_none, solo}
+use Rattle.dspec_deeds.specs.History.{releaser, part, standing, callers, present, word_at, is_open, in_range, late}
 use Rattle.dspec_deeds.specs.Own.{contents, held}
 use Rattle.dspec_deeds.specs.Legal.{fits_principal, sealed_last}
-use Rattle.dspec_play.specs.Play.{is_worn, begun, wears, ends, goes_on, committed_by, is_alone, shown_commit, same_word, cpu_step}
+use Rattle.dspec_play.specs.Play.{is_worn, begun, wears, ends, call_goes_on, committed_by, is_alone, shown_commit, same_word, cpu_step}
 use Rattle.dspec_deeds.specs.Told.{answer_of}
 use Rattle.dspec_play.specs.Coherent.{OnItsWay, StandsCpu}
 use Rattle.dspec_deeds.proofs.TestLemmas.{number_is_itself, id_is_itself}
@@ -62,7 +63,7 @@ module _ (shape : ℕ → Option Shape) (k : Config) (c : ℕ) (h : List Deed) (
           → StepStands shape k c h
           (if worn then wears shape k c h me (answer.Decided decided_answer.Worn)
           else if stopped then ends shape k c h me (Commit c id decided.Stopped ∷ []) (answer.Decided decided_answer.Stopped)
-          else if inside then goes_on shape k c h me [] (cpu.CommitLoad id)
+          else if inside then call_goes_on shape k c h me [] (cpu.CommitLoad id)
           else ends shape k c h me (Commit c id decided.Void ∷ []) (answer.Decided decided_answer.Void))
       go true s n es en = wears_stand shape k c h me play (answer.Decided decided_answer.Worn) idle
       go false true n es en = ends_by shape k c h me play (Commit c id decided.Stopped) (answer.Decided decided_answer.Stopped) play.rests (idle, refl, es) tt refl (inl refl) refl idle
@@ -70,7 +71,8 @@ module _ (shape : ℕ → Option Shape) (k : Config) (c : ℕ) (h : List Deed) (
       go false false false es en = void_stands id idle (running_not_late c h es) (out_not_open k h id play.ranges play.legal.0 en)
 
   -- behind a commit that no other CPU's buffer waits for, the release is next
-  releases_next : (id : Speculation) (f : DecideFate) → OnItsWay k c h id → issue id.slot h ≡ id.issue → opened id h ≡ true → is_commit f ≡ true → is_sole_or_none c (callers id h) ≡ true → me.steps ≤ 3
+  releases_next : (id : Speculation) (f : DecideFate) → OnItsWay k c h id → issue id.slot h ≡ id.issue → opened id h ≡ true → is_commit f ≡ true
+      → is_sole_or_none c (callers id h) ≡ true → me.steps ≤ 3
       → StandsCpu k c (Commit c id f ∷ h) (record me { flight = Some (cpu.CommitRelease id f); steps = me.steps + 1 }) (cpu.CommitRelease id f)
   releases_next id f way now given commits sole steps =
       let own = id_is_itself id in
@@ -93,7 +95,7 @@ module _ (shape : ℕ → Option Shape) (k : Config) (c : ℕ) (h : List Deed) (
       go : (alone fits : Bool) → is_alone (Attempt to) ≡ alone → fits_principal shape k c (block (contents (held c id h))) h ≡ fits
           → StepStands shape k c h
           (if alone then
-          goes_on shape k c h me (Commit c id (if fits then decided.Copied (length (held c id h)) else decided.Lost (length (held c id h))) ∷ [])
+          call_goes_on shape k c h me (Commit c id (if fits then decided.Copied (length (held c id h)) else decided.Lost (length (held c id h))) ∷ [])
           (cpu.CommitRelease id (if fits then decided.Copied (length (held c id h)) else decided.Lost (length (held c id h))))
           else
           ends shape k c h me (Commit c id (if fits then decided.Copied (length (held c id h)) else decided.Lost (length (held c id h))) ∷ [])
@@ -102,7 +104,8 @@ module _ (shape : ℕ → Option Shape) (k : Config) (c : ℕ) (h : List Deed) (
           let did = commit_attempt k h id c to play.legal.0 e in
           goes_by shape k c h me play (Commit c id (decided.Copied (length (held c id h)))) (cpu.CommitRelease id (decided.Copied (length (held c id h))))
           play.rests (way.scans_not, refl, (way.early, sym did.1)) (refl, sym ef) refl (inr refl) refl
-          (releases_next id (decided.Copied (length (held c id h))) way did.0 (open_present k h id play.legal.0 did.1).given refl (alone_tells c (issue id.slot h) (callers id h) to did.2 ea) (early ea))
+          (releases_next id (decided.Copied (length (held c id h))) way did.0 (open_present k h id play.legal.0 did.1).given refl
+          (alone_tells c (issue id.slot h) (callers id h) to did.2 ea) (early ea))
       go true false ea ef =
           let did = commit_attempt k h id c to play.legal.0 e in
           goes_by shape k c h me play (Commit c id (decided.Lost (length (held c id h)))) (cpu.CommitRelease id (decided.Lost (length (held c id h))))

@@ -18,10 +18,11 @@ use Rattle.dspec_deeds.specs.declared.deed.Deed.{Deed}
 use Rattle.dspec_deeds.specs.declared.deed.Deed.TheVariants.{Discard, Release}
 use Rattle.dspec_play.specs.declared.flight.Caller.{Caller}
 use Rattle.dspec_play.specs.declared.flight.CpuFlight.TheVariants as cpu
-use Rattle.dspec_deeds.specs.History.{halted, scan, is_among, issue, owed, discarded, verdict, is_undecided, is_sole, solo, releaser, same_actor, part, callers, present, word_at, is_open, in_range, late}
+use Rattle.dspec_deeds.specs.History.{halted, scan, is_among, issue, owed, discarded, verdict, is_undecided, is_sole, solo}
+use Rattle.dspec_deeds.specs.History.{releaser, same_actor, part, callers, present, word_at, is_open, in_range, late}
 use Rattle.dspec_deeds.specs.Own.{held, seals}
 use Rattle.dspec_deeds.specs.Legal.{sealed_last}
-use Rattle.dspec_play.specs.Play.{is_worn, begun, wears, ends, goes_on, discarded_by, shown_discard, same_word, cpu_step}
+use Rattle.dspec_play.specs.Play.{is_worn, begun, wears, ends, call_goes_on, discarded_by, shown_discard, same_word, cpu_step}
 use Rattle.dspec_play.specs.Coherent.{OnItsWay, StandsCpu}
 use Rattle.dspec_deeds.proofs.TestLemmas.{either_way, cpu_is_itself, number_is_itself, id_is_itself}
 use Rattle.dspec_deeds.proofs.SoundLists.{running_not_late}
@@ -52,7 +53,7 @@ module _ (shape : ℕ → Option Shape) (k : Config) (c : ℕ) (h : List Deed) (
           → StepStands shape k c h
           (if worn then wears shape k c h me (answer.Decided decided_answer.Worn)
           else if stopped then ends shape k c h me (Discard c id decided.Stopped ∷ []) (answer.Decided decided_answer.Stopped)
-          else if inside then goes_on shape k c h me [] (cpu.DiscardLoad id)
+          else if inside then call_goes_on shape k c h me [] (cpu.DiscardLoad id)
           else ends shape k c h me (Discard c id decided.Void ∷ []) (answer.Decided decided_answer.Void))
       go true s n es en = wears_stand shape k c h me play (answer.Decided decided_answer.Worn) idle
       go false true n es en = ends_by shape k c h me play (Discard c id decided.Stopped) (answer.Decided decided_answer.Stopped) play.rests (idle, refl, es) tt refl refl refl idle
@@ -83,7 +84,8 @@ module _ (shape : ℕ → Option Shape) (k : Config) (c : ℕ) (h : List Deed) (
       }
 
   -- an exchange that succeeds
-  discarded_stands : (id : Speculation) (to : SlotState) → OnItsWay k c h id → discard_at (word_at id.slot h) id (is_among c (callers id h)) ≡ Attempt to → StepStands shape k c h (discarded_by shape k c h me id (Attempt to))
+  discarded_stands : (id : Speculation) (to : SlotState) → OnItsWay k c h id → discard_at (word_at id.slot h) id (is_among c (callers id h)) ≡ Attempt to
+      → StepStands shape k c h (discarded_by shape k c h me id (Attempt to))
   discarded_stands id to way e =
       let did = discard_attempt k h id c to play.legal.0 e in
       ⊎_elim

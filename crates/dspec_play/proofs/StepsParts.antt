@@ -17,7 +17,7 @@ use Rattle.dspec_deeds.specs.Ranges.{start_fault}
 use Rattle.dspec_deeds.specs.History.{author, same_actor, owed, owing, scan, in_range, opened, is_undecided, verdict, is_open, releaser}
 use Rattle.dspec_deeds.specs.Own.{seals, seals_now}
 use Rattle.dspec_deeds.specs.Legal.{IsSound, IsAllowed, OwnAllows, MayCome, Pays}
-use Rattle.dspec_play.specs.Play.{Moved, goes_on, ends, wears}
+use Rattle.dspec_play.specs.Play.{Moved, call_goes_on, ends, wears}
 use Rattle.dspec_play.specs.Coherent.{IsSlot, StandsCpu, SpareCounts, PushesNext, CallerStands}
 use Rattle.dspec_deeds.proofs.TestLemmas.{either_way, off, and_tells, cpu_is_itself}
 use Rattle.dspec_deeds.proofs.SoundLists.{opened_in_range}
@@ -57,11 +57,12 @@ module _ (shape : ℕ → Option Shape) (k : Config) (c : ℕ) (h : List Deed) (
   none_comes = record { legal = play.legal; rests = play.rests; by = tt }
 
   pub one_comes : (d : Deed) → Pays (owed h) d → MayCome k h d → OwnAllows shape k h d → author d h ≡ Cpu c → owing d h ≡ 0 → GoesOn shape k (Cpu c) (d ∷ []) h
-  one_comes d pays may own is rests = record { legal = ((play.legal.0, (pays, may)), (play.legal.1, own)); rests = rests; by = (tt, subst (λ w. same_actor (Cpu c) w ≡ true) (sym is) (cpu_is_itself c)) }
+  one_comes d pays may own is rests = record
+      { legal = ((play.legal.0, (pays, may)), (play.legal.1, own)); rests = rests; by = (tt, subst (λ w. same_actor (Cpu c) w ≡ true) (sym is) (cpu_is_itself c)) }
 
   -- the call goes on behind deeds that seal nothing
   goes_stand : (ds : List Deed) (next : CpuFlight) → GoesOn shape k (Cpu c) ds h → seals c (ds ++ h) ≡ seals c h
-      → StandsCpu k c (ds ++ h) (record me { flight = Some next; steps = me.steps + 1 }) next → KeepsSoloRule c h ds (Some next) None → StepStands shape k c h (goes_on shape k c h me ds next)
+      → StandsCpu k c (ds ++ h) (record me { flight = Some next; steps = me.steps + 1 }) next → KeepsSoloRule c h ds (Some next) None → StepStands shape k c h (call_goes_on shape k c h me ds next)
   goes_stand ds next goes same at rules = record {
     goes = goes;
     stands = record { flight = at; counts = subst (λ n. SpareCounts n me.takes me.spare) (sym same) play.counts; pushes = play.pushes (Some next); want = play.want };
@@ -69,20 +70,22 @@ module _ (shape : ℕ → Option Shape) (k : Config) (c : ℕ) (h : List Deed) (
   }
 
   -- the call ends behind deeds that seal nothing
-  pub ends_stand : (ds : List Deed) (a : Answer) → GoesOn shape k (Cpu c) ds h → seals c (ds ++ h) ≡ seals c h → scan k c (ds ++ h) ≡ 0 → KeepsSoloRule c h ds None (Some a) → StepStands shape k c h (ends shape k c h me ds a)
+  pub ends_stand : (ds : List Deed) (a : Answer) → GoesOn shape k (Cpu c) ds h → seals c (ds ++ h) ≡ seals c h → scan k c (ds ++ h) ≡ 0 → KeepsSoloRule c h ds None (Some a)
+      → StepStands shape k c h (ends shape k c h me ds a)
   ends_stand ds a goes same idle rules = record {
     goes = goes;
     stands = record { flight = (idle, refl); counts = subst (λ n. SpareCounts n me.takes me.spare) (sym same) play.counts; pushes = play.pushes None; want = play.want };
     solo_rule = rules;
   }
 
-  pub goes_by_none : (next : CpuFlight) → StandsCpu k c h (record me { flight = Some next; steps = me.steps + 1 }) next → StepStands shape k c h (goes_on shape k c h me [] next)
+  pub goes_by_none : (next : CpuFlight) → StandsCpu k c h (record me { flight = Some next; steps = me.steps + 1 }) next → StepStands shape k c h (call_goes_on shape k c h me [] next)
   goes_by_none next at = goes_stand [] next none_comes refl at (none_rules c h (Some next) None)
 
   pub goes_by : (d : Deed) (next : CpuFlight) → Pays (owed h) d → MayCome k h d → OwnAllows shape k h d → author d h ≡ Cpu c → DecidesBeside d h (Some next) → seals_now c d ≡ false
-      → StandsCpu k c (d ∷ h) (record me { flight = Some next; steps = me.steps + 1 }) next → StepStands shape k c h (goes_on shape k c h me (d ∷ []) next)
+      → StandsCpu k c (d ∷ h) (record me { flight = Some next; steps = me.steps + 1 }) next → StepStands shape k c h (call_goes_on shape k c h me (d ∷ []) next)
   goes_by d next pays may own is beside seals at =
-      goes_stand (d ∷ []) next (one_comes d pays may own is (beside_rests d h (Some next) beside)) (seals_stay c d h seals) at (one_rules k c d h (Some next) None (play.legal.0, (pays, may)) is beside)
+      goes_stand (d ∷ []) next (one_comes d pays may own is (beside_rests d h (Some next) beside)) (seals_stay c d h seals) at
+      (one_rules k c d h (Some next) None (play.legal.0, (pays, may)) is beside)
 
   pub ends_by_none : (a : Answer) → scan k c h ≡ 0 → StepStands shape k c h (ends shape k c h me [] a)
   ends_by_none a idle = ends_stand [] a none_comes refl idle (none_rules c h None (Some a))
@@ -93,7 +96,11 @@ module _ (shape : ℕ → Option Shape) (k : Config) (c : ℕ) (h : List Deed) (
       ends_stand (d ∷ []) a (one_comes d pays may own is (beside_rests d h None beside)) (seals_stay c d h seals) idle (one_rules k c d h None (Some a) (play.legal.0, (pays, may)) is beside)
 
   pub wears_stand : (a : Answer) → scan k c h ≡ 0 → StepStands shape k c h (wears shape k c h me a)
-  wears_stand a idle = record { goes = none_comes; stands = record { flight = (idle, refl); counts = play.counts; pushes = play.pushes None; want = play.want }; solo_rule = none_rules c h None (Some a) }
+  wears_stand a idle = record {
+    goes = none_comes;
+    stands = record { flight = (idle, refl); counts = play.counts; pushes = play.pushes None; want = play.want };
+    solo_rule = none_rules c h None (Some a);
+  }
 
 -- an identifier out of range is not open
 pub out_not_open : (k : Config) (h : List Deed) (id : Speculation) → start_fault k ≡ None → IsSound k h → in_range k id ≡ false → is_open id h ≡ false

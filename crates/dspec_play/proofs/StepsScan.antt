@@ -16,7 +16,7 @@ use Rattle.dspec_deeds.specs.declared.deed.Deed.TheVariants.{Scan, Opened, Miss}
 use Rattle.dspec_play.specs.declared.flight.Caller.{Caller}
 use Rattle.dspec_play.specs.declared.flight.CpuFlight.TheVariants as cpu
 use Rattle.dspec_deeds.specs.History.{halted, scan, word_at, is_free, opened_since}
-use Rattle.dspec_play.specs.Play.{is_worn, begun, wears, ends, goes_on, missed, shown_scan, same_word, cpu_step}
+use Rattle.dspec_play.specs.Play.{is_worn, begun, wears, ends, call_goes_on, missed, shown_scan, same_word, cpu_step}
 use Rattle.dspec_deeds.specs.Reports.{missed_busy}
 use Rattle.dspec_play.specs.Coherent.{IsSlot, StandsCpu}
 use Rattle.dspec_deeds.proofs.TestLemmas.{number_is_itself, numbers_differ, off}
@@ -49,7 +49,7 @@ module _ (shape : ℕ → Option Shape) (k : Config) (c : ℕ) (h : List Deed) (
           → StepStands shape k c h
           (if worn then wears shape k c h me (answer.Opening opening.Worn)
           else if stopped then ends shape k c h me (Scan c false ∷ []) (answer.Opening opening.Stopped)
-          else goes_on shape k c h me (Scan c true ∷ []) (cpu.ScanLoad 1))
+          else call_goes_on shape k c h me (Scan c true ∷ []) (cpu.ScanLoad 1))
       go true s es = wears_stand shape k c h me play (answer.Opening opening.Worn) idle
       go false true es = ends_by shape k c h me play (Scan c false) _ play.rests (idle, sym (ap not es)) tt refl tt refl (scan_stopped k c h)
       go false false es = goes_by shape k c h me play (Scan c true) (cpu.ScanLoad 1) play.rests (idle, sym (ap not es)) tt refl tt refl
@@ -61,17 +61,20 @@ module _ (shape : ℕ → Option Shape) (k : Config) (c : ℕ) (h : List Deed) (
     where
       go : (last : Bool) → (s == k.nspec) ≡ last
           → StepStands shape k c h
-          (if last then ends shape k c h me (Miss c s (is_decided (word_at s h).code) ∷ []) (answer.Opening (if missed_busy c (Miss c s (is_decided (word_at s h).code) ∷ h) then opening.Busy else opening.Unavailable))
-          else goes_on shape k c h me (Miss c s (is_decided (word_at s h).code) ∷ []) (cpu.ScanLoad (s + 1)))
+          (if last then ends shape k c h me (Miss c s (is_decided (word_at s h).code) ∷ [])
+          (answer.Opening (if missed_busy c (Miss c s (is_decided (word_at s h).code) ∷ h) then opening.Busy else opening.Unavailable))
+          else call_goes_on shape k c h me (Miss c s (is_decided (word_at s h).code) ∷ []) (cpu.ScanLoad (s + 1)))
       go true e = ends_by shape k c h me play (Miss c s (is_decided (word_at s h).code))
-          (answer.Opening (if missed_busy c (Miss c s (is_decided (word_at s h).code) ∷ h) then opening.Busy else opening.Unavailable)) play.rests (at, slot.0, why, busy_is k h s play.legal.0) tt refl tt refl (scan_failed k c s (is_decided (word_at s h).code) h at e)
+          (answer.Opening (if missed_busy c (Miss c s (is_decided (word_at s h).code) ∷ h) then opening.Busy else opening.Unavailable)) play.rests
+          (at, slot.0, why, busy_is k h s play.legal.0) tt refl tt refl (scan_failed k c s (is_decided (word_at s h).code) h at e)
       go false e =
           let apart = numbers_differ s k.nspec e in
           let most = slot.1 in
           goes_by shape k c h me play (Miss c s (is_decided (word_at s h).code)) (cpu.ScanLoad (s + 1)) play.rests (at, slot.0, why, busy_is k h s play.legal.0) tt refl tt refl
           ((omega arith, omega arith), scan_next k c s (is_decided (word_at s h).code) h at e, omega arith)
 
-  shown_stands : (s : ℕ) → IsSlot k s → scan k c h ≡ s → me.steps ≤ 2 * s - 1 → (act : Act) → open_at (word_at s h) k.max_issues ≡ act → StepStands shape k c h (shown_scan shape k c h me s (word_at s h) act)
+  shown_stands : (s : ℕ) → IsSlot k s → scan k c h ≡ s → me.steps ≤ 2 * s - 1 → (act : Act) → open_at (word_at s h) k.max_issues ≡ act
+      → StepStands shape k c h (shown_scan shape k c h me s (word_at s h) act)
   shown_stands s slot at steps Void e = missed_stands s slot at (omega arith) (inl (open_void k h s e))
   shown_stands s slot at steps Granted e = not_plain (open_at (word_at s h) k.max_issues) Granted (open_plain (word_at s h) k.max_issues) e refl
   shown_stands s slot at steps (Attempt to) e = let one = slot.0 in goes_by_none shape k c h me play (cpu.ScanTry s (word_at s h)) (slot, at, omega arith, (to, e), inl refl)

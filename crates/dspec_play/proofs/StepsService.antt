@@ -27,7 +27,7 @@ use Rattle.dspec_deeds.specs.Ranges.{start_fault, is_fill}
 use Rattle.dspec_deeds.specs.History.{scan, issue, owed, present, verdict, solo, settled, word_at, ack}
 use Rattle.dspec_deeds.specs.Own.{contents, held, seals}
 use Rattle.dspec_deeds.specs.Legal.{IsSound, IsAllowed, OwnAllows, SettlesAs, fits_principal}
-use Rattle.dspec_play.specs.Play.{begun, asked, popped, served, shown_service, loads_service, goes_on, ends, cpu_step}
+use Rattle.dspec_play.specs.Play.{begun, asked, popped, served, shown_service, loads_service, call_goes_on, ends, cpu_step}
 use Rattle.dspec_deeds.specs.Settling.{settle_fate}
 use Rattle.dspec_play.specs.Coherent.{IsSlot, StandsCpu, SpareCounts}
 use Rattle.dspec_deeds.proofs.TestLemmas.{and_tells, number_is_itself, numbers_differ}
@@ -52,8 +52,9 @@ not_settled k c s h sound le = let tells = ack_tells k c s h sound in let least 
 
 module _ (shape : ℕ → Option Shape) (k : Config) (c : ℕ) (h : List Deed) (me : Caller) (play : IsUnderWay shape k c h me) where
   -- the first slot of the settlements is next
-  settles_next : scan k c h ≡ 0 → me.steps ≤ 2 → (sealed : Bool) → StepStands shape k c h (goes_on shape k c h me [] (cpu.ServiceLoad 1 record { sealed = sealed; settled = 0 }))
-  settles_next idle steps sealed = goes_by_none shape k c h me play (cpu.ServiceLoad 1 record { sealed = sealed; settled = 0 }) ((omega arith, (set_up k play.ranges).1), idle, omega arith, omega arith)
+  settles_next : scan k c h ≡ 0 → me.steps ≤ 2 → (sealed : Bool) → StepStands shape k c h (call_goes_on shape k c h me [] (cpu.ServiceLoad 1 record { sealed = sealed; settled = 0 }))
+  settles_next idle steps sealed = goes_by_none shape k c h me play (cpu.ServiceLoad 1 record { sealed = sealed; settled = 0 })
+      ((omega arith, (set_up k play.ranges).1), idle, omega arith, omega arith)
 
   -- the active buffer is sealed, and its push is next
   seals_stand : scan k c h ≡ 0 → me.steps ≤ 1 → seals c h < k.max_calls → seals c h ≡ me.takes → is_fill k.policy ≡ false
@@ -68,7 +69,7 @@ module _ (shape : ℕ → Option Shape) (k : Config) (c : ℕ) (h : List Deed) (
   passes : (s : ℕ) (sum : Served) → IsSlot k s → scan k c h ≡ 0 → me.steps ≤ 1 + 2 * s → sum.settled < s → StepStands shape k c h (served shape k c h me s [] sum)
   passes s sum slot idle steps few = go (s == k.nspec) refl
     where
-      go : (last : Bool) → (s == k.nspec) ≡ last → StepStands shape k c h (if last then ends shape k c h me [] (answer.Served sum) else goes_on shape k c h me [] (cpu.ServiceLoad (s + 1) sum))
+      go : (last : Bool) → (s == k.nspec) ≡ last → StepStands shape k c h (if last then ends shape k c h me [] (answer.Served sum) else call_goes_on shape k c h me [] (cpu.ServiceLoad (s + 1) sum))
       go true e = ends_by_none shape k c h me play (answer.Served sum) idle
       go false e =
           let apart = numbers_differ s k.nspec e in
@@ -93,10 +94,11 @@ module _ (shape : ℕ → Option Shape) (k : Config) (c : ℕ) (h : List Deed) (
       most : (nat_lt (seals c h) me.want && nat_lt (seals c h) k.max_calls) ≡ true → seals c h < k.max_calls
       most e = let less = (and_tells (nat_lt (seals c h) me.want) (nat_lt (seals c h) k.max_calls) e).1 in grind (arith, nat_tests)
 
-      pops : is_fill k.policy ≡ false → (nat_lt (seals c h) me.want && nat_lt (seals c h) k.max_calls) ≡ true → StepStands shape k c h (goes_on shape k c h me [] cpu.ServicePop)
+      pops : is_fill k.policy ≡ false → (nat_lt (seals c h) me.want && nat_lt (seals c h) k.max_calls) ≡ true → StepStands shape k c h (call_goes_on shape k c h me [] cpu.ServicePop)
       pops switched e = goes_by_none shape k c h me play cpu.ServicePop (idle, omega arith, most e, switched)
 
-      go : is_fill k.policy ≡ false → (place : Spare) → SpareCounts (seals c h) me.takes place → (asks : Bool) → (nat_lt (seals c h) me.want && nat_lt (seals c h) k.max_calls) ≡ asks → StepStands shape k c h (asked shape k c h me place asks)
+      go : is_fill k.policy ≡ false → (place : Spare) → SpareCounts (seals c h) me.takes place → (asks : Bool)
+          → (nat_lt (seals c h) me.want && nat_lt (seals c h) k.max_calls) ≡ asks → StepStands shape k c h (asked shape k c h me place asks)
       go switched spare.InHand counts true e = seals_stand idle (omega arith) (most e) (counts.0 ∙ sym counts.1) switched
       go switched spare.Sealed counts true e = pops switched e
       go switched spare.Handed counts true e = pops switched e
@@ -109,14 +111,15 @@ module _ (shape : ℕ → Option Shape) (k : Config) (c : ℕ) (h : List Deed) (
       go switched spare.GivenBack counts false e = settles_next idle (omega arith) false
 
       by : (b : Bool) → is_fill k.policy ≡ b
-          → StepStands shape k c h (if b then loads_service shape k c h me 1 record { sealed = false; settled = 0 } else asked shape k c h me me.spare (nat_lt (seals c h) me.want && nat_lt (seals c h) k.max_calls))
+          → StepStands shape k c h (if b then loads_service shape k c h me 1 record { sealed = false; settled = 0 } else asked shape k c h me me.spare
+          (nat_lt (seals c h) me.want && nat_lt (seals c h) k.max_calls))
       by true e = service_loads 1 record { sealed = false; settled = 0 } ((omega arith, (set_up k play.ranges).1), idle, omega arith, omega arith)
       by false e = go e me.spare play.counts (nat_lt (seals c h) me.want && nat_lt (seals c h) k.max_calls) refl
 
   pub service_pops : StandsCpu k c h me cpu.ServicePop → StepStands shape k c h (cpu_step shape k c h me cpu.ServicePop)
   service_pops at = go me.spare play.counts
     where
-      on : StepStands shape k c h (goes_on shape k c h me [] (cpu.ServiceLoad 1 record { sealed = false; settled = 0 }))
+      on : StepStands shape k c h (call_goes_on shape k c h me [] (cpu.ServiceLoad 1 record { sealed = false; settled = 0 }))
       on = let first = at.1 in settles_next at.0 (omega arith) false
 
       go : (place : Spare) → SpareCounts (seals c h) me.takes place → StepStands shape k c h (popped shape k c h me place)
@@ -135,7 +138,7 @@ module _ (shape : ℕ → Option Shape) (k : Config) (c : ℕ) (h : List Deed) (
       go : (last : Bool) → (s == k.nspec) ≡ last
           → StepStands shape k c h
           (if last then ends shape k c h me (Settle c (present s h) f ∷ []) (answer.Served sum)
-          else goes_on shape k c h me (Settle c (present s h) f ∷ []) (cpu.ServiceLoad (s + 1) sum))
+          else call_goes_on shape k c h me (Settle c (present s h) f ∷ []) (cpu.ServiceLoad (s + 1) sum))
       go true e = ends_by shape k c h me play (Settle c (present s h) f) (answer.Served sum) play.rests (idle, (refl, fate, alone, not_yet)) own refl tt refl idle
       go false e =
           let apart = numbers_differ s k.nspec e in
@@ -177,6 +180,12 @@ pub service_pushes : (shape : ℕ → Option Shape) (k : Config) (c : ℕ) (h : 
     → SpareCounts (seals c h) me.takes me.spare → me.want ≤ me.takes + 1 → StandsCpu k c h me cpu.ServicePush → StepStands shape k c h (cpu_step shape k c h me cpu.ServicePush)
 service_pushes shape k c h me ranges legal rests counts want at = let steps = at.1 in record {
   goes = record { legal = legal; rests = rests; by = tt };
-  stands = record { flight = ((omega arith, (set_up k ranges).1), at.0, omega arith, omega arith); counts = subst (λ place. SpareCounts (seals c h) me.takes place) at.2 counts; pushes = tt; want = want };
+  stands = record {
+    flight = ((omega arith, (set_up k ranges).1), at.0, omega arith, omega arith);
+    counts = subst (λ place. SpareCounts (seals c h) me.takes place) at.2
+        counts;
+    pushes = tt;
+    want = want;
+  };
   solo_rule = none_rules c h _ _;
 }

@@ -19,7 +19,7 @@ use Rattle.dspec_play.specs.declared.flight.Caller.{Caller}
 use Rattle.dspec_play.specs.declared.flight.CpuFlight.TheVariants as cpu
 use Rattle.dspec_deeds.specs.History.{halted, scan, is_among, callers, word_at, is_open, in_range, late}
 use Rattle.dspec_deeds.specs.Legal.{fits_speculative}
-use Rattle.dspec_play.specs.Play.{is_worn, begun, wears, ends, goes_on, spoken_at, shown_speculate, same_word, cpu_step}
+use Rattle.dspec_play.specs.Play.{is_worn, begun, wears, ends, call_goes_on, spoken_at, shown_speculate, same_word, cpu_step}
 use Rattle.dspec_play.specs.Coherent.{OnItsWay, StandsCpu}
 use Rattle.dspec_deeds.proofs.SoundLists.{running_not_late}
 use Rattle.dspec_deeds.proofs.WordActs.{speculate_void, speculate_granted, speculate_attempt}
@@ -39,7 +39,7 @@ module _ (shape : ℕ → Option Shape) (k : Config) (c : ℕ) (h : List Deed) (
           → StepStands shape k c h
           (if worn then wears shape k c h me (answer.Spoken spoken_answer.Worn)
           else if stopped then ends shape k c h me (Speculate c id r spoken.Stopped ∷ []) (answer.Spoken spoken_answer.Stopped)
-          else if inside then goes_on shape k c h me [] (cpu.SpeculateLoad id r)
+          else if inside then call_goes_on shape k c h me [] (cpu.SpeculateLoad id r)
           else ends shape k c h me (Speculate c id r spoken.Void ∷ []) (answer.Spoken spoken_answer.Void))
       go true s n es en = wears_stand shape k c h me play (answer.Spoken spoken_answer.Worn) idle
       go false true n es en = ends_by shape k c h me play (Speculate c id r spoken.Stopped) _ play.rests (idle, es) tt refl tt refl idle
@@ -73,7 +73,8 @@ module _ (shape : ℕ → Option Shape) (k : Config) (c : ℕ) (h : List Deed) (
       (λ to e. let least = (speculate_tells (word_at id.slot h) to id (is_among c (callers id h)) e).1 in let first = at.1 in omega arith)
       (speculate_at (word_at id.slot h) id (is_among c (callers id h))) refl
 
-  pub speculate_tries : (id : Speculation) (r : Record) (from : SlotState) → StandsCpu k c h me (cpu.SpeculateTry id r from) → StepStands shape k c h (cpu_step shape k c h me (cpu.SpeculateTry id r from))
+  pub speculate_tries : (id : Speculation) (r : Record) (from : SlotState) → StandsCpu k c h me (cpu.SpeculateTry id r from)
+      → StepStands shape k c h (cpu_step shape k c h me (cpu.SpeculateTry id r from))
   speculate_tries id r from at = go (same_word (word_at id.slot h) from) refl
     where
       go : (same : Bool) → same_word (word_at id.slot h) from ≡ same

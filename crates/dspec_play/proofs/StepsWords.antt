@@ -28,7 +28,8 @@ same_word_tells v w e =
 pub words_test : (v w : SlotState) → (word_number v == word_number w) ≡ same_word v w
 words_test v w = ⊎_elim
     (λ (e : same_word v w ≡ true). ap (λ x. word_number v == word_number x) (sym (same_word_tells v w e)) ∙ number_is_itself (word_number v) ∙ sym e)
-    (λ e. ⊎_elim (λ t. t ∙ sym (ap (same_word v) (sym (one_word v w (same_number (word_number v) (word_number w) t))) ∙ word_is_itself v)) (λ f. f ∙ sym e) (either_way (word_number v == word_number w)))
+    (λ e. ⊎_elim (λ t. t ∙ sym (ap (same_word v) (sym (one_word v w (same_number (word_number v) (word_number w) t))) ∙ word_is_itself v)) (λ f. f ∙ sym e)
+    (either_way (word_number v == word_number w)))
     (either_way (same_word v w))
 
 -- another word of the same issue that is no less has a greater code
@@ -45,7 +46,8 @@ code_rises from w n a b le other = ⊎_elim
     (either_way (code_number w.code == code_number from.code))
 
 -- a table that attempts nothing at an inactive word
-attempts_tell : (w to : SlotState) (id : Speculation) (table : Code → Act) → table Inactive ≡ Void → (if w.issue == id.issue then table w.code else Void) ≡ Attempt to → (w.issue ≡ id.issue) × (1 ≤ code_number w.code)
+attempts_tell : (w to : SlotState) (id : Speculation) (table : Code → Act) → table Inactive ≡ Void → (if w.issue == id.issue then table w.code else Void) ≡ Attempt to
+    → (w.issue ≡ id.issue) × (1 ≤ code_number w.code)
 attempts_tell w to id table none e = ⊎_elim
     (λ (t : (w.issue == id.issue) ≡ true). (same_number w.issue id.issue t, go w.code (subst (λ b. (if b then table w.code else Void) ≡ Attempt to) t e)))
     (λ (f : (w.issue == id.issue) ≡ false). absurd (cc (subst (λ b. (if b then table w.code else Void) ≡ Attempt to) f e)))

@@ -18,10 +18,13 @@ asked_now n i table mine yours told = ⊎_elim
 
 module _ (h : List Deed) (c : ℕ) (id : Speculation) (w : SlotState) (mine : Bool) (is : w ≡ word_at id.slot h) (told : id.issue ≡ issue id.slot h → mine ≡ is_among c (callers id h)) where
   pub speculate_reads : speculate_at w id mine ≡ speculate_at (word_at id.slot h) id (is_among c (callers id h))
-  speculate_reads = ap (λ (x : SlotState). speculate_at x id mine) is ∙ asked_now (issue id.slot h) id.issue (λ b. speculate_act (issue id.slot h) b (word_at id.slot h).code) mine (is_among c (callers id h)) told
+  speculate_reads = ap (λ (x : SlotState). speculate_at x id mine) is ∙ asked_now (issue id.slot h) id.issue (λ b. speculate_act (issue id.slot h) b (word_at id.slot h).code)
+      mine (is_among c (callers id h)) told
 
   pub commit_reads : commit_at w id mine ≡ commit_at (word_at id.slot h) id (is_among c (callers id h))
-  commit_reads = ap (λ (x : SlotState). commit_at x id mine) is ∙ asked_now (issue id.slot h) id.issue (λ b. commit_act (issue id.slot h) b (word_at id.slot h).code) mine (is_among c (callers id h)) told
+  commit_reads = ap (λ (x : SlotState). commit_at x id mine) is ∙ asked_now (issue id.slot h) id.issue (λ b. commit_act (issue id.slot h) b (word_at id.slot h).code) mine
+      (is_among c (callers id h)) told
 
   pub discard_reads : discard_at w id mine ≡ discard_at (word_at id.slot h) id (is_among c (callers id h))
-  discard_reads = ap (λ (x : SlotState). discard_at x id mine) is ∙ asked_now (issue id.slot h) id.issue (λ b. discard_act (issue id.slot h) b (word_at id.slot h).code) mine (is_among c (callers id h)) told
+  discard_reads = ap (λ (x : SlotState). discard_at x id mine) is ∙ asked_now (issue id.slot h) id.issue (λ b. discard_act (issue id.slot h) b (word_at id.slot h).code) mine
+      (is_among c (callers id h)) told

@@ -41,7 +41,8 @@ pub less : (n : ℕ) → 1 ≤ n → (j : ℕ) × (suc j ≡ n)
 less zero le = absurd (omega arith)
 less (suc j) le = (j, refl)
 
-module _ (shape : ℕ → Option Shape) (k : Config) (c : ℕ) (h : List Deed) (at : IsAtRest k c h) (some : 1 ≤ k.nspec) (me : Caller) (counts : SpareCounts (seals c h) me.takes me.spare) (unsealed : me.spare ≢ spare.Sealed) where
+module _ (shape : ℕ → Option Shape) (k : Config) (c : ℕ) (h : List Deed) (at : IsAtRest k c h) (some : 1 ≤ k.nspec) (me : Caller)
+    (counts : SpareCounts (seals c h) me.takes me.spare) (unsealed : me.spare ≢ spare.Sealed) where
   -- each call's steps, within its bound
   runs_whole : (o : CpuOp) → runs shape k c (op_bound k o) (begins me o) h None ≡ whole (whole_cpu shape k c (idle me) h o)
   runs_whole (cpu_op.Trace r) = trace_alone shape k c h me r
@@ -69,7 +70,8 @@ module _ (shape : ℕ → Option Shape) (st : PlayState) (side : ConsumerSide) w
   -- a take finds a batch exactly where one was sealed that was not taken
   take_leads : (c : ℕ) (me : Caller) (place : Spare) → SpareCounts (seals c st.deeds) me.takes place → place ≢ spare.Sealed
       → Clears shape st 0 st.deeds (takes_at st.config st.deeds side st.callers c me place)
-      (if nat_lt me.takes (seals c st.deeds) then record { list = st.deeds; callers = slice_set st.callers c (record me { spare = spare.Out; takes = me.takes + 1 }); answer = took me.takes c st.deeds }
+      (if nat_lt me.takes (seals c st.deeds) then record
+      { list = st.deeds; callers = slice_set st.callers c (record me { spare = spare.Out; takes = me.takes + 1 }); answer = took me.takes c st.deeds }
       else record { list = st.deeds; callers = st.callers; answer = answer.TookNone })
   take_leads c me spare.InHand n u = let no : nat_lt me.takes (seals c st.deeds) ≡ false = grind (arith, nat_tests) in rw no (clear_ended shape st 0 st.deeds side st.callers [] answer.TookNone)
   take_leads c me spare.Sealed n u = absurd (u refl)
@@ -104,7 +106,8 @@ module _ (shape : ℕ → Option Shape) (st : PlayState) (ok : IsCoherent shape 
       let count = ok.count in
       let there : c < length st.callers = omega arith in
       let rest : IsAtRest st.config c st.deeds = record { sound = ok.legal.0; rests = ok.rests; still = still.0 } in
-      call_alone shape c st there o (op_bound st.config o) n _ le (runs_whole shape st.config c st.deeds rest (set_up st.config ok.ranges).1 me stands.counts (none_sealed me.spare me.flight none stands.pushes) o)
+      call_alone shape c st there o (op_bound st.config o) n _ le
+      (runs_whole shape st.config c st.deeds rest (set_up st.config ok.ranges).1 me stands.counts (none_sealed me.spare me.flight none stands.pushes) o)
       ∙ ap (λ (x : Caller). record { state = behind_cpu c (whole_cpu shape st.config c x st.deeds o) st; answer = Some (whole_cpu shape st.config c x st.deeds o).answer }) is_idle
 
   -- the steps of a call of the consumer
@@ -112,7 +115,8 @@ module _ (shape : ℕ → Option Shape) (st : PlayState) (ok : IsCoherent shape 
   begun_side o = record { flight = Some (consumer.Begun o); steps = 0 }
 
   one_step : (o : ConsumerOp) → Clears shape st 0 st.deeds (consumer_begun st.config st.deeds (begun_side o) st.callers o) (consumer_call shape o st)
-      → (n : ℕ) → 1 ≤ n → on_to_end shape n actor.Consumer (begin_consumer o st) None ≡ record { state = behind_consumer (consumer_call shape o st) st; answer = Some (consumer_call shape o st).answer }
+      → (n : ℕ) → 1 ≤ n → on_to_end shape n actor.Consumer (begin_consumer o st) None
+      ≡ record { state = behind_consumer (consumer_call shape o st) st; answer = Some (consumer_call shape o st).answer }
   one_step o l zero le = absurd (omega arith)
   one_step o l (suc n) le = let more : 0 ≤ n = omega arith in (clear_more shape st 0 n _ _ _ more l).is
 
@@ -124,7 +128,8 @@ module _ (shape : ℕ → Option Shape) (st : PlayState) (ok : IsCoherent shape 
       let me : Caller = the_caller st.callers c in
       let stands : CallerStands st.config c st.deeds me = ok.stands c apart.0 in
       one_step (consumer_op.Take c) (take_leads shape st (begun_side (consumer_op.Take c)) c me me.spare stands.counts (none_sealed me.spare me.flight apart.1 stands.pushes)) n le
-  consumer_whole (consumer_op.GiveBack c) n apart le = one_step (consumer_op.GiveBack c) (give_leads shape st (begun_side (consumer_op.GiveBack c)) c (the_caller st.callers c) (the_caller st.callers c).spare) n le
+  consumer_whole (consumer_op.GiveBack c) n apart le =
+      one_step (consumer_op.GiveBack c) (give_leads shape st (begun_side (consumer_op.GiveBack c)) c (the_caller st.callers c) (the_caller st.callers c).spare) n le
   consumer_whole consumer_op.Clean n apart le = go n le
     where
       i : (i : ℕ) × (suc i ≡ st.config.cpus)
@@ -133,20 +138,27 @@ module _ (shape : ℕ → Option Shape) (st : PlayState) (ok : IsCoherent shape 
       j : (j : ℕ) × (suc j ≡ st.config.nspec)
       j = less st.config.nspec (set_up st.config ok.ranges).1
 
-      go : (n : ℕ) → st.config.nspec * (st.config.cpus + 2) ≤ n → on_to_end shape n actor.Consumer (begin_consumer consumer_op.Clean st) None ≡ record { state = behind_consumer (consumer_call shape consumer_op.Clean st) st; answer = Some (consumer_call shape consumer_op.Clean st).answer }
+      go : (n : ℕ) → st.config.nspec * (st.config.cpus + 2) ≤ n
+          → on_to_end shape n actor.Consumer (begin_consumer consumer_op.Clean st) None
+          ≡ record { state = behind_consumer (consumer_call shape consumer_op.Clean st) st; answer = Some (consumer_call shape consumer_op.Clean st).answer }
       go n le =
           let most : steps_for st.config.cpus st.config.nspec ≤ n = let e = steps_of st.config.cpus st.config.nspec in omega arith in
           let all : suc (zero + j.0) ≡ st.config.nspec = let e = j.1 in omega arith in
-          at n (subst (λ m. steps_for st.config.cpus m ≤ n) (sym j.1) most) (clean_leads shape st st.callers st.deeds record { sound = ok.legal.0; rests = ok.rests } i.0 i.1 j.0 zero (begun_side consumer_op.Clean) all)
+          at n (subst (λ m. steps_for st.config.cpus m ≤ n) (sym j.1) most)
+          (clean_leads shape st st.callers st.deeds record { sound = ok.legal.0; rests = ok.rests } i.0 i.1 j.0 zero (begun_side consumer_op.Clean) all)
         where
           at : (n : ℕ) → suc (suc (plus st.config.cpus (steps_for st.config.cpus j.0))) ≤ n
-              → Clears shape st (suc (plus st.config.cpus (steps_for st.config.cpus j.0))) st.deeds (consumer_begun st.config st.deeds (begun_side consumer_op.Clean) st.callers consumer_op.Clean) (consumer_call shape consumer_op.Clean st)
-              → on_to_end shape n actor.Consumer (begin_consumer consumer_op.Clean st) None ≡ record { state = behind_consumer (consumer_call shape consumer_op.Clean st) st; answer = Some (consumer_call shape consumer_op.Clean st).answer }
+              → Clears shape st (suc (plus st.config.cpus (steps_for st.config.cpus j.0))) st.deeds
+              (consumer_begun st.config st.deeds (begun_side consumer_op.Clean) st.callers consumer_op.Clean) (consumer_call shape consumer_op.Clean st)
+              → on_to_end shape n actor.Consumer (begin_consumer consumer_op.Clean st) None
+              ≡ record { state = behind_consumer (consumer_call shape consumer_op.Clean st) st; answer = Some (consumer_call shape consumer_op.Clean st).answer }
           at zero le l = absurd (omega arith)
           at (suc n) le l = let less : suc (plus st.config.cpus (steps_for st.config.cpus j.0)) ≤ n = omega arith in (clear_more shape st _ n _ _ _ less l).is
   consumer_whole consumer_op.Stop n apart le = one_step consumer_op.Stop (stop_leads (halted st.deeds)) n le
     where
-      stop_leads : (b : Bool) → Clears shape st 0 st.deeds (if b then stops st.config st.deeds (begun_side consumer_op.Stop) st.callers [] answer.StopDone else stops st.config st.deeds (begun_side consumer_op.Stop) st.callers (Halt ∷ []) answer.StopDone)
+      stop_leads : (b : Bool) → Clears shape st 0 st.deeds
+          (if b then stops st.config st.deeds (begun_side consumer_op.Stop) st.callers [] answer.StopDone else stops st.config st.deeds (begun_side consumer_op.Stop)
+          st.callers (Halt ∷ []) answer.StopDone)
           record { list = if b then st.deeds else Halt ∷ st.deeds; callers = st.callers; answer = answer.StopDone }
       stop_leads true = clear_ended shape st 0 st.deeds (begun_side consumer_op.Stop) st.callers [] answer.StopDone
       stop_leads false = clear_ended shape st 0 st.deeds (begun_side consumer_op.Stop) st.callers (Halt ∷ []) answer.StopDone

@@ -1,6 +1,7 @@
 -- A clean that runs alone.
 use Prim.Native.Nat.{zero, suc}
-use Rattle.std.proofs.Common.{◌≡◌, ◌≤◌, ◌<◌, ◌+◌, inl, inr, ℕ, Bool, true, false, not, ◌&&◌, ◌==◌, List, [], ◌∷◌, ◌++◌, Option, Some, None, is_none, if◌then◌else◌, refl, sym, ap, ◌∙◌, subst, ⊎_elim, arith, true≢false}
+use Rattle.std.proofs.Common.{◌≡◌, ◌≤◌, ◌<◌, ◌+◌, inl, inr, ℕ, Bool, true, false, not, ◌&&◌, ◌==◌, List, []}
+use Rattle.std.proofs.Common.{◌∷◌, ◌++◌, Option, Some, None, is_none, if◌then◌else◌, refl, sym, ap, ◌∙◌, subst, ⊎_elim, arith, true≢false}
 use Rattle.std.specs.Prelude.{nat_lt}
 use Rattle.std.proofs.lemmas.Bool.Decides.{nat_tests}
 use Rattle.dspec_record.specs.declared.field.Shape.{Shape}
@@ -20,7 +21,7 @@ use Rattle.dspec_play.specs.declared.flight.ConsumerSide.{ConsumerSide}
 use Rattle.dspec_deeds.specs.History.{issue, present, verdict, is_undecided, solo, settled, is_busy, owed, releaser, ack, word_at}
 use Rattle.dspec_deeds.specs.Legal.{IsSound}
 use Rattle.dspec_play.specs.Coherent.{PlayState}
-use Rattle.dspec_play.specs.Play.{Cleaned, consumer_step, keeps_on, stops, next_slot, loads_slot, loads_ack, reaps, same_word}
+use Rattle.dspec_play.specs.Play.{ConsumerStep, consumer_step, keeps_on, stops, next_slot, loads_slot, loads_ack, reaps, same_word}
 use Rattle.dspec_play.specs.Turns.{Stepped, step, on_to_end}
 use Rattle.dspec_play.specs.Whole.{WholeConsumer, all_settled, is_reapable, cleaned_at, cleaned_up, releases_up}
 use Rattle.dspec_deeds.proofs.TestLemmas.{either_way, off, and_tells, number_is_itself}
@@ -38,7 +39,8 @@ module _ (shape : ℕ → Option Shape) where
   ended_stays zero a st r = refl
   ended_stays (suc n) a st r = refl
 
-  more_steps : (n m : ℕ) (a : Actor) (st : PlayState) (r : Option Answer) (to : PlayState) (x : Answer) → n ≤ m → on_to_end shape n a st r ≡ record { state = to; answer = Some x } → on_to_end shape m a st r ≡ record { state = to; answer = Some x }
+  more_steps : (n m : ℕ) (a : Actor) (st : PlayState) (r : Option Answer) (to : PlayState) (x : Answer) → n ≤ m
+      → on_to_end shape n a st r ≡ record { state = to; answer = Some x } → on_to_end shape m a st r ≡ record { state = to; answer = Some x }
   more_steps zero m a st r to x le e =
       let at : r ≡ Some x = ap (λ (l : Stepped). l.answer) e in
       ap (on_to_end shape m a st) at ∙ (ended_stays m a st x ∙ (sym (λ i. record { state = st; answer = at i }) ∙ e))
@@ -59,7 +61,7 @@ module _ (shape : ℕ → Option Shape) (st : PlayState) where
   left_by w = record { state = stands_at at_rest w.callers w.list; answer = Some w.answer }
 
   -- behind a step, so many more steps of the call lead to what the whole call leaves
-  pub record Clears (n : ℕ) (h : List Deed) (m : Cleaned) (w : WholeConsumer) : Type 0 where
+  pub record Clears (n : ℕ) (h : List Deed) (m : ConsumerStep) (w : WholeConsumer) : Type 0 where
     pub is : on_to_end shape n actor.Consumer (stands_at m.side m.callers (m.deeds ++ h)) m.answer ≡ left_by w
 
   pub clear_ended : (n : ℕ) (h : List Deed) (side : ConsumerSide) (all : List Caller) (ds : List Deed) (a : Answer)
@@ -73,18 +75,18 @@ module _ (shape : ℕ → Option Shape) (st : PlayState) where
       → Clears n (ds ++ h) (consumer_step st.config (ds ++ h) (later_side side f) all f) w → Clears (suc n) h (keeps_on st.config h side all ds f) w
   clear_goes n h side all ds f w l = record { is = l.is }
 
-  pub clear_more : (n m : ℕ) (h : List Deed) (to : Cleaned) (w : WholeConsumer) → n ≤ m → Clears n h to w → Clears m h to w
+  pub clear_more : (n m : ℕ) (h : List Deed) (to : ConsumerStep) (w : WholeConsumer) → n ≤ m → Clears n h to w → Clears m h to w
   clear_more n m h to w le l = record { is = more_steps shape n m actor.Consumer _ _ _ _ le l.is }
 
-  pub clear_true : (n : ℕ) (h : List Deed) (b : Bool) (x y : Cleaned) (w : WholeConsumer) → b ≡ true → Clears n h x w → Clears n h (if b then x else y) w
+  pub clear_true : (n : ℕ) (h : List Deed) (b : Bool) (x y : ConsumerStep) (w : WholeConsumer) → b ≡ true → Clears n h x w → Clears n h (if b then x else y) w
   clear_true n h true x y w e l = l
   clear_true n h false x y w e l = absurd (true≢false (sym e))
 
-  pub clear_false : (n : ℕ) (h : List Deed) (b : Bool) (x y : Cleaned) (w : WholeConsumer) → b ≡ false → Clears n h y w → Clears n h (if b then x else y) w
+  pub clear_false : (n : ℕ) (h : List Deed) (b : Bool) (x y : ConsumerStep) (w : WholeConsumer) → b ≡ false → Clears n h y w → Clears n h (if b then x else y) w
   clear_false n h true x y w e l = absurd (true≢false e)
   clear_false n h false x y w e l = l
 
-  pub clear_test : (n : ℕ) (h : List Deed) (b : Bool) (x y : Cleaned) (w : WholeConsumer) → (b ≡ true → Clears n h x w) → (b ≡ false → Clears n h y w) → Clears n h (if b then x else y) w
+  pub clear_test : (n : ℕ) (h : List Deed) (b : Bool) (x y : ConsumerStep) (w : WholeConsumer) → (b ≡ true → Clears n h x w) → (b ≡ false → Clears n h y w) → Clears n h (if b then x else y) w
   clear_test n h true x y w t f = t refl
   clear_test n h false x y w t f = f refl
 
@@ -95,7 +97,8 @@ assoc false y z = refl
 module _ (k : Config) where
   -- where a word waits, its slot can be released exactly once every CPU has settled
   reapable_is : (s : ℕ) (h : List Deed) → IsQuiet k h → is_reapable k s h ≡ (awaits (word_at s h).code && all_settled k k.cpus (present s h) h)
-  reapable_is s h q = sym (assoc (is_busy s h) (is_none (solo (present s h) h)) (all_settled k k.cpus (present s h) h)) ∙ ap (λ b. b && all_settled k k.cpus (present s h) h) (sym (awaits_is k s h q.sound q.rests))
+  reapable_is s h q = sym (assoc (is_busy s h) (is_none (solo (present s h) h)) (all_settled k k.cpus (present s h) h)) ∙ ap (λ b. b && all_settled k k.cpus (present s h) h)
+      (sym (awaits_is k s h q.sound q.rests))
 
   pub each_settled : (n : ℕ) (id : Speculation) (h : List Deed) → all_settled k n id h ≡ true → (c : ℕ) → c < n → settled c id h ≡ true
   each_settled zero id h e c lt = absurd (omega arith)
@@ -108,7 +111,8 @@ module _ (k : Config) where
 
   -- one CPU's settlement that is missing
   one_missing : (n j : ℕ) (id : Speculation) (h : List Deed) → settled n id h ≡ false → all_settled k (suc n + j) id h ≡ false
-  one_missing n zero id h e = let same : suc n + 0 ≡ suc n = omega arith in ap (λ m. all_settled k m id h) same ∙ (ap (λ b. all_settled k n id h && b) e ∙ Rattle.dspec_deeds.proofs.TestLemmas.and_false (all_settled k n id h))
+  one_missing n zero id h e = let same : suc n + 0 ≡ suc n =
+      omega arith in ap (λ m. all_settled k m id h) same ∙ (ap (λ b. all_settled k n id h && b) e ∙ Rattle.dspec_deeds.proofs.TestLemmas.and_false (all_settled k n id h))
   one_missing n (suc j) id h e = let up : suc n + suc j ≡ suc (suc n + j) = omega arith in ap (λ m. all_settled k m id h) up ∙ ap (λ b. b && settled (suc n + j) id h) (one_missing n j id h e)
 
   -- a slot that can be released may be, by the consumer
@@ -117,7 +121,16 @@ module _ (k : Config) where
       let a = and_tells (is_busy s h) _ e in
       let b = and_tells (is_none (solo (present s h) h)) _ a.1 in
       let alone = none_is (solo (present s h) h) b.0 in
-      record { sound = (q.sound, (inl q.rests, ((unnot (is_undecided (verdict (present s h) h)) a.0, inr (each_settled k.cpus (present s h) h b.1)), λ c by. absurd (consumer_no c (ap releaser (sym alone) ∙ by))))); rests = refl }
+      record {
+        sound = (
+          q.sound,
+          (
+            inl q.rests,
+            ((unnot (is_undecided (verdict (present s h) h)) a.0, inr (each_settled k.cpus (present s h) h b.1)), λ c by. absurd (consumer_no c (ap releaser (sym alone) ∙ by))),
+          ),
+        );
+        rests = refl;
+      }
     where
       unnot : (b : Bool) → not b ≡ true → b ≡ false
       unnot true e = absurd (true≢false (sym e))
@@ -176,7 +189,8 @@ module _ (shape : ℕ → Option Shape) (st : PlayState) (all : List Caller) (h 
       (subst (λ (w : WholeConsumer). Clears shape st f (upto n) (stops st.config (upto n) side all ds (answer.Cleaned count)) w) left (clear_ended shape st f (upto n) side all ds _))
 
   next_more : (j n : ℕ) → suc n < st.config.nspec
-      → ((side : ConsumerSide) → Clears shape st (suc (plus st.config.cpus (steps_for st.config.cpus j))) (upto (suc n)) (loads_slot st.config (upto (suc n)) side all (suc (suc n)) (releases_up st.config (suc n) h)) cleaned)
+      → ((side : ConsumerSide) → Clears shape st (suc (plus st.config.cpus (steps_for st.config.cpus j))) (upto (suc n))
+      (loads_slot st.config (upto (suc n)) side all (suc (suc n)) (releases_up st.config (suc n) h)) cleaned)
       → NextLeads (suc j) n
   next_more j n more rest f le side ds count list is =
       let other : (suc n == st.config.nspec) ≡ false = grind (arith, nat_tests) in
@@ -184,22 +198,27 @@ module _ (shape : ℕ → Option Shape) (st : PlayState) (all : List Caller) (h 
       clear_more shape st (suc (suc (plus st.config.cpus (steps_for st.config.cpus j)))) f _ _ _ le
       (clear_false shape st _ _ (suc n == st.config.nspec) _ _ _ other
       (clear_goes shape st (suc (plus st.config.cpus (steps_for st.config.cpus j))) (upto n) side all ds _ _
-      (subst (λ (p : List Deed × ℕ × ℕ). Clears shape st (suc (plus st.config.cpus (steps_for st.config.cpus j))) p.0 (loads_slot st.config p.0 (later_side shape st side (consumer.CleanLoad p.1 p.2)) all p.1 p.2) cleaned)
+      (subst (λ (p : List Deed × ℕ × ℕ). Clears shape st (suc (plus st.config.cpus (steps_for st.config.cpus j))) p.0
+      (loads_slot st.config p.0 (later_side shape st side (consumer.CleanLoad p.1 p.2)) all p.1 p.2) cleaned)
       (λ i. (sym list i, next i, sym is i)) (rest (later_side shape st side (consumer.CleanLoad (suc (suc n)) (releases_up st.config (suc n) h)))))))
 
   module _ (j n : ℕ) (next : NextLeads j n) where
-    passes : (f : ℕ) → steps_for st.config.cpus j ≤ f → (side : ConsumerSide) → is_reapable st.config (suc n) (upto n) ≡ false → Clears shape st f (upto n) (next_slot st.config (upto n) side all (suc n) [] (releases_up st.config n h)) cleaned
+    passes : (f : ℕ) → steps_for st.config.cpus j ≤ f → (side : ConsumerSide) → is_reapable st.config (suc n) (upto n) ≡ false
+        → Clears shape st f (upto n) (next_slot st.config (upto n) side all (suc n) [] (releases_up st.config n h)) cleaned
     passes f le side e =
         let none : releases_up st.config n h ≡ releases_up st.config n h + 0 = omega arith in
         next f le side [] _ (sym (ap (λ (b : Bool). if b then Release (suc n) ∷ upto n else upto n) e)) (none ∙ sym (ap (λ (b : Bool). releases_up st.config n h + (if b then 1 else 0)) e))
 
-    reap_leads : (side : ConsumerSide) → is_reapable st.config (suc n) (upto n) ≡ true → Clears shape st (steps_for st.config.cpus j) (upto n) (reaps st.config (upto n) side all (suc n) (word_at (suc n) (upto n)) (releases_up st.config n h)) cleaned
+    reap_leads : (side : ConsumerSide) → is_reapable st.config (suc n) (upto n) ≡ true
+        → Clears shape st (steps_for st.config.cpus j) (upto n) (reaps st.config (upto n) side all (suc n) (word_at (suc n) (upto n)) (releases_up st.config n h)) cleaned
     reap_leads side e =
         clear_true shape st _ _ (same_word (word_at (suc n) (upto n)) (word_at (suc n) (upto n))) _ _ _ (same_word_is (word_at (suc n) (upto n)))
-        (next (steps_for st.config.cpus j) (omega arith) side (Release (suc n) ∷ []) _ (sym (ap (λ (b : Bool). if b then Release (suc n) ∷ upto n else upto n) e)) (sym (ap (λ (b : Bool). releases_up st.config n h + (if b then 1 else 0)) e)))
+        (next (steps_for st.config.cpus j) (omega arith) side (Release (suc n) ∷ []) _ (sym (ap (λ (b : Bool). if b then Release (suc n) ∷ upto n else upto n) e))
+        (sym (ap (λ (b : Bool). releases_up st.config n h + (if b then 1 else 0)) e)))
 
     reapable_by : (b : Bool) → awaits (word_at (suc n) (upto n)).code ≡ true → all_settled st.config st.config.cpus (present (suc n) (upto n)) (upto n) ≡ b → is_reapable st.config (suc n) (upto n) ≡ b
-    reapable_by b waits e = reapable_is st.config (suc n) (upto n) (cleaned_up_rests st.config n h q) ∙ (ap (λ x. x && all_settled st.config st.config.cpus (present (suc n) (upto n)) (upto n)) waits ∙ e)
+    reapable_by b waits e = reapable_is st.config (suc n) (upto n) (cleaned_up_rests st.config n h q)
+        ∙ (ap (λ x. x && all_settled st.config st.config.cpus (present (suc n) (upto n)) (upto n)) waits ∙ e)
 
     abbrev acked_by : ℕ → Bool
     acked_by a = nat_lt (issue (suc n) (upto n)) (ack a (suc n) (upto n))
@@ -237,22 +256,29 @@ module _ (shape : ℕ → Option Shape) (st : PlayState) (all : List Caller) (h 
         clear_test shape st _ _ (acked_by a) _ _ _
         (λ e. clear_false shape st _ _ (a + 1 == st.config.cpus) _ _ _ other
         (clear_goes shape st (suc (plus i (steps_for st.config.cpus j))) (upto n) side all [] _ _
-        (subst (λ m. Clears shape st (suc (plus i (steps_for st.config.cpus j))) (upto n) (loads_ack st.config (upto n) (later_side shape st side (consumer.CleanAck (suc n) (word_at (suc n) (upto n)) m (releases_up st.config n h))) all (suc n) (word_at (suc n) (upto n)) m (releases_up st.config n h)) cleaned) next
+        (subst (λ m. Clears shape st (suc (plus i (steps_for st.config.cpus j))) (upto n)
+        (loads_ack st.config (upto n) (later_side shape st side (consumer.CleanAck (suc n) (word_at (suc n) (upto n)) m (releases_up st.config n h))) all (suc n)
+        (word_at (suc n) (upto n)) m (releases_up st.config n h)) cleaned) next
         (ack_leads i (suc a) (later_side shape st side (consumer.CleanAck (suc n) (word_at (suc n) (upto n)) (suc a) (releases_up st.config n h))) waits rest (one_more a below e)))))
         (λ e. passes _ (enough (suc i)) side (reapable_by false waits (is_missing (suc i) a count e)))
 
     -- a slot, from the load of its word
-    slot_leads : (side : ConsumerSide) → Clears shape st (suc (plus st.config.cpus (steps_for st.config.cpus j))) (upto n) (loads_slot st.config (upto n) side all (suc n) (releases_up st.config n h)) cleaned
+    slot_leads : (side : ConsumerSide) → Clears shape st (suc (plus st.config.cpus (steps_for st.config.cpus j))) (upto n)
+        (loads_slot st.config (upto n) side all (suc n) (releases_up st.config n h)) cleaned
     slot_leads side =
         let rest : zero + suc i0 ≡ st.config.cpus = omega arith in
         clear_test shape st _ _ (awaits (word_at (suc n) (upto n)).code) _ _ _
         (λ waits. clear_goes shape st (plus st.config.cpus (steps_for st.config.cpus j)) (upto n) side all [] _ _
-        (subst (λ m. Clears shape st (plus m (steps_for st.config.cpus j)) (upto n) (loads_ack st.config (upto n) (later_side shape st side (consumer.CleanAck (suc n) (word_at (suc n) (upto n)) 0 (releases_up st.config n h))) all (suc n) (word_at (suc n) (upto n)) 0 (releases_up st.config n h)) cleaned) cpus
+        (subst (λ m. Clears shape st (plus m (steps_for st.config.cpus j)) (upto n)
+        (loads_ack st.config (upto n) (later_side shape st side (consumer.CleanAck (suc n) (word_at (suc n) (upto n)) 0 (releases_up st.config n h))) all (suc n)
+        (word_at (suc n) (upto n)) 0 (releases_up st.config n h)) cleaned) cpus
         (ack_leads i0 zero (later_side shape st side (consumer.CleanAck (suc n) (word_at (suc n) (upto n)) 0 (releases_up st.config n h))) waits rest refl)))
-        (λ idle. passes _ (enough st.config.cpus) side (reapable_is st.config (suc n) (upto n) (cleaned_up_rests st.config n h q) ∙ ap (λ x. x && all_settled st.config st.config.cpus (present (suc n) (upto n)) (upto n)) idle))
+        (λ idle. passes _ (enough st.config.cpus) side
+        (reapable_is st.config (suc n) (upto n) (cleaned_up_rests st.config n h q) ∙ ap (λ x. x && all_settled st.config st.config.cpus (present (suc n) (upto n)) (upto n)) idle))
 
   -- the slots from one to the last
-  pub clean_leads : (j n : ℕ) (side : ConsumerSide) → suc (n + j) ≡ st.config.nspec → Clears shape st (suc (plus st.config.cpus (steps_for st.config.cpus j))) (upto n) (loads_slot st.config (upto n) side all (suc n) (releases_up st.config n h)) cleaned
+  pub clean_leads : (j n : ℕ) (side : ConsumerSide) → suc (n + j) ≡ st.config.nspec
+      → Clears shape st (suc (plus st.config.cpus (steps_for st.config.cpus j))) (upto n) (loads_slot st.config (upto n) side all (suc n) (releases_up st.config n h)) cleaned
   clean_leads zero n side last = let at_last : suc n ≡ st.config.nspec = omega arith in slot_leads zero n (next_last n at_last) side
   clean_leads (suc j) n side last =
       let more : suc n < st.config.nspec = omega arith in

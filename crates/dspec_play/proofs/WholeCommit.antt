@@ -20,7 +20,7 @@ use Rattle.dspec_play.specs.declared.flight.Caller.{Caller}
 use Rattle.dspec_play.specs.declared.flight.CpuFlight.TheVariants as cpu
 use Rattle.dspec_deeds.specs.History.{halted, in_range, is_among, callers, is_open, issue, word_at, is_sole, is_sole_or_none}
 use Rattle.dspec_deeds.specs.Legal.{IsSound}
-use Rattle.dspec_play.specs.Play.{is_worn, shown_commit, shown_discard, is_alone, is_release, same_word, goes_on, ends}
+use Rattle.dspec_play.specs.Play.{is_worn, shown_commit, shown_discard, is_alone, is_release, same_word, call_goes_on, ends}
 use Rattle.dspec_deeds.specs.Settling.{commit_fate, discard_fate}
 use Rattle.dspec_deeds.specs.Told.{answer_of}
 use Rattle.dspec_play.specs.Whole.{WholeCpu, whole_cpu, enters}
@@ -67,7 +67,8 @@ word_releases i true = refl
 word_releases i false = refl
 
 module _ (shape : ℕ → Option Shape) (k : Config) (c : ℕ) (h : List Deed) (sound : IsSound k h) (some : 1 ≤ k.nspec) (id : Speculation) where
-  told_ended : (n : ℕ) (at : List Deed) (me : Caller) (ds : List Deed) (f : DecideFate) → Leads shape k c n at (ends shape k c at me ds (answer_of f)) (enters shape k c (idle me) (ds ++ at) (answer_of f))
+  told_ended : (n : ℕ) (at : List Deed) (me : Caller) (ds : List Deed) (f : DecideFate)
+      → Leads shape k c n at (ends shape k c at me ds (answer_of f)) (enters shape k c (idle me) (ds ++ at) (answer_of f))
   told_ended n at me ds f = ended shape k c n at me ds _
 
   -- commit
@@ -83,9 +84,11 @@ module _ (shape : ℕ → Option Shape) (k : Config) (c : ℕ) (h : List Deed) (
   commits = commit_at (word_at id.slot h) id (is_among c (callers id h))
 
   committed_leads : (me : Caller) (b : Bool) → b ≡ is_sole_or_none c (callers id h)
-      → Leads shape k c 1 h (if b then goes_on shape k c h me (Commit c id (commit_fate shape k c h id) ∷ []) (cpu.CommitRelease id (commit_fate shape k c h id)) else ends shape k c h me (Commit c id (commit_fate shape k c h id) ∷ []) (answer_of (commit_fate shape k c h id))) (commit_whole me)
+      → Leads shape k c 1 h (if b then call_goes_on shape k c h me (Commit c id (commit_fate shape k c h id) ∷ [])
+      (cpu.CommitRelease id (commit_fate shape k c h id)) else ends shape k c h me (Commit c id (commit_fate shape k c h id) ∷ []) (answer_of (commit_fate shape k c h id))) (commit_whole me)
   committed_leads me b is = subst
-      (λ (t : Bool). Leads shape k c 1 h (if b then goes_on shape k c h me (Commit c id (commit_fate shape k c h id) ∷ []) (cpu.CommitRelease id (commit_fate shape k c h id)) else ends shape k c h me (Commit c id (commit_fate shape k c h id) ∷ []) (answer_of (commit_fate shape k c h id)))
+      (λ (t : Bool). Leads shape k c 1 h (if b then call_goes_on shape k c h me (Commit c id (commit_fate shape k c h id) ∷ [])
+      (cpu.CommitRelease id (commit_fate shape k c h id)) else ends shape k c h me (Commit c id (commit_fate shape k c h id) ∷ []) (answer_of (commit_fate shape k c h id)))
       (if t then enters shape k c (idle me) (Release id.slot ∷ Commit c id (commit_fate shape k c h id) ∷ h) (answer_of (commit_fate shape k c h id))
       else enters shape k c (idle me) (Commit c id (commit_fate shape k c h id) ∷ h) (answer_of (commit_fate shape k c h id)))) is
       (both shape k c 1 h b _ _ _ _ (λ t. goes shape k c 0 h me _ _ _ (told_ended 0 _ (later me (cpu.CommitRelease id (commit_fate shape k c h id))) _ _)) (λ f. told_ended 1 h me _ _))
@@ -95,8 +98,10 @@ module _ (shape : ℕ → Option Shape) (k : Config) (c : ℕ) (h : List Deed) (
       (both shape k c 3 h (is_worn k c h) _ _ _ _ (λ t. worn shape k c 3 h me _) (λ f.
       both shape k c 3 h (halted h) _ _ _ _ (λ t. ended shape k c 3 h me _ _) (λ g.
       whole_not shape k c 3 h (is_open id h) _ _ _
-      (λ shut. on_test shape k c 3 h (in_range k id) _ _ _ (λ t. goes shape k c 2 h (begins me (cpu_op.Commit id)) [] _ _ (shut_leads (later (begins me (cpu_op.Commit id)) (cpu.CommitLoad id)) shut commits refl)) (λ u. ended shape k c 3 h me _ _))
-      (λ given. on_true shape k c 3 h (in_range k id) _ _ _ (open_in_range k h id some sound given) (goes shape k c 2 h (begins me (cpu_op.Commit id)) [] _ _ (open_leads (later (begins me (cpu_op.Commit id)) (cpu.CommitLoad id)) given commits refl))))))
+      (λ shut. on_test shape k c 3 h (in_range k id) _ _ _
+      (λ t. goes shape k c 2 h (begins me (cpu_op.Commit id)) [] _ _ (shut_leads (later (begins me (cpu_op.Commit id)) (cpu.CommitLoad id)) shut commits refl)) (λ u. ended shape k c 3 h me _ _))
+      (λ given. on_true shape k c 3 h (in_range k id) _ _ _ (open_in_range k h id some sound given)
+      (goes shape k c 2 h (begins me (cpu_op.Commit id)) [] _ _ (open_leads (later (begins me (cpu_op.Commit id)) (cpu.CommitLoad id)) given commits refl))))))
     where
       never : {P : Type 0} (a : Act) → commits ≡ a → (Decides a → ⊥) → P
       never a e n = absurd (n (subst Decides e (commit_decides _ _ (is_among c (callers id h)) _)))
@@ -110,8 +115,10 @@ module _ (shape : ℕ → Option Shape) (k : Config) (c : ℕ) (h : List Deed) (
       open_leads : (me : Caller) → is_open id h ≡ true → (a : Act) → commits ≡ a → Leads shape k c 2 h (shown_commit shape k c h me id (word_at id.slot h) a) (commit_whole me)
       open_leads me given Void e = off (is_open id h) given (commit_void k h id (is_among c (callers id h)) sound e)
       open_leads me given Granted e = never Granted e (λ n. n)
-      open_leads me given (Attempt to) e = goes shape k c 1 h me [] _ _ (on_true shape k c 1 h (same_word (word_at id.slot h) (word_at id.slot h)) _ _ (commit_whole me) (same_word_is (word_at id.slot h))
-          (committed_leads (later me (cpu.CommitTry id (word_at id.slot h))) (is_alone commits) (ap is_alone (e ∙ ap Attempt (commit_attempt k h id c to sound e).2) ∙ code_alone (issue id.slot h) (is_sole_or_none c (callers id h)))))
+      open_leads me given (Attempt to) e = goes shape k c 1 h me [] _ _
+          (on_true shape k c 1 h (same_word (word_at id.slot h) (word_at id.slot h)) _ _ (commit_whole me) (same_word_is (word_at id.slot h))
+          (committed_leads (later me (cpu.CommitTry id (word_at id.slot h))) (is_alone commits)
+          (ap is_alone (e ∙ ap Attempt (commit_attempt k h id c to sound e).2) ∙ code_alone (issue id.slot h) (is_sole_or_none c (callers id h)))))
       open_leads me given Idle e = never Idle e (λ n. n)
 
   -- discard
@@ -127,9 +134,11 @@ module _ (shape : ℕ → Option Shape) (k : Config) (c : ℕ) (h : List Deed) (
   discards = discard_at (word_at id.slot h) id (is_among c (callers id h))
 
   discarded_leads : (me : Caller) (b : Bool) → b ≡ is_sole c (callers id h)
-      → Leads shape k c 0 h (if b then ends shape k c h me (Release id.slot ∷ Discard c id (discard_fate shape k c h id) ∷ []) (answer_of (discard_fate shape k c h id)) else ends shape k c h me (Discard c id (discard_fate shape k c h id) ∷ []) (answer_of (discard_fate shape k c h id))) (discard_whole me)
+      → Leads shape k c 0 h (if b then ends shape k c h me (Release id.slot ∷ Discard c id (discard_fate shape k c h id) ∷ [])
+      (answer_of (discard_fate shape k c h id)) else ends shape k c h me (Discard c id (discard_fate shape k c h id) ∷ []) (answer_of (discard_fate shape k c h id))) (discard_whole me)
   discarded_leads me b is = subst
-      (λ (t : Bool). Leads shape k c 0 h (if b then ends shape k c h me (Release id.slot ∷ Discard c id (discard_fate shape k c h id) ∷ []) (answer_of (discard_fate shape k c h id)) else ends shape k c h me (Discard c id (discard_fate shape k c h id) ∷ []) (answer_of (discard_fate shape k c h id)))
+      (λ (t : Bool). Leads shape k c 0 h (if b then ends shape k c h me (Release id.slot ∷ Discard c id (discard_fate shape k c h id) ∷ [])
+      (answer_of (discard_fate shape k c h id)) else ends shape k c h me (Discard c id (discard_fate shape k c h id) ∷ []) (answer_of (discard_fate shape k c h id)))
       (if t then enters shape k c (idle me) (Release id.slot ∷ Discard c id (discard_fate shape k c h id) ∷ h) (answer_of (discard_fate shape k c h id))
       else enters shape k c (idle me) (Discard c id (discard_fate shape k c h id) ∷ h) (answer_of (discard_fate shape k c h id)))) is
       (both shape k c 0 h b _ _ _ _ (λ t. ended shape k c 0 h me _ _) (λ f. ended shape k c 0 h me _ _))
@@ -139,8 +148,11 @@ module _ (shape : ℕ → Option Shape) (k : Config) (c : ℕ) (h : List Deed) (
       (both shape k c 2 h (is_worn k c h) _ _ _ _ (λ t. worn shape k c 2 h me _) (λ f.
       both shape k c 2 h (halted h) _ _ _ _ (λ t. ended shape k c 2 h me _ _) (λ g.
       whole_not shape k c 2 h (is_open id h) _ _ _
-      (λ shut. on_test shape k c 2 h (in_range k id) _ _ _ (λ t. goes shape k c 1 h (begins me (cpu_op.Discard id)) [] _ _ (shut_leads (later (begins me (cpu_op.Discard id)) (cpu.DiscardLoad id)) shut discards refl)) (λ u. ended shape k c 2 h me _ _))
-      (λ given. on_true shape k c 2 h (in_range k id) _ _ _ (open_in_range k h id some sound given) (goes shape k c 1 h (begins me (cpu_op.Discard id)) [] _ _ (open_leads (later (begins me (cpu_op.Discard id)) (cpu.DiscardLoad id)) given discards refl))))))
+      (λ shut. on_test shape k c 2 h (in_range k id) _ _ _
+      (λ t. goes shape k c 1 h (begins me (cpu_op.Discard id)) [] _ _ (shut_leads (later (begins me (cpu_op.Discard id)) (cpu.DiscardLoad id)) shut discards refl))
+      (λ u. ended shape k c 2 h me _ _))
+      (λ given. on_true shape k c 2 h (in_range k id) _ _ _ (open_in_range k h id some sound given)
+      (goes shape k c 1 h (begins me (cpu_op.Discard id)) [] _ _ (open_leads (later (begins me (cpu_op.Discard id)) (cpu.DiscardLoad id)) given discards refl))))))
     where
       never : {P : Type 0} (a : Act) → discards ≡ a → (Decides a → ⊥) → P
       never a e n = absurd (n (subst Decides e (discard_decides _ _ (is_among c (callers id h)) _)))
@@ -154,6 +166,8 @@ module _ (shape : ℕ → Option Shape) (k : Config) (c : ℕ) (h : List Deed) (
       open_leads : (me : Caller) → is_open id h ≡ true → (a : Act) → discards ≡ a → Leads shape k c 1 h (shown_discard shape k c h me id (word_at id.slot h) a) (discard_whole me)
       open_leads me given Void e = off (is_open id h) given (discard_void k h id (is_among c (callers id h)) sound e)
       open_leads me given Granted e = never Granted e (λ n. n)
-      open_leads me given (Attempt to) e = goes shape k c 0 h me [] _ _ (on_true shape k c 0 h (same_word (word_at id.slot h) (word_at id.slot h)) _ _ (discard_whole me) (same_word_is (word_at id.slot h))
-          (discarded_leads (later me (cpu.DiscardTry id (word_at id.slot h))) (is_release discards) (ap is_release (e ∙ ap Attempt (discard_attempt k h id c to sound e).2) ∙ word_releases (issue id.slot h) (is_sole c (callers id h)))))
+      open_leads me given (Attempt to) e = goes shape k c 0 h me [] _ _
+          (on_true shape k c 0 h (same_word (word_at id.slot h) (word_at id.slot h)) _ _ (discard_whole me) (same_word_is (word_at id.slot h))
+          (discarded_leads (later me (cpu.DiscardTry id (word_at id.slot h))) (is_release discards)
+          (ap is_release (e ∙ ap Attempt (discard_attempt k h id c to sound e).2) ∙ word_releases (issue id.slot h) (is_sole c (callers id h)))))
       open_leads me given Idle e = never Idle e (λ n. n)

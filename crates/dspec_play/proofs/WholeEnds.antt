@@ -16,9 +16,9 @@ use Rattle.dspec_play.specs.declared.flight.CpuFlight.{CpuFlight}
 use Rattle.dspec_play.specs.Bounds.{flight_bound, clean_bound}
 use Rattle.dspec_play.specs.Calls.{op_of, consumer_op_of, is_idle}
 use Rattle.dspec_play.specs.Coherent.{StandsCaller, StandsSide, IsCoherent, the_caller, idle_caller}
-use Rattle.dspec_play.specs.Play.{Moved, Cleaned, cpu_step, consumer_step}
+use Rattle.dspec_play.specs.Play.{Moved, ConsumerStep, cpu_step, consumer_step}
 use Rattle.dspec_play.specs.Turns.{Stepped, step_cpu, step_consumer, on_to_end}
-use Rattle.dspec_play.specs.Plays.{Noted, Playing, ended, note, stepped, to_end}
+use Rattle.dspec_play.specs.Plays.{Noted, Playing, ended, with_note, stepped, to_end}
 use Rattle.dspec_deeds.proofs.SetUp.{set_up}
 use Rattle.dspec_play.proofs.Bounded.{cpu_below, clean_below}
 use Rattle.dspec_play.proofs.Coherence.{step_cpu_coherent, step_consumer_coherent}
@@ -47,26 +47,32 @@ module _ (shape : ℕ → Option Shape) where
       go (suc n) = record { last = last; noted = noted; answers = refl; is = is; state = refl }
 
   -- a CPU's call in flight
-  pub cpu_ends_as : (n c : ℕ) (o : CpuOp) (before : List Noted) (p : Playing) (f : CpuFlight) → IsCoherent shape p.state → c < p.state.config.cpus → (the_caller p.state.callers c).flight ≡ Some f → op_of f ≡ o → p.noted ≡ before
-      → flight_bound p.state.config f ≤ n + (the_caller p.state.callers c).steps → EndsAs (actor.Cpu c) (op.Cpu o) before (to_end shape n (actor.Cpu c) p) (on_to_end shape n (actor.Cpu c) p.state None)
+  pub cpu_ends_as : (n c : ℕ) (o : CpuOp) (before : List Noted) (p : Playing) (f : CpuFlight) → IsCoherent shape p.state → c < p.state.config.cpus
+      → (the_caller p.state.callers c).flight ≡ Some f → op_of f ≡ o → p.noted ≡ before
+      → flight_bound p.state.config f ≤ n + (the_caller p.state.callers c).steps
+      → EndsAs (actor.Cpu c) (op.Cpu o) before (to_end shape n (actor.Cpu c) p) (on_to_end shape n (actor.Cpu c) p.state None)
   cpu_ends_as zero c o before p f ok lt is call was most =
-      let low = cpu_below p.state.config c p.state.deeds (the_caller p.state.callers c) (set_up p.state.config ok.ranges).1 f (subst (StandsCaller p.state.config c p.state.deeds (the_caller p.state.callers c)) is (ok.stands c lt).flight) in
+      let low = cpu_below p.state.config c p.state.deeds (the_caller p.state.callers c) (set_up p.state.config ok.ranges).1 f
+      (subst (StandsCaller p.state.config c p.state.deeds (the_caller p.state.callers c)) is (ok.stands c lt).flight) in
       absurd (omega arith)
   cpu_ends_as (suc n) c o before p f ok lt is call was most =
-      subst (λ (b : Bool). EndsAs (actor.Cpu c) (op.Cpu o) before (if b then p else to_end shape n (actor.Cpu c) (stepped shape (actor.Cpu c) p)) (on_to_end shape (suc n) (actor.Cpu c) p.state None)) (sym (ap (λ (x : Option CpuFlight). is_none x) is))
+      subst (λ (b : Bool). EndsAs (actor.Cpu c) (op.Cpu o) before (if b then p else to_end shape n (actor.Cpu c) (stepped shape (actor.Cpu c) p))
+      (on_to_end shape (suc n) (actor.Cpu c) p.state None)) (sym (ap (λ (x : Option CpuFlight). is_none x) is))
       (subst (λ (q : Playing). EndsAs (actor.Cpu c) (op.Cpu o) before (to_end shape n (actor.Cpu c) q) (on_to_end shape (suc n) (actor.Cpu c) p.state None)) (sym (cpu_stepped_is shape c p f is))
-      (subst (λ x. EndsAs (actor.Cpu c) (op.Cpu o) before (to_end shape n (actor.Cpu c) new) (on_to_end shape n (actor.Cpu c) (step_cpu shape c p.state x).state (step_cpu shape c p.state x).answer)) (sym is)
+      (subst (λ x. EndsAs (actor.Cpu c) (op.Cpu o) before (to_end shape n (actor.Cpu c) new)
+      (on_to_end shape n (actor.Cpu c) (step_cpu shape c p.state x).state (step_cpu shape c p.state x).answer)) (sym is)
       (⊎_elim
       (λ (e : HasEnded m).
       let idle : is_idle (actor.Cpu c) new.state ≡ true = ap (λ (x : Option CpuFlight). is_none x) (ap (λ (x : Caller). x.flight) here ∙ e.idle) in
       let last : Noted = record { by = actor.Cpu c; call = op.Cpu (op_of f); answer = e.told; deeds = m.deeds ++ p.entered c; found = p.state } in
-      let noted : new.noted ≡ last ∷ before = ap (λ (r : Option Answer). note (actor.Cpu c) (op.Cpu (op_of f)) (m.deeds ++ p.entered c) p.state r p.noted) e.answers ∙ ap (λ (l : List Noted). last ∷ l) was in
+      let noted : new.noted ≡ last ∷ before = ap (λ (r : Option Answer). with_note (actor.Cpu c) (op.Cpu (op_of f)) (m.deeds ++ p.entered c) p.state r p.noted) e.answers
+      ∙ ap (λ (l : List Noted). last ∷ l) was in
       subst (λ r. EndsAs (actor.Cpu c) (op.Cpu o) before (to_end shape n (actor.Cpu c) new) (on_to_end shape n (actor.Cpu c) new.state r)) (sym e.answers)
       (finished n (actor.Cpu c) (op.Cpu o) before new last idle noted (ap (λ (x : CpuOp). (actor.Cpu c, op.Cpu x, e.told)) call)))
       (λ (g : HasGoneOn p.state.config (the_caller p.state.callers c) (flight_bound p.state.config f) m).
       let steps : (the_caller new.state.callers c).steps ≡ (the_caller p.state.callers c).steps + 1 = ap (λ (x : Caller). x.steps) here ∙ g.counted in
       let bound = g.bound in
-      let noted : new.noted ≡ before = ap (λ (r : Option Answer). note (actor.Cpu c) (op.Cpu (op_of f)) (m.deeds ++ p.entered c) p.state r p.noted) g.answers ∙ was in
+      let noted : new.noted ≡ before = ap (λ (r : Option Answer). with_note (actor.Cpu c) (op.Cpu (op_of f)) (m.deeds ++ p.entered c) p.state r p.noted) g.answers ∙ was in
       subst (λ r. EndsAs (actor.Cpu c) (op.Cpu o) before (to_end shape n (actor.Cpu c) new) (on_to_end shape n (actor.Cpu c) new.state r)) (sym g.answers)
       (cpu_ends_as n c o before new g.next (step_cpu_coherent shape p.state c (Some f) ok lt is) lt (ap (λ (x : Caller). x.flight) here ∙ g.flight)
       (step_passes (λ x. x ≡ o) shape p.state.config c p.state.deeds (the_caller p.state.callers c) f call g.next g.flight) noted (omega arith)))
@@ -82,32 +88,37 @@ module _ (shape : ℕ → Option Shape) where
       here = get_or-set_same p.state.callers c m.caller idle_caller (let count = ok.count in omega arith)
 
   -- the consumer's call in flight
-  pub consumer_ends_as : (n : ℕ) (o : ConsumerOp) (before : List Noted) (p : Playing) (f : ConsumerFlight) → IsCoherent shape p.state → p.state.side.flight ≡ Some f → consumer_op_of f ≡ o → p.noted ≡ before
+  pub consumer_ends_as : (n : ℕ) (o : ConsumerOp) (before : List Noted) (p : Playing) (f : ConsumerFlight) → IsCoherent shape p.state → p.state.side.flight ≡ Some f
+      → consumer_op_of f ≡ o → p.noted ≡ before
       → clean_bound p.state.config f ≤ n + p.state.side.steps → EndsAs actor.Consumer (op.Consumer o) before (to_end shape n actor.Consumer p) (on_to_end shape n actor.Consumer p.state None)
   consumer_ends_as zero o before p f ok is call was most =
       let low = clean_below p.state.config p.state.deeds p.state.side (set_up p.state.config ok.ranges).1 f (subst (StandsSide p.state.config p.state.deeds p.state.side) is ok.side) in
       absurd (omega arith)
   consumer_ends_as (suc n) o before p f ok is call was most =
-      subst (λ (b : Bool). EndsAs actor.Consumer (op.Consumer o) before (if b then p else to_end shape n actor.Consumer (stepped shape actor.Consumer p)) (on_to_end shape (suc n) actor.Consumer p.state None)) (sym (ap (λ (x : Option ConsumerFlight). is_none x) is))
-      (subst (λ (q : Playing). EndsAs actor.Consumer (op.Consumer o) before (to_end shape n actor.Consumer q) (on_to_end shape (suc n) actor.Consumer p.state None)) (sym (consumer_stepped_is shape p f is))
-      (subst (λ x. EndsAs actor.Consumer (op.Consumer o) before (to_end shape n actor.Consumer new) (on_to_end shape n actor.Consumer (step_consumer shape p.state x).state (step_consumer shape p.state x).answer)) (sym is)
+      subst (λ (b : Bool). EndsAs actor.Consumer (op.Consumer o) before (if b then p else to_end shape n actor.Consumer (stepped shape actor.Consumer p))
+      (on_to_end shape (suc n) actor.Consumer p.state None)) (sym (ap (λ (x : Option ConsumerFlight). is_none x) is))
+      (subst (λ (q : Playing). EndsAs actor.Consumer (op.Consumer o) before (to_end shape n actor.Consumer q) (on_to_end shape (suc n) actor.Consumer p.state None))
+      (sym (consumer_stepped_is shape p f is))
+      (subst (λ x. EndsAs actor.Consumer (op.Consumer o) before (to_end shape n actor.Consumer new)
+      (on_to_end shape n actor.Consumer (step_consumer shape p.state x).state (step_consumer shape p.state x).answer)) (sym is)
       (⊎_elim
       (λ (e : HasClosed m).
       let idle : is_idle actor.Consumer new.state ≡ true = ap (λ (x : Option ConsumerFlight). is_none x) e.idle in
       let last : Noted = record { by = actor.Consumer; call = op.Consumer (consumer_op_of f); answer = e.told; deeds = m.deeds ++ p.cleaned; found = p.state } in
-      let noted : new.noted ≡ last ∷ before = ap (λ (r : Option Answer). note actor.Consumer (op.Consumer (consumer_op_of f)) (m.deeds ++ p.cleaned) p.state r p.noted) e.answers ∙ ap (λ (l : List Noted). last ∷ l) was in
+      let noted : new.noted ≡ last ∷ before = ap (λ (r : Option Answer). with_note actor.Consumer (op.Consumer (consumer_op_of f)) (m.deeds ++ p.cleaned) p.state r p.noted)
+      e.answers ∙ ap (λ (l : List Noted). last ∷ l) was in
       subst (λ r. EndsAs actor.Consumer (op.Consumer o) before (to_end shape n actor.Consumer new) (on_to_end shape n actor.Consumer new.state r)) (sym e.answers)
       (finished n actor.Consumer (op.Consumer o) before new last idle noted (ap (λ (x : ConsumerOp). (actor.Consumer, op.Consumer x, e.told)) call)))
       (λ (g : HasKeptOn p.state.config p.state.side (clean_bound p.state.config f) m).
       let steps = g.counted in
       let bound = g.bound in
-      let noted : new.noted ≡ before = ap (λ (r : Option Answer). note actor.Consumer (op.Consumer (consumer_op_of f)) (m.deeds ++ p.cleaned) p.state r p.noted) g.answers ∙ was in
+      let noted : new.noted ≡ before = ap (λ (r : Option Answer). with_note actor.Consumer (op.Consumer (consumer_op_of f)) (m.deeds ++ p.cleaned) p.state r p.noted) g.answers ∙ was in
       subst (λ r. EndsAs actor.Consumer (op.Consumer o) before (to_end shape n actor.Consumer new) (on_to_end shape n actor.Consumer new.state r)) (sym g.answers)
       (consumer_ends_as n o before new g.next (step_consumer_coherent shape p.state (Some f) ok is) g.flight
       (clean_goes (λ x. x ≡ o) p.state.config p.state.deeds p.state.side p.state.callers f call g.next g.flight) noted (omega arith)))
       (clean_advances p.state.config p.state.deeds p.state.side p.state.callers f))))
     where
-      m : Cleaned
+      m : ConsumerStep
       m = consumer_step p.state.config p.state.deeds p.state.side p.state.callers f
 
       new : Playing

@@ -1,6 +1,7 @@
 -- Once every CPU has run a service after a decision, and the consumer a clean after those, the slot is released.
 use Prim.Native.Nat.{zero, suc}
-use Rattle.std.proofs.Common.{◌≡◌, ◌≤◌, ◌<◌, ◌⊎◌, inl, inr, ℕ, Bool, true, false, not, ◌&&◌, ◌||◌, ◌==◌, List, [], ◌∷◌, ◌++◌, Option, Some, None, is_none, if◌then◌else◌, refl, sym, ap, ◌∙◌, subst, ⊎_elim, arith}
+use Rattle.std.proofs.Common.{◌≡◌, ◌≤◌, ◌<◌, ◌⊎◌, inl, inr, ℕ, Bool, true, false, not, ◌&&◌, ◌||◌, ◌==◌, List}
+use Rattle.std.proofs.Common.{[], ◌∷◌, ◌++◌, Option, Some, None, is_none, if◌then◌else◌, refl, sym, ap, ◌∙◌, subst, ⊎_elim, arith}
 use Rattle.std.proofs.lemmas.Bool.Decides.{nat_tests}
 use Rattle.dspec_record.specs.declared.field.Shape.{Shape}
 use Rattle.dspec_word.specs.SpecId.{Speculation}
@@ -13,7 +14,8 @@ use Rattle.dspec_play.specs.declared.flight.Spare.TheVariants as spare
 use Rattle.dspec_deeds.specs.History.{issue, present, verdict, is_undecided, solo, solo_of, settled, same_id}
 use Rattle.dspec_deeds.specs.Legal.{IsSound}
 use Rattle.dspec_play.specs.Coherent.{PlayState, StandsCaller, the_caller}
-use Rattle.dspec_play.specs.Whole.{Call, of_cpu, of_consumer, behind, behind_all, owes, settled_at, settled_up, settles_as, is_sealing, serves, all_settled, is_reapable, cleaned_at, cleaned_up, IsCall, AreCalls, HasService, IsReleased}
+use Rattle.dspec_play.specs.Whole.{Call, of_cpu, of_consumer, behind_call, behind_all, owes, settled_at, settled_up, settles_as, is_sealing}
+use Rattle.dspec_play.specs.Whole.{whole_service, all_settled, is_reapable, cleaned_at, cleaned_up, IsCall, AreCalls, HasService, IsReleased}
 use Rattle.dspec_deeds.proofs.TestLemmas.{either_way, and_tells, number_is_itself, id_is_itself}
 use Rattle.dspec_deeds.proofs.SoundLists.{opened_by_now, opened_in_range}
 use Rattle.dspec_deeds.proofs.SetUp.{set_up}
@@ -77,7 +79,8 @@ module _ (shape : ℕ → Option Shape) (k : Config) (c : ℕ) (id : Speculation
       (λ (t : settled c id h ≡ true). settled_more c id h _ (settled_at_grows id.slot h) t)
       (λ (f : settled c id h ≡ false).
       let is : present id.slot h ≡ id = present_is id h now in
-      let owing : owes shape k c id.slot h ≡ true = ap (λ j. not (is_undecided (verdict j h)) && (is_none (solo j h) && not (settled c j h))) is ∙ (λ i. not (s.ruled i) && (is_none (s.shared i) && not (f i))) in
+      let owing : owes shape k c id.slot h ≡ true = ap (λ j. not (is_undecided (verdict j h)) && (is_none (solo j h) && not (settled c j h))) is
+      ∙ (λ i. not (s.ruled i) && (is_none (s.shared i) && not (f i))) in
       let here : settled c id (Settle c (present id.slot h) (settles_as shape k c (verdict (present id.slot h) h) (present id.slot h) h) ∷ h) ≡ true =
       rw (number_is_itself c) (ap (λ j. same_id id j || settled c id h) is ∙ ap (λ b. b || settled c id h) (id_is_itself id)) in
       ap (λ (b : Bool). settled c id (if b then Settle c (present id.slot h) (settles_as shape k c (verdict (present id.slot h) h) (present id.slot h) h) ∷ h else h)) owing ∙ here)
@@ -125,7 +128,8 @@ module _ (k : Config) (id : Speculation) where
   releases_present : (h : List Deed) → IsShared id h → all_settled k k.cpus id h ≡ true → issue id.slot h ≡ id.issue → IsReleased id (cleaned_at k id.slot h)
   releases_present h s all now =
       let is : present id.slot h ≡ id = present_is id h now in
-      let reapable : is_reapable k id.slot h ≡ true = ap (λ j. not (is_undecided (verdict j h)) && (is_none (solo j h) && all_settled k k.cpus j h)) is ∙ (λ i. not (s.ruled i) && (is_none (s.shared i) && all i)) in
+      let reapable : is_reapable k id.slot h ≡ true = ap (λ j. not (is_undecided (verdict j h)) && (is_none (solo j h) && all_settled k k.cpus j h)) is
+      ∙ (λ i. not (s.ruled i) && (is_none (s.shared i) && all i)) in
       subst (λ (b : Bool). IsReleased id (if b then Release id.slot ∷ h else h)) (sym reapable) (rw (number_is_itself id.slot) (omega arith))
 
   -- a clean releases what every CPU has settled, whose slot is among the first
@@ -139,7 +143,8 @@ module _ (k : Config) (id : Speculation) where
       let s' = shared_stays k id h _ g sound s in
       ⊎_elim
       (λ (r : IsReleased id (cleaned_up k n h)). released_stays id (cleaned_up k n h) _ (cleaned_at_grows (suc n) (cleaned_up k n h)) r)
-      (λ (now : issue id.slot (cleaned_up k n h) ≡ id.issue). subst (λ m. IsReleased id (cleaned_at k m (cleaned_up k n h))) same (releases_present (cleaned_up k n h) s' (all_settled_more k.cpus h _ g all) now))
+      (λ (now : issue id.slot (cleaned_up k n h) ≡ id.issue). subst (λ m. IsReleased id (cleaned_at k m (cleaned_up k n h))) same
+      (releases_present (cleaned_up k n h) s' (all_settled_more k.cpus h _ g all) now))
       (unreleased k id (cleaned_up k n h) sound s'.ruled))
       (λ (f : (id.slot == suc n) ≡ false).
       let below : id.slot ≤ n = grind (arith, nat_tests) in
@@ -156,10 +161,14 @@ module _ (shape : ℕ → Option Shape) (id : Speculation) where
     rest : IsResting shape st
     shared : IsShared id st.deeds
 
-  waits_stays : (x : Call) (st : PlayState) → IsCall st.config x → Waits st → Waits (behind shape x st)
-  waits_stays x st there w = record { rest = behind_rests shape st w.rest x there; shared = shared_stays (behind shape x st).config id st.deeds _ (behind_grows shape st w.rest x there) (behind_rests shape st w.rest x there).coherent.legal.0 w.shared }
+  waits_stays : (x : Call) (st : PlayState) → IsCall st.config x → Waits st → Waits (behind_call shape x st)
+  waits_stays x st there w = record {
+    rest = behind_rests shape st w.rest x there;
+    shared = shared_stays (behind_call shape x st).config id st.deeds _
+        (behind_grows shape st w.rest x there) (behind_rests shape st w.rest x there).coherent.legal.0 w.shared;
+  }
 
-  progress_stays : (c : ℕ) (x : Call) (st : PlayState) → IsCall st.config x → Waits st → Progress c st → Progress c (behind shape x st)
+  progress_stays : (c : ℕ) (x : Call) (st : PlayState) → IsCall st.config x → Waits st → Progress c st → Progress c (behind_call shape x st)
   progress_stays c x st there w p =
       let g = behind_grows shape st w.rest x there in
       ⊎_elim (λ (r : IsReleased id st.deeds). inl (released_stays id st.deeds _ g r)) (λ (s : settled c id st.deeds ≡ true). inr (settled_more c id st.deeds _ g s)) p
@@ -170,71 +179,83 @@ module _ (shape : ℕ → Option Shape) (id : Speculation) where
       opened_in_range st.config st.deeds id (set_up st.config ok.ranges).1 ok.legal.0 (decided_given st.config st.deeds id ok.legal.0 w.shared.ruled)
 
   -- a service of the CPU settles it
-  service_progress : (c : ℕ) (st : PlayState) → c < st.config.cpus → Waits st → Progress c (behind shape (of_cpu c cpu_op.Service) st)
+  service_progress : (c : ℕ) (st : PlayState) → c < st.config.cpus → Waits st → Progress c (behind_call shape (of_cpu c cpu_op.Service) st)
   service_progress c st lt w = ⊎_elim
       (λ (r : IsReleased id st.deeds). progress_stays c (of_cpu c cpu_op.Service) st lt w (inl r))
       (λ (now : issue id.slot st.deeds ≡ id.issue). inr (go (is_sealing shape st.config c (the_caller st.callers c) st.deeds) now))
       (unreleased st.config id st.deeds w.rest.coherent.legal.0 w.shared.ruled)
     where
       at : IsAtRest st.config c st.deeds
-      at = record { sound = w.rest.coherent.legal.0; rests = w.rest.coherent.rests; still = (subst (StandsCaller st.config c st.deeds (the_caller st.callers c)) (w.rest.idle c lt) (w.rest.coherent.stands c lt).flight).0 }
+      at = record {
+        sound = w.rest.coherent.legal.0;
+        rests = w.rest.coherent.rests;
+        still = (subst (StandsCaller st.config c st.deeds (the_caller st.callers c)) (w.rest.idle c lt) (w.rest.coherent.stands c lt).flight).0;
+      }
 
-      go : (b : Bool) → issue id.slot st.deeds ≡ id.issue → settled c id (if b then serves shape st.config c (record (the_caller st.callers c) { spare = spare.Handed }) (Seal c ∷ st.deeds) true else serves shape st.config c (the_caller st.callers c) st.deeds false).list ≡ true
+      go : (b : Bool) → issue id.slot st.deeds ≡ id.issue
+          → settled c id (if b then whole_service shape st.config c (record (the_caller st.callers c) { spare = spare.Handed }) (Seal c ∷ st.deeds) true else whole_service
+          shape st.config c (the_caller st.callers c) st.deeds false).list ≡ true
       go true now =
           let sealed : IsAtRest st.config c (Seal c ∷ st.deeds) = record { sound = (at.sound, (at.rests, tt)); rests = refl; still = at.still } in
           settles_by shape st.config c id st.config.nspec (Seal c ∷ st.deeds) sealed record { ruled = w.shared.ruled; shared = w.shared.shared } now (slot_there st w).0 (slot_there st w).1
       go false now = settles_by shape st.config c id st.config.nspec st.deeds at w.shared now (slot_there st w).0 (slot_there st w).1
 
-  clean_releases : (st : PlayState) → Waits st → IsReleased id st.deeds ⊎ (all_settled st.config st.config.cpus id st.deeds ≡ true) → IsReleased id (behind shape (of_consumer consumer_op.Clean) st).deeds
+  clean_releases : (st : PlayState) → Waits st → IsReleased id st.deeds ⊎ (all_settled st.config st.config.cpus id st.deeds ≡ true)
+      → IsReleased id (behind_call shape (of_consumer consumer_op.Clean) st).deeds
   clean_releases st w p = ⊎_elim
       (λ (r : IsReleased id st.deeds). released_stays id st.deeds _ (behind_grows shape st w.rest (of_consumer consumer_op.Clean) tt) r)
-      (λ (all : all_settled st.config st.config.cpus id st.deeds ≡ true). releases_by st.config id st.config.nspec st.deeds record { sound = w.rest.coherent.legal.0; rests = w.rest.coherent.rests } w.shared all (slot_there st w).0 (slot_there st w).1)
+      (λ (all : all_settled st.config st.config.cpus id st.deeds ≡ true). releases_by st.config id st.config.nspec st.deeds record
+      { sound = w.rest.coherent.legal.0; rests = w.rest.coherent.rests } w.shared all (slot_there st w).0 (slot_there st w).1)
       p
 
   each_progress : (n : ℕ) (st : PlayState) → ((c : ℕ) → c < n → Progress c st) → IsReleased id st.deeds ⊎ (all_settled st.config n id st.deeds ≡ true)
   each_progress zero st each = inr refl
   each_progress (suc n) st each = ⊎_elim
       (λ (r : IsReleased id st.deeds). inl r)
-      (λ (all : all_settled st.config n id st.deeds ≡ true). ⊎_elim (λ (r : IsReleased id st.deeds). inl r) (λ (s : settled n id st.deeds ≡ true). inr (ap (λ b. b && settled n id st.deeds) all ∙ s)) (each n (omega arith)))
+      (λ (all : all_settled st.config n id st.deeds ≡ true). ⊎_elim (λ (r : IsReleased id st.deeds). inl r)
+      (λ (s : settled n id st.deeds ≡ true). inr (ap (λ b. b && settled n id st.deeds) all ∙ s)) (each n (omega arith)))
       (each_progress n st (λ c lt. each c (omega arith)))
 
   -- behind a list of whole calls
   released_all : (xs : List Call) (st : PlayState) → AreCalls st.config xs → IsResting shape st → IsReleased id st.deeds → IsReleased id (behind_all shape xs st).deeds
   released_all [] st all rest r = r
-  released_all (x ∷ xs) st all rest r = released_all xs (behind shape x st) (still_calls shape x xs st all.1) (behind_rests shape st rest x all.0) (released_stays id st.deeds _ (behind_grows shape st rest x all.0) r)
+  released_all (x ∷ xs) st all rest r = released_all xs (behind_call shape x st) (still_calls shape x xs st all.1) (behind_rests shape st rest x all.0)
+      (released_stays id st.deeds _ (behind_grows shape st rest x all.0) r)
 
   waits_all : (xs : List Call) (st : PlayState) → AreCalls st.config xs → Waits st → Waits (behind_all shape xs st)
   waits_all [] st all w = w
-  waits_all (x ∷ xs) st all w = waits_all xs (behind shape x st) (still_calls shape x xs st all.1) (waits_stays x st all.0 w)
+  waits_all (x ∷ xs) st all w = waits_all xs (behind_call shape x st) (still_calls shape x xs st all.1) (waits_stays x st all.0 w)
 
   progress_all : (c : ℕ) (xs : List Call) (st : PlayState) → AreCalls st.config xs → Waits st → Progress c st → Progress c (behind_all shape xs st)
   progress_all c [] st all w p = p
-  progress_all c (x ∷ xs) st all w p = progress_all c xs (behind shape x st) (still_calls shape x xs st all.1) (waits_stays x st all.0 w) (progress_stays c x st all.0 w p)
+  progress_all c (x ∷ xs) st all w p = progress_all c xs (behind_call shape x st) (still_calls shape x xs st all.1) (waits_stays x st all.0 w) (progress_stays c x st all.0 w p)
 
   service_all : (c : ℕ) (xs : List Call) (st : PlayState) → c < st.config.cpus → AreCalls st.config xs → Waits st → HasService c xs → Progress c (behind_all shape xs st)
   service_all c [] st lt all w has = absurd has
   service_all c (x ∷ xs) st lt all w has = ⊎_elim
-      (λ (e : x ≡ of_cpu c cpu_op.Service). progress_all c xs (behind shape x st) (still_calls shape x xs st all.1) (waits_stays x st all.0 w) (subst (λ y. Progress c (behind shape y st)) (sym e) (service_progress c st lt w)))
-      (λ (has : HasService c xs). service_all c xs (behind shape x st) (subst (λ k. c < k.cpus) (sym (behind_config shape x st)) lt) (still_calls shape x xs st all.1) (waits_stays x st all.0 w) has)
+      (λ (e : x ≡ of_cpu c cpu_op.Service). progress_all c xs (behind_call shape x st) (still_calls shape x xs st all.1) (waits_stays x st all.0 w)
+      (subst (λ y. Progress c (behind_call shape y st)) (sym e) (service_progress c st lt w)))
+      (λ (has : HasService c xs). service_all c xs (behind_call shape x st) (subst (λ k. c < k.cpus) (sym (behind_config shape x st)) lt) (still_calls shape x xs st all.1)
+      (waits_stays x st all.0 w) has)
       has
 
   behind_both : (xs ys : List Call) (st : PlayState) → behind_all shape (xs ++ ys) st ≡ behind_all shape ys (behind_all shape xs st)
   behind_both [] ys st = refl
-  behind_both (x ∷ xs) ys st = behind_both xs ys (behind shape x st)
+  behind_both (x ∷ xs) ys st = behind_both xs ys (behind_call shape x st)
 
   -- once each CPU has run a service after a decision, and the consumer a clean after those, the slot is released
   pub whole_release : (st : PlayState) → IsResting shape st → is_undecided (verdict id st.deeds) ≡ false → (xs ys : List Call) → AreCalls st.config xs → AreCalls st.config ys
       → ((c : ℕ) → c < st.config.cpus → HasService c xs) → IsReleased id (behind_all shape (xs ++ (of_consumer consumer_op.Clean ∷ ys)) st).deeds
   whole_release st rest ruled xs ys all_xs all_ys each =
       let mid : PlayState = behind_all shape xs st in
-      let cleaned : PlayState = behind shape (of_consumer consumer_op.Clean) mid in
+      let cleaned : PlayState = behind_call shape (of_consumer consumer_op.Clean) mid in
       let rest' : IsResting shape mid = rest_all shape xs st all_xs rest in
       let calls : AreCalls cleaned.config ys = subst (λ k. AreCalls k ys) (sym (config_all shape xs st)) all_ys in
       let released : IsReleased id cleaned.deeds = go (solo id st.deeds) refl in
       subst (λ (x : PlayState). IsReleased id x.deeds) (sym (behind_both xs (of_consumer consumer_op.Clean ∷ ys) st))
       (released_all ys cleaned calls (behind_rests shape mid rest' (of_consumer consumer_op.Clean) tt) released)
     where
-      go : (x : Option ℕ) → solo id st.deeds ≡ x → IsReleased id (behind shape (of_consumer consumer_op.Clean) (behind_all shape xs st)).deeds
+      go : (x : Option ℕ) → solo id st.deeds ≡ x → IsReleased id (behind_call shape (of_consumer consumer_op.Clean) (behind_all shape xs st)).deeds
       go None none =
           let w : Waits st = record { rest = rest; shared = record { ruled = ruled; shared = none } } in
           let w' : Waits (behind_all shape xs st) = waits_all xs st all_xs w in

@@ -68,11 +68,15 @@ module _ (shape : ℕ → Option Shape) (c : ℕ) (st : PlayState) (there : c < 
   lone l = record { state = at l.caller l.list; answer = l.answer }
 
   one : (me : Caller) (h : List Deed) (f : Option CpuFlight)
-      → step_cpu shape c (at me h) f ≡ lone record { caller = (moves shape st.config c me h f).caller; list = (moves shape st.config c me h f).deeds ++ h; answer = (moves shape st.config c me h f).answer }
+      → step_cpu shape c (at me h) f ≡ lone record
+      { caller = (moves shape st.config c me h f).caller; list = (moves shape st.config c me h f).deeds ++ h; answer = (moves shape st.config c me h f).answer }
   one me h None = refl
   one me h (Some f) =
       ap (λ (x : Caller). moved_to (at me h) c (cpu_step shape st.config c h x f)) (set_read st.callers c me there)
-      ∙ ap (λ (l : List Caller). record { state = record st { deeds = (cpu_step shape st.config c h me f).deeds ++ h; callers = l }; answer = (cpu_step shape st.config c h me f).answer }) (set_twice st.callers c me (cpu_step shape st.config c h me f).caller)
+      ∙ ap (λ (l : List Caller). record {
+        state = record st { deeds = (cpu_step shape st.config c h me f).deeds ++ h; callers = l };
+        answer = (cpu_step shape st.config c h me f).answer;
+      }) (set_twice st.callers c me (cpu_step shape st.config c h me f).caller)
 
   -- the steps of the play are those of the CPU alone
   alone : (n : ℕ) (me : Caller) (h : List Deed) (r : Option Answer) → on_to_end shape n (actor.Cpu c) (at me h) r ≡ lone (runs shape st.config c n me h r)

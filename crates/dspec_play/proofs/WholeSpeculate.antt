@@ -62,7 +62,8 @@ module _ (shape : ℕ → Option Shape) (k : Config) (c : ℕ) (h : List Deed) (
   open_leads : (me : Caller) → is_open id h ≡ true → (a : Act) → act ≡ a → Leads shape k c 1 h (shown_speculate shape k c h me id r (word_at id.slot h) a) (open_whole me)
   open_leads me given Void e = off (is_open id h) given (speculate_void k h id (is_among c (callers id h)) sound e)
   open_leads me given Granted e = spoken_leads 1 me
-  open_leads me given (Attempt to) e = goes shape k c 0 h me [] _ _ (on_true shape k c 0 h (same_word (word_at id.slot h) (word_at id.slot h)) _ _ (open_whole me) (same_word_is (word_at id.slot h)) (spoken_leads 0 me))
+  open_leads me given (Attempt to) e = goes shape k c 0 h me [] _ _
+      (on_true shape k c 0 h (same_word (word_at id.slot h) (word_at id.slot h)) _ _ (open_whole me) (same_word_is (word_at id.slot h)) (spoken_leads 0 me))
   open_leads me given Idle e = never_idle _ _ _ _ e
 
   pub speculate_alone : (me : Caller) → runs shape k c 3 (begins me (cpu_op.Speculate id r)) h None ≡ whole (whole_cpu shape k c (idle me) h (cpu_op.Speculate id r))
@@ -70,5 +71,8 @@ module _ (shape : ℕ → Option Shape) (k : Config) (c : ℕ) (h : List Deed) (
       (both shape k c 2 h (is_worn k c h) _ _ _ _ (λ t. worn shape k c 2 h me _) (λ f.
       both shape k c 2 h (halted h) _ _ _ _ (λ t. ended shape k c 2 h me _ _) (λ g.
       whole_not shape k c 2 h (is_open id h) _ _ _
-      (λ shut. on_test shape k c 2 h (in_range k id) _ _ _ (λ t. goes shape k c 1 h (begins me (cpu_op.Speculate id r)) [] _ _ (shut_leads (later (begins me (cpu_op.Speculate id r)) (cpu.SpeculateLoad id r)) shut act refl)) (λ u. ended shape k c 2 h me _ _))
-      (λ given. on_true shape k c 2 h (in_range k id) _ _ _ (open_in_range k h id some sound given) (goes shape k c 1 h (begins me (cpu_op.Speculate id r)) [] _ _ (open_leads (later (begins me (cpu_op.Speculate id r)) (cpu.SpeculateLoad id r)) given act refl))))))
+      (λ shut. on_test shape k c 2 h (in_range k id) _ _ _
+      (λ t. goes shape k c 1 h (begins me (cpu_op.Speculate id r)) [] _ _ (shut_leads (later (begins me (cpu_op.Speculate id r)) (cpu.SpeculateLoad id r)) shut act refl))
+      (λ u. ended shape k c 2 h me _ _))
+      (λ given. on_true shape k c 2 h (in_range k id) _ _ _ (open_in_range k h id some sound given)
+      (goes shape k c 1 h (begins me (cpu_op.Speculate id r)) [] _ _ (open_leads (later (begins me (cpu_op.Speculate id r)) (cpu.SpeculateLoad id r)) given act refl))))))

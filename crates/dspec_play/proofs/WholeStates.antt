@@ -1,6 +1,7 @@
 -- What holds between two whole calls.
 use Prim.Native.Nat.{zero, suc}
-use Rattle.std.proofs.Common.{◌≡◌, ◌≢◌, ◌≤◌, ◌<◌, ◌⊎◌, inl, inr, ℕ, Bool, true, false, ◌==◌, List, [], ◌∷◌, ◌++◌, length, Option, Some, None, if◌then◌else◌, refl, sym, ap, ◌∙◌, subst, ⊎_elim, arith, append_assoc}
+use Rattle.std.proofs.Common.{◌≡◌, ◌≢◌, ◌≤◌, ◌<◌, ◌⊎◌, inl, inr, ℕ, Bool, true, false, ◌==◌, List, [], ◌∷◌}
+use Rattle.std.proofs.Common.{◌++◌, length, Option, Some, None, if◌then◌else◌, refl, sym, ap, ◌∙◌, subst, ⊎_elim, arith, append_assoc}
 use Rattle.std.specs.Prelude.{nat_lt, slice_set}
 use Rattle.std.proofs.lemmas.List.{get_or-set_same, get_or-set_other}
 use Rattle.std.proofs.lemmas.Bool.Decides.{nat_tests}
@@ -29,7 +30,8 @@ use Rattle.dspec_play.specs.Coherent.{PlayState, IsCoherent, StandsCaller, the_c
 use Rattle.dspec_deeds.specs.Told.{answer_of}
 use Rattle.dspec_play.specs.SoloRule.{IsLast, ReleasesThen}
 use Rattle.dspec_play.specs.Turns.{Stepped, at_start, begin_cpu, begin_consumer, step, step_cpu, step_consumer, on_to_end}
-use Rattle.dspec_play.specs.Whole.{WholeConsumer, is_out, Call, of_cpu, of_consumer, behind, behind_all, cpu_call, consumer_call, behind_cpu, behind_consumer, IsApart, IsCall, AreCalls, IsReleased}
+use Rattle.dspec_play.specs.Whole.{WholeConsumer, is_out, Call, of_cpu, of_consumer, behind_call, behind_all, cpu_call}
+use Rattle.dspec_play.specs.Whole.{consumer_call, behind_cpu, behind_consumer, IsApart, IsCall, AreCalls, IsReleased}
 use Rattle.dspec_deeds.proofs.TestLemmas.{either_way, number_is_itself, numbers_differ}
 use Rattle.dspec_deeds.proofs.PresentIds.{open_is_now}
 use Rattle.dspec_deeds.proofs.WordChanges.{discard_open}
@@ -95,8 +97,10 @@ module _ (shape : ℕ → Option Shape) where
   step_releases : (c : ℕ) (st : PlayState) → IsCoherent shape st → c < st.config.cpus → Releases c st → Releases c (step shape (actor.Cpu c) st).state
   step_releases c st ok lt all id now = ⊎_elim
       (λ (none : solo id st.deeds ≡ None). ⊎_elim
-      (λ (r : (n : ℕ) × ((step shape (actor.Cpu c) st).state.deeds ≡ Release id.slot ∷ Discard c id (decided.Thrown n) ∷ st.deeds) × IsLast c (answer_of (decided.Thrown n)) (step shape (actor.Cpu c) st)).
-      let sound : IsSound st.config (Release id.slot ∷ Discard c id (decided.Thrown r.0) ∷ st.deeds) = subst (IsSound st.config) r.1 (subst (λ k. IsSound k (step shape (actor.Cpu c) st).state.deeds) (step_config shape (actor.Cpu c) st) (step_coherent shape (actor.Cpu c) st ok lt).legal.0) in
+      (λ (r : (n : ℕ) × ((step shape (actor.Cpu c) st).state.deeds ≡ Release id.slot ∷ Discard c id (decided.Thrown n) ∷ st.deeds) × IsLast c (answer_of (decided.Thrown n))
+      (step shape (actor.Cpu c) st)).
+      let sound : IsSound st.config (Release id.slot ∷ Discard c id (decided.Thrown r.0) ∷ st.deeds) =
+      subst (IsSound st.config) r.1 (subst (λ k. IsSound k (step shape (actor.Cpu c) st).state.deeds) (step_config shape (actor.Cpu c) st) (step_coherent shape (actor.Cpu c) st ok lt).legal.0) in
       let was_open = discard_open st.config c id (decided.Thrown r.0) st.deeds sound.0 refl in
       inl (released_now id (Discard c id (decided.Thrown r.0) ∷ st.deeds) _ (sym (open_is_now st.config st.deeds id ok.legal.0 was_open)) r.1))
       (λ (r : (f : DecideFate) × ((step shape (actor.Cpu c) st).state.deeds ≡ Commit c id f ∷ st.deeds) × ReleasesThen c id f (step shape (actor.Cpu c) st)). inr (r.0, r.2.next))
@@ -127,7 +131,8 @@ module _ (shape : ℕ → Option Shape) (st : PlayState) (rest : IsResting shape
   -- the other CPUs' sides stay
   set_idle : (all : List Caller) (c d : ℕ) (x : Caller) → c < length all → x.flight ≡ None → (the_caller all d).flight ≡ None → (the_caller (slice_set all c x) d).flight ≡ None
   set_idle all c d x lt none there = ⊎_elim
-      (λ (t : (d == c) ≡ true). let same : d ≡ c = grind (arith, nat_tests) in subst (λ e. (the_caller (slice_set all c x) e).flight ≡ None) (sym same) (ap (λ (y : Caller). y.flight) (get_or-set_same all c x idle_caller lt) ∙ none))
+      (λ (t : (d == c) ≡ true). let same : d ≡ c = grind (arith, nat_tests) in subst (λ e. (the_caller (slice_set all c x) e).flight ≡ None) (sym same)
+      (ap (λ (y : Caller). y.flight) (get_or-set_same all c x idle_caller lt) ∙ none))
       (λ (f : (d == c) ≡ false). let other : d ≢ c = numbers_differ d c f in ap (λ (y : Caller). y.flight) (get_or-set_other all c d x idle_caller other) ∙ there)
       (either_way (d == c))
 
@@ -143,7 +148,8 @@ module _ (shape : ℕ → Option Shape) (st : PlayState) (rest : IsResting shape
       let answered = cpu_call_answers shape c o st ok lt (rest.idle c lt) in
       let own : (the_caller (behind_cpu c (cpu_call shape c o st) st).callers c).flight ≡ None = subst (λ (x : PlayState). (the_caller x.callers c).flight ≡ None) is answered.idle in
       let left : (cpu_call shape c o st).caller.flight ≡ None = ap (λ (x : Caller). x.flight) (sym (get_or-set_same st.callers c (cpu_call shape c o st).caller idle_caller there)) ∙ own in
-      let releases : Releases c (behind_cpu c (cpu_call shape c o st) st) = subst (Releases c) is (to_end_releases shape (op_bound st.config o) c (begin_cpu c o st) None begun lt (λ id some. inl (rest.alone id some))) in (
+      let releases : Releases c (behind_cpu c (cpu_call shape c o st) st) =
+      subst (Releases c) is (to_end_releases shape (op_bound st.config o) c (begin_cpu c o st) None begun lt (λ id some. inl (rest.alone id some))) in (
         record {
           coherent = subst (IsCoherent shape) is (on_to_end_coherent shape (op_bound st.config o) (actor.Cpu c) (begin_cpu c o st) None begun lt);
           idle = λ d below. set_idle st.callers c d (cpu_call shape c o st).caller there left (rest.idle d below);
@@ -164,10 +170,12 @@ module _ (shape : ℕ → Option Shape) (st : PlayState) (rest : IsResting shape
 
   -- no call of the consumer puts a CPU's call in flight
   consumer_idle : (o : ConsumerOp) → IsCall st.config (of_consumer o) → (d : ℕ) → d < st.config.cpus → (the_caller (consumer_call shape o st).callers d).flight ≡ None
-  consumer_idle (consumer_op.Ask c) there d below = let count = rest.coherent.count in let lt : c < length st.callers = omega arith in set_idle st.callers c d _ lt (rest.idle c there) (rest.idle d below)
+  consumer_idle (consumer_op.Ask c) there d below =
+      let count = rest.coherent.count in let lt : c < length st.callers = omega arith in set_idle st.callers c d _ lt (rest.idle c there) (rest.idle d below)
   consumer_idle (consumer_op.Take c) there d below =
       let count = rest.coherent.count in let lt : c < length st.callers = omega arith in
-      callers_if (λ all. (the_caller all d).flight ≡ None) (nat_lt (the_caller st.callers c).takes (seals c st.deeds)) _ _ (set_idle st.callers c d _ lt (rest.idle c there) (rest.idle d below)) (rest.idle d below)
+      callers_if (λ all. (the_caller all d).flight ≡ None) (nat_lt (the_caller st.callers c).takes (seals c st.deeds)) _ _
+      (set_idle st.callers c d _ lt (rest.idle c there) (rest.idle d below)) (rest.idle d below)
   consumer_idle (consumer_op.GiveBack c) there d below =
       let count = rest.coherent.count in let lt : c < length st.callers = omega arith in
       callers_if (λ all. (the_caller all d).flight ≡ None) (is_out (the_caller st.callers c).spare) _ _ (set_idle st.callers c d _ lt (rest.idle c there) (rest.idle d below)) (rest.idle d below)
@@ -188,22 +196,24 @@ module _ (shape : ℕ → Option Shape) (st : PlayState) (rest : IsResting shape
       let bound : consumer_bound st.config o ≤ consumer_bound st.config o = omega arith in
       let begun : IsCoherent shape (begin_consumer o st) = begin_consumer_coherent shape st o ok in
       let is = ap (λ (x : Stepped). x.state) (consumer_whole shape st ok o (consumer_bound st.config o) (apart o there) bound) in
-      let grows : Grows st.deeds (consumer_call shape o st).list = subst (λ (x : PlayState). Grows st.deeds x.deeds) is (to_end_grows shape (consumer_bound st.config o) actor.Consumer (begin_consumer o st) None) in (
+      let grows : Grows st.deeds (consumer_call shape o st).list =
+      subst (λ (x : PlayState). Grows st.deeds x.deeds) is (to_end_grows shape (consumer_bound st.config o) actor.Consumer (begin_consumer o st) None) in (
         record {
           coherent = subst (IsCoherent shape) is (on_to_end_coherent shape (consumer_bound st.config o) actor.Consumer (begin_consumer o st) None begun tt);
           idle = consumer_idle o there;
           side = refl;
-          alone = λ id some. released_stays id st.deeds _ grows (rest.alone id (λ none. some (subst (λ (x : PlayState). solo id x.deeds ≡ None) is (to_end_decides_none shape (consumer_bound st.config o) (begin_consumer o st) None id begun ∙ none))));
+          alone = λ id some. released_stays id st.deeds _ grows
+              (rest.alone id (λ none. some (subst (λ (x : PlayState). solo id x.deeds ≡ None) is (to_end_decides_none shape (consumer_bound st.config o) (begin_consumer o st) None id begun ∙ none))));
         },
         grows,
       )
 
   -- whole calls go from rest to rest, and the list goes on
-  pub behind_rests : (x : Call) → IsCall st.config x → IsResting shape (behind shape x st)
+  pub behind_rests : (x : Call) → IsCall st.config x → IsResting shape (behind_call shape x st)
   behind_rests (of_cpu c o) there = (cpu_rests c o there).0
   behind_rests (of_consumer o) there = (consumer_rests o there).0
 
-  pub behind_grows : (x : Call) → IsCall st.config x → Grows st.deeds (behind shape x st).deeds
+  pub behind_grows : (x : Call) → IsCall st.config x → Grows st.deeds (behind_call shape x st).deeds
   behind_grows (of_cpu c o) there = (cpu_rests c o there).1
   behind_grows (of_consumer o) there = (consumer_rests o there).1
 
@@ -211,21 +221,21 @@ module _ (shape : ℕ → Option Shape) (st : PlayState) (rest : IsResting shape
 pub start_rests : (shape : ℕ → Option Shape) (k : Config) → start_fault k ≡ None → IsResting shape (at_start k)
 start_rests shape k fine = record { coherent = start_coherent shape k fine; idle = λ c lt. ap (λ (x : Caller). x.flight) (idle_at k.cpus c); side = refl; alone = λ id some. absurd (some refl) }
 
-pub behind_config : (shape : ℕ → Option Shape) (x : Call) (st : PlayState) → (behind shape x st).config ≡ st.config
+pub behind_config : (shape : ℕ → Option Shape) (x : Call) (st : PlayState) → (behind_call shape x st).config ≡ st.config
 behind_config shape (of_cpu c o) st = refl
 behind_config shape (of_consumer o) st = refl
 
-pub still_calls : (shape : ℕ → Option Shape) (x : Call) (xs : List Call) (st : PlayState) → AreCalls st.config xs → AreCalls (behind shape x st).config xs
+pub still_calls : (shape : ℕ → Option Shape) (x : Call) (xs : List Call) (st : PlayState) → AreCalls st.config xs → AreCalls (behind_call shape x st).config xs
 still_calls shape x xs st all = subst (λ k. AreCalls k xs) (sym (behind_config shape x st)) all
 
 -- behind a list of whole calls
 pub rest_all : (shape : ℕ → Option Shape) (xs : List Call) (st : PlayState) → AreCalls st.config xs → IsResting shape st → IsResting shape (behind_all shape xs st)
 rest_all shape [] st all r = r
-rest_all shape (x ∷ xs) st all r = rest_all shape xs (behind shape x st) (still_calls shape x xs st all.1) (behind_rests shape st r x all.0)
+rest_all shape (x ∷ xs) st all r = rest_all shape xs (behind_call shape x st) (still_calls shape x xs st all.1) (behind_rests shape st r x all.0)
 
 pub config_all : (shape : ℕ → Option Shape) (xs : List Call) (st : PlayState) → (behind_all shape xs st).config ≡ st.config
 config_all shape [] st = refl
-config_all shape (x ∷ xs) st = config_all shape xs (behind shape x st) ∙ behind_config shape x st
+config_all shape (x ∷ xs) st = config_all shape xs (behind_call shape x st) ∙ behind_config shape x st
 
 -- the list behind whole calls is legal
 pub whole_legal : (shape : ℕ → Option Shape) (k : Config) → start_fault k ≡ None → (xs : List Call) → AreCalls k xs → IsLegal shape k (behind_all shape xs (at_start k)).deeds

@@ -18,7 +18,7 @@ use Rattle.dspec_play.specs.declared.flight.CpuFlight.{CpuFlight}
 use Rattle.dspec_play.specs.declared.flight.CpuFlight.TheVariants as cpu
 use Rattle.dspec_deeds.specs.History.{halted, in_range, opened, verdict, is_undecided, is_open}
 use Rattle.dspec_deeds.specs.Legal.{IsSound, fits_principal}
-use Rattle.dspec_play.specs.Play.{is_worn, Moved, goes_on, ends, wears, begun, cpu_step, same_word}
+use Rattle.dspec_play.specs.Play.{is_worn, Moved, call_goes_on, ends, wears, begun, cpu_step, same_word}
 use Rattle.dspec_play.specs.Whole.{WholeCpu, whole_cpu, enters, wears_out}
 use Rattle.dspec_deeds.proofs.TestLemmas.{and_tells, number_is_itself}
 use Rattle.dspec_deeds.proofs.SoundLists.{opened_in_range}
@@ -58,7 +58,7 @@ module _ (shape : ℕ → Option Shape) (k : Config) (c : ℕ) where
 
   -- the call goes on, and its next step leads there
   pub goes : (n : ℕ) (h : List Deed) (me : Caller) (ds : List Deed) (f : CpuFlight) (w : WholeCpu)
-      → Leads n (ds ++ h) (cpu_step shape k c (ds ++ h) (later me f) f) w → Leads (suc n) h (goes_on shape k c h me ds f) w
+      → Leads n (ds ++ h) (cpu_step shape k c (ds ++ h) (later me f) f) w → Leads (suc n) h (call_goes_on shape k c h me ds f) w
   goes n h me ds f w l = record { is = l.is }
 
   -- what some steps lead to, more lead to

@@ -23,8 +23,8 @@ use Rattle.dspec_deeds.specs.Own.{calls}
 use Rattle.dspec_deeds.specs.Ranges.{start_fault}
 use Rattle.dspec_play.specs.Calls.{op_of, consumer_op_of, is_about}
 use Rattle.dspec_play.specs.Coherent.{StandsSide, PlayState, the_caller}
-use Rattle.dspec_play.specs.Play.{Moved, Cleaned, cpu_step, consumer_step}
-use Rattle.dspec_play.specs.Plays.{Ended, Noted, ended, Playing, note, playing_at_start, begun_cpu, begun_consumer, played, answers_of, play_fault, is_by, is_worn_answer}
+use Rattle.dspec_play.specs.Play.{Moved, ConsumerStep, cpu_step, consumer_step}
+use Rattle.dspec_play.specs.Plays.{EndedCall, Noted, ended, Playing, with_note, playing_at_start, begun_cpu, begun_consumer, played, answers_of, play_fault, is_by, is_worn_answer}
 use Rattle.dspec_play.specs.Turns.{step_cpu, step_consumer, step}
 use Rattle.dspec_play.specs.Wearing.{is_counted, is_first, is_told_worn, entered_calls, is_worn_behind, AreWornRightly}
 use Rattle.dspec_deeds.proofs.Going.{AllBy}
@@ -64,12 +64,12 @@ is_on (Some (cpu.Begun o)) = false
 is_on (Some f) = is_counted (op.Cpu (op_of f))
 
 -- what a CPU has entered, by its ended calls and the one in flight, which was unworn at its first step
-pub record HasEntered (k : Config) (c : ℕ) (h : List Deed) (x : Option CpuFlight) (es : List Ended) : Type 0 where
+pub record HasEntered (k : Config) (c : ℕ) (h : List Deed) (x : Option CpuFlight) (es : List EndedCall) : Type 0 where
   pub counts : calls c h ≡ entered_calls c es + ahead x
   pub unworn : is_on x ≡ true → nat_le k.max_calls (entered_calls c es) ≡ false
 
 -- the test of a step is that of its call
-same_test : (k : Config) (c : ℕ) (h : List Deed) (f : CpuFlight) (es : List Ended) → HasEntered k c h (Some f) es
+same_test : (k : Config) (c : ℕ) (h : List Deed) (f : CpuFlight) (es : List EndedCall) → HasEntered k c h (Some f) es
     → (is_first (Some f) && nat_le k.max_calls (calls c h)) ≡ is_worn_behind k (actor.Cpu c) (op.Cpu (op_of f)) es
 same_test k c h (cpu.Begun o) es was =
     let counts = was.counts in
@@ -107,21 +107,25 @@ is_counted_on o (cpu.ServiceLoad s sum) is now = absurd (cc (now))
 is_counted_on o (cpu.ServiceStore s w sum) is now = absurd (cc (now))
 
 -- a call that isn't worn at a step isn't worn behind it, where it counts
-unworn_on : (k : Config) (c : ℕ) (o : CpuOp) (es : List Ended) → is_counted (op.Cpu o) ≡ true → is_worn_behind k (actor.Cpu c) (op.Cpu o) es ≡ false → nat_le k.max_calls (entered_calls c es) ≡ false
+unworn_on : (k : Config) (c : ℕ) (o : CpuOp) (es : List EndedCall) → is_counted (op.Cpu o) ≡ true → is_worn_behind k (actor.Cpu c) (op.Cpu o) es ≡ false
+    → nat_le k.max_calls (entered_calls c es) ≡ false
 unworn_on k c o es counted e = ap (λ b. b && nat_le k.max_calls (entered_calls c es)) (sym counted) ∙ e
 
 -- a call that is noted where it ended
-note_counts : (c : ℕ) (o : Op) (ds : List Deed) (st : PlayState) (r : Option Answer) (ns : List Noted) → entered_calls c (map ended (note (actor.Cpu c) o ds st r ns)) ≡ entered_calls c (map ended ns) + enters o r
+note_counts : (c : ℕ) (o : Op) (ds : List Deed) (st : PlayState) (r : Option Answer) (ns : List Noted)
+    → entered_calls c (map ended (with_note (actor.Cpu c) o ds st r ns)) ≡ entered_calls c (map ended ns) + enters o r
 note_counts c o ds st None ns = omega arith
 note_counts c o ds st (Some a) ns = rw (number_is_itself c) refl
 
 -- another's call counts nothing
-note_beside : (b : ℕ) (a : Actor) (o : Op) (ds : List Deed) (st : PlayState) (r : Option Answer) (ns : List Noted) → is_by b a ≡ false → entered_calls b (map ended (note a o ds st r ns)) ≡ entered_calls b (map ended ns)
+note_beside : (b : ℕ) (a : Actor) (o : Op) (ds : List Deed) (st : PlayState) (r : Option Answer) (ns : List Noted) → is_by b a ≡ false
+    → entered_calls b (map ended (with_note a o ds st r ns)) ≡ entered_calls b (map ended ns)
 note_beside b a o ds st None ns other = refl
 note_beside b a o ds st (Some x) ns other = rw other (omega arith)
 
-note_right : (k : Config) (a : Actor) (o : Op) (ds : List Deed) (st : PlayState) (r : Option Answer) (ns : List Noted) → ((x : Answer) → r ≡ Some x → is_worn_answer x ≡ is_worn_behind k a o (map ended ns))
-    → AreWornRightly k (map ended ns) → AreWornRightly k (map ended (note a o ds st r ns))
+note_right : (k : Config) (a : Actor) (o : Op) (ds : List Deed) (st : PlayState) (r : Option Answer) (ns : List Noted)
+    → ((x : Answer) → r ≡ Some x → is_worn_answer x ≡ is_worn_behind k a o (map ended ns))
+    → AreWornRightly k (map ended ns) → AreWornRightly k (map ended (with_note a o ds st r ns))
 note_right k a o ds st None ns is was = was
 note_right k a o ds st (Some x) ns is was = (is x refl, was)
 
@@ -132,15 +136,18 @@ calls_stay c w other (d ∷ ds) h by =
     calls_other c d (ds ++ h) (subst (λ (x : Actor). same_actor (actor.Cpu c) x ≡ false) (same_actor_tells w (author d (ds ++ h)) by.1) other) ∙ calls_stay c w other ds h by.0
 
 -- what a CPU has entered stays behind another's step
-entered_beside : (k : Config) (b : ℕ) (h g : List Deed) (x : Option CpuFlight) (es fs : List Ended) → calls b g ≡ calls b h → entered_calls b fs ≡ entered_calls b es → HasEntered k b h x es → HasEntered k b g x fs
+entered_beside : (k : Config) (b : ℕ) (h g : List Deed) (x : Option CpuFlight) (es fs : List EndedCall) → calls b g ≡ calls b h → entered_calls b fs ≡ entered_calls b es
+    → HasEntered k b h x es → HasEntered k b g x fs
 entered_beside k b h g x es fs same count was = record {
   counts = same ∙ (was.counts ∙ ap (λ n. n + ahead x) (sym count));
   unworn = λ on. ap (nat_le k.max_calls) count ∙ was.unworn on;
 }
 
 -- what a CPU has entered behind its own step
-entered_now : (shape : ℕ → Option Shape) (k : Config) (c : ℕ) (h : List Deed) (me : Caller) (f : CpuFlight) (ds : List Deed) (st : PlayState) (ns : List Noted) → HasEntered k c h (Some f) (map ended ns)
-    → HasEntered k c ((cpu_step shape k c h me f).deeds ++ h) (cpu_step shape k c h me f).caller.flight (map ended (note (actor.Cpu c) (op.Cpu (op_of f)) ds st (cpu_step shape k c h me f).answer ns))
+entered_now : (shape : ℕ → Option Shape) (k : Config) (c : ℕ) (h : List Deed) (me : Caller) (f : CpuFlight) (ds : List Deed) (st : PlayState) (ns : List Noted)
+    → HasEntered k c h (Some f) (map ended ns)
+    → HasEntered k c ((cpu_step shape k c h me f).deeds ++ h) (cpu_step shape k c h me f).caller.flight
+    (map ended (with_note (actor.Cpu c) (op.Cpu (op_of f)) ds st (cpu_step shape k c h me f).answer ns))
 entered_now shape k c h me f ds st ns was =
     let m = cpu_step shape k c h me f in
     let wears = cpu_step_wears shape k c h me f in
@@ -155,7 +162,8 @@ entered_now shape k c h me f ds st ns was =
           let same : op_of g.next ≡ op_of f = step_passes (λ o. o ≡ op_of f) shape k c h me f refl g.next g.flight in
           let counted = is_counted_on (op_of f) g.next same (ap is_on (sym g.flight) ∙ on) in
           let unworn : is_worn_behind k (actor.Cpu c) (op.Cpu (op_of f)) (map ended ns) ≡ false = sym (same_test k c h f (map ended ns) was) ∙ (sym wears.told ∙ ap is_told_worn g.answers) in
-          subst (λ r. nat_le k.max_calls (entered_calls c (map ended (note (actor.Cpu c) (op.Cpu (op_of f)) ds st r ns))) ≡ false) (sym g.answers) (unworn_on k c (op_of f) (map ended ns) counted unworn))
+          subst (λ r. nat_le k.max_calls (entered_calls c (map ended (with_note (actor.Cpu c) (op.Cpu (op_of f)) ds st r ns))) ≡ false) (sym g.answers)
+          (unworn_on k c (op_of f) (map ended ns) counted unworn))
           (cpu_advances shape k c h me f);
     }
 
@@ -206,28 +214,31 @@ module _ (shape : ℕ → Option Shape) (k : Config) where
       let old : HasEntered k c st.deeds (Some f) (map ended p.noted) = subst (λ x. HasEntered k c st.deeds x (map ended p.noted)) is (was.entered c within) in
       let mine : HasEntered st.config c st.deeds (Some f) (map ended p.noted) = subst (λ x. HasEntered x c st.deeds (Some f) (map ended p.noted)) (sym was.play.config) old in
       let told = (cpu_step_wears shape st.config c st.deeds me f).told in
-      let test = subst (λ x. (is_first (Some f) && nat_le st.config.max_calls (calls c st.deeds)) ≡ is_worn_behind x (actor.Cpu c) o (map ended p.noted)) was.play.config (same_test st.config c st.deeds f (map ended p.noted) mine) in
+      let test = subst (λ x. (is_first (Some f) && nat_le st.config.max_calls (calls c st.deeds)) ≡ is_worn_behind x (actor.Cpu c) o (map ended p.noted)) was.play.config
+      (same_test st.config c st.deeds f (map ended p.noted) mine) in
       record {
         play = (coherence_carried shape k).cpu_steps c p f was.play lt is;
         right = note_right k (actor.Cpu c) o ds st m.answer p.noted (λ x e. ap is_told_worn (sym e) ∙ (told ∙ test)) was.right;
-        entered = put st.config.cpus (λ b (x : Caller). HasEntered k b (m.deeds ++ st.deeds) x.flight (map ended (note (actor.Cpu c) o ds st m.answer p.noted))) st.callers c m.caller ok.count
+        entered = put st.config.cpus (λ b (x : Caller). HasEntered k b (m.deeds ++ st.deeds) x.flight (map ended (with_note (actor.Cpu c) o ds st m.answer p.noted))) st.callers c m.caller ok.count
             (λ b less other. entered_beside k b st.deeds (m.deeds ++ st.deeds) (the_caller st.callers b).flight (map ended p.noted) _ (calls_stay b (actor.Cpu c) other m.deeds st.deeds did.goes.by)
             (note_beside b (actor.Cpu c) o ds st m.answer p.noted other) (was.entered b less))
-            (λ less. subst (λ x. HasEntered x c (m.deeds ++ st.deeds) m.caller.flight (map ended (note (actor.Cpu c) o ds st m.answer p.noted))) was.play.config (entered_now shape st.config c st.deeds me f ds st p.noted mine));
+            (λ less. subst (λ x. HasEntered x c (m.deeds ++ st.deeds) m.caller.flight (map ended (with_note (actor.Cpu c) o ds st m.answer p.noted))) was.play.config
+            (entered_now shape st.config c st.deeds me f ds st p.noted mine));
       }
 
   consumer_steps : (p : Playing) (f : ConsumerFlight) → IsWornPlay shape k p → p.state.side.flight ≡ Some f → IsWornPlay shape k (behind_consumer_step shape p f)
   consumer_steps p f was is =
       let st : PlayState = p.state in
       let ok = was.play.coherent in
-      let m : Cleaned = consumer_step st.config st.deeds st.side st.callers f in
+      let m : ConsumerStep = consumer_step st.config st.deeds st.side st.callers f in
       let o : Op = op.Consumer (consumer_op_of f) in
       let ds : List Deed = m.deeds ++ p.cleaned in
       let did = consumer_keeps shape st.config st.deeds st.side st.callers ok.ranges ok.legal ok.rests ok.count ok.stands f (subst (StandsSide st.config st.deeds st.side) is ok.side) in
       record {
         play = (coherence_carried shape k).consumer_steps p f was.play is;
         right = note_right k actor.Consumer o ds st m.answer p.noted (λ x e. ap is_told_worn (sym e) ∙ consumer_unworn st.config st.deeds st.side st.callers f) was.right;
-        entered = λ b less. subst (λ (x : Option CpuFlight). HasEntered k b (m.deeds ++ st.deeds) x (map ended (note actor.Consumer o ds st m.answer p.noted))) (sym (flights_stay st.config st.deeds st.side st.callers ok.count f b less))
+        entered = λ b less. subst (λ (x : Option CpuFlight). HasEntered k b (m.deeds ++ st.deeds) x (map ended (with_note actor.Consumer o ds st m.answer p.noted)))
+            (sym (flights_stay st.config st.deeds st.side st.callers ok.count f b less))
             (entered_beside k b st.deeds (m.deeds ++ st.deeds) (the_caller st.callers b).flight (map ended p.noted) _ (calls_stay b actor.Consumer refl m.deeds st.deeds did.goes.by)
             (note_beside b actor.Consumer o ds st m.answer p.noted refl) (was.entered b less));
       }

@@ -45,7 +45,8 @@ use Rattle.dspec_deeds.specs.Legal.{fits_principal, fits_speculative}
 use Rattle.dspec_deeds.specs.Reports.{missed_busy}
 use Rattle.dspec_deeds.specs.Settling.{commit_fate, discard_fate, settle_fate}
 use Rattle.dspec_deeds.specs.Told.{answer_of}
-use Rattle.dspec_play.specs.Play.{Moved, Cleaned, same_word, is_alone, is_release, is_worn, is_mine, ends, wears, goes_on, spoken_at, shown_speculate, shown_commit, shown_discard, missed, shown_scan, asked, begun, popped, served, shown_service, cpu_step, takes_at, gives_at, next_slot, loads_slot, consumer_step}
+use Rattle.dspec_play.specs.Play.{Moved, ConsumerStep, same_word, is_alone, is_release, is_worn, is_mine, ends, wears, call_goes_on, spoken_at, shown_speculate, shown_commit, shown_discard}
+use Rattle.dspec_play.specs.Play.{missed, shown_scan, asked, begun, popped, served, shown_service, cpu_step, takes_at, gives_at, next_slot, loads_slot, consumer_step}
 use Rattle.dspec_play.specs.Coherent.{the_caller}
 use Rattle.dspec_play.specs.Plays.{is_worn_answer}
 use Rattle.dspec_play.specs.Wearing.{is_counted, is_first, is_told_worn, enters_call}
@@ -94,7 +95,7 @@ module _ (shape : ℕ → Option Shape) (k : Config) (c : ℕ) (h : List Deed) (
   done n o ds a counted unworn e = record { told = unworn; counts = rw (counted, unworn) (omega arith) }
 
   -- a call goes on
-  on : (n : ℕ) (o : CpuOp) (ds : List Deed) (f : CpuFlight) → calls c (ds ++ h) + n ≡ calls c h + ahead (Some f) → Does false n o (goes_on shape k c h me ds f)
+  on : (n : ℕ) (o : CpuOp) (ds : List Deed) (f : CpuFlight) → calls c (ds ++ h) + n ≡ calls c h + ahead (Some f) → Does false n o (call_goes_on shape k c h me ds f)
   on n o ds f e = record { told = refl; counts = omega arith }
 
   -- a deed that counts is entered now, or was before
@@ -207,12 +208,14 @@ module _ (shape : ℕ → Option Shape) (k : Config) (c : ℕ) (h : List Deed) (
       either 1 cpu_op.Speculation (same_word (word_at s h) w) _ _ (done 1 _ (Opened c record { issue = w.issue; slot = s } ∷ []) _ refl refl before) (missed_wears s (word_at s h))
   cpu_step_wears (cpu.SpeculateLoad id r) = speculate_wears id r (word_at id.slot h) (speculate_at (word_at id.slot h) id (is_mine shape k c h me id))
   cpu_step_wears (cpu.SpeculateTry id r w) =
-      either 0 (cpu_op.Speculate id r) (same_word (word_at id.slot h) w) _ _ (spoken_wears id r) (speculate_wears id r (word_at id.slot h) (speculate_at (word_at id.slot h) id (is_mine shape k c h me id)))
+      either 0 (cpu_op.Speculate id r) (same_word (word_at id.slot h) w) _ _ (spoken_wears id r)
+      (speculate_wears id r (word_at id.slot h) (speculate_at (word_at id.slot h) id (is_mine shape k c h me id)))
   cpu_step_wears (cpu.CommitLoad id) = commit_wears id (word_at id.slot h) (commit_at (word_at id.slot h) id (is_mine shape k c h me id))
   cpu_step_wears (cpu.CommitTry id w) =
       let f = commit_fate shape k c h id in
       either 0 (cpu_op.Commit id) (same_word (word_at id.slot h) w) _ _
-      (either 0 (cpu_op.Commit id) (is_alone (commit_at w id (is_mine shape k c h me id))) _ _ (on 0 _ (Commit c id f ∷ []) (cpu.CommitRelease id f) now) (done 0 _ (Commit c id f ∷ []) (answer_of f) refl (told_unworn f) now))
+      (either 0 (cpu_op.Commit id) (is_alone (commit_at w id (is_mine shape k c h me id))) _ _ (on 0 _ (Commit c id f ∷ []) (cpu.CommitRelease id f) now)
+      (done 0 _ (Commit c id f ∷ []) (answer_of f) refl (told_unworn f) now))
       (commit_wears id (word_at id.slot h) (commit_at (word_at id.slot h) id (is_mine shape k c h me id)))
   cpu_step_wears (cpu.CommitRelease id f) = done 1 (cpu_op.Commit id) (Release id.slot ∷ []) (answer_of f) refl (told_unworn f) before
   cpu_step_wears (cpu.DiscardLoad id) = discard_wears id (word_at id.slot h) (discard_at (word_at id.slot h) id (is_mine shape k c h me id))
@@ -229,10 +232,10 @@ module _ (shape : ℕ → Option Shape) (k : Config) (c : ℕ) (h : List Deed) (
       served_wears s (Settle c record { issue = w.issue; slot = s } (settle_fate shape k c h record { issue = w.issue; slot = s } w.code) ∷ []) _ (omega arith)
 
 module _ (k : Config) (h : List Deed) (side : ConsumerSide) (all : List Caller) where
-  abbrev IsUnworn : Cleaned → Type 0
+  abbrev IsUnworn : ConsumerStep → Type 0
   IsUnworn m = is_told_worn m.answer ≡ false
 
-  one_of : (b : Bool) (x y : Cleaned) → IsUnworn x → IsUnworn y → IsUnworn (if b then x else y)
+  one_of : (b : Bool) (x y : ConsumerStep) → IsUnworn x → IsUnworn y → IsUnworn (if b then x else y)
   one_of true x y p q = p
   one_of false x y p q = q
 

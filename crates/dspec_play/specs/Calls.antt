@@ -61,10 +61,10 @@ call_of (actor.Cpu c) st = cpu_call_of (the_caller st.callers c).flight
 call_of actor.Consumer st = consumer_call_of st.side.flight
 
 -- the record of a call, if it has one, passes a test
-abbrev pub is_of : (Record → Bool) → CpuOp → Bool
-is_of test (cpu_op.Trace r) = test r
-is_of test (cpu_op.Speculate id r) = test r
-is_of test o = true
+abbrev pub record_passes : (Record → Bool) → CpuOp → Bool
+record_passes test (cpu_op.Trace r) = test r
+record_passes test (cpu_op.Speculate id r) = test r
+record_passes test o = true
 
 -- the CPU that a call of the consumer is about, if it is about one, exists
 abbrev pub is_about : Config → ConsumerOp → Bool
@@ -92,7 +92,7 @@ abbrev pub begin_cpu_fault : (Record → Bool) → ℕ → CpuOp → PlayState �
 begin_cpu_fault accepts c o st =
     if not (nat_lt c st.config.cpus) then Some begin_fault.NoSuchActor
     else if not (is_idle (actor.Cpu c) st) then Some begin_fault.Busy
-    else if not (is_of accepts o) then Some begin_fault.BadRecord
+    else if not (record_passes accepts o) then Some begin_fault.BadRecord
     else None
 
 -- why a call of the consumer can't begin

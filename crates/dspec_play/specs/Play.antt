@@ -70,8 +70,8 @@ is_worn k c h = nat_le k.max_calls (calls c h)
 
 module _ (shape : ℕ → Option Shape) (k : Config) (c : ℕ) (h : List Deed) (me : Caller) where
   -- the call goes on: the next step is at that place
-  abbrev pub goes_on : List Deed → CpuFlight → Moved
-  goes_on ds f = record { caller = record me { flight = Some f; steps = me.steps + 1 }; deeds = ds; answer = None }
+  abbrev pub call_goes_on : List Deed → CpuFlight → Moved
+  call_goes_on ds f = record { caller = record me { flight = Some f; steps = me.steps + 1 }; deeds = ds; answer = None }
 
   abbrev pub ends : List Deed → Answer → Moved
   ends ds a = record { caller = record me { flight = None; steps = 0 }; deeds = ds; answer = Some a }
@@ -91,21 +91,21 @@ module _ (shape : ℕ → Option Shape) (k : Config) (c : ℕ) (h : List Deed) (
   -- what a word that was shown makes of a call, by the table: it ends, or the next step is an exchange that expects it
   abbrev pub shown_speculate : Speculation → Record → SlotState → Act → Moved
   shown_speculate id r w Granted = spoken_at id r
-  shown_speculate id r w (Attempt to) = goes_on [] (cpu.SpeculateTry id r w)
+  shown_speculate id r w (Attempt to) = call_goes_on [] (cpu.SpeculateTry id r w)
   shown_speculate id r w act = ends (Speculate c id r spoken.Void ∷ []) (answer.Spoken spoken_answer.Void)
 
   abbrev pub shown_commit : Speculation → SlotState → Act → Moved
-  shown_commit id w (Attempt to) = goes_on [] (cpu.CommitTry id w)
+  shown_commit id w (Attempt to) = call_goes_on [] (cpu.CommitTry id w)
   shown_commit id w act = ends (Commit c id decided.Void ∷ []) (answer.Decided decided_answer.Void)
 
   abbrev pub shown_discard : Speculation → SlotState → Act → Moved
-  shown_discard id w (Attempt to) = goes_on [] (cpu.DiscardTry id w)
+  shown_discard id w (Attempt to) = call_goes_on [] (cpu.DiscardTry id w)
   shown_discard id w act = ends (Discard c id decided.Void ∷ []) (answer.Decided decided_answer.Void)
 
   -- an exchange that succeeds, by the word that the table attempts: a commit that waits for no other CPU releases next
   abbrev pub committed_by : Speculation → Act → Moved
   committed_by id act =
-      if is_alone act then goes_on (Commit c id (commit_fate shape k c h id) ∷ []) (cpu.CommitRelease id (commit_fate shape k c h id))
+      if is_alone act then call_goes_on (Commit c id (commit_fate shape k c h id) ∷ []) (cpu.CommitRelease id (commit_fate shape k c h id))
       else ends (Commit c id (commit_fate shape k c h id) ∷ []) (answer_of (commit_fate shape k c h id))
 
   -- a discard by the one caller releases in the same step
@@ -119,24 +119,24 @@ module _ (shape : ℕ → Option Shape) (k : Config) (c : ℕ) (h : List Deed) (
   missed s w =
       if s == k.nspec then
       ends (Miss c s (is_decided w.code) ∷ []) (answer.Opening (if missed_busy c (Miss c s (is_decided w.code) ∷ h) then opening.Busy else opening.Unavailable))
-      else goes_on (Miss c s (is_decided w.code) ∷ []) (cpu.ScanLoad (s + 1))
+      else call_goes_on (Miss c s (is_decided w.code) ∷ []) (cpu.ScanLoad (s + 1))
 
   abbrev pub shown_scan : ℕ → SlotState → Act → Moved
-  shown_scan s w (Attempt to) = goes_on [] (cpu.ScanTry s w)
+  shown_scan s w (Attempt to) = call_goes_on [] (cpu.ScanTry s w)
   shown_scan s w act = missed s w
 
   -- the load of the ask, which seals where the CPU is asked and a spare is in hand
   abbrev pub asked : Spare → Bool → Moved
   asked spare.InHand true = record { caller = record me { flight = Some cpu.ServicePush; steps = me.steps + 1; spare = spare.Sealed }; deeds = Seal c ∷ []; answer = None }
-  asked place true = goes_on [] cpu.ServicePop
-  asked place false = goes_on [] (cpu.ServiceLoad 1 record { sealed = false; settled = 0 })
+  asked place true = call_goes_on [] cpu.ServicePop
+  asked place false = call_goes_on [] (cpu.ServiceLoad 1 record { sealed = false; settled = 0 })
 
   -- behind a slot of a service: the next one, or the call has ended
   abbrev pub served : ℕ → List Deed → Served → Moved
-  served s ds sum = if s == k.nspec then ends ds (answer.Served sum) else goes_on ds (cpu.ServiceLoad (s + 1) sum)
+  served s ds sum = if s == k.nspec then ends ds (answer.Served sum) else call_goes_on ds (cpu.ServiceLoad (s + 1) sum)
 
   abbrev pub shown_service : ℕ → Served → SlotState → Act → Moved
-  shown_service s sum w Granted = goes_on [] (cpu.ServiceStore s w sum)
+  shown_service s sum w Granted = call_goes_on [] (cpu.ServiceStore s w sum)
   shown_service s sum w act = served s [] sum
 
   -- the load of a slot's word in a service
@@ -153,21 +153,21 @@ module _ (shape : ℕ → Option Shape) (k : Config) (c : ℕ) (h : List Deed) (
   begun cpu_op.Speculation =
       if is_worn k c h then wears (answer.Opening opening.Worn)
       else if halted h then ends (Scan c false ∷ []) (answer.Opening opening.Stopped)
-      else goes_on (Scan c true ∷ []) (cpu.ScanLoad 1)
+      else call_goes_on (Scan c true ∷ []) (cpu.ScanLoad 1)
   begun (cpu_op.Speculate id r) =
       if is_worn k c h then wears (answer.Spoken spoken_answer.Worn)
       else if halted h then ends (Speculate c id r spoken.Stopped ∷ []) (answer.Spoken spoken_answer.Stopped)
-      else if in_range k id then goes_on [] (cpu.SpeculateLoad id r)
+      else if in_range k id then call_goes_on [] (cpu.SpeculateLoad id r)
       else ends (Speculate c id r spoken.Void ∷ []) (answer.Spoken spoken_answer.Void)
   begun (cpu_op.Commit id) =
       if is_worn k c h then wears (answer.Decided decided_answer.Worn)
       else if halted h then ends (Commit c id decided.Stopped ∷ []) (answer.Decided decided_answer.Stopped)
-      else if in_range k id then goes_on [] (cpu.CommitLoad id)
+      else if in_range k id then call_goes_on [] (cpu.CommitLoad id)
       else ends (Commit c id decided.Void ∷ []) (answer.Decided decided_answer.Void)
   begun (cpu_op.Discard id) =
       if is_worn k c h then wears (answer.Decided decided_answer.Worn)
       else if halted h then ends (Discard c id decided.Stopped ∷ []) (answer.Decided decided_answer.Stopped)
-      else if in_range k id then goes_on [] (cpu.DiscardLoad id)
+      else if in_range k id then call_goes_on [] (cpu.DiscardLoad id)
       else ends (Discard c id decided.Void ∷ []) (answer.Decided decided_answer.Void)
   begun cpu_op.Service =
       if is_fill k.policy then loads_service 1 record { sealed = false; settled = 0 }
@@ -176,7 +176,7 @@ module _ (shape : ℕ → Option Shape) (k : Config) (c : ℕ) (h : List Deed) (
   -- the pop of a spare, which seals where one came
   abbrev pub popped : Spare → Moved
   popped spare.GivenBack = record { caller = record me { flight = Some cpu.ServicePush; steps = me.steps + 1; spare = spare.Sealed }; deeds = Seal c ∷ []; answer = None }
-  popped place = goes_on [] (cpu.ServiceLoad 1 record { sealed = false; settled = 0 })
+  popped place = call_goes_on [] (cpu.ServiceLoad 1 record { sealed = false; settled = 0 })
 
   abbrev pub pushed : Moved
   pushed = record { caller = record me { flight = Some (cpu.ServiceLoad 1 record { sealed = true; settled = 0 }); steps = me.steps + 1; spare = spare.Handed }; deeds = []; answer = None }
@@ -208,7 +208,7 @@ module _ (shape : ℕ → Option Shape) (k : Config) (c : ℕ) (h : List Deed) (
       served s (Settle c record { issue = w.issue; slot = s } (settle_fate shape k c h record { issue = w.issue; slot = s } w.code) ∷ []) record { sealed = sum.sealed; settled = sum.settled + 1 }
 
 -- what a step of the consumer makes of its own side and of a CPU's, the deeds that it enters, and the answer
-pub record Cleaned : Type 0 where
+pub record ConsumerStep : Type 0 where
   pub side : ConsumerSide
   pub callers : List Caller
   pub deeds : List Deed
@@ -222,43 +222,43 @@ abbrev pub took : ℕ → ℕ → List Deed → Answer
 took n c h = answer.Took (batch_at c n h).drops (length (taken n c h)) (length (batch_at c n h).offers)
 
 module _ (k : Config) (h : List Deed) (side : ConsumerSide) (all : List Caller) where
-  abbrev pub keeps_on : List Deed → ConsumerFlight → Cleaned
+  abbrev pub keeps_on : List Deed → ConsumerFlight → ConsumerStep
   keeps_on ds f = record { side = record { flight = Some f; steps = side.steps + 1 }; callers = all; deeds = ds; answer = None }
 
-  abbrev pub stops : List Deed → Answer → Cleaned
+  abbrev pub stops : List Deed → Answer → ConsumerStep
   stops ds a = record { side = record { flight = None; steps = 0 }; callers = all; deeds = ds; answer = Some a }
 
   -- the call is about one CPU's side, which it changes
-  abbrev pub changes : ℕ → Caller → Answer → Cleaned
+  abbrev pub changes : ℕ → Caller → Answer → ConsumerStep
   changes c me a = record { side = record { flight = None; steps = 0 }; callers = slice_set all c me; deeds = []; answer = Some a }
 
   -- a take finds what was pushed, and gives the next batch
-  abbrev pub takes_at : ℕ → Caller → Spare → Cleaned
+  abbrev pub takes_at : ℕ → Caller → Spare → ConsumerStep
   takes_at c me spare.Handed = changes c (record me { spare = spare.Out; takes = me.takes + 1 }) (took me.takes c h)
   takes_at c me place = stops [] answer.TookNone
 
-  abbrev pub gives_at : ℕ → Caller → Spare → Cleaned
+  abbrev pub gives_at : ℕ → Caller → Spare → ConsumerStep
   gives_at c me spare.Out = changes c (record me { spare = spare.GivenBack }) (answer.GaveBack true)
   gives_at c me place = stops [] (answer.GaveBack false)
 
   -- behind a slot of a clean, of which so many were released: the next one, or the call has ended
-  abbrev pub next_slot : ℕ → List Deed → ℕ → Cleaned
+  abbrev pub next_slot : ℕ → List Deed → ℕ → ConsumerStep
   next_slot s ds n = if s == k.nspec then stops ds (answer.Cleaned n) else keeps_on ds (consumer.CleanLoad (s + 1) n)
 
-  abbrev pub loads_slot : ℕ → ℕ → Cleaned
+  abbrev pub loads_slot : ℕ → ℕ → ConsumerStep
   loads_slot s n = if awaits (word_at s h).code then keeps_on [] (consumer.CleanAck s (word_at s h) 0 n) else next_slot s [] n
 
   -- an acknowledgement: the next CPU's, or the exchange, or it is missing
-  abbrev pub loads_ack : ℕ → SlotState → ℕ → ℕ → Cleaned
+  abbrev pub loads_ack : ℕ → SlotState → ℕ → ℕ → ConsumerStep
   loads_ack s w c n =
       if nat_lt w.issue (ack c s h) then
       (if c + 1 == k.cpus then keeps_on [] (consumer.CleanReap s w n) else keeps_on [] (consumer.CleanAck s w (c + 1) n))
       else next_slot s [] n
 
-  abbrev pub reaps : ℕ → SlotState → ℕ → Cleaned
+  abbrev pub reaps : ℕ → SlotState → ℕ → ConsumerStep
   reaps s w n = if same_word (word_at s h) w then next_slot s (Release s ∷ []) (n + 1) else next_slot s [] n
 
-  abbrev pub consumer_begun : ConsumerOp → Cleaned
+  abbrev pub consumer_begun : ConsumerOp → ConsumerStep
   consumer_begun (consumer_op.Ask c) = changes c (record (the_caller all c) { want = (the_caller all c).takes + 1 }) answer.AskDone
   consumer_begun (consumer_op.Take c) = takes_at c (the_caller all c) (the_caller all c).spare
   consumer_begun (consumer_op.GiveBack c) = gives_at c (the_caller all c) (the_caller all c).spare
@@ -266,7 +266,7 @@ module _ (k : Config) (h : List Deed) (side : ConsumerSide) (all : List Caller) 
   consumer_begun consumer_op.Stop = if halted h then stops [] answer.StopDone else stops (Halt ∷ []) answer.StopDone
 
   -- one step of the consumer's call in flight
-  abbrev pub consumer_step : ConsumerFlight → Cleaned
+  abbrev pub consumer_step : ConsumerFlight → ConsumerStep
   consumer_step (consumer.Begun o) = consumer_begun o
   consumer_step (consumer.CleanLoad s n) = loads_slot s n
   consumer_step (consumer.CleanAck s w c n) = loads_ack s w c n

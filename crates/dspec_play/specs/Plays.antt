@@ -37,8 +37,8 @@ use Rattle.dspec_deeds.specs.Ranges.{start_fault}
 use Rattle.dspec_play.specs.Turns.{at_start, begin_cpu, begin_consumer, step}
 use Rattle.dspec_deeds.specs.Closes.{closing}
 
-abbrev pub Ended : Type 0
-Ended = Actor × Op × Answer
+abbrev pub EndedCall : Type 0
+EndedCall = Actor × Op × Answer
 
 -- a call that ended, with the deeds that it entered, the latest first, and the state that its last step found
 pub record Noted : Type 0 where
@@ -48,7 +48,7 @@ pub record Noted : Type 0 where
   pub deeds : List Deed
   pub found : PlayState
 
-abbrev pub ended : Noted → Ended
+abbrev pub ended : Noted → EndedCall
 ended n = (n.by, n.call, n.answer)
 
 -- the answer is the one that is read off the call's deeds, and off what its last step found
@@ -68,13 +68,13 @@ pub record Playing : Type 0 where
   pub noted : List Noted
 
 -- a player that has played so far is in that state, and has put down those answers, in order of ending
-pub record IsAt (now : PlayState) (answers : List Ended) (p : Playing) : Type 0 where
+pub record IsPlayingAt (now : PlayState) (answers : List EndedCall) (p : Playing) : Type 0 where
   pub state : now ≡ p.state
   pub told : answers ≡ map ended (reverse p.noted)
 
-abbrev pub note : Actor → Op → List Deed → PlayState → Option Answer → List Noted → List Noted
-note a o ds st None ns = ns
-note a o ds st (Some r) ns = record { by = a; call = o; answer = r; deeds = ds; found = st } ∷ ns
+abbrev pub with_note : Actor → Op → List Deed → PlayState → Option Answer → List Noted → List Noted
+with_note a o ds st None ns = ns
+with_note a o ds st (Some r) ns = record { by = a; call = o; answer = r; deeds = ds; found = st } ∷ ns
 
 abbrev pub with_entered : ℕ → List Deed → (ℕ → List Deed) → ℕ → List Deed
 with_entered c ds before d = if d == c then ds else before d
@@ -96,7 +96,7 @@ module _ (shape : ℕ → Option Shape) where
       record p {
         state = (step shape (actor.Cpu c) p.state).state;
         entered = with_entered c ((cpu_step shape p.state.config c p.state.deeds (the_caller p.state.callers c) f).deeds ++ p.entered c) p.entered;
-        noted = note (actor.Cpu c) (op.Cpu (op_of f)) ((cpu_step shape p.state.config c p.state.deeds (the_caller p.state.callers c) f).deeds ++ p.entered c) p.state
+        noted = with_note (actor.Cpu c) (op.Cpu (op_of f)) ((cpu_step shape p.state.config c p.state.deeds (the_caller p.state.callers c) f).deeds ++ p.entered c) p.state
             (step shape (actor.Cpu c) p.state).answer p.noted;
       }
 
@@ -106,7 +106,7 @@ module _ (shape : ℕ → Option Shape) where
       record p {
         state = (step shape actor.Consumer p.state).state;
         cleaned = (consumer_step p.state.config p.state.deeds p.state.side p.state.callers f).deeds ++ p.cleaned;
-        noted = note actor.Consumer (op.Consumer (consumer_op_of f)) ((consumer_step p.state.config p.state.deeds p.state.side p.state.callers f).deeds ++ p.cleaned) p.state
+        noted = with_note actor.Consumer (op.Consumer (consumer_op_of f)) ((consumer_step p.state.config p.state.deeds p.state.side p.state.callers f).deeds ++ p.cleaned) p.state
             (step shape actor.Consumer p.state).answer p.noted;
       }
 
@@ -152,7 +152,7 @@ module _ (shape : ℕ → Option Shape) where
   deeds_of k ts = closing shape k (played k ts).state.deeds
 
   -- the ended calls with their answers, in order of ending
-  abbrev pub answers_of : Config → List Turn → List Ended
+  abbrev pub answers_of : Config → List Turn → List EndedCall
   answers_of k ts = map ended (reverse (played k ts).noted)
 
 abbrev pub begin_refusal : ℕ → Option BeginFault → Option PlayFault
@@ -205,10 +205,10 @@ is_by c (actor.Cpu a) = c == a
 is_by c actor.Consumer = false
 
 -- how many of the CPU's calls were answered Worn
-abbrev pub worn_answers : ℕ → List Ended → ℕ
+abbrev pub worn_answers : ℕ → List EndedCall → ℕ
 worn_answers c [] = 0
 worn_answers c (e ∷ es) = worn_answers c es + (if is_by c e.0 && is_worn_answer e.2 then 1 else 0)
 
 -- the same, as far as 64 bits count
-abbrev pub worn_count : List Ended → ℕ → ℕ
+abbrev pub worn_count : List EndedCall → ℕ → ℕ
 worn_count es c = min (worn_answers c es) (2 ^ 64 - 1)

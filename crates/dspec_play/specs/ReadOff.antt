@@ -71,21 +71,21 @@ has_seal [] = false
 has_seal (Seal c ∷ ds) = true
 has_seal (d ∷ ds) = has_seal ds
 
-abbrev pub settles : Deed → ℕ
-settles (Settle c id f) = 1
-settles d = 0
+abbrev pub count_of_settlement : Deed → ℕ
+count_of_settlement (Settle c id f) = 1
+count_of_settlement d = 0
 
 abbrev pub settle_count : List Deed → ℕ
 settle_count [] = 0
-settle_count (d ∷ ds) = settle_count ds + settles d
+settle_count (d ∷ ds) = settle_count ds + count_of_settlement d
 
-abbrev pub releases : Deed → ℕ
-releases (Release s) = 1
-releases d = 0
+abbrev pub count_of_release : Deed → ℕ
+count_of_release (Release s) = 1
+count_of_release d = 0
 
 abbrev pub release_count : List Deed → ℕ
 release_count [] = 0
-release_count (d ∷ ds) = release_count ds + releases d
+release_count (d ∷ ds) = release_count ds + count_of_release d
 
 -- the answer of a CPU's call that entered these deeds
 abbrev pub answer_of_cpu : CpuOp → List Deed → Answer

@@ -13,7 +13,7 @@ use Rattle.dspec_play.specs.declared.flight.ConsumerFlight.{ConsumerFlight}
 use Rattle.dspec_play.specs.declared.flight.ConsumerFlight.TheVariants as consumer
 use Rattle.dspec_play.specs.declared.flight.CpuFlight.{CpuFlight}
 use Rattle.dspec_play.specs.declared.flight.CpuFlight.TheVariants as cpu
-use Rattle.dspec_play.specs.Play.{Moved, Cleaned, cpu_step, consumer_step}
+use Rattle.dspec_play.specs.Play.{Moved, ConsumerStep, cpu_step, consumer_step}
 use Rattle.dspec_play.specs.Coherent.{PlayState, the_caller, idle_caller}
 
 abbrev pub idle_callers : ℕ → List Caller
@@ -38,7 +38,7 @@ pub record Stepped : Type 0 where
 abbrev pub moved_to : PlayState → ℕ → Moved → Stepped
 moved_to st c m = record { state = record st { deeds = m.deeds ++ st.deeds; callers = slice_set st.callers c m.caller }; answer = m.answer }
 
-abbrev pub cleaned_to : PlayState → Cleaned → Stepped
+abbrev pub cleaned_to : PlayState → ConsumerStep → Stepped
 cleaned_to st m = record { state = record st { deeds = m.deeds ++ st.deeds; callers = m.callers; side = m.side }; answer = m.answer }
 
 module _ (shape : ℕ → Option Shape) where

@@ -9,7 +9,7 @@ use Rattle.dspec_deeds.specs.declared.calls.Op.{Op}
 use Rattle.dspec_deeds.specs.declared.calls.Op.TheVariants as op
 use Rattle.dspec_play.specs.declared.flight.CpuFlight.{CpuFlight}
 use Rattle.dspec_play.specs.declared.flight.CpuFlight.TheVariants as cpu
-use Rattle.dspec_play.specs.Plays.{Ended, is_by, is_worn_answer}
+use Rattle.dspec_play.specs.Plays.{EndedCall, is_by, is_worn_answer}
 
 -- a call that counts towards the most that a CPU makes: each of a CPU's but a service
 abbrev pub is_counted : Op → Bool
@@ -32,16 +32,16 @@ abbrev pub enters_call : Op → Answer → Bool
 enters_call o a = is_counted o && not (is_worn_answer a)
 
 -- how many of the CPU's ended calls did
-abbrev pub entered_calls : ℕ → List Ended → ℕ
+abbrev pub entered_calls : ℕ → List EndedCall → ℕ
 entered_calls c [] = 0
 entered_calls c (e ∷ es) = entered_calls c es + (if is_by c e.0 && enters_call e.1 e.2 then 1 else 0)
 
 -- a call behind these is worn
-abbrev pub is_worn_behind : Config → Actor → Op → List Ended → Bool
+abbrev pub is_worn_behind : Config → Actor → Op → List EndedCall → Bool
 is_worn_behind k (actor.Cpu c) o es = is_counted o && nat_le k.max_calls (entered_calls c es)
 is_worn_behind k actor.Consumer o es = false
 
 -- of ended calls, the latest first, exactly those are answered Worn whose CPU had entered as many before as it may make
-abbrev pub AreWornRightly : Config → List Ended → Type 0
+abbrev pub AreWornRightly : Config → List EndedCall → Type 0
 AreWornRightly k [] = Unit {0}
 AreWornRightly k (e ∷ es) = (is_worn_answer e.2 ≡ is_worn_behind k e.0 e.1 es) × AreWornRightly k es

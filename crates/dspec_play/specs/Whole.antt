@@ -92,16 +92,16 @@ module _ (shape : ℕ → Option Shape) (k : Config) (c : ℕ) where
   settled_up zero h = h
   settled_up (suc n) h = settled_at (suc n) (settled_up n h)
 
-  abbrev pub settlements : ℕ → List Deed → ℕ
-  settlements zero h = 0
-  settlements (suc n) h = settlements n h + (if owes (suc n) (settled_up n h) then 1 else 0)
+  abbrev pub settlements_up_to : ℕ → List Deed → ℕ
+  settlements_up_to zero h = 0
+  settlements_up_to (suc n) h = settlements_up_to n h + (if owes (suc n) (settled_up n h) then 1 else 0)
 
   -- full buffers are switched, a batch is wanted, and all that were sealed before are given back
   abbrev pub is_sealing : Caller → List Deed → Bool
   is_sealing me h = not (is_fill k.policy) && (nat_lt (seals c h) me.want && (are_all_back (seals c h) me && nat_lt (seals c h) k.max_calls))
 
-  abbrev pub serves : Caller → List Deed → Bool → WholeCpu
-  serves me h sealed = record { list = settled_up k.nspec h; caller = me; answer = answer.Served record { sealed = sealed; settled = settlements k.nspec h } }
+  abbrev pub whole_service : Caller → List Deed → Bool → WholeCpu
+  whole_service me h sealed = record { list = settled_up k.nspec h; caller = me; answer = answer.Served record { sealed = sealed; settled = settlements_up_to k.nspec h } }
 
   -- a worn call is counted, and enters nothing
   abbrev pub wears_out : Caller → List Deed → Answer → WholeCpu
@@ -139,8 +139,8 @@ module _ (shape : ℕ → Option Shape) (k : Config) (c : ℕ) where
       else if is_sole c (callers id h) then enters me (Release id.slot ∷ Discard c id (discard_fate shape k c h id) ∷ h) (answer_of (discard_fate shape k c h id))
       else enters me (Discard c id (discard_fate shape k c h id) ∷ h) (answer_of (discard_fate shape k c h id))
   whole_cpu me h cpu_op.Service =
-      if is_sealing me h then serves (record me { spare = spare.Handed }) (Seal c ∷ h) true
-      else serves me h false
+      if is_sealing me h then whole_service (record me { spare = spare.Handed }) (Seal c ∷ h) true
+      else whole_service me h false
 
 -- what a whole call of the consumer leaves: the list, the CPUs' sides, and the answer
 pub record WholeConsumer : Type 0 where
@@ -207,18 +207,18 @@ module _ (shape : ℕ → Option Shape) where
   abbrev pub consumer_call : ConsumerOp → PlayState → WholeConsumer
   consumer_call o st = whole_consumer st.config st.callers st.deeds o
 
-  abbrev pub behind : Call → PlayState → PlayState
-  behind (of_cpu c o) st = behind_cpu c (cpu_call c o st) st
-  behind (of_consumer o) st = behind_consumer (consumer_call o st) st
+  abbrev pub behind_call : Call → PlayState → PlayState
+  behind_call (of_cpu c o) st = behind_cpu c (cpu_call c o st) st
+  behind_call (of_consumer o) st = behind_consumer (consumer_call o st) st
 
   -- behind whole calls, the first at the head
   abbrev pub behind_all : List Call → PlayState → PlayState
   behind_all [] st = st
-  behind_all (x ∷ xs) st = behind_all xs (behind x st)
+  behind_all (x ∷ xs) st = behind_all xs (behind_call x st)
 
-  abbrev pub answered : Call → PlayState → Answer
-  answered (of_cpu c o) st = (cpu_call c o st).answer
-  answered (of_consumer o) st = (consumer_call o st).answer
+  abbrev pub whole_answer : Call → PlayState → Answer
+  whole_answer (of_cpu c o) st = (cpu_call c o st).answer
+  whole_answer (of_consumer o) st = (consumer_call o st).answer
 
 -- the consumer's call takes no batch of a CPU that there isn't, or whose call is in flight
 abbrev pub IsApart : ConsumerOp → PlayState → Type 0

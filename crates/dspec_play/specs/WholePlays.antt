@@ -8,10 +8,10 @@ use Rattle.dspec_deeds.specs.declared.calls.Op.{Op}
 use Rattle.dspec_deeds.specs.declared.calls.Op.TheVariants as op
 use Rattle.dspec_deeds.specs.declared.calls.Turn.{Turn}
 use Rattle.dspec_deeds.specs.declared.calls.Turn.TheVariants.{RunCpu, RunConsumer}
-use Rattle.dspec_play.specs.Calls.{is_of}
+use Rattle.dspec_play.specs.Calls.{record_passes}
 use Rattle.dspec_play.specs.Coherent.{PlayState}
-use Rattle.dspec_play.specs.Plays.{Ended}
-use Rattle.dspec_play.specs.Whole.{Call, of_cpu, of_consumer, behind, answered}
+use Rattle.dspec_play.specs.Plays.{EndedCall}
+use Rattle.dspec_play.specs.Whole.{Call, of_cpu, of_consumer, behind_call, whole_answer}
 
 -- the turn that begins a call and runs it to its end
 abbrev pub turn_of : Call → Turn
@@ -27,15 +27,15 @@ operation_of (of_cpu c o) = op.Cpu o
 operation_of (of_consumer o) = op.Consumer o
 
 -- the record of the call, if it has one, passes the test
-abbrev pub IsAccepted : (Record → Bool) → Call → Type 0
-IsAccepted accepts (of_cpu c o) = is_of accepts o ≡ true
-IsAccepted accepts (of_consumer o) = Unit {0}
+abbrev pub HasAcceptedRecord : (Record → Bool) → Call → Type 0
+HasAcceptedRecord accepts (of_cpu c o) = record_passes accepts o ≡ true
+HasAcceptedRecord accepts (of_consumer o) = Unit {0}
 
 abbrev pub AreAccepted : (Record → Bool) → List Call → Type 0
 AreAccepted accepts [] = Unit {0}
-AreAccepted accepts (x ∷ xs) = IsAccepted accepts x × AreAccepted accepts xs
+AreAccepted accepts (x ∷ xs) = HasAcceptedRecord accepts x × AreAccepted accepts xs
 
 -- whole calls with their answers, the first at the head
-abbrev pub all_ended : (ℕ → Option Shape) → List Call → PlayState → List Ended
+abbrev pub all_ended : (ℕ → Option Shape) → List Call → PlayState → List EndedCall
 all_ended shape [] st = []
-all_ended shape (x ∷ xs) st = (actor_of x, operation_of x, answered shape x st) ∷ all_ended shape xs (behind shape x st)
+all_ended shape (x ∷ xs) st = (actor_of x, operation_of x, whole_answer shape x st) ∷ all_ended shape xs (behind_call shape x st)

@@ -1,6 +1,7 @@
 -- A value that is written with the zeros behind it.
 use Rattle.std.proofs.Common.{◌≡◌, ◌≤◌, ◌<◌, ◌+◌, ◌-◌, ◌++◌, ◌^◌, ◌%◌, ℕ, zero, suc, List, [], ◌∷◌, length, take, drop, get_or, replicate, sym, ◌∙◌, ap, subst, arith, refl, inl, inr}
-use Rattle.std.proofs.lemmas.List.{append_assoc, take_at, length-append, length-replicate, length-take-le, length-drop, get_or-append_right, get_or_append_left, get_or-replicate, get_or-drop, get_or_past, drop_all, append-nil, take-replicate, take-take, drop-take, take-append-drop}
+use Rattle.std.proofs.lemmas.List.{append_assoc, take_at, length-append, length-replicate, length-take-le, length-drop, get_or-append_right, get_or_append_left, get_or-replicate}
+use Rattle.std.proofs.lemmas.List.{get_or-drop, get_or_past, drop_all, append-nil, take-replicate, take-take, drop-take, take-append-drop}
 use Rattle.std.proofs.Math.Seq.{take-append-add}
 use Rattle.std.proofs.lemmas.Bool.{cases_lt}
 use borrow.Rule.Slice.PartMut.{post_of}
@@ -75,7 +76,8 @@ wide-fits Eight room n low (inr (inr (inl h))) = absurd (omega arith)
 wide-fits Eight room n low (inr (inr (inr h))) = absurd (omega arith)
 
 -- what was clear behind the last field and isn't written now is what stays clear behind this one
-still-clear : (f : Field) (end place size n k : ℕ) → place ≡ rounded_up end (width f) → size % 4 ≡ 0 → place + width f ≤ size → IsWide (size - place) n → place + n ≤ k → k < size → k < rounded_up (place + width f) 8 → k < rounded_up end 8
+still-clear : (f : Field) (end place size n k : ℕ) → place ≡ rounded_up end (width f) → size % 4 ≡ 0 → place + width f ≤ size → IsWide (size - place) n → place + n ≤ k
+    → k < size → k < rounded_up (place + width f) 8 → k < rounded_up end 8
 still-clear One end place size n k at whole room (inl h) past within near = omega arith
 still-clear One end place size n k at whole room (inr (inl h)) past within near = omega arith
 still-clear One end place size n k at whole room (inr (inr (inl h))) past within near = omega arith
@@ -121,7 +123,8 @@ record Written (f : Field) (v end place n : ℕ) (out out' : List ℕ) : Type 0 
 regroup : (a b c d : List ℕ) → a ++ ((b ++ c) ++ d) ≡ (a ++ b) ++ (c ++ d)
 regroup a b c d = simp append_assoc
 
-written : (f : Field) (v end place : ℕ) (out new : List ℕ) (w : IsWrittenWide v (drop place out) new) → v < 256 ^ width f → place + width f ≤ length out → Written f v end place w.count out (take place out ++ new)
+written : (f : Field) (v end place : ℕ) (out new : List ℕ) (w : IsWrittenWide v (drop place out) new) → v < 256 ^ width f → place + width f ≤ length out
+    → Written f v end place w.count out (take place out ++ new)
 written f v end place out new w holds room =
     let bytes : List ℕ = little_endian (width f) v in
     let zs : List ℕ = replicate (w.count - width f) 0 in
@@ -146,7 +149,8 @@ take-add n m xs =
     ∙ take-append-drop n (take (n + m) xs)
 
 -- the gap before the value is clear, and the value stands behind it
-pub written-put : (f : Field) (v end place : ℕ) (out new : List ℕ) → IsWrittenWide v (drop place out) new → v < 256 ^ width f → place ≡ rounded_up end (width f) → place + width f ≤ length out → IsClearBehind end out → take (place + width f) (take place out ++ new) ≡ take end out ++ (gap end (width f) ++ little_endian (width f) v)
+pub written-put : (f : Field) (v end place : ℕ) (out new : List ℕ) → IsWrittenWide v (drop place out) new → v < 256 ^ width f → place ≡ rounded_up end (width f)
+    → place + width f ≤ length out → IsClearBehind end out → take (place + width f) (take place out ++ new) ≡ take end out ++ (gap end (width f) ++ little_endian (width f) v)
 written-put f v end place out new w holds at room clear =
     let is : Written f v end place w.count out (take place out ++ new) = written f v end place out new w holds room in
     let bytes : List ℕ = little_endian (width f) v in
@@ -167,7 +171,8 @@ written-put f v end place out new w holds at room clear =
     place-near Eight end place at = omega arith
 
 -- a byte that isn't written now was clear, or there is none
-behind : (f : Field) (end place n k : ℕ) (out : List ℕ) → place ≡ rounded_up end (width f) → place + width f ≤ length out → length out % 4 ≡ 0 → IsWide (length out - place) n → IsClearBehind end out → place + n ≤ k → k < rounded_up (place + width f) 8 → get_or out k 0 ≡ 0
+behind : (f : Field) (end place n k : ℕ) (out : List ℕ) → place ≡ rounded_up end (width f) → place + width f ≤ length out → length out % 4 ≡ 0 → IsWide (length out - place) n
+    → IsClearBehind end out → place + n ≤ k → k < rounded_up (place + width f) 8 → get_or out k 0 ≡ 0
 behind f end place n k out at room whole wide clear past near =
     let low : end ≤ place = omega (arith, rounded_up-ge f end) in
     elim (cases_lt k (length out)) [
@@ -176,7 +181,8 @@ behind f end place n k out at room whole wide clear past near =
     ]
 
 -- and what is behind it is clear again
-pub written-clear : (f : Field) (v end place : ℕ) (out new : List ℕ) → IsWrittenWide v (drop place out) new → v < 256 ^ width f → place ≡ rounded_up end (width f) → place + width f ≤ length out → length out % 4 ≡ 0 → IsClearBehind end out → IsClearBehind (place + width f) (take place out ++ new)
+pub written-clear : (f : Field) (v end place : ℕ) (out new : List ℕ) → IsWrittenWide v (drop place out) new → v < 256 ^ width f → place ≡ rounded_up end (width f)
+    → place + width f ≤ length out → length out % 4 ≡ 0 → IsClearBehind end out → IsClearBehind (place + width f) (take place out ++ new)
 written-clear f v end place out new w holds at room whole clear k past near =
     let is : Written f v end place w.count out (take place out ++ new) = written f v end place out new w holds room in
     let n : ℕ = w.count in

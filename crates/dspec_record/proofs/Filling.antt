@@ -21,7 +21,8 @@ IsLaidOut-copied fs few =
       shape = ap (layout header.One) (sym back);
     }
 
-pub IsFilled-push : (h : Header) (rows : List (List Field)) (count : ℕ) (fs : List Field) → IsFilled (record { header = h; rows = rows; count = count }) → count < 64 → IsFilled (record { header = h; rows = set rows count fs; count = count + 1 })
+pub IsFilled-push : (h : Header) (rows : List (List Field)) (count : ℕ) (fs : List Field) → IsFilled (record { header = h; rows = rows; count = count }) → count < 64
+    → IsFilled (record { header = h; rows = set rows count fs; count = count + 1 })
 IsFilled-push h rows count fs is room =
     let none : List Field = [] in
     let past : count < count + 1 = omega arith in

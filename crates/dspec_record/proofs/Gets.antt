@@ -28,7 +28,8 @@ row-accepts o fs r is = ap (λ p. option_map_or (λ gs. fits gs r.values) p fals
 pub table_text-is : (h : Header) (fields : FieldTable) (fs : List Field) (r : Record) → fields r.epid ≡ Some fs → table_text h fields r ≡ record_text h fs r
 table_text-is h fields fs r is = ap (λ o. record_text h (unwrap_or o []) r) is
 
-pub BeginsWith-read : (h : Header) (fields : FieldTable) (fs : List Field) (epid : ℕ) (bytes : List ℕ) (r : Record) (size : ℕ) → fields epid ≡ Some fs → epid < 2 ^ 32 → size ≡ (layout h fs).size → IsRead h fs epid (take size bytes) r → BeginsWith (table_accepts h fields) (table_text h fields) bytes r size
+pub BeginsWith-read : (h : Header) (fields : FieldTable) (fs : List Field) (epid : ℕ) (bytes : List ℕ) (r : Record) (size : ℕ) → fields epid ≡ Some fs → epid < 2 ^ 32
+    → size ≡ (layout h fs).size → IsRead h fs epid (take size bytes) r → BeginsWith (table_accepts h fields) (table_text h fields) bytes r size
 BeginsWith-read h fields fs epid bytes r size is fits32 size_is read =
     let row : fields r.epid ≡ Some fs = ap fields read.epid_is ∙ is in
     let small : r.epid < 2 ^ 32 = omega (arith, read.epid_is) in
@@ -48,7 +49,9 @@ fits-accepted h fields fs r row accepted =
     sym (row-accepts (fields r.epid) fs r row) ∙ parts.values
 
 -- where no record of the EPID's fields has the text, no accepted record has it
-pub no_text-unread : (h : Header) (fields : FieldTable) (fs : List Field) (epid : ℕ) (text : List ℕ) → fields epid ≡ Some fs → epid < 2 ^ 32 → take 4 text ≡ little_endian 4 epid → ((r : Record) → IsTrue (stamp_fits h r.stamp) → IsTrue (fits fs r.values) → text ≢ record_text h fs r) → (r : Record) → IsTrue (table_accepts h fields r) → text ≢ table_text h fields r
+pub no_text-unread : (h : Header) (fields : FieldTable) (fs : List Field) (epid : ℕ) (text : List ℕ) → fields epid ≡ Some fs → epid < 2 ^ 32
+    → take 4 text ≡ little_endian 4 epid → ((r : Record) → IsTrue (stamp_fits h r.stamp) → IsTrue (fits fs r.values) → text ≢ record_text h fs r) → (r : Record)
+    → IsTrue (table_accepts h fields r) → text ≢ table_text h fields r
 no_text-unread h fields fs epid text is fits32 front unread r accepted e =
     let of = table-texts_fit h fields r accepted in
     let same : r.epid ≡ epid =
@@ -57,6 +60,7 @@ no_text-unread h fields fs epid text is fits32 front unread r accepted e =
     let parts : IsAccepted h r (fields r.epid) = accepted-parts h fields r accepted in
     unread r parts.stamp (fits-accepted h fields fs r row accepted) (e ∙ table_text-is h fields fs r row)
 
-pub length-accepted : (h : Header) (fields : FieldTable) (fs : List Field) (r : Record) → fields r.epid ≡ Some fs → IsTrue (table_accepts h fields r) → length (table_text h fields r) ≡ (layout h fs).size
+pub length-accepted : (h : Header) (fields : FieldTable) (fs : List Field) (r : Record) → fields r.epid ≡ Some fs → IsTrue (table_accepts h fields r)
+    → length (table_text h fields r) ≡ (layout h fs).size
 length-accepted h fields fs r row accepted =
     ap length (table_text-is h fields fs r row) ∙ length-record_text h fs r (fits-accepted h fields fs r row accepted)

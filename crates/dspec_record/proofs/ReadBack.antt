@@ -1,6 +1,7 @@
 -- A record while its text is read.
 use Rattle.std.proofs.Common.{◌≡◌, ◌≤◌, ◌<◌, ◌+◌, ◌-◌, ◌++◌, ◌^◌, ◌&&◌, ℕ, ltb, IsTrue, List, [], ◌∷◌, length, take, drop, get_or, replicate, sym, ◌∙◌, ap, subst, arith, refl}
-use Rattle.std.proofs.lemmas.List.{append_assoc, append-nil, take_at, drop_at, drop_more, length-replicate, drop-drop, length-append, length-take, length-drop, take-append-drop, drop-take, take-take, take_rest, drop_all}
+use Rattle.std.proofs.lemmas.List.{append_assoc, append-nil, take_at, drop_at, drop_more, length-replicate, drop-drop, length-append}
+use Rattle.std.proofs.lemmas.List.{length-take, length-drop, take-append-drop, drop-take, take-take, take_rest, drop_all}
 use Rattle.std.proofs.lemmas.Bool.{lt-ltb}
 use Rattle.dspec_record.specs.Record.{Record}
 use Rattle.dspec_record.specs.Layout.{width, rounded_up, after, fields_start, fields_end, layout}
@@ -22,14 +23,16 @@ pub record IsReading (h : Header) (all : List Field) (epid stamp : ℕ) (text : 
   pub short : length text ≤ 128
 
 -- the header at the front, put together of its EPID and of what is behind it
-header-front : (h : Header) (epid stamp : ℕ) (vs text : List ℕ) → 4 ≤ fields_start h → take 4 text ≡ little_endian 4 epid → drop 4 (take (fields_start h) text) ≡ stamp_text h stamp → header_text h (record { epid = epid; stamp = stamp; values = vs }) ≡ take (fields_start h) text
+header-front : (h : Header) (epid stamp : ℕ) (vs text : List ℕ) → 4 ≤ fields_start h → take 4 text ≡ little_endian 4 epid
+    → drop 4 (take (fields_start h) text) ≡ stamp_text h stamp → header_text h (record { epid = epid; stamp = stamp; values = vs }) ≡ take (fields_start h) text
 header-front h epid stamp vs text low front behind =
     ap (λ e. e ++ stamp_text h stamp) (sym front)
     ∙ ap (λ s. take 4 text ++ s) (sym behind)
     ∙ ap (λ e. e ++ drop 4 (take (fields_start h) text)) (sym (take-take 4 (fields_start h) text low))
     ∙ take-append-drop 4 (take (fields_start h) text)
 
-pub IsReading-start : (h : Header) (fs : List Field) (epid stamp : ℕ) (text : List ℕ) → length fs ≤ 8 → length text ≡ (layout h fs).size → take 4 text ≡ little_endian 4 epid → IsTrue (stamp_fits h stamp) → drop 4 (take (fields_start h) text) ≡ stamp_text h stamp → IsReading h fs epid stamp text (fields_start h) [] 0 fs
+pub IsReading-start : (h : Header) (fs : List Field) (epid stamp : ℕ) (text : List ℕ) → length fs ≤ 8 → length text ≡ (layout h fs).size → take 4 text ≡ little_endian 4 epid
+    → IsTrue (stamp_fits h stamp) → drop 4 (take (fields_start h) text) ≡ stamp_text h stamp → IsReading h fs epid stamp text (fields_start h) [] 0 fs
 IsReading-start h fs epid stamp text few long front stamp_fit behind = record {
   stamp_fit = stamp_fit;
   so_far = λ vs. ap (λ t. t ++ fields_text (fields_start h) fs vs) (header-front h epid stamp vs text (fields_start-ge h) front behind);
@@ -42,12 +45,14 @@ IsReading-start h fs epid stamp text few long front stamp_fit behind = record {
   short = omega (arith, (layout-IsShape h fs few).bounded);
 }
 
-pub IsReading-room : (d : Header) (all : List Field) (epid stamp : ℕ) (text : List ℕ) (end : ℕ) (read : List ℕ) (n : ℕ) (f : Field) (fs : List Field) → IsReading d all epid stamp text end read n (f ∷ fs) → after end (width f) (width f) ≤ length text
+pub IsReading-room : (d : Header) (all : List Field) (epid stamp : ℕ) (text : List ℕ) (end : ℕ) (read : List ℕ) (n : ℕ) (f : Field) (fs : List Field)
+    → IsReading d all epid stamp text end read n (f ∷ fs) → after end (width f) (width f) ≤ length text
 IsReading-room d all epid stamp text end read n f fs w =
     let next : ℕ = after end (width f) (width f) in
     omega (arith, w.exact, fields_end-ge next fs, rounded_up-ge Four (fields_end next fs))
 
-pub IsReading-near : (d : Header) (all : List Field) (epid stamp : ℕ) (text : List ℕ) (end : ℕ) (read : List ℕ) (n : ℕ) (fs : List Field) → IsReading d all epid stamp text end read n fs → end ≤ length text
+pub IsReading-near : (d : Header) (all : List Field) (epid stamp : ℕ) (text : List ℕ) (end : ℕ) (read : List ℕ) (n : ℕ) (fs : List Field)
+    → IsReading d all epid stamp text end read n fs → end ≤ length text
 IsReading-near d all epid stamp text end read n fs w =
     omega (arith, w.exact, fields_end-ge end fs, rounded_up-ge Four (fields_end end fs))
 
@@ -78,7 +83,8 @@ four_parts : (a b c x : List ℕ) → a ++ (b ++ (c ++ x)) ≡ a ++ (b ++ c) ++ 
 four_parts a b c x = simp append_assoc
 
 -- what is left of a text whose next field is `f`
-left-more : (text : List ℕ) (end : ℕ) (f : Field) (fs : List Field) (ws : List ℕ) → IsTrue (fits (f ∷ fs) ws) → drop end text ≡ fields_text end (f ∷ fs) ws → IsTrue (fits fs (drop 1 ws)) × (drop (after end (width f) (width f)) text ≡ fields_text (after end (width f) (width f)) fs (drop 1 ws))
+left-more : (text : List ℕ) (end : ℕ) (f : Field) (fs : List Field) (ws : List ℕ) → IsTrue (fits (f ∷ fs) ws) → drop end text ≡ fields_text end (f ∷ fs) ws
+    → IsTrue (fits fs (drop 1 ws)) × (drop (after end (width f) (width f)) text ≡ fields_text (after end (width f) (width f)) fs (drop 1 ws))
 left-more text end f fs [] h is = absurd (cc)
 left-more text end f fs (u ∷ us) h is =
     let next : ℕ = after end (width f) (width f) in
@@ -96,14 +102,17 @@ left-more text end f fs (u ∷ us) h is =
           ∙ drop_at (hole ++ bytes) (fields_text next fs us) (rounded_up end (width f) - end + width f) long,
     )
 
-left-gap : (text : List ℕ) (end : ℕ) (f : Field) (fs : List Field) (ws : List ℕ) → IsTrue (fits (f ∷ fs) ws) → drop end text ≡ fields_text end (f ∷ fs) ws → take (rounded_up end (width f) - end) (drop end text) ≡ gap end (width f)
+left-gap : (text : List ℕ) (end : ℕ) (f : Field) (fs : List Field) (ws : List ℕ) → IsTrue (fits (f ∷ fs) ws) → drop end text ≡ fields_text end (f ∷ fs) ws
+    → take (rounded_up end (width f) - end) (drop end text) ≡ gap end (width f)
 left-gap text end f fs [] h is = absurd (cc)
 left-gap text end f fs (u ∷ us) h is =
     let zero_byte : ℕ = 0 in
     ap (take (rounded_up end (width f) - end)) is
-    ∙ take_at (gap end (width f)) (little_endian (width f) u ++ fields_text (after end (width f) (width f)) fs us) (rounded_up end (width f) - end) (length-replicate (rounded_up end (width f) - end) zero_byte)
+    ∙ take_at (gap end (width f)) (little_endian (width f) u ++ fields_text (after end (width f) (width f)) fs us) (rounded_up end (width f) - end)
+    (length-replicate (rounded_up end (width f) - end) zero_byte)
 
-pub IsReading-more : (d : Header) (all : List Field) (epid stamp : ℕ) (text : List ℕ) (end : ℕ) (read : List ℕ) (n : ℕ) (f : Field) (fs : List Field) (v : ℕ) → IsReading d all epid stamp text end read n (f ∷ fs) → HasField text end f v → IsReading d all epid stamp text (after end (width f) (width f)) (read ++ v ∷ []) (n + 1) fs
+pub IsReading-more : (d : Header) (all : List Field) (epid stamp : ℕ) (text : List ℕ) (end : ℕ) (read : List ℕ) (n : ℕ) (f : Field) (fs : List Field) (v : ℕ)
+    → IsReading d all epid stamp text end read n (f ∷ fs) → HasField text end f v → IsReading d all epid stamp text (after end (width f) (width f)) (read ++ v ∷ []) (n + 1) fs
 IsReading-more d all epid stamp text end read n f fs v w h =
     let next : ℕ = after end (width f) (width f) in
     let one : (vs : List ℕ) → read ++ v ∷ [] ++ vs ≡ read ++ v ∷ vs = λ vs. append_assoc read (v ∷ []) vs in
@@ -126,7 +135,8 @@ IsReading-more d all epid stamp text end read n f fs v w h =
       short = w.short;
     }
 
-pub IsReading-end : (d : Header) (all : List Field) (epid stamp : ℕ) (text : List ℕ) (end : ℕ) (read : List ℕ) (n : ℕ) → IsReading d all epid stamp text end read n [] → drop end text ≡ gap end 4 → IsRead d all epid text (record { epid = epid; stamp = stamp; values = read })
+pub IsReading-end : (d : Header) (all : List Field) (epid stamp : ℕ) (text : List ℕ) (end : ℕ) (read : List ℕ) (n : ℕ) → IsReading d all epid stamp text end read n []
+    → drop end text ≡ gap end 4 → IsRead d all epid text (record { epid = epid; stamp = stamp; values = read })
 IsReading-end d all epid stamp text end read n w zeros =
     let whole : read ++ [] ≡ read = append-nil read in
     record {
@@ -138,13 +148,15 @@ IsReading-end d all epid stamp text end read n w zeros =
           ∙ w.so_far [] ∙ ap (λ zs. take end text ++ zs) (sym zeros) ∙ take-append-drop end text;
     }
 
-at_field : (d : Header) (all : List Field) (epid stamp : ℕ) (text : List ℕ) (end : ℕ) (read : List ℕ) (i : ℕ) → i < length all → IsReading d all epid stamp text end read i (drop i all) → IsReading d all epid stamp text end read i (get_or all i One ∷ drop (i + 1) all)
+at_field : (d : Header) (all : List Field) (epid stamp : ℕ) (text : List ℕ) (end : ℕ) (read : List ℕ) (i : ℕ) → i < length all
+    → IsReading d all epid stamp text end read i (drop i all) → IsReading d all epid stamp text end read i (get_or all i One ∷ drop (i + 1) all)
 at_field d all epid stamp text end read i within w =
     let Left : List Field → Type 0 = λ fs. IsReading d all epid stamp text end read i fs in
     subst Left (drop_more all i One within) w
 
 -- the next field ends within the text
-pub next-within : (d : Header) (all : List Field) (epid stamp : ℕ) (text : List ℕ) (end : ℕ) (read : List ℕ) (i place w : ℕ) → i < length all → IsReading d all epid stamp text end read i (drop i all) → place ≡ rounded_up end (width (get_or all i One)) → w ≡ width (get_or all i One) → place + w ≤ length text
+pub next-within : (d : Header) (all : List Field) (epid stamp : ℕ) (text : List ℕ) (end : ℕ) (read : List ℕ) (i place w : ℕ) → i < length all
+    → IsReading d all epid stamp text end read i (drop i all) → place ≡ rounded_up end (width (get_or all i One)) → w ≡ width (get_or all i One) → place + w ≤ length text
 next-within d all epid stamp text end read i place w within inv at wide =
     omega (arith, at, wide, IsReading-room d all epid stamp text end read i (get_or all i One) (drop (i + 1) all) (at_field d all epid stamp text end read i within inv))
 
@@ -152,7 +164,10 @@ gap-is : (text : List ℕ) (end place : ℕ) → end ≤ place → place ≤ len
 gap-is text end place low high = omega (arith, length-take (place - end) (drop end text), length-drop end text)
 
 -- one iteration: the gap from `end` to `place` is zero, and `v` has the `w` bytes behind it
-pub IsReading-next : (d : Header) (all : List Field) (epid stamp : ℕ) (text : List ℕ) (end : ℕ) (read : List ℕ) (i place w v : ℕ) → i < length all → IsReading d all epid stamp text end read i (drop i all) → place ≡ rounded_up end (width (get_or all i One)) → w ≡ width (get_or all i One) → take (place - end) (drop end text) ≡ replicate (length (take (place - end) (drop end text))) 0 → v < 256 ^ width (get_or all i One) → little_endian (width (get_or all i One)) v ≡ take (place + w - place) (drop place text) → IsReading d all epid stamp text (place + w) (read ++ v ∷ []) (i + 1) (drop (i + 1) all)
+pub IsReading-next : (d : Header) (all : List Field) (epid stamp : ℕ) (text : List ℕ) (end : ℕ) (read : List ℕ) (i place w v : ℕ) → i < length all
+    → IsReading d all epid stamp text end read i (drop i all) → place ≡ rounded_up end (width (get_or all i One)) → w ≡ width (get_or all i One)
+    → take (place - end) (drop end text) ≡ replicate (length (take (place - end) (drop end text))) 0 → v < 256 ^ width (get_or all i One)
+    → little_endian (width (get_or all i One)) v ≡ take (place + w - place) (drop place text) → IsReading d all epid stamp text (place + w) (read ++ v ∷ []) (i + 1) (drop (i + 1) all)
 IsReading-next d all epid stamp text end read i place w v within inv at wide zeros holds written =
     let f : Field = get_or all i One in
     let low : end ≤ rounded_up end (width f) = rounded_up-ge f end in
@@ -168,7 +183,9 @@ IsReading-next d all epid stamp text end read i place w v within inv at wide zer
     subst At next (IsReading-more d all epid stamp text end read i f (drop (i + 1) all) v (at_field d all epid stamp text end read i within inv) has)
 
 -- a record with the text has zeros in the next gap
-pub IsReading-gap : (d : Header) (all : List Field) (epid stamp : ℕ) (text : List ℕ) (end : ℕ) (read : List ℕ) (i place : ℕ) → i < length all → IsReading d all epid stamp text end read i (drop i all) → place ≡ rounded_up end (width (get_or all i One)) → (r : Record) → IsTrue (fits all r.values) → text ≡ record_text d all r → take (place - end) (drop end text) ≡ replicate (length (take (place - end) (drop end text))) 0
+pub IsReading-gap : (d : Header) (all : List Field) (epid stamp : ℕ) (text : List ℕ) (end : ℕ) (read : List ℕ) (i place : ℕ) → i < length all
+    → IsReading d all epid stamp text end read i (drop i all) → place ≡ rounded_up end (width (get_or all i One)) → (r : Record) → IsTrue (fits all r.values)
+    → text ≡ record_text d all r → take (place - end) (drop end text) ≡ replicate (length (take (place - end) (drop end text))) 0
 IsReading-gap d all epid stamp text end read i place within inv at r fit is =
     let f : Field = get_or all i One in
     let here : IsReading d all epid stamp text end read i (f ∷ drop (i + 1) all) = at_field d all epid stamp text end read i within inv in
@@ -178,7 +195,8 @@ IsReading-gap d all epid stamp text end read i place within inv at r fit is =
     ap (λ p. take (p - end) (drop end text)) at ∙ left-gap text end f (drop (i + 1) all) (drop i r.values) left.0 left.1 in
     hole ∙ ap (λ n. replicate n 0) (ap (λ p. p - end) (sym at) ∙ sym (gap-is text end place (omega (arith, rounded_up-ge f end)) (omega arith)))
 
-no_more : (d : Header) (all : List Field) (epid stamp : ℕ) (text : List ℕ) (end : ℕ) (read : List ℕ) (i : ℕ) → length all ≤ i → IsReading d all epid stamp text end read i (drop i all) → IsReading d all epid stamp text end read i []
+no_more : (d : Header) (all : List Field) (epid stamp : ℕ) (text : List ℕ) (end : ℕ) (read : List ℕ) (i : ℕ) → length all ≤ i
+    → IsReading d all epid stamp text end read i (drop i all) → IsReading d all epid stamp text end read i []
 no_more d all epid stamp text end read i past w =
     let Left : List Field → Type 0 = λ fs. IsReading d all epid stamp text end read i fs in
     subst Left (drop_all i all past) w
@@ -187,11 +205,14 @@ rest-is : (text : List ℕ) (end : ℕ) → end ≤ length text → length (take
 rest-is text end high = gap-is text end (length text) high (omega arith)
 
 -- the bytes behind the last field
-rest-zero : (text : List ℕ) (end : ℕ) → end ≤ length text → rounded_up end 4 ≡ length text → take (length text - end) (drop end text) ≡ replicate (length (take (length text - end) (drop end text))) 0 → drop end text ≡ gap end 4
+rest-zero : (text : List ℕ) (end : ℕ) → end ≤ length text → rounded_up end 4 ≡ length text
+    → take (length text - end) (drop end text) ≡ replicate (length (take (length text - end) (drop end text))) 0 → drop end text ≡ gap end 4
 rest-zero text end high exact zeros =
     sym (take_rest text end) ∙ zeros ∙ ap (λ n. replicate n 0) (rest-is text end high) ∙ ap (λ n. replicate (n - end) 0) (sym exact)
 
-pub IsReading-whole : (d : Header) (all : List Field) (epid stamp : ℕ) (text : List ℕ) (end : ℕ) (read : List ℕ) (i : ℕ) → length all ≡ i → IsReading d all epid stamp text end read i (drop i all) → take (length text - end) (drop end text) ≡ replicate (length (take (length text - end) (drop end text))) 0 → IsRead d all epid text (record { epid = epid; stamp = stamp; values = read })
+pub IsReading-whole : (d : Header) (all : List Field) (epid stamp : ℕ) (text : List ℕ) (end : ℕ) (read : List ℕ) (i : ℕ) → length all ≡ i
+    → IsReading d all epid stamp text end read i (drop i all) → take (length text - end) (drop end text) ≡ replicate (length (take (length text - end) (drop end text))) 0
+    → IsRead d all epid text (record { epid = epid; stamp = stamp; values = read })
 IsReading-whole d all epid stamp text end read i past w zeros =
     let done : IsReading d all epid stamp text end read i [] = no_more d all epid stamp text end read i (omega arith) w in
     IsReading-end d all epid stamp text end read i done (

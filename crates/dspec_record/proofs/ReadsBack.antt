@@ -22,7 +22,8 @@ record IsAtFront (shape : ℕ → Option Shape) (text : List ℕ) (bytes : List 
   long : h.size ≤ length bytes
   front : take h.size bytes ≡ text
 
-at_front : (shape : ℕ → Option Shape) (accepted : Record → Bool) (text : Record → List ℕ) → KeepsLaws shape accepted text → (r : Record) (rest : List ℕ) (ok : IsTrue (accepted r)) (of : IsTextOf shape r (text r)) → IsAtFront shape (text r) (text r ++ rest) of.shape_is
+at_front : (shape : ℕ → Option Shape) (accepted : Record → Bool) (text : Record → List ℕ) → KeepsLaws shape accepted text
+    → (r : Record) (rest : List ℕ) (ok : IsTrue (accepted r)) (of : IsTextOf shape r (text r)) → IsAtFront shape (text r) (text r ++ rest) of.shape_is
 at_front shape accepted text laws r rest ok of =
     let low : 4 ≤ of.shape_is.size = (laws.shapes_fit r.epid of.shape_is of.has_shape).with_epid in
     let within : 4 ≤ length (text r) = omega (arith, of.size) in
@@ -33,7 +34,9 @@ at_front shape accepted text laws r rest ok of =
       front = take_at (text r) rest of.shape_is.size of.size;
     }
 
-answer-is : (shape : ℕ → Option Shape) (accepted : Record → Bool) (text : Record → List ℕ) → KeepsLaws shape accepted text → (r : Record) (rest : List ℕ) → IsTrue (accepted r) → (h : Shape) → IsAtFront shape (text r) (text r ++ rest) h → (a : Result (Record × ℕ) ReadKind) → Answers shape accepted text (text r ++ rest) a → a ≡ Ok (r, length (text r))
+answer-is : (shape : ℕ → Option Shape) (accepted : Record → Bool) (text : Record → List ℕ) → KeepsLaws shape accepted text → (r : Record) (rest : List ℕ)
+    → IsTrue (accepted r) → (h : Shape) → IsAtFront shape (text r) (text r ++ rest) h → (a : Result (Record × ℕ) ReadKind) → Answers shape accepted text (text r ++ rest) a
+    → a ≡ Ok (r, length (text r))
 answer-is shape accepted text laws r rest ok h at (Ok (q, n)) b =
     let whole : text q ++ drop n (text r ++ rest) ≡ text r ++ rest =
     ap (λ t. t ++ drop n (text r ++ rest)) (sym b.front) ∙ take-append-drop n (text r ++ rest) in
@@ -53,7 +56,8 @@ answer-is shape accepted text laws r rest ok h at (Err GapNotZero) (s, names, un
     absurd (unread.none r ok (ap (λ p. take p.size (text r ++ rest)) same ∙ at.front))
 answer-is shape accepted text laws r rest ok h at (Err Misaligned) b = absurd b
 
-pub reads_back_by_laws : (shape : ℕ → Option Shape) (accepted : Record → Bool) (text : Record → List ℕ) → KeepsLaws shape accepted text → (r : Record) (rest : List ℕ) (a : Result (Record × ℕ) ReadKind) → IsTrue (accepted r) → Answers shape accepted text (text r ++ rest) a → a ≡ Ok (r, length (text r))
+pub reads_back_by_laws : (shape : ℕ → Option Shape) (accepted : Record → Bool) (text : Record → List ℕ) → KeepsLaws shape accepted text
+    → (r : Record) (rest : List ℕ) (a : Result (Record × ℕ) ReadKind) → IsTrue (accepted r) → Answers shape accepted text (text r ++ rest) a → a ≡ Ok (r, length (text r))
 reads_back_by_laws shape accepted text laws r rest a ok is =
     let of = laws.texts_fit r ok in
     answer-is shape accepted text laws r rest ok of.shape_is (at_front shape accepted text laws r rest ok of) a is

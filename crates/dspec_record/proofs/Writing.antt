@@ -20,7 +20,8 @@ pub record IsWriting (text : List ℕ) (end : ℕ) (out : List ℕ) (fs : List F
   pub fit : IsTrue (fits fs vs)
   pub clear : IsClearBehind end out
 
-pub IsWriting-start : (h : Header) (fs : List Field) (r : Record) (out : List ℕ) → length fs ≤ 8 → IsTrue (fits fs r.values) → take (fields_start h) out ≡ header_text h r → length out ≡ (layout h fs).size → IsClearBehind (fields_start h) out → IsWriting (record_text h fs r) (fields_start h) out fs r.values
+pub IsWriting-start : (h : Header) (fs : List Field) (r : Record) (out : List ℕ) → length fs ≤ 8 → IsTrue (fits fs r.values) → take (fields_start h) out ≡ header_text h r
+    → length out ≡ (layout h fs).size → IsClearBehind (fields_start h) out → IsWriting (record_text h fs r) (fields_start h) out fs r.values
 IsWriting-start h fs r out few fit header long clear =
     let shape = layout-IsShape h fs few in
     record {

@@ -175,6 +175,24 @@ impl Enablings {
         self.header
     }
 
+    /// How many enablings there are. Their EPIDs are 1, 2, .. up to this number.
+    pub fn count(&self) -> u32
+        ensures count { result ≡ length self.now.rows }
+        ensures few { result ≤ 64 }
+    {
+        self.count
+    }
+
+    /// The fields of the records with this EPID, in their order; None where it isn't enabled.
+    pub fn fields(&self, epid: u32) -> Option<&[Field]>
+        ensures { option_copied result ≡ enabling_of self.now.rows epid }
+    {
+        match self.enabling(epid) {
+            Some(enabling) => Some(enabling.fields()),
+            None => None,
+        }
+    }
+
     #[inline(always)]
     pub(crate) fn enabling(&self, epid: u32) -> Option<&Enabling>
         ensures { option_copied result ≡ enabling_of self.now.rows epid }

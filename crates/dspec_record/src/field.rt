@@ -17,7 +17,7 @@ pub enum Field {
 
 impl Field {
     /// In bytes.
-    pub(crate) fn width(self) -> usize
+    pub fn width(self) -> usize
         ensures { result ≡ width self }
     {
         match self {

@@ -1,16 +1,17 @@
 -- Turns one behind the other: the first that isn't played, and the calls that have ended.
 use Prim.Native.Nat.{zero, suc}
-use Rattle.std.proofs.Common.{◌≡◌, ◌<◌, ◌≤◌, ◌+◌, ◌++◌, ◌∷◌, [], ℕ, Bool, List, Option, Some, None, length, map, Result, Ok, Err, IfOk, take, drop, drop-cons, get_or, add-one, refl, sym, ap, ◌∙◌, subst, arith}
+use Rattle.std.proofs.Common.{◌≡◌, ◌<◌, ◌≤◌, ◌+◌, ◌++◌, ◌∷◌, [], ℕ, Bool, List, Option, Some, None, length, map}
+use Rattle.std.proofs.Common.{Result, Ok, Err, IfOk, take, drop, drop-cons, get_or, add-one, refl, sym, ap, ◌∙◌, subst, arith}
 use Rattle.std.proofs.lemmas.List.{take_more, map-append}
 use Rattle.dspec_record.specs.Record.{Record}
 use Rattle.dspec_deeds.specs.declared.calls.Turn.{Turn}
 use Rattle.dspec_deeds.specs.declared.config.Config.{Config}
 use Rattle.dspec_deeds.specs.Ranges.{start_fault}
 use Rattle.dspec_play.specs.declared.outcome.PlayFault.TheVariants as play_fault
-use Rattle.dspec_play.specs.Plays.{Ended}
+use Rattle.dspec_play.specs.Plays.{EndedCall}
 use Rattle.dspec_replay.specs.declared.halt.Halt.{Halt}
 use Rattle.dspec_replay.specs.declared.halt.Halt.TheVariants.{Play, NoText, NoWholeCall}
-use Rattle.dspec_replay.specs.Replayed.{IsDue, call_of, first_halt, first_of, schedule_halt, setup_halt, turn_halt, whole_call_of}
+use Rattle.dspec_replay.specs.Replayed.{IsDue, call_that_ended, first_halt, first_of, schedule_halt, setup_halt, turn_halt, whole_call_of}
 
 -- what is due here is due there
 pub due_by : (a b : Option Halt) (h : Halt) → ((x : Halt) → a ≡ Some x → b ≡ Some x) → IsDue a h → IsDue b h
@@ -37,16 +38,16 @@ take_all (x ∷ xs) (suc i) le = ap (λ l. x ∷ l) (take_all xs i (omega arith)
 
 module _ (accepted : Record → Bool) (k : Config) (ts : List Turn) where
   -- so many turns were played, and ended as their calls
-  pub record IsSoFar (i : ℕ) (answers : List Ended) : Type 0 where
+  pub record IsSoFar (i : ℕ) (answers : List EndedCall) : Type 0 where
     pub halts : first_halt accepted k.cpus i (drop i ts) ≡ first_halt accepted k.cpus 0 ts
-    pub calls : map call_of answers ≡ map whole_call_of (take i ts)
+    pub calls : map call_that_ended answers ≡ map whole_call_of (take i ts)
 
   pub so_far_first : IsSoFar 0 []
   so_far_first = record { halts = refl; calls = refl }
 
   -- one more turn
-  pub so_far_more : (i n : ℕ) (t d : Turn) (answers after : List Ended) → i < length ts → t ≡ get_or ts i d → n ≡ k.cpus → turn_halt accepted n i t ≡ None
-      → map call_of after ≡ map call_of answers ++ whole_call_of t ∷ [] → IsSoFar i answers → IsSoFar (i + 1) after
+  pub so_far_more : (i n : ℕ) (t d : Turn) (answers after : List EndedCall) → i < length ts → t ≡ get_or ts i d → n ≡ k.cpus → turn_halt accepted n i t ≡ None
+      → map call_that_ended after ≡ map call_that_ended answers ++ whole_call_of t ∷ [] → IsSoFar i answers → IsSoFar (i + 1) after
   so_far_more i n t d answers after lt is all none next s =
       let cons : drop i ts ≡ t ∷ drop (suc i) ts = drop-cons ts i d lt ∙ ap (λ x. x ∷ drop (suc i) ts) (sym is) in
       let one : drop (suc i) ts ≡ drop (i + 1) ts = ap (λ m. drop m ts) (sym (add-one i)) in
@@ -61,7 +62,7 @@ module _ (accepted : Record → Bool) (k : Config) (ts : List Turn) where
       }
 
   -- the turn is the one that the schedule isn't played for
-  pub so_far_refused : (i n : ℕ) (t d : Turn) (answers : List Ended) (h : Halt) → i < length ts → t ≡ get_or ts i d → n ≡ k.cpus → start_fault k ≡ None
+  pub so_far_refused : (i n : ℕ) (t d : Turn) (answers : List EndedCall) (h : Halt) → i < length ts → t ≡ get_or ts i d → n ≡ k.cpus → start_fault k ≡ None
       → IsDue (turn_halt accepted n i t) h → IsSoFar i answers → IsDue (schedule_halt accepted k ts) h
   so_far_refused i n t d answers h lt is all fine due s =
       let cons : drop i ts ≡ t ∷ drop (suc i) ts = drop-cons ts i d lt ∙ ap (λ x. x ∷ drop (suc i) ts) (sym is) in
@@ -73,8 +74,8 @@ module _ (accepted : Record → Bool) (k : Config) (ts : List Turn) where
       due
 
   -- behind the last turn none was refused
-  pub so_far_last : (i : ℕ) (answers : List Ended) → length ts ≤ i → start_fault k ≡ None → IsSoFar i answers
-      → (schedule_halt accepted k ts ≡ None) × (map call_of answers ≡ map whole_call_of ts)
+  pub so_far_last : (i : ℕ) (answers : List EndedCall) → length ts ≤ i → start_fault k ≡ None → IsSoFar i answers
+      → (schedule_halt accepted k ts ≡ None) × (map call_that_ended answers ≡ map whole_call_of ts)
   so_far_last i answers le fine s = (
     ap (λ f. first_of (setup_halt f) (first_halt accepted k.cpus 0 ts)) fine ∙ (sym s.halts ∙ ap (λ l. first_halt accepted k.cpus i l) (drop_all ts i le)),
     s.calls ∙ ap (λ l. map whole_call_of l) (take_all ts i le),

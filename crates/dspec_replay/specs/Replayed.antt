@@ -14,8 +14,8 @@ use Rattle.dspec_deeds.specs.declared.config.Config.{Config}
 use Rattle.dspec_deeds.specs.declared.config.StartFault.{StartFault}
 use Rattle.dspec_deeds.specs.Ranges.{start_fault}
 use Rattle.dspec_play.specs.declared.outcome.PlayFault.TheVariants as play_fault
-use Rattle.dspec_play.specs.Calls.{is_of}
-use Rattle.dspec_play.specs.Plays.{Ended}
+use Rattle.dspec_play.specs.Calls.{record_passes}
+use Rattle.dspec_play.specs.Plays.{EndedCall}
 use Rattle.dspec_replay.specs.declared.halt.Halt.{Halt}
 use Rattle.dspec_replay.specs.declared.playing.Playing.{Playing}
 use Rattle.dspec_replay.specs.declared.halt.Halt.TheVariants.{Play, NoText, NoWholeCall}
@@ -27,21 +27,21 @@ whole_call_of (RunConsumer o) = Some (actor.Consumer, op.Consumer o)
 whole_call_of t = None
 
 -- the same of a call that ended
-abbrev pub call_of : Ended → Option (Actor × Op)
-call_of e = Some (e.0, e.1)
+abbrev pub call_that_ended : EndedCall → Option (Actor × Op)
+call_that_ended e = Some (e.0, e.1)
 
 -- the CPU that a call of the consumer is about, if it is about one, is one of so many
-abbrev pub is_about : ℕ → ConsumerOp → Bool
-is_about n (consumer_op.Ask c) = nat_lt c n
-is_about n (consumer_op.Take c) = nat_lt c n
-is_about n (consumer_op.GiveBack c) = nat_lt c n
-is_about n o = true
+abbrev pub is_about_one_of : ℕ → ConsumerOp → Bool
+is_about_one_of n (consumer_op.Ask c) = nat_lt c n
+is_about_one_of n (consumer_op.Take c) = nat_lt c n
+is_about_one_of n (consumer_op.GiveBack c) = nat_lt c n
+is_about_one_of n o = true
 
 -- why the turn with a number isn't played by a session of so many CPUs
 abbrev pub turn_halt : (Record → Bool) → ℕ → ℕ → Turn → Option Halt
 turn_halt accepted n i (RunCpu c o) =
-    if nat_lt c n then (if is_of accepted o then None else Some (Play (play_fault.BadRecord i))) else Some (Play (play_fault.NoSuchActor i))
-turn_halt accepted n i (RunConsumer o) = if is_about n o then None else Some (Play (play_fault.NoSuchActor i))
+    if nat_lt c n then (if record_passes accepted o then None else Some (Play (play_fault.BadRecord i))) else Some (Play (play_fault.NoSuchActor i))
+turn_halt accepted n i (RunConsumer o) = if is_about_one_of n o then None else Some (Play (play_fault.NoSuchActor i))
 turn_halt accepted n i t = Some (NoWholeCall i)
 
 -- the first of two that is due, if one is

@@ -2,7 +2,7 @@ ghost use Rattle.std.specs.Prelude.{◌≡◌, ◌++◌, ◌∷◌, [], None, So
 ghost use Rattle.dspec_deeds.specs.Ranges.{start_fault};
 ghost use Rattle.dspec_session.specs.Sessions.{IsSession};
 ghost use Rattle.dspec_deeds.specs.declared.calls.Turn.TheVariants.{RunCpu, RunConsumer};
-ghost use Rattle.dspec_replay.specs.Replayed.{IsDue, IsSamePlay, call_of, setup_halt, turn_halt, whole_call_of};
+ghost use Rattle.dspec_replay.specs.Replayed.{IsDue, IsSamePlay, call_that_ended, setup_halt, turn_halt, whole_call_of};
 
 use crate::calls::call_consumer;
 use crate::halt::Halt;
@@ -94,7 +94,7 @@ impl<S: Schema> Playing<S> {
         ensures session { IsSession ⟦<Cpu<S> as Listed>⟧.is_ready self.new.schema self.new.session }
         ensures same { IsSamePlay self.old self.new }
         ensures answers { self.new.answers ≡ self.old.answers }
-        ensures its { IfOk result (λ ended. call_of ended ≡ whole_call_of turn) }
+        ensures its { IfOk result (λ ended. call_that_ended ended ≡ whole_call_of turn) }
         ensures allowed { IfOk result (λ _. turn_halt (S.accepted self.old.schema) (length self.old.session.cpus.items) number turn ≡ None) }
         ensures refused { IfErr result (IsDue (turn_halt (S.accepted self.old.schema) (length self.old.session.cpus.items) number turn)) }
     {
@@ -120,7 +120,7 @@ impl<S: Schema> Playing<S> {
         requires session { IsSession ⟦<Cpu<S> as Listed>⟧.is_ready self.old.schema self.old.session }
         ensures session { IsSession ⟦<Cpu<S> as Listed>⟧.is_ready self.new.schema self.new.session }
         ensures same { IsSamePlay self.old self.new }
-        ensures answered { OnOk result (map call_of self.new.answers ≡ map call_of self.old.answers ++ whole_call_of turn ∷ []) }
+        ensures answered { OnOk result (map call_that_ended self.new.answers ≡ map call_that_ended self.old.answers ++ whole_call_of turn ∷ []) }
         ensures allowed { IfOk result (λ _. turn_halt (S.accepted self.old.schema) (length self.old.session.cpus.items) number turn ≡ None) }
         ensures refused { IfErr result (IsDue (turn_halt (S.accepted self.old.schema) (length self.old.session.cpus.items) number turn)) }
     {

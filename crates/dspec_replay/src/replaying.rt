@@ -1,5 +1,5 @@
 ghost use Rattle.std.specs.Prelude.{◌≡◌, None, map, IfErr, IfOk};
-ghost use Rattle.dspec_replay.specs.Replayed.{IsDue, call_of, schedule_halt, whole_call_of};
+ghost use Rattle.dspec_replay.specs.Replayed.{IsDue, call_that_ended, schedule_halt, whole_call_of};
 
 use crate::halt::Halt;
 use crate::playing::Playing;
@@ -19,7 +19,7 @@ pub fn replay<S: Schema>(
     schema: S,
     turns: &[Turn],
 ) -> Result<Outcome, Halt>
-    ensures answered { IfOk result (λ outcome. map call_of outcome.answers ≡ map whole_call_of turns.now) }
+    ensures answered { IfOk result (λ outcome. map call_that_ended outcome.answers ≡ map whole_call_of turns.now) }
     ensures allowed { IfOk result (λ _. schedule_halt (S.accepted schema) config.now turns.now ≡ None) }
     ensures refused { IfErr result (IsDue (schedule_halt (S.accepted schema) config.now turns.now)) }
 {

@@ -1,8 +1,7 @@
-ghost use Rattle.std.specs.Prelude.{◌≡◌, false};
+ghost use Rattle.std.specs.Prelude.{◌≡◌};
 
-use dspec_deeds::{Config, CpuOp, Policy};
+use dspec_deeds::{Config, Policy};
 use dspec_record::{Enablings, Field, SchemaFault};
-use dspec_table::Doing;
 
 /// So many CPUs, speculations and bytes of buffers, with eight issues of a slot and a hundred calls of a CPU.
 pub fn sized(cpus: u32, nspec: u32, bufsize: u32, specsize: u32) -> Config
@@ -17,19 +16,6 @@ pub fn sized(cpus: u32, nspec: u32, bufsize: u32, specsize: u32) -> Config
         max_issues: 8,
         max_calls: 100,
         policy: Policy::Switch,
-    }
-}
-
-/// A call of this kind, with nothing to keep, by a CPU that is no caller.
-pub fn doing(op: CpuOp) -> Doing
-    ensures op { result.op ≡ op }
-    ensures mine { result.mine ≡ false }
-{
-    Doing {
-        op,
-        fits: false,
-        count: 0,
-        mine: false,
     }
 }
 

@@ -8,9 +8,10 @@ use Rattle.dspec_schedule.specs.declared.fault.LineKind.{LineKind}
 use Rattle.dspec_schedule.specs.declared.fault.LineKind.TheVariants.{BadNumber, BadEnabling, BadHeader}
 use Rattle.dspec_schedule.specs.declared.fault.ScheduleFault.{ScheduleFault}
 use Rattle.dspec_schedule.specs.declared.schedule.Schedule.{Schedule}
-use Rattle.dspec_schedule.specs.Reading.{Plan, HasOneHeader, has_no_turn, may_name_header, no_rows, header_of, first_line_of, enabled_by, headed_by, policed_by, turned_by, later_line_of, words_read, line_read, lines_read, lines_of, configured, schedule_of}
+use Rattle.dspec_schedule.specs.Reading.{Plan, HasOneHeader, has_no_turn, may_name_header, no_rows, header_of, first_line_of, enabled_by, headed_by}
+use Rattle.dspec_schedule.specs.Reading.{policed_by, turned_by, later_line_of, words_read, line_read, lines_read, lines_of, configured, schedule_of}
 use Rattle.dspec_schedule.specs.Schedules.{plan_of}
-use Rattle.dspec_schedule.specs.SetUp.{added_to, enabling_of, field_of_word, header_of_words}
+use Rattle.dspec_schedule.specs.SetUp.{added_to, enabling_read, field_of_word, header_of_words}
 use Rattle.dspec_schedule.specs.Steps.{◌>>=◌, at_line, each}
 use Rattle.dspec_schedule.specs.Words.{numbers_of, only_word, wide_number_of}
 
@@ -45,8 +46,8 @@ module _ {E : Type 0} where
 added-header : (e : EnabledRows) (fs : List Field) → Leaves (λ after. after.header ≡ e.header) (added_to e fs)
 added-header e fs = if_ok _ _ _ (gives _ refl) (fails _)
 
-enabling_of-header : (before : Bool) (e : EnabledRows) (words : List (List ℕ)) → Leaves (λ after. after.header ≡ e.header) (enabling_of before e words)
-unfolding enabling_of
+enabling_of-header : (before : Bool) (e : EnabledRows) (words : List (List ℕ)) → Leaves (λ after. after.header ≡ e.header) (enabling_read before e words)
+unfolding enabling_read
 enabling_of-header before e words =
     if_ok (not (is_ok (numbers_of words))) (Err BadNumber) _ (fails BadNumber)
     (if_ok (before && nat_le (length words) 8) _ (Err BadEnabling)

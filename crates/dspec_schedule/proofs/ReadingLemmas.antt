@@ -4,17 +4,17 @@ use Rattle.std.proofs.lemmas.Bool.{le-leb}
 use Rattle.dspec_record.specs.EnablingRows.{EnabledRows}
 use Rattle.dspec_record.specs.declared.header.Header.{Header}
 use Rattle.dspec_schedule.specs.declared.fault.LineKind.{LineKind}
-use Rattle.dspec_schedule.specs.Calls.{epid_of, record_of}
-use Rattle.dspec_schedule.specs.SetUp.{enabling_of, field_of_word}
+use Rattle.dspec_schedule.specs.Calls.{epid_of, record_read}
+use Rattle.dspec_schedule.specs.SetUp.{enabling_read, field_of_word}
 use Rattle.dspec_schedule.specs.Steps.{each}
 use Rattle.dspec_schedule.specs.Words.{numbers_of}
 
 pub record_of-values_fault : (h : Header) (words : List (List ℕ)) (epid : List ℕ) (values : List (List ℕ)) (e : ℕ × ℕ) (kind : LineKind) → words ≡ epid ∷ values
-    → length values ≤ 8 → epid_of h epid ≡ Ok e → numbers_of values ≡ Err kind → Err kind ≡ record_of h words
-unfolding record_of
+    → length values ≤ 8 → epid_of h epid ≡ Ok e → numbers_of values ≡ Err kind → Err kind ≡ record_read h words
+unfolding record_read
 record_of-values_fault h words epid values e kind parts few number fault = rw (parts, le-leb _ _ few, number, fault) refl
 
 pub enabling_of-field_fault : (rows : EnabledRows) (words : List (List ℕ)) (kind : LineKind)
-    → is_ok (numbers_of words) ≡ true → length words ≤ 8 → each field_of_word words ≡ Err kind → Err kind ≡ enabling_of true rows words
-unfolding enabling_of
+    → is_ok (numbers_of words) ≡ true → length words ≤ 8 → each field_of_word words ≡ Err kind → Err kind ≡ enabling_read true rows words
+unfolding enabling_read
 enabling_of-field_fault rows words kind numbers few fault = rw (numbers, le-leb _ _ few, fault) refl

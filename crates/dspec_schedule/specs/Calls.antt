@@ -21,8 +21,8 @@ use Rattle.dspec_schedule.specs.Steps.{◌>>=◌}
 use Rattle.dspec_schedule.specs.Words.{small_number_of, wide_number_of, numbers_of, only_word, no_word}
 
 -- `consumer`, or the number of a CPU
-unfoldable pub actor_of : List ℕ → Result Actor LineKind
-actor_of word = if bytes_eq word (codes "consumer") then Ok actor.Consumer else do
+unfoldable pub actor_read : List ℕ → Result Actor LineKind
+actor_read word = if bytes_eq word (codes "consumer") then Ok actor.Consumer else do
   cpu ← small_number_of word
   Ok (actor.Cpu cpu)
 
@@ -49,9 +49,9 @@ epid_of header.One word = do
 epid_of header.Two word = stamped_epid_of word
 
 -- a probe identifier with its stamp, and eight values at the most
-unfoldable pub record_of : Header → List (List ℕ) → Result Record LineKind
-record_of h [] = Err WordCount
-record_of h (epid ∷ values) = if nat_le (length values) 8 then (do
+unfoldable pub record_read : Header → List (List ℕ) → Result Record LineKind
+record_read h [] = Err WordCount
+record_read h (epid ∷ values) = if nat_le (length values) 8 then (do
   e ← epid_of h epid
   vs ← numbers_of values
   Ok (record { epid = e.0; stamp = e.1; values = vs })) else Err WordCount
@@ -75,14 +75,14 @@ unfoldable pub speculate_of : Header → List (List ℕ) → Result CpuOp LineKi
 speculate_of h [] = Err WordCount
 speculate_of h (id ∷ words) = if is_record_count (length words) then (do
   i ← id_of id
-  r ← record_of h words
+  r ← record_read h words
   Ok (Speculate i r)) else Err WordCount
 
 -- a call of a CPU: its operation, and what this takes
-unfoldable pub cpu_call_of : Header → List ℕ → List (List ℕ) → Result CpuOp LineKind
-cpu_call_of h operation words =
+unfoldable pub cpu_call_read : Header → List ℕ → List (List ℕ) → Result CpuOp LineKind
+cpu_call_read h operation words =
     if bytes_eq operation (codes "trace") then (do
-      r ← record_of h words
+      r ← record_read h words
       Ok (Trace r)) else
     (if bytes_eq operation (codes "speculation") then (do
       none ← no_word words
@@ -101,22 +101,22 @@ cpu_call_of h operation words =
       Ok Service) else Err UnknownWord)))))
 
 -- the one CPU that a call of the consumer is about
-unfoldable pub cpu_of : List (List ℕ) → Result ℕ LineKind
-cpu_of words = do
+unfoldable pub cpu_read : List (List ℕ) → Result ℕ LineKind
+cpu_read words = do
   word ← only_word words
   small_number_of word
 
 -- a call of the consumer: its operation, and what this takes
-unfoldable pub consumer_call_of : List ℕ → List (List ℕ) → Result ConsumerOp LineKind
-consumer_call_of operation words =
+unfoldable pub consumer_call_read : List ℕ → List (List ℕ) → Result ConsumerOp LineKind
+consumer_call_read operation words =
     if bytes_eq operation (codes "ask") then (do
-      cpu ← cpu_of words
+      cpu ← cpu_read words
       Ok (Ask cpu)) else
     (if bytes_eq operation (codes "take") then (do
-      cpu ← cpu_of words
+      cpu ← cpu_read words
       Ok (Take cpu)) else
     (if bytes_eq operation (codes "giveback") then (do
-      cpu ← cpu_of words
+      cpu ← cpu_read words
       Ok (GiveBack cpu)) else
     (if bytes_eq operation (codes "clean") then (do
       none ← no_word words
@@ -128,25 +128,25 @@ consumer_call_of operation words =
 -- a call of this actor
 unfoldable pub actor_call_of : Header → Actor → List ℕ → List (List ℕ) → Result Call LineKind
 actor_call_of h (actor.Cpu cpu) operation words = do
-  op ← cpu_call_of h operation words
+  op ← cpu_call_read h operation words
   Ok (call.Cpu cpu op)
 actor_call_of h actor.Consumer operation words = do
-  op ← consumer_call_of operation words
+  op ← consumer_call_read operation words
   Ok (call.Consumer op)
 
 -- an actor, and a call of it
-unfoldable pub call_of : Header → List (List ℕ) → Result Call LineKind
-call_of h [] = Err WordCount
-call_of h (who ∷ []) = Err WordCount
-call_of h (who ∷ operation ∷ words) = do
-  a ← actor_of who
+unfoldable pub call_read : Header → List (List ℕ) → Result Call LineKind
+call_read h [] = Err WordCount
+call_read h (who ∷ []) = Err WordCount
+call_read h (who ∷ operation ∷ words) = do
+  a ← actor_read who
   actor_call_of h a operation words
 
 -- an actor alone
 unfoldable pub stepping_of : List (List ℕ) → Result Actor LineKind
 stepping_of [] = Err WordCount
 stepping_of (who ∷ words) = do
-  a ← actor_of who
+  a ← actor_read who
   none ← no_word words
   Ok a
 
@@ -159,13 +159,13 @@ begun_call (call.Cpu cpu op) = BeginCpu cpu op
 begun_call (call.Consumer op) = BeginConsumer op
 
 -- the turn of a line, by its first word and those behind it
-unfoldable pub turn_of : Header → List ℕ → List (List ℕ) → Result Turn LineKind
-turn_of h first words =
+unfoldable pub turn_read : Header → List ℕ → List (List ℕ) → Result Turn LineKind
+turn_read h first words =
     if bytes_eq first (codes "run") then (do
-      c ← call_of h words
+      c ← call_read h words
       Ok (whole_call c)) else
     (if bytes_eq first (codes "begin") then (do
-      c ← call_of h words
+      c ← call_read h words
       Ok (begun_call c)) else
     (if bytes_eq first (codes "step") then (do
       a ← stepping_of words

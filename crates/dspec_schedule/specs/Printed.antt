@@ -97,17 +97,17 @@ values_text [] = []
 values_text (v ∷ vs) = codes "(" ++ join_by decimal (codes ",") (v ∷ vs) ++ codes ")"
 
 -- the stamp of a record, behind an `@`, where its header has one
-abbrev pub stamp_text : Header → ℕ → List ℕ
-stamp_text header.One stamp = []
-stamp_text header.Two stamp = codes "@" ++ decimal stamp
+abbrev pub printed_stamp : Header → ℕ → List ℕ
+printed_stamp header.One stamp = []
+printed_stamp header.Two stamp = codes "@" ++ decimal stamp
 
 -- a record: its probe identifier, its stamp, and its values
-unfoldable pub record_text : Header → Record → List ℕ
-record_text h r = decimal r.epid ++ stamp_text h r.stamp ++ values_text r.values
+unfoldable pub printed_record : Header → Record → List ℕ
+printed_record h r = decimal r.epid ++ printed_stamp h r.stamp ++ values_text r.values
 
 -- records, each behind a space
 abbrev pub records_text : Header → List Record → List ℕ
-records_text h rs = flat_map (λ r. codes " " ++ record_text h r) rs
+records_text h rs = flat_map (λ r. codes " " ++ printed_record h r) rs
 
 -- a batch taken: the drops counted since the one before, and its records, which are a part of the stream of its CPU
 abbrev pub batch_text : Header → List Record → ℕ → ℕ → ℕ → List ℕ

@@ -1,5 +1,6 @@
 -- What the text of a schedule says, or which of its lines has the first fault.
-use Rattle.std.specs.Prelude.{◌≡◌, ℕ, ◌+◌, ◌==◌, ◌&&◌, Bool, true, false, not, List, [], ◌∷◌, ◌++◌, length, if◌then◌else◌, bytes_eq, codes, Option, Some, None, unwrap_or, is_none, IfSome, Result, Ok, Err}
+use Rattle.std.specs.Prelude.{◌≡◌, ℕ, ◌+◌, ◌==◌, ◌&&◌, Bool, true, false, not, List, [], ◌∷◌, ◌++◌}
+use Rattle.std.specs.Prelude.{length, if◌then◌else◌, bytes_eq, codes, Option, Some, None, unwrap_or, is_none, IfSome, Result, Ok, Err}
 use Rattle.std.specs.List.{slice_split, list_all}
 use Rattle.dspec_record.specs.EnablingRows.{EnabledRows}
 use Rattle.dspec_record.specs.declared.header.Header.{Header}
@@ -9,10 +10,10 @@ use Rattle.dspec_deeds.specs.declared.config.Policy.{Policy}
 use Rattle.dspec_deeds.specs.declared.calls.Turn.{Turn}
 use Rattle.dspec_schedule.specs.declared.fault.LineKind.{LineKind}
 use Rattle.dspec_schedule.specs.declared.fault.LineKind.TheVariants.{NotPrintable, NoConfig}
-use Rattle.dspec_schedule.specs.Calls.{turn_of}
-use Rattle.dspec_schedule.specs.SetUp.{config_of, enabling_of, header_of_words, policy_of_words}
+use Rattle.dspec_schedule.specs.Calls.{turn_read}
+use Rattle.dspec_schedule.specs.SetUp.{config_read, enabling_read, header_of_words, policy_of_words}
 use Rattle.dspec_schedule.specs.Steps.{◌>>=◌, at_line}
-use Rattle.dspec_schedule.specs.Words.{is_printable, words_of}
+use Rattle.dspec_schedule.specs.Words.{is_printable, words_of_line}
 
 -- a schedule: its configuration with its line, the header that a line names, whether a line names the policy, its
 -- enablings where there are any, and its turns with their lines
@@ -26,8 +27,8 @@ pub record Plan : Type 0 where
   pub lines : List ℕ
 
 -- a schedule of a first line alone
-abbrev pub set_up : ℕ → Config → Plan
-set_up line k = record { config = k; config_line = line; named_header = None; is_policy_named = false; enablings = None; turns = []; lines = [] }
+abbrev pub plan_of_config : ℕ → Config → Plan
+plan_of_config line k = record { config = k; config_line = line; named_header = None; is_policy_named = false; enablings = None; turns = []; lines = [] }
 
 abbrev pub with_enablings : Plan → EnabledRows → Plan
 with_enablings p rows = record p { enablings = Some rows }
@@ -66,13 +67,13 @@ may_name_policy p = not p.is_policy_named && has_no_turn p
 -- the schedule of the first line that isn't skipped, by its first word and those behind it
 unfoldable pub first_line_of : ℕ → List ℕ → List (List ℕ) → Result Plan LineKind
 first_line_of line first words = if bytes_eq first (codes "config") then (do
-  k ← config_of words
-  Ok (set_up line k)) else Err NoConfig
+  k ← config_read words
+  Ok (plan_of_config line k)) else Err NoConfig
 
 -- the schedule with the enabling whose widths the words are
 unfoldable pub enabled_by : Plan → List (List ℕ) → Result Plan LineKind
 enabled_by p words = do
-  rows ← enabling_of (has_no_turn p) (unwrap_or p.enablings (no_rows (header_of p))) words
+  rows ← enabling_read (has_no_turn p) (unwrap_or p.enablings (no_rows (header_of p))) words
   Ok (with_enablings p rows)
 
 -- the schedule with the header that the words name
@@ -90,7 +91,7 @@ policed_by p words = do
 -- the schedule with the turn of a line
 unfoldable pub turned_by : Plan → ℕ → List ℕ → List (List ℕ) → Result Plan LineKind
 turned_by p line first words = do
-  turn ← turn_of (header_of p) first words
+  turn ← turn_read (header_of p) first words
   Ok (with_turn p line turn)
 
 -- the schedule with what a later line says, by its first word and those behind it
@@ -112,7 +113,7 @@ words_read (Some before) line (first ∷ words) = do
 
 -- the same with the bytes of one more line
 unfoldable pub line_read : Option Plan → ℕ → List ℕ → Result (Option Plan) LineKind
-line_read so_far line bytes = if list_all is_printable bytes then words_read so_far line (words_of bytes) else Err NotPrintable
+line_read so_far line bytes = if list_all is_printable bytes then words_read so_far line (words_of_line bytes) else Err NotPrintable
 
 -- the same with more lines, of which the first has this number
 abbrev pub lines_read : Option Plan → ℕ → List (List ℕ) → Result (Option Plan) (ℕ × LineKind)

@@ -11,7 +11,15 @@ use Rattle.dspec_schedule.specs.Reading.{Plan}
 
 -- what a schedule in memory holds
 abbrev pub plan_of : Schedule → Plan
-plan_of s = record { config = s.config; config_line = s.config_line; named_header = s.named_header; is_policy_named = s.is_policy_named; enablings = s.enablings; turns = s.turns.items; lines = s.lines.items }
+plan_of s = record {
+  config = s.config;
+  config_line = s.config_line;
+  named_header = s.named_header;
+  is_policy_named = s.is_policy_named;
+  enablings = s.enablings;
+  turns = s.turns.items;
+  lines = s.lines.items;
+}
 
 -- a fault of reading is out of memory, or the one that the text has
 abbrev pub IsReadingFault : {A : Type 0} → Result A (ℕ × LineKind) → ScheduleFault → Type 0
@@ -19,10 +27,10 @@ IsReadingFault read (Line line kind) = read ≡ Err (line, kind)
 IsReadingFault read Memory = Unit {0}
 
 -- a play's fault as it is told: at the line of the turn, among the lines of all turns, or at the configuration's
-abbrev pub told : ℕ → List ℕ → PlayFault → ScheduleFault
-told config_line lines (setup fault) = Line config_line (ConfigRefused fault)
-told config_line lines (no_such_actor turn) = Line (slice_index_or lines turn config_line) NoSuchActor
-told config_line lines (busy turn) = Line (slice_index_or lines turn config_line) Busy
-told config_line lines (idle_step turn) = Line (slice_index_or lines turn config_line) IdleStep
-told config_line lines (bad_record turn) = Line (slice_index_or lines turn config_line) BadRecord
-told config_line lines play_memory = Memory
+abbrev pub fault_as_told : ℕ → List ℕ → PlayFault → ScheduleFault
+fault_as_told config_line lines (setup fault) = Line config_line (ConfigRefused fault)
+fault_as_told config_line lines (no_such_actor turn) = Line (slice_index_or lines turn config_line) NoSuchActor
+fault_as_told config_line lines (busy turn) = Line (slice_index_or lines turn config_line) Busy
+fault_as_told config_line lines (idle_step turn) = Line (slice_index_or lines turn config_line) IdleStep
+fault_as_told config_line lines (bad_record turn) = Line (slice_index_or lines turn config_line) BadRecord
+fault_as_told config_line lines play_memory = Memory

@@ -32,15 +32,15 @@ configuration_of (cpus ∷ nspec ∷ bufsize ∷ specsize ∷ issues ∷ calls �
 configuration_of _ = Err WordCount
 
 -- a configuration whose numbers are all in their ranges
-abbrev pub in_range : Option StartFault → Config → Result Config LineKind
-in_range None k = Ok k
-in_range (Some fault) k = Err (ConfigRefused fault)
+abbrev pub config_checked : Option StartFault → Config → Result Config LineKind
+config_checked None k = Ok k
+config_checked (Some fault) k = Err (ConfigRefused fault)
 
 -- the configuration of the words behind `config`
-unfoldable pub config_of : List (List ℕ) → Result Config LineKind
-config_of words = do
+unfoldable pub config_read : List (List ℕ) → Result Config LineKind
+config_read words = do
   k ← configuration_of words
-  in_range (start_fault k) k
+  config_checked (start_fault k) k
 
 -- the header of a version
 unfoldable pub version_of : ℕ → Result Header LineKind
@@ -87,8 +87,8 @@ added_to enablings fields = if nat_lt (length enablings.rows) 64 then Ok (record
 
 -- the enablings with one more, whose widths the words behind `enable` are, if there are any: all words are looked at as
 -- numbers first
-unfoldable pub enabling_of : Bool → EnabledRows → List (List ℕ) → Result EnabledRows LineKind
-enabling_of before_turns enablings words =
+unfoldable pub enabling_read : Bool → EnabledRows → List (List ℕ) → Result EnabledRows LineKind
+enabling_read before_turns enablings words =
     if not (is_ok (numbers_of words)) then Err BadNumber else
     (if before_turns && nat_le (length words) 8 then (do
       fields ← each field_of_word words

@@ -16,8 +16,8 @@ abbrev pub pieces_of : List ℕ → List (List ℕ)
 pieces_of line = filter (λ piece. not (length piece == 0)) (slice_split (λ byte. byte == 32) line)
 
 -- the words of a line: a comment, whose first byte is '#' (35), has none
-abbrev pub words_of : List ℕ → List (List ℕ)
-words_of line = if slice_index line 0 == 35 then [] else pieces_of line
+abbrev pub words_of_line : List ℕ → List (List ℕ)
+words_of_line line = if slice_index line 0 == 35 then [] else pieces_of line
 
 -- one decimal digit or more, and nothing else
 abbrev pub is_numeral : List ℕ → Bool
@@ -25,17 +25,17 @@ is_numeral [] = false
 is_numeral (digit ∷ digits) = all_ascii_digits (digit ∷ digits)
 
 -- the number below the limit that a word of digits alone stands for
-unfoldable pub number_of : ℕ → List ℕ → Result ℕ LineKind
-number_of limit word =
+unfoldable pub number_read : ℕ → List ℕ → Result ℕ LineKind
+number_read limit word =
     if is_numeral word && nat_lt (digits_value 10 word) limit then Ok (digits_value 10 word) else Err BadNumber
 
 -- a number of 32 bits: a CPU, a probe identifier or a size
 abbrev pub small_number_of : List ℕ → Result ℕ LineKind
-small_number_of = number_of (2 ^ 32)
+small_number_of = number_read (2 ^ 32)
 
 -- a number of 64 bits
 abbrev pub wide_number_of : List ℕ → Result ℕ LineKind
-wide_number_of = number_of (2 ^ 64)
+wide_number_of = number_read (2 ^ 64)
 
 -- numbers of 64 bits
 abbrev pub numbers_of : List (List ℕ) → Result (List ℕ) LineKind

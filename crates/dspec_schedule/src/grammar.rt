@@ -1,6 +1,6 @@
 ghost use Rattle.std.specs.Prelude.{◌≡◌, map};
 ghost use Rattle.std.specs.Result.{result_map_both};
-ghost use Rattle.dspec_schedule.specs.Calls.{actor_call_of, actor_of, begun_call, call_of, consumer_call_of, cpu_call_of, cpu_of, epid_of, id_of, record_of, speculate_of, stamped_epid_of, stepping_of, turn_of, whole_call};
+ghost use Rattle.dspec_schedule.specs.Calls.{actor_call_of, actor_read, begun_call, call_read, consumer_call_read, cpu_call_read, cpu_read, epid_of, id_of, record_read, speculate_of, stamped_epid_of, stepping_of, turn_read, whole_call};
 ghost use Rattle.dspec_schedule.specs.Words.{no_word, only_word};
 
 use crate::fault::LineKind;
@@ -20,9 +20,9 @@ pub enum Call {
 }
 
 /// The turn of a line, by its first word and those behind it.
-#[tactic(auto, unfolding(crate::specs::Calls::turn_of))]
+#[tactic(auto, unfolding(crate::specs::Calls::turn_read))]
 pub fn turn(header: Header, first: &str, words: &[&str]) -> Result<Turn, LineKind>
-    ensures { result ≡ turn_of header first.now (map (λ word. word.now) words.now) }
+    ensures { result ≡ turn_read header first.now (map (λ word. word.now) words.now) }
 {
     match first {
         "run" => Ok(whole(named_call(header, words)?)),
@@ -66,9 +66,9 @@ fn stepping(words: &[&str]) -> Result<Actor, LineKind>
 }
 
 /// An actor, and a call of it.
-#[tactic(auto, unfolding(crate::specs::Calls::call_of))]
+#[tactic(auto, unfolding(crate::specs::Calls::call_read))]
 fn named_call(header: Header, words: &[&str]) -> Result<Call, LineKind>
-    ensures { result ≡ call_of header (map (λ word. word.now) words.now) }
+    ensures { result ≡ call_read header (map (λ word. word.now) words.now) }
 {
     let [who, operation, operands @ ..] = words else {
         return Err(LineKind::WordCount);
@@ -94,9 +94,9 @@ fn call_by(
 }
 
 /// The consumer, or a CPU by its number.
-#[tactic(auto, unfolding(crate::specs::Calls::actor_of))]
+#[tactic(auto, unfolding(crate::specs::Calls::actor_read))]
 fn actor(word: &str) -> Result<Actor, LineKind>
-    ensures { result ≡ actor_of word.now }
+    ensures { result ≡ actor_read word.now }
 {
     match word {
         "consumer" => Ok(Actor::Consumer),
@@ -105,9 +105,9 @@ fn actor(word: &str) -> Result<Actor, LineKind>
 }
 
 /// A call of a CPU: its operation, and what the operation takes.
-#[tactic(auto, unfolding(crate::specs::Calls::cpu_call_of))]
+#[tactic(auto, unfolding(crate::specs::Calls::cpu_call_read))]
 fn cpu_call(header: Header, operation: &str, operands: &[&str]) -> Result<CpuOp, LineKind>
-    ensures { result ≡ cpu_call_of header operation.now (map (λ word. word.now) operands.now) }
+    ensures { result ≡ cpu_call_read header operation.now (map (λ word. word.now) operands.now) }
 {
     match operation {
         "trace" => Ok(CpuOp::Trace(record(header, operands)?)),
@@ -127,9 +127,9 @@ fn cpu_call(header: Header, operation: &str, operands: &[&str]) -> Result<CpuOp,
 }
 
 /// A call of the consumer: its operation, and what the operation takes.
-#[tactic(auto, unfolding(crate::specs::Calls::consumer_call_of))]
+#[tactic(auto, unfolding(crate::specs::Calls::consumer_call_read))]
 fn consumer_call(operation: &str, operands: &[&str]) -> Result<ConsumerOp, LineKind>
-    ensures { result ≡ consumer_call_of operation.now (map (λ word. word.now) operands.now) }
+    ensures { result ≡ consumer_call_read operation.now (map (λ word. word.now) operands.now) }
 {
     match operation {
         "ask" => Ok(ConsumerOp::Ask(cpu(operands)?)),
@@ -148,9 +148,9 @@ fn consumer_call(operation: &str, operands: &[&str]) -> Result<ConsumerOp, LineK
 }
 
 /// The one CPU that a call of the consumer is about.
-#[tactic(auto, unfolding(crate::specs::Calls::cpu_of))]
+#[tactic(auto, unfolding(crate::specs::Calls::cpu_read))]
 fn cpu(words: &[&str]) -> Result<u32, LineKind>
-    ensures { result ≡ cpu_of (map (λ word. word.now) words.now) }
+    ensures { result ≡ cpu_read (map (λ word. word.now) words.now) }
 {
     small_number(only(words)?)
 }
@@ -179,9 +179,9 @@ fn id(word: &str) -> Result<SpecId, LineKind>
 }
 
 /// A record: its probe identifier, under header 2 with a stamp, and at most 8 values.
-#[tactic(auto, unfolding(crate::specs::Calls::record_of))]
+#[tactic(auto, unfolding(crate::specs::Calls::record_read))]
 fn record(header: Header, words: &[&str]) -> Result<Rec, LineKind>
-    ensures { result ≡ record_of header (map (λ word. word.now) words.now) }
+    ensures { result ≡ record_read header (map (λ word. word.now) words.now) }
 {
     let Some((epid, rest)) = words.split_first() else {
         return Err(LineKind::WordCount);

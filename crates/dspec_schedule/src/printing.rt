@@ -1,6 +1,6 @@
 ghost use Rattle.std.specs.Prelude.{◌≡◌, ◌++◌, take, drop, IfOk, OnOk, string_bytes};
 ghost use Rattle.std.specs.List.{enumerate_from, flat_map, zip};
-ghost use Rattle.dspec_schedule.specs.Printed.{actor_text, answer_text, batch_text, call_line, consumer_op_text, count_text, cpu_lines, cpu_op_text, decided_text, events_text, fates_text, op_text, opening_text, printed_text, record_text, records_text, report_line, served_text, spoken_word, stamp_text, stream_for, stream_line, traced_word, values_text, yes_no};
+ghost use Rattle.dspec_schedule.specs.Printed.{actor_text, answer_text, batch_text, call_line, consumer_op_text, count_text, cpu_lines, cpu_op_text, decided_text, events_text, fates_text, op_text, opening_text, printed_text, printed_record, records_text, report_line, served_text, spoken_word, printed_stamp, stream_for, stream_line, traced_word, values_text, yes_no};
 
 use dspec_deeds::{
     Actor, Answer, ConsumerOp, CpuOp, Decided, Op, Opening, Report, Served, Spoken, Traced,
@@ -204,7 +204,8 @@ fn print_served(text: &mut String, served: Served) -> Result<(), AllocError>
     write!(text, "sealed {sealed} settled {settled}")
 }
 
-fn yes_or_no(holds: bool) -> &'static str
+/// A word for what holds: `yes`, or `no`. Source: the names of the printed output.
+pub fn yes_or_no(holds: bool) -> &'static str
     ensures { result.now ≡ yes_no holds }
 {
     if holds { "yes" } else { "no" }
@@ -300,9 +301,9 @@ fn print_records(text: &mut String, header: Header, records: &[Rec]) -> Result<(
 }
 
 /// A record: its probe identifier, its stamp, and its values.
-#[tactic(auto, unfolding(crate::specs::Printed::record_text))]
+#[tactic(auto, unfolding(crate::specs::Printed::printed_record))]
 fn print_record(text: &mut String, header: Header, rec: &Rec) -> Result<(), AllocError>
-    ensures { OnOk result (string_bytes text.new ≡ string_bytes text.old ++ record_text header rec.now) }
+    ensures { OnOk result (string_bytes text.new ≡ string_bytes text.old ++ printed_record header rec.now) }
 {
     let epid = rec.epid();
     write!(text, "{epid}")?;
@@ -312,7 +313,7 @@ fn print_record(text: &mut String, header: Header, rec: &Rec) -> Result<(), Allo
 
 /// The stamp of a record, behind an `@`, where its header has one.
 fn print_stamp(text: &mut String, header: Header, stamp: u64) -> Result<(), AllocError>
-    ensures { OnOk result (string_bytes text.new ≡ string_bytes text.old ++ stamp_text header stamp) }
+    ensures { OnOk result (string_bytes text.new ≡ string_bytes text.old ++ printed_stamp header stamp) }
 {
     match header {
         Header::One => Ok(()),

@@ -34,7 +34,7 @@ pub struct Schedule {
 }
 
 impl Schedule {
-    ghost use Rattle.dspec_schedule.specs.Schedules.{told};
+    ghost use Rattle.dspec_schedule.specs.Schedules.{fault_as_told};
 
     /// A schedule of a configuration alone. Takes no memory.
     fn new(alloc: Global, config: Config, config_line: u64) -> Self
@@ -73,7 +73,7 @@ impl Schedule {
 
     /// Why this schedule's play failed, told at the line to blame.
     pub fn blame(&self, fault: PlayFault) -> ScheduleFault
-        ensures { result ≡ told self.now.config_line self.now.lines.items fault }
+        ensures { result ≡ fault_as_told self.now.config_line self.now.lines.items fault }
     {
         let (line, kind) = match fault {
             PlayFault::Setup(fault) => (self.config_line, LineKind::ConfigRefused(fault)),

@@ -1,5 +1,5 @@
 ghost use Rattle.std.specs.Prelude.{◌≡◌, map};
-ghost use Rattle.dspec_schedule.specs.SetUp.{config_of, configuration_of, enabling_of, field_of, field_of_word, header_of_words, numbered, policy_of_word, policy_of_words, version_of};
+ghost use Rattle.dspec_schedule.specs.SetUp.{config_read, configuration_of, enabling_read, field_of, field_of_word, header_of_words, numbered, policy_of_word, policy_of_words, version_of};
 
 use crate::fault::LineKind;
 use crate::grammar::only;
@@ -11,9 +11,9 @@ use dspec_record::{Enablings, Field, Header};
 const MAX_FIELDS: usize = 8;
 
 /// The configuration of the words behind `config`, with the policy that a schedule has which names none.
-#[tactic(auto, unfolding(crate::specs::SetUp::config_of))]
+#[tactic(auto, unfolding(crate::specs::SetUp::config_read))]
 pub fn config(words: &[&str]) -> Result<Config, LineKind>
-    ensures { result ≡ config_of (map (λ word. word.now) words.now) }
+    ensures { result ≡ config_read (map (λ word. word.now) words.now) }
 {
     let config = configuration(words)?;
     config.check().map_err(LineKind::ConfigRefused)?;
@@ -108,13 +108,13 @@ fn named_policy(word: &str) -> Result<Policy, LineKind>
 
 /// The enablings with one more, whose widths the words behind `enable` are, if there are any. None is added after a
 /// turn.
-#[tactic(auto, unfolding(crate::specs::SetUp::enabling_of))]
+#[tactic(auto, unfolding(crate::specs::SetUp::enabling_read))]
 pub fn enabling(
     before_turns: bool,
     mut enablings: Enablings,
     words: &[&str],
 ) -> Result<Enablings, LineKind>
-    ensures { result ≡ enabling_of before_turns enablings (map (λ word. word.now) words.now) }
+    ensures { result ≡ enabling_read before_turns enablings (map (λ word. word.now) words.now) }
 {
     if !are_numbers(words) {
         return Err(LineKind::BadNumber);

@@ -1,6 +1,6 @@
 ghost use Rattle.std.specs.Prelude.{◌≡◌, false, map, IfOk, IfSome, MatchOption, true};
 ghost use Rattle.std.specs.List.{list_all};
-ghost use Rattle.dspec_schedule.specs.Words.{is_printable, pieces_of, words_of};
+ghost use Rattle.dspec_schedule.specs.Words.{is_printable, pieces_of, words_of_line};
 
 use std::alloc::{AllocError, Global};
 
@@ -34,7 +34,7 @@ fn pieces<'a>(alloc: Global, line: &'a str) -> Result<Vec<&'a str>, AllocError>
 
 /// The words of a line, which one or more spaces separate; none for a comment, whose first byte is `#`.
 pub fn words<'a>(alloc: Global, line: &'a str) -> Result<Vec<&'a str>, AllocError>
-    ensures { IfOk result (λ found. map (λ word. word.now) found.items ≡ words_of line.now) }
+    ensures { IfOk result (λ found. map (λ word. word.now) found.items ≡ words_of_line line.now) }
 {
     if line.starts_with('#') {
         Ok(Vec::new(alloc))

@@ -72,8 +72,10 @@ stood_more slot issue n a v u w who was step less =
       acked = subst (λ h. (c : ℕ) → c < suc n → issue < ack c slot h) (sym seen) now;
     }
   where
-    go : (log : List Deed) → Since of_consumer u.seen log → Rattle.dspec_deeds.specs.Legal.IsSound u.config log → a ≡ ack n slot log → (c : ℕ) → c < suc n → (b : Bool) → (c == n) ≡ b → issue < ack c slot log
-    go log since sound is c lt true e = let same = Rattle.dspec_deeds.proofs.TestLemmas.same_number c n e in let it : ack c slot log ≡ ack n slot log = ap (λ (x : ℕ). ack x slot log) same in omega arith
+    go : (log : List Deed) → Since of_consumer u.seen log → Rattle.dspec_deeds.specs.Legal.IsSound u.config log → a ≡ ack n slot log → (c : ℕ) → c < suc n → (b : Bool)
+        → (c == n) ≡ b → issue < ack c slot log
+    go log since sound is c lt true e = let same = Rattle.dspec_deeds.proofs.TestLemmas.same_number c n e in let it : ack c slot log ≡ ack n slot log =
+        ap (λ (x : ℕ). ack x slot log) same in omega arith
     go log since sound is c lt false e =
         let apart = Rattle.dspec_deeds.proofs.TestLemmas.numbers_differ c n e in
         let before = was.acked c (omega arith) in
@@ -129,7 +131,8 @@ missed_done k slot v u w shown step m =
       steps = let a = now.steps in let b = one.steps in let lt = m.3 in omega arith;
     }
 
-reaped_done : (k : Config) (slot : ℕ) (v u x w : View) (shown : SlotState) → LookedWord slot v shown u → Acknowledged slot shown.issue u k.cpus x → ReapedWord slot x shown true w → Done (k.cpus + 2) (slot ∷ []) v w
+reaped_done : (k : Config) (slot : ℕ) (v u x w : View) (shown : SlotState) → LookedWord slot v shown u → Acknowledged slot shown.issue u k.cpus x
+    → ReapedWord slot x shown true w → Done (k.cpus + 2) (slot ∷ []) v w
 reaped_done k slot v u x w shown step acks done =
     let one = idled_load slot v u shown step in
     let all = idled_acks slot shown.issue k.cpus u x acks in
@@ -150,7 +153,8 @@ slot_done k slot v w _ (released step waits acks done) = reaped_done k slot v _ 
 pub slots_done : (k : Config) (v : View) (n : ℕ) (slots : List ℕ) (w : View) → CleanedSlots k v n slots w → Done (n * (k.cpus + 2)) slots v w × (length slots ≤ n)
 slots_done k v zero slots w h =
     let none : 0 * (k.cpus + 2) ≡ 0 = omega arith in
-    subst (λ ss. Done (0 * (k.cpus + 2)) ss v w × (length ss ≤ 0)) (sym h.0) (subst (λ (x : View). Done (0 * (k.cpus + 2)) [] v x × (0 ≤ 0)) h.1 (idled_done 0 (0 * (k.cpus + 2)) v v (omega arith) (idled_none v), omega arith))
+    subst (λ ss. Done (0 * (k.cpus + 2)) ss v w × (length ss ≤ 0)) (sym h.0)
+    (subst (λ (x : View). Done (0 * (k.cpus + 2)) [] v x × (0 ≤ 0)) h.1 (idled_done 0 (0 * (k.cpus + 2)) v v (omega arith) (idled_none v), omega arith))
 slots_done k v (suc n) slots w h =
     let before = h.0 in
     let u = h.1 in

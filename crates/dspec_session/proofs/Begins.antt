@@ -57,7 +57,8 @@ abbrev pairs : List ConsumerKnows → List Pair
 pairs es = map (λ (e : ConsumerKnows). e.pair) es
 
 -- so many CPUs are made, and the seats of the others are left
-pub record Begun {S : Type 0} (ready : Words → Cpu S → Type 0) (has : Cpu S → List Deed → Type 0) (schema : S) (words : Words) (k : Config) (n : ℕ) (seats : List CpuSeat) (cpus : List (Cpu S)) (ends : List ConsumerKnows) : Type 0 where
+pub record Begun {S : Type 0} (ready : Words → Cpu S → Type 0) (has : Cpu S → List Deed → Type 0) (schema : S) (words : Words) (k : Config) (n : ℕ) (seats : List CpuSeat)
+    (cpus : List (Cpu S)) (ends : List ConsumerKnows) : Type 0 where
   pub count : length cpus ≡ n
   pub ends_count : length ends ≡ n
   pub left : n + length seats ≡ k.cpus
@@ -80,7 +81,8 @@ module _ {S : Type 0} (ready : Words → Cpu S → Type 0) (has : Cpu S → List
         unused = All-nil IsUnusedConsumer;
       })
 
-  there_kept : (c : ℕ) (cpu : Cpu S) (es : List ConsumerKnows) (e : ConsumerKnows) → IsCpuOf ready schema words c (slice_get (pairs es) c) cpu → IsCpuOf ready schema words c (slice_get (pairs (es ++ e ∷ [])) c) cpu
+  there_kept : (c : ℕ) (cpu : Cpu S) (es : List ConsumerKnows) (e : ConsumerKnows) → IsCpuOf ready schema words c (slice_get (pairs es) c) cpu
+      → IsCpuOf ready schema words c (slice_get (pairs (es ++ e ∷ [])) c) cpu
   there_kept c cpu es e is = record {
     called = is.called;
     number = is.number;
@@ -89,7 +91,8 @@ module _ {S : Type 0} (ready : Words → Cpu S → Type 0) (has : Cpu S → List
     pair = ap (λ ps. slice_get ps c) (map-append (λ (x : ConsumerKnows). x.pair) es (e ∷ [])) ∙ still_there (pairs es) e.pair c (end_of cpu).pair is.pair;
   }
 
-  there_new : (n : ℕ) (cpu : Cpu S) (es : List ConsumerKnows) (e : ConsumerKnows) → length es ≡ n → ((p : Pair) → p ≡ (end_of cpu).pair → IsCpuOf ready schema words n (Some p) cpu) → e.pair ≡ (end_of cpu).pair
+  there_new : (n : ℕ) (cpu : Cpu S) (es : List ConsumerKnows) (e : ConsumerKnows) → length es ≡ n
+      → ((p : Pair) → p ≡ (end_of cpu).pair → IsCpuOf ready schema words n (Some p) cpu) → e.pair ≡ (end_of cpu).pair
       → IsCpuOf ready schema words n (slice_get (pairs (es ++ e ∷ [])) n) cpu
   there_new n cpu es e count is same =
       let mapped : slice_get (pairs (es ++ e ∷ [])) (length (pairs es)) ≡ Some e.pair
@@ -98,8 +101,10 @@ module _ {S : Type 0} (ready : Words → Cpu S → Type 0) (has : Cpu S → List
       subst (λ o. IsCpuOf ready schema words n o cpu) (sym at) (is e.pair same)
 
   -- one more
-  pub one_begun : (n : ℕ) (seats after : List CpuSeat) (cpus new : List (Cpu S)) (ends more : List ConsumerKnows) (cpu : Cpu S) (e : ConsumerKnows) → Begun ready has schema words k n seats cpus ends → 0 < length seats
-      → after ≡ remove seats 0 → new ≡ cpus ++ cpu ∷ [] → more ≡ ends ++ e ∷ [] → ((p : Pair) → p ≡ (end_of cpu).pair → IsCpuOf ready schema words n (Some p) cpu) → e.pair ≡ (end_of cpu).pair → IsFresh has cpu → IsUnusedConsumer e
+  pub one_begun : (n : ℕ) (seats after : List CpuSeat) (cpus new : List (Cpu S)) (ends more : List ConsumerKnows) (cpu : Cpu S) (e : ConsumerKnows)
+      → Begun ready has schema words k n seats cpus ends → 0 < length seats
+      → after ≡ remove seats 0 → new ≡ cpus ++ cpu ∷ [] → more ≡ ends ++ e ∷ [] → ((p : Pair) → p ≡ (end_of cpu).pair → IsCpuOf ready schema words n (Some p) cpu)
+      → e.pair ≡ (end_of cpu).pair → IsFresh has cpu → IsUnusedConsumer e
       → Begun ready has schema words k (n + 1) after new more
   one_begun n seats after cpus new ends more cpu e was some after_is new_is more_is is same fresh unused =
       subst (λ ss. Begun ready has schema words k (n + 1) ss new more) (sym after_is)
@@ -119,12 +124,14 @@ module _ {S : Type 0} (ready : Words → Cpu S → Type 0) (has : Cpu S → List
       }))
 
   -- the seat that is next
-  pub next_seat : (n : ℕ) (seats : List CpuSeat) (cpus : List (Cpu S)) (ends : List ConsumerKnows) (s : CpuSeat) → Begun ready has schema words k n seats cpus ends → 0 < length seats → s ≡ slice_index_or seats 0 s
+  pub next_seat : (n : ℕ) (seats : List CpuSeat) (cpus : List (Cpu S)) (ends : List ConsumerKnows) (s : CpuSeat) → Begun ready has schema words k n seats cpus ends
+      → 0 < length seats → s ≡ slice_index_or seats 0 s
       → IsSeatOf words k n s
   next_seat n seats cpus ends s was some is = let z : n + 0 ≡ n = omega arith in subst (λ m. IsSeatOf words k m s) z (was.seats_are 0 s (first_there seats s some is))
 
   -- all are made
-  pub all_begun : (session : Session S) (seat : ConsumerSeat) (n : ℕ) (seats : List CpuSeat) (ends : List ConsumerKnows) → words_of session.shared ≡ words → session.consumer.seat ≡ seat → IsConsumerAt words seat
+  pub all_begun : (session : Session S) (seat : ConsumerSeat) (n : ℕ) (seats : List CpuSeat) (ends : List ConsumerKnows) → words_of session.shared ≡ words
+      → session.consumer.seat ≡ seat → IsConsumerAt words seat
       → session.consumer.ends ≡ ends → set_up words ≡ k → start_fault k ≡ None → n ≡ k.cpus → Begun ready has schema words k n seats session.cpus.items ends → IsSession ready schema session
   all_begun session seat n seats ends words_is seat_is at ends_is config fine all was = record {
     checked = ap (λ w. start_fault (set_up w)) words_is ∙ (ap start_fault config ∙ fine);

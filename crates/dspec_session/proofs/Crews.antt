@@ -19,10 +19,12 @@ use Rattle.dspec_session.proofs.Fours.{at_each}
 listed : Four (Cpu EnabledRows) → List (Cpu EnabledRows)
 listed f = f.first ∷ f.second ∷ f.third ∷ f.fourth ∷ []
 
-can_work : (session : Session EnabledRows) → IsDemonstrated session → HaveRoom session.cpus.items → (c : ℕ) (x : Cpu EnabledRows) → slice_get session.cpus.items c ≡ Some x → CanWork session.shared 400 x
+can_work : (session : Session EnabledRows) → IsDemonstrated session → HaveRoom session.cpus.items → (c : ℕ) (x : Cpu EnabledRows) → slice_get session.cpus.items c ≡ Some x
+    → CanWork session.shared 400 x
 can_work session is room c x at = record { ready = (is.each c x at).called; schema = (is.each c x at).one; unworn = room c x at }
 
-pub all_can_work : (session : Session EnabledRows) (f : Four (Cpu EnabledRows)) → IsDemonstrated session → HaveRoom session.cpus.items → session.cpus.items ≡ f.first ∷ f.second ∷ f.third ∷ f.fourth ∷ [] → AllCanWork session.shared f
+pub all_can_work : (session : Session EnabledRows) (f : Four (Cpu EnabledRows)) → IsDemonstrated session → HaveRoom session.cpus.items
+    → session.cpus.items ≡ f.first ∷ f.second ∷ f.third ∷ f.fourth ∷ [] → AllCanWork session.shared f
 all_can_work session f is room e = record {
   first = can_work session is room 0 f.first (ap (λ l. slice_get l 0) e);
   second = can_work session is room 1 f.second (ap (λ l. slice_get l 1) e);
@@ -46,9 +48,11 @@ each_finished true true false d e = absurd (cc (e))
 each_finished true false c d e = absurd (cc (e))
 each_finished false b c d e = absurd (cc (e))
 
-module _ (session : Session EnabledRows) (f : Four (Cpu EnabledRows)) (back : Four (Cpu EnabledRows × Bool)) (is : IsDemonstrated session) (e : session.cpus.items ≡ f.first ∷ f.second ∷ f.third ∷ f.fourth ∷ [])
+module _ (session : Session EnabledRows) (f : Four (Cpu EnabledRows)) (back : Four (Cpu EnabledRows × Bool)) (is : IsDemonstrated session)
+    (e : session.cpus.items ≡ f.first ∷ f.second ∷ f.third ∷ f.fourth ∷ [])
     (worked : AllWorked session.shared f back) (new : List (Cpu EnabledRows)) (put : new ≡ back.first.0 ∷ back.second.0 ∷ back.third.0 ∷ back.fourth.0 ∷ []) where
-  pub places_back : (consumer : Consuming) → Stays (words_of session.shared) session.consumer consumer → (c : ℕ) (y : Cpu EnabledRows) → slice_get new c ≡ Some y → IsAtPlace session.shared (slice_get (pairs_of consumer) c) c y
+  pub places_back : (consumer : Consuming) → Stays (words_of session.shared) session.consumer consumer → (c : ℕ) (y : Cpu EnabledRows) → slice_get new c ≡ Some y
+      → IsAtPlace session.shared (slice_get (pairs_of consumer) c) c y
   places_back consumer stays c y at =
       let P : ℕ → Cpu EnabledRows → Type 0 = λ i x. IsAtPlace session.shared (slice_get (pairs_of consumer) i) i x in
       let same : (i : ℕ) → slice_get (pairs_of consumer) i ≡ slice_get (pairs_of session.consumer) i = λ i. ap (λ l. slice_get l i) stays.same.pairs in
@@ -62,7 +66,8 @@ module _ (session : Session EnabledRows) (f : Four (Cpu EnabledRows)) (back : Fo
   pub four_again : length new ≡ length session.cpus.items
   four_again = ap length put ∙ sym (ap length e)
 
-  offered : (c : ℕ) (x : Cpu EnabledRows) (y : Cpu EnabledRows) (done : Bool) → HaveOffered 0 session.cpus.items → slice_get session.cpus.items c ≡ Some x → Worked session.shared 400 200 x y done → done ≡ true
+  offered : (c : ℕ) (x : Cpu EnabledRows) (y : Cpu EnabledRows) (done : Bool) → HaveOffered 0 session.cpus.items → slice_get session.cpus.items c ≡ Some x
+      → Worked session.shared 400 200 x y done → done ≡ true
       → (p : _) × Has y p × (offers c p ≡ 200)
   offered c x y done fresh at w finished =
       let (p, had, none) = fresh c x at in

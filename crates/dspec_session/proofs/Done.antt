@@ -24,6 +24,12 @@ is_done d opened raced is cpus four offered made fresh schema rounds stopped =
       four = ap length items ∙ four;
       offered = subst (λ xs. HaveOffered 200 xs) (sym items) offered;
       rounds = λ c cpu at. let (old, was, made_so) = made c cpu (ap (λ xs. slice_get xs c) (sym items) ∙ at) in (old, fresh c old was, made_so);
-      consumer = record { first = opened.consumer; last = raced.consumer; rounds = subst (λ s. ConsumerRounds s opened.consumer none_taken 1000 raced.consumer d.orders) schema rounds; stopped = stopped };
+      consumer = record {
+        first = opened.consumer;
+        last = raced.consumer;
+        rounds = subst (λ s. ConsumerRounds s opened.consumer none_taken 1000 raced.consumer d.orders)
+            schema rounds;
+        stopped = stopped;
+      };
       schema = schema;
     }

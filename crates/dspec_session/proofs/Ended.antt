@@ -28,7 +28,8 @@ use Rattle.dspec_session.specs.Demonstrated.{Has}
 use Rattle.dspec_session.specs.Races.{AllTold, HaveOffered, IsDemonstrated}
 
 -- the settlements of the close offer nothing
-slot_offers : (shape : ℕ → Option Shape) (k : Config) (words : ℕ → SlotState) (c s : ℕ) (p : List Deed) (b : Bool) → is_granted (settle_at (words s) (ack c s p)) ≡ b → offers c (own_closed_slot shape k words c s p) ≡ offers c p
+slot_offers : (shape : ℕ → Option Shape) (k : Config) (words : ℕ → SlotState) (c s : ℕ) (p : List Deed) (b : Bool) → is_granted (settle_at (words s) (ack c s p)) ≡ b
+    → offers c (own_closed_slot shape k words c s p) ≡ offers c p
 slot_offers shape k words c s p false e = rw e refl
 slot_offers shape k words c s p true e = rw e (omega arith)
 
@@ -51,7 +52,8 @@ abbrev list_at : (n c : ℕ) (o : Option (Cpu EnabledRows)) → ((cpu : Cpu Enab
 list_at n c None f = []
 list_at n c (Some cpu) f = (f cpu refl).0
 
-list_had : (n c : ℕ) (o : Option (Cpu EnabledRows)) (f : (cpu : Cpu EnabledRows) → o ≡ Some cpu → Offered n c cpu) (cpu : Cpu EnabledRows) → o ≡ Some cpu → Has cpu (list_at n c o f) × (offers c (list_at n c o f) ≡ n)
+list_had : (n c : ℕ) (o : Option (Cpu EnabledRows)) (f : (cpu : Cpu EnabledRows) → o ≡ Some cpu → Offered n c cpu) (cpu : Cpu EnabledRows) → o ≡ Some cpu
+    → Has cpu (list_at n c o f) × (offers c (list_at n c o f) ≡ n)
 list_had n c None f cpu e = absurd (cc (e))
 list_had n c (Some x) f cpu e = let is : x ≡ cpu = cc (e) in (subst (λ y. Has y (f x refl).0) is (f x refl).1, (f x refl).2)
 
@@ -66,7 +68,8 @@ place_of [] c l e = absurd (cc (e))
 place_of (x ∷ xs) zero l e = omega arith
 place_of (x ∷ xs) (suc c) l e = let lt = place_of xs c l e in omega arith
 
-pub all_told : (shape : ℕ → Option Shape) (accepted : Record → Bool) (text : Record → List ℕ) (k : Config) (cpus : List (Cpu EnabledRows)) (worn : ℕ → ℕ) (taken : ℕ → List Batch) (consumer : List Deed) (ls : List Left) (n : ℕ)
+pub all_told : (shape : ℕ → Option Shape) (accepted : Record → Bool) (text : Record → List ℕ) (k : Config) (cpus : List (Cpu EnabledRows)) (worn : ℕ → ℕ) (taken : ℕ
+    → List Batch) (consumer : List Deed) (ls : List Left) (n : ℕ)
     → IsClosedBy shape accepted text k (HasAt Has cpus) worn taken consumer ls → HaveOffered n cpus → length cpus ≡ length ls → AllTold n ls
 all_told shape accepted text k cpus worn taken consumer ls n closed offered all c l at =
     let f : (c : ℕ) (cpu : Cpu EnabledRows) → slice_get cpus c ≡ Some cpu → Offered n c cpu = offered in

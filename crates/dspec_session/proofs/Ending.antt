@@ -39,7 +39,8 @@ module _ {S : Type 0} (shape_of : S → ℕ → Option Shape) (accepted : S → 
   list_at words None f = []
   list_at words (Some cpu) f = (f cpu refl).list
 
-  list_had : (words : Words) (o : Option (Cpu S)) (f : (cpu : Cpu S) → o ≡ Some cpu → Ready shape_of accepted text words cpu) (cpu : Cpu S) → o ≡ Some cpu → Has shape_of accepted text cpu (list_at words o f)
+  list_had : (words : Words) (o : Option (Cpu S)) (f : (cpu : Cpu S) → o ≡ Some cpu → Ready shape_of accepted text words cpu) (cpu : Cpu S) → o ≡ Some cpu
+      → Has shape_of accepted text cpu (list_at words o f)
   unfolding list_at
   list_had words None f cpu e = absurd (cc (e))
   list_had words (Some x) f cpu e = let is : x ≡ cpu = cc (e) in subst (λ y. Has shape_of accepted text y (f x refl).list) is (f x refl).listed
@@ -63,7 +64,8 @@ module _ {S : Type 0} (shape_of : S → ℕ → Option Shape) (accepted : S → 
         each = λ i cpu e.
             let z : i ≡ 0 + i = omega arith in
             let here = is.each i cpu e in
-            subst (λ n. IsCpuOf (Ready shape_of accepted text) schema (words_of session.shared) n (slice_get (map (λ (x : ConsumerKnows). x.pair) session.consumer.ends) i) cpu × Has shape_of accepted text cpu (p n)) z (here, had i cpu e);
+            subst (λ n. IsCpuOf (Ready shape_of accepted text) schema (words_of session.shared) n (slice_get (map (λ (x : ConsumerKnows). x.pair) session.consumer.ends) i)
+            cpu × Has shape_of accepted text cpu (p n)) z (here, had i cpu e);
       }
 
       -- all have
@@ -92,11 +94,13 @@ module _ {S : Type 0} (shape_of : S → ℕ → Option Shape) (accepted : S → 
                 let z : 0 + c ≡ c = omega arith in
                 let one = (is.each c cpu.0 cpu.1).one in
                 let closing : IsClosing (shape_of schema) k last c (p c) ended.log found.0 = subst (λ n. IsClosing (shape_of schema) k last n (p n) ended.log found.0) z (found.1 c cpu.0 cpu.1) in
-                let mine : IsLeft shape_of accepted text k last c cpu.0 end.0.taken l = subst (λ n. IsLeft shape_of accepted text k last n cpu.0 end.0.taken l) z (are c cpu.0 end.0 l cpu.1 end.1 there) in
+                let mine : IsLeft shape_of accepted text k last c cpu.0 end.0.taken l =
+                subst (λ n. IsLeft shape_of accepted text k last n cpu.0 end.0.taken l) z (are c cpu.0 end.0 l cpu.1 end.1 there) in
                 let shown : LeftShows (shape_of schema) (accepted schema) (text schema) k c (worn_of cpu.0) end.0.taken (own_closed (shape_of schema) k (λ s. word_at s ended.log) c k.nspec (p c)) l
                 = subst (λ s. LeftShows (shape_of s) (accepted s) (text s) k c (worn_of cpu.0) end.0.taken (own_closed (shape_of s) k (λ x. word_at x ended.log) c k.nspec (p c)) l) one
                 (mine (p c) ended.log found.0 (lists c cpu.0 cpu.1) (subst (λ s. IsClosing (shape_of s) k last c (p c) ended.log found.0) (sym one) closing)) in
-                subst (λ n. LeftShows (shape_of schema) (accepted schema) (text schema) k c n (taken_at session.consumer c) (own_closed (shape_of schema) k (λ s. word_at s ended.log) c k.nspec (p c)) l)
+                subst (λ n. LeftShows (shape_of schema) (accepted schema) (text schema) k c n (taken_at session.consumer c)
+                (own_closed (shape_of schema) k (λ s. word_at s ended.log) c k.nspec (p c)) l)
                 (sym (ap (λ o. option_map_or (λ (x : Cpu S). worn_of x) o 0) cpu.1))
                 (subst (λ t. LeftShows (shape_of schema) (accepted schema) (text schema) k c (worn_of cpu.0) t (own_closed (shape_of schema) k (λ s. word_at s ended.log) c k.nspec (p c)) l)
                 (sym (ap (λ o. option_map_or (λ (e : ConsumerKnows). e.taken) o []) end.1)) shown);
@@ -117,7 +121,8 @@ module _ {S : Type 0} (shape_of : S → ℕ → Option Shape) (accepted : S → 
           (subst (λ ss. AreParting shape_of accepted text schema (words_of session.shared) p ss session.cpus.items x.ends) (sym none)
           (subst (λ (y : Consuming). AreParting shape_of accepted text schema (words_of session.shared) p [] session.cpus.items y.ends) (sym same) (none_parted ends_all p had)))
 
-      pub finished : (last : List ℕ) (inner left : List Left) → Ended (set_up words) last (seats ++ map (λ (cpu : Cpu S). seat_of cpu) session.cpus.items) (known_there x.seat) → length inner ≡ length session.cpus.items
+      pub finished : (last : List ℕ) (inner left : List Left)
+          → Ended (set_up words) last (seats ++ map (λ (cpu : Cpu S). seat_of cpu) session.cpus.items) (known_there x.seat) → length inner ≡ length session.cpus.items
           → AreLeft shape_of accepted text (set_up words) last (length seats) session.cpus.items x.ends (reverse inner) → left ≡ reverse inner
           → IsClosedBy (shape_of schema) (accepted schema) (text schema) (set_up (words_of session.shared)) (HasAt (Has shape_of accepted text) session.cpus.items) (worn_at session.cpus.items)
           (taken_at session.consumer) (known_there session.consumer.seat).own left

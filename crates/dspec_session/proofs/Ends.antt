@@ -20,7 +20,8 @@ pub end_at : (es : List ConsumerKnows) (c : ℕ) (d e : ConsumerKnows) → d ≡
 end_at es c d e is there = is ∙ get_or_from_slice_get es c e d there
 
 -- how many were taken there
-pub taken_is : (es : List ConsumerKnows) (c : ℕ) (d : ConsumerKnows) → c < length es → d ≡ slice_index_or es c d → option_map_or (λ (e : ConsumerKnows). length e.taken) (slice_get es c) 0 ≡ length d.taken
+pub taken_is : (es : List ConsumerKnows) (c : ℕ) (d : ConsumerKnows) → c < length es → d ≡ slice_index_or es c d
+    → option_map_or (λ (e : ConsumerKnows). length e.taken) (slice_get es c) 0 ≡ length d.taken
 taken_is es c d lt is = ap (λ o. option_map_or (λ (e : ConsumerKnows). length e.taken) o 0) (slice_get_read es (length es) c d refl lt is)
 
 -- a list without elements, by its length

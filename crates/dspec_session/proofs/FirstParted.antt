@@ -109,7 +109,8 @@ module _ {S : Type 0} (shape_of : S → ℕ → Option Shape) (accepted : S → 
   next_left last new end x inner more l new_is is lists leaves before more_is =
       let n = length seats in
       let count : length new ≡ n + 1 = ap length new_is ∙ length-append seats (seat_of cpu ∷ []) in
-      let mine = leaves_same shape_of accepted text (λ q. RestHasList (shape_of x.schema) (accepted x.schema) (text x.schema) x end.handed q) last other.taken l x.schema cpu.schema x.config (set_up words) x.cpu n x.counts.worn (worn_of cpu)
+      let mine = leaves_same shape_of accepted text (λ q. RestHasList (shape_of x.schema) (accepted x.schema) (text x.schema) x end.handed q) last other.taken l x.schema
+      cpu.schema x.config (set_up words) x.cpu n x.counts.worn (worn_of cpu)
       is.schema (is.config ∙ next_config) (is.number ∙ next_number) is.worn leaves in
       let first : IsLeft shape_of accepted text (set_up words) last n cpu other.taken l = λ q log g has closing. mine q log g (lists q has) closing in
       subst (λ ls. AreLeft shape_of accepted text (set_up words) last n cpus ends (reverse ls)) (sym more_is)

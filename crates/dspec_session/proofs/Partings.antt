@@ -50,18 +50,21 @@ map_there f (y ∷ xs) (suc i) x e = map_there f xs i x e
 
 module _ {S : Type 0} (shape_of : S → ℕ → Option Shape) (accepted : S → Record → Bool) (text : S → Record → List ℕ) where
   -- a CPU that can be called parts at rest
-  pub at_rest : (schema : S) (words : Words) (c : ℕ) (cpu : Cpu S) (p : List Deed) → Ready shape_of accepted text words cpu → number_in cpu ≡ c → config_of cpu ≡ set_up words → schema_of cpu ≡ schema → Has shape_of accepted text cpu p
+  pub at_rest : (schema : S) (words : Words) (c : ℕ) (cpu : Cpu S) (p : List Deed) → Ready shape_of accepted text words cpu → number_in cpu ≡ c → config_of cpu ≡ set_up words
+      → schema_of cpu ≡ schema → Has shape_of accepted text cpu p
       → IsAtRest (shape_of schema) (set_up words) c (known (seat_of cpu)).own p
   at_rest schema words c cpu p ready number config one has =
       let legal : IsOwn (shape_of schema) (set_up words) c p
-      = subst (λ s. IsOwn (shape_of s) (set_up words) c p) one (subst (λ k. IsOwn (shape_of cpu.schema) k c p) config (subst (λ n. IsOwn (shape_of cpu.schema) cpu.config n p) number has.shown.legal)) in
+      = subst (λ s. IsOwn (shape_of s) (set_up words) c p) one
+      (subst (λ k. IsOwn (shape_of cpu.schema) k c p) config (subst (λ n. IsOwn (shape_of cpu.schema) cpu.config n p) number has.shown.legal)) in
       record {
         legal = legal;
         own = has.own;
         idle = subst (λ k. scan k c (known cpu.seat).own ≡ 0) config (subst (λ n. scan cpu.config n (known cpu.seat).own ≡ 0) number ready.idle);
       }
 
-  module _ (schema : S) (words : Words) (p : ℕ → List Deed) (seats : List CpuSeat) (cpus : List (Cpu S)) (ends : List ConsumerKnows) (are : AreParting shape_of accepted text schema words p seats cpus ends) where
+  module _ (schema : S) (words : Words) (p : ℕ → List Deed) (seats : List CpuSeat) (cpus : List (Cpu S)) (ends : List ConsumerKnows)
+      (are : AreParting shape_of accepted text schema words p seats cpus ends) where
     -- so are all seats
     pub all_at_rest : (c : ℕ) (s : CpuSeat) → slice_get (seats ++ map (λ (cpu : Cpu S). seat_of cpu) cpus) c ≡ Some s → IsAtRest (shape_of schema) (set_up words) c (known s).own (p c)
     all_at_rest c s there = ⊎_elim
@@ -105,7 +108,8 @@ module _ {S : Type 0} (shape_of : S → ℕ → Option Shape) (accepted : S → 
         )
 
   -- the seats, once all have parted
-  pub are_seats : (schema : S) (words : Words) (p : ℕ → List Deed) (seats : List CpuSeat) (cpus : List (Cpu S)) (ends : List ConsumerKnows) → AreParting shape_of accepted text schema words p seats cpus ends → cpus ≡ []
+  pub are_seats : (schema : S) (words : Words) (p : ℕ → List Deed) (seats : List CpuSeat) (cpus : List (Cpu S)) (ends : List ConsumerKnows)
+      → AreParting shape_of accepted text schema words p seats cpus ends → cpus ≡ []
       → AreSeats words seats
   are_seats schema words p seats cpus ends are none = record {
     all = let a = are.all in let n : length cpus ≡ 0 = ap length none in omega arith;
@@ -121,7 +125,8 @@ module _ {S : Type 0} (shape_of : S → ℕ → Option Shape) (accepted : S → 
       let first = are.each 0 cpu refl in
       let z : n + 0 ≡ n = omega arith in
       let rest : IsAtRest (shape_of schema) (set_up words) n (known (seat_of cpu)).own (p n)
-      = subst (λ m. IsAtRest (shape_of schema) (set_up words) m (known (seat_of cpu)).own (p m)) z (at_rest schema words (n + 0) cpu (p (n + 0)) first.0.called first.0.number first.0.config first.0.one first.1) in
+      = subst (λ m. IsAtRest (shape_of schema) (set_up words) m (known (seat_of cpu)).own (p m)) z
+      (at_rest schema words (n + 0) cpu (p (n + 0)) first.0.called first.0.number first.0.config first.0.one first.1) in
       record {
         all = let a = are.all in omega arith;
         ends_all = let a = are.ends_all in omega arith;

@@ -37,7 +37,8 @@ seal_reads : (sealed : Bool) (c : ℕ) (p : List Deed) → ReadsAs c (with_seal 
 seal_reads false c p = as_is c p p (λ i. p)
 seal_reads true c p = record { offered = omega arith; called = omega arith }
 
-pub service_reads : (n c : ℕ) (v w : View) (ds p : List Deed) (sealed : Bool) → SettledSlots c v n ds w → (offers c (ds ++ with_seal sealed c p) ≡ offers c p + 0) × (calls c (ds ++ with_seal sealed c p) ≡ calls c p)
+pub service_reads : (n c : ℕ) (v w : View) (ds p : List Deed) (sealed : Bool) → SettledSlots c v n ds w
+    → (offers c (ds ++ with_seal sealed c p) ≡ offers c p + 0) × (calls c (ds ++ with_seal sealed c p) ≡ calls c p)
 service_reads n c v w ds p sealed s =
     let r = both c (ds ++ with_seal sealed c p) (with_seal sealed c p) p (all_slots n c v w ds (with_seal sealed c p) s) (seal_reads sealed c p) in
     let o = r.offered in (omega arith, r.called)

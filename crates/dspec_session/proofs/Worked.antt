@@ -4,7 +4,7 @@ use Rattle.dspec_record.specs.EnablingRows.{EnabledRows}
 use Rattle.dspec_deeds.specs.Own.{offers}
 use Rattle.dspec_cpu.specs.declared.cpu.Cpu.{Cpu}
 use Rattle.dspec_cpu.specs.declared.shared.Shared.{Shared}
-use Rattle.dspec_session.specs.Demonstrated.{Called, IsBack, IsCallable, Offers, Served, Worked}
+use Rattle.dspec_session.specs.Demonstrated.{Called, IsBack, IsCallable, Offers, WorkerServed, Worked}
 
 back_again : (shared : Shared) (x y z : Cpu EnabledRows) → IsBack shared x y → IsBack shared y z → IsBack shared x z
 back_again shared x y z a b = record {
@@ -30,7 +30,7 @@ one_more calls m n shared x y z a b = record {
   offered = λ _. offers_more m n shared x y z a.back (a.offered refl) b.offered;
 }
 
-pub and_served : (calls m : ℕ) (shared : Shared) (x y z : Cpu EnabledRows) → Worked shared calls m x y true → Served shared y z → Worked shared calls (m + 0) x z true
+pub and_served : (calls m : ℕ) (shared : Shared) (x y z : Cpu EnabledRows) → Worked shared calls m x y true → WorkerServed shared y z → Worked shared calls (m + 0) x z true
 and_served calls m shared x y z a b = record {
   back = back_again shared x y z a.back b.back;
   called = (let most = a.called in let e = b.called in omega arith);

@@ -64,5 +64,5 @@ IsUnfit batch x = ((set_up_of x).cpus ≤ batch.cpu) ⊎ (NoneOut batch.cpu x �
 
 -- a batch isn't taken back: it doesn't get as far, and nothing changed, or its ring was tried in vain, which had no free place as
 -- far as the consumer could see
-abbrev pub IsRefused : Batch → Consuming → Consuming → Type 0
-IsRefused batch x y = (IsUnfit batch x × (y ≡ x)) ⊎ ((tried : Tried batch.cpu x y) × (tried.before.room ≡ 0))
+abbrev pub IsNotTakenBack : Batch → Consuming → Consuming → Type 0
+IsNotTakenBack batch x y = (IsUnfit batch x × (y ≡ x)) ⊎ ((tried : Tried batch.cpu x y) × (tried.before.room ≡ 0))

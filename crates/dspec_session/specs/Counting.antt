@@ -3,8 +3,8 @@ use Rattle.std.specs.Prelude.{◌≡◌, ◌≤◌, ◌^◌, length}
 use Rattle.dspec_ring.specs.Known.{ConsumerKnows}
 use Rattle.dspec_session.specs.declared.counted.CountedEnd.TheInside.{Inside}
 
-abbrev pub end_of : Inside → ConsumerKnows
-end_of i = i.end
+abbrev pub counted_end_of : Inside → ConsumerKnows
+counted_end_of i = i.end
 
 -- the counts are of the batches that went through the end, and no more were given back than taken
 pub record IsCounted (i : Inside) : Type 0 where

@@ -39,7 +39,8 @@ Has cpu = HasList (table_shape cpu.schema.header (enabled cpu.schema.rows)) (tab
 
 -- the CPU can be called by those who share this
 abbrev pub IsCallable : Shared → Cpu EnabledRows → Type 0
-IsCallable shared cpu = IsReady (table_shape cpu.schema.header (enabled cpu.schema.rows)) (table_accepts cpu.schema.header (enabled cpu.schema.rows)) (table_text cpu.schema.header (enabled cpu.schema.rows)) (words_of shared) cpu
+IsCallable shared cpu = IsReady (table_shape cpu.schema.header (enabled cpu.schema.rows)) (table_accepts cpu.schema.header (enabled cpu.schema.rows))
+    (table_text cpu.schema.header (enabled cpu.schema.rows)) (words_of shared) cpu
 
 -- the CPU can make so many calls more, of what is demonstrated
 pub record CanWork (shared : Shared) (n : ℕ) (cpu : Cpu EnabledRows) : Type 0 where
@@ -70,33 +71,33 @@ pub record Worked (shared : Shared) (calls n : ℕ) (old new : Cpu EnabledRows) 
   pub offered : finished ≡ true → Offers n old new
 
 -- a service was done, which counts as no call
-pub record Served (shared : Shared) (old new : Cpu EnabledRows) : Type 0 where
+pub record WorkerServed (shared : Shared) (old new : Cpu EnabledRows) : Type 0 where
   pub back : IsBack shared old new
   pub called : calls_of new ≡ calls_of old
   pub offered : Offers 0 old new
 
 -- these deeds came in front of every list that the CPU had
-abbrev pub Adds : List Deed → Cpu EnabledRows → Cpu EnabledRows → Type 0
-Adds ds old new = (p : List Deed) → Has old p → Has new (ds ++ p)
+abbrev pub WorkerAdds : List Deed → Cpu EnabledRows → Cpu EnabledRows → Type 0
+WorkerAdds ds old new = (p : List Deed) → Has old p → Has new (ds ++ p)
 
 -- those of a trace of record 1 with this value, by its answer
 abbrev pub Traces : ℕ → Cpu EnabledRows → Cpu EnabledRows → Type 0
-Traces value old new = (a : Traced) × Adds (traced_deeds (number_in old) (valued 1 value) a) old new
+Traces value old new = (a : Traced) × WorkerAdds (traced_deeds (number_in old) (valued 1 value) a) old new
 
 -- of a call of speculation, by its answer, which tells this identifier, or none
-abbrev pub Opens : Speculation → Cpu EnabledRows → Cpu EnabledRows → Type 0
-Opens id old new = (missed : List Bool) × (a : Opening) × (id ≡ id_told a) × Adds (opening_deeds (number_in old) missed a) old new
+abbrev pub WorkerOpens : Speculation → Cpu EnabledRows → Cpu EnabledRows → Type 0
+WorkerOpens id old new = (missed : List Bool) × (a : Opening) × (id ≡ id_told a) × WorkerAdds (opening_deeds (number_in old) missed a) old new
 
 -- of record 2 with this value, offered to this speculation
 abbrev pub Speaks : Speculation → ℕ → Cpu EnabledRows → Cpu EnabledRows → Type 0
-Speaks id value old new = (a : Spoken) × Adds (spoken_deeds (number_in old) id (valued 2 value) a) old new
+Speaks id value old new = (a : Spoken) × WorkerAdds (spoken_deeds (number_in old) id (valued 2 value) a) old new
 
 -- of its commit, or of its discard
 abbrev pub decision_of : Bool → ℕ → Speculation → DecideFate → Deed
 decision_of commits c id = if commits then Commit c id else Discard c id
 
-abbrev pub Decides : Bool → Speculation → Cpu EnabledRows → Cpu EnabledRows → Type 0
-Decides commits id old new = (alone : Bool) × (a : Decided) × Adds (decided_deeds (decision_of commits (number_in old) id) id.slot alone a) old new
+abbrev pub WorkerDecides : Bool → Speculation → Cpu EnabledRows → Cpu EnabledRows → Type 0
+WorkerDecides commits id old new = (alone : Bool) × (a : Decided) × WorkerAdds (decided_deeds (decision_of commits (number_in old) id) id.slot alone a) old new
 
 -- a service, whole
 abbrev pub Serviced : Cpu EnabledRows → Cpu EnabledRows → Type 0
@@ -111,9 +112,9 @@ pub record MadeRound (k : ℕ) (old new : Cpu EnabledRows) : Type 0 where
   pub spoken : Cpu EnabledRows
   pub decided : Cpu EnabledRows
   pub traces : Traces k old traced
-  pub opens : Opens id traced opened
+  pub opens : WorkerOpens id traced opened
   pub speaks : Speaks id k opened spoken
-  pub decides : Decides (k % 2 == 1) id spoken decided
+  pub decides : WorkerDecides (k % 2 == 1) id spoken decided
   pub services : Serviced decided new
 
 -- so many rounds since it was this CPU, one behind the other, numbered from 0

@@ -39,7 +39,8 @@ HaveRoom cpus = (c : ℕ) (cpu : Cpu EnabledRows) → slice_get cpus c ≡ Some 
 
 -- the CPU has its place in the session of those who share this
 abbrev pub IsAtPlace : Shared → Option Pair → ℕ → Cpu EnabledRows → Type 0
-IsAtPlace shared there c cpu = IsCpuOf (Ready (λ s. table_shape s.header (enabled s.rows)) (λ s. table_accepts s.header (enabled s.rows)) (λ s. table_text s.header (enabled s.rows))) demonstrated (words_of shared) c there cpu
+IsAtPlace shared there c cpu = IsCpuOf (Ready (λ s. table_shape s.header (enabled s.rows)) (λ s. table_accepts s.header (enabled s.rows))
+    (λ s. table_text s.header (enabled s.rows))) demonstrated (words_of shared) c there cpu
 
 -- every worker finished
 abbrev pub all_finished : Four (Cpu EnabledRows × Bool) → Bool

@@ -40,7 +40,8 @@ pub record IsDone (d : Demonstration) : Type 0 where
 -- this is what is left of the session
 abbrev pub IsEndOf : Session EnabledRows → List Left → Type 0
 IsEndOf session lefts =
-    IsClosedBy (table_shape demonstrated.header (enabled demonstrated.rows)) (table_accepts demonstrated.header (enabled demonstrated.rows)) (table_text demonstrated.header (enabled demonstrated.rows))
+    IsClosedBy (table_shape demonstrated.header (enabled demonstrated.rows)) (table_accepts demonstrated.header (enabled demonstrated.rows))
+    (table_text demonstrated.header (enabled demonstrated.rows))
     (set_up (words_of session.shared)) (HasAt Has session.cpus.items) (worn_at session.cpus.items) (taken_at session.consumer) (view_of session.consumer).own lefts
 
 -- the order of what was taken of the CPU

@@ -28,15 +28,15 @@ with_records o (r ∷ rs) = with_records (with_record o r) rs
 
 -- a text is read: its records are followed, and one that can't be read doesn't rise
 module _ (shape : ℕ → Option Shape) (accepted : Record → Bool) (text : Record → List ℕ) where
-  abbrev pub Follows : List ℕ → Order → Order → Type 0
-  Follows bytes o u =
+  abbrev pub FollowsText : List ℕ → Order → Order → Type 0
+  FollowsText bytes o u =
       ((rs : List Record) × BufferText shape accepted text 0 bytes rs × (u ≡ with_records o rs))
       ⊎ (((rs : List Record) → ¬ BufferText shape accepted text 0 bytes rs) × (u.rises ≡ false))
 
   -- what is left of a CPU is read: the batch that wasn't taken, if there is one, then the last
   abbrev pub FollowsRest : Option Batch → Order → Order → Type 0
   FollowsRest None o u = u ≡ o
-  FollowsRest (Some b) o u = Follows b.buffer.text o u
+  FollowsRest (Some b) o u = FollowsText b.buffer.text o u
 
   abbrev pub FollowsLeft : Left → Order → Bool → Type 0
-  FollowsLeft l o rises = (u : Order) × (w : Order) × FollowsRest l.rest o u × Follows l.last.buffer.text u w × (rises ≡ w.rises)
+  FollowsLeft l o rises = (u : Order) × (w : Order) × FollowsRest l.rest o u × FollowsText l.last.buffer.text u w × (rises ≡ w.rises)

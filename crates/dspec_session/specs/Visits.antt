@@ -4,12 +4,12 @@ use Rattle.dspec_record.specs.EnablingRows.{EnabledRows}
 use Rattle.dspec_record.specs.Schemas.{enabled, table_shape, table_accepts, table_text}
 use Rattle.dspec_ring.specs.declared.batch.Batch.{Batch}
 use Rattle.dspec_session.specs.Asking.{Asked}
-use Rattle.dspec_session.specs.Batches.{FoundNone, GaveBack, IsRefused, Took}
+use Rattle.dspec_session.specs.Batches.{FoundNone, GaveBack, IsNotTakenBack, Took}
 use Rattle.dspec_session.specs.Cleaning.{Cleaned}
 use Rattle.dspec_session.specs.Consumers.{Consuming, set_up_of, view_of}
 use Rattle.dspec_session.specs.declared.demonstration.four.Four.{Four}
 use Rattle.dspec_session.specs.declared.demonstration.order.Order.{Order}
-use Rattle.dspec_session.specs.Rising.{Follows}
+use Rattle.dspec_session.specs.Rising.{FollowsText}
 
 -- before anything was read
 abbrev pub none_read : Order
@@ -20,11 +20,11 @@ none_taken = record { first = none_read; second = none_read; third = none_read; 
 
 -- the records of the batch are followed
 abbrev pub FollowsBatch : EnabledRows → Batch → Order → Order → Type 0
-FollowsBatch s b o u = Follows (table_shape s.header (enabled s.rows)) (table_accepts s.header (enabled s.rows)) (table_text s.header (enabled s.rows)) b.buffer.text o u
+FollowsBatch s b o u = FollowsText (table_shape s.header (enabled s.rows)) (table_accepts s.header (enabled s.rows)) (table_text s.header (enabled s.rows)) b.buffer.text o u
 
 -- it was given back, or it is refused
 abbrev pub IsBackOrRefused : Batch → Consuming → Consuming → Type 0
-IsBackOrRefused b x y = GaveBack b x y ⊎ IsRefused b x y
+IsBackOrRefused b x y = GaveBack b x y ⊎ IsNotTakenBack b x y
 
 -- none came, or a batch came out of the ring, was followed, and went back
 abbrev pub IsTaken : EnabledRows → ℕ → Consuming → Order → Consuming → Order → Type 0

@@ -1,5 +1,5 @@
 ghost use Rattle.std.specs.Prelude.{◌≡◌, OnOk, OnErr, IfErr, IfSome, IfNone};
-ghost use Rattle.dspec_session.specs.Batches.{Took, FoundNone, GaveBack, IsRefused};
+ghost use Rattle.dspec_session.specs.Batches.{Took, FoundNone, GaveBack, IsNotTakenBack};
 ghost use Rattle.dspec_cpu.specs.Lists.{words_of};
 ghost use Rattle.dspec_session.specs.Consumers.{IsConsumerOf, IsSameConsumer, set_up_of};
 
@@ -31,7 +31,7 @@ impl Consumer {
         ensures same { IsSameConsumer self.old self.new }
         ensures given { OnOk result (GaveBack batch self.old self.new) }
         ensures refused { IfErr result (λ back. back ≡ batch) }
-        ensures why { OnErr result (IsRefused batch self.old self.new) }
+        ensures why { OnErr result (IsNotTakenBack batch self.old self.new) }
     {
         if batch.cpu >= self.config.cpus || batch.buffer.size() != self.config.bufsize {
             return Err(batch);

@@ -14,9 +14,9 @@ impl Model for CountedEnd {
 
     ghost Value = { ConsumerKnows };
 
-    ghost use Rattle.dspec_session.specs.Counting.{end_of, IsCounted};
+    ghost use Rattle.dspec_session.specs.Counting.{counted_end_of, IsCounted};
 
-    ghost view = { end_of };
+    ghost view = { counted_end_of };
 
     ghost invariant = { IsCounted };
 }

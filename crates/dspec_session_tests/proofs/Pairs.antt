@@ -10,7 +10,8 @@ nothing [] e = refl
 nothing (x ∷ xs) e = absurd (omega arith)
 
 -- the two seats that are popped are those of the two CPUs
-module _ (words : Words) (items left rest : List CpuSeat) (first second : CpuSeat) (popped : items ≡ left ++ second ∷ []) (popped_too : left ≡ rest ++ first ∷ []) (two : length items ≡ 2) (dealt : FreshSeats words items) where
+module _ (words : Words) (items left rest : List CpuSeat) (first second : CpuSeat) (popped : items ≡ left ++ second ∷ []) (popped_too : left ≡ rest ++ first ∷ [])
+    (two : length items ≡ 2) (dealt : FreshSeats words items) where
   none_left : rest ≡ []
   none_left =
       let a = length-append left (second ∷ []) in

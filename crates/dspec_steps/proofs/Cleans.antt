@@ -22,7 +22,7 @@ use Rattle.dspec_table.specs.declared.rule.View.{View}
 use Rattle.dspec_play.proofs.StepsWords.{word_is_itself}
 use Rattle.dspec_table.specs.Acts.{at_stop}
 use Rattle.dspec_table.specs.Steps.{Found, Entered, LookedWord}
-use Rattle.dspec_steps.specs.SameSteps.{slot_there, seat_cleans, ConsumerSeatStep, IsBehind, IsPlayed}
+use Rattle.dspec_steps.specs.SameSteps.{slot_there, seat_cleans, ConsumerSeatStep, IsBehind, IsStepOfPlay}
 use Rattle.dspec_steps.proofs.SeatsDid.{bare_joined, did}
 
 module _ (k : Config) (h : List Deed) (side : ConsumerSide) (all : List Caller) where
@@ -117,11 +117,15 @@ consumer_did v w (consumer.Begun consumer_op.Clean) step = looked 1 v w step
 consumer_did v w (consumer.Begun consumer_op.Stop) (log, found, entered) = (log, found, record { own = ap (λ (x : View). x.own) entered.view; seen = ap (λ (x : View). x.seen) entered.view })
 consumer_did v w (consumer.CleanLoad s n) step = looked s v w step
 consumer_did v w (consumer.CleanAck s from c n) (acked, (log, found, is, view)) = (log, found, record { own = ap (λ (x : View). x.own) view; seen = ap (λ (x : View). x.seen) view })
-consumer_did v w (consumer.CleanReap s from n) (log, found, is, entered) =
-    (log, found, did (λ x. if same_word x from then Release s ∷ [] else []) from (word_at s log) v w log is (subst (λ b. Entered v log (if b then Release s ∷ [] else []) w) (sym (word_is_itself from)) entered))
+consumer_did v w (consumer.CleanReap s from n) (log, found, is, entered) = (
+  log,
+  found,
+  did (λ x. if same_word x from then Release s ∷ [] else []) from (word_at s log) v w log is
+      (subst (λ b. Entered v log (if b then Release s ∷ [] else []) w) (sym (word_is_itself from)) entered),
+)
 
 pub consumer_plays : (v w : View) (f : ConsumerFlight) → ConsumerSeatStep v f w
-    → (log : List Deed) × Found v log × ((h : List Deed) (side : ConsumerSide) (all : List Caller) → bare h ≡ log → IsPlayed (consumer_step v.config h side all f).deeds h v w)
+    → (log : List Deed) × Found v log × ((h : List Deed) (side : ConsumerSide) (all : List Caller) → bare h ≡ log → IsStepOfPlay (consumer_step v.config h side all f).deeds h v w)
 consumer_plays v w f step =
     let d = consumer_did v w f step in (
       d.0,
@@ -130,6 +134,7 @@ consumer_plays v w f step =
           let ds = (consumer_step v.config h side all f).deeds in
           let there = seat_cleans (halted (bare h)) (word_at (slot_there f) (bare h)) f in
           let e : seat_cleans (halted d.0) (word_at (slot_there f) d.0) f ≡ bare ds =
-          ap (λ l. seat_cleans (halted l) (word_at (slot_there f) l) f) (sym is) ∙ sym (ap bare (same_cleans v.config h side all f) ∙ cleans_bare (halted (bare h)) (word_at (slot_there f) (bare h)) f) in
+          ap (λ l. seat_cleans (halted l) (word_at (slot_there f) l) f) (sym is)
+          ∙ sym (ap bare (same_cleans v.config h side all f) ∙ cleans_bare (halted (bare h)) (word_at (slot_there f) (bare h)) f) in
           record { own = d.2.own ∙ ap (λ x. x ++ v.own) e; seen = d.2.seen ∙ ap (λ x. x ++ d.0) e ∙ ap (λ l. bare ds ++ l) (sym is) ∙ sym (bare_joined ds h) },
     )

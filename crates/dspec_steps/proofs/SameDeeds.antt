@@ -2,7 +2,7 @@
 use Rattle.std.proofs.Common.{◌≡◌, ◌≤◌, ◌+◌, ◌==◌, ℕ, Bool, true, false, List, [], ◌∷◌, Option, if◌then◌else◌, ◌&&◌, length, refl, sym, ap, ◌∙◌, subst, ⊎_elim, arith}
 use Rattle.dspec_record.specs.declared.field.Shape.{Shape}
 use Rattle.dspec_record.specs.Record.{Record}
-use Rattle.dspec_buffer.specs.Extent.{one, fits}
+use Rattle.dspec_buffer.specs.Extent.{one, piece_fits}
 use Rattle.dspec_word.specs.declared.act.Act.{Act}
 use Rattle.dspec_word.specs.declared.act.Act.TheVariants.{Void, Granted, Attempt, Idle}
 use Rattle.dspec_word.specs.declared.code.Code.{Code}
@@ -37,11 +37,12 @@ use Rattle.dspec_play.specs.declared.flight.Spare.{Spare}
 use Rattle.dspec_play.specs.declared.flight.Spare.TheVariants as spare
 use Rattle.dspec_deeds.specs.declared.calls.Served.{Served}
 use Rattle.dspec_play.specs.Wearing.{is_told_worn}
-use Rattle.dspec_play.specs.Play.{same_word, cpu_step, shown_speculate, shown_commit, shown_discard, shown_scan, shown_service, missed, served, asked, popped, committed_by, discarded_by, is_alone, spoken_at, is_worn, begun}
+use Rattle.dspec_play.specs.Play.{same_word, cpu_step, shown_speculate, shown_commit, shown_discard, shown_scan, shown_service, missed, served}
+use Rattle.dspec_play.specs.Play.{asked, popped, committed_by, discarded_by, is_alone, spoken_at, is_worn, begun}
 use Rattle.dspec_play.proofs.StepsWords.{is_plain, speculate_not_idle, commit_plain, discard_plain, open_plain, not_plain, same_word_tells}
 use Rattle.dspec_table.specs.declared.doing.Doing.{Doing}
 use Rattle.dspec_table.specs.Acts as acts
-use Rattle.dspec_table.specs.Acts.{at_activity, at_word, at_open, at_exchange, misses, speaks, void_commit, void_discard, discard_hits}
+use Rattle.dspec_table.specs.Acts.{at_activity, at_word, at_open, at_exchange, miss_at, speaks, void_commit, void_discard, discard_hits}
 use Rattle.dspec_steps.specs.SameSteps.{IsMine, Measures, MeasuresBlock, IsSameCall, slot_of, seat_deeds}
 
 -- whether the CPU is a caller is asked at a word of the identifier's issue alone, and there the seat knows it
@@ -67,7 +68,7 @@ measured_alike shape k c g h alike doing = go
     many id e = e ∙ ap length (alike.apart.buffers id)
 
     room : (id : Speculation) (r : Record) → doing.fits ≡ fits_speculative shape k c id r g → doing.fits ≡ fits_speculative shape k c id r h
-    room id r e = e ∙ ap (λ os. fits shape (map one (contents os)) (one r) k.specsize) (alike.apart.buffers id)
+    room id r e = e ∙ ap (λ os. piece_fits shape (map one (contents os)) (one r) k.specsize) (alike.apart.buffers id)
 
     whole : (id : Speculation) → MeasuresBlock shape k c g id doing → MeasuresBlock shape k c h id doing
     whole id m = (m.0 ∙ block_alike shape k c id g h alike, many id m.1)
@@ -96,7 +97,7 @@ measured_alike shape k c g h alike doing = go
 module _ (shape : ℕ → Option Shape) (k : Config) (c : ℕ) (h : List Deed) (me : Caller) (doing : Doing) where
   spoken_deeds : (id : Speculation) (r : Record) → doing.fits ≡ fits_speculative shape k c id r h
       → bare (spoken_at shape k c h me id r).deeds ≡ Speculate c id r (if doing.fits then spoken.Kept else spoken.Dropped) ∷ []
-  spoken_deeds id r fits = rw fits (go (fits_speculative shape k c id r h) refl)
+  spoken_deeds id r piece_fits = rw piece_fits (go (fits_speculative shape k c id r h) refl)
     where
       go : (b : Bool) → fits_speculative shape k c id r h ≡ b → bare (spoken_at shape k c h me id r).deeds ≡ Speculate c id r (if b then spoken.Kept else spoken.Dropped) ∷ []
       go true e = rw e refl
@@ -105,13 +106,14 @@ module _ (shape : ℕ → Option Shape) (k : Config) (c : ℕ) (h : List Deed) (
   speculate_loaded : (id : Speculation) (r : Record) → doing.fits ≡ fits_speculative shape k c id r h → IsSound k h → IsMine c h id doing
       → bare (shown_speculate shape k c h me id r (word_at id.slot h) (speculate_at (word_at id.slot h) id (is_among c (callers id h)))).deeds
       ≡ speaks c doing id r (speculate_at (word_at id.slot h) id doing.mine)
-  speculate_loaded id r fits sound mine =
-      go (speculate_at (word_at id.slot h) id (is_among c (callers id h))) refl ∙ sym (ap (speaks c doing id r) (mine_alike k c h id doing (λ m. speculate_act (word_at id.slot h).issue m (word_at id.slot h).code) sound mine))
+  speculate_loaded id r piece_fits sound mine =
+      go (speculate_at (word_at id.slot h) id (is_among c (callers id h))) refl
+      ∙ sym (ap (speaks c doing id r) (mine_alike k c h id doing (λ m. speculate_act (word_at id.slot h).issue m (word_at id.slot h).code) sound mine))
     where
       go : (act : Act) → speculate_at (word_at id.slot h) id (is_among c (callers id h)) ≡ act
           → bare (shown_speculate shape k c h me id r (word_at id.slot h) act).deeds ≡ speaks c doing id r act
       go Void e = refl
-      go Granted e = spoken_deeds id r fits
+      go Granted e = spoken_deeds id r piece_fits
       go (Attempt to) e = refl
       go Idle e = absurd (speculate_not_idle (word_at id.slot h) id (is_among c (callers id h)) e)
 
@@ -157,7 +159,7 @@ module _ (shape : ℕ → Option Shape) (k : Config) (c : ℕ) (h : List Deed) (
 
   -- a load of activity
   begun_deeds : (o : CpuOp) → Measures shape k c h doing (cpu.Begun o) → is_told_worn (begun shape k c h me o).answer ≡ false → bare (begun shape k c h me o).deeds ≡ at_activity k c doing o (halted h)
-  begun_deeds (cpu_op.Trace r) fits told = rw fits (go (is_worn k c h) (halted h) (fits_principal shape k c (one r) h) refl refl refl)
+  begun_deeds (cpu_op.Trace r) piece_fits told = rw piece_fits (go (is_worn k c h) (halted h) (fits_principal shape k c (one r) h) refl refl refl)
     where
       go : (w s f : Bool) → is_worn k c h ≡ w → halted h ≡ s → fits_principal shape k c (one r) h ≡ f
           → bare (begun shape k c h me (cpu_op.Trace r)).deeds ≡ at_activity k c (record doing { fits = fits_principal shape k c (one r) h }) (cpu_op.Trace r) (halted h)
@@ -174,7 +176,8 @@ module _ (shape : ℕ → Option Shape) (k : Config) (c : ℕ) (h : List Deed) (
   begun_deeds (cpu_op.Speculate id r) none told = go (is_worn k c h) (halted h) (in_range k id) refl refl refl
     where
       go : (w s n : Bool) → is_worn k c h ≡ w → halted h ≡ s → in_range k id ≡ n → bare (begun shape k c h me (cpu_op.Speculate id r)).deeds ≡ at_activity k c doing (cpu_op.Speculate id r) (halted h)
-      go true s n ew es en = let t : is_told_worn (begun shape k c h me (cpu_op.Speculate id r)).answer ≡ true = rw ew refl in off (is_told_worn (begun shape k c h me (cpu_op.Speculate id r)).answer) t told
+      go true s n ew es en = let t : is_told_worn (begun shape k c h me (cpu_op.Speculate id r)).answer ≡ true =
+          rw ew refl in off (is_told_worn (begun shape k c h me (cpu_op.Speculate id r)).answer) t told
       go false true n ew es en = rw (ew, es) refl
       go false false true ew es en = rw (ew, es, en) refl
       go false false false ew es en = rw (ew, es, en) refl
@@ -202,10 +205,10 @@ module _ (shape : ℕ → Option Shape) (k : Config) (c : ℕ) (h : List Deed) (
       go true e = rw e refl
       go false e = rw e refl
 
-  scan_loaded : (s : ℕ) (w : SlotState) → bare (shown_scan shape k c h me s w (open_at w k.max_issues)).deeds ≡ misses c s w (open_at w k.max_issues)
+  scan_loaded : (s : ℕ) (w : SlotState) → bare (shown_scan shape k c h me s w (open_at w k.max_issues)).deeds ≡ miss_at c s w (open_at w k.max_issues)
   scan_loaded s w = go (open_at w k.max_issues) refl
     where
-      go : (act : Act) → open_at w k.max_issues ≡ act → bare (shown_scan shape k c h me s w act).deeds ≡ misses c s w act
+      go : (act : Act) → open_at w k.max_issues ≡ act → bare (shown_scan shape k c h me s w act).deeds ≡ miss_at c s w act
       go Void e = missed_deeds s w
       go Granted e = not_plain (open_at w k.max_issues) Granted (open_plain w k.max_issues) e refl
       go (Attempt to) e = refl
@@ -222,7 +225,8 @@ module _ (shape : ℕ → Option Shape) (k : Config) (c : ℕ) (h : List Deed) (
   commit_loaded : (id : Speculation) → IsSound k h → IsMine c h id doing
       → bare (shown_commit shape k c h me id (word_at id.slot h) (commit_at (word_at id.slot h) id (is_among c (callers id h)))).deeds ≡ void_commit c id (commit_at (word_at id.slot h) id doing.mine)
   commit_loaded id sound mine =
-      go (commit_at (word_at id.slot h) id (is_among c (callers id h))) refl ∙ sym (ap (void_commit c id) (mine_alike k c h id doing (λ m. commit_act (word_at id.slot h).issue m (word_at id.slot h).code) sound mine))
+      go (commit_at (word_at id.slot h) id (is_among c (callers id h))) refl
+      ∙ sym (ap (void_commit c id) (mine_alike k c h id doing (λ m. commit_act (word_at id.slot h).issue m (word_at id.slot h).code) sound mine))
     where
       plain : is_plain (commit_at (word_at id.slot h) id (is_among c (callers id h))) ≡ true
       plain = commit_plain (word_at id.slot h) id (is_among c (callers id h))
@@ -234,9 +238,11 @@ module _ (shape : ℕ → Option Shape) (k : Config) (c : ℕ) (h : List Deed) (
       go Idle e = not_plain (commit_at (word_at id.slot h) id (is_among c (callers id h))) Idle plain e refl
 
   discard_loaded : (id : Speculation) → IsSound k h → IsMine c h id doing
-      → bare (shown_discard shape k c h me id (word_at id.slot h) (discard_at (word_at id.slot h) id (is_among c (callers id h)))).deeds ≡ void_discard c id (discard_at (word_at id.slot h) id doing.mine)
+      → bare (shown_discard shape k c h me id (word_at id.slot h) (discard_at (word_at id.slot h) id (is_among c (callers id h)))).deeds
+      ≡ void_discard c id (discard_at (word_at id.slot h) id doing.mine)
   discard_loaded id sound mine =
-      go (discard_at (word_at id.slot h) id (is_among c (callers id h))) refl ∙ sym (ap (void_discard c id) (mine_alike k c h id doing (λ m. discard_act (word_at id.slot h).issue m (word_at id.slot h).code) sound mine))
+      go (discard_at (word_at id.slot h) id (is_among c (callers id h))) refl
+      ∙ sym (ap (void_discard c id) (mine_alike k c h id doing (λ m. discard_act (word_at id.slot h).issue m (word_at id.slot h).code) sound mine))
     where
       plain : is_plain (discard_at (word_at id.slot h) id (is_among c (callers id h))) ≡ true
       plain = discard_plain (word_at id.slot h) id (is_among c (callers id h))
@@ -247,13 +253,13 @@ module _ (shape : ℕ → Option Shape) (k : Config) (c : ℕ) (h : List Deed) (
       go (Attempt to) e = refl
       go Idle e = not_plain (discard_at (word_at id.slot h) id (is_among c (callers id h))) Idle plain e refl
 
-  block_fate : (id : Speculation) → MeasuresBlock shape k c h id doing → settling.commit_fate shape k c h id ≡ acts.commit_fate doing
+  block_fate : (id : Speculation) → MeasuresBlock shape k c h id doing → settling.commit_fate shape k c h id ≡ acts.fate_of_commit doing
   block_fate id block = rw (block.0, block.1) refl
 
-  committed : (id : Speculation) (act : Act) → MeasuresBlock shape k c h id doing → bare (committed_by shape k c h me id act).deeds ≡ Commit c id (acts.commit_fate doing) ∷ []
+  committed : (id : Speculation) (act : Act) → MeasuresBlock shape k c h id doing → bare (committed_by shape k c h me id act).deeds ≡ Commit c id (acts.fate_of_commit doing) ∷ []
   committed id act block = go (is_alone act) refl
     where
-      go : (b : Bool) → is_alone act ≡ b → bare (committed_by shape k c h me id act).deeds ≡ Commit c id (acts.commit_fate doing) ∷ []
+      go : (b : Bool) → is_alone act ≡ b → bare (committed_by shape k c h me id act).deeds ≡ Commit c id (acts.fate_of_commit doing) ∷ []
       go true e = rw e (ap (λ f. Commit c id f ∷ []) (block_fate id block))
       go false e = rw e (ap (λ f. Commit c id f ∷ []) (block_fate id block))
 
@@ -265,7 +271,7 @@ module _ (shape : ℕ → Option Shape) (k : Config) (c : ℕ) (h : List Deed) (
       go false e = rw (e, count) refl
 
   -- settlements
-  settled_fate : (id : Speculation) (code : Code) → MeasuresBlock shape k c h id doing → settling.settle_fate shape k c h id code ≡ acts.settle_fate doing code
+  settled_fate : (id : Speculation) (code : Code) → MeasuresBlock shape k c h id doing → settling.settle_fate shape k c h id code ≡ acts.fate_of_settlement doing code
   settled_fate id Discarding block = rw block.1 refl
   settled_fate id Inactive block = block_fate id block
   settled_fate id Active block = block_fate id block
@@ -282,13 +288,15 @@ module _ (shape : ℕ → Option Shape) (k : Config) (c : ℕ) (h : List Deed) (
   by_place (cpu.SpeculateLoad id r) same m = speculate_loaded id r m.0 same.sound m.1 ∙ ap (at_word k c doing id.slot (word_at id.slot h)) (sym same.op)
   by_place (cpu.SpeculateTry id r from) same m = go (same_word (word_at id.slot h) from) refl
     where
-      go : (b : Bool) → same_word (word_at id.slot h) from ≡ b → bare (cpu_step shape k c h me (cpu.SpeculateTry id r from)).deeds ≡ at_exchange k c doing id.slot (word_at id.slot h) (same_word (word_at id.slot h) from)
+      go : (b : Bool) → same_word (word_at id.slot h) from ≡ b
+          → bare (cpu_step shape k c h me (cpu.SpeculateTry id r from)).deeds ≡ at_exchange k c doing id.slot (word_at id.slot h) (same_word (word_at id.slot h) from)
       go true e = rw e (spoken_deeds id r m.0 ∙ ap (acts.at_hit c doing (word_at id.slot h)) (sym same.op))
       go false e = rw e (speculate_loaded id r m.0 same.sound m.1 ∙ ap (at_word k c doing id.slot (word_at id.slot h)) (sym same.op))
   by_place (cpu.CommitLoad id) same m = commit_loaded id same.sound m ∙ ap (at_word k c doing id.slot (word_at id.slot h)) (sym same.op)
   by_place (cpu.CommitTry id from) same m = go (same_word (word_at id.slot h) from) refl
     where
-      go : (b : Bool) → same_word (word_at id.slot h) from ≡ b → bare (cpu_step shape k c h me (cpu.CommitTry id from)).deeds ≡ at_exchange k c doing id.slot (word_at id.slot h) (same_word (word_at id.slot h) from)
+      go : (b : Bool) → same_word (word_at id.slot h) from ≡ b
+          → bare (cpu_step shape k c h me (cpu.CommitTry id from)).deeds ≡ at_exchange k c doing id.slot (word_at id.slot h) (same_word (word_at id.slot h) from)
       go true e = rw e (committed id (commit_at from id (is_among c (callers id h))) m.0 ∙ ap (acts.at_hit c doing (word_at id.slot h)) (sym same.op))
       go false e = rw e (commit_loaded id same.sound m.1 ∙ ap (at_word k c doing id.slot (word_at id.slot h)) (sym same.op))
   by_place (cpu.CommitRelease id f) same m = refl
@@ -298,19 +306,23 @@ module _ (shape : ℕ → Option Shape) (k : Config) (c : ℕ) (h : List Deed) (
       attempts : discard_at from id (is_among c (callers id h)) ≡ Attempt same.stands.1.to
       attempts = same.stands.1.attempts
 
-      go : (b : Bool) → same_word (word_at id.slot h) from ≡ b → bare (cpu_step shape k c h me (cpu.DiscardTry id from)).deeds ≡ at_exchange k c doing id.slot (word_at id.slot h) (same_word (word_at id.slot h) from)
+      go : (b : Bool) → same_word (word_at id.slot h) from ≡ b
+          → bare (cpu_step shape k c h me (cpu.DiscardTry id from)).deeds ≡ at_exchange k c doing id.slot (word_at id.slot h) (same_word (word_at id.slot h) from)
       go true e =
           let w : word_at id.slot h ≡ from = same_word_tells (word_at id.slot h) from e in
           let shown : discard_at (word_at id.slot h) id doing.mine ≡ Attempt same.stands.1.to =
           mine_alike k c h id doing (λ m. discard_act (word_at id.slot h).issue m (word_at id.slot h).code) same.sound m.1 ∙ ap (λ x. discard_at x id (is_among c (callers id h))) w ∙ attempts in
-          rw e (ap (λ a. bare (discarded_by shape k c h me id a).deeds) attempts ∙ discarded id same.stands.1.to m.0 ∙ ap (discard_hits c doing id) (sym shown) ∙ ap (acts.at_hit c doing (word_at id.slot h)) (sym same.op))
+          rw e (ap (λ a. bare (discarded_by shape k c h me id a).deeds) attempts ∙ discarded id same.stands.1.to m.0 ∙ ap (discard_hits c doing id) (sym shown)
+          ∙ ap (acts.at_hit c doing (word_at id.slot h)) (sym same.op))
       go false e = rw e (discard_loaded id same.sound m.1 ∙ ap (at_word k c doing id.slot (word_at id.slot h)) (sym same.op))
   by_place cpu.ServicePop same m = popped_deeds me.spare
   by_place cpu.ServicePush same m = refl
   by_place (cpu.ServiceLoad s sum) same m = service_loaded s sum (word_at s h) (settle_at (word_at s h) (ack c s h)) ∙ ap (at_word k c doing s (word_at s h)) (sym same.op)
   by_place (cpu.ServiceStore s w sum) same m =
-      ap bare (served_deeds s _ record { sealed = sum.sealed; settled = sum.settled + 1 }) ∙ ap (λ f. Settle c record { issue = w.issue; slot = s } f ∷ []) (settled_fate record { issue = w.issue; slot = s } w.code m)
+      ap bare (served_deeds s _ record { sealed = sum.sealed; settled = sum.settled + 1 }) ∙ ap (λ f. Settle c record { issue = w.issue; slot = s } f ∷ [])
+      (settled_fate record { issue = w.issue; slot = s } w.code m)
 
   -- and by what the words show
   pub same_deeds : (f : CpuFlight) → IsSameCall shape k c h me f doing → bare (cpu_step shape k c h me f).deeds ≡ seat_deeds k c doing (halted (bare h)) (word_at (slot_of f) (bare h)) f
-  same_deeds f same = by_place f same (measured_alike shape k c (part (Cpu c) h) h (reads k c h) doing f same.measured) ∙ (λ i. seat_deeds k c doing ((shows_bare h).halts i) ((shows_bare h).words (slot_of f) i) f)
+  same_deeds f same = by_place f same (measured_alike shape k c (part (Cpu c) h) h (reads k c h) doing f same.measured)
+      ∙ (λ i. seat_deeds k c doing ((shows_bare h).halts i) ((shows_bare h).words (slot_of f) i) f)

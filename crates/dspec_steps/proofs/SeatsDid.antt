@@ -22,12 +22,12 @@ use Rattle.dspec_play.specs.Play.{same_word, cpu_step}
 use Rattle.dspec_play.proofs.StepsWords.{word_is_itself, words_test}
 use Rattle.dspec_table.specs.declared.doing.Doing.{Doing}
 use Rattle.dspec_table.specs.declared.rule.View.{View}
-use Rattle.dspec_table.specs.Acts.{at_activity, at_word, at_open, at_exchange, settle_fate}
+use Rattle.dspec_table.specs.Acts.{at_activity, at_word, at_open, at_exchange, fate_of_settlement}
 use Rattle.dspec_deeds.specs.declared.deed.Deed.TheVariants.{Settle}
 use Rattle.dspec_table.specs.Holders.{number_of}
 use Rattle.dspec_table.specs.Flights.{calling}
 use Rattle.dspec_table.specs.Steps.{Found, Entered, LoadedWord, OpenedWord, TriedWord}
-use Rattle.dspec_steps.specs.SameSteps.{IsSameCall, slot_of, seat_deeds, IsMine, SeatStep, Exchanges, IsBehind, IsPlayed}
+use Rattle.dspec_steps.specs.SameSteps.{IsSameCall, slot_of, seat_deeds, IsMine, SeatStep, Exchanges, IsBehind, IsStepOfPlay}
 use Rattle.dspec_steps.proofs.SameDeeds.{same_deeds}
 
 -- Seals are left out of each part alone
@@ -62,7 +62,8 @@ tried : (doing : Doing) (slot : ℕ) (from : SlotState) (v w : View) → Exchang
     → Did (λ log. at_exchange v.config (number_of v.who) doing slot (word_at slot log) (same_word (word_at slot log) from)) v w
 tried doing slot from v w step = go (exchanged (λ shown hit. TriedWord doing slot v shown hit w) from step)
   where
-    go : (shown : SlotState) × TriedWord doing slot v shown (same_word shown from) w → Did (λ log. at_exchange v.config (number_of v.who) doing slot (word_at slot log) (same_word (word_at slot log) from)) v w
+    go : (shown : SlotState) × TriedWord doing slot v shown (same_word shown from) w
+        → Did (λ log. at_exchange v.config (number_of v.who) doing slot (word_at slot log) (same_word (word_at slot log) from)) v w
     go (shown, (log, found, is, entered)) = (log, found, did (λ x. at_exchange v.config (number_of v.who) doing slot x (same_word x from)) shown (word_at slot log) v w log is entered)
 
 opened_at : (slot : ℕ) (from : SlotState) (v w : View) → Exchanges (λ shown hit. OpenedWord slot v shown hit w) from
@@ -91,11 +92,16 @@ seat_did doing v w (cpu.Begun cpu_op.Service) (inr (n, (log, found, least, view)
     seen = ap (λ (x : View). x.seen) view ∙ sym (ap (λ o. at_activity v.config (number_of v.who) doing o (halted log) ++ log) op);
   },
 )
-seat_did doing v w (cpu.Begun (cpu_op.Trace r)) (stopped, (log, found, is, entered)) = (log, found, λ op. did (λ b. at_activity v.config (number_of v.who) doing doing.op b) stopped (halted log) (calling doing.op v) w log is entered)
-seat_did doing v w (cpu.Begun cpu_op.Speculation) (stopped, (log, found, is, entered)) = (log, found, λ op. did (λ b. at_activity v.config (number_of v.who) doing doing.op b) stopped (halted log) (calling doing.op v) w log is entered)
-seat_did doing v w (cpu.Begun (cpu_op.Speculate id r)) (stopped, (log, found, is, entered)) = (log, found, λ op. did (λ b. at_activity v.config (number_of v.who) doing doing.op b) stopped (halted log) (calling doing.op v) w log is entered)
-seat_did doing v w (cpu.Begun (cpu_op.Commit id)) (stopped, (log, found, is, entered)) = (log, found, λ op. did (λ b. at_activity v.config (number_of v.who) doing doing.op b) stopped (halted log) (calling doing.op v) w log is entered)
-seat_did doing v w (cpu.Begun (cpu_op.Discard id)) (stopped, (log, found, is, entered)) = (log, found, λ op. did (λ b. at_activity v.config (number_of v.who) doing doing.op b) stopped (halted log) (calling doing.op v) w log is entered)
+seat_did doing v w (cpu.Begun (cpu_op.Trace r)) (stopped, (log, found, is, entered)) =
+    (log, found, λ op. did (λ b. at_activity v.config (number_of v.who) doing doing.op b) stopped (halted log) (calling doing.op v) w log is entered)
+seat_did doing v w (cpu.Begun cpu_op.Speculation) (stopped, (log, found, is, entered)) =
+    (log, found, λ op. did (λ b. at_activity v.config (number_of v.who) doing doing.op b) stopped (halted log) (calling doing.op v) w log is entered)
+seat_did doing v w (cpu.Begun (cpu_op.Speculate id r)) (stopped, (log, found, is, entered)) =
+    (log, found, λ op. did (λ b. at_activity v.config (number_of v.who) doing doing.op b) stopped (halted log) (calling doing.op v) w log is entered)
+seat_did doing v w (cpu.Begun (cpu_op.Commit id)) (stopped, (log, found, is, entered)) =
+    (log, found, λ op. did (λ b. at_activity v.config (number_of v.who) doing doing.op b) stopped (halted log) (calling doing.op v) w log is entered)
+seat_did doing v w (cpu.Begun (cpu_op.Discard id)) (stopped, (log, found, is, entered)) =
+    (log, found, λ op. did (λ b. at_activity v.config (number_of v.who) doing doing.op b) stopped (halted log) (calling doing.op v) w log is entered)
 seat_did doing v w (cpu.ScanLoad s) step = let d = loaded doing s v w step in (d.0, d.1, λ op. d.2)
 seat_did doing v w (cpu.ScanTry s from) step = let d = opened_at s from v w step in (d.0, d.1, λ op. d.2)
 seat_did doing v w (cpu.SpeculateLoad id r) step = let d = loaded doing id.slot v w step in (d.0, d.1, λ op. d.2)
@@ -109,12 +115,12 @@ seat_did doing v w cpu.ServicePop step = absurd step
 seat_did doing v w cpu.ServicePush step = absurd step
 seat_did doing v w (cpu.ServiceLoad s sum) step = let d = loaded doing s v w step in (d.0, d.1, λ op. d.2)
 seat_did doing v w (cpu.ServiceStore s from sum) (last, (log, found, entered)) =
-    (log, found, λ op. did (λ x. Settle (number_of v.who) record { issue = from.issue; slot = s } (settle_fate doing x.code) ∷ []) (word_at s v.seen) from v w log (sym last) entered)
+    (log, found, λ op. did (λ x. Settle (number_of v.who) record { issue = from.issue; slot = s } (fate_of_settlement doing x.code) ∷ []) (word_at s v.seen) from v w log (sym last) entered)
 
 -- so a step of the play leaves what the seat's step leaves
 pub seat_plays : (doing : Doing) (v w : View) (f : CpuFlight) → SeatStep doing v f w
     → (log : List Deed) × Found v log × ((shape : ℕ → Option Shape) (h : List Deed) (me : Caller) → bare h ≡ log → IsSameCall shape v.config (number_of v.who) h me f doing
-    → IsPlayed (cpu_step shape v.config (number_of v.who) h me f).deeds h v w)
+    → IsStepOfPlay (cpu_step shape v.config (number_of v.who) h me f).deeds h v w)
 seat_plays doing v w f step =
     let d = seat_did doing v w f step in (
       d.0,

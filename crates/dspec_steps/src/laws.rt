@@ -16,7 +16,7 @@ ghost use Rattle.dspec_table.specs.Conditions.{IsInFlight};
 ghost use Rattle.dspec_word.specs.SpecId.{Speculation};
 ghost use Rattle.dspec_table.specs.Holders.{number_of};
 ghost use Rattle.dspec_table.specs.Steps.{Found};
-ghost use Rattle.dspec_steps.specs.SameSteps.{IsSameCall, IsMine, slot_of, seat_deeds, slot_there, seat_cleans, SeatStep, ConsumerSeatStep, IsPlayed};
+ghost use Rattle.dspec_steps.specs.SameSteps.{IsSameCall, IsMine, slot_of, seat_deeds, slot_there, seat_cleans, SeatStep, ConsumerSeatStep, IsStepOfPlay};
 
 /// The list of a play without its Seals is the list of the words. At each place of a call a step of the play enters, Seals apart,
 /// what the seat's step enters there, by its call in flight and by the activity and the word that its list shows. Whether the CPU
@@ -32,8 +32,8 @@ pub fn same_steps()
     ensures cpu_seat { (doing : Doing) (v w : View) (f : CpuFlight) → SeatStep doing v f w
         → (log : List Deed) × Found v log × ((shape : ℕ → Option Shape) (h : List Deed) (me : Caller) → bare h ≡ log
         → IsSameCall shape v.config (number_of v.who) h me f doing
-        → IsPlayed (cpu_step shape v.config (number_of v.who) h me f).deeds h v w) }
+        → IsStepOfPlay (cpu_step shape v.config (number_of v.who) h me f).deeds h v w) }
     ensures consumer_seat { (v w : View) (f : ConsumerFlight) → ConsumerSeatStep v f w
         → (log : List Deed) × Found v log × ((h : List Deed) (side : ConsumerSide) (all : List Caller) → bare h ≡ log
-        → IsPlayed (consumer_step v.config h side all f).deeds h v w) }
+        → IsStepOfPlay (consumer_step v.config h side all f).deeds h v w) }
 {}

@@ -55,15 +55,30 @@ turned false = refl
 module _ (k : Config) (c : ℕ) (log : List Deed) (doing : Doing) (n : 1 ≤ k.nspec) (s : IsSound k log) (rests : owed log ≡ 0) (idle : scan k c log ≡ 0) where
   speculates : (id : Speculation) (r : Record) (b : Bool) → in_range k id ≡ b → halted log ≡ false → Owes k (of_cpu c) log (if b then [] else Speculate c id r spoken.Void ∷ [])
   speculates id r true e runs = none_owed k (of_cpu c) log rests
-  speculates id r false e runs = record { adds = (tt, (rests, (idle, (running_not_late c log runs, not_open k log id n s e))), refl); rests = refl; quiet = record { active = refl; slots = λ s. refl; acks = λ a s. refl } }
+  speculates id r false e runs = record {
+    adds = (tt, (rests, (idle, (running_not_late c log runs, not_open k log id n s e))), refl);
+    rests = refl;
+    quiet = record
+        { active = refl; slots = λ s. refl; acks = λ a s. refl };
+  }
 
   commits : (id : Speculation) (b : Bool) → in_range k id ≡ b → halted log ≡ false → Owes k (of_cpu c) log (if b then [] else Commit c id decided.Void ∷ [])
   commits id true e runs = none_owed k (of_cpu c) log rests
-  commits id false e runs = record { adds = (tt, (rests, (idle, refl, (running_not_late c log runs, not_open k log id n s e))), refl); rests = refl; quiet = record { active = refl; slots = λ s. refl; acks = λ a s. refl } }
+  commits id false e runs = record {
+    adds = (tt, (rests, (idle, refl, (running_not_late c log runs, not_open k log id n s e))), refl);
+    rests = refl;
+    quiet = record
+        { active = refl; slots = λ s. refl; acks = λ a s. refl };
+  }
 
   discards : (id : Speculation) (b : Bool) → in_range k id ≡ b → halted log ≡ false → Owes k (of_cpu c) log (if b then [] else Discard c id decided.Void ∷ [])
   discards id true e runs = none_owed k (of_cpu c) log rests
-  discards id false e runs = record { adds = (tt, (rests, (idle, refl, (running_not_late c log runs, not_open k log id n s e))), refl); rests = refl; quiet = record { active = refl; slots = λ s. refl; acks = λ a s. refl } }
+  discards id false e runs = record {
+    adds = (tt, (rests, (idle, refl, (running_not_late c log runs, not_open k log id n s e))), refl);
+    rests = refl;
+    quiet = record
+        { active = refl; slots = λ s. refl; acks = λ a s. refl };
+  }
 
   owes : (o : CpuOp) (b : Bool) → b ≡ halted log → Owes k (of_cpu c) log (at_activity k c doing o b)
   owes (op.Trace r) b e = record { adds = (tt, (rests, (idle, traced_is b doing.fits ∙ e)), refl); rests = refl; quiet = record { active = refl; slots = λ s. refl; acks = λ a s. refl } }

@@ -7,12 +7,14 @@ use Rattle.dspec_table.specs.declared.rule.View.{View}
 use Rattle.dspec_table.specs.declared.doing.Doing.{Doing}
 use Rattle.dspec_table.specs.Steps.{TriedNumber, TriedWord, ReapedNumber, ReapedWord}
 
-pub tried_hit : (doing : Doing) (slot : ℕ) (v w : View) (new n : ℕ) (from : SlotState) → n ≡ word_number from → TriedNumber doing slot v new n (n == word_number from) w → TriedWord doing slot v from true w
+pub tried_hit : (doing : Doing) (slot : ℕ) (v w : View) (new n : ℕ) (from : SlotState) → n ≡ word_number from → TriedNumber doing slot v new n (n == word_number from) w
+    → TriedWord doing slot v from true w
 tried_hit doing slot v w new n from is t =
     let hit : (n == word_number from) ≡ true = subst (λ m. (m == word_number from) ≡ true) (sym is) (number_is_itself (word_number from)) in
     subst (λ (x : SlotState). TriedWord doing slot v x true w) (one_word t.0 from (sym t.1 ∙ is)) (subst (λ b. TriedWord doing slot v t.0 b w) hit t.2)
 
-pub tried_miss : (doing : Doing) (slot : ℕ) (v w : View) (new n : ℕ) (from got : SlotState) → n ≢ word_number from → word_number got ≡ n → TriedNumber doing slot v new n (n == word_number from) w → TriedWord doing slot v got false w
+pub tried_miss : (doing : Doing) (slot : ℕ) (v w : View) (new n : ℕ) (from got : SlotState) → n ≢ word_number from → word_number got ≡ n
+    → TriedNumber doing slot v new n (n == word_number from) w → TriedWord doing slot v got false w
 tried_miss doing slot v w new n from got no_hit is t =
     subst (λ (x : SlotState). TriedWord doing slot v x false w) (one_word t.0 got (sym t.1 ∙ sym is)) (subst (λ b. TriedWord doing slot v t.0 b w) (other_number n (word_number from) no_hit) t.2)
 

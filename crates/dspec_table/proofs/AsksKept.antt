@@ -98,7 +98,8 @@ stores_ask k slots id c n me lt who alone rises st kept homes at bound =
       ),
     )
 
-pub loads_ask : (k : Config) (slots id c : ℕ) (me : Me ℕ View) → c < k.cpus → me.0.who ≡ of_cpu c → me.0.also ≡ [] → Allows (Kept k) slots id me (ask_place k c) (λ n. n) (λ n w. LoadedAsk (number_of me.0.who) me.0 n w.0 × (w.1 ≡ me.1))
+pub loads_ask : (k : Config) (slots id c : ℕ) (me : Me ℕ View) → c < k.cpus → me.0.who ≡ of_cpu c → me.0.also ≡ []
+    → Allows (Kept k) slots id me (ask_place k c) (λ n. n) (λ n w. LoadedAsk (number_of me.0.who) me.0 n w.0 × (w.1 ≡ me.1))
 loads_ask k slots id c me lt who alone st kept homes at bound =
     let v = me.0 in
     let log = kept.log in

@@ -56,7 +56,8 @@ pub part_in : (log : List Deed) (ps : List (Holder × List Deed)) (p : Holder ×
 part_in log [] p all i = absurd i
 part_in log (x ∷ xs) p all i = ⊎_elim (λ (e : p ≡ x). subst (λ (y : Holder × List Deed). part_of y.0 log ≡ y.1) (sym e) all.0) (λ r. part_in log xs p all.1 r) i
 
-pub ends : (key k : Config) (z : TableId) (id : ℕ) (v first : View) (seats : List CpuSeat) (ws xs : List ℕ) → key ≡ k → v.who ≡ first.who → v.own ≡ first.own → first.who ≡ of_consumer → v.seen ≡ first.seen → v.asks ≡ first.asks
+pub ends : (key k : Config) (z : TableId) (id : ℕ) (v first : View) (seats : List CpuSeat) (ws xs : List ℕ) → key ≡ k → v.who ≡ first.who → v.own ≡ first.own
+    → first.who ≡ of_consumer → v.seen ≡ first.seen → v.asks ≡ first.asks
     → ((c : ℕ) (s : CpuSeat) → slice_get seats c ≡ Some s → s.cpu ≡ c) → Joined seats v → Recalled seats v → Final (Seen (Kept key) id v) ws xs → Ended k ws seats first
 ends key k z id v first seats ws xs is who own consumer seen asks order joined recalled final =
     let st = final.0 in
@@ -85,7 +86,8 @@ ends key k z id v first seats ws xs is who own consumer seen asks order joined r
       asked = λ c s e a lt.
           let low = each_in (λ p. Least key st.words p.asks) v.past (past_of (known s)) told.past (recalled c s e) a (few a lt) in
           let here = stands a lt in
-          let at : slice_index st.words (ask_place key a) ≡ slice_index ws (ask_place k a) = ap (λ (x : Config). slice_index st.words (ask_place x a)) is ∙ ap (λ l. slice_index l (ask_place k a)) final.2 in
+          let at : slice_index st.words (ask_place key a) ≡ slice_index ws (ask_place k a) =
+          ap (λ (x : Config). slice_index st.words (ask_place x a)) is ∙ ap (λ l. slice_index l (ask_place k a)) final.2 in
           omega arith;
     }
 

@@ -11,7 +11,7 @@ use Rattle.dspec_table.specs.Holders.{of_cpu, of_consumer}
 use Rattle.dspec_deeds.proofs.TestLemmas.{either_way, same_number}
 use Rattle.dspec_table.specs.declared.rule.View.{View}
 use Rattle.dspec_table.specs.Since.{here}
-use Rattle.dspec_table.specs.Rule.{times, Parts, HaveSeats, Knows, KnowsAsks, Kept, cpus_from, newcomer}
+use Rattle.dspec_table.specs.Rule.{times_among, Parts, HaveSeats, Knows, KnowsAsks, Kept, cpus_from, newcomer}
 use Rattle.dspec_table.specs.Layout.{word_count, activity_place, ack_place, ask_place}
 
 zeros_at : (n i : ℕ) → slice_index (replicate n 0) i ≡ 0
@@ -19,14 +19,14 @@ zeros_at zero i = refl
 zeros_at (suc n) zero = refl
 zeros_at (suc n) (suc i) = zeros_at n i
 
-none_below : (c a n : ℕ) → c < a → times (of_cpu c) (cpus_from a n) ≡ 0
+none_below : (c a n : ℕ) → c < a → times_among (of_cpu c) (cpus_from a n) ≡ 0
 none_below c a zero lt = refl
 none_below c a (suc n) lt =
     let apart : (c == a) ≡ false = grind (arith, nat_tests) in
     let r = none_below c (suc a) n (omega arith) in
     rw (apart, r) (omega arith)
 
-cpu_once : (c a n : ℕ) → a ≤ c → c < a + n → times (of_cpu c) (cpus_from a n) ≡ 1
+cpu_once : (c a n : ℕ) → a ≤ c → c < a + n → times_among (of_cpu c) (cpus_from a n) ≡ 1
 cpu_once c a zero le lt = absurd (omega arith)
 cpu_once c a (suc n) le lt = ⊎_elim
     (λ (t : (c == a) ≡ true). let e = same_number c a t in let r = none_below c (suc a) n (omega arith) in rw (t, r) (omega arith))
@@ -36,14 +36,14 @@ cpu_once c a (suc n) le lt = ⊎_elim
     numbers_apart : (c a : ℕ) → (c == a) ≡ false → c ≢ a
     numbers_apart c a f = grind (arith, nat_tests)
 
-none_beyond : (c a n : ℕ) → a + n ≤ c → times (of_cpu c) (cpus_from a n) ≡ 0
+none_beyond : (c a n : ℕ) → a + n ≤ c → times_among (of_cpu c) (cpus_from a n) ≡ 0
 none_beyond c a zero le = refl
 none_beyond c a (suc n) le =
     let apart : (c == a) ≡ false = grind (arith, nat_tests) in
     let r = none_beyond c (suc a) n (omega arith) in
     rw (apart, r) (omega arith)
 
-no_consumer : (a n : ℕ) → times of_consumer (cpus_from a n) ≡ 0
+no_consumer : (a n : ℕ) → times_among of_consumer (cpus_from a n) ≡ 0
 no_consumer a zero = refl
 no_consumer a (suc n) = let r = no_consumer (suc a) n in omega arith
 

@@ -58,8 +58,11 @@ pub record Changes (k : Config) (w : Holder) (s n : ℕ) (log ds : List Deed) : 
 
 -- an exchange of a slot's word keeps the rule: where it hits, the deeds change that word, and else they change none
 pub exchanges : (k : Config) (slots id s old new : ℕ) (me : Me ℕ View) (T : ℕ → Bool → View → Type 0) → same_holder me.0.who me.0.who ≡ true → me.0.also ≡ [] → 1 ≤ s → s ≤ k.nspec
-    → ((st : State ℕ View) (kept : Kept k st) → get_elem? st.views id ≡ some me.0 → slice_index st.words s ≡ old → (ds : List Deed) × Changes k me.0.who s new kept.log ds × AreOf me.0.flight ds × (Entered me.0 kept.log ds (acted me.0 kept.log ds) → T (slice_index st.words s) true (acted me.0 kept.log ds)))
-    → ((st : State ℕ View) (kept : Kept k st) → get_elem? st.views id ≡ some me.0 → slice_index st.words s ≢ old → (ds : List Deed) × Owes k me.0.who kept.log ds × AreOf me.0.flight ds × (Entered me.0 kept.log ds (acted me.0 kept.log ds) → T (slice_index st.words s) false (acted me.0 kept.log ds)))
+    → ((st : State ℕ View) (kept : Kept k st) → get_elem? st.views id ≡ some me.0 → slice_index st.words s ≡ old
+    → (ds : List Deed) × Changes k me.0.who s new kept.log ds × AreOf me.0.flight ds × (Entered me.0 kept.log ds (acted me.0 kept.log ds)
+    → T (slice_index st.words s) true (acted me.0 kept.log ds)))
+    → ((st : State ℕ View) (kept : Kept k st) → get_elem? st.views id ≡ some me.0 → slice_index st.words s ≢ old
+    → (ds : List Deed) × Owes k me.0.who kept.log ds × AreOf me.0.flight ds × (Entered me.0 kept.log ds (acted me.0 kept.log ds) → T (slice_index st.words s) false (acted me.0 kept.log ds)))
     → Allows (Kept k) slots id me s (λ n. either (n == old) new n) (λ n w. T n (n == old) w.0 × (w.1 ≡ me.1))
 exchanges k slots id s old new me T who alone one most hit miss st kept homes at bound =
     let n = slice_index st.words s in
@@ -82,6 +85,12 @@ exchanges k slots id s old new me T who alone one most hit miss st kept homes at
     (λ (f : (n == old) ≡ false).
     let apart : n ≢ old = grind (arith, nat_tests) in
     let r = miss st kept at apart in
-    let done : Goal false = (acted me.0 kept.log r.0, keeps, tt, acts_owed k st kept id me.0 me.1 at alone who r.0 s (flight_after me.0.config me.0.flight r.0) r.1, (r.3 (enters_owed k st kept id me.0 at who r.0 r.1 r.2), refl)) in
+    let done : Goal false = (
+      acted me.0 kept.log r.0,
+      keeps,
+      tt,
+      acts_owed k st kept id me.0 me.1 at alone who r.0 s (flight_after me.0.config me.0.flight r.0) r.1,
+      (r.3 (enters_owed k st kept id me.0 at who r.0 r.1 r.2), refl),
+    ) in
     subst Goal (sym f) done)
     (either_way (n == old))

@@ -19,8 +19,8 @@ use Rattle.dspec_deeds.proofs.WordCodes.{committing_tells}
 use Rattle.dspec_table.specs.declared.rule.View.{View}
 use Rattle.dspec_table.specs.declared.doing.Doing.{Doing}
 use Rattle.dspec_table.specs.Holders.{of_cpu, number_of}
-use Rattle.dspec_table.specs.Acts.{commit_fate, at_hit}
-use Rattle.dspec_table.specs.Conditions.{MayLoad, Attempts, Decides, OwnCommit, IfCommitting}
+use Rattle.dspec_table.specs.Acts.{fate_of_commit, at_hit}
+use Rattle.dspec_table.specs.Conditions.{MayLoad, Attempts, IsDeciding, OwnCommit, IfCommitting}
 use Rattle.dspec_table.specs.Steps.{Entered}
 use Rattle.dspec_table.proofs.Limits.{issue_below}
 
@@ -66,17 +66,19 @@ discards_apart from to id mine e w = go (from.issue == id.issue) e
 committed_is : (a b : ℕ) → committed a ≡ committed b → a ≡ b
 committed_is a b e = cc
 
-fate_commits : (doing : Doing) → is_commit (commit_fate doing) ≡ true
+fate_commits : (doing : Doing) → is_commit (fate_of_commit doing) ≡ true
 fate_commits doing = go doing.fits
   where
-    go : (b : Bool) → is_commit (if b then Rattle.dspec_deeds.specs.declared.deed.DecideFate.TheVariants.Copied doing.count else Rattle.dspec_deeds.specs.declared.deed.DecideFate.TheVariants.Lost doing.count) ≡ true
+    go : (b : Bool) → is_commit (if b then Rattle.dspec_deeds.specs.declared.deed.DecideFate.TheVariants.Copied
+        doing.count else Rattle.dspec_deeds.specs.declared.deed.DecideFate.TheVariants.Lost doing.count) ≡ true
     go true = refl
     go false = refl
 
 module _ (k : Config) (c slot : ℕ) (v w : View) (doing : Doing) (from to : SlotState) (log : List Deed) (who : v.who ≡ of_cpu c) (same : v.config ≡ k) (shown : word_at slot w.seen ≡ to) where
-  own_commit : (id : Speculation) → Entered v log (Commit (number_of v.who) id (commit_fate doing) ∷ []) w → id.slot ≡ slot → scan k c v.own ≡ 0 → to.issue ≡ id.issue → to.code ≡ Committing → OwnCommit k w c record { issue = to.issue; slot = slot }
+  own_commit : (id : Speculation) → Entered v log (Commit (number_of v.who) id (fate_of_commit doing) ∷ []) w → id.slot ≡ slot → scan k c v.own ≡ 0 → to.issue ≡ id.issue
+      → to.code ≡ Committing → OwnCommit k w c record { issue = to.issue; slot = slot }
   own_commit id entered at idle issues is =
-      let f = commit_fate doing in
+      let f = fate_of_commit doing in
       let d : Deed = Commit c id f in
       let me : number_of v.who ≡ c = ap number_of who in
       let view : w ≡ Rattle.dspec_table.specs.Steps.acted v log (d ∷ []) = entered.view ∙ ap (λ (n : ℕ). Rattle.dspec_table.specs.Steps.acted v log (Commit n id f ∷ [])) me in
@@ -98,10 +100,12 @@ module _ (k : Config) (c slot : ℕ) (v w : View) (doing : Doing) (from to : Slo
         alone = subst (λ j. solo j w.seen ≡ Some c) now (tells.1.alone ∙ ap (λ x. Some x) mine);
       }
 
-  pub releases_next : (o : CpuOp) → Entered v log (at_hit (number_of v.who) doing from o) w → MayLoad k v c doing slot o → Attempts doing from to o → Decides o → IfCommitting to.code (OwnCommit k w c record { issue = to.issue; slot = slot })
+  pub releases_next : (o : CpuOp) → Entered v log (at_hit (number_of v.who) doing from o) w → MayLoad k v c doing slot o → Attempts doing from to o → IsDeciding o
+      → IfCommitting to.code (OwnCommit k w c record { issue = to.issue; slot = slot })
   releases_next o entered may attempts decides = go o entered may attempts decides to.code refl
     where
-      go : (o : CpuOp) → Entered v log (at_hit (number_of v.who) doing from o) w → MayLoad k v c doing slot o → Attempts doing from to o → Decides o → (x : Code) → to.code ≡ x → IfCommitting x (OwnCommit k w c record { issue = to.issue; slot = slot })
+      go : (o : CpuOp) → Entered v log (at_hit (number_of v.who) doing from o) w → MayLoad k v c doing slot o → Attempts doing from to o → IsDeciding o → (x : Code)
+          → to.code ≡ x → IfCommitting x (OwnCommit k w c record { issue = to.issue; slot = slot })
       go (op.Commit id) entered may attempts decides Committing e = own_commit id entered may.0 may.1 (committed_issue from to id doing.mine attempts) e
       go (op.Discard id) entered may attempts decides Committing e = absurd (discards_apart from to id doing.mine attempts e)
       go (op.Trace r) entered may attempts decides x e = absurd attempts

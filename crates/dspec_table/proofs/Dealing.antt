@@ -24,7 +24,8 @@ pub dealt_rest : (k : Config) (c : ℕ) → c < k.cpus → without (dealing k c)
 dealt_rest k c lt = ap (λ l. record { config = k; who = (dealing k c).who; own = []; also = others l; seen = []; told = []; flight = None; steps = 0; asks = []; past = [] }) (more_cpus c k.cpus lt)
 
 pub deals_next : (key k : Config) (id c : ℕ) (v : View) → v ≡ dealing k c → c < k.cpus → Splits (Kept key) id v (without v) (dealt v)
-deals_next key k id c v is lt = subst (λ (x : View). Splits (Kept key) id x (without x) (dealt x)) (sym is) (deals key id (dealing k c) c (cpus_from (c + 1) (k.cpus - (c + 1))) refl (more_cpus c k.cpus lt))
+deals_next key k id c v is lt = subst (λ (x : View). Splits (Kept key) id x (without x) (dealt x)) (sym is)
+    (deals key id (dealing k c) c (cpus_from (c + 1) (k.cpus - (c + 1))) refl (more_cpus c k.cpus lt))
 
 pub got_pushed : {A : Type 0} (xs : List A) (x y : A) (c : ℕ) → slice_get (xs ++ x ∷ []) c ≡ Some y → (slice_get xs c ≡ Some y) ⊎ ((c ≡ length xs) × (x ≡ y))
 got_pushed [] x y zero e = inr (refl, cc)
@@ -32,8 +33,10 @@ got_pushed [] x y (suc c) e = absurd (cc (e))
 got_pushed (z ∷ zs) x y zero e = inl e
 got_pushed (z ∷ zs) x y (suc c) e = ⊎_elim (λ t. inl t) (λ t. inr (ap suc t.0, t.1)) (got_pushed zs x y c e)
 
-pub dealt_push : (z : TableId) (k : Config) (seats : List CpuSeat) (s : CpuSeat) → DealtSeats z k seats → s.seat.table_id ≡ z → s.cpu ≡ length seats → known s ≡ fresh_seat k (length seats) → DealtSeats z k (seats ++ s ∷ [])
+pub dealt_push : (z : TableId) (k : Config) (seats : List CpuSeat) (s : CpuSeat) → DealtSeats z k seats → s.seat.table_id ≡ z → s.cpu ≡ length seats
+    → known s ≡ fresh_seat k (length seats) → DealtSeats z k (seats ++ s ∷ [])
 dealt_push z k seats s all at cpu view c t e = ⊎_elim
     (λ (old : slice_get seats c ≡ Some t). all c t old)
-    (λ (new : (c ≡ length seats) × (s ≡ t)). subst (λ (x : CpuSeat). (x.seat.table_id ≡ z) × (x.cpu ≡ c) × (known x ≡ fresh_seat k c)) new.1 (at, cpu ∙ sym new.0, view ∙ ap (λ m. fresh_seat k m) (sym new.0)))
+    (λ (new : (c ≡ length seats) × (s ≡ t)). subst (λ (x : CpuSeat). (x.seat.table_id ≡ z) × (x.cpu ≡ c) × (known x ≡ fresh_seat k c)) new.1
+    (at, cpu ∙ sym new.0, view ∙ ap (λ m. fresh_seat k m) (sym new.0)))
     (got_pushed seats s t c e)

@@ -40,7 +40,8 @@ flight_by_last k f g (Release s) ds es = refl
 flight_by_last k f g Halt ds es = refl
 
 -- a load of activity as a step of a chain
-pub activity_enters : (doing : Doing) (v : View) (stopped : Bool) (w : View) (ds : List Deed) (step : LoadedActivity doing v stopped w) → at_activity v.config (number_of v.who) doing doing.op stopped ≡ ds → EnteredIn v step.0 ds w
+pub activity_enters : (doing : Doing) (v : View) (stopped : Bool) (w : View) (ds : List Deed) (step : LoadedActivity doing v stopped w)
+    → at_activity v.config (number_of v.who) doing doing.op stopped ≡ ds → EnteredIn v step.0 ds w
 activity_enters doing v stopped w ds step e = inr (doing, sym e ∙ ap (at_activity v.config (number_of v.who) doing doing.op) step.2, subst (λ x. Entered (calling doing.op v) step.0 x w) e step.3)
 
 -- a load of activity that is running enters nothing
@@ -78,7 +79,8 @@ pub in_flight : (k : Config) (v w : View) (c : ℕ) (doing : Doing) (id : Specul
     → (mark c id.slot v.own ≤ id.issue + 1 → doing.mine ≡ is_among c (callers id v.own)) → LoadedActivity doing v false w → IsInFlight k w c doing id id.slot
 in_flight k v w c doing id config inside on idle mine step =
     let log = step.0 in
-    let none : at_activity v.config (number_of v.who) doing doing.op false ≡ [] = quiet_activity v.config (number_of v.who) doing id doing.op (subst (λ (x : Config). in_range x id ≡ true) (sym config) inside) on in
+    let none : at_activity v.config (number_of v.who) doing doing.op false ≡ [] =
+    quiet_activity v.config (number_of v.who) doing id doing.op (subst (λ (x : Config). in_range x id ≡ true) (sym config) inside) on in
     let view : w ≡ acted (calling doing.op v) log [] = step.3.view ∙ ap (acted (calling doing.op v) log) none in
     let own : w.own ≡ v.own = ap (λ (x : View). x.own) view in
     let seen : w.seen ≡ log = ap (λ (x : View). x.seen) view in (
@@ -90,7 +92,8 @@ in_flight k v w c doing id config inside on idle mine step =
     )
 
 -- behind a load of the word, or an exchange that failed, that showed a word which the table attempts
-goes_on : (k : Config) (v w : View) (c slot : ℕ) (doing : Doing) (log : List Deed) (o : CpuOp) → (to shown : SlotState) → w ≡ acted v log [] → late c log ≡ late c v.seen → MayLoad k v c doing slot o → Attempts doing shown to o → MayLoad k w c doing slot o
+goes_on : (k : Config) (v w : View) (c slot : ℕ) (doing : Doing) (log : List Deed) (o : CpuOp) → (to shown : SlotState) → w ≡ acted v log [] → late c log ≡ late c v.seen
+    → MayLoad k v c doing slot o → Attempts doing shown to o → MayLoad k w c doing slot o
 goes_on k v w c slot doing log o to shown view early may attempts = go o may attempts
   where
     own : w.own ≡ v.own

@@ -51,7 +51,8 @@ stop_of : (flight : Option CpuOp) (b : Bool) → AreOf flight (at_stop b)
 stop_of flight true = tt
 stop_of flight false = (tt, tt)
 
-pub stops : (k : Config) (slots id : ℕ) (me : Me ℕ View) → me.0.who ≡ of_consumer → me.0.also ≡ [] → Allows (Kept k) slots id me (activity_place k) (λ _. 1) (λ _ w. StoredActivity me.0 w.0 × (w.1 ≡ me.1))
+pub stops : (k : Config) (slots id : ℕ) (me : Me ℕ View) → me.0.who ≡ of_consumer → me.0.also ≡ []
+    → Allows (Kept k) slots id me (activity_place k) (λ _. 1) (λ _ w. StoredActivity me.0 w.0 × (w.1 ≡ me.1))
 stops k slots id me who alone st kept homes at bound =
     let v = me.0 in
     let log = kept.log in
@@ -61,6 +62,7 @@ stops k slots id me who alone st kept homes at bound =
       acted v log (at_stop (halted log)),
       keeps,
       tt,
-      acts k st kept id v me.1 at alone is_me (at_stop (halted log)) (activity_place k) 1 adds owe.1 (stop_shows k st.words log (halted log) refl kept.shows) (leaves_asks k st.words (activity_place k) 1 (omega arith)),
+      acts k st kept id v me.1 at alone is_me (at_stop (halted log)) (activity_place k) 1 adds owe.1 (stop_shows k st.words log (halted log) refl kept.shows)
+          (leaves_asks k st.words (activity_place k) 1 (omega arith)),
       ((log, finds k st kept id v at is_me, enters k st kept id v at is_me (at_stop (halted log)) adds owe.1 (stop_of v.flight (halted log))), refl),
     )

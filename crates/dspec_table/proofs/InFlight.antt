@@ -17,7 +17,7 @@ use Rattle.dspec_deeds.specs.declared.deed.Deed.TheVariants.{Speculate, Commit, 
 use Rattle.dspec_deeds.specs.History.{in_range}
 use Rattle.dspec_table.specs.declared.rule.View.{View}
 use Rattle.dspec_table.specs.declared.doing.Doing.{Doing}
-use Rattle.dspec_table.specs.Acts.{at_activity, misses, speaks, void_commit, void_discard, at_word, at_open, discard_hits, at_hit, at_exchange}
+use Rattle.dspec_table.specs.Acts.{at_activity, miss_at, speaks, void_commit, void_discard, at_word, at_open, discard_hits, at_hit, at_exchange}
 use Rattle.dspec_table.specs.Conditions.{MayLoad, Attempts}
 use Rattle.dspec_table.specs.Flights.{AreOf}
 
@@ -44,7 +44,7 @@ activity_of k c doing (op.Discard id) false = go (in_range k id)
     go false = (refl, tt)
 activity_of k c doing op.Service b = tt
 
-misses_of : (c slot : ℕ) (w : SlotState) (a : Act) → AreOf (Some op.Speculation) (misses c slot w a)
+misses_of : (c slot : ℕ) (w : SlotState) (a : Act) → AreOf (Some op.Speculation) (miss_at c slot w a)
 misses_of c slot w Void = (refl, tt)
 misses_of c slot w Granted = tt
 misses_of c slot w (Attempt to) = tt
@@ -85,8 +85,9 @@ open_of c slot shown false flight is = (is, tt)
 module _ (j : Config) (v : View) (x : ℕ) (doing : Doing) (slot : ℕ) where
   pub word_of : (k : Config) (c : ℕ) (w : SlotState) (o : CpuOp) → doing.op ≡ o → MayLoad j v x doing slot o → AreOf v.flight (at_word k c doing slot w o)
   word_of k c w (op.Trace r) e may = tt
-  word_of k c w op.Speculation e may = subst (λ f. AreOf f (misses c slot w (open_at w k.max_issues))) (sym may.1) (misses_of c slot w (open_at w k.max_issues))
-  word_of k c w (op.Speculate id r) e may = subst (λ f. AreOf f (speaks c doing id r (speculate_at w id doing.mine))) (sym (may.3 ∙ ap (λ o. Some o) e)) (speaks_of c doing id r (speculate_at w id doing.mine))
+  word_of k c w op.Speculation e may = subst (λ f. AreOf f (miss_at c slot w (open_at w k.max_issues))) (sym may.1) (misses_of c slot w (open_at w k.max_issues))
+  word_of k c w (op.Speculate id r) e may =
+      subst (λ f. AreOf f (speaks c doing id r (speculate_at w id doing.mine))) (sym (may.3 ∙ ap (λ o. Some o) e)) (speaks_of c doing id r (speculate_at w id doing.mine))
   word_of k c w (op.Commit id) e may = subst (λ f. AreOf f (void_commit c id (commit_at w id doing.mine))) (sym (may.3 ∙ ap (λ o. Some o) e)) (commits_of c id (commit_at w id doing.mine))
   word_of k c w (op.Discard id) e may = subst (λ f. AreOf f (void_discard c id (discard_at w id doing.mine))) (sym (may.3 ∙ ap (λ o. Some o) e)) (discards_of c id (discard_at w id doing.mine))
   word_of k c w op.Service e may = tt

@@ -1,5 +1,6 @@
 -- A seat's own deeds, added to the list, keep the rule, where the words show the longer list.
-use Rattle.std.proofs.Common.{◌≡◌, ◌≢◌, ℕ, zero, suc, ◌+◌, ◌≤◌, ◌<◌, Bool, true, false, if◌then◌else◌, ◌&&◌, List, [], ◌∷◌, ◌++◌, set, refl, sym, ap, ◌∙◌, subst, ⊎_elim, arith, Option, Some, true≢false}
+use Rattle.std.proofs.Common.{◌≡◌, ◌≢◌, ℕ, zero, suc, ◌+◌, ◌≤◌, ◌<◌, Bool, true, false, if◌then◌else◌, ◌&&◌, List}
+use Rattle.std.proofs.Common.{[], ◌∷◌, ◌++◌, set, refl, sym, ap, ◌∙◌, subst, ⊎_elim, arith, Option, Some, true≢false}
 use Rattle.std.specs.Prelude.{slice_index, slice_set}
 use mathlib.Core.Option.{some, some-injective, some-ne-none}
 use lib.ListN.{get_elem?}
@@ -18,7 +19,7 @@ use Rattle.dspec_table.specs.declared.rule.View.{View}
 use Rattle.dspec_table.specs.Showing.{Shows}
 use Rattle.dspec_table.specs.Since.{Since, here, more}
 use Rattle.dspec_table.specs.declared.rule.Past.{Past}
-use Rattle.dspec_table.specs.Rule.{holdings, times, Parts, Each, Remembers, Least, Knows, KnowsAsks, Kept}
+use Rattle.dspec_table.specs.Rule.{holdings, times_among, Parts, Each, Remembers, Least, Knows, KnowsAsks, Kept}
 use Rattle.dspec_table.specs.Layout.{ask_place}
 use Rattle.dspec_table.specs.Flights.{AreOf, flight_after}
 use Rattle.dspec_table.specs.Steps.{asking, acted, Found, Entered}
@@ -70,9 +71,9 @@ not_held w x n free = ⊎_elim
     (λ f. f)
     (either_way (same_holder x w))
 
-parts_others : (k : Config) (w : Holder) (log ds : List Deed) (ps : List (Holder × List Deed)) → Adds k w log ds → times w ps ≡ 0 → Parts log ps → Parts (ds ++ log) ps
+parts_others : (k : Config) (w : Holder) (log ds : List Deed) (ps : List (Holder × List Deed)) → Adds k w log ds → times_among w ps ≡ 0 → Parts log ps → Parts (ds ++ log) ps
 parts_others k w log ds [] a free p = tt
-parts_others k w log ds (x ∷ xs) a free p = (part_others k x.0 w log ds (not_held w x.0 (times w xs) free) a ∙ p.0, parts_others k w log ds xs a (omega arith) p.1)
+parts_others k w log ds (x ∷ xs) a free p = (part_others k x.0 w log ds (not_held w x.0 (times_among w xs) free) a ∙ p.0, parts_others k w log ds xs a (omega arith) p.1)
 
 pub nobody_since : (k : Config) (w : Holder) (seen log ds : List Deed) → Adds k w log ds → Since of_nobody seen log → Since of_nobody seen (ds ++ log)
 nobody_since k w seen log ds a s = since_adds k of_nobody w seen log ds refl a s
@@ -113,9 +114,18 @@ acts_asking k st kept by v carried at alone me ds i n asks f adds rests shows ow
           let theirs = kept.knows j u t.1 in
           let both = total_two v.who st.views by j v u (λ q. t.0 (sym q)) at t.1 in
           let one = one_seat k st.views kept.seats v.who in
-          let mine_once : 1 ≤ times v.who (holdings v) = subst (λ b. 1 ≤ (if b then 1 else 0) + times v.who v.also) (sym me) (omega arith) in
-          let none : times v.who (holdings u) ≡ 0 = omega arith in
-          record { config = theirs.config; parts = parts_others k v.who log ds (holdings u) adds none theirs.parts; since = since_adds k u.who v.who u.seen log ds (not_held v.who u.who (times v.who u.also) none) adds theirs.since; told = nobody_since k v.who u.told log ds adds theirs.told; calm = theirs.calm; past = past_adds k v.who log ds u.past adds theirs.past })
+          let mine_once : 1 ≤ times_among v.who (holdings v) = subst (λ b. 1 ≤ (if b then 1 else 0) + times_among v.who v.also) (sym me) (omega arith) in
+          let none : times_among v.who (holdings u) ≡ 0 = omega arith in
+          record {
+            config = theirs.config;
+            parts = parts_others k v.who log ds (holdings u) adds none theirs.parts;
+            since = since_adds k u.who v.who u.seen log ds
+                (not_held v.who u.who (times_among v.who u.also) none) adds theirs.since;
+            told = nobody_since k v.who u.told log ds adds theirs.told;
+            calm = theirs.calm;
+            past =
+                past_adds k v.who log ds u.past adds theirs.past;
+          })
           (at_set st.views by j w u e);
       authors = authors_add k v.who log ds (of_session k st.views kept.seats by v at me) adds kept.authors;
       seats = same_seats k st.views (set st.views by w) (λ x. let r = total_set x st.views by v w at in omega arith) kept.seats;
@@ -124,9 +134,9 @@ acts_asking k st kept by v carried at alone me ds i n asks f adds rests shows ow
           (λ (t : (j ≢ by) × (get_elem? st.views j ≡ some u)).
           let both = total_two v.who st.views by j v u (λ q. t.0 (sym q)) at t.1 in
           let one = one_seat k st.views kept.seats v.who in
-          let mine_once : 1 ≤ times v.who (holdings v) = subst (λ b. 1 ≤ (if b then 1 else 0) + times v.who v.also) (sym me) (omega arith) in
-          let none : times v.who (holdings u) ≡ 0 = omega arith in
-          other_asks u (not_held v.who u.who (times v.who u.also) none) (kept.asks j u t.1))
+          let mine_once : 1 ≤ times_among v.who (holdings v) = subst (λ b. 1 ≤ (if b then 1 else 0) + times_among v.who v.also) (sym me) (omega arith) in
+          let none : times_among v.who (holdings u) ≡ 0 = omega arith in
+          other_asks u (not_held v.who u.who (times_among v.who u.also) none) (kept.asks j u t.1))
           (at_set st.views by j w u e);
     }
 
@@ -149,7 +159,8 @@ same_asks k words new u left knows = record {
 
 -- the same where it knows the asks that it knew
 acts_flying : (k : Config) (st : State ℕ View) (kept : Kept k st) (by : ℕ) (v : View) (carried : List (ℕ × ℕ)) → get_elem? st.views by ≡ some v → v.also ≡ [] → same_holder v.who v.who ≡ true
-    → (ds : List Deed) (i n : ℕ) (f : Option CpuOp) → Adds k v.who kept.log ds → owed (ds ++ kept.log) ≡ 0 → Shows k (slice_set st.words i n) (ds ++ kept.log) → LeavesAsks k st.words (slice_set st.words i n)
+    → (ds : List Deed) (i n : ℕ) (f : Option CpuOp) → Adds k v.who kept.log ds → owed (ds ++ kept.log) ≡ 0 → Shows k (slice_set st.words i n) (ds ++ kept.log)
+    → LeavesAsks k st.words (slice_set st.words i n)
     → Kept k (stepped st i n by carried (flying f (acted v kept.log ds)) keeps)
 acts_flying k st kept by v carried at alone me ds i n f adds rests shows left =
     let new = slice_set st.words i n in
@@ -220,7 +231,8 @@ acts_owed k st kept by v carried at alone me ds i f owe =
     (λ c lt. ap (λ ws. slice_index ws (ask_place k c)) (same_words st.words i))
 
 -- a CPU that is in no call of speculation by its own list is in none by the log
-pub idle_log : (k : Config) (st : State ℕ View) (kept : Kept k st) (by : ℕ) (v : View) (c : ℕ) → get_elem? st.views by ≡ some v → v.who ≡ of_cpu c → {n : ℕ} → scan k c v.own ≡ n → scan k c kept.log ≡ n
+pub idle_log : (k : Config) (st : State ℕ View) (kept : Kept k st) (by : ℕ) (v : View) (c : ℕ) → get_elem? st.views by ≡ some v → v.who ≡ of_cpu c → {n : ℕ}
+    → scan k c v.own ≡ n → scan k c kept.log ≡ n
 idle_log k st kept by v c at who {n} idle =
     let mine = kept.knows by v at in
     sym (scan_part k c kept.log) ∙ (ap (λ l. scan k c l) (ap (λ x. part_of x kept.log) (sym who) ∙ mine.parts.0) ∙ idle)

@@ -30,7 +30,7 @@ use Rattle.dspec_table.specs.declared.doing.Doing.{Doing}
 use Rattle.dspec_table.specs.Rule.{Kept}
 use Rattle.dspec_table.specs.Since.{Since}
 use Rattle.dspec_table.specs.Holders.{number_of}
-use Rattle.dspec_table.specs.Acts.{misses, speaks, void_commit, void_discard, at_word}
+use Rattle.dspec_table.specs.Acts.{miss_at, speaks, void_commit, void_discard, at_word}
 use Rattle.dspec_table.specs.Conditions.{IsInFlight, MayLoad}
 use Rattle.dspec_table.specs.Steps.{LoadedNumber}
 use Rattle.dspec_table.proofs.InFlight.{word_of}
@@ -39,10 +39,12 @@ use Rattle.dspec_deeds.specs.declared.deed.SpeculateFate.TheVariants as spoken
 use Rattle.dspec_deeds.specs.declared.calls.CpuOp.TheVariants as op
 
 -- one more caller that changes no code changes no word
-granted_quiet : (h : List Deed) (c : ℕ) (id : Speculation) (r : Record) (f : SpeculateFate) → spoken_granted f ≡ true → standing (verdict id h) (joined (Some c) (callers id h)) ≡ standing (verdict id h) (callers id h)
+granted_quiet : (h : List Deed) (c : ℕ) (id : Speculation) (r : Record) (f : SpeculateFate) → spoken_granted f ≡ true
+    → standing (verdict id h) (joined (Some c) (callers id h)) ≡ standing (verdict id h) (callers id h)
     → (j : Speculation) → code_at j (Speculate c id r f ∷ h) ≡ code_at j h
 granted_quiet h c id r f is same j = rw is (⊎_elim
-    (λ (t : same_id j id ≡ true). rw t (ap (λ x. if opened j h then x else Inactive) (subst (λ i. standing (verdict i h) (joined (Some c) (callers i h)) ≡ standing (verdict i h) (callers i h)) (sym (same_id_tells j id t)) same)))
+    (λ (t : same_id j id ≡ true). rw t (ap (λ x. if opened j h then x else Inactive)
+    (subst (λ i. standing (verdict i h) (joined (Some c) (callers i h)) ≡ standing (verdict i h) (callers i h)) (sym (same_id_tells j id t)) same)))
     (λ (n : same_id j id ≡ false). rw n refl)
     (either_way (same_id j id)))
 
@@ -54,31 +56,60 @@ pub record Flies (k : Config) (log : List Deed) (c slot : ℕ) (doing : Doing) (
   pub mine : issue id.slot log ≡ id.issue → doing.mine ≡ is_among c (callers id log)
 
 module _ (k : Config) (c : ℕ) (log : List Deed) (doing : Doing) (s : IsSound k log) (rests : owed log ≡ 0) (slot : ℕ) where
-  missed : (one : 1 ≤ slot) → scan k c log ≡ slot → (a : Act) → open_at (word_at slot log) k.max_issues ≡ a → Owes k (of_cpu c) log (misses c slot (word_at slot log) a)
-  missed one at Void e = record { adds = (tt, (rests, (at, one, inl (open_void k log slot e), busy_is k log slot s)), refl); rests = refl; quiet = record { active = refl; slots = λ s. refl; acks = λ a s. refl } }
+  missed : (one : 1 ≤ slot) → scan k c log ≡ slot → (a : Act) → open_at (word_at slot log) k.max_issues ≡ a → Owes k (of_cpu c) log (miss_at c slot (word_at slot log) a)
+  missed one at Void e = record {
+    adds = (tt, (rests, (at, one, inl (open_void k log slot e), busy_is k log slot s)), refl);
+    rests = refl;
+    quiet = record
+        { active = refl; slots = λ s. refl; acks = λ a s. refl };
+  }
   missed one at Granted e = none_owed k (of_cpu c) log rests
   missed one at (Attempt w) e = none_owed k (of_cpu c) log rests
   missed one at Idle e = none_owed k (of_cpu c) log rests
 
-  granted : (id : Speculation) (r : Record) (b : Bool) → Flies k log c slot doing id → is_open id log ≡ true → standing (verdict id log) (joined (Some c) (callers id log)) ≡ standing (verdict id log) (callers id log)
+  granted : (id : Speculation) (r : Record) (b : Bool) → Flies k log c slot doing id → is_open id log ≡ true
+      → standing (verdict id log) (joined (Some c) (callers id log)) ≡ standing (verdict id log) (callers id log)
       → Owes k (of_cpu c) log (Speculate c id r (if b then spoken.Kept else spoken.Dropped) ∷ [])
-  granted id r true f now same = record { adds = (tt, (rests, (f.idle, (f.early, sym now))), refl); rests = refl; quiet = record { active = refl; slots = λ t. ap (λ x. word_number record { issue = issue t log; code = x }) (granted_quiet log c id r spoken.Kept refl same (present t log)); acks = λ a s. refl } }
-  granted id r false f now same = record { adds = (tt, (rests, (f.idle, (f.early, sym now))), refl); rests = refl; quiet = record { active = refl; slots = λ t. ap (λ x. word_number record { issue = issue t log; code = x }) (granted_quiet log c id r spoken.Dropped refl same (present t log)); acks = λ a s. refl } }
+  granted id r true f now same = record {
+    adds = (tt, (rests, (f.idle, (f.early, sym now))), refl);
+    rests = refl;
+    quiet = record
+        { active = refl; slots = λ t. ap (λ x. word_number record { issue = issue t log; code = x }) (granted_quiet log c id r spoken.Kept refl same (present t log)); acks = λ a s. refl };
+  }
+  granted id r false f now same = record {
+    adds = (tt, (rests, (f.idle, (f.early, sym now))), refl);
+    rests = refl;
+    quiet = record
+        { active = refl; slots = λ t. ap (λ x. word_number record { issue = issue t log; code = x }) (granted_quiet log c id r spoken.Dropped refl same (present t log)); acks = λ a s. refl };
+  }
 
-  spoken_at : (id : Speculation) (r : Record) → Flies k log c slot doing id → (a : Act) → speculate_at (word_at id.slot log) id (is_among c (callers id log)) ≡ a → Owes k (of_cpu c) log (speaks c doing id r a)
-  spoken_at id r f Void e = record { adds = (tt, (rests, (f.idle, (f.early, sym (speculate_void k log id (is_among c (callers id log)) s e)))), refl); rests = refl; quiet = record { active = refl; slots = λ s. refl; acks = λ a s. refl } }
+  spoken_at : (id : Speculation) (r : Record) → Flies k log c slot doing id → (a : Act) → speculate_at (word_at id.slot log) id (is_among c (callers id log)) ≡ a
+      → Owes k (of_cpu c) log (speaks c doing id r a)
+  spoken_at id r f Void e = record {
+    adds = (tt, (rests, (f.idle, (f.early, sym (speculate_void k log id (is_among c (callers id log)) s e)))), refl);
+    rests = refl;
+    quiet = record { active = refl; slots = λ s. refl; acks = λ a s. refl };
+  }
   spoken_at id r f Granted e = let g = speculate_granted k log id c s e in granted id r doing.fits f g.0 g.1
   spoken_at id r f (Attempt w) e = none_owed k (of_cpu c) log rests
   spoken_at id r f Idle e = none_owed k (of_cpu c) log rests
 
   commit_at_word : (id : Speculation) → Flies k log c slot doing id → (a : Act) → commit_at (word_at id.slot log) id (is_among c (callers id log)) ≡ a → Owes k (of_cpu c) log (void_commit c id a)
-  commit_at_word id f Void e = record { adds = (tt, (rests, (f.idle, refl, (f.early, sym (commit_void k log id (is_among c (callers id log)) s e)))), refl); rests = refl; quiet = record { active = refl; slots = λ s. refl; acks = λ a s. refl } }
+  commit_at_word id f Void e = record {
+    adds = (tt, (rests, (f.idle, refl, (f.early, sym (commit_void k log id (is_among c (callers id log)) s e)))), refl);
+    rests = refl;
+    quiet = record { active = refl; slots = λ s. refl; acks = λ a s. refl };
+  }
   commit_at_word id f Granted e = none_owed k (of_cpu c) log rests
   commit_at_word id f (Attempt w) e = none_owed k (of_cpu c) log rests
   commit_at_word id f Idle e = none_owed k (of_cpu c) log rests
 
   discard_at_word : (id : Speculation) → Flies k log c slot doing id → (a : Act) → discard_at (word_at id.slot log) id (is_among c (callers id log)) ≡ a → Owes k (of_cpu c) log (void_discard c id a)
-  discard_at_word id f Void e = record { adds = (tt, (rests, (f.idle, refl, (f.early, sym (discard_void k log id (is_among c (callers id log)) s e)))), refl); rests = refl; quiet = record { active = refl; slots = λ s. refl; acks = λ a s. refl } }
+  discard_at_word id f Void e = record {
+    adds = (tt, (rests, (f.idle, refl, (f.early, sym (discard_void k log id (is_among c (callers id log)) s e)))), refl);
+    rests = refl;
+    quiet = record { active = refl; slots = λ s. refl; acks = λ a s. refl };
+  }
   discard_at_word id f Granted e = none_owed k (of_cpu c) log rests
   discard_at_word id f (Attempt w) e = none_owed k (of_cpu c) log rests
   discard_at_word id f Idle e = none_owed k (of_cpu c) log rests
@@ -90,13 +121,16 @@ like false f v m n e = refl
 
 module _ (k : Config) (log : List Deed) (c slot : ℕ) (doing : Doing) (id : Speculation) (f : Flies k log c slot doing id) where
   pub speculate_like : speculate_at (word_at slot log) id doing.mine ≡ speculate_at (word_at id.slot log) id (is_among c (callers id log))
-  speculate_like = ap (λ t. speculate_at (word_at t log) id doing.mine) (sym f.at) ∙ like (issue id.slot log == id.issue) (λ m. speculate_act (issue id.slot log) m (word_at id.slot log).code) Void doing.mine (is_among c (callers id log)) (λ t. f.mine (same_number (issue id.slot log) id.issue t))
+  speculate_like = ap (λ t. speculate_at (word_at t log) id doing.mine) (sym f.at) ∙ like (issue id.slot log == id.issue)
+      (λ m. speculate_act (issue id.slot log) m (word_at id.slot log).code) Void doing.mine (is_among c (callers id log)) (λ t. f.mine (same_number (issue id.slot log) id.issue t))
 
   pub commit_like : commit_at (word_at slot log) id doing.mine ≡ commit_at (word_at id.slot log) id (is_among c (callers id log))
-  commit_like = ap (λ t. commit_at (word_at t log) id doing.mine) (sym f.at) ∙ like (issue id.slot log == id.issue) (λ m. commit_act (issue id.slot log) m (word_at id.slot log).code) Void doing.mine (is_among c (callers id log)) (λ t. f.mine (same_number (issue id.slot log) id.issue t))
+  commit_like = ap (λ t. commit_at (word_at t log) id doing.mine) (sym f.at) ∙ like (issue id.slot log == id.issue)
+      (λ m. commit_act (issue id.slot log) m (word_at id.slot log).code) Void doing.mine (is_among c (callers id log)) (λ t. f.mine (same_number (issue id.slot log) id.issue t))
 
   pub discard_like : discard_at (word_at slot log) id doing.mine ≡ discard_at (word_at id.slot log) id (is_among c (callers id log))
-  discard_like = ap (λ t. discard_at (word_at t log) id doing.mine) (sym f.at) ∙ like (issue id.slot log == id.issue) (λ m. discard_act (issue id.slot log) m (word_at id.slot log).code) Void doing.mine (is_among c (callers id log)) (λ t. f.mine (same_number (issue id.slot log) id.issue t))
+  discard_like = ap (λ t. discard_at (word_at t log) id doing.mine) (sym f.at) ∙ like (issue id.slot log == id.issue)
+      (λ m. discard_act (issue id.slot log) m (word_at id.slot log).code) Void doing.mine (is_among c (callers id log)) (λ t. f.mine (same_number (issue id.slot log) id.issue t))
 
 -- what a call may load a word for, said of the log
 abbrev pub IsReady : Config → ℕ → List Deed → Doing → ℕ → CpuOp → Type 0
@@ -107,7 +141,8 @@ IsReady k c log doing slot (op.Commit id) = Flies k log c slot doing id
 IsReady k c log doing slot (op.Discard id) = Flies k log c slot doing id
 IsReady k c log doing slot op.Service = Unit {0}
 
-pub owes : (k : Config) (c : ℕ) (log : List Deed) (doing : Doing) (slot : ℕ) → IsSound k log → owed log ≡ 0 → 1 ≤ slot → (o : CpuOp) → IsReady k c log doing slot o → Owes k (of_cpu c) log (at_word k c doing slot (word_at slot log) o)
+pub owes : (k : Config) (c : ℕ) (log : List Deed) (doing : Doing) (slot : ℕ) → IsSound k log → owed log ≡ 0 → 1 ≤ slot → (o : CpuOp) → IsReady k c log doing slot o
+    → Owes k (of_cpu c) log (at_word k c doing slot (word_at slot log) o)
 owes k c log doing slot s rests one (op.Trace r) f = none_owed k (of_cpu c) log rests
 owes k c log doing slot s rests one op.Speculation f = missed k c log doing s rests slot one f (open_at (word_at slot log) k.max_issues) refl
 owes k c log doing slot s rests one (op.Speculate id r) f =
@@ -122,7 +157,8 @@ owes k c log doing slot s rests one (op.Discard id) f =
 owes k c log doing slot s rests one op.Service f = none_owed k (of_cpu c) log rests
 
 -- what a seat knows of its call holds of the log
-pub flies : (k : Config) (st : State ℕ View) (kept : Kept k st) (by : ℕ) (v : View) (c slot : ℕ) (doing : Doing) (id : Speculation) → get_elem? st.views by ≡ some v → v.who ≡ of_cpu c → IsInFlight k v c doing id slot → Flies k kept.log c slot doing id
+pub flies : (k : Config) (st : State ℕ View) (kept : Kept k st) (by : ℕ) (v : View) (c slot : ℕ) (doing : Doing) (id : Speculation) → get_elem? st.views by ≡ some v
+    → v.who ≡ of_cpu c → IsInFlight k v c doing id slot → Flies k kept.log c slot doing id
 flies k st kept by v c slot doing id at who f =
     let mine = kept.knows by v at in
     let own : part_of (of_cpu c) kept.log ≡ v.own = ap (λ x. part_of x kept.log) (sym who) ∙ mine.parts.0 in
@@ -138,7 +174,8 @@ flies k st kept by v c slot doing id at who f =
           f.4 recent ∙ (ap (λ l. is_among c (callers id l)) (sym own) ∙ has_part k c id kept.log);
     }
 
-pub ready : (k : Config) (st : State ℕ View) (kept : Kept k st) (by : ℕ) (v : View) (c slot : ℕ) (doing : Doing) → get_elem? st.views by ≡ some v → v.who ≡ of_cpu c → (o : CpuOp) → MayLoad k v c doing slot o → IsReady k c kept.log doing slot o
+pub ready : (k : Config) (st : State ℕ View) (kept : Kept k st) (by : ℕ) (v : View) (c slot : ℕ) (doing : Doing) → get_elem? st.views by ≡ some v → v.who ≡ of_cpu c
+    → (o : CpuOp) → MayLoad k v c doing slot o → IsReady k c kept.log doing slot o
 ready k st kept by v c slot doing at who (op.Trace r) m = tt
 ready k st kept by v c slot doing at who op.Speculation m = idle_log k st kept by v c at who m.0
 ready k st kept by v c slot doing at who (op.Speculate id r) m = flies k st kept by v c slot doing id at who m
@@ -159,5 +196,15 @@ loads_word k slots id c slot me doing one most who alone may = loads k slots id 
     (owes k c log doing slot kept.sound kept.rests one doing.op (ready k st kept id v c slot doing at who doing.op may)) in (
       at_word v.config (number_of v.who) doing slot shown doing.op,
       owe,
-      (shown, kept.shows.slots slot one most, (log, finds k st kept id v at (is_cpu v c who), refl, enters_owed k st kept id v at (is_cpu v c who) _ owe (word_of k v c doing slot v.config (number_of v.who) shown doing.op refl may))),
+      (
+        shown,
+        kept.shows.slots slot one most,
+        (
+          log,
+          finds k st kept id v at (is_cpu v c who),
+          refl,
+          enters_owed k st kept id v at (is_cpu v c who) _ owe
+              (word_of k v c doing slot v.config (number_of v.who) shown doing.op refl may),
+        ),
+      ),
     ))

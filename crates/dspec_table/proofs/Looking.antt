@@ -35,6 +35,7 @@ module _ (k : Config) (slots id : ℕ) (me : Me ℕ View) (who : same_holder me.
       let same = its_config k kept.log me.0 who (kept.knows id me.0 at) in (
         kept.log,
         finds k st kept id me.0 at who,
-        (λ c s lt one most is. ap (λ j. slice_index st.words j) (is ∙ ap (λ (x : Config). ack_place x c s) same) ∙ kept.shows.acks c s (subst (λ (x : Config). c < x.cpus) same lt) one (subst (λ (x : Config). s ≤ x.nspec) same most)),
+        (λ c s lt one most is. ap (λ j. slice_index st.words j) (is ∙ ap (λ (x : Config). ack_place x c s) same)
+            ∙ kept.shows.acks c s (subst (λ (x : Config). c < x.cpus) same lt) one (subst (λ (x : Config). s ≤ x.nspec) same most)),
         refl,
       ))

@@ -30,7 +30,8 @@ use Rattle.dspec_table.proofs.Keeps.{Owes, finds, idle_log, is_cpu}
 use Rattle.dspec_table.proofs.Changes.{Changes, exchanges}
 
 -- the word that was seen free stands, or the slot was given out since
-taken_since : (k : Config) (c s : ℕ) (seen log : List Deed) → IsSound k log → is_inactive (word_at s seen).code ≡ true → Since (of_cpu c) seen log → (word_at s log ≡ word_at s seen) ⊎ (opened_since c s log ≡ true)
+taken_since : (k : Config) (c s : ℕ) (seen log : List Deed) → IsSound k log → is_inactive (word_at s seen).code ≡ true → Since (of_cpu c) seen log
+    → (word_at s log ≡ word_at s seen) ⊎ (opened_since c s log ≡ true)
 taken_since k c s seen _ sound inactive here = inl refl
 taken_since k c s seen (d ∷ h) sound inactive (more rest other) = free_or_taken k c s (word_at s seen) d h sound other inactive (taken_since k c s seen h sound.0 inactive rest)
 
@@ -57,7 +58,8 @@ given_out k c s log new sound rests one at e =
       };
     }
 
-missed : (k : Config) (c s : ℕ) (log seen : List Deed) → IsSound k log → owed log ≡ 0 → 1 ≤ s → scan k c log ≡ s → is_inactive (word_at s seen).code ≡ true → Since (of_cpu c) seen log → word_at s log ≢ word_at s seen
+missed : (k : Config) (c s : ℕ) (log seen : List Deed) → IsSound k log → owed log ≡ 0 → 1 ≤ s → scan k c log ≡ s → is_inactive (word_at s seen).code ≡ true
+    → Since (of_cpu c) seen log → word_at s log ≢ word_at s seen
     → Owes k (of_cpu c) log (Miss c s (is_decided (word_at s log).code) ∷ [])
 missed k c s log seen sound rests one at inactive since apart = record {
   adds = (tt, (rests, (at, one, ⊎_elim (λ same. absurd (apart same)) (λ taken. inr taken) (taken_since k c s seen log sound inactive since), busy_is k log s sound)), refl);
@@ -67,7 +69,8 @@ missed k c s log seen sound rests one at inactive since apart = record {
 
 pub opens_word : (k : Config) (slots id c slot : ℕ) (me : Me ℕ View) (from to : SlotState) → 1 ≤ slot → slot ≤ k.nspec → me.0.who ≡ of_cpu c → me.0.also ≡ [] → MayOpen k me.0 c slot from to
     → Allows (Kept k) slots id me slot (λ n. either (n == word_number from) (word_number to) n) (λ n w. OpenedNumber slot me.0 (word_number to) n (n == word_number from) w.0 × (w.1 ≡ me.1))
-opens_word k slots id c slot me from to one most who alone may = exchanges k slots id slot (word_number from) (word_number to) me (OpenedNumber slot me.0 (word_number to)) (is_cpu me.0 c who) alone one most
+opens_word k slots id c slot me from to one most who alone may =
+    exchanges k slots id slot (word_number from) (word_number to) me (OpenedNumber slot me.0 (word_number to)) (is_cpu me.0 c who) alone one most
     (λ st kept at found.
     let v = me.0 in
     let log = kept.log in
@@ -89,7 +92,8 @@ opens_word k slots id c slot me from to one most who alone may = exchanges k slo
     let apart : shown ≢ word_at slot v.seen = (λ e. other (kept.shows.slots slot one most ∙ ap word_number (e ∙ sym may.1))) in (
       at_open (number_of v.who) slot shown false,
       subst (λ (w : Holder). Owes k w log (at_open (number_of w) slot shown false)) (sym who)
-          (missed k c slot log v.seen kept.sound kept.rests one (idle_log k st kept id v c at who may.0) (ap (λ (w : SlotState). is_inactive w.code) (sym may.1) ∙ open_inactive from to k.max_issues may.2)
+          (missed k c slot log v.seen kept.sound kept.rests one (idle_log k st kept id v c at who may.0)
+          (ap (λ (w : SlotState). is_inactive w.code) (sym may.1) ∙ open_inactive from to k.max_issues may.2)
           (subst (λ x. Since x v.seen log) who mine.since) apart),
       open_of (number_of v.who) slot shown false v.flight may.3,
       (λ left. (shown, kept.shows.slots slot one most, (log, finds k st kept id v at (is_cpu v c who), refl, left), λ hit. absurd (true≢false (sym hit)))),

@@ -14,35 +14,36 @@ use Rattle.dspec_table.specs.declared.rule.View.{View}
 use Rattle.dspec_table.specs.Holders.{Holder, doer, part_of, same_holder}
 use Rattle.dspec_table.specs.Last.{In}
 use Rattle.dspec_table.specs.Owners.{HasOneSeat}
-use Rattle.dspec_table.specs.Rule.{holdings, times, total, HaveSeats, Kept}
+use Rattle.dspec_table.specs.Rule.{holdings, times_among, held_in_all, HaveSeats, Kept}
 use Rattle.dspec_table.proofs.AtEnd.{part_in}
 use Rattle.dspec_table.proofs.HolderTests.{same_holder_tells, part_next}
 use Rattle.dspec_table.proofs.Keeps.{same_turned}
 
 -- who is counted stands there
-among_those : (w : Holder) (ps : List (Holder × List Deed)) → 1 ≤ times w ps → (p : Holder × List Deed) × In p ps × (same_holder w p.0 ≡ true)
+among_those : (w : Holder) (ps : List (Holder × List Deed)) → 1 ≤ times_among w ps → (p : Holder × List Deed) × In p ps × (same_holder w p.0 ≡ true)
 among_those w [] le = absurd (omega arith)
 among_those w (p ∷ ps) le = ⊎_elim
     (λ (t : same_holder w p.0 ≡ true). (p, inl refl, t))
     (λ (f : same_holder w p.0 ≡ false).
-    let others : 1 ≤ 0 + times w ps = subst (λ b. 1 ≤ (if b then 1 else 0) + times w ps) f le in
+    let others : 1 ≤ 0 + times_among w ps = subst (λ b. 1 ≤ (if b then 1 else 0) + times_among w ps) f le in
     let r = among_those w ps (omega arith) in
     (r.0, inr r.1, r.2))
     (either_way (same_holder w p.0))
 
-among_views : (w : Holder) (views : List View) → 1 ≤ total w views → (by : ℕ) × (v : View) × (get_elem? views by ≡ some v) × (1 ≤ times w (holdings v))
+among_views : (w : Holder) (views : List View) → 1 ≤ held_in_all w views → (by : ℕ) × (v : View) × (get_elem? views by ≡ some v) × (1 ≤ times_among w (holdings v))
 among_views w [] le = absurd (omega arith)
 among_views w (v ∷ vs) le = ⊎_elim
-    (λ (here : 1 ≤ times w (holdings v)). (0, v, refl, here))
-    (λ (none : times w (holdings v) ≡ 0). let r = among_views w vs (omega arith) in (suc r.0, r.1, r.2, r.3))
-    (one_or_none (times w (holdings v)))
+    (λ (here : 1 ≤ times_among w (holdings v)). (0, v, refl, here))
+    (λ (none : times_among w (holdings v) ≡ 0). let r = among_views w vs (omega arith) in (suc r.0, r.1, r.2, r.3))
+    (one_or_none (times_among w (holdings v)))
   where
     one_or_none : (n : ℕ) → (1 ≤ n) ⊎ (n ≡ 0)
     one_or_none zero = inr refl
     one_or_none (suc n) = inl (omega arith)
 
 -- a deed of w stands in w's part of a list, at its place
-part_at : (w : Holder) (later : List Deed) (d : Deed) (before : List Deed) → same_holder w (doer d before) ≡ true → (newer : List Deed) × (part_of w (later ++ d ∷ before) ≡ newer ++ d ∷ part_of w before)
+part_at : (w : Holder) (later : List Deed) (d : Deed) (before : List Deed) → same_holder w (doer d before) ≡ true
+    → (newer : List Deed) × (part_of w (later ++ d ∷ before) ≡ newer ++ d ∷ part_of w before)
 part_at w [] d before me = ([], part_next w d before ∙ rw me refl)
 part_at w (x ∷ xs) d before me =
     let r = part_at w xs d before me in
@@ -55,7 +56,7 @@ within : (k : Config) (later : List Deed) (d : Deed) (before : List Deed) → Ha
 within k [] d before authors = authors.1
 within k (x ∷ xs) d before authors = within k xs d before authors.0
 
-has_one : (k : Config) (views : List View) → HaveSeats k views → (a : Actor) → ((c : ℕ) → a ≡ Cpu c → c < k.cpus) → total (Some a) views ≡ 1
+has_one : (k : Config) (views : List View) → HaveSeats k views → (a : Actor) → ((c : ℕ) → a ≡ Cpu c → c < k.cpus) → held_in_all (Some a) views ≡ 1
 has_one k views seats (Cpu c) lt = seats.cpus c (lt c refl)
 has_one k views seats Consumer lt = seats.consumer
 

@@ -35,7 +35,7 @@ use Rattle.dspec_table.specs.Since.{Since, here, more}
 use Rattle.dspec_table.specs.Layout.{activity_place, group_place, ack_place, ask_place}
 use Rattle.dspec_table.specs.Steps.{acted, SettledWord, StoredAck}
 use Rattle.dspec_table.specs.Holders.{number_of}
-use Rattle.dspec_table.specs.Acts.{settle_fate}
+use Rattle.dspec_table.specs.Acts.{fate_of_settlement}
 use Rattle.dspec_table.specs.Conditions.{MaySettle}
 use Rattle.dspec_table.proofs.Keeps.{Adds, LeavesAsks, acts, enters, finds, is_cpu, idle_log}
 use Rattle.dspec_table.proofs.Releases.{held_since}
@@ -47,13 +47,15 @@ record IsAck (c s n : ℕ) (log new : List Deed) : Type 0 where
   pub now : n ≡ ack c s new
   pub others : (d t : ℕ) → ((d == c) && (t == s)) ≡ false → ack d t new ≡ ack d t log
 
-ack_shows : (k : Config) (words : List ℕ) (c s n : ℕ) (log new : List Deed) → c < k.cpus → 1 ≤ s → s ≤ k.nspec → IsAck c s n log new → Shows k words log → Shows k (slice_set words (ack_place k c s) n) new
+ack_shows : (k : Config) (words : List ℕ) (c s n : ℕ) (log new : List Deed) → c < k.cpus → 1 ≤ s → s ≤ k.nspec → IsAck c s n log new → Shows k words log
+    → Shows k (slice_set words (ack_place k c s) n) new
 ack_shows k words c s n log new lt one most ch sh =
     let after = after_activity k c in
     let place : ℕ = ack_place k c s in
     record {
       count = length-set words place n ∙ sh.count;
-      active = (let apart : activity_place k ≢ place = (λ e. let e' : activity_place k ≡ group_place k c + s = e in omega arith) in get_or-set_other words place (activity_place k) n 0 apart) ∙ (sh.active ∙ sym ch.active);
+      active = (let apart : activity_place k ≢ place = (λ e. let e' : activity_place k ≡ group_place k c + s = e in omega arith) in get_or-set_other words place
+          (activity_place k) n 0 apart) ∙ (sh.active ∙ sym ch.active);
       slots = λ t a b. let apart : t ≢ place = (λ e. let e' : t ≡ group_place k c + s = e in omega arith) in get_or-set_other words place t n 0 apart ∙ (sh.slots t a b ∙ sym (ch.slots t));
       acks = λ d t x a b. ⊎_elim
           (λ (e : ((d == c) && (t == s)) ≡ true).
@@ -87,11 +89,12 @@ settle_granted w acked e = go (awaits w.code) (nat_le acked w.issue) e
     go true false e = absurd (cc (e))
     go false b e = absurd (cc (e))
 
-fate_is : (doing : Doing) (code : Code) → awaits code ≡ true → settles_as code (settle_fate doing code) ≡ true
+fate_is : (doing : Doing) (code : Code) → awaits code ≡ true → settles_as code (fate_of_settlement doing code) ≡ true
 fate_is doing Discarding e = refl
 fate_is doing CommittingMany e = go doing.fits
   where
-    go : (b : Bool) → Rattle.dspec_deeds.specs.FateKinds.is_commit (if b then Rattle.dspec_deeds.specs.declared.deed.DecideFate.TheVariants.Copied doing.count else Rattle.dspec_deeds.specs.declared.deed.DecideFate.TheVariants.Lost doing.count) ≡ true
+    go : (b : Bool) → Rattle.dspec_deeds.specs.FateKinds.is_commit
+        (if b then Rattle.dspec_deeds.specs.declared.deed.DecideFate.TheVariants.Copied doing.count else Rattle.dspec_deeds.specs.declared.deed.DecideFate.TheVariants.Lost doing.count) ≡ true
     go true = refl
     go false = refl
 fate_is doing Inactive e = absurd (true≢false (sym e))
@@ -121,13 +124,14 @@ settles_word k slots id c me doing spec lt who alone may st kept homes at bound 
     let not_seen : settled c (present s v.seen) v.seen ≡ false = not_yet (settled c (present s v.seen) v.seen) (sym (ack_tells k c s v.seen sound_seen) ∙ untold) in
     let held = held_since k c s v.seen log lt kept.sound seen_by (record { given = waits.given; ruled = waits.ruled; waits = inr (waits.alone, not_seen) }) in
     let q : present s log ≡ spec = (λ i. record { issue = held.1.issues i; slot = s }) ∙ p in
-    let f = settle_fate doing code in
+    let f = fate_of_settlement doing code in
     let unsettled : settled c spec log ≡ false = settled_since c spec v.seen log seen_by ∙ (ap (λ j. settled c j v.seen) (sym p) ∙ not_seen) in
     let fate : SettlesAs (verdict spec log) f = subst (λ x. SettlesAs x f) (sym held.1.verdicts ∙ ap (λ j. verdict j log) q) (waits.fate f (fate_is doing code due.0)) in
     let none : solo spec log ≡ None = sym (ap (λ j. solo j log) q) ∙ (held.1.solos ∙ waits.alone) in
     let issues : spec.issue ≡ issue s log = sym (ap (λ (j : Speculation). j.issue) q) in
     let ds : List Deed = Settle (number_of v.who) spec f ∷ [] in
-    let adds : Adds k v.who log ds = subst (λ x. Adds k x log (Settle (number_of x) spec f ∷ [])) (sym who) (tt, (kept.rests, (idle_log k st kept id v c at who may.idle, (issues, fate, none, unsettled))), refl) in
+    let adds : Adds k v.who log ds = subst (λ x. Adds k x log (Settle (number_of x) spec f ∷ [])) (sym who)
+    (tt, (kept.rests, (idle_log k st kept id v c at who may.idle, (issues, fate, none, unsettled))), refl) in
     let shows : Shows k (slice_set st.words (ack_place k c s) (spec.issue + 1)) (Settle (number_of v.who) spec f ∷ log) =
     subst (λ (x : Holder). Shows k (slice_set st.words (ack_place k c s) (spec.issue + 1)) (Settle (number_of x) spec f ∷ log)) (sym who)
     (ack_shows k st.words c s (spec.issue + 1) log (Settle c spec f ∷ log) lt one most
@@ -158,7 +162,7 @@ pub stores_ack : (k : Config) (slots id c : ℕ) (me : Me ℕ View) (doing : Doi
 stores_ack k slots id c me doing spec config lt who alone may st kept homes at bound =
     let v = me.0 in
     let r = settles_word k slots id c me doing spec lt who alone may st kept homes at bound in
-    let deed : Speculation → Deed = λ x. Settle (number_of v.who) x (settle_fate doing (word_at x.slot v.seen).code) in (
+    let deed : Speculation → Deed = λ x. Settle (number_of v.who) x (fate_of_settlement doing (word_at x.slot v.seen).code) in (
       r.0,
       r.1,
       r.2,

@@ -7,50 +7,55 @@ use Rattle.dspec_deeds.specs.declared.calls.Actor.TheVariants.{Cpu, Consumer}
 use Rattle.dspec_deeds.specs.declared.config.Config.{Config}
 use Rattle.dspec_table.specs.Holders.{Holder, of_cpu, same_holder}
 use Rattle.dspec_table.specs.declared.rule.View.{View}
-use Rattle.dspec_table.specs.Rule.{holdings, times, total, HaveSeats}
+use Rattle.dspec_table.specs.Rule.{holdings, times_among, held_in_all, HaveSeats}
 
-pub total_at : (w : Holder) (views : List View) (a : ℕ) (v : View) → get_elem? views a ≡ some v → times w (holdings v) ≤ total w views
+pub total_at : (w : Holder) (views : List View) (a : ℕ) (v : View) → get_elem? views a ≡ some v → times_among w (holdings v) ≤ held_in_all w views
 total_at w [] a v e = absurd (some-ne-none v (sym e))
-total_at w (x ∷ xs) zero v e = let p = some-injective x v e in subst (λ (y : View). times w (holdings y) ≤ total w (x ∷ xs)) p (omega arith)
+total_at w (x ∷ xs) zero v e = let p = some-injective x v e in subst (λ (y : View). times_among w (holdings y) ≤ held_in_all w (x ∷ xs)) p (omega arith)
 total_at w (x ∷ xs) (suc a) v e = let r = total_at w xs a v e in omega arith
 
 -- two seats at two places count both
-pub total_two : (w : Holder) (views : List View) (a b : ℕ) (v u : View) → a ≢ b → get_elem? views a ≡ some v → get_elem? views b ≡ some u → times w (holdings v) + times w (holdings u) ≤ total w views
+pub total_two : (w : Holder) (views : List View) (a b : ℕ) (v u : View) → a ≢ b → get_elem? views a ≡ some v → get_elem? views b ≡ some u
+    → times_among w (holdings v) + times_among w (holdings u) ≤ held_in_all w views
 total_two w [] a b v u n e f = absurd (some-ne-none v (sym e))
 total_two w (x ∷ xs) zero zero v u n e f = absurd (n refl)
-total_two w (x ∷ xs) zero (suc b) v u n e f = let r = total_at w xs b u f in let p = some-injective x v e in subst (λ (y : View). times w (holdings y) + times w (holdings u) ≤ total w (x ∷ xs)) p (omega arith)
-total_two w (x ∷ xs) (suc a) zero v u n e f = let r = total_at w xs a v e in let p = some-injective x u f in subst (λ (y : View). times w (holdings v) + times w (holdings y) ≤ total w (x ∷ xs)) p (omega arith)
+total_two w (x ∷ xs) zero (suc b) v u n e f =
+    let r = total_at w xs b u f in let p = some-injective x v e in subst (λ (y : View). times_among w (holdings y) + times_among w (holdings u) ≤ held_in_all w (x ∷ xs)) p (omega arith)
+total_two w (x ∷ xs) (suc a) zero v u n e f =
+    let r = total_at w xs a v e in let p = some-injective x u f in subst (λ (y : View). times_among w (holdings v) + times_among w (holdings y) ≤ held_in_all w (x ∷ xs)) p (omega arith)
 total_two w (x ∷ xs) (suc a) (suc b) v u n e f = let r = total_two w xs a b v u (λ q. n (ap suc q)) e f in omega arith
 
-pub total_set : (w : Holder) (views : List View) (a : ℕ) (v u : View) → get_elem? views a ≡ some v → total w (set views a u) + times w (holdings v) ≡ total w views + times w (holdings u)
+pub total_set : (w : Holder) (views : List View) (a : ℕ) (v u : View) → get_elem? views a ≡ some v
+    → held_in_all w (set views a u) + times_among w (holdings v) ≡ held_in_all w views + times_among w (holdings u)
 total_set w [] a v u e = absurd (some-ne-none v (sym e))
-total_set w (x ∷ xs) zero v u e = let p = some-injective x v e in subst (λ (y : View). total w (u ∷ xs) + times w (holdings y) ≡ total w (x ∷ xs) + times w (holdings u)) p (omega arith)
+total_set w (x ∷ xs) zero v u e = let p =
+    some-injective x v e in subst (λ (y : View). held_in_all w (u ∷ xs) + times_among w (holdings y) ≡ held_in_all w (x ∷ xs) + times_among w (holdings u)) p (omega arith)
 total_set w (x ∷ xs) (suc a) v u e = let r = total_set w xs a v u e in omega arith
 
-pub total_snoc : (w : Holder) (views : List View) (u : View) → total w (views ++ u ∷ []) ≡ total w views + times w (holdings u)
+pub total_snoc : (w : Holder) (views : List View) (u : View) → held_in_all w (views ++ u ∷ []) ≡ held_in_all w views + times_among w (holdings u)
 total_snoc w [] u = omega arith
 total_snoc w (x ∷ xs) u = let r = total_snoc w xs u in omega arith
 
-total_nobody : (views : List View) → total None views ≡ 0
+total_nobody : (views : List View) → held_in_all None views ≡ 0
 total_nobody [] = refl
 total_nobody (v ∷ vs) = let t = times_nobody (holdings v) in let r = total_nobody vs in omega arith
   where
-    times_nobody : (ps : List (Holder × List Rattle.dspec_deeds.specs.declared.deed.Deed.Deed)) → times None ps ≡ 0
+    times_nobody : (ps : List (Holder × List Rattle.dspec_deeds.specs.declared.deed.Deed.Deed)) → times_among None ps ≡ 0
     times_nobody [] = refl
     times_nobody (p ∷ ps) = let r = times_nobody ps in omega arith
 
 -- nobody has two seats
-pub one_seat : (k : Config) (views : List View) → HaveSeats k views → (w : Holder) → total w views ≤ 1
+pub one_seat : (k : Config) (views : List View) → HaveSeats k views → (w : Holder) → held_in_all w views ≤ 1
 one_seat k views seats None = let e = total_nobody views in omega arith
 one_seat k views seats (Some Consumer) = let e = seats.consumer in omega arith
 one_seat k views seats (Some (Cpu c)) = go (dec_lt c k.cpus)
   where
-    go : Dec (c < k.cpus) → total (of_cpu c) views ≤ 1
+    go : Dec (c < k.cpus) → held_in_all (of_cpu c) views ≤ 1
     go (yes p) = let e = seats.cpus c p in omega arith
     go (no p) = let le : k.cpus ≤ c = omega arith in let e = seats.beyond c le in omega arith
 
 -- views that hold the same of each have the same seats
-pub same_seats : (k : Config) (old new : List View) → ((w : Holder) → total w new ≡ total w old) → HaveSeats k old → HaveSeats k new
+pub same_seats : (k : Config) (old new : List View) → ((w : Holder) → held_in_all w new ≡ held_in_all w old) → HaveSeats k old → HaveSeats k new
 same_seats k old new same seats = record {
   cpus = λ c lt. same (of_cpu c) ∙ seats.cpus c lt;
   consumer = same Rattle.dspec_table.specs.Holders.of_consumer ∙ seats.consumer;
@@ -67,6 +72,6 @@ of_session k views seats by v at me c is = go (dec_lt c k.cpus)
         let le : k.cpus ≤ c = omega arith in
         let none = seats.beyond c le in
         let held = total_at (of_cpu c) views by v at in
-        let mine : 1 ≤ times v.who (holdings v) = subst (λ b. 1 ≤ (if b then 1 else 0) + times v.who v.also) (sym me) (omega arith) in
-        let mine' : 1 ≤ times (of_cpu c) (holdings v) = subst (λ (x : Holder). 1 ≤ times x (holdings v)) is mine in
+        let mine : 1 ≤ times_among v.who (holdings v) = subst (λ b. 1 ≤ (if b then 1 else 0) + times_among v.who v.also) (sym me) (omega arith) in
+        let mine' : 1 ≤ times_among (of_cpu c) (holdings v) = subst (λ (x : Holder). 1 ≤ times_among x (holdings v)) is mine in
         absurd (omega arith)

@@ -15,7 +15,8 @@ use Rattle.dspec_record.specs.Record.{Record}
 use Rattle.dspec_deeds.specs.declared.deed.Deed.{Deed}
 use Rattle.dspec_deeds.specs.declared.deed.Deed.TheVariants.{Speculate, Commit, Discard, Release}
 use Rattle.dspec_table.specs.Holders.{Holder, of_cpu}
-use Rattle.dspec_deeds.specs.History.{issue, scan, owed, present, releaser, verdict, is_undecided, is_open, committed, discarded, callers, joined, is_among, standing, active_code, is_sole, code_at, word_at, solo}
+use Rattle.dspec_deeds.specs.History.{issue, scan, owed, present, releaser, verdict, is_undecided, is_open, committed, discarded}
+use Rattle.dspec_deeds.specs.History.{callers, joined, is_among, standing, active_code, is_sole, code_at, word_at, solo}
 use Rattle.dspec_deeds.specs.Legal.{IsSound}
 use Rattle.dspec_deeds.proofs.TestLemmas.{either_way, id_is_itself, other_slot}
 use Rattle.dspec_deeds.proofs.WordActs.{speculate_attempt, commit_attempt, discard_attempt}
@@ -28,7 +29,7 @@ use Rattle.dspec_table.specs.declared.doing.Doing.{Doing}
 use Rattle.dspec_table.specs.Rule.{Kept}
 use Rattle.dspec_table.specs.Showing.{word}
 use Rattle.dspec_table.specs.Holders.{number_of}
-use Rattle.dspec_table.specs.Acts.{commit_fate, discard_hits, at_hit, at_exchange}
+use Rattle.dspec_table.specs.Acts.{fate_of_commit, discard_hits, at_hit, at_exchange}
 use Rattle.dspec_table.specs.Conditions.{Attempts, MayTry}
 use Rattle.dspec_table.specs.Steps.{TriedNumber}
 use Rattle.dspec_table.proofs.InFlight.{exchange_of}
@@ -40,7 +41,8 @@ use Rattle.dspec_deeds.specs.declared.deed.DecideFate.TheVariants as decided
 use Rattle.dspec_deeds.specs.declared.calls.CpuOp.TheVariants as op
 
 -- a word with the present issue, whose code is what a list shows for the speculation
-shows_code : (id : Speculation) (log new : List Deed) (w : Code) → present id.slot log ≡ id → issue id.slot new ≡ issue id.slot log → code_at id new ≡ w → word_number record { issue = issue id.slot log; code = w } ≡ word id.slot new
+shows_code : (id : Speculation) (log new : List Deed) (w : Code) → present id.slot log ≡ id → issue id.slot new ≡ issue id.slot log → code_at id new ≡ w
+    → word_number record { issue = issue id.slot log; code = w } ≡ word id.slot new
 shows_code id log new w is same e =
     let p : present id.slot new ≡ id = (λ i. record { issue = same i; slot = id.slot }) ∙ is in
     ap word_number (λ i. record { issue = sym same i; code = (sym e ∙ ap (λ j. code_at j new) (sym p)) i })
@@ -128,7 +130,8 @@ module _ (k : Config) (c : ℕ) (log : List Deed) (doing : Doing) (s : IsSound k
   discards id n new f e =
       let did = discard_attempt k log id c new s e in
       let at = open_present k log id s did.1 in
-      let Goal : SlotState → Type 0 = λ w. Changes k (of_cpu c) id.slot (word_number w) log (if is_inactive w.code then Release id.slot ∷ Discard c id (decided.Thrown n) ∷ [] else Discard c id (decided.Thrown n) ∷ []) in
+      let Goal : SlotState → Type 0 = λ w. Changes k (of_cpu c) id.slot (word_number w) log
+      (if is_inactive w.code then Release id.slot ∷ Discard c id (decided.Thrown n) ∷ [] else Discard c id (decided.Thrown n) ∷ []) in
       ⊎_elim
       (λ (sole : is_sole c (callers id log) ≡ true).
       let is : new ≡ record { issue = issue id.slot log + 1; code = Inactive } = did.2 ∙ rw sole refl in
@@ -143,25 +146,29 @@ module _ (k : Config) (c : ℕ) (log : List Deed) (doing : Doing) (s : IsSound k
       }))
       (either_way (is_sole c (callers id log)))
 
-hits : (k : Config) (c : ℕ) (log : List Deed) (doing : Doing) (slot : ℕ) (new : SlotState) → IsSound k log → owed log ≡ 0 → (o : CpuOp) → IsReady k c log doing slot o → Attempts doing (word_at slot log) new o
+hits : (k : Config) (c : ℕ) (log : List Deed) (doing : Doing) (slot : ℕ) (new : SlotState) → IsSound k log → owed log ≡ 0 → (o : CpuOp) → IsReady k c log doing slot o
+    → Attempts doing (word_at slot log) new o
     → Changes k (of_cpu c) slot (word_number new) log (at_hit c doing (word_at slot log) o)
 hits k c log doing slot new s rests (op.Trace r) f e = absurd e
 hits k c log doing slot new s rests op.Speculation f e = absurd e
 hits k c log doing slot new s rests (op.Speculate id r) f e =
     let e' : speculate_at (word_at id.slot log) id (is_among c (callers id log)) ≡ Attempt new = sym (speculate_like k log c slot doing id f) ∙ e in
-    subst (λ t. Changes k (of_cpu c) t (word_number new) log (Speculate c id r (if doing.fits then spoken.Kept else spoken.Dropped) ∷ [])) f.at (joins k c log doing s rests slot id r doing.fits new f e')
+    subst (λ t. Changes k (of_cpu c) t (word_number new) log (Speculate c id r (if doing.fits then spoken.Kept else spoken.Dropped) ∷ [])) f.at
+    (joins k c log doing s rests slot id r doing.fits new f e')
 hits k c log doing slot new s rests (op.Commit id) f e =
     let e' : commit_at (word_at id.slot log) id (is_among c (callers id log)) ≡ Attempt new = sym (commit_like k log c slot doing id f) ∙ e in
-    subst (λ t. Changes k (of_cpu c) t (word_number new) log (Commit c id (commit_fate doing) ∷ [])) f.at (commits k c log doing s rests slot id doing.fits doing.count new f e')
+    subst (λ t. Changes k (of_cpu c) t (word_number new) log (Commit c id (fate_of_commit doing) ∷ [])) f.at (commits k c log doing s rests slot id doing.fits doing.count new f e')
 hits k c log doing slot new s rests (op.Discard id) f e =
     let e' : discard_at (word_at id.slot log) id (is_among c (callers id log)) ≡ Attempt new = sym (discard_like k log c slot doing id f) ∙ e in
     subst (λ a. Changes k (of_cpu c) slot (word_number new) log (discard_hits c doing id a)) (sym e)
     (subst (λ t. Changes k (of_cpu c) t (word_number new) log (discard_hits c doing id (Attempt new))) f.at (discards k c log doing s rests slot id doing.count new f e'))
 hits k c log doing slot new s rests op.Service f e = absurd e
 
-pub tries_word : (k : Config) (slots id c slot : ℕ) (me : Me ℕ View) (doing : Doing) (from to : SlotState) → 1 ≤ slot → slot ≤ k.nspec → me.0.who ≡ of_cpu c → me.0.also ≡ [] → MayTry k me.0 c doing slot from to
+pub tries_word : (k : Config) (slots id c slot : ℕ) (me : Me ℕ View) (doing : Doing) (from to : SlotState) → 1 ≤ slot → slot ≤ k.nspec → me.0.who ≡ of_cpu c → me.0.also ≡ []
+    → MayTry k me.0 c doing slot from to
     → Allows (Kept k) slots id me slot (λ n. either (n == word_number from) (word_number to) n) (λ n w. TriedNumber doing slot me.0 (word_number to) n (n == word_number from) w.0 × (w.1 ≡ me.1))
-tries_word k slots id c slot me doing from to one most who alone may = exchanges k slots id slot (word_number from) (word_number to) me (TriedNumber doing slot me.0 (word_number to)) (is_cpu me.0 c who) alone one most
+tries_word k slots id c slot me doing from to one most who alone may =
+    exchanges k slots id slot (word_number from) (word_number to) me (TriedNumber doing slot me.0 (word_number to)) (is_cpu me.0 c who) alone one most
     (λ st kept at found.
     let v = me.0 in
     let log = kept.log in
@@ -169,7 +176,8 @@ tries_word k slots id c slot me doing from to one most who alone may = exchanges
     let mine = kept.knows id v at in
     let same : shown ≡ from = one_word shown from (sym (kept.shows.slots slot one most) ∙ found) in
     let does : Changes k v.who slot (word_number to) log (at_exchange v.config (number_of v.who) doing slot shown true) =
-    subst (λ (p : Config × Holder). Changes k p.1 slot (word_number to) log (at_exchange p.0 (number_of p.1) doing slot shown true)) (λ i. (sym (its_config k log v (is_cpu v c who) mine) i, sym who i))
+    subst (λ (p : Config × Holder). Changes k p.1 slot (word_number to) log (at_exchange p.0 (number_of p.1) doing slot shown true))
+    (λ i. (sym (its_config k log v (is_cpu v c who) mine) i, sym who i))
     (hits k c log doing slot to kept.sound kept.rests doing.op (ready k st kept id v c slot doing at who doing.op may.0) (subst (λ w. Attempts doing w to doing.op) (sym same) may.1)) in (
       at_exchange v.config (number_of v.who) doing slot shown true,
       does,

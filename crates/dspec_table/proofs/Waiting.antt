@@ -56,5 +56,6 @@ awaited_stands v log s who found waits =
     (waits_on v.config s v.seen log found.sound (record { given = is.given; ruled = is.ruled; alone = is.alone }) since).0
 
 -- the exchange that releases it finds it
-pub reaped_found : (v : View) (w : View) (s n : ℕ) (hit : Rattle.std.proofs.Common.Bool) → v.who ≡ of_consumer → awaits (word_at s v.seen).code ≡ true → ReapedNumber s v n hit w → n ≡ word_number (word_at s v.seen)
+pub reaped_found : (v : View) (w : View) (s n : ℕ) (hit : Rattle.std.proofs.Common.Bool) → v.who ≡ of_consumer → awaits (word_at s v.seen).code ≡ true
+    → ReapedNumber s v n hit w → n ≡ word_number (word_at s v.seen)
 reaped_found v w s n hit who waits step = step.1 ∙ ap word_number (step.2.2 ∙ awaited_stands v step.2.0 s who step.2.1 waits)

@@ -37,9 +37,9 @@ at_activity k c doing (op.Discard id) false = if in_range k id then [] else Disc
 at_activity k c doing op.Service stopped = []
 
 -- a word that was loaded, or shown by an exchange that failed
-abbrev pub misses : ℕ → ℕ → SlotState → Act → List Deed
-misses c slot w Void = Miss c slot (is_decided w.code) ∷ []
-misses c slot w a = []
+abbrev pub miss_at : ℕ → ℕ → SlotState → Act → List Deed
+miss_at c slot w Void = Miss c slot (is_decided w.code) ∷ []
+miss_at c slot w a = []
 
 abbrev pub speaks : ℕ → Doing → Speculation → Record → Act → List Deed
 speaks c doing id r Void = Speculate c id r spoken.Void ∷ []
@@ -56,7 +56,7 @@ void_discard c id a = []
 
 abbrev pub at_word : Config → ℕ → Doing → ℕ → SlotState → CpuOp → List Deed
 at_word k c doing slot w (op.Trace r) = []
-at_word k c doing slot w op.Speculation = misses c slot w (open_at w k.max_issues)
+at_word k c doing slot w op.Speculation = miss_at c slot w (open_at w k.max_issues)
 at_word k c doing slot w (op.Speculate id r) = speaks c doing id r (speculate_at w id doing.mine)
 at_word k c doing slot w (op.Commit id) = void_commit c id (commit_at w id doing.mine)
 at_word k c doing slot w (op.Discard id) = void_discard c id (discard_at w id doing.mine)
@@ -68,8 +68,8 @@ at_open c slot shown true = Opened c record { issue = shown.issue; slot = slot }
 at_open c slot shown false = Miss c slot (is_decided shown.code) ∷ []
 
 -- an exchange that succeeded, by the word that it found
-abbrev pub commit_fate : Doing → DecideFate
-commit_fate doing = if doing.fits then decided.Copied doing.count else decided.Lost doing.count
+abbrev pub fate_of_commit : Doing → DecideFate
+fate_of_commit doing = if doing.fits then decided.Copied doing.count else decided.Lost doing.count
 
 abbrev pub discard_hits : ℕ → Doing → Speculation → Act → List Deed
 discard_hits c doing id (Attempt w) = if is_inactive w.code then Release id.slot ∷ Discard c id (decided.Thrown doing.count) ∷ [] else Discard c id (decided.Thrown doing.count) ∷ []
@@ -79,7 +79,7 @@ abbrev pub at_hit : ℕ → Doing → SlotState → CpuOp → List Deed
 at_hit c doing shown (op.Trace r) = []
 at_hit c doing shown op.Speculation = []
 at_hit c doing shown (op.Speculate id r) = Speculate c id r (if doing.fits then spoken.Kept else spoken.Dropped) ∷ []
-at_hit c doing shown (op.Commit id) = Commit c id (commit_fate doing) ∷ []
+at_hit c doing shown (op.Commit id) = Commit c id (fate_of_commit doing) ∷ []
 at_hit c doing shown (op.Discard id) = discard_hits c doing id (discard_at shown id doing.mine)
 at_hit c doing shown op.Service = []
 
@@ -89,9 +89,9 @@ at_exchange k c doing slot shown true = at_hit c doing shown doing.op
 at_exchange k c doing slot shown false = at_word k c doing slot shown doing.op
 
 -- a settlement, by the code that was shown
-abbrev pub settle_fate : Doing → Code → DecideFate
-settle_fate doing Discarding = decided.Thrown doing.count
-settle_fate doing c = commit_fate doing
+abbrev pub fate_of_settlement : Doing → Code → DecideFate
+fate_of_settlement doing Discarding = decided.Thrown doing.count
+fate_of_settlement doing c = fate_of_commit doing
 
 -- the stop is a deed the first time
 abbrev pub at_stop : Bool → List Deed

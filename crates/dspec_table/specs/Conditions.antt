@@ -45,8 +45,8 @@ MayOpen k v c slot from to =
     (scan k c v.own ≡ slot) × (from ≡ word_at slot v.seen) × (open_at from k.max_issues ≡ Attempt to)
     × (v.flight ≡ Some op.Speculation)
 
-abbrev pub active : SlotState → SlotState
-active w = record { issue = w.issue; code = Active }
+abbrev pub as_active : SlotState → SlotState
+as_active w = record { issue = w.issue; code = Active }
 
 abbrev pub Attempts : Doing → SlotState → SlotState → CpuOp → Type 0
 Attempts doing from to (op.Trace r) = ⊥
@@ -68,10 +68,10 @@ abbrev pub joined_word : SlotState → SlotState
 joined_word w = record { issue = w.issue; code = more_callers w.code }
 
 -- the call is a commit or a discard
-abbrev pub Decides : CpuOp → Type 0
-Decides (op.Commit id) = Unit {0}
-Decides (op.Discard id) = Unit {0}
-Decides o = ⊥
+abbrev pub IsDeciding : CpuOp → Type 0
+IsDeciding (op.Commit id) = Unit {0}
+IsDeciding (op.Discard id) = Unit {0}
+IsDeciding o = ⊥
 
 -- the seat's own commit stands in the slot, and waits for no other CPU
 pub record OwnCommit (k : Config) (v : View) (c : ℕ) (id : Speculation) : Type 0 where

@@ -8,15 +8,15 @@ use Rattle.dspec_deeds.specs.declared.deed.Deed.TheVariants.{Trace, Scan, Opened
 use Rattle.dspec_table.specs.declared.rule.View.{View}
 
 -- the call that a deed is of; a settlement, a seal, a release and a stop are of none that a stop ends
-abbrev pub call_of : Deed → Option CpuOp
-call_of (Trace c r f) = Some (op.Trace r)
-call_of (Scan c running) = Some op.Speculation
-call_of (Opened c id) = Some op.Speculation
-call_of (Miss c s busy) = Some op.Speculation
-call_of (Speculate c id r f) = Some (op.Speculate id r)
-call_of (Commit c id f) = Some (op.Commit id)
-call_of (Discard c id f) = Some (op.Discard id)
-call_of d = None
+abbrev pub call_of_deed : Deed → Option CpuOp
+call_of_deed (Trace c r f) = Some (op.Trace r)
+call_of_deed (Scan c running) = Some op.Speculation
+call_of_deed (Opened c id) = Some op.Speculation
+call_of_deed (Miss c s busy) = Some op.Speculation
+call_of_deed (Speculate c id r f) = Some (op.Speculate id r)
+call_of_deed (Commit c id f) = Some (op.Commit id)
+call_of_deed (Discard c id f) = Some (op.Discard id)
+call_of_deed d = None
 
 abbrev pub IsOf : Option CpuOp → Option CpuOp → Type 0
 IsOf flight None = Unit {0}
@@ -25,7 +25,7 @@ IsOf flight (Some o) = flight ≡ Some o
 -- each of the deeds that is of a call is of the one in flight
 abbrev pub AreOf : Option CpuOp → List Deed → Type 0
 AreOf flight [] = Unit {0}
-AreOf flight (d ∷ ds) = IsOf flight (call_of d) × AreOf flight ds
+AreOf flight (d ∷ ds) = IsOf flight (call_of_deed d) × AreOf flight ds
 
 -- what is in flight behind a step: one that enters no deed leaves it, a call of speculation goes on up to a slot that it opens
 -- or to the last, and behind any other deed the call has ended

@@ -54,4 +54,15 @@ past_of v = record { who = v.who; own = v.own; seen = v.seen; asks = v.asks }
 
 -- a seat that takes in another, with its deeds and what it knew
 abbrev pub gathered : View → View → View
-gathered v w = record { config = v.config; who = v.who; own = v.own; also = v.also ++ holdings w; seen = v.seen; told = v.told; flight = v.flight; steps = v.steps; asks = v.asks; past = v.past ++ past_of w ∷ w.past }
+gathered v w = record {
+  config = v.config;
+  who = v.who;
+  own = v.own;
+  also = v.also ++ holdings w;
+  seen = v.seen;
+  told = v.told;
+  flight = v.flight;
+  steps = v.steps;
+  asks = v.asks;
+  past = v.past ++ past_of w ∷ w.past;
+}

@@ -5,7 +5,7 @@ use lib.ListN.{get_elem?}
 use Rattle.dspec_deeds.specs.declared.deed.Deed.{Deed}
 use Rattle.dspec_table.specs.declared.rule.View.{View}
 use Rattle.dspec_table.specs.Holders.{Holder, doer, part_of}
-use Rattle.dspec_table.specs.Rule.{holdings, total}
+use Rattle.dspec_table.specs.Rule.{holdings, held_in_all}
 use Rattle.dspec_table.specs.Last.{In}
 
 -- the deed, which was done behind these, stands at its place among this holder's
@@ -20,4 +20,4 @@ pub record HasOneSeat (views : List View) (d : Deed) (before : List Deed) : Type
   pub holding : Holder × List Deed
   pub among : In holding (holdings view)
   pub holds : Holds d before holding
-  pub one : total (doer d before) views ≡ 1
+  pub one : held_in_all (doer d before) views ≡ 1

@@ -19,13 +19,13 @@ abbrev pub holdings : View → List (Holder × List Deed)
 holdings v = (v.who, v.own) ∷ v.also
 
 -- how often w stands among them
-abbrev pub times : Holder → List (Holder × List Deed) → ℕ
-times w [] = 0
-times w (p ∷ ps) = (if same_holder w p.0 then 1 else 0) + times w ps
+abbrev pub times_among : Holder → List (Holder × List Deed) → ℕ
+times_among w [] = 0
+times_among w (p ∷ ps) = (if same_holder w p.0 then 1 else 0) + times_among w ps
 
-abbrev pub total : Holder → List View → ℕ
-total w [] = 0
-total w (v ∷ vs) = times w (holdings v) + total w vs
+abbrev pub held_in_all : Holder → List View → ℕ
+held_in_all w [] = 0
+held_in_all w (v ∷ vs) = times_among w (holdings v) + held_in_all w vs
 
 abbrev pub Parts : List Deed → List (Holder × List Deed) → Type 0
 Parts log [] = Unit {0}
@@ -61,9 +61,9 @@ pub record KnowsAsks (k : Config) (words : List ℕ) (v : View) : Type 0 where
 
 -- each actor of the session has exactly one seat, its own or one that it was joined into, and no other CPU has any
 pub record HaveSeats (k : Config) (views : List View) : Type 0 where
-  pub cpus : (c : ℕ) → c < k.cpus → total (of_cpu c) views ≡ 1
-  pub consumer : total of_consumer views ≡ 1
-  pub beyond : (c : ℕ) → k.cpus ≤ c → total (of_cpu c) views ≡ 0
+  pub cpus : (c : ℕ) → c < k.cpus → held_in_all (of_cpu c) views ≡ 1
+  pub consumer : held_in_all of_consumer views ≡ 1
+  pub beyond : (c : ℕ) → k.cpus ≤ c → held_in_all (of_cpu c) views ≡ 0
 
 pub record Kept (k : Config) (st : State ℕ View) : Type 0 where
   pub log : List Deed

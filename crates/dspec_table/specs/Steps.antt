@@ -13,11 +13,22 @@ use Rattle.dspec_table.specs.Holders.{part_of, of_nobody, number_of}
 use Rattle.dspec_table.specs.Since.{Since}
 use Rattle.dspec_table.specs.Layout.{ack_place}
 use Rattle.dspec_table.specs.Flights.{AreOf, flight_after, calling}
-use Rattle.dspec_table.specs.Acts.{at_activity, at_word, at_open, at_exchange, settle_fate, at_stop}
+use Rattle.dspec_table.specs.Acts.{at_activity, at_word, at_open, at_exchange, fate_of_settlement, at_stop}
 
 -- the view after deeds of its own behind the list that the step found, where it then knows these asks
 abbrev pub asking : View → List Deed → List Deed → List ℕ → View
-asking v log ds asks = record { config = v.config; who = v.who; own = ds ++ v.own; also = v.also; seen = ds ++ log; told = []; flight = flight_after v.config v.flight ds; steps = v.steps + 1; asks = asks; past = v.past }
+asking v log ds asks = record {
+  config = v.config;
+  who = v.who;
+  own = ds ++ v.own;
+  also = v.also;
+  seen = ds ++ log;
+  told = [];
+  flight = flight_after v.config v.flight ds;
+  steps = v.steps + 1;
+  asks = asks;
+  past = v.past;
+}
 
 -- the same with the asks that it knew
 abbrev pub acted : View → List Deed → List Deed → View
@@ -90,14 +101,14 @@ ReleasedWord slot v w = (log : List Deed) × Found v log × Entered v log (Relea
 
 abbrev pub SettledWord : Doing → Speculation → Code → View → View → Type 0
 SettledWord doing id code v w =
-    (log : List Deed) × Found v log × Entered v log (Settle (number_of v.who) id (settle_fate doing code) ∷ []) w
+    (log : List Deed) × Found v log × Entered v log (Settle (number_of v.who) id (fate_of_settlement doing code) ∷ []) w
 
 -- the same, of whichever speculation the word and the number stored are of
 abbrev pub StoredAck : Doing → ℕ → View → ℕ → View → Type 0
 StoredAck doing place v n w =
     (log : List Deed) × (d : Deed) × Found v log
     × ((id : Speculation) → place ≡ ack_place v.config (number_of v.who) id.slot → n ≡ id.issue + 1
-    → d ≡ Settle (number_of v.who) id (settle_fate doing (word_at id.slot v.seen).code))
+    → d ≡ Settle (number_of v.who) id (fate_of_settlement doing (word_at id.slot v.seen).code))
     × Entered v log (d ∷ []) w
 
 -- the steps of the consumer

@@ -1,7 +1,7 @@
 ghost use Rattle.std.specs.Prelude.{◌≡◌, ◌<◌, ◌≤◌, true, false, MatchResult, IfOk, IfErr};
 ghost use Rattle.dspec_deeds.specs.declared.calls.CpuOp.TheVariants as op;
 ghost use Rattle.dspec_deeds.specs.History.{word_at};
-ghost use Rattle.dspec_table.specs.Conditions.{MayOpen, active};
+ghost use Rattle.dspec_table.specs.Conditions.{MayOpen, as_active};
 ghost use Rattle.dspec_table.specs.Steps.{OpenedWord};
 ghost use Rattle.dspec_table.specs.Seats.{known, IsAt, set_up, cpu_of};
 ghost use Rattle.dspec_word.specs.Word.{word_number, CanBeReleased};
@@ -25,12 +25,12 @@ impl CpuSeat {
         requires seat { IsAt words.now self.old }
         requires op { _doing.now.op ≡ op.Speculation }
         requires slot { (1 ≤ slot) × (slot ≤ (set_up words.now).nspec) }
-        requires call { MayOpen (set_up words.now) (known self.old) (cpu_of self.old) slot from (active from) }
+        requires call { MayOpen (set_up words.now) (known self.old) (cpu_of self.old) slot from (as_active from) }
         ensures seat { IsAt words.now self.new × (cpu_of self.new ≡ cpu_of self.old) }
         ensures step { MatchResult result
             (λ _. OpenedWord slot (known self.old) from true (known self.new))
             (λ shown. OpenedWord slot (known self.old) shown false (known self.new)) }
-        ensures word { IfOk result (λ _. word_at slot (known self.new).seen ≡ active from) }
+        ensures word { IfOk result (λ _. word_at slot (known self.new).seen ≡ as_active from) }
         ensures greater { IfErr result (λ shown. word_number from < word_number shown) }
         ensures limit { IfErr result (λ shown. CanBeReleased shown) }
     {

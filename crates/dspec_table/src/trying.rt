@@ -1,6 +1,6 @@
 ghost use Rattle.std.specs.Prelude.{◌≡◌, ◌<◌, ◌≤◌, ◌==◌, true, false, MatchResult, IfOk, IfErr};
 ghost use Rattle.dspec_deeds.specs.History.{word_at};
-ghost use Rattle.dspec_table.specs.Conditions.{MayTry, Decides, OwnCommit, joined_word, IfCommitting};
+ghost use Rattle.dspec_table.specs.Conditions.{MayTry, IsDeciding, OwnCommit, joined_word, IfCommitting};
 ghost use Rattle.dspec_table.specs.Steps.{TriedWord, TriedNumber};
 ghost use Rattle.dspec_table.specs.Seats.{known, IsAt, set_up, cpu_of};
 ghost use Rattle.dspec_word.specs.Word.{word_number, CanBeReleased};
@@ -106,7 +106,7 @@ impl CpuSeat {
         doing: &Doing,
     ) -> Result<(), Word>
         requires seat { IsAt words.now self.old }
-        requires op { Decides doing.now.op }
+        requires op { IsDeciding doing.now.op }
         requires slot { (1 ≤ slot) × (slot ≤ (set_up words.now).nspec) }
         requires call { MayTry (set_up words.now) (known self.old) (cpu_of self.old) doing.now slot from to }
         ensures seat { IsAt words.now self.new × (cpu_of self.new ≡ cpu_of self.old) }

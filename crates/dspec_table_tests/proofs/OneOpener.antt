@@ -9,7 +9,8 @@ use Rattle.dspec_deeds.specs.declared.calls.Actor.{Actor}
 use Rattle.dspec_deeds.specs.declared.calls.Actor.TheVariants.{Cpu, Consumer}
 use Rattle.dspec_deeds.specs.declared.deed.Deed.{Deed}
 use Rattle.dspec_deeds.specs.declared.deed.Deed.TheVariants.{Trace, Scan, Opened, Miss, Speculate, Commit, Discard, Settle, Seal, Release, Halt}
-use Rattle.dspec_deeds.specs.History.{halted, issue, present, opened, opens_slot, opened_since, is_scan, verdict, undecided, callers, code_at, standing, word_at, same_id, same_actor, author, part, is_free}
+use Rattle.dspec_deeds.specs.History.{halted, issue, present, opened, opens_slot, opened_since, is_scan, verdict, undecided}
+use Rattle.dspec_deeds.specs.History.{callers, code_at, standing, word_at, same_id, same_actor, author, part, is_free}
 use Rattle.dspec_deeds.specs.Legal.{IsSound, HasAuthors}
 use Rattle.dspec_deeds.proofs.TestLemmas.{either_way, or_tells, or_none, same_number, same_actor_tells, actor_is_itself, id_is_itself, not_false, and_tells}
 use Rattle.dspec_table.specs.declared.rule.View.{View}
@@ -53,7 +54,8 @@ any_part p (d ∷ h) e = ⊎_elim
 part_any : (p : Deed → Bool) (w : Actor) (h : List Deed) → any p (part w h) ≡ true → any p h ≡ true
 part_any p w [] e = e
 part_any p w (d ∷ h) e = ⊎_elim
-    (λ (t : same_actor w (author d h) ≡ true). ⊎_elim (λ (a : p d ≡ true). or_left (p d) (any p h) a) (λ (b : any p (part w h) ≡ true). or_right (p d) (any p h) (part_any p w h b)) (or_tells (p d) (any p (part w h)) (sym (ap (any p) (part_hit w d h t)) ∙ e)))
+    (λ (t : same_actor w (author d h) ≡ true). ⊎_elim (λ (a : p d ≡ true). or_left (p d) (any p h) a)
+    (λ (b : any p (part w h) ≡ true). or_right (p d) (any p h) (part_any p w h b)) (or_tells (p d) (any p (part w h)) (sym (ap (any p) (part_hit w d h t)) ∙ e)))
     (λ (f : same_actor w (author d h) ≡ false). or_right (p d) (any p h) (part_any p w h (sym (ap (any p) (part_miss w d h f)) ∙ e)))
     (either_way (same_actor w (author d h)))
 
@@ -253,7 +255,8 @@ no_part k c (d ∷ h) beyond all = ⊎_elim
 
 -- of two CPUs that each called speculation once, on a session of two that nothing else was done on, one was given the first slot's first speculation
 module _ (k : Config) (log : List Deed) (one two : List Deed) (a b : Bool) (some_issue : 1 ≤ k.max_issues) (s : IsSound k log)
-    (first : part (Cpu 0) log ≡ one) (second : part (Cpu 1) log ≡ two) (consumer : part Consumer log ≡ []) (none : (c : ℕ) → 2 ≤ c → part (Cpu c) log ≡ []) (once : Once 0 one a) (once_too : Once 1 two b) where
+    (first : part (Cpu 0) log ≡ one) (second : part (Cpu 1) log ≡ two) (consumer : part Consumer log ≡ []) (none : (c : ℕ) → 2 ≤ c → part (Cpu c) log ≡ [])
+    (once : Once 0 one a) (once_too : Once 1 two b) where
   all_parts : (P : List Deed → Type 0) → P one → P two → P [] → (w : Actor) → P (part w log)
   all_parts P p q r Consumer = subst P (sym consumer) r
   all_parts P p q r (Cpu zero) = subst P (sym first) p

@@ -11,7 +11,8 @@ nothing [] e = refl
 nothing (x ∷ xs) e = absurd (omega arith)
 
 -- the two seats that are popped are those of the two CPUs
-module _ (words : Words) (items left rest : List CpuSeat) (first second : CpuSeat) (popped : items ≡ left ++ second ∷ []) (popped_too : left ≡ rest ++ first ∷ []) (two : length items ≡ 2) (dealt : FreshSeats words items) where
+module _ (words : Words) (items left rest : List CpuSeat) (first second : CpuSeat) (popped : items ≡ left ++ second ∷ []) (popped_too : left ≡ rest ++ first ∷ [])
+    (two : length items ≡ 2) (dealt : FreshSeats words items) where
   none_left : rest ≡ []
   none_left =
       let a = length-append left (second ∷ []) in
@@ -33,7 +34,8 @@ some_is : (a b : CpuSeat) → Some a ≡ Some b → a ≡ b
 some_is a b e = cc
 
 -- two seats, in order, are all seats of two CPUs
-pub are_two : (words : Words) (first second : CpuSeat) → (set_up words).cpus ≡ 2 → IsAt words first × (cpu_of first ≡ 0) → IsAt words second × (cpu_of second ≡ 1) → AreSeats words (first ∷ second ∷ [])
+pub are_two : (words : Words) (first second : CpuSeat) → (set_up words).cpus ≡ 2 → IsAt words first × (cpu_of first ≡ 0) → IsAt words second × (cpu_of second ≡ 1)
+    → AreSeats words (first ∷ second ∷ [])
 are_two words first second two one other = record { all = sym two; each = go }
   where
     go : (c : ℕ) (s : CpuSeat) → slice_get (first ∷ second ∷ []) c ≡ Some s → IsAt words s × (s.cpu ≡ c)

@@ -17,7 +17,7 @@ use Rattle.dspec_table.specs.declared.rule.View.{View}
 use Rattle.dspec_table.specs.declared.doing.Doing.{Doing}
 use Rattle.dspec_table.specs.Holders.{number_of}
 use Rattle.dspec_table.specs.Acts.{at_activity, at_word, at_hit, void_commit, void_discard, discard_hits}
-use Rattle.dspec_table.specs.Conditions.{IsOn, IsInFlight, MayLoad, MayTry, Attempts, Decides, joined_word}
+use Rattle.dspec_table.specs.Conditions.{IsOn, IsInFlight, MayLoad, MayTry, Attempts, IsDeciding, joined_word}
 use Rattle.dspec_table.specs.Flights.{calling}
 use Rattle.dspec_table.specs.Steps.{acted, LoadedActivity, TriedWord, LoadedAck}
 use Rattle.dspec_table.proofs.Flights.{quiet_activity, loads_next, in_flight, speculate_joins}
@@ -32,14 +32,16 @@ pub begins : (k : Config) (v w : View) (c : ℕ) (doing : Doing) (id : Speculati
     → LoadedActivity doing v false w → MayLoad k w c doing 1 doing.op × Unused k c w.own
 begins k v w c doing id config low is on unused mine step =
     let inside = first_in_range k id low is in
-    let none : at_activity v.config (number_of v.who) doing doing.op false ≡ [] = quiet_activity v.config (number_of v.who) doing id doing.op (subst (λ (x : Config). in_range x id ≡ true) (sym config) inside) on in
+    let none : at_activity v.config (number_of v.who) doing doing.op false ≡ [] =
+    quiet_activity v.config (number_of v.who) doing id doing.op (subst (λ (x : Config). in_range x id ≡ true) (sym config) inside) on in
     let own : w.own ≡ v.own = ap (λ (x : View). x.own) (step.3.view ∙ ap (acted (calling doing.op v) step.0) none) in
     let no_caller : doing.mine ≡ is_among c (callers id v.own) = mine ∙ sym (ap (is_among c) (unused.1 id)) in
     let flight : IsInFlight k w c doing id id.slot = in_flight k v w c doing id config inside on unused.0 (λ recent. no_caller) step in
     (subst (λ (s : ℕ). MayLoad k w c doing s doing.op) is (loads_next k w c id.slot doing id on flight), subst (Unused k c) (sym own) unused)
 
 -- what the table attempts, by the kind of call
-pub joins : (k : Config) (v w : View) (c : ℕ) (doing : Doing) (id : Speculation) (r : Record) (from to : SlotState) → doing.op ≡ op.Speculate id r → speculate_at from id doing.mine ≡ Attempt to → Next k v w c doing from
+pub joins : (k : Config) (v w : View) (c : ℕ) (doing : Doing) (id : Speculation) (r : Record) (from to : SlotState) → doing.op ≡ op.Speculate id r
+    → speculate_at from id doing.mine ≡ Attempt to → Next k v w c doing from
     → MayTry k w c doing 1 from (joined_word from) × (w.own ≡ v.own)
 joins k v w c doing id r from to is attempts next =
     let t = next to (subst (Attempts doing from to) (sym is) attempts) in
@@ -49,7 +51,8 @@ pub commits : (k : Config) (v w : View) (c : ℕ) (doing : Doing) (id : Speculat
     → MayTry k w c doing 1 from to × (w.own ≡ v.own)
 commits k v w c doing id from to is attempts next = next to (subst (Attempts doing from to) (sym is) attempts)
 
-pub discards : (k : Config) (v w : View) (c : ℕ) (doing : Doing) (id : Speculation) (from to : SlotState) → doing.op ≡ op.Discard id → discard_at from id doing.mine ≡ Attempt to → Next k v w c doing from
+pub discards : (k : Config) (v w : View) (c : ℕ) (doing : Doing) (id : Speculation) (from to : SlotState) → doing.op ≡ op.Discard id
+    → discard_at from id doing.mine ≡ Attempt to → Next k v w c doing from
     → MayTry k w c doing 1 from to × (w.own ≡ v.own)
 discards k v w c doing id from to is attempts next = next to (subst (Attempts doing from to) (sym is) attempts)
 
@@ -72,12 +75,14 @@ module _ (k j : Config) (x c : ℕ) (doing : Doing) (w : SlotState) (own : List 
   thrown_rests id Granted = u
   thrown_rests id (Attempt to) = go (is_inactive to.code)
     where
-      go : (b : Bool) → Unused k x ((if b then Rattle.dspec_deeds.specs.declared.deed.Deed.TheVariants.Release id.slot ∷ Rattle.dspec_deeds.specs.declared.deed.Deed.TheVariants.Discard c id (Rattle.dspec_deeds.specs.declared.deed.DecideFate.TheVariants.Thrown doing.count) ∷ [] else Rattle.dspec_deeds.specs.declared.deed.Deed.TheVariants.Discard c id (Rattle.dspec_deeds.specs.declared.deed.DecideFate.TheVariants.Thrown doing.count) ∷ []) ++ own)
+      go : (b : Bool) → Unused k x ((if b then Rattle.dspec_deeds.specs.declared.deed.Deed.TheVariants.Release id.slot
+          ∷ Rattle.dspec_deeds.specs.declared.deed.Deed.TheVariants.Discard c id (Rattle.dspec_deeds.specs.declared.deed.DecideFate.TheVariants.Thrown doing.count)
+          ∷ [] else Rattle.dspec_deeds.specs.declared.deed.Deed.TheVariants.Discard c id (Rattle.dspec_deeds.specs.declared.deed.DecideFate.TheVariants.Thrown doing.count) ∷ []) ++ own)
       go true = u
       go false = u
   thrown_rests id Idle = u
 
-  hit_rests : (o : CpuOp) → Decides o → Unused k x (at_hit c doing w o ++ own)
+  hit_rests : (o : CpuOp) → IsDeciding o → Unused k x (at_hit c doing w o ++ own)
   hit_rests (op.Commit id) d = u
   hit_rests (op.Discard id) d = thrown_rests id (discard_at w id doing.mine)
   hit_rests (op.Trace r) d = absurd d
@@ -85,7 +90,7 @@ module _ (k j : Config) (x c : ℕ) (doing : Doing) (w : SlotState) (own : List 
   hit_rests (op.Speculate id r) d = absurd d
   hit_rests op.Service d = absurd d
 
-  word_rests : (o : CpuOp) → Decides o → Unused k x (at_word j c doing 1 w o ++ own)
+  word_rests : (o : CpuOp) → IsDeciding o → Unused k x (at_word j c doing 1 w o ++ own)
   word_rests (op.Commit id) d = void_commit_rests id (commit_at w id doing.mine)
   word_rests (op.Discard id) d = void_discard_rests id (discard_at w id doing.mine)
   word_rests (op.Trace r) d = absurd d
@@ -93,7 +98,7 @@ module _ (k j : Config) (x c : ℕ) (doing : Doing) (w : SlotState) (own : List 
   word_rests (op.Speculate id r) d = absurd d
   word_rests op.Service d = absurd d
 
-pub tried_rests : (k : Config) (x : ℕ) (v w : View) (doing : Doing) (shown : SlotState) (hit : Bool) → Decides doing.op → Unused k x v.own → TriedWord doing 1 v shown hit w → Unused k x w.own
+pub tried_rests : (k : Config) (x : ℕ) (v w : View) (doing : Doing) (shown : SlotState) (hit : Bool) → IsDeciding doing.op → Unused k x v.own → TriedWord doing 1 v shown hit w → Unused k x w.own
 tried_rests k x v w doing shown true d u step =
     subst (Unused k x) (sym (ap (λ (y : View). y.own) step.3.view)) (hit_rests k v.config x (number_of v.who) doing shown v.own u doing.op d)
 tried_rests k x v w doing shown false d u step =

@@ -5,8 +5,22 @@ ghost use Rattle.dspec_table.specs.Conditions.{IsOn, MayLoad};
 ghost use Rattle.dspec_table.specs.Seats.{known, IsAt, set_up, cpu_of};
 ghost use Rattle.dspec_table_tests.specs.Calls.{Unused};
 
+use dspec_deeds::CpuOp;
 use dspec_table::{CpuSeat, Doing, Words};
 use dspec_word::{Act, Code, SpecId, commit_at};
+
+/// A call of this kind, with nothing to keep, by a CPU that is no caller.
+pub fn doing(op: CpuOp) -> Doing
+    ensures op { result.op ≡ op }
+    ensures mine { result.mine ≡ false }
+{
+    Doing {
+        op,
+        fits: false,
+        count: 0,
+        mine: false,
+    }
+}
 
 /// The first step of a call on a speculation of the first slot, by a CPU that is no caller: whether the session runs.
 pub fn begun(words: &Words, seat: &mut CpuSeat, id: SpecId, call: &Doing) -> bool

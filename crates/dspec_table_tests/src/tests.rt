@@ -1,14 +1,15 @@
 //! Seats in turn on one thread.
 ghost use Rattle.std.specs.Prelude.{◌≡◌, ◌≤◌, IfOk, IfSome, IfNone, true, [], ◌∷◌};
 ghost use Rattle.dspec_deeds.specs.declared.deed.Deed.TheVariants.{Scan};
-ghost use Rattle.dspec_table.specs.Conditions.{MayOpen, active};
+ghost use Rattle.dspec_table.specs.Conditions.{MayOpen, as_active};
 ghost use Rattle.dspec_table.specs.Last.{last_set_up, last_words, Ended};
 ghost use Rattle.dspec_table.specs.Seats.{known, known_there, IsAt, IsConsumerAt, set_up, cpu_of};
 ghost use Rattle.dspec_table_tests.specs.Opener.{Shut};
 ghost use Rattle.dspec_table_tests.specs.Calls.{Unused};
 
+use crate::calls::doing;
 use dspec_deeds::{Config, CpuOp, StartFault};
-use dspec_samples::{doing, sized};
+use dspec_samples::sized;
 use dspec_table::{ConsumerSeat, CpuSeat, Doing, LastWords, Words};
 use dspec_word::{Code, Word};
 use std::alloc::{AllocError, Global};
@@ -77,7 +78,7 @@ fn shown_free(words: &Words, seat: &mut CpuSeat, call: &Doing) -> Option<Word>
     ensures seat { IsAt words.now seat.new × (cpu_of seat.new ≡ cpu_of seat.old) }
     ensures began { IfSome result (λ _. (known seat.new).own ≡ Scan (cpu_of seat.old) true ∷ []) }
     ensures shut { IfNone result (Shut (cpu_of seat.old) (known seat.new).own) }
-    ensures free { IfSome result (λ from. MayOpen (set_up words.now) (known seat.new) (cpu_of seat.new) 1 from (active from)) }
+    ensures free { IfSome result (λ from. MayOpen (set_up words.now) (known seat.new) (cpu_of seat.new) 1 from (as_active from)) }
 {
     if !seat.load_activity(words, call) {
         return None;

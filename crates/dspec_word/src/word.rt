@@ -20,14 +20,14 @@ impl Model for Word {
 
     ghost Value = { SlotState };
 
-    ghost use Rattle.dspec_word.specs.WordFields.{state_of, IsNumber, inside_of};
+    ghost use Rattle.dspec_word.specs.WordFields.{state_of_raw, IsNumber, inside_of_word};
     ghost use Rattle.dspec_word.specs.Laws.Words.{inside_of-state_of};
 
-    ghost view = { state_of };
+    ghost view = { state_of_raw };
 
     ghost invariant = { IsNumber };
 
-    ghost inverse = { inside_of };
+    ghost inverse = { inside_of_word };
 
     ghost inverse_ok = { inside_of-state_of };
 }

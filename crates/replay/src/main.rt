@@ -12,7 +12,7 @@ use dspec_replay::replay_schedule;
 use dspec_schedule::{printed, read_schedule};
 use fault::{ReplayFault, told};
 use std::alloc::Global;
-use std::io::Read;
+use std::io::{Error, ErrorKind, Read};
 use std::process::ExitCode;
 
 /// What a text prints.
@@ -24,25 +24,20 @@ fn replay_text(alloc: Global, text: &[u8]) -> Result<String, ReplayFault> {
     }
 }
 
-/// Reads an input to its end. A read that fails, or one too many, is a fault of the device.
-fn read_whole<R: Read>(alloc: Global, input: &mut R) -> Result<Vec<u8>, ReplayFault> {
-    let mut text = Vec::new(alloc);
-    let mut part = [0u8; 4096];
-    for _ in 0..u32::MAX {
-        let Ok(count) = input.read(&mut part) else {
-            return Err(ReplayFault::Device);
-        };
-        if count == 0 {
-            return Ok(text);
-        }
-        text.extend_from_slice(&part[..count])?;
+/// A failed read: want of memory for what it read, or a fault of the device.
+fn read_fault(fault: &Error) -> ReplayFault {
+    match fault.kind() {
+        ErrorKind::OutOfMemory => ReplayFault::Memory,
+        _ => ReplayFault::Device,
     }
-    Err(ReplayFault::Device)
 }
 
 /// Reads the whole input, and prints once the whole play has succeeded.
 fn run(rt: &HostRuntime) -> Result<(), ReplayFault> {
-    let text = read_whole(rt.alloc(), &mut rt.stdin())?;
+    let mut text = Vec::new(rt.alloc());
+    if let Err(fault) = rt.stdin().read_to_end(&mut text) {
+        return Err(read_fault(&fault));
+    }
     let printed = replay_text(rt.alloc(), text.as_slice())?;
     if print!(rt; "{printed}").is_err() {
         return Err(ReplayFault::Device);

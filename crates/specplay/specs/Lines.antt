@@ -1,14 +1,11 @@
 -- What the demonstration prints: a line for each CPU.
-use Rattle.std.specs.Prelude.{ℕ, ◌≡◌, Bool, true, false, List, ◌++◌, length, Option, codes, decimal}
+use Rattle.std.specs.Prelude.{ℕ, ◌≡◌, List, ◌++◌, length, Option, codes, decimal}
 use Rattle.std.specs.List.{flat_map}
 use Rattle.std.specs.Io.KnownBytes.{Appends}
 use Rattle.dspec_session.specs.declared.demonstration.lines.DemoLine.{DemoLine}
 use Rattle.dspec_session.specs.Races.{AllBalanced}
+use Rattle.dspec_schedule.specs.Printed.{yes_no}
 use Rattle.specplay.specs.Written.{AppendsBeginning}
-
-abbrev pub yes_no : Bool → List ℕ
-yes_no true = codes "yes"
-yes_no false = codes "no"
 
 -- the line of a CPU
 abbrev pub line_text : DemoLine → List ℕ

@@ -12,7 +12,7 @@ use Rattle.specplay.specs.declared.fault.RunFault.{RunFault}
 use Rattle.specplay.specs.declared.fault.RunFault.TheVariants.{Line, Memory, TooLong, Read, Write}
 use Rattle.dspec_schedule.specs.Printed.{printed_text}
 use Rattle.dspec_schedule.specs.Reading.{Plan, header_of, schedule_of}
-use Rattle.dspec_schedule.specs.Schedules.{told}
+use Rattle.dspec_schedule.specs.Schedules.{fault_as_told}
 use Rattle.specplay.specs.Runs.{run_fault_of}
 use Rattle.specplay.specs.Written.{AppendsBeginning}
 
@@ -55,7 +55,7 @@ pub record IsRefused (text : List ℕ) (told_as : RunFault) : Type 0 where
   pub fault : PlayFault
   pub read : schedule_of text ≡ Ok plan
   pub refused : fault_of plan ≡ Some fault
-  pub telling : run_fault_of (told plan.config_line plan.lines fault) ≡ told_as
+  pub telling : run_fault_of (fault_as_told plan.config_line plan.lines fault) ≡ told_as
 
 -- the text is a schedule whose play is refused nowhere
 pub record IsPlayed (text : List ℕ) : Type 0 where

@@ -1,8 +1,9 @@
 ghost use Rattle.std.specs.Prelude.{◌≡◌, ◌≢◌, ◌++◌, IfErr, IfOk, OnOk, string_bytes};
-ghost use Rattle.specplay.specs.Lines.{CutOff, Printed, line_text, lines_text, yes_no};
+ghost use Rattle.specplay.specs.Lines.{CutOff, Printed, line_text, lines_text};
 ghost use Rattle.specplay.specs.Threads.{status_of_threads};
 
 use crate::runner::write_whole;
+use dspec_schedule::yes_or_no;
 use dspec_session::{DemoFault, DemoLine, Free, demo};
 use std::alloc::{AllocError, Global};
 use std::io::Write;
@@ -55,13 +56,6 @@ impl From<DemoFault> for ThreadsFault {
             DemoFault::Start(_) | DemoFault::Spawn => ThreadsFault::Memory,
         }
     }
-}
-
-// As it is printed.
-fn yes_or_no(holds: bool) -> &'static str
-    ensures { result.now ≡ yes_no holds }
-{
-    if holds { "yes" } else { "no" }
 }
 
 // The line of a CPU.

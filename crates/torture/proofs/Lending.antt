@@ -48,12 +48,15 @@ back_again schema session back is called stays = record {
 }
 
 -- a CPU is at its place
-pub at_place : (shared : Shared) (schema : EnabledRows) (cpus : List (Cpu EnabledRows)) (i : ℕ) (cpu : Cpu EnabledRows) → AllCanBeCalled shared schema cpus → i < length cpus → cpu ≡ get_or cpus i cpu → CanBeCalled shared schema cpu
+pub at_place : (shared : Shared) (schema : EnabledRows) (cpus : List (Cpu EnabledRows)) (i : ℕ) (cpu : Cpu EnabledRows) → AllCanBeCalled shared schema cpus → i < length cpus
+    → cpu ≡ get_or cpus i cpu → CanBeCalled shared schema cpu
 at_place shared schema cpus i cpu all lt at = all i cpu (slice_get_read cpus (length cpus) i cpu refl lt at)
 
 -- a list that was written through a slice of all of it
 written : {A : Type 0} (n : ℕ) (new old : List A) → n ≡ length new → take n (new ++ drop (length new) old) ≡ new
 written n new old e = ap (λ k. take k (new ++ drop (length new) old)) e ∙ take-append_seam new (drop (length new) old)
 
-pub all_called : (shared : Shared) (n : ℕ) (old new items : List (Cpu EnabledRows)) → AllWereCalled shared old new → old ≡ items → n ≡ length new → AllWereCalled shared items (take n (new ++ drop (length new) items))
-all_called shared n old new items called e size = subst (λ xs. AllWereCalled shared xs (take n (new ++ drop (length new) items))) e (subst (λ ys. AllWereCalled shared old ys) (sym (written n new items size)) called)
+pub all_called : (shared : Shared) (n : ℕ) (old new items : List (Cpu EnabledRows)) → AllWereCalled shared old new → old ≡ items → n ≡ length new
+    → AllWereCalled shared items (take n (new ++ drop (length new) items))
+all_called shared n old new items called e size =
+    subst (λ xs. AllWereCalled shared xs (take n (new ++ drop (length new) items))) e (subst (λ ys. AllWereCalled shared old ys) (sym (written n new items size)) called)

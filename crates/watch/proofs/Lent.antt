@@ -51,12 +51,15 @@ lent_back schema session back is served stays = record {
 }
 
 -- a CPU is at its place
-pub there : (shared : Shared) (schema : EnabledRows) (cpus : List (Cpu EnabledRows)) (i : ℕ) (cpu : Cpu EnabledRows) → AllCanServe shared schema cpus → i < length cpus → cpu ≡ get_or cpus i cpu → CanServe shared schema cpu
+pub there : (shared : Shared) (schema : EnabledRows) (cpus : List (Cpu EnabledRows)) (i : ℕ) (cpu : Cpu EnabledRows) → AllCanServe shared schema cpus → i < length cpus
+    → cpu ≡ get_or cpus i cpu → CanServe shared schema cpu
 there shared schema cpus i cpu all lt at = all i cpu (slice_get_read cpus (length cpus) i cpu refl lt at)
 
 -- a list that was written through a slice of all of it
 pub refilled : {A : Type 0} (n : ℕ) (new old : List A) → n ≡ length new → take n (new ++ drop (length new) old) ≡ new
 refilled n new old e = ap (λ k. take k (new ++ drop (length new) old)) e ∙ take-append_seam new (drop (length new) old)
 
-pub all_served : (shared : Shared) (n : ℕ) (old new items : List (Cpu EnabledRows)) → AllServed shared old new → old ≡ items → n ≡ length new → AllServed shared items (take n (new ++ drop (length new) items))
-all_served shared n old new items served e size = subst (λ xs. AllServed shared xs (take n (new ++ drop (length new) items))) e (subst (λ ys. AllServed shared old ys) (sym (refilled n new items size)) served)
+pub all_served : (shared : Shared) (n : ℕ) (old new items : List (Cpu EnabledRows)) → AllServed shared old new → old ≡ items → n ≡ length new
+    → AllServed shared items (take n (new ++ drop (length new) items))
+all_served shared n old new items served e size =
+    subst (λ xs. AllServed shared xs (take n (new ++ drop (length new) items))) e (subst (λ ys. AllServed shared old ys) (sym (refilled n new items size)) served)

@@ -7,7 +7,8 @@ use Rattle.dspec_record.specs.declared.field.Shape.{Shape}
 use Rattle.dspec_buffer.specs.Extent.{Piece, records}
 use Rattle.dspec_buffer.specs.Listed.{Listed, HasListed, HasTexts}
 
-pub has_texts : (shape : ℕ → Option Shape) (accepted : Record → Bool) (text : Record → List ℕ) (b : Listed) (ps : List Piece) → HasListed shape accepted text b ps → HasTexts accepted text b.texts 0 (reverse (records ps))
+pub has_texts : (shape : ℕ → Option Shape) (accepted : Record → Bool) (text : Record → List ℕ) (b : Listed) (ps : List Piece) → HasListed shape accepted text b ps
+    → HasTexts accepted text b.texts 0 (reverse (records ps))
 has_texts shape accepted text b ps h = record {
   within = omega arith;
   all_accepted = All-permutation (λ r. IsTrue (accepted r)) (records ps) (reverse (records ps)) (IsPermutation-reverse (records ps)) h.all_accepted;

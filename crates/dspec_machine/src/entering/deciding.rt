@@ -4,7 +4,7 @@ ghost use Rattle.dspec_deeds.specs.FateKinds.{is_commit, is_discard};
 ghost use Rattle.dspec_deeds.specs.History.{word_at};
 ghost use Rattle.dspec_deeds.specs.Legal.{IsAllowed};
 ghost use Rattle.dspec_machine.specs.Decisions.{decides, deed_of};
-ghost use Rattle.dspec_machine.specs.Machines.{Adds, IsShown, history};
+ghost use Rattle.dspec_machine.specs.Machines.{Adds, IsShownMachine, history};
 ghost use Rattle.dspec_deeds.specs.Ranges.{start_fault};
 
 use crate::decision::Decision;
@@ -24,13 +24,13 @@ impl<S: Schema, B: TraceBuffer<S>> Machine<S, B> {
         fate: DecideFate,
         word: Word,
     ) -> Result<(), AllocError>
-        requires shown { IsShown B.has B.capacity self.old }
+        requires shown { IsShownMachine B.has B.capacity self.old }
         requires ranges { start_fault self.old.config ≡ None }
         requires legal { IsAllowed (S.shape_of self.old.schema) self.old.config (deed.Commit cpu id fate ∷ [] ++ history self.old) }
         requires cpu { cpu < self.old.config.cpus }
         requires commit { is_commit fate ≡ true }
         requires word { word ≡ word_at id.slot (deed.Commit cpu id fate ∷ history self.old) }
-        ensures shown { OnOk result (IsShown B.has B.capacity self.new) }
+        ensures shown { OnOk result (IsShownMachine B.has B.capacity self.new) }
         ensures entered { OnOk result (Adds (deed.Commit cpu id fate ∷ []) self.old self.new) }
         ensures refused { OnErr result (self.new ≡ self.old) }
     {
@@ -52,13 +52,13 @@ impl<S: Schema, B: TraceBuffer<S>> Machine<S, B> {
         fate: DecideFate,
         word: Word,
     ) -> Result<(), AllocError>
-        requires shown { IsShown B.has B.capacity self.old }
+        requires shown { IsShownMachine B.has B.capacity self.old }
         requires ranges { start_fault self.old.config ≡ None }
         requires legal { IsAllowed (S.shape_of self.old.schema) self.old.config (deed.Discard cpu id fate ∷ [] ++ history self.old) }
         requires cpu { cpu < self.old.config.cpus }
         requires discard { is_discard fate ≡ true }
         requires word { word ≡ word_at id.slot (deed.Discard cpu id fate ∷ history self.old) }
-        ensures shown { OnOk result (IsShown B.has B.capacity self.new) }
+        ensures shown { OnOk result (IsShownMachine B.has B.capacity self.new) }
         ensures entered { OnOk result (Adds (deed.Discard cpu id fate ∷ []) self.old self.new) }
         ensures refused { OnErr result (self.new ≡ self.old) }
     {
@@ -80,13 +80,13 @@ impl<S: Schema, B: TraceBuffer<S>> Machine<S, B> {
         fate: DecideFate,
         word: Word,
     ) -> Result<(), AllocError>
-        requires shown { IsShown B.has B.capacity self.old }
+        requires shown { IsShownMachine B.has B.capacity self.old }
         requires ranges { start_fault self.old.config ≡ None }
         requires legal { IsAllowed (S.shape_of self.old.schema) self.old.config (deed.Release id.slot ∷ deed.Discard cpu id fate ∷ [] ++ history self.old) }
         requires cpu { cpu < self.old.config.cpus }
         requires discard { is_discard fate ≡ true }
         requires word { word ≡ word_at id.slot (deed.Release id.slot ∷ deed.Discard cpu id fate ∷ history self.old) }
-        ensures shown { OnOk result (IsShown B.has B.capacity self.new) }
+        ensures shown { OnOk result (IsShownMachine B.has B.capacity self.new) }
         ensures entered { OnOk result (Adds (deed.Release id.slot ∷ deed.Discard cpu id fate ∷ []) self.old self.new) }
         ensures refused { OnErr result (self.new ≡ self.old) }
     {
@@ -113,12 +113,12 @@ impl<S: Schema, B: TraceBuffer<S>> Machine<S, B> {
         id: SpecId,
         fate: DecideFate,
     ) -> Result<(), AllocError>
-        requires shown { IsShown B.has B.capacity self.old }
+        requires shown { IsShownMachine B.has B.capacity self.old }
         requires ranges { start_fault self.old.config ≡ None }
         requires legal { IsAllowed (S.shape_of self.old.schema) self.old.config (deed_of decision cpu id fate ∷ [] ++ history self.old) }
         requires cpu { cpu < self.old.config.cpus }
         requires nothing { decides decision fate ≡ false }
-        ensures shown { OnOk result (IsShown B.has B.capacity self.new) }
+        ensures shown { OnOk result (IsShownMachine B.has B.capacity self.new) }
         ensures entered { OnOk result (Adds (deed_of decision cpu id fate ∷ []) self.old self.new) }
         ensures refused { OnErr result (self.new ≡ self.old) }
     {

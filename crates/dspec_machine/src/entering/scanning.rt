@@ -1,7 +1,7 @@
 ghost use Rattle.std.specs.Prelude.{◌≡◌, ◌<◌, ◌≤◌, ◌+◌, ◌∷◌, ◌++◌, [], None, OnOk, OnErr};
 ghost use Rattle.dspec_deeds.specs.declared.deed.Deed.TheVariants as deed;
 ghost use Rattle.dspec_deeds.specs.Legal.{IsAllowed};
-ghost use Rattle.dspec_machine.specs.Machines.{Adds, IsShown, history};
+ghost use Rattle.dspec_machine.specs.Machines.{Adds, IsShownMachine, history};
 ghost use Rattle.dspec_deeds.specs.Ranges.{start_fault};
 
 use crate::machine::Machine;
@@ -14,11 +14,11 @@ use std::alloc::AllocError;
 impl<S: Schema, B: TraceBuffer<S>> Machine<S, B> {
     /// Enters the beginning of a call of speculation.
     pub fn enter_scan(&mut self, cpu: u32, running: bool) -> Result<(), AllocError>
-        requires shown { IsShown B.has B.capacity self.old }
+        requires shown { IsShownMachine B.has B.capacity self.old }
         requires ranges { start_fault self.old.config ≡ None }
         requires legal { IsAllowed (S.shape_of self.old.schema) self.old.config (deed.Scan cpu running ∷ [] ++ history self.old) }
         requires cpu { cpu < self.old.config.cpus }
-        ensures shown { OnOk result (IsShown B.has B.capacity self.new) }
+        ensures shown { OnOk result (IsShownMachine B.has B.capacity self.new) }
         ensures entered { OnOk result (Adds (deed.Scan cpu running ∷ []) self.old self.new) }
         ensures refused { OnErr result (self.new ≡ self.old) }
     {
@@ -31,12 +31,12 @@ impl<S: Schema, B: TraceBuffer<S>> Machine<S, B> {
 
     /// Enters that a slot's present speculation is given out.
     pub fn enter_opened(&mut self, cpu: u32, id: SpecId) -> Result<(), AllocError>
-        requires shown { IsShown B.has B.capacity self.old }
+        requires shown { IsShownMachine B.has B.capacity self.old }
         requires ranges { start_fault self.old.config ≡ None }
         requires legal { IsAllowed (S.shape_of self.old.schema) self.old.config (deed.Opened cpu id ∷ [] ++ history self.old) }
         requires cpu { cpu < self.old.config.cpus }
         requires slot { id.slot ≤ self.old.config.nspec }
-        ensures shown { OnOk result (IsShown B.has B.capacity self.new) }
+        ensures shown { OnOk result (IsShownMachine B.has B.capacity self.new) }
         ensures entered { OnOk result (Adds (deed.Opened cpu id ∷ []) self.old self.new) }
         ensures refused { OnErr result (self.new ≡ self.old) }
     {
@@ -49,11 +49,11 @@ impl<S: Schema, B: TraceBuffer<S>> Machine<S, B> {
 
     /// Enters that a slot couldn't be given.
     pub fn enter_miss(&mut self, cpu: u32, slot: u32, busy: bool) -> Result<(), AllocError>
-        requires shown { IsShown B.has B.capacity self.old }
+        requires shown { IsShownMachine B.has B.capacity self.old }
         requires ranges { start_fault self.old.config ≡ None }
         requires legal { IsAllowed (S.shape_of self.old.schema) self.old.config (deed.Miss cpu slot busy ∷ [] ++ history self.old) }
         requires cpu { cpu < self.old.config.cpus }
-        ensures shown { OnOk result (IsShown B.has B.capacity self.new) }
+        ensures shown { OnOk result (IsShownMachine B.has B.capacity self.new) }
         ensures entered { OnOk result (Adds (deed.Miss cpu slot busy ∷ []) self.old self.new) }
         ensures refused { OnErr result (self.new ≡ self.old) }
     {

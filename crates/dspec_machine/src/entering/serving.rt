@@ -1,7 +1,7 @@
 ghost use Rattle.std.specs.Prelude.{◌≡◌, ◌<◌, ◌≤◌, ◌+◌, ◌∷◌, ◌++◌, [], None, OnOk, OnErr};
 ghost use Rattle.dspec_deeds.specs.declared.deed.Deed.TheVariants as deed;
 ghost use Rattle.dspec_deeds.specs.Legal.{IsAllowed};
-ghost use Rattle.dspec_machine.specs.Machines.{Adds, IsShown, history, state_of};
+ghost use Rattle.dspec_machine.specs.Machines.{Adds, IsShownMachine, history, state_of};
 ghost use Rattle.dspec_play.specs.Coherent.{the_caller};
 ghost use Rattle.dspec_deeds.specs.Own.{seals};
 ghost use Rattle.dspec_deeds.specs.Ranges.{start_fault};
@@ -17,12 +17,12 @@ use std::mem;
 impl<S: Schema, B: TraceBuffer<S>> Machine<S, B> {
     /// Enters a settlement: the CPU's buffer of the speculation is copied, lost or thrown away, and acknowledged.
     pub fn enter_settle(&mut self, cpu: u32, id: SpecId, fate: DecideFate) -> Result<(), AllocError>
-        requires shown { IsShown B.has B.capacity self.old }
+        requires shown { IsShownMachine B.has B.capacity self.old }
         requires ranges { start_fault self.old.config ≡ None }
         requires legal { IsAllowed (S.shape_of self.old.schema) self.old.config (deed.Settle cpu id fate ∷ [] ++ history self.old) }
         requires cpu { cpu < self.old.config.cpus }
         requires slot { id.slot ≤ self.old.config.nspec }
-        ensures shown { OnOk result (IsShown B.has B.capacity self.new) }
+        ensures shown { OnOk result (IsShownMachine B.has B.capacity self.new) }
         ensures entered { OnOk result (Adds (deed.Settle cpu id fate ∷ []) self.old self.new) }
         ensures refused { OnErr result (self.new ≡ self.old) }
     {
@@ -37,12 +37,12 @@ impl<S: Schema, B: TraceBuffer<S>> Machine<S, B> {
 
     /// Enters that the active buffer is sealed: the other principal buffer, which is spare, becomes active.
     pub fn enter_seal(&mut self, cpu: u32) -> Result<(), AllocError>
-        requires shown { IsShown B.has B.capacity self.old }
+        requires shown { IsShownMachine B.has B.capacity self.old }
         requires ranges { start_fault self.old.config ≡ None }
         requires legal { IsAllowed (S.shape_of self.old.schema) self.old.config (deed.Seal cpu ∷ [] ++ history self.old) }
         requires cpu { cpu < self.old.config.cpus }
         requires takes { (the_caller (state_of self.old).callers cpu).takes ≤ seals cpu (history self.old) }
-        ensures shown { OnOk result (IsShown B.has B.capacity self.new) }
+        ensures shown { OnOk result (IsShownMachine B.has B.capacity self.new) }
         ensures entered { OnOk result (Adds (deed.Seal cpu ∷ []) self.old self.new) }
         ensures refused { OnErr result (self.new ≡ self.old) }
     {
@@ -58,11 +58,11 @@ impl<S: Schema, B: TraceBuffer<S>> Machine<S, B> {
 
     /// Enters that a slot is released.
     pub fn enter_release(&mut self, slot: u32) -> Result<(), AllocError>
-        requires shown { IsShown B.has B.capacity self.old }
+        requires shown { IsShownMachine B.has B.capacity self.old }
         requires ranges { start_fault self.old.config ≡ None }
         requires legal { IsAllowed (S.shape_of self.old.schema) self.old.config (deed.Release slot ∷ [] ++ history self.old) }
         requires slot { slot ≤ self.old.config.nspec }
-        ensures shown { OnOk result (IsShown B.has B.capacity self.new) }
+        ensures shown { OnOk result (IsShownMachine B.has B.capacity self.new) }
         ensures entered { OnOk result (Adds (deed.Release slot ∷ []) self.old self.new) }
         ensures refused { OnErr result (self.new ≡ self.old) }
     {
@@ -75,10 +75,10 @@ impl<S: Schema, B: TraceBuffer<S>> Machine<S, B> {
 
     /// Enters that the session stops.
     pub fn enter_halt(&mut self) -> Result<(), AllocError>
-        requires shown { IsShown B.has B.capacity self.old }
+        requires shown { IsShownMachine B.has B.capacity self.old }
         requires ranges { start_fault self.old.config ≡ None }
         requires legal { IsAllowed (S.shape_of self.old.schema) self.old.config (deed.Halt ∷ [] ++ history self.old) }
-        ensures shown { OnOk result (IsShown B.has B.capacity self.new) }
+        ensures shown { OnOk result (IsShownMachine B.has B.capacity self.new) }
         ensures entered { OnOk result (Adds (deed.Halt ∷ []) self.old self.new) }
         ensures refused { OnErr result (self.new ≡ self.old) }
     {

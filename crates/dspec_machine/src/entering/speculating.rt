@@ -3,7 +3,7 @@ ghost use Rattle.dspec_deeds.specs.declared.deed.Deed.TheVariants as deed;
 ghost use Rattle.dspec_deeds.specs.FateKinds.{spoken_granted};
 ghost use Rattle.dspec_deeds.specs.History.{word_at};
 ghost use Rattle.dspec_deeds.specs.Legal.{IsAllowed};
-ghost use Rattle.dspec_machine.specs.Machines.{Adds, IsShown, history};
+ghost use Rattle.dspec_machine.specs.Machines.{Adds, IsShownMachine, history};
 ghost use Rattle.dspec_deeds.specs.Ranges.{start_fault};
 
 use crate::machine::Machine;
@@ -23,14 +23,14 @@ impl<S: Schema, B: TraceBuffer<S>> Machine<S, B> {
         fate: SpeculateFate,
         word: Word,
     ) -> Result<(), AllocError>
-        requires shown { IsShown B.has B.capacity self.old }
+        requires shown { IsShownMachine B.has B.capacity self.old }
         requires ranges { start_fault self.old.config ≡ None }
         requires legal { IsAllowed (S.shape_of self.old.schema) self.old.config (deed.Speculate cpu id rec.now fate ∷ [] ++ history self.old) }
         requires cpu { cpu < self.old.config.cpus }
         requires accepted { IsTrue (S.accepted self.old.schema rec.now) }
         requires granted { spoken_granted fate ≡ true }
         requires word { word ≡ word_at id.slot (deed.Speculate cpu id rec.now fate ∷ history self.old) }
-        ensures shown { OnOk result (IsShown B.has B.capacity self.new) }
+        ensures shown { OnOk result (IsShownMachine B.has B.capacity self.new) }
         ensures entered { OnOk result (Adds (deed.Speculate cpu id rec.now fate ∷ []) self.old self.new) }
         ensures refused { OnErr result (self.new ≡ self.old) }
     {
@@ -55,12 +55,12 @@ impl<S: Schema, B: TraceBuffer<S>> Machine<S, B> {
         rec: &Rec,
         fate: SpeculateFate,
     ) -> Result<(), AllocError>
-        requires shown { IsShown B.has B.capacity self.old }
+        requires shown { IsShownMachine B.has B.capacity self.old }
         requires ranges { start_fault self.old.config ≡ None }
         requires legal { IsAllowed (S.shape_of self.old.schema) self.old.config (deed.Speculate cpu id rec.now fate ∷ [] ++ history self.old) }
         requires cpu { cpu < self.old.config.cpus }
         requires granted { spoken_granted fate ≡ false }
-        ensures shown { OnOk result (IsShown B.has B.capacity self.new) }
+        ensures shown { OnOk result (IsShownMachine B.has B.capacity self.new) }
         ensures entered { OnOk result (Adds (deed.Speculate cpu id rec.now fate ∷ []) self.old self.new) }
         ensures refused { OnErr result (self.new ≡ self.old) }
     {

@@ -1,7 +1,7 @@
 ghost use Rattle.std.specs.Prelude.{◌≡◌, ◌<◌, ◌+◌, ◌∷◌, ◌++◌, [], None, IsTrue, OnOk, OnErr};
 ghost use Rattle.dspec_deeds.specs.declared.deed.Deed.TheVariants as deed;
 ghost use Rattle.dspec_deeds.specs.Legal.{IsAllowed};
-ghost use Rattle.dspec_machine.specs.Machines.{Adds, IsShown, history};
+ghost use Rattle.dspec_machine.specs.Machines.{Adds, IsShownMachine, history};
 ghost use Rattle.dspec_deeds.specs.Ranges.{start_fault};
 
 use crate::machine::Machine;
@@ -13,12 +13,12 @@ use std::alloc::AllocError;
 impl<S: Schema, B: TraceBuffer<S>> Machine<S, B> {
     /// Enters what became of a traced record.
     pub fn enter_trace(&mut self, cpu: u32, rec: &Rec, fate: TraceFate) -> Result<(), AllocError>
-        requires shown { IsShown B.has B.capacity self.old }
+        requires shown { IsShownMachine B.has B.capacity self.old }
         requires ranges { start_fault self.old.config ≡ None }
         requires legal { IsAllowed (S.shape_of self.old.schema) self.old.config (deed.Trace cpu rec.now fate ∷ [] ++ history self.old) }
         requires cpu { cpu < self.old.config.cpus }
         requires accepted { IsTrue (S.accepted self.old.schema rec.now) }
-        ensures shown { OnOk result (IsShown B.has B.capacity self.new) }
+        ensures shown { OnOk result (IsShownMachine B.has B.capacity self.new) }
         ensures entered { OnOk result (Adds (deed.Trace cpu rec.now fate ∷ []) self.old self.new) }
         ensures refused { OnErr result (self.new ≡ self.old) }
     {

@@ -4,7 +4,7 @@ ghost use Rattle.dspec_play.specs.declared.flight.ConsumerFlight.TheVariants as 
 ghost use Rattle.dspec_play.specs.declared.flight.Spare.TheVariants as spare;
 ghost use Rattle.dspec_play.specs.Coherent.{IsSlot, the_caller};
 ghost use Rattle.dspec_deeds.specs.Legal.{IsAllowed};
-ghost use Rattle.dspec_machine.specs.Machines.{Cleans, IsShown, history, state_of};
+ghost use Rattle.dspec_machine.specs.Machines.{Cleans, IsShownMachine, history, state_of};
 ghost use Rattle.dspec_machine.specs.Standing.{ConsumerStandsAt};
 ghost use Rattle.dspec_machine.specs.Steps.{CleansAs, takes_batch};
 ghost use Rattle.dspec_deeds.specs.Own.{seals};
@@ -48,7 +48,7 @@ impl<S: Schema, B: TraceBuffer<S>> Machine<S, B> {
 
     // Takes the batch that was handed over.
     fn take_batch(&mut self, cpu: u32) -> Result<Option<Answer>, AllocError>
-        requires shown { IsShown B.has B.capacity self.old }
+        requires shown { IsShownMachine B.has B.capacity self.old }
         requires cpu { cpu < self.old.config.cpus }
         requires fits { (the_caller (state_of self.old).callers cpu).takes + 1 < 2 ^ 64 }
         requires sealed { seals cpu (history self.old) ≡ (the_caller (state_of self.old).callers cpu).takes + 1 }
@@ -95,7 +95,7 @@ impl<S: Schema, B: TraceBuffer<S>> Machine<S, B> {
     }
 
     fn stop_consumer(&mut self, answer: Answer) -> Option<Answer>
-        requires shown { IsShown B.has B.capacity self.old }
+        requires shown { IsShownMachine B.has B.capacity self.old }
         ensures { Cleans B.has B.capacity self.old self.new (stops self.old.config (history self.old) self.old.consumer (state_of self.old).callers [] answer) result }
     {
         self.consumer.flight = None;
@@ -104,7 +104,7 @@ impl<S: Schema, B: TraceBuffer<S>> Machine<S, B> {
     }
 
     fn keep_on(&mut self, flight: ConsumerFlight) -> Option<Answer>
-        requires shown { IsShown B.has B.capacity self.old }
+        requires shown { IsShownMachine B.has B.capacity self.old }
         requires steps { self.old.consumer.steps < 2 ^ 31 }
         ensures { Cleans B.has B.capacity self.old self.new (keeps_on self.old.config (history self.old) self.old.consumer (state_of self.old).callers [] flight) result }
     {
@@ -115,7 +115,7 @@ impl<S: Schema, B: TraceBuffer<S>> Machine<S, B> {
 
     // Behind a slot of a clean: the next one, or the call has ended.
     fn clean_next(&mut self, slot: u32, released: u32) -> Option<Answer>
-        requires shown { IsShown B.has B.capacity self.old }
+        requires shown { IsShownMachine B.has B.capacity self.old }
         requires steps { self.old.consumer.steps < 2 ^ 31 }
         requires slot { slot ≤ self.old.config.nspec }
         ensures { Cleans B.has B.capacity self.old self.new (next_slot self.old.config (history self.old) self.old.consumer (state_of self.old).callers slot [] released) result }
@@ -128,7 +128,7 @@ impl<S: Schema, B: TraceBuffer<S>> Machine<S, B> {
 
     // The load of a slot's word, by a clean that has released so many.
     fn load_slot(&mut self, slot: u32, released: u32) -> Option<Answer>
-        requires shown { IsShown B.has B.capacity self.old }
+        requires shown { IsShownMachine B.has B.capacity self.old }
         requires ranges { start_fault self.old.config ≡ None }
         requires legal { IsAllowed (S.shape_of self.old.schema) self.old.config (history self.old) }
         requires steps { self.old.consumer.steps < 2 ^ 31 }

@@ -6,9 +6,9 @@ ghost use Rattle.dspec_deeds.specs.Legal.{IsAllowed};
 ghost use Rattle.dspec_deeds.specs.History.{in_range, issue, word_at};
 ghost use Rattle.dspec_play.specs.Coherent.{IsCoherent, the_caller};
 ghost use Rattle.dspec_machine.specs.Decisions.{begun_of, decides, deed_of, load_of, try_of};
-ghost use Rattle.dspec_machine.specs.Machines.{Makes, IsShown, history, state_of};
+ghost use Rattle.dspec_machine.specs.Machines.{Makes, IsShownMachine, history, state_of};
 ghost use Rattle.dspec_machine.specs.Standing.{StandsAt};
-ghost use Rattle.dspec_machine.specs.Steps.{StepsAs, commits, discards, ends_with, shows};
+ghost use Rattle.dspec_machine.specs.Steps.{StepsAs, moved_commit, moved_discard, ends_with, shows};
 ghost use Rattle.dspec_deeds.specs.Settling.{commit_fate};
 
 use crate::decision::Decision;
@@ -91,7 +91,7 @@ impl<S: Schema, B: TraceBuffer<S>> Machine<S, B> {
         decision: Decision,
         id: SpecId,
     ) -> Result<Option<Answer>, AllocError>
-        requires shown { IsShown B.has B.capacity self.old }
+        requires shown { IsShownMachine B.has B.capacity self.old }
         requires coherent { IsCoherent (S.shape_of self.old.schema) (state_of self.old) }
         requires cpu { cpu < self.old.config.cpus }
         requires slot { in_range self.old.config id ≡ true }
@@ -116,7 +116,7 @@ impl<S: Schema, B: TraceBuffer<S>> Machine<S, B> {
         id: SpecId,
         fate: DecideFate,
     ) -> Result<Option<Answer>, AllocError>
-        requires shown { IsShown B.has B.capacity self.old }
+        requires shown { IsShownMachine B.has B.capacity self.old }
         requires ranges { start_fault self.old.config ≡ None }
         requires legal { IsAllowed (S.shape_of self.old.schema) self.old.config (deed_of decision cpu id fate ∷ [] ++ history self.old) }
         requires cpu { cpu < self.old.config.cpus }
@@ -130,7 +130,7 @@ impl<S: Schema, B: TraceBuffer<S>> Machine<S, B> {
 
     // The commit decides, and leaves that word.
     fn commit(&mut self, cpu: u32, id: SpecId, word: Word) -> Result<Option<Answer>, AllocError>
-        requires shown { IsShown B.has B.capacity self.old }
+        requires shown { IsShownMachine B.has B.capacity self.old }
         requires ranges { start_fault self.old.config ≡ None }
         requires cpu { cpu < self.old.config.cpus }
         requires slot { in_range self.old.config id ≡ true }
@@ -138,7 +138,7 @@ impl<S: Schema, B: TraceBuffer<S>> Machine<S, B> {
         requires steps { (the_caller (state_of self.old).callers cpu).steps < 2 ^ 31 }
         requires legal { IsAllowed (S.shape_of self.old.schema) self.old.config (deed.Commit cpu id (commit_fate (S.shape_of self.old.schema) self.old.config cpu (history self.old) id) ∷ [] ++ history self.old) }
         requires word { word ≡ word_at id.slot (deed.Commit cpu id (commit_fate (S.shape_of self.old.schema) self.old.config cpu (history self.old) id) ∷ history self.old) }
-        ensures makes { IfOk result (λ answer. Makes B.has B.capacity self.old self.new cpu (commits S.shape_of self.old cpu id word) answer) }
+        ensures makes { IfOk result (λ answer. Makes B.has B.capacity self.old self.new cpu (moved_commit S.shape_of self.old cpu id word) answer) }
         ensures refused { OnErr result (self.new ≡ self.old) }
     {
         let fate = self.commit_fate(cpu, id);
@@ -151,14 +151,14 @@ impl<S: Schema, B: TraceBuffer<S>> Machine<S, B> {
 
     // The discard decides, and leaves that word.
     fn discard(&mut self, cpu: u32, id: SpecId, word: Word) -> Result<Option<Answer>, AllocError>
-        requires shown { IsShown B.has B.capacity self.old }
+        requires shown { IsShownMachine B.has B.capacity self.old }
         requires ranges { start_fault self.old.config ≡ None }
         requires cpu { cpu < self.old.config.cpus }
         requires slot { in_range self.old.config id ≡ true }
         requires present { id.issue ≡ issue id.slot (history self.old) }
-        requires legal { IsAllowed (S.shape_of self.old.schema) self.old.config ((discards S.shape_of self.old cpu id word).deeds ++ history self.old) }
-        requires word { word ≡ word_at id.slot ((discards S.shape_of self.old cpu id word).deeds ++ history self.old) }
-        ensures makes { IfOk result (λ answer. Makes B.has B.capacity self.old self.new cpu (discards S.shape_of self.old cpu id word) answer) }
+        requires legal { IsAllowed (S.shape_of self.old.schema) self.old.config ((moved_discard S.shape_of self.old cpu id word).deeds ++ history self.old) }
+        requires word { word ≡ word_at id.slot ((moved_discard S.shape_of self.old cpu id word).deeds ++ history self.old) }
+        ensures makes { IfOk result (λ answer. Makes B.has B.capacity self.old self.new cpu (moved_discard S.shape_of self.old cpu id word) answer) }
         ensures refused { OnErr result (self.new ≡ self.old) }
     {
         let fate = self.discard_fate(cpu, id);

@@ -1,6 +1,6 @@
 ghost use Rattle.std.specs.Prelude.{◌≡◌, ◌<◌, ◌^◌, None, Some};
 ghost use Rattle.dspec_play.specs.Coherent.{the_caller};
-ghost use Rattle.dspec_machine.specs.Machines.{IsShown, state_of};
+ghost use Rattle.dspec_machine.specs.Machines.{IsShownMachine, state_of};
 ghost use Rattle.dspec_machine.specs.Steps.{state_with, goes_on_at, has_ended, was_worn, has_sealed};
 
 use crate::machine::Machine;
@@ -12,10 +12,10 @@ use dspec_record::Schema;
 impl<S: Schema, B: TraceBuffer<S>> Machine<S, B> {
     /// The CPU's call goes on: its next step is at that place.
     pub fn go_on(&mut self, cpu: u32, flight: CpuFlight) -> Option<Answer>
-        requires shown { IsShown B.has B.capacity self.old }
+        requires shown { IsShownMachine B.has B.capacity self.old }
         requires cpu { cpu < self.old.config.cpus }
         requires steps { (the_caller (state_of self.old).callers cpu).steps < 2 ^ 31 }
-        ensures shown { IsShown B.has B.capacity self.new }
+        ensures shown { IsShownMachine B.has B.capacity self.new }
         ensures state { state_of self.new ≡ state_with self.old cpu (goes_on_at flight) }
         ensures schema { self.new.schema ≡ self.old.schema }
         ensures answer { result ≡ None }
@@ -28,9 +28,9 @@ impl<S: Schema, B: TraceBuffer<S>> Machine<S, B> {
 
     /// The CPU's call ends with that answer.
     pub fn end(&mut self, cpu: u32, answer: Answer) -> Option<Answer>
-        requires shown { IsShown B.has B.capacity self.old }
+        requires shown { IsShownMachine B.has B.capacity self.old }
         requires cpu { cpu < self.old.config.cpus }
-        ensures shown { IsShown B.has B.capacity self.new }
+        ensures shown { IsShownMachine B.has B.capacity self.new }
         ensures state { state_of self.new ≡ state_with self.old cpu has_ended }
         ensures schema { self.new.schema ≡ self.old.schema }
         ensures answer { result ≡ Some answer }
@@ -43,9 +43,9 @@ impl<S: Schema, B: TraceBuffer<S>> Machine<S, B> {
 
     /// The CPU's call was worn: it ends with that answer, and is counted.
     pub fn wear(&mut self, cpu: u32, answer: Answer) -> Option<Answer>
-        requires shown { IsShown B.has B.capacity self.old }
+        requires shown { IsShownMachine B.has B.capacity self.old }
         requires cpu { cpu < self.old.config.cpus }
-        ensures shown { IsShown B.has B.capacity self.new }
+        ensures shown { IsShownMachine B.has B.capacity self.new }
         ensures state { state_of self.new ≡ state_with self.old cpu was_worn }
         ensures schema { self.new.schema ≡ self.old.schema }
         ensures answer { result ≡ Some answer }
@@ -59,10 +59,10 @@ impl<S: Schema, B: TraceBuffer<S>> Machine<S, B> {
 
     /// The CPU's second buffer is sealed, and its push is next.
     pub fn push_next(&mut self, cpu: u32) -> Option<Answer>
-        requires shown { IsShown B.has B.capacity self.old }
+        requires shown { IsShownMachine B.has B.capacity self.old }
         requires cpu { cpu < self.old.config.cpus }
         requires steps { (the_caller (state_of self.old).callers cpu).steps < 2 ^ 31 }
-        ensures shown { IsShown B.has B.capacity self.new }
+        ensures shown { IsShownMachine B.has B.capacity self.new }
         ensures state { state_of self.new ≡ state_with self.old cpu has_sealed }
         ensures schema { self.new.schema ≡ self.old.schema }
         ensures answer { result ≡ None }

@@ -6,9 +6,9 @@ ghost use Rattle.dspec_deeds.specs.Ranges.{start_fault};
 ghost use Rattle.dspec_deeds.specs.Legal.{IsAllowed};
 ghost use Rattle.dspec_word.specs.Code.{is_decided};
 ghost use Rattle.dspec_play.specs.Coherent.{the_caller};
-ghost use Rattle.dspec_machine.specs.Machines.{Makes, IsShown, history, state_of};
+ghost use Rattle.dspec_machine.specs.Machines.{Makes, IsShownMachine, history, state_of};
 ghost use Rattle.dspec_machine.specs.Standing.{StandsAt};
-ghost use Rattle.dspec_machine.specs.Steps.{StepsAs, misses};
+ghost use Rattle.dspec_machine.specs.Steps.{StepsAs, moved_miss};
 
 use crate::machine::Machine;
 use dspec_buffer::TraceBuffer;
@@ -72,13 +72,13 @@ impl<S: Schema, B: TraceBuffer<S>> Machine<S, B> {
 
     // A slot that couldn't be given: the next one, or the call has failed.
     fn miss(&mut self, cpu: u32, slot: u32, word: Word) -> Result<Option<Answer>, AllocError>
-        requires shown { IsShown B.has B.capacity self.old }
+        requires shown { IsShownMachine B.has B.capacity self.old }
         requires ranges { start_fault self.old.config ≡ None }
         requires legal { IsAllowed (S.shape_of self.old.schema) self.old.config (deed.Miss cpu slot (is_decided word.code) ∷ [] ++ history self.old) }
         requires cpu { cpu < self.old.config.cpus }
         requires slot { slot ≤ self.old.config.nspec }
         requires steps { (the_caller (state_of self.old).callers cpu).steps < 2 ^ 31 }
-        ensures makes { IfOk result (λ answer. Makes B.has B.capacity self.old self.new cpu (misses S.shape_of self.old cpu slot word) answer) }
+        ensures makes { IfOk result (λ answer. Makes B.has B.capacity self.old self.new cpu (moved_miss S.shape_of self.old cpu slot word) answer) }
         ensures refused { OnErr result (self.new ≡ self.old) }
     {
         let busy = matches!(

@@ -3,9 +3,9 @@ ghost use Rattle.dspec_deeds.specs.declared.calls.CpuOp.TheVariants as cpu_op;
 ghost use Rattle.dspec_play.specs.declared.flight.CpuFlight.TheVariants as flight;
 ghost use Rattle.dspec_deeds.specs.Ranges.{is_fill};
 ghost use Rattle.dspec_play.specs.Coherent.{IsCoherent, IsSlot, the_caller};
-ghost use Rattle.dspec_machine.specs.Machines.{IsShown, Makes, state_of};
+ghost use Rattle.dspec_machine.specs.Machines.{IsShownMachine, Makes, state_of};
 ghost use Rattle.dspec_machine.specs.Standing.{StandsAt};
-ghost use Rattle.dspec_machine.specs.Steps.{StepsAs, loads, serves, state_with, goes_on_at};
+ghost use Rattle.dspec_machine.specs.Steps.{StepsAs, loads, moved_service, state_with, goes_on_at};
 
 use crate::machine::Machine;
 use dspec_buffer::TraceBuffer;
@@ -92,7 +92,7 @@ impl<S: Schema, B: TraceBuffer<S>> Machine<S, B> {
 
     // The load of a slot's word: where the table grants it, the store of the acknowledgement is next.
     fn load_service(&mut self, cpu: u32, slot: u32, sum: Served) -> Option<Answer>
-        requires shown { IsShown B.has B.capacity self.old }
+        requires shown { IsShownMachine B.has B.capacity self.old }
         requires coherent { IsCoherent (S.shape_of self.old.schema) (state_of self.old) }
         requires cpu { cpu < self.old.config.cpus }
         requires slot { IsSlot self.old.config slot }
@@ -132,10 +132,10 @@ impl<S: Schema, B: TraceBuffer<S>> Machine<S, B> {
 
     // The call seals nothing, and goes on with the first slot.
     fn serve_first(&mut self, cpu: u32) -> Option<Answer>
-        requires shown { IsShown B.has B.capacity self.old }
+        requires shown { IsShownMachine B.has B.capacity self.old }
         requires cpu { cpu < self.old.config.cpus }
         requires steps { (the_caller (state_of self.old).callers cpu).steps < 2 ^ 31 }
-        ensures shown { IsShown B.has B.capacity self.new }
+        ensures shown { IsShownMachine B.has B.capacity self.new }
         ensures state { state_of self.new ≡ state_with self.old cpu (goes_on_at (flight.ServiceLoad 1 (record { sealed = false; settled = 0 }))) }
         ensures schema { self.new.schema ≡ self.old.schema }
         ensures answer { result ≡ None }
@@ -154,14 +154,14 @@ impl<S: Schema, B: TraceBuffer<S>> Machine<S, B> {
 
     // The call goes on with the next slot, or has come past its last.
     fn serve_next(&mut self, cpu: u32, slot: u32, sum: Served) -> Option<Answer>
-        requires shown { IsShown B.has B.capacity self.old }
+        requires shown { IsShownMachine B.has B.capacity self.old }
         requires cpu { cpu < self.old.config.cpus }
         requires steps { (the_caller (state_of self.old).callers cpu).steps < 2 ^ 31 }
         requires slot { slot ≤ self.old.config.nspec }
-        ensures shown { IsShown B.has B.capacity self.new }
-        ensures state { state_of self.new ≡ state_with self.old cpu (λ _. (serves S.shape_of self.old cpu slot sum).caller) }
+        ensures shown { IsShownMachine B.has B.capacity self.new }
+        ensures state { state_of self.new ≡ state_with self.old cpu (λ _. (moved_service S.shape_of self.old cpu slot sum).caller) }
         ensures schema { self.new.schema ≡ self.old.schema }
-        ensures answer { result ≡ (serves S.shape_of self.old cpu slot sum).answer }
+        ensures answer { result ≡ (moved_service S.shape_of self.old cpu slot sum).answer }
     {
         if slot == self.config.nspec {
             return self.end(cpu, Answer::Served(sum));

@@ -3,10 +3,10 @@ ghost use Rattle.dspec_buffer.specs.Extent.{one};
 ghost use Rattle.dspec_deeds.specs.declared.calls.Actor.TheVariants as actor;
 ghost use Rattle.dspec_deeds.specs.History.{callers, is_among, in_range, issue, part, word_at};
 ghost use Rattle.dspec_deeds.specs.OwnShown.{own_side, ShowsOwnSide};
-ghost use Rattle.dspec_machine.specs.Shown.{HasPieces, parts_of};
+ghost use Rattle.dspec_machine.specs.Shown.{HoldsPieces, parts_of};
 ghost use Rattle.dspec_machine.specs.declared.side.Side.{Side};
 ghost use Rattle.dspec_deeds.specs.Legal.{IsSound, IsFitting, is_closed, fits_principal, fits_speculative};
-ghost use Rattle.dspec_machine.specs.Machines.{IsShown, history};
+ghost use Rattle.dspec_machine.specs.Machines.{IsShownMachine, history};
 ghost use Rattle.dspec_deeds.specs.Own.{calls};
 ghost use Rattle.dspec_deeds.specs.Settling.{commit_fate, discard_fate, settle_fate};
 
@@ -19,16 +19,16 @@ use dspec_word::{Code, SpecId, Word};
 impl<S: Schema, B: TraceBuffer<S>> Machine<S, B> {
     /// What a CPU's side shows is what that CPU's own list tells of it: a law of every machine, without a body.
     pub fn shows_own(&self, cpu: u32)
-        requires shown { IsShown B.has B.capacity self.now }
+        requires shown { IsShownMachine B.has B.capacity self.now }
         requires sound { IsSound self.now.config (history self.now) }
         requires cpu { cpu < self.now.config.cpus }
         ensures { (side : Side B) → slice_get self.now.sides.items cpu ≡ Some side
-            → ShowsOwnSide (HasPieces B.has B.capacity self.now.schema) self.now.config (own_side cpu (part (actor.Cpu cpu) (history self.now))) (parts_of side) }
+            → ShowsOwnSide (HoldsPieces B.has B.capacity self.now.schema) self.now.config (own_side cpu (part (actor.Cpu cpu) (history self.now))) (parts_of side) }
     {}
 
     /// Whether the CPU has made all its calls.
     pub fn is_worn(&self, cpu: u32) -> bool
-        requires shown { IsShown B.has B.capacity self.now }
+        requires shown { IsShownMachine B.has B.capacity self.now }
         requires cpu { cpu < self.now.config.cpus }
         ensures { result ≡ nat_le self.now.config.max_calls (calls cpu (history self.now)) }
     {
@@ -44,7 +44,7 @@ impl<S: Schema, B: TraceBuffer<S>> Machine<S, B> {
 
     /// The word of the identifier's slot.
     pub fn word_of(&self, id: SpecId) -> Word
-        requires shown { IsShown B.has B.capacity self.now }
+        requires shown { IsShownMachine B.has B.capacity self.now }
         requires slot { in_range self.now.config id ≡ true }
         ensures { result ≡ word_at id.slot (history self.now) }
     {
@@ -53,7 +53,7 @@ impl<S: Schema, B: TraceBuffer<S>> Machine<S, B> {
 
     /// Whether the CPU is a caller of a speculation, which is its slot's present one.
     pub fn is_mine(&self, cpu: u32, id: SpecId) -> bool
-        requires shown { IsShown B.has B.capacity self.now }
+        requires shown { IsShownMachine B.has B.capacity self.now }
         requires cpu { cpu < self.now.config.cpus }
         requires sound { IsSound self.now.config (history self.now) }
         requires slot { in_range self.now.config id ≡ true }
@@ -64,7 +64,7 @@ impl<S: Schema, B: TraceBuffer<S>> Machine<S, B> {
 
     /// Whether the CPU's active principal buffer takes nothing more: under Fill, once a reservation there was refused.
     pub fn is_closed(&self, cpu: u32) -> bool
-        requires shown { IsShown B.has B.capacity self.now }
+        requires shown { IsShownMachine B.has B.capacity self.now }
         requires cpu { cpu < self.now.config.cpus }
         requires legal { IsFitting (S.shape_of self.now.schema) self.now.config (history self.now) }
         ensures { result ≡ is_closed self.now.config cpu (history self.now) }
@@ -74,7 +74,7 @@ impl<S: Schema, B: TraceBuffer<S>> Machine<S, B> {
 
     // Whether that buffer takes a piece that has room there, or has none: a closed one takes a piece without records alone.
     fn takes(&self, cpu: u32, has_room: bool, is_empty: bool) -> bool
-        requires shown { IsShown B.has B.capacity self.now }
+        requires shown { IsShownMachine B.has B.capacity self.now }
         requires cpu { cpu < self.now.config.cpus }
         requires legal { IsFitting (S.shape_of self.now.schema) self.now.config (history self.now) }
         ensures { result ≡ (has_room && (is_empty || not (is_closed self.now.config cpu (history self.now)))) }
@@ -84,7 +84,7 @@ impl<S: Schema, B: TraceBuffer<S>> Machine<S, B> {
 
     /// Whether a record fits the rest of the CPU's active principal buffer, and that isn't closed.
     pub fn fits_principal(&self, cpu: u32, rec: &Rec) -> bool
-        requires shown { IsShown B.has B.capacity self.now }
+        requires shown { IsShownMachine B.has B.capacity self.now }
         requires cpu { cpu < self.now.config.cpus }
         requires legal { IsFitting (S.shape_of self.now.schema) self.now.config (history self.now) }
         requires accepted { IsTrue (S.accepted self.now.schema rec.now) }
@@ -99,7 +99,7 @@ impl<S: Schema, B: TraceBuffer<S>> Machine<S, B> {
 
     /// Whether a record fits the rest of the CPU's buffer of its slot's present speculation.
     pub fn fits_speculative(&self, cpu: u32, id: SpecId, rec: &Rec) -> bool
-        requires shown { IsShown B.has B.capacity self.now }
+        requires shown { IsShownMachine B.has B.capacity self.now }
         requires cpu { cpu < self.now.config.cpus }
         requires slot { in_range self.now.config id ≡ true }
         requires present { id.issue ≡ issue id.slot (history self.now) }
@@ -115,7 +115,7 @@ impl<S: Schema, B: TraceBuffer<S>> Machine<S, B> {
 
     /// The fate of the CPU's buffer of its slot's present speculation, where that is committed.
     pub fn commit_fate(&self, cpu: u32, id: SpecId) -> DecideFate
-        requires shown { IsShown B.has B.capacity self.now }
+        requires shown { IsShownMachine B.has B.capacity self.now }
         requires cpu { cpu < self.now.config.cpus }
         requires legal { IsFitting (S.shape_of self.now.schema) self.now.config (history self.now) }
         requires slot { in_range self.now.config id ≡ true }
@@ -135,7 +135,7 @@ impl<S: Schema, B: TraceBuffer<S>> Machine<S, B> {
 
     /// The fate of that buffer where the speculation is discarded.
     pub fn discard_fate(&self, cpu: u32, id: SpecId) -> DecideFate
-        requires shown { IsShown B.has B.capacity self.now }
+        requires shown { IsShownMachine B.has B.capacity self.now }
         requires cpu { cpu < self.now.config.cpus }
         requires slot { in_range self.now.config id ≡ true }
         requires present { id.issue ≡ issue id.slot (history self.now) }
@@ -147,7 +147,7 @@ impl<S: Schema, B: TraceBuffer<S>> Machine<S, B> {
 
     /// The fate of that buffer where the speculation is settled, by the code of its slot's word.
     pub fn settle_fate(&self, cpu: u32, id: SpecId, code: Code) -> DecideFate
-        requires shown { IsShown B.has B.capacity self.now }
+        requires shown { IsShownMachine B.has B.capacity self.now }
         requires cpu { cpu < self.now.config.cpus }
         requires legal { IsFitting (S.shape_of self.now.schema) self.now.config (history self.now) }
         requires slot { in_range self.now.config id ≡ true }

@@ -6,9 +6,9 @@ ghost use Rattle.dspec_play.specs.declared.flight.CpuFlight.TheVariants as fligh
 ghost use Rattle.dspec_deeds.specs.Ranges.{start_fault};
 ghost use Rattle.dspec_deeds.specs.Legal.{IsAllowed};
 ghost use Rattle.dspec_deeds.specs.History.{in_range, issue, word_at};
-ghost use Rattle.dspec_machine.specs.Machines.{Makes, IsShown, history};
+ghost use Rattle.dspec_machine.specs.Machines.{Makes, IsShownMachine, history};
 ghost use Rattle.dspec_machine.specs.Standing.{StandsAt};
-ghost use Rattle.dspec_machine.specs.Steps.{StepsAs, speaks};
+ghost use Rattle.dspec_machine.specs.Steps.{StepsAs, moved_speak};
 
 use crate::machine::Machine;
 use dspec_buffer::TraceBuffer;
@@ -109,15 +109,15 @@ impl<S: Schema, B: TraceBuffer<S>> Machine<S, B> {
         rec: &Rec,
         word: Word,
     ) -> Result<Option<Answer>, AllocError>
-        requires shown { IsShown B.has B.capacity self.old }
+        requires shown { IsShownMachine B.has B.capacity self.old }
         requires ranges { start_fault self.old.config ≡ None }
-        requires legal { IsAllowed (S.shape_of self.old.schema) self.old.config ((speaks S.shape_of self.old cpu id rec.now).deeds ++ history self.old) }
+        requires legal { IsAllowed (S.shape_of self.old.schema) self.old.config ((moved_speak S.shape_of self.old cpu id rec.now).deeds ++ history self.old) }
         requires cpu { cpu < self.old.config.cpus }
         requires accepted { IsTrue (S.accepted self.old.schema rec.now) }
         requires slot { in_range self.old.config id ≡ true }
         requires present { id.issue ≡ issue id.slot (history self.old) }
         requires word { word ≡ word_at id.slot (deed.Speculate cpu id rec.now spoken.Kept ∷ history self.old) }
-        ensures makes { IfOk result (λ answer. Makes B.has B.capacity self.old self.new cpu (speaks S.shape_of self.old cpu id rec.now) answer) }
+        ensures makes { IfOk result (λ answer. Makes B.has B.capacity self.old self.new cpu (moved_speak S.shape_of self.old cpu id rec.now) answer) }
         ensures refused { OnErr result (self.new ≡ self.old) }
     {
         let (fate, answer) = if self.fits_speculative(cpu, id, rec) {

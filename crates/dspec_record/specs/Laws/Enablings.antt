@@ -5,7 +5,7 @@ use Rattle.dspec_record.specs.EnablingFields.{fields_of, IsLaidOut}
 use Rattle.dspec_record.specs.EnablingFields as laid
 use Rattle.dspec_record.specs.EnablingRows.{rows_of, IsFilled}
 use Rattle.dspec_record.specs.EnablingRows as filled
-use Rattle.dspec_record.specs.Laws.Padding.{padded}
+use Rattle.dspec_record.specs.Laws.Padding.{padded_list}
 use Rattle.dspec_record.specs.declared.field.Field.{Field}
 use Rattle.dspec_record.specs.declared.field.Field.TheVariants.{One}
 use Rattle.dspec_record.specs.declared.enabling.Enabling.TheInside as one
@@ -16,7 +16,7 @@ inside_of-fields_of a p =
     let few : a.len ≤ length a.fields = omega arith in
     let len : length (take a.len a.fields) ≡ a.len = length-take-le a.len a.fields few in
     let fields : fields_of a ++ replicate (8 - length (fields_of a)) One ≡ a.fields =
-    padded a.fields a.len 8 One p.eight p.few p.rest in
+    padded_list a.fields a.len 8 One p.eight p.few p.rest in
     λ i. record { fields = fields i; len = len i; shape = sym p.shape i }
 
 pub inside_of-rows_of : (a : all.Inside) → IsFilled a → filled.inside_of (rows_of a) ≡ a
@@ -25,5 +25,5 @@ inside_of-rows_of a p =
     let len : length (take a.count a.rows) ≡ a.count = length-take-le a.count a.rows few in
     let none : List Field = [] in
     let rows : take a.count a.rows ++ replicate (64 - length (take a.count a.rows)) none ≡ a.rows =
-    padded a.rows a.count 64 none p.places p.few p.rest in
+    padded_list a.rows a.count 64 none p.places p.few p.rest in
     λ i. record { header = a.header; rows = rows i; count = len i }

@@ -3,8 +3,8 @@ use Rattle.std.proofs.Common.{◌≡◌, ◌≤◌, ◌-◌, ◌++◌, List, len
 use Rattle.std.proofs.lemmas.List.{length-take-le, take-append-drop}
 
 -- a list of `cap` places is its first `n`, and what its rest is said to hold
-pub padded : {X : Type 0} (xs : List X) (n cap : _) (x : X) → length xs ≡ cap → n ≤ cap → drop n xs ≡ replicate (cap - n) x → take n xs ++ replicate (cap - length (take n xs)) x ≡ xs
-padded xs n cap x long few rest =
+pub padded_list : {X : Type 0} (xs : List X) (n cap : _) (x : X) → length xs ≡ cap → n ≤ cap → drop n xs ≡ replicate (cap - n) x → take n xs ++ replicate (cap - length (take n xs)) x ≡ xs
+padded_list xs n cap x long few rest =
     let fits : n ≤ length xs = omega arith in
     let len : length (take n xs) ≡ n = length-take-le n xs fits in
     ap (λ k. take n xs ++ replicate (cap - k) x) len ∙ ap (λ zs. take n xs ++ zs) (sym rest) ∙ take-append-drop n xs

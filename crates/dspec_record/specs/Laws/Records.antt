@@ -1,7 +1,7 @@
 -- The fields of a `Rec` follow from the record that it holds.
 use Rattle.std.proofs.Common.{◌≡◌, ◌≤◌, ◌-◌, ◌++◌, length, take, replicate, arith}
 use Rattle.std.proofs.lemmas.List.{length-take-le}
-use Rattle.dspec_record.specs.Laws.Padding.{padded}
+use Rattle.dspec_record.specs.Laws.Padding.{padded_list}
 use Rattle.dspec_record.specs.RecordFields.{record_of, IsPadded, fields_of}
 use Rattle.dspec_record.specs.declared.record.Rec.TheInside.{Inside}
 
@@ -10,5 +10,5 @@ fields_of-record_of a p =
     let few : a.len ≤ length a.values = omega arith in
     let len : length (take a.len a.values) ≡ a.len = length-take-le a.len a.values few in
     let values : take a.len a.values ++ replicate (8 - length (take a.len a.values)) 0 ≡ a.values =
-    padded a.values a.len 8 0 p.eight p.few p.zeros in
+    padded_list a.values a.len 8 0 p.eight p.few p.zeros in
     λ i. record { epid = a.epid; stamp = a.stamp; len = len i; values = values i }

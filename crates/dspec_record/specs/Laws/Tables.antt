@@ -32,7 +32,8 @@ unfolding IsLimited
 table-shapes_fit d fields few e h is = row-IsShape d (fields e) h (few e) is
 
 -- what an accepted record is
-row-texts_fit : (d : Header) (fields : FieldTable) (r : Record) (o : Option (List Field)) → fields r.epid ≡ o → IsTrue (ltb r.epid (2 ^ 32)) → IsTrue (option_map_or (λ fs. fits fs r.values) o false) → IsTextOf (table_shape d fields) r (record_text d (unwrap_or o []) r)
+row-texts_fit : (d : Header) (fields : FieldTable) (r : Record) (o : Option (List Field)) → fields r.epid ≡ o → IsTrue (ltb r.epid (2 ^ 32))
+    → IsTrue (option_map_or (λ fs. fits fs r.values) o false) → IsTextOf (table_shape d fields) r (record_text d (unwrap_or o []) r)
 row-texts_fit d fields r None is small h = absurd (cc)
 row-texts_fit d fields r (Some fs) is small h =
     record {
@@ -64,11 +65,14 @@ table-texts_fit d fields r h =
     let parts : IsAccepted d r (fields r.epid) = accepted-parts d fields r h in
     row-texts_fit d fields r (fields r.epid) refl parts.epid parts.values
 
-row-texts_differ : (d : Header) (o : Option (List Field)) (q r : Record) (x y : List ℕ) → q.epid ≡ r.epid → IsTrue (stamp_fits d q.stamp) → IsTrue (stamp_fits d r.stamp) → IsTrue (option_map_or (λ fs. fits fs q.values) o false) → IsTrue (option_map_or (λ fs. fits fs r.values) o false) → record_text d (unwrap_or o []) q ++ x ≡ record_text d (unwrap_or o []) r ++ y → q ≡ r
+row-texts_differ : (d : Header) (o : Option (List Field)) (q r : Record) (x y : List ℕ) → q.epid ≡ r.epid → IsTrue (stamp_fits d q.stamp) → IsTrue (stamp_fits d r.stamp)
+    → IsTrue (option_map_or (λ fs. fits fs q.values) o false) → IsTrue (option_map_or (λ fs. fits fs r.values) o false)
+    → record_text d (unwrap_or o []) q ++ x ≡ record_text d (unwrap_or o []) r ++ y → q ≡ r
 row-texts_differ d None q r x y epid sq sr of_q of_r e = absurd (cc)
 row-texts_differ d (Some fs) q r x y epid sq sr of_q of_r e = record_text-same d fs q r x y epid sq sr of_q of_r e
 
-pub table-texts_differ : (d : Header) (fields : FieldTable) (q r : Record) (x y : List ℕ) → IsTrue (table_accepts d fields q) → IsTrue (table_accepts d fields r) → table_text d fields q ++ x ≡ table_text d fields r ++ y → q ≡ r
+pub table-texts_differ : (d : Header) (fields : FieldTable) (q r : Record) (x y : List ℕ) → IsTrue (table_accepts d fields q) → IsTrue (table_accepts d fields r)
+    → table_text d fields q ++ x ≡ table_text d fields r ++ y → q ≡ r
 table-texts_differ d fields q r x y of_q of_r e =
     let parts_q : IsAccepted d q (fields q.epid) = accepted-parts d fields q of_q in
     let parts_r : IsAccepted d r (fields r.epid) = accepted-parts d fields r of_r in

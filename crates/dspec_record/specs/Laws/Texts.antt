@@ -181,7 +181,8 @@ starts-alike h q r x y e =
     record { epid = first.0; stamp = second.0; rest = second.1 }
 
 -- records with the same header and fields are the same if some bytes begin with both
-pub record_text-same : (h : Header) (fs : List Field) (q r : Record) (x y : List ℕ) → q.epid ≡ r.epid → IsTrue (stamp_fits h q.stamp) → IsTrue (stamp_fits h r.stamp) → IsTrue (fits fs q.values) → IsTrue (fits fs r.values) → record_text h fs q ++ x ≡ record_text h fs r ++ y → q ≡ r
+pub record_text-same : (h : Header) (fs : List Field) (q r : Record) (x y : List ℕ) → q.epid ≡ r.epid → IsTrue (stamp_fits h q.stamp) → IsTrue (stamp_fits h r.stamp)
+    → IsTrue (fits fs q.values) → IsTrue (fits fs r.values) → record_text h fs q ++ x ≡ record_text h fs r ++ y → q ≡ r
 record_text-same h fs q r x y epid stamp_q stamp_r of_q of_r e =
     let start : ℕ = fields_start h in
     let alike : StartsAlike h q r (fields_text start fs q.values ++ x) (fields_text start fs r.values ++ y) =

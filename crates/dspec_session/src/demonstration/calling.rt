@@ -1,4 +1,4 @@
-ghost use Rattle.dspec_session.specs.Demonstrated.{CanWork, Called, Decides, IsCallable, Opens, Served, Serviced, Speaks, Traces};
+ghost use Rattle.dspec_session.specs.Demonstrated.{CanWork, Called, WorkerDecides, IsCallable, WorkerOpens, WorkerServed, Serviced, Speaks, Traces};
 
 use super::records::valued_record;
 use dspec_cpu::{Cpu, Shared};
@@ -18,7 +18,7 @@ pub(crate) fn trace(cpu: &mut Cpu<Enablings>, shared: &Shared, value: u32)
 pub(crate) fn speculation(cpu: &mut Cpu<Enablings>, shared: &Shared) -> SpecId
     requires { CanWork shared.now 1 cpu.old }
     ensures called { Called shared.now 0 cpu.old cpu.new }
-    ensures opens { Opens result cpu.old cpu.new }
+    ensures opens { WorkerOpens result cpu.old cpu.new }
 {
     cpu.speculation(shared).id()
 }
@@ -36,7 +36,7 @@ pub(crate) fn speculate(cpu: &mut Cpu<Enablings>, shared: &Shared, id: SpecId, v
 pub(crate) fn decide(cpu: &mut Cpu<Enablings>, shared: &Shared, id: SpecId, commits: bool)
     requires { CanWork shared.now 1 cpu.old }
     ensures called { Called shared.now 0 cpu.old cpu.new }
-    ensures decides { Decides commits id cpu.old cpu.new }
+    ensures decides { WorkerDecides commits id cpu.old cpu.new }
 {
     if commits {
         cpu.commit(shared, id);
@@ -48,7 +48,7 @@ pub(crate) fn decide(cpu: &mut Cpu<Enablings>, shared: &Shared, id: SpecId, comm
 /// Serves the consumer and the other CPUs. It counts as no call.
 pub(crate) fn service(cpu: &mut Cpu<Enablings>, shared: &Shared)
     requires { IsCallable shared.now cpu.old }
-    ensures served { Served shared.now cpu.old cpu.new }
+    ensures served { WorkerServed shared.now cpu.old cpu.new }
     ensures services { Serviced cpu.old cpu.new }
 {
     cpu.service(shared);

@@ -1,5 +1,5 @@
 ghost use Rattle.std.specs.Prelude.{◌≡◌, None, true};
-ghost use Rattle.dspec_session.specs.Rising.{Follows, with_record, with_records};
+ghost use Rattle.dspec_session.specs.Rising.{FollowsText, with_record, with_records};
 
 use dspec_buffer::{Records, read_all};
 use dspec_record::{Rec, Schema};
@@ -52,7 +52,7 @@ impl Order {
 
     /// The records of a text, in order. One that can't be read doesn't rise.
     pub(crate) fn read<S: Schema>(&mut self, schema: &S, text: &[u8])
-        ensures { Follows (S.shape_of schema.now) (S.accepted schema.now) (S.text schema.now) text.now self.old self.new }
+        ensures { FollowsText (S.shape_of schema.now) (S.accepted schema.now) (S.text schema.now) text.now self.old self.new }
     {
         match read_all(schema, text) {
             Ok(records) => self.follow_all(records),

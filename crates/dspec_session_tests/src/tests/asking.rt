@@ -2,12 +2,17 @@
 use super::batches::{batch, passed};
 use super::*;
 use dspec_deeds::CpuOp;
-use dspec_samples::doing;
+use dspec_table::Doing;
 
 #[test]
 fn one_more_than_taken(rt: HostRuntime) -> Result<(), Fail> {
     let (shared, mut first, mut second, mut end, mut consumer) = begun(rt.alloc())?;
-    let call = doing(CpuOp::Service);
+    let call = Doing {
+        op: CpuOp::Service,
+        fits: false,
+        count: 0,
+        mine: false,
+    };
     assert!(rt; consumer.ask(&shared, 0) && !consumer.ask(&shared, 2));
     assert!(rt;
         first.load_ask(shared.words(), &call) == 1 && second.load_ask(shared.words(), &call) == 0

@@ -2,7 +2,7 @@
 use Rattle.std.proofs.Common.{◌≡◌, ◌<◌, ◌%◌, ◌∙◌, ℕ, zero, suc, refl, sym, ap, arith}
 use Rattle.dspec_word.specs.Code.{code_number, code_of}
 use Rattle.dspec_word.specs.Word.{SlotState, word_number}
-use Rattle.dspec_word.specs.WordFields.{state_of, inside_of, IsNumber}
+use Rattle.dspec_word.specs.WordFields.{state_of_raw, inside_of_word, IsNumber}
 use Rattle.dspec_word.specs.declared.word.Word.TheInside.{Inside}
 
 pub code_number-code_of : (n : ℕ) → n < 7 → code_number (code_of n) ≡ n
@@ -15,12 +15,12 @@ code_number-code_of (suc (suc (suc (suc (suc zero))))) h = refl
 code_number-code_of (suc (suc (suc (suc (suc (suc zero)))))) h = refl
 code_number-code_of (suc (suc (suc (suc (suc (suc (suc n))))))) h = omega arith
 
-pub inside_of-state_of : (w : Inside) → IsNumber w → inside_of (state_of w) ≡ w
+pub inside_of-state_of : (w : Inside) → IsNumber w → inside_of_word (state_of_raw w) ≡ w
 inside_of-state_of w p =
     let code : code_number (code_of (w.raw % 8)) ≡ w.raw % 8 = code_number-code_of (w.raw % 8) p.code in
-    let raw : word_number (state_of w) ≡ w.raw = omega (arith, code) in
+    let raw : word_number (state_of_raw w) ≡ w.raw = omega (arith, code) in
     λ i. record { raw = raw i }
 
 -- what a word of this state holds
-pub raw_is : (w : Inside) (s : SlotState) → IsNumber w → state_of w ≡ s → w.raw ≡ word_number s
+pub raw_is : (w : Inside) (s : SlotState) → IsNumber w → state_of_raw w ≡ s → w.raw ≡ word_number s
 raw_is w s p view = sym (ap (λ v. v.raw) (inside_of-state_of w p)) ∙ ap word_number view

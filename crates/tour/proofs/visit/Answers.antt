@@ -23,5 +23,11 @@ returns c =
     let then = c.service.ensures.same in
     record {
       session = met_there _ _ c.args.session.now _ 0 c.index_mut-cpu.result.now c.service.new.self c.requires.session (omega arith) c.index_mut-cpu.ensures.value
-          c.service.ensures.ready (record { schema = then.schema ∙ first.schema; config = then.config ∙ first.config; number = then.number ∙ first.number; pair = then.pair ∙ first.pair }) c.take.ensures.session (c.take.ensures.same.pairs ∙ c.ask.ensures.same.pairs) refl refl;
+          c.service.ensures.ready (record {
+            schema = then.schema ∙ first.schema;
+            config = then.config ∙ first.config;
+            number = then.number ∙ first.number;
+            pair = then.pair
+                ∙ first.pair;
+          }) c.take.ensures.session (c.take.ensures.same.pairs ∙ c.ask.ensures.same.pairs) refl refl;
     }

@@ -16,7 +16,8 @@ returns-clause-pushed g c =
       texts_differ = g.met.S.Schema.texts_differ s;
     } in
     λ ps h. read_all_reads (g.S.Schema.shape_of s) (g.S.Schema.accepted s) (g.S.Schema.text s) laws c.bytes.result.now (reverse (records ps)) c.read_all.result
-    (subst (λ z. BufferText (g.S.Schema.shape_of s) (g.S.Schema.accepted s) (g.S.Schema.text s) 0 z (reverse (records ps))) (sym c.bytes.ensures) (reads_back (g.S.Schema.shape_of s) (g.S.Schema.accepted s) (g.S.Schema.text s) laws c.args.buffer.now ps h))
+    (subst (λ z. BufferText (g.S.Schema.shape_of s) (g.S.Schema.accepted s) (g.S.Schema.text s) 0 z (reverse (records ps))) (sym c.bytes.ensures)
+    (reads_back (g.S.Schema.shape_of s) (g.S.Schema.accepted s) (g.S.Schema.text s) laws c.args.buffer.now ps h))
     c.read_all.ensures.records c.read_all.ensures.unreadable
 
 pub returns-clause-fault : goal.returns-clause-fault

@@ -22,8 +22,11 @@ returns-in-Err g c =
     let fine : ¬ FaultHere (g.S.Schema.shape_of s) (g.S.Schema.accepted s) (g.S.Schema.text s) Misaligned c.args.at (drop c.args.at c.args.text.now) =
     λ f. let yes_fault = told.1 f in cc in
     let long = length-drop c.args.at c.args.text.now in
-    let within = c.requires.within in
-    (refl, got_fault (g.S.Schema.shape_of s) (g.S.Schema.accepted s) (g.S.Schema.text s) laws c.in-Err.kind c.args.at (drop c.args.at c.args.text.now) (omega arith) c.requires.no_gap fine (subst (λ z. Answers (g.S.Schema.shape_of s) (g.S.Schema.accepted s) (g.S.Schema.text s) z (Err c.in-Err.kind)) rest c.in-Err.ensures))
+    let within = c.requires.within in (
+      refl,
+      got_fault (g.S.Schema.shape_of s) (g.S.Schema.accepted s) (g.S.Schema.text s) laws c.in-Err.kind c.args.at (drop c.args.at c.args.text.now)
+          (omega arith) c.requires.no_gap fine (subst (λ z. Answers (g.S.Schema.shape_of s) (g.S.Schema.accepted s) (g.S.Schema.text s) z (Err c.in-Err.kind)) rest c.in-Err.ensures),
+    )
 
 pub returns : goal.returns
 returns g c =

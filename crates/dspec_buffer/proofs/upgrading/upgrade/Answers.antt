@@ -11,7 +11,8 @@ push-requires c =
     let h : Now (c.in-Some.rec ∷ c.next.new.self) = subst Now c.in-Some.ensures.steps c.loop-rec.invariant.upgrading in
     let same : c.in-Some-stamped.rec ≡ stamped c.args.stamp c.in-Some.rec =
     c.in-Some-stamped.ensures.holds ∙ (λ i. record { epid = c.epid.ensures i; stamp = c.args.stamp; values = c.values.ensures.values i }) in
-    upgrading-next-accepted c.args.old.now c.args.stamp c.args.text.now c.args.to.now.size c.loop-rec.to c.in-Some.rec c.in-Some-stamped.rec c.next.new.self c.stamped-stamped.result c.ranges.stamp.fits h c.stamped-stamped.ensures same
+    upgrading-next-accepted c.args.old.now c.args.stamp c.args.text.now c.args.to.now.size c.loop-rec.to c.in-Some.rec c.in-Some-stamped.rec c.next.new.self
+    c.stamped-stamped.result c.ranges.stamp.fits h c.stamped-stamped.ensures same
 
 pub returns-then-not-push-clause-fault : goal.returns-then-not-push-clause-fault
 returns-then-not-push-clause-fault c =
@@ -20,7 +21,8 @@ returns-then-not-push-clause-fault c =
     let same : c.in-Some-stamped.rec ≡ stamped c.args.stamp c.in-Some.rec =
     c.in-Some-stamped.ensures.holds ∙ (λ i. record { epid = c.epid.ensures i; stamp = c.args.stamp; values = c.values.ensures.values i }) in
     let full : FillsUp c.args.old.now c.args.stamp c.args.text.now c.args.to.now.size c.loop-rec.to.count =
-    upgrading-refused c.args.old.now c.args.stamp c.args.text.now c.args.to.now.size c.loop-rec.to c.in-Some.rec c.in-Some-stamped.rec c.next.new.self c.stamped-stamped.result c.push.result h c.stamped-stamped.ensures same c.push.ensures.answer c.if-not-push.true in
+    upgrading-refused c.args.old.now c.args.stamp c.args.text.now c.args.to.now.size c.loop-rec.to c.in-Some.rec c.in-Some-stamped.rec c.next.new.self
+    c.stamped-stamped.result c.push.result h c.stamped-stamped.ensures same c.push.ensures.answer c.if-not-push.true in
     let unchanged : c.push.new.self ≡ c.loop-rec.to = c.if-not-push.ensures.refused in
     let Full : _ → Type 0 = λ n. FillsUp c.args.old.now c.args.stamp c.args.text.now c.args.to.now.size n in
     subst Full (sym (c.count-number.ensures ∙ ap (λ b. b.count) unchanged)) full
@@ -40,7 +42,8 @@ loop-rec-preserved c =
     record {
       can_next = tt;
       is_finite = tt;
-      upgrading = upgrading-pushed c.args.old.now c.args.stamp c.args.text.now c.args.to.now.size c.loop-rec.to c.push.new.self c.in-Some.rec c.in-Some-stamped.rec c.next.new.self c.stamped-stamped.result c.push.result h c.stamped-stamped.ensures same c.push.ensures.answer c.if-not-push.false c.if-not-push.ensures.kept c.push.ensures.size;
+      upgrading = upgrading-pushed c.args.old.now c.args.stamp c.args.text.now c.args.to.now.size c.loop-rec.to c.push.new.self c.in-Some.rec c.in-Some-stamped.rec
+          c.next.new.self c.stamped-stamped.result c.push.result h c.stamped-stamped.ensures same c.push.ensures.answer c.if-not-push.false c.if-not-push.ensures.kept c.push.ensures.size;
     }
 
 pub returns-clause-upgraded : goal.returns-clause-upgraded

@@ -3,7 +3,7 @@ use Rattle.dspec_deeds.specs.Closes.{reports}
 use Rattle.dspec_play.specs.Coherent.{IsCoherent, the_caller}
 use Rattle.dspec_deeds.specs.declared.config.Config.{Config}
 use Rattle.dspec_deeds.specs.Headline.{Headline}
-use Rattle.dspec_play.specs.Plays.{IsAt, all_ran, all_turned, playing_at_start, worn_count}
+use Rattle.dspec_play.specs.Plays.{IsPlayingAt, all_ran, all_turned, playing_at_start, worn_count}
 use Rattle.dspec_play.proofs.PlayerRuns.{IsSoFar, all_idle, same_reports, so_far_first, so_far_last, so_far_unrefused, worn_as_told}
 use Rattle.dspec_core.proofs.player.play.Goals as goal
 
@@ -27,7 +27,8 @@ finish-requires g c = record {
       let at = so_far_last shape accepts c.args.config.now c.args.turns.now c.loop-number.number c.loop-number.world.state c.loop-number.answers done c.loop-number.invariant.0 in
       let ran = c.in_ok-run_all.ensures.ran (all_turned shape c.args.turns.now (playing_at_start c.args.config.now)) at in
       all_idle shape c.loop-number.world.state c.run_all.new.world.state c.loop-number.answers c.run_all.new.answers (all_turned shape c.args.turns.now (playing_at_start c.args.config.now)) at
-      (subst (λ schema. IsAt c.run_all.new.world.state c.run_all.new.answers (all_ran (g.S.Schema.shape_of schema) (all_turned shape c.args.turns.now (playing_at_start c.args.config.now)))) c.loop-number.invariant.1 ran)
+      (subst (λ schema. IsPlayingAt c.run_all.new.world.state c.run_all.new.answers
+      (all_ran (g.S.Schema.shape_of schema) (all_turned shape c.args.turns.now (playing_at_start c.args.config.now)))) c.loop-number.invariant.1 ran)
       (subst (λ schema. IsCoherent (g.S.Schema.shape_of schema) c.loop-number.world.state) c.loop-number.invariant.1 c.loop-number.invariant.3.coherent)
       c.run_all.ensures.config a is;
 }
@@ -42,11 +43,13 @@ returns-clause-reports g c =
     let at = so_far_last shape accepts k ts c.loop-number.number c.loop-number.world.state c.loop-number.answers done c.loop-number.invariant.0 in
     let none = so_far_unrefused shape accepts k ts c.loop-number.number c.loop-number.world.state c.loop-number.answers done c.in-Ok.ensures.started c.loop-number.invariant.0 in
     let same : c.run_all.new.world.state.config ≡ k = c.run_all.ensures.config ∙ c.loop-number.invariant.2 in
-    let ran = subst (λ schema. IsAt c.run_all.new.world.state c.run_all.new.answers (all_ran (g.S.Schema.shape_of schema) (all_turned shape ts (playing_at_start k)))) c.loop-number.invariant.1
+    let ran = subst (λ schema. IsPlayingAt c.run_all.new.world.state c.run_all.new.answers (all_ran (g.S.Schema.shape_of schema) (all_turned shape ts (playing_at_start k)))) c.loop-number.invariant.1
     (c.in_ok-run_all.ensures.ran (all_turned shape ts (playing_at_start k)) at) in
     c.in_ok-close.ensures.reports
     ∙ (ap (λ (m : Config). reports m (λ n. (the_caller c.run_all.new.world.state.callers n).worn) (reverse c.in_ok-close.close.deeds)) same
-    ∙ same_reports k (λ n. (the_caller c.run_all.new.world.state.callers n).worn) (worn_count c.run_all.new.answers) (reverse c.in_ok-close.close.deeds) (worn_as_told shape accepts k ts c.run_all.new.world.state c.run_all.new.answers none ran))
+    ∙ same_reports k (λ n. (the_caller c.run_all.new.world.state.callers n).worn) (worn_count c.run_all.new.answers) (reverse c.in_ok-close.close.deeds)
+    (worn_as_told shape accepts k ts c.run_all.new.world.state c.run_all.new.answers none ran))
 
 pub returns-clause-headline : goal.returns-clause-headline
-returns-clause-headline g c = λ cpu. subst (λ (m : Config). Headline m cpu (reverse c.in_ok-close.close.deeds)) (c.run_all.ensures.config ∙ c.loop-number.invariant.2) (c.in_ok-close.ensures.headline cpu)
+returns-clause-headline g c = λ cpu. subst (λ (m : Config). Headline m cpu (reverse c.in_ok-close.close.deeds)) (c.run_all.ensures.config ∙ c.loop-number.invariant.2)
+    (c.in_ok-close.ensures.headline cpu)

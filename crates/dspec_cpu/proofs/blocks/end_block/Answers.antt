@@ -1,7 +1,7 @@
 use Rattle.std.proofs.Common.{◌≡◌, ◌∙◌, List, [], ◌∷◌, map, refl, if◌then◌else◌, sym, ap, subst}
 use Rattle.std.proofs.lemmas.Bool.{OnTrue_at}
 use Rattle.std.proofs.lemmas.Option.{get_or_from_slice_get}
-use Rattle.dspec_buffer.specs.Extent.{Piece, one, block, fits}
+use Rattle.dspec_buffer.specs.Extent.{Piece, one, block, piece_fits}
 use Rattle.dspec_buffer.specs.Stored.{Stored, HasPieces}
 use Rattle.dspec_cpu.proofs.Ones.{set_same}
 use Rattle.dspec_cpu.proofs.blocks.end_block.Goals as goal
@@ -24,7 +24,7 @@ returns-clause-active g c = λ s ps rs b at h hb enough.
     let one_block : (if c.args.mine then rs else []) ≡ rs = ap (λ m. if m then rs else []) c.if-not-mine.false in
     elim c.if-fit.branch [
       | then-fit w ↦
-          let pushed = w.push_block.ensures.answer s ps rs h hc ∙ (ap (λ l. fits (g.S.Schema.shape_of s) ps (block l) c.args.active.now.size) (sym one_block) ∙ enough w.if-fit.true) in
+          let pushed = w.push_block.ensures.answer s ps rs h hc ∙ (ap (λ l. piece_fits (g.S.Schema.shape_of s) ps (block l) c.args.active.now.size) (sym one_block) ∙ enough w.if-fit.true) in
           let now : P w.push_block.new.self (block rs ∷ ps) = OnTrue_at pushed w.push_block.ensures.kept s ps rs h hc in
           subst (λ x. P x (if c.args.fit then block (if c.args.mine then rs else []) ∷ ps else ps)) (sym w.active-is)
           (subst (λ f. P w.push_block.new.self (if f then block (if c.args.mine then rs else []) ∷ ps else ps)) (sym w.if-fit.true)

@@ -17,7 +17,8 @@ pub returns-then-not-inside-clause-reached : goal.returns-then-not-inside-clause
 returns-then-not-inside-clause-reached c =
     let seat = c.args.seat.now in
     let step = subst (λ b. LoadedActivity c.args.doing.now (known seat) (not b) (known c.load_activity.new.self)) c.if-not-load_activity.false c.load_activity.ensures.step in
-    outside (set_up c.args.words.now) (cpu_of seat) c.args.doing.now c.args.id (known seat) c.requires.seat.1 seat.who_is c.requires.on (known c.load_activity.new.self) (sym c.requires.inside ∙ c.if-not-inside.true) step
+    outside (set_up c.args.words.now) (cpu_of seat) c.args.doing.now c.args.id (known seat) c.requires.seat.1 seat.who_is c.requires.on (known c.load_activity.new.self)
+    (sym c.requires.inside ∙ c.if-not-inside.true) step
 
 pub work-requires-clause-call : goal.work-requires-clause-call
 work-requires-clause-call c =
@@ -25,7 +26,8 @@ work-requires-clause-call c =
     let k = set_up c.args.words.now in
     let inside = sym c.requires.inside ∙ c.if-not-inside.false in
     let step = subst (λ b. LoadedActivity c.args.doing.now (known seat) (not b) (known c.load_activity.new.self)) c.if-not-load_activity.false c.load_activity.ensures.step in
-    let flies = flight k (cpu_of seat) c.args.doing.now c.args.id (known seat) c.requires.seat.1 seat.who_is c.requires.on (known c.load_activity.new.self) inside c.requires.idle (c.requires.mine c.if-not-inside.false) step in
+    let flies = flight k (cpu_of seat) c.args.doing.now c.args.id (known seat) c.requires.seat.1 seat.who_is c.requires.on (known c.load_activity.new.self) inside
+    c.requires.idle (c.requires.mine c.if-not-inside.false) step in
     subst (λ (n : ℕ). IsInFlight k (known c.load_activity.new.self) n c.args.doing.now c.args.id c.slot.result) (sym c.load_activity.ensures.seat.1)
     (subst (λ (n : ℕ). IsInFlight k (known c.load_activity.new.self) (cpu_of seat) c.args.doing.now c.args.id n) (sym c.slot.ensures.value) flies)
 
@@ -35,8 +37,10 @@ returns-in-Attempt-clause-reached c =
     let k = set_up c.args.words.now in
     let inside = sym c.requires.inside ∙ c.if-not-inside.false in
     let step = subst (λ b. LoadedActivity c.args.doing.now (known seat) (not b) (known c.load_activity.new.self)) c.if-not-load_activity.false c.load_activity.ensures.step in
-    let ended = at_seat k c.args.doing.now c.args.id (known c.load_activity.new.self) (Attempt c.in-Attempt.to) (known c.work.new.seat) _ _ _ _ c.load_activity.ensures.seat.1 c.slot.ensures.value c.in-Attempt.ensures.ended in
-    behind k (cpu_of seat) c.args.doing.now c.args.id (known seat) c.requires.seat.1 seat.who_is c.requires.on (known c.load_activity.new.self) inside step (reach.Done c.in-Attempt.to) (known c.work.new.seat) ended (is_running (reach.Done c.in-Attempt.to) refl)
+    let ended = at_seat k c.args.doing.now c.args.id (known c.load_activity.new.self) (Attempt c.in-Attempt.to) (known c.work.new.seat) _ _ _ _ c.load_activity.ensures.seat.1
+    c.slot.ensures.value c.in-Attempt.ensures.ended in
+    behind k (cpu_of seat) c.args.doing.now c.args.id (known seat) c.requires.seat.1 seat.who_is c.requires.on (known c.load_activity.new.self) inside step
+    (reach.Done c.in-Attempt.to) (known c.work.new.seat) ended (is_running (reach.Done c.in-Attempt.to) refl)
 
 pub returns-in-Granted-clause-reached : goal.returns-in-Granted-clause-reached
 returns-in-Granted-clause-reached c =
@@ -44,8 +48,10 @@ returns-in-Granted-clause-reached c =
     let k = set_up c.args.words.now in
     let inside = sym c.requires.inside ∙ c.if-not-inside.false in
     let step = subst (λ b. LoadedActivity c.args.doing.now (known seat) (not b) (known c.load_activity.new.self)) c.if-not-load_activity.false c.load_activity.ensures.step in
-    let ended = at_seat k c.args.doing.now c.args.id (known c.load_activity.new.self) Granted (known c.work.new.seat) _ _ _ _ c.load_activity.ensures.seat.1 c.slot.ensures.value c.in-Granted.ensures.ended in
-    behind k (cpu_of seat) c.args.doing.now c.args.id (known seat) c.requires.seat.1 seat.who_is c.requires.on (known c.load_activity.new.self) inside step reach.Granted (known c.work.new.seat) ended (is_running reach.Granted refl)
+    let ended = at_seat k c.args.doing.now c.args.id (known c.load_activity.new.self) Granted (known c.work.new.seat) _ _ _ _ c.load_activity.ensures.seat.1
+    c.slot.ensures.value c.in-Granted.ensures.ended in
+    behind k (cpu_of seat) c.args.doing.now c.args.id (known seat) c.requires.seat.1 seat.who_is c.requires.on (known c.load_activity.new.self) inside step reach.Granted
+    (known c.work.new.seat) ended (is_running reach.Granted refl)
 
 pub returns-in-Void-clause-reached : goal.returns-in-Void-clause-reached
 returns-in-Void-clause-reached c =
@@ -53,8 +59,10 @@ returns-in-Void-clause-reached c =
     let k = set_up c.args.words.now in
     let inside = sym c.requires.inside ∙ c.if-not-inside.false in
     let step = subst (λ b. LoadedActivity c.args.doing.now (known seat) (not b) (known c.load_activity.new.self)) c.if-not-load_activity.false c.load_activity.ensures.step in
-    let ended = at_seat k c.args.doing.now c.args.id (known c.load_activity.new.self) Void (known c.work.new.seat) _ _ _ _ c.load_activity.ensures.seat.1 c.slot.ensures.value c.in-Void.ensures.ended in
-    behind k (cpu_of seat) c.args.doing.now c.args.id (known seat) c.requires.seat.1 seat.who_is c.requires.on (known c.load_activity.new.self) inside step reach.Void (known c.work.new.seat) ended void_running
+    let ended = at_seat k c.args.doing.now c.args.id (known c.load_activity.new.self) Void (known c.work.new.seat) _ _ _ _ c.load_activity.ensures.seat.1 c.slot.ensures.value
+    c.in-Void.ensures.ended in
+    behind k (cpu_of seat) c.args.doing.now c.args.id (known seat) c.requires.seat.1 seat.who_is c.requires.on (known c.load_activity.new.self) inside step reach.Void
+    (known c.work.new.seat) ended void_running
 
 pub unreachable-requires : goal.unreachable-requires
 unreachable-requires c = let ended = c.in-Idle.ensures.ended in never_idle c.args.doing.now.op c.args.id ended.word c.args.doing.now.mine c.requires.on ended.acts

@@ -6,7 +6,12 @@ use Rattle.dspec_cpu.proofs.Retries.{loaded, loaded_steps, may_try, tried, fewer
 use Rattle.dspec_cpu.proofs.reaching.work.Goals as goal
 
 pub load_word-word-requires : goal.load_word-word-requires
-load_word-word-requires c = record { seat = c.requires.seat; slot = c.requires.slot; call = loads (set_up c.args.words.now) (known c.args.seat.now) (cpu_of c.args.seat.now) c.args.slot c.args.doing.now c.args._id c.requires.on c.requires.call }
+load_word-word-requires c = record {
+  seat = c.requires.seat;
+  slot = c.requires.slot;
+  call = loads (set_up c.args.words.now) (known c.args.seat.now)
+      (cpu_of c.args.seat.now) c.args.slot c.args.doing.now c.args._id c.requires.on c.requires.call;
+}
 
 pub loop-to-init : goal.loop-to-init
 loop-to-init c =
@@ -15,8 +20,10 @@ loop-to-init c =
     let doing = c.args.doing.now in
     record {
       seat = c.load_word-word.ensures.seat;
-      shown = loaded (set_up words) (cpu_of seat) doing c.args._id c.args.slot (known seat) c.requires.seat.1 seat.who_is c.load_word-word.result (known c.load_word-word.new.self) c.requires.call c.load_word-word.ensures.step;
-      bounded = loaded_steps (set_up words) (cpu_of seat) doing c.args._id c.args.slot (known seat) c.requires.seat.1 seat.who_is c.load_word-word.result (known c.load_word-word.new.self) c.load_word-word.ensures.step;
+      shown = loaded (set_up words) (cpu_of seat) doing c.args._id c.args.slot (known seat) c.requires.seat.1 seat.who_is c.load_word-word.result
+          (known c.load_word-word.new.self) c.requires.call c.load_word-word.ensures.step;
+      bounded = loaded_steps (set_up words) (cpu_of seat) doing c.args._id c.args.slot (known seat) c.requires.seat.1 seat.who_is c.load_word-word.result
+          (known c.load_word-word.new.self) c.load_word-word.ensures.step;
       limit = c.load_word-word.ensures.limit;
     }
 
@@ -33,7 +40,8 @@ returns-in_default c =
       ended = record {
         word = c.loop-to.word;
         acts = sym c.act_at-act.ensures;
-        last = subst (λ b. Shown (set_up words) (cpu_of seat) doing c.args._id c.args.slot (known seat) c.loop-to.word b (known c.loop-to.seat)) (sym (no_attempt c.act_at-act.result c.in_default.not-Attempt)) c.loop-to.invariant.shown;
+        last = subst (λ b. Shown (set_up words) (cpu_of seat) doing c.args._id c.args.slot (known seat) c.loop-to.word b (known c.loop-to.seat))
+            (sym (no_attempt c.act_at-act.result c.in_default.not-Attempt)) c.loop-to.invariant.shown;
         bounded = let none = no_release c.act_at-act.result c.in_default.not-Attempt in let le = c.loop-to.invariant.bounded in omega arith;
       };
       release = none_owned (set_up words) (cpu_of c.loop-to.seat) c.args.slot (known c.loop-to.seat) c.act_at-act.result c.in_default.not-Attempt;
@@ -49,7 +57,8 @@ exchange-requires-clause-call c =
     let doing = c.args.doing.now in
     let e = sym c.act_at-act.ensures ∙ c.in-Attempt.is in
     subst (λ (n : ℕ). MayTry (set_up words) (known c.loop-to.seat) n doing c.args.slot c.loop-to.word c.in-Attempt.to) (sym c.loop-to.invariant.seat.1)
-    (may_try (set_up words) (cpu_of seat) doing c.args._id c.args.slot (known seat) c.requires.seat.1 seat.who_is c.loop-to.word c.in-Attempt.to (known c.loop-to.seat) c.requires.on c.loop-to.invariant.shown e)
+    (may_try (set_up words) (cpu_of seat) doing c.args._id c.args.slot (known seat) c.requires.seat.1 seat.who_is c.loop-to.word c.in-Attempt.to
+    (known c.loop-to.seat) c.requires.on c.loop-to.invariant.shown e)
 
 pub returns-in-Ok-clause-seat : goal.returns-in-Ok-clause-seat
 returns-in-Ok-clause-seat c = (c.exchange.ensures.seat.0, c.exchange.ensures.seat.1 ∙ c.loop-to.invariant.seat.1)
@@ -63,8 +72,10 @@ returns-in-Ok-clause-ended c =
     record {
       word = c.loop-to.word;
       acts = e;
-      last = tried (set_up words) (cpu_of seat) doing c.args._id c.args.slot (known seat) c.requires.seat.1 seat.who_is c.loop-to.word c.in-Attempt.to (known c.loop-to.seat) c.requires.on c.loop-to.invariant.shown e c.loop-to.word true (known c.exchange.new.seat) c.in-Ok.ensures.step;
-      bounded = hit_steps (set_up words) (cpu_of seat) doing c.args._id c.args.slot (known seat) c.requires.seat.1 seat.who_is c.loop-to.word c.in-Attempt.to (known c.loop-to.seat) c.requires.on c.loop-to.invariant.shown e (known c.exchange.new.seat) c.in-Ok.ensures.step c.loop-to.invariant.bounded;
+      last = tried (set_up words) (cpu_of seat) doing c.args._id c.args.slot (known seat) c.requires.seat.1 seat.who_is c.loop-to.word c.in-Attempt.to
+          (known c.loop-to.seat) c.requires.on c.loop-to.invariant.shown e c.loop-to.word true (known c.exchange.new.seat) c.in-Ok.ensures.step;
+      bounded = hit_steps (set_up words) (cpu_of seat) doing c.args._id c.args.slot (known seat) c.requires.seat.1 seat.who_is c.loop-to.word c.in-Attempt.to
+          (known c.loop-to.seat) c.requires.on c.loop-to.invariant.shown e (known c.exchange.new.seat) c.in-Ok.ensures.step c.loop-to.invariant.bounded;
     }
 
 pub loop-to-smaller : goal.loop-to-smaller
@@ -73,7 +84,8 @@ loop-to-smaller c =
     let seat = c.args.seat.now in
     let doing = c.args.doing.now in
     let e = sym c.act_at-act.ensures ∙ c.in-Attempt.is in
-    let less = fewer_left (set_up words) (cpu_of seat) doing c.args._id c.args.slot (known seat) c.requires.seat.1 seat.who_is c.loop-to.word c.in-Attempt.to (known c.loop-to.seat) c.requires.on c.loop-to.invariant.shown e c.in-Err.shown c.in-Err.ensures.greater in
+    let less = fewer_left (set_up words) (cpu_of seat) doing c.args._id c.args.slot (known seat) c.requires.seat.1 seat.who_is c.loop-to.word c.in-Attempt.to
+    (known c.loop-to.seat) c.requires.on c.loop-to.invariant.shown e c.in-Err.shown c.in-Err.ensures.greater in
     omega arith
 
 pub loop-to-preserved : goal.loop-to-preserved
@@ -84,9 +96,11 @@ loop-to-preserved c =
     let e = sym c.act_at-act.ensures ∙ c.in-Attempt.is in
     record {
       seat = (c.exchange.ensures.seat.0, c.exchange.ensures.seat.1 ∙ c.loop-to.invariant.seat.1);
-      shown = tried (set_up words) (cpu_of seat) doing c.args._id c.args.slot (known seat) c.requires.seat.1 seat.who_is c.loop-to.word c.in-Attempt.to (known c.loop-to.seat) c.requires.on c.loop-to.invariant.shown e c.in-Err.shown false (known c.exchange.new.seat) c.in-Err.ensures.step;
+      shown = tried (set_up words) (cpu_of seat) doing c.args._id c.args.slot (known seat) c.requires.seat.1 seat.who_is c.loop-to.word c.in-Attempt.to
+          (known c.loop-to.seat) c.requires.on c.loop-to.invariant.shown e c.in-Err.shown false (known c.exchange.new.seat) c.in-Err.ensures.step;
       bounded =
-          let less = fewer_left (set_up words) (cpu_of seat) doing c.args._id c.args.slot (known seat) c.requires.seat.1 seat.who_is c.loop-to.word c.in-Attempt.to (known c.loop-to.seat) c.requires.on c.loop-to.invariant.shown e c.in-Err.shown c.in-Err.ensures.greater in
+          let less = fewer_left (set_up words) (cpu_of seat) doing c.args._id c.args.slot (known seat) c.requires.seat.1 seat.who_is c.loop-to.word c.in-Attempt.to
+          (known c.loop-to.seat) c.requires.on c.loop-to.invariant.shown e c.in-Err.shown c.in-Err.ensures.greater in
           let one = step_made doing c.args.slot (known c.loop-to.seat) c.in-Err.shown (known c.exchange.new.seat) c.in-Err.ensures.step in
           let le = c.loop-to.invariant.bounded in
           omega arith;

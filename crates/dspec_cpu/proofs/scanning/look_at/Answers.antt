@@ -19,7 +19,8 @@ returns-in_default c =
     let void = passes word k.max_issues (λ to e. c.in_default.not-Attempt to (c.open_at.ensures ∙ (ap (open_at word) most ∙ e))) in
     record {
       seat = c.load_word-word.ensures.seat;
-      looked = passed k (cpu_of seat) c.args.slot (known seat) c.requires.seat.1 seat.who_is word c.decided.result w step void (c.decided.ensures ∙ ap Rattle.dspec_word.specs.Code.is_decided c.code.ensures);
+      looked = passed k (cpu_of seat) c.args.slot (known seat) c.requires.seat.1 seat.who_is word c.decided.result w step void
+          (c.decided.ensures ∙ ap Rattle.dspec_word.specs.Code.is_decided c.code.ensures);
     }
 
 pub returns-in-Ok-clause-looked : goal.returns-in-Ok-clause-looked
@@ -32,7 +33,8 @@ returns-in-Ok-clause-looked c =
     let most = c.requires.most.0 in
     let free = sym (c.open_at.ensures ∙ ap (open_at word) most) ∙ c.in-Attempt.is in
     let id : c.of.result ≡ record { issue = word.issue; slot = c.args.slot } = c.of.ensures ∙ ap (λ n. record { issue = n; slot = c.args.slot }) c.issue.ensures.value in
-    tried k (cpu_of seat) c.args.slot (known seat) c.requires.seat.1 seat.who_is word c.in-Attempt.field-0 word true u (known c.open_word.new.self) step free c.in-Ok.ensures.step (look.Given c.of.result)
+    tried k (cpu_of seat) c.args.slot (known seat) c.requires.seat.1 seat.who_is word c.in-Attempt.field-0 word true u (known c.open_word.new.self) step free
+    c.in-Ok.ensures.step (look.Given c.of.result)
     (ap (λ (x : Speculation). Opened (cpu_of seat) x ∷ []) (sym id)) (ap (λ (x : Speculation). x.slot) id)
 
 pub returns-in-Err-clause-looked : goal.returns-in-Err-clause-looked
@@ -45,5 +47,6 @@ returns-in-Err-clause-looked c =
     let most = c.requires.most.0 in
     let free = sym (c.open_at.ensures ∙ ap (open_at word) most) ∙ c.in-Attempt.is in
     let busy = c.decided-in-Err.ensures ∙ ap Rattle.dspec_word.specs.Code.is_decided c.code-in-Err.ensures in
-    tried k (cpu_of seat) c.args.slot (known seat) c.requires.seat.1 seat.who_is word c.in-Attempt.field-0 c.in-Err.shown false u (known c.open_word.new.self) step free c.in-Err.ensures.step (look.Missed c.decided-in-Err.result)
+    tried k (cpu_of seat) c.args.slot (known seat) c.requires.seat.1 seat.who_is word c.in-Attempt.field-0 c.in-Err.shown false u (known c.open_word.new.self) step free
+    c.in-Err.ensures.step (look.Missed c.decided-in-Err.result)
     (ap (λ b. Miss (cpu_of seat) c.args.slot b ∷ []) (sym busy)) tt

@@ -3,7 +3,7 @@ use Rattle.dspec_deeds.specs.declared.config.Config.{Config}
 use Rattle.dspec_deeds.specs.History.{scan}
 use Rattle.dspec_table.specs.Seats.{known, set_up, cpu_of}
 use Rattle.dspec_table.specs.Steps.{LoadedActivity}
-use Rattle.dspec_cpu.specs.Scans.{Came, Looked}
+use Rattle.dspec_cpu.specs.Scans.{Came, LookedAtSlot}
 use Rattle.dspec_cpu.specs.declared.scanning.Look.TheVariants as look
 use Rattle.dspec_cpu.proofs.Scans.{runs, stops, goes_by, gives, ends, next_slot, next_flight}
 use Rattle.dspec_cpu.proofs.scanning.scan_slots.Goals as goal
@@ -47,7 +47,8 @@ returns-in-Given-clause-scanned c =
     let k = set_up c.args.words.now in
     let seat = c.args.seat.now in
     let lt = subst (λ (x : Config). c.loop-place.place < x.nspec) c.requires.config.0 c.loop-place-test.true in
-    let looked = subst (λ (n : ℕ). Looked k n (c.loop-place.place + 1) (known c.loop-place.seat) (look.Given c.in-Given.id) (known c.look_at.new.seat)) c.loop-place.invariant.seat.1 c.in-Given.ensures.looked in
+    let looked = subst (λ (n : ℕ). LookedAtSlot k n (c.loop-place.place + 1) (known c.loop-place.seat) (look.Given c.in-Given.id) (known c.look_at.new.seat))
+    c.loop-place.invariant.seat.1 c.in-Given.ensures.looked in
     gives k (cpu_of seat) (known seat) c.loop-place.place c.loop-place.busy c.in-Given.id (known c.loop-place.seat) (known c.look_at.new.seat) lt c.loop-place.invariant.came looked
 
 pub loop-place-preserved : goal.loop-place-preserved
@@ -55,11 +56,17 @@ loop-place-preserved c =
     let k = set_up c.args.words.now in
     let seat = c.args.seat.now in
     let b = c.in-Missed.was_decided in
-    let busy : c.if-was_decided.busy ≡ (b || c.loop-place.busy) = elim c.if-was_decided.branch [ then-was_decided w ↦ w.busy-is ∙ (w.if-was_decided.true ∙ ap (λ x. x || c.loop-place.busy) (sym w.if-was_decided.true)) | else-was_decided w ↦ w.busy-is ∙ ap (λ x. x || c.loop-place.busy) (sym w.if-was_decided.false) ] in
-    let looked = subst (λ (n : ℕ). Looked k n (c.loop-place.place + 1) (known c.loop-place.seat) (look.Missed b) (known c.look_at.new.seat)) c.loop-place.invariant.seat.1 c.in-Missed.ensures.looked in
+    let busy : c.if-was_decided.busy ≡ (b || c.loop-place.busy) =
+    elim c.if-was_decided.branch [
+      | then-was_decided w ↦ w.busy-is ∙ (w.if-was_decided.true ∙ ap (λ x. x || c.loop-place.busy) (sym w.if-was_decided.true))
+      | else-was_decided w ↦ w.busy-is ∙ ap (λ x. x || c.loop-place.busy) (sym w.if-was_decided.false)
+    ] in
+    let looked = subst (λ (n : ℕ). LookedAtSlot k n (c.loop-place.place + 1) (known c.loop-place.seat) (look.Missed b) (known c.look_at.new.seat))
+    c.loop-place.invariant.seat.1 c.in-Missed.ensures.looked in
     record {
       seat = (c.look_at.ensures.seat.0, c.look_at.ensures.seat.1 ∙ c.loop-place.invariant.seat.1);
-      came = subst (λ x. Came k (cpu_of seat) (known seat) (c.loop-place.place + 1) x (known c.look_at.new.seat)) (sym busy) (goes_by k (cpu_of seat) (known seat) c.loop-place.place c.loop-place.busy b (known c.loop-place.seat) (known c.look_at.new.seat) c.loop-place.invariant.came looked);
+      came = subst (λ x. Came k (cpu_of seat) (known seat) (c.loop-place.place + 1) x (known c.look_at.new.seat)) (sym busy)
+          (goes_by k (cpu_of seat) (known seat) c.loop-place.place c.loop-place.busy b (known c.loop-place.seat) (known c.look_at.new.seat) c.loop-place.invariant.came looked);
     }
 
 pub returns-clause-seat : goal.returns-clause-seat
@@ -72,4 +79,5 @@ returns-clause-scanned c =
     let low = c.loop-place-test.false in
     let high = c.loop-place.auto.place-end in
     let all : c.loop-place.place ≡ c.args.config.now.nspec = omega arith in
-    ends k (cpu_of seat) (known seat) c.loop-place.place c.loop-place.busy (known c.loop-place.seat) (all ∙ ap (λ (x : Config). x.nspec) c.requires.config.0) c.loop-place.invariant.came c.none_free.result c.none_free.ensures
+    ends k (cpu_of seat) (known seat) c.loop-place.place c.loop-place.busy (known c.loop-place.seat) (all ∙ ap (λ (x : Config). x.nspec) c.requires.config.0)
+    c.loop-place.invariant.came c.none_free.result c.none_free.ensures

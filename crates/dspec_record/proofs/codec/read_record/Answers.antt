@@ -76,13 +76,15 @@ returns-clause-read c =
     let h : Header = c.args.header in
     let stamp : ℕ = c.loop-field.rec.stamp in
     let whole : IsRead h c.args.fields.now c.args.epid c.args.text.now (record { epid = c.args.epid; stamp = stamp; values = c.loop-field.rec.values }) =
-    IsReading-whole h c.args.fields.now c.args.epid stamp c.args.text.now c.loop-field.end c.loop-field.rec.values c.loop-field.field-index past c.loop-field.invariant.reading (c.is_zero-2.ensures.0 c.if-not-is_zero-2.false) in
+    IsReading-whole h c.args.fields.now c.args.epid stamp c.args.text.now c.loop-field.end c.loop-field.rec.values c.loop-field.field-index past
+    c.loop-field.invariant.reading (c.is_zero-2.ensures.0 c.if-not-is_zero-2.false) in
     let Read : ℕ → Type 0 = λ e. IsRead h c.args.fields.now c.args.epid c.args.text.now (record { epid = e; stamp = stamp; values = c.loop-field.rec.values }) in
     subst Read (sym c.loop-field.invariant.epid_is) whole
 
 pub returns-then-not-is_zero-clause-unread : goal.returns-then-not-is_zero-clause-unread
 returns-then-not-is_zero-clause-unread c = λ r stamp_fit fit is.
-    let zeros = IsReading-gap c.args.header c.args.fields.now c.args.epid c.loop-field.rec.stamp c.args.text.now c.loop-field.end c.loop-field.rec.values c.loop-field.field-index c.place-place.result c.loop-field-test.true c.loop-field.invariant.reading c.place-place.ensures r fit is in
+    let zeros = IsReading-gap c.args.header c.args.fields.now c.args.epid c.loop-field.rec.stamp c.args.text.now c.loop-field.end c.loop-field.rec.values
+    c.loop-field.field-index c.place-place.result c.loop-field-test.true c.loop-field.invariant.reading c.place-place.ensures r fit is in
     let yes = c.is_zero.ensures.1 zeros in
     let no = c.if-not-is_zero.true in
     absurd (cc)

@@ -24,7 +24,8 @@ loop-below-preserved c =
       | then-clean_slot w ↦ w.released-is ∙ ap (λ b. if b then c.loop-below.released + 1 else c.loop-below.released) (sym w.if-clean_slot.true)
       | else-clean_slot w ↦ w.released-is ∙ ap (λ b. if b then c.loop-below.released + 1 else c.loop-below.released) (sym w.if-clean_slot.false)
     ] in
-    let more = one_more c.args.config.now (known_there c.args.seat.now) (known_there c.loop-below.seat) (known_there c.clean_slot.new.seat) c.loop-below.below c.loop-below.released was.0 hit was.1 c.clean_slot.ensures.cleaned was.2 in
+    let more = one_more c.args.config.now (known_there c.args.seat.now) (known_there c.loop-below.seat) (known_there c.clean_slot.new.seat) c.loop-below.below
+    c.loop-below.released was.0 hit was.1 c.clean_slot.ensures.cleaned was.2 in
     record { seat = c.clean_slot.ensures.seat; cleaned = (more.0, more.1, counted ∙ more.2) }
 
 pub returns-clause-cleaned : goal.returns-clause-cleaned

@@ -34,10 +34,13 @@ returns g c = λ p log h has is.
     let drained = c.drain_beside-drained.result in
     let all : other.taken ++ drained ≡ end.handed = subst (λ (e : ConsumerKnows). e.taken ++ drained ≡ end.handed) c.into_end.ensures.end c.drain_beside-drained.ensures.batches in
     let prefix : IsPrefix end.spares other.given = subst (λ (e : ConsumerKnows). IsPrefix end.spares e.given) c.into_end.ensures.end c.drain_beside-drained.ensures.spares in
-    let sealed = sealed_left (g.S.Schema.shape_of after.schema) (g.S.Schema.accepted after.schema) (g.S.Schema.text after.schema) after.config after.cpu q c.batches-in_hand.result.0 c.next-waiting.result (in_hand_of_rest rest) end.handed
-    end.spares other.taken other.given drained c.next-waiting.new.self c.requires.few (c.batches-in_hand.ensures.rest ∙ c.settle.ensures.same.in_hand) prefix c.into_end.ensures.order all c.next-waiting.ensures.steps batches.0 in
+    let sealed = sealed_left (g.S.Schema.shape_of after.schema) (g.S.Schema.accepted after.schema) (g.S.Schema.text after.schema) after.config after.cpu q
+    c.batches-in_hand.result.0 c.next-waiting.result (in_hand_of_rest rest) end.handed
+    end.spares other.taken other.given drained c.next-waiting.new.self c.requires.few (c.batches-in_hand.ensures.rest ∙ c.settle.ensures.same.in_hand) prefix
+    c.into_end.ensures.order all c.next-waiting.ensures.steps batches.0 in
     shows_before g.S.Schema.shape_of g.S.Schema.accepted g.S.Schema.text rest after c.settle.ensures.same other.taken q _ record {
-      sealed = subst (λ (o : Option Batch). AreSealed (g.S.Schema.shape_of after.schema) (g.S.Schema.accepted after.schema) (g.S.Schema.text after.schema) after.config after.cpu q (reverse (other.taken ++ waiting o))) (sym c.or.ensures) sealed;
+      sealed = subst (λ (o : Option Batch). AreSealed (g.S.Schema.shape_of after.schema) (g.S.Schema.accepted after.schema) (g.S.Schema.text after.schema) after.config
+          after.cpu q (reverse (other.taken ++ waiting o))) (sym c.or.ensures) sealed;
       last = batches.1;
       report = c.report-report.ensures end.handed q h now (legal_now g.S.Schema.shape_of g.S.Schema.accepted g.S.Schema.text rest after c.settle.ensures.same h q (is.legal, is.closed));
     }

@@ -1,6 +1,6 @@
 use Rattle.std.proofs.Common.{ℕ, true, ◌∙◌, sym, ap, subst}
 use Rattle.dspec_table.specs.declared.rule.View.{View}
-use Rattle.dspec_table.specs.Conditions.{MayTry, Decides}
+use Rattle.dspec_table.specs.Conditions.{MayTry, IsDeciding}
 use Rattle.dspec_table.specs.Seats.{known}
 use Rattle.dspec_table.proofs.Flights.{tries_again}
 use Rattle.dspec_table_tests.specs.Calls.{Unused}
@@ -29,5 +29,6 @@ returns-clause-unused c done =
     let to = c.in-Attempt.to in
     let same = commits k (known seat) (known new) seat.cpu call c.args.id from to c.requires.op (sym c.commit_at.ensures ∙ c.in-Attempt.is)
     (λ to attempts. tries_again k (known seat) (known new) seat.cpu 1 call from to seat.who_is c.requires.may c.load_word-from.ensures.step attempts) in
-    let decided = tried_rests k seat.cpu (known new) (known c.decide_word.new.self) call from true (subst Decides (sym c.requires.op) tt) (subst (Unused k seat.cpu) (sym same.1) c.requires.unused) c.in-Ok.ensures.step in
+    let decided = tried_rests k seat.cpu (known new) (known c.decide_word.new.self) call from true (subst IsDeciding (sym c.requires.op) tt)
+    (subst (Unused k seat.cpu) (sym same.1) c.requires.unused) c.in-Ok.ensures.step in
     subst (Unused k seat.cpu) (sym (ap (λ (v : View). v.own) c.release_word.ensures.step.2.view)) decided

@@ -9,4 +9,5 @@ join-consumed-requires-after_bounds g c =
     search rules
 
 pub returns : goal.returns
-returns g c = back_again c.args.board.now.schema c.args.session (record { shared = c.args.session.shared; cpus = c.join-consumed.result.1; consumer = c.in_ok-consumer.consumer }) c.requires (search rules) (search rules)
+returns g c = back_again c.args.board.now.schema c.args.session
+    (record { shared = c.args.session.shared; cpus = c.join-consumed.result.1; consumer = c.in_ok-consumer.consumer }) c.requires (search rules) (search rules)

@@ -9,4 +9,5 @@ join-drained-requires-after_bounds g c =
     search rules
 
 pub returns : goal.returns
-returns g c = lent_back c.args.server.now.schema c.args.session (record { shared = c.args.session.shared; cpus = c.join-drained.result.1; consumer = c.in_ok-consumer.consumer }) c.requires (search rules) (search rules)
+returns g c = lent_back c.args.server.now.schema c.args.session
+    (record { shared = c.args.session.shared; cpus = c.join-drained.result.1; consumer = c.in_ok-consumer.consumer }) c.requires (search rules) (search rules)

@@ -14,4 +14,6 @@ returns g c = λ rs h.
       texts_fit = g.met.S.Schema.texts_fit s;
       texts_differ = g.met.S.Schema.texts_differ s;
     } in
-    walk_from (g.S.Schema.shape_of s) (g.S.Schema.accepted s) (g.S.Schema.text s) laws c.args.self.now c.args.place rs c.next_of_text.result (subst (λ z. (qs : _) → HasAhead (g.S.Schema.shape_of s) (g.S.Schema.accepted s) (g.S.Schema.text s) z c.args.place qs → Steps (HasAhead (g.S.Schema.shape_of s) (g.S.Schema.accepted s) (g.S.Schema.text s) z) qs c.next_of_text.result) c.bytes.ensures c.next_of_text.ensures) h
+    walk_from (g.S.Schema.shape_of s) (g.S.Schema.accepted s) (g.S.Schema.text s) laws c.args.self.now c.args.place rs c.next_of_text.result
+    (subst (λ z. (qs : _) → HasAhead (g.S.Schema.shape_of s) (g.S.Schema.accepted s) (g.S.Schema.text s) z c.args.place qs
+    → Steps (HasAhead (g.S.Schema.shape_of s) (g.S.Schema.accepted s) (g.S.Schema.text s) z) qs c.next_of_text.result) c.bytes.ensures c.next_of_text.ensures) h

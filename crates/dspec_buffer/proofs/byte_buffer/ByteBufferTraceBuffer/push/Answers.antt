@@ -29,12 +29,14 @@ returns-in_default-clause-answer g c = λ ps h.
     } in
     let within = c.self.invariant.within in
     let long = c.self.inside.bytes.ok.0 in
-    let at = offset_is (g.S.Schema.shape_of s) (g.S.Schema.accepted s) (g.S.Schema.text s) laws c.args.self.now c.self.inside.offset c.self.inside.bytes.items ps (ap (λ b. b.text) c.self.view_is) (omega arith) h in
+    let at = offset_is (g.S.Schema.shape_of s) (g.S.Schema.accepted s) (g.S.Schema.text s) laws c.args.self.now c.self.inside.offset c.self.inside.bytes.items ps
+    (ap (λ b. b.text) c.self.view_is) (omega arith) h in
     let named : g.S.Schema.shape_of s c.args.rec.now.epid ≡ Some c.unwrap-shape.result = ap (g.S.Schema.shape_of s) (sym c.epid.ensures) ∙ sym c.shape.ensures ∙ c.unwrap-shape.ensures in
     let says = shape_says (g.S.Schema.shape_of s) c.args.rec.now c.unwrap-shape.result named in
     let fit = g.met.S.Schema.shapes_fit s c.args.rec.now.epid c.unwrap-shape.result named in
     let with_epid = fit.with_epid in
-    fits_says (g.S.Schema.shape_of s) (one c.args.rec.now) ps c.self.inside.offset c.unwrap-shape.result.align c.unwrap-shape.result.size c.size.result c.args.self.now.size false at says.1 says.0 c.size.ensures
+    fits_says (g.S.Schema.shape_of s) (one c.args.rec.now) ps c.self.inside.offset c.unwrap-shape.result.align c.unwrap-shape.result.size c.size.result c.args.self.now.size
+    false at says.1 says.0 c.size.ensures
     (refuses c.self.inside.offset c.unwrap-shape.result.align c.unwrap-shape.result.size c.size.result (λ z. omega arith) c.in_default.ensures)
 
 pub invariant_of-self : goal.invariant_of-self
@@ -42,7 +44,8 @@ invariant_of-self g c =
     let s = c.args.schema.now in
     let fit = g.met.S.Schema.shapes_fit s c.epid.result c.unwrap-shape.result (sym c.shape.ensures ∙ c.unwrap-shape.ensures) in
     let with_epid = fit.with_epid in
-    let p = placed c.self.inside.offset c.unwrap-shape.result.align c.unwrap-shape.result.size c.in-Some.place c.self.invariant.words fit.aligned fit.whole_words (λ z. omega arith) c.in-Some.ensures.0 in
+    let p = placed c.self.inside.offset c.unwrap-shape.result.align c.unwrap-shape.result.size c.in-Some.place c.self.invariant.words fit.aligned fit.whole_words
+    (λ z. omega arith) c.in-Some.ensures.0 in
     let above = p.above in
     let limit : c.size.result ≡ c.args.self.now.size = c.size.ensures in
     let size = ap (λ b. b.size) c.self.view_is in
@@ -61,12 +64,14 @@ returns-clause-answer g c = λ ps h.
     } in
     let within = c.self.invariant.within in
     let long = c.self.inside.bytes.ok.0 in
-    let at = offset_is (g.S.Schema.shape_of s) (g.S.Schema.accepted s) (g.S.Schema.text s) laws c.args.self.now c.self.inside.offset c.self.inside.bytes.items ps (ap (λ b. b.text) c.self.view_is) (omega arith) h in
+    let at = offset_is (g.S.Schema.shape_of s) (g.S.Schema.accepted s) (g.S.Schema.text s) laws c.args.self.now c.self.inside.offset c.self.inside.bytes.items ps
+    (ap (λ b. b.text) c.self.view_is) (omega arith) h in
     let named : g.S.Schema.shape_of s c.args.rec.now.epid ≡ Some c.unwrap-shape.result = ap (g.S.Schema.shape_of s) (sym c.epid.ensures) ∙ sym c.shape.ensures ∙ c.unwrap-shape.ensures in
     let says = shape_says (g.S.Schema.shape_of s) c.args.rec.now c.unwrap-shape.result named in
     let fit = g.met.S.Schema.shapes_fit s c.args.rec.now.epid c.unwrap-shape.result named in
     let with_epid = fit.with_epid in
-    fits_says (g.S.Schema.shape_of s) (one c.args.rec.now) ps c.self.inside.offset c.unwrap-shape.result.align c.unwrap-shape.result.size c.size.result c.args.self.now.size true at says.1 says.0 c.size.ensures
+    fits_says (g.S.Schema.shape_of s) (one c.args.rec.now) ps c.self.inside.offset c.unwrap-shape.result.align c.unwrap-shape.result.size c.size.result c.args.self.now.size
+    true at says.1 says.0 c.size.ensures
     (admits c.self.inside.offset c.unwrap-shape.result.align c.unwrap-shape.result.size c.size.result c.in-Some.place (λ z. omega arith) c.in-Some.ensures.0 c.in-Some.ensures.1)
 
 pub returns-clause-kept : goal.returns-clause-kept
@@ -80,7 +85,8 @@ returns-clause-kept g c = λ ps h.
     } in
     let within = c.self.invariant.within in
     let long = c.self.inside.bytes.ok.0 in
-    let at = offset_is (g.S.Schema.shape_of s) (g.S.Schema.accepted s) (g.S.Schema.text s) laws c.args.self.now c.self.inside.offset c.self.inside.bytes.items ps (ap (λ b. b.text) c.self.view_is) (omega arith) h in
+    let at = offset_is (g.S.Schema.shape_of s) (g.S.Schema.accepted s) (g.S.Schema.text s) laws c.args.self.now c.self.inside.offset c.self.inside.bytes.items ps
+    (ap (λ b. b.text) c.self.view_is) (omega arith) h in
     let named : g.S.Schema.shape_of s c.args.rec.now.epid ≡ Some c.unwrap-shape.result = ap (g.S.Schema.shape_of s) (sym c.epid.ensures) ∙ sym c.shape.ensures ∙ c.unwrap-shape.ensures in
     let says = shape_says (g.S.Schema.shape_of s) c.args.rec.now c.unwrap-shape.result named in
     let fit = g.met.S.Schema.shapes_fit s c.args.rec.now.epid c.unwrap-shape.result named in
@@ -91,8 +97,13 @@ returns-clause-kept g c = λ ps h.
     let fitting = c.in-Some.ensures.1 in
     let slice = c.as_mut_slice-bytes.ensures.len in
     let written : length (g.S.Schema.text s c.args.rec.now) ≡ c.unwrap-shape.result.size = t.size ∙ says.0 in
-    let back = laid_whole c.self.inside.offset c.unwrap-shape.result.align c.in-Some.place c.unwrap-shape.result.size c.self.inside.bytes.len c.self.inside.bytes.items c.self.inside.bytes.items c.put_behind.new.bytes (g.S.Schema.text s c.args.rec.now) c.self.invariant.words fit.aligned c.in-Some.ensures.0 (λ z. omega arith) written (omega arith) (omega arith)
+    let back = laid_whole c.self.inside.offset c.unwrap-shape.result.align c.in-Some.place c.unwrap-shape.result.size c.self.inside.bytes.len c.self.inside.bytes.items
+    c.self.inside.bytes.items c.put_behind.new.bytes (g.S.Schema.text s c.args.rec.now) c.self.invariant.words fit.aligned c.in-Some.ensures.0 (λ z. omega arith) written
+    (omega arith) (omega arith)
     (c.put_behind.ensures ∙ ap (λ z. take c.self.inside.offset z ++ (replicate (c.in-Some.place - c.self.inside.offset) 0 ++ g.S.Schema.text s c.args.rec.now)) c.as_mut_slice-bytes.ensures.value) in
-    kept (g.S.Schema.shape_of s) (g.S.Schema.accepted s) (g.S.Schema.text s) laws c.args.self.now _ (one c.args.rec.now) ps h (accepted_alone (g.S.Schema.shape_of s) (g.S.Schema.accepted s) (g.S.Schema.text s) laws c.args.rec.now c.requires)
-    (back ∙ ap (λ z. z ++ padded c.self.inside.offset c.unwrap-shape.result.align (g.S.Schema.text s c.args.rec.now)) (ap (λ b. b.text) c.self.view_is) ∙ ap (λ z. c.args.self.now.text ++ padded z c.unwrap-shape.result.align (g.S.Schema.text s c.args.rec.now)) at ∙ ap (λ z. c.args.self.now.text ++ padded (extent (g.S.Schema.shape_of s) ps) z (g.S.Schema.text s c.args.rec.now)) (sym says.1))
+    kept (g.S.Schema.shape_of s) (g.S.Schema.accepted s) (g.S.Schema.text s) laws c.args.self.now _ (one c.args.rec.now) ps h
+    (accepted_alone (g.S.Schema.shape_of s) (g.S.Schema.accepted s) (g.S.Schema.text s) laws c.args.rec.now c.requires)
+    (back ∙ ap (λ z. z ++ padded c.self.inside.offset c.unwrap-shape.result.align (g.S.Schema.text s c.args.rec.now)) (ap (λ b. b.text) c.self.view_is)
+    ∙ ap (λ z. c.args.self.now.text ++ padded z c.unwrap-shape.result.align (g.S.Schema.text s c.args.rec.now)) at
+    ∙ ap (λ z. c.args.self.now.text ++ padded (extent (g.S.Schema.shape_of s) ps) z (g.S.Schema.text s c.args.rec.now)) (sym says.1))
     (let count = ap (λ b. b.count) c.self.view_is in omega arith)

@@ -57,7 +57,8 @@ unwrap-requires g c =
     let t = text_facts (g.S.Schema.shape_of s) (g.S.Schema.accepted s) (g.S.Schema.text s) laws c.args.rec.now c.requires in
     let written : length c.put.new.out ≡ c.unwrap-shape.result.size = ap length c.put.ensures ∙ t.size ∙ says.0 in
     let with_epid = fit.with_epid in
-    let p = placed c.self.inside.offset c.unwrap-shape.result.align c.unwrap-shape.result.size c.in-Some.place c.self.invariant.words fit.aligned fit.whole_words (λ z. omega arith) c.in-Some.ensures.0 in
+    let p = placed c.self.inside.offset c.unwrap-shape.result.align c.unwrap-shape.result.size c.in-Some.place c.self.invariant.words fit.aligned fit.whole_words
+    (λ z. omega arith) c.in-Some.ensures.0 in
     let above = p.above in
     let fitting = c.in-Some.ensures.1 in
     let packed = c.self.invariant.packed in
@@ -79,7 +80,8 @@ invariant_of-self g c =
     let t = text_facts (g.S.Schema.shape_of s) (g.S.Schema.accepted s) (g.S.Schema.text s) laws c.args.rec.now c.requires in
     let written : length c.put.new.out ≡ c.unwrap-shape.result.size = ap length c.put.ensures ∙ t.size ∙ says.0 in
     let with_epid = fit.with_epid in
-    let p = placed c.self.inside.offset c.unwrap-shape.result.align c.unwrap-shape.result.size c.in-Some.place c.self.invariant.words fit.aligned fit.whole_words (λ z. omega arith) c.in-Some.ensures.0 in
+    let p = placed c.self.inside.offset c.unwrap-shape.result.align c.unwrap-shape.result.size c.in-Some.place c.self.invariant.words fit.aligned fit.whole_words
+    (λ z. omega arith) c.in-Some.ensures.0 in
     let above = p.above in
     let fitting = c.in-Some.ensures.1 in
     let packed = c.self.invariant.packed in
@@ -97,7 +99,8 @@ returns-in_default-clause-answer g c = λ ps h.
     let fit = g.met.S.Schema.shapes_fit s c.args.rec.now.epid c.unwrap-shape.result named in
     let with_epid = fit.with_epid in
     let at = ap (λ b. b.offset) c.self.view_is ∙ h.offset_is in
-    fits_says (g.S.Schema.shape_of s) (one c.args.rec.now) ps c.self.inside.offset c.unwrap-shape.result.align c.unwrap-shape.result.size c.self.inside.size c.args.self.now.size false at says.1 says.0 (ap (λ b. b.size) c.self.view_is)
+    fits_says (g.S.Schema.shape_of s) (one c.args.rec.now) ps c.self.inside.offset c.unwrap-shape.result.align c.unwrap-shape.result.size c.self.inside.size
+    c.args.self.now.size false at says.1 says.0 (ap (λ b. b.size) c.self.view_is)
     (refuses c.self.inside.offset c.unwrap-shape.result.align c.unwrap-shape.result.size c.self.inside.size (λ z. omega arith) c.in_default.ensures)
 
 pub returns-clause-answer : goal.returns-clause-answer
@@ -108,7 +111,8 @@ returns-clause-answer g c = λ ps h.
     let fit = g.met.S.Schema.shapes_fit s c.args.rec.now.epid c.unwrap-shape.result named in
     let with_epid = fit.with_epid in
     let at = ap (λ b. b.offset) c.self.view_is ∙ h.offset_is in
-    fits_says (g.S.Schema.shape_of s) (one c.args.rec.now) ps c.self.inside.offset c.unwrap-shape.result.align c.unwrap-shape.result.size c.self.inside.size c.args.self.now.size true at says.1 says.0 (ap (λ b. b.size) c.self.view_is)
+    fits_says (g.S.Schema.shape_of s) (one c.args.rec.now) ps c.self.inside.offset c.unwrap-shape.result.align c.unwrap-shape.result.size c.self.inside.size
+    c.args.self.now.size true at says.1 says.0 (ap (λ b. b.size) c.self.view_is)
     (admits c.self.inside.offset c.unwrap-shape.result.align c.unwrap-shape.result.size c.self.inside.size c.in-Some.place (λ z. omega arith) c.in-Some.ensures.0 c.in-Some.ensures.1)
 
 pub returns-clause-kept : goal.returns-clause-kept
@@ -119,12 +123,16 @@ returns-clause-kept g c = λ ps h.
     let fit = g.met.S.Schema.shapes_fit s c.args.rec.now.epid c.unwrap-shape.result named in
     let with_epid = fit.with_epid in
     let at = ap (λ b. b.offset) c.self.view_is ∙ h.offset_is in
-    let p = placed c.self.inside.offset c.unwrap-shape.result.align c.unwrap-shape.result.size c.in-Some.place c.self.invariant.words fit.aligned fit.whole_words (λ z. omega arith) c.in-Some.ensures.0 in
+    let p = placed c.self.inside.offset c.unwrap-shape.result.align c.unwrap-shape.result.size c.in-Some.place c.self.invariant.words fit.aligned fit.whole_words
+    (λ z. omega arith) c.in-Some.ensures.0 in
     let items = rw c.unwrap.ensures at c.extend_from_slice.ensures.items in
     let count = ap (λ b. b.count) c.self.view_is in
     listed (g.S.Schema.shape_of s) (g.S.Schema.accepted s) (g.S.Schema.text s) c.args.self.now _ (one c.args.rec.now) ps h (record {
       all_accepted = one_accepted (g.S.Schema.shape_of s) (g.S.Schema.accepted s) (g.S.Schema.text s) c.args.rec.now c.requires;
-      texts_are = items ∙ ap (λ b. b.texts ++ c.put.new.out) c.self.view_is ∙ ap (λ z. c.args.self.now.texts ++ z) (c.put.ensures ∙ sym (one_text (g.S.Schema.shape_of s) (g.S.Schema.accepted s) (g.S.Schema.text s) c.args.rec.now));
+      texts_are = items ∙ ap (λ b. b.texts ++ c.put.new.out) c.self.view_is ∙ ap (λ z. c.args.self.now.texts ++ z)
+          (c.put.ensures ∙ sym (one_text (g.S.Schema.shape_of s) (g.S.Schema.accepted s) (g.S.Schema.text s) c.args.rec.now));
       count_is = omega arith;
-      offset_is = p.end_is ∙ ap (λ z. reserved z c.unwrap-shape.result.align c.unwrap-shape.result.size) at ∙ ap (λ z. reserved (extent (g.S.Schema.shape_of s) ps) z c.unwrap-shape.result.size) (sym says.1) ∙ ap (λ z. reserved (extent (g.S.Schema.shape_of s) ps) (piece_align (g.S.Schema.shape_of s) (one c.args.rec.now)) z) (sym says.0);
+      offset_is = p.end_is ∙ ap (λ z. reserved z c.unwrap-shape.result.align c.unwrap-shape.result.size) at
+          ∙ ap (λ z. reserved (extent (g.S.Schema.shape_of s) ps) z c.unwrap-shape.result.size) (sym says.1)
+          ∙ ap (λ z. reserved (extent (g.S.Schema.shape_of s) ps) (piece_align (g.S.Schema.shape_of s) (one c.args.rec.now)) z) (sym says.0);
     })

@@ -20,7 +20,8 @@ returns-then-size-eq0-clause-kept g c = λ s ps rs h k.
     let counted = c.other.invariant.counted in
     let none = c.if-size-eq0.true in
     let count = ap (λ b. b.count) c.other.view_is in
-    listed_empty (g.S.Schema.shape_of s) (g.S.Schema.accepted s) (g.S.Schema.text s) c.args.self.now c.args.other.now ps rs h k (sym (ap (λ b. b.offset) c.other.view_is) ∙ c.if-size-eq0.true) (omega arith)
+    listed_empty (g.S.Schema.shape_of s) (g.S.Schema.accepted s) (g.S.Schema.text s) c.args.self.now c.args.other.now ps rs h k
+    (sym (ap (λ b. b.offset) c.other.view_is) ∙ c.if-size-eq0.true) (omega arith)
 
 pub returns-in_default-clause-answer : goal.returns-in_default-clause-answer
 returns-in_default-clause-answer g c = λ s ps rs h k.

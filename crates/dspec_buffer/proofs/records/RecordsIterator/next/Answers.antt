@@ -17,7 +17,8 @@ returns-in_err-found-clause-steps g c =
       texts_fit = g.met.S.Schema.texts_fit s;
       texts_differ = g.met.S.Schema.texts_differ s;
     } in
-    let none : c.args.self.now ≡ [] = sym c.self.view_is ∙ none_left (g.S.Schema.shape_of s) (g.S.Schema.accepted s) (g.S.Schema.text s) laws c.self.inside.text.now c.self.inside.place c.self.inside.readable c.in_err-found.ensures in
+    let none : c.args.self.now ≡ [] = sym c.self.view_is ∙ none_left (g.S.Schema.shape_of s) (g.S.Schema.accepted s) (g.S.Schema.text s) laws c.self.inside.text.now
+    c.self.inside.place c.self.inside.readable c.in_err-found.ensures in
     rw c.from_residual.ensures (none, none)
 
 pub invariant_of-self-inside-2 : goal.invariant_of-self-inside-2
@@ -30,7 +31,11 @@ invariant_of-self-inside-2 g c =
       texts_differ = g.met.S.Schema.texts_differ s;
     } in (
       within_next (g.S.Schema.shape_of s) (g.S.Schema.accepted s) (g.S.Schema.text s) laws c.self.inside.text.now c.self.inside.place c.in_ok-found.found c.self.inside.readable c.in_ok-found.ensures,
-      (remaining_next (g.S.Schema.shape_of s) (g.S.Schema.accepted s) (g.S.Schema.text s) laws c.self.inside.text.now c.self.inside.place c.in_ok-found.found c.self.inside.readable c.in_ok-found.ensures, tt),
+      (
+        remaining_next (g.S.Schema.shape_of s) (g.S.Schema.accepted s) (g.S.Schema.text s) laws c.self.inside.text.now c.self.inside.place c.in_ok-found.found
+            c.self.inside.readable c.in_ok-found.ensures,
+        tt,
+      ),
     )
 
 pub returns-clause-steps : goal.returns-clause-steps
@@ -42,7 +47,8 @@ returns-clause-steps g c =
       texts_fit = g.met.S.Schema.texts_fit s;
       texts_differ = g.met.S.Schema.texts_differ s;
     } in
-    sym c.self.view_is ∙ first_left (g.S.Schema.shape_of s) (g.S.Schema.accepted s) (g.S.Schema.text s) laws c.self.inside.text.now c.self.inside.place c.in_ok-found.found c.self.inside.readable c.self-2-1.given.1.0 c.in_ok-found.ensures
+    sym c.self.view_is ∙ first_left (g.S.Schema.shape_of s) (g.S.Schema.accepted s) (g.S.Schema.text s) laws c.self.inside.text.now c.self.inside.place c.in_ok-found.found
+    c.self.inside.readable c.self-2-1.given.1.0 c.in_ok-found.ensures
 
 pub returns-clause-goes : goal.returns-clause-goes
 returns-clause-goes g c = let shorter = ap length (returns-clause-steps g c) in search rules

@@ -18,13 +18,15 @@ pub finish-requires-clause-can_close : goal.finish-requires-clause-can_close
 finish-requires-clause-can_close g c =
     let m = c.self.inside.machine in
     let same : state_of m ≡ c.args.self.state = λ i. (c.self.view_is i).state in
-    idle_closes (g.S.Schema.shape_of m.schema) (state_of m) c.self.invariant.coherent (subst (λ (st : PlayState). (a : Actor) → is_actor st.config a ≡ true → is_idle a st ≡ true) (sym same) c.requires.idle)
+    idle_closes (g.S.Schema.shape_of m.schema) (state_of m) c.self.invariant.coherent
+    (subst (λ (st : PlayState). (a : Actor) → is_actor st.config a ≡ true → is_idle a st ≡ true) (sym same) c.requires.idle)
 
 pub returns-clause-deeds : goal.returns-clause-deeds
 returns-clause-deeds g c =
     let m = c.self.inside.machine in
     let last = closing (g.S.Schema.shape_of m.schema) m.config (history m) in
-    let same : last ≡ closing (g.S.Schema.shape_of c.args.self.schema) c.args.self.state.config c.args.self.state.deeds = λ i. closing (g.S.Schema.shape_of (c.self.view_is i).schema) (c.self.view_is i).state.config (c.self.view_is i).state.deeds in
+    let same : last ≡ closing (g.S.Schema.shape_of c.args.self.schema) c.args.self.state.config c.args.self.state.deeds =
+    λ i. closing (g.S.Schema.shape_of (c.self.view_is i).schema) (c.self.view_is i).state.config (c.self.view_is i).state.deeds in
     subst (λ (ds : List Deed). IfOk c.finish.result (λ close. close.deeds ≡ reverse ds)) same c.finish.ensures.deeds
 
 pub returns-clause-accepted : goal.returns-clause-accepted

@@ -18,7 +18,8 @@ returns-in-Cpu-clause-bounded g c =
     let a = c.in-Cpu.cpu in
     let side = c.index.result.now in
     let same : state_of m ≡ c.args.self.now.state = λ i. (c.self.view_is i).state in
-    let there : is_actor m.config (actor.Cpu a) ≡ true = subst (λ (x : Actor). is_actor m.config x ≡ true) c.in-Cpu.is (subst (λ (st : PlayState). is_actor st.config c.args.actor ≡ true) (sym same) c.requires) in
+    let there : is_actor m.config (actor.Cpu a) ≡ true =
+    subst (λ (x : Actor). is_actor m.config x ≡ true) c.in-Cpu.is (subst (λ (st : PlayState). is_actor st.config c.args.actor ≡ true) (sym same) c.requires) in
     let low = steps_below (g.S.Schema.shape_of m.schema) (state_of m) (actor.Cpu a) c.self.invariant.coherent there in
     let got = side_got g.B.TraceBuffer.has g.B.TraceBuffer.capacity m c.self.invariant.shown a side (is_below m.config a there) c.index.ensures in
     let made = ap (λ (x : Caller). x.steps) (caller_there m.sides.items a side got) in

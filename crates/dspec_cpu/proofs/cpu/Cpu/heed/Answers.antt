@@ -5,20 +5,24 @@ use Rattle.dspec_cpu.proofs.cpu.Cpu.heed.Goals.{then-ask-self-via-then-ask-self,
 use Rattle.dspec_cpu.proofs.cpu.Cpu.heed.Goals as goal
 
 pub returns-then-ask-self-clause-heeds : goal.returns-then-ask-self-clause-heeds
-returns-then-ask-self-clause-heeds g c = elim c.then-ask-self.branch [ then-ask-self-via-then-ask-self w ↦ not_asked w.if-ask-self.true | then-ask-self-via-else-ask-self+then-self w ↦ worn_out w.if-ask-self.false w.if-self.true ]
+returns-then-ask-self-clause-heeds g c =
+    elim c.then-ask-self.branch [ then-ask-self-via-then-ask-self w ↦ not_asked w.if-ask-self.true | then-ask-self-via-else-ask-self+then-self w ↦ worn_out w.if-ask-self.false w.if-self.true ]
 
 pub returns-then-is_some-clause-heeds : goal.returns-then-is_some-clause-heeds
 returns-then-is_some-clause-heeds g c =
     let cpu = c.args.self.now in
-    left_in_hand cpu.config cpu.cpu c.args.ask (buffers_of cpu) c.if-ask-self.false c.if-self.false c.find_spare.new.end c.find_spare.new.spare c.find_spare.ensures (sym c.is_some.ensures ∙ c.if-is_some.true) c.requires.few c.find_spare.new.spare refl
+    left_in_hand cpu.config cpu.cpu c.args.ask (buffers_of cpu) c.if-ask-self.false c.if-self.false c.find_spare.new.end c.find_spare.new.spare c.find_spare.ensures
+    (sym c.is_some.ensures ∙ c.if-is_some.true) c.requires.few c.find_spare.new.spare refl
 
 pub returns-in_default-clause-heeds : goal.returns-in_default-clause-heeds
 returns-in_default-clause-heeds g c =
     let cpu = c.args.self.now in
-    none_found cpu.config cpu.cpu c.args.ask (buffers_of cpu) c.if-ask-self.false c.if-self.false c.find_spare.new.end c.find_spare.new.spare c.find_spare.ensures c.take.new.self (sym c.take.ensures.value ∙ c.in_default.is) c.take.ensures.after
+    none_found cpu.config cpu.cpu c.args.ask (buffers_of cpu) c.if-ask-self.false c.if-self.false c.find_spare.new.end c.find_spare.new.spare c.find_spare.ensures
+    c.take.new.self (sym c.take.ensures.value ∙ c.in_default.is) c.take.ensures.after
 
 pub returns-clause-heeds : goal.returns-clause-heeds
 returns-clause-heeds g c =
     let cpu = c.args.self.now in
-    sealed_now cpu.config cpu.cpu c.args.ask (buffers_of cpu) c.if-ask-self.false c.if-self.false c.find_spare.new.end c.find_spare.new.spare c.find_spare.ensures c.in-Some.spare c.take.new.self c.seal.new.active c.seal.result c.hand_on.new.end c.hand_on.new.in_hand
+    sealed_now cpu.config cpu.cpu c.args.ask (buffers_of cpu) c.if-ask-self.false c.if-self.false c.find_spare.new.end c.find_spare.new.spare c.find_spare.ensures
+    c.in-Some.spare c.take.new.self c.seal.new.active c.seal.result c.hand_on.new.end c.hand_on.new.in_hand
     (sym c.take.ensures.value ∙ c.in-Some.is) (sym c.is_some.ensures ∙ c.if-is_some.false) c.take.ensures.after c.seal.ensures.batch c.seal.ensures.active c.hand_on.ensures

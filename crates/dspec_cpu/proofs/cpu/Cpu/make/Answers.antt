@@ -11,7 +11,8 @@ returns-clause-list g c = unused_list _ _ _ _ record {
   handed = ap (λ (e : CpuKnows). e.handed) c.end.view_is ∙ c.requires.end.handed;
   in_hand = refl;
   speculative = c.in_ok-speculative.ensures c.args.schema;
-  active = subst (λ (b : Stored). HasSized (g.S.Schema.shape_of c.args.schema) (g.S.Schema.accepted c.args.schema) (g.S.Schema.text c.args.schema) c.args.config.now.bufsize [] b) (sym c.active.view_is) record { sized = c.in_ok-active.ensures.size; has = c.in_ok-active.ensures.empty c.args.schema };
+  active = subst (λ (b : Stored). HasSized (g.S.Schema.shape_of c.args.schema) (g.S.Schema.accepted c.args.schema) (g.S.Schema.text c.args.schema) c.args.config.now.bufsize
+      [] b) (sym c.active.view_is) record { sized = c.in_ok-active.ensures.size; has = c.in_ok-active.ensures.empty c.args.schema };
   marks = c.in_ok-vec.ensures.items_if_clones_equal (λ y e. e);
   acks = c.in_ok-vec-2.ensures.items_if_clones_equal (λ y e. e);
   calls = refl;
@@ -27,7 +28,8 @@ returns-clause-ready g c = λ words at config. unused_ready _ _ _ _ record {
   handed = ap (λ (e : CpuKnows). e.handed) c.end.view_is ∙ c.requires.end.handed;
   in_hand = refl;
   speculative = c.in_ok-speculative.ensures c.args.schema;
-  active = subst (λ (b : Stored). HasSized (g.S.Schema.shape_of c.args.schema) (g.S.Schema.accepted c.args.schema) (g.S.Schema.text c.args.schema) c.args.config.now.bufsize [] b) (sym c.active.view_is) record { sized = c.in_ok-active.ensures.size; has = c.in_ok-active.ensures.empty c.args.schema };
+  active = subst (λ (b : Stored). HasSized (g.S.Schema.shape_of c.args.schema) (g.S.Schema.accepted c.args.schema) (g.S.Schema.text c.args.schema) c.args.config.now.bufsize
+      [] b) (sym c.active.view_is) record { sized = c.in_ok-active.ensures.size; has = c.in_ok-active.ensures.empty c.args.schema };
   marks = c.in_ok-vec.ensures.items_if_clones_equal (λ y e. e);
   acks = c.in_ok-vec-2.ensures.items_if_clones_equal (λ y e. e);
   calls = refl;

@@ -49,7 +49,11 @@ returns-in-Stopped-clause-list g c =
     let mine = c.args.mine in
     let w = known c.go_on-reached.new.seat in
     let got = subst (λ (x : Config × ℕ). Reached x.0 x.1 (asked id r fit mine) id (known cpu.seat) reach.Stopped w) (λ i. (ready.config i, ready.seat i)) c.in-Stopped.ensures.reached in
-    λ p had. record { own = ap (λ l. Speculate cpu.cpu id r spoken.Stopped ∷ l) had.own ∙ sym got.stands.own; shown = unspoken_shown _ _ _ cpu p had.shown id r spoken.Stopped refl refl c.go_on-reached.new.seat c.speak.new.self c.speak.ensures }
+    λ p had. record {
+      own = ap (λ l. Speculate cpu.cpu id r spoken.Stopped ∷ l) had.own ∙ sym got.stands.own;
+      shown = unspoken_shown _ _ _ cpu p had.shown id r spoken.Stopped
+          refl refl c.go_on-reached.new.seat c.speak.new.self c.speak.ensures;
+    }
 
 pub returns-in-Stopped-clause-ready : goal.returns-in-Stopped-clause-ready
 returns-in-Stopped-clause-ready g c =
@@ -62,7 +66,8 @@ returns-in-Stopped-clause-ready g c =
     let mine = c.args.mine in
     let w = known c.go_on-reached.new.seat in
     let got = subst (λ (x : Config × ℕ). Reached x.0 x.1 (asked id r fit mine) id (known cpu.seat) reach.Stopped w) (λ i. (ready.config i, ready.seat i)) c.in-Stopped.ensures.reached in
-    ready_after _ _ _ words cpu ready _ (Speculate cpu.cpu id r spoken.Stopped ∷ []) refl refl c.go_on-reached.ensures.seat.0 c.go_on-reached.ensures.seat.1 got.stands ready.idle refl ready.spare ready.few (Speculate cpu.cpu id r spoken.Stopped ∷ ready.list) (returns-in-Stopped-clause-list g c ready.list ready.listed)
+    ready_after _ _ _ words cpu ready _ (Speculate cpu.cpu id r spoken.Stopped ∷ []) refl refl c.go_on-reached.ensures.seat.0 c.go_on-reached.ensures.seat.1 got.stands
+    ready.idle refl ready.spare ready.few (Speculate cpu.cpu id r spoken.Stopped ∷ ready.list) (returns-in-Stopped-clause-list g c ready.list ready.listed)
 
 pub returns-in-Void-clause-list : goal.returns-in-Void-clause-list
 returns-in-Void-clause-list g c =
@@ -75,7 +80,11 @@ returns-in-Void-clause-list g c =
     let mine = c.args.mine in
     let w = known c.go_on-reached.new.seat in
     let got = subst (λ (x : Config × ℕ). Reached x.0 x.1 (asked id r fit mine) id (known cpu.seat) reach.Void w) (λ i. (ready.config i, ready.seat i)) c.in-Void.ensures.reached in
-    λ p had. record { own = ap (λ l. Speculate cpu.cpu id r spoken.Void ∷ l) had.own ∙ sym got.stands.own; shown = unspoken_shown _ _ _ cpu p had.shown id r spoken.Void refl refl c.go_on-reached.new.seat c.speak-in-Void.new.self c.speak-in-Void.ensures }
+    λ p had. record {
+      own = ap (λ l. Speculate cpu.cpu id r spoken.Void ∷ l) had.own ∙ sym got.stands.own;
+      shown = unspoken_shown _ _ _ cpu p had.shown id r spoken.Void refl
+          refl c.go_on-reached.new.seat c.speak-in-Void.new.self c.speak-in-Void.ensures;
+    }
 
 pub returns-in-Void-clause-ready : goal.returns-in-Void-clause-ready
 returns-in-Void-clause-ready g c =
@@ -88,7 +97,8 @@ returns-in-Void-clause-ready g c =
     let mine = c.args.mine in
     let w = known c.go_on-reached.new.seat in
     let got = subst (λ (x : Config × ℕ). Reached x.0 x.1 (asked id r fit mine) id (known cpu.seat) reach.Void w) (λ i. (ready.config i, ready.seat i)) c.in-Void.ensures.reached in
-    ready_after _ _ _ words cpu ready _ (Speculate cpu.cpu id r spoken.Void ∷ []) refl refl c.go_on-reached.ensures.seat.0 c.go_on-reached.ensures.seat.1 got.stands ready.idle refl ready.spare ready.few (Speculate cpu.cpu id r spoken.Void ∷ ready.list) (returns-in-Void-clause-list g c ready.list ready.listed)
+    ready_after _ _ _ words cpu ready _ (Speculate cpu.cpu id r spoken.Void ∷ []) refl refl c.go_on-reached.ensures.seat.0 c.go_on-reached.ensures.seat.1 got.stands
+    ready.idle refl ready.spare ready.few (Speculate cpu.cpu id r spoken.Void ∷ ready.list) (returns-in-Void-clause-list g c ready.list ready.listed)
 
 pub returns-then-not-kept-clause-list : goal.returns-then-not-kept-clause-list
 returns-then-not-kept-clause-list g c =
@@ -126,7 +136,8 @@ returns-then-not-kept-clause-list g c =
             empty = nothing_held cpu.config cpu.cpu id (known cpu.seat).own p mine (few _ _ _ words cpu ready) present.0 had.own marked;
             fitting = c.fits_slot-fits.ensures inside p had.shown (λ t. same_number (mark cpu.cpu id.slot p) (id.issue + 1) (sym marked ∙ t));
           }
-          spoken.Dropped refl (sym fit_is) c.go_on-reached.new.seat c.grant-kept.result c.grant-kept.new.buffers c.grant-kept.ensures.buffer c.grant-kept.new.marks c.grant-kept.ensures.marks c.speak-then-not-kept.new.self c.speak-then-not-kept.ensures;
+          spoken.Dropped refl (sym fit_is) c.go_on-reached.new.seat c.grant-kept.result c.grant-kept.new.buffers c.grant-kept.ensures.buffer c.grant-kept.new.marks
+          c.grant-kept.ensures.marks c.speak-then-not-kept.new.self c.speak-then-not-kept.ensures;
     }
 
 pub returns-then-not-kept-clause-ready : goal.returns-then-not-kept-clause-ready
@@ -155,7 +166,8 @@ returns-then-not-kept-clause-ready g c =
     ∙ c.if-not-kept.true in
     let deeds = grant_deeds cpu.cpu (asked id r fit mine) id r c.go_on-reached.result false grant fit_is in
     let stands = subst (λ ds. Stands cpu.config cpu.cpu (known cpu.seat) ds w) deeds got.stands in
-    ready_after _ _ _ words cpu ready _ (Speculate cpu.cpu id r spoken.Dropped ∷ []) refl refl c.go_on-reached.ensures.seat.0 c.go_on-reached.ensures.seat.1 stands ready.idle refl ready.spare ready.few (Speculate cpu.cpu id r spoken.Dropped ∷ ready.list) (returns-then-not-kept-clause-list g c ready.list ready.listed)
+    ready_after _ _ _ words cpu ready _ (Speculate cpu.cpu id r spoken.Dropped ∷ []) refl refl c.go_on-reached.ensures.seat.0 c.go_on-reached.ensures.seat.1 stands ready.idle
+    refl ready.spare ready.few (Speculate cpu.cpu id r spoken.Dropped ∷ ready.list) (returns-then-not-kept-clause-list g c ready.list ready.listed)
 
 pub returns-else-not-kept-clause-list : goal.returns-else-not-kept-clause-list
 returns-else-not-kept-clause-list g c =
@@ -193,7 +205,8 @@ returns-else-not-kept-clause-list g c =
             empty = nothing_held cpu.config cpu.cpu id (known cpu.seat).own p mine (few _ _ _ words cpu ready) present.0 had.own marked;
             fitting = c.fits_slot-fits.ensures inside p had.shown (λ t. same_number (mark cpu.cpu id.slot p) (id.issue + 1) (sym marked ∙ t));
           }
-          spoken.Kept refl (sym fit_is) c.go_on-reached.new.seat c.grant-kept.result c.grant-kept.new.buffers c.grant-kept.ensures.buffer c.grant-kept.new.marks c.grant-kept.ensures.marks c.speak-in-Granted.new.self c.speak-in-Granted.ensures;
+          spoken.Kept refl (sym fit_is) c.go_on-reached.new.seat c.grant-kept.result c.grant-kept.new.buffers c.grant-kept.ensures.buffer c.grant-kept.new.marks
+          c.grant-kept.ensures.marks c.speak-in-Granted.new.self c.speak-in-Granted.ensures;
     }
 
 pub returns-else-not-kept-clause-ready : goal.returns-else-not-kept-clause-ready
@@ -222,7 +235,8 @@ returns-else-not-kept-clause-ready g c =
     ∙ c.if-not-kept.false in
     let deeds = grant_deeds cpu.cpu (asked id r fit mine) id r c.go_on-reached.result true grant fit_is in
     let stands = subst (λ ds. Stands cpu.config cpu.cpu (known cpu.seat) ds w) deeds got.stands in
-    ready_after _ _ _ words cpu ready _ (Speculate cpu.cpu id r spoken.Kept ∷ []) refl refl c.go_on-reached.ensures.seat.0 c.go_on-reached.ensures.seat.1 stands ready.idle refl ready.spare ready.few (Speculate cpu.cpu id r spoken.Kept ∷ ready.list) (returns-else-not-kept-clause-list g c ready.list ready.listed)
+    ready_after _ _ _ words cpu ready _ (Speculate cpu.cpu id r spoken.Kept ∷ []) refl refl c.go_on-reached.ensures.seat.0 c.go_on-reached.ensures.seat.1 stands ready.idle
+    refl ready.spare ready.few (Speculate cpu.cpu id r spoken.Kept ∷ ready.list) (returns-else-not-kept-clause-list g c ready.list ready.listed)
 
 pub returns-then-not-kept-clause-did : goal.returns-then-not-kept-clause-did
 returns-then-not-kept-clause-did g c =

@@ -20,7 +20,8 @@ settle_block-doing-requires g c =
         side_of cpu,
         batches_of cpu,
         ready.list,
-        can _ _ _ c.args.words.now cpu ready c.args.slot c.requires.slot.0 c.requires.slot.1 c.load_word-word.new.self c.load_word-word.result c.serve.result c.serve.ensures c.load_word-word.ensures.step c.index.result.now c.index.ensures grants small ready.list ready.listed,
+        can _ _ _ c.args.words.now cpu ready c.args.slot c.requires.slot.0 c.requires.slot.1 c.load_word-word.new.self c.load_word-word.result c.serve.result c.serve.ensures
+            c.load_word-word.ensures.step c.index.result.now c.index.ensures grants small ready.list ready.listed,
       );
     }
 
@@ -30,7 +31,8 @@ store_ack-requires-clause-call g c =
     let ready = c.requires.ready in
     let small : cpu.calls < 2 ^ 64 = omega arith in
     let grants = sym (ap is_granted c.in-Granted.ensures) in
-    may_settle _ _ _ c.args.words.now cpu ready c.args.slot c.requires.slot.0 c.requires.slot.1 c.load_word-word.new.self c.load_word-word.result c.serve.result c.serve.ensures c.load_word-word.ensures.step c.index.result.now c.index.ensures grants small
+    may_settle _ _ _ c.args.words.now cpu ready c.args.slot c.requires.slot.0 c.requires.slot.1 c.load_word-word.new.self c.load_word-word.result c.serve.result
+    c.serve.ensures c.load_word-word.ensures.step c.index.result.now c.index.ensures grants small
     (set_up c.args.words.now) (cpu_of c.load_word-word.new.self) c.issue.result ready.config (c.load_word-word.ensures.seat.1 ∙ ready.seat) c.issue.ensures.value
 
 pub returns-in-Granted-clause-settled : goal.returns-in-Granted-clause-settled
@@ -39,8 +41,11 @@ returns-in-Granted-clause-settled g c =
     let ready = c.requires.ready in
     let small : cpu.calls < 2 ^ 64 = omega arith in
     let grants = sym (ap is_granted c.in-Granted.ensures) in
-    slot_done _ _ _ c.args.words.now cpu ready c.args.slot c.requires.slot.0 c.requires.slot.1 c.load_word-word.new.self c.load_word-word.result c.serve.result c.serve.ensures c.load_word-word.ensures.step c.index.result.now c.index.ensures grants small
-    c.settle_block-doing.result c.settle_block-doing.ensures.op c.store_ack.new.self c.issue.result c.issue.ensures.value c.store_ack.ensures.step c.settle_block-doing.new.principal c.settle_block-doing.new.buffers c.settle_block-doing.new.acks c.settle_block-doing.new.drops c.settle_block-doing.new.counts (λ p may. c.settle_block-doing.ensures.settled cpu.schema cpu.cpu (side_of cpu) (batches_of cpu) p may)
+    slot_done _ _ _ c.args.words.now cpu ready c.args.slot c.requires.slot.0 c.requires.slot.1 c.load_word-word.new.self c.load_word-word.result c.serve.result
+    c.serve.ensures c.load_word-word.ensures.step c.index.result.now c.index.ensures grants small
+    c.settle_block-doing.result c.settle_block-doing.ensures.op c.store_ack.new.self c.issue.result c.issue.ensures.value c.store_ack.ensures.step
+    c.settle_block-doing.new.principal c.settle_block-doing.new.buffers c.settle_block-doing.new.acks c.settle_block-doing.new.drops c.settle_block-doing.new.counts
+    (λ p may. c.settle_block-doing.ensures.settled cpu.schema cpu.cpu (side_of cpu) (batches_of cpu) p may)
 
 pub returns-in-Granted-clause-ready : goal.returns-in-Granted-clause-ready
 returns-in-Granted-clause-ready g c =
@@ -48,23 +53,41 @@ returns-in-Granted-clause-ready g c =
     let ready = c.requires.ready in
     let small : cpu.calls < 2 ^ 64 = omega arith in
     let grants = sym (ap is_granted c.in-Granted.ensures) in
-    let new = record cpu { seat = c.store_ack.new.self; active = c.settle_block-doing.new.principal; speculative = c.settle_block-doing.new.buffers; acks = c.settle_block-doing.new.acks; drops = c.settle_block-doing.new.drops; counts = c.settle_block-doing.new.counts } in
-    let stands = settle_stands _ _ _ c.args.words.now cpu ready c.args.slot c.requires.slot.0 c.requires.slot.1 c.load_word-word.new.self c.load_word-word.result c.serve.result c.serve.ensures c.load_word-word.ensures.step c.index.result.now c.index.ensures grants small
-    c.settle_block-doing.result c.settle_block-doing.ensures.op c.store_ack.new.self c.issue.result c.issue.ensures.value c.store_ack.ensures.step c.settle_block-doing.new.principal c.settle_block-doing.new.buffers c.settle_block-doing.new.acks c.settle_block-doing.new.drops c.settle_block-doing.new.counts (λ p may. c.settle_block-doing.ensures.settled cpu.schema cpu.cpu (side_of cpu) (batches_of cpu) p may) in
-    let now = settled_list _ _ _ c.args.words.now cpu ready c.args.slot c.requires.slot.0 c.requires.slot.1 c.load_word-word.new.self c.load_word-word.result c.serve.result c.serve.ensures c.load_word-word.ensures.step c.index.result.now c.index.ensures grants small
-    c.settle_block-doing.result c.settle_block-doing.ensures.op c.store_ack.new.self c.issue.result c.issue.ensures.value c.store_ack.ensures.step c.settle_block-doing.new.principal c.settle_block-doing.new.buffers c.settle_block-doing.new.acks c.settle_block-doing.new.drops c.settle_block-doing.new.counts (λ p may. c.settle_block-doing.ensures.settled cpu.schema cpu.cpu (side_of cpu) (batches_of cpu) p may) ready.list ready.listed in
-    ready_after _ _ _ c.args.words.now cpu ready new _ refl refl c.store_ack.ensures.seat.0 (c.store_ack.ensures.seat.1 ∙ c.load_word-word.ensures.seat.1) stands ready.idle refl ready.spare ready.few _ now
+    let new = record cpu {
+      seat = c.store_ack.new.self;
+      active = c.settle_block-doing.new.principal;
+      speculative = c.settle_block-doing.new.buffers;
+      acks = c.settle_block-doing.new.acks;
+      drops = c.settle_block-doing.new.drops;
+      counts = c.settle_block-doing.new.counts;
+    } in
+    let stands = settle_stands _ _ _ c.args.words.now cpu ready c.args.slot c.requires.slot.0 c.requires.slot.1 c.load_word-word.new.self c.load_word-word.result
+    c.serve.result c.serve.ensures c.load_word-word.ensures.step c.index.result.now c.index.ensures grants small
+    c.settle_block-doing.result c.settle_block-doing.ensures.op c.store_ack.new.self c.issue.result c.issue.ensures.value c.store_ack.ensures.step
+    c.settle_block-doing.new.principal c.settle_block-doing.new.buffers c.settle_block-doing.new.acks c.settle_block-doing.new.drops c.settle_block-doing.new.counts
+    (λ p may. c.settle_block-doing.ensures.settled cpu.schema cpu.cpu (side_of cpu) (batches_of cpu) p may) in
+    let now = settled_list _ _ _ c.args.words.now cpu ready c.args.slot c.requires.slot.0 c.requires.slot.1 c.load_word-word.new.self c.load_word-word.result c.serve.result
+    c.serve.ensures c.load_word-word.ensures.step c.index.result.now c.index.ensures grants small
+    c.settle_block-doing.result c.settle_block-doing.ensures.op c.store_ack.new.self c.issue.result c.issue.ensures.value c.store_ack.ensures.step
+    c.settle_block-doing.new.principal c.settle_block-doing.new.buffers c.settle_block-doing.new.acks c.settle_block-doing.new.drops c.settle_block-doing.new.counts
+    (λ p may. c.settle_block-doing.ensures.settled cpu.schema cpu.cpu (side_of cpu) (batches_of cpu) p may) ready.list ready.listed in
+    ready_after _ _ _ c.args.words.now cpu ready new _ refl refl c.store_ack.ensures.seat.0 (c.store_ack.ensures.seat.1 ∙ c.load_word-word.ensures.seat.1) stands ready.idle
+    refl ready.spare ready.few _ now
 
 pub returns-in_default : goal.returns-in_default
 returns-in_default g c =
     let cpu = c.args.self.now in
     let ready = c.requires.ready in
     let none = ap is_granted (sym c.settle_at.ensures) ∙ not_granted c.settle_at.result c.in_default.not-Granted in
-    let done = passed _ _ _ c.args.words.now cpu ready c.args.slot c.requires.slot.0 c.requires.slot.1 c.load_word-word.new.self c.load_word-word.result c.serve.result c.serve.ensures c.load_word-word.ensures.step c.index.result.now c.index.ensures none in
+    let done = passed _ _ _ c.args.words.now cpu ready c.args.slot c.requires.slot.0 c.requires.slot.1 c.load_word-word.new.self c.load_word-word.result c.serve.result
+    c.serve.ensures c.load_word-word.ensures.step c.index.result.now c.index.ensures none in
     record {
       ready = ready_after _ _ _ c.args.words.now cpu ready (record cpu { seat = c.load_word-word.new.self }) [] refl refl c.load_word-word.ensures.seat.0 c.load_word-word.ensures.seat.1
-          (load_stands _ _ _ c.args.words.now cpu ready c.args.slot c.requires.slot.0 c.requires.slot.1 c.load_word-word.new.self c.load_word-word.result c.serve.result c.serve.ensures c.load_word-word.ensures.step)
-          ready.idle ready.flight ready.spare ready.few ready.list (passed_list _ _ _ c.args.words.now cpu ready c.args.slot c.requires.slot.0 c.requires.slot.1 c.load_word-word.new.self c.load_word-word.result c.serve.result c.serve.ensures c.load_word-word.ensures.step ready.list ready.listed);
+          (load_stands _ _ _ c.args.words.now cpu ready c.args.slot c.requires.slot.0 c.requires.slot.1 c.load_word-word.new.self c.load_word-word.result c.serve.result
+          c.serve.ensures c.load_word-word.ensures.step)
+          ready.idle ready.flight ready.spare ready.few ready.list
+          (passed_list _ _ _ c.args.words.now cpu ready c.args.slot c.requires.slot.0 c.requires.slot.1 c.load_word-word.new.self c.load_word-word.result c.serve.result
+          c.serve.ensures c.load_word-word.ensures.step ready.list ready.listed);
       same = (record { schema = refl; config = refl; number = refl; pair = refl }, refl);
       keeps = record { end = refl; spare = refl; in_hand = refl; seals = refl };
       settled = done;
@@ -75,11 +98,15 @@ returns-then-not-waits g c =
     let cpu = c.args.self.now in
     let ready = c.requires.ready in
     let none = sym (c.waits.ensures ∙ ap awaits c.code.ensures) ∙ c.if-not-waits.true in
-    let done = passed_early _ _ _ c.args.words.now cpu ready c.args.slot c.requires.slot.0 c.requires.slot.1 c.load_word-word.new.self c.load_word-word.result c.serve.result c.serve.ensures c.load_word-word.ensures.step none in
+    let done = passed_early _ _ _ c.args.words.now cpu ready c.args.slot c.requires.slot.0 c.requires.slot.1 c.load_word-word.new.self c.load_word-word.result c.serve.result
+    c.serve.ensures c.load_word-word.ensures.step none in
     record {
       ready = ready_after _ _ _ c.args.words.now cpu ready (record cpu { seat = c.load_word-word.new.self }) [] refl refl c.load_word-word.ensures.seat.0 c.load_word-word.ensures.seat.1
-          (load_stands _ _ _ c.args.words.now cpu ready c.args.slot c.requires.slot.0 c.requires.slot.1 c.load_word-word.new.self c.load_word-word.result c.serve.result c.serve.ensures c.load_word-word.ensures.step)
-          ready.idle ready.flight ready.spare ready.few ready.list (passed_list _ _ _ c.args.words.now cpu ready c.args.slot c.requires.slot.0 c.requires.slot.1 c.load_word-word.new.self c.load_word-word.result c.serve.result c.serve.ensures c.load_word-word.ensures.step ready.list ready.listed);
+          (load_stands _ _ _ c.args.words.now cpu ready c.args.slot c.requires.slot.0 c.requires.slot.1 c.load_word-word.new.self c.load_word-word.result c.serve.result
+          c.serve.ensures c.load_word-word.ensures.step)
+          ready.idle ready.flight ready.spare ready.few ready.list
+          (passed_list _ _ _ c.args.words.now cpu ready c.args.slot c.requires.slot.0 c.requires.slot.1 c.load_word-word.new.self c.load_word-word.result c.serve.result
+          c.serve.ensures c.load_word-word.ensures.step ready.list ready.listed);
       same = (record { schema = refl; config = refl; number = refl; pair = refl }, refl);
       keeps = record { end = refl; spare = refl; in_hand = refl; seals = refl };
       settled = done;

@@ -11,6 +11,7 @@ invariant-loop-below g l =
       ready : IsReady (g.S.Schema.shape_of l.self.schema) (g.S.Schema.accepted l.self.schema) (g.S.Schema.text l.self.schema) l.words l.self;
       same : IsSameCpu l.fn.self l.self × (l.self.counts.worn ≡ l.fn.self.counts.worn);
       keeps : KeepsBatches l.fn.self l.self;
-      settled : Settled l.fn.self.cpu l.below l.settled (λ p. HasList (g.S.Schema.shape_of l.fn.self.schema) (g.S.Schema.accepted l.fn.self.schema) (g.S.Schema.text l.fn.self.schema) l.fn.self p) (known l.fn.self.seat)
+      settled : Settled l.fn.self.cpu l.below l.settled
+          (λ p. HasList (g.S.Schema.shape_of l.fn.self.schema) (g.S.Schema.accepted l.fn.self.schema) (g.S.Schema.text l.fn.self.schema) l.fn.self p) (known l.fn.self.seat)
           (λ p. HasList (g.S.Schema.shape_of l.self.schema) (g.S.Schema.accepted l.self.schema) (g.S.Schema.text l.self.schema) l.self p) (known l.self.seat);
     }

@@ -14,7 +14,8 @@ use Rattle.dspec_cpu.proofs.Stopping.{worn_out}
 use Rattle.dspec_cpu.proofs.cpu.Cpu.speculation.Goals as goal
 
 pub returns-then-self-clause-opens : goal.returns-then-self-clause-opens
-returns-then-self-clause-opens g c = record { missed = []; answer = refl; did = rests; list = λ p had. record { own = had.own; shown = worn_shown _ _ _ c.args.self.now p had.shown _ c.wear.new.self c.wear.ensures } }
+returns-then-self-clause-opens g c = record
+    { missed = []; answer = refl; did = rests; list = λ p had. record { own = had.own; shown = worn_shown _ _ _ c.args.self.now p had.shown _ c.wear.new.self c.wear.ensures } }
 
 pub open-requires : goal.open-requires
 open-requires g c = record { roomy = roomy _ _ _ (words_of c.args.shared.now) c.args.self.now c.requires.ready c.if-self.false }
@@ -50,7 +51,9 @@ returns-clause-ready g c =
     let got = subst (λ (x : Config × ℕ). Scanned x.0 x.1 (known cpu.seat) a busy w) (λ i. (ready.config i, ready.seat i)) c.scan_slots-answer.ensures.scanned in
     let some = (limits cpu.config ready.checked).specs.least in
     ready_after _ _ _ words cpu ready _ (opening_deeds cpu.cpu got.missed a) refl refl c.scan_slots-answer.ensures.seat.0 c.scan_slots-answer.ensures.seat.1 got.stands
-    (idle_again cpu.config cpu.cpu (known cpu.seat).own got.missed a some got.answer got.unworn) (none_flies cpu.config cpu.cpu (known cpu.seat).flight got.missed a some got.answer got.unworn) ready.spare ready.few (opening_deeds cpu.cpu got.missed a ++ ready.list) ((returns-clause-opens g c).list ready.list ready.listed)
+    (idle_again cpu.config cpu.cpu (known cpu.seat).own got.missed a some got.answer got.unworn)
+    (none_flies cpu.config cpu.cpu (known cpu.seat).flight got.missed a some got.answer got.unworn) ready.spare ready.few
+    (opening_deeds cpu.cpu got.missed a ++ ready.list) ((returns-clause-opens g c).list ready.list ready.listed)
 
 pub returns-then-self-clause-stops : goal.returns-then-self-clause-stops
 returns-then-self-clause-stops g c = worn_out (known c.args.self.now.seat) (known c.args.self.now.seat)

@@ -22,7 +22,8 @@ heed-requires-clause-count g c =
 pub returns-clause-ready : goal.returns-clause-ready
 returns-clause-ready g c =
     let cpu = c.args.self.now in
-    subst (λ (x : Cpu g.row.S.Denot). IsReady (g.S.Schema.shape_of x.schema) (g.S.Schema.accepted x.schema) (g.S.Schema.text x.schema) c.args.words.now x) (sym (switched_is cpu c.load_ask-ask.new.self c.heed.new.self c.heed.ensures.beside))
+    subst (λ (x : Cpu g.row.S.Denot). IsReady (g.S.Schema.shape_of x.schema) (g.S.Schema.accepted x.schema) (g.S.Schema.text x.schema) c.args.words.now x)
+    (sym (switched_is cpu c.load_ask-ask.new.self c.heed.new.self c.heed.ensures.beside))
     (switched_ready _ _ _ c.args.words.now cpu c.requires.ready (sym c.is_fill.ensures ∙ c.if-is_fill.false) c.hand_on.new.end c.hand_on.new.in_hand c.hand_on.ensures c.load_ask-ask.result
     c.load_ask-ask.new.self c.load_ask-ask.ensures.seat.0 c.load_ask-ask.ensures.seat.1 c.load_ask-ask.ensures.step c.heed.new.self c.heed.ensures.beside c.heed.result c.heed.ensures.heeds)
 
@@ -30,7 +31,8 @@ pub returns-clause-list : goal.returns-clause-list
 returns-clause-list g c =
     let cpu = c.args.self.now in
     subst (λ (x : Cpu g.row.S.Denot). (p : List Deed) → HasList (g.S.Schema.shape_of cpu.schema) (g.S.Schema.accepted cpu.schema) (g.S.Schema.text cpu.schema) cpu p
-    → HasList (g.S.Schema.shape_of x.schema) (g.S.Schema.accepted x.schema) (g.S.Schema.text x.schema) x (with_seal c.heed.result cpu.cpu p)) (sym (switched_is cpu c.load_ask-ask.new.self c.heed.new.self c.heed.ensures.beside))
+    → HasList (g.S.Schema.shape_of x.schema) (g.S.Schema.accepted x.schema) (g.S.Schema.text x.schema) x (with_seal c.heed.result cpu.cpu p))
+    (sym (switched_is cpu c.load_ask-ask.new.self c.heed.new.self c.heed.ensures.beside))
     (switched_list _ _ _ c.args.words.now cpu c.requires.ready (sym c.is_fill.ensures ∙ c.if-is_fill.false) c.hand_on.new.end c.hand_on.new.in_hand c.hand_on.ensures c.load_ask-ask.result
     c.load_ask-ask.new.self c.load_ask-ask.ensures.seat.0 c.load_ask-ask.ensures.seat.1 c.load_ask-ask.ensures.step c.heed.new.self c.heed.ensures.beside c.heed.result c.heed.ensures.heeds)
 

@@ -3,7 +3,7 @@ use Rattle.dspec_deeds.specs.declared.config.Config.{Config}
 use Rattle.dspec_deeds.specs.History.{word_at}
 use Rattle.dspec_play.specs.OwnClose.{own_closed, own_closed_slot}
 use Rattle.dspec_table.specs.Last.{last_words}
-use Rattle.dspec_cpu.specs.Rests.{CanClose, RestHasList}
+use Rattle.dspec_cpu.specs.Rests.{CanCloseBehind, RestHasList}
 use Rattle.dspec_cpu.proofs.Closes.{can_close, next_closed}
 use Rattle.dspec_cpu.proofs.rest.CpuRest.settle.Goals as goal
 
@@ -21,7 +21,7 @@ settle_slot-requires-clause-some g c =
       some.2,
       closes.0,
       was.list some.0 some.1 some.2 some.3 some.4 some.5,
-      subst (λ (x : Config × ℕ). CanClose x.0 x.1 (n + 1) (last_words c.args.last.now) some.2 closes.0 q) (λ i. (sym was.same.config i, sym was.same.number i)) closes.1,
+      subst (λ (x : Config × ℕ). CanCloseBehind x.0 x.1 (n + 1) (last_words c.args.last.now) some.2 closes.0 q) (λ i. (sym was.same.config i, sym was.same.number i)) closes.1,
     )
 
 pub loop-below-preserved : goal.loop-below-preserved
@@ -45,10 +45,12 @@ loop-below-preserved g c =
           let closes = can_close shape rest.config rest.cpu words log p shows its n in
           let q = own_closed shape rest.config (λ s. word_at s log) rest.cpu n p in
           let next = now.list handed q log closes.0 (was.list handed p log had shows its)
-          (subst (λ (x : Config × ℕ). CanClose x.0 x.1 (n + 1) words log closes.0 q) (λ i. (sym was.same.config i, sym was.same.number i)) closes.1) in
-          let here = subst (λ (x : g.row.S.Denot × Config × ℕ). RestHasList (g.S.Schema.shape_of new.schema) (g.S.Schema.accepted new.schema) (g.S.Schema.text new.schema) new handed (own_closed_slot (g.S.Schema.shape_of x.0) x.1 (λ s. word_at s log) x.2 (n + 1) q))
+          (subst (λ (x : Config × ℕ). CanCloseBehind x.0 x.1 (n + 1) words log closes.0 q) (λ i. (sym was.same.config i, sym was.same.number i)) closes.1) in
+          let here = subst (λ (x : g.row.S.Denot × Config × ℕ). RestHasList (g.S.Schema.shape_of new.schema) (g.S.Schema.accepted new.schema) (g.S.Schema.text new.schema) new
+          handed (own_closed_slot (g.S.Schema.shape_of x.0) x.1 (λ s. word_at s log) x.2 (n + 1) q))
           (λ i. (was.same.schema i, was.same.config i, was.same.number i)) next in
-          subst (λ l. RestHasList (g.S.Schema.shape_of new.schema) (g.S.Schema.accepted new.schema) (g.S.Schema.text new.schema) new handed l) (next_closed shape rest.config rest.cpu words log p shows its n) here;
+          subst (λ l. RestHasList (g.S.Schema.shape_of new.schema) (g.S.Schema.accepted new.schema) (g.S.Schema.text new.schema) new handed l)
+          (next_closed shape rest.config rest.cpu words log p shows its n) here;
     }
 
 pub returns-clause-list : goal.returns-clause-list
@@ -58,5 +60,6 @@ returns-clause-list g c = λ handed p log had shows its.
     let least = c.loop-below-test.false in
     let most = c.loop-below.auto.below-end in
     let all : c.loop-below.below ≡ rest.config.nspec = omega arith in
-    subst (λ (n : ℕ). RestHasList (g.S.Schema.shape_of new.schema) (g.S.Schema.accepted new.schema) (g.S.Schema.text new.schema) new handed (own_closed (g.S.Schema.shape_of rest.schema) rest.config (λ s. word_at s log) rest.cpu n p)) all
+    subst (λ (n : ℕ). RestHasList (g.S.Schema.shape_of new.schema) (g.S.Schema.accepted new.schema) (g.S.Schema.text new.schema) new handed
+    (own_closed (g.S.Schema.shape_of rest.schema) rest.config (λ s. word_at s log) rest.cpu n p)) all
     (c.loop-below.invariant.list handed p log had shows its)

@@ -18,7 +18,8 @@ settle_block-requires g c =
         side_of_rest rest,
         batches_of_rest rest some.0,
         some.1,
-        can _ _ _ rest c.args.last.now c.requires.words c.args.slot c.requires.slot.0 c.requires.slot.1 c.word-word.result c.word-word.ensures c.ack.result c.ack.ensures grants small some.0 some.2 some.3 some.1 some.4 some.5,
+        can _ _ _ rest c.args.last.now c.requires.words c.args.slot c.requires.slot.0 c.requires.slot.1 c.word-word.result c.word-word.ensures c.ack.result c.ack.ensures
+            grants small some.0 some.2 some.3 some.1 some.4 some.5,
       );
     }
 
@@ -27,7 +28,10 @@ returns-clause-list g c = λ handed p log now had closes.
     let rest = c.args.self.now in
     let small : rest.calls < 2 ^ 64 = omega arith in
     let grants = sym (ap is_granted c.in-Granted.ensures) in
-    let may = can _ _ _ rest c.args.last.now c.requires.words c.args.slot c.requires.slot.0 c.requires.slot.1 c.word-word.result c.word-word.ensures c.ack.result c.ack.ensures grants small handed log now p had closes in
+    let may = can _ _ _ rest c.args.last.now c.requires.words c.args.slot c.requires.slot.0 c.requires.slot.1 c.word-word.result c.word-word.ensures c.ack.result
+    c.ack.ensures grants small handed log now p had closes in
     let done = c.settle_block.ensures.settled rest.schema rest.cpu (side_of_rest rest) (batches_of_rest rest handed) p may in
-    closed _ _ _ rest c.args.last.now c.requires.words c.args.slot c.requires.slot.0 c.requires.slot.1 c.word-word.result c.word-word.ensures c.ack.result c.ack.ensures grants small handed log now p closes
-    (with_parts (side_of_rest rest) rest.marks.items c.settle_block.new.principal c.settle_block.new.buffers.items c.settle_block.new.acks.items c.settle_block.new.drops) c.settle_block.new.counts done.shown
+    closed _ _ _ rest c.args.last.now c.requires.words c.args.slot c.requires.slot.0 c.requires.slot.1 c.word-word.result c.word-word.ensures c.ack.result c.ack.ensures
+    grants small handed log now p closes
+    (with_parts (side_of_rest rest) rest.marks.items c.settle_block.new.principal c.settle_block.new.buffers.items c.settle_block.new.acks.items c.settle_block.new.drops)
+    c.settle_block.new.counts done.shown

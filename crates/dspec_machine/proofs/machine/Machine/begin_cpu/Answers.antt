@@ -17,8 +17,10 @@ returns-clause-kept g c =
     let side = c.index_mut.result.now in
     let got = side_got has capacity m c.requires.kept.shown c.args.cpu side c.requires.cpu c.index_mut.ensures.value in
     let change : Caller → Caller = λ me. record me { flight = Some (flight.Begun c.args.op); steps = 0 } in
-    kept_as has capacity shape_of accepted _ m.schema _ (caller_moves has capacity m c.args.cpu side (change side.caller) c.requires.kept.shown got refl) (state_moves m c.args.cpu side change got) refl
-    (begin_keeps has capacity shape_of accepted m.schema (state_of m) c.args.cpu c.args.op c.requires.cpu c.requires.idle c.requires.accepted (state_kept has capacity shape_of accepted m c.requires.kept))
+    kept_as has capacity shape_of accepted _ m.schema _ (caller_moves has capacity m c.args.cpu side (change side.caller) c.requires.kept.shown got refl)
+    (state_moves m c.args.cpu side change got) refl
+    (begin_keeps has capacity shape_of accepted m.schema (state_of m) c.args.cpu c.args.op c.requires.cpu c.requires.idle c.requires.accepted
+    (state_kept has capacity shape_of accepted m c.requires.kept))
 
 pub returns-clause-state : goal.returns-clause-state
 returns-clause-state g c =

@@ -21,7 +21,8 @@ loop-cpu-preserved g c =
     let shape = g.S.Schema.shape_of m.schema in
     let n = c.loop-cpu.cpu in
     let left = c.close_cpu.new.self in
-    let now = settles_on g.S.Schema.shape_of (λ shape k h. closed_slots shape k n k.nspec h) m c.loop-cpu.self left (closed_cpus shape m.config n (history m)) c.loop-cpu.invariant.1 c.in_ok-close_cpu.ensures.settled c.in_ok-close_cpu.ensures.schema in
+    let now = settles_on g.S.Schema.shape_of (λ shape k h. closed_slots shape k n k.nspec h) m c.loop-cpu.self left (closed_cpus shape m.config n (history m))
+    c.loop-cpu.invariant.1 c.in_ok-close_cpu.ensures.settled c.in_ok-close_cpu.ensures.schema in
     (c.in_ok-close_cpu.ensures.shown, subst (Settles m left) (sym (cpus_more shape m.config n (history m))) now)
 
 pub returns-clause-can_close : goal.returns-clause-can_close

@@ -23,7 +23,8 @@ loop-slot-preserved g c =
     let a = c.args.cpu in
     let s = c.loop-slot.slot in
     let left = c.close_slot.new.self in
-    let now = settles_on g.S.Schema.shape_of (λ shape k h. closed_slot shape k a (s + 1) h) m c.loop-slot.self left (closed_slots shape m.config a s (history m)) c.loop-slot.invariant.1 c.in_ok-close_slot.ensures.settled c.in_ok-close_slot.ensures.schema in
+    let now = settles_on g.S.Schema.shape_of (λ shape k h. closed_slot shape k a (s + 1) h) m c.loop-slot.self left (closed_slots shape m.config a s (history m))
+    c.loop-slot.invariant.1 c.in_ok-close_slot.ensures.settled c.in_ok-close_slot.ensures.schema in
     (c.in_ok-close_slot.ensures.shown, subst (Settles m left) (sym (slots_more shape m.config a s (history m))) now)
 
 pub returns-clause-can_close : goal.returns-clause-can_close

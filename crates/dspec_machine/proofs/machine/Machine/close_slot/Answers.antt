@@ -69,7 +69,8 @@ enter_settle-requires-clause-legal g c =
     let act : c.settle_at.result ≡ settle_at (word_at s h) (ack a s h) = c.settle_at.ensures ∙ (ap (λ (x : SlotState). settle_at x c.index-2.result.now) word ∙ ap (settle_at (word_at s h)) acked) in
     let is : c.of-id.result ≡ present s h = c.of-id.ensures ∙ ap (λ n. record { issue = n; slot = s }) (c.issue.ensures.value ∙ ap (λ (x : SlotState). x.issue) word) in
     let fate : c.settle_fate-fate.result ≡ settle_fate shape k a h (present s h) (word_at s h).code =
-    c.settle_fate-fate.ensures ∙ (ap (settle_fate shape k a h c.of-id.result) c.code.ensures ∙ (ap (λ j. settle_fate shape k a h j w.code) is ∙ ap (λ (x : SlotState). settle_fate shape k a h (present s h) x.code) word)) in
+    c.settle_fate-fate.ensures ∙ (ap (settle_fate shape k a h c.of-id.result) c.code.ensures
+    ∙ (ap (λ j. settle_fate shape k a h j w.code) is ∙ ap (λ (x : SlotState). settle_fate shape k a h (present s h) x.code) word)) in
     let entered : Settle a c.of-id.result c.settle_fate-fate.result ∷ h ≡ closed_slot shape k a s h =
     (λ i. Settle a (is i) (fate i) ∷ h) ∙ sym (one_due shape k a s h c.settle_at.result act c.in-Granted.is) in
     subst (λ (ds : List Deed). IsAllowed shape k ds) (sym entered) (closes_on shape k a s h c.requires.fine c.requires.can_close c.requires.cpu c.requires.slot).legal
@@ -88,11 +89,13 @@ returns-clause-can_close g c =
     let act : c.settle_at.result ≡ settle_at (word_at s h) (ack a s h) = c.settle_at.ensures ∙ (ap (λ (x : SlotState). settle_at x c.index-2.result.now) word ∙ ap (settle_at (word_at s h)) acked) in
     let is : c.of-id.result ≡ present s h = c.of-id.ensures ∙ ap (λ n. record { issue = n; slot = s }) (c.issue.ensures.value ∙ ap (λ (x : SlotState). x.issue) word) in
     let fate : c.settle_fate-fate.result ≡ settle_fate shape k a h (present s h) (word_at s h).code =
-    c.settle_fate-fate.ensures ∙ (ap (settle_fate shape k a h c.of-id.result) c.code.ensures ∙ (ap (λ j. settle_fate shape k a h j w.code) is ∙ ap (λ (x : SlotState). settle_fate shape k a h (present s h) x.code) word)) in
+    c.settle_fate-fate.ensures ∙ (ap (settle_fate shape k a h c.of-id.result) c.code.ensures
+    ∙ (ap (λ j. settle_fate shape k a h j w.code) is ∙ ap (λ (x : SlotState). settle_fate shape k a h (present s h) x.code) word)) in
     let entered : Settle a c.of-id.result c.settle_fate-fate.result ∷ h ≡ closed_slot shape k a s h =
     (λ i. Settle a (is i) (fate i) ∷ h) ∙ sym (one_due shape k a s h c.settle_at.result act c.in-Granted.is) in
     on_ok c.enter_settle.result
-    (λ adds. can_close_there g.S.Schema.shape_of m c.enter_settle.new.self (closed_slot shape k a s h) (settles_one m c.enter_settle.new.self (Settle a c.of-id.result c.settle_fate-fate.result) (closed_slot shape k a s h) entered adds)
+    (λ adds. can_close_there g.S.Schema.shape_of m c.enter_settle.new.self (closed_slot shape k a s h)
+    (settles_one m c.enter_settle.new.self (Settle a c.of-id.result c.settle_fate-fate.result) (closed_slot shape k a s h) entered adds)
     (closes_on shape k a s h c.requires.fine c.requires.can_close c.requires.cpu c.requires.slot))
     c.enter_settle.ensures.entered
 
@@ -110,7 +113,9 @@ returns-clause-settled g c =
     let act : c.settle_at.result ≡ settle_at (word_at s h) (ack a s h) = c.settle_at.ensures ∙ (ap (λ (x : SlotState). settle_at x c.index-2.result.now) word ∙ ap (settle_at (word_at s h)) acked) in
     let is : c.of-id.result ≡ present s h = c.of-id.ensures ∙ ap (λ n. record { issue = n; slot = s }) (c.issue.ensures.value ∙ ap (λ (x : SlotState). x.issue) word) in
     let fate : c.settle_fate-fate.result ≡ settle_fate shape k a h (present s h) (word_at s h).code =
-    c.settle_fate-fate.ensures ∙ (ap (settle_fate shape k a h c.of-id.result) c.code.ensures ∙ (ap (λ j. settle_fate shape k a h j w.code) is ∙ ap (λ (x : SlotState). settle_fate shape k a h (present s h) x.code) word)) in
+    c.settle_fate-fate.ensures ∙ (ap (settle_fate shape k a h c.of-id.result) c.code.ensures
+    ∙ (ap (λ j. settle_fate shape k a h j w.code) is ∙ ap (λ (x : SlotState). settle_fate shape k a h (present s h) x.code) word)) in
     let entered : Settle a c.of-id.result c.settle_fate-fate.result ∷ h ≡ closed_slot shape k a s h =
     (λ i. Settle a (is i) (fate i) ∷ h) ∙ sym (one_due shape k a s h c.settle_at.result act c.in-Granted.is) in
-    on_ok c.enter_settle.result (λ adds. (settles_one m c.enter_settle.new.self (Settle a c.of-id.result c.settle_fate-fate.result) (closed_slot shape k a s h) entered adds).state) c.enter_settle.ensures.entered
+    on_ok c.enter_settle.result (λ adds. (settles_one m c.enter_settle.new.self (Settle a c.of-id.result c.settle_fate-fate.result) (closed_slot shape k a s h) entered
+    adds).state) c.enter_settle.ensures.entered

@@ -1,6 +1,6 @@
 use Rattle.std.proofs.Common.{◌≡◌, not, ◌&&◌, ◌||◌, ◌==◌, ap, sym, ◌∙◌, arith, length}
 use Rattle.std.specs.Prelude.{nat_le}
-use Rattle.dspec_buffer.specs.Extent.{fits, block}
+use Rattle.dspec_buffer.specs.Extent.{piece_fits, block}
 use Rattle.dspec_deeds.specs.declared.deed.DecideFate.TheVariants.{Copied, Lost}
 use Rattle.dspec_deeds.specs.Own.{active, contents, held}
 use Rattle.dspec_deeds.specs.Legal.{is_empty, is_closed, fits_principal}
@@ -25,10 +25,12 @@ returns-then-takes g c =
     let shape = g.S.Schema.shape_of m.schema in
     let held_now = held c.args.cpu c.args.id h in
     let s = side_read has cap m c.requires.shown c.args.cpu c.index-side.result.now c.requires.cpu c.index-side.ensures in
-    let b = buffer_read has cap m c.requires.shown c.args.cpu c.index-side.result.now c.args.id c.slot.result c.index-buffer.result.now s (slot_in_range m.config c.args.id c.requires.slot) c.slot.ensures.value c.requires.present c.index-buffer.ensures in
+    let b = buffer_read has cap m c.requires.shown c.args.cpu c.index-side.result.now c.args.id c.slot.result c.index-buffer.result.now s
+    (slot_in_range m.config c.args.id c.requires.slot) c.slot.ensures.value c.requires.present c.index-buffer.ensures in
     let count : c.count-count.result ≡ length held_now = c.count-count.ensures m.schema _ b.has_pieces ∙ (ap length (records_of_ones (contents held_now)) ∙ length_contents held_now) in
-    let room : c.fits-has_room.result ≡ fits shape (active c.args.cpu h) (block (contents held_now)) m.config.bufsize =
-    c.fits-has_room.ensures m.schema (active c.args.cpu h) s.principal.has_pieces ∙ (ap (nat_le _) s.principal.sized ∙ fits_block shape (active c.args.cpu h) (contents held_now) c.offset.result m.config.bufsize (c.offset.ensures.extent m.schema _ b.has_pieces)) in
+    let room : c.fits-has_room.result ≡ piece_fits shape (active c.args.cpu h) (block (contents held_now)) m.config.bufsize =
+    c.fits-has_room.ensures m.schema (active c.args.cpu h) s.principal.has_pieces
+    ∙ (ap (nat_le _) s.principal.sized ∙ fits_block shape (active c.args.cpu h) (contents held_now) c.offset.result m.config.bufsize (c.offset.ensures.extent m.schema _ b.has_pieces)) in
     let none : (c.count-count.result == 0) ≡ is_empty (block (contents held_now)) = ap (λ n. n == 0) count ∙ sym (empty_block held_now) in
     let test : c.takes.result ≡ fits_principal shape m.config c.args.cpu (block (contents held_now)) h =
     c.takes.ensures ∙ (λ i. room i && (none i || not (is_closed m.config c.args.cpu h))) in
@@ -43,10 +45,12 @@ returns-else-takes g c =
     let shape = g.S.Schema.shape_of m.schema in
     let held_now = held c.args.cpu c.args.id h in
     let s = side_read has cap m c.requires.shown c.args.cpu c.index-side.result.now c.requires.cpu c.index-side.ensures in
-    let b = buffer_read has cap m c.requires.shown c.args.cpu c.index-side.result.now c.args.id c.slot.result c.index-buffer.result.now s (slot_in_range m.config c.args.id c.requires.slot) c.slot.ensures.value c.requires.present c.index-buffer.ensures in
+    let b = buffer_read has cap m c.requires.shown c.args.cpu c.index-side.result.now c.args.id c.slot.result c.index-buffer.result.now s
+    (slot_in_range m.config c.args.id c.requires.slot) c.slot.ensures.value c.requires.present c.index-buffer.ensures in
     let count : c.count-count.result ≡ length held_now = c.count-count.ensures m.schema _ b.has_pieces ∙ (ap length (records_of_ones (contents held_now)) ∙ length_contents held_now) in
-    let room : c.fits-has_room.result ≡ fits shape (active c.args.cpu h) (block (contents held_now)) m.config.bufsize =
-    c.fits-has_room.ensures m.schema (active c.args.cpu h) s.principal.has_pieces ∙ (ap (nat_le _) s.principal.sized ∙ fits_block shape (active c.args.cpu h) (contents held_now) c.offset.result m.config.bufsize (c.offset.ensures.extent m.schema _ b.has_pieces)) in
+    let room : c.fits-has_room.result ≡ piece_fits shape (active c.args.cpu h) (block (contents held_now)) m.config.bufsize =
+    c.fits-has_room.ensures m.schema (active c.args.cpu h) s.principal.has_pieces
+    ∙ (ap (nat_le _) s.principal.sized ∙ fits_block shape (active c.args.cpu h) (contents held_now) c.offset.result m.config.bufsize (c.offset.ensures.extent m.schema _ b.has_pieces)) in
     let none : (c.count-count.result == 0) ≡ is_empty (block (contents held_now)) = ap (λ n. n == 0) count ∙ sym (empty_block held_now) in
     let test : c.takes.result ≡ fits_principal shape m.config c.args.cpu (block (contents held_now)) h =
     c.takes.ensures ∙ (λ i. room i && (none i || not (is_closed m.config c.args.cpu h))) in

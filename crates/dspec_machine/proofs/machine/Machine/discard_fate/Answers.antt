@@ -19,7 +19,8 @@ returns g c =
     let cap = g.B.TraceBuffer.capacity in
     let m = c.args.self.now in
     let s = side_read has cap m c.requires.shown c.args.cpu c.index.result.now c.requires.cpu c.index.ensures in
-    let b = buffer_read has cap m c.requires.shown c.args.cpu c.index.result.now c.args.id c.slot.result c.index-buffer.result.now s (slot_in_range m.config c.args.id c.requires.slot) c.slot.ensures.value c.requires.present c.index-buffer.ensures in
+    let b = buffer_read has cap m c.requires.shown c.args.cpu c.index.result.now c.args.id c.slot.result c.index-buffer.result.now s
+    (slot_in_range m.config c.args.id c.requires.slot) c.slot.ensures.value c.requires.present c.index-buffer.ensures in
     let e = c.count.ensures m.schema _ b.has_pieces in
     let held_now = held c.args.cpu c.args.id (history m) in
     ap Thrown (e ∙ (ap length (records_of_ones (contents held_now)) ∙ length_contents held_now))

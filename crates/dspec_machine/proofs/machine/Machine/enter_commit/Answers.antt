@@ -7,7 +7,7 @@ use Rattle.dspec_buffer.specs.Extent.{one}
 use Rattle.dspec_deeds.specs.declared.deed.Deed.TheVariants.{Commit}
 use Rattle.dspec_machine.specs.declared.side.Side.{Side}
 use Rattle.dspec_deeds.specs.Own.{contents, held}
-use Rattle.dspec_machine.specs.Shown.{ShowsWords, HasPieces}
+use Rattle.dspec_machine.specs.Shown.{ShowsWords, HoldsPieces}
 use Rattle.dspec_machine.specs.Machines.{history}
 use Rattle.dspec_deeds.proofs.TestLemmas.{number_is_itself}
 use Rattle.dspec_deeds.proofs.PresentIds.{open_present}
@@ -88,7 +88,7 @@ overflow_add-side g c =
     let within : c.slot.result - 1 < length side.speculative.items = omega arith in
     let there = stands side.speculative.items (c.slot.result - 1) within in
     let buffer = s.speculative id.slot there.0 slot (subst (λ n. slice_get side.speculative.items (n - 1) ≡ Some there.0) at there.1) in
-    let held_there = subst (λ j. HasPieces has capacity m.schema m.config.specsize (map one (contents (held c.args.cpu j h))) there.0) is buffer in
+    let held_there = subst (λ j. HoldsPieces has capacity m.schema m.config.specsize (map one (contents (held c.args.cpu j h))) there.0) is buffer in
     let put = c.in_ok-enter_block.ensures.streamed (contents (held c.args.cpu id h)) there.0 there.1 held_there.has_pieces in
     let calling : c.enter_block.new.self.calls ≡ side.calls = ap (λ x. x.calls) put in
     let counted = s.called in
@@ -118,7 +118,7 @@ close_block-requires-clause-place g c =
     let within : c.slot.result - 1 < length side.speculative.items = omega arith in
     let there = stands side.speculative.items (c.slot.result - 1) within in
     let buffer = s.speculative id.slot there.0 slot (subst (λ n. slice_get side.speculative.items (n - 1) ≡ Some there.0) at there.1) in
-    let held_there = subst (λ j. HasPieces has capacity m.schema m.config.specsize (map one (contents (held c.args.cpu j h))) there.0) is buffer in
+    let held_there = subst (λ j. HoldsPieces has capacity m.schema m.config.specsize (map one (contents (held c.args.cpu j h))) there.0) is buffer in
     let put = c.in_ok-enter_block.ensures.streamed (contents (held c.args.cpu id h)) there.0 there.1 held_there.has_pieces in
     let same : length c.enter_block.new.self.speculative.items ≡ length side.speculative.items = ap (λ x. length x.speculative.items) put in
     omega arith
@@ -145,7 +145,7 @@ close_block-requires-clause-drops g c =
     let within : c.slot.result - 1 < length side.speculative.items = omega arith in
     let there = stands side.speculative.items (c.slot.result - 1) within in
     let buffer = s.speculative id.slot there.0 slot (subst (λ n. slice_get side.speculative.items (n - 1) ≡ Some there.0) at there.1) in
-    let held_there = subst (λ j. HasPieces has capacity m.schema m.config.specsize (map one (contents (held c.args.cpu j h))) there.0) is buffer in
+    let held_there = subst (λ j. HoldsPieces has capacity m.schema m.config.specsize (map one (contents (held c.args.cpu j h))) there.0) is buffer in
     let put = c.in_ok-enter_block.ensures.streamed (contents (held c.args.cpu id h)) there.0 there.1 held_there.has_pieces in
     let dropping : c.enter_block.new.self.drops ≡ side.drops = ap (λ x. x.drops) put in
     let counted = s.drops in
@@ -191,7 +191,7 @@ returns-clause-shown g c =
     let within : c.slot.result - 1 < length side.speculative.items = omega arith in
     let there = stands side.speculative.items (c.slot.result - 1) within in
     let buffer = s.speculative id.slot there.0 slot (subst (λ n. slice_get side.speculative.items (n - 1) ≡ Some there.0) at there.1) in
-    let held_there = subst (λ j. HasPieces has capacity m.schema m.config.specsize (map one (contents (held c.args.cpu j h))) there.0) is buffer in
+    let held_there = subst (λ j. HoldsPieces has capacity m.schema m.config.specsize (map one (contents (held c.args.cpu j h))) there.0) is buffer in
     let put = c.in_ok-enter_block.ensures.streamed (contents (held c.args.cpu id h)) there.0 there.1 held_there.has_pieces in
     let changed : Side g.row.B.Denot → Side g.row.B.Denot = λ x. record x { calls = x.calls + 1 } in
     let tell = record side { calls = side.calls + 1 } in
@@ -201,7 +201,13 @@ returns-clause-shown g c =
     (commit_ends c.args.cpu id c.args.fate h c.requires.commit) is slot (ap (λ n. n - 1) at) there.1
     (ap changed put)
     (λ e. commit_fits (g.S.Schema.shape_of m.schema) m.config c.args.cpu id c.args.fate h c.requires.legal.1.1 e)
-    record { active = c.close_block.ensures.active; active_size = c.close_block.ensures.active_size; emptied = c.close_block.ensures.emptied; drops = c.close_block.ensures.drops; rest = c.close_block.ensures.rest }
+    record {
+      active = c.close_block.ensures.active;
+      active_size = c.close_block.ensures.active_size;
+      emptied = c.close_block.ensures.emptied;
+      drops = c.close_block.ensures.drops;
+      rest = c.close_block.ensures.rest;
+    }
     (ap (λ n. n + 1) s.called ∙ sym (called c.args.cpu d h (number_is_itself c.args.cpu))) s.ack_count s.acks s in
     shown_as has capacity _ (d ∷ h) (latest_first m.deeds c.enter_block.new.deeds d c.in_ok-enter_block.ensures.deeds) record {
       words = subst (λ n. ShowsWords m.config (d ∷ h) (set m.words.items (n - 1) c.args.word)) (sym at) (words_set m.config d h m.words.items c.args.word slot.0 slot.1 c.requires.word was.words);
@@ -232,7 +238,7 @@ returns-clause-entered g c =
     let within : c.slot.result - 1 < length side.speculative.items = omega arith in
     let there = stands side.speculative.items (c.slot.result - 1) within in
     let buffer = s.speculative id.slot there.0 slot (subst (λ n. slice_get side.speculative.items (n - 1) ≡ Some there.0) at there.1) in
-    let held_there = subst (λ j. HasPieces has capacity m.schema m.config.specsize (map one (contents (held c.args.cpu j h))) there.0) is buffer in
+    let held_there = subst (λ j. HoldsPieces has capacity m.schema m.config.specsize (map one (contents (held c.args.cpu j h))) there.0) is buffer in
     let put = c.in_ok-enter_block.ensures.streamed (contents (held c.args.cpu id h)) there.0 there.1 held_there.has_pieces in
     let got = side_got has capacity m was c.args.cpu side c.requires.cpu c.index_mut-side.ensures.value in
     let callers = ap (λ x. x.caller) c.close_block.ensures.rest ∙ ap (λ x. x.caller) put in

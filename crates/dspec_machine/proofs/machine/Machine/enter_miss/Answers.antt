@@ -20,7 +20,8 @@ returns-clause-shown g c =
     let a = c.args.cpu in
     let side = c.index_mut-side.result.now in
     let got = slice_get_read m.sides.items m.config.cpus a side (sym was.side_count) c.requires.cpu c.index_mut-side.ensures.value in
-    let own = missing_side g.B.TraceBuffer.has g.B.TraceBuffer.capacity m.schema m.config a h side (was.sides a side got) c.args.slot c.args.busy c.if-busy.side (elim c.if-busy.branch [ then-busy w ↦ rw w.if-busy.true (w.side-is ∙ w.if-busy.true) | else-busy w ↦ rw w.if-busy.false w.side-is ]) in
+    let own = missing_side g.B.TraceBuffer.has g.B.TraceBuffer.capacity m.schema m.config a h side (was.sides a side got) c.args.slot c.args.busy c.if-busy.side
+    (elim c.if-busy.branch [ then-busy w ↦ rw w.if-busy.true (w.side-is ∙ w.if-busy.true) | else-busy w ↦ rw w.if-busy.false w.side-is ]) in
     shown_as g.B.TraceBuffer.has g.B.TraceBuffer.capacity _ (d ∷ h) (latest_first m.deeds c.push.new.self d c.in_ok-push.ensures.ok) record {
       words = words_stay m.config d h m.words.items (λ t. refl) was.words;
       active = was.active;
@@ -34,4 +35,5 @@ returns-clause-entered g c =
     let a = c.args.cpu in
     let side = c.index_mut-side.result.now in
     let got = slice_get_read m.sides.items m.config.cpus a side (sym c.requires.shown.side_count) c.requires.cpu c.index_mut-side.ensures.value in
-    adds_one m _ (deed.Miss c.args.cpu c.args.slot c.args.busy) refl refl refl (latest_first m.deeds c.push.new.self _ c.in_ok-push.ensures.ok) (map_set (λ s. s.caller) m.sides.items a side _ got refl)
+    adds_one m _ (deed.Miss c.args.cpu c.args.slot c.args.busy) refl refl refl (latest_first m.deeds c.push.new.self _ c.in_ok-push.ensures.ok)
+    (map_set (λ s. s.caller) m.sides.items a side _ got refl)

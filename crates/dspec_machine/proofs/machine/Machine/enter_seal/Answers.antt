@@ -52,5 +52,6 @@ overflow_add-side g c =
     let was = c.requires.shown in
     let got = slice_get_read m.sides.items m.config.cpus a side (sym was.side_count) c.requires.cpu c.index_mut-side.ensures.value in
     let is = (was.sides a side got).sealed in
-    let fits : seals a (history m) + 1 < 2 ^ 64 = one_more m.deeds c.push.new.self (deed.Seal c.args.cpu) (seals a (history m)) (seals_counted a (history m)) c.in_ok-push.ensures.ok c.in_ok-push.ensures.countable in
+    let fits : seals a (history m) + 1 < 2 ^ 64 =
+    one_more m.deeds c.push.new.self (deed.Seal c.args.cpu) (seals a (history m)) (seals_counted a (history m)) c.in_ok-push.ensures.ok c.in_ok-push.ensures.countable in
     omega arith

@@ -7,7 +7,7 @@ use Rattle.dspec_buffer.specs.Extent.{one}
 use Rattle.dspec_deeds.specs.declared.deed.Deed.TheVariants.{Settle}
 use Rattle.dspec_machine.specs.declared.side.Side.{Side}
 use Rattle.dspec_deeds.specs.Own.{contents, held}
-use Rattle.dspec_machine.specs.Shown.{HasPieces}
+use Rattle.dspec_machine.specs.Shown.{HoldsPieces}
 use Rattle.dspec_machine.specs.Machines.{history}
 use Rattle.dspec_machine.proofs.OtherSides.{words_stay}
 use Rattle.dspec_machine.proofs.MachineReads.{side_read, side_got}
@@ -84,7 +84,7 @@ close_block-requires-clause-place g c =
     let within : c.slot.result - 1 < length side.speculative.items = omega arith in
     let there = stands side.speculative.items (c.slot.result - 1) within in
     let buffer = s.speculative id.slot there.0 slot (subst (λ n. slice_get side.speculative.items (n - 1) ≡ Some there.0) at there.1) in
-    let held_there = subst (λ j. HasPieces has capacity m.schema m.config.specsize (map one (contents (held c.args.cpu j h))) there.0) is buffer in
+    let held_there = subst (λ j. HoldsPieces has capacity m.schema m.config.specsize (map one (contents (held c.args.cpu j h))) there.0) is buffer in
     let put = c.in_ok-enter_block.ensures.streamed (contents (held c.args.cpu id h)) there.0 there.1 held_there.has_pieces in
     let same : length c.enter_block.new.self.speculative.items ≡ length side.speculative.items = ap (λ x. length x.speculative.items) put in
     omega arith
@@ -111,7 +111,7 @@ close_block-requires-clause-drops g c =
     let within : c.slot.result - 1 < length side.speculative.items = omega arith in
     let there = stands side.speculative.items (c.slot.result - 1) within in
     let buffer = s.speculative id.slot there.0 slot (subst (λ n. slice_get side.speculative.items (n - 1) ≡ Some there.0) at there.1) in
-    let held_there = subst (λ j. HasPieces has capacity m.schema m.config.specsize (map one (contents (held c.args.cpu j h))) there.0) is buffer in
+    let held_there = subst (λ j. HoldsPieces has capacity m.schema m.config.specsize (map one (contents (held c.args.cpu j h))) there.0) is buffer in
     let put = c.in_ok-enter_block.ensures.streamed (contents (held c.args.cpu id h)) there.0 there.1 held_there.has_pieces in
     let dropping : c.enter_block.new.self.drops ≡ side.drops = ap (λ x. x.drops) put in
     let counted = s.drops in
@@ -141,7 +141,7 @@ index_mut-requires g c =
     let within : c.slot.result - 1 < length side.speculative.items = omega arith in
     let there = stands side.speculative.items (c.slot.result - 1) within in
     let buffer = s.speculative id.slot there.0 slot (subst (λ n. slice_get side.speculative.items (n - 1) ≡ Some there.0) at there.1) in
-    let held_there = subst (λ j. HasPieces has capacity m.schema m.config.specsize (map one (contents (held c.args.cpu j h))) there.0) is buffer in
+    let held_there = subst (λ j. HoldsPieces has capacity m.schema m.config.specsize (map one (contents (held c.args.cpu j h))) there.0) is buffer in
     let put = c.in_ok-enter_block.ensures.streamed (contents (held c.args.cpu id h)) there.0 there.1 held_there.has_pieces in
     let same : length c.enter_block.new.self.acks.items ≡ length side.acks.items = ap (λ x. length x.acks.items) put in
     let acks = s.ack_count in
@@ -169,7 +169,7 @@ returns-clause-shown g c =
     let within : c.slot.result - 1 < length side.speculative.items = omega arith in
     let there = stands side.speculative.items (c.slot.result - 1) within in
     let buffer = s.speculative id.slot there.0 slot (subst (λ n. slice_get side.speculative.items (n - 1) ≡ Some there.0) at there.1) in
-    let held_there = subst (λ j. HasPieces has capacity m.schema m.config.specsize (map one (contents (held c.args.cpu j h))) there.0) is buffer in
+    let held_there = subst (λ j. HoldsPieces has capacity m.schema m.config.specsize (map one (contents (held c.args.cpu j h))) there.0) is buffer in
     let put = c.in_ok-enter_block.ensures.streamed (contents (held c.args.cpu id h)) there.0 there.1 held_there.has_pieces in
     let changed : Side g.row.B.Denot → Side g.row.B.Denot = λ x. record x { acks = with_item x.acks (c.slot.result - 1) (c.issue.result + 1) } in
     let tell = record side { acks = with_item side.acks (c.slot.result - 1) (c.issue.result + 1) } in
@@ -179,9 +179,16 @@ returns-clause-shown g c =
     (settle_ends c.args.cpu id c.args.fate h) is slot (ap (λ n. n - 1) at) there.1
     (ap changed put)
     (λ e. settle_fits (g.S.Schema.shape_of m.schema) m.config c.args.cpu id c.args.fate h c.requires.legal.1.1 e)
-    record { active = c.close_block.ensures.active; active_size = c.close_block.ensures.active_size; emptied = c.close_block.ensures.emptied; drops = c.close_block.ensures.drops; rest = c.close_block.ensures.rest }
+    record {
+      active = c.close_block.ensures.active;
+      active_size = c.close_block.ensures.active_size;
+      emptied = c.close_block.ensures.emptied;
+      drops = c.close_block.ensures.drops;
+      rest = c.close_block.ensures.rest;
+    }
     (let counted = s.called in omega arith) (length-set side.acks.items (c.slot.result - 1) (c.issue.result + 1) ∙ s.ack_count)
-    (acks_set m.config c.args.cpu id c.args.fate h side.acks.items (c.slot.result - 1) (c.issue.result + 1) slot sound s.ack_count (ap (λ n. n - 1) at) (ap (λ n. n + 1) c.issue.ensures.value) s.acks) s in
+    (acks_set m.config c.args.cpu id c.args.fate h side.acks.items (c.slot.result - 1) (c.issue.result + 1) slot sound s.ack_count (ap (λ n. n - 1) at)
+    (ap (λ n. n + 1) c.issue.ensures.value) s.acks) s in
     shown_as has capacity _ (d ∷ h) (latest_first m.deeds c.enter_block.new.deeds d c.in_ok-enter_block.ensures.deeds) record {
       words = words_stay m.config d h m.words.items (λ t. refl) was.words;
       active = was.active;
@@ -211,7 +218,7 @@ returns-clause-entered g c =
     let within : c.slot.result - 1 < length side.speculative.items = omega arith in
     let there = stands side.speculative.items (c.slot.result - 1) within in
     let buffer = s.speculative id.slot there.0 slot (subst (λ n. slice_get side.speculative.items (n - 1) ≡ Some there.0) at there.1) in
-    let held_there = subst (λ j. HasPieces has capacity m.schema m.config.specsize (map one (contents (held c.args.cpu j h))) there.0) is buffer in
+    let held_there = subst (λ j. HoldsPieces has capacity m.schema m.config.specsize (map one (contents (held c.args.cpu j h))) there.0) is buffer in
     let put = c.in_ok-enter_block.ensures.streamed (contents (held c.args.cpu id h)) there.0 there.1 held_there.has_pieces in
     let got = side_got has capacity m was c.args.cpu side c.requires.cpu c.index_mut-side.ensures.value in
     let callers = ap (λ x. x.caller) c.close_block.ensures.rest ∙ ap (λ x. x.caller) put in

@@ -81,7 +81,8 @@ returns-clause-shown g c =
     (ap (λ n. n + 1) s.called ∙ sym (called c.args.cpu d h (number_is_itself c.args.cpu))) refl s.ack_count s.acks ends s in
     let all = sides_set has capacity m.schema m.config d h m.sides.items sound was.side_count was.sides c.args.cpu new refl c.requires.cpu own in
     let count = length-set m.sides.items c.args.cpu new ∙ was.side_count in
-    let deeds = latest_first c.push.new.self c.push-2.new.self (Release id.slot) (of_ok c.push-2.result (sym c.if-is_err.ensures.value) c.push-2.ensures.ok ∙ ap (λ n. c.push.new.self ++ Release n ∷ []) c.slot.ensures.value)
+    let deeds = latest_first c.push.new.self c.push-2.new.self (Release id.slot)
+    (of_ok c.push-2.result (sym c.if-is_err.ensures.value) c.push-2.ensures.ok ∙ ap (λ n. c.push.new.self ++ Release n ∷ []) c.slot.ensures.value)
     ∙ ap (λ ds. Release id.slot ∷ ds) (latest_first m.deeds c.push.new.self d c.in_ok-push.ensures.ok) in
     shown_as has capacity _ (Release id.slot ∷ d ∷ h) deeds record {
       words = subst (λ n. ShowsWords m.config (Release id.slot ∷ d ∷ h) (set m.words.items (n - 1) c.args.word)) (sym at)
@@ -97,7 +98,8 @@ returns-clause-entered g c =
     let d = Discard c.args.cpu c.args.id c.args.fate in
     let side = c.index_mut-side.result.now in
     let got = side_got g.B.TraceBuffer.has g.B.TraceBuffer.capacity m c.requires.shown c.args.cpu side c.requires.cpu c.index_mut-side.ensures.value in
-    let deeds = latest_first c.push.new.self c.push-2.new.self (Release c.args.id.slot) (of_ok c.push-2.result (sym c.if-is_err.ensures.value) c.push-2.ensures.ok ∙ ap (λ n. c.push.new.self ++ Release n ∷ []) c.slot.ensures.value)
+    let deeds = latest_first c.push.new.self c.push-2.new.self (Release c.args.id.slot)
+    (of_ok c.push-2.result (sym c.if-is_err.ensures.value) c.push-2.ensures.ok ∙ ap (λ n. c.push.new.self ++ Release n ∷ []) c.slot.ensures.value)
     ∙ ap (λ ds. Release c.args.id.slot ∷ ds) (latest_first m.deeds c.push.new.self d c.in_ok-push.ensures.ok) in
     adds_all m _ (Release c.args.id.slot ∷ d ∷ []) refl refl refl deeds
     (map_set (λ s. s.caller) m.sides.items c.args.cpu side _ got refl)

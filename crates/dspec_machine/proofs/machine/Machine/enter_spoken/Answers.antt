@@ -2,11 +2,11 @@
 use Rattle.std.proofs.Common.{◌≡◌, ◌+◌, ◌-◌, true, false, ◌∷◌, map, set, refl, sym, ap, ◌∙◌, subst, true≢false, arith}
 use Rattle.std.specs.Vec.{with_item}
 use Rattle.std.proofs.lemmas.List.{length-set}
-use Rattle.dspec_buffer.specs.Extent.{one, fits}
+use Rattle.dspec_buffer.specs.Extent.{one, piece_fits}
 use Rattle.dspec_deeds.specs.declared.deed.Deed.TheVariants.{Speculate}
 use Rattle.dspec_deeds.specs.FateKinds.{spoken_kept}
 use Rattle.dspec_deeds.specs.Own.{contents, held}
-use Rattle.dspec_machine.specs.Shown.{ShowsWords, HasPieces}
+use Rattle.dspec_machine.specs.Shown.{ShowsWords, HoldsPieces}
 use Rattle.dspec_machine.specs.Machines.{history}
 use Rattle.dspec_deeds.proofs.PresentIds.{open_present}
 use Rattle.dspec_deeds.proofs.WordChanges.{granted_open}
@@ -62,7 +62,7 @@ overflow_add-side g c =
     let s = side_read has capacity m was c.args.cpu side c.requires.cpu c.index_mut-side.ensures.value in
     let called = s.called in
     let within = calls_counted c.args.cpu h in
-    let fits = one_more m.deeds c.push.new.self d side.calls (omega arith) c.in_ok-push.ensures.ok c.in_ok-push.ensures.countable in
+    let piece_fits = one_more m.deeds c.push.new.self d side.calls (omega arith) c.in_ok-push.ensures.ok c.in_ok-push.ensures.countable in
     omega arith
 
 pub index_mut-requires-2 : goal.index_mut-requires-2
@@ -119,12 +119,21 @@ returns-then-matches-clause-shown g c =
     let b = buffer_read has capacity m was c.args.cpu side id c.slot.result c.index_mut-buffer.result.now s slot at (sym now.now) c.index_mut-buffer.ensures.value in
     let ps = map one (contents (held c.args.cpu id h)) in
     let whole = kept_fits (g.S.Schema.shape_of m.schema) m.config c.args.cpu id c.args.rec.now c.args.fate h c.requires.legal.1.1 c.requires.granted kept in
-    let pushed : c.push-then-matches.result ≡ true = c.push-then-matches.ensures.answer ps b.has_pieces ∙ (ap (λ n. fits (g.S.Schema.shape_of m.schema) ps (one c.args.rec.now) n) b.sized ∙ whole) in
+    let pushed : c.push-then-matches.result ≡ true =
+    c.push-then-matches.ensures.answer ps b.has_pieces ∙ (ap (λ n. piece_fits (g.S.Schema.shape_of m.schema) ps (one c.args.rec.now) n) b.sized ∙ whole) in
     let full = of_true c.push-then-matches.result pushed c.push-then-matches.ensures.kept ps b.has_pieces in
-    let buffer : HasPieces has capacity m.schema m.config.specsize (one c.args.rec.now ∷ ps) c.push-then-matches.new.self = record { sized = c.push-then-matches.ensures.size ∙ b.sized; has_pieces = full } in
-    let new = record side { calls = side.calls + 1; marks = with_item side.marks (c.slot.result - 1) (c.issue.result + 1); speculative = with_item side.speculative (c.slot.result - 1) c.push-then-matches.new.self } in
-    let buffers = buffers_set has capacity m.schema m.config c.args.cpu d h id side.speculative.items c.push-then-matches.new.self (λ t. refl) (λ j off. held_unnamed c.args.cpu j id c.args.rec.now c.args.fate h off) now.is slot s.buffer_count
-    (subst (λ rs. HasPieces has capacity m.schema m.config.specsize (map one rs) c.push-then-matches.new.self) (sym (held_kept c.args.cpu id c.args.rec.now c.args.fate h kept)) buffer) s.speculative in
+    let buffer : HoldsPieces has capacity m.schema m.config.specsize (one c.args.rec.now ∷ ps) c.push-then-matches.new.self =
+    record { sized = c.push-then-matches.ensures.size ∙ b.sized; has_pieces = full } in
+    let new = record side {
+      calls = side.calls + 1;
+      marks = with_item side.marks (c.slot.result - 1) (c.issue.result + 1);
+      speculative = with_item side.speculative
+          (c.slot.result - 1) c.push-then-matches.new.self;
+    } in
+    let buffers = buffers_set has capacity m.schema m.config c.args.cpu d h id side.speculative.items c.push-then-matches.new.self (λ t. refl)
+    (λ j off. held_unnamed c.args.cpu j id c.args.rec.now c.args.fate h off) now.is slot s.buffer_count
+    (subst (λ rs. HoldsPieces has capacity m.schema m.config.specsize (map one rs) c.push-then-matches.new.self)
+    (sym (held_kept c.args.cpu id c.args.rec.now c.args.fate h kept)) buffer) s.speculative in
     let own = spoken_side has capacity m.schema m.config c.args.cpu id c.args.rec.now c.args.fate h side new c.requires.granted now.now now.is slot
     record {
       rest = record { taker = refl; seals = refl; missed = refl; second = refl; taken = refl; sealed_drops = refl };
@@ -160,7 +169,8 @@ returns-else-matches-clause-shown g c =
     let side = c.index_mut-side.result.now in
     let s = side_read has capacity m was c.args.cpu side c.requires.cpu c.index_mut-side.ensures.value in
     let now = open_present m.config h id sound.0 opens in
-    let kept : spoken_kept c.args.fate ≡ false = elim c.match-matches.branch [ in-Kept w ↦ absurd (true≢false (sym w.matches-is ∙ c.if-matches.false)) | in_default w ↦ unkept c.args.fate w.in_default.not-Kept ] in
+    let kept : spoken_kept c.args.fate ≡ false =
+    elim c.match-matches.branch [ in-Kept w ↦ absurd (true≢false (sym w.matches-is ∙ c.if-matches.false)) | in_default w ↦ unkept c.args.fate w.in_default.not-Kept ] in
     let new = record side { calls = side.calls + 1; marks = with_item side.marks (c.slot.result - 1) (c.issue.result + 1) } in
     let buffers = buffers_stay has capacity m.schema m.config c.args.cpu d h side.speculative.items (λ t. refl) (λ j. held_unkept c.args.cpu j id c.args.rec.now c.args.fate h kept) s.speculative in
     let own = spoken_side has capacity m.schema m.config c.args.cpu id c.args.rec.now c.args.fate h side new c.requires.granted now.now now.is slot

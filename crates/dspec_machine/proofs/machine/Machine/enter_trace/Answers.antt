@@ -5,7 +5,7 @@ use Rattle.std.specs.Vec.{with_item}
 use Rattle.std.proofs.lemmas.List.{length-set}
 use Rattle.std.proofs.lemmas.Option.{slice_get_read}
 use Rattle.dspec_record.specs.Record.{Record}
-use Rattle.dspec_buffer.specs.Extent.{one, fits}
+use Rattle.dspec_buffer.specs.Extent.{one, piece_fits}
 use Rattle.dspec_deeds.specs.declared.deed.Deed.TheVariants as deed
 use Rattle.dspec_deeds.specs.declared.deed.TraceFate.TheVariants as traced
 use Rattle.dspec_machine.specs.declared.side.Side.{Side}
@@ -41,20 +41,28 @@ returns-clause-shown g c =
           let room = subst (λ f. OwnAllows (g.S.Schema.shape_of m.schema) m.config h (deed.Trace a r f)) w.in-Kept.is c.requires.legal.1.1 in
           let buffer = w.push-in-Kept-2 in
           let size = buffer.ensures.size ∙ shows.principal.sized in
-          let fitted = buffer.ensures.answer (active a h) shows.principal.has_pieces ∙ (ap (λ n. fits (g.S.Schema.shape_of m.schema) (active a h) (one r) n) shows.principal.sized ∙ has_room (g.S.Schema.shape_of m.schema) m.config a (one r) h (sym room)) in
+          let fitted = buffer.ensures.answer (active a h) shows.principal.has_pieces
+          ∙ (ap (λ n. piece_fits (g.S.Schema.shape_of m.schema) (active a h) (one r) n) shows.principal.sized ∙ has_room (g.S.Schema.shape_of m.schema) m.config a (one r) h (sym room)) in
           let pieces = of_true buffer.result fitted buffer.ensures.kept (active a h) shows.principal.has_pieces in
           let grown = of_ok w.push-in-Kept.result (sym w.is_err.ensures.value ∙ w.if-is_err.false) w.push-in-Kept.ensures.ok in
           let kept = kept_side g.B.TraceBuffer.has g.B.TraceBuffer.capacity m.schema m.config a h side shows r buffer.new.self size pieces in
-          subst (λ f. ShowsSide g.B.TraceBuffer.has g.B.TraceBuffer.capacity m.schema m.config a (deed.Trace a r f ∷ h) (record c.match-fate.side { calls = c.match-fate.side.calls + 1 })) (sym w.in-Kept.is)
-          (subst (λ (s : Side g.row.B.Denot). ShowsSide g.B.TraceBuffer.has g.B.TraceBuffer.capacity m.schema m.config a (deed.Trace a r traced.Kept ∷ h) (record s { calls = s.calls + 1 })) (sym w.side-is)
-          (subst (λ (xs : List Record). ShowsSide g.B.TraceBuffer.has g.B.TraceBuffer.capacity m.schema m.config a (deed.Trace a r traced.Kept ∷ h) (record side { calls = side.calls + 1; active = buffer.new.self; accepted = xs })) (sym grown) kept))
+          subst (λ f. ShowsSide g.B.TraceBuffer.has g.B.TraceBuffer.capacity m.schema m.config a (deed.Trace a r f ∷ h)
+          (record c.match-fate.side { calls = c.match-fate.side.calls + 1 })) (sym w.in-Kept.is)
+          (subst (λ (s : Side g.row.B.Denot). ShowsSide g.B.TraceBuffer.has g.B.TraceBuffer.capacity m.schema m.config a (deed.Trace a r traced.Kept ∷ h)
+          (record s { calls = s.calls + 1 })) (sym w.side-is)
+          (subst (λ (xs : List Record). ShowsSide g.B.TraceBuffer.has g.B.TraceBuffer.capacity m.schema m.config a (deed.Trace a r traced.Kept ∷ h)
+          (record side { calls = side.calls + 1; active = buffer.new.self; accepted = xs })) (sym grown) kept))
       | in-Dropped w ↦
-          subst (λ f. ShowsSide g.B.TraceBuffer.has g.B.TraceBuffer.capacity m.schema m.config a (deed.Trace a r f ∷ h) (record c.match-fate.side { calls = c.match-fate.side.calls + 1 })) (sym w.in-Dropped.is)
-          (subst (λ (s : Side g.row.B.Denot). ShowsSide g.B.TraceBuffer.has g.B.TraceBuffer.capacity m.schema m.config a (deed.Trace a r traced.Dropped ∷ h) (record s { calls = s.calls + 1 })) (sym w.side-is)
+          subst (λ f. ShowsSide g.B.TraceBuffer.has g.B.TraceBuffer.capacity m.schema m.config a (deed.Trace a r f ∷ h)
+          (record c.match-fate.side { calls = c.match-fate.side.calls + 1 })) (sym w.in-Dropped.is)
+          (subst (λ (s : Side g.row.B.Denot). ShowsSide g.B.TraceBuffer.has g.B.TraceBuffer.capacity m.schema m.config a (deed.Trace a r traced.Dropped ∷ h)
+          (record s { calls = s.calls + 1 })) (sym w.side-is)
           (dropped_side g.B.TraceBuffer.has g.B.TraceBuffer.capacity m.schema m.config a h side shows r))
       | in-Stopped w ↦
-          subst (λ f. ShowsSide g.B.TraceBuffer.has g.B.TraceBuffer.capacity m.schema m.config a (deed.Trace a r f ∷ h) (record c.match-fate.side { calls = c.match-fate.side.calls + 1 })) (sym w.in-Stopped.is)
-          (subst (λ (s : Side g.row.B.Denot). ShowsSide g.B.TraceBuffer.has g.B.TraceBuffer.capacity m.schema m.config a (deed.Trace a r traced.Stopped ∷ h) (record s { calls = s.calls + 1 })) (sym w.side-is)
+          subst (λ f. ShowsSide g.B.TraceBuffer.has g.B.TraceBuffer.capacity m.schema m.config a (deed.Trace a r f ∷ h)
+          (record c.match-fate.side { calls = c.match-fate.side.calls + 1 })) (sym w.in-Stopped.is)
+          (subst (λ (s : Side g.row.B.Denot). ShowsSide g.B.TraceBuffer.has g.B.TraceBuffer.capacity m.schema m.config a (deed.Trace a r traced.Stopped ∷ h)
+          (record s { calls = s.calls + 1 })) (sym w.side-is)
           (stopped_side g.B.TraceBuffer.has g.B.TraceBuffer.capacity m.schema m.config a h side shows r))
     ] in
     shown_as g.B.TraceBuffer.has g.B.TraceBuffer.capacity _ (d ∷ h) (latest_first m.deeds c.push.new.self d c.in_ok-push.ensures.ok) record {
@@ -85,7 +93,8 @@ overflow_add-side g c =
     let was = c.requires.shown in
     let got = slice_get_read m.sides.items m.config.cpus a side (sym was.side_count) c.requires.cpu c.index_mut-side.ensures.value in
     let is = (was.sides a side got).drops in
-    let fits : (growing a (history m)).drops + 1 < 2 ^ 64 = one_more m.deeds c.push.new.self (deed.Trace a c.args.rec.now c.args.fate) (growing a (history m)).drops (drops_counted a (history m)) c.in_ok-push.ensures.ok c.in_ok-push.ensures.countable in
+    let piece_fits : (growing a (history m)).drops + 1 < 2 ^ 64 =
+    one_more m.deeds c.push.new.self (deed.Trace a c.args.rec.now c.args.fate) (growing a (history m)).drops (drops_counted a (history m)) c.in_ok-push.ensures.ok c.in_ok-push.ensures.countable in
     omega arith
 
 pub overflow_add-side-2 : goal.overflow_add-side-2
@@ -101,7 +110,8 @@ overflow_add-side-2 g c =
       | in-Dropped w ↦ ap (λ (s : Side g.row.B.Denot). s.calls) w.side-is
       | in-Stopped w ↦ ap (λ (s : Side g.row.B.Denot). s.calls) w.side-is
     ] in
-    let fits : calls a (history m) + 1 < 2 ^ 64 = one_more m.deeds c.push.new.self (deed.Trace a c.args.rec.now c.args.fate) (calls a (history m)) (calls_counted a (history m)) c.in_ok-push.ensures.ok c.in_ok-push.ensures.countable in
+    let piece_fits : calls a (history m) + 1 < 2 ^ 64 =
+    one_more m.deeds c.push.new.self (deed.Trace a c.args.rec.now c.args.fate) (calls a (history m)) (calls_counted a (history m)) c.in_ok-push.ensures.ok c.in_ok-push.ensures.countable in
     omega arith
 
 pub returns-then-is_err-clause-refused : goal.returns-then-is_err-clause-refused

@@ -38,7 +38,8 @@ returns-clause-shown g c =
       words = undecided_words c.args.decision m.config c.args.cpu c.args.id c.args.fate h m.words.items c.requires.nothing was.words;
       active = was.active ∙ sym (halted_still c.args.decision c.args.cpu c.args.id c.args.fate h);
       side_count = length-set m.sides.items c.args.cpu _ ∙ was.side_count;
-      sides = sides_set has capacity m.schema m.config d h m.sides.items sound was.side_count was.sides c.args.cpu record side { calls = side.calls + 1 } (by_its_cpu c.args.decision c.args.cpu c.args.id c.args.fate h) c.requires.cpu own;
+      sides = sides_set has capacity m.schema m.config d h m.sides.items sound was.side_count was.sides c.args.cpu record side { calls = side.calls + 1 }
+          (by_its_cpu c.args.decision c.args.cpu c.args.id c.args.fate h) c.requires.cpu own;
     }
 
 pub returns-clause-entered : goal.returns-clause-entered

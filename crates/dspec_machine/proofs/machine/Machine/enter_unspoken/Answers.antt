@@ -35,7 +35,8 @@ returns-clause-entered g c =
     let a = c.args.cpu in
     let side = c.index_mut-side.result.now in
     let got = slice_get_read m.sides.items m.config.cpus a side (sym c.requires.shown.side_count) c.requires.cpu c.index_mut-side.ensures.value in
-    adds_one m _ (deed.Speculate c.args.cpu c.args.id c.args.rec.now c.args.fate) refl refl refl (latest_first m.deeds c.push.new.self _ c.in_ok-push.ensures.ok) (map_set (λ s. s.caller) m.sides.items a side _ got refl)
+    adds_one m _ (deed.Speculate c.args.cpu c.args.id c.args.rec.now c.args.fate) refl refl refl (latest_first m.deeds c.push.new.self _ c.in_ok-push.ensures.ok)
+    (map_set (λ s. s.caller) m.sides.items a side _ got refl)
 
 pub overflow_add-side : goal.overflow_add-side
 overflow_add-side g c =
@@ -45,5 +46,7 @@ overflow_add-side g c =
     let was = c.requires.shown in
     let got = slice_get_read m.sides.items m.config.cpus a side (sym was.side_count) c.requires.cpu c.index_mut-side.ensures.value in
     let is = (was.sides a side got).called in
-    let fits : calls a (history m) + 1 < 2 ^ 64 = one_more m.deeds c.push.new.self (deed.Speculate c.args.cpu c.args.id c.args.rec.now c.args.fate) (calls a (history m)) (calls_counted a (history m)) c.in_ok-push.ensures.ok c.in_ok-push.ensures.countable in
+    let fits : calls a (history m) + 1 < 2 ^ 64 =
+    one_more m.deeds c.push.new.self (deed.Speculate c.args.cpu c.args.id c.args.rec.now c.args.fate) (calls a (history m)) (calls_counted a (history m))
+    c.in_ok-push.ensures.ok c.in_ok-push.ensures.countable in
     omega arith

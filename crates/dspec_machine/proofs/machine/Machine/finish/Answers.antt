@@ -16,7 +16,8 @@ loop-cpu-preserved g c =
     let h = history n in
     let side = side_read g.B.TraceBuffer.has g.B.TraceBuffer.capacity n c.in_ok-close.ensures.shown a c.index.result.now c.loop-cpu-test.true c.index.ensures in (
       one_more_cpu (λ b. stream b h) a c.loop-cpu.accepted c.push.new.self _ c.loop-cpu.invariant.0 c.in_ok-push.ensures.ok (c.in_ok-copied.ensures ∙ (c.as_slice.ensures ∙ side.accepted)),
-      one_more_cpu (λ b. report n.config b (the_caller (state_of n).callers b).worn h) a c.loop-cpu.reports c.push-in-loop-cpu.new.self _ c.loop-cpu.invariant.1 c.in_ok-push-2.ensures.ok c.report.ensures,
+      one_more_cpu (λ b. report n.config b (the_caller (state_of n).callers b).worn h) a c.loop-cpu.reports c.push-in-loop-cpu.new.self _ c.loop-cpu.invariant.1
+          c.in_ok-push-2.ensures.ok c.report.ensures,
     )
 
 pub returns-clause-accepted : goal.returns-clause-accepted

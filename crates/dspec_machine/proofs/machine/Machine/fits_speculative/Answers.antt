@@ -26,7 +26,8 @@ returns g c =
     let m = c.args.self.now in
     let shape = g.S.Schema.shape_of m.schema in
     let s = side_read has cap m c.requires.shown c.args.cpu c.index.result.now c.requires.cpu c.index.ensures in
-    let b = buffer_read has cap m c.requires.shown c.args.cpu c.index.result.now c.args.id c.slot.result c.index-buffer.result.now s (slot_in_range m.config c.args.id c.requires.slot) c.slot.ensures.value c.requires.present c.index-buffer.ensures in
+    let b = buffer_read has cap m c.requires.shown c.args.cpu c.index.result.now c.args.id c.slot.result c.index-buffer.result.now s
+    (slot_in_range m.config c.args.id c.requires.slot) c.slot.ensures.value c.requires.present c.index-buffer.ensures in
     let ps = map one (contents (held c.args.cpu c.args.id (history m))) in
     let e : shape c.args.rec.now.epid ≡ Some c.in-Some.shape = ap shape (sym c.epid.ensures) ∙ sym c.in-Some.ensures in
     c.fits.ensures m.schema ps b.has_pieces

@@ -32,7 +32,8 @@ returns-then-side-clause-makes g c =
       | then-side-via-then-side w ↦ unwanted (seals a h) me.want k.max_calls (subst (λ n. n ≤ seals a h) want (subst (λ n. side.caller.want ≤ n) sealed w.if-side.true))
       | then-side-via-else-side+then-side-self w ↦ full (seals a h) me.want k.max_calls (subst (λ n. k.max_calls ≤ n) sealed w.if-side-self.true)
     ] in
-    step_made has capacity m m c.serve_first.new.self a [] (λ (x : Caller). record x { flight = Some (flight.ServiceLoad 1 record { sealed = false; settled = 0 }); steps = x.steps + 1 }) _ c.serve_first.result
+    step_made has capacity m m c.serve_first.new.self a []
+    (λ (x : Caller). record x { flight = Some (flight.ServiceLoad 1 record { sealed = false; settled = 0 }); steps = x.steps + 1 }) _ c.serve_first.result
     (adds_none m) c.serve_first.ensures.shown c.serve_first.ensures.state c.serve_first.ensures.schema
     (asks_none (g.S.Schema.shape_of m.schema) k a h me me.spare _ c.serve_first.result asks c.serve_first.ensures.answer ∙ asks_first (g.S.Schema.shape_of m.schema) k a h me c.requires.switched)
 

@@ -52,8 +52,10 @@ returns-in-Granted g c =
     let read = slice_get_read c.index.result.now.acks.items k.nspec (s - 1) c.index-acked.result.now (sym side.ack_count) lt c.index-acked.ensures in
     let shows : slice_get c.index.result.now.acks.items (s - 1) ≡ Some (ack a s h) = side.acks s c.requires.slot in
     let acked : c.index-acked.result.now ≡ ack a s h = cc in
-    let act : settle_at (word_at s h) (ack a s h) ≡ Granted = sym (ap (λ (x : SlotState). settle_at x c.index-acked.result.now) word ∙ ap (settle_at (word_at s h)) acked) ∙ (sym c.settle_at.ensures ∙ c.in-Granted.is) in
-    step_made g.B.TraceBuffer.has g.B.TraceBuffer.capacity m m c.go_on.new.self a [] (λ (x : Caller). record x { flight = Some (flight.ServiceStore s w c.args.sum); steps = x.steps + 1 }) _ c.go_on.result
+    let act : settle_at (word_at s h) (ack a s h) ≡ Granted = sym (ap (λ (x : SlotState). settle_at x c.index-acked.result.now) word ∙ ap (settle_at (word_at s h)) acked)
+    ∙ (sym c.settle_at.ensures ∙ c.in-Granted.is) in
+    step_made g.B.TraceBuffer.has g.B.TraceBuffer.capacity m m c.go_on.new.self a []
+    (λ (x : Caller). record x { flight = Some (flight.ServiceStore s w c.args.sum); steps = x.steps + 1 }) _ c.go_on.result
     (adds_none m) c.go_on.ensures.shown c.go_on.ensures.state c.go_on.ensures.schema
     (store_next shape k a h me s c.args.sum w (word_at s h) (settle_at (word_at s h) (ack a s h)) c.go_on.result word act c.go_on.ensures.answer)
 
@@ -75,12 +77,14 @@ returns-in_default g c =
     let read = slice_get_read c.index.result.now.acks.items k.nspec (s - 1) c.index-acked.result.now (sym side.ack_count) lt c.index-acked.ensures in
     let shows : slice_get c.index.result.now.acks.items (s - 1) ≡ Some (ack a s h) = side.acks s c.requires.slot in
     let acked : c.index-acked.result.now ≡ ack a s h = cc in
-    let act : c.settle_at.result ≡ settle_at (word_at s h) (ack a s h) = c.settle_at.ensures ∙ (ap (λ (x : SlotState). settle_at x c.index-acked.result.now) word ∙ ap (settle_at (word_at s h)) acked) in
+    let act : c.settle_at.result ≡ settle_at (word_at s h) (ack a s h) =
+    c.settle_at.ensures ∙ (ap (λ (x : SlotState). settle_at x c.index-acked.result.now) word ∙ ap (settle_at (word_at s h)) acked) in
     let is = passed_by shape k a h me s c.args.sum (word_at s h) (settle_at (word_at s h) (ack a s h)) (λ e. c.in_default.not-Granted (act ∙ e)) in
     let moved = served shape k a h me s [] c.args.sum in
     let made : Makes has capacity m c.serve_next.new.self a moved c.serve_next.result = record {
       shown = c.serve_next.ensures.shown;
-      state = c.serve_next.ensures.state ∙ ap (λ ds. (Rattle.dspec_play.specs.Turns.moved_to (state_of m) a record { caller = moved.caller; deeds = ds; answer = moved.answer }).state) (sym (served_deeds shape k a h me s [] c.args.sum));
+      state = c.serve_next.ensures.state ∙ ap (λ ds. (Rattle.dspec_play.specs.Turns.moved_to (state_of m) a record
+          { caller = moved.caller; deeds = ds; answer = moved.answer }).state) (sym (served_deeds shape k a h me s [] c.args.sum));
       schema = c.serve_next.ensures.schema;
       answered = c.serve_next.ensures.answer;
     } in

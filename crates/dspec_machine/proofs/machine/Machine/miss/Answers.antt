@@ -29,7 +29,8 @@ failed : (shape : ℕ → Option Shape) (k : Config) (c : ℕ) (h : List Deed) (
 failed shape k c h me s w busy seen told a last code found tells is = rw (last, is, tells, found, code) refl
 
 -- the next slot of a call that goes on
-goes_next : (shape : ℕ → Option Shape) (k : Config) (c : ℕ) (h : List Deed) (me : Caller) (s : ℕ) (w : SlotState) (busy : Bool) (a : Option Answer) → (s == k.nspec) ≡ false → busy ≡ is_decided w.code → a ≡ None
+goes_next : (shape : ℕ → Option Shape) (k : Config) (c : ℕ) (h : List Deed) (me : Caller) (s : ℕ) (w : SlotState) (busy : Bool) (a : Option Answer) → (s == k.nspec) ≡ false
+    → busy ≡ is_decided w.code → a ≡ None
     → record { caller = record me { flight = Some (flight.ScanLoad (s + 1)); steps = me.steps + 1 }; deeds = Miss c s busy ∷ []; answer = a } ≡ missed shape k c h me s w
 goes_next shape k c h me s w busy a more code none = rw (more, none, code) refl
 
@@ -45,7 +46,8 @@ returns-then-slot-self-clause-makes g c =
     let below : s < m.config.nspec = subst (λ k. s < k.nspec) same c.if-slot-self.true in
     let more : (s == m.config.nspec) ≡ false = grind (arith, nat_tests) in
     let code : busy ≡ is_decided c.args.word.code = search rules in
-    step_made g.B.TraceBuffer.has g.B.TraceBuffer.capacity m n c.go_on.new.self a (Miss a s busy ∷ []) (λ (me : Caller). record me { flight = Some (flight.ScanLoad (s + 1)); steps = me.steps + 1 }) _ c.go_on.result
+    step_made g.B.TraceBuffer.has g.B.TraceBuffer.capacity m n c.go_on.new.self a (Miss a s busy ∷ [])
+    (λ (me : Caller). record me { flight = Some (flight.ScanLoad (s + 1)); steps = me.steps + 1 }) _ c.go_on.result
     entered c.go_on.ensures.shown c.go_on.ensures.state c.go_on.ensures.schema
     (goes_next (g.S.Schema.shape_of m.schema) m.config a (history m) (the_caller (state_of m).callers a) s c.args.word busy c.go_on.result more code c.go_on.ensures.answer)
 
@@ -70,5 +72,7 @@ returns-clause-makes g c =
     let code : busy ≡ is_decided c.args.word.code = search rules in
     let tells : c.if-index.opening ≡ (if c.index.result.now.missed_busy then opening.Busy else opening.Unavailable) =
     elim c.if-index.branch [ then-index w ↦ rw w.if-index.true w.opening-is | else-index w ↦ rw w.if-index.false w.opening-is ] in
-    step_made has capacity m n c.end.new.self a (Miss a s busy ∷ []) (λ (me : Caller). record me { flight = None; steps = 0 }) _ c.end.result entered c.end.ensures.shown c.end.ensures.state c.end.ensures.schema
-    (failed (g.S.Schema.shape_of m.schema) m.config a (history m) (the_caller (state_of m).callers a) s c.args.word busy c.index.result.now.missed_busy c.if-index.opening c.end.result last code seen tells c.end.ensures.answer)
+    step_made has capacity m n c.end.new.self a (Miss a s busy ∷ []) (λ (me : Caller). record me { flight = None; steps = 0 }) _ c.end.result entered c.end.ensures.shown
+    c.end.ensures.state c.end.ensures.schema
+    (failed (g.S.Schema.shape_of m.schema) m.config a (history m) (the_caller (state_of m).callers a) s c.args.word busy c.index.result.now.missed_busy c.if-index.opening
+    c.end.result last code seen tells c.end.ensures.answer)

@@ -24,7 +24,8 @@ returns-clause-kept g c =
     let shape_of = g.S.Schema.shape_of in
     let accepted = g.S.Schema.accepted in
     let k = c.args.config in
-    let m : Machine g.row.S.Denot g.row.B.Denot = record { config = k; schema = c.args.schema; words = c.loop.words; halted = false; sides = c.loop-2.sides; consumer = record { flight = None; steps = 0 }; deeds = c.new.result } in
+    let m : Machine g.row.S.Denot g.row.B.Denot =
+    record { config = k; schema = c.args.schema; words = c.loop.words; halted = false; sides = c.loop-2.sides; consumer = record { flight = None; steps = 0 }; deeds = c.new.result } in
     let all_words : c.loop.counter ≡ k.nspec = omega arith in
     let all_sides : c.loop-2.counter ≡ k.cpus = omega arith in
     let words = subst (λ n. Made IsFree n c.loop.words.items) all_words c.loop.invariant in
@@ -37,7 +38,8 @@ returns-clause-state g c =
     let has = g.B.TraceBuffer.has in
     let capacity = g.B.TraceBuffer.capacity in
     let k = c.args.config in
-    let m : Machine g.row.S.Denot g.row.B.Denot = record { config = k; schema = c.args.schema; words = c.loop.words; halted = false; sides = c.loop-2.sides; consumer = record { flight = None; steps = 0 }; deeds = c.new.result } in
+    let m : Machine g.row.S.Denot g.row.B.Denot =
+    record { config = k; schema = c.args.schema; words = c.loop.words; halted = false; sides = c.loop-2.sides; consumer = record { flight = None; steps = 0 }; deeds = c.new.result } in
     let all_sides : c.loop-2.counter ≡ k.cpus = omega arith in
     let sides = subst (λ n. Made (HasBegun has capacity k) n c.loop-2.sides.items) all_sides c.loop-2.invariant in
     state_at_start has capacity m c.new.ensures refl sides

@@ -15,7 +15,9 @@ overflow_add-caller g c =
     let m = c.args.self.now in
     let side = c.index_mut.result.now in
     let got = side_got g.B.TraceBuffer.has g.B.TraceBuffer.capacity m c.requires.stands.shown c.args.cpu side c.requires.cpu c.index_mut.ensures.value in
-    let fits : side.caller.takes + 1 < 2 ^ 64 = subst (λ (me : Caller). me.takes + 1 < 2 ^ 64) (caller_there m.sides.items c.args.cpu side got) (takes_fit (g.S.Schema.shape_of m.schema) (state_of m) c.requires.stands.coherent c.args.cpu c.requires.cpu) in
+    let fits : side.caller.takes + 1 < 2 ^ 64 =
+    subst (λ (me : Caller). me.takes + 1 < 2 ^ 64) (caller_there m.sides.items c.args.cpu side got)
+    (takes_fit (g.S.Schema.shape_of m.schema) (state_of m) c.requires.stands.coherent c.args.cpu c.requires.cpu) in
     omega arith
 
 pub stop_consumer-requires : goal.stop_consumer-requires

@@ -34,7 +34,8 @@ returns-then-index-issue g c =
     let shows = side_read g.B.TraceBuffer.has g.B.TraceBuffer.capacity m c.requires.stands.shown c.args.cpu c.index.result.now at.2 c.index.ensures in
     let low = at.0.0 in
     let high = at.0.1 in
-    let acked = number_there c.index.result.now.acks.items m.config.nspec (c.args.slot - 1) c.index-2.result.now (ack c.args.cpu c.args.slot (history m)) shows.ack_count (omega arith) c.index-2.ensures (shows.acks c.args.slot at.0) in
+    let acked = number_there c.index.result.now.acks.items m.config.nspec (c.args.slot - 1) c.index-2.result.now (ack c.args.cpu c.args.slot (history m)) shows.ack_count
+    (omega arith) c.index-2.ensures (shows.acks c.args.slot at.0) in
     let value = c.issue.ensures.value in
     let test = c.if-index-issue.true in
     let is : nat_lt c.args.word.issue (ack c.args.cpu c.args.slot (history m)) ≡ false = grind (arith, nat_tests) in
@@ -47,7 +48,8 @@ returns-then-cpu-self g c =
     let shows = side_read g.B.TraceBuffer.has g.B.TraceBuffer.capacity m c.requires.stands.shown c.args.cpu c.index.result.now at.2 c.index.ensures in
     let low = at.0.0 in
     let high = at.0.1 in
-    let acked = number_there c.index.result.now.acks.items m.config.nspec (c.args.slot - 1) c.index-2.result.now (ack c.args.cpu c.args.slot (history m)) shows.ack_count (omega arith) c.index-2.ensures (shows.acks c.args.slot at.0) in
+    let acked = number_there c.index.result.now.acks.items m.config.nspec (c.args.slot - 1) c.index-2.result.now (ack c.args.cpu c.args.slot (history m)) shows.ack_count
+    (omega arith) c.index-2.ensures (shows.acks c.args.slot at.0) in
     let value = c.issue.ensures.value in
     let test = c.if-index-issue.false in
     let is : nat_lt c.args.word.issue (ack c.args.cpu c.args.slot (history m)) ≡ true = grind (arith, nat_tests) in
@@ -62,7 +64,8 @@ returns g c =
     let shows = side_read g.B.TraceBuffer.has g.B.TraceBuffer.capacity m c.requires.stands.shown c.args.cpu c.index.result.now at.2 c.index.ensures in
     let low = at.0.0 in
     let high = at.0.1 in
-    let acked = number_there c.index.result.now.acks.items m.config.nspec (c.args.slot - 1) c.index-2.result.now (ack c.args.cpu c.args.slot (history m)) shows.ack_count (omega arith) c.index-2.ensures (shows.acks c.args.slot at.0) in
+    let acked = number_there c.index.result.now.acks.items m.config.nspec (c.args.slot - 1) c.index-2.result.now (ack c.args.cpu c.args.slot (history m)) shows.ack_count
+    (omega arith) c.index-2.ensures (shows.acks c.args.slot at.0) in
     let value = c.issue.ensures.value in
     let test = c.if-index-issue.false in
     let is : nat_lt c.args.word.issue (ack c.args.cpu c.args.slot (history m)) ≡ true = grind (arith, nat_tests) in

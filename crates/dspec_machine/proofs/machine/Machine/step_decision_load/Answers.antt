@@ -28,7 +28,8 @@ look-requires-clause-legal g c =
     let a = c.args.cpu in
     let st = state_of m in
     let shape = g.S.Schema.shape_of m.schema in
-    step_legal shape st c.requires.stands.coherent a c.requires.stands.cpu (load_of c.args.decision c.args.id) c.requires.stands.flight _ (load_shows shape m.config a (history m) (the_caller st.callers a) c.args.id c.args.decision)
+    step_legal shape st c.requires.stands.coherent a c.requires.stands.cpu (load_of c.args.decision c.args.id) c.requires.stands.flight _
+    (load_shows shape m.config a (history m) (the_caller st.callers a) c.args.id c.args.decision)
 
 pub returns-clause-makes : goal.returns-clause-makes
 returns-clause-makes g c =

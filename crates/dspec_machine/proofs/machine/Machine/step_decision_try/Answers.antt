@@ -47,13 +47,15 @@ commit-requires-clause-steps g c =
 pub look-requires-clause-legal : goal.look-requires-clause-legal
 look-requires-clause-legal g c =
     let m = c.args.self.now in
-    let is = fails (g.S.Schema.shape_of m.schema) (state_of m) c.requires.stands.coherent c.args.cpu c.requires.stands.cpu c.args.decision c.args.id c.args.from c.requires.stands.flight c.word_of-word.result c.ne.result c.word_of-word.ensures c.ne.ensures c.if-ne.true in
+    let is = fails (g.S.Schema.shape_of m.schema) (state_of m) c.requires.stands.coherent c.args.cpu c.requires.stands.cpu c.args.decision c.args.id c.args.from
+    c.requires.stands.flight c.word_of-word.result c.ne.result c.word_of-word.ensures c.ne.ensures c.if-ne.true in
     step_legal (g.S.Schema.shape_of m.schema) (state_of m) c.requires.stands.coherent c.args.cpu c.requires.stands.cpu (try_of c.args.decision c.args.id c.args.from) c.requires.stands.flight _ is
 
 pub returns-then-ne-clause-makes : goal.returns-then-ne-clause-makes
 returns-then-ne-clause-makes g c =
     let m = c.args.self.now in
-    let is = fails (g.S.Schema.shape_of m.schema) (state_of m) c.requires.stands.coherent c.args.cpu c.requires.stands.cpu c.args.decision c.args.id c.args.from c.requires.stands.flight c.word_of-word.result c.ne.result c.word_of-word.ensures c.ne.ensures c.if-ne.true in
+    let is = fails (g.S.Schema.shape_of m.schema) (state_of m) c.requires.stands.coherent c.args.cpu c.requires.stands.cpu c.args.decision c.args.id c.args.from
+    c.requires.stands.flight c.word_of-word.result c.ne.result c.word_of-word.ensures c.ne.ensures c.if-ne.true in
     subst (λ (x : Moved). IfOk c.look.result (λ answer. Makes g.B.TraceBuffer.has g.B.TraceBuffer.capacity m c.look.new.self c.args.cpu x answer)) (sym is) c.look.ensures.makes
 
 pub act-requires : goal.act-requires
@@ -64,55 +66,64 @@ act-requires g c =
 pub unreachable-requires : goal.unreachable-requires
 unreachable-requires g c =
     let m = c.args.self.now in
-    attempts (g.S.Schema.shape_of m.schema) (state_of m) c.requires.stands.coherent c.args.cpu c.requires.stands.cpu c.args.decision c.args.id c.args.from c.requires.stands.flight c.word_of-word.result c.ne.result c.word_of-word.ensures c.ne.ensures c.is_mine-mine.result c.is_mine-mine.ensures c.if-ne.false
+    attempts (g.S.Schema.shape_of m.schema) (state_of m) c.requires.stands.coherent c.args.cpu c.requires.stands.cpu c.args.decision c.args.id c.args.from
+    c.requires.stands.flight c.word_of-word.result c.ne.result c.word_of-word.ensures c.ne.ensures c.is_mine-mine.result c.is_mine-mine.ensures c.if-ne.false
     (λ to e. c.in_default.not-Attempt to (c.act.ensures ∙ e))
 
 pub commit-requires-clause-legal : goal.commit-requires-clause-legal
 commit-requires-clause-legal g c =
     let m = c.args.self.now in
-    commit_legal (g.S.Schema.shape_of m.schema) (state_of m) c.requires.stands.coherent c.args.cpu c.requires.stands.cpu c.args.decision c.args.id c.args.from c.requires.stands.flight c.word_of-word.result c.ne.result c.word_of-word.ensures c.ne.ensures c.is_mine-mine.result c.is_mine-mine.ensures
+    commit_legal (g.S.Schema.shape_of m.schema) (state_of m) c.requires.stands.coherent c.args.cpu c.requires.stands.cpu c.args.decision c.args.id c.args.from
+    c.requires.stands.flight c.word_of-word.result c.ne.result c.word_of-word.ensures c.ne.ensures c.is_mine-mine.result c.is_mine-mine.ensures
     c.in-Attempt.to c.if-ne.false (sym c.act.ensures ∙ c.in-Attempt.is) c.in-Commit.is
 
 pub commit-requires-clause-word : goal.commit-requires-clause-word
 commit-requires-clause-word g c =
     let m = c.args.self.now in
-    commit_word (g.S.Schema.shape_of m.schema) (state_of m) c.requires.stands.coherent c.args.cpu c.requires.stands.cpu c.args.decision c.args.id c.args.from c.requires.stands.flight c.word_of-word.result c.ne.result c.word_of-word.ensures c.ne.ensures c.is_mine-mine.result c.is_mine-mine.ensures
+    commit_word (g.S.Schema.shape_of m.schema) (state_of m) c.requires.stands.coherent c.args.cpu c.requires.stands.cpu c.args.decision c.args.id c.args.from
+    c.requires.stands.flight c.word_of-word.result c.ne.result c.word_of-word.ensures c.ne.ensures c.is_mine-mine.result c.is_mine-mine.ensures
     c.in-Attempt.to c.if-ne.false (sym c.act.ensures ∙ c.in-Attempt.is) c.in-Commit.is
 
 pub commit-requires-clause-present : goal.commit-requires-clause-present
 commit-requires-clause-present g c =
     let m = c.args.self.now in
-    commit_present (g.S.Schema.shape_of m.schema) (state_of m) c.requires.stands.coherent c.args.cpu c.requires.stands.cpu c.args.decision c.args.id c.args.from c.requires.stands.flight c.word_of-word.result c.ne.result c.word_of-word.ensures c.ne.ensures c.is_mine-mine.result c.is_mine-mine.ensures
+    commit_present (g.S.Schema.shape_of m.schema) (state_of m) c.requires.stands.coherent c.args.cpu c.requires.stands.cpu c.args.decision c.args.id c.args.from
+    c.requires.stands.flight c.word_of-word.result c.ne.result c.word_of-word.ensures c.ne.ensures c.is_mine-mine.result c.is_mine-mine.ensures
     c.in-Attempt.to c.if-ne.false (sym c.act.ensures ∙ c.in-Attempt.is) c.in-Commit.is
 
 pub returns-in-Commit-clause-makes : goal.returns-in-Commit-clause-makes
 returns-in-Commit-clause-makes g c =
     let m = c.args.self.now in
-    let is = commit_is (g.S.Schema.shape_of m.schema) (state_of m) c.requires.stands.coherent c.args.cpu c.requires.stands.cpu c.args.decision c.args.id c.args.from c.requires.stands.flight c.word_of-word.result c.ne.result c.word_of-word.ensures c.ne.ensures c.is_mine-mine.result c.is_mine-mine.ensures
+    let is = commit_is (g.S.Schema.shape_of m.schema) (state_of m) c.requires.stands.coherent c.args.cpu c.requires.stands.cpu c.args.decision c.args.id c.args.from
+    c.requires.stands.flight c.word_of-word.result c.ne.result c.word_of-word.ensures c.ne.ensures c.is_mine-mine.result c.is_mine-mine.ensures
     c.in-Attempt.to c.if-ne.false (sym c.act.ensures ∙ c.in-Attempt.is) c.in-Commit.is in
     subst (λ (x : Moved). IfOk c.commit.result (λ answer. Makes g.B.TraceBuffer.has g.B.TraceBuffer.capacity m c.commit.new.self c.args.cpu x answer)) (sym is) c.commit.ensures.makes
 
 pub discard-requires-clause-legal : goal.discard-requires-clause-legal
 discard-requires-clause-legal g c =
     let m = c.args.self.now in
-    discard_legal (g.S.Schema.shape_of m.schema) (state_of m) c.requires.stands.coherent c.args.cpu c.requires.stands.cpu c.args.decision c.args.id c.args.from c.requires.stands.flight c.word_of-word.result c.ne.result c.word_of-word.ensures c.ne.ensures c.is_mine-mine.result c.is_mine-mine.ensures
+    discard_legal (g.S.Schema.shape_of m.schema) (state_of m) c.requires.stands.coherent c.args.cpu c.requires.stands.cpu c.args.decision c.args.id c.args.from
+    c.requires.stands.flight c.word_of-word.result c.ne.result c.word_of-word.ensures c.ne.ensures c.is_mine-mine.result c.is_mine-mine.ensures
     c.in-Attempt.to c.if-ne.false (sym c.act.ensures ∙ c.in-Attempt.is) c.in-Discard.is
 
 pub discard-requires-clause-word : goal.discard-requires-clause-word
 discard-requires-clause-word g c =
     let m = c.args.self.now in
-    discard_word (g.S.Schema.shape_of m.schema) (state_of m) c.requires.stands.coherent c.args.cpu c.requires.stands.cpu c.args.decision c.args.id c.args.from c.requires.stands.flight c.word_of-word.result c.ne.result c.word_of-word.ensures c.ne.ensures c.is_mine-mine.result c.is_mine-mine.ensures
+    discard_word (g.S.Schema.shape_of m.schema) (state_of m) c.requires.stands.coherent c.args.cpu c.requires.stands.cpu c.args.decision c.args.id c.args.from
+    c.requires.stands.flight c.word_of-word.result c.ne.result c.word_of-word.ensures c.ne.ensures c.is_mine-mine.result c.is_mine-mine.ensures
     c.in-Attempt.to c.if-ne.false (sym c.act.ensures ∙ c.in-Attempt.is) c.in-Discard.is
 
 pub discard-requires-clause-present : goal.discard-requires-clause-present
 discard-requires-clause-present g c =
     let m = c.args.self.now in
-    discard_present (g.S.Schema.shape_of m.schema) (state_of m) c.requires.stands.coherent c.args.cpu c.requires.stands.cpu c.args.decision c.args.id c.args.from c.requires.stands.flight c.word_of-word.result c.ne.result c.word_of-word.ensures c.ne.ensures c.is_mine-mine.result c.is_mine-mine.ensures
+    discard_present (g.S.Schema.shape_of m.schema) (state_of m) c.requires.stands.coherent c.args.cpu c.requires.stands.cpu c.args.decision c.args.id c.args.from
+    c.requires.stands.flight c.word_of-word.result c.ne.result c.word_of-word.ensures c.ne.ensures c.is_mine-mine.result c.is_mine-mine.ensures
     c.in-Attempt.to c.if-ne.false (sym c.act.ensures ∙ c.in-Attempt.is) c.in-Discard.is
 
 pub returns-in-Discard-clause-makes : goal.returns-in-Discard-clause-makes
 returns-in-Discard-clause-makes g c =
     let m = c.args.self.now in
-    let is = discard_is (g.S.Schema.shape_of m.schema) (state_of m) c.requires.stands.coherent c.args.cpu c.requires.stands.cpu c.args.decision c.args.id c.args.from c.requires.stands.flight c.word_of-word.result c.ne.result c.word_of-word.ensures c.ne.ensures c.is_mine-mine.result c.is_mine-mine.ensures
+    let is = discard_is (g.S.Schema.shape_of m.schema) (state_of m) c.requires.stands.coherent c.args.cpu c.requires.stands.cpu c.args.decision c.args.id c.args.from
+    c.requires.stands.flight c.word_of-word.result c.ne.result c.word_of-word.ensures c.ne.ensures c.is_mine-mine.result c.is_mine-mine.ensures
     c.in-Attempt.to c.if-ne.false (sym c.act.ensures ∙ c.in-Attempt.is) c.in-Discard.is in
     subst (λ (x : Moved). IfOk c.discard.result (λ answer. Makes g.B.TraceBuffer.has g.B.TraceBuffer.capacity m c.discard.new.self c.args.cpu x answer)) (sym is) c.discard.ensures.makes

@@ -33,5 +33,6 @@ returns g c =
     let side = c.index_mut.result.now in
     let got = side_got g.B.TraceBuffer.has g.B.TraceBuffer.capacity m c.requires.stands.shown a side c.requires.cpu c.index_mut.ensures.value in
     let moves = state_moves m a side (λ (me : Caller). record me { spare = spare.GivenBack }) got in
-    subst (λ (p : Spare). Cleans g.B.TraceBuffer.has g.B.TraceBuffer.capacity m c.stop_consumer-2.new.self (gives_at m.config (history m) m.consumer (state_of m).callers a me p) c.stop_consumer-2.result) (sym out)
+    subst (λ (p : Spare). Cleans g.B.TraceBuffer.has g.B.TraceBuffer.capacity m c.stop_consumer-2.new.self
+    (gives_at m.config (history m) m.consumer (state_of m).callers a me p) c.stop_consumer-2.result) (sym out)
     (puts_stops g.B.TraceBuffer.has g.B.TraceBuffer.capacity m _ _ a _ (answer.GaveBack true) _ moves refl c.stop_consumer-2.ensures)

@@ -47,7 +47,8 @@ miss-requires g c =
     record {
       shown = c.requires.stands.shown;
       ranges = coherent.ranges;
-      legal = subst (λ (w : SlotState). IsAllowed shape k (Miss a s (is_decided w.code) ∷ h)) (sym word) (subst (λ (ds : List Deed). IsAllowed shape k (ds ++ h)) (missed_deeds shape k a h me s (word_at s h)) legal);
+      legal = subst (λ (w : SlotState). IsAllowed shape k (Miss a s (is_decided w.code) ∷ h)) (sym word)
+          (subst (λ (ds : List Deed). IsAllowed shape k (ds ++ h)) (missed_deeds shape k a h me s (word_at s h)) legal);
       cpu = c.requires.stands.cpu;
       slot = at.0.1;
       steps = steps_fit shape (state_of m) coherent a c.requires.stands.cpu f c.requires.stands.flight;
@@ -84,6 +85,7 @@ returns-in_default g c =
     let is = shown_misses shape k a h me s (word_at s h) (open_at (word_at s h) k.max_issues)
     (λ to e. c.in_default.not-Attempt to (c.open_at.ensures ∙ (ap (λ (w : SlotState). open_at w k.max_issues) word ∙ e))) in
     record {
-      makes = subst (λ (x : Moved). IfOk c.miss.result (λ answer. Makes g.B.TraceBuffer.has g.B.TraceBuffer.capacity m c.miss.new.self a x answer)) (ap (missed shape k a h me s) word ∙ sym is) c.miss.ensures.makes;
+      makes = subst (λ (x : Moved). IfOk c.miss.result (λ answer. Makes g.B.TraceBuffer.has g.B.TraceBuffer.capacity m c.miss.new.self a x answer))
+          (ap (missed shape k a h me s) word ∙ sym is) c.miss.ensures.makes;
       refused = c.miss.ensures.refused;
     }

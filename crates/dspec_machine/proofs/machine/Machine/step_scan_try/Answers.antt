@@ -47,7 +47,8 @@ miss-requires-clause-legal g c =
     let other : same_word (word_at s h) from ≡ false = ap (λ x. same_word x from) (sym word) ∙ was_not (same_word w from) test in
     let is : cpu_step shape k a h me f ≡ missed shape k a h me s (word_at s h) = rw other refl in
     let legal = step_legal shape (state_of m) c.requires.stands.coherent a c.requires.stands.cpu f c.requires.stands.flight _ is in
-    subst (λ (x : SlotState). IsAllowed shape k (Miss a s (is_decided x.code) ∷ h)) (sym word) (subst (λ (ds : List Deed). IsAllowed shape k (ds ++ h)) (missed_deeds shape k a h me s (word_at s h)) legal)
+    subst (λ (x : SlotState). IsAllowed shape k (Miss a s (is_decided x.code) ∷ h)) (sym word)
+    (subst (λ (ds : List Deed). IsAllowed shape k (ds ++ h)) (missed_deeds shape k a h me s (word_at s h)) legal)
 
 pub returns-then-ne-clause-makes : goal.returns-then-ne-clause-makes
 returns-then-ne-clause-makes g c =
@@ -66,7 +67,8 @@ returns-then-ne-clause-makes g c =
     let test : not (same_word w from) ≡ true = ap not (sym (words_test w from)) ∙ (sym c.ne.ensures ∙ c.if-ne.true) in
     let other : same_word (word_at s h) from ≡ false = ap (λ x. same_word x from) (sym word) ∙ was_not (same_word w from) test in
     let is : cpu_step shape k a h me f ≡ missed shape k a h me s (word_at s h) = rw other refl in
-    subst (λ (x : Moved). IfOk c.miss.result (λ answer. Makes g.B.TraceBuffer.has g.B.TraceBuffer.capacity m c.miss.new.self a x answer)) (ap (missed shape k a h me s) word ∙ sym is) c.miss.ensures.makes
+    subst (λ (x : Moved). IfOk c.miss.result (λ answer. Makes g.B.TraceBuffer.has g.B.TraceBuffer.capacity m c.miss.new.self a x answer))
+    (ap (missed shape k a h me s) word ∙ sym is) c.miss.ensures.makes
 
 pub enter_opened-requires-clause-legal : goal.enter_opened-requires-clause-legal
 enter_opened-requires-clause-legal g c =
@@ -85,7 +87,8 @@ enter_opened-requires-clause-legal g c =
     let test : not (same_word w from) ≡ false = ap not (sym (words_test w from)) ∙ (sym c.ne.ensures ∙ c.if-ne.false) in
     let same : same_word (word_at s h) from ≡ true = ap (λ x. same_word x from) (sym word) ∙ was (same_word w from) test in
     let named : c.of-id.result ≡ record { issue = from.issue; slot = s } = c.of-id.ensures ∙ ap (λ n. record { issue = n; slot = s }) c.issue.ensures.value in
-    let is : cpu_step shape k a h me f ≡ ends shape k a h me (Opened a record { issue = from.issue; slot = s } ∷ []) (answer.Opening (opening.Id record { issue = from.issue; slot = s })) = rw same refl in
+    let is : cpu_step shape k a h me f ≡ ends shape k a h me (Opened a record { issue = from.issue; slot = s } ∷ [])
+    (answer.Opening (opening.Id record { issue = from.issue; slot = s })) = rw same refl in
     let legal = step_legal shape (state_of m) c.requires.stands.coherent a c.requires.stands.cpu f c.requires.stands.flight _ is in
     subst (λ (id : Speculation). IsAllowed shape k (Opened a id ∷ h)) (sym named) legal
 
@@ -105,6 +108,7 @@ returns-clause-makes g c =
     let test : not (same_word w from) ≡ false = ap not (sym (words_test w from)) ∙ (sym c.ne.ensures ∙ c.if-ne.false) in
     let same : same_word (word_at s h) from ≡ true = ap (λ x. same_word x from) (sym word) ∙ was (same_word w from) test in
     let named : c.of-id.result ≡ record { issue = from.issue; slot = s } = c.of-id.ensures ∙ ap (λ n. record { issue = n; slot = s }) c.issue.ensures.value in
-    step_made g.B.TraceBuffer.has g.B.TraceBuffer.capacity m c.enter_opened.new.self c.end.new.self a (Opened a c.of-id.result ∷ []) (λ (x : Caller). record x { flight = None; steps = 0 }) _ c.end.result
+    step_made g.B.TraceBuffer.has g.B.TraceBuffer.capacity m c.enter_opened.new.self c.end.new.self a (Opened a c.of-id.result ∷ [])
+    (λ (x : Caller). record x { flight = None; steps = 0 }) _ c.end.result
     c.in_ok-enter_opened.ensures.entered c.end.ensures.shown c.end.ensures.state c.end.ensures.schema
     (scan_opened shape k a h me s from c.of-id.result c.end.result same named c.end.ensures.answer)

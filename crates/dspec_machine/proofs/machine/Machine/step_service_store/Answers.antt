@@ -26,7 +26,8 @@ enter_settle-requires-clause-legal g c =
     let f = flight.ServiceStore s w c.args.sum in
     let named : Speculation = record { issue = w.issue; slot = s } in
     let is : c.of-id.result ≡ named = c.of-id.ensures ∙ ap (λ n. record { issue = n; slot = s }) c.issue.ensures.value in
-    let fate : c.settle_fate-fate.result ≡ settle_fate shape k a h named w.code = c.settle_fate-fate.ensures ∙ (ap (settle_fate shape k a h c.of-id.result) c.code.ensures ∙ ap (λ j. settle_fate shape k a h j w.code) is) in
+    let fate : c.settle_fate-fate.result ≡ settle_fate shape k a h named w.code =
+    c.settle_fate-fate.ensures ∙ (ap (settle_fate shape k a h c.of-id.result) c.code.ensures ∙ ap (λ j. settle_fate shape k a h j w.code) is) in
     let deeds = served_deeds shape k a h me s (Settle a named (settle_fate shape k a h named w.code) ∷ []) record { sealed = c.args.sum.sealed; settled = c.args.sum.settled + 1 } in
     let legal = step_legal shape (state_of m) c.requires.stands.coherent a c.requires.stands.cpu f c.requires.stands.flight _ refl in
     let now : IsAllowed shape k (Settle a named (settle_fate shape k a h named w.code) ∷ h) = subst (λ (ds : List Deed). IsAllowed shape k (ds ++ h)) deeds legal in

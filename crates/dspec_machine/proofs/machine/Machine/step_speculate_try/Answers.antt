@@ -134,5 +134,6 @@ returns-in_ok-enter_unspoken-in_default-act-clause-makes g c =
     let shown : cpu_step shape m.config a h me (flight.SpeculateTry id r c.args.from) ≡ shown_speculate shape m.config a h me id r (word_at id.slot h) act = rw other refl in
     let is = shown_voids shape m.config a h me id r (word_at id.slot h) act (λ e. c.in_default-act.not-Granted (acts ∙ e)) (λ to e. c.in_default-act.not-Attempt to (acts ∙ e)) in
     let Ends : Option Answer → Moved = λ x. record { caller = record me { flight = None; steps = 0 }; deeds = Speculate a id r spoken.Void ∷ []; answer = x } in
-    step_made g.B.TraceBuffer.has g.B.TraceBuffer.capacity m c.enter_unspoken.new.self c.end.new.self a (Speculate a id r spoken.Void ∷ []) (λ (x : Caller). record x { flight = None; steps = 0 }) _ c.end.result
+    step_made g.B.TraceBuffer.has g.B.TraceBuffer.capacity m c.enter_unspoken.new.self c.end.new.self a (Speculate a id r spoken.Void ∷ [])
+    (λ (x : Caller). record x { flight = None; steps = 0 }) _ c.end.result
     c.in_ok-enter_unspoken-in_default-act.ensures.entered c.end.ensures.shown c.end.ensures.state c.end.ensures.schema (ap Ends c.end.ensures.answer ∙ sym (shown ∙ is))

@@ -9,7 +9,7 @@ use Rattle.dspec_play.specs.declared.flight.Spare.TheVariants as spare
 use Rattle.dspec_deeds.specs.Own.{Batch, contents, seals, taken}
 use Rattle.dspec_machine.specs.Machines.{Cleans, history, state_of}
 use Rattle.dspec_play.specs.Play.{batch_at, changes}
-use Rattle.dspec_machine.specs.Shown.{last_batch}
+use Rattle.dspec_machine.specs.Shown.{batch_of_last_seal}
 use Rattle.dspec_machine.proofs.CleanMakings.{puts_stops, side_puts, state_puts, taken_side}
 use Rattle.dspec_deeds.proofs.Items.{kept_item}
 use Rattle.dspec_machine.proofs.MachineReads.{length_contents, side_got}
@@ -38,7 +38,7 @@ stop_consumer-requires g c =
     let grown = c.in_ok-append_records.ensures.ok shows.second.pieces shows.second.has_pieces in
     let took : c.append_records.new.to ≡ taken (side.caller.takes + 1) a h
     = grown ∙ (ap (λ (rs : List Record). side.taken ++ reverse rs) shows.second.are
-    ∙ (ap (λ (rs : List Record). rs ++ reverse (contents (last_batch a h).offers)) shows.took ∙ sym (taken_more a h side.caller.takes sealed))) in
+    ∙ (ap (λ (rs : List Record). rs ++ reverse (contents (batch_of_last_seal a h).offers)) shows.took ∙ sym (taken_more a h side.caller.takes sealed))) in
     record {
       shown = side_puts g.B.TraceBuffer.has g.B.TraceBuffer.capacity m a side _ c.requires.shown got
           (taken_side g.B.TraceBuffer.has g.B.TraceBuffer.capacity m a side (record side.caller { spare = spare.Out; takes = side.caller.takes + 1 }) c.append_records.new.to shows took);
@@ -61,12 +61,13 @@ returns-clause-cleans g c =
     let from : c.len-from.result ≡ length (taken side.caller.takes a h) = c.len-from.ensures ∙ ap (λ (rs : List Record). length rs) shows.took in
     let count : c.count.result ≡ length (batch_at a side.caller.takes h).offers
     = c.count.ensures m.schema shows.second.pieces shows.second.has_pieces
-    ∙ (ap (λ (rs : List Record). length rs) shows.second.are ∙ (length_contents (last_batch a h).offers ∙ ap (λ (b : Batch). length b.offers) (sym batch))) in
+    ∙ (ap (λ (rs : List Record). length rs) shows.second.are ∙ (length_contents (batch_of_last_seal a h).offers ∙ ap (λ (b : Batch). length b.offers) (sym batch))) in
     let said : answer.Took side.sealed_drops c.len-from.result c.count.result
     ≡ answer.Took (batch_at a side.caller.takes h).drops (length (taken side.caller.takes a h)) (length (batch_at a side.caller.takes h).offers)
     = λ i. answer.Took (drops i) (from i) (count i) in
     let new = record side { caller = record side.caller { spare = spare.Out; takes = side.caller.takes + 1 }; taken = c.append_records.new.to } in
     subst (λ (x : Caller). Cleans g.B.TraceBuffer.has g.B.TraceBuffer.capacity m c.stop_consumer.new.self
-    (changes k h m.consumer all a (record x { spare = spare.Out; takes = x.takes + 1 }) (answer.Took (batch_at a x.takes h).drops (length (taken x.takes a h)) (length (batch_at a x.takes h).offers))) c.stop_consumer.result) (sym is)
+    (changes k h m.consumer all a (record x { spare = spare.Out; takes = x.takes + 1 })
+    (answer.Took (batch_at a x.takes h).drops (length (taken x.takes a h)) (length (batch_at a x.takes h).offers))) c.stop_consumer.result) (sym is)
     (subst (λ (x : Answer). Cleans g.B.TraceBuffer.has g.B.TraceBuffer.capacity m c.stop_consumer.new.self (changes k h m.consumer all a new.caller x) c.stop_consumer.result) said
     (puts_stops g.B.TraceBuffer.has g.B.TraceBuffer.capacity m _ _ a new.caller _ _ (state_puts m a new) refl c.stop_consumer.ensures))

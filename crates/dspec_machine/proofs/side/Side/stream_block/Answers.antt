@@ -12,7 +12,8 @@ use Rattle.dspec_machine.proofs.side.Side.stream_block.Goals.{in-Copied, in_defa
 pub returns-clause-ok : goal.returns-clause-ok
 returns-clause-ok g c =
     let old = c.args.self.now in
-    let copied : is_copied c.args.fate.now ≡ true = elim c.match-matches.branch [ in-Copied w ↦ ap is_copied w.in-Copied.is | in_default w ↦ absurd (true≢false (sym c.if-not-matches.false ∙ w.matches-is)) ] in
+    let copied : is_copied c.args.fate.now ≡ true =
+    elim c.match-matches.branch [ in-Copied w ↦ ap is_copied w.in-Copied.is | in_default w ↦ absurd (true≢false (sym c.if-not-matches.false ∙ w.matches-is)) ] in
     on_ok c.append_records.result (λ all rs b got has.
     let read = slice_get_read old.speculative.items (length old.speculative.items) c.args.place c.index.result.now refl c.requires.place c.index.ensures in
     let is : c.index.result.now ≡ b = cc in

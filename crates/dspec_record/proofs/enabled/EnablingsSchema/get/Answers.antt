@@ -21,7 +21,8 @@ front bytes size epid low long small is =
 pub read_record-requires-clause-epid : goal.read_record-requires-clause-epid
 read_record-requires-clause-epid c =
     let shape = layout-IsShape c.header-header.result c.in-Some.enabling.now c.shape-size.ensures.few in
-    front c.args.bytes.now c.shape-size.result.size c.in_ok-epid.epid (omega (arith, ap (λ h. h.size) c.shape-size.ensures.layout)) c.in_ok-epid.ensures.read.0 (λ i. (c.type_inv.bytes i).fits) c.in_ok-epid.ensures.read.1
+    front c.args.bytes.now c.shape-size.result.size c.in_ok-epid.epid (omega (arith, ap (λ h. h.size) c.shape-size.ensures.layout)) c.in_ok-epid.ensures.read.0
+    (λ i. (c.type_inv.bytes i).fits) c.in_ok-epid.ensures.read.1
 
 pub returns-in-Some-read_record : goal.returns-in-Some-read_record
 returns-in-Some-read_record c =
@@ -51,7 +52,8 @@ returns-in-None c =
     let at_front : enabled c.args.self.now.rows (front_epid c.args.bytes.now) ≡ Some fs =
     ap (enabled c.args.self.now.rows) (sym c.in_ok-epid.ensures.read.1) ∙ row in
     let header : take 4 (take c.shape-size.result.size c.args.bytes.now) ≡ little_endian 4 c.in_ok-epid.epid =
-    front c.args.bytes.now c.shape-size.result.size c.in_ok-epid.epid (omega (arith, size, (layout-IsShape h fs c.fields.ensures.few).with_epid)) c.in_ok-epid.ensures.read.0 (λ i. (c.type_inv.bytes i).fits) c.in_ok-epid.ensures.read.1 in
+    front c.args.bytes.now c.shape-size.result.size c.in_ok-epid.epid (omega (arith, size, (layout-IsShape h fs c.fields.ensures.few).with_epid)) c.in_ok-epid.ensures.read.0
+    (λ i. (c.type_inv.bytes i).fits) c.in_ok-epid.ensures.read.1 in
     let Unread : Header → Type 0 = λ d.
     (s : Shape) × NamesShape (table_shape d (enabled c.args.self.now.rows)) c.args.bytes.now s
     × HasNoText (table_accepts d (enabled c.args.self.now.rows)) (table_text d (enabled c.args.self.now.rows)) c.args.bytes.now s in
@@ -65,7 +67,8 @@ returns-in-None c =
       record {
         long = omega (arith, size);
         none = λ r accepted e.
-            no_text-unread h (enabled c.args.self.now.rows) fs c.in_ok-epid.epid (take c.shape-size.result.size c.args.bytes.now) row small header c.in-None.ensures.unread r accepted (ap (λ n. take n c.args.bytes.now) size ∙ e);
+            no_text-unread h (enabled c.args.self.now.rows) fs c.in_ok-epid.epid (take c.shape-size.result.size c.args.bytes.now) row small header c.in-None.ensures.unread r
+            accepted (ap (λ n. take n c.args.bytes.now) size ∙ e);
       },
     ) in
     subst Unread c.header-header.ensures unread

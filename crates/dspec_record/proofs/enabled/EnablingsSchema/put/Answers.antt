@@ -9,7 +9,8 @@ use Rattle.dspec_record.specs.declared.header.Header.{Header}
 use Rattle.dspec_record.proofs.Gets.{enabled-row, length-accepted}
 use Rattle.dspec_record.proofs.enabled.EnablingsSchema.put.Goals as goal
 
-exact : (e : EnabledRows) (r : Record) (out : List ℕ) (found fs : List Field) (h : Header) → e.header ≡ h → Some found ≡ enabling_of e.rows r.epid → fs ≡ found → length fs ≤ 8 → IsTrue (table_accepts e.header (enabled e.rows) r) → length out ≡ length (table_text e.header (enabled e.rows) r) → length out ≡ (layout h fs).size
+exact : (e : EnabledRows) (r : Record) (out : List ℕ) (found fs : List Field) (h : Header) → e.header ≡ h → Some found ≡ enabling_of e.rows r.epid → fs ≡ found
+    → length fs ≤ 8 → IsTrue (table_accepts e.header (enabled e.rows) r) → length out ≡ length (table_text e.header (enabled e.rows) r) → length out ≡ (layout h fs).size
 exact e r out found fs h is row same few accepted long =
     long ∙ length-accepted e.header (enabled e.rows) fs r (enabled-row e.rows r.epid found fs row same few) accepted
     ∙ ap (λ d. (layout d fs).size) is

@@ -7,7 +7,8 @@ use Rattle.dspec_session.proofs.consumer.Consumer.give_back.Goals as goal
 pub returns-clause-same : goal.returns-clause-same
 returns-clause-same c =
     rw (← c.self.view_is)
-    (gave_same c.self.inside.seat c.self.inside.ends.items c.args.batch.cpu c.index_mut-end.result.now c.give_back.new.self c.index_mut-end.ensures.value c.give_back.result c.args.batch c.give_back.ensures.given c.give_back.ensures.refused)
+    (gave_same c.self.inside.seat c.self.inside.ends.items c.args.batch.cpu c.index_mut-end.result.now c.give_back.new.self c.index_mut-end.ensures.value c.give_back.result
+    c.args.batch c.give_back.ensures.given c.give_back.ensures.refused)
 
 pub returns-clause-given : goal.returns-clause-given
 returns-clause-given c =

@@ -2,11 +2,12 @@ use Rattle.std.proofs.Common.{subst}
 use Rattle.dspec_record.specs.Record.{Record}
 use Rattle.dspec_cpu.specs.Calls.{spoken_deeds}
 use Rattle.dspec_cpu.specs.Lists.{number_in}
-use Rattle.dspec_session.specs.Demonstrated.{Adds}
+use Rattle.dspec_session.specs.Demonstrated.{WorkerAdds}
 use Rattle.dspec_session.proofs.demonstration.calling.speculate.Goals as goal
 
 pub returns-clause-speaks : goal.returns-clause-speaks
 returns-clause-speaks c = (
   c.speculate.result,
-  subst (λ (r : Record). Adds (spoken_deeds (number_in c.args.cpu.now) c.args.id r c.speculate.result) c.args.cpu.now c.speculate.new.self) c.valued_record.ensures.value c.speculate.ensures.list,
+  subst (λ (r : Record). WorkerAdds (spoken_deeds (number_in c.args.cpu.now) c.args.id r c.speculate.result) c.args.cpu.now c.speculate.new.self)
+      c.valued_record.ensures.value c.speculate.ensures.list,
 )

@@ -8,7 +8,8 @@ use Rattle.dspec_session.proofs.demonstration.opening.open.Goals as goal
 
 pub returns-clause-session : goal.returns-clause-session
 returns-clause-session c =
-    subst (λ schema. IfOk c.start.result (λ s. IsSession (Ready (λ s. table_shape s.header (enabled s.rows)) (λ s. table_accepts s.header (enabled s.rows)) (λ s. table_text s.header (enabled s.rows))) schema s)) c.requires c.start.ensures.session
+    subst (λ schema. IfOk c.start.result (λ s. IsSession
+    (Ready (λ s. table_shape s.header (enabled s.rows)) (λ s. table_accepts s.header (enabled s.rows)) (λ s. table_text s.header (enabled s.rows))) schema s)) c.requires c.start.ensures.session
 
 pub returns-clause-room : goal.returns-clause-room
 returns-clause-room c =

@@ -14,7 +14,8 @@ returns-clause-session g c =
       checked = c.requires.session.checked;
       consumer = c.in_ok-crew.ensures.consumer.session;
       all = four_again s f back c.requires.session c.take_all-team.ensures.all c.in_ok-crew.ensures.workers c.put_all.new.cpus.items c.put_all.ensures ∙ c.requires.session.all;
-      each = places_back s f back c.requires.session c.take_all-team.ensures.all c.in_ok-crew.ensures.workers c.put_all.new.cpus.items c.put_all.ensures c.in_ok-crew.crew.consumer c.in_ok-crew.ensures.consumer;
+      each = places_back s f back c.requires.session c.take_all-team.ensures.all c.in_ok-crew.ensures.workers c.put_all.new.cpus.items c.put_all.ensures
+          c.in_ok-crew.crew.consumer c.in_ok-crew.ensures.consumer;
     }
 
 pub returns-clause-offered : goal.returns-clause-offered

@@ -2,7 +2,7 @@ use Rattle.std.proofs.Common.{◌≡◌, ℕ, List, inl, inr, refl, subst}
 use Rattle.dspec_record.specs.Schemas.{enabled, table_shape, table_accepts, table_text}
 use Rattle.dspec_session.specs.Asking.{Asked}
 use Rattle.dspec_session.specs.Consumers.{set_up_of}
-use Rattle.dspec_session.specs.Rising.{Follows}
+use Rattle.dspec_session.specs.Rising.{FollowsText}
 use Rattle.dspec_session.proofs.Visited.{asked_there, back_or_refused}
 use Rattle.dspec_session.proofs.demonstration.rounds.visit.Goals as goal
 
@@ -23,7 +23,8 @@ returns-clause-visited c =
         c.in-Some.batch,
         c.take.new.self,
         c.in-Some.ensures.took,
-        subst (λ (text : List ℕ). Follows (table_shape s.header (enabled s.rows)) (table_accepts s.header (enabled s.rows)) (table_text s.header (enabled s.rows)) text c.args.order.now c.read.new.self) c.bytes.ensures c.read.ensures,
+        subst (λ (text : List ℕ). FollowsText (table_shape s.header (enabled s.rows)) (table_accepts s.header (enabled s.rows)) (table_text s.header (enabled s.rows)) text
+            c.args.order.now c.read.new.self) c.bytes.ensures c.read.ensures,
         back_or_refused c.give_back.result c.in-Some.batch c.take.new.self c.give_back.new.self c.give_back.ensures.given c.give_back.ensures.why,
       );
     }

@@ -14,22 +14,26 @@ pub make-requires-clause-seat : goal.make-requires-clause-seat
 make-requires-clause-seat g c =
     let left = c.loop-cpu.invariant.left in
     let here = c.loop-cpu-test.true in
-    (next_seat _ _ c.args.schema c.args.words c.args.config.now c.loop-cpu.cpu c.loop-cpu.seats.items c.loop-cpu.cpus.items c.loop-cpu.ends.items c.remove.result c.loop-cpu.invariant (omega arith) c.remove.ensures.value).number
+    (next_seat _ _ c.args.schema c.args.words c.args.config.now c.loop-cpu.cpu c.loop-cpu.seats.items c.loop-cpu.cpus.items c.loop-cpu.ends.items c.remove.result
+    c.loop-cpu.invariant (omega arith) c.remove.ensures.value).number
 
 pub make-requires-clause-unused : goal.make-requires-clause-unused
 make-requires-clause-unused g c =
     let left = c.loop-cpu.invariant.left in
     let here = c.loop-cpu-test.true in
-    (next_seat _ _ c.args.schema c.args.words c.args.config.now c.loop-cpu.cpu c.loop-cpu.seats.items c.loop-cpu.cpus.items c.loop-cpu.ends.items c.remove.result c.loop-cpu.invariant (omega arith) c.remove.ensures.value).fresh
+    (next_seat _ _ c.args.schema c.args.words c.args.config.now c.loop-cpu.cpu c.loop-cpu.seats.items c.loop-cpu.cpus.items c.loop-cpu.ends.items c.remove.result
+    c.loop-cpu.invariant (omega arith) c.remove.ensures.value).fresh
 
 pub loop-cpu-preserved : goal.loop-cpu-preserved
 loop-cpu-preserved g c =
     let left = c.loop-cpu.invariant.left in
     let here = c.loop-cpu-test.true in
     let some : 0 < length c.loop-cpu.seats.items = omega arith in
-    let seat = next_seat _ _ c.args.schema c.args.words c.args.config.now c.loop-cpu.cpu c.loop-cpu.seats.items c.loop-cpu.cpus.items c.loop-cpu.ends.items c.remove.result c.loop-cpu.invariant some c.remove.ensures.value in
+    let seat = next_seat _ _ c.args.schema c.args.words c.args.config.now c.loop-cpu.cpu c.loop-cpu.seats.items c.loop-cpu.cpus.items c.loop-cpu.ends.items c.remove.result
+    c.loop-cpu.invariant some c.remove.ensures.value in
     let made = c.in_ok-made.ensures in
-    one_begun _ _ c.args.schema c.args.words c.args.config.now c.loop-cpu.cpu c.loop-cpu.seats.items c.remove.new.self.items c.loop-cpu.cpus.items c.push.new.self.items c.loop-cpu.ends.items c.push-in-loop-cpu.new.self.items
+    one_begun _ _ c.args.schema c.args.words c.args.config.now c.loop-cpu.cpu c.loop-cpu.seats.items c.remove.new.self.items c.loop-cpu.cpus.items c.push.new.self.items
+    c.loop-cpu.ends.items c.push-in-loop-cpu.new.self.items
     c.in_ok-made.made c.in_ok-end.other c.loop-cpu.invariant some c.remove.ensures.items c.in_ok-push.ensures.items c.in_ok-push-2.ensures.items
     (λ p e. record { called = made.ready c.args.words seat.at c.requires.config; number = made.config.1; config = made.config.0 ∙ sym c.requires.config; one = made.config.2; pair = ap Some e })
     (c.in_ok-end.ensures.one ∙ sym (ap (λ (x : CpuKnows). x.pair) made.parts.1))
@@ -40,7 +44,8 @@ pub returns-clause-session : goal.returns-clause-session
 returns-clause-session g c =
     let most = c.loop-cpu.auto.cpu-end in
     let least = c.loop-cpu-test.false in
-    all_begun _ _ c.args.schema c.args.words c.args.config.now _ c.args.seat c.loop-cpu.cpu c.loop-cpu.seats.items c.loop-cpu.ends.items c.make-3.ensures c.in_ok-consumer.ensures.seat c.requires.consumer.0
+    all_begun _ _ c.args.schema c.args.words c.args.config.now _ c.args.seat c.loop-cpu.cpu c.loop-cpu.seats.items c.loop-cpu.ends.items c.make-3.ensures
+    c.in_ok-consumer.ensures.seat c.requires.consumer.0
     c.in_ok-consumer.ensures.ends c.requires.config c.requires.fine (omega arith) c.loop-cpu.invariant
 
 pub returns-clause-fresh : goal.returns-clause-fresh

@@ -10,5 +10,6 @@ use Rattle.dspec_session_tests.proofs.tests.demonstrated.ends.Goals as goal
 
 pub is_stopped-requires : goal.is_stopped-requires
 is_stopped-requires g c =
-    subst (λ (s : EnabledRows). IsSession (λ (words : Words) (cpu : Cpu EnabledRows). IsReady (table_shape cpu.schema.header (enabled cpu.schema.rows)) (table_accepts cpu.schema.header (enabled cpu.schema.rows)) (table_text cpu.schema.header (enabled cpu.schema.rows)) words cpu) s c.args.shown.session)
+    subst (λ (s : EnabledRows). IsSession (λ (words : Words) (cpu : Cpu EnabledRows). IsReady (table_shape cpu.schema.header (enabled cpu.schema.rows))
+    (table_accepts cpu.schema.header (enabled cpu.schema.rows)) (table_text cpu.schema.header (enabled cpu.schema.rows)) words cpu) s c.args.shown.session)
     (sym c.requires.schema) c.requires.session

@@ -12,7 +12,8 @@ load-requires c =
     let seat = c.args.self.now in (
       c.requires.seat.0,
       rw (c.ack_place-place.ensures, words.words_is) (ack_within words.config c.args.cpu c.args.slot c.requires.cpu c.requires.slot.1),
-      looks_ack words.board.shared.key words.board.shared.table_id.slots seat.seat.id seat.seat.me (subst (λ (x : Holder). same_holder x x ≡ true) (sym seat.who_is) refl) seat.joins_none c.ack_place-place.result,
+      looks_ack words.board.shared.key words.board.shared.table_id.slots seat.seat.id seat.seat.me (subst (λ (x : Holder). same_holder x x ≡ true) (sym seat.who_is) refl)
+          seat.joins_none c.ack_place-place.result,
     )
 
 pub returns-clause-stands : goal.returns-clause-stands

@@ -15,7 +15,8 @@ load-found-requires c =
     let seat = c.args.self.now in (
       c.requires.seat.0,
       (let count = words.words_is in let most = c.requires.slot.1 in omega arith),
-      looks_word words.board.shared.key words.board.shared.table_id.slots seat.seat.id seat.seat.me (subst (λ (x : Holder). same_holder x x ≡ true) (sym seat.who_is) refl) seat.joins_none c.args.slot c.requires.slot.0 (rw words.key_is c.requires.slot.1),
+      looks_word words.board.shared.key words.board.shared.table_id.slots seat.seat.id seat.seat.me (subst (λ (x : Holder). same_holder x x ≡ true) (sym seat.who_is) refl)
+          seat.joins_none c.args.slot c.requires.slot.0 (rw words.key_is c.requires.slot.1),
     )
 
 pub read_word-requires : goal.read_word-requires
@@ -27,4 +28,5 @@ read_word-requires c =
 pub returns-clause-step : goal.returns-clause-step
 returns-clause-step c =
     let step = c.load-found.ensures.2.0 in
-    subst (λ (w : SlotState). LookedWord c.args.slot (known_there c.args.self.now) w c.load-found.new.seat.me.0) (one_word step.0 c.read_word.result (sym step.1 ∙ sym c.read_word.ensures.number)) step.2
+    subst (λ (w : SlotState). LookedWord c.args.slot (known_there c.args.self.now) w c.load-found.new.seat.me.0)
+    (one_word step.0 c.read_word.result (sym step.1 ∙ sym c.read_word.ensures.number)) step.2

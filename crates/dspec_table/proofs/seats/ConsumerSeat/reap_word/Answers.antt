@@ -17,7 +17,8 @@ compare_exchange-found-requires c =
     let to = c.raw-new.ensures ∙ ap word_number (c.of.ensures ∙ ap released c.issue.ensures.value) in (
       c.requires.seat.0,
       (let count = words.words_is in let most = c.requires.call.high in omega arith),
-      rw (c.raw-old.ensures, to) (reaps words.board.shared.key words.board.shared.table_id.slots seat.seat.id c.args.slot seat.seat.me c.args.from seat.who_is seat.joins_none (rw words.key_is c.requires.call)),
+      rw (c.raw-old.ensures, to) (reaps words.board.shared.key words.board.shared.table_id.slots seat.seat.id c.args.slot seat.seat.me c.args.from seat.who_is seat.joins_none
+          (rw words.key_is c.requires.call)),
     )
 
 pub read_word-requires : goal.read_word-requires
@@ -33,7 +34,8 @@ of-requires c =
     omega arith
 
 pub returns-then-found-old-clause-step : goal.returns-then-found-old-clause-step
-returns-then-found-old-clause-step c = reaped_hit c.args.slot (known_there c.args.self.now) c.compare_exchange-found.new.seat.me.0 c.compare_exchange-found.result c.raw-old.result c.args.from c.if-found-old.true c.raw-old.ensures c.compare_exchange-found.ensures.2.0
+returns-then-found-old-clause-step c = reaped_hit c.args.slot (known_there c.args.self.now) c.compare_exchange-found.new.seat.me.0 c.compare_exchange-found.result
+    c.raw-old.result c.args.from c.if-found-old.true c.raw-old.ensures c.compare_exchange-found.ensures.2.0
 
 pub returns-clause-always : goal.returns-clause-always
 returns-clause-always c =

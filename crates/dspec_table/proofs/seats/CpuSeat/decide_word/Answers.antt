@@ -15,5 +15,7 @@ returns-clause-release c =
     let seat = c.args.self.now in
     let new = c.try_word.new.self in
     ok_then c.try_word.result _ _ _ _ c.try_word.ensures.step c.try_word.ensures.word
-    (λ x step word. releases_next c.args.words.now.config new.cpu c.args.slot (known seat) (known new) c.args.doing.now c.args.from c.args.to step.0 (seat.who_is ∙ ap of_cpu (sym c.try_word.ensures.seat.1)) c.requires.seat.1 word
-    c.args.doing.now.op step.3 (subst (λ (n : ℕ). MayLoad c.args.words.now.config (known seat) n c.args.doing.now c.args.slot c.args.doing.now.op) (sym c.try_word.ensures.seat.1) c.requires.call.0) c.requires.call.1 c.requires.op)
+    (λ x step word. releases_next c.args.words.now.config new.cpu c.args.slot (known seat) (known new) c.args.doing.now c.args.from c.args.to step.0
+    (seat.who_is ∙ ap of_cpu (sym c.try_word.ensures.seat.1)) c.requires.seat.1 word
+    c.args.doing.now.op step.3 (subst (λ (n : ℕ). MayLoad c.args.words.now.config (known seat) n c.args.doing.now c.args.slot c.args.doing.now.op)
+    (sym c.try_word.ensures.seat.1) c.requires.call.0) c.requires.call.1 c.requires.op)

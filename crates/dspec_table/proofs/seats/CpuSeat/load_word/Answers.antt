@@ -16,4 +16,5 @@ read_word-requires c =
 pub returns-clause-step : goal.returns-clause-step
 returns-clause-step c =
     let step = c.load_word_as.ensures.step in
-    subst (λ (w : SlotState). LoadedWord c.args.doing.now c.args.slot (known c.args.self.now) w (known c.load_word_as.new.self)) (one_word step.0 c.read_word.result (sym step.1 ∙ sym c.read_word.ensures.number)) step.2
+    subst (λ (w : SlotState). LoadedWord c.args.doing.now c.args.slot (known c.args.self.now) w (known c.load_word_as.new.self))
+    (one_word step.0 c.read_word.result (sym step.1 ∙ sym c.read_word.ensures.number)) step.2

@@ -8,5 +8,6 @@ load-requires g c =
     let seat = c.args.self.now in (
       c.requires.seat.0,
       (let count = words.words_is in let most = c.requires.slot.1 in omega arith),
-      loads_word words.board.shared.key words.board.shared.table_id.slots seat.seat.id seat.cpu c.args.slot seat.seat.me g.J.Asked.doing c.requires.slot.0 (rw words.key_is c.requires.slot.1) seat.who_is seat.joins_none (rw words.key_is c.requires.call),
+      loads_word words.board.shared.key words.board.shared.table_id.slots seat.seat.id seat.cpu c.args.slot seat.seat.me g.J.Asked.doing c.requires.slot.0
+          (rw words.key_is c.requires.slot.1) seat.who_is seat.joins_none (rw words.key_is c.requires.call),
     )

@@ -2,7 +2,7 @@ use Rattle.std.proofs.Common.{ℕ, ◌≡◌, ◌==◌, true, ◌≤◌, ◌^◌
 use Rattle.dspec_word.specs.Word.{word_number}
 use Rattle.dspec_deeds.specs.declared.config.Config.{Config}
 use Rattle.dspec_table.specs.Seats.{known}
-use Rattle.dspec_table.specs.Conditions.{active}
+use Rattle.dspec_table.specs.Conditions.{as_active}
 use Rattle.dspec_word.proofs.Numbers.{one_word}
 use Rattle.dspec_table.proofs.Limits.{finds_word}
 use Rattle.dspec_table.proofs.Grows.{shown_greater}
@@ -15,10 +15,11 @@ compare_exchange-found-requires c =
     let words = c.args.words.now in
     let seat = c.args.self.now in
     let from = c.args.from in
-    let to = c.raw-new.ensures ∙ ap word_number (c.of.ensures ∙ ap (λ (i : ℕ). active record { issue = i; code = from.code }) c.issue.ensures.value) in (
+    let to = c.raw-new.ensures ∙ ap word_number (c.of.ensures ∙ ap (λ (i : ℕ). as_active record { issue = i; code = from.code }) c.issue.ensures.value) in (
       c.requires.seat.0,
       (let count = words.words_is in let most = c.requires.slot.1 in omega arith),
-      rw (c.raw-old.ensures, to) (opens_word words.board.shared.key words.board.shared.table_id.slots seat.seat.id seat.cpu c.args.slot seat.seat.me from (active from) c.requires.slot.0 (rw words.key_is c.requires.slot.1) seat.who_is seat.joins_none (rw words.key_is c.requires.call)),
+      rw (c.raw-old.ensures, to) (opens_word words.board.shared.key words.board.shared.table_id.slots seat.seat.id seat.cpu c.args.slot seat.seat.me from
+          (as_active from) c.requires.slot.0 (rw words.key_is c.requires.slot.1) seat.who_is seat.joins_none (rw words.key_is c.requires.call)),
     )
 
 pub read_word-requires : goal.read_word-requires
@@ -32,9 +33,11 @@ returns-else-found-old-clause-greater c =
     let step = c.compare_exchange-found.ensures.2.0 in
     let got = c.read_word.result in
     let same = one_word got step.0 (c.read_word.ensures.number ∙ step.1) in
-    shown_greater (known c.args.self.now) step.2.0 c.args.slot c.args.from got c.requires.call.1 step.2.1 (same ∙ step.2.2) (λ e. c.if-found-old.false (sym c.read_word.ensures.number ∙ (ap word_number e ∙ sym c.raw-old.ensures)))
+    shown_greater (known c.args.self.now) step.2.0 c.args.slot c.args.from got c.requires.call.1 step.2.1 (same ∙ step.2.2)
+    (λ e. c.if-found-old.false (sym c.read_word.ensures.number ∙ (ap word_number e ∙ sym c.raw-old.ensures)))
 
 pub returns-then-found-old-clause-word : goal.returns-then-found-old-clause-word
 returns-then-found-old-clause-word c =
-    let to = c.raw-new.ensures ∙ ap word_number (c.of.ensures ∙ ap (λ (i : ℕ). active record { issue = i; code = c.args.from.code }) c.issue.ensures.value) in
-    left_word c.compare_exchange-found.result c.args.from (active c.args.from) _ (c.if-found-old.true ∙ c.raw-old.ensures) (λ hit. sym to ∙ c.compare_exchange-found.ensures.2.0.3 (subst (λ (m : ℕ). (c.compare_exchange-found.result == m) ≡ true) (sym c.raw-old.ensures) hit))
+    let to = c.raw-new.ensures ∙ ap word_number (c.of.ensures ∙ ap (λ (i : ℕ). as_active record { issue = i; code = c.args.from.code }) c.issue.ensures.value) in
+    left_word c.compare_exchange-found.result c.args.from (as_active c.args.from) _ (c.if-found-old.true ∙ c.raw-old.ensures)
+    (λ hit. sym to ∙ c.compare_exchange-found.ensures.2.0.3 (subst (λ (m : ℕ). (c.compare_exchange-found.result == m) ≡ true) (sym c.raw-old.ensures) hit))

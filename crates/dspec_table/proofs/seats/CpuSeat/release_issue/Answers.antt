@@ -19,5 +19,7 @@ compare_exchange-requires c =
     let same = c.requires.seat.1 ∙ sym words.key_is in (
       c.requires.seat.0,
       (let count = words.words_is in let most = c.requires.slot.1 in omega arith),
-      rw (from, to) (gives_back words.board.shared.key words.board.shared.table_id.slots seat.seat.id seat.cpu seat.seat.me (record { issue = c.args.issue; slot = c.args.slot }) (subst (λ (k : Config). seat.cpu < k.cpus) same seat.is_one) c.requires.slot.0 (rw words.key_is c.requires.slot.1) seat.who_is seat.joins_none (rw words.key_is c.requires.call)),
+      rw (from, to) (gives_back words.board.shared.key words.board.shared.table_id.slots seat.seat.id seat.cpu seat.seat.me
+          (record { issue = c.args.issue; slot = c.args.slot }) (subst (λ (k : Config). seat.cpu < k.cpus) same seat.is_one) c.requires.slot.0
+          (rw words.key_is c.requires.slot.1) seat.who_is seat.joins_none (rw words.key_is c.requires.call)),
     )

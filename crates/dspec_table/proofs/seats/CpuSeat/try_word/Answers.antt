@@ -15,7 +15,8 @@ read_word-requires c =
     finds_word (known c.args.self.now) step.2.0 c.args.slot c.try_word_as-found.result step.0 few step.2.1 step.1 step.2.2
 
 pub returns-then-found-raw-clause-step : goal.returns-then-found-raw-clause-step
-returns-then-found-raw-clause-step c = tried_hit c.args.doing.now c.args.slot (known c.args.self.now) (known c.try_word_as-found.new.self) (word_number c.args.to) c.try_word_as-found.result c.args.from (c.if-found-raw.true ∙ c.raw.ensures) c.try_word_as-found.ensures.step
+returns-then-found-raw-clause-step c = tried_hit c.args.doing.now c.args.slot (known c.args.self.now) (known c.try_word_as-found.new.self)
+    (word_number c.args.to) c.try_word_as-found.result c.args.from (c.if-found-raw.true ∙ c.raw.ensures) c.try_word_as-found.ensures.step
 
 pub returns-else-found-raw-clause-step : goal.returns-else-found-raw-clause-step
 returns-else-found-raw-clause-step c =
@@ -27,7 +28,8 @@ returns-else-found-raw-clause-greater c =
     let step = c.try_word_as-found.ensures.step in
     let got = c.read_word.result in
     let same = one_word got step.0 (c.read_word.ensures.number ∙ step.1) in
-    shown_greater (known c.args.self.now) step.2.0 c.args.slot c.args.from got c.requires.call.2 step.2.1 (same ∙ step.2.2) (λ e. c.if-found-raw.false (sym c.read_word.ensures.number ∙ (ap word_number e ∙ sym c.raw.ensures)))
+    shown_greater (known c.args.self.now) step.2.0 c.args.slot c.args.from got c.requires.call.2 step.2.1 (same ∙ step.2.2)
+    (λ e. c.if-found-raw.false (sym c.read_word.ensures.number ∙ (ap word_number e ∙ sym c.raw.ensures)))
 
 pub returns-then-found-raw-clause-word : goal.returns-then-found-raw-clause-word
 returns-then-found-raw-clause-word c = left_word c.try_word_as-found.result c.args.from c.args.to _ (c.if-found-raw.true ∙ c.raw.ensures) c.try_word_as-found.ensures.step.3

@@ -9,5 +9,6 @@ compare_exchange-requires g c =
     let from = c.args.from in (
       c.requires.seat.0,
       (let count = words.words_is in let most = c.requires.slot.1 in omega arith),
-      rw (c.raw.ensures, c.raw-2.ensures) (tries_word words.board.shared.key words.board.shared.table_id.slots seat.seat.id seat.cpu c.args.slot seat.seat.me g.J.Asked.doing from c.args.to c.requires.slot.0 (rw words.key_is c.requires.slot.1) seat.who_is seat.joins_none (rw words.key_is c.requires.call)),
+      rw (c.raw.ensures, c.raw-2.ensures) (tries_word words.board.shared.key words.board.shared.table_id.slots seat.seat.id seat.cpu c.args.slot seat.seat.me g.J.Asked.doing
+          from c.args.to c.requires.slot.0 (rw words.key_is c.requires.slot.1) seat.who_is seat.joins_none (rw words.key_is c.requires.call)),
     )

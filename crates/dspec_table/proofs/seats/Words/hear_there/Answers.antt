@@ -6,5 +6,11 @@ pub join_seat-requires : goal.join_seat-requires
 join_seat-requires c =
     let words = c.args.self.now in
     let place = c.args.place.now in
-    let told = c.args.told in
-    (c.requires.place, c.requires.note.0, c.requires.note.1, (let count = words.words_is in omega arith), answers words.board.shared.key place.id place.me.0 told.id told.me.0 c.requires.note.2 c.requires.note.3)
+    let told = c.args.told in (
+      c.requires.place,
+      c.requires.note.0,
+      c.requires.note.1,
+      (let count = words.words_is in omega arith),
+      answers words.board.shared.key place.id place.me.0 told.id told.me.0
+          c.requires.note.2 c.requires.note.3,
+    )

@@ -1,5 +1,5 @@
 use Rattle.std.proofs.Common.{ℕ, true, false, ◌∙◌, sym, subst}
-use Rattle.dspec_table.specs.Conditions.{MayTry, Decides}
+use Rattle.dspec_table.specs.Conditions.{MayTry, IsDeciding}
 use Rattle.dspec_table.specs.Seats.{known}
 use Rattle.dspec_table_tests.specs.Calls.{Unused}
 use Rattle.dspec_table_tests.proofs.Turns.{commits, discards, tried_rests}
@@ -32,10 +32,12 @@ returns-clause-rests c =
     let k = c.args.words.now.config in
     let first = c.args.first.now in
     let second = c.args.second.now in
-    let ours = commits k (known first) (known c.shown-ours.new.seat) first.cpu c.args.commit.now c.args.id c.shown-ours.result c.in-Attempt.to c.requires.commit (sym c.commit_at.ensures ∙ c.in-Attempt.is) c.shown-ours.ensures.next in
-    let theirs = discards k (known second) (known c.shown-theirs.new.seat) second.cpu c.args.discard.now c.args.id c.shown-theirs.result c.in-Attempt-discard_at.thrown c.requires.discard (sym c.discard_at.ensures ∙ c.in-Attempt-discard_at.is) c.shown-theirs.ensures.next in (
-      tried_rests k first.cpu (known c.shown-ours.new.seat) (known c.decide_word-2.new.self) c.args.commit.now c.in-Err.word false (subst Decides (sym c.requires.commit) tt)
+    let ours = commits k (known first) (known c.shown-ours.new.seat) first.cpu c.args.commit.now c.args.id c.shown-ours.result c.in-Attempt.to c.requires.commit
+    (sym c.commit_at.ensures ∙ c.in-Attempt.is) c.shown-ours.ensures.next in
+    let theirs = discards k (known second) (known c.shown-theirs.new.seat) second.cpu c.args.discard.now c.args.id c.shown-theirs.result c.in-Attempt-discard_at.thrown
+    c.requires.discard (sym c.discard_at.ensures ∙ c.in-Attempt-discard_at.is) c.shown-theirs.ensures.next in (
+      tried_rests k first.cpu (known c.shown-ours.new.seat) (known c.decide_word-2.new.self) c.args.commit.now c.in-Err.word false (subst IsDeciding (sym c.requires.commit) tt)
           (subst (Unused k first.cpu) (sym ours.1) c.requires.first.2) c.in-Err.ensures.step,
-      tried_rests k second.cpu (known c.shown-theirs.new.seat) (known c.decide_word.new.self) c.args.discard.now c.shown-theirs.result true (subst Decides (sym c.requires.discard) tt)
+      tried_rests k second.cpu (known c.shown-theirs.new.seat) (known c.decide_word.new.self) c.args.discard.now c.shown-theirs.result true (subst IsDeciding (sym c.requires.discard) tt)
           (subst (Unused k second.cpu) (sym theirs.1) c.requires.second.2) c.in-Ok.ensures.step,
     )

@@ -23,7 +23,8 @@ join_word-requires-2-clause-call c =
     let call = c.args.call.now in
     let from = c.shown-theirs.result in
     subst (λ (n : ℕ). MayTry k (known new) n call 1 from (joined_word from)) (sym c.shown-theirs.ensures.seat.1)
-    (joins k (known seat) (known new) seat.cpu call c.args.id c.args.rec from c.in-Attempt-speculate_at._theirs c.requires.op (sym c.speculate_at-2.ensures ∙ c.in-Attempt-speculate_at.is) c.shown-theirs.ensures.next).0
+    (joins k (known seat) (known new) seat.cpu call c.args.id c.args.rec from c.in-Attempt-speculate_at._theirs c.requires.op
+    (sym c.speculate_at-2.ensures ∙ c.in-Attempt-speculate_at.is) c.shown-theirs.ensures.next).0
 
 pub join_word-requires-3-clause-call : goal.join_word-requires-3-clause-call
 join_word-requires-3-clause-call c =
@@ -33,7 +34,8 @@ join_word-requires-3-clause-call c =
     let call = c.args.call.now in
     let from = c.in-Err.word in
     let shown = c.shown-theirs.result in
-    let may = (joins k (known c.args.second.now) (known seat) c.args.second.now.cpu call c.args.id c.args.rec shown c.in-Attempt-speculate_at._theirs c.requires.op (sym c.speculate_at-2.ensures ∙ c.in-Attempt-speculate_at.is) c.shown-theirs.ensures.next).0.0 in
+    let may = (joins k (known c.args.second.now) (known seat) c.args.second.now.cpu call c.args.id c.args.rec shown c.in-Attempt-speculate_at._theirs c.requires.op
+    (sym c.speculate_at-2.ensures ∙ c.in-Attempt-speculate_at.is) c.shown-theirs.ensures.next).0.0 in
     let may = subst (λ (n : ℕ). MayLoad k (known seat) n call 1 call.op) (sym c.shown-theirs.ensures.seat.1) may in
     subst (λ (n : ℕ). MayTry k (known new) n call 1 from (joined_word from)) (sym c.join_word-2.ensures.seat.1)
     (joins k (known seat) (known new) seat.cpu call c.args.id c.args.rec from c.in-Attempt-speculate_at-2._again c.requires.op (sym c.speculate_at-3.ensures ∙ c.in-Attempt-speculate_at-2.is)

@@ -1,0 +1,10 @@
+use Rattle.std.proofs.Common.{◌≡◌}
+use Rattle.dspec_deeds.specs.History.{scan}
+use Rattle.dspec_table.specs.Seats.{known, IsAt, set_up, cpu_of}
+use Rattle.bench.proofs.loads.timing.least.Given as goal
+
+abbrev pub invariant-loop : goal.invariant-loop
+invariant-loop l = record {
+  seat : IsAt l.words l.seat × (cpu_of l.seat ≡ cpu_of l.fn.seat);
+  idle : scan (set_up l.words) (cpu_of l.seat) (known l.seat).own ≡ 0;
+}

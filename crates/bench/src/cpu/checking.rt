@@ -1,0 +1,26 @@
+//! How many records come out of each way as they should, the same on every machine.
+use crate::cpu::asking::Run;
+use crate::cpu::taking::{Size, take};
+use crate::cpu::way::WAYS;
+use dspec_samples::UNSTAMPED;
+use std::io;
+
+/// How many records take each way.
+const CHECK_RECORDS: u32 = 1_000;
+
+/// Takes every way of every subject once, in small buffers, and prints how many records came out of it so.
+pub fn check_all(rt: &HostRuntime) -> io::Result<()> {
+    for way in WAYS {
+        for subject in UNSTAMPED {
+            let run = Run {
+                way,
+                subject,
+                size: Size::Small,
+                number: CHECK_RECORDS,
+            };
+            let count = take(rt.alloc(), run).unwrap_or(0);
+            println!(rt; "cpu {} {}: {count}", way.name(), subject.name())?;
+        }
+    }
+    Ok(())
+}

@@ -1,0 +1,6 @@
+mod Lines
+mod Ranges
+mod Sizes
+mod Collecting
+mod OneList
+mod OneStream

@@ -1,0 +1,105 @@
+-- Bytes are the events of one list of records at most.
+use Rattle.std.proofs.Common.{◌≡◌, ◌≤◌, ◌<◌, ◌+◌, ◌*◌, ◌^◌, ◌++◌, ◌&&◌, ℕ, Bool, true, false, cond, ltb, leb, IsTrue, List, [], ◌∷◌, length, Option, Some, None, refl, ap, sym, subst, ◌∙◌, arith}
+use Rattle.std.proofs.Common.{append_assoc, length-append, All}
+use Rattle.std.proofs.lemmas.List.Elements.{All-head, All-tail}
+use Rattle.std.specs.Prelude.{unwrap_or, option_and_then}
+use Rattle.std.specs.Option.{option_map_or}
+use Rattle.std.proofs.lemmas.Bool.{ltb-true, eqb-true}
+use Rattle.dspec_record.specs.Record.{Record}
+use Rattle.dspec_record.specs.Layout.{width}
+use Rattle.dspec_record.specs.RecordText.{little_endian, stamp_fits, fits}
+use Rattle.dspec_record.specs.Schemas.{within_limit, enabling_of, enabled, table_accepts}
+use Rattle.dspec_record.specs.EnablingRows.{EnabledRows}
+use Rattle.dspec_record.specs.Laws.Texts.{both, append-same, little_endian-same, length-little_endian}
+use Rattle.dspec_record.specs.Laws.Tables.{IsAccepted, accepted-parts}
+use Rattle.dspec_record.specs.declared.field.Field.{Field}
+use Rattle.dspec_record.specs.declared.field.Field.TheVariants.{Four, Eight}
+use Rattle.dspec_record.specs.declared.header.Header.{Header}
+use Rattle.dspec_record.specs.declared.header.Header.TheVariants as header
+use Rattle.dspec_ctf.specs.Packets.{stamp_bytes, values_bytes, event, events, enabled_fields, header_bytes, span_bytes, context_bytes, front_bytes, packet}
+use Rattle.dspec_ctf.specs.Streams.{Accepts}
+
+-- the values of a record that is accepted fit the fields that its EPID has
+row-fits : (gs : List Field) (vs : List ℕ) (few : Bool) → IsTrue (option_map_or (λ fs. fits fs vs) (cond few (Some gs) None) false) → IsTrue (fits gs vs)
+row-fits gs vs true h = h
+row-fits gs vs false h = absurd (cc)
+
+values-fit : (o : Option (List Field)) (vs : List ℕ) → IsTrue (option_map_or (λ fs. fits fs vs) (option_and_then within_limit o) false) → IsTrue (fits (unwrap_or o []) vs)
+values-fit None vs h = absurd (cc)
+values-fit (Some gs) vs h = row-fits gs vs (leb (length gs) 8) h
+
+-- values are known from bytes that begin with them
+values-same : (fs : List Field) (vs us x y : List ℕ) → IsTrue (fits fs vs) → IsTrue (fits fs us) → values_bytes fs vs ++ x ≡ values_bytes fs us ++ y → (vs ≡ us) × (x ≡ y)
+values-same [] [] [] x y p q e = (refl, e)
+values-same [] (v ∷ vs) us x y p q e = absurd (cc)
+values-same [] [] (u ∷ us) x y p q e = absurd (cc)
+values-same (f ∷ fs) [] us x y p q e = absurd (cc)
+values-same (f ∷ fs) (v ∷ vs) [] x y p q e = absurd (cc)
+values-same (f ∷ fs) (v ∷ vs) (u ∷ us) x y p q e =
+    let of_v : IsTrue (ltb v (256 ^ width f)) × IsTrue (fits fs vs) = both (ltb v (256 ^ width f)) (fits fs vs) p in
+    let of_u : IsTrue (ltb u (256 ^ width f)) × IsTrue (fits fs us) = both (ltb u (256 ^ width f)) (fits fs us) q in
+    let a : List ℕ = little_endian (width f) v in
+    let b : List ℕ = little_endian (width f) u in
+    let split : a ++ (values_bytes fs vs ++ x) ≡ b ++ (values_bytes fs us ++ y) =
+    sym (append_assoc a (values_bytes fs vs) x) ∙ e ∙ append_assoc b (values_bytes fs us) y in
+    let parts = append-same a b (values_bytes fs vs ++ x) (values_bytes fs us ++ y) (length-little_endian f v ∙ sym (length-little_endian f u)) split in
+    let first : v ≡ u = little_endian-same f v u (ltb-true v (256 ^ width f) of_v.0) (ltb-true u (256 ^ width f) of_u.0) parts.0 in
+    let rest = values-same fs vs us x y of_v.1 of_u.1 parts.1 in
+    ((λ i. first i ∷ rest.0 i), rest.1)
+
+-- so are stamps
+stamps-same : (h : Header) (v u : ℕ) (x y : List ℕ) → IsTrue (stamp_fits h v) → IsTrue (stamp_fits h u) → stamp_bytes h v ++ x ≡ stamp_bytes h u ++ y → (v ≡ u) × (x ≡ y)
+stamps-same header.One v u x y p q e = (eqb-true v 0 p ∙ sym (eqb-true u 0 q), e)
+stamps-same header.Two v u x y p q e =
+    let parts = append-same (little_endian 8 v) (little_endian 8 u) x y refl e in
+    (little_endian-same Eight v u (ltb-true v (2 ^ 64) p) (ltb-true u (2 ^ 64) q) parts.0, parts.1)
+
+-- and records from bytes that begin with their events
+pub event-same : (e : EnabledRows) (q r : Record) (x y : List ℕ) → Accepts e q → Accepts e r → event e q ++ x ≡ event e r ++ y → (q ≡ r) × (x ≡ y)
+event-same e q r x y of_q of_r is =
+    let h : Header = e.header in
+    let parts_q : IsAccepted h q (enabled e.rows q.epid) = accepted-parts h (enabled e.rows) q of_q in
+    let parts_r : IsAccepted h r (enabled e.rows r.epid) = accepted-parts h (enabled e.rows) r of_r in
+    let split : (p : Record) (z : List ℕ) → event e p ++ z ≡ little_endian 4 p.epid ++ (stamp_bytes h p.stamp ++ (values_bytes (enabled_fields e p.epid) p.values ++ z)) =
+    λ p z. append_assoc (little_endian 4 p.epid) (stamp_bytes h p.stamp ++ values_bytes (enabled_fields e p.epid) p.values) z
+    ∙ ap (λ more. little_endian 4 p.epid ++ more) (append_assoc (stamp_bytes h p.stamp) (values_bytes (enabled_fields e p.epid) p.values) z) in
+    let first = append-same (little_endian 4 q.epid) (little_endian 4 r.epid)
+    (stamp_bytes h q.stamp ++ (values_bytes (enabled_fields e q.epid) q.values ++ x)) (stamp_bytes h r.stamp ++ (values_bytes (enabled_fields e r.epid) r.values ++ y)) refl
+    (sym (split q x) ∙ is ∙ split r y) in
+    let epid : q.epid ≡ r.epid = little_endian-same Four q.epid r.epid (ltb-true q.epid (2 ^ 32) parts_q.epid) (ltb-true r.epid (2 ^ 32) parts_r.epid) first.0 in
+    let second = stamps-same h q.stamp r.stamp (values_bytes (enabled_fields e q.epid) q.values ++ x) (values_bytes (enabled_fields e r.epid) r.values ++ y)
+    parts_q.stamp parts_r.stamp first.1 in
+    let fit_q : IsTrue (fits (enabled_fields e q.epid) q.values) = values-fit (enabling_of e.rows q.epid) q.values parts_q.values in
+    let fit_r : IsTrue (fits (enabled_fields e r.epid) r.values) = values-fit (enabling_of e.rows r.epid) r.values parts_r.values in
+    let Fit : ℕ → Type 0 = λ n. IsTrue (fits (enabled_fields e n) q.values) in
+    let Same : ℕ → Type 0 = λ n. values_bytes (enabled_fields e n) q.values ++ x ≡ values_bytes (enabled_fields e r.epid) r.values ++ y in
+    let third = values-same (enabled_fields e r.epid) q.values r.values x y (subst Fit epid fit_q) fit_r (subst Same epid second.1) in
+    ((λ i. record { epid = epid i; stamp = second.0 i; values = third.0 i }), third.1)
+
+pub events-same : (e : EnabledRows) (rs qs : List Record) → All (Accepts e) rs → All (Accepts e) qs → events e rs ≡ events e qs → rs ≡ qs
+events-same e [] [] of_r of_q is = refl
+events-same e [] (q ∷ qs) of_r of_q is = absurd (cc)
+events-same e (r ∷ rs) [] of_r of_q is = absurd (cc)
+events-same e (r ∷ rs) (q ∷ qs) of_r of_q is =
+    let parts = event-same e r q (events e rs) (events e qs) (All-head (Accepts e) r rs of_r) (All-head (Accepts e) q qs of_q) is in
+    let rest = events-same e rs qs (All-tail (Accepts e) r rs of_r) (All-tail (Accepts e) q qs of_q) parts.1 in
+    (λ i. parts.0 i ∷ rest i)
+
+-- what stands before the events is as long, whatever it tells
+pub length-front : (uuid : List ℕ) (span other : Option (ℕ × ℕ)) (size missed cpu size' missed' cpu' : ℕ) → length (span_bytes span) ≡ length (span_bytes other)
+    → length (front_bytes uuid span size missed cpu) ≡ length (front_bytes uuid other size' missed' cpu')
+unfolding front_bytes header_bytes context_bytes
+length-front uuid span other size missed cpu size' missed' cpu' alike =
+    let h : List ℕ = header_bytes uuid in
+    let c : List ℕ = context_bytes (8 * size) missed cpu in
+    let c' : List ℕ = context_bytes (8 * size') missed' cpu' in
+    let same : length c ≡ length c' = refl in
+    omega (arith, alike, same, length-append h (span_bytes span ++ c), length-append (span_bytes span) c, length-append h (span_bytes other ++ c'), length-append (span_bytes other) c')
+
+pub packet-same : (e : EnabledRows) (uuid : List ℕ) (missed cpu missed' cpu' : ℕ) (rs qs : List Record) → All (Accepts e) rs → All (Accepts e) qs
+    → packet uuid e missed cpu rs ≡ packet uuid e missed' cpu' qs → rs ≡ qs
+packet-same e uuid missed cpu missed' cpu' rs qs of_r of_q is =
+    let a : List ℕ = front_bytes uuid None (52 + length (events e rs)) missed cpu in
+    let b : List ℕ = front_bytes uuid None (52 + length (events e qs)) missed' cpu' in
+    let long : length a ≡ length b = length-front uuid None None (52 + length (events e rs)) missed cpu (52 + length (events e qs)) missed' cpu' refl in
+    events-same e rs qs of_r of_q (append-same a b (events e rs) (events e qs) long is).1

@@ -1,0 +1,34 @@
+-- A text that has a piece for each number of a range, while it is written.
+use Rattle.std.proofs.Common.{◌≡◌, ◌<◌, Option, Some, None, false, is_some, refl, ◌+◌, ◌-◌, ◌++◌, ◌∷◌, ◌∙◌, ℕ, suc, List, ap, sym, append_assoc, arith}
+use Rattle.std.specs.List.{flat_map, range_with_len}
+use Rattle.dspec_ctf.specs.Names.{earlier, first_found}
+
+range-next : (p n : ℕ) → p < n → range_with_len p (n - p) ≡ p ∷ range_with_len (p + 1) (n - (p + 1))
+range-next p n below =
+    let left : n - p ≡ suc (n - (p + 1)) = omega (arith, below) in
+    ap (range_with_len p) left
+
+pub range-piece : (f : ℕ → List ℕ) (p n : ℕ) (text longer whole : List ℕ) → p < n
+    → text ++ flat_map f (range_with_len p (n - p)) ≡ whole → longer ≡ text ++ f p
+    → longer ++ flat_map f (range_with_len (p + 1) (n - (p + 1))) ≡ whole
+range-piece f p n text longer whole below so_far more =
+    let rest : List ℕ = flat_map f (range_with_len (p + 1) (n - (p + 1))) in
+    ap (λ t. t ++ rest) more ∙ append_assoc text (f p) rest
+    ∙ ap (λ ps. text ++ flat_map f ps) (sym (range-next p n below)) ∙ so_far
+
+-- nothing at this place: the first is behind it
+pub first-behind : {A : Type 0} (f : ℕ → Option A) (p n : ℕ) (whole : Option A) → p < n → f p ≡ None
+    → first_found f (range_with_len p (n - p)) ≡ whole → first_found f (range_with_len (p + 1) (n - (p + 1))) ≡ whole
+first-behind f p n whole below none so_far =
+    sym (ap (λ x. earlier x (first_found f (range_with_len (p + 1) (n - (p + 1))))) none)
+    ∙ sym (ap (first_found f) (range-next p n below)) ∙ so_far
+
+-- something at this place: it is the first
+pub first-here : {A : Type 0} (f : ℕ → Option A) (p n : ℕ) (whole : Option A) (x : A) → p < n → f p ≡ Some x
+    → first_found f (range_with_len p (n - p)) ≡ whole → whole ≡ Some x
+first-here f p n whole x below here so_far =
+    sym so_far ∙ ap (first_found f) (range-next p n below) ∙ ap (λ o. earlier o (first_found f (range_with_len (p + 1) (n - (p + 1))))) here
+
+pub none_of : {A : Type 0} (o : Option A) → is_some o ≡ false → o ≡ None
+none_of None e = refl
+none_of (Some x) e = absurd (cc)

@@ -1,0 +1,18 @@
+use Rattle.std.proofs.Common.{◌++◌, ◌∙◌, ap, sym}
+use Rattle.std.specs.List.{flat_map}
+use Rattle.std.proofs.lemmas.List.Folds.{flat_map-map}
+use Rattle.std.proofs.lemmas.Iterator.{YieldsList-from_slice, YieldsList-from_zip}
+use Rattle.std.proofs.lemmas.Iterator.Consumers.{YieldsList-at, YieldsList-end}
+use Rattle.dspec_record.specs.Layout.{width}
+use Rattle.dspec_record.specs.RecordText.{little_endian}
+use Rattle.dspec_ctf.proofs.packet.put_values.Goals as goal
+
+pub returns : goal.returns
+returns c =
+    let road = YieldsList-at c.into_iter-field-iterator.ensures.into_iter_gives
+    (YieldsList-from_zip
+    (YieldsList-at c.zip-field-items.ensures.first (YieldsList-from_slice c.args.fields.now c.iter.ensures.rest))
+    (YieldsList-from_slice c.args.values.now c.zip-field-items.ensures.second.0)) in
+    let whole = YieldsList-end road c.loop-field.yielded c.loop-field.field-iterator c.loop-field.yielded_by c.next.result c.next.new.self c.in-None.is c.next.ensures.steps in
+    let bytes = sym (flat_map-map (λ p. little_endian (width p.0) p.1) _ c.loop-field.yielded) ∙ ap (flat_map (λ p. little_endian (width p.0) p.1)) whole.0 in
+    c.loop-field.invariant ∙ ap (λ more. c.args.out.now.items ++ more) bytes

@@ -1,0 +1,7 @@
+use Rattle.std.proofs.Common.{◌≡◌, ◌++◌, take, string_bytes}
+use Rattle.dspec_ctf.specs.Metadata.{hex}
+use Rattle.dspec_ctf.proofs.printing.print_hex.Given as goal
+
+abbrev pub invariant-loop-byte : goal.invariant-loop-byte
+invariant-loop-byte l =
+    string_bytes l.text ≡ string_bytes l.initial.text ++ hex (take l.byte-index l.bytes)

@@ -1,0 +1,5 @@
+pub mod Names
+pub mod Metadata
+pub mod Packets
+pub mod Streams
+pub mod ByTime

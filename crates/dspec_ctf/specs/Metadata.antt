@@ -1,0 +1,118 @@
+-- The metadata of a trace: text in the format's language, which says how its packets and events are laid out.
+use Rattle.std.specs.Prelude.{ℕ, ◌+◌, ◌/◌, ◌%◌, false, List, [], ◌∷◌, ◌++◌, length, take, drop, slice_get, map, codes, decimal}
+use Rattle.std.specs.Fmt.{digit_glyph}
+use Rattle.std.specs.Option.{option_map_or}
+use Rattle.std.specs.List.{flat_map, zip, enumerate_from, range_with_len}
+use Rattle.dspec_record.specs.EnablingRows.{EnabledRows}
+use Rattle.dspec_record.specs.declared.field.Field.{Field}
+use Rattle.dspec_record.specs.declared.field.Field.TheVariants.{One, Two, Four, Eight}
+use Rattle.dspec_record.specs.declared.header.Header.{Header}
+use Rattle.dspec_record.specs.declared.header.Header.TheVariants as header
+use Rattle.dspec_ctf.specs.Packets.{enabled_fields}
+use Rattle.dspec_ctf.specs.declared.names.Names.{Names}
+use Rattle.dspec_ctf.specs.declared.names.Names.TheVariants.{Numbered, Given}
+use Rattle.dspec_ctf.specs.declared.form.Form.{Form}
+use Rattle.dspec_ctf.specs.declared.form.Form.TheVariants.{AsTaken, ByTime}
+
+-- two digits of base 16, in lower case
+abbrev pub hex_byte : ℕ → List ℕ
+hex_byte b = digit_glyph false (b / 16) ∷ digit_glyph false (b % 16) ∷ []
+
+unfoldable pub hex : List ℕ → List ℕ
+hex bytes = flat_map hex_byte bytes
+
+-- the same behind a hyphen
+unfoldable pub hyphened : List ℕ → List ℕ
+hyphened bytes = codes "-" ++ hex bytes
+
+-- 16 bytes as a uuid is written: 4, 2, 2, 2 and 6 of them, with hyphens between
+unfoldable pub uuid_text : List ℕ → List ℕ
+uuid_text u = hex (take 4 u) ++ hyphened (take 2 (drop 4 u)) ++ hyphened (take 2 (drop 6 u))
+    ++ hyphened (take 2 (drop 8 u)) ++ hyphened (take 6 (drop 10 u))
+
+-- the integers' types
+unfoldable pub types_text : List ℕ
+types_text = codes "/* CTF 1.8 */\n\ntypealias integer { size = 8; align = 8; signed = false; } := uint8_t;\n"
+    ++ codes "typealias integer { size = 16; align = 8; signed = false; } := uint16_t;\n"
+    ++ codes "typealias integer { size = 32; align = 8; signed = false; } := uint32_t;\ntypealias integer { size = 64; align = 8; signed = false; } := uint64_t;\n"
+
+-- the trace, before its uuid
+unfoldable pub trace_front : List ℕ
+trace_front = codes "\ntrace {\n\tmajor = 1;\n\tminor = 8;\n\tuuid = \""
+
+-- the trace behind its uuid, with the header of packets
+unfoldable pub trace_back : List ℕ
+trace_back =
+    codes "\";\n\tbyte_order = le;\n\tpacket.header := struct {\n\t\tuint32_t magic;\n\t\tuint8_t uuid[16];\n\t\tuint32_t stream_id;\n\t};\n};\n\nenv {\n"
+    ++ codes "\ttracer_name = \"sidingyarrow\";\n};\n"
+
+abbrev pub trace_text : List ℕ → List ℕ
+trace_text u = trace_front ++ uuid_text u ++ trace_back
+
+-- the clock of a trace by time, whose ticks a second are known
+abbrev pub clock_text : Form → List ℕ
+clock_text AsTaken = []
+clock_text (ByTime frequency) = codes "\nclock {\n\tname = stamp;\n\tfreq = " ++ decimal frequency
+    ++ codes ";\n};\n\ntypealias integer { size = 64; align = 8; signed = false; map = clock.stamp.value; } := stamp_t;\n"
+
+-- the context of packets, and the header of events; by time both have stamps
+abbrev pub stream_text : Form → List ℕ
+stream_text AsTaken =
+    codes "\nstream {\n\tid = 0;\n\tpacket.context := struct {\n\t\tuint64_t content_size;\n\t\tuint64_t packet_size;\n\t\tuint64_t events_discarded;\n"
+    ++ codes "\t\tuint32_t cpu_id;\n\t};\n\tevent.header := struct {\n\t\tuint32_t id;\n\t};\n};\n"
+stream_text (ByTime frequency) =
+    codes "\nstream {\n\tid = 0;\n\tpacket.context := struct {\n\t\tstamp_t timestamp_begin;\n\t\tstamp_t timestamp_end;\n\t\tuint64_t content_size;\n"
+    ++ codes "\t\tuint64_t packet_size;\n\t\tuint64_t events_discarded;\n\t\tuint32_t cpu_id;\n\t};\n\tevent.header := struct {\n\t\tuint32_t id;\n"
+    ++ codes "\t\tstamp_t timestamp;\n\t};\n};\n"
+
+-- the type of a field's values
+abbrev pub type_name : Field → List ℕ
+type_name One = codes "uint8_t"
+type_name Two = codes "uint16_t"
+type_name Four = codes "uint32_t"
+type_name Eight = codes "uint64_t"
+
+-- a field with its name
+abbrev pub field_line : List ℕ → Field → List ℕ
+field_line name f = codes "\t\t" ++ type_name f ++ codes " " ++ name ++ codes ";\n"
+
+-- fields that are numbered from 0
+abbrev pub numbered_lines : List Field → List ℕ
+numbered_lines fs = flat_map (λ p. field_line (codes "arg_" ++ decimal p.0) p.1) (enumerate_from 0 fs)
+
+abbrev pub given_lines : List (List ℕ) → List Field → List ℕ
+given_lines names fs = flat_map (λ p. field_line p.0 p.1) (zip names fs)
+
+-- the stamp as a field: as taken, where records have one
+abbrev pub stamp_line : Form → Header → List ℕ
+stamp_line AsTaken header.Two = codes "\t\tuint64_t stamp;\n"
+stamp_line _ _ = []
+
+-- the name of the event at this place, counted from 0: the one given, or its EPID's
+unfoldable pub event_name : Names → ℕ → List ℕ
+event_name Numbered place = codes "epid_" ++ decimal (place + 1)
+event_name (Given names) place = option_map_or (λ n. n.event.now) (slice_get names.now place) []
+
+-- the lines of its fields
+unfoldable pub field_lines : Names → ℕ → List Field → List ℕ
+field_lines Numbered place fs = numbered_lines fs
+field_lines (Given names) place fs =
+    option_map_or (λ n. given_lines (map (λ name. name.now) n.fields.now) fs) (slice_get names.now place) []
+
+-- an event up to its name
+unfoldable pub event_number : ℕ → List ℕ
+event_number epid = codes "\nevent {\n\tid = " ++ decimal epid ++ codes ";\n\tname = \""
+
+-- what stands before an event's fields
+unfoldable pub event_front : Names → ℕ → List ℕ
+event_front names place = event_number (place + 1) ++ event_name names place ++ codes "\";\n\tstream_id = 0;\n\tfields := struct {\n"
+
+-- an event
+unfoldable pub event_text : Form → EnabledRows → Names → ℕ → List ℕ
+event_text form e names place = event_front names place ++ stamp_line form e.header
+    ++ field_lines names place (enabled_fields e (place + 1)) ++ codes "\t};\n};\n"
+
+-- the whole text
+unfoldable pub metadata_text : List ℕ → Form → EnabledRows → Names → List ℕ
+metadata_text uuid form e names = types_text ++ trace_text uuid ++ clock_text form ++ stream_text form
+    ++ flat_map (event_text form e names) (range_with_len 0 (length e.rows))

@@ -1,0 +1,117 @@
+-- Which names events and fields may have, and which of them is the first that they may not.
+use Rattle.std.specs.Prelude.{ℕ, ◌+◌, ◌==◌, not, nat_le, nat_lt, Bool, true, false, ◌&&◌, ◌||◌, List, []}
+use Rattle.std.specs.Prelude.{◌∷◌, length, map, take, slice_get, slice_index_or, codes, Option, Some, None, option_and_then, if◌then◌else◌}
+use Rattle.std.specs.Option.{option_map}
+use Rattle.std.specs.List.{list_any, list_all, range_with_len}
+use Rattle.std.specs.Str.{bytes_eq}
+use Rattle.dspec_record.specs.EnablingRows.{EnabledRows}
+use Rattle.dspec_record.specs.declared.header.Header.{Header}
+use Rattle.dspec_record.specs.declared.header.Header.TheVariants as header
+use Rattle.dspec_record.specs.declared.field.Field.{Field}
+use Rattle.dspec_ctf.specs.Packets.{enabled_fields}
+use Rattle.dspec_ctf.specs.declared.form.Form.{Form}
+use Rattle.dspec_ctf.specs.declared.form.Form.TheVariants.{AsTaken, ByTime}
+use Rattle.dspec_ctf.specs.declared.names.EventNames.{EventNames}
+use Rattle.dspec_ctf.specs.declared.names.Names.{Names}
+use Rattle.dspec_ctf.specs.declared.names.Names.TheVariants.{Numbered, Given}
+use Rattle.dspec_ctf.specs.declared.fault.NameKind.{NameKind}
+use Rattle.dspec_ctf.specs.declared.fault.NameKind.TheVariants.{TooLong, NotAnIdentifier, Reserved, Repeated}
+use Rattle.dspec_ctf.specs.declared.fault.MetadataFault.{MetadataFault}
+use Rattle.dspec_ctf.specs.declared.fault.MetadataFault.TheVariants.{NoStamp, NoFrequency, Name}
+use Rattle.dspec_ctf.specs.declared.fault.NameFault.{NameFault}
+use Rattle.dspec_ctf.specs.declared.fault.NameFault.TheVariants.{EventCount, Event, FieldCount, Field as FieldName}
+
+-- an English letter or the underscore
+unfoldable pub is_letter : ℕ → Bool
+is_letter b = (nat_le 65 b && nat_le b 90) || ((nat_le 97 b && nat_le b 122) || b == 95)
+
+-- one of these, or a digit
+unfoldable pub is_word_byte : ℕ → Bool
+is_word_byte b = is_letter b || (nat_le 48 b && nat_le b 57)
+
+unfoldable pub begins_well : List ℕ → Bool
+begins_well [] = false
+begins_well (b ∷ bs) = is_letter b
+
+abbrev pub is_identifier : List ℕ → Bool
+is_identifier name = begins_well name && list_all is_word_byte name
+
+-- the words that the language keeps for itself
+unfoldable pub reserved_words : List (List ℕ)
+reserved_words =
+    codes "align" ∷ codes "callsite" ∷ codes "const" ∷ codes "char" ∷ codes "clock" ∷ codes "double" ∷ codes "enum"
+    ∷ codes "env" ∷ codes "event" ∷ codes "floating_point" ∷ codes "float" ∷ codes "integer" ∷ codes "int" ∷ codes "long"
+    ∷ codes "short" ∷ codes "signed" ∷ codes "stream" ∷ codes "string" ∷ codes "struct" ∷ codes "trace"
+    ∷ codes "typealias" ∷ codes "typedef" ∷ codes "unsigned" ∷ codes "variant" ∷ codes "void" ∷ codes "_Bool"
+    ∷ codes "_Complex" ∷ codes "_Imaginary" ∷ []
+
+-- why a word is no name, if it isn't
+unfoldable pub unfit : List ℕ → Option NameKind
+unfit name =
+    if nat_lt 255 (length name) then Some TooLong
+    else if not (is_identifier name) then Some NotAnIdentifier
+    else if list_any (bytes_eq name) reserved_words then Some Reserved
+    else None
+
+-- the first that there is
+abbrev pub earlier : {A : Type 0} → Option A → Option A → Option A
+earlier (Some x) later = Some x
+earlier None later = later
+
+-- what the first place has for which there is something
+abbrev pub first_found : {A : Type 0} → (ℕ → Option A) → List ℕ → Option A
+first_found f [] = None
+first_found f (place ∷ places) = earlier (f place) (first_found f places)
+
+-- why a name can't stand behind these; `stamp` may be taken
+unfoldable pub bad_name : Bool → List (List ℕ) → List ℕ → Option NameKind
+bad_name stamped before name =
+    earlier (unfit name)
+    (if (stamped && bytes_eq name (codes "stamp")) || list_any (bytes_eq name) before then Some Repeated else None)
+
+-- the first place with a bad name
+unfoldable pub bad_at : Bool → List (List ℕ) → ℕ → Option (ℕ × NameKind)
+bad_at stamped names place =
+    option_map (λ kind. (place, kind)) (bad_name stamped (take place names) (slice_index_or names place []))
+
+unfoldable pub first_bad : Bool → List (List ℕ) → Option (ℕ × NameKind)
+first_bad stamped names = first_found (bad_at stamped names) (range_with_len 0 (length names))
+
+-- each event has a field `stamp` as taken, where records have a stamp
+abbrev pub has_stamp : Form → Header → Bool
+has_stamp AsTaken header.Two = true
+has_stamp _ _ = false
+
+-- what is wrong with the names of the fields of an event
+unfoldable pub fields_fault : Bool → ℕ → List (List ℕ) → List Field → Option NameFault
+fields_fault stamped epid names fs =
+    if length names == length fs then option_map (λ bad. FieldName epid bad.0 bad.1) (first_bad stamped names)
+    else Some (FieldCount epid)
+
+-- the same of the event at a place
+unfoldable pub fault_at : Bool → EnabledRows → List EventNames → ℕ → Option NameFault
+fault_at stamped e given place =
+    option_and_then (λ n. fields_fault stamped (place + 1) (map (λ name. name.now) n.fields.now) (enabled_fields e (place + 1))) (slice_get given place)
+
+-- what is wrong with the names of the events, one for each enabling
+unfoldable pub events_fault : List (List ℕ) → Option NameFault
+events_fault names = option_map (λ bad. Event (bad.0 + 1) bad.1) (first_bad false names)
+
+-- the first thing that is wrong with names for these enablings; nothing where they are numbered
+unfoldable pub names_fault : Form → EnabledRows → Names → Option NameFault
+names_fault form e Numbered = None
+names_fault form e (Given given) =
+    if length given.now == length e.rows
+    then earlier (events_fault (map (λ n. n.event.now) given.now))
+    (first_found (fault_at (has_stamp form e.header) e given.now) (range_with_len 0 (length e.rows)))
+    else Some EventCount
+
+-- by time each record has a stamp, and the clock ticks
+unfoldable pub form_fault : Form → Header → Option MetadataFault
+form_fault AsTaken _ = None
+form_fault (ByTime frequency) header.One = Some NoStamp
+form_fault (ByTime frequency) header.Two = if frequency == 0 then Some NoFrequency else None
+
+-- why a trace has no metadata
+unfoldable pub metadata_fault : Form → EnabledRows → Names → Option MetadataFault
+metadata_fault form e names = earlier (form_fault form e.header) (option_map (λ fault. Name fault) (names_fault form e names))

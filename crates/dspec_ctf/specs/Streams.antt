@@ -1,0 +1,35 @@
+-- Which packet is that of a batch, and why there is none.
+use Rattle.std.specs.Prelude.{◌≡◌, ◌≤◌, ◌+◌, ◌^◌, ℕ, IsTrue, List, length}
+use Rattle.dspec_record.specs.Record.{Record}
+use Rattle.dspec_record.specs.EnablingRows.{EnabledRows}
+use Rattle.dspec_record.specs.Schemas.{enabled, table_shape, table_accepts, table_text}
+use Rattle.dspec_buffer.specs.BufferText.{BufferText}
+use Rattle.dspec_buffer.specs.Faults.{StopsAt}
+use Rattle.dspec_ctf.specs.Packets.{events, packet}
+use Rattle.dspec_ctf.specs.declared.stream.PacketFault.{PacketFault}
+use Rattle.dspec_ctf.specs.declared.stream.PacketFault.TheVariants.{Text, Missed, TooLong, Memory}
+
+module _ (e : EnabledRows) where
+  -- these enablings take the record
+  abbrev pub Accepts : Record → Type 0
+  Accepts r = IsTrue (table_accepts e.header (enabled e.rows) r)
+
+  -- the bytes are the text of these records, by these enablings
+  abbrev pub IsText : List ℕ → List Record → Type 0
+  IsText text rs =
+      BufferText (table_shape e.header (enabled e.rows)) (table_accepts e.header (enabled e.rows)) (table_text e.header (enabled e.rows)) 0 text rs
+
+  -- the bytes are the packet of the records of this text
+  pub record IsPacketOf (uuid : List ℕ) (missed cpu : ℕ) (text bytes : List ℕ) : Type 0 where
+    pub read : List Record
+    pub is_text : IsText text read
+    pub bytes_are : bytes ≡ packet uuid e missed cpu read
+
+  -- Why a text has no packet, where so many events were missed before it and so many more with it. Its bytes aren't
+  -- a text, or a number of the packet goes past 64 bits.
+  abbrev pub HasNoPacket : ℕ → ℕ → List ℕ → PacketFault → Type 0
+  HasNoPacket missed drops text (Text fault) =
+      StopsAt (table_shape e.header (enabled e.rows)) (table_accepts e.header (enabled e.rows)) (table_text e.header (enabled e.rows)) text fault
+  HasNoPacket missed drops text Missed = 2 ^ 64 ≤ missed + drops
+  HasNoPacket missed drops text TooLong = (rs : List Record) × (IsText text rs × (2 ^ 60 ≤ length (events e rs)))
+  HasNoPacket missed drops text Memory = Unit

@@ -1,0 +1,22 @@
+//! Traces in the Common Trace Format, version 1.8, which other tools open.
+//!
+//! What the bytes of an event and of a packet are stands in `specs/Packets.antt`, which packet is that of a batch in
+//! `specs/Streams.antt`, which packets are those of a CPU by time in `specs/ByTime.antt`, which names there may be in `specs/Names.antt`.
+#![tactic(auto)]
+
+pub mod by_time;
+mod checking;
+pub mod fault;
+pub mod form;
+pub mod laws;
+pub mod names;
+mod packet;
+mod printing;
+pub mod stream;
+
+pub use by_time::TimeFault;
+pub use fault::{MetadataFault, NameFault, NameKind};
+pub use form::Form;
+pub use names::{EventNames, Names};
+pub use printing::metadata;
+pub use stream::{PacketFault, Stream};

@@ -1,0 +1,23 @@
+use dspec_record::{Enablings, Field, SchemaFault};
+use std::fmt::Debug;
+use std::process::Abort;
+
+/// Asserts that what was found is what is wanted. The one `assert_eq!` of the crate: a test that has many takes long to
+/// prove.
+pub fn same<T: PartialEq + Debug + Drop>(rt: &impl Abort, found: T, wanted: T) {
+    assert_eq!(rt; found, wanted);
+}
+
+/// The uuid of all traces here.
+pub const UUID: [u8; 16] = [
+    0, 17, 34, 51, 68, 85, 102, 119, 136, 153, 170, 187, 204, 221, 238, 255,
+];
+
+/// The enablings 1 none, 2 [8], 3 [1, 2].
+pub fn three_enablings() -> Result<Enablings, SchemaFault> {
+    let mut enablings = Enablings::new();
+    enablings.enable(&[])?;
+    enablings.enable(&[Field::Eight])?;
+    enablings.enable(&[Field::One, Field::Two])?;
+    Ok(enablings)
+}
