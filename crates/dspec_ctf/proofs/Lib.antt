@@ -4,3 +4,4 @@ mod Sizes
 mod Collecting
 mod OneList
 mod OneStream
+mod Sample

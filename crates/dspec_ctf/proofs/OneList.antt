@@ -16,7 +16,7 @@ use Rattle.dspec_record.specs.declared.field.Field.{Field}
 use Rattle.dspec_record.specs.declared.field.Field.TheVariants.{Four, Eight}
 use Rattle.dspec_record.specs.declared.header.Header.{Header}
 use Rattle.dspec_record.specs.declared.header.Header.TheVariants as header
-use Rattle.dspec_ctf.specs.Packets.{stamp_bytes, values_bytes, event, events, enabled_fields, header_bytes, span_bytes, context_bytes, front_bytes, packet}
+use Rattle.dspec_ctf.specs.Packets.{stamp_bytes, values_bytes, event, events, event_fields, header_bytes, span_bytes, context_bytes, front_bytes, packet}
 use Rattle.dspec_ctf.specs.Streams.{Accepts}
 
 -- the values of a record that is accepted fit the fields that its EPID has
@@ -60,20 +60,20 @@ event-same e q r x y of_q of_r is =
     let h : Header = e.header in
     let parts_q : IsAccepted h q (enabled e.rows q.epid) = accepted-parts h (enabled e.rows) q of_q in
     let parts_r : IsAccepted h r (enabled e.rows r.epid) = accepted-parts h (enabled e.rows) r of_r in
-    let split : (p : Record) (z : List ℕ) → event e p ++ z ≡ little_endian 4 p.epid ++ (stamp_bytes h p.stamp ++ (values_bytes (enabled_fields e p.epid) p.values ++ z)) =
-    λ p z. append_assoc (little_endian 4 p.epid) (stamp_bytes h p.stamp ++ values_bytes (enabled_fields e p.epid) p.values) z
-    ∙ ap (λ more. little_endian 4 p.epid ++ more) (append_assoc (stamp_bytes h p.stamp) (values_bytes (enabled_fields e p.epid) p.values) z) in
+    let split : (p : Record) (z : List ℕ) → event e p ++ z ≡ little_endian 4 p.epid ++ (stamp_bytes h p.stamp ++ (values_bytes (event_fields e p.epid) p.values ++ z)) =
+    λ p z. append_assoc (little_endian 4 p.epid) (stamp_bytes h p.stamp ++ values_bytes (event_fields e p.epid) p.values) z
+    ∙ ap (λ more. little_endian 4 p.epid ++ more) (append_assoc (stamp_bytes h p.stamp) (values_bytes (event_fields e p.epid) p.values) z) in
     let first = append-same (little_endian 4 q.epid) (little_endian 4 r.epid)
-    (stamp_bytes h q.stamp ++ (values_bytes (enabled_fields e q.epid) q.values ++ x)) (stamp_bytes h r.stamp ++ (values_bytes (enabled_fields e r.epid) r.values ++ y)) refl
+    (stamp_bytes h q.stamp ++ (values_bytes (event_fields e q.epid) q.values ++ x)) (stamp_bytes h r.stamp ++ (values_bytes (event_fields e r.epid) r.values ++ y)) refl
     (sym (split q x) ∙ is ∙ split r y) in
     let epid : q.epid ≡ r.epid = little_endian-same Four q.epid r.epid (ltb-true q.epid (2 ^ 32) parts_q.epid) (ltb-true r.epid (2 ^ 32) parts_r.epid) first.0 in
-    let second = stamps-same h q.stamp r.stamp (values_bytes (enabled_fields e q.epid) q.values ++ x) (values_bytes (enabled_fields e r.epid) r.values ++ y)
+    let second = stamps-same h q.stamp r.stamp (values_bytes (event_fields e q.epid) q.values ++ x) (values_bytes (event_fields e r.epid) r.values ++ y)
     parts_q.stamp parts_r.stamp first.1 in
-    let fit_q : IsTrue (fits (enabled_fields e q.epid) q.values) = values-fit (enabling_of e.rows q.epid) q.values parts_q.values in
-    let fit_r : IsTrue (fits (enabled_fields e r.epid) r.values) = values-fit (enabling_of e.rows r.epid) r.values parts_r.values in
-    let Fit : ℕ → Type 0 = λ n. IsTrue (fits (enabled_fields e n) q.values) in
-    let Same : ℕ → Type 0 = λ n. values_bytes (enabled_fields e n) q.values ++ x ≡ values_bytes (enabled_fields e r.epid) r.values ++ y in
-    let third = values-same (enabled_fields e r.epid) q.values r.values x y (subst Fit epid fit_q) fit_r (subst Same epid second.1) in
+    let fit_q : IsTrue (fits (event_fields e q.epid) q.values) = values-fit (enabling_of e.rows q.epid) q.values parts_q.values in
+    let fit_r : IsTrue (fits (event_fields e r.epid) r.values) = values-fit (enabling_of e.rows r.epid) r.values parts_r.values in
+    let Fit : ℕ → Type 0 = λ n. IsTrue (fits (event_fields e n) q.values) in
+    let Same : ℕ → Type 0 = λ n. values_bytes (event_fields e n) q.values ++ x ≡ values_bytes (event_fields e r.epid) r.values ++ y in
+    let third = values-same (event_fields e r.epid) q.values r.values x y (subst Fit epid fit_q) fit_r (subst Same epid second.1) in
     ((λ i. record { epid = epid i; stamp = second.0 i; values = third.0 i }), third.1)
 
 pub events-same : (e : EnabledRows) (rs qs : List Record) → All (Accepts e) rs → All (Accepts e) qs → events e rs ≡ events e qs → rs ≡ qs

@@ -9,7 +9,7 @@ use Rattle.dspec_record.specs.declared.field.Field.{Field}
 use Rattle.dspec_record.specs.declared.field.Field.TheVariants.{One, Two, Four, Eight}
 use Rattle.dspec_record.specs.declared.header.Header.{Header}
 use Rattle.dspec_record.specs.declared.header.Header.TheVariants as header
-use Rattle.dspec_ctf.specs.Packets.{stamp_bytes, values_bytes, event, enabled_fields}
+use Rattle.dspec_ctf.specs.Packets.{stamp_bytes, values_bytes, event, event_fields}
 
 low-first : (i n x : ℕ) → length (bytes_low_first i n x) ≡ n
 low-first i zero x = refl
@@ -39,5 +39,5 @@ pub event_small : (e : EnabledRows) (r : Record) → length r.values ≤ 8 → l
 event_small e r few =
     let id : List ℕ = little_endian 4 r.epid in
     let stamp : List ℕ = stamp_bytes e.header r.stamp in
-    let values : List ℕ = values_bytes (enabled_fields e r.epid) r.values in
-    omega (arith, few, length-append id (stamp ++ values), length-append stamp values, length-little 4 r.epid, stamp-small e.header r.stamp, values-small (enabled_fields e r.epid) r.values)
+    let values : List ℕ = values_bytes (event_fields e r.epid) r.values in
+    omega (arith, few, length-append id (stamp ++ values), length-append stamp values, length-little 4 r.epid, stamp-small e.header r.stamp, values-small (event_fields e r.epid) r.values)

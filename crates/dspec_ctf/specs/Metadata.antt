@@ -8,7 +8,7 @@ use Rattle.dspec_record.specs.declared.field.Field.{Field}
 use Rattle.dspec_record.specs.declared.field.Field.TheVariants.{One, Two, Four, Eight}
 use Rattle.dspec_record.specs.declared.header.Header.{Header}
 use Rattle.dspec_record.specs.declared.header.Header.TheVariants as header
-use Rattle.dspec_ctf.specs.Packets.{enabled_fields}
+use Rattle.dspec_ctf.specs.Packets.{event_fields}
 use Rattle.dspec_ctf.specs.declared.names.Names.{Names}
 use Rattle.dspec_ctf.specs.declared.names.Names.TheVariants.{Numbered, Given}
 use Rattle.dspec_ctf.specs.declared.form.Form.{Form}
@@ -110,7 +110,7 @@ event_front names place = event_number (place + 1) ++ event_name names place ++ 
 -- an event
 unfoldable pub event_text : Form → EnabledRows → Names → ℕ → List ℕ
 event_text form e names place = event_front names place ++ stamp_line form e.header
-    ++ field_lines names place (enabled_fields e (place + 1)) ++ codes "\t};\n};\n"
+    ++ field_lines names place (event_fields e (place + 1)) ++ codes "\t};\n};\n"
 
 -- the whole text
 unfoldable pub metadata_text : List ℕ → Form → EnabledRows → Names → List ℕ

@@ -8,7 +8,7 @@ use Rattle.dspec_record.specs.EnablingRows.{EnabledRows}
 use Rattle.dspec_record.specs.declared.header.Header.{Header}
 use Rattle.dspec_record.specs.declared.header.Header.TheVariants as header
 use Rattle.dspec_record.specs.declared.field.Field.{Field}
-use Rattle.dspec_ctf.specs.Packets.{enabled_fields}
+use Rattle.dspec_ctf.specs.Packets.{event_fields}
 use Rattle.dspec_ctf.specs.declared.form.Form.{Form}
 use Rattle.dspec_ctf.specs.declared.form.Form.TheVariants.{AsTaken, ByTime}
 use Rattle.dspec_ctf.specs.declared.names.EventNames.{EventNames}
@@ -91,7 +91,7 @@ fields_fault stamped epid names fs =
 -- the same of the event at a place
 unfoldable pub fault_at : Bool → EnabledRows → List EventNames → ℕ → Option NameFault
 fault_at stamped e given place =
-    option_and_then (λ n. fields_fault stamped (place + 1) (map (λ name. name.now) n.fields.now) (enabled_fields e (place + 1))) (slice_get given place)
+    option_and_then (λ n. fields_fault stamped (place + 1) (map (λ name. name.now) n.fields.now) (event_fields e (place + 1))) (slice_get given place)
 
 -- what is wrong with the names of the events, one for each enabling
 unfoldable pub events_fault : List (List ℕ) → Option NameFault

@@ -11,8 +11,8 @@ use Rattle.dspec_record.specs.declared.header.Header.{Header}
 use Rattle.dspec_record.specs.declared.header.Header.TheVariants as header
 
 -- the fields of the records with this EPID
-abbrev pub enabled_fields : EnabledRows → ℕ → List Field
-enabled_fields e epid = unwrap_or (enabling_of e.rows epid) []
+abbrev pub event_fields : EnabledRows → ℕ → List Field
+event_fields e epid = unwrap_or (enabling_of e.rows epid) []
 
 -- a stamp, where records have one
 abbrev pub stamp_bytes : Header → ℕ → List ℕ
@@ -25,7 +25,7 @@ values_bytes fs vs = flat_map (λ p. little_endian (width p.0) p.1) (zip fs vs)
 
 -- a record as an event: the EPID, the stamp, the values
 abbrev pub event : EnabledRows → Record → List ℕ
-event e r = little_endian 4 r.epid ++ (stamp_bytes e.header r.stamp ++ values_bytes (enabled_fields e r.epid) r.values)
+event e r = little_endian 4 r.epid ++ (stamp_bytes e.header r.stamp ++ values_bytes (event_fields e r.epid) r.values)
 
 abbrev pub events : EnabledRows → List Record → List ℕ
 events e rs = flat_map (event e) rs

@@ -1,7 +1,7 @@
 ghost use Rattle.std.specs.Prelude.{◌≡◌, ◌<◌, ◌+◌, ◌^◌, ◌++◌, false, ◌⊎◌, length, map, Some, None, IfOk, IfErr, OnOk, string_bytes};
 ghost use Rattle.std.specs.Fmt.{digit_glyph};
 ghost use Rattle.dspec_ctf.specs.Metadata.{hex_byte, hex, hyphened, uuid_text, types_text, trace_front, trace_back, trace_text, clock_text, stream_text, type_name, numbered_lines, given_lines, stamp_line, event_name, field_lines, event_number, event_front, event_text, metadata_text};
-ghost use Rattle.dspec_ctf.specs.Packets.{enabled_fields};
+ghost use Rattle.dspec_ctf.specs.Packets.{event_fields};
 ghost use Rattle.dspec_ctf.specs.Names.{form_fault, metadata_fault};
 ghost use Rattle.dspec_ctf.specs.declared.fault.MetadataFault.TheVariants.{Memory};
 ghost use Rattle.std.specs.List.{flat_map, range_with_len};
@@ -220,7 +220,7 @@ fn print_front(text: &mut String, names: &Names<'_>, place: u32) -> Result<(), A
 
 /// The fields of the records with this EPID; none where it isn't enabled.
 pub(crate) fn fields_at(enablings: &Enablings, epid: u32) -> &[Field]
-    ensures { result.now ≡ enabled_fields enablings.now epid }
+    ensures { result.now ≡ event_fields enablings.now epid }
 {
     match enablings.fields(epid) {
         Some(fields) => fields,
