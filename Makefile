@@ -7,7 +7,7 @@ ROUNDS = 50
 COUNT = 100000
 SEED = 1
 
-.PHONY: no_goal check play test examples api edits mutants rows soak fuzz build bench bench-instructions build-bench
+.PHONY: no_goal check play test examples ctf-check api edits mutants rows soak fuzz build bench bench-instructions build-bench
 
 # Plays one schedule, or several (SCHEDULES="a b"), at once: with the proved program where it is built, else with the trial build of the
 # same sources.
@@ -29,6 +29,10 @@ test:
 # The corpus alone, over the built program.
 examples: build
 	@examples/check $(PROGRAM)
+
+# The traces of examples/ctf, over the built `specview`, as babeltrace2 reads them: it has to be installed (Debian's package).
+ctf-check:
+	@sh .ci/ctf reader
 
 # The list of public calls, docs/API.md, made from the sources; the gate compares it.
 api:

@@ -93,6 +93,7 @@ impl fmt::Debug for ByteBuffer {
 impl<S: Schema> TraceBuffer<S> for ByteBuffer {
     ghost use Rattle.std.proofs.Common.{refl, inl};
     ghost use Rattle.dspec_buffer.specs.Stored.{HasPieces, HasAhead};
+    ghost use Rattle.dspec_buffer.specs.Laws.Emptiness.{stored_too};
     ghost use Rattle.dspec_buffer.specs.Walking.{IsAhead};
 
     ghost capacity = { λ b. b.size };
@@ -104,6 +105,8 @@ impl<S: Schema> TraceBuffer<S> for ByteBuffer {
         (HasAhead (S.shape_of s) (S.accepted s) (S.text s) b.text) place rs };
 
     ghost begins = { λ b s ps h. inl (ps, (h, refl, refl)) };
+
+    ghost takes_nothing = { λ b s ps h. stored_too (S.shape_of s) (S.accepted s) (S.text s) b ps h };
 
     fn make(alloc: Global, size: u32) -> Result<Self, AllocError> {
         Ok(ByteBuffer {

@@ -44,6 +44,7 @@ impl fmt::Debug for ListBuffer {
 
 impl<S: Schema> TraceBuffer<S> for ListBuffer {
     ghost use Rattle.dspec_buffer.specs.Listed.{HasListed, HasTexts};
+    ghost use Rattle.dspec_buffer.specs.Laws.Emptiness.{listed_too};
     ghost use Rattle.dspec_buffer.specs.Laws.Listed.{has_texts};
 
     ghost capacity = { λ b. b.size };
@@ -53,6 +54,8 @@ impl<S: Schema> TraceBuffer<S> for ListBuffer {
     ghost has_ahead = { λ b s place rs. HasTexts (S.accepted s) (S.text s) b.texts place rs };
 
     ghost begins = { λ b s ps h. has_texts (S.shape_of s) (S.accepted s) (S.text s) b ps h };
+
+    ghost takes_nothing = { λ b s ps h. listed_too (S.shape_of s) (S.accepted s) (S.text s) b ps h };
 
     fn make(alloc: Global, size: u32) -> Result<Self, AllocError> {
         // room that is taken and not written takes no memory of the machine until records come

@@ -79,4 +79,7 @@ pub trait TraceBuffer<S: Schema>: Drop {
 
     /// A walk that begins has all records before it.
     ghost begins: { (b : Self) (s : S) (ps : List Piece) → has b s ps → has_ahead b s 0 (reverse (records ps)) };
+
+    /// An empty block is in front wherever a buffer has pieces: it takes no bytes.
+    ghost takes_nothing: { (b : Self) (s : S) (ps : List Piece) → has b s ps → has b s (block [] ∷ ps) };
 }

@@ -4,7 +4,8 @@
 
 ghost use Rattle.std.specs.Prelude.{◌≡◌, None, Some, length, true, IfErr, IfOk, OnErr};
 ghost use Rattle.dspec_play.specs.Calls.{record_passes};
-ghost use Rattle.dspec_cpu.specs.Lists.{IsSameCpu, schema_of, words_of};
+ghost use Rattle.dspec_cpu.specs.Lists.{schema_of, words_of};
+ghost use Rattle.dspec_cpu.specs.Standing.{Belongs, identity};
 ghost use Rattle.dspec_session.specs.Sessions.{IsSession};
 ghost use Rattle.dspec_calls.specs.Called.{Calls, IsCalled, uncalled};
 
@@ -35,11 +36,10 @@ pub fn is_accepted<S: Schema>(schema: &S, op: &CpuOp) -> bool
 
 /// A call of a CPU, whose record the schema accepts.
 pub fn call_cpu<S: Schema>(shared: &Shared, schema: &S, cpu: &mut Cpu<S>, op: &CpuOp) -> Answer
-    requires ready { ⟦<Cpu<S> as Listed>⟧.is_ready (words_of shared.now) cpu.old }
+    requires of { Belongs (words_of shared.now) (identity cpu.old) }
     requires schema { schema_of cpu.old ≡ schema.now }
     requires accepted { record_passes (S.accepted schema.now) op.now ≡ true }
-    ensures ready { ⟦<Cpu<S> as Listed>⟧.is_ready (words_of shared.now) cpu.new }
-    ensures same { IsSameCpu cpu.old cpu.new }
+    ensures same { identity cpu.new ≡ identity cpu.old }
     ensures calls { Calls ⟦<Cpu<S> as Listed>⟧.has_list op.now result cpu.old cpu.new }
 {
     match op {
@@ -60,8 +60,8 @@ pub fn run_cpu<S: Schema>(
     cpu: u32,
     op: CpuOp,
 ) -> Result<Answer, Uncalled>
-    requires session { IsSession ⟦<Cpu<S> as Listed>⟧.is_ready schema.now session.old }
-    ensures session { IsSession ⟦<Cpu<S> as Listed>⟧.is_ready schema.now session.new }
+    requires session { IsSession schema.now session.old }
+    ensures session { IsSession schema.now session.new }
     ensures allowed { IfOk result (λ _. uncalled (S.accepted schema.now) (length session.old.cpus.items) cpu op ≡ None) }
     ensures called { IfOk result (λ answer. IsCalled ⟦<Cpu<S> as Listed>⟧.has_list cpu op answer session.old session.new) }
     ensures refused { IfErr result (λ why. uncalled (S.accepted schema.now) (length session.old.cpus.items) cpu op ≡ Some why) }
@@ -79,8 +79,8 @@ pub fn run_cpu<S: Schema>(
 
 /// The consumer meets each CPU of a session, CPU 0 first: then each has seen what any other did before.
 pub fn meet_all<S: Schema>(session: &mut Session<S>, _schema: &S)
-    requires session { IsSession ⟦<Cpu<S> as Listed>⟧.is_ready _schema.now session.old }
-    ensures session { IsSession ⟦<Cpu<S> as Listed>⟧.is_ready _schema.now session.new }
+    requires session { IsSession _schema.now session.old }
+    ensures session { IsSession _schema.now session.new }
     ensures cpus { length session.new.cpus.items ≡ length session.old.cpus.items }
 {
     for place in 0..session.cpus.len() {

@@ -25,7 +25,6 @@ pub use Rattle.dspec_play.specs.Plays
 pub use Rattle.dspec_play.specs.Wearing
 pub use Rattle.dspec_play.specs.WholePlays
 pub use Rattle.dspec_play.specs.Promised
-pub use Rattle.dspec_machine.specs.Tallies
 pub use Rattle.dspec_deeds.specs.Marks
 pub use Rattle.dspec_deeds.specs.OwnShown
 pub use Rattle.dspec_deeds.specs.Owning

@@ -191,7 +191,7 @@ impl<S: Schema, B: TraceBuffer<S>> World<S, B> {
         ensures { result ≡ is_idle actor self.now.state }
     {
         match actor {
-            Actor::Cpu(cpu) => self.machine.sides[cpu as usize].caller.flight.is_none(),
+            Actor::Cpu(cpu) => self.machine.cpus[cpu as usize].caller.flight.is_none(),
             Actor::Consumer => self.machine.consumer.flight.is_none(),
         }
     }
@@ -204,7 +204,7 @@ impl<S: Schema, B: TraceBuffer<S>> World<S, B> {
     {
         match actor {
             Actor::Cpu(cpu) => {
-                let flight = self.machine.sides[cpu as usize].caller.flight;
+                let flight = self.machine.cpus[cpu as usize].caller.flight;
                 let Some(flight) = flight else { unreachable!() };
                 Op::Cpu(flight.op())
             }
@@ -224,7 +224,7 @@ impl<S: Schema, B: TraceBuffer<S>> World<S, B> {
         ensures bounded { result < steps_limit actor self.now.state }
     {
         match actor {
-            Actor::Cpu(cpu) => self.machine.sides[cpu as usize].caller.steps,
+            Actor::Cpu(cpu) => self.machine.cpus[cpu as usize].caller.steps,
             Actor::Consumer => self.machine.consumer.steps,
         }
     }
@@ -242,7 +242,7 @@ impl<S: Schema, B: TraceBuffer<S>> World<S, B> {
         requires { cpu < self.now.state.config.cpus }
         ensures { result.now ≡ stream cpu self.now.state.deeds }
     {
-        self.machine.sides[cpu as usize].accepted.as_slice()
+        self.machine.cpus[cpu as usize].accepted.as_slice()
     }
 
     /// What the consumer has taken from the CPU so far, in order. Condition: the CPU exists.
@@ -250,7 +250,7 @@ impl<S: Schema, B: TraceBuffer<S>> World<S, B> {
         requires { cpu < self.now.state.config.cpus }
         ensures { result.now ≡ taken (the_caller self.now.state.callers cpu).takes cpu self.now.state.deeds }
     {
-        self.machine.sides[cpu as usize].taken.as_slice()
+        self.machine.cpus[cpu as usize].taken.as_slice()
     }
 
     /// The CPU's counts so far. It takes one pass over the deeds. Condition: the CPU exists.

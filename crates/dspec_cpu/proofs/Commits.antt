@@ -1,11 +1,8 @@
 -- A call of commit that decided: the list, the deeds and the steps behind it.
-use Rattle.std.proofs.Common.{◌≡◌, ◌≢◌, ℕ, ◌+◌, ◌-◌, ◌==◌, ◌≤◌, Bool, true, false, List, [], ◌∷◌, ◌++◌, length, map, Option, Some, if◌then◌else◌, refl, sym, ap, ◌∙◌, subst, inl, arith, true≢false}
-use Rattle.std.specs.Prelude.{slice_get, slice_set}
-use Rattle.std.specs.Global.{Vec}
+use Rattle.std.proofs.Common.{◌≡◌, ◌≢◌, ℕ, ◌+◌, ◌≤◌, Bool, true, false, List, [], ◌∷◌, ◌++◌, length, Option, if◌then◌else◌, refl, sym, ap, ◌∙◌, subst, inl, arith, true≢false}
 use Rattle.dspec_record.specs.Record.{Record}
 use Rattle.dspec_record.specs.declared.field.Shape.{Shape}
 use Rattle.dspec_buffer.specs.Extent as extent
-use Rattle.dspec_buffer.specs.Extent.{Piece, piece_fits}
 use Rattle.dspec_buffer.specs.Stored.{Stored, HasPieces}
 use Rattle.dspec_word.specs.SpecId.{Speculation}
 use Rattle.dspec_word.specs.Word.{SlotState}
@@ -15,28 +12,26 @@ use Rattle.dspec_deeds.specs.declared.calls.Decided.{Decided}
 use Rattle.dspec_deeds.specs.declared.deed.DecideFate.{DecideFate}
 use Rattle.dspec_deeds.specs.declared.deed.Deed.{Deed}
 use Rattle.dspec_deeds.specs.declared.deed.Deed.TheVariants.{Commit, Release}
-use Rattle.dspec_deeds.specs.Legal.{fits_principal}
-use Rattle.dspec_deeds.specs.Marks.{mark}
+use Rattle.dspec_deeds.specs.FateKinds.{is_commit}
+use Rattle.dspec_deeds.specs.Legal.{OwnAllows, fits_principal}
 use Rattle.dspec_deeds.specs.Own.{contents, held}
-use Rattle.dspec_deeds.proofs.TestLemmas.{same_number}
+use Rattle.dspec_deeds.proofs.TestLemmas.{number_is_itself}
 use Rattle.dspec_table.specs.declared.rule.View.{View}
 use Rattle.dspec_table.specs.declared.seats.Words.{Words}
 use Rattle.dspec_table.specs.declared.seats.CpuSeat.{CpuSeat}
 use Rattle.dspec_table.specs.Seats.{known}
 use Rattle.dspec_table.specs.Steps.{ReleasedWord}
-use Rattle.dspec_cpu.specs.declared.cpu.Cpu.{Cpu}
-use Rattle.dspec_cpu.specs.declared.counts.Counts.{Counts}
+use Rattle.dspec_side.specs.declared.side.Side.{Side}
+use Rattle.dspec_side.specs.Sides.{IsCaller, ShowsList, committed_fate}
+use Rattle.dspec_cpu.specs.declared.parts.CpuParts.{CpuParts as Cpu}
 use Rattle.dspec_cpu.specs.declared.reaching.Reach.TheVariants as reach
 use Rattle.dspec_cpu.specs.Calls.{Goes, steps, Decides, decided_deeds}
-use Rattle.dspec_cpu.specs.Counting.{with_decided}
 use Rattle.dspec_cpu.specs.Lists.{HasList, IsReady, IsShown}
 use Rattle.dspec_cpu.specs.Reached.{Reached, Stands}
 use Rattle.dspec_cpu.specs.Reaching.{OwnsCommit, is_committing, releases_next}
-use Rattle.dspec_cpu.proofs.Copies.{commit_shown}
-use Rattle.dspec_cpu.proofs.Decisions.{committing, block_fate, block_answer, block_deeds, fate_commits, fate_throws_none, fate_copied, fate_count, fate_drops, IsCommitWord, left_by_commit, waits_many}
-use Rattle.dspec_cpu.proofs.Reaches.{slot_inside}
-use Rattle.dspec_cpu.proofs.Ready.{few, holder, set_up_is, stands_behind}
-use Rattle.dspec_cpu.proofs.Speaks.{nothing_held}
+use Rattle.dspec_cpu.proofs.Decisions.{committing, block_answer, block_deeds, fate_commits, fate_copied, fate_count, IsCommitWord, left_by_commit, waits_many}
+use Rattle.dspec_cpu.proofs.Ready.{holder, set_up_is, stands_behind}
+use Rattle.dspec_cpu.proofs.Shown.{shows, shown_behind}
 
 module _ (shape : ℕ → Option Shape) (accepted : Record → Bool) (text : Record → List ℕ) {S : Type 0} (words : Words) (cpu : Cpu S)
     (ready : IsReady shape accepted text words cpu) (id : Speculation) (fit mine : Bool) (n : ℕ) (to : SlotState) (w : View)
@@ -45,40 +40,23 @@ module _ (shape : ℕ → Option Shape) (accepted : Record → Bool) (text : Rec
   v = known cpu.seat
 
   abbrev f : DecideFate
-  f = block_fate fit n
-
-  pub slots : (1 ≤ id.slot) × (id.slot ≤ cpu.config.nspec)
-  slots = slot_inside cpu.config id (got.present refl).1
+  f = committed_fate fit n
 
   pub left : IsCommitWord id.issue to
   left = let a = got.acts refl in left_by_commit id mine a.0 to a.1
 
-  abbrev EmptiedAt : ℕ → List Stored → Type 0
-  EmptiedAt place new = (b : Stored) → slice_get cpu.speculative.items place ≡ Some b
-      → (m : Stored) × (m.size ≡ b.size) × (new ≡ slice_set cpu.speculative.items place m)
-      × ((ps : List Piece) → HasPieces shape accepted text b ps → HasPieces shape accepted text m (if mine then [] else ps))
-
-  abbrev CopiedAt : ℕ → Stored → Type 0
-  CopiedAt place new = (ps : List Piece) (rs : List Record) (b : Stored) → slice_get cpu.speculative.items place ≡ Some b → HasPieces shape accepted text cpu.active ps
-      → HasPieces shape accepted text b (map extent.one rs)
-      → (fit ≡ true → piece_fits shape ps (extent.block (if mine then rs else [])) cpu.active.size ≡ true)
-      → HasPieces shape accepted text new (if fit then extent.block (if mine then rs else []) ∷ ps else ps)
-
-  -- what the call measured, of a list that the CPU has
-  pub record IsMeasured (p : List Deed) : Type 0 where
-    pub mine_is : mine ≡ (mark cpu.cpu id.slot p == id.issue + 1)
-    pub fitting : fit ≡ fits_principal shape cpu.config cpu.cpu (extent.block (if mine then contents (held cpu.cpu id p) else [])) p
-    pub counting : n ≡ length (if mine then contents (held cpu.cpu id p) else [])
-
-  pub block_shown : (p : List Deed) → HasList shape accepted text cpu p → IsMeasured p → (place : ℕ) → place ≡ id.slot - 1 → (seat : CpuSeat) (new : Vec Stored)
-      → EmptiedAt place new.items → (kept : Stored) → kept.size ≡ cpu.active.size → CopiedAt place kept
-      → (drops : ℕ) → drops ≡ cpu.drops + (if fit then 0 else 1) → (counts : Counts) → counts ≡ with_decided f cpu.counts
-      → IsShown shape accepted text (record cpu { seat = seat; speculative = new; active = kept; calls = cpu.calls + 1; drops = drops; counts = counts }) (Commit cpu.cpu id f ∷ p)
-  block_shown p had m place at seat new emptied kept size has drops drops_is counts plus =
-      commit_shown shape accepted text p had.shown id mine fit n slots.0 slots.1 (λ t. same_number (mark cpu.cpu id.slot p) (id.issue + 1) (sym m.mine_is ∙ t))
-      (nothing_held cpu.config cpu.cpu id v.own p mine (few shape accepted text words cpu ready) (got.present refl).0 had.own m.mine_is)
-      m.counting f (fate_copied fit n) counts plus (fate_commits fit n) (fate_throws_none fit n) (fate_count fit n) m.fitting
-      new.items (subst (λ i. EmptiedAt i new.items) at emptied) kept size (subst (λ i. CopiedAt i kept) at has) drops (drops_is ∙ ap (λ x. cpu.drops + x) (fate_drops fit n))
+  -- the block was copied or lost, as the call measured it
+  pub block_shown : (p : List Deed) → HasList shape accepted text cpu p → IsCaller cpu.cpu id mine p
+      → fit ≡ fits_principal shape cpu.config cpu.cpu (extent.block (contents (held cpu.cpu id p))) p → n ≡ length (held cpu.cpu id p) → (fate : DecideFate) → fate ≡ f → (now : Side Stored)
+      → (ShowsList (HasPieces shape accepted text) (λ b. b.size) cpu.config cpu.cpu p cpu.side → IsCaller cpu.cpu id mine p → is_commit fate ≡ true
+      → OwnAllows shape cpu.config p (Commit cpu.cpu id fate) → ShowsList (HasPieces shape accepted text) (λ b. b.size) cpu.config cpu.cpu (Commit cpu.cpu id fate ∷ p) now)
+      → (seat : CpuSeat) → IsShown shape accepted text (record cpu { seat = seat; side = now }) (Commit cpu.cpu id f ∷ p)
+  block_shown p had caller fitting counting fate is now shown seat =
+      let allows : OwnAllows shape cpu.config p (Commit cpu.cpu id f) = rw (fate_commits fit n) (fate_count fit n ∙ counting, fate_copied fit n ∙ fitting) in
+      let was = shown (shows shape accepted text cpu.side p had.shown) caller (ap is_commit is ∙ fate_commits fit n)
+      (subst (λ x. OwnAllows shape cpu.config p (Commit cpu.cpu id x)) (sym is) allows) in
+      shown_behind shape accepted text cpu.side p had.shown (Commit cpu.cpu id f) refl (number_is_itself cpu.cpu) allows now
+      (subst (λ x. ShowsList (HasPieces shape accepted text) (λ b. b.size) cpu.config cpu.cpu (Commit cpu.cpu id x ∷ p) now) is was)
 
   -- it released nothing
   pub decides_open : (a : Decided) → a ≡ block_answer fit n → (had has : List Deed → Type 0) → OwnsCommit cpu.config cpu.cpu id.slot w (Attempt to) → to.code ≢ Committing

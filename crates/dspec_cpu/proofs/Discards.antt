@@ -1,11 +1,7 @@
 -- A call of discard that decided: the list, the deeds and the steps behind it.
-use Rattle.std.proofs.Common.{◌≡◌, ℕ, ◌+◌, ◌-◌, ◌==◌, ◌≤◌, Bool, true, false, List, [], ◌∷◌, ◌++◌, length, map, Option, Some, None, if◌then◌else◌, refl, sym, ap, ◌∙◌, subst, arith, true≢false}
-use Rattle.std.specs.Prelude.{slice_get, slice_set}
-use Rattle.std.specs.Global.{Vec}
+use Rattle.std.proofs.Common.{◌≡◌, ℕ, ◌+◌, ◌==◌, ◌≤◌, Bool, true, false, List, ◌∷◌, ◌++◌, length, Option, None, refl, sym, ap, ◌∙◌, subst, arith, true≢false}
 use Rattle.dspec_record.specs.Record.{Record}
 use Rattle.dspec_record.specs.declared.field.Shape.{Shape}
-use Rattle.dspec_buffer.specs.Extent as extent
-use Rattle.dspec_buffer.specs.Extent.{Piece, piece_fits}
 use Rattle.dspec_buffer.specs.Stored.{Stored, HasPieces}
 use Rattle.dspec_word.specs.SpecId.{Speculation}
 use Rattle.dspec_word.specs.Word.{SlotState}
@@ -20,30 +16,28 @@ use Rattle.dspec_deeds.specs.declared.deed.DecideFate.TheVariants as fated
 use Rattle.dspec_deeds.specs.declared.deed.Deed.{Deed}
 use Rattle.dspec_deeds.specs.declared.deed.Deed.TheVariants.{Discard}
 use Rattle.dspec_deeds.specs.History.{scan}
-use Rattle.dspec_deeds.specs.Marks.{mark}
-use Rattle.dspec_deeds.specs.Own.{contents, held}
+use Rattle.dspec_deeds.specs.FateKinds.{is_discard}
+use Rattle.dspec_deeds.specs.Legal.{OwnAllows}
+use Rattle.dspec_deeds.specs.Own.{held}
 use Rattle.dspec_deeds.specs.Weaving.{bare}
-use Rattle.dspec_deeds.proofs.TestLemmas.{same_number}
+use Rattle.dspec_deeds.proofs.TestLemmas.{number_is_itself, same_number}
 use Rattle.dspec_table.specs.declared.rule.View.{View}
 use Rattle.dspec_table.specs.Flights.{flight_after}
 use Rattle.dspec_table.specs.declared.doing.Doing.{Doing}
 use Rattle.dspec_table.specs.declared.seats.Words.{Words}
 use Rattle.dspec_table.specs.declared.seats.CpuSeat.{CpuSeat}
 use Rattle.dspec_table.specs.Seats.{known}
-use Rattle.dspec_cpu.specs.declared.cpu.Cpu.{Cpu}
-use Rattle.dspec_cpu.specs.declared.counts.Counts.{Counts}
+use Rattle.dspec_cpu.specs.declared.parts.CpuParts.{CpuParts as Cpu}
+use Rattle.dspec_side.specs.declared.side.Side.{Side}
 use Rattle.dspec_cpu.specs.declared.reaching.Reach.TheVariants as reach
 use Rattle.dspec_cpu.specs.Calls.{Decides, decision}
-use Rattle.dspec_cpu.specs.Counting.{with_decided}
+use Rattle.dspec_side.specs.Sides.{IsCaller, ShowsList}
 use Rattle.dspec_cpu.specs.Lists.{HasList, IsReady, IsShown}
 use Rattle.dspec_cpu.specs.Reached.{Reached}
 use Rattle.dspec_cpu.specs.Reaching.{OwnsCommit}
-use Rattle.dspec_cpu.proofs.Copies.{discard_shown}
 use Rattle.dspec_cpu.proofs.Decisions.{waits_at, released_shown}
-use Rattle.dspec_cpu.proofs.Reaches.{slot_inside}
-use Rattle.dspec_cpu.proofs.Ready.{few}
 use Rattle.dspec_cpu.proofs.Retries.{here_or_void, attempt_is}
-use Rattle.dspec_cpu.proofs.Speaks.{nothing_held}
+use Rattle.dspec_cpu.proofs.Shown.{shows, shown_behind}
 
 abbrev pub discarding : Speculation → ℕ → Bool → Doing
 discarding id n mine = record { op = op.Discard id; fits = false; count = n; mine = mine }
@@ -87,20 +81,6 @@ module _ (shape : ℕ → Option Shape) (accepted : Record → Bool) (text : Rec
   abbrev pub deeds : List Deed
   deeds = decision (is_inactive to.code) id.slot deed
 
-  slots : (1 ≤ id.slot) × (id.slot ≤ cpu.config.nspec)
-  slots = slot_inside cpu.config id (got.present refl).1
-
-  abbrev EmptiedAt : ℕ → List Stored → Type 0
-  EmptiedAt place new = (b : Stored) → slice_get cpu.speculative.items place ≡ Some b
-      → (m : Stored) × (m.size ≡ b.size) × (new ≡ slice_set cpu.speculative.items place m)
-      × ((ps : List Piece) → HasPieces shape accepted text b ps → HasPieces shape accepted text m (if mine then [] else ps))
-
-  abbrev StaysAt : ℕ → Stored → Type 0
-  StaysAt place new = (ps : List Piece) (rs : List Record) (b : Stored) → slice_get cpu.speculative.items place ≡ Some b → HasPieces shape accepted text cpu.active ps
-      → HasPieces shape accepted text b (map extent.one rs)
-      → (false ≡ true → piece_fits shape ps (extent.block (if mine then rs else [])) cpu.active.size ≡ true)
-      → HasPieces shape accepted text new ps
-
   released_too : (new : Cpu S) (p : List Deed) (b : Bool) → IsShown shape accepted text new (deed ∷ p) → IsShown shape accepted text new (decision b id.slot deed ++ p)
   released_too new p true shown = released_shown shape accepted text new (deed ∷ p) shown id.slot refl new.seat
   released_too new p false shown = shown
@@ -113,8 +93,8 @@ module _ (shape : ℕ → Option Shape) (accepted : Record → Bool) (text : Rec
   still_idle = go (is_inactive to.code)
     where
       go : (b : Bool) → scan cpu.config cpu.cpu (decision b id.slot deed ++ v.own) ≡ 0
-      go true = ready.idle
-      go false = ready.idle
+      go true = ready.steady.idle
+      go false = ready.steady.idle
 
   -- nor is one in flight
   pub none_flies : flight_after cpu.config v.flight deeds ≡ None
@@ -124,16 +104,16 @@ module _ (shape : ℕ → Option Shape) (accepted : Record → Bool) (text : Rec
       go true = refl
       go false = refl
 
-  pub thrown_listed : (p : List Deed) → HasList shape accepted text cpu p → mine ≡ (mark cpu.cpu id.slot p == id.issue + 1) → n ≡ length (if mine then contents (held cpu.cpu id p) else [])
-      → (place : ℕ) → place ≡ id.slot - 1 → (seat : CpuSeat) → known seat ≡ w → (new : Vec Stored) → EmptiedAt place new.items → (kept : Stored) → kept.size ≡ cpu.active.size → StaysAt place kept
-      → (counts : Counts) → counts ≡ with_decided (fated.Thrown n) cpu.counts
-      → HasList shape accepted text (record cpu { seat = seat; speculative = new; active = kept; calls = cpu.calls + 1; counts = counts }) (deeds ++ p)
-  thrown_listed p had mine_is counting place at seat here new emptied kept size has counts plus = record {
+  -- the block was thrown away, as the call measured it
+  pub thrown_listed : (p : List Deed) → HasList shape accepted text cpu p → IsCaller cpu.cpu id mine p → n ≡ length (held cpu.cpu id p) → (now : Side Stored)
+      → (ShowsList (HasPieces shape accepted text) (λ b. b.size) cpu.config cpu.cpu p cpu.side → IsCaller cpu.cpu id mine p → is_discard (fated.Thrown n) ≡ true
+      → OwnAllows shape cpu.config p deed → ShowsList (HasPieces shape accepted text) (λ b. b.size) cpu.config cpu.cpu (deed ∷ p) now)
+      → (seat : CpuSeat) → known seat ≡ w → HasList shape accepted text (record cpu { seat = seat; side = now }) (deeds ++ p)
+  thrown_listed p had caller counting now shown seat here = record {
     own = bare_too p (is_inactive to.code) ∙ (ap (λ l. deeds ++ l) had.own ∙ (sym got.stands.own ∙ sym (ap (λ (x : View). x.own) here)));
-    shown = released_too (record cpu { seat = seat; speculative = new; active = kept; calls = cpu.calls + 1; counts = counts }) p (is_inactive to.code)
-        (discard_shown shape accepted text p had.shown id mine false n slots.0 slots.1 (λ t. same_number (mark cpu.cpu id.slot p) (id.issue + 1) (sym mine_is ∙ t))
-        (nothing_held cpu.config cpu.cpu id v.own p mine (few shape accepted text words cpu ready) (got.present refl).0 had.own mine_is)
-        counting (fated.Thrown n) refl counts plus refl refl new.items (subst (λ i. EmptiedAt i new.items) at emptied) kept size (subst (λ i. StaysAt i kept) at has));
+    shown = released_too (record cpu { seat = seat; side = now }) p (is_inactive to.code)
+        (shown_behind shape accepted text cpu.side p had.shown deed refl (number_is_itself cpu.cpu) counting now
+        (shown (shows shape accepted text cpu.side p had.shown) caller refl counting));
   }
 
   pub throws : (had has : List Deed → Type 0) → OwnsCommit cpu.config cpu.cpu id.slot w (Attempt to) → ((p : List Deed) → had p → has (deeds ++ p))

@@ -42,9 +42,10 @@ module _ (k : Config) (c ask : ℕ) (x : Buffers) (lt : x.seals < ask) (below : 
       let b = some_of x.in_hand some in
       subst (λ u. Heeds k c ask x false (record x { end = f; spare = u })) (sym at) (held_up lt below f t (subst (FindsSpare k.bufsize x.end x.spare f) at finds) b.0 b.1 (more_came b.0 b.1 t at few))
 
-  pub sealed_now : (t : Stored) (after : Option Stored) (next : Stored) (batch : Batch) (g : CpuKnows) (left : Option Batch) → s ≡ Some t → is_some x.in_hand ≡ false → after ≡ None
-      → batch ≡ batch_of c x → next ≡ emptied t → HandsOn f (Some batch) g left
-      → Heeds k c ask x true (record { end = g; in_hand = left; spare = after; active = next; drops = 0; seals = x.seals + 1 })
-  sealed_now t after next batch g left at none gone made cleared hands =
-      subst (λ (q : Option Stored × Stored). Heeds k c ask x true (record { end = g; in_hand = left; spare = q.0; active = q.1; drops = 0; seals = x.seals + 1 })) (λ i. (sym gone i, sym cleared i))
+  pub sealed_now : (t : Stored) (after : Option Stored) (next : Stored) (drops seals : ℕ) (batch : Batch) (g : CpuKnows) (left : Option Batch) → s ≡ Some t → is_some x.in_hand ≡ false
+      → after ≡ None → batch ≡ batch_of c x → next ≡ emptied t → drops ≡ 0 → seals ≡ x.seals + 1 → HandsOn f (Some batch) g left
+      → Heeds k c ask x true (record { end = g; in_hand = left; spare = after; active = next; drops = drops; seals = seals })
+  sealed_now t after next drops seals batch g left at none gone made cleared nothing more hands =
+      subst (λ (q : Option Stored × Stored × ℕ × ℕ). Heeds k c ask x true (record { end = g; in_hand = left; spare = q.0; active = q.1; drops = q.2; seals = q.3 }))
+      (λ i. (sym gone i, sym cleared i, sym nothing i, sym more i))
       (switched lt below f t (subst (FindsSpare k.bufsize x.end x.spare f) at finds) (none_of x.in_hand none) g left (subst (λ b. HandsOn f (Some b) g left) made hands))

@@ -1,20 +1,18 @@
 -- A CPU before its first call.
-use Rattle.std.proofs.Common.{◌≡◌, ℕ, ◌-◌, ◌≤◌, Bool, false, List, [], ◌++◌, length, reverse, replicate, Option, Some, None, sym, ap, ◌∙◌, subst, arith}
+use Rattle.std.proofs.Common.{◌≡◌, ℕ, ◌≤◌, Bool, List, [], ◌++◌, length, reverse, Option, Some, None, sym, ap, ◌∙◌, subst, arith}
 use Rattle.dspec_record.specs.Record.{Record}
 use Rattle.dspec_record.specs.declared.field.Shape.{Shape}
-use Rattle.dspec_buffer.specs.Stored.{Stored}
+use Rattle.dspec_buffer.specs.Stored.{Stored, HasPieces}
 use Rattle.dspec_deeds.specs.Ranges.{start_fault}
 use Rattle.dspec_deeds.specs.History.{part, scan}
 use Rattle.dspec_deeds.specs.declared.calls.Actor.TheVariants.{Cpu as CpuActor}
 use Rattle.dspec_table.specs.declared.rule.View.{View}
-use Rattle.dspec_table.specs.declared.seats.Words.{Words}
-use Rattle.dspec_table.specs.Seats.{known, IsAt, cpu_of, set_up, fresh_seat}
+use Rattle.dspec_table.specs.Seats.{known, cpu_of, fresh_seat}
 use Rattle.dspec_deeds.specs.Legal.{IsSound}
-use Rattle.dspec_cpu.specs.declared.cpu.Cpu.{Cpu}
-use Rattle.dspec_cpu.specs.Counting.{counts_of}
-use Rattle.dspec_cpu.specs.Sealed.{HasSized, AreEmpty, waiting}
-use Rattle.dspec_cpu.specs.Lists.{HasList, IsReady, batches_of, spare_count}
-use Rattle.dspec_cpu.proofs.Starts.{zero_there, zero_count}
+use Rattle.dspec_cpu.specs.declared.parts.CpuParts.{CpuParts as Cpu}
+use Rattle.dspec_side.specs.Sides.{ShowsList}
+use Rattle.dspec_cpu.specs.Sealed.{waiting}
+use Rattle.dspec_cpu.specs.Lists.{HasList, IsSteady, batches_of, spare_count}
 
 module _ (shape : ℕ → Option Shape) (accepted : Record → Bool) (text : Record → List ℕ) {S : Type 0} (cpu : Cpu S) where
   -- all of it is empty, and its seat is unused
@@ -22,15 +20,7 @@ module _ (shape : ℕ → Option Shape) (accepted : Record → Bool) (text : Rec
     pub seat : known cpu.seat ≡ fresh_seat cpu.config cpu.cpu
     pub handed : cpu.end.handed ≡ []
     pub in_hand : cpu.in_hand ≡ None
-    pub speculative : AreEmpty shape accepted text cpu.config cpu.speculative.items
-    pub active : HasSized shape accepted text cpu.config.bufsize [] cpu.active
-    pub marks : cpu.marks.items ≡ replicate cpu.config.nspec 0
-    pub acks : cpu.acks.items ≡ replicate cpu.config.nspec 0
-    pub calls : cpu.calls ≡ 0
-    pub seals : cpu.seals ≡ 0
-    pub missed : cpu.missed_busy ≡ false
-    pub drops : cpu.drops ≡ 0
-    pub counts : cpu.counts ≡ counts_of cpu.config cpu.cpu 0 []
+    pub side : ShowsList (λ b. HasPieces shape accepted text b) (λ b. b.size) cpu.config cpu.cpu [] cpu.side
 
   module _ (u : IsUnused) where
     spare_most : (x : Option Stored) → spare_count x ≤ 1
@@ -45,31 +35,17 @@ module _ (shape : ℕ → Option Shape) (accepted : Record → Bool) (text : Rec
       own = sym (ap (λ (v : View). v.own) u.seat);
       shown = record {
         legal = tt;
-        side = record {
-          called = u.calls;
-          sealed = u.seals;
-          missed = u.missed;
-          ack_count = zero_count cpu.config.nspec cpu.acks.items u.acks;
-          acks = λ s low high. zero_there cpu.config.nspec (s - 1) cpu.acks.items u.acks (omega arith);
-          mark_count = zero_count cpu.config.nspec cpu.marks.items u.marks;
-          marks = λ s low high. zero_there cpu.config.nspec (s - 1) cpu.marks.items u.marks (omega arith);
-          buffer_count = u.speculative.count;
-          speculative = λ s b low high at. u.speculative.each (s - 1) b at;
-          principal = u.active;
-          drops = u.drops;
-        };
+        side = u.side.parts;
         sealed = none_sealed;
-        counted = u.counts ∙ ap (λ n. counts_of cpu.config cpu.cpu n []) (sym (ap (λ n. n.worn) u.counts));
+        counted = u.side.counted;
       };
     }
 
-    pub unused_ready : (words : Words) → IsAt words cpu.seat → set_up words ≡ cpu.config → cpu_of cpu.seat ≡ cpu.cpu → start_fault cpu.config ≡ None
-        → ((b : Stored) → cpu.spare ≡ Some b → b.size ≡ cpu.config.bufsize)
-        → IsReady shape accepted text words cpu
-    unused_ready words at config number fine spare = record {
-      at = at;
+    pub unused_steady : cpu_of cpu.seat ≡ cpu.cpu → start_fault cpu.config ≡ None → ((b : Stored) → cpu.spare ≡ Some b → b.size ≡ cpu.config.bufsize)
+        → IsSteady shape accepted text cpu
+    unused_steady number fine spare = record {
       seat = number;
-      config = config;
+      config = ap (λ (v : View). v.config) u.seat;
       checked = fine;
       idle = ap (λ (v : View). scan cpu.config cpu.cpu v.own) u.seat;
       flight = ap (λ (v : View). v.flight) u.seat;

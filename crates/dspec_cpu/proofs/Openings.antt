@@ -15,9 +15,9 @@ use Rattle.dspec_deeds.specs.Reports.{missed_busy, one_if}
 use Rattle.dspec_deeds.specs.Weaving.{bare}
 use Rattle.dspec_deeds.proofs.TestLemmas.{either_way, number_is_itself, same_number}
 use Rattle.dspec_table.specs.declared.seats.CpuSeat.{CpuSeat}
-use Rattle.dspec_cpu.specs.declared.cpu.Cpu.{Cpu}
-use Rattle.dspec_cpu.specs.declared.counts.Counts.{Counts}
-use Rattle.dspec_cpu.specs.Counting.{counts_of, with_opening}
+use Rattle.dspec_cpu.specs.declared.parts.CpuParts.{CpuParts as Cpu}
+use Rattle.dspec_side.specs.declared.counts.Counts.{Counts}
+use Rattle.dspec_side.specs.Counting.{counts_of, with_opening}
 use Rattle.dspec_cpu.specs.Lists.{IsShown}
 use Rattle.dspec_cpu.specs.Scans.{misses, any_busy, opening_deeds, IsOpening, is_worn_opening}
 use Rattle.dspec_cpu.proofs.Quiet.{quiet, quiet_shown}
@@ -205,20 +205,23 @@ module _ (shape : ℕ → Option Shape) (accepted : Record → Bool) (text : Rec
   abbrev shows : List Deed → Cpu S
   shows ds = record cpu {
     seat = seat;
-    calls = calls cpu.cpu (ds ++ p);
-    missed_busy = missed_busy cpu.cpu (ds ++ p);
-    drops = (growing cpu.cpu (ds ++ p)).drops;
-    counts = counts_of cpu.config cpu.cpu cpu.counts.worn (ds ++ p);
+    side = record cpu.side {
+      calls = calls cpu.cpu (ds ++ p);
+      missed_busy = missed_busy cpu.cpu (ds ++ p);
+      drops = (growing cpu.cpu (ds ++ p)).drops;
+      counts = counts_of cpu.config cpu.cpu
+          cpu.side.counts.worn (ds ++ p);
+    };
   }
 
   one_shown : (d : Deed) → quiet d ≡ true → is_of cpu.cpu d ≡ true → OwnRow shape cpu.config p d → IsShown shape accepted text (shows (d ∷ [])) (d ∷ p)
   one_shown d still mine row = quiet_shown shape accepted text cpu p was d still mine row seat (calls cpu.cpu (d ∷ p)) (missed_busy cpu.cpu (d ∷ p))
-      (growing cpu.cpu (d ∷ p)).drops (counts_of cpu.config cpu.cpu cpu.counts.worn (d ∷ p)) refl refl refl refl
+      (growing cpu.cpu (d ∷ p)).drops (counts_of cpu.config cpu.cpu cpu.side.counts.worn (d ∷ p)) refl refl refl refl
 
   more_shown : (ds : List Deed) → IsShown shape accepted text (shows ds) (ds ++ p) → (d : Deed) → quiet d ≡ true → is_of cpu.cpu d ≡ true
       → OwnRow shape cpu.config (ds ++ p) d → IsShown shape accepted text (shows (d ∷ ds)) (d ∷ ds ++ p)
   more_shown ds before d still mine row = quiet_shown shape accepted text (shows ds) (ds ++ p) before d still mine row seat (calls cpu.cpu (d ∷ ds ++ p))
-      (missed_busy cpu.cpu (d ∷ ds ++ p)) (growing cpu.cpu (d ∷ ds ++ p)).drops (counts_of cpu.config cpu.cpu cpu.counts.worn (d ∷ ds ++ p)) refl refl refl refl
+      (missed_busy cpu.cpu (d ∷ ds ++ p)) (growing cpu.cpu (d ∷ ds ++ p)).drops (counts_of cpu.config cpu.cpu cpu.side.counts.worn (d ∷ ds ++ p)) refl refl refl refl
 
   misses_shown : (bs : List Bool) → IsShown shape accepted text (shows (misses cpu.cpu bs ++ Scan cpu.cpu true ∷ [])) ((misses cpu.cpu bs ++ Scan cpu.cpu true ∷ []) ++ p)
   misses_shown [] = one_shown (Scan cpu.cpu true) refl (number_is_itself cpu.cpu) tt
@@ -233,16 +236,17 @@ module _ (shape : ℕ → Option Shape) (accepted : Record → Bool) (text : Rec
 
   -- the CPU shows the longer list with one call more, whether a slot missed was decided, and the counts of the answer
   pub opening_shown : (bs : List Bool) (a : Opening) (busy : Bool) (counts : Counts) → 1 ≤ cpu.config.nspec → IsOpening cpu.config.nspec bs a → is_worn_opening a ≡ false
-      → busy ≡ any_busy bs → counts ≡ with_opening a cpu.counts
-      → IsShown shape accepted text (record cpu { seat = seat; calls = cpu.calls + 1; missed_busy = busy; counts = counts }) (opening_deeds cpu.cpu bs a ++ p)
+      → busy ≡ any_busy bs → counts ≡ with_opening a cpu.side.counts
+      → IsShown shape accepted text (record cpu { seat = seat; side = record cpu.side { calls = cpu.side.calls + 1; missed_busy = busy; counts = counts } }) (opening_deeds cpu.cpu bs a ++ p)
   opening_shown bs a busy counts one is un any plus =
       let ds = opening_deeds cpu.cpu bs a in
-      let called : calls cpu.cpu (ds ++ p) ≡ cpu.calls + 1 = opening_calls cpu.config cpu.cpu p bs a un ∙ ap (λ n. n + 1) (sym was.side.called) in
+      let called : calls cpu.cpu (ds ++ p) ≡ cpu.side.calls + 1 = opening_calls cpu.config cpu.cpu p bs a un ∙ ap (λ n. n + 1) (sym was.side.called) in
       let missed : missed_busy cpu.cpu (ds ++ p) ≡ busy = opening_missed cpu.config cpu.cpu p bs a is un ∙ sym any in
-      let dropped : (growing cpu.cpu (ds ++ p)).drops ≡ cpu.drops = opening_drops cpu.config cpu.cpu p bs a ∙ sym was.side.drops in
-      let counted : counts_of cpu.config cpu.cpu cpu.counts.worn (ds ++ p) ≡ counts =
-      opening_counts cpu.config cpu.cpu p cpu.counts.worn bs a one is un ∙ (ap (with_opening a) (sym was.counted) ∙ sym plus) in
-      subst (λ (x : ℕ × Bool × ℕ × Counts). IsShown shape accepted text (record cpu { seat = seat; calls = x.0; missed_busy = x.1; drops = x.2; counts = x.3 }) (ds ++ p))
+      let dropped : (growing cpu.cpu (ds ++ p)).drops ≡ cpu.side.drops = opening_drops cpu.config cpu.cpu p bs a ∙ sym was.side.drops in
+      let counted : counts_of cpu.config cpu.cpu cpu.side.counts.worn (ds ++ p) ≡ counts =
+      opening_counts cpu.config cpu.cpu p cpu.side.counts.worn bs a one is un ∙ (ap (with_opening a) (sym was.counted) ∙ sym plus) in
+      subst (λ (x : ℕ × Bool × ℕ × Counts). IsShown shape accepted text
+      (record cpu { seat = seat; side = record cpu.side { calls = x.0; missed_busy = x.1; drops = x.2; counts = x.3 } }) (ds ++ p))
       (λ i. (called i, missed i, dropped i, counted i)) (deeds_shown bs a un)
 
 -- no deed of the call is a Seal

@@ -1,11 +1,9 @@
 -- The CPU's own block of a speculation that was decided, settled.
-use Rattle.std.proofs.Common.{◌≡◌, ℕ, ◌+◌, ◌-◌, ◌==◌, Bool, true, false, List, [], ◌∷◌, length, map, get_or, Option, Some, if◌then◌else◌, refl, sym, ap, ◌∙◌, arith, true≢false}
-use Rattle.std.specs.Prelude.{slice_set}
-use Rattle.std.proofs.lemmas.Option.{slice_get-get_or, get_or_from_slice_get}
+use Rattle.std.proofs.Common.{◌≡◌, ℕ, ◌+◌, ◌-◌, ◌==◌, ◌<◌, ◌≤◌, ◌^◌, ◌||◌, Bool, true, false, List, ◌∷◌, length, Option, Some, if◌then◌else◌, refl, sym, ap, ◌∙◌, subst, arith}
+use Rattle.std.specs.Prelude.{slice_get}
 use Rattle.dspec_record.specs.Record.{Record}
 use Rattle.dspec_record.specs.declared.field.Shape.{Shape}
 use Rattle.dspec_buffer.specs.Extent as extent
-use Rattle.dspec_buffer.specs.Extent.{piece_fits}
 use Rattle.dspec_buffer.specs.Stored.{Stored, HasPieces}
 use Rattle.dspec_ring.specs.declared.batch.Batch.{Batch}
 use Rattle.dspec_word.specs.SpecId.{Speculation}
@@ -16,21 +14,20 @@ use Rattle.dspec_deeds.specs.declared.deed.DecideFate.{DecideFate}
 use Rattle.dspec_deeds.specs.declared.deed.DecideFate.TheVariants as fated
 use Rattle.dspec_deeds.specs.declared.deed.Deed.TheVariants.{Settle}
 use Rattle.dspec_deeds.specs.declared.deed.Deed.{Deed}
-use Rattle.dspec_deeds.specs.FateKinds.{is_copied, is_lost, decided_stopped}
-use Rattle.dspec_deeds.specs.Legal.{fits_principal}
+use Rattle.dspec_deeds.specs.FateKinds.{is_commit, is_discard, is_lost, decided_stopped}
+use Rattle.dspec_deeds.specs.Legal.{OwnAllows, fits_principal}
 use Rattle.dspec_deeds.specs.Marks.{mark}
-use Rattle.dspec_deeds.specs.Own.{active, contents, held}
+use Rattle.dspec_deeds.specs.Own.{contents, held}
 use Rattle.dspec_deeds.specs.Owning.{OwnRow}
-use Rattle.dspec_deeds.specs.OwnShown.{SideParts, last_called}
 use Rattle.dspec_deeds.specs.Settling as settling
-use Rattle.dspec_deeds.proofs.TestLemmas.{same_number, and_tells}
+use Rattle.dspec_deeds.proofs.TestLemmas.{number_is_itself}
+use Rattle.dspec_table.specs.declared.doing.Doing.{Doing}
 use Rattle.dspec_table.specs.Acts.{fate_of_settlement}
-use Rattle.dspec_cpu.specs.declared.counts.Counts.{Counts}
-use Rattle.dspec_cpu.specs.Counting.{with_decided}
-use Rattle.dspec_cpu.specs.Lists.{AreShown}
-use Rattle.dspec_cpu.specs.Settled.{CanSettle, serving}
-use Rattle.dspec_cpu.proofs.Ones.{mine_last}
-use Rattle.dspec_cpu.proofs.Copies.{Emptied, Copied, count_is, mine_held, settle_shown}
+use Rattle.dspec_side.specs.declared.side.Side.{Side}
+use Rattle.dspec_side.specs.Counting.{HasRoom}
+use Rattle.dspec_side.specs.Sides.{IsCaller, ShowsList, committed_fate, settled_fate}
+use Rattle.dspec_cpu.specs.Settled.{BlockSettled, CanSettle, serving}
+use Rattle.dspec_cpu.proofs.Shown.{shows, shown_behind}
 
 -- what becomes of a block is lawful, and never stopped
 pub lawful : (shape : ℕ → Option Shape) (k : Config) (c : ℕ) (p : List Deed) (id : Speculation) (code : Code) → OwnRow shape k p (Settle c id (settling.settle_fate shape k c p id code))
@@ -50,87 +47,97 @@ goes_on shape k c p id code = go (fits_principal shape k c (extent.block (conten
     go true = refl
     go false = refl
 
-module _ (shape : ℕ → Option Shape) (accepted : Record → Bool) (text : Record → List ℕ) {k : Config} {c : ℕ} {side : SideParts Stored} {batches : List Batch}
-    {counts : Counts} {id : Speculation} {code : Code} (p : List Deed) (can : CanSettle shape accepted text k c side batches counts id code p) where
-  abbrev pub f : DecideFate
-  f = settling.settle_fate shape k c p id code
+-- the call in flight tells of the block what was measured
+served_as : (fit : Bool) (n : ℕ) (mine : Bool) (code : Code) → fate_of_settlement (serving fit n mine) code ≡ settled_fate code fit n
+served_as fit n mine Discarding = refl
+served_as fit n mine Inactive = refl
+served_as fit n mine Active = refl
+served_as fit n mine ActiveOne = refl
+served_as fit n mine ActiveMany = refl
+served_as fit n mine Committing = refl
+served_as fit n mine CommittingMany = refl
 
-  -- what was measured, of a list that is shown
-  pub record IsMeasured (mine fit : Bool) (n : ℕ) : Type 0 where
-    pub marked : mine ≡ true → mark c id.slot p ≡ id.issue + 1
-    pub empty : mine ≡ false → held c id p ≡ []
-    pub fitting : fit ≡ fits_principal shape k c (extent.block (if mine then contents (held c id p) else [])) p
-    pub counting : n ≡ length (if mine then contents (held c id p) else [])
+ends : (fit : Bool) (n : ℕ) (code : Code) → (is_commit (settled_fate code fit n) || is_discard (settled_fate code fit n)) ≡ true
+ends fit n Discarding = refl
+ends true n Inactive = refl
+ends false n Inactive = refl
+ends true n Active = refl
+ends false n Active = refl
+ends true n ActiveOne = refl
+ends false n ActiveOne = refl
+ends true n ActiveMany = refl
+ends false n ActiveMany = refl
+ends true n Committing = refl
+ends false n Committing = refl
+ends true n CommittingMany = refl
+ends false n CommittingMany = refl
 
-  pub measured : (m i : ℕ) (b : Stored) (fit : Bool) (n : ℕ) → m ≡ get_or side.marks (id.slot - 1) m → i ≡ id.issue → b ≡ get_or side.speculative (id.slot - 1) b
-      → ((rs : List Record) → HasPieces shape accepted text b (map extent.one rs) → fit ≡ fits_principal shape k c (extent.block (if m == i + 1 then rs else [])) p)
-      → ((rs : List Record) → HasPieces shape accepted text b (map extent.one rs) → n ≡ length (if m == i + 1 then rs else []))
-      → IsMeasured (m == i + 1) fit n
-  measured m i b fit n m_is i_is b_is fits_all counts_all =
-      let low = can.low in
-      let high = can.high in
-      let count = can.shown.side.buffer_count in
-      let read : m ≡ mark c id.slot p = m_is ∙ get_or_from_slice_get side.marks (id.slot - 1) (mark c id.slot p) m (can.shown.side.marks id.slot low high) in
-      let marked : (m == i + 1) ≡ (mark c id.slot p == id.issue + 1) = (λ j. read j == i_is j + 1) in
-      let tells : (m == i + 1) ≡ true → mark c id.slot p ≡ id.issue + 1 = λ t. same_number (mark c id.slot p) (id.issue + 1) (sym marked ∙ t) in
-      let at = slice_get-get_or side.speculative (id.slot - 1) b (omega arith) ∙ ap (λ (x : Stored). Some x) (sym b_is) in
-      let has = can.shown.side.speculative id.slot b low high at in
-      let rs = contents (held c (last_called c id.slot p) p) in
-      let lasts = mine_last c id p (m == i + 1) tells in
-      record {
-        marked = tells;
-        empty = λ e. can.unmarked (sym marked ∙ e);
-        fitting = fits_all rs has.has ∙ ap (λ (l : List Record). fits_principal shape k c (extent.block l) p) lasts;
-        counting = counts_all rs has.has ∙ ap length lasts;
-      }
+module _ (shape : ℕ → Option Shape) (accepted : Record → Bool) (text : Record → List ℕ) {k : Config} {c : ℕ} {side : Side Stored} {batches : List Batch} {id : Speculation} {code : Code}
+    (p : List Deed) (can : CanSettle shape accepted text k c side batches id code p) (j : Speculation) (named : j ≡ id) where
+  -- the slot is one of the session's, and so of the CPU's
+  pub there : (1 ≤ j.slot) × (j.slot ≤ length side.marks.items) × (j.slot ≤ length side.speculative.items) × (j.slot ≤ length side.acks.items)
+  there =
+      let at = ap (λ (x : Speculation). x.slot) named in
+      let low = can.low in let high = can.high in
+      let marks = can.shown.side.mark_count in let buffers = can.shown.side.buffer_count in let acks = can.shown.side.ack_count in
+      (omega arith, omega arith, omega arith, omega arith)
 
-  module _ {mine fit : Bool} {n : ℕ} (m : IsMeasured mine fit n) where
-    -- the fate by what was measured is the one by the CPU's own list
-    pub fate_is : fate_of_settlement (serving fit n mine) code ≡ f
-    fate_is = go code
-      where
-        all : n ≡ length (held c id p)
-        all = count_is shape accepted text p can.shown id mine false n can.low can.high m.marked m.empty m.counting
+  module _ (mine : Bool) (tells : (m : ℕ) → slice_get side.marks.items (j.slot - 1) ≡ Some m → mine ≡ (m == j.issue + 1)) where
+    -- whether the CPU is a caller
+    pub caller : IsCaller c j mine p
+    caller =
+        let told = subst (λ (x : Speculation). (m : ℕ) → slice_get side.marks.items (x.slot - 1) ≡ Some m → mine ≡ (m == x.issue + 1)) named tells in
+        let marked = told (mark c id.slot p) (can.shown.side.marks id.slot can.low can.high) in
+        subst (λ x. IsCaller c x mine p) (sym named) (record { marked = marked; empty = λ none. can.unmarked (sym marked ∙ none) })
 
-        room : fit ≡ fits_principal shape k c (extent.block (contents (held c id p))) p
-        room = m.fitting ∙ ap (λ (l : List Record). fits_principal shape k c (extent.block l) p)
-            (mine_held shape accepted text p can.shown id mine false n can.low can.high m.marked m.empty m.counting)
+    module _ (fit : Bool) (n : ℕ)
+        (fits_all : ShowsList (HasPieces shape accepted text) (λ b. b.size) k c p side → IsCaller c j mine p → fit ≡ fits_principal shape k c (extent.block (contents (held c j p))) p)
+        (counts_all : ShowsList (HasPieces shape accepted text) (λ b. b.size) k c p side → IsCaller c j mine p → n ≡ length (held c j p)) where
+      -- the fate by what was measured is the one by the CPU's own list
+      pub fate_is : settled_fate code fit n ≡ settling.settle_fate shape k c p id code
+      fate_is = go code
+        where
+          all : n ≡ length (held c id p)
+          all = counts_all (shows shape accepted text side p can.shown) caller ∙ ap (λ x. length (held c x p)) named
 
-        commits : (if fit then fated.Copied n else fated.Lost n) ≡ settling.commit_fate shape k c p id
-        commits = λ i. if room i then fated.Copied (all i) else fated.Lost (all i)
+          room : fit ≡ fits_principal shape k c (extent.block (contents (held c id p))) p
+          room = fits_all (shows shape accepted text side p can.shown) caller ∙ ap (λ x. fits_principal shape k c (extent.block (contents (held c x p))) p) named
 
-        go : (x : Code) → fate_of_settlement (serving fit n mine) x ≡ settling.settle_fate shape k c p id x
-        go Discarding = ap fated.Thrown all
-        go Inactive = commits
-        go Active = commits
-        go ActiveOne = commits
-        go ActiveMany = commits
-        go Committing = commits
-        go CommittingMany = commits
+          commits : committed_fate fit n ≡ settling.commit_fate shape k c p id
+          commits = λ i. if room i then fated.Copied (all i) else fated.Lost (all i)
 
-    -- what is copied has room
-    has_room : is_copied f ≡ true → piece_fits shape (active c p) (extent.block (if mine then contents (held c id p) else [])) k.bufsize ≡ true
-    has_room e = (and_tells _ _ (sym m.fitting ∙ go code (ap is_copied fate_is ∙ e))).0
-      where
-        copies : (b : Bool) → is_copied (if b then fated.Copied n else fated.Lost n) ≡ true → b ≡ true
-        copies true e = refl
-        copies false e = absurd (true≢false (sym e))
+          go : (x : Code) → settled_fate x fit n ≡ settling.settle_fate shape k c p id x
+          go Discarding = ap fated.Thrown all
+          go Inactive = commits
+          go Active = commits
+          go ActiveOne = commits
+          go ActiveMany = commits
+          go Committing = commits
+          go CommittingMany = commits
 
-        go : (x : Code) → is_copied (fate_of_settlement (serving fit n mine) x) ≡ true → fit ≡ true
-        go Discarding e = absurd (true≢false (sym e))
-        go Inactive e = copies fit e
-        go Active e = copies fit e
-        go ActiveOne e = copies fit e
-        go ActiveMany e = copies fit e
-        go Committing e = copies fit e
-        go CommittingMany e = copies fit e
+      module _ (fate : DecideFate) (is : fate ≡ settled_fate code fit n) where
+        same : fate ≡ settling.settle_fate shape k c p id code
+        same = is ∙ fate_is
 
-    -- so the Settle is shown
-    pub block_settled : (copy : Bool) → is_copied f ≡ copy → (new : List Stored)
-        → Emptied shape accepted text p can.shown id mine copy n can.low can.high m.marked m.empty m.counting new → (kept : Stored) → kept.size ≡ side.active.size
-        → Copied shape accepted text p can.shown id mine copy n can.low can.high m.marked m.empty m.counting kept → (drops : ℕ) → drops ≡ side.drops + (if is_lost f then 1 else 0)
-        → (acks : List ℕ) → acks ≡ slice_set side.acks (id.slot - 1) (id.issue + 1) → (now : Counts) → now ≡ with_decided f counts
-        → AreShown shape accepted text k c (record side { acks = acks; speculative = new; active = kept; drops = drops }) batches now (Settle c id f ∷ p)
-    block_settled copy copied new emptied kept size has drops drops_is acks acks_are now plus =
-        settle_shown shape accepted text p can.shown id mine copy n can.low can.high m.marked m.empty m.counting f copied now plus (goes_on shape k c p id code) (lawful shape k c p id code)
-        (λ e. has_room (copied ∙ e)) new emptied kept size has drops drops_is acks acks_are
+        -- it can be counted
+        pub room : HasRoom fate side.counts
+        room = subst (λ f. HasRoom f side.counts) (sym same) can.room
+
+        pub drops : side.drops + (if is_lost fate then 1 else 0) < 2 ^ 64
+        drops = subst (λ f. side.drops + (if is_lost f then 1 else 0) < 2 ^ 64) (sym same) can.drops
+
+        -- so the Settle is shown
+        pub block_settled : (now : Side Stored)
+            → (ShowsList (HasPieces shape accepted text) (λ b. b.size) k c p side → IsCaller c j mine p → (is_commit fate || is_discard fate) ≡ true → OwnAllows shape k p (Settle c j fate)
+            → ShowsList (HasPieces shape accepted text) (λ b. b.size) k c (Settle c j fate ∷ p) now)
+            → (doing : Doing) → doing ≡ serving fit n mine → BlockSettled shape accepted text k c now batches id code doing p
+        block_settled now shown doing served =
+            let f = settling.settle_fate shape k c p id code in
+            let allows : OwnAllows shape k p (Settle c j fate) =
+            subst (λ (x : Speculation × DecideFate). OwnAllows shape k p (Settle c x.0 x.1)) (λ i. (sym named i, sym same i)) (lawful shape k c p id code) in
+            let was = shown (shows shape accepted text side p can.shown) caller (ap (λ g. is_commit g || is_discard g) is ∙ ends fit n code) allows in
+            record {
+              fate = ap (λ (d : Doing). fate_of_settlement d code) served ∙ (served_as fit n mine code ∙ fate_is);
+              shown = shown_behind shape accepted text side p can.shown (Settle c id f) refl (number_is_itself c) (lawful shape k c p id code) now
+                  (subst (λ (x : Speculation × DecideFate). ShowsList (HasPieces shape accepted text) (λ b. b.size) k c (Settle c x.0 x.1 ∷ p) now) (λ i. (named i, same i)) was);
+            }

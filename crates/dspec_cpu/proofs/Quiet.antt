@@ -21,9 +21,9 @@ use Rattle.dspec_deeds.specs.OwnShown.{last_called}
 use Rattle.dspec_deeds.specs.Owning.{OwnRow, is_of}
 use Rattle.dspec_deeds.specs.Reports.{missed_busy}
 use Rattle.dspec_table.specs.declared.seats.CpuSeat.{CpuSeat}
-use Rattle.dspec_cpu.specs.declared.cpu.Cpu.{Cpu}
-use Rattle.dspec_cpu.specs.declared.counts.Counts.{Counts}
-use Rattle.dspec_cpu.specs.Counting.{counts_of}
+use Rattle.dspec_cpu.specs.declared.parts.CpuParts.{CpuParts as Cpu}
+use Rattle.dspec_side.specs.declared.counts.Counts.{Counts}
+use Rattle.dspec_side.specs.Counting.{counts_of}
 use Rattle.dspec_cpu.specs.Sealed.{HasSized, AreSealed}
 use Rattle.dspec_cpu.specs.Lists.{IsShown}
 
@@ -107,7 +107,7 @@ module _ (shape : ℕ → Option Shape) (accepted : Record → Bool) (text : Rec
     -- what shows the list shows it with such a deed in front, once numbers and counts are those of the longer list
     pub quiet_shown : (d : Deed) → quiet d ≡ true → is_of cpu.cpu d ≡ true → OwnRow shape cpu.config p d → (seat : CpuSeat) (n : ℕ) (missed : Bool) (drops : ℕ) (counts : Counts)
         → n ≡ calls cpu.cpu (d ∷ p) → missed ≡ missed_busy cpu.cpu (d ∷ p) → drops ≡ (growing cpu.cpu (d ∷ p)).drops → counts ≡ counts_of cpu.config cpu.cpu counts.worn (d ∷ p)
-        → IsShown shape accepted text (record cpu { seat = seat; calls = n; missed_busy = missed; drops = drops; counts = counts }) (d ∷ p)
+        → IsShown shape accepted text (record cpu { seat = seat; side = record cpu.side { calls = n; missed_busy = missed; drops = drops; counts = counts } }) (d ∷ p)
     quiet_shown d e mine row seat n missed drops counts call_is missed_is drops_is counts_is =
         let l = leaves cpu.cpu d p e in
         let same : (s : ℕ) → contents (held cpu.cpu (last_called cpu.cpu s p) p) ≡ contents (held cpu.cpu (last_called cpu.cpu s (d ∷ p)) (d ∷ p)) =
@@ -124,7 +124,7 @@ module _ (shape : ℕ → Option Shape) (accepted : Record → Bool) (text : Rec
             marks = λ s low high. was.side.marks s low high ∙ ap Some (sym (l.marks s));
             buffer_count = was.side.buffer_count;
             speculative = λ s b low high at. subst (λ rs. HasSized shape accepted text cpu.config.specsize (map extent.one rs) b) (same s) (was.side.speculative s b low high at);
-            principal = subst (λ ps. HasSized shape accepted text cpu.config.bufsize ps cpu.active) (sym l.principal) was.side.principal;
+            principal = subst (λ ps. HasSized shape accepted text cpu.config.bufsize ps cpu.side.active) (sym l.principal) was.side.principal;
             drops = drops_is;
           };
           sealed = sealed_on cpu.config cpu.cpu d p _ (quiet_unsealed d e) was.sealed;

@@ -20,12 +20,13 @@ use Rattle.dspec_table.specs.Holders.{of_cpu, number_of, part_of}
 use Rattle.dspec_table.specs.Flights.{calling, flight_after}
 use Rattle.dspec_table.specs.Steps.{Entered}
 use Rattle.dspec_table.specs.Seats.{known, IsAt, cpu_of}
-use Rattle.dspec_cpu.specs.declared.cpu.Cpu.{Cpu}
-use Rattle.dspec_cpu.specs.declared.counts.Counts.{Counts}
-use Rattle.dspec_cpu.specs.Counting.{counts_of, with_fate, IsRoomy}
+use Rattle.dspec_cpu.specs.declared.parts.CpuParts.{CpuParts as Cpu}
+use Rattle.dspec_side.specs.declared.counts.Counts.{Counts}
+use Rattle.dspec_side.specs.Counting.{counts_of, with_fate, IsRoomy}
 use Rattle.dspec_cpu.specs.Reached.{Stands}
-use Rattle.dspec_cpu.specs.Lists.{HasList, IsReady, batches_of, spare_count}
-use Rattle.dspec_cpu.proofs.Tallies.{drops_since}
+use Rattle.dspec_cpu.specs.Lists.{HasList, IsReady, IsSteady, batches_of, spare_count}
+use Rattle.dspec_cpu.specs.Standing.{Belongs, identity}
+use Rattle.dspec_side.proofs.Tallies.{drops_since}
 use Rattle.dspec_cpu.proofs.Limits.{limits}
 
 -- behind the last of them
@@ -77,13 +78,18 @@ module _ (k : Config) (c : ℕ) (counts : Counts) (p : List Deed) (counted : cou
       let left : n.offered - with_fate n ≡ length (speculative c p) = omega arith in
       is ∙ (ap told_of counted ∙ ap (λ (h : ℕ). record (report k c counts.worn p) { held = h }) left)
 
+-- a CPU that stands can be called by those whose words it belongs to
+pub belonging : (shape : ℕ → Option Shape) (accepted : Record → Bool) (text : Record → List ℕ) {S : Type 0} (words : Words) (cpu : Cpu S) → Belongs words (identity cpu)
+    → IsSteady shape accepted text cpu → IsReady shape accepted text words cpu
+belonging shape accepted text words cpu of steady = record { at = (of.table, steady.config ∙ of.config); config = sym of.config; steady = steady }
+
 module _ (shape : ℕ → Option Shape) (accepted : Record → Bool) (text : Record → List ℕ) {S : Type 0} (words : Words) (cpu : Cpu S) (was : IsReady shape accepted text words cpu) where
   -- the CPU's number, as its steps read it off the seat
   pub number : number_of (known cpu.seat).who ≡ cpu.cpu
-  number = ap number_of cpu.seat.who_is ∙ was.seat
+  number = ap number_of cpu.seat.who_is ∙ was.steady.seat
 
   pub holder : (known cpu.seat).who ≡ of_cpu cpu.cpu
-  holder = cpu.seat.who_is ∙ ap of_cpu was.seat
+  holder = cpu.seat.who_is ∙ ap of_cpu was.steady.seat
 
   pub set_up_is : (known cpu.seat).config ≡ cpu.config
   set_up_is = was.at.1 ∙ was.config
@@ -95,27 +101,30 @@ module _ (shape : ℕ → Option Shape) (accepted : Record → Bool) (text : Rec
       → length (batches_of new) + spare_count new.spare ≤ 1 + length new.end.spares → (p : List Deed) → HasList shape accepted text new p → IsReady shape accepted text words new
   ready_after new ds same_cpu same_config at seat stands idle over spare not_many p now = record {
     at = at;
-    seat = seat ∙ (was.seat ∙ same_cpu);
     config = was.config ∙ same_config;
-    checked = subst (λ (k : Config). start_fault k ≡ None) same_config was.checked;
-    idle = subst (λ (x : Config × ℕ). scan x.0 x.1 (known new.seat).own ≡ 0) (λ i. (same_config i, same_cpu i)) (ap (scan cpu.config cpu.cpu) stands.own ∙ idle);
-    flight = stands.flight ∙ over;
-    sound = subst (λ (k : Config). IsSound k (known new.seat).seen) same_config stands.sound;
-    part_is = subst (λ (x : ℕ). part (CpuActor x) (known new.seat).seen ≡ (known new.seat).own) same_cpu stands.part_is;
-    spare = spare;
-    few = not_many;
-    list = p;
-    listed = now;
+    steady = record {
+      seat = seat ∙ (was.steady.seat ∙ same_cpu);
+      config = at.1 ∙ (was.config ∙ same_config);
+      checked = subst (λ (k : Config). start_fault k ≡ None) same_config was.steady.checked;
+      idle = subst (λ (x : Config × ℕ). scan x.0 x.1 (known new.seat).own ≡ 0) (λ i. (same_config i, same_cpu i)) (ap (scan cpu.config cpu.cpu) stands.own ∙ idle);
+      flight = stands.flight ∙ over;
+      sound = subst (λ (k : Config). IsSound k (known new.seat).seen) same_config stands.sound;
+      part_is = subst (λ (x : ℕ). part (CpuActor x) (known new.seat).seen ≡ (known new.seat).own) same_cpu stands.part_is;
+      spare = spare;
+      few = not_many;
+      list = p;
+      listed = now;
+    };
   }
 
   -- no count is too large to be raised where a call is left
-  pub roomy : cpu.calls < cpu.config.max_calls → IsRoomy cpu.counts
+  pub roomy : cpu.side.calls < cpu.config.max_calls → IsRoomy cpu.side.counts
   roomy lt =
-      let p = was.list in
-      let within = (own_report shape cpu.config cpu.cpu 0 (known cpu.seat).seen p was.sound was.listed.shown.legal (was.listed.own ∙ sym was.part_is)).0 in
-      let called = was.listed.shown.side.called in
-      let most = (limits cpu.config was.checked).calls in
-      rw was.listed.shown.counted (record {
+      let p = was.steady.list in
+      let within = (own_report shape cpu.config cpu.cpu 0 (known cpu.seat).seen p was.steady.sound was.steady.listed.shown.legal (was.steady.listed.own ∙ sym was.steady.part_is)).0 in
+      let called = was.steady.listed.shown.side.called in
+      let most = (limits cpu.config was.steady.checked).calls in
+      rw was.steady.listed.shown.counted (record {
         offered = omega arith;
         accepted = omega arith;
         dropped = omega arith;
@@ -130,24 +139,24 @@ module _ (shape : ℕ → Option Shape) (accepted : Record → Bool) (text : Rec
       })
 
   -- nor are the drops since the last Seal
-  pub few_drops : cpu.calls < cpu.config.max_calls → cpu.drops < 2 ^ 63
+  pub few_drops : cpu.side.calls < cpu.config.max_calls → cpu.side.drops < 2 ^ 63
   few_drops lt =
       let room = roomy lt in
-      let since = drops_since cpu.cpu was.list in
-      let is = was.listed.shown.side.drops in
+      let since = drops_since cpu.cpu was.steady.list in
+      let is = was.steady.listed.shown.side.drops in
       let all = room.drops in
-      let counted : cpu.counts.drops ≡ total (λ d. one_if (is_drop cpu.cpu d)) was.list = ap (λ (n : Counts). n.drops) was.listed.shown.counted in
+      let counted : cpu.side.counts.drops ≡ total (λ d. one_if (is_drop cpu.cpu d)) was.steady.list = ap (λ (n : Counts). n.drops) was.steady.listed.shown.counted in
       omega arith
 
   -- the report of every list that it has balances
   balanced : (p : List Deed) → HasList shape accepted text cpu p → offers cpu.cpu p ≡ records_of_report (report cpu.config cpu.cpu 0 p)
-  balanced p had = (own_report shape cpu.config cpu.cpu 0 (known cpu.seat).seen p was.sound had.shown.legal (had.own ∙ sym was.part_is)).1.sum
+  balanced p had = (own_report shape cpu.config cpu.cpu 0 (known cpu.seat).seen p was.steady.sound had.shown.legal (had.own ∙ sym was.steady.part_is)).1.sum
 
-  pub fated_within : with_fate cpu.counts ≤ cpu.counts.offered
-  fated_within = fated_by cpu.config cpu.cpu cpu.counts was.list was.listed.shown.counted (balanced was.list was.listed)
+  pub fated_within : with_fate cpu.side.counts ≤ cpu.side.counts.offered
+  fated_within = fated_by cpu.config cpu.cpu cpu.side.counts was.steady.list was.steady.listed.shown.counted (balanced was.steady.list was.steady.listed)
 
-  pub told : (p : List Deed) → HasList shape accepted text cpu p → (answer : Report) → answer ≡ told_of cpu.counts → answer ≡ report cpu.config cpu.cpu cpu.counts.worn p
-  told p had answer is = told_by cpu.config cpu.cpu cpu.counts p had.shown.counted (balanced p had) answer is
+  pub told : (p : List Deed) → HasList shape accepted text cpu p → (answer : Report) → answer ≡ told_of cpu.side.counts → answer ≡ report cpu.config cpu.cpu cpu.side.counts.worn p
+  told p had answer is = told_by cpu.config cpu.cpu cpu.side.counts p had.shown.counted (balanced p had) answer is
 
   pub few : cpu.cpu < cpu.config.cpus
-  few = subst (λ (x : ℕ × Config). x.0 < x.1.cpus) (λ i. (was.seat i, set_up_is i)) cpu.seat.is_one
+  few = subst (λ (x : ℕ × Config). x.0 < x.1.cpus) (λ i. (was.steady.seat i, set_up_is i)) cpu.seat.is_one

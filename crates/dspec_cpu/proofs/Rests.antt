@@ -10,17 +10,17 @@ use Rattle.dspec_deeds.specs.declared.deed.Deed.{Deed}
 use Rattle.dspec_deeds.specs.declared.deed.Deed.TheVariants.{Settle}
 use Rattle.dspec_deeds.specs.Closes.{is_granted}
 use Rattle.dspec_deeds.specs.History.{ack, word_at}
-use Rattle.dspec_deeds.specs.OwnShown.{SideParts}
 use Rattle.dspec_deeds.specs.Settling.{settle_fate}
 use Rattle.dspec_buffer.specs.Stored.{Stored}
 use Rattle.dspec_play.specs.OwnClose.{own_closed_slot}
 use Rattle.dspec_table.specs.declared.last.LastWords.{LastWords}
 use Rattle.dspec_table.specs.Last.{last_set_up, last_words}
 use Rattle.dspec_table.specs.Showing.{Shows}
-use Rattle.dspec_cpu.specs.declared.counts.Counts.{Counts}
+use Rattle.dspec_side.specs.declared.side.Side.{Side}
+use Rattle.dspec_side.specs.Sides.{parts_of_side}
 use Rattle.dspec_cpu.specs.declared.rest.CpuRest.{CpuRest}
 use Rattle.dspec_cpu.specs.Lists.{AreShown}
-use Rattle.dspec_cpu.specs.Rests.{AreItsWords, CanCloseBehind, RestHasList, batches_of_rest, side_of_rest}
+use Rattle.dspec_cpu.specs.Rests.{AreItsWords, CanCloseBehind, RestHasList, batches_of_rest}
 use Rattle.dspec_cpu.specs.Settled.{CanSettle, shown_at}
 use Rattle.dspec_cpu.proofs.Settlements.{can_settle}
 
@@ -34,23 +34,23 @@ module _ (shape : ℕ → Option Shape) (accepted : Record → Bool) (text : Rec
     acked : (log now p : List Deed) → CanCloseBehind rest.config rest.cpu slot (last_words last) log now p → settle_at word a ≡ settle_at word (ack rest.cpu slot p)
     acked log now p closes = ap (settle_at word) (a_is log (shows_last log closes.shows) ∙ sym closes.ack)
 
-    module _ (grants : is_granted (settle_at word a) ≡ true) (small : rest.calls < 2 ^ 64) where
+    module _ (grants : is_granted (settle_at word a) ≡ true) (small : rest.side.calls < 2 ^ 64) where
       granted : (log now p : List Deed) → CanCloseBehind rest.config rest.cpu slot (last_words last) log now p → is_granted (settle_at word (ack rest.cpu slot p)) ≡ true
       granted log now p closes = sym (ap is_granted (acked log now p closes)) ∙ grants
 
       pub can : (handed : List Batch) (log now p : List Deed) → RestHasList shape accepted text rest handed p → CanCloseBehind rest.config rest.cpu slot (last_words last) log now p
-          → CanSettle shape accepted text rest.config rest.cpu (side_of_rest rest) (batches_of_rest rest handed) rest.counts (shown_at slot word) word.code p
+          → CanSettle shape accepted text rest.config rest.cpu rest.side (batches_of_rest rest handed) (shown_at slot word) word.code p
       can handed log now p had closes = can_settle shape rest.config rest.cpu now p closes.part_is slot word (closes.word ∙ sym (word_is log (shows_last log closes.shows))) (granted log now p closes)
-          accepted text (side_of_rest rest) (batches_of_rest rest handed) rest.counts had low high its.one small
+          accepted text rest.side (batches_of_rest rest handed) had low high its.one small
 
       -- and the settlement is that of the close
-      pub closed : (handed : List Batch) (log now p : List Deed) → CanCloseBehind rest.config rest.cpu slot (last_words last) log now p → (side : SideParts Stored) (counts : Counts)
-          → AreShown shape accepted text rest.config rest.cpu side (batches_of_rest rest handed) counts
+      pub closed : (handed : List Batch) (log now p : List Deed) → CanCloseBehind rest.config rest.cpu slot (last_words last) log now p → (side : Side Stored)
+          → AreShown shape accepted text rest.config rest.cpu (parts_of_side side) (batches_of_rest rest handed) side.counts
           (Settle rest.cpu (shown_at slot word) (settle_fate shape rest.config rest.cpu p (shown_at slot word) word.code) ∷ p)
-          → AreShown shape accepted text rest.config rest.cpu side (batches_of_rest rest handed) counts (own_closed_slot shape rest.config (λ s. word_at s log) rest.cpu slot p)
-      closed handed log now p closes side counts shown =
+          → AreShown shape accepted text rest.config rest.cpu (parts_of_side side) (batches_of_rest rest handed) side.counts (own_closed_slot shape rest.config (λ s. word_at s log) rest.cpu slot p)
+      closed handed log now p closes side shown =
           let next : SlotState → List Deed = λ w. if is_granted (settle_at w (ack rest.cpu slot p)) then Settle rest.cpu (shown_at slot w)
           (settle_fate shape rest.config rest.cpu p (shown_at slot w) w.code) ∷ p else p in
-          subst (λ w. AreShown shape accepted text rest.config rest.cpu side (batches_of_rest rest handed) counts (next w)) (word_is log (shows_last log closes.shows))
-          (subst (λ b. AreShown shape accepted text rest.config rest.cpu side (batches_of_rest rest handed) counts
+          subst (λ w. AreShown shape accepted text rest.config rest.cpu (parts_of_side side) (batches_of_rest rest handed) side.counts (next w)) (word_is log (shows_last log closes.shows))
+          (subst (λ b. AreShown shape accepted text rest.config rest.cpu (parts_of_side side) (batches_of_rest rest handed) side.counts
           (if b then Settle rest.cpu (shown_at slot word) (settle_fate shape rest.config rest.cpu p (shown_at slot word) word.code) ∷ p else p)) (sym (granted log now p closes)) shown)

@@ -17,8 +17,8 @@ use Rattle.dspec_deeds.proofs.TestLemmas.{number_is_itself, same_number}
 use Rattle.dspec_table.specs.declared.seats.Words.{Words}
 use Rattle.dspec_table.specs.declared.seats.CpuSeat.{CpuSeat}
 use Rattle.dspec_table.specs.Seats.{known}
-use Rattle.dspec_cpu.specs.declared.cpu.Cpu.{Cpu}
-use Rattle.dspec_cpu.specs.Counting.{counts_of}
+use Rattle.dspec_cpu.specs.declared.parts.CpuParts.{CpuParts as Cpu}
+use Rattle.dspec_side.specs.Counting.{counts_of}
 use Rattle.dspec_cpu.specs.Lists.{HasList, IsReady, batches_of}
 use Rattle.dspec_cpu.specs.Sealed.{HasSized, AreSealed, waiting}
 use Rattle.dspec_cpu.specs.Switching.{batch_of, buffers_of}
@@ -72,15 +72,15 @@ module _ (shape : ℕ → Option Shape) (accepted : Record → Bool) (text : Rec
   sealed_count k c (Halt ∷ p) bs own x = on k (seals c p) bs (sealed_count k c p bs own.0 x)
 
   module _ {S : Type 0} (words : Words) (cpu : Cpu S) (ready : IsReady shape accepted text words cpu) where
-    pub batch_count : length (batches_of cpu) ≡ cpu.seals
-    batch_count = (sealed_count cpu.config cpu.cpu ready.list (batches_of cpu) ready.listed.shown.legal ready.listed.shown.sealed).0 ∙ sym ready.listed.shown.side.sealed
+    pub batch_count : length (batches_of cpu) ≡ cpu.side.seals
+    batch_count = (sealed_count cpu.config cpu.cpu ready.steady.list (batches_of cpu) ready.steady.listed.shown.legal ready.steady.listed.shown.sealed).0 ∙ sym ready.steady.listed.shown.side.sealed
 
     pub most_calls : cpu.config.max_calls ≤ 2 ^ 62
-    most_calls = (limits cpu.config ready.checked).calls
+    most_calls = (limits cpu.config ready.steady.checked).calls
 
     pub few_batches : length (batches_of cpu) ≤ 2 ^ 62
     few_batches =
-        let told = sealed_count cpu.config cpu.cpu ready.list (batches_of cpu) ready.listed.shown.legal ready.listed.shown.sealed in
+        let told = sealed_count cpu.config cpu.cpu ready.steady.list (batches_of cpu) ready.steady.listed.shown.legal ready.steady.listed.shown.sealed in
         let count = told.0 in
         let most = told.1 in
         let all = most_calls in
@@ -102,12 +102,13 @@ module _ (shape : ℕ → Option Shape) (accepted : Record → Bool) (text : Rec
 
       -- the active buffer is the latest batch, and an empty one is active
       pub sealed_list : (end : CpuKnows) (in_hand : Option Batch) (next : Stored) → waiting in_hand ++ reverse end.handed ≡ batch_of cpu.cpu (buffers_of cpu) ∷ batches_of cpu
-          → HasSized shape accepted text cpu.config.bufsize [] next → cpu.seals < cpu.config.max_calls → is_fill cpu.config.policy ≡ false
-          → HasList shape accepted text (record cpu { seat = seat; end = end; in_hand = in_hand; spare = None; active = next; drops = 0; seals = cpu.seals + 1 }) (Seal cpu.cpu ∷ p)
+          → HasSized shape accepted text cpu.config.bufsize [] next → cpu.side.seals < cpu.config.max_calls → is_fill cpu.config.policy ≡ false
+          → HasList shape accepted text (record cpu
+          { seat = seat; end = end; in_hand = in_hand; spare = None; side = record cpu.side { active = next; drops = 0; seals = cpu.side.seals + 1 } }) (Seal cpu.cpu ∷ p)
       sealed_list end in_hand next batches empty lt unfilled =
           let itself = number_is_itself cpu.cpu in
           let side = had.shown.side in
-          let idle : scan cpu.config cpu.cpu p ≡ 0 = (apart_bare cpu.config cpu.cpu p).scanning ∙ (ap (scan cpu.config cpu.cpu) had.own ∙ ready.idle) in
+          let idle : scan cpu.config cpu.cpu p ≡ 0 = (apart_bare cpu.config cpu.cpu p).scanning ∙ (ap (scan cpu.config cpu.cpu) had.own ∙ ready.steady.idle) in
           record {
             own = had.own ∙ sym same;
             shown = record {
@@ -126,6 +127,6 @@ module _ (shape : ℕ → Option Shape) (accepted : Record → Bool) (text : Rec
                 drops = rw itself refl;
               };
               sealed = (batch_of cpu.cpu (buffers_of cpu), batches_of cpu, batches, record { of_cpu = refl; drops = side.drops; buffer = side.principal }, had.shown.sealed);
-              counted = had.shown.counted ∙ sym (sealed_counts cpu.config cpu.cpu cpu.counts.worn p);
+              counted = had.shown.counted ∙ sym (sealed_counts cpu.config cpu.cpu cpu.side.counts.worn p);
             };
           }

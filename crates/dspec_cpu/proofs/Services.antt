@@ -2,7 +2,6 @@
 use Rattle.std.proofs.Common.{◌≡◌, ◌≢◌, ℕ, ◌+◌, ◌-◌, ◌*◌, ◌≤◌, ◌<◌, ◌^◌, Bool, true, false, List, [], ◌∷◌}
 use Rattle.std.proofs.Common.{◌++◌, ◌&&◌, nat_le, length, get_or, Option, Some, if◌then◌else◌, refl, sym, ap, ◌∙◌, subst, inl, arith}
 use Rattle.std.proofs.lemmas.Option.{get_or_from_slice_get}
-use Rattle.std.specs.Global.{Vec}
 use Rattle.dspec_record.specs.Record.{Record}
 use Rattle.dspec_record.specs.declared.field.Shape.{Shape}
 use Rattle.dspec_buffer.specs.Stored.{Stored}
@@ -29,8 +28,8 @@ use Rattle.dspec_table.specs.Holders.{number_of}
 use Rattle.dspec_table.specs.Seats.{known}
 use Rattle.dspec_table.specs.Steps.{Entered, LoadedWord, SettledWord}
 use Rattle.dspec_table.proofs.OwnReading.{scan_part}
-use Rattle.dspec_cpu.specs.declared.cpu.Cpu.{Cpu}
-use Rattle.dspec_cpu.specs.declared.counts.Counts.{Counts}
+use Rattle.dspec_cpu.specs.declared.parts.CpuParts.{CpuParts as Cpu}
+use Rattle.dspec_side.specs.declared.side.Side.{Side}
 use Rattle.dspec_cpu.specs.Calls.{Goes, rests, steps}
 use Rattle.dspec_cpu.specs.Lists.{AreShown, HasList, IsReady, side_of, batches_of}
 use Rattle.dspec_cpu.specs.Reached.{Stands}
@@ -79,25 +78,25 @@ module _ (shape : ℕ → Option Shape) (accepted : Record → Bool) (text : Rec
   part_now p had = record {
     sound = load_stands.sound;
     rests = load_stands.rests;
-    idle = sym (scan_part cpu.config cpu.cpu u.seen) ∙ (ap (scan cpu.config cpu.cpu) (load_stands.part_is ∙ load_stands.own) ∙ ready.idle);
+    idle = sym (scan_part cpu.config cpu.cpu u.seen) ∙ (ap (scan cpu.config cpu.cpu) (load_stands.part_is ∙ load_stands.own) ∙ ready.steady.idle);
     part_is = had.own ∙ (sym load_stands.own ∙ sym load_stands.part_is);
   }
 
   -- the acknowledgement that the CPU keeps, as its lists have it
-  pub ack_kept : (p : List Deed) → HasList shape accepted text cpu p → (a : ℕ) → a ≡ get_or cpu.acks.items (slot - 1) a → a ≡ ack cpu.cpu slot p
-  ack_kept p had a is = is ∙ get_or_from_slice_get cpu.acks.items (slot - 1) (ack cpu.cpu slot p) a (had.shown.side.acks slot low high)
+  pub ack_kept : (p : List Deed) → HasList shape accepted text cpu p → (a : ℕ) → a ≡ get_or cpu.side.acks.items (slot - 1) a → a ≡ ack cpu.cpu slot p
+  ack_kept p had a is = is ∙ get_or_from_slice_get cpu.side.acks.items (slot - 1) (ack cpu.cpu slot p) a (had.shown.side.acks slot low high)
 
   ack_own : (p : List Deed) → HasList shape accepted text cpu p → ack cpu.cpu slot p ≡ ack cpu.cpu slot v.own
   ack_own p had = (apart_bare cpu.config cpu.cpu p).acks slot ∙ ap (ack cpu.cpu slot) had.own
 
-  act_is : (a : ℕ) → a ≡ get_or cpu.acks.items (slot - 1) a → settle_at word a ≡ settle_at word (ack cpu.cpu slot v.own)
-  act_is a is = ap (settle_at word) (ack_kept ready.list ready.listed a is ∙ ack_own ready.list ready.listed)
+  act_is : (a : ℕ) → a ≡ get_or cpu.side.acks.items (slot - 1) a → settle_at word a ≡ settle_at word (ack cpu.cpu slot v.own)
+  act_is a is = ap (settle_at word) (ack_kept ready.steady.list ready.steady.listed a is ∙ ack_own ready.steady.list ready.steady.listed)
 
   -- a slot that is passed
   pub passed_list : (p : List Deed) → HasList shape accepted text cpu p → HasList shape accepted text (record cpu { seat = seat }) p
   passed_list p had = record { own = had.own ∙ sym load_stands.own; shown = had.shown }
 
-  pub passed : (a : ℕ) → a ≡ get_or cpu.acks.items (slot - 1) a → is_granted (settle_at word a) ≡ false
+  pub passed : (a : ℕ) → a ≡ get_or cpu.side.acks.items (slot - 1) a → is_granted (settle_at word a) ≡ false
       → SlotDone cpu.cpu slot false (HasList shape accepted text cpu) v (HasList shape accepted text (record cpu { seat = seat })) u
   passed a is none = record {
     settles = [];
@@ -125,21 +124,21 @@ module _ (shape : ℕ → Option Shape) (accepted : Record → Bool) (text : Rec
   }
 
   -- a slot that is settled
-  module _ (a : ℕ) (kept : a ≡ get_or cpu.acks.items (slot - 1) a) (grants : is_granted (settle_at word a) ≡ true) (small : cpu.calls < 2 ^ 64) where
+  module _ (a : ℕ) (kept : a ≡ get_or cpu.side.acks.items (slot - 1) a) (grants : is_granted (settle_at word a) ≡ true) (small : cpu.side.calls < 2 ^ 64) where
     abbrev pub id : Speculation
     id = shown_at slot word
 
     granted : (p : List Deed) → HasList shape accepted text cpu p → is_granted (settle_at word (ack cpu.cpu slot p)) ≡ true
     granted p had = ap (λ n. is_granted (settle_at word n)) (sym (ack_kept p had a kept)) ∙ grants
 
-    pub can : (p : List Deed) → HasList shape accepted text cpu p → CanSettle shape accepted text cpu.config cpu.cpu (side_of cpu) (batches_of cpu) cpu.counts id word.code p
-    can p had = can_settle shape cpu.config cpu.cpu u.seen p (part_now p had) slot word here (granted p had) accepted text (side_of cpu) (batches_of cpu) cpu.counts had.shown
-        low high (few shape accepted text words cpu ready) small
+    pub can : (p : List Deed) → HasList shape accepted text cpu p → CanSettle shape accepted text cpu.config cpu.cpu cpu.side (batches_of cpu) id word.code p
+    can p had = can_settle shape cpu.config cpu.cpu u.seen p (part_now p had) slot word here (granted p had) accepted text cpu.side (batches_of cpu)
+        had.shown low high (few shape accepted text words cpu ready) small
 
     pub may_settle : (k : Config) (c i : ℕ) → k ≡ cpu.config → c ≡ cpu.cpu → i ≡ word.issue → MaySettle k u c record { issue = i; slot = slot }
     may_settle k c i config number issue = subst (λ (x : Config × ℕ × ℕ). MaySettle x.0 u x.1 record { issue = x.2; slot = slot }) (λ j. (sym config j, sym number j, sym issue j))
         (record {
-          idle = ap (scan cpu.config cpu.cpu) load_stands.own ∙ ready.idle;
+          idle = ap (scan cpu.config cpu.cpu) load_stands.own ∙ ready.steady.idle;
           low = low;
           high = high;
           issue = ap (λ (w : SlotState). w.issue) here;
@@ -149,12 +148,10 @@ module _ (shape : ℕ → Option Shape) (accepted : Record → Bool) (text : Rec
 
     module _ (own : Doing) (service : own.op ≡ op.Service) (last : CpuSeat) (i : ℕ) (i_is : i ≡ word.issue)
         (stored : SettledWord own record { issue = i; slot = slot } (word_at slot u.seen).code u (known last))
-        (active : Stored) (speculative : Vec Stored) (acks : Vec ℕ) (drops : ℕ) (counts : Counts)
-        (block : (p : List Deed) → CanSettle shape accepted text cpu.config cpu.cpu (side_of cpu) (batches_of cpu) cpu.counts id word.code p
-        → BlockSettled shape accepted text cpu.config cpu.cpu
-        (side_of (record cpu { seat = last; active = active; speculative = speculative; acks = acks; drops = drops; counts = counts })) counts (batches_of cpu) id word.code own p) where
+        (now : Side Stored) (block : (p : List Deed) → CanSettle shape accepted text cpu.config cpu.cpu cpu.side (batches_of cpu) id word.code p
+        → BlockSettled shape accepted text cpu.config cpu.cpu now (batches_of cpu) id word.code own p) where
       abbrev pub new : Cpu S
-      new = record cpu { seat = last; active = active; speculative = speculative; acks = acks; drops = drops; counts = counts }
+      new = record cpu { seat = last; side = now }
 
       abbrev w : View
       w = known last
@@ -178,7 +175,7 @@ module _ (shape : ℕ → Option Shape) (accepted : Record → Bool) (text : Rec
           let done = block p (can p had) in
           record {
             own = ap (λ l. deed ∷ l) had.own ∙ sym settle_stands.own;
-            shown = subst (λ f. AreShown shape accepted text cpu.config cpu.cpu (side_of new) (batches_of cpu) counts (Settle cpu.cpu id f ∷ p)) (sym done.fate) done.shown;
+            shown = subst (λ f. AreShown shape accepted text cpu.config cpu.cpu (side_of new) (batches_of cpu) now.counts (Settle cpu.cpu id f ∷ p)) (sym done.fate) done.shown;
           }
 
       pub slot_done : SlotDone cpu.cpu slot true (HasList shape accepted text cpu) v (HasList shape accepted text new) w

@@ -23,7 +23,6 @@ use Rattle.dspec_deeds.specs.FateKinds.{is_commit, is_lost}
 use Rattle.dspec_deeds.specs.History.{ack, issue, part, present, settled, solo, verdict, word_at}
 use Rattle.dspec_deeds.specs.Legal.{IsSound, SettlesAs}
 use Rattle.dspec_deeds.specs.Own.{calls, held, growing, is_drop}
-use Rattle.dspec_deeds.specs.OwnShown.{SideParts}
 use Rattle.dspec_deeds.specs.Reports.{CountsWithin, report}
 use Rattle.dspec_deeds.specs.Settling as settling
 use Rattle.dspec_deeds.specs.Weaving.{bare}
@@ -33,13 +32,15 @@ use Rattle.dspec_deeds.proofs.OwnAccounts.{own_report}
 use Rattle.dspec_deeds.proofs.OwnReads.{apart_bare}
 use Rattle.dspec_deeds.proofs.TestLemmas.{cpu_is_itself, number_is_itself}
 use Rattle.dspec_table.proofs.OwnReading.{ack_part}
-use Rattle.dspec_cpu.specs.declared.counts.Counts.{Counts}
-use Rattle.dspec_cpu.specs.Counting.{HasRoom, counts_of, with_decided}
+use Rattle.dspec_side.specs.declared.counts.Counts.{Counts}
+use Rattle.dspec_side.specs.declared.side.Side.{Side}
+use Rattle.dspec_side.specs.Sides.{parts_of_side}
+use Rattle.dspec_side.specs.Counting.{HasRoom, counts_of, with_decided}
 use Rattle.dspec_cpu.specs.Lists.{AreShown}
 use Rattle.dspec_cpu.specs.Settled.{CanSettle, IsPartOf, shown_at}
 use Rattle.dspec_cpu.proofs.Mine.{unmarked_empty}
 use Rattle.dspec_cpu.proofs.OwnBlocks.{lawful, goes_on}
-use Rattle.dspec_cpu.proofs.Tallies.{drops_since, settle_counts}
+use Rattle.dspec_side.proofs.Tallies.{drops_since, settle_counts}
 
 -- what a grant tells of the word
 pub grant_tells : (w : SlotState) (acked : ℕ) → is_granted (settle_at w acked) ≡ true → (awaits w.code ≡ true) × (nat_le acked w.issue ≡ true)
@@ -101,19 +102,19 @@ module _ (shape : ℕ → Option Shape) (k : Config) (c : ℕ) (log p : List Dee
       not_yet true e = absurd (true≢false (sym e))
       not_yet false e = refl
 
-  module _ (accepted : Record → Bool) (text : Record → List ℕ) (side : SideParts Stored) (batches : List Batch) (counts : Counts) (shown : AreShown shape accepted text k c side batches counts p)
+  module _ (accepted : Record → Bool) (text : Record → List ℕ) (side : Side Stored) (batches : List Batch) (shown : AreShown shape accepted text k c (parts_of_side side) batches side.counts p)
       (low : 1 ≤ slot) (high : slot ≤ k.nspec) (few : c < k.cpus) (small : side.calls < 2 ^ 64) where
-    counted : with_decided f counts ≡ counts_of k c counts.worn (Settle c id f ∷ p)
-    counted = ap (with_decided f) shown.counted ∙ sym (settle_counts k c counts.worn p id f (goes_on shape k c p id word.code))
+    counted : with_decided f side.counts ≡ counts_of k c side.counts.worn (Settle c id f ∷ p)
+    counted = ap (with_decided f) shown.counted ∙ sym (settle_counts k c side.counts.worn p id f (goes_on shape k c p id word.code))
 
-    within : CountsWithin (calls c p + 0) (report k c counts.worn (Settle c id f ∷ p))
-    within = (own_report shape k c counts.worn (Settle c id f ∷ log) (Settle c id f ∷ p) settles_on.sound (shown.legal, number_is_itself c, lawful shape k c p id word.code) settles_on.part_is).0
+    within : CountsWithin (calls c p + 0) (report k c side.counts.worn (Settle c id f ∷ p))
+    within = (own_report shape k c side.counts.worn (Settle c id f ∷ log) (Settle c id f ∷ p) settles_on.sound (shown.legal, number_is_itself c, lawful shape k c p id word.code) settles_on.part_is).0
 
-    room : HasRoom f counts
+    room : HasRoom f side.counts
     room =
         let called = shown.side.called in
         let all = within in
-        let e : (n : Counts) × (with_decided f counts ≡ n) × (n ≡ counts_of k c counts.worn (Settle c id f ∷ p)) = (with_decided f counts, refl, counted) in
+        let e : (n : Counts) × (with_decided f side.counts ≡ n) × (n ≡ counts_of k c side.counts.worn (Settle c id f ∷ p)) = (with_decided f side.counts, refl, counted) in
         let a = ap (λ (n : Counts). n.accepted) counted in
         let l = ap (λ (n : Counts). n.lost) counted in
         let d = ap (λ (n : Counts). n.discarded) counted in
@@ -135,7 +136,7 @@ module _ (shape : ℕ → Option Shape) (k : Config) (c : ℕ) (log p : List Dee
         same true b e = ap (λ x. if x then 1 else 0) e
         same false b e = refl
 
-    pub can_settle : CanSettle shape accepted text k c side batches counts id word.code p
+    pub can_settle : CanSettle shape accepted text k c side batches id word.code p
     can_settle = record {
       shown = shown;
       low = low;

@@ -17,7 +17,7 @@ use Rattle.dspec_table.specs.declared.seats.CpuSeat.{CpuSeat}
 use Rattle.dspec_table.specs.Asks.{LoadedAsk}
 use Rattle.dspec_table.specs.Holders.{of_cpu, part_of}
 use Rattle.dspec_table.specs.Seats.{known, IsAt, cpu_of}
-use Rattle.dspec_cpu.specs.declared.cpu.Cpu.{Cpu}
+use Rattle.dspec_cpu.specs.declared.parts.CpuParts.{CpuParts as Cpu}
 use Rattle.dspec_cpu.specs.Lists.{HasList, IsReady, IsSameCpu, batches_of, spare_count}
 use Rattle.dspec_cpu.specs.Reached.{Stands}
 use Rattle.dspec_cpu.specs.Sealed.{HasSized, waiting}
@@ -124,11 +124,12 @@ module _ (shape : ℕ → Option Shape) (accepted : Record → Bool) (text : Rec
         sealed_list shape accepted text words cpu ready seat same p had g last (emptied s)
         ((passed f (Some (batch_of cpu.cpu looked_at)) g last gives).batches ∙ ap (λ bs. batch_of cpu.cpu (buffers_of cpu) ∷ bs)
         (ap (λ w. waiting w ++ reverse f.handed) (sym none) ∙ batches_left f (Some s) finds))
-        (emptied_sized cpu.config.bufsize s ((found cpu.config.bufsize e cpu.spare f (Some s) finds).sized ready.spare s refl)) below unfilled
+        (emptied_sized cpu.config.bufsize s ((found cpu.config.bufsize e cpu.spare f (Some s) finds).sized ready.steady.spare s refl)) below unfilled
 
     -- the CPU has no buffer more than came to it
     pub few_left : length (waiting left ++ reverse e.handed) + spare_count cpu.spare ≤ 1 + length e.spares
-    few_left = subst (λ (q : List Batch × List Batch). length q.0 + spare_count cpu.spare ≤ 1 + length q.1) (λ i. (sym batches i, sym (passed cpu.end cpu.in_hand e left hands).spares i)) ready.few
+    few_left = subst (λ (q : List Batch × List Batch). length q.0 + spare_count cpu.spare ≤ 1 + length q.1) (λ i. (sym batches i, sym (passed cpu.end cpu.in_hand e left hands).spares i))
+        ready.steady.few
 
     few_found : (f : CpuKnows) (s : Option Stored) → FindsSpare cpu.config.bufsize e cpu.spare f s → length (waiting left ++ reverse f.handed) + spare_count s ≤ 1 + length f.spares
     few_found f s finds = (found cpu.config.bufsize e cpu.spare f s finds).few _
@@ -147,10 +148,10 @@ module _ (shape : ℕ → Option Shape) (accepted : Record → Bool) (text : Rec
         omega arith
 
     sized_after : (sealed : Bool) (y : Buffers) → Heeds cpu.config cpu.cpu ask looked_at sealed y → (b : Stored) → y.spare ≡ Some b → b.size ≡ cpu.config.bufsize
-    sized_after sealed y (not_asked le) b at = ready.spare b at
-    sized_after sealed y (worn_out lt le) b at = ready.spare b at
+    sized_after sealed y (not_asked le) b at = ready.steady.spare b at
+    sized_after sealed y (worn_out lt le) b at = ready.steady.spare b at
     sized_after sealed y (no_spare lt below f finds) b at = absurd (cc (at))
-    sized_after sealed y (held_up lt below f s finds w is more) b at = (found cpu.config.bufsize e cpu.spare f (Some s) finds).sized ready.spare b at
+    sized_after sealed y (held_up lt below f s finds w is more) b at = (found cpu.config.bufsize e cpu.spare f (Some s) finds).sized ready.steady.spare b at
     sized_after sealed y (switched lt below f s finds none g last gives) b at = absurd (cc (at))
 
     pair_after : (sealed : Bool) (y : Buffers) → Heeds cpu.config cpu.cpu ask looked_at sealed y → y.end.pair ≡ e.pair
@@ -165,14 +166,15 @@ module _ (shape : ℕ → Option Shape) (accepted : Record → Bool) (text : Rec
         → (sealed : Bool) (y : Buffers) → Heeds cpu.config cpu.cpu ask looked_at sealed y → IsReady shape accepted text words (with_buffers cpu seat y)
     heeded_ready seat at same loaded sealed y heeds =
         let stands = stands_asked cpu.config cpu.cpu ask (known cpu.seat) (known seat) (set_up_is shape accepted text words cpu ready) (holder shape accepted text words cpu ready) loaded in
-        ready_after shape accepted text words cpu ready (with_buffers cpu seat y) [] refl refl at same stands ready.idle ready.flight (sized_after sealed y heeds) (few_after sealed y heeds)
-        (with_seal sealed cpu.cpu ready.list) (heeded_list seat stands.own sealed y heeds ready.list ready.listed)
+        ready_after shape accepted text words cpu ready (with_buffers cpu seat y) [] refl refl at same stands ready.steady.idle ready.steady.flight
+        (sized_after sealed y heeds) (few_after sealed y heeds)
+        (with_seal sealed cpu.cpu ready.steady.list) (heeded_list seat stands.own sealed y heeds ready.steady.list ready.steady.listed)
 
     -- the whole switch
     module _ (seat : CpuSeat) (at : IsAt words seat) (same : cpu_of seat ≡ cpu_of cpu.seat) (loaded : LoadedAsk (cpu_of cpu.seat) (known cpu.seat) ask (known seat))
         (new : Cpu S) (beside : IsSameBeside cpu new × (new.seat ≡ seat)) (sealed : Bool) (heeds : Heeds cpu.config cpu.cpu ask looked_at sealed (buffers_of new)) where
       its_ask : LoadedAsk cpu.cpu (known cpu.seat) ask (known seat)
-      its_ask = subst (λ n. LoadedAsk n (known cpu.seat) ask (known seat)) ready.seat loaded
+      its_ask = subst (λ n. LoadedAsk n (known cpu.seat) ask (known seat)) ready.steady.seat loaded
 
       is_new : new ≡ with_buffers cpu seat (buffers_of new)
       is_new = switched_is cpu seat new beside

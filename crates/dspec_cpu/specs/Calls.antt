@@ -25,6 +25,11 @@ pub data Goes (v : View) : List Deed → View → Type 0 where
   rests : Goes v [] v
   steps : {u : View} {ds : List Deed} (w : View) (new all log : List Deed) → Goes v ds u → Found u log → EnteredIn u log new w → all ≡ new ++ ds → Goes v all w
 
+-- these deeds were done, and come in front of every list that the CPU had
+pub record Does (ds : List Deed) (had : List Deed → Type 0) (v : View) (has : List Deed → Type 0) (w : View) : Type 0 where
+  pub did : Goes v ds w
+  pub list : (p : List Deed) → had p → has (ds ++ p)
+
 -- the deeds of a call of trace that answered so
 abbrev pub traced_deeds : ℕ → Record → Traced → List Deed
 traced_deeds c r traced.Worn = []

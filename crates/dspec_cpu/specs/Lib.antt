@@ -1,4 +1,3 @@
-pub mod Counting
 pub mod Sealed
 pub mod Lists
 pub mod Calls
@@ -11,3 +10,4 @@ pub mod Settled
 pub mod Serving
 pub mod Rests
 pub mod Keeping
+pub mod Standing

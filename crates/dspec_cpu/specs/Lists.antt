@@ -1,4 +1,4 @@
--- Which lists of its own deeds a CPU has, the latest first, and whether it can be called.
+-- Which lists of its own deeds a CPU has, the latest first, and what holds of it between two of its calls.
 use Rattle.std.specs.Prelude.{ℕ, ◌≡◌, ◌≤◌, ◌+◌, Bool, List, ◌++◌, length, reverse, Option, Some, None}
 use Rattle.dspec_record.specs.Record.{Record}
 use Rattle.dspec_record.specs.declared.field.Shape.{Shape}
@@ -17,10 +17,11 @@ use Rattle.dspec_table.specs.declared.seats.Words.{Words}
 use Rattle.dspec_table.specs.declared.seats.CpuSeat.{CpuSeat}
 use Rattle.dspec_table.specs.Seats.{known, IsAt, set_up, cpu_of}
 use Rattle.dspec_ring.specs.Known.{CpuKnows}
-use Rattle.dspec_cpu.specs.declared.counts.Counts.{Counts}
-use Rattle.dspec_cpu.specs.declared.cpu.Cpu.{Cpu}
+use Rattle.dspec_side.specs.declared.counts.Counts.{Counts}
+use Rattle.dspec_cpu.specs.declared.parts.CpuParts.{CpuParts as Cpu}
 use Rattle.dspec_cpu.specs.declared.shared.Shared.{Shared}
-use Rattle.dspec_cpu.specs.Counting.{counts_of}
+use Rattle.dspec_side.specs.Counting.{counts_of}
+use Rattle.dspec_side.specs.Sides.{parts_of_side}
 use Rattle.dspec_cpu.specs.Sealed.{HasSized, AreSealed, waiting}
 
 -- the words that all threads of a session share
@@ -29,16 +30,7 @@ words_of shared = shared.words
 
 -- what a CPU's side shows of its deeds
 abbrev pub side_of : {S : Type 0} → Cpu S → SideParts Stored
-side_of cpu = record {
-  calls = cpu.calls;
-  seals = cpu.seals;
-  missed_busy = cpu.missed_busy;
-  acks = cpu.acks.items;
-  marks = cpu.marks.items;
-  speculative = cpu.speculative.items;
-  active = cpu.active;
-  drops = cpu.drops;
-}
+side_of cpu = parts_of_side cpu.side
 
 -- the batches that the CPU sealed, the latest first: the one in hand, and those handed on
 abbrev pub batches_of : {S : Type 0} → Cpu S → List Batch
@@ -46,7 +38,7 @@ batches_of cpu = waiting cpu.in_hand ++ reverse cpu.end.handed
 
 -- how many calls were answered Worn
 abbrev pub worn_of : {S : Type 0} → Cpu S → ℕ
-worn_of cpu = cpu.counts.worn
+worn_of cpu = cpu.side.counts.worn
 
 -- what it was made with, and its seat and its rings
 abbrev pub config_of : {S : Type 0} → Cpu S → Config
@@ -78,11 +70,11 @@ abbrev pub in_hand_of : {S : Type 0} → Cpu S → Option Batch
 in_hand_of cpu = cpu.in_hand
 
 abbrev pub seals_of : {S : Type 0} → Cpu S → ℕ
-seals_of cpu = cpu.seals
+seals_of cpu = cpu.side.seals
 
 -- how many calls count towards the most that it makes
 abbrev pub calls_of : {S : Type 0} → Cpu S → ℕ
-calls_of cpu = cpu.calls
+calls_of cpu = cpu.side.calls
 
 -- it is the same CPU of the same session
 pub record IsSameCpu {S : Type 0} (old new : Cpu S) : Type 0 where
@@ -101,20 +93,19 @@ module _ (shape : ℕ → Option Shape) (accepted : Record → Bool) (text : Rec
     pub counted : counts ≡ counts_of k c counts.worn p
 
   abbrev pub IsShown : {S : Type 0} → Cpu S → List Deed → Type 0
-  IsShown cpu p = AreShown cpu.config cpu.cpu (side_of cpu) (batches_of cpu) cpu.counts p
+  IsShown cpu p = AreShown cpu.config cpu.cpu (side_of cpu) (batches_of cpu) cpu.side.counts p
 
   -- the CPU has the list: it shows it, and its seat has it without the Seals
   pub record HasList {S : Type 0} (cpu : Cpu S) (p : List Deed) : Type 0 where
     pub own : bare p ≡ (known cpu.seat).own
     pub shown : IsShown cpu p
 
-  -- The CPU is one of that session, and no call of it is under way or in flight at its seat. What its seat has seen is legal, and the seat's list is its
-  -- part. There is a list that it has. A spare in hand has the size of a principal buffer. The CPU has two principal buffers
-  -- beside those that came to it, and one is active: the batches that it sealed and a spare in hand are the others.
-  pub record IsReady {S : Type 0} (words : Words) (cpu : Cpu S) : Type 0 where
-    pub at : IsAt words cpu.seat
+  -- No call of the CPU is under way or in flight at its seat. What its seat has seen is legal, and the seat's list is its part.
+  -- There is a list that it has. A spare in hand has the size of a principal buffer. The CPU has two principal buffers beside
+  -- those that came to it, and one is active: the batches that it sealed and a spare in hand are the others.
+  pub record IsSteady {S : Type 0} (cpu : Cpu S) : Type 0 where
     pub seat : cpu_of cpu.seat ≡ cpu.cpu
-    pub config : set_up words ≡ cpu.config
+    pub config : (known cpu.seat).config ≡ cpu.config
     pub checked : start_fault cpu.config ≡ None
     pub idle : scan cpu.config cpu.cpu (known cpu.seat).own ≡ 0
     pub flight : (known cpu.seat).flight ≡ None
@@ -124,3 +115,9 @@ module _ (shape : ℕ → Option Shape) (accepted : Record → Bool) (text : Rec
     pub few : length (batches_of cpu) + spare_count cpu.spare ≤ 1 + length cpu.end.spares
     pub list : List Deed
     pub listed : HasList cpu list
+
+  -- it can be called by those who share these words
+  pub record IsReady {S : Type 0} (words : Words) (cpu : Cpu S) : Type 0 where
+    pub at : IsAt words cpu.seat
+    pub config : set_up words ≡ cpu.config
+    pub steady : IsSteady cpu

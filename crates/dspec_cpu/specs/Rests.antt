@@ -14,6 +14,7 @@ use Rattle.dspec_table.specs.declared.last.LastWords.{LastWords}
 use Rattle.dspec_table.specs.Last.{last_set_up}
 use Rattle.dspec_table.specs.Showing.{Shows}
 use Rattle.dspec_cpu.specs.declared.rest.CpuRest.{CpuRest}
+use Rattle.dspec_side.specs.Sides.{parts_of_side}
 use Rattle.dspec_cpu.specs.Lists.{AreShown}
 use Rattle.dspec_cpu.specs.Sealed.{waiting}
 use Rattle.dspec_cpu.specs.Settled.{IsPartOf}
@@ -29,7 +30,7 @@ schema_of_rest rest = rest.schema
 
 -- how many calls were answered Worn
 abbrev pub worn_of_rest : {S : Type 0} → CpuRest S → ℕ
-worn_of_rest rest = rest.counts.worn
+worn_of_rest rest = rest.side.counts.worn
 
 -- a batch whose hand-over was refused
 abbrev pub in_hand_of_rest : {S : Type 0} → CpuRest S → Option Batch
@@ -37,20 +38,11 @@ in_hand_of_rest rest = rest.in_hand
 
 -- the batch that the last Seal would make
 abbrev pub last_batch : {S : Type 0} → CpuRest S → Batch
-last_batch rest = record { cpu = rest.cpu; drops = rest.drops; buffer = rest.active }
+last_batch rest = record { cpu = rest.cpu; drops = rest.side.drops; buffer = rest.side.active }
 
 -- what it shows of the CPU's deeds
 abbrev pub side_of_rest : {S : Type 0} → CpuRest S → SideParts Stored
-side_of_rest rest = record {
-  calls = rest.calls;
-  seals = rest.seals;
-  missed_busy = rest.missed_busy;
-  acks = rest.acks.items;
-  marks = rest.marks.items;
-  speculative = rest.speculative.items;
-  active = rest.active;
-  drops = rest.drops;
-}
+side_of_rest rest = parts_of_side rest.side
 
 -- the batches that the CPU sealed, the latest first, where its end had handed on these, the oldest first
 abbrev pub batches_of_rest : {S : Type 0} → CpuRest S → List Batch → List Batch
@@ -62,11 +54,11 @@ pub record IsSameRest {S : Type 0} (old new : CpuRest S) : Type 0 where
   pub config : new.config ≡ old.config
   pub number : new.cpu ≡ old.cpu
   pub in_hand : new.in_hand ≡ old.in_hand
-  pub worn : new.counts.worn ≡ old.counts.worn
+  pub worn : new.side.counts.worn ≡ old.side.counts.worn
 
 module _ (shape : ℕ → Option Shape) (accepted : Record → Bool) (text : Record → List ℕ) where
   abbrev pub RestHasList : {S : Type 0} → CpuRest S → List Batch → List Deed → Type 0
-  RestHasList rest handed p = AreShown shape accepted text rest.config rest.cpu (side_of_rest rest) (batches_of_rest rest handed) rest.counts p
+  RestHasList rest handed p = AreShown shape accepted text rest.config rest.cpu (side_of_rest rest) (batches_of_rest rest handed) rest.side.counts p
 
 -- last words of the same session, of which the CPU is one
 pub record AreItsWords (last : LastWords) (k : Config) (c : ℕ) : Type 0 where

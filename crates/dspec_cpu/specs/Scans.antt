@@ -10,7 +10,8 @@ use Rattle.dspec_cpu.specs.declared.scanning.Look.{Look}
 use Rattle.dspec_cpu.specs.declared.scanning.Look.TheVariants as look
 use Rattle.dspec_cpu.specs.Calls.{Goes}
 use Rattle.dspec_cpu.specs.Reached.{Stands}
-use Rattle.dspec_cpu.specs.Stops.{StopsWhereMet, is_stopped_opening}
+use Rattle.dspec_cpu.specs.Stops.{StopsWhereMet}
+use Rattle.dspec_side.specs.Counting.{is_stopped_opening}
 
 -- the deed of one slot
 abbrev pub look_deed : ℕ → ℕ → Look → Deed

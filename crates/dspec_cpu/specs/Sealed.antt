@@ -1,5 +1,5 @@
 -- The batches that a CPU's own list seals.
-use Rattle.std.specs.Prelude.{ℕ, ◌≡◌, Bool, List, [], ◌∷◌, length, slice_get, Option, Some, None}
+use Rattle.std.specs.Prelude.{ℕ, ◌≡◌, Bool, List, [], ◌∷◌, Option, Some, None}
 use Rattle.dspec_record.specs.Record.{Record}
 use Rattle.dspec_record.specs.declared.field.Shape.{Shape}
 use Rattle.dspec_buffer.specs.Extent.{Piece}
@@ -9,17 +9,12 @@ use Rattle.dspec_deeds.specs.declared.config.Config.{Config}
 use Rattle.dspec_deeds.specs.declared.deed.Deed.{Deed}
 use Rattle.dspec_deeds.specs.declared.deed.Deed.TheVariants.{Seal}
 use Rattle.dspec_deeds.specs.Own.{active, growing}
+use Rattle.dspec_side.specs.Sides as Sides
 
 module _ (shape : ℕ → Option Shape) (accepted : Record → Bool) (text : Record → List ℕ) where
   -- a buffer of that size has these pieces
-  pub record HasSized (size : ℕ) (ps : List Piece) (b : Stored) : Type 0 where
-    pub sized : b.size ≡ size
-    pub has : HasPieces shape accepted text b ps
-
-  -- there is a buffer for each slot, and all are empty
-  pub record AreEmpty (k : Config) (bs : List Stored) : Type 0 where
-    pub count : length bs ≡ k.nspec
-    pub each : (i : ℕ) (b : Stored) → slice_get bs i ≡ Some b → HasSized k.specsize [] b
+  abbrev pub HasSized : ℕ → List Piece → Stored → Type 0
+  HasSized = Sides.IsFilledWith (λ b. HasPieces shape accepted text b) (λ b. b.size)
 
   -- a batch that was sealed behind the list: its buffer has the pieces that were in the active buffer then
   pub record IsSealed (k : Config) (c : ℕ) (p : List Deed) (b : Batch) : Type 0 where

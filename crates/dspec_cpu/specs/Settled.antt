@@ -20,17 +20,17 @@ use Rattle.dspec_deeds.specs.History.{ack, owed, part, scan}
 use Rattle.dspec_deeds.specs.Legal.{IsSound}
 use Rattle.dspec_deeds.specs.Marks.{mark}
 use Rattle.dspec_deeds.specs.Own.{held}
-use Rattle.dspec_deeds.specs.OwnShown.{SideParts}
 use Rattle.dspec_deeds.specs.Settling as settling
 use Rattle.dspec_deeds.specs.Weaving.{bare}
 use Rattle.dspec_table.specs.declared.doing.Doing.{Doing}
 use Rattle.dspec_table.specs.declared.rule.View.{View}
 use Rattle.dspec_table.specs.Acts.{fate_of_settlement}
 use Rattle.dspec_table.specs.Steps.{LoadedWord, SettledWord}
-use Rattle.dspec_cpu.specs.declared.counts.Counts.{Counts}
-use Rattle.dspec_cpu.specs.declared.cpu.Cpu.{Cpu}
+use Rattle.dspec_side.specs.declared.side.Side.{Side}
+use Rattle.dspec_side.specs.Sides.{parts_of_side}
+use Rattle.dspec_cpu.specs.declared.parts.CpuParts.{CpuParts as Cpu}
 use Rattle.dspec_cpu.specs.Calls.{Goes}
-use Rattle.dspec_cpu.specs.Counting.{HasRoom}
+use Rattle.dspec_side.specs.Counting.{HasRoom}
 use Rattle.dspec_cpu.specs.Lists.{AreShown}
 
 -- the speculation of a slot whose word was shown
@@ -85,7 +85,7 @@ pub record KeepsBatches {S : Type 0} (old new : Cpu S) : Type 0 where
   pub end : new.end ≡ old.end
   pub spare : new.spare ≡ old.spare
   pub in_hand : new.in_hand ≡ old.in_hand
-  pub seals : new.seals ≡ old.seals
+  pub seals : new.side.seals ≡ old.side.seals
 
 -- A list of the CPU's own is its part, but for the Seals, of a list that is legal in its common part; no release is owed, and
 -- no call of speculation of the CPU is under way.
@@ -95,24 +95,19 @@ pub record IsPartOf (k : Config) (c : ℕ) (log p : List Deed) : Type 0 where
   pub idle : scan k c log ≡ 0
   pub part_is : bare p ≡ part (CpuActor c) log
 
--- a CPU's numbers and buffers, where a settlement may change them
-abbrev pub with_parts : SideParts Stored → List ℕ → Stored → List Stored → List ℕ → ℕ → SideParts Stored
-with_parts side marks active speculative acks drops =
-    record side { marks = marks; active = active; speculative = speculative; acks = acks; drops = drops }
-
 module _ (shape : ℕ → Option Shape) (accepted : Record → Bool) (text : Record → List ℕ) where
   -- a list is shown, in which the CPU can settle a speculation whose word of that code waits for every CPU: where it isn't
   -- marked for it, it holds nothing of it; and the counts have room for its block
-  pub record CanSettle (k : Config) (c : ℕ) (side : SideParts Stored) (batches : List Batch) (counts : Counts) (id : Speculation) (code : Code) (p : List Deed) : Type 0 where
-    pub shown : AreShown shape accepted text k c side batches counts p
+  pub record CanSettle (k : Config) (c : ℕ) (side : Side Stored) (batches : List Batch) (id : Speculation) (code : Code) (p : List Deed) : Type 0 where
+    pub shown : AreShown shape accepted text k c (parts_of_side side) batches side.counts p
     pub low : 1 ≤ id.slot
     pub high : id.slot ≤ k.nspec
     pub unmarked : (mark c id.slot p == id.issue + 1) ≡ false → held c id p ≡ []
     pub waits : awaits code ≡ true
-    pub room : HasRoom (settling.settle_fate shape k c p id code) counts
+    pub room : HasRoom (settling.settle_fate shape k c p id code) side.counts
     pub drops : side.drops + (if is_lost (settling.settle_fate shape k c p id code) then 1 else 0) < 2 ^ 64
 
   -- the block is settled: as the code says, by whether it fits and how many records it has; and the Settle is shown too
-  pub record BlockSettled (k : Config) (c : ℕ) (new : SideParts Stored) (now : Counts) (batches : List Batch) (id : Speculation) (code : Code) (doing : Doing) (p : List Deed) : Type 0 where
+  pub record BlockSettled (k : Config) (c : ℕ) (new : Side Stored) (batches : List Batch) (id : Speculation) (code : Code) (doing : Doing) (p : List Deed) : Type 0 where
     pub fate : fate_of_settlement doing code ≡ settling.settle_fate shape k c p id code
-    pub shown : AreShown shape accepted text k c new batches now (Settle c id (settling.settle_fate shape k c p id code) ∷ p)
+    pub shown : AreShown shape accepted text k c (parts_of_side new) batches new.counts (Settle c id (settling.settle_fate shape k c p id code) ∷ p)

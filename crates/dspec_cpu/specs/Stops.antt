@@ -2,8 +2,6 @@
 use Rattle.std.specs.Prelude.{◌≡◌, Bool, true, false}
 use Rattle.dspec_deeds.specs.declared.calls.Decided.{Decided}
 use Rattle.dspec_deeds.specs.declared.calls.Decided.TheVariants as decided
-use Rattle.dspec_deeds.specs.declared.calls.Opening.{Opening}
-use Rattle.dspec_deeds.specs.declared.calls.Opening.TheVariants as opening
 use Rattle.dspec_deeds.specs.declared.calls.Spoken.{Spoken}
 use Rattle.dspec_deeds.specs.declared.calls.Spoken.TheVariants as spoken
 use Rattle.dspec_deeds.specs.declared.calls.Traced.{Traced}
@@ -30,10 +28,6 @@ is_stopped_spoken a = false
 abbrev pub is_stopped_decided : Decided → Bool
 is_stopped_decided decided.Stopped = true
 is_stopped_decided a = false
-
-abbrev pub is_stopped_opening : Opening → Bool
-is_stopped_opening opening.Stopped = true
-is_stopped_opening a = false
 
 abbrev pub is_stopped_reach : Reach → Bool
 is_stopped_reach reach.Stopped = true

@@ -11,7 +11,7 @@ use Rattle.dspec_deeds.specs.Ranges.{is_fill}
 use Rattle.dspec_table.specs.declared.rule.View.{View}
 use Rattle.dspec_table.specs.declared.seats.CpuSeat.{CpuSeat}
 use Rattle.dspec_table.specs.Asks.{LoadedAsk}
-use Rattle.dspec_cpu.specs.declared.cpu.Cpu.{Cpu}
+use Rattle.dspec_cpu.specs.declared.parts.CpuParts.{CpuParts as Cpu}
 
 -- what a switch moves: the CPU's end of the rings, the batch in hand, the spare in hand, the active buffer, the drops since the
 -- last Seal, and the number of Seals
@@ -24,11 +24,11 @@ pub record Buffers : Type 0 where
   pub seals : ℕ
 
 abbrev pub buffers_of : {S : Type 0} → Cpu S → Buffers
-buffers_of cpu = record { end = cpu.end; in_hand = cpu.in_hand; spare = cpu.spare; active = cpu.active; drops = cpu.drops; seals = cpu.seals }
+buffers_of cpu = record { end = cpu.end; in_hand = cpu.in_hand; spare = cpu.spare; active = cpu.side.active; drops = cpu.side.drops; seals = cpu.side.seals }
 
 -- the CPU with these, at a seat
 abbrev pub with_buffers : {S : Type 0} → Cpu S → CpuSeat → Buffers → Cpu S
-with_buffers cpu seat x = record cpu { seat = seat; end = x.end; in_hand = x.in_hand; spare = x.spare; active = x.active; drops = x.drops; seals = x.seals }
+with_buffers cpu seat x = record cpu { seat = seat; end = x.end; in_hand = x.in_hand; spare = x.spare; side = record cpu.side { active = x.active; drops = x.drops; seals = x.seals } }
 
 -- all else is as it was
 abbrev pub IsSameBeside : {S : Type 0} → Cpu S → Cpu S → Type 0

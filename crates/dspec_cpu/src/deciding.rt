@@ -1,60 +1,52 @@
-ghost use Rattle.std.specs.Prelude.{◌≡◌, ◌≤◌, ◌+◌, ◌↔◌, if◌then◌else◌};
+ghost use Rattle.std.specs.Prelude.{◌≡◌, true, ◌≤◌, ◌+◌, ◌↔◌, if◌then◌else◌};
 ghost use Rattle.dspec_deeds.specs.declared.deed.Deed.TheVariants.{Commit, Discard};
 ghost use Rattle.dspec_table.specs.Seats.{known};
 ghost use Rattle.dspec_cpu.specs.Calls.{Decides, is_worn_decided};
-ghost use Rattle.dspec_cpu.specs.Counting.{worn_after};
+ghost use Rattle.dspec_side.specs.Counting.{worn_after};
 ghost use Rattle.dspec_cpu.specs.Keeping.{WearsAlone};
 ghost use Rattle.dspec_cpu.specs.Stops.{StopsWhereMet, is_stopped_decided};
 ghost use Rattle.dspec_cpu.specs.Lists.{IsSameCpu, calls_of, config_of, number_in, seat_of, words_of, worn_of};
 ghost use Rattle.dspec_cpu.specs.Settled.{KeepsBatches};
 
-use crate::blocks::end_block;
+use crate::callable::Callable;
 use crate::cpu::Cpu;
 use crate::listed::Listed;
+use crate::parts::CpuParts;
 use crate::reaching::{Reach, go_on};
 use crate::shared::Shared;
 use dspec_deeds::{CpuOp, DecideFate, Decided};
 use dspec_record::Schema;
+use dspec_side::committed_as;
 use dspec_table::Doing;
 use dspec_word::{Code, SpecId};
 
-/// What becomes of a block, and the answer that tells it.
-pub(crate) fn fate_of(fits: bool, count: u32) -> (DecideFate, Decided)
-    ensures fate { result.0 ≡ (if fits then DecideFate.Copied count else DecideFate.Lost count) }
-    ensures answer { result.1 ≡ (if fits then Decided.Copied count else Decided.Lost count) }
+// The answer that tells what becomes of a block.
+fn answer_of(fits: bool, count: u32) -> Decided
+    ensures { result ≡ (if fits then Decided.Copied count else Decided.Lost count) }
 {
     if fits {
-        (DecideFate::Copied(count), Decided::Copied(count))
+        Decided::Copied(count)
     } else {
-        (DecideFate::Lost(count), Decided::Lost(count))
+        Decided::Lost(count)
     }
 }
 
-/// How many drops a block is.
-pub(crate) fn drops_of(fits: bool) -> u64
-    ensures { result ≡ (if fits then 0 else 1) }
-{
-    if fits { 0 } else { 1 }
-}
-
-impl<S: Schema> Cpu<S> {
-    /// Commits a speculation: the CPU's own block of it is copied whole to the active principal buffer, or lost where it doesn't
-    /// fit, with the number of its records. Worn: the CPU had made all its calls. Stopped: the session was stopped. Void: the
-    /// identifier isn't open. Where no other CPU is a caller, the call releases the slot.
-    pub fn commit(&mut self, shared: &Shared, id: SpecId) -> Decided
-        requires ready { ⟦<Cpu<S> as Listed>⟧.is_ready (words_of shared.now) self.old }
-        ensures ready { ⟦<Cpu<S> as Listed>⟧.is_ready (words_of shared.now) self.new }
+impl<S: Schema> CpuParts<S> {
+    // As `Cpu::commit`.
+    pub(crate) fn commit(&mut self, shared: &Shared, id: SpecId) -> Decided
+        requires ready { ⟦<CpuParts<S> as Callable>⟧.is_ready (words_of shared.now) self.old }
+        ensures ready { ⟦<CpuParts<S> as Callable>⟧.is_ready (words_of shared.now) self.new }
         ensures same { IsSameCpu self.old self.new }
         ensures keeps { KeepsBatches self.old self.new }
-        ensures worn { (result ≡ Decided.Worn) ↔ ((config_of self.old).max_calls ≤ calls_of self.old) }
-        ensures untouched { result ≡ Decided.Worn → WearsAlone self.old self.new }
+        ensures worn { (is_worn_decided result ≡ true) ↔ ((config_of self.old).max_calls ≤ calls_of self.old) }
+        ensures untouched { is_worn_decided result ≡ true → WearsAlone self.old self.new }
         ensures wears { worn_of self.new ≡ worn_after (is_worn_decided result) (worn_of self.old) }
         ensures bounded { (known (seat_of self.new)).steps ≤ (known (seat_of self.old)).steps + 5 }
         ensures stops { StopsWhereMet (known (seat_of self.old)) (is_worn_decided result) (is_stopped_decided result) (known (seat_of self.new)) }
         ensures decides { Decides (Commit (number_in self.old) id) id result (⟦<Cpu<S> as Listed>⟧.has_list self.old) (known (seat_of self.old)) (⟦<Cpu<S> as Listed>⟧.has_list self.new) (known (seat_of self.new)) }
     {
-        if self.calls >= self.config.max_calls {
-            self.counts.wear();
+        if self.side.calls >= self.config.max_calls {
+            self.side.counts.wear();
             return Decided::Worn;
         }
         let inside = self.is_inside(id);
@@ -67,23 +59,19 @@ impl<S: Schema> Cpu<S> {
             mine,
         };
         let reached = go_on(&mut self.seat, &shared.words, id, inside, &doing);
-        self.calls += 1;
         match reached {
             Reach::Stopped => {
-                self.counts.decide(DecideFate::Stopped);
+                self.side.leave_undecided::<S>(DecideFate::Stopped);
                 Decided::Stopped
             }
             Reach::Void => {
-                self.counts.decide(DecideFate::Void);
+                self.side.leave_undecided::<S>(DecideFate::Void);
                 Decided::Void
             }
             Reach::Granted => unreachable!(),
             Reach::Done(to) => {
-                let place = id.slot() as usize - 1;
-                end_block::<S>(&mut self.active, &mut self.speculative, place, mine, fits);
-                let (fate, answer) = fate_of(fits, count);
-                self.drops += drops_of(fits);
-                self.counts.decide(fate);
+                self.side.decide::<S>(id, mine, committed_as(fits, count));
+                let answer = answer_of(fits, count);
                 match to.code() {
                     Code::Committing => {
                         self.seat.release_word(&shared.words, id.slot(), &doing);
@@ -95,23 +83,21 @@ impl<S: Schema> Cpu<S> {
         }
     }
 
-    /// Discards a speculation: the CPU's own block of it is thrown away, with the number of its records. Worn: the CPU had made
-    /// all its calls. Stopped: the session was stopped. Void: the identifier isn't open. Where the CPU is the one caller, the
-    /// exchange releases the slot.
-    pub fn discard(&mut self, shared: &Shared, id: SpecId) -> Decided
-        requires ready { ⟦<Cpu<S> as Listed>⟧.is_ready (words_of shared.now) self.old }
-        ensures ready { ⟦<Cpu<S> as Listed>⟧.is_ready (words_of shared.now) self.new }
+    // As `Cpu::discard`.
+    pub(crate) fn discard(&mut self, shared: &Shared, id: SpecId) -> Decided
+        requires ready { ⟦<CpuParts<S> as Callable>⟧.is_ready (words_of shared.now) self.old }
+        ensures ready { ⟦<CpuParts<S> as Callable>⟧.is_ready (words_of shared.now) self.new }
         ensures same { IsSameCpu self.old self.new }
         ensures keeps { KeepsBatches self.old self.new }
-        ensures worn { (result ≡ Decided.Worn) ↔ ((config_of self.old).max_calls ≤ calls_of self.old) }
-        ensures untouched { result ≡ Decided.Worn → WearsAlone self.old self.new }
+        ensures worn { (is_worn_decided result ≡ true) ↔ ((config_of self.old).max_calls ≤ calls_of self.old) }
+        ensures untouched { is_worn_decided result ≡ true → WearsAlone self.old self.new }
         ensures wears { worn_of self.new ≡ worn_after (is_worn_decided result) (worn_of self.old) }
         ensures bounded { (known (seat_of self.new)).steps ≤ (known (seat_of self.old)).steps + 5 }
         ensures stops { StopsWhereMet (known (seat_of self.old)) (is_worn_decided result) (is_stopped_decided result) (known (seat_of self.new)) }
         ensures decides { Decides (Discard (number_in self.old) id) id result (⟦<Cpu<S> as Listed>⟧.has_list self.old) (known (seat_of self.old)) (⟦<Cpu<S> as Listed>⟧.has_list self.new) (known (seat_of self.new)) }
     {
-        if self.calls >= self.config.max_calls {
-            self.counts.wear();
+        if self.side.calls >= self.config.max_calls {
+            self.side.counts.wear();
             return Decided::Worn;
         }
         let inside = self.is_inside(id);
@@ -124,21 +110,18 @@ impl<S: Schema> Cpu<S> {
             mine,
         };
         let reached = go_on(&mut self.seat, &shared.words, id, inside, &doing);
-        self.calls += 1;
         match reached {
             Reach::Stopped => {
-                self.counts.decide(DecideFate::Stopped);
+                self.side.leave_undecided::<S>(DecideFate::Stopped);
                 Decided::Stopped
             }
             Reach::Void => {
-                self.counts.decide(DecideFate::Void);
+                self.side.leave_undecided::<S>(DecideFate::Void);
                 Decided::Void
             }
             Reach::Granted => unreachable!(),
             Reach::Done(_to) => {
-                let place = id.slot() as usize - 1;
-                end_block::<S>(&mut self.active, &mut self.speculative, place, mine, false);
-                self.counts.decide(DecideFate::Thrown(count));
+                self.side.decide::<S>(id, mine, DecideFate::Thrown(count));
                 Decided::Thrown(count)
             }
         }

@@ -1,19 +1,19 @@
-ghost use Rattle.std.specs.Prelude.{◌≡◌, ◌<◌, ◌≤◌, ◌+◌, ◌-◌, ◌==◌, true, List, [], ◌∷◌, length, map, IsTrue, Some, slice_get, slice_set, if◌then◌else◌};
-ghost use Rattle.dspec_buffer.specs.Extent.{Piece, one, piece_fits};
-ghost use Rattle.dspec_buffer.specs.Stored.{Stored};
+ghost use Rattle.std.specs.Prelude.{◌≡◌, ◌+◌, ◌-◌, ◌==◌, true, List, length, IsTrue, Some, slice_get};
+ghost use Rattle.dspec_buffer.specs.Extent.{block};
 ghost use Rattle.dspec_deeds.specs.declared.deed.Deed.{Deed};
 ghost use Rattle.dspec_deeds.specs.History.{in_range};
+ghost use Rattle.dspec_deeds.specs.Legal.{fits_principal, fits_speculative};
 ghost use Rattle.dspec_deeds.specs.Marks.{mark};
 ghost use Rattle.dspec_deeds.specs.Own.{contents, held};
+ghost use Rattle.dspec_side.specs.Sides.{IsCaller};
 
 use crate::cpu::Cpu;
-use crate::fitting::{keep_in, would_fit, would_fit_empty};
 use crate::listed::Listed;
-use dspec_buffer::{ByteBuffer, TraceBuffer};
+use crate::parts::CpuParts;
 use dspec_record::{Rec, Schema};
 use dspec_word::SpecId;
 
-impl<S: Schema> Cpu<S> {
+impl<S: Schema> CpuParts<S> {
     /// Whether the identifier's slot is one of the session's.
     pub(crate) fn is_inside(&self, id: SpecId) -> bool
         ensures { result ≡ in_range self.now.config id }
@@ -26,9 +26,12 @@ impl<S: Schema> Cpu<S> {
         requires inside { inside ≡ in_range self.now.config id }
         requires some { (p : List Deed) × ⟦<Cpu<S> as Listed>⟧.is_shown self.now p }
         ensures is { inside ≡ true → (p : List Deed) → ⟦<Cpu<S> as Listed>⟧.is_shown self.now p → result ≡ (mark self.now.cpu id.slot p == id.issue + 1) }
-        ensures marked { result ≡ true → slice_get self.now.marks.items (id.slot - 1) ≡ Some (id.issue + 1) }
+        ensures marked { result ≡ true → slice_get self.now.side.marks.items (id.slot - 1) ≡ Some (id.issue + 1) }
     {
-        inside && self.marks[id.slot() as usize - 1] == id.issue() + 1
+        if !inside {
+            return false;
+        }
+        self.side.is_mine(id)
     }
 
     /// Whether the CPU's buffer of the speculation would take a record; it is empty where the CPU is no caller. False outside
@@ -37,44 +40,29 @@ impl<S: Schema> Cpu<S> {
         requires inside { inside ≡ in_range self.now.config id }
         requires some { (p : List Deed) × ⟦<Cpu<S> as Listed>⟧.is_shown self.now p }
         requires accepted { IsTrue (S.accepted self.now.schema rec.now) }
-        ensures { inside ≡ true → (p : List Deed) → ⟦<Cpu<S> as Listed>⟧.is_shown self.now p → (mine ≡ true → mark self.now.cpu id.slot p ≡ id.issue + 1)
-            → result ≡ piece_fits (S.shape_of self.now.schema) (map one (if mine then contents (held self.now.cpu id p) else [])) (one rec.now) self.now.config.specsize }
+        ensures { inside ≡ true → (p : List Deed) → ⟦<Cpu<S> as Listed>⟧.is_shown self.now p → IsCaller self.now.cpu id mine p
+            → result ≡ fits_speculative (S.shape_of self.now.schema) self.now.config self.now.cpu id rec.now p }
     {
         if !inside {
             return false;
         }
-        if mine {
-            would_fit(&self.speculative[id.slot() as usize - 1], &self.schema, rec)
-        } else {
-            would_fit_empty(&self.schema, rec, self.config.specsize)
-        }
+        self.side
+            .fits_slot(&self.config, &self.schema, id, rec, mine)
     }
-}
 
-/// Marks the speculation as granted and keeps the record, where it fits, in its buffer, which is emptied before where what it
-/// has is of an older speculation. False where it doesn't fit.
-#[inline(always)]
-pub(crate) fn grant<S: Schema>(
-    marks: &mut Vec<u64>,
-    buffers: &mut Vec<ByteBuffer>,
-    schema: &S,
-    id: SpecId,
-    rec: &Rec,
-    mine: bool,
-) -> bool
-    requires slot { (1 ≤ id.slot) × (id.slot ≤ length buffers.old.items) × (id.slot ≤ length marks.old.items) }
-    requires marked { mine ≡ true → slice_get marks.old.items (id.slot - 1) ≡ Some (id.issue + 1) }
-    requires accepted { IsTrue (S.accepted schema.now rec.now) }
-    ensures marks { marks.new.items ≡ slice_set marks.old.items (id.slot - 1) (id.issue + 1) }
-    ensures buffer { (b : Stored) → slice_get buffers.old.items (id.slot - 1) ≡ Some b
-        → (n : Stored) × (n.size ≡ b.size) × (buffers.new.items ≡ slice_set buffers.old.items (id.slot - 1) n)
-        × ((ps : List Piece) → ⟦<ByteBuffer as TraceBuffer<S>>⟧.has b schema.now ps
-        → (result ≡ piece_fits (S.shape_of schema.now) (if mine then ps else []) (one rec.now) b.size)
-        × ⟦<ByteBuffer as TraceBuffer<S>>⟧.has n schema.now (if result then one rec.now ∷ (if mine then ps else []) else (if mine then ps else []))) }
-{
-    let place = id.slot() as usize - 1;
-    if !mine {
-        marks[place] = id.issue() + 1;
+    /// Whether the active principal buffer would take the CPU's block of the speculation, and how many records that has; nothing
+    /// outside the slots.
+    pub(crate) fn measure_slot(&self, id: SpecId, mine: bool, inside: bool) -> (bool, u32)
+        requires inside { inside ≡ in_range self.now.config id }
+        requires some { (p : List Deed) × ⟦<Cpu<S> as Listed>⟧.is_shown self.now p }
+        ensures fits { inside ≡ true → (p : List Deed) → ⟦<Cpu<S> as Listed>⟧.is_shown self.now p → IsCaller self.now.cpu id mine p
+            → result.0 ≡ fits_principal (S.shape_of self.now.schema) self.now.config self.now.cpu (block (contents (held self.now.cpu id p))) p }
+        ensures count { inside ≡ true → (p : List Deed) → ⟦<Cpu<S> as Listed>⟧.is_shown self.now p → IsCaller self.now.cpu id mine p
+            → result.1 ≡ length (held self.now.cpu id p) }
+    {
+        if !inside {
+            return (false, 0);
+        }
+        self.side.measure::<S>(&self.config, id, mine)
     }
-    keep_in(&mut buffers[place], schema, rec, mine)
 }

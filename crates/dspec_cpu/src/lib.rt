@@ -5,16 +5,16 @@
 //! answer (`specs/Calls.antt`) to every list that the CPU has. No call waits, and only `make` takes memory.
 #![tactic(auto)]
 
-mod blocks;
-mod counts;
+mod callable;
+mod calls;
 mod cpu;
 mod deciding;
-mod fitting;
 mod holding;
 mod listed;
 mod making;
 mod meeting;
 mod opening;
+mod parts;
 mod reaching;
 mod reporting;
 mod rest;
@@ -26,9 +26,10 @@ mod serving;
 mod settling;
 mod shared;
 mod speaking;
+mod standing;
 mod tracing;
+mod values;
 
-pub use counts::Counts;
 pub use cpu::Cpu;
 pub use listed::Listed;
 pub use rest::CpuRest;

@@ -2,8 +2,9 @@ ghost use Rattle.std.specs.Prelude.{◌≡◌, List};
 ghost use Rattle.dspec_deeds.specs.declared.deed.Deed.{Deed};
 ghost use Rattle.dspec_table.specs.Meeting.{Met};
 ghost use Rattle.dspec_table.specs.Seats.{IsConsumerAt, known, known_there};
-ghost use Rattle.dspec_cpu.specs.Lists.{IsSameCpu, seat_of, words_of, worn_of};
 ghost use Rattle.dspec_cpu.specs.Keeping.{MovesItsSeat};
+ghost use Rattle.dspec_cpu.specs.Lists.{seat_of, words_of, worn_of};
+ghost use Rattle.dspec_cpu.specs.Standing.{Belongs, identity};
 
 use crate::cpu::Cpu;
 use crate::listed::Listed;
@@ -15,15 +16,14 @@ impl<S: Schema> Cpu<S> {
     /// The CPU and the consumer meet, between calls: both have then seen what each had seen, and the CPU knows the consumer's
     /// asks. It is no call, and does no deed: the lists of both are as before. It is one load of activity by each.
     pub fn meet(&mut self, shared: &Shared, consumer: &mut ConsumerSeat)
-        requires ready { ⟦<Cpu<S> as Listed>⟧.is_ready (words_of shared.now) self.old }
+        requires of { Belongs (words_of shared.now) (identity self.old) }
         requires consumer { IsConsumerAt (words_of shared.now) consumer.old }
-        ensures ready { ⟦<Cpu<S> as Listed>⟧.is_ready (words_of shared.now) self.new }
         ensures consumer { IsConsumerAt (words_of shared.now) consumer.new }
-        ensures same { IsSameCpu self.old self.new × (worn_of self.new ≡ worn_of self.old) }
+        ensures same { (identity self.new ≡ identity self.old) × (worn_of self.new ≡ worn_of self.old) }
         ensures keeps { MovesItsSeat self.old self.new }
         ensures met { Met (known (seat_of self.old)) (known_there consumer.old) (known (seat_of self.new)) (known_there consumer.new) }
         ensures list { (p : List Deed) → ⟦<Cpu<S> as Listed>⟧.has_list self.old p → ⟦<Cpu<S> as Listed>⟧.has_list self.new p }
     {
-        self.seat.meet(&shared.words, consumer);
+        self.parts.seat.meet(&shared.words, consumer);
     }
 }

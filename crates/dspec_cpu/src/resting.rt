@@ -6,62 +6,49 @@ ghost use Rattle.dspec_play.specs.OwnClose.{own_closed};
 ghost use Rattle.dspec_ring.specs.declared.batch.Batch.{Batch};
 ghost use Rattle.dspec_table.specs.Last.{last_words};
 ghost use Rattle.dspec_table.specs.Showing.{Shows};
-ghost use Rattle.dspec_cpu.specs.Lists.{config_of, end_of, in_hand_of, number_in, schema_of, seat_of, worn_of};
+ghost use Rattle.dspec_cpu.specs.Lists.{IsSteady, config_of, end_of, in_hand_of, number_in, schema_of, seat_of, worn_of};
 ghost use Rattle.dspec_cpu.specs.Rests.{AreItsWords, IsLegalPart, IsSameRest, config_of_rest, in_hand_of_rest, last_batch, number_of_rest, schema_of_rest, worn_of_rest};
 ghost use Rattle.dspec_cpu.specs.Sealed.{AreSealed, IsSealed, waiting};
 ghost use Rattle.dspec_cpu.specs.Settled.{IsPartOf};
 
 use crate::cpu::Cpu;
 use crate::listed::Listed;
+use crate::parts::CpuParts;
 use crate::rest::CpuRest;
 use crate::rested::Rested;
 use dspec_deeds::Report;
 use dspec_record::Schema;
 use dspec_ring::{Batch, CpuEnd};
+use dspec_side::Side;
 use dspec_table::{CpuSeat, LastWords};
 
 impl<S: Schema> Cpu<S> {
     /// Takes the CPU apart for the close of its session: its seat at the words, its end of the rings, and what is left. A spare
     /// buffer in hand is let go.
     pub fn part(self) -> (CpuSeat, CpuEnd, CpuRest<S>)
+        ensures steady { IsSteady (S.shape_of (schema_of self)) (S.accepted (schema_of self)) (S.text (schema_of self)) self }
         ensures seat { result.0 ≡ seat_of self }
         ensures end { result.1 ≡ end_of self }
         ensures same { (schema_of_rest result.2 ≡ schema_of self) × (config_of_rest result.2 ≡ config_of self) × (number_of_rest result.2 ≡ number_in self) }
         ensures rest { (in_hand_of_rest result.2 ≡ in_hand_of self) × (worn_of_rest result.2 ≡ worn_of self) }
         ensures list { (p : List Deed) → ⟦<Cpu<S> as Listed>⟧.is_shown self p → ⟦<CpuRest<S> as Rested>⟧.has_list result.2 (end_of self).handed p }
     {
-        let Cpu {
+        let CpuParts {
             schema,
             config,
             cpu,
             seat,
             end,
-            active,
-            speculative,
-            marks,
-            acks,
-            calls,
-            seals,
-            missed_busy,
-            drops,
+            side,
             spare: _,
             in_hand,
-            counts,
-        } = self;
+        } = self.parts;
         let rest = CpuRest {
             schema,
             config,
             cpu,
-            active,
-            speculative,
-            marks,
-            acks,
-            calls,
-            seals,
-            missed_busy,
-            drops,
+            side,
             in_hand,
-            counts,
         };
         (seat, end, rest)
     }
@@ -92,7 +79,7 @@ impl<S: Schema> CpuRest<S> {
             → IsLegalPart (S.shape_of (schema_of_rest self.now)) (config_of_rest self.now) (number_of_rest self.now) g p
             → result ≡ report (config_of_rest self.now) (number_of_rest self.now) (worn_of_rest self.now) p }
     {
-        self.counts.report()
+        self.side.counts.report()
     }
 
     /// The batch whose hand-over was refused, if there is one, and the batch that was growing last.
@@ -105,11 +92,11 @@ impl<S: Schema> CpuRest<S> {
     {
         let CpuRest {
             cpu,
-            active,
-            drops,
+            side,
             in_hand,
             ..
         } = self;
+        let Side { active, drops, .. } = side;
         let last = Batch {
             cpu,
             drops,

@@ -1,18 +1,20 @@
-ghost use Rattle.std.specs.Prelude.{◌≡◌, ◌≤◌, ◌+◌, ◌^◌, ◌++◌, List, length, reverse};
+ghost use Rattle.std.specs.Prelude.{◌≡◌, ◌≤◌, ◌+◌, ◌<◌, ◌^◌, ◌++◌, List, length, reverse};
 ghost use Rattle.dspec_deeds.specs.declared.deed.Deed.{Deed};
 ghost use Rattle.dspec_table.specs.Seats.{known};
 ghost use Rattle.dspec_cpu.specs.Lists.{IsSameCpu, batches_of, config_of, end_of, in_hand_of, number_in, seat_of, spare_count};
 ghost use Rattle.dspec_cpu.specs.Sealed.{waiting};
 ghost use Rattle.dspec_cpu.specs.Switching.{FindsSpare, HandsOn, Heeds, IsSameBeside, Switches, buffers_of, emptied, most_moves, with_seal};
 
+use crate::callable::Callable;
 use crate::cpu::Cpu;
 use crate::listed::Listed;
+use crate::parts::CpuParts;
 use crate::settling::serve;
 use dspec_buffer::ByteBuffer;
 use dspec_record::Schema;
 use dspec_ring::{Batch, CpuEnd};
+use dspec_side::Side;
 use dspec_table::Words;
-use std::mem;
 
 // Hands on the batch in hand, by one push. It stays in hand where the ring refuses it.
 fn hand_on(end: &mut CpuEnd, in_hand: &mut Option<Batch>)
@@ -44,30 +46,32 @@ fn find_spare(end: &mut CpuEnd, spare: &mut Option<ByteBuffer>, bufsize: u32)
     }
 }
 
-// Makes the spare, cleared, the active buffer, and a batch of the one that was active.
-fn seal(cpu: u32, drops: u64, active: &mut ByteBuffer, mut spare: ByteBuffer) -> Batch
-    ensures batch { result ≡ record { cpu = cpu; drops = drops; buffer = active.old } }
-    ensures active { active.new ≡ emptied spare }
+// Seals the active buffer: the spare, cleared, is active, and the one that was active a batch.
+fn seal<S: Schema>(cpu: u32, side: &mut Side<ByteBuffer>, mut spare: ByteBuffer) -> Batch
+    requires seals { side.old.seals + 1 < 2 ^ 64 }
+    ensures batch { result ≡ record { cpu = cpu; drops = side.old.drops; buffer = side.old.active } }
+    ensures side { side.new ≡ record side.old { seals = side.old.seals + 1; active = emptied spare; drops = 0 } }
 {
     spare.clear();
+    let drops = side.seal::<S>(&mut spare);
     Batch {
         cpu,
         drops,
-        buffer: mem::replace(active, spare),
+        buffer: spare,
     }
 }
 
-impl<S: Schema> Cpu<S> {
+impl<S: Schema> CpuParts<S> {
     // Heeds an ask that was shown: where it is for a batch that isn't sealed yet, a Seal is left and there is a spare, the active
     // buffer is sealed and handed on, and the spare is active. Never while a batch is in hand, which none may replace.
     fn heed(&mut self, ask: u64) -> bool
-        requires count { length (batches_of self.old) ≡ self.old.seals }
+        requires count { length (batches_of self.old) ≡ self.old.side.seals }
         requires most { self.old.config.max_calls ≤ 2 ^ 62 }
         requires few { length (batches_of self.old) + spare_count self.old.spare ≤ 1 + length self.old.end.spares }
         ensures beside { IsSameBeside self.old self.new × (self.new.seat ≡ self.old.seat) }
         ensures heeds { Heeds self.old.config self.old.cpu ask (buffers_of self.old) result (buffers_of self.new) }
     {
-        if ask <= self.seals || self.config.max_calls <= self.seals {
+        if ask <= self.side.seals || self.config.max_calls <= self.side.seals {
             return false;
         }
         find_spare(&mut self.end, &mut self.spare, self.config.bufsize);
@@ -77,9 +81,7 @@ impl<S: Schema> Cpu<S> {
         let Some(spare) = self.spare.take() else {
             return false;
         };
-        self.in_hand = Some(seal(self.cpu, self.drops, &mut self.active, spare));
-        self.drops = 0;
-        self.seals += 1;
+        self.in_hand = Some(seal::<S>(self.cpu, &mut self.side, spare));
         hand_on(&mut self.end, &mut self.in_hand);
         true
     }
@@ -88,8 +90,8 @@ impl<S: Schema> Cpu<S> {
     /// first; then, where the consumer asked for a batch that isn't sealed yet, the active buffer is sealed and handed on, and
     /// a spare one is active. Answers whether it sealed. Under policy "fill" it does nothing.
     pub(crate) fn switch(&mut self, words: &Words) -> bool
-        requires ready { ⟦<Cpu<S> as Listed>⟧.is_ready words.now self.old }
-        ensures ready { ⟦<Cpu<S> as Listed>⟧.is_ready words.now self.new }
+        requires ready { ⟦<CpuParts<S> as Callable>⟧.is_ready words.now self.old }
+        ensures ready { ⟦<CpuParts<S> as Callable>⟧.is_ready words.now self.new }
         ensures same { IsSameCpu self.old self.new }
         ensures beside { IsSameBeside self.old self.new }
         ensures bounded { (known (seat_of self.new)).steps ≤ (known (seat_of self.old)).steps + 1 }

@@ -4,20 +4,19 @@ ghost use Rattle.dspec_cpu.specs.Lists.{IsSameCpu, config_of, end_of, in_hand_of
 ghost use Rattle.dspec_cpu.specs.Serving.{Serves};
 ghost use Rattle.dspec_cpu.specs.Switching.{buffers_of, most_moves};
 
+use crate::callable::Callable;
 use crate::cpu::Cpu;
 use crate::listed::Listed;
+use crate::parts::CpuParts;
 use crate::shared::Shared;
 use dspec_deeds::Served;
 use dspec_record::Schema;
 
-impl<S: Schema> Cpu<S> {
-    /// Does what the CPU owes the consumer and the other CPUs: where the consumer asked for it, the principal buffers are
-    /// switched (the Guide's chapter on buffers), and what was decided elsewhere is settled in the CPU's own buffers (its chapter
-    /// on speculative tracing: "some time later"). The answer tells whether a batch was sealed, and how many speculations were
-    /// settled. It is never Worn, counts towards no bound on calls, and goes on after a stop.
-    pub fn service(&mut self, shared: &Shared) -> Served
-        requires ready { ⟦<Cpu<S> as Listed>⟧.is_ready (words_of shared.now) self.old }
-        ensures ready { ⟦<Cpu<S> as Listed>⟧.is_ready (words_of shared.now) self.new }
+impl<S: Schema> CpuParts<S> {
+    // As `Cpu::service`.
+    pub(crate) fn service(&mut self, shared: &Shared) -> Served
+        requires ready { ⟦<CpuParts<S> as Callable>⟧.is_ready (words_of shared.now) self.old }
+        ensures ready { ⟦<CpuParts<S> as Callable>⟧.is_ready (words_of shared.now) self.new }
         ensures same { IsSameCpu self.old self.new }
         ensures wears { worn_of self.new ≡ worn_of self.old }
         ensures bounded { (known (seat_of self.new)).steps ≤ (known (seat_of self.old)).steps + 1 + 2 * (config_of self.old).nspec }

@@ -1,31 +1,27 @@
-ghost use Rattle.std.specs.Prelude.{◌≡◌, ◌≤◌, ◌+◌, ◌*◌, ℕ, List, MatchBool, if◌then◌else◌};
-ghost use Rattle.dspec_buffer.specs.Stored.{Stored};
+ghost use Rattle.std.specs.Prelude.{◌≡◌, ◌<◌, ◌≤◌, ◌+◌, ◌*◌, ℕ, List};
 ghost use Rattle.dspec_ring.specs.declared.batch.Batch.{Batch};
 ghost use Rattle.dspec_deeds.specs.declared.deed.Deed.{Deed};
-ghost use Rattle.dspec_deeds.specs.FateKinds.{is_copied, is_lost};
 ghost use Rattle.dspec_deeds.specs.History.{word_at};
-ghost use Rattle.dspec_deeds.specs.OwnShown.{SideParts};
 ghost use Rattle.dspec_play.specs.OwnClose.{own_closed_slot};
 ghost use Rattle.dspec_word.specs.Code.{awaits};
-ghost use Rattle.dspec_table.specs.Acts.{fate_of_settlement};
 ghost use Rattle.dspec_table.specs.Last.{last_words};
 ghost use Rattle.dspec_table.specs.Seats.{known};
 ghost use Rattle.dspec_cpu.specs.Lists.{IsSameCpu, config_of, number_in, seat_of, worn_of};
 ghost use Rattle.dspec_cpu.specs.Rests.{AreItsWords, CanCloseBehind, IsSameRest, config_of_rest, number_of_rest, schema_of_rest};
-ghost use Rattle.dspec_cpu.specs.Settled.{BlockSettled, CanSettle, KeepsBatches, Settled, SlotDone, serving, shown_at, with_parts};
+ghost use Rattle.dspec_cpu.specs.Settled.{BlockSettled, CanSettle, KeepsBatches, Settled, SlotDone, serving, shown_at};
 
-use crate::blocks::{end_block, measure_block};
-use crate::counts::Counts;
+use crate::callable::Callable;
 use crate::cpu::Cpu;
-use crate::deciding::{drops_of, fate_of};
 use crate::listed::Listed;
+use crate::parts::CpuParts;
 use crate::rest::CpuRest;
 use crate::rested::Rested;
 use dspec_buffer::ByteBuffer;
-use dspec_deeds::{Config, CpuOp, DecideFate};
+use dspec_deeds::{Config, CpuOp};
 use dspec_record::Schema;
+use dspec_side::{Side, settled_as};
 use dspec_table::{Doing, LastWords, Words};
-use dspec_word::{Act, Code, Word, settle_at};
+use dspec_word::{Act, Code, SpecId, Word, settle_at};
 
 /// A call of service in flight, with a block of so many records.
 pub(crate) fn serve(fits: bool, count: u32, mine: bool) -> Doing
@@ -39,60 +35,30 @@ pub(crate) fn serve(fits: bool, count: u32, mine: bool) -> Doing
     }
 }
 
-// What becomes of the block, by the code of the word that was shown.
-fn fate_at(code: Code, doing: &Doing) -> DecideFate
-    ensures { result ≡ fate_of_settlement doing.now code }
-{
-    match code {
-        Code::Discarding => DecideFate::Thrown(doing.count),
-        _ => fate_of(doing.fits, doing.count).0,
-    }
-}
-
-fn is_copy(fate: DecideFate) -> bool
-    ensures { result ≡ is_copied fate }
-{
-    matches!(fate, DecideFate::Copied(_))
-}
-
-fn is_loss(fate: DecideFate) -> bool
-    ensures { result ≡ is_lost fate }
-{
-    matches!(fate, DecideFate::Lost(_))
-}
-
 /// Settles a slot's speculation whose word was shown decided, in all that is the CPU's own: its block, which the slot's buffer
 /// has exactly where the slot is marked for it, is copied whole, lost or thrown away, and counted, and the slot acknowledged.
 /// The call in flight tells what was measured.
 pub(crate) fn settle_block<S: Schema>(
     config: &Config,
+    side: &mut Side<ByteBuffer>,
     word: Word,
     slot: u32,
-    marks: &Vec<u64>,
-    principal: &mut ByteBuffer,
-    buffers: &mut Vec<ByteBuffer>,
-    acks: &mut Vec<u64>,
-    drops: &mut u64,
-    counts: &mut Counts,
 ) -> Doing
-    requires some { (s : S) × (c : ℕ) × (side : SideParts Stored) × (batches : List Batch) × (p : List Deed)
-        × CanSettle (S.shape_of s) (S.accepted s) (S.text s) config.now c (with_parts side marks.now.items principal.old buffers.old.items acks.old.items drops.old) batches counts.old (shown_at slot word) word.code p }
+    requires slot { slot < 64 }
+    requires some { (s : S) × (c : ℕ) × (batches : List Batch) × (p : List Deed)
+        × CanSettle (S.shape_of s) (S.accepted s) (S.text s) config.now c side.old batches (shown_at slot word) word.code p }
     ensures op { result.op ≡ CpuOp.Service }
-    ensures worn { counts.new.worn ≡ counts.old.worn }
-    ensures settled { (s : S) (c : ℕ) (side : SideParts Stored) (batches : List Batch) (p : List Deed)
-        → CanSettle (S.shape_of s) (S.accepted s) (S.text s) config.now c (with_parts side marks.now.items principal.old buffers.old.items acks.old.items drops.old) batches counts.old (shown_at slot word) word.code p
-        → BlockSettled (S.shape_of s) (S.accepted s) (S.text s) config.now c (with_parts side marks.now.items principal.new buffers.new.items acks.new.items drops.new) counts.new batches (shown_at slot word) word.code result p }
+    ensures worn { side.new.counts.worn ≡ side.old.counts.worn }
+    ensures seals { side.new.seals ≡ side.old.seals }
+    ensures settled { (s : S) (c : ℕ) (batches : List Batch) (p : List Deed)
+        → CanSettle (S.shape_of s) (S.accepted s) (S.text s) config.now c side.old batches (shown_at slot word) word.code p
+        → BlockSettled (S.shape_of s) (S.accepted s) (S.text s) config.now c side.new batches (shown_at slot word) word.code result p }
 {
-    let place = slot as usize - 1;
-    let mine = marks[place] == word.issue() + 1;
-    let (fits, count) = measure_block::<S>(config, counts, principal, &buffers[place], mine);
-    let doing = serve(fits, count, mine);
-    let fate = fate_at(word.code(), &doing);
-    end_block::<S>(principal, buffers, place, mine, is_copy(fate));
-    *drops += drops_of(!is_loss(fate));
-    counts.decide(fate);
-    acks[place] = word.issue() + 1;
-    doing
+    let id = SpecId::of(word.issue(), slot);
+    let mine = side.is_mine(id);
+    let (fits, count) = side.measure::<S>(config, id, mine);
+    side.settle::<S>(id, mine, settled_as(word.code(), fits, count));
+    serve(fits, count, mine)
 }
 
 // Whether a slot with this code waits for the CPUs.
@@ -103,36 +69,26 @@ fn waits(code: Code) -> bool
     matches!(code, Code::CommittingMany | Code::Discarding)
 }
 
-impl<S: Schema> Cpu<S> {
+impl<S: Schema> CpuParts<S> {
     // One slot of a service: its word is loaded, and where it waits for this CPU too, its speculation is settled.
     fn settle_slot(&mut self, words: &Words, slot: u32) -> bool
-        requires ready { ⟦<Cpu<S> as Listed>⟧.is_ready words.now self.old }
+        requires ready { ⟦<CpuParts<S> as Callable>⟧.is_ready words.now self.old }
         requires slot { (1 ≤ slot) × (slot ≤ (config_of self.old).nspec) }
-        ensures ready { ⟦<Cpu<S> as Listed>⟧.is_ready words.now self.new }
+        ensures ready { ⟦<CpuParts<S> as Callable>⟧.is_ready words.now self.new }
         ensures same { IsSameCpu self.old self.new × (worn_of self.new ≡ worn_of self.old) }
         ensures keeps { KeepsBatches self.old self.new }
         ensures settled { SlotDone (number_in self.old) slot result (⟦<Cpu<S> as Listed>⟧.has_list self.old) (known (seat_of self.old)) (⟦<Cpu<S> as Listed>⟧.has_list self.new) (known (seat_of self.new)) }
     {
         // Read for its range: no count is above it.
-        let _calls = self.calls;
+        let _calls = self.side.calls;
         let word = self.seat.load_word(words, slot, &serve(false, 0, false));
         // asked first by itself: where nobody waits, which is most often, the acknowledgement isn't looked at
         if !waits(word.code()) {
             return false;
         }
-        match settle_at(word, self.acks[slot as usize - 1]) {
+        match settle_at(word, self.side.acks[slot as usize - 1]) {
             Act::Granted => {
-                let doing = settle_block::<S>(
-                    &self.config,
-                    word,
-                    slot,
-                    &self.marks,
-                    &mut self.active,
-                    &mut self.speculative,
-                    &mut self.acks,
-                    &mut self.drops,
-                    &mut self.counts,
-                );
+                let doing = settle_block::<S>(&self.config, &mut self.side, word, slot);
                 self.seat.store_ack(words, slot, word.issue(), &doing);
                 true
             }
@@ -143,8 +99,8 @@ impl<S: Schema> Cpu<S> {
     /// The settlements of a service: each slot's word is loaded, upwards, and settled where it waits for this CPU too. The answer
     /// is how many were. It takes at most two steps for a slot.
     pub(crate) fn settle_slots(&mut self, words: &Words) -> u32
-        requires ready { ⟦<Cpu<S> as Listed>⟧.is_ready words.now self.old }
-        ensures ready { ⟦<Cpu<S> as Listed>⟧.is_ready words.now self.new }
+        requires ready { ⟦<CpuParts<S> as Callable>⟧.is_ready words.now self.old }
+        ensures ready { ⟦<CpuParts<S> as Callable>⟧.is_ready words.now self.new }
         ensures same { IsSameCpu self.old self.new × (worn_of self.new ≡ worn_of self.old) }
         ensures keeps { KeepsBatches self.old self.new }
         ensures settled { Settled (number_in self.old) (config_of self.old).nspec result (⟦<Cpu<S> as Listed>⟧.has_list self.old) (known (seat_of self.old)) (⟦<Cpu<S> as Listed>⟧.has_list self.new) (known (seat_of self.new)) }
@@ -172,21 +128,11 @@ impl<S: Schema> CpuRest<S> {
             → ⟦<CpuRest<S> as Rested>⟧.has_list self.new handed (own_closed_slot (S.shape_of (schema_of_rest self.old)) (config_of_rest self.old) (λ s. word_at s log) (number_of_rest self.old) slot p) }
     {
         // Read for its range: no count is above it.
-        let _calls = self.calls;
+        let _calls = self.side.calls;
         let word = last.word(slot);
         let Act::Granted = settle_at(word, last.ack(self.cpu, slot)) else {
             return;
         };
-        let _ = settle_block::<S>(
-            &self.config,
-            word,
-            slot,
-            &self.marks,
-            &mut self.active,
-            &mut self.speculative,
-            &mut self.acks,
-            &mut self.drops,
-            &mut self.counts,
-        );
+        let _ = settle_block::<S>(&self.config, &mut self.side, word, slot);
     }
 }

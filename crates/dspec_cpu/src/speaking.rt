@@ -4,15 +4,16 @@ ghost use Rattle.dspec_deeds.specs.History.{in_range};
 ghost use Rattle.dspec_deeds.specs.Marks.{mark};
 ghost use Rattle.dspec_table.specs.Seats.{known};
 ghost use Rattle.dspec_cpu.specs.Calls.{Goes, spoken_deeds, is_worn_spoken};
-ghost use Rattle.dspec_cpu.specs.Counting.{worn_after};
+ghost use Rattle.dspec_side.specs.Counting.{worn_after};
 ghost use Rattle.dspec_cpu.specs.Keeping.{WearsAlone};
 ghost use Rattle.dspec_cpu.specs.Stops.{StopsWhereMet, is_stopped_spoken};
 ghost use Rattle.dspec_cpu.specs.Lists.{IsSameCpu, calls_of, config_of, number_in, schema_of, seat_of, words_of, worn_of};
 ghost use Rattle.dspec_cpu.specs.Settled.{KeepsBatches};
 
+use crate::callable::Callable;
 use crate::cpu::Cpu;
-use crate::holding::grant;
 use crate::listed::Listed;
+use crate::parts::CpuParts;
 use crate::reaching::{Reach, go_on};
 use crate::shared::Shared;
 use dspec_deeds::{CpuOp, SpeculateFate, Spoken};
@@ -20,18 +21,16 @@ use dspec_record::{Rec, Schema};
 use dspec_table::Doing;
 use dspec_word::SpecId;
 
-impl<S: Schema> Cpu<S> {
-    /// Traces an accepted record into the CPU's buffer of a speculation. Worn: the CPU had made all its calls, and the record
-    /// wasn't offered. Stopped: the session was stopped. Void: the identifier isn't open. Dropped: it didn't fit the rest of
-    /// that buffer; the CPU is a caller all the same.
-    pub fn speculate(&mut self, shared: &Shared, id: SpecId, rec: &Rec) -> Spoken
-        requires ready { ⟦<Cpu<S> as Listed>⟧.is_ready (words_of shared.now) self.old }
+impl<S: Schema> CpuParts<S> {
+    // As `Cpu::speculate`.
+    pub(crate) fn speculate(&mut self, shared: &Shared, id: SpecId, rec: &Rec) -> Spoken
+        requires ready { ⟦<CpuParts<S> as Callable>⟧.is_ready (words_of shared.now) self.old }
         requires accepted { IsTrue (S.accepted (schema_of self.old) rec.now) }
-        ensures ready { ⟦<Cpu<S> as Listed>⟧.is_ready (words_of shared.now) self.new }
+        ensures ready { ⟦<CpuParts<S> as Callable>⟧.is_ready (words_of shared.now) self.new }
         ensures same { IsSameCpu self.old self.new }
         ensures keeps { KeepsBatches self.old self.new }
-        ensures worn { (result ≡ Spoken.Worn) ↔ ((config_of self.old).max_calls ≤ calls_of self.old) }
-        ensures untouched { result ≡ Spoken.Worn → WearsAlone self.old self.new }
+        ensures worn { (is_worn_spoken result ≡ true) ↔ ((config_of self.old).max_calls ≤ calls_of self.old) }
+        ensures untouched { is_worn_spoken result ≡ true → WearsAlone self.old self.new }
         ensures wears { worn_of self.new ≡ worn_after (is_worn_spoken result) (worn_of self.old) }
         ensures did { Goes (known (seat_of self.old)) (spoken_deeds (number_in self.old) id rec.now result) (known (seat_of self.new)) }
         ensures bounded { (known (seat_of self.new)).steps ≤ (known (seat_of self.old)).steps + 4 }
@@ -39,8 +38,8 @@ impl<S: Schema> Cpu<S> {
         ensures list { (p : List Deed) → ⟦<Cpu<S> as Listed>⟧.has_list self.old p
             → ⟦<Cpu<S> as Listed>⟧.has_list self.new (spoken_deeds (number_in self.old) id rec.now result ++ p) }
     {
-        if self.calls >= self.config.max_calls {
-            self.counts.wear();
+        if self.side.calls >= self.config.max_calls {
+            self.side.counts.wear();
             return Spoken::Worn;
         }
         let inside = self.is_inside(id);
@@ -56,13 +55,13 @@ impl<S: Schema> Cpu<S> {
     // A call that isn't worn, of a CPU of which it is known whether it is a caller.
     #[inline(always)]
     fn offer(&mut self, shared: &Shared, id: SpecId, rec: &Rec, inside: bool, mine: bool) -> Spoken
-        requires ready { ⟦<Cpu<S> as Listed>⟧.is_ready (words_of shared.now) self.old }
-        requires calls { self.old.calls < self.old.config.max_calls }
+        requires ready { ⟦<CpuParts<S> as Callable>⟧.is_ready (words_of shared.now) self.old }
+        requires calls { self.old.side.calls < self.old.config.max_calls }
         requires accepted { IsTrue (S.accepted self.old.schema rec.now) }
         requires inside { inside ≡ in_range self.old.config id }
         requires mine { inside ≡ true → (p : List Deed) → ⟦<Cpu<S> as Listed>⟧.is_shown self.old p → mine ≡ (mark self.old.cpu id.slot p == id.issue + 1) }
-        requires marked { mine ≡ true → slice_get self.old.marks.items (id.slot - 1) ≡ Some (id.issue + 1) }
-        ensures ready { ⟦<Cpu<S> as Listed>⟧.is_ready (words_of shared.now) self.new }
+        requires marked { mine ≡ true → slice_get self.old.side.marks.items (id.slot - 1) ≡ Some (id.issue + 1) }
+        ensures ready { ⟦<CpuParts<S> as Callable>⟧.is_ready (words_of shared.now) self.new }
         ensures same { IsSameCpu self.old self.new }
         ensures keeps { KeepsBatches self.old self.new }
         ensures not_worn { is_worn_spoken result ≡ false }
@@ -81,31 +80,21 @@ impl<S: Schema> Cpu<S> {
             count: 0,
         };
         let reached = go_on(&mut self.seat, &shared.words, id, inside, &doing);
-        self.calls += 1;
         match reached {
             Reach::Stopped => {
-                self.counts.speak(SpeculateFate::Stopped);
+                self.side.speak_nowhere::<S>(SpeculateFate::Stopped);
                 Spoken::Stopped
             }
             Reach::Void => {
-                self.counts.speak(SpeculateFate::Void);
+                self.side.speak_nowhere::<S>(SpeculateFate::Void);
                 Spoken::Void
             }
             Reach::Granted | Reach::Done(_) => {
                 // It answers as the test before the load did, which no running code asks any more.
-                let kept = grant(
-                    &mut self.marks,
-                    &mut self.speculative,
-                    &self.schema,
-                    id,
-                    rec,
-                    mine,
-                );
+                let kept = self.side.grant(&self.schema, id, rec, mine);
                 if !kept {
-                    self.counts.speak(SpeculateFate::Dropped);
                     return Spoken::Dropped;
                 }
-                self.counts.speak(SpeculateFate::Kept);
                 Spoken::Kept
             }
         }

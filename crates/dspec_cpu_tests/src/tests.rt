@@ -10,4 +10,5 @@ mod settling;
 mod sharing;
 mod switching;
 mod taking;
+mod values;
 mod waiting;

@@ -1,5 +1,5 @@
 -- Bytes are the events of one list of records at most.
-use Rattle.std.proofs.Common.{◌≡◌, ◌≤◌, ◌<◌, ◌+◌, ◌*◌, ◌^◌, ◌++◌, ◌&&◌, ℕ, Bool, true, false, cond, ltb, leb, IsTrue, List, [], ◌∷◌, length, Option, Some, None, refl, ap, sym, subst, ◌∙◌, arith}
+use Rattle.std.proofs.Common.{◌≡◌, ◌+◌, ◌*◌, ◌^◌, ◌++◌, ℕ, Bool, true, false, cond, ltb, leb, IsTrue, List, [], ◌∷◌, length, Option, Some, None, refl, ap, sym, subst, ◌∙◌, arith}
 use Rattle.std.proofs.Common.{append_assoc, length-append, All}
 use Rattle.std.proofs.lemmas.List.Elements.{All-head, All-tail}
 use Rattle.std.specs.Prelude.{unwrap_or, option_and_then}
@@ -8,7 +8,7 @@ use Rattle.std.proofs.lemmas.Bool.{ltb-true, eqb-true}
 use Rattle.dspec_record.specs.Record.{Record}
 use Rattle.dspec_record.specs.Layout.{width}
 use Rattle.dspec_record.specs.RecordText.{little_endian, stamp_fits, fits}
-use Rattle.dspec_record.specs.Schemas.{within_limit, enabling_of, enabled, table_accepts}
+use Rattle.dspec_record.specs.Schemas.{within_limit, enabling_of, enabled}
 use Rattle.dspec_record.specs.EnablingRows.{EnabledRows}
 use Rattle.dspec_record.specs.Laws.Texts.{both, append-same, little_endian-same, length-little_endian}
 use Rattle.dspec_record.specs.Laws.Tables.{IsAccepted, accepted-parts}

@@ -1,6 +1,5 @@
 -- The definitions at small worked examples.
-use Rattle.std.proofs.Common.{◌≡◌, ◌++◌, List, ℕ, [], ◌∷◌, replicate, refl}
-use Rattle.dspec_record.specs.Record.{Record}
+use Rattle.std.proofs.Common.{◌≡◌, ◌++◌, [], ◌∷◌, replicate, refl}
 use Rattle.dspec_record.specs.EnablingRows.{EnabledRows}
 use Rattle.dspec_record.specs.declared.field.Field.TheVariants.{One, Two, Eight}
 use Rattle.dspec_record.specs.declared.header.Header.TheVariants as header

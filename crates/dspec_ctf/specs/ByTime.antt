@@ -7,7 +7,6 @@ use Rattle.std.specs.Ordering.{nat_cmp}
 use Rattle.dspec_record.specs.Record.{Record}
 use Rattle.dspec_record.specs.EnablingRows.{EnabledRows}
 use Rattle.dspec_record.specs.Schemas.{enabled, table_shape, table_accepts, table_text}
-use Rattle.dspec_record.specs.declared.header.Header.{Header}
 use Rattle.dspec_record.specs.declared.header.Header.TheVariants as header
 use Rattle.dspec_buffer.specs.Faults.{StopsAt}
 use Rattle.dspec_ctf.specs.Packets.{events, packet_around}
@@ -62,6 +61,13 @@ module _ (e : EnabledRows) where
     pub are_texts : AreTexts texts read
     pub sorted : List Record
     pub by_stamp : IsByStamp read sorted
+    pub bytes_are : bytes ≡ timed_packets uuid e missed cpu sorted
+
+  -- The bytes are the packets of these records, by time. Each has a stamp.
+  pub record ArePacketsOfRecords (uuid : List ℕ) (missed cpu : ℕ) (rs : List Record) (bytes : List ℕ) : Type 0 where
+    pub stamped : e.header ≡ header.Two
+    pub sorted : List Record
+    pub by_stamp : IsByStamp rs sorted
     pub bytes_are : bytes ≡ timed_packets uuid e missed cpu sorted
 
   -- the records of this text were added behind others

@@ -1,5 +1,5 @@
 -- Which packet is that of a batch, and why there is none.
-use Rattle.std.specs.Prelude.{◌≡◌, ◌≤◌, ◌+◌, ◌^◌, ℕ, IsTrue, List, length}
+use Rattle.std.specs.Prelude.{◌≡◌, ◌≤◌, ◌+◌, ◌^◌, ℕ, IsTrue, false, All, List, Some, length, take, slice_get}
 use Rattle.dspec_record.specs.Record.{Record}
 use Rattle.dspec_record.specs.EnablingRows.{EnabledRows}
 use Rattle.dspec_record.specs.Schemas.{enabled, table_shape, table_accepts, table_text}
@@ -13,6 +13,10 @@ module _ (e : EnabledRows) where
   -- these enablings take the record
   abbrev pub Accepts : Record → Type 0
   Accepts r = IsTrue (table_accepts e.header (enabled e.rows) r)
+
+  -- the first of these records that they don't take stands at this place
+  abbrev pub IsFirstRefused : List Record → ℕ → Type 0
+  IsFirstRefused rs place = All Accepts (take place rs) × ((r : Record) × (slice_get rs place ≡ Some r) × (table_accepts e.header (enabled e.rows) r ≡ false))
 
   -- the bytes are the text of these records, by these enablings
   abbrev pub IsText : List ℕ → List Record → Type 0
@@ -33,3 +37,18 @@ module _ (e : EnabledRows) where
   HasNoPacket missed drops text Missed = 2 ^ 64 ≤ missed + drops
   HasNoPacket missed drops text TooLong = (rs : List Record) × (IsText text rs × (2 ^ 60 ≤ length (events e rs)))
   HasNoPacket missed drops text Memory = Unit
+
+  -- Why records have no packet, where so many events were missed before and so many more with them: a number of the packet goes past
+  -- 64 bits.
+  abbrev pub HasNoRecordPacket : ℕ → ℕ → List Record → PacketFault → Type 0
+  HasNoRecordPacket missed drops rs (Text fault) = ⊥
+  HasNoRecordPacket missed drops rs Missed = 2 ^ 64 ≤ missed + drops
+  HasNoRecordPacket missed drops rs TooLong = 2 ^ 60 ≤ length (events e rs)
+  HasNoRecordPacket missed drops rs Memory = Unit
+
+-- why the bytes of events have no packet around them
+abbrev pub IsTooLong : List ℕ → PacketFault → Type 0
+IsTooLong body (Text fault) = ⊥
+IsTooLong body Missed = ⊥
+IsTooLong body TooLong = 2 ^ 60 ≤ length body
+IsTooLong body Memory = Unit

@@ -76,7 +76,7 @@ fn collect(alloc: Global, enablings: &Enablings, texts: &[&[u8]]) -> Result<Vec<
 }
 
 /// Sorts records by their stamps; those of one stamp stay in their order.
-fn sort(recs: &mut Vec<Rec>) -> Result<(), AllocError>
+pub(crate) fn sort(recs: &mut Vec<Rec>) -> Result<(), AllocError>
     ensures { OnOk result (IsByStamp recs.old.items recs.new.items) }
 {
     recs.sort_by_key(|rec| rec.stamp())?;
@@ -162,7 +162,7 @@ fn put_packet(
 
 /// Adds all packets of these records.
 #[tactic(auto, unfolding(crate::specs::ByTime::timed_packets))]
-fn put_packets(
+pub(crate) fn put_packets(
     alloc: Global,
     out: &mut Vec<u8>,
     stream: &Stream<'_>,

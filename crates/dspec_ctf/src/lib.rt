@@ -12,6 +12,7 @@ pub mod laws;
 pub mod names;
 mod packet;
 mod printing;
+pub mod records;
 pub mod stream;
 
 pub use by_time::TimeFault;
@@ -19,4 +20,5 @@ pub use fault::{MetadataFault, NameFault, NameKind};
 pub use form::Form;
 pub use names::{EventNames, Names};
 pub use printing::metadata;
+pub use records::first_refused;
 pub use stream::{PacketFault, Stream};

@@ -9,7 +9,7 @@ use std::alloc::{AllocError, Global};
 use thiserror::Error;
 
 /// The most bytes that the events of a packet have, so that its size in bits is one of 64 bits.
-const MAX_EVENTS_SIZE: u64 = (1 << 60) - 1;
+pub(crate) const MAX_EVENTS_SIZE: u64 = (1 << 60) - 1;
 
 /// Why a batch has no packet.
 #[derive(Debug, Clone, Copy, PartialEq, Eq, Error)]

@@ -1,7 +1,9 @@
 //! Packets by time.
+ghost use Rattle.std.specs.Prelude.{◌≡◌};
+
 use crate::same::{UUID, same, three_enablings};
-use dspec_buffer::ReadFault;
-use dspec_ctf::{Stream, TimeFault};
+use dspec_buffer::{ReadFault, read_all};
+use dspec_ctf::{Stream, TimeFault, first_refused};
 use dspec_record::{Enablings, ReadKind};
 use std::alloc::{AllocError, Global};
 use std::test::Fail;
@@ -33,7 +35,9 @@ const EMPTY: [u8; 68] = [
 ];
 
 /// The stream of CPU 1 that missed so many.
-fn stream_of(enablings: &Enablings, missed: u64) -> Stream<'_> {
+fn stream_of(enablings: &Enablings, missed: u64) -> Stream<'_>
+    ensures { result.enablings.now ≡ enablings.now }
+{
     Stream {
         uuid: UUID,
         enablings,
@@ -52,6 +56,25 @@ fn sorted_packets(rt: HostRuntime) -> Result<(), Fail> {
     same(&rt, packets.as_slice() == EMPTY.as_slice(), true);
     let packets = stream_of(&enablings, 0).packets_by_time(rt.alloc(), &[])?;
     same(&rt, packets.len(), 0);
+    Ok(())
+}
+
+#[test]
+fn sorted_records(rt: HostRuntime) -> Result<(), Fail> {
+    let enablings = three_enablings()?.stamped();
+    let mut records = Vec::new(rt.alloc());
+    for text in [&FIRST[..], &SECOND[..]] {
+        for record in read_all(&enablings, text)? {
+            records.push(record)?;
+        }
+    }
+    let None = first_refused(&enablings, &records) else {
+        return Err(Fail::from(AllocError));
+    };
+    let packets = stream_of(&enablings, 7).packets_by_time_of(rt.alloc(), &records)?;
+    same(&rt, packets.as_slice() == PACKET.as_slice(), true);
+    let packets = stream_of(&enablings, 7).packets_by_time_of(rt.alloc(), &[])?;
+    same(&rt, packets.as_slice() == EMPTY.as_slice(), true);
     Ok(())
 }
 

@@ -1,8 +1,9 @@
 //! Packets of batches as taken.
 use crate::same::{UUID, same, three_enablings};
-use dspec_buffer::ReadFault;
-use dspec_ctf::{PacketFault, Stream};
+use dspec_buffer::{ReadFault, read_all};
+use dspec_ctf::{PacketFault, Stream, first_refused};
 use dspec_record::ReadKind;
+use std::alloc::AllocError;
 use std::test::Fail;
 
 /// The records 1, 2(7) and 3(171, 4660), with a padding word and a gap.
@@ -39,6 +40,29 @@ fn unstamped_packets(rt: HostRuntime) -> Result<(), Fail> {
     let packet = stream.packet(rt.alloc(), 3, &[])?;
     same(&rt, packet.as_slice() == EMPTY.as_slice(), true);
     same(&rt, stream.missed, 8);
+    Ok(())
+}
+
+#[test]
+fn packets_of_records(rt: HostRuntime) -> Result<(), Fail> {
+    let enablings = three_enablings()?;
+    let mut records = Vec::new(rt.alloc());
+    for record in read_all(&enablings, &TEXT)? {
+        records.push(record)?;
+    }
+    let None = first_refused(&enablings, &records) else {
+        return Err(Fail::from(AllocError));
+    };
+    let mut stream = Stream {
+        uuid: UUID,
+        enablings: &enablings,
+        cpu: 1,
+        missed: 0,
+    };
+    let packet = stream.packet_of(rt.alloc(), 5, &records)?;
+    same(&rt, packet.as_slice() == PACKET.as_slice(), true);
+    let packet = stream.packet_of(rt.alloc(), 3, &[])?;
+    same(&rt, packet.as_slice() == EMPTY.as_slice(), true);
     Ok(())
 }
 

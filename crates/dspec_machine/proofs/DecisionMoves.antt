@@ -17,7 +17,6 @@ use Rattle.dspec_deeds.specs.declared.deed.Deed.{Deed}
 use Rattle.dspec_play.specs.declared.flight.Caller.{Caller}
 use Rattle.dspec_machine.specs.declared.decision.Decision.{Decision}
 use Rattle.dspec_machine.specs.declared.decision.Decision.TheVariants.{Commit, Discard}
-use Rattle.dspec_machine.specs.declared.side.Side.{Side}
 use Rattle.dspec_deeds.specs.History.{author, is_among, callers, halted, in_range, issue, word_at}
 use Rattle.dspec_deeds.specs.Legal.{IsAllowed}
 use Rattle.dspec_deeds.specs.Settling.{commit_fate}
@@ -25,15 +24,14 @@ use Rattle.dspec_deeds.specs.Told.{answer_of}
 use Rattle.dspec_play.specs.Coherent.{Expects, IsCoherent, OnItsWay, PlayState, StandsCpu, the_caller}
 use Rattle.dspec_play.specs.Play.{cpu_step, call_goes_on, ends, wears, is_worn, same_word, committed_by, discarded_by}
 use Rattle.dspec_machine.specs.Decisions.{act_of_decision, deed_of, decides, begun_of, load_of, try_of, shown_by}
-use Rattle.dspec_machine.specs.Shown.{ShowsSide, ShowsWords}
+use Rattle.dspec_machine.specs.Shown.{ShowsWords}
 use Rattle.dspec_deeds.proofs.WordActs.{commit_attempt, discard_attempt}
 use Rattle.dspec_play.proofs.DecideMoves.{commit_leaves, commit_next, commit_voids, committed_deeds, discard_leaves, discard_next, discard_voids}
 use Rattle.dspec_play.proofs.StepReads.{flight_stands, step_legal}
 use Rattle.dspec_play.proofs.StepsWords.{same_word_tells}
 use Rattle.dspec_play.proofs.TableReads.{commit_reads, discard_reads}
 use Rattle.dspec_play.proofs.StepsWords.{words_test}
-use Rattle.dspec_machine.proofs.DoneSides.{no_commit_side, no_discard_side}
-use Rattle.dspec_machine.proofs.OtherSides.{words_stay}
+use Rattle.dspec_machine.proofs.WordsShown.{words_set, words_stay}
 
 -- what is void or stopped decides nothing
 pub void_decides_not : (d : Decision) → decides d decided.Void ≡ false
@@ -190,10 +188,3 @@ pub undecided_words : (d : Decision) (k : Config) (c : ℕ) (id : Speculation) (
     → ShowsWords k h words → ShowsWords k (deed_of d c id f ∷ h) words
 undecided_words Commit k c id f h words none was = words_stay k (deed_of Commit c id f) h words (λ t. rw none refl) was
 undecided_words Discard k c id f h words none was = words_stay k (deed_of Discard c id f) h words (λ t. rw none refl) was
-
--- and its CPU's side
-pub undecided_side : {S B : Type 0} (is_among : B → S → List Piece → Type 0) (capacity : B → ℕ) (schema : S) (k : Config) (c : ℕ) (d : Decision) (id : Speculation)
-    (f : DecideFate) (h : List Deed) (side : Side B) → decides d f ≡ false
-    → ShowsSide is_among capacity schema k c h side → ShowsSide is_among capacity schema k c (deed_of d c id f ∷ h) record side { calls = side.calls + 1 }
-undecided_side is_among capacity schema k c Commit id f h side none was = no_commit_side is_among capacity schema k c id f h side none was
-undecided_side is_among capacity schema k c Discard id f h side none was = no_discard_side is_among capacity schema k c id f h side none was

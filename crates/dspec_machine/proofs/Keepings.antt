@@ -5,6 +5,7 @@ use Rattle.dspec_record.specs.Record.{Record}
 use Rattle.dspec_buffer.specs.Extent.{Piece}
 use Rattle.dspec_deeds.specs.declared.calls.Answer.{Answer}
 use Rattle.dspec_deeds.specs.declared.calls.CpuOp.{CpuOp}
+use Rattle.dspec_play.specs.declared.flight.Caller.{Caller}
 use Rattle.dspec_play.specs.declared.flight.ConsumerFlight.{ConsumerFlight}
 use Rattle.dspec_play.specs.declared.flight.CpuFlight.{CpuFlight}
 use Rattle.dspec_play.specs.declared.flight.CpuFlight.TheVariants as flight
@@ -14,10 +15,12 @@ use Rattle.dspec_play.specs.Coherent.{PlayState, IsCoherent, the_caller}
 use Rattle.dspec_machine.specs.Machines.{IsShownMachine, Makes, Cleans, history, state_of}
 use Rattle.dspec_play.specs.Play.{cpu_step, consumer_step}
 use Rattle.dspec_play.specs.Turns.{begin_cpu, moved_to, cleaned_to}
-use Rattle.dspec_machine.specs.Worlds.{IsKept}
+use Rattle.dspec_machine.specs.Worlds.{IsKept, IsWithin}
 use Rattle.dspec_play.proofs.Coherence.{begin_cpu_coherent, step_cpu_coherent, step_consumer_coherent}
 use Rattle.dspec_play.proofs.FlightsStay.{flights_stay}
 use Rattle.dspec_play.proofs.KeptCalls.{AllPass, some_passes, set_passes, step_passes, clean_goes}
+use Rattle.dspec_play.proofs.OwnAnswersPlay.{put}
+use Rattle.dspec_machine.proofs.Within.{AllWithin, cpu_within, consumer_within}
 
 module _ {S B : Type 0} (has : B → S → List Piece → Type 0) (capacity : B → ℕ) (shape_of : S → ℕ → Option Shape) (accepted : S → Record → Bool) where
   -- the record of a call, if it has one, is accepted
@@ -28,16 +31,17 @@ module _ {S B : Type 0} (has : B → S → List Piece → Type 0) (capacity : B 
   pub record KeepsState (schema : S) (st : PlayState) : Type 0 where
     pub coherent : IsCoherent (shape_of schema) st
     pub accepted_records : AllPass (IsFit schema) st.config.cpus st.callers
+    pub within : AllWithin st
     pub about : (f : ConsumerFlight) → st.side.flight ≡ Some f → is_about st.config (consumer_op_of f) ≡ true
 
   pub state_kept : (m : Machine S B) → IsKept has capacity shape_of accepted m → KeepsState m.schema (state_of m)
-  state_kept m was = record { coherent = was.coherent; accepted_records = was.accepted_records; about = was.about }
+  state_kept m was = record { coherent = was.coherent; accepted_records = was.accepted_records; within = was.within; about = was.about }
 
   -- a machine that shows its list and whose state is kept
   pub kept_as : (m : Machine S B) (schema : S) (st : PlayState) → IsShownMachine has capacity m → state_of m ≡ st → m.schema ≡ schema → KeepsState schema st → IsKept has capacity shape_of accepted m
   kept_as m schema st shown state same keeps =
       let here : KeepsState m.schema (state_of m) = subst (λ s. KeepsState s (state_of m)) (sym same) (subst (KeepsState schema) (sym state) keeps) in
-      record { shown = shown; coherent = here.coherent; accepted_records = here.accepted_records; about = here.about }
+      record { shown = shown; coherent = here.coherent; accepted_records = here.accepted_records; within = here.within; about = here.about }
 
   -- a call of a CPU that begins
   pub begin_keeps : (schema : S) (st : PlayState) (c : ℕ) (o : CpuOp) → c < st.config.cpus → (the_caller st.callers c).flight ≡ None
@@ -45,6 +49,8 @@ module _ {S B : Type 0} (has : B → S → List Piece → Type 0) (capacity : B 
   begin_keeps schema st c o lt idle passes was = record {
     coherent = begin_cpu_coherent (shape_of schema) st c o was.coherent lt idle;
     accepted_records = set_passes (IsFit schema) st.config.cpus st.callers c _ was.coherent.count was.accepted_records (some_passes (IsFit schema) (flight.Begun o) passes);
+    within = put st.config.cpus (λ b (x : Caller). IsWithin st.config b st.deeds x.flight) st.callers c (record (the_caller st.callers c) { flight = Some (flight.Begun o); steps = 0 })
+        was.coherent.count (λ b less other. was.within b less) (λ less. subst (λ x. IsWithin st.config c st.deeds x) idle (was.within c less));
     about = was.about;
   }
 
@@ -55,6 +61,7 @@ module _ {S B : Type 0} (has : B → S → List Piece → Type 0) (capacity : B 
     coherent = step_cpu_coherent (shape_of schema) st c (Some f) was.coherent lt is;
     accepted_records = set_passes (IsFit schema) st.config.cpus st.callers c _ was.coherent.count was.accepted_records
         (step_passes (IsFit schema) (shape_of schema) st.config c st.deeds (the_caller st.callers c) f (was.accepted_records c f lt is));
+    within = cpu_within (shape_of schema) st was.coherent was.within c f lt is;
     about = was.about;
   }
 
@@ -64,6 +71,7 @@ module _ {S B : Type 0} (has : B → S → List Piece → Type 0) (capacity : B 
   consumer_keeps_state schema st f is was = record {
     coherent = step_consumer_coherent (shape_of schema) st (Some f) was.coherent is;
     accepted_records = λ c g lt now. was.accepted_records c g lt (sym (flights_stay st.config st.deeds st.side st.callers was.coherent.count f c lt) ∙ now);
+    within = consumer_within (shape_of schema) st was.coherent was.within f is;
     about = clean_goes (λ o. is_about st.config o ≡ true) st.config st.deeds st.side st.callers f (was.about f is);
   }
 

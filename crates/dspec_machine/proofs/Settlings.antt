@@ -11,7 +11,7 @@ use Rattle.dspec_deeds.specs.declared.config.Config.{Config}
 use Rattle.dspec_deeds.specs.declared.deed.Deed.{Deed}
 use Rattle.dspec_deeds.specs.declared.deed.Deed.TheVariants.{Settle}
 use Rattle.dspec_machine.specs.declared.machine.Machine.{Machine}
-use Rattle.dspec_machine.specs.declared.side.Side.{Side}
+use Rattle.dspec_machine.specs.declared.cpu.Cpu.{Cpu}
 use Rattle.dspec_deeds.specs.History.{present, word_at, ack}
 use Rattle.dspec_play.specs.Coherent.{IsSlot, PlayState}
 use Rattle.dspec_deeds.specs.Closes.{CanClose, is_granted, closed_slot, closed_slots, closed_cpus}
@@ -19,7 +19,7 @@ use Rattle.dspec_machine.specs.Machines.{IsShownMachine, Adds, history, state_of
 use Rattle.dspec_deeds.specs.Settling.{settle_fate}
 use Rattle.dspec_deeds.specs.Ranges.{start_fault}
 use Rattle.dspec_play.proofs.Closing.{slot_settles}
-use Rattle.dspec_machine.proofs.MachineReads.{side_read}
+use Rattle.dspec_machine.proofs.MachineReads.{cpu_read}
 
 -- a settlement is entered where the table grants it
 unless_granted : (act : Act) (xs ys : List Deed) → act ≢ Granted → (if is_granted act then xs else ys) ≡ ys
@@ -76,14 +76,14 @@ module _ {S B : Type 0} where
   settles_one m n d g e adds = record { state = adds.state ∙ ap (λ ds. record (state_of m) { deeds = ds }) e; schema = adds.schema }
 
   module _ (has : B → S → List Piece → Type 0) (capacity : B → ℕ) (m : Machine S B) (shown : IsShownMachine has capacity m) (c s : ℕ) (lt : c < m.config.cpus)
-      (slot : IsSlot m.config s) (side : Side B) (is : side ≡ get_or m.sides.items c side) where
+      (slot : IsSlot m.config s) (own : Cpu B) (is : own ≡ get_or m.cpus.items c own) where
     -- the acknowledgement that an index reads
-    pub ack_read : (a : ℕ) → a ≡ get_or side.acks.items (s - 1) a → a ≡ ack c s (history m)
+    pub ack_read : (a : ℕ) → a ≡ get_or own.side.acks.items (s - 1) a → a ≡ ack c s (history m)
     ack_read a e =
-        let shows = side_read has capacity m shown c side lt is in
+        let shows = (cpu_read has capacity m shown c own lt is).side.parts in
         let least = slot.0 in
         let most = slot.1 in
         let within : s - 1 < m.config.nspec = omega (arith, least, most) in
-        let read = slice_get_read side.acks.items m.config.nspec (s - 1) a (sym shows.ack_count) within e in
-        let there : slice_get side.acks.items (s - 1) ≡ Some (ack c s (history m)) = shows.acks s slot in
+        let read = slice_get_read own.side.acks.items m.config.nspec (s - 1) a (sym shows.ack_count) within e in
+        let there : slice_get own.side.acks.items (s - 1) ≡ Some (ack c s (history m)) = shows.acks s least most in
         cc

@@ -11,7 +11,7 @@ use Rattle.dspec_deeds.specs.History.{word_at}
 use Rattle.dspec_play.specs.Coherent.{IsSlot}
 use Rattle.dspec_machine.specs.Shown.{ShowsWords}
 use Rattle.dspec_machine.specs.Machines.{Adds, history}
-use Rattle.dspec_machine.proofs.OtherSides.{words_set}
+use Rattle.dspec_machine.proofs.WordsShown.{words_set}
 
 -- the later of two writes at a place
 set_again : {A : Type 0} (xs : List A) (i : ℕ) (x y : A) → set (set xs i x) i y ≡ set xs i y
@@ -29,5 +29,5 @@ solo_words k c id f h words w slot is was =
 
 -- what a play knows of a machine with more deeds
 pub adds_all : {S B : Type 0} (m n : Machine S B) (ds : List Deed) → n.config ≡ m.config → n.schema ≡ m.schema → n.consumer ≡ m.consumer → history n ≡ ds ++ history m
-    → map (λ s. s.caller) n.sides.items ≡ map (λ s. s.caller) m.sides.items → Adds ds m n
+    → map (λ s. s.caller) n.cpus.items ≡ map (λ s. s.caller) m.cpus.items → Adds ds m n
 adds_all m n ds config schema consumer deeds callers = record { state = λ i. record { config = config i; deeds = deeds i; callers = callers i; side = consumer i }; schema = schema }

@@ -10,12 +10,13 @@ use Rattle.dspec_word.specs.declared.code.Code.TheVariants.{Inactive}
 use Rattle.dspec_word.specs.Word.{SlotState}
 use Rattle.dspec_deeds.specs.declared.config.Config.{Config}
 use Rattle.dspec_machine.specs.declared.machine.Machine.{Machine}
-use Rattle.dspec_machine.specs.declared.side.Side.{Side}
+use Rattle.dspec_machine.specs.declared.cpu.Cpu.{Cpu}
 use Rattle.dspec_play.specs.Coherent.{the_caller, idle_caller}
 use Rattle.dspec_deeds.specs.Ranges.{start_fault}
 use Rattle.dspec_play.specs.Turns.{idle_callers, at_start}
-use Rattle.dspec_machine.specs.Shown.{ShowsSide}
+use Rattle.dspec_machine.specs.Shown.{ShowsCpu}
 use Rattle.dspec_machine.specs.Machines.{IsShownMachine, history, state_of}
+use Rattle.dspec_machine.specs.Worlds.{IsWithin}
 use Rattle.dspec_play.proofs.Coherence.{start_coherent}
 use Rattle.dspec_machine.proofs.Keepings.{KeepsState}
 use Rattle.dspec_machine.proofs.OneMore.{shown_as}
@@ -50,28 +51,15 @@ module _ {A : Type 0} (P : A → Type 0) where
       let there = slice_get-get_or xs i d (omega arith) in
       (get_or xs i d, there, made.each i (get_or xs i d) there)
 
--- so many zeros
-pub zero_there : (n i : ℕ) (xs : List ℕ) → xs ≡ replicate n 0 → i < n → slice_get xs i ≡ Some 0
-zero_there n i xs e lt =
-    subst (λ ys. slice_get ys i ≡ Some 0) (sym e)
-    (slice_get-get_or (replicate n 0) i 0 (subst (λ x. i < x) (sym (length-replicate n 0)) lt) ∙ ap Some (get_or-replicate n i 0 0 lt))
-
-pub zero_count : (n : ℕ) (xs : List ℕ) → xs ≡ replicate n 0 → length xs ≡ n
-zero_count n xs e = ap length e ∙ length-replicate n 0
-
--- a number that stands where zeros are
-pub zero_read : (n i m : ℕ) (xs : List ℕ) → xs ≡ replicate n 0 → i < n → slice_get xs i ≡ Some m → m ≡ 0
-zero_read n i m xs e lt got = let there = zero_there n i xs e lt in cc
-
--- the callers of so many sides that have made no call
-pub callers_idle : {B : Type 0} (n : ℕ) (sides : List (Side B)) → length sides ≡ n → ((i : ℕ) (side : Side B) → slice_get sides i ≡ Some side → side.caller ≡ idle_caller)
-    → map (λ s. s.caller) sides ≡ idle_callers n
+-- the callers of so many CPUs that have made no call
+pub callers_idle : {B : Type 0} (n : ℕ) (cpus : List (Cpu B)) → length cpus ≡ n → ((i : ℕ) (own : Cpu B) → slice_get cpus i ≡ Some own → own.caller ≡ idle_caller)
+    → map (λ own. own.caller) cpus ≡ idle_callers n
 callers_idle zero [] count each = refl
-callers_idle zero (s ∷ sides) count each = absurd (omega arith)
+callers_idle zero (s ∷ cpus) count each = absurd (omega arith)
 callers_idle (suc n) [] count each = absurd (omega arith)
-callers_idle (suc n) (s ∷ sides) count each =
+callers_idle (suc n) (s ∷ cpus) count each =
     let first = each 0 s refl in
-    let rest = callers_idle n sides (omega arith) (λ i. each (suc i)) in
+    let rest = callers_idle n cpus (omega arith) (λ i. each (suc i)) in
     cc
 
 -- no call is in flight before the first
@@ -86,6 +74,7 @@ module _ {S B : Type 0} (has : B → S → List Piece → Type 0) (capacity : B 
   start_keeps schema k fine = record {
     coherent = start_coherent (shape_of schema) k fine;
     accepted_records = λ c f lt e. absurd (let idle = idle_flight k.cpus c in cc);
+    within = λ c lt. let idle : (the_caller (idle_callers k.cpus) c).flight ≡ None = idle_flight k.cpus c in subst (λ x. IsWithin k c [] x) (sym idle) (omega arith);
     about = λ f e. absurd (cc (e));
   }
 
@@ -94,14 +83,14 @@ abbrev pub IsFree : SlotState → Type 0
 IsFree w = w ≡ record { issue = 0; code = Inactive }
 
 module _ {S B : Type 0} (has : B → S → List Piece → Type 0) (capacity : B → ℕ) where
-  -- a side before the first deed
-  abbrev pub HasBegun : Config → Side B → Type 0
-  HasBegun k side = ((schema : S) (c : ℕ) → ShowsSide has capacity schema k c [] side) × (side.caller ≡ idle_caller)
+  -- what is kept of a CPU before the first deed
+  abbrev pub HasBegun : Config → Cpu B → Type 0
+  HasBegun k own = ((schema : S) (c : ℕ) → ShowsCpu has capacity schema k c [] own) × (own.caller ≡ idle_caller)
 
   -- a machine before the first deed
-  pub machine_at_start : (m : Machine S B) → m.deeds ≡ [] → m.halted ≡ false → Made IsFree m.config.nspec m.words.items → Made (HasBegun m.config) m.config.cpus m.sides.items
+  pub machine_at_start : (m : Machine S B) → m.deeds ≡ [] → m.halted ≡ false → Made IsFree m.config.nspec m.words.items → Made (HasBegun m.config) m.config.cpus m.cpus.items
       → IsShownMachine has capacity m
-  machine_at_start m none runs words sides =
+  machine_at_start m none runs words cpus =
       shown_as has capacity m [] (ap reverse none) record {
         words = record {
           count = words.count;
@@ -110,12 +99,12 @@ module _ {S B : Type 0} (has : B → S → List Piece → Type 0) (capacity : B 
               subst (λ w. slice_get m.words.items (s - 1) ≡ Some w) word.2 word.1;
         };
         active = runs;
-        side_count = sides.count;
-        sides = λ c side got. (sides.each c side got).0 m.schema c;
+        cpu_count = cpus.count;
+        cpus = λ c own got. (cpus.each c own got).0 m.schema c;
       }
 
-  pub state_at_start : (m : Machine S B) → m.deeds ≡ [] → m.consumer ≡ record { flight = None; steps = 0 } → Made (HasBegun m.config) m.config.cpus m.sides.items → state_of m ≡ at_start m.config
-  state_at_start m none idle sides =
+  pub state_at_start : (m : Machine S B) → m.deeds ≡ [] → m.consumer ≡ record { flight = None; steps = 0 } → Made (HasBegun m.config) m.config.cpus m.cpus.items → state_of m ≡ at_start m.config
+  state_at_start m none idle cpus =
       let deeds : history m ≡ [] = ap reverse none in
-      let callers = callers_idle m.config.cpus m.sides.items sides.count (λ i side got. (sides.each i side got).1) in
+      let callers = callers_idle m.config.cpus m.cpus.items cpus.count (λ i own got. (cpus.each i own got).1) in
       λ i. record { config = m.config; deeds = deeds i; callers = callers i; side = idle i }

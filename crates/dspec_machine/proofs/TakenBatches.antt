@@ -6,7 +6,7 @@ use Rattle.dspec_record.specs.Record.{Record}
 use Rattle.dspec_deeds.specs.declared.deed.Deed.{Deed}
 use Rattle.dspec_deeds.specs.Own.{Batch, empty_batch, batches, batch_records, contents, seals, taken}
 use Rattle.dspec_machine.specs.Shown.{first_or_empty, batch_of_last_seal}
-use Rattle.dspec_machine.proofs.PrincipalSides.{batches_sealed}
+use Rattle.dspec_machine.proofs.Batches.{batches_sealed}
 
 -- the records of batches put together
 records_append : (xs ys : List Batch) → batch_records (xs ++ ys) ≡ batch_records xs ++ batch_records ys

@@ -5,4 +5,3 @@ pub mod Standing
 pub mod Steps
 pub mod Sessions
 pub mod Worlds
-pub mod Tallies

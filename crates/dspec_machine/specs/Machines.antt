@@ -4,12 +4,12 @@ use Rattle.dspec_buffer.specs.Extent.{Piece}
 use Rattle.dspec_deeds.specs.declared.calls.Answer.{Answer}
 use Rattle.dspec_deeds.specs.declared.deed.Deed.{Deed}
 use Rattle.dspec_machine.specs.declared.machine.Machine.{Machine}
-use Rattle.dspec_machine.specs.declared.side.Side.{Side}
+use Rattle.dspec_machine.specs.declared.cpu.Cpu.{Cpu}
 use Rattle.dspec_deeds.specs.History.{halted}
 use Rattle.dspec_play.specs.Play.{Moved, ConsumerStep}
 use Rattle.dspec_play.specs.Coherent.{PlayState}
 use Rattle.dspec_play.specs.Turns.{moved_to, cleaned_to}
-use Rattle.dspec_machine.specs.Shown.{ShowsWords, ShowsSide}
+use Rattle.dspec_machine.specs.Shown.{ShowsWords, ShowsCpu}
 
 -- the deeds of a machine, the latest first
 abbrev pub history : {S B : Type 0} → Machine S B → List Deed
@@ -17,14 +17,14 @@ history m = reverse m.deeds
 
 -- what a play knows of a machine
 abbrev pub state_of : {S B : Type 0} → Machine S B → PlayState
-state_of m = record { config = m.config; deeds = history m; callers = map (λ s. s.caller) m.sides.items; side = m.consumer }
+state_of m = record { config = m.config; deeds = history m; callers = map (λ own. own.caller) m.cpus.items; side = m.consumer }
 
 module _ {S B : Type 0} (has : B → S → List Piece → Type 0) (capacity : B → ℕ) where
   pub record IsShownMachine (m : Machine S B) : Type 0 where
     pub words : ShowsWords m.config (history m) m.words.items
     pub active : m.halted ≡ halted (history m)
-    pub side_count : length m.sides.items ≡ m.config.cpus
-    pub sides : (c : ℕ) (s : Side B) → slice_get m.sides.items c ≡ Some s → ShowsSide has capacity m.schema m.config c (history m) s
+    pub cpu_count : length m.cpus.items ≡ m.config.cpus
+    pub cpus : (c : ℕ) (own : Cpu B) → slice_get m.cpus.items c ≡ Some own → ShowsCpu has capacity m.schema m.config c (history m) own
 
 -- one machine is another with deeds in front of its list, and all else that a play knows the same
 pub record Adds {S B : Type 0} (ds : List Deed) (m n : Machine S B) : Type 0 where

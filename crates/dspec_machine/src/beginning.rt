@@ -22,7 +22,7 @@ impl<S: Schema, B: TraceBuffer<S>> Machine<S, B> {
         ensures state { state_of self.new ≡ begin_cpu cpu op (state_of self.old) }
         ensures schema { self.new.schema ≡ self.old.schema }
     {
-        let caller = &mut self.sides[cpu as usize].caller;
+        let caller = &mut self.cpus[cpu as usize].caller;
         caller.flight = Some(CpuFlight::Begun(op));
         caller.steps = 0;
     }

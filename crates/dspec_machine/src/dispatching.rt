@@ -77,7 +77,7 @@ impl<S: Schema, B: TraceBuffer<S>> Machine<S, B> {
         ensures schema { self.new.schema ≡ self.old.schema }
         ensures refused { OnErr result (self.new ≡ self.old) }
     {
-        let flight = self.sides[cpu as usize].caller.flight;
+        let flight = self.cpus[cpu as usize].caller.flight;
         match flight {
             None => Ok(None),
             Some(flight) => self.step_flight(cpu, flight),

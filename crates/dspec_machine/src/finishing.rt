@@ -26,7 +26,7 @@ impl<S: Schema, B: TraceBuffer<S>> Machine<S, B> {
     {
         let place = (slot - 1) as usize;
         let word = self.words[place];
-        let Act::Granted = settle_at(word, self.sides[cpu as usize].acks[place]) else {
+        let Act::Granted = settle_at(word, self.cpus[cpu as usize].side.acks[place]) else {
             return Ok(());
         };
         let id = SpecId::of(word.issue(), slot);
@@ -81,7 +81,7 @@ impl<S: Schema, B: TraceBuffer<S>> Machine<S, B> {
         let mut accepted = Series::new(alloc);
         let mut reports = Series::new(alloc);
         for cpu in 0..self.config.cpus {
-            accepted.push(copied(alloc, self.sides[cpu as usize].accepted.as_slice())?)?;
+            accepted.push(copied(alloc, self.cpus[cpu as usize].accepted.as_slice())?)?;
             reports.push(self.report(cpu))?;
         }
         Ok(Close {

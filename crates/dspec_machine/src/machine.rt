@@ -1,9 +1,10 @@
-use crate::side::Side;
+use crate::cpu::Cpu;
 use dspec_deeds::{Config, Deed};
 use dspec_play::{ConsumerSide, Series};
 use dspec_word::Word;
 
-/// A session as its atomic steps left it: the shared words, each CPU's side, the consumer's, and the list of deeds.
+/// A session as its atomic steps left it: the shared words, what is kept of each CPU and of the consumer, and the
+/// list of deeds.
 #[derive(Drop)]
 pub struct Machine<S, B> {
     /// What the session was set up with.
@@ -14,8 +15,8 @@ pub struct Machine<S, B> {
     pub words: Vec<Word>,
     /// Whether the session was stopped.
     pub halted: bool,
-    /// Each CPU's side.
-    pub sides: Vec<Side<B>>,
+    /// What is kept of each CPU.
+    pub cpus: Vec<Cpu<B>>,
     /// The consumer's call in flight.
     pub consumer: ConsumerSide,
     /// What was done, in order of time.

@@ -35,7 +35,7 @@ fn read_left<S: Schema>(
 impl<S: Schema> Playing<S> {
     /// Ends the session, and gives what a play leaves, but for the deeds: what is left of each CPU is read behind what was taken.
     pub fn close(self, alloc: Global) -> Result<Outcome, Halt>
-        requires session { IsSession ⟦<Cpu<S> as Listed>⟧.is_ready self.schema self.session }
+        requires session { IsSession self.schema self.session }
         ensures answers { IfOk result (λ outcome. outcome.answers ≡ self.answers) }
         ensures refused { IfErr result IsSudden }
     {

@@ -28,7 +28,7 @@ pub struct Playing<S: Schema> {
 impl<S: Schema> Playing<S> {
     /// A session that has just begun.
     pub fn start(alloc: Global, config: &Config, schema: S) -> Result<Playing<S>, Halt>
-        ensures session { IfOk result (λ p. IsSession ⟦<Cpu<S> as Listed>⟧.is_ready p.schema p.session) }
+        ensures session { IfOk result (λ p. IsSession p.schema p.session) }
         ensures schema { IfOk result (λ p. p.schema ≡ schema) }
         ensures cpus { IfOk result (λ p. length p.session.cpus.items ≡ config.now.cpus) }
         ensures empty { IfOk result (λ p. p.answers ≡ []) }
@@ -50,8 +50,8 @@ impl<S: Schema> Playing<S> {
 
     /// A whole call of a CPU.
     fn run_cpu(&mut self, number: usize, cpu: u32, op: CpuOp) -> Result<Answer, Halt>
-        requires session { IsSession ⟦<Cpu<S> as Listed>⟧.is_ready self.old.schema self.old.session }
-        ensures session { IsSession ⟦<Cpu<S> as Listed>⟧.is_ready self.new.schema self.new.session }
+        requires session { IsSession self.old.schema self.old.session }
+        ensures session { IsSession self.new.schema self.new.session }
         ensures same { IsSamePlay self.old self.new }
         ensures answers { self.new.answers ≡ self.old.answers }
         ensures allowed { IfOk result (λ _. turn_halt (S.accepted self.old.schema) (length self.old.session.cpus.items) number (RunCpu cpu op) ≡ None) }
@@ -66,8 +66,8 @@ impl<S: Schema> Playing<S> {
 
     /// A whole call of the consumer.
     fn run_consumer(&mut self, number: usize, op: ConsumerOp) -> Result<Answer, Halt>
-        requires session { IsSession ⟦<Cpu<S> as Listed>⟧.is_ready self.old.schema self.old.session }
-        ensures session { IsSession ⟦<Cpu<S> as Listed>⟧.is_ready self.new.schema self.new.session }
+        requires session { IsSession self.old.schema self.old.session }
+        ensures session { IsSession self.new.schema self.new.session }
         ensures same { IsSamePlay self.old self.new }
         ensures answers { self.new.answers ≡ self.old.answers }
         ensures allowed { IfOk result (λ _. turn_halt (S.accepted self.old.schema) (length self.old.session.cpus.items) number (RunConsumer op) ≡ None) }
@@ -90,8 +90,8 @@ impl<S: Schema> Playing<S> {
 
     /// A whole call, with who makes it and what it answers.
     fn run(&mut self, number: usize, turn: Turn) -> Result<(Actor, Op, Answer), Halt>
-        requires session { IsSession ⟦<Cpu<S> as Listed>⟧.is_ready self.old.schema self.old.session }
-        ensures session { IsSession ⟦<Cpu<S> as Listed>⟧.is_ready self.new.schema self.new.session }
+        requires session { IsSession self.old.schema self.old.session }
+        ensures session { IsSession self.new.schema self.new.session }
         ensures same { IsSamePlay self.old self.new }
         ensures answers { self.new.answers ≡ self.old.answers }
         ensures its { IfOk result (λ ended. call_that_ended ended ≡ whole_call_of turn) }
@@ -117,8 +117,8 @@ impl<S: Schema> Playing<S> {
 
     /// One turn, which has to be a whole call, and then the meetings of the consumer with each CPU.
     pub fn turn(&mut self, number: usize, turn: Turn) -> Result<(), Halt>
-        requires session { IsSession ⟦<Cpu<S> as Listed>⟧.is_ready self.old.schema self.old.session }
-        ensures session { IsSession ⟦<Cpu<S> as Listed>⟧.is_ready self.new.schema self.new.session }
+        requires session { IsSession self.old.schema self.old.session }
+        ensures session { IsSession self.new.schema self.new.session }
         ensures same { IsSamePlay self.old self.new }
         ensures answered { OnOk result (map call_that_ended self.new.answers ≡ map call_that_ended self.old.answers ++ whole_call_of turn ∷ []) }
         ensures allowed { IfOk result (λ _. turn_halt (S.accepted self.old.schema) (length self.old.session.cpus.items) number turn ≡ None) }

@@ -16,5 +16,5 @@ mod setup;
 mod words;
 
 pub use fault::{LineKind, ScheduleFault};
-pub use printing::{printed, yes_or_no};
+pub use printing::{print_record, printed, yes_or_no};
 pub use schedule::{Schedule, read_schedule};

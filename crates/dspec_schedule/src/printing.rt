@@ -300,9 +300,9 @@ fn print_records(text: &mut String, header: Header, records: &[Rec]) -> Result<(
     Ok(())
 }
 
-/// A record: its probe identifier, its stamp, and its values.
+/// Adds the text of a record: its probe identifier, its stamp where the header has one, and its values.
 #[tactic(auto, unfolding(crate::specs::Printed::printed_record))]
-fn print_record(text: &mut String, header: Header, rec: &Rec) -> Result<(), AllocError>
+pub fn print_record(text: &mut String, header: Header, rec: &Rec) -> Result<(), AllocError>
     ensures { OnOk result (string_bytes text.new ≡ string_bytes text.old ++ printed_record header rec.now) }
 {
     let epid = rec.epid();

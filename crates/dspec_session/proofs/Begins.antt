@@ -14,6 +14,7 @@ use Rattle.dspec_table.specs.declared.seats.CpuSeat.{CpuSeat}
 use Rattle.dspec_table.specs.declared.seats.Words.{Words}
 use Rattle.dspec_cpu.specs.declared.cpu.Cpu.{Cpu}
 use Rattle.dspec_cpu.specs.Lists.{end_of, words_of}
+use Rattle.dspec_cpu.specs.Standing.{identity}
 use Rattle.dspec_session.specs.declared.session.Session.{Session}
 use Rattle.dspec_session.specs.Consumers.{IsConsumerOf, pairs_of}
 use Rattle.dspec_session.specs.Sessions.{IsCpuOf, IsSession, IsFresh}
@@ -57,21 +58,21 @@ abbrev pairs : List ConsumerKnows → List Pair
 pairs es = map (λ (e : ConsumerKnows). e.pair) es
 
 -- so many CPUs are made, and the seats of the others are left
-pub record Begun {S : Type 0} (ready : Words → Cpu S → Type 0) (has : Cpu S → List Deed → Type 0) (schema : S) (words : Words) (k : Config) (n : ℕ) (seats : List CpuSeat)
+pub record Begun {S : Type 0} (has : Cpu S → List Deed → Type 0) (schema : S) (words : Words) (k : Config) (n : ℕ) (seats : List CpuSeat)
     (cpus : List (Cpu S)) (ends : List ConsumerKnows) : Type 0 where
   pub count : length cpus ≡ n
   pub ends_count : length ends ≡ n
   pub left : n + length seats ≡ k.cpus
   pub seats_are : (i : ℕ) (s : CpuSeat) → slice_get seats i ≡ Some s → IsSeatOf words k (n + i) s
-  pub each : (c : ℕ) (cpu : Cpu S) → slice_get cpus c ≡ Some cpu → IsCpuOf ready schema words c (slice_get (map (λ (e : ConsumerKnows). e.pair) ends) c) cpu × IsFresh has cpu
+  pub each : (c : ℕ) (cpu : Cpu S) → slice_get cpus c ≡ Some cpu → IsCpuOf schema words c (slice_get (map (λ (e : ConsumerKnows). e.pair) ends) c) (identity cpu) × IsFresh has cpu
   pub unused : All IsUnusedConsumer ends
 
-module _ {S : Type 0} (ready : Words → Cpu S → Type 0) (has : Cpu S → List Deed → Type 0) (schema : S) (words : Words) (k : Config) where
+module _ {S : Type 0} (has : Cpu S → List Deed → Type 0) (schema : S) (words : Words) (k : Config) where
   pub none_begun : (seats : List CpuSeat) (cpus : List (Cpu S)) (ends : List ConsumerKnows) → length seats ≡ k.cpus → ((i : ℕ) (s : CpuSeat) → slice_get seats i ≡ Some s → IsSeatOf words k i s)
-      → cpus ≡ [] → ends ≡ [] → Begun ready has schema words k 0 seats cpus ends
+      → cpus ≡ [] → ends ≡ [] → Begun has schema words k 0 seats cpus ends
   none_begun seats cpus ends all are cpus_none ends_none =
-      subst (λ xs. Begun ready has schema words k 0 seats xs ends) (sym cpus_none)
-      (subst (λ es. Begun ready has schema words k 0 seats [] es) (sym ends_none)
+      subst (λ xs. Begun has schema words k 0 seats xs ends) (sym cpus_none)
+      (subst (λ es. Begun has schema words k 0 seats [] es) (sym ends_none)
       record {
         count = refl;
         ends_count = refl;
@@ -81,35 +82,34 @@ module _ {S : Type 0} (ready : Words → Cpu S → Type 0) (has : Cpu S → List
         unused = All-nil IsUnusedConsumer;
       })
 
-  there_kept : (c : ℕ) (cpu : Cpu S) (es : List ConsumerKnows) (e : ConsumerKnows) → IsCpuOf ready schema words c (slice_get (pairs es) c) cpu
-      → IsCpuOf ready schema words c (slice_get (pairs (es ++ e ∷ [])) c) cpu
+  there_kept : (c : ℕ) (cpu : Cpu S) (es : List ConsumerKnows) (e : ConsumerKnows) → IsCpuOf schema words c (slice_get (pairs es) c) (identity cpu)
+      → IsCpuOf schema words c (slice_get (pairs (es ++ e ∷ [])) c) (identity cpu)
   there_kept c cpu es e is = record {
-    called = is.called;
+    belongs = is.belongs;
     number = is.number;
-    config = is.config;
     one = is.one;
     pair = ap (λ ps. slice_get ps c) (map-append (λ (x : ConsumerKnows). x.pair) es (e ∷ [])) ∙ still_there (pairs es) e.pair c (end_of cpu).pair is.pair;
   }
 
   there_new : (n : ℕ) (cpu : Cpu S) (es : List ConsumerKnows) (e : ConsumerKnows) → length es ≡ n
-      → ((p : Pair) → p ≡ (end_of cpu).pair → IsCpuOf ready schema words n (Some p) cpu) → e.pair ≡ (end_of cpu).pair
-      → IsCpuOf ready schema words n (slice_get (pairs (es ++ e ∷ [])) n) cpu
+      → ((p : Pair) → p ≡ (end_of cpu).pair → IsCpuOf schema words n (Some p) (identity cpu)) → e.pair ≡ (end_of cpu).pair
+      → IsCpuOf schema words n (slice_get (pairs (es ++ e ∷ [])) n) (identity cpu)
   there_new n cpu es e count is same =
       let mapped : slice_get (pairs (es ++ e ∷ [])) (length (pairs es)) ≡ Some e.pair
       = ap (λ ps. slice_get ps (length (pairs es))) (map-append (λ (x : ConsumerKnows). x.pair) es (e ∷ [])) ∙ last_there (pairs es) e.pair in
       let at : slice_get (pairs (es ++ e ∷ [])) n ≡ Some e.pair = subst (λ m. slice_get (pairs (es ++ e ∷ [])) m ≡ Some e.pair) (length-map es (λ (x : ConsumerKnows). x.pair) ∙ count) mapped in
-      subst (λ o. IsCpuOf ready schema words n o cpu) (sym at) (is e.pair same)
+      subst (λ o. IsCpuOf schema words n o (identity cpu)) (sym at) (is e.pair same)
 
   -- one more
   pub one_begun : (n : ℕ) (seats after : List CpuSeat) (cpus new : List (Cpu S)) (ends more : List ConsumerKnows) (cpu : Cpu S) (e : ConsumerKnows)
-      → Begun ready has schema words k n seats cpus ends → 0 < length seats
-      → after ≡ remove seats 0 → new ≡ cpus ++ cpu ∷ [] → more ≡ ends ++ e ∷ [] → ((p : Pair) → p ≡ (end_of cpu).pair → IsCpuOf ready schema words n (Some p) cpu)
+      → Begun has schema words k n seats cpus ends → 0 < length seats
+      → after ≡ remove seats 0 → new ≡ cpus ++ cpu ∷ [] → more ≡ ends ++ e ∷ [] → ((p : Pair) → p ≡ (end_of cpu).pair → IsCpuOf schema words n (Some p) (identity cpu))
       → e.pair ≡ (end_of cpu).pair → IsFresh has cpu → IsUnusedConsumer e
-      → Begun ready has schema words k (n + 1) after new more
+      → Begun has schema words k (n + 1) after new more
   one_begun n seats after cpus new ends more cpu e was some after_is new_is more_is is same fresh unused =
-      subst (λ ss. Begun ready has schema words k (n + 1) ss new more) (sym after_is)
-      (subst (λ xs. Begun ready has schema words k (n + 1) (remove seats 0) xs more) (sym new_is)
-      (subst (λ es. Begun ready has schema words k (n + 1) (remove seats 0) (cpus ++ cpu ∷ []) es) (sym more_is)
+      subst (λ ss. Begun has schema words k (n + 1) ss new more) (sym after_is)
+      (subst (λ xs. Begun has schema words k (n + 1) (remove seats 0) xs more) (sym new_is)
+      (subst (λ es. Begun has schema words k (n + 1) (remove seats 0) (cpus ++ cpu ∷ []) es) (sym more_is)
       record {
         count = let c = length-append cpus (cpu ∷ []) in let m = was.count in omega arith;
         ends_count = let c = length-append ends (e ∷ []) in let m = was.ends_count in omega arith;
@@ -117,14 +117,14 @@ module _ {S : Type 0} (ready : Words → Cpu S → Type 0) (has : Cpu S → List
         seats_are = λ i s there. let z : n + 1 + i ≡ n + suc i = omega arith in subst (λ m. IsSeatOf words k m s) (sym z) (was.seats_are (suc i) s (rest_there seats i s there));
         each = λ c x there. ⊎_elim
             (λ h. let old = was.each c x h in (there_kept c x ends e old.0, old.1))
-            (λ h. subst (λ m. IsCpuOf ready schema words m (slice_get (pairs (ends ++ e ∷ [])) m) x × IsFresh has x) (sym (h.0 ∙ was.count))
-            (subst (λ y. IsCpuOf ready schema words n (slice_get (pairs (ends ++ e ∷ [])) n) y × IsFresh has y) h.1 (there_new n cpu ends e was.ends_count is same, fresh)))
+            (λ h. subst (λ m. IsCpuOf schema words m (slice_get (pairs (ends ++ e ∷ [])) m) (identity x) × IsFresh has x) (sym (h.0 ∙ was.count))
+            (subst (λ y. IsCpuOf schema words n (slice_get (pairs (ends ++ e ∷ [])) n) (identity y) × IsFresh has y) h.1 (there_new n cpu ends e was.ends_count is same, fresh)))
             (pushed cpus cpu c x there);
         unused = All-push IsUnusedConsumer ends e was.unused unused;
       }))
 
   -- the seat that is next
-  pub next_seat : (n : ℕ) (seats : List CpuSeat) (cpus : List (Cpu S)) (ends : List ConsumerKnows) (s : CpuSeat) → Begun ready has schema words k n seats cpus ends
+  pub next_seat : (n : ℕ) (seats : List CpuSeat) (cpus : List (Cpu S)) (ends : List ConsumerKnows) (s : CpuSeat) → Begun has schema words k n seats cpus ends
       → 0 < length seats → s ≡ slice_index_or seats 0 s
       → IsSeatOf words k n s
   next_seat n seats cpus ends s was some is = let z : n + 0 ≡ n = omega arith in subst (λ m. IsSeatOf words k m s) z (was.seats_are 0 s (first_there seats s some is))
@@ -132,13 +132,13 @@ module _ {S : Type 0} (ready : Words → Cpu S → Type 0) (has : Cpu S → List
   -- all are made
   pub all_begun : (session : Session S) (seat : ConsumerSeat) (n : ℕ) (seats : List CpuSeat) (ends : List ConsumerKnows) → words_of session.shared ≡ words
       → session.consumer.seat ≡ seat → IsConsumerAt words seat
-      → session.consumer.ends ≡ ends → set_up words ≡ k → start_fault k ≡ None → n ≡ k.cpus → Begun ready has schema words k n seats session.cpus.items ends → IsSession ready schema session
+      → session.consumer.ends ≡ ends → set_up words ≡ k → start_fault k ≡ None → n ≡ k.cpus → Begun has schema words k n seats session.cpus.items ends → IsSession schema session
   all_begun session seat n seats ends words_is seat_is at ends_is config fine all was = record {
     checked = ap (λ w. start_fault (set_up w)) words_is ∙ (ap start_fault config ∙ fine);
     consumer = subst (λ w. IsConsumerOf w session.consumer) (sym words_is) (subst (λ x. IsConsumerAt words x) (sym seat_is) at);
     all = was.count ∙ (all ∙ (ap (λ (x : Config). x.cpus) (sym config) ∙ ap (λ w. (set_up w).cpus) (sym words_is)));
-    each = λ c cpu e. subst (λ w. IsCpuOf ready schema w c (slice_get (pairs_of session.consumer) c) cpu) (sym words_is)
-        (subst (λ es. IsCpuOf ready schema words c (slice_get (pairs es) c) cpu) (sym ends_is) (was.each c cpu e).0);
+    each = λ c cpu e. subst (λ w. IsCpuOf schema w c (slice_get (pairs_of session.consumer) c) (identity cpu)) (sym words_is)
+        (subst (λ es. IsCpuOf schema words c (slice_get (pairs es) c) (identity cpu)) (sym ends_is) (was.each c cpu e).0);
   }
 
 -- the seats that a start gave

@@ -4,10 +4,10 @@ use Rattle.std.specs.Prelude.{Some, None, slice_get, slice_set, slice_index_or}
 use Rattle.std.proofs.lemmas.Option.{slice_get_read}
 use Rattle.dspec_deeds.specs.Ranges.{start_fault}
 use Rattle.dspec_table.specs.Seats.{set_up}
-use Rattle.dspec_table.specs.declared.seats.Words.{Words}
 use Rattle.dspec_cpu.specs.declared.cpu.Cpu.{Cpu}
 use Rattle.dspec_cpu.specs.declared.shared.Shared.{Shared}
-use Rattle.dspec_cpu.specs.Lists.{IsSameCpu, words_of}
+use Rattle.dspec_cpu.specs.Lists.{words_of}
+use Rattle.dspec_cpu.specs.Standing.{identity}
 use Rattle.dspec_session.specs.declared.session.Session.{Session}
 use Rattle.dspec_session.specs.Consumers.{IsConsumerOf, IsSameConsumer, pairs_of}
 use Rattle.dspec_session.specs.Sessions.{IsCpuOf, IsSession}
@@ -20,44 +20,36 @@ set_there (z ∷ xs) zero (suc j) y x e = inr e
 set_there (z ∷ xs) (suc i) zero y x e = inr e
 set_there (z ∷ xs) (suc i) (suc j) y x e = ⊎_elim (λ h. inl (ap suc h.0, h.1)) (λ h. inr h) (set_there xs i j y x e)
 
-module _ {S : Type 0} (ready : Words → Cpu S → Type 0) (schema : S) where
+module _ {S : Type 0} (schema : S) where
   -- the CPU at a place of a session
-  pub cpu_there : (s : Session S) (c : ℕ) (cpu : Cpu S) → IsSession ready schema s → c < length s.cpus.items → cpu ≡ slice_index_or s.cpus.items c cpu
-      → IsCpuOf ready schema (words_of s.shared) c (slice_get (pairs_of s.consumer) c) cpu
+  pub cpu_there : (s : Session S) (c : ℕ) (cpu : Cpu S) → IsSession schema s → c < length s.cpus.items → cpu ≡ slice_index_or s.cpus.items c cpu
+      → IsCpuOf schema (words_of s.shared) c (slice_get (pairs_of s.consumer) c) (identity cpu)
   cpu_there s c cpu is within read = is.each c cpu (slice_get_read s.cpus.items (length s.cpus.items) c cpu refl within read)
 
   -- The CPU at a place was called, or met the consumer: both are what they were.
-  pub met_there : (old new : Session S) (c : ℕ) (was cpu : Cpu S) → IsSession ready schema old → c < length old.cpus.items → was ≡ slice_index_or old.cpus.items c was
-      → ready (words_of old.shared) cpu → IsSameCpu was cpu → IsConsumerOf (words_of old.shared) new.consumer → pairs_of new.consumer ≡ pairs_of old.consumer
-      → new.shared ≡ old.shared → new.cpus.items ≡ slice_set old.cpus.items c cpu → IsSession ready schema new
-  met_there old new c was cpu is within read called same consumer pairs shared set =
-      let before = cpu_there old c was is within read in
+  pub met_there : (old new : Session S) (c : ℕ) (was cpu : Cpu S) → IsSession schema old → c < length old.cpus.items → was ≡ slice_index_or old.cpus.items c was
+      → identity cpu ≡ identity was → IsConsumerOf (words_of old.shared) new.consumer → pairs_of new.consumer ≡ pairs_of old.consumer
+      → new.shared ≡ old.shared → new.cpus.items ≡ slice_set old.cpus.items c cpu → IsSession schema new
+  met_there old new c was cpu is within read same consumer pairs shared set =
       let words = ap (λ (x : Shared). words_of x) shared in
-      let after : IsCpuOf ready schema (words_of old.shared) c (slice_get (pairs_of old.consumer) c) cpu
-      = record {
-        called = called;
-        number = same.number ∙ before.number;
-        config = same.config ∙ before.config;
-        one = same.schema ∙ before.one;
-        pair = before.pair ∙ ap Some (sym same.pair);
-      } in
+      let after = subst (λ i. IsCpuOf schema (words_of old.shared) c (slice_get (pairs_of old.consumer) c) i) (sym same) (cpu_there old c was is within read) in
       record {
         checked = ap (λ w. start_fault (set_up w)) words ∙ is.checked;
         consumer = subst (λ w. IsConsumerOf w new.consumer) (sym words) consumer;
         all = ap (λ (xs : List (Cpu S)). length xs) set ∙ (length-set old.cpus.items c cpu ∙ (is.all ∙ ap (λ w. (set_up w).cpus) (sym words)));
         each = λ n x there.
-            subst (λ w. IsCpuOf ready schema w n (slice_get (pairs_of new.consumer) n) x) (sym words)
-            (subst (λ ps. IsCpuOf ready schema (words_of old.shared) n (slice_get ps n) x) (sym pairs)
+            subst (λ w. IsCpuOf schema w n (slice_get (pairs_of new.consumer) n) (identity x)) (sym words)
+            (subst (λ ps. IsCpuOf schema (words_of old.shared) n (slice_get ps n) (identity x)) (sym pairs)
             (⊎_elim
-            (λ h. subst (λ m. IsCpuOf ready schema (words_of old.shared) m (slice_get (pairs_of old.consumer) m) x) (sym h.0)
-            (subst (λ y. IsCpuOf ready schema (words_of old.shared) c (slice_get (pairs_of old.consumer) c) y) h.1 after))
+            (λ h. subst (λ m. IsCpuOf schema (words_of old.shared) m (slice_get (pairs_of old.consumer) m) (identity x)) (sym h.0)
+            (subst (λ y. IsCpuOf schema (words_of old.shared) c (slice_get (pairs_of old.consumer) c) (identity y)) h.1 after))
             (λ h. is.each n x h)
             (set_there old.cpus.items c n cpu x (ap (λ (xs : List (Cpu S)). slice_get xs n) (sym set) ∙ there))));
       }
 
   -- the consumer was called
-  pub consumer_called : (old new : Session S) → IsSession ready schema old → IsConsumerOf (words_of old.shared) new.consumer → IsSameConsumer old.consumer new.consumer
-      → new.shared ≡ old.shared → new.cpus ≡ old.cpus → IsSession ready schema new
+  pub consumer_called : (old new : Session S) → IsSession schema old → IsConsumerOf (words_of old.shared) new.consumer → IsSameConsumer old.consumer new.consumer
+      → new.shared ≡ old.shared → new.cpus ≡ old.cpus → IsSession schema new
   consumer_called old new is consumer same shared cpus =
       let words = ap (λ (x : Shared). words_of x) shared in
       record {
@@ -65,7 +57,7 @@ module _ {S : Type 0} (ready : Words → Cpu S → Type 0) (schema : S) where
         consumer = subst (λ w. IsConsumerOf w new.consumer) (sym words) consumer;
         all = ap (λ xs. length xs.items) cpus ∙ (is.all ∙ ap (λ w. (set_up w).cpus) (sym words));
         each = λ n x there.
-            subst (λ w. IsCpuOf ready schema w n (slice_get (pairs_of new.consumer) n) x) (sym words)
-            (subst (λ ps. IsCpuOf ready schema (words_of old.shared) n (slice_get ps n) x) (sym same.pairs)
+            subst (λ w. IsCpuOf schema w n (slice_get (pairs_of new.consumer) n) (identity x)) (sym words)
+            (subst (λ ps. IsCpuOf schema (words_of old.shared) n (slice_get ps n) (identity x)) (sym same.pairs)
             (is.each n x (ap (λ xs. slice_get xs.items n) (sym cpus) ∙ there)));
       }

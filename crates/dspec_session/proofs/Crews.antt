@@ -7,13 +7,14 @@ use Rattle.dspec_ring.specs.Known.{Pair}
 use Rattle.dspec_cpu.specs.declared.cpu.Cpu.{Cpu}
 use Rattle.dspec_cpu.specs.declared.shared.Shared.{Shared}
 use Rattle.dspec_cpu.specs.Lists.{words_of}
+use Rattle.dspec_cpu.specs.Standing.{identity}
 use Rattle.dspec_session.specs.declared.session.Session.{Session}
-use Rattle.dspec_session.specs.Consumers.{Consuming, pairs_of}
+use Rattle.dspec_session.specs.Consumers.{Consuming, pairs_of, Stays}
 use Rattle.dspec_session.specs.declared.demonstration.four.Four.{Four}
 use Rattle.dspec_session.specs.Crews.{AllCanWork, AllWorked}
-use Rattle.dspec_session.specs.Demonstrated.{CanWork, CpuRounds, IsBack, Has, Worked}
+use Rattle.dspec_session.specs.Demonstrated.{CanWork, CpuRounds, demonstrated, IsBack, Has, Worked}
+use Rattle.dspec_session.specs.Sessions.{IsCpuOf}
 use Rattle.dspec_session.specs.Races.{HaveMade, HaveOffered, HaveRoom, IsDemonstrated, IsAtPlace, all_finished}
-use Rattle.dspec_session.specs.Rounds.{Stays}
 use Rattle.dspec_session.proofs.Fours.{at_each}
 
 listed : Four (Cpu EnabledRows) → List (Cpu EnabledRows)
@@ -21,7 +22,7 @@ listed f = f.first ∷ f.second ∷ f.third ∷ f.fourth ∷ []
 
 can_work : (session : Session EnabledRows) → IsDemonstrated session → HaveRoom session.cpus.items → (c : ℕ) (x : Cpu EnabledRows) → slice_get session.cpus.items c ≡ Some x
     → CanWork session.shared 400 x
-can_work session is room c x at = record { ready = (is.each c x at).called; schema = (is.each c x at).one; unworn = room c x at }
+can_work session is room c x at = record { ready = (is.each c x at).belongs; schema = (is.each c x at).one; unworn = room c x at }
 
 pub all_can_work : (session : Session EnabledRows) (f : Four (Cpu EnabledRows)) → IsDemonstrated session → HaveRoom session.cpus.items
     → session.cpus.items ≡ f.first ∷ f.second ∷ f.third ∷ f.fourth ∷ [] → AllCanWork session.shared f
@@ -33,14 +34,9 @@ all_can_work session f is room e = record {
 }
 
 -- a CPU that is back has its place
-cpu_back : (shared : Shared) (c : ℕ) (was is : Option Pair) (x y : Cpu EnabledRows) → is ≡ was → IsBack shared x y → IsAtPlace shared was c x → IsAtPlace shared is c y
-cpu_back shared c was is x y same back there = record {
-  called = back.ready;
-  number = back.same.number ∙ there.number;
-  config = back.same.config ∙ there.config;
-  one = back.same.schema ∙ there.one;
-  pair = same ∙ (there.pair ∙ ap Some (sym back.same.pair));
-}
+cpu_back : (shared : Shared) (c : ℕ) (was is : Option Pair) (x y : Cpu EnabledRows) → is ≡ was → IsBack x y → IsAtPlace shared was c x → IsAtPlace shared is c y
+cpu_back shared c was is x y same back there =
+    subst (λ o. IsCpuOf demonstrated (words_of shared) c o (identity y)) (sym same) (subst (λ i. IsCpuOf demonstrated (words_of shared) c was i) (sym back.same) there)
 
 each_finished : (a b c d : Bool) → (a && (b && (c && d))) ≡ true → (a ≡ true) × (b ≡ true) × (c ≡ true) × (d ≡ true)
 each_finished true true true d e = (refl, refl, refl, e)
@@ -50,7 +46,7 @@ each_finished false b c d e = absurd (cc (e))
 
 module _ (session : Session EnabledRows) (f : Four (Cpu EnabledRows)) (back : Four (Cpu EnabledRows × Bool)) (is : IsDemonstrated session)
     (e : session.cpus.items ≡ f.first ∷ f.second ∷ f.third ∷ f.fourth ∷ [])
-    (worked : AllWorked session.shared f back) (new : List (Cpu EnabledRows)) (put : new ≡ back.first.0 ∷ back.second.0 ∷ back.third.0 ∷ back.fourth.0 ∷ []) where
+    (worked : AllWorked f back) (new : List (Cpu EnabledRows)) (put : new ≡ back.first.0 ∷ back.second.0 ∷ back.third.0 ∷ back.fourth.0 ∷ []) where
   pub places_back : (consumer : Consuming) → Stays (words_of session.shared) session.consumer consumer → (c : ℕ) (y : Cpu EnabledRows) → slice_get new c ≡ Some y
       → IsAtPlace session.shared (slice_get (pairs_of consumer) c) c y
   places_back consumer stays c y at =
@@ -67,7 +63,7 @@ module _ (session : Session EnabledRows) (f : Four (Cpu EnabledRows)) (back : Fo
   four_again = ap length put ∙ sym (ap length e)
 
   offered : (c : ℕ) (x : Cpu EnabledRows) (y : Cpu EnabledRows) (done : Bool) → HaveOffered 0 session.cpus.items → slice_get session.cpus.items c ≡ Some x
-      → Worked session.shared 400 200 x y done → done ≡ true
+      → Worked 400 200 x y done → done ≡ true
       → (p : _) × Has y p × (offers c p ≡ 200)
   offered c x y done fresh at w finished =
       let (p, had, none) = fresh c x at in

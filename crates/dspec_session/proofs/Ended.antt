@@ -86,7 +86,7 @@ still_session session consumer is at same = record {
   checked = is.checked;
   consumer = at;
   all = is.all;
-  each = λ c cpu there. let e = is.each c cpu there in record { called = e.called; number = e.number; config = e.config; one = e.one; pair = ap (λ l. slice_get l c) same.pairs ∙ e.pair };
+  each = λ c cpu there. let e = is.each c cpu there in record { belongs = e.belongs; number = e.number; one = e.one; pair = ap (λ l. slice_get l c) same.pairs ∙ e.pair };
 }
 
 pub line_told : (ls : List Left) (n c : ℕ) (line : DemoLine) → c < length ls → AllTold n ls → line.cpu ≡ c → ((l : Left) → slice_get ls c ≡ Some l → line.offered ≡ l.report.offered)

@@ -18,11 +18,12 @@ use Rattle.dspec_table.specs.Seats.{known_there, set_up}
 use Rattle.dspec_ring.specs.Known.{ConsumerKnows}
 use Rattle.dspec_cpu.specs.declared.cpu.Cpu.{Cpu}
 use Rattle.dspec_cpu.specs.Lists.{seat_of, words_of, worn_of}
+use Rattle.dspec_cpu.specs.Standing.{identity}
 use Rattle.dspec_session.specs.declared.left.Left.{Left}
 use Rattle.dspec_session.specs.declared.session.Session.{Session}
 use Rattle.dspec_session.specs.Consumers.{Consuming}
 use Rattle.dspec_session.specs.Closing.{IsClosedBy, LeftShows}
-use Rattle.dspec_session.specs.Leaving.{IsClosing, Has, Ready, IsLeft, AreLeft, AreParting}
+use Rattle.dspec_session.specs.Leaving.{IsClosing, Has, Steady, AllSteady, IsLeft, AreLeft, AreParting}
 use Rattle.dspec_session.specs.Sessions.{IsCpuOf, IsSession, HasAt, worn_at, taken_at}
 use Rattle.dspec_session.proofs.ClosingLists.{closes_as}
 use Rattle.dspec_session.proofs.Partings.{all_at_rest, seats_all, closings}
@@ -35,23 +36,22 @@ some_there (x ∷ xs) (suc i) lt = some_there xs i (omega arith)
 
 module _ {S : Type 0} (shape_of : S → ℕ → Option Shape) (accepted : S → Record → Bool) (text : S → Record → List ℕ) where
   -- one list of each CPU
-  list_at : (words : Words) (o : Option (Cpu S)) → ((cpu : Cpu S) → o ≡ Some cpu → Ready shape_of accepted text words cpu) → List Deed
-  list_at words None f = []
-  list_at words (Some cpu) f = (f cpu refl).list
+  list_at : (o : Option (Cpu S)) → ((cpu : Cpu S) → o ≡ Some cpu → Steady shape_of accepted text cpu) → List Deed
+  list_at None f = []
+  list_at (Some cpu) f = (f cpu refl).list
 
-  list_had : (words : Words) (o : Option (Cpu S)) (f : (cpu : Cpu S) → o ≡ Some cpu → Ready shape_of accepted text words cpu) (cpu : Cpu S) → o ≡ Some cpu
-      → Has shape_of accepted text cpu (list_at words o f)
+  list_had : (o : Option (Cpu S)) (f : (cpu : Cpu S) → o ≡ Some cpu → Steady shape_of accepted text cpu) (cpu : Cpu S) → o ≡ Some cpu
+      → Has shape_of accepted text cpu (list_at o f)
   unfolding list_at
-  list_had words None f cpu e = absurd (cc (e))
-  list_had words (Some x) f cpu e = let is : x ≡ cpu = cc (e) in subst (λ y. Has shape_of accepted text y (f x refl).list) is (f x refl).listed
+  list_had None f cpu e = absurd (cc (e))
+  list_had (Some x) f cpu e = let is : x ≡ cpu = cc (e) in subst (λ y. Has shape_of accepted text y (f x refl).list) is (f x refl).listed
 
-  module _ (schema : S) (session : Session S) (is : IsSession (Ready shape_of accepted text) schema session) where
+  module _ (schema : S) (session : Session S) (is : IsSession schema session) (steady : AllSteady shape_of accepted text session.cpus.items) where
     pub some_lists : (p : ℕ → List Deed) × ((c : ℕ) (cpu : Cpu S) → slice_get session.cpus.items c ≡ Some cpu → Has shape_of accepted text cpu (p c))
-    some_lists =
-        let words = words_of session.shared in (
-          λ c. list_at words (slice_get session.cpus.items c) (λ cpu e. (is.each c cpu e).called),
-          λ c cpu e. list_had words (slice_get session.cpus.items c) (λ x f. (is.each c x f).called) cpu e,
-        )
+    some_lists = (
+      λ c. list_at (slice_get session.cpus.items c) (λ cpu e. steady c cpu e),
+      λ c cpu e. list_had (slice_get session.cpus.items c) (λ x f. steady c x f) cpu e,
+    )
 
     module _ (all : length session.consumer.ends ≡ (set_up (words_of session.shared)).cpus) where
       -- none has parted yet
@@ -64,8 +64,8 @@ module _ {S : Type 0} (shape_of : S → ℕ → Option Shape) (accepted : S → 
         each = λ i cpu e.
             let z : i ≡ 0 + i = omega arith in
             let here = is.each i cpu e in
-            subst (λ n. IsCpuOf (Ready shape_of accepted text) schema (words_of session.shared) n (slice_get (map (λ (x : ConsumerKnows). x.pair) session.consumer.ends) i)
-            cpu × Has shape_of accepted text cpu (p n)) z (here, had i cpu e);
+            subst (λ n. IsCpuOf schema (words_of session.shared) n (slice_get (map (λ (x : ConsumerKnows). x.pair) session.consumer.ends) i) (identity cpu)
+            × Steady shape_of accepted text cpu × Has shape_of accepted text cpu (p n)) z (here, steady i cpu e, had i cpu e);
       }
 
       -- all have

@@ -39,7 +39,7 @@ pub record IsRestOf {S : Type 0} (cpu : Cpu S) (end : CpuKnows) (rest : CpuRest 
   pub config : rest.config ≡ cpu.config
   pub number : rest.cpu ≡ cpu.cpu
   pub in_hand : rest.in_hand ≡ cpu.in_hand
-  pub worn : rest.counts.worn ≡ worn_of cpu
+  pub worn : rest.side.counts.worn ≡ worn_of cpu
 
 module _ {S : Type 0} (shape_of : S → ℕ → Option Shape) (accepted : S → Record → Bool) (text : S → Record → List ℕ)
     (schema : S) (words : Words) (p : ℕ → List Deed) (seats : List CpuSeat) (cpus : List (Cpu S)) (ends : List ConsumerKnows) (are : AreParting shape_of accepted text schema words p seats cpus ends)
@@ -60,17 +60,17 @@ module _ {S : Type 0} (shape_of : S → ℕ → Option Shape) (accepted : S → 
   next_number = let z : length seats + 0 ≡ length seats = omega arith in (split.each 0 cpu refl).0.number ∙ z
 
   pub next_config : config_of cpu ≡ set_up words
-  next_config = (split.each 0 cpu refl).0.config
+  next_config = (split.each 0 cpu refl).0.belongs.config
 
   pub next_fine : start_fault (set_up words) ≡ None
-  next_fine = ap start_fault (sym next_config) ∙ (split.each 0 cpu refl).0.called.checked
+  next_fine = ap start_fault (sym next_config) ∙ (split.each 0 cpu refl).1.checked
 
   pub next_has : Has shape_of accepted text cpu (p (length seats))
-  next_has = let z : length seats + 0 ≡ length seats = omega arith in subst (λ n. Has shape_of accepted text cpu (p n)) z (split.each 0 cpu refl).1
+  next_has = let z : length seats + 0 ≡ length seats = omega arith in subst (λ n. Has shape_of accepted text cpu (p n)) z (split.each 0 cpu refl).2
 
   pub next_few : (end : CpuKnows) (x : CpuRest S) → IsRestOf cpu end x → length (waiting x.in_hand ++ reverse end.handed) ≤ 1 + length end.spares
   next_few end x is =
-      let few = (split.each 0 cpu refl).0.called.few in
+      let few = (split.each 0 cpu refl).1.few in
       let a : length (waiting x.in_hand ++ reverse end.handed) ≡ length (waiting cpu.in_hand ++ reverse (end_of cpu).handed) = λ i. length (waiting (is.in_hand i) ++ reverse (is.end_is i).handed) in
       let b : length end.spares ≡ length (end_of cpu).spares = λ i. length (is.end_is i).spares in
       omega arith
@@ -103,14 +103,14 @@ module _ {S : Type 0} (shape_of : S → ℕ → Option Shape) (accepted : S → 
   -- what is left of it, before what is left of those behind it
   pub next_left : (last : List ℕ) (new : List CpuSeat) (end : CpuKnows) (x : CpuRest S) (inner more : List Left) (l : Left) → new ≡ seats ++ seat_of cpu ∷ [] → IsRestOf cpu end x
       → ((q : List Deed) → Has shape_of accepted text cpu q → RestHasList (shape_of x.schema) (accepted x.schema) (text x.schema) x end.handed q)
-      → Leaves shape_of accepted text (λ q. RestHasList (shape_of x.schema) (accepted x.schema) (text x.schema) x end.handed q) last other.taken l x.schema x.config x.cpu x.counts.worn
+      → Leaves shape_of accepted text (λ q. RestHasList (shape_of x.schema) (accepted x.schema) (text x.schema) x end.handed q) last other.taken l x.schema x.config x.cpu x.side.counts.worn
       → AreLeft shape_of accepted text (set_up words) last (length new) rest others (reverse inner) → more ≡ inner ++ l ∷ []
       → AreLeft shape_of accepted text (set_up words) last (length seats) cpus ends (reverse more)
   next_left last new end x inner more l new_is is lists leaves before more_is =
       let n = length seats in
       let count : length new ≡ n + 1 = ap length new_is ∙ length-append seats (seat_of cpu ∷ []) in
       let mine = leaves_same shape_of accepted text (λ q. RestHasList (shape_of x.schema) (accepted x.schema) (text x.schema) x end.handed q) last other.taken l x.schema
-      cpu.schema x.config (set_up words) x.cpu n x.counts.worn (worn_of cpu)
+      cpu.schema x.config (set_up words) x.cpu n x.side.counts.worn (worn_of cpu)
       is.schema (is.config ∙ next_config) (is.number ∙ next_number) is.worn leaves in
       let first : IsLeft shape_of accepted text (set_up words) last n cpu other.taken l = λ q log g has closing. mine q log g (lists q has) closing in
       subst (λ ls. AreLeft shape_of accepted text (set_up words) last n cpus ends (reverse ls)) (sym more_is)

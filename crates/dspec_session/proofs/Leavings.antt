@@ -34,12 +34,12 @@ module _ {S : Type 0} (shape_of : S → ℕ → Option Shape) (accepted : S → 
       (subst (λ k. IsLegalPart (shape_of old.schema) k now.cpu g q) (sym same.config) (subst (λ c. IsLegalPart (shape_of old.schema) old.config c g q) (sym same.number) is))
 
   pub shows_before : (old now : CpuRest S) → IsSameRest old now → (taken : List Batch) (q : List Deed) (l : Left)
-      → LeftShows (shape_of now.schema) (accepted now.schema) (text now.schema) now.config now.cpu now.counts.worn taken q l
-      → LeftShows (shape_of old.schema) (accepted old.schema) (text old.schema) old.config old.cpu old.counts.worn taken q l
+      → LeftShows (shape_of now.schema) (accepted now.schema) (text now.schema) now.config now.cpu now.side.counts.worn taken q l
+      → LeftShows (shape_of old.schema) (accepted old.schema) (text old.schema) old.config old.cpu old.side.counts.worn taken q l
   shows_before old now same taken q l is =
-      subst (λ s. LeftShows (shape_of s) (accepted s) (text s) old.config old.cpu old.counts.worn taken q l) same.schema
-      (subst (λ k. LeftShows (shape_of now.schema) (accepted now.schema) (text now.schema) k old.cpu old.counts.worn taken q l) same.config
-      (subst (λ c. LeftShows (shape_of now.schema) (accepted now.schema) (text now.schema) now.config c old.counts.worn taken q l) same.number
+      subst (λ s. LeftShows (shape_of s) (accepted s) (text s) old.config old.cpu old.side.counts.worn taken q l) same.schema
+      (subst (λ k. LeftShows (shape_of now.schema) (accepted now.schema) (text now.schema) k old.cpu old.side.counts.worn taken q l) same.config
+      (subst (λ c. LeftShows (shape_of now.schema) (accepted now.schema) (text now.schema) now.config c old.side.counts.worn taken q l) same.number
       (subst (λ n. LeftShows (shape_of now.schema) (accepted now.schema) (text now.schema) now.config now.cpu n taken q l) same.worn is)))
 
   -- of another name for the same CPU

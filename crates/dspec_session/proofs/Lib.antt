@@ -23,3 +23,4 @@ mod Scanned
 mod Servings
 mod Visited
 mod Worked
+mod Standing

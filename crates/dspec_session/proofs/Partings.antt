@@ -19,9 +19,10 @@ use Rattle.dspec_table.specs.Seats.{known, set_up}
 use Rattle.dspec_ring.specs.Known.{ConsumerKnows}
 use Rattle.dspec_cpu.specs.declared.cpu.Cpu.{Cpu}
 use Rattle.dspec_cpu.specs.Lists.{seat_of, config_of, number_in, schema_of}
+use Rattle.dspec_cpu.specs.Standing.{identity}
 use Rattle.dspec_session.specs.declared.left.Left.{Left}
 use Rattle.dspec_session.specs.Closing.{IsAtRest}
-use Rattle.dspec_session.specs.Leaving.{IsClosing, IsParted, Has, Ready, IsLeft, AreLeft, AreParting}
+use Rattle.dspec_session.specs.Leaving.{IsClosing, IsParted, Has, Steady, IsLeft, AreLeft, AreParting}
 use Rattle.dspec_session.specs.Sessions.{IsCpuOf}
 use Rattle.dspec_session.proofs.Begins.{pushed}
 use Rattle.dspec_session.proofs.ClosingLists.{close_of_ended}
@@ -49,18 +50,18 @@ map_there f (y ∷ xs) zero x e = let is : y ≡ x = cc (e) in ap (λ z. Some (f
 map_there f (y ∷ xs) (suc i) x e = map_there f xs i x e
 
 module _ {S : Type 0} (shape_of : S → ℕ → Option Shape) (accepted : S → Record → Bool) (text : S → Record → List ℕ) where
-  -- a CPU that can be called parts at rest
-  pub at_rest : (schema : S) (words : Words) (c : ℕ) (cpu : Cpu S) (p : List Deed) → Ready shape_of accepted text words cpu → number_in cpu ≡ c → config_of cpu ≡ set_up words
+  -- a CPU no call of which is under way parts at rest
+  pub at_rest : (schema : S) (words : Words) (c : ℕ) (cpu : Cpu S) (p : List Deed) → Steady shape_of accepted text cpu → number_in cpu ≡ c → config_of cpu ≡ set_up words
       → schema_of cpu ≡ schema → Has shape_of accepted text cpu p
       → IsAtRest (shape_of schema) (set_up words) c (known (seat_of cpu)).own p
-  at_rest schema words c cpu p ready number config one has =
+  at_rest schema words c cpu p steady number config one has =
       let legal : IsOwn (shape_of schema) (set_up words) c p
       = subst (λ s. IsOwn (shape_of s) (set_up words) c p) one
       (subst (λ k. IsOwn (shape_of cpu.schema) k c p) config (subst (λ n. IsOwn (shape_of cpu.schema) cpu.config n p) number has.shown.legal)) in
       record {
         legal = legal;
         own = has.own;
-        idle = subst (λ k. scan k c (known cpu.seat).own ≡ 0) config (subst (λ n. scan cpu.config n (known cpu.seat).own ≡ 0) number ready.idle);
+        idle = subst (λ k. scan k c (known cpu.seat).own ≡ 0) config (subst (λ n. scan cpu.config n (known cpu.seat).own ≡ 0) number steady.idle);
       }
 
   module _ (schema : S) (words : Words) (p : ℕ → List Deed) (seats : List CpuSeat) (cpus : List (Cpu S)) (ends : List ConsumerKnows)
@@ -74,7 +75,7 @@ module _ {S : Type 0} (shape_of : S → ℕ → Option Shape) (accepted : S → 
         let it = are.each h.0 found.0 found.1 in
         subst (λ n. IsAtRest (shape_of schema) (set_up words) n (known s).own (p n)) (sym h.1)
         (subst (λ x. IsAtRest (shape_of schema) (set_up words) (length seats + h.0) (known x).own (p (length seats + h.0))) found.2
-        (at_rest schema words (length seats + h.0) found.0 (p (length seats + h.0)) it.0.called it.0.number it.0.config it.0.one it.1)))
+        (at_rest schema words (length seats + h.0) found.0 (p (length seats + h.0)) it.1 it.0.number it.0.belongs.config it.0.one it.2)))
         (either_there seats (map (λ (cpu : Cpu S). seat_of cpu) cpus) c s there)
 
     pub seats_all : length (seats ++ map (λ (cpu : Cpu S). seat_of cpu) cpus) ≡ (set_up words).cpus
@@ -126,19 +127,19 @@ module _ {S : Type 0} (shape_of : S → ℕ → Option Shape) (accepted : S → 
       let z : n + 0 ≡ n = omega arith in
       let rest : IsAtRest (shape_of schema) (set_up words) n (known (seat_of cpu)).own (p n)
       = subst (λ m. IsAtRest (shape_of schema) (set_up words) m (known (seat_of cpu)).own (p m)) z
-      (at_rest schema words (n + 0) cpu (p (n + 0)) first.0.called first.0.number first.0.config first.0.one first.1) in
+      (at_rest schema words (n + 0) cpu (p (n + 0)) first.1 first.0.number first.0.belongs.config first.0.one first.2) in
       record {
         all = let a = are.all in omega arith;
         ends_all = let a = are.ends_all in omega arith;
         parted = λ c s there. ⊎_elim
             (λ h. are.parted c s h)
             (λ h. subst (λ m. IsParted (shape_of schema) words m (p m) s) (sym h.0) (subst (λ x. IsParted (shape_of schema) words n (p n) x) h.1
-            record { at = first.0.called.at; number = first.0.called.seat ∙ (first.0.number ∙ z); rest = rest }))
+            record { at = (first.0.belongs.table, first.1.config ∙ first.0.belongs.config); number = first.1.seat ∙ (first.0.number ∙ z); rest = rest }))
             (pushed seats (seat_of cpu) c s there);
         each = λ i x there.
             let here = are.each (suc i) x there in
             let m : n + suc i ≡ length (seats ++ seat_of cpu ∷ []) + i = omega arith in
-            subst (λ c. IsCpuOf (Ready shape_of accepted text) schema words c (slice_get (map (λ (e : ConsumerKnows). e.pair) ends) i) x × Has shape_of accepted text x (p c)) m here;
+            subst (λ c. IsCpuOf schema words c (slice_get (map (λ (e : ConsumerKnows). e.pair) ends) i) (identity x) × Steady shape_of accepted text x × Has shape_of accepted text x (p c)) m here;
       }
 
   -- what is left of one more

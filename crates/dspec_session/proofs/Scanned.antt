@@ -35,7 +35,7 @@ opening_calls c bs (opening.Id id) p e = let m = missed_calls c bs (Scan c true 
 opening_calls c bs opening.Unavailable p e = missed_calls c bs (Scan c true ∷ []) p ∙ scan_call c p true
 opening_calls c bs opening.Busy p e = missed_calls c bs (Scan c true ∷ []) p ∙ scan_call c p true
 
-pub not_worn : (a : Opening) (most now : ℕ) → (a ≡ opening.Worn) ↔ (most ≤ now) → now < most → is_worn_opening a ≡ false
+pub not_worn : (a : Opening) (most now : ℕ) → (is_worn_opening a ≡ true) ↔ (most ≤ now) → now < most → is_worn_opening a ≡ false
 not_worn opening.Worn most now w few = let reached = w.0 refl in absurd (omega arith)
 not_worn opening.Stopped most now w few = refl
 not_worn (opening.Id id) most now w few = refl

@@ -37,3 +37,8 @@ pairs_of x = map (λ (e : ConsumerKnows). e.pair) x.ends
 pub record IsSameConsumer (old new : Consuming) : Type 0 where
   pub config : set_up_of new ≡ set_up_of old
   pub pairs : pairs_of new ≡ pairs_of old
+
+-- it is the same consumer, and still that of these words
+pub record Stays (words : Words) (old new : Consuming) : Type 0 where
+  pub session : IsConsumerOf words new
+  pub same : IsSameConsumer old new

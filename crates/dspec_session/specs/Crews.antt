@@ -14,8 +14,8 @@ pub record AllCanWork (shared : Shared) (cpus : Four (Cpu EnabledRows)) : Type 0
   pub fourth : CanWork shared 400 cpus.fourth
 
 -- each came back to its place
-pub record AllWorked (shared : Shared) (cpus : Four (Cpu EnabledRows)) (back : Four (Cpu EnabledRows × Bool)) : Type 0 where
-  pub first : CameBack shared cpus.first back.first.0 back.first.1
-  pub second : CameBack shared cpus.second back.second.0 back.second.1
-  pub third : CameBack shared cpus.third back.third.0 back.third.1
-  pub fourth : CameBack shared cpus.fourth back.fourth.0 back.fourth.1
+pub record AllWorked (cpus : Four (Cpu EnabledRows)) (back : Four (Cpu EnabledRows × Bool)) : Type 0 where
+  pub first : CameBack cpus.first back.first.0 back.first.1
+  pub second : CameBack cpus.second back.second.0 back.second.1
+  pub third : CameBack cpus.third back.third.0 back.third.1
+  pub fourth : CameBack cpus.fourth back.fourth.0 back.fourth.1

@@ -23,7 +23,8 @@ use Rattle.dspec_cpu.specs.Serving.{Serves}
 use Rattle.dspec_cpu.specs.Switching.{buffers_of}
 use Rattle.dspec_cpu.specs.declared.cpu.Cpu.{Cpu}
 use Rattle.dspec_cpu.specs.declared.shared.Shared.{Shared}
-use Rattle.dspec_cpu.specs.Lists.{HasList, IsReady, IsSameCpu, calls_of, config_of, number_in, schema_of, seat_of, words_of, worn_of}
+use Rattle.dspec_cpu.specs.Lists.{HasList, calls_of, config_of, number_in, schema_of, seat_of, worn_of}
+use Rattle.dspec_cpu.specs.Standing.{IsCallable, identity}
 
 -- EPID 1 and EPID 2, each with one field of four bytes
 abbrev pub demonstrated : EnabledRows
@@ -37,21 +38,15 @@ valued epid value = record { epid = epid; stamp = 0; values = value ∷ [] }
 abbrev pub Has : Cpu EnabledRows → List Deed → Type 0
 Has cpu = HasList (table_shape cpu.schema.header (enabled cpu.schema.rows)) (table_accepts cpu.schema.header (enabled cpu.schema.rows)) (table_text cpu.schema.header (enabled cpu.schema.rows)) cpu
 
--- the CPU can be called by those who share this
-abbrev pub IsCallable : Shared → Cpu EnabledRows → Type 0
-IsCallable shared cpu = IsReady (table_shape cpu.schema.header (enabled cpu.schema.rows)) (table_accepts cpu.schema.header (enabled cpu.schema.rows))
-    (table_text cpu.schema.header (enabled cpu.schema.rows)) (words_of shared) cpu
-
 -- the CPU can make so many calls more, of what is demonstrated
 pub record CanWork (shared : Shared) (n : ℕ) (cpu : Cpu EnabledRows) : Type 0 where
   pub ready : IsCallable shared cpu
   pub schema : schema_of cpu ≡ demonstrated
   pub unworn : calls_of cpu + n ≤ (config_of cpu).max_calls
 
--- it is the same CPU, none of its calls was worn, and it can be called again
-pub record IsBack (shared : Shared) (old new : Cpu EnabledRows) : Type 0 where
-  pub ready : IsCallable shared new
-  pub same : IsSameCpu old new
+-- it is the same CPU, and none of its calls was worn
+pub record IsBack (old new : Cpu EnabledRows) : Type 0 where
+  pub same : identity new ≡ identity old
   pub worn : worn_of new ≡ worn_of old
 
 -- for every list that the CPU had there is one that it has, with so many offers more
@@ -59,20 +54,20 @@ abbrev pub Offers : ℕ → Cpu EnabledRows → Cpu EnabledRows → Type 0
 Offers n old new = (p : List Deed) → Has old p → (q : List Deed) × Has new q × (offers (number_in old) q ≡ offers (number_in old) p + n)
 
 -- a call that counts was made, with so many offers
-pub record Called (shared : Shared) (n : ℕ) (old new : Cpu EnabledRows) : Type 0 where
-  pub back : IsBack shared old new
+pub record Called (n : ℕ) (old new : Cpu EnabledRows) : Type 0 where
+  pub back : IsBack old new
   pub called : calls_of new ≡ calls_of old + 1
   pub offered : Offers n old new
 
 -- so many calls were made, with so many offers; where the gate was shut there may be fewer
-pub record Worked (shared : Shared) (calls n : ℕ) (old new : Cpu EnabledRows) (finished : Bool) : Type 0 where
-  pub back : IsBack shared old new
+pub record Worked (calls n : ℕ) (old new : Cpu EnabledRows) (finished : Bool) : Type 0 where
+  pub back : IsBack old new
   pub called : calls_of new ≤ calls_of old + calls
   pub offered : finished ≡ true → Offers n old new
 
 -- a service was done, which counts as no call
-pub record WorkerServed (shared : Shared) (old new : Cpu EnabledRows) : Type 0 where
-  pub back : IsBack shared old new
+pub record WorkerServed (old new : Cpu EnabledRows) : Type 0 where
+  pub back : IsBack old new
   pub called : calls_of new ≡ calls_of old
   pub offered : Offers 0 old new
 
@@ -123,6 +118,6 @@ pub data CpuRounds (first : Cpu EnabledRows) : ℕ → Cpu EnabledRows → Type 
   one_round : {n : ℕ} {old : Cpu EnabledRows} (m : ℕ) (new : Cpu EnabledRows) → CpuRounds first n old → MadeRound n old new → m ≡ n + 1 → CpuRounds first m new
 
 -- a worker is back; where it finished it made a hundred rounds
-pub record CameBack (shared : Shared) (old new : Cpu EnabledRows) (finished : Bool) : Type 0 where
-  pub worked : Worked shared 400 200 old new finished
+pub record CameBack (old new : Cpu EnabledRows) (finished : Bool) : Type 0 where
+  pub worked : Worked 400 200 old new finished
   pub rounds : finished ≡ true → CpuRounds old 100 new

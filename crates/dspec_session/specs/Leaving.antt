@@ -16,7 +16,8 @@ use Rattle.dspec_table.specs.Showing.{Shows}
 use Rattle.dspec_ring.specs.declared.batch.Batch.{Batch}
 use Rattle.dspec_ring.specs.Known.{ConsumerKnows}
 use Rattle.dspec_cpu.specs.declared.cpu.Cpu.{Cpu}
-use Rattle.dspec_cpu.specs.Lists.{HasList, IsReady, worn_of}
+use Rattle.dspec_cpu.specs.Lists.{HasList, IsSteady, worn_of}
+use Rattle.dspec_cpu.specs.Standing.{identity}
 use Rattle.dspec_session.specs.declared.left.Left.{Left}
 use Rattle.dspec_session.specs.Closing.{IsAtRest, LeftShows}
 use Rattle.dspec_session.specs.Sessions.{IsCpuOf}
@@ -39,12 +40,16 @@ pub record IsParted (shape : ℕ → Option Shape) (words : Words) (c : ℕ) (p 
   pub rest : IsAtRest shape (set_up words) c (known s).own p
 
 module _ {S : Type 0} (shape_of : S → ℕ → Option Shape) (accepted : S → Record → Bool) (text : S → Record → List ℕ) where
-  -- the lists that a CPU has, and whether it can be called
+  -- the lists that a CPU has, and that none of its calls is under way
   abbrev pub Has : Cpu S → List Deed → Type 0
   Has cpu p = HasList (shape_of cpu.schema) (accepted cpu.schema) (text cpu.schema) cpu p
 
-  abbrev pub Ready : Words → Cpu S → Type 0
-  Ready words cpu = IsReady (shape_of cpu.schema) (accepted cpu.schema) (text cpu.schema) words cpu
+  abbrev pub Steady : Cpu S → Type 0
+  Steady cpu = IsSteady (shape_of cpu.schema) (accepted cpu.schema) (text cpu.schema) cpu
+
+  -- of each of them
+  abbrev pub AllSteady : List (Cpu S) → Type 0
+  AllSteady cpus = (c : ℕ) (cpu : Cpu S) → slice_get cpus c ≡ Some cpu → Steady cpu
 
   -- Whichever of these lists a CPU has, of this schema, configuration and number, this is left of it, with what it has still to
   -- settle.
@@ -67,4 +72,4 @@ module _ {S : Type 0} (shape_of : S → ℕ → Option Shape) (accepted : S → 
     pub ends_all : length ends ≡ length cpus
     pub parted : (c : ℕ) (s : CpuSeat) → slice_get seats c ≡ Some s → IsParted (shape_of schema) words c (p c) s
     pub each : (i : ℕ) (cpu : Cpu S) → slice_get cpus i ≡ Some cpu
-        → IsCpuOf Ready schema words (length seats + i) (slice_get (map (λ (e : ConsumerKnows). e.pair) ends) i) cpu × Has cpu (p (length seats + i))
+        → IsCpuOf schema words (length seats + i) (slice_get (map (λ (e : ConsumerKnows). e.pair) ends) i) (identity cpu) × Steady cpu × Has cpu (p (length seats + i))

@@ -10,7 +10,6 @@ pub mod Closing
 pub mod Leaving
 pub mod Demonstrated
 pub mod Rising
-pub mod Rounds
 pub mod Visits
 pub mod Crews
 pub mod Races

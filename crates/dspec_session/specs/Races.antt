@@ -5,8 +5,8 @@ use Rattle.dspec_deeds.specs.declared.deed.Deed.{Deed}
 use Rattle.dspec_deeds.specs.Own.{offers}
 use Rattle.dspec_cpu.specs.declared.cpu.Cpu.{Cpu}
 use Rattle.dspec_cpu.specs.Lists.{calls_of, config_of, words_of}
+use Rattle.dspec_cpu.specs.Standing.{identity}
 use Rattle.dspec_session.specs.declared.session.Session.{Session}
-use Rattle.dspec_session.specs.Leaving.{Ready}
 use Rattle.dspec_session.specs.Sessions.{IsCpuOf, IsFresh, IsSession}
 use Rattle.dspec_cpu.specs.declared.shared.Shared.{Shared}
 use Rattle.dspec_ring.specs.Known.{Pair}
@@ -14,12 +14,11 @@ use Rattle.dspec_session.specs.declared.left.Left.{Left}
 use Rattle.dspec_deeds.specs.Reports.{records_of_report}
 use Rattle.dspec_session.specs.declared.demonstration.four.Four.{Four}
 use Rattle.dspec_session.specs.declared.demonstration.lines.DemoLine.{DemoLine}
-use Rattle.dspec_record.specs.Schemas.{enabled, table_shape, table_accepts, table_text}
 use Rattle.dspec_session.specs.Demonstrated.{CpuRounds, demonstrated, Has}
 
 -- the parts of one start, with the schema of the demonstration
 abbrev pub IsDemonstrated : Session EnabledRows → Type 0
-IsDemonstrated session = IsSession (Ready (λ s. table_shape s.header (enabled s.rows)) (λ s. table_accepts s.header (enabled s.rows)) (λ s. table_text s.header (enabled s.rows))) demonstrated session
+IsDemonstrated session = IsSession demonstrated session
 
 -- each CPU has a list with so many offers, where it had the empty list before
 abbrev pub HaveOffered : ℕ → List (Cpu EnabledRows) → Type 0
@@ -39,8 +38,7 @@ HaveRoom cpus = (c : ℕ) (cpu : Cpu EnabledRows) → slice_get cpus c ≡ Some 
 
 -- the CPU has its place in the session of those who share this
 abbrev pub IsAtPlace : Shared → Option Pair → ℕ → Cpu EnabledRows → Type 0
-IsAtPlace shared there c cpu = IsCpuOf (Ready (λ s. table_shape s.header (enabled s.rows)) (λ s. table_accepts s.header (enabled s.rows))
-    (λ s. table_text s.header (enabled s.rows))) demonstrated (words_of shared) c there cpu
+IsAtPlace shared there c cpu = IsCpuOf demonstrated (words_of shared) c there (identity cpu)
 
 -- every worker finished
 abbrev pub all_finished : Four (Cpu EnabledRows × Bool) → Bool

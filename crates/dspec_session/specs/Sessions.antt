@@ -8,26 +8,26 @@ use Rattle.dspec_ring.specs.Known.{Pair, ConsumerKnows, IsUnusedCpu}
 use Rattle.dspec_table.specs.Seats.{set_up}
 use Rattle.dspec_table.specs.declared.seats.Words.{Words}
 use Rattle.dspec_cpu.specs.declared.cpu.Cpu.{Cpu}
-use Rattle.dspec_cpu.specs.Lists.{config_of, end_of, number_in, schema_of, spare_of, words_of, worn_of}
+use Rattle.dspec_cpu.specs.Lists.{end_of, spare_of, words_of, worn_of}
+use Rattle.dspec_cpu.specs.Standing.{Belongs, Identity, identity}
 use Rattle.dspec_session.specs.Consumers.{Consuming, IsConsumerOf, pairs_of}
 use Rattle.dspec_session.specs.declared.session.Session.{Session}
 
--- The CPU has this number in the session: it can be called by those who share the words, its schema is the one of all, and its
--- rings are the pair whose other end the consumer has there.
-pub record IsCpuOf {S : Type 0} (ready : Words → Cpu S → Type 0) (schema : S) (words : Words) (c : ℕ) (there : Option Pair) (cpu : Cpu S) : Type 0 where
-  pub called : ready words cpu
-  pub number : number_in cpu ≡ c
-  pub config : config_of cpu ≡ set_up words
-  pub one : schema_of cpu ≡ schema
-  pub pair : there ≡ Some (end_of cpu).pair
+-- Such a CPU has this number in the session: it belongs to the words, its schema is the one of all, and its rings are the pair
+-- whose other end the consumer has there.
+pub record IsCpuOf {S : Type 0} (schema : S) (words : Words) (c : ℕ) (there : Option Pair) (i : Identity S) : Type 0 where
+  pub belongs : Belongs words i
+  pub number : i.number ≡ c
+  pub one : i.schema ≡ schema
+  pub pair : there ≡ Some i.pair
 
 -- The parts are those of one start, or have become of them by calls: all CPUs, in order, and the consumer.
-pub record IsSession {S : Type 0} (ready : Words → Cpu S → Type 0) (schema : S) (session : Session S) : Type 0 where
+pub record IsSession {S : Type 0} (schema : S) (session : Session S) : Type 0 where
   pub checked : start_fault (set_up (words_of session.shared)) ≡ None
   pub consumer : IsConsumerOf (words_of session.shared) session.consumer
   pub all : length session.cpus.items ≡ (set_up (words_of session.shared)).cpus
   pub each : (c : ℕ) (cpu : Cpu S) → slice_get session.cpus.items c ≡ Some cpu
-      → IsCpuOf ready schema (words_of session.shared) c (slice_get (pairs_of session.consumer) c) cpu
+      → IsCpuOf schema (words_of session.shared) c (slice_get (pairs_of session.consumer) c) (identity cpu)
 
 -- nothing was asked of the CPU yet: it has the empty list, nothing went through its end, and a spare is in hand
 pub record IsFresh {S : Type 0} (has : Cpu S → List Deed → Type 0) (cpu : Cpu S) : Type 0 where

@@ -7,7 +7,7 @@ ghost use Rattle.dspec_session.specs.Sessions.{HasAt, IsSession, taken_at, worn_
 
 use crate::closed::Closed;
 use crate::consumer::Consumer;
-use crate::parting::part_all;
+use crate::parting::{all_stand, part_all};
 use crate::session::Session;
 use dspec_cpu::{Cpu, Listed};
 use dspec_record::Schema;
@@ -16,9 +16,9 @@ impl<S: Schema> Session<S> {
     /// Ends the session, once none of its calls is under way: the CPUs settle what was decided and waits for them, and what nobody
     /// took is handed out with their reports. It takes no memory.
     pub fn finish(self) -> Closed
-        requires session { (schema : S) × IsSession ⟦<Cpu<S> as Listed>⟧.is_ready schema self }
+        requires session { (schema : S) × IsSession schema self }
         ensures all { length result ≡ (set_up (words_of self.shared)).cpus }
-        ensures closed { (schema : S) → IsSession ⟦<Cpu<S> as Listed>⟧.is_ready schema self
+        ensures closed { (schema : S) → IsSession schema self
             → IsClosedBy (S.shape_of schema) (S.accepted schema) (S.text schema) (set_up (words_of self.shared))
             (HasAt ⟦<Cpu<S> as Listed>⟧.has_list self.cpus.items) (worn_at self.cpus.items) (taken_at self.consumer) (view_of self.consumer).own result }
     {
@@ -27,6 +27,7 @@ impl<S: Schema> Session<S> {
             cpus,
             consumer,
         } = self;
+        all_stand(&cpus);
         let Consumer {
             config: _,
             seat,

@@ -3,7 +3,8 @@ ghost use Rattle.dspec_deeds.specs.declared.deed.Deed.{Deed};
 ghost use Rattle.dspec_table.specs.Meeting.{Met};
 ghost use Rattle.dspec_table.specs.Seats.{known};
 ghost use Rattle.dspec_cpu.specs.Keeping.{MovesItsSeat};
-ghost use Rattle.dspec_cpu.specs.Lists.{IsSameCpu, seat_of, words_of, worn_of};
+ghost use Rattle.dspec_cpu.specs.Lists.{seat_of, words_of, worn_of};
+ghost use Rattle.dspec_cpu.specs.Standing.{Belongs, identity};
 ghost use Rattle.dspec_session.specs.Consumers.{IsConsumerOf, IsSameConsumer, view_of};
 
 use crate::consumer::Consumer;
@@ -15,11 +16,10 @@ impl Consumer {
     /// Neither does a deed.
     pub fn meet<S: Schema>(&mut self, shared: &Shared, cpu: &mut Cpu<S>)
         requires session { IsConsumerOf (words_of shared.now) self.old }
-        requires ready { ⟦<Cpu<S> as Listed>⟧.is_ready (words_of shared.now) cpu.old }
+        requires of { Belongs (words_of shared.now) (identity cpu.old) }
         ensures session { IsConsumerOf (words_of shared.now) self.new }
         ensures same { IsSameConsumer self.old self.new }
-        ensures ready { ⟦<Cpu<S> as Listed>⟧.is_ready (words_of shared.now) cpu.new }
-        ensures same_cpu { IsSameCpu cpu.old cpu.new × (worn_of cpu.new ≡ worn_of cpu.old) }
+        ensures same_cpu { (identity cpu.new ≡ identity cpu.old) × (worn_of cpu.new ≡ worn_of cpu.old) }
         ensures keeps { MovesItsSeat cpu.old cpu.new }
         ensures list { (p : List Deed) → ⟦<Cpu<S> as Listed>⟧.has_list cpu.old p → ⟦<Cpu<S> as Listed>⟧.has_list cpu.new p }
         ensures met { Met (known (seat_of cpu.old)) (view_of self.old) (known (seat_of cpu.new)) (view_of self.new) }

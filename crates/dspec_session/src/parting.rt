@@ -6,7 +6,7 @@ ghost use Rattle.dspec_cpu.specs.declared.cpu.Cpu.{Cpu};
 ghost use Rattle.dspec_cpu.specs.Lists.{seat_of};
 ghost use Rattle.dspec_cpu.specs.Rests.{AreItsWords, config_of_rest, in_hand_of_rest, number_of_rest, schema_of_rest, worn_of_rest};
 ghost use Rattle.dspec_cpu.specs.Sealed.{waiting};
-ghost use Rattle.dspec_session.specs.Leaving.{AreLeft, AreParting, IsClosing, Leaves};
+ghost use Rattle.dspec_session.specs.Leaving.{AllSteady, AreLeft, AreParting, IsClosing, Leaves};
 
 use crate::counted::CountedEnd;
 use crate::left::Left;
@@ -35,6 +35,15 @@ fn leave<S: Schema>(rest: CpuRest<S>, end: CpuEnd, other: CountedEnd, last: &Las
         rest: waiting.or(in_hand),
         last: active,
         report,
+    }
+}
+
+/// Tells what holds of each CPU, as of every one between two of its calls.
+pub(crate) fn all_stand<S: Schema>(cpus: &Vec<Cpu<S>>)
+    ensures { AllSteady S.shape_of S.accepted S.text cpus.now.items }
+{
+    for cpu in cpus {
+        cpu.stands();
     }
 }
 

@@ -32,7 +32,7 @@ impl<S: Schema> Session<S> {
         requires seats { (length seats.items ≡ config.now.cpus) × FreshSeats words seats.items }
         requires consumer { IsConsumerAt words seat × (known_there seat ≡ last_seat config.now) }
         ensures words { IfOk result (λ s. words_of s.shared ≡ words) }
-        ensures session { IfOk result (λ s. IsSession ⟦<Cpu<S> as Listed>⟧.is_ready schema s) }
+        ensures session { IfOk result (λ s. IsSession schema s) }
         ensures fresh { IfOk result (λ s. (c : ℕ) (cpu : Cpu S) → slice_get s.cpus.items c ≡ Some cpu → IsFresh ⟦<Cpu<S> as Listed>⟧.has_list cpu) }
         ensures consumer { IfOk result (λ s. (view_of s.consumer ≡ last_seat config.now) × All IsUnusedConsumer s.consumer.ends) }
     {
@@ -60,7 +60,7 @@ impl<S: Schema> Session<S> {
         ensures refused { IfErr result (λ fault. fault ≢ start.Memory → start_fault config.now ≡ Some fault) }
         ensures memory { IfErr result (λ fault. fault ≡ start.Memory → start_fault config.now ≡ None) }
         ensures config { IfOk result (λ s. set_up (words_of s.shared) ≡ config.now) }
-        ensures session { IfOk result (λ s. IsSession ⟦<Cpu<S> as Listed>⟧.is_ready schema s) }
+        ensures session { IfOk result (λ s. IsSession schema s) }
         ensures fresh { IfOk result (λ s. (c : ℕ) (cpu : Cpu S) → slice_get s.cpus.items c ≡ Some cpu → IsFresh ⟦<Cpu<S> as Listed>⟧.has_list cpu) }
         ensures consumer { IfOk result (λ s. (view_of s.consumer ≡ last_seat config.now) × All IsUnusedConsumer s.consumer.ends) }
     {

@@ -2,6 +2,8 @@
 use Rattle.std.specs.Prelude.{ℕ}
 use Rattle.dspec_schedule.specs.declared.fault.ScheduleFault.{ScheduleFault}
 use Rattle.dspec_schedule.specs.declared.fault.ScheduleFault.TheVariants as schedule
+use Rattle.dspec_player.specs.declared.input.InputFault.{InputFault}
+use Rattle.dspec_player.specs.declared.input.InputFault.TheVariants as input
 use Rattle.specplay.specs.declared.fault.RunFault.{RunFault}
 use Rattle.specplay.specs.declared.fault.RunFault.TheVariants.{Line, Memory, TooLong, Read, Write}
 
@@ -33,3 +35,9 @@ IsScheduleFault Write = ⊥
 abbrev pub run_fault_of : ScheduleFault → RunFault
 run_fault_of (schedule.Line line kind) = Line line kind
 run_fault_of schedule.Memory = Memory
+
+-- a fault of the input as a run tells it
+abbrev pub run_fault_of_input : InputFault → RunFault
+run_fault_of_input input.TooLong = TooLong
+run_fault_of_input input.Read = Read
+run_fault_of_input input.Memory = Memory

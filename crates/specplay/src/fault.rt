@@ -2,6 +2,7 @@ ghost use Rattle.std.specs.Prelude.{◌≡◌};
 ghost use Rattle.specplay.specs.declared.fault.RunFault.TheVariants.{Memory};
 ghost use Rattle.specplay.specs.Runs.{run_fault_of};
 
+use dspec_player::InputFault;
 pub use dspec_schedule::LineKind;
 use dspec_schedule::ScheduleFault;
 use std::alloc::AllocError;
@@ -55,6 +56,20 @@ impl From<ScheduleFault> for RunFault {
         match fault {
             ScheduleFault::Line { line, kind } => RunFault::Line { line, kind },
             ScheduleFault::Memory => RunFault::Memory,
+        }
+    }
+}
+
+impl From<InputFault> for RunFault {
+    ghost use Rattle.specplay.specs.Runs.{run_fault_of_input};
+
+    ghost from_gives = { λ fault told. told ≡ run_fault_of_input fault };
+
+    fn from(fault: InputFault) -> Self {
+        match fault {
+            InputFault::TooLong => RunFault::TooLong,
+            InputFault::Read => RunFault::Read,
+            InputFault::Memory => RunFault::Memory,
         }
     }
 }

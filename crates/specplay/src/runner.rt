@@ -1,17 +1,13 @@
-ghost use Rattle.std.specs.Prelude.{◌≡◌, ◌≢◌, ◌<◌, List, ℕ, length, IfErr, IfOk, IfSome, IsErrAnd, OnErr, OnOk, Some, string_bytes};
+ghost use Rattle.std.specs.Prelude.{◌≡◌, ◌≢◌, ◌<◌, List, ℕ, length, IfErr, IfOk, IfSome, IsErrAnd, OnErr, OnOk, string_bytes};
 ghost use Rattle.std.specs.Io.KnownBytes.{Appends};
-ghost use Rattle.dspec_play.specs.declared.outcome.PlayFault.TheVariants as failure;
 ghost use Rattle.specplay.specs.Runs.{IsInputFault, IsScheduleFault};
-ghost use Rattle.dspec_schedule.specs.Reading.{HasOneHeader};
-ghost use Rattle.dspec_schedule.specs.Schedules.{plan_of};
-ghost use Rattle.specplay.specs.Schedules.{IsCutOff, IsPlayOf, IsToldOf, Prints, fault_of};
+ghost use Rattle.specplay.specs.Schedules.{IsCutOff, IsToldOf, Prints};
 ghost use Rattle.specplay.specs.Written.{AppendsBeginning};
 
 use crate::fault::RunFault;
-use crate::input::{MAX_INPUT, read_whole};
-use dspec_core::{Outcome, PlayFault, play};
-use dspec_record::{DefaultAction, Header, StampedAction};
-use dspec_schedule::{Schedule, printed, read_schedule};
+use dspec_player::input::MAX_INPUT;
+use dspec_player::{play_text, read_whole};
+use dspec_schedule::printed;
 use std::alloc::Global;
 use std::io::{self, Read, Write};
 
@@ -27,37 +23,18 @@ pub fn run<R: Read, W: Write>(alloc: Global, input: &mut R, output: &mut W) -> R
     ensures cut_off { result ≡ Err RunFault.Write → IfSome (R.remaining input.old) (λ text. IsCutOff text (W.contents output.old) (W.contents output.new)) }
 {
     let text = read_whole(alloc, input)?;
-    let printed = play_text(alloc, text.as_slice())?;
+    let printed = print_play(alloc, text.as_slice())?;
     write_whole(output, printed.as_str())
 }
 
 /// Plays the schedule of a text, and gives what the play prints.
-fn play_text(alloc: Global, text: &[u8]) -> Result<String, RunFault>
+fn print_play(alloc: Global, text: &[u8]) -> Result<String, RunFault>
     ensures ok { IfOk result (λ printed. Prints text.now (string_bytes printed)) }
     ensures faults { IfErr result IsScheduleFault }
     ensures told { IfErr result (IsToldOf text.now) }
 {
-    let schedule = read_schedule(alloc, text)?;
-    match play_schedule(alloc, &schedule) {
-        Ok(outcome) => Ok(printed(alloc, schedule.header(), &outcome)?),
-        Err(fault) => Err(RunFault::from(schedule.blame(fault))),
-    }
-}
-
-/// Plays a schedule, with its enablings, or with the default action, which is stamped under header 2.
-fn play_schedule(alloc: Global, schedule: &Schedule) -> Result<Outcome, PlayFault>
-    requires { HasOneHeader (plan_of schedule.now) }
-    ensures played { IfOk result (IsPlayOf (plan_of schedule.now)) }
-    ensures refused { IfErr result (λ fault. fault ≢ failure.Memory → fault_of (plan_of schedule.now) ≡ Some fault) }
-{
-    let turns = schedule.turns.as_slice();
-    if let Some(enablings) = schedule.enablings {
-        return play(alloc, &schedule.config, enablings, turns);
-    }
-    match schedule.header() {
-        Header::One => play(alloc, &schedule.config, DefaultAction, turns),
-        Header::Two => play(alloc, &schedule.config, StampedAction, turns),
-    }
+    let played = play_text(alloc, text)?;
+    Ok(printed(alloc, played.schedule.header(), &played.outcome)?)
 }
 
 /// Writes a text, and has it go out.

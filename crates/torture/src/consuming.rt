@@ -1,7 +1,6 @@
 ghost use Rattle.std.specs.Prelude.{IfOk};
 ghost use Rattle.dspec_cpu.specs.Lists.{words_of};
-ghost use Rattle.dspec_session.specs.Consumers.{IsConsumerOf};
-ghost use Rattle.dspec_session.specs.Rounds.{Stays};
+ghost use Rattle.dspec_session.specs.Consumers.{IsConsumerOf, Stays};
 
 use crate::planning::{Plan, dice_of};
 use crate::sharing::Board;

@@ -1,7 +1,9 @@
 ghost use Rattle.std.specs.Prelude.{◌≡◌, ◌<◌, IfOk};
 ghost use denote.Param.Send.{IsSync};
 ghost use Rattle.dspec_cpu.specs.Lists.{words_of};
-ghost use Rattle.torture.specs.Lent.{AllCanBeCalled, AllWereCalled, CanBeCalled, IsLentOut, WasCalled};
+ghost use Rattle.dspec_cpu.specs.Standing.{identity};
+ghost use Rattle.dspec_session.specs.Sessions.{IsSession};
+ghost use Rattle.torture.specs.Lent.{AllCanBeCalled, AllWereCalled, CanBeCalled};
 
 use crate::consuming::consume;
 use crate::planning::Plan;
@@ -25,13 +27,13 @@ fn work_all<R: Threads + Sync>(
     alloc: Global,
 ) -> Vec<Cpu<Enablings>>
     requires { AllCanBeCalled shared.now board.now.schema cpus.items }
-    ensures { AllWereCalled shared.now cpus.items result.items }
+    ensures { AllWereCalled cpus.items result.items }
 {
     let mut cpus = cpus;
     let threads = cpus.len().max(1);
     let part = move |worker: usize, cpu: &mut Cpu<Enablings>|
         requires { CanBeCalled shared.now board.now.schema cpu.now }
-        ensures { WasCalled shared.entry.now cpu.entry.now cpu.exit.now }
+        ensures { identity cpu.exit.now ≡ identity cpu.entry.now }
     { work(cpu, shared, board, plan, alloc, (worker % 64) as u32) };
     thread::for_each_mut(rt, cpus.as_mut_slice(), threads, &part);
     cpus
@@ -46,8 +48,8 @@ pub fn race<R: Threads + Sync>(
     alloc: Global,
     basket: Basket,
 ) -> Result<(Session<Enablings>, Basket), AllocError>
-    requires { IsLentOut board.now.schema session }
-    ensures { IfOk result (λ r. IsLentOut board.now.schema r.0) }
+    requires { IsSession board.now.schema session }
+    ensures { IfOk result (λ r. IsSession board.now.schema r.0) }
 {
     let Session {
         cpus,
@@ -60,7 +62,7 @@ pub fn race<R: Threads + Sync>(
         move || consume(consumer, common, board, plan, alloc, basket),
         move || -> Vec<Cpu<Enablings>>
             requires { IsSync R.row × AllCanBeCalled common.now board.now.schema cpus.items }
-            ensures { AllWereCalled common.entry.now cpus.items result.items }
+            ensures { AllWereCalled cpus.items result.items }
         { work_all(rt, cpus, common, board, plan, alloc) },
     );
     let (consumer, basket) = consumed?;

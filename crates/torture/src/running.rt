@@ -1,5 +1,5 @@
 ghost use Rattle.std.specs.Prelude.{◌≡◌, ◌<◌, IfOk, length};
-ghost use Rattle.torture.specs.Lent.{IsLentOut};
+ghost use Rattle.dspec_session.specs.Sessions.{IsSession};
 
 use crate::planning::Plan;
 use crate::racing::race;
@@ -20,7 +20,7 @@ fn read_left(
     plan: &Plan,
     basket: Basket,
 ) -> Result<Story, AllocError>
-    requires { IsLentOut board.schema session }
+    requires { IsSession board.schema session }
 {
     let mut basket = basket;
     let mut reports = Vec::new(alloc);

@@ -1,4 +1,6 @@
-ghost use Rattle.torture.specs.Lent.{CanBeCalled, WasCalled};
+ghost use Rattle.std.specs.Prelude.{◌≡◌};
+ghost use Rattle.dspec_cpu.specs.Standing.{identity};
+ghost use Rattle.torture.specs.Lent.{CanBeCalled};
 
 use crate::choosing::Player;
 use crate::planning::Plan;
@@ -44,7 +46,7 @@ fn make_calls(
     player: &mut Player,
 )
     requires { CanBeCalled shared.now board.now.schema cpu.old }
-    ensures { WasCalled shared.now cpu.old cpu.new }
+    ensures { identity cpu.new ≡ identity cpu.old }
 {
     for _round in 0..plan.calls {
         let op = player.next(board);
@@ -66,7 +68,7 @@ pub fn work(
     worker: u32,
 )
     requires { CanBeCalled shared.now board.now.schema cpu.old }
-    ensures { WasCalled shared.now cpu.old cpu.new }
+    ensures { identity cpu.new ≡ identity cpu.old }
 {
     let mut player = Player::new(alloc, plan, worker);
     gather(board, u64::from(plan.config.cpus));

@@ -3,12 +3,13 @@
 #![tactic(auto)]
 
 ghost use Rattle.std.specs.Prelude.{◌≡◌, IfOk, IsTrue, OnOk};
-ghost use Rattle.dspec_cpu.specs.Lists.{IsSameCpu, schema_of, words_of};
+ghost use Rattle.dspec_cpu.specs.Lists.{schema_of, words_of};
+ghost use Rattle.dspec_cpu.specs.Standing.{Belongs, identity};
 ghost use Rattle.dspec_session.specs.Sessions.{IsSession};
 
 use anyhow::{Context, Result, bail, ensure};
 use dspec_buffer::read_all;
-use dspec_cpu::{Cpu, Listed, Shared};
+use dspec_cpu::{Cpu, Shared};
 use dspec_deeds::{Config, Policy};
 use dspec_record::{Enablings, Field, Rec, Schema};
 use dspec_ring::Batch;
@@ -42,10 +43,9 @@ fn serve(
     request: u32,
     touch: u32,
 ) -> Result<()>
-    requires ready { ⟦<Cpu<Enablings> as Listed>⟧.is_ready (words_of shared.now) cpu.old }
+    requires of { Belongs (words_of shared.now) (identity cpu.old) }
     requires schema { schema_of cpu.old ≡ schema.now }
-    ensures ready { OnOk result (⟦<Cpu<Enablings> as Listed>⟧.is_ready (words_of shared.now) cpu.new) }
-    ensures same { OnOk result (IsSameCpu cpu.old cpu.new) }
+    ensures same { OnOk result (identity cpu.new ≡ identity cpu.old) }
 {
     let failed = cpu.speculation(shared).id();
     cpu.speculate(shared, failed, &record(schema, touch, &[4096, 5])?);
@@ -67,8 +67,8 @@ fn visit(
     request: u32,
     touch: u32,
 ) -> Result<Batch>
-    requires session { IsSession ⟦<Cpu<Enablings> as Listed>⟧.is_ready schema.now session.old }
-    ensures session { OnOk result (IsSession ⟦<Cpu<Enablings> as Listed>⟧.is_ready schema.now session.new) }
+    requires session { IsSession schema.now session.old }
+    ensures session { OnOk result (IsSession schema.now session.new) }
 {
     if session.cpus.len() == 0 {
         bail!("no CPU");

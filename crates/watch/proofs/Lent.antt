@@ -6,30 +6,19 @@ use Rattle.std.proofs.Math.Seq.{take-append_seam}
 use Rattle.dspec_record.specs.EnablingRows.{EnabledRows}
 use Rattle.dspec_cpu.specs.declared.cpu.Cpu.{Cpu}
 use Rattle.dspec_cpu.specs.declared.shared.Shared.{Shared}
-use Rattle.dspec_cpu.specs.Lists.{words_of, IsSameCpu}
+use Rattle.dspec_cpu.specs.Lists.{words_of}
+use Rattle.dspec_cpu.specs.Standing.{identity}
 use Rattle.dspec_session.specs.declared.session.Session.{Session}
-use Rattle.dspec_session.specs.Demonstrated.{IsCallable}
-use Rattle.dspec_session.specs.Rounds.{Stays}
-use Rattle.watch.specs.Served.{AllCanServe, AllServed, CanServe, IsWatched, Served}
-
--- a call more
-pub still : (shared : Shared) (a b c : Cpu EnabledRows) → Served shared a b → IsCallable shared c → IsSameCpu b c → Served shared a c
-still shared a b c was ready same = record {
-  ready = ready;
-  same = record {
-    schema = same.schema ∙ was.same.schema;
-    config = same.config ∙ was.same.config;
-    number = same.number ∙ was.same.number;
-    pair = same.pair ∙ was.same.pair;
-  };
-}
+use Rattle.dspec_session.specs.Consumers.{Stays, pairs_of}
+use Rattle.dspec_session.specs.Sessions.{IsCpuOf}
+use Rattle.watch.specs.Served.{AllCanServe, AllServed, CanServe, IsWatched}
 
 -- each CPU of a session can be lent
 pub all_can_serve : (schema : EnabledRows) (session : Session EnabledRows) → IsWatched schema session → AllCanServe session.shared schema session.cpus.items
-all_can_serve schema session is c cpu at = let e = is.parts.each c cpu at in record { ready = e.called; one = e.one }
+all_can_serve schema session is c cpu at = let e = is.parts.each c cpu at in record { of = e.belongs; one = e.one }
 
 -- with all CPUs and the consumer back it is a session again
-pub lent_back : (schema : EnabledRows) (session back : Session EnabledRows) → IsWatched schema session → AllServed session.shared session.cpus.items back.cpus.items
+pub lent_back : (schema : EnabledRows) (session back : Session EnabledRows) → IsWatched schema session → AllServed session.cpus.items back.cpus.items
     → Stays (words_of session.shared) session.consumer back.consumer → IsWatched schema (record { shared = session.shared; cpus = back.cpus; consumer = back.consumer })
 lent_back schema session back is served stays = record {
   parts = record {
@@ -38,14 +27,8 @@ lent_back schema session back is served stays = record {
     all = served.all ∙ is.parts.all;
     each = λ c cpu at.
         let (was, there, s) = served.each c cpu at in
-        let e = is.parts.each c was there in
-        record {
-          called = s.ready;
-          number = s.same.number ∙ e.number;
-          config = s.same.config ∙ e.config;
-          one = s.same.schema ∙ e.one;
-          pair = ap (λ l. slice_get l c) stays.same.pairs ∙ (e.pair ∙ ap Some (sym s.same.pair));
-        };
+        subst (λ o. IsCpuOf schema (words_of session.shared) c o (identity cpu)) (sym (ap (λ l. slice_get l c) stays.same.pairs))
+        (subst (λ i. IsCpuOf schema (words_of session.shared) c (slice_get (pairs_of session.consumer) c) i) (sym s) (is.parts.each c was there));
   };
   four = is.four;
 }
@@ -59,7 +42,7 @@ there shared schema cpus i cpu all lt at = all i cpu (slice_get_read cpus (lengt
 pub refilled : {A : Type 0} (n : ℕ) (new old : List A) → n ≡ length new → take n (new ++ drop (length new) old) ≡ new
 refilled n new old e = ap (λ k. take k (new ++ drop (length new) old)) e ∙ take-append_seam new (drop (length new) old)
 
-pub all_served : (shared : Shared) (n : ℕ) (old new items : List (Cpu EnabledRows)) → AllServed shared old new → old ≡ items → n ≡ length new
-    → AllServed shared items (take n (new ++ drop (length new) items))
-all_served shared n old new items served e size =
-    subst (λ xs. AllServed shared xs (take n (new ++ drop (length new) items))) e (subst (λ ys. AllServed shared old ys) (sym (refilled n new items size)) served)
+pub all_served : (n : ℕ) (old new items : List (Cpu EnabledRows)) → AllServed old new → old ≡ items → n ≡ length new
+    → AllServed items (take n (new ++ drop (length new) items))
+all_served n old new items served e size =
+    subst (λ xs. AllServed xs (take n (new ++ drop (length new) items))) e (subst (λ ys. AllServed old ys) (sym (refilled n new items size)) served)

@@ -1,9 +1,9 @@
-ghost use Rattle.std.specs.Prelude.{IfOk};
+ghost use Rattle.std.specs.Prelude.{◌≡◌, IfOk};
 ghost use denote.Param.Send.{IsSync};
 ghost use Rattle.dspec_cpu.specs.Lists.{words_of};
-ghost use Rattle.dspec_session.specs.Consumers.{IsConsumerOf};
-ghost use Rattle.dspec_session.specs.Rounds.{Stays};
-ghost use Rattle.watch.specs.Served.{AllCanServe, AllServed, CanServe, IsWatched, Served};
+ghost use Rattle.dspec_cpu.specs.Standing.{identity};
+ghost use Rattle.dspec_session.specs.Consumers.{IsConsumerOf, Stays};
+ghost use Rattle.watch.specs.Served.{AllCanServe, AllServed, CanServe, IsWatched};
 
 use crate::requests::{REQUESTS, ROUNDS, Request, WORKERS};
 use dspec_buffer::read_all;
@@ -28,7 +28,7 @@ pub struct Server {
 /// The steps of a request go to a speculation, which is committed where the request fails, and discarded where it doesn't.
 fn handle(cpu: &mut Cpu<Enablings>, shared: &Shared, server: &Server, request: Request)
     requires { CanServe shared.now server.now.schema cpu.old }
-    ensures { Served shared.now cpu.old cpu.new }
+    ensures { identity cpu.new ≡ identity cpu.old }
 {
     let id = cpu.speculation(shared).id();
     for place in 0..request.steps() {
@@ -47,7 +47,7 @@ fn handle(cpu: &mut Cpu<Enablings>, shared: &Shared, server: &Server, request: R
 /// A worker handles its requests on its CPU, and serves the consumer after each.
 fn work(cpu: &mut Cpu<Enablings>, shared: &Shared, server: &Server, worker: u64)
     requires { CanServe shared.now server.now.schema cpu.old }
-    ensures { Served shared.now cpu.old cpu.new }
+    ensures { identity cpu.new ≡ identity cpu.old }
 {
     for round in 0..ROUNDS {
         handle(
@@ -69,12 +69,12 @@ fn work_all<R: Threads + Sync>(
     server: &Server,
 ) -> Vec<Cpu<Enablings>>
     requires { AllCanServe shared.now server.now.schema cpus.items }
-    ensures { AllServed shared.now cpus.items result.items }
+    ensures { AllServed cpus.items result.items }
 {
     let mut cpus = cpus;
     let part = move |worker: usize, cpu: &mut Cpu<Enablings>|
         requires { CanServe shared.now server.now.schema cpu.now }
-        ensures { Served shared.entry.now cpu.entry.now cpu.exit.now }
+        ensures { identity cpu.exit.now ≡ identity cpu.entry.now }
     { work(cpu, shared, server, worker as u64) };
     thread::for_each_mut(rt, cpus.as_mut_slice(), WORKERS as usize, &part);
     cpus
@@ -159,7 +159,7 @@ pub fn serve<R: Threads + Eprint + Sync>(
         move || drain(rt, consumer, words, server, seen),
         move || -> Vec<Cpu<Enablings>>
             requires { IsSync R.row × AllCanServe words.now server.now.schema cpus.items }
-            ensures { AllServed words.entry.now cpus.items result.items }
+            ensures { AllServed cpus.items result.items }
         { work_all(rt, cpus, words, server) },
     );
     let (consumer, seen) = drained?;

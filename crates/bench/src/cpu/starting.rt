@@ -1,8 +1,9 @@
 //! The one CPU of a session that has just begun.
 ghost use Rattle.std.specs.Prelude.{◌≡◌, IfSome};
 ghost use Rattle.dspec_cpu.specs.Lists.{schema_of, words_of};
+ghost use Rattle.dspec_cpu.specs.Standing.{Belongs, identity};
 
-use dspec_cpu::{Cpu, Listed, Shared};
+use dspec_cpu::{Cpu, Shared};
 use dspec_deeds::Config;
 use dspec_record::Schema;
 use dspec_ring::pair;
@@ -12,7 +13,7 @@ use std::alloc::Global;
 /// Its first CPU, and what it shares; None for want of memory.
 pub fn begin<S: Schema>(alloc: Global, config: &Config, schema: S) -> Option<(Cpu<S>, Shared)>
     requires one { config.now.cpus ≡ 1 }
-    ensures ready { IfSome result (λ r. ⟦<Cpu<S> as Listed>⟧.is_ready (words_of r.1) r.0) }
+    ensures of { IfSome result (λ r. Belongs (words_of r.1) (identity r.0)) }
     ensures schema { IfSome result (λ r. schema_of r.0 ≡ schema) }
 {
     let Ok((words, mut seats, _)) = Words::start(alloc, config) else {

@@ -1,8 +1,9 @@
 //! The ways that a record can take through a CPU, each as one loop over many records.
 ghost use Rattle.std.specs.Prelude.{◌≡◌, IsTrue};
 ghost use Rattle.dspec_cpu.specs.Lists.{schema_of, words_of};
+ghost use Rattle.dspec_cpu.specs.Standing.{Belongs, identity};
 
-use dspec_cpu::{Cpu, Listed, Shared};
+use dspec_cpu::{Cpu, Shared};
 use dspec_deeds::{Decided, Opening, Spoken, Traced};
 use dspec_record::{Rec, Schema};
 use dspec_word::SpecId;
@@ -40,20 +41,18 @@ impl Way {
 /// One call of trace, which stays a call, as it is one where a probe fires.
 #[inline(never)]
 fn trace_one<S: Schema>(cpu: &mut Cpu<S>, shared: &Shared, rec: &Rec) -> bool
-    requires ready { ⟦<Cpu<S> as Listed>⟧.is_ready (words_of shared.now) cpu.old }
+    requires of { Belongs (words_of shared.now) (identity cpu.old) }
     requires accepted { IsTrue (S.accepted (schema_of cpu.old) rec.now) }
-    ensures ready { ⟦<Cpu<S> as Listed>⟧.is_ready (words_of shared.now) cpu.new }
-    ensures schema { schema_of cpu.new ≡ schema_of cpu.old }
+    ensures same { identity cpu.new ≡ identity cpu.old }
 {
     cpu.trace(shared, rec) == Traced::Kept
 }
 
 /// Traces the record so many times: how often it was kept.
 pub fn trace_often<S: Schema>(cpu: &mut Cpu<S>, shared: &Shared, rec: &Rec, number: u32) -> u32
-    requires ready { ⟦<Cpu<S> as Listed>⟧.is_ready (words_of shared.now) cpu.old }
+    requires of { Belongs (words_of shared.now) (identity cpu.old) }
     requires accepted { IsTrue (S.accepted (schema_of cpu.old) rec.now) }
-    ensures ready { ⟦<Cpu<S> as Listed>⟧.is_ready (words_of shared.now) cpu.new }
-    ensures schema { schema_of cpu.new ≡ schema_of cpu.old }
+    ensures same { identity cpu.new ≡ identity cpu.old }
 {
     let mut kept: u32 = 0;
     for _ in 0..number {
@@ -67,20 +66,18 @@ pub fn trace_often<S: Schema>(cpu: &mut Cpu<S>, shared: &Shared, rec: &Rec, numb
 /// One call of speculate, a call like `trace_one`.
 #[inline(never)]
 fn speculate_one<S: Schema>(cpu: &mut Cpu<S>, shared: &Shared, id: SpecId, rec: &Rec) -> bool
-    requires ready { ⟦<Cpu<S> as Listed>⟧.is_ready (words_of shared.now) cpu.old }
+    requires of { Belongs (words_of shared.now) (identity cpu.old) }
     requires accepted { IsTrue (S.accepted (schema_of cpu.old) rec.now) }
-    ensures ready { ⟦<Cpu<S> as Listed>⟧.is_ready (words_of shared.now) cpu.new }
-    ensures schema { schema_of cpu.new ≡ schema_of cpu.old }
+    ensures same { identity cpu.new ≡ identity cpu.old }
 {
     cpu.speculate(shared, id, rec) == Spoken::Kept
 }
 
 /// One speculation of twenty records: how many records its commit copied.
 fn commit_one<S: Schema>(cpu: &mut Cpu<S>, shared: &Shared, rec: &Rec) -> u32
-    requires ready { ⟦<Cpu<S> as Listed>⟧.is_ready (words_of shared.now) cpu.old }
+    requires of { Belongs (words_of shared.now) (identity cpu.old) }
     requires accepted { IsTrue (S.accepted (schema_of cpu.old) rec.now) }
-    ensures ready { ⟦<Cpu<S> as Listed>⟧.is_ready (words_of shared.now) cpu.new }
-    ensures schema { schema_of cpu.new ≡ schema_of cpu.old }
+    ensures same { identity cpu.new ≡ identity cpu.old }
 {
     let Opening::Id(id) = cpu.speculation(shared) else {
         return 0;
@@ -96,10 +93,9 @@ fn commit_one<S: Schema>(cpu: &mut Cpu<S>, shared: &Shared, rec: &Rec) -> u32
 
 /// As many whole speculations as so many records make: how many records were copied.
 pub fn commit_often<S: Schema>(cpu: &mut Cpu<S>, shared: &Shared, rec: &Rec, number: u32) -> u32
-    requires ready { ⟦<Cpu<S> as Listed>⟧.is_ready (words_of shared.now) cpu.old }
+    requires of { Belongs (words_of shared.now) (identity cpu.old) }
     requires accepted { IsTrue (S.accepted (schema_of cpu.old) rec.now) }
-    ensures ready { ⟦<Cpu<S> as Listed>⟧.is_ready (words_of shared.now) cpu.new }
-    ensures schema { schema_of cpu.new ≡ schema_of cpu.old }
+    ensures same { identity cpu.new ≡ identity cpu.old }
 {
     let mut copied: u32 = 0;
     for _ in 0..number / BLOCK_RECORDS {
@@ -111,8 +107,8 @@ pub fn commit_often<S: Schema>(cpu: &mut Cpu<S>, shared: &Shared, rec: &Rec, num
 /// One call of service, a call like `trace_one`: whether there was nothing to do.
 #[inline(never)]
 fn serve_one<S: Schema>(cpu: &mut Cpu<S>, shared: &Shared) -> bool
-    requires ready { ⟦<Cpu<S> as Listed>⟧.is_ready (words_of shared.now) cpu.old }
-    ensures ready { ⟦<Cpu<S> as Listed>⟧.is_ready (words_of shared.now) cpu.new }
+    requires of { Belongs (words_of shared.now) (identity cpu.old) }
+    ensures same { identity cpu.new ≡ identity cpu.old }
 {
     let served = cpu.service(shared);
     !served.sealed && served.settled == 0
@@ -120,8 +116,8 @@ fn serve_one<S: Schema>(cpu: &mut Cpu<S>, shared: &Shared) -> bool
 
 /// Services so many times: how often there was nothing to do.
 pub fn serve_often<S: Schema>(cpu: &mut Cpu<S>, shared: &Shared, number: u32) -> u32
-    requires ready { ⟦<Cpu<S> as Listed>⟧.is_ready (words_of shared.now) cpu.old }
-    ensures ready { ⟦<Cpu<S> as Listed>⟧.is_ready (words_of shared.now) cpu.new }
+    requires of { Belongs (words_of shared.now) (identity cpu.old) }
+    ensures same { identity cpu.new ≡ identity cpu.old }
 {
     let mut idle: u32 = 0;
     for _ in 0..number {

@@ -2,9 +2,10 @@
 ghost use Rattle.std.specs.Prelude.{◌≡◌, [], IfOk, None};
 ghost use Rattle.dspec_deeds.specs.Ranges.{start_fault};
 ghost use Rattle.dspec_table.specs.Seats.{known, known_there, cpu_of, fresh_seat, set_up, IsAt, IsConsumerAt};
-ghost use Rattle.dspec_cpu.specs.Lists.{IsSameCpu, schema_of, words_of};
+ghost use Rattle.dspec_cpu.specs.Lists.{schema_of, words_of};
+ghost use Rattle.dspec_cpu.specs.Standing.{Belongs, identity};
 
-use dspec_cpu::{Cpu, Listed, Shared};
+use dspec_cpu::{Cpu, Shared};
 use dspec_deeds::{Answer, Config, CpuOp, StartFault};
 use dspec_record::Schema;
 use dspec_ring::{ConsumerEnd, pair};
@@ -38,7 +39,7 @@ fn made<S: Schema>(
     requires fine { start_fault config.now ≡ None }
     requires seat { cpu_of seat ≡ number }
     requires unused { known seat ≡ fresh_seat config.now number }
-    ensures ready { IfOk result (λ r. (words : Words) → IsAt words seat → set_up words ≡ config.now → ⟦<Cpu<S> as Listed>⟧.is_ready words r.0) }
+    ensures of { IfOk result (λ r. (words : Words) → IsAt words seat → Belongs words (identity r.0)) }
     ensures schema { IfOk result (λ r. schema_of r.0 ≡ schema) }
 {
     let Ok((near, far)) = pair(alloc) else {
@@ -75,8 +76,8 @@ pub fn session<S: Schema>(
     schema: S,
 ) -> Result<(Cpus<S>, ConsumerEnd, ConsumerEnd), StartFault>
     requires two { config.now.cpus ≡ 2 }
-    ensures first { IfOk result (λ r. ⟦<Cpu<S> as Listed>⟧.is_ready (words_of r.0.shared) r.0.first) }
-    ensures second { IfOk result (λ r. ⟦<Cpu<S> as Listed>⟧.is_ready (words_of r.0.shared) r.0.second) }
+    ensures first { IfOk result (λ r. Belongs (words_of r.0.shared) (identity r.0.first)) }
+    ensures second { IfOk result (λ r. Belongs (words_of r.0.shared) (identity r.0.second)) }
     ensures schemas { IfOk result (λ r. (schema_of r.0.first ≡ schema) × (schema_of r.0.second ≡ schema)) }
     ensures consumer { IfOk result (λ r. IsConsumerAt (words_of r.0.shared) r.0.consumer) }
     ensures unasked { IfOk result (λ r. ((known_there r.0.consumer).asks ≡ []) × ((set_up (words_of r.0.shared)).cpus ≡ 2)) }
@@ -102,10 +103,9 @@ pub fn call<S: Schema>(
     cpu: &mut Cpu<S>,
     op: &CpuOp,
 ) -> Answer
-    requires ready { ⟦<Cpu<S> as Listed>⟧.is_ready (words_of shared.now) cpu.old }
+    requires of { Belongs (words_of shared.now) (identity cpu.old) }
     requires schema { schema_of cpu.old ≡ schema.now }
-    ensures ready { ⟦<Cpu<S> as Listed>⟧.is_ready (words_of shared.now) cpu.new }
-    ensures same { IsSameCpu cpu.old cpu.new }
+    ensures same { identity cpu.new ≡ identity cpu.old }
 {
     match *op {
         CpuOp::Trace(rec) => {

@@ -2,10 +2,11 @@
 ghost use Rattle.std.specs.Prelude.{◌≡◌, []};
 ghost use Rattle.dspec_table.specs.Seats.{IsConsumerAt, known_there, set_up};
 ghost use Rattle.dspec_cpu.specs.Lists.{schema_of, words_of};
+ghost use Rattle.dspec_cpu.specs.Standing.{Belongs, identity};
 
 use crate::tests::playing::{Cpus, call, same, session};
 use crate::tests::taking::Taker;
-use dspec_cpu::{Cpu, Listed};
+use dspec_cpu::Cpu;
 use dspec_deeds::{Actor, Answer, ConsumerOp, Op, Report, StartFault, Turn};
 use dspec_play::{Close, Outcome, Series};
 use dspec_record::{DefaultAction, Header, Rec, Schema};
@@ -95,12 +96,12 @@ fn answer<S: Schema>(
     taker: &mut Taker,
     turn: Turn,
 ) -> Result<(Actor, Op, Answer), Fail>
-    requires first { ⟦<Cpu<S> as Listed>⟧.is_ready (words_of cpus.old.shared) cpus.old.first }
-    requires second { ⟦<Cpu<S> as Listed>⟧.is_ready (words_of cpus.old.shared) cpus.old.second }
+    requires first { Belongs (words_of cpus.old.shared) (identity cpus.old.first) }
+    requires second { Belongs (words_of cpus.old.shared) (identity cpus.old.second) }
     requires schemas { (schema_of cpus.old.first ≡ schema.now) × (schema_of cpus.old.second ≡ schema.now) }
     requires consumer { IsConsumerAt (words_of cpus.old.shared) cpus.old.consumer }
-    ensures first { ⟦<Cpu<S> as Listed>⟧.is_ready (words_of cpus.new.shared) cpus.new.first }
-    ensures second { ⟦<Cpu<S> as Listed>⟧.is_ready (words_of cpus.new.shared) cpus.new.second }
+    ensures first { Belongs (words_of cpus.new.shared) (identity cpus.new.first) }
+    ensures second { Belongs (words_of cpus.new.shared) (identity cpus.new.second) }
     ensures schemas { (schema_of cpus.new.first ≡ schema.now) × (schema_of cpus.new.second ≡ schema.now) }
     ensures consumer { IsConsumerAt (words_of cpus.new.shared) cpus.new.consumer }
 {
@@ -132,12 +133,12 @@ fn answer<S: Schema>(
 
 /// The consumer meets both CPUs, where it is to.
 fn meet<S: Schema>(_schema: &S, cpus: &mut Cpus<S>, meets: bool)
-    requires first { ⟦<Cpu<S> as Listed>⟧.is_ready (words_of cpus.old.shared) cpus.old.first }
-    requires second { ⟦<Cpu<S> as Listed>⟧.is_ready (words_of cpus.old.shared) cpus.old.second }
+    requires first { Belongs (words_of cpus.old.shared) (identity cpus.old.first) }
+    requires second { Belongs (words_of cpus.old.shared) (identity cpus.old.second) }
     requires schemas { (schema_of cpus.old.first ≡ _schema.now) × (schema_of cpus.old.second ≡ _schema.now) }
     requires consumer { IsConsumerAt (words_of cpus.old.shared) cpus.old.consumer }
-    ensures first { ⟦<Cpu<S> as Listed>⟧.is_ready (words_of cpus.new.shared) cpus.new.first }
-    ensures second { ⟦<Cpu<S> as Listed>⟧.is_ready (words_of cpus.new.shared) cpus.new.second }
+    ensures first { Belongs (words_of cpus.new.shared) (identity cpus.new.first) }
+    ensures second { Belongs (words_of cpus.new.shared) (identity cpus.new.second) }
     ensures schemas { (schema_of cpus.new.first ≡ _schema.now) × (schema_of cpus.new.second ≡ _schema.now) }
     ensures consumer { IsConsumerAt (words_of cpus.new.shared) cpus.new.consumer }
 {
@@ -151,8 +152,8 @@ fn meet<S: Schema>(_schema: &S, cpus: &mut Cpus<S>, meets: bool)
 
 /// The reports of both CPUs.
 fn reported<S: Schema>(alloc: Global, cpus: &Cpus<S>) -> Result<Series<Report>, AllocError>
-    requires first { ⟦<Cpu<S> as Listed>⟧.is_ready (words_of cpus.now.shared) cpus.now.first }
-    requires second { ⟦<Cpu<S> as Listed>⟧.is_ready (words_of cpus.now.shared) cpus.now.second }
+    requires first { Belongs (words_of cpus.now.shared) (identity cpus.now.first) }
+    requires second { Belongs (words_of cpus.now.shared) (identity cpus.now.second) }
 {
     let mut reports = Series::new(alloc);
     reports.push(cpus.first.report(&cpus.shared))?;
@@ -195,12 +196,12 @@ fn answers<S: Schema>(
     turns: &[Turn],
     meets: bool,
 ) -> Result<Series<(Actor, Op, Answer)>, Fail>
-    requires first { ⟦<Cpu<S> as Listed>⟧.is_ready (words_of cpus.old.shared) cpus.old.first }
-    requires second { ⟦<Cpu<S> as Listed>⟧.is_ready (words_of cpus.old.shared) cpus.old.second }
+    requires first { Belongs (words_of cpus.old.shared) (identity cpus.old.first) }
+    requires second { Belongs (words_of cpus.old.shared) (identity cpus.old.second) }
     requires schemas { (schema_of cpus.old.first ≡ schema.now) × (schema_of cpus.old.second ≡ schema.now) }
     requires consumer { IsConsumerAt (words_of cpus.old.shared) cpus.old.consumer }
-    ensures first { ⟦<Cpu<S> as Listed>⟧.is_ready (words_of cpus.new.shared) cpus.new.first }
-    ensures second { ⟦<Cpu<S> as Listed>⟧.is_ready (words_of cpus.new.shared) cpus.new.second }
+    ensures first { Belongs (words_of cpus.new.shared) (identity cpus.new.first) }
+    ensures second { Belongs (words_of cpus.new.shared) (identity cpus.new.second) }
 {
     let mut answers = Series::new(rt.alloc());
     for turn in turns {
@@ -219,8 +220,8 @@ fn outcome<S: Schema>(
     far: Taker,
     answers: Series<(Actor, Op, Answer)>,
 ) -> Result<(Outcome, Vec<u8>), Fail>
-    requires first { ⟦<Cpu<S> as Listed>⟧.is_ready (words_of cpus.shared) cpus.first }
-    requires second { ⟦<Cpu<S> as Listed>⟧.is_ready (words_of cpus.shared) cpus.second }
+    requires first { Belongs (words_of cpus.shared) (identity cpus.first) }
+    requires second { Belongs (words_of cpus.shared) (identity cpus.second) }
 {
     let (mut near, mut far) = (near, far);
     let reports = reported(alloc, &cpus)?;

@@ -1,8 +1,9 @@
-ghost use Rattle.std.specs.Prelude.{◌≡◌, ◌<◌, ◌+◌, ◌∷◌, ◌++◌, [], true, false, None, OnOk, OnErr};
+ghost use Rattle.std.specs.Prelude.{◌≡◌, ◌<◌, ◌≤◌, ◌∷◌, ◌++◌, [], true, false, None, OnOk, OnErr};
 ghost use Rattle.dspec_deeds.specs.declared.deed.Deed.TheVariants as deed;
-ghost use Rattle.dspec_deeds.specs.FateKinds.{is_commit, is_discard};
+ghost use Rattle.dspec_deeds.specs.FateKinds.{is_discard};
 ghost use Rattle.dspec_deeds.specs.History.{word_at};
 ghost use Rattle.dspec_deeds.specs.Legal.{IsAllowed};
+ghost use Rattle.dspec_deeds.specs.Own.{calls};
 ghost use Rattle.dspec_machine.specs.Decisions.{decides, deed_of};
 ghost use Rattle.dspec_machine.specs.Machines.{Adds, IsShownMachine, history};
 ghost use Rattle.dspec_deeds.specs.Ranges.{start_fault};
@@ -16,58 +17,32 @@ use dspec_word::{SpecId, Word};
 use std::alloc::AllocError;
 
 impl<S: Schema, B: TraceBuffer<S>> Machine<S, B> {
-    /// Enters a commit that decides, which leaves that word: the CPU's buffer of the speculation is copied or lost.
-    pub fn enter_commit(
+    /// Enters a commit or a discard that decides, which leaves that word: the CPU's block of the speculation is copied,
+    /// lost or thrown away.
+    pub fn enter_decided(
         &mut self,
         cpu: u32,
+        decision: Decision,
         id: SpecId,
         fate: DecideFate,
         word: Word,
     ) -> Result<(), AllocError>
         requires shown { IsShownMachine B.has B.capacity self.old }
         requires ranges { start_fault self.old.config ≡ None }
-        requires legal { IsAllowed (S.shape_of self.old.schema) self.old.config (deed.Commit cpu id fate ∷ [] ++ history self.old) }
+        requires legal { IsAllowed (S.shape_of self.old.schema) self.old.config (deed_of decision cpu id fate ∷ [] ++ history self.old) }
         requires cpu { cpu < self.old.config.cpus }
-        requires commit { is_commit fate ≡ true }
-        requires word { word ≡ word_at id.slot (deed.Commit cpu id fate ∷ history self.old) }
+        requires decides { decides decision fate ≡ true }
+        requires word { word ≡ word_at id.slot (deed_of decision cpu id fate ∷ history self.old) }
         ensures shown { OnOk result (IsShownMachine B.has B.capacity self.new) }
-        ensures entered { OnOk result (Adds (deed.Commit cpu id fate ∷ []) self.old self.new) }
+        ensures entered { OnOk result (Adds (deed_of decision cpu id fate ∷ []) self.old self.new) }
         ensures refused { OnErr result (self.new ≡ self.old) }
     {
-        let deed = Deed::Commit(cpu, id, fate);
+        let own = &mut self.cpus[cpu as usize];
+        let deed = decision.deed(cpu, id, fate);
         let place = (id.slot() - 1) as usize;
-        let side = &mut self.sides[cpu as usize];
-        side.enter_block(&mut self.deeds, deed, &self.schema, place, &fate)?;
-        side.calls += 1;
-        side.close_block(place, &fate);
-        self.words[place] = word;
-        Ok(())
-    }
-
-    /// Enters a discard that decides, which leaves that word: the CPU's buffer of the speculation is thrown away.
-    pub fn enter_discard(
-        &mut self,
-        cpu: u32,
-        id: SpecId,
-        fate: DecideFate,
-        word: Word,
-    ) -> Result<(), AllocError>
-        requires shown { IsShownMachine B.has B.capacity self.old }
-        requires ranges { start_fault self.old.config ≡ None }
-        requires legal { IsAllowed (S.shape_of self.old.schema) self.old.config (deed.Discard cpu id fate ∷ [] ++ history self.old) }
-        requires cpu { cpu < self.old.config.cpus }
-        requires discard { is_discard fate ≡ true }
-        requires word { word ≡ word_at id.slot (deed.Discard cpu id fate ∷ history self.old) }
-        ensures shown { OnOk result (IsShownMachine B.has B.capacity self.new) }
-        ensures entered { OnOk result (Adds (deed.Discard cpu id fate ∷ []) self.old self.new) }
-        ensures refused { OnErr result (self.new ≡ self.old) }
-    {
-        self.deeds.push(Deed::Discard(cpu, id, fate))?;
-        let place = (id.slot() - 1) as usize;
-        let side = &mut self.sides[cpu as usize];
-        side.calls += 1;
-        let buffer = &mut side.speculative[place];
-        buffer.clear();
+        own.enter_block(&mut self.deeds, deed, &self.schema, place, fate)?;
+        let mine = own.side.is_mine(id);
+        own.side.decide::<S>(id, mine, fate);
         self.words[place] = word;
         Ok(())
     }
@@ -96,12 +71,10 @@ impl<S: Schema, B: TraceBuffer<S>> Machine<S, B> {
             self.deeds.truncate(before);
             return Err(AllocError);
         }
-        let place = (id.slot() - 1) as usize;
-        let side = &mut self.sides[cpu as usize];
-        side.calls += 1;
-        let buffer = &mut side.speculative[place];
-        buffer.clear();
-        self.words[place] = word;
+        let own = &mut self.cpus[cpu as usize];
+        let mine = own.side.is_mine(id);
+        own.side.decide::<S>(id, mine, fate);
+        self.words[(id.slot() - 1) as usize] = word;
         Ok(())
     }
 
@@ -117,14 +90,15 @@ impl<S: Schema, B: TraceBuffer<S>> Machine<S, B> {
         requires ranges { start_fault self.old.config ≡ None }
         requires legal { IsAllowed (S.shape_of self.old.schema) self.old.config (deed_of decision cpu id fate ∷ [] ++ history self.old) }
         requires cpu { cpu < self.old.config.cpus }
+        requires few { calls cpu (history self.old) ≤ self.old.config.max_calls }
         requires nothing { decides decision fate ≡ false }
         ensures shown { OnOk result (IsShownMachine B.has B.capacity self.new) }
         ensures entered { OnOk result (Adds (deed_of decision cpu id fate ∷ []) self.old self.new) }
         ensures refused { OnErr result (self.new ≡ self.old) }
     {
         self.deeds.push(decision.deed(cpu, id, fate))?;
-        let side = &mut self.sides[cpu as usize];
-        side.calls += 1;
+        let own = &mut self.cpus[cpu as usize];
+        own.side.leave_undecided::<S>(fate);
         Ok(())
     }
 }

@@ -1,6 +1,7 @@
-ghost use Rattle.std.specs.Prelude.{◌≡◌, ◌<◌, ◌≤◌, ◌+◌, ◌∷◌, ◌++◌, [], None, OnOk, OnErr};
+ghost use Rattle.std.specs.Prelude.{◌≡◌, ◌<◌, ◌≤◌, ◌∷◌, ◌++◌, [], None, OnOk, OnErr};
 ghost use Rattle.dspec_deeds.specs.declared.deed.Deed.TheVariants as deed;
 ghost use Rattle.dspec_deeds.specs.Legal.{IsAllowed};
+ghost use Rattle.dspec_deeds.specs.Own.{calls};
 ghost use Rattle.dspec_machine.specs.Machines.{Adds, IsShownMachine, history};
 ghost use Rattle.dspec_deeds.specs.Ranges.{start_fault};
 
@@ -18,14 +19,14 @@ impl<S: Schema, B: TraceBuffer<S>> Machine<S, B> {
         requires ranges { start_fault self.old.config ≡ None }
         requires legal { IsAllowed (S.shape_of self.old.schema) self.old.config (deed.Scan cpu running ∷ [] ++ history self.old) }
         requires cpu { cpu < self.old.config.cpus }
+        requires few { calls cpu (history self.old) ≤ self.old.config.max_calls }
         ensures shown { OnOk result (IsShownMachine B.has B.capacity self.new) }
         ensures entered { OnOk result (Adds (deed.Scan cpu running ∷ []) self.old self.new) }
         ensures refused { OnErr result (self.new ≡ self.old) }
     {
         self.deeds.push(Deed::Scan(cpu, running))?;
-        let side = &mut self.sides[cpu as usize];
-        side.calls += 1;
-        side.missed_busy = false;
+        let own = &mut self.cpus[cpu as usize];
+        own.side.scan::<S>(running);
         Ok(())
     }
 
@@ -53,13 +54,14 @@ impl<S: Schema, B: TraceBuffer<S>> Machine<S, B> {
         requires ranges { start_fault self.old.config ≡ None }
         requires legal { IsAllowed (S.shape_of self.old.schema) self.old.config (deed.Miss cpu slot busy ∷ [] ++ history self.old) }
         requires cpu { cpu < self.old.config.cpus }
+        requires few { calls cpu (history self.old) ≤ self.old.config.max_calls }
         ensures shown { OnOk result (IsShownMachine B.has B.capacity self.new) }
         ensures entered { OnOk result (Adds (deed.Miss cpu slot busy ∷ []) self.old self.new) }
         ensures refused { OnErr result (self.new ≡ self.old) }
     {
         self.deeds.push(Deed::Miss(cpu, slot, busy))?;
-        let side = &mut self.sides[cpu as usize];
-        side.missed_busy = busy || side.missed_busy;
+        let own = &mut self.cpus[cpu as usize];
+        own.side.miss::<S>(&self.config, slot, busy);
         Ok(())
     }
 }

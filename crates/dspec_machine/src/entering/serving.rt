@@ -12,7 +12,6 @@ use dspec_deeds::{DecideFate, Deed};
 use dspec_record::Schema;
 use dspec_word::{Code, SpecId, Word};
 use std::alloc::AllocError;
-use std::mem;
 
 impl<S: Schema, B: TraceBuffer<S>> Machine<S, B> {
     /// Enters a settlement: the CPU's buffer of the speculation is copied, lost or thrown away, and acknowledged.
@@ -26,12 +25,12 @@ impl<S: Schema, B: TraceBuffer<S>> Machine<S, B> {
         ensures entered { OnOk result (Adds (deed.Settle cpu id fate ∷ []) self.old self.new) }
         ensures refused { OnErr result (self.new ≡ self.old) }
     {
+        let own = &mut self.cpus[cpu as usize];
         let deed = Deed::Settle(cpu, id, fate);
         let place = (id.slot() - 1) as usize;
-        let side = &mut self.sides[cpu as usize];
-        side.enter_block(&mut self.deeds, deed, &self.schema, place, &fate)?;
-        side.acks[place] = id.issue() + 1;
-        side.close_block(place, &fate);
+        own.enter_block(&mut self.deeds, deed, &self.schema, place, fate)?;
+        let mine = own.side.is_mine(id);
+        own.side.settle::<S>(id, mine, fate);
         Ok(())
     }
 
@@ -47,12 +46,9 @@ impl<S: Schema, B: TraceBuffer<S>> Machine<S, B> {
         ensures refused { OnErr result (self.new ≡ self.old) }
     {
         self.deeds.push(Deed::Seal(cpu))?;
-        let side = &mut self.sides[cpu as usize];
-        mem::swap(&mut side.active, &mut side.second);
-        side.active.clear();
-        side.seals += 1;
-        side.sealed_drops = side.drops;
-        side.drops = 0;
+        let own = &mut self.cpus[cpu as usize];
+        own.second.clear();
+        own.sealed_drops = own.side.seal::<S>(&mut own.second);
         Ok(())
     }
 

@@ -1,8 +1,9 @@
-ghost use Rattle.std.specs.Prelude.{◌≡◌, ◌<◌, ◌+◌, ◌∷◌, ◌++◌, [], true, false, None, IsTrue, OnOk, OnErr};
+ghost use Rattle.std.specs.Prelude.{◌≡◌, ◌<◌, ◌≤◌, ◌∷◌, ◌++◌, [], true, false, None, IsTrue, OnOk, OnErr};
 ghost use Rattle.dspec_deeds.specs.declared.deed.Deed.TheVariants as deed;
 ghost use Rattle.dspec_deeds.specs.FateKinds.{spoken_granted};
 ghost use Rattle.dspec_deeds.specs.History.{word_at};
 ghost use Rattle.dspec_deeds.specs.Legal.{IsAllowed};
+ghost use Rattle.dspec_deeds.specs.Own.{calls};
 ghost use Rattle.dspec_machine.specs.Machines.{Adds, IsShownMachine, history};
 ghost use Rattle.dspec_deeds.specs.Ranges.{start_fault};
 
@@ -14,7 +15,7 @@ use dspec_word::{SpecId, Word};
 use std::alloc::AllocError;
 
 impl<S: Schema, B: TraceBuffer<S>> Machine<S, B> {
-    /// Enters a granted record, which leaves that word. Kept: it goes into the CPU's buffer of the speculation.
+    /// Enters a granted record, which leaves that word: kept in the CPU's buffer of the speculation, or dropped.
     pub fn enter_spoken(
         &mut self,
         cpu: u32,
@@ -27,6 +28,7 @@ impl<S: Schema, B: TraceBuffer<S>> Machine<S, B> {
         requires ranges { start_fault self.old.config ≡ None }
         requires legal { IsAllowed (S.shape_of self.old.schema) self.old.config (deed.Speculate cpu id rec.now fate ∷ [] ++ history self.old) }
         requires cpu { cpu < self.old.config.cpus }
+        requires few { calls cpu (history self.old) ≤ self.old.config.max_calls }
         requires accepted { IsTrue (S.accepted self.old.schema rec.now) }
         requires granted { spoken_granted fate ≡ true }
         requires word { word ≡ word_at id.slot (deed.Speculate cpu id rec.now fate ∷ history self.old) }
@@ -35,15 +37,10 @@ impl<S: Schema, B: TraceBuffer<S>> Machine<S, B> {
         ensures refused { OnErr result (self.new ≡ self.old) }
     {
         self.deeds.push(Deed::Speculate(cpu, id, *rec, fate))?;
-        let place = (id.slot() - 1) as usize;
-        self.words[place] = word;
-        let side = &mut self.sides[cpu as usize];
-        side.calls += 1;
-        side.marks[place] = id.issue() + 1;
-        if matches!(&fate, SpeculateFate::Kept) {
-            let buffer = &mut side.speculative[place];
-            let _ = buffer.push(&self.schema, rec);
-        }
+        self.words[(id.slot() - 1) as usize] = word;
+        let own = &mut self.cpus[cpu as usize];
+        let mine = own.side.is_mine(id);
+        own.side.grant(&self.schema, id, rec, mine);
         Ok(())
     }
 
@@ -59,14 +56,15 @@ impl<S: Schema, B: TraceBuffer<S>> Machine<S, B> {
         requires ranges { start_fault self.old.config ≡ None }
         requires legal { IsAllowed (S.shape_of self.old.schema) self.old.config (deed.Speculate cpu id rec.now fate ∷ [] ++ history self.old) }
         requires cpu { cpu < self.old.config.cpus }
+        requires few { calls cpu (history self.old) ≤ self.old.config.max_calls }
         requires granted { spoken_granted fate ≡ false }
         ensures shown { OnOk result (IsShownMachine B.has B.capacity self.new) }
         ensures entered { OnOk result (Adds (deed.Speculate cpu id rec.now fate ∷ []) self.old self.new) }
         ensures refused { OnErr result (self.new ≡ self.old) }
     {
         self.deeds.push(Deed::Speculate(cpu, id, *rec, fate))?;
-        let side = &mut self.sides[cpu as usize];
-        side.calls += 1;
+        let own = &mut self.cpus[cpu as usize];
+        own.side.speak_nowhere::<S>(fate);
         Ok(())
     }
 }

@@ -1,6 +1,7 @@
-ghost use Rattle.std.specs.Prelude.{◌≡◌, ◌<◌, ◌+◌, ◌∷◌, ◌++◌, [], None, IsTrue, OnOk, OnErr};
+ghost use Rattle.std.specs.Prelude.{◌≡◌, ◌<◌, ◌≤◌, ◌∷◌, ◌++◌, [], None, IsTrue, OnOk, OnErr};
 ghost use Rattle.dspec_deeds.specs.declared.deed.Deed.TheVariants as deed;
 ghost use Rattle.dspec_deeds.specs.Legal.{IsAllowed};
+ghost use Rattle.dspec_deeds.specs.Own.{calls};
 ghost use Rattle.dspec_machine.specs.Machines.{Adds, IsShownMachine, history};
 ghost use Rattle.dspec_deeds.specs.Ranges.{start_fault};
 
@@ -17,26 +18,21 @@ impl<S: Schema, B: TraceBuffer<S>> Machine<S, B> {
         requires ranges { start_fault self.old.config ≡ None }
         requires legal { IsAllowed (S.shape_of self.old.schema) self.old.config (deed.Trace cpu rec.now fate ∷ [] ++ history self.old) }
         requires cpu { cpu < self.old.config.cpus }
+        requires few { calls cpu (history self.old) ≤ self.old.config.max_calls }
         requires accepted { IsTrue (S.accepted self.old.schema rec.now) }
         ensures shown { OnOk result (IsShownMachine B.has B.capacity self.new) }
         ensures entered { OnOk result (Adds (deed.Trace cpu rec.now fate ∷ []) self.old self.new) }
         ensures refused { OnErr result (self.new ≡ self.old) }
     {
-        let before = self.deeds.len();
-        self.deeds.push(Deed::Trace(cpu, *rec, fate))?;
-        let side = &mut self.sides[cpu as usize];
-        match fate {
-            TraceFate::Kept => {
-                if side.accepted.push(*rec).is_err() {
-                    self.deeds.truncate(before);
-                    return Err(AllocError);
-                }
-                let _ = side.active.push(&self.schema, rec);
-            }
-            TraceFate::Dropped => side.drops += 1,
-            TraceFate::Stopped => {}
+        let own = &mut self.cpus[cpu as usize];
+        let deed = Deed::Trace(cpu, *rec, fate);
+        own.enter_record(&mut self.deeds, deed, rec, fate)?;
+        if matches!(fate, TraceFate::Stopped) {
+            own.side.trace_stopped::<S>();
+            return Ok(());
         }
-        side.calls += 1;
+        let shut = own.side.is_shut(&self.config);
+        own.side.trace(&self.schema, rec, shut);
         Ok(())
     }
 }

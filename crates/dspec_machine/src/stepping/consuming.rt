@@ -27,7 +27,7 @@ impl<S: Schema, B: TraceBuffer<S>> Machine<S, B> {
         requires cpu { cpu < self.old.config.cpus }
         ensures { CleansAs B.has B.capacity self.old self.new (flight.Begun (consumer_op.Ask cpu)) result }
     {
-        let caller = &mut self.sides[cpu as usize].caller;
+        let caller = &mut self.cpus[cpu as usize].caller;
         caller.want = caller.takes + 1;
         self.stop_consumer(Answer::AskDone)
     }
@@ -39,8 +39,8 @@ impl<S: Schema, B: TraceBuffer<S>> Machine<S, B> {
         ensures cleans { IfOk result (λ answer. CleansAs B.has B.capacity self.old self.new (flight.Begun (consumer_op.Take cpu)) answer) }
         ensures refused { OnErr result (self.new ≡ self.old) }
     {
-        let side = &self.sides[cpu as usize];
-        if !matches!(&side.caller.spare, Spare::Handed) {
+        let own = &self.cpus[cpu as usize];
+        if !matches!(&own.caller.spare, Spare::Handed) {
             return Ok(self.stop_consumer(Answer::TookNone));
         }
         self.take_batch(cpu)
@@ -55,15 +55,15 @@ impl<S: Schema, B: TraceBuffer<S>> Machine<S, B> {
         ensures cleans { IfOk result (λ answer. Cleans B.has B.capacity self.old self.new (takes_batch self.old cpu spare.Handed) answer) }
         ensures refused { OnErr result (self.new ≡ self.old) }
     {
-        let side = &mut self.sides[cpu as usize];
-        let from = side.taken.len();
-        append_records(&mut side.taken, &self.schema, &side.second)?;
-        side.caller.spare = Spare::Out;
-        side.caller.takes += 1;
+        let own = &mut self.cpus[cpu as usize];
+        let from = own.taken.len();
+        append_records(&mut own.taken, &self.schema, &own.second)?;
+        own.caller.spare = Spare::Out;
+        own.caller.takes += 1;
         let answer = Answer::Took {
-            drops: side.sealed_drops,
+            drops: own.sealed_drops,
             from,
-            count: side.second.count(),
+            count: own.second.count(),
         };
         Ok(self.stop_consumer(answer))
     }
@@ -74,11 +74,11 @@ impl<S: Schema, B: TraceBuffer<S>> Machine<S, B> {
         requires cpu { cpu < self.old.config.cpus }
         ensures { CleansAs B.has B.capacity self.old self.new (flight.Begun (consumer_op.GiveBack cpu)) result }
     {
-        let side = &self.sides[cpu as usize];
-        if !matches!(&side.caller.spare, Spare::Out) {
+        let own = &self.cpus[cpu as usize];
+        if !matches!(&own.caller.spare, Spare::Out) {
             return self.stop_consumer(Answer::GaveBack(false));
         }
-        self.sides[cpu as usize].caller.spare = Spare::GivenBack;
+        self.cpus[cpu as usize].caller.spare = Spare::GivenBack;
         self.stop_consumer(Answer::GaveBack(true))
     }
 
@@ -169,7 +169,7 @@ impl<S: Schema, B: TraceBuffer<S>> Machine<S, B> {
         requires stands { ConsumerStandsAt B.has B.capacity S.shape_of self.old (flight.CleanAck slot word cpu released) }
         ensures { CleansAs B.has B.capacity self.old self.new (flight.CleanAck slot word cpu released) result }
     {
-        if self.sides[cpu as usize].acks[(slot - 1) as usize] <= word.issue() {
+        if self.cpus[cpu as usize].side.acks[(slot - 1) as usize] <= word.issue() {
             return self.clean_next(slot, released);
         }
         if cpu + 1 == self.config.cpus {

@@ -1,9 +1,10 @@
-ghost use Rattle.std.specs.Prelude.{◌≡◌, ◌<◌, ◌^◌, ◌∷◌, ◌++◌, [], true, false, None, IfOk, OnErr};
+ghost use Rattle.std.specs.Prelude.{◌≡◌, ◌<◌, ◌≤◌, ◌^◌, ◌∷◌, ◌++◌, [], true, false, None, IfOk, OnErr};
 ghost use Rattle.dspec_deeds.specs.declared.deed.Deed.TheVariants as deed;
 ghost use Rattle.dspec_play.specs.declared.flight.CpuFlight.TheVariants as flight;
 ghost use Rattle.dspec_deeds.specs.Ranges.{start_fault};
-ghost use Rattle.dspec_deeds.specs.Legal.{IsAllowed};
+ghost use Rattle.dspec_deeds.specs.Legal.{IsAllowed, IsSound};
 ghost use Rattle.dspec_deeds.specs.History.{in_range, issue, word_at};
+ghost use Rattle.dspec_deeds.specs.Own.{calls};
 ghost use Rattle.dspec_play.specs.Coherent.{IsCoherent, the_caller};
 ghost use Rattle.dspec_machine.specs.Decisions.{begun_of, decides, deed_of, load_of, try_of};
 ghost use Rattle.dspec_machine.specs.Machines.{Makes, IsShownMachine, history, state_of};
@@ -94,6 +95,7 @@ impl<S: Schema, B: TraceBuffer<S>> Machine<S, B> {
         requires shown { IsShownMachine B.has B.capacity self.old }
         requires coherent { IsCoherent (S.shape_of self.old.schema) (state_of self.old) }
         requires cpu { cpu < self.old.config.cpus }
+        requires few { calls cpu (history self.old) ≤ self.old.config.max_calls }
         requires slot { in_range self.old.config id ≡ true }
         requires steps { (the_caller (state_of self.old).callers cpu).steps < 2 ^ 31 }
         requires legal { IsAllowed (S.shape_of self.old.schema) self.old.config ((shows S.shape_of self.old cpu decision id).deeds ++ history self.old) }
@@ -119,8 +121,9 @@ impl<S: Schema, B: TraceBuffer<S>> Machine<S, B> {
         requires shown { IsShownMachine B.has B.capacity self.old }
         requires ranges { start_fault self.old.config ≡ None }
         requires legal { IsAllowed (S.shape_of self.old.schema) self.old.config (deed_of decision cpu id fate ∷ [] ++ history self.old) }
-        requires cpu { cpu < self.old.config.cpus }
         requires nothing { decides decision fate ≡ false }
+        requires few { calls cpu (history self.old) ≤ self.old.config.max_calls }
+        requires cpu { cpu < self.old.config.cpus }
         ensures makes { IfOk result (λ answer. Makes B.has B.capacity self.old self.new cpu (ends_with S.shape_of self.old cpu decision id fate) answer) }
         ensures refused { OnErr result (self.new ≡ self.old) }
     {
@@ -133,6 +136,7 @@ impl<S: Schema, B: TraceBuffer<S>> Machine<S, B> {
         requires shown { IsShownMachine B.has B.capacity self.old }
         requires ranges { start_fault self.old.config ≡ None }
         requires cpu { cpu < self.old.config.cpus }
+        requires sound { IsSound self.old.config (history self.old) }
         requires slot { in_range self.old.config id ≡ true }
         requires present { id.issue ≡ issue id.slot (history self.old) }
         requires steps { (the_caller (state_of self.old).callers cpu).steps < 2 ^ 31 }
@@ -142,7 +146,7 @@ impl<S: Schema, B: TraceBuffer<S>> Machine<S, B> {
         ensures refused { OnErr result (self.new ≡ self.old) }
     {
         let fate = self.commit_fate(cpu, id);
-        self.enter_commit(cpu, id, fate, word)?;
+        self.enter_decided(cpu, Decision::Commit, id, fate, word)?;
         if word.code() == Code::Committing {
             return Ok(self.go_on(cpu, CpuFlight::CommitRelease(id, fate)));
         }
@@ -154,6 +158,7 @@ impl<S: Schema, B: TraceBuffer<S>> Machine<S, B> {
         requires shown { IsShownMachine B.has B.capacity self.old }
         requires ranges { start_fault self.old.config ≡ None }
         requires cpu { cpu < self.old.config.cpus }
+        requires sound { IsSound self.old.config (history self.old) }
         requires slot { in_range self.old.config id ≡ true }
         requires present { id.issue ≡ issue id.slot (history self.old) }
         requires legal { IsAllowed (S.shape_of self.old.schema) self.old.config ((moved_discard S.shape_of self.old cpu id word).deeds ++ history self.old) }
@@ -165,7 +170,7 @@ impl<S: Schema, B: TraceBuffer<S>> Machine<S, B> {
         if word.code() == Code::Inactive {
             self.enter_solo_discard(cpu, id, fate, word)?;
         } else {
-            self.enter_discard(cpu, id, fate, word)?;
+            self.enter_decided(cpu, Decision::Discard, id, fate, word)?;
         }
         Ok(self.end(cpu, Answer::Decided(fate.answer())))
     }

@@ -20,7 +20,7 @@ impl<S: Schema, B: TraceBuffer<S>> Machine<S, B> {
         ensures schema { self.new.schema ≡ self.old.schema }
         ensures answer { result ≡ None }
     {
-        let caller = &mut self.sides[cpu as usize].caller;
+        let caller = &mut self.cpus[cpu as usize].caller;
         caller.flight = Some(flight);
         caller.steps += 1;
         None
@@ -35,7 +35,7 @@ impl<S: Schema, B: TraceBuffer<S>> Machine<S, B> {
         ensures schema { self.new.schema ≡ self.old.schema }
         ensures answer { result ≡ Some answer }
     {
-        let caller = &mut self.sides[cpu as usize].caller;
+        let caller = &mut self.cpus[cpu as usize].caller;
         caller.flight = None;
         caller.steps = 0;
         Some(answer)
@@ -50,10 +50,11 @@ impl<S: Schema, B: TraceBuffer<S>> Machine<S, B> {
         ensures schema { self.new.schema ≡ self.old.schema }
         ensures answer { result ≡ Some answer }
     {
-        let caller = &mut self.sides[cpu as usize].caller;
-        caller.flight = None;
-        caller.steps = 0;
-        caller.worn = caller.worn.saturating_add(1);
+        let own = &mut self.cpus[cpu as usize];
+        own.side.counts.wear();
+        own.caller.flight = None;
+        own.caller.steps = 0;
+        own.caller.worn = own.side.counts.worn;
         Some(answer)
     }
 
@@ -67,7 +68,7 @@ impl<S: Schema, B: TraceBuffer<S>> Machine<S, B> {
         ensures schema { self.new.schema ≡ self.old.schema }
         ensures answer { result ≡ None }
     {
-        let caller = &mut self.sides[cpu as usize].caller;
+        let caller = &mut self.cpus[cpu as usize].caller;
         caller.flight = Some(CpuFlight::ServicePush);
         caller.steps += 1;
         caller.spare = Spare::Sealed;

@@ -4,6 +4,7 @@ ghost use Rattle.dspec_deeds.specs.declared.deed.Deed.TheVariants as deed;
 ghost use Rattle.dspec_play.specs.declared.flight.CpuFlight.TheVariants as flight;
 ghost use Rattle.dspec_deeds.specs.Ranges.{start_fault};
 ghost use Rattle.dspec_deeds.specs.Legal.{IsAllowed};
+ghost use Rattle.dspec_deeds.specs.Own.{calls};
 ghost use Rattle.dspec_word.specs.Code.{is_decided};
 ghost use Rattle.dspec_play.specs.Coherent.{the_caller};
 ghost use Rattle.dspec_machine.specs.Machines.{Makes, IsShownMachine, history, state_of};
@@ -76,6 +77,7 @@ impl<S: Schema, B: TraceBuffer<S>> Machine<S, B> {
         requires ranges { start_fault self.old.config ≡ None }
         requires legal { IsAllowed (S.shape_of self.old.schema) self.old.config (deed.Miss cpu slot (is_decided word.code) ∷ [] ++ history self.old) }
         requires cpu { cpu < self.old.config.cpus }
+        requires few { calls cpu (history self.old) ≤ self.old.config.max_calls }
         requires slot { slot ≤ self.old.config.nspec }
         requires steps { (the_caller (state_of self.old).callers cpu).steps < 2 ^ 31 }
         ensures makes { IfOk result (λ answer. Makes B.has B.capacity self.old self.new cpu (moved_miss S.shape_of self.old cpu slot word) answer) }
@@ -89,7 +91,7 @@ impl<S: Schema, B: TraceBuffer<S>> Machine<S, B> {
         if slot < self.config.nspec {
             return Ok(self.go_on(cpu, CpuFlight::ScanLoad(slot + 1)));
         }
-        let opening = if self.sides[cpu as usize].missed_busy {
+        let opening = if self.cpus[cpu as usize].side.missed_busy {
             Opening::Busy
         } else {
             Opening::Unavailable

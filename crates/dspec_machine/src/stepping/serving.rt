@@ -39,11 +39,11 @@ impl<S: Schema, B: TraceBuffer<S>> Machine<S, B> {
         ensures makes { IfOk result (λ answer. StepsAs B.has B.capacity S.shape_of self.old self.new cpu (flight.Begun cpu_op.Service) answer) }
         ensures refused { OnErr result (self.new ≡ self.old) }
     {
-        let side = &self.sides[cpu as usize];
-        if side.seals >= side.caller.want || side.seals >= self.config.max_calls {
+        let own = &self.cpus[cpu as usize];
+        if own.side.seals >= own.caller.want || own.side.seals >= self.config.max_calls {
             return Ok(self.serve_first(cpu));
         }
-        if !matches!(&side.caller.spare, Spare::InHand) {
+        if !matches!(&own.caller.spare, Spare::InHand) {
             return Ok(self.go_on(cpu, CpuFlight::ServicePop));
         }
         self.enter_seal(cpu)?;
@@ -56,8 +56,8 @@ impl<S: Schema, B: TraceBuffer<S>> Machine<S, B> {
         ensures makes { IfOk result (λ answer. StepsAs B.has B.capacity S.shape_of self.old self.new cpu (flight.ServicePop) answer) }
         ensures refused { OnErr result (self.new ≡ self.old) }
     {
-        let side = &self.sides[cpu as usize];
-        if !matches!(&side.caller.spare, Spare::GivenBack) {
+        let own = &self.cpus[cpu as usize];
+        if !matches!(&own.caller.spare, Spare::GivenBack) {
             return Ok(self.serve_first(cpu));
         }
         self.enter_seal(cpu)?;
@@ -69,7 +69,7 @@ impl<S: Schema, B: TraceBuffer<S>> Machine<S, B> {
         requires stands { StandsAt B.has B.capacity S.shape_of self.old cpu (flight.ServicePush) }
         ensures { StepsAs B.has B.capacity S.shape_of self.old self.new cpu (flight.ServicePush) result }
     {
-        let caller = &mut self.sides[cpu as usize].caller;
+        let caller = &mut self.cpus[cpu as usize].caller;
         caller.flight = Some(CpuFlight::ServiceLoad(
             1,
             Served {
@@ -101,7 +101,7 @@ impl<S: Schema, B: TraceBuffer<S>> Machine<S, B> {
     {
         let place = (slot - 1) as usize;
         let word = self.words[place];
-        let acked = self.sides[cpu as usize].acks[place];
+        let acked = self.cpus[cpu as usize].side.acks[place];
         match settle_at(word, acked) {
             Act::Granted => self.go_on(cpu, CpuFlight::ServiceStore(slot, word, sum)),
             _ => self.serve_next(cpu, slot, sum),

@@ -1,11 +1,12 @@
-ghost use Rattle.std.specs.Prelude.{◌≡◌, ◌<◌, ◌∷◌, ◌++◌, true, None, IsTrue, IfOk, OnErr};
+ghost use Rattle.std.specs.Prelude.{◌≡◌, ◌<◌, ◌≤◌, ◌∷◌, ◌++◌, true, None, IsTrue, IfOk, OnErr};
 ghost use Rattle.dspec_deeds.specs.declared.calls.CpuOp.TheVariants as cpu_op;
 ghost use Rattle.dspec_deeds.specs.declared.deed.Deed.TheVariants as deed;
 ghost use Rattle.dspec_deeds.specs.declared.deed.SpeculateFate.TheVariants as spoken;
 ghost use Rattle.dspec_play.specs.declared.flight.CpuFlight.TheVariants as flight;
 ghost use Rattle.dspec_deeds.specs.Ranges.{start_fault};
-ghost use Rattle.dspec_deeds.specs.Legal.{IsAllowed};
+ghost use Rattle.dspec_deeds.specs.Legal.{IsAllowed, IsSound};
 ghost use Rattle.dspec_deeds.specs.History.{in_range, issue, word_at};
+ghost use Rattle.dspec_deeds.specs.Own.{calls};
 ghost use Rattle.dspec_machine.specs.Machines.{Makes, IsShownMachine, history};
 ghost use Rattle.dspec_machine.specs.Standing.{StandsAt};
 ghost use Rattle.dspec_machine.specs.Steps.{StepsAs, moved_speak};
@@ -113,7 +114,9 @@ impl<S: Schema, B: TraceBuffer<S>> Machine<S, B> {
         requires ranges { start_fault self.old.config ≡ None }
         requires legal { IsAllowed (S.shape_of self.old.schema) self.old.config ((moved_speak S.shape_of self.old cpu id rec.now).deeds ++ history self.old) }
         requires cpu { cpu < self.old.config.cpus }
+        requires few { calls cpu (history self.old) ≤ self.old.config.max_calls }
         requires accepted { IsTrue (S.accepted self.old.schema rec.now) }
+        requires sound { IsSound self.old.config (history self.old) }
         requires slot { in_range self.old.config id ≡ true }
         requires present { id.issue ≡ issue id.slot (history self.old) }
         requires word { word ≡ word_at id.slot (deed.Speculate cpu id rec.now spoken.Kept ∷ history self.old) }

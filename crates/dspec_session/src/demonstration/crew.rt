@@ -1,9 +1,8 @@
 ghost use Rattle.std.specs.Prelude.{◌≡◌, IfSome, IsSome};
 ghost use Rattle.dspec_cpu.specs.Lists.{words_of};
-ghost use Rattle.dspec_session.specs.Consumers.{IsConsumerOf};
+ghost use Rattle.dspec_session.specs.Consumers.{IsConsumerOf, Stays};
 ghost use Rattle.dspec_session.specs.Crews.{AllCanWork, AllWorked};
 ghost use Rattle.dspec_session.specs.Demonstrated.{CameBack, CanWork};
-ghost use Rattle.dspec_session.specs.Rounds.{Stays};
 ghost use Rattle.dspec_session.specs.Visits.{ConsumerRounds, none_taken};
 
 use super::four::Four;
@@ -23,26 +22,22 @@ use std::thread::{Promise, PromisedHandle, Scope, Threads};
 pub(crate) type Back = (Cpu<Enablings>, bool);
 
 /// A worker gives back the CPU that it took.
-pub(crate) struct SameCpu<'a> {
-    shared: &'a Shared,
+pub(crate) struct SameCpu {
     taken: Snapshot<Cpu<Enablings>>,
 }
 
-impl<'a> Drop for SameCpu<'a> {
+impl Drop for SameCpu {
     fn drop(self) {
-        let SameCpu {
-            shared: _,
-            taken: _,
-        } = self;
+        let SameCpu { taken: _ } = self;
     }
 }
 
-impl<'a> Promise<Back> for SameCpu<'a> {
-    ghost kept_by = { λ p back. CameBack p.shared.now p.taken.value back.0 back.1 };
+impl Promise<Back> for SameCpu {
+    ghost kept_by = { λ p back. CameBack p.taken.value back.0 back.1 };
 }
 
 /// A worker that was started.
-type Worker<'a> = PromisedHandle<Back, SameCpu<'a>>;
+type Worker = PromisedHandle<Back, SameCpu>;
 
 /// Starts a worker, where a thread can be made.
 fn start<'s, 'e, G: Gate>(
@@ -51,29 +46,27 @@ fn start<'s, 'e, G: Gate>(
     number: u32,
     shared: &'e Shared,
     gate: &'e G,
-) -> Option<Worker<'e>>
+) -> Option<Worker>
     requires { CanWork shared.now 400 cpu }
-    ensures shared { IfSome result (λ worker. worker.promise.shared.now ≡ shared.now) }
     ensures taken { IfSome result (λ worker. worker.promise.taken.value ≡ cpu) }
 {
     let promise = SameCpu {
-        shared,
         taken: Snapshot::of(&cpu),
     };
     let worker = scope.spawn_with(
         promise,
         move || -> Back
             requires { CanWork shared.now 400 cpu }
-            ensures { CameBack shared.entry.now cpu result.0 result.1 }
+            ensures { CameBack cpu result.0 result.1 }
         { work(cpu, number, shared, gate) },
     );
     worker.ok()
 }
 
 /// Waits for a worker that was started to end.
-fn join<'e, R: Threads>(rt: &R, worker: Option<Worker<'e>>) -> Option<Back>
-    ensures { IfSome result (λ back. IsSome worker.entry
-        × IfSome worker.entry (λ w. CameBack w.promise.shared.now w.promise.taken.value back.0 back.1)) }
+fn join<R: Threads>(rt: &R, worker: Option<Worker>) -> Option<Back>
+    ensures { IfSome result (λ back. IsSome worker
+        × IfSome worker (λ w. CameBack w.promise.taken.value back.0 back.1)) }
 {
     match worker {
         Some(worker) => Some(worker.join(rt)),
@@ -100,7 +93,7 @@ pub(crate) fn run<G: RoundGate, R: Threads + Wait>(
 ) -> Option<Crew>
     requires cpus { AllCanWork shared.now cpus }
     requires consumer { IsConsumerOf (words_of shared.now) consumer }
-    ensures workers { IfSome result (λ crew. AllWorked shared.now cpus crew.workers) }
+    ensures workers { IfSome result (λ crew. AllWorked cpus crew.workers) }
     ensures consumer { IfSome result (λ crew. Stays (words_of shared.now) consumer crew.consumer) }
     ensures rounds { IfSome result (λ crew. ConsumerRounds schema.now consumer none_taken 1000 crew.consumer crew.orders) }
 {
@@ -116,7 +109,7 @@ pub(crate) fn run<G: RoundGate, R: Threads + Wait>(
         move |scope| -> Option<Crew>
             requires cpus { AllCanWork shared.now (record { first = first; second = second; third = third; fourth = fourth }) }
             requires consumer { IsConsumerOf (words_of shared.now) consumer }
-            ensures workers { IfSome result (λ crew. AllWorked shared.entry.now (record { first = first; second = second; third = third; fourth = fourth }) crew.workers) }
+            ensures workers { IfSome result (λ crew. AllWorked (record { first = first; second = second; third = third; fourth = fourth }) crew.workers) }
             ensures consumer { IfSome result (λ crew. Stays (words_of shared.entry.now) consumer crew.consumer) }
             ensures rounds { IfSome result (λ crew. ConsumerRounds schema.entry.now consumer none_taken 1000 crew.consumer crew.orders) }
         {

@@ -1,6 +1,5 @@
-ghost use Rattle.dspec_session.specs.Consumers.{IsConsumerOf};
+ghost use Rattle.dspec_session.specs.Consumers.{IsConsumerOf, Stays};
 ghost use Rattle.dspec_cpu.specs.Lists.{words_of};
-ghost use Rattle.dspec_session.specs.Rounds.{Stays};
 ghost use Rattle.dspec_session.specs.Visits.{ConsumerRounds, Visited, VisitedAll, none_taken};
 
 use super::four::Four;

@@ -22,7 +22,7 @@ fn make_round<G: Gate>(
 ) -> bool
     requires cpu { CanWork shared.now 4 cpu.old }
     requires few { round < 100 }
-    ensures worked { Worked shared.now 4 2 cpu.old cpu.new result }
+    ensures worked { Worked 4 2 cpu.old cpu.new result }
     ensures made { result ≡ true → MadeRound round cpu.old cpu.new }
 {
     let call = CALLS * round;
@@ -62,7 +62,7 @@ pub(crate) fn work<G: Gate>(
     gate: &G,
 ) -> (Cpu<Enablings>, bool)
     requires { CanWork shared.now 400 cpu }
-    ensures worked { Worked shared.now 400 200 cpu result.0 result.1 }
+    ensures worked { Worked 400 200 cpu result.0 result.1 }
     ensures rounds { result.1 ≡ true → CpuRounds cpu 100 result.0 }
 {
     let mut cpu = cpu;

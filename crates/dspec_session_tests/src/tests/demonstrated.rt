@@ -112,16 +112,16 @@ fn answers(
     op: CpuOp,
     answer: Answer,
 ) -> bool
-    requires { IsSession ⟦<Cpu<Enablings> as Listed>⟧.is_ready schema.now session.old }
-    ensures { IsSession ⟦<Cpu<Enablings> as Listed>⟧.is_ready schema.now session.new }
+    requires { IsSession schema.now session.old }
+    ensures { IsSession schema.now session.new }
 {
     run_cpu(session, schema, cpu, op) == Ok(answer)
 }
 
 /// Each of the five calls of a CPU that a stop ends, which has to answer that the session was stopped.
 fn is_stopped(rt: &impl Abort, session: &mut Session<Enablings>, schema: &Enablings, cpu: u32)
-    requires { IsSession ⟦<Cpu<Enablings> as Listed>⟧.is_ready schema.now session.old }
-    ensures { IsSession ⟦<Cpu<Enablings> as Listed>⟧.is_ready schema.now session.new }
+    requires { IsSession schema.now session.old }
+    ensures { IsSession schema.now session.new }
 {
     let rec = valued(1, 100);
     let none = SpecId::NONE;

@@ -59,7 +59,7 @@ fn deals(
 impl<S: Schema> Stage<S> {
     /// A session that has just begun. Its configuration is in range: what is refused is memory.
     pub(super) fn start(alloc: Global, config: &Config, schema: S) -> Result<Stage<S>, AllocError>
-        ensures session { IfOk result (λ s. IsSession ⟦<Cpu<S> as Listed>⟧.is_ready s.schema s.session) }
+        ensures session { IfOk result (λ s. IsSession s.schema s.session) }
     {
         let Ok(session) = Session::start(alloc, config, schema) else {
             return Err(AllocError);
@@ -73,8 +73,8 @@ impl<S: Schema> Stage<S> {
 
     /// Whether a call of the consumer answers as it has to.
     fn run_consumer(&mut self, dealing: Dealing) -> bool
-        requires session { IsSession ⟦<Cpu<S> as Listed>⟧.is_ready self.old.schema self.old.session }
-        ensures session { IsSession ⟦<Cpu<S> as Listed>⟧.is_ready self.new.schema self.new.session }
+        requires session { IsSession self.old.schema self.old.session }
+        ensures session { IsSession self.new.schema self.new.session }
     {
         let session = &mut self.session;
         deals(
@@ -87,8 +87,8 @@ impl<S: Schema> Stage<S> {
 
     /// Whether a call answers as it has to.
     fn answers(&mut self, call: Call) -> bool
-        requires session { IsSession ⟦<Cpu<S> as Listed>⟧.is_ready self.old.schema self.old.session }
-        ensures session { IsSession ⟦<Cpu<S> as Listed>⟧.is_ready self.new.schema self.new.session }
+        requires session { IsSession self.old.schema self.old.session }
+        ensures session { IsSession self.new.schema self.new.session }
     {
         match call {
             Call::Cpu(cpu, op, answer) => {
@@ -104,8 +104,8 @@ impl<S: Schema> Stage<S> {
 
     /// Makes the calls, each of which has to answer as it says.
     pub(super) fn plays(&mut self, rt: &impl Abort, calls: &[Call])
-        requires session { IsSession ⟦<Cpu<S> as Listed>⟧.is_ready self.old.schema self.old.session }
-        ensures session { IsSession ⟦<Cpu<S> as Listed>⟧.is_ready self.new.schema self.new.session }
+        requires session { IsSession self.old.schema self.old.session }
+        ensures session { IsSession self.new.schema self.new.session }
     {
         for (number, call) in calls.iter().enumerate() {
             assert!(rt; self.answers(*call), "call {number}");
@@ -114,8 +114,8 @@ impl<S: Schema> Stage<S> {
 
     /// Gives a batch back, which has to be refused and to come back itself.
     pub(super) fn refuses(&mut self, rt: &impl Abort, batch: Batch)
-        requires session { IsSession ⟦<Cpu<S> as Listed>⟧.is_ready self.old.schema self.old.session }
-        ensures session { IsSession ⟦<Cpu<S> as Listed>⟧.is_ready self.new.schema self.new.session }
+        requires session { IsSession self.old.schema self.old.session }
+        ensures session { IsSession self.new.schema self.new.session }
     {
         let session = &mut self.session;
         let back = comes_back(&session.shared, &mut session.consumer, batch);
@@ -129,7 +129,7 @@ impl<S: Schema> Stage<S> {
 
     /// Ends the session, of whose CPUs this has to be left, in order.
     pub(super) fn finish(self, rt: &impl Abort, remains: &[Remains<'_>]) -> Closed
-        requires session { IsSession ⟦<Cpu<S> as Listed>⟧.is_ready self.schema self.session }
+        requires session { IsSession self.schema self.session }
     {
         let cpus = self.session.cpus.len() as u32;
         assert!(rt; remains.len() == cpus as usize);

@@ -1,4 +1,3 @@
-use Rattle.std.proofs.Common.{◌∙◌}
 use Rattle.dspec_ctf.proofs.Collecting.{one-more}
 use Rattle.dspec_ctf.proofs.by_time.collect.Goals as goal
 

@@ -1,4 +1,4 @@
-use Rattle.std.proofs.Common.{◌≡◌, ◌++◌, ◌-◌, string_bytes}
+use Rattle.std.proofs.Common.{◌≡◌, ◌++◌, ◌-◌}
 use Rattle.std.specs.List.{flat_map, range_with_len}
 use Rattle.dspec_ctf.specs.ByTime.{packet_at}
 use Rattle.dspec_ctf.proofs.by_time.put_packets.Given as goal

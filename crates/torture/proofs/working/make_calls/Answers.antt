@@ -1,9 +1,9 @@
-use Rattle.torture.proofs.Lending.{once_more}
+use Rattle.std.proofs.Common.{◌∙◌}
 use Rattle.torture.proofs.working.make_calls.Goals as goal
 use Rattle.torture.proofs.working.make_calls.Goals.{then-is_accepted, else-is_accepted}
 
 pub loop-round-preserved : goal.loop-round-preserved
 loop-round-preserved c = elim c.if-is_accepted.branch [
-  | then-is_accepted w ↦ rw w.cpu-is (once_more _ _ _ _ c.loop-round.invariant w.call_cpu-answer.ensures.ready w.call_cpu-answer.ensures.same)
+  | then-is_accepted w ↦ rw w.cpu-is (w.call_cpu-answer.ensures.same ∙ c.loop-round.invariant)
   | else-is_accepted w ↦ rw w.cpu-is c.loop-round.invariant
 ]

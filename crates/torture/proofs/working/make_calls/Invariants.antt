@@ -1,6 +1,7 @@
--- It is the same CPU, and takes calls again.
-use Rattle.torture.specs.Lent.{WasCalled}
+-- It is the same CPU.
+use Rattle.std.proofs.Common.{◌≡◌}
+use Rattle.dspec_cpu.specs.Standing.{identity}
 use Rattle.torture.proofs.working.make_calls.Given as goal
 
 abbrev pub invariant-loop-round : goal.invariant-loop-round
-invariant-loop-round l = WasCalled l.shared l.fn.cpu l.cpu
+invariant-loop-round l = identity l.cpu ≡ identity l.fn.cpu

@@ -1,6 +1,6 @@
 -- The consumer is still that of the session.
 use Rattle.dspec_cpu.specs.Lists.{words_of}
-use Rattle.dspec_session.specs.Rounds.{Stays}
+use Rattle.dspec_session.specs.Consumers.{Stays}
 use Rattle.watch.proofs.serving.drain.Given as goal
 
 abbrev pub invariant-loop : goal.invariant-loop

@@ -1,6 +1,7 @@
--- It is the same CPU, and can be called again.
-use Rattle.watch.specs.Served.{Served}
+-- It is the same CPU.
+use Rattle.std.proofs.Common.{◌≡◌}
+use Rattle.dspec_cpu.specs.Standing.{identity}
 use Rattle.watch.proofs.serving.handle.Given as goal
 
 abbrev pub invariant-loop-place : goal.invariant-loop-place
-invariant-loop-place l = Served l.shared l.fn.cpu l.cpu
+invariant-loop-place l = identity l.cpu ≡ identity l.fn.cpu

@@ -1,6 +1,7 @@
--- It is the same CPU, and can be called again.
-use Rattle.watch.specs.Served.{Served}
+-- It is the same CPU.
+use Rattle.std.proofs.Common.{◌≡◌}
+use Rattle.dspec_cpu.specs.Standing.{identity}
 use Rattle.watch.proofs.serving.work.Given as goal
 
 abbrev pub invariant-loop-round : goal.invariant-loop-round
-invariant-loop-round l = Served l.shared l.fn.cpu l.cpu
+invariant-loop-round l = identity l.cpu ≡ identity l.fn.cpu

@@ -1,6 +1,9 @@
 use Rattle.std.proofs.Common.{◌≡◌, ◌<◌, length, Some, sym, ap, ◌∙◌, subst, rules, get_or}
 use Rattle.std.proofs.lemmas.Option.{slice_get-get_or, slice_get_within, get_or_from_slice_get}
-use Rattle.watch.specs.Served.{AllServed, Served}
+use Rattle.dspec_record.specs.EnablingRows.{EnabledRows}
+use Rattle.dspec_cpu.specs.declared.cpu.Cpu.{Cpu}
+use Rattle.dspec_cpu.specs.Standing.{identity}
+use Rattle.watch.specs.Served.{AllServed}
 use Rattle.watch.proofs.Lent.{there, all_served}
 use Rattle.watch.proofs.serving.work_all.Goals as goal
 
@@ -15,13 +18,13 @@ returns g c =
     let new = c.for_each_mut.new.s in
     let same : length new ≡ length old = search rules in
     let size : c.args.cpus.len ≡ length new = search rules in
-    let served : AllServed c.args.shared.now old new = record {
+    let served : AllServed old new = record {
       all = same;
       each = λ i cpu at.
           let lt = subst (λ n. i < n) same (slice_get_within new i cpu at) in
           let made = (c.for_each_mut.ensures i cpu lt).1 in
           let left : made.after_call.now ≡ cpu = made.left ∙ get_or_from_slice_get new i cpu cpu at in
-          let done : Served c.args.shared.now made.argument.now made.after_call.now = search rules in
-          (made.argument.now, slice_get-get_or old i cpu lt ∙ ap Some (sym made.argument_is), subst (λ x. Served c.args.shared.now made.argument.now x) left done);
+          let done : identity made.after_call.now ≡ identity made.argument.now = search rules in
+          (made.argument.now, slice_get-get_or old i cpu lt ∙ ap Some (sym made.argument_is), subst (λ (x : Cpu EnabledRows). identity x ≡ identity made.argument.now) left done);
     } in
-    all_served c.args.shared.now c.args.cpus.len old new c.args.cpus.items served c.as_mut_slice.ensures.value size
+    all_served c.args.cpus.len old new c.args.cpus.items served c.as_mut_slice.ensures.value size

@@ -3,7 +3,7 @@ use Rattle.std.proofs.Common.{◌≡◌, ◌<◌, sym, ap, ◌∙◌, subst}
 use Rattle.dspec_play.specs.Coherent.{PlayState}
 use Rattle.dspec_machine.specs.Machines.{state_of}
 use Rattle.dspec_deeds.specs.Own.{stream}
-use Rattle.dspec_machine.proofs.MachineReads.{side_read}
+use Rattle.dspec_machine.proofs.MachineReads.{cpu_read}
 use Rattle.dspec_core.proofs.world.World.accepted.Goals as goal
 
 pub returns : goal.returns
@@ -12,5 +12,5 @@ returns g c =
     let a = c.args.cpu in
     let same : state_of m ≡ c.args.self.now.state = λ i. (c.self.view_is i).state in
     let lt : a < m.config.cpus = subst (λ (st : PlayState). a < st.config.cpus) (sym same) c.requires in
-    let side = side_read g.B.TraceBuffer.has g.B.TraceBuffer.capacity m c.self.invariant.shown a c.index.result.now lt c.index.ensures in
+    let side = cpu_read g.B.TraceBuffer.has g.B.TraceBuffer.capacity m c.self.invariant.shown a c.index.result.now lt c.index.ensures in
     c.as_slice.ensures ∙ (side.accepted ∙ ap (λ (st : PlayState). stream a st.deeds) same)

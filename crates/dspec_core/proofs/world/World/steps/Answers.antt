@@ -7,7 +7,7 @@ use Rattle.dspec_play.specs.Bounds.{steps_limit}
 use Rattle.dspec_play.specs.Calls.{is_actor}
 use Rattle.dspec_play.specs.Coherent.{PlayState}
 use Rattle.dspec_machine.specs.Machines.{state_of}
-use Rattle.dspec_machine.proofs.MachineReads.{side_got}
+use Rattle.dspec_machine.proofs.MachineReads.{cpu_got}
 use Rattle.dspec_machine.proofs.OneMore.{caller_there}
 use Rattle.dspec_play.proofs.StepCounts.{is_below, steps_below}
 use Rattle.dspec_core.proofs.world.World.steps.Goals as goal
@@ -21,8 +21,8 @@ returns-in-Cpu-clause-bounded g c =
     let there : is_actor m.config (actor.Cpu a) ≡ true =
     subst (λ (x : Actor). is_actor m.config x ≡ true) c.in-Cpu.is (subst (λ (st : PlayState). is_actor st.config c.args.actor ≡ true) (sym same) c.requires) in
     let low = steps_below (g.S.Schema.shape_of m.schema) (state_of m) (actor.Cpu a) c.self.invariant.coherent there in
-    let got = side_got g.B.TraceBuffer.has g.B.TraceBuffer.capacity m c.self.invariant.shown a side (is_below m.config a there) c.index.ensures in
-    let made = ap (λ (x : Caller). x.steps) (caller_there m.sides.items a side got) in
+    let got = cpu_got g.B.TraceBuffer.has g.B.TraceBuffer.capacity m c.self.invariant.shown a side (is_below m.config a there) c.index.ensures in
+    let made = ap (λ (x : Caller). x.steps) (caller_there m.cpus.items a side got) in
     subst (λ (st : PlayState). side.caller.steps < steps_limit c.args.actor st) same
     (subst (λ (x : Actor). side.caller.steps < steps_limit x (state_of m)) (sym c.in-Cpu.is)
     (subst (λ n. n < steps_limit (actor.Cpu a) (state_of m)) made low))

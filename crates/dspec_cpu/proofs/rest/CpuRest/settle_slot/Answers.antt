@@ -1,7 +1,7 @@
 use Rattle.std.proofs.Common.{◌<◌, ◌^◌, sym, ap, arith}
 use Rattle.dspec_deeds.specs.Closes.{is_granted}
-use Rattle.dspec_cpu.specs.Rests.{batches_of_rest, side_of_rest}
-use Rattle.dspec_cpu.specs.Settled.{with_parts}
+use Rattle.dspec_deeds.specs.declared.config.Config.{Config}
+use Rattle.dspec_cpu.specs.Rests.{batches_of_rest}
 use Rattle.dspec_cpu.proofs.Rests.{can, closed}
 use Rattle.dspec_cpu.proofs.rest.CpuRest.settle_slot.Goals as goal
 
@@ -9,13 +9,16 @@ pub settle_block-requires : goal.settle_block-requires
 settle_block-requires g c =
     let rest = c.args.self.now in
     let some = c.requires.some in
-    let small : rest.calls < 2 ^ 64 = omega arith in
+    let small : rest.side.calls < 2 ^ 64 = omega arith in
     let grants = sym (ap is_granted c.in-Granted.ensures) in
+    let places = c.args.last.now.places.1 in
+    let same = ap (λ (k : Config). k.nspec) c.requires.words.set_up in
+    let within = c.requires.slot.1 in
     record {
+      slot = omega arith;
       some = (
         rest.schema,
         rest.cpu,
-        side_of_rest rest,
         batches_of_rest rest some.0,
         some.1,
         can _ _ _ rest c.args.last.now c.requires.words c.args.slot c.requires.slot.0 c.requires.slot.1 c.word-word.result c.word-word.ensures c.ack.result c.ack.ensures
@@ -26,12 +29,10 @@ settle_block-requires g c =
 pub returns-clause-list : goal.returns-clause-list
 returns-clause-list g c = λ handed p log now had closes.
     let rest = c.args.self.now in
-    let small : rest.calls < 2 ^ 64 = omega arith in
+    let small : rest.side.calls < 2 ^ 64 = omega arith in
     let grants = sym (ap is_granted c.in-Granted.ensures) in
     let may = can _ _ _ rest c.args.last.now c.requires.words c.args.slot c.requires.slot.0 c.requires.slot.1 c.word-word.result c.word-word.ensures c.ack.result
     c.ack.ensures grants small handed log now p had closes in
-    let done = c.settle_block.ensures.settled rest.schema rest.cpu (side_of_rest rest) (batches_of_rest rest handed) p may in
+    let done = c.settle_block.ensures.settled rest.schema rest.cpu (batches_of_rest rest handed) p may in
     closed _ _ _ rest c.args.last.now c.requires.words c.args.slot c.requires.slot.0 c.requires.slot.1 c.word-word.result c.word-word.ensures c.ack.result c.ack.ensures
-    grants small handed log now p closes
-    (with_parts (side_of_rest rest) rest.marks.items c.settle_block.new.principal c.settle_block.new.buffers.items c.settle_block.new.acks.items c.settle_block.new.drops)
-    c.settle_block.new.counts done.shown
+    grants small handed log now p closes c.settle_block.new.side done.shown

@@ -3,7 +3,7 @@ use Rattle.dspec_play.specs.declared.flight.Caller.{Caller}
 use Rattle.dspec_play.specs.declared.flight.CpuFlight.TheVariants as flight
 use Rattle.dspec_machine.specs.Machines.{state_of}
 use Rattle.dspec_machine.proofs.Keepings.{state_kept, kept_as, begin_keeps}
-use Rattle.dspec_machine.proofs.MachineReads.{side_got}
+use Rattle.dspec_machine.proofs.MachineReads.{cpu_got}
 use Rattle.dspec_machine.proofs.Makings.{state_moves, caller_moves}
 use Rattle.dspec_machine.proofs.machine.Machine.begin_cpu.Goals as goal
 
@@ -14,17 +14,17 @@ returns-clause-kept g c =
     let shape_of = g.S.Schema.shape_of in
     let accepted = g.S.Schema.accepted in
     let m = c.args.self.now in
-    let side = c.index_mut.result.now in
-    let got = side_got has capacity m c.requires.kept.shown c.args.cpu side c.requires.cpu c.index_mut.ensures.value in
+    let own = c.index_mut.result.now in
+    let got = cpu_got has capacity m c.requires.kept.shown c.args.cpu own c.requires.cpu c.index_mut.ensures.value in
     let change : Caller → Caller = λ me. record me { flight = Some (flight.Begun c.args.op); steps = 0 } in
-    kept_as has capacity shape_of accepted _ m.schema _ (caller_moves has capacity m c.args.cpu side (change side.caller) c.requires.kept.shown got refl)
-    (state_moves m c.args.cpu side change got) refl
+    kept_as has capacity shape_of accepted _ m.schema _ (caller_moves has capacity m c.args.cpu own (change own.caller) c.requires.kept.shown got refl refl)
+    (state_moves m c.args.cpu own _ change got refl) refl
     (begin_keeps has capacity shape_of accepted m.schema (state_of m) c.args.cpu c.args.op c.requires.cpu c.requires.idle c.requires.accepted
     (state_kept has capacity shape_of accepted m c.requires.kept))
 
 pub returns-clause-state : goal.returns-clause-state
 returns-clause-state g c =
     let m = c.args.self.now in
-    let side = c.index_mut.result.now in
-    let got = side_got g.B.TraceBuffer.has g.B.TraceBuffer.capacity m c.requires.kept.shown c.args.cpu side c.requires.cpu c.index_mut.ensures.value in
-    state_moves m c.args.cpu side (λ (me : Caller). record me { flight = Some (flight.Begun c.args.op); steps = 0 }) got
+    let own = c.index_mut.result.now in
+    let got = cpu_got g.B.TraceBuffer.has g.B.TraceBuffer.capacity m c.requires.kept.shown c.args.cpu own c.requires.cpu c.index_mut.ensures.value in
+    state_moves m c.args.cpu own _ (λ (me : Caller). record me { flight = Some (flight.Begun c.args.op); steps = 0 }) got refl

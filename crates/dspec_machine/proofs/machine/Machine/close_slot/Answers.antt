@@ -10,8 +10,8 @@ use Rattle.dspec_deeds.specs.Legal.{IsAllowed}
 use Rattle.dspec_machine.specs.Machines.{history, state_of}
 use Rattle.dspec_deeds.specs.Settling.{settle_fate}
 use Rattle.dspec_deeds.specs.Closes.{closed_slot}
-use Rattle.dspec_machine.proofs.Blocks.{on_ok}
-use Rattle.dspec_machine.proofs.MachineReads.{side_read}
+use Rattle.dspec_machine.proofs.OwnSlots.{on_ok}
+use Rattle.dspec_machine.proofs.MachineReads.{cpu_read}
 use Rattle.dspec_machine.proofs.OneMore.{word_there}
 use Rattle.dspec_machine.proofs.Settlings.{none_due, one_due, closes_on, can_close_there, settles_one, ack_read}
 use Rattle.dspec_play.proofs.StepReads.{can_be_released}
@@ -20,8 +20,8 @@ use Rattle.dspec_machine.proofs.machine.Machine.close_slot.Goals as goal
 pub index-requires-2 : goal.index-requires-2
 index-requires-2 g c =
     let m = c.args.self.now in
-    let side = side_read g.B.TraceBuffer.has g.B.TraceBuffer.capacity m c.requires.shown c.args.cpu c.index.result.now c.requires.cpu c.index.ensures in
-    let n = side.ack_count in
+    let own = cpu_read g.B.TraceBuffer.has g.B.TraceBuffer.capacity m c.requires.shown c.args.cpu c.index.result.now c.requires.cpu c.index.ensures in
+    let n = own.side.parts.ack_count in
     let least = c.requires.slot.0 in
     let most = c.requires.slot.1 in
     omega (arith, n, least, most)
@@ -41,8 +41,10 @@ returns-in_default g c =
     let h = history m in
     let shape = g.S.Schema.shape_of m.schema in
     let word = word_there m.config h m.words.items s c.index-word.result.now c.requires.slot.0 c.requires.slot.1 c.requires.shown.words c.index-word.ensures in
-    let acked = ack_read g.B.TraceBuffer.has g.B.TraceBuffer.capacity m c.requires.shown a s c.requires.cpu c.requires.slot c.index.result.now c.index.ensures c.index-2.result.now c.index-2.ensures in
-    let act : c.settle_at.result ≡ settle_at (word_at s h) (ack a s h) = c.settle_at.ensures ∙ (ap (λ (x : SlotState). settle_at x c.index-2.result.now) word ∙ ap (settle_at (word_at s h)) acked) in
+    let acked = ack_read g.B.TraceBuffer.has g.B.TraceBuffer.capacity m c.requires.shown a s c.requires.cpu c.requires.slot c.index.result.now c.index.ensures c.index-2.result.now
+    c.index-2.ensures in
+    let act : c.settle_at.result ≡ settle_at (word_at s h) (ack a s h) = c.settle_at.ensures ∙ (ap (λ (x : SlotState). settle_at x c.index-2.result.now) word ∙ ap (settle_at
+    (word_at s h)) acked) in
     let none = none_due shape m.config a s h c.settle_at.result act c.in_default.not-Granted in
     record { shown = c.requires.shown; can_close = c.requires.can_close; settled = ap (λ ds. record (state_of m) { deeds = ds }) (sym none); schema = refl }
 
@@ -65,8 +67,10 @@ enter_settle-requires-clause-legal g c =
     let w = c.index-word.result.now in
     let shape = g.S.Schema.shape_of m.schema in
     let word = word_there k h m.words.items s w c.requires.slot.0 c.requires.slot.1 c.requires.shown.words c.index-word.ensures in
-    let acked = ack_read g.B.TraceBuffer.has g.B.TraceBuffer.capacity m c.requires.shown a s c.requires.cpu c.requires.slot c.index.result.now c.index.ensures c.index-2.result.now c.index-2.ensures in
-    let act : c.settle_at.result ≡ settle_at (word_at s h) (ack a s h) = c.settle_at.ensures ∙ (ap (λ (x : SlotState). settle_at x c.index-2.result.now) word ∙ ap (settle_at (word_at s h)) acked) in
+    let acked = ack_read g.B.TraceBuffer.has g.B.TraceBuffer.capacity m c.requires.shown a s c.requires.cpu c.requires.slot c.index.result.now c.index.ensures c.index-2.result.now
+    c.index-2.ensures in
+    let act : c.settle_at.result ≡ settle_at (word_at s h) (ack a s h) = c.settle_at.ensures ∙ (ap (λ (x : SlotState). settle_at x c.index-2.result.now) word ∙ ap (settle_at
+    (word_at s h)) acked) in
     let is : c.of-id.result ≡ present s h = c.of-id.ensures ∙ ap (λ n. record { issue = n; slot = s }) (c.issue.ensures.value ∙ ap (λ (x : SlotState). x.issue) word) in
     let fate : c.settle_fate-fate.result ≡ settle_fate shape k a h (present s h) (word_at s h).code =
     c.settle_fate-fate.ensures ∙ (ap (settle_fate shape k a h c.of-id.result) c.code.ensures
@@ -85,8 +89,10 @@ returns-clause-can_close g c =
     let w = c.index-word.result.now in
     let shape = g.S.Schema.shape_of m.schema in
     let word = word_there k h m.words.items s w c.requires.slot.0 c.requires.slot.1 c.requires.shown.words c.index-word.ensures in
-    let acked = ack_read g.B.TraceBuffer.has g.B.TraceBuffer.capacity m c.requires.shown a s c.requires.cpu c.requires.slot c.index.result.now c.index.ensures c.index-2.result.now c.index-2.ensures in
-    let act : c.settle_at.result ≡ settle_at (word_at s h) (ack a s h) = c.settle_at.ensures ∙ (ap (λ (x : SlotState). settle_at x c.index-2.result.now) word ∙ ap (settle_at (word_at s h)) acked) in
+    let acked = ack_read g.B.TraceBuffer.has g.B.TraceBuffer.capacity m c.requires.shown a s c.requires.cpu c.requires.slot c.index.result.now c.index.ensures c.index-2.result.now
+    c.index-2.ensures in
+    let act : c.settle_at.result ≡ settle_at (word_at s h) (ack a s h) = c.settle_at.ensures ∙ (ap (λ (x : SlotState). settle_at x c.index-2.result.now) word ∙ ap (settle_at
+    (word_at s h)) acked) in
     let is : c.of-id.result ≡ present s h = c.of-id.ensures ∙ ap (λ n. record { issue = n; slot = s }) (c.issue.ensures.value ∙ ap (λ (x : SlotState). x.issue) word) in
     let fate : c.settle_fate-fate.result ≡ settle_fate shape k a h (present s h) (word_at s h).code =
     c.settle_fate-fate.ensures ∙ (ap (settle_fate shape k a h c.of-id.result) c.code.ensures
@@ -109,8 +115,10 @@ returns-clause-settled g c =
     let w = c.index-word.result.now in
     let shape = g.S.Schema.shape_of m.schema in
     let word = word_there k h m.words.items s w c.requires.slot.0 c.requires.slot.1 c.requires.shown.words c.index-word.ensures in
-    let acked = ack_read g.B.TraceBuffer.has g.B.TraceBuffer.capacity m c.requires.shown a s c.requires.cpu c.requires.slot c.index.result.now c.index.ensures c.index-2.result.now c.index-2.ensures in
-    let act : c.settle_at.result ≡ settle_at (word_at s h) (ack a s h) = c.settle_at.ensures ∙ (ap (λ (x : SlotState). settle_at x c.index-2.result.now) word ∙ ap (settle_at (word_at s h)) acked) in
+    let acked = ack_read g.B.TraceBuffer.has g.B.TraceBuffer.capacity m c.requires.shown a s c.requires.cpu c.requires.slot c.index.result.now c.index.ensures c.index-2.result.now
+    c.index-2.ensures in
+    let act : c.settle_at.result ≡ settle_at (word_at s h) (ack a s h) = c.settle_at.ensures ∙ (ap (λ (x : SlotState). settle_at x c.index-2.result.now) word ∙ ap (settle_at
+    (word_at s h)) acked) in
     let is : c.of-id.result ≡ present s h = c.of-id.ensures ∙ ap (λ n. record { issue = n; slot = s }) (c.issue.ensures.value ∙ ap (λ (x : SlotState). x.issue) word) in
     let fate : c.settle_fate-fate.result ≡ settle_fate shape k a h (present s h) (word_at s h).code =
     c.settle_fate-fate.ensures ∙ (ap (settle_fate shape k a h c.of-id.result) c.code.ensures

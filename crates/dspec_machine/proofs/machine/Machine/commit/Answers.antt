@@ -6,8 +6,8 @@ use Rattle.dspec_machine.specs.Machines.{history, state_of}
 use Rattle.dspec_play.proofs.DecideMoves.{commit_decides}
 use Rattle.dspec_machine.proofs.machine.Machine.commit.Goals as goal
 
-pub enter_commit-requires-clause-commit : goal.enter_commit-requires-clause-commit
-enter_commit-requires-clause-commit g c =
+pub enter_decided-requires-clause-decides : goal.enter_decided-requires-clause-decides
+enter_decided-requires-clause-decides g c =
     let m = c.args.self.now in
     subst (λ f. is_commit f ≡ true) (sym c.commit_fate-fate.ensures)
     (commit_decides (g.S.Schema.shape_of m.schema) m.config c.args.cpu (history m) (the_caller (state_of m).callers c.args.cpu) c.args.id)

@@ -1,39 +1,53 @@
--- A missed slot leaves the words and the other sides.
-use Rattle.std.proofs.Common.{◌∷◌, ◌∙◌, refl, sym}
-use Rattle.std.proofs.lemmas.List.{length-set}
-use Rattle.std.proofs.lemmas.Option.{slice_get_read}
+-- A missed slot is on its CPU's side, and leaves the words.
+use Rattle.std.proofs.Common.{◌∷◌, refl, ap}
+use Rattle.dspec_side.specs.declared.side.Side.{Side}
 use Rattle.dspec_deeds.specs.declared.deed.Deed.TheVariants as deed
 use Rattle.dspec_machine.specs.Machines.{history}
-use Rattle.dspec_machine.proofs.machine.Machine.enter_miss.Goals.{then-busy, else-busy}
-use Rattle.dspec_machine.proofs.OtherSides.{words_stay}
-use Rattle.dspec_machine.proofs.OneMore.{latest_first, shown_as, sides_set, map_set, adds_one}
-use Rattle.dspec_machine.proofs.OwnSides.{missing_side}
+use Rattle.dspec_machine.proofs.KeptCpus.{own_deed}
+use Rattle.dspec_machine.proofs.MachineReads.{cpu_got}
+use Rattle.dspec_machine.proofs.OneMore.{adds_own, enters, latest_first}
+use Rattle.dspec_machine.proofs.Rooms.{call_fits, counts_fit}
+use Rattle.dspec_machine.proofs.WordsShown.{words_stay}
 use Rattle.dspec_machine.proofs.machine.Machine.enter_miss.Goals as goal
+
+pub miss-requires : goal.miss-requires
+miss-requires g c =
+    let m = c.args.self.now in
+    let a = c.args.cpu in
+    let h = history m in
+    let d = deed.Miss c.args.cpu c.args.slot c.args.busy in
+    let was = c.requires.shown in
+    let own = c.index_mut-own.result.now in
+    let got = cpu_got _ _ m was a own c.requires.cpu c.index_mut-own.ensures.value in
+    let shows = was.cpus a own got in
+    let legal = c.requires.legal in
+    record {
+      counts = counts_fit (g.S.Schema.shape_of m.schema) m.config a _ _ h own.side shows.side c.requires.ranges d legal c.requires.few;
+    }
 
 pub returns-clause-shown : goal.returns-clause-shown
 returns-clause-shown g c =
     let m = c.args.self.now in
+    let a = c.args.cpu in
     let h = history m in
     let d = deed.Miss c.args.cpu c.args.slot c.args.busy in
     let was = c.requires.shown in
-    let sound = c.requires.legal.0 in
-    let a = c.args.cpu in
-    let side = c.index_mut-side.result.now in
-    let got = slice_get_read m.sides.items m.config.cpus a side (sym was.side_count) c.requires.cpu c.index_mut-side.ensures.value in
-    let own = missing_side g.B.TraceBuffer.has g.B.TraceBuffer.capacity m.schema m.config a h side (was.sides a side got) c.args.slot c.args.busy c.if-busy.side
-    (elim c.if-busy.branch [ then-busy w ↦ rw w.if-busy.true (w.side-is ∙ w.if-busy.true) | else-busy w ↦ rw w.if-busy.false w.side-is ]) in
-    shown_as g.B.TraceBuffer.has g.B.TraceBuffer.capacity _ (d ∷ h) (latest_first m.deeds c.push.new.self d c.in_ok-push.ensures.ok) record {
-      words = words_stay m.config d h m.words.items (λ t. refl) was.words;
-      active = was.active;
-      side_count = length-set m.sides.items a _ ∙ was.side_count;
-      sides = sides_set g.B.TraceBuffer.has g.B.TraceBuffer.capacity m.schema m.config d h m.sides.items sound was.side_count was.sides a _ refl c.requires.cpu own;
-    }
+    let own = c.index_mut-own.result.now in
+    let got = cpu_got _ _ m was a own c.requires.cpu c.index_mut-own.ensures.value in
+    let shows = was.cpus a own got in
+    let now = own_deed _ _ m.schema m.config a h own shows d c.miss.new.self own.accepted refl (c.miss.ensures.shows m.schema a h shows.side)
+    (ap (λ (x : Side g.row.B.Denot). x.counts.worn) c.miss.ensures.rest) shows.accepted in
+    enters _ _ m c.push.new.self m.words d a _ was c.requires.cpu (latest_first m.deeds c.push.new.self d c.in_ok-push.ensures.ok) refl refl
+    (words_stay m.config d h m.words.items (λ t. refl) was.words) now
 
 pub returns-clause-entered : goal.returns-clause-entered
 returns-clause-entered g c =
     let m = c.args.self.now in
     let a = c.args.cpu in
-    let side = c.index_mut-side.result.now in
-    let got = slice_get_read m.sides.items m.config.cpus a side (sym c.requires.shown.side_count) c.requires.cpu c.index_mut-side.ensures.value in
-    adds_one m _ (deed.Miss c.args.cpu c.args.slot c.args.busy) refl refl refl (latest_first m.deeds c.push.new.self _ c.in_ok-push.ensures.ok)
-    (map_set (λ s. s.caller) m.sides.items a side _ got refl)
+    let h = history m in
+    let d = deed.Miss c.args.cpu c.args.slot c.args.busy in
+    let was = c.requires.shown in
+    let own = c.index_mut-own.result.now in
+    let got = cpu_got _ _ m was a own c.requires.cpu c.index_mut-own.ensures.value in
+    let shows = was.cpus a own got in
+    adds_own m c.push.new.self m.words d a own _ (latest_first m.deeds c.push.new.self d c.in_ok-push.ensures.ok) got refl

@@ -6,9 +6,8 @@ use Rattle.dspec_deeds.specs.History.{issue, word_at}
 use Rattle.dspec_machine.specs.Machines.{history}
 use Rattle.dspec_machine.specs.Shown.{ShowsWords}
 use Rattle.dspec_deeds.proofs.WordChanges.{opened_word}
-use Rattle.dspec_machine.proofs.OtherSides.{words_set}
-use Rattle.dspec_machine.proofs.OneMore.{latest_first, shown_as, sides_kept, word_there}
-use Rattle.dspec_machine.proofs.OwnSides.{opening_side}
+use Rattle.dspec_machine.proofs.WordsShown.{words_set}
+use Rattle.dspec_machine.proofs.OneMore.{latest_first, shown_as, cpus_opened, word_there}
 use Rattle.dspec_machine.proofs.machine.Machine.enter_opened.Goals as goal
 
 pub returns-clause-shown : goal.returns-clause-shown
@@ -28,7 +27,6 @@ returns-clause-shown g c =
       words = subst (λ s. ShowsWords m.config (d ∷ h) (slice_set m.words.items (s - 1) c.of.result)) (sym c.slot.ensures.value)
           (words_set m.config d h m.words.items c.of.result sound.1.1.1 c.requires.slot word was.words);
       active = was.active;
-      side_count = was.side_count;
-      sides = sides_kept g.B.TraceBuffer.has g.B.TraceBuffer.capacity m.schema m.config d h m.sides.items sound was.side_count was.sides c.args.cpu refl
-          (λ s shown. opening_side g.B.TraceBuffer.has g.B.TraceBuffer.capacity m.schema m.config c.args.cpu h s shown id);
+      cpu_count = was.cpu_count;
+      cpus = cpus_opened g.B.TraceBuffer.has g.B.TraceBuffer.capacity m.schema m.config h m.cpus.items was.cpus c.args.cpu id;
     }

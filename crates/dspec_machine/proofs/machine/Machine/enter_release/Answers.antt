@@ -9,8 +9,8 @@ use Rattle.dspec_deeds.proofs.SoundLists.{opened_in_range}
 use Rattle.dspec_deeds.proofs.PresentIds.{decided_given}
 use Rattle.dspec_play.proofs.Counts.{issue_below, issues_fit}
 use Rattle.dspec_deeds.proofs.WordChanges.{released_word}
-use Rattle.dspec_machine.proofs.OtherSides.{words_set}
-use Rattle.dspec_machine.proofs.OneMore.{latest_first, shown_as, sides_released, word_there}
+use Rattle.dspec_machine.proofs.WordsShown.{words_set}
+use Rattle.dspec_machine.proofs.OneMore.{latest_first, shown_as, cpus_released, word_there}
 use Rattle.dspec_machine.proofs.machine.Machine.enter_release.Goals as goal
 
 pub overflow_sub-place : goal.overflow_sub-place
@@ -51,6 +51,6 @@ returns-clause-shown g c =
     shown_as g.B.TraceBuffer.has g.B.TraceBuffer.capacity _ (d ∷ h) (latest_first m.deeds c.push.new.self d c.in_ok-push.ensures.ok) record {
       words = words_set m.config d h m.words.items c.of.result least c.requires.slot word was.words;
       active = was.active;
-      side_count = was.side_count;
-      sides = sides_released g.B.TraceBuffer.has g.B.TraceBuffer.capacity m.schema m.config slot h m.sides.items sound was.side_count was.sides;
+      cpu_count = was.cpu_count;
+      cpus = cpus_released g.B.TraceBuffer.has g.B.TraceBuffer.capacity m.schema m.config h m.cpus.items was.cpus slot;
     }

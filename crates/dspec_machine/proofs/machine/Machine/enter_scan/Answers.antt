@@ -1,50 +1,54 @@
--- A scan leaves the words and the other sides.
-use Rattle.std.proofs.Common.{◌∷◌, ◌<◌, ◌+◌, ◌∙◌, ◌^◌, refl, sym, arith}
-use Rattle.std.proofs.lemmas.List.{length-set}
-use Rattle.std.proofs.lemmas.Option.{slice_get_read}
+-- A scan is on its CPU's side, and leaves the words.
+use Rattle.std.proofs.Common.{◌∷◌, refl, ap}
+use Rattle.dspec_side.specs.declared.side.Side.{Side}
 use Rattle.dspec_deeds.specs.declared.deed.Deed.TheVariants as deed
 use Rattle.dspec_machine.specs.Machines.{history}
-use Rattle.dspec_machine.proofs.OtherSides.{words_stay}
-use Rattle.dspec_machine.proofs.OneMore.{latest_first, shown_as, sides_set, map_set, adds_one}
-use Rattle.dspec_machine.proofs.OwnSides.{scanning_side}
-use Rattle.dspec_deeds.specs.Own.{calls}
-use Rattle.dspec_play.proofs.Counts.{calls_counted, one_more}
+use Rattle.dspec_machine.proofs.KeptCpus.{own_deed}
+use Rattle.dspec_machine.proofs.MachineReads.{cpu_got}
+use Rattle.dspec_machine.proofs.OneMore.{adds_own, enters, latest_first}
+use Rattle.dspec_machine.proofs.Rooms.{call_fits, counts_fit}
+use Rattle.dspec_machine.proofs.WordsShown.{words_stay}
 use Rattle.dspec_machine.proofs.machine.Machine.enter_scan.Goals as goal
+
+pub scan-requires : goal.scan-requires
+scan-requires g c =
+    let m = c.args.self.now in
+    let a = c.args.cpu in
+    let h = history m in
+    let d = deed.Scan c.args.cpu c.args.running in
+    let was = c.requires.shown in
+    let own = c.index_mut-own.result.now in
+    let got = cpu_got _ _ m was a own c.requires.cpu c.index_mut-own.ensures.value in
+    let shows = was.cpus a own got in
+    let legal = c.requires.legal in
+    record {
+      calls = call_fits (g.S.Schema.shape_of m.schema) m.config a _ _ h own.side shows.side c.requires.ranges d legal c.requires.few;
+      counts = counts_fit (g.S.Schema.shape_of m.schema) m.config a _ _ h own.side shows.side c.requires.ranges d legal c.requires.few;
+    }
 
 pub returns-clause-shown : goal.returns-clause-shown
 returns-clause-shown g c =
     let m = c.args.self.now in
+    let a = c.args.cpu in
     let h = history m in
     let d = deed.Scan c.args.cpu c.args.running in
     let was = c.requires.shown in
-    let sound = c.requires.legal.0 in
-    let a = c.args.cpu in
-    let side = c.index_mut-side.result.now in
-    let got = slice_get_read m.sides.items m.config.cpus a side (sym was.side_count) c.requires.cpu c.index_mut-side.ensures.value in
-    let own = scanning_side g.B.TraceBuffer.has g.B.TraceBuffer.capacity m.schema m.config a h side (was.sides a side got) c.args.running in
-    shown_as g.B.TraceBuffer.has g.B.TraceBuffer.capacity _ (d ∷ h) (latest_first m.deeds c.push.new.self d c.in_ok-push.ensures.ok) record {
-      words = words_stay m.config d h m.words.items (λ t. refl) was.words;
-      active = was.active;
-      side_count = length-set m.sides.items a _ ∙ was.side_count;
-      sides = sides_set g.B.TraceBuffer.has g.B.TraceBuffer.capacity m.schema m.config d h m.sides.items sound was.side_count was.sides a _ refl c.requires.cpu own;
-    }
+    let own = c.index_mut-own.result.now in
+    let got = cpu_got _ _ m was a own c.requires.cpu c.index_mut-own.ensures.value in
+    let shows = was.cpus a own got in
+    let now = own_deed _ _ m.schema m.config a h own shows d c.scan.new.self own.accepted refl (c.scan.ensures.shows m.schema m.config a h shows.side)
+    (ap (λ (x : Side g.row.B.Denot). x.counts.worn) c.scan.ensures.rest) shows.accepted in
+    enters _ _ m c.push.new.self m.words d a _ was c.requires.cpu (latest_first m.deeds c.push.new.self d c.in_ok-push.ensures.ok) refl refl
+    (words_stay m.config d h m.words.items (λ t. refl) was.words) now
 
 pub returns-clause-entered : goal.returns-clause-entered
 returns-clause-entered g c =
     let m = c.args.self.now in
     let a = c.args.cpu in
-    let side = c.index_mut-side.result.now in
-    let got = slice_get_read m.sides.items m.config.cpus a side (sym c.requires.shown.side_count) c.requires.cpu c.index_mut-side.ensures.value in
-    adds_one m _ (deed.Scan c.args.cpu c.args.running) refl refl refl (latest_first m.deeds c.push.new.self _ c.in_ok-push.ensures.ok) (map_set (λ s. s.caller) m.sides.items a side _ got refl)
-
-pub overflow_add-side : goal.overflow_add-side
-overflow_add-side g c =
-    let m = c.args.self.now in
-    let a = c.args.cpu in
-    let side = c.index_mut-side.result.now in
+    let h = history m in
+    let d = deed.Scan c.args.cpu c.args.running in
     let was = c.requires.shown in
-    let got = slice_get_read m.sides.items m.config.cpus a side (sym was.side_count) c.requires.cpu c.index_mut-side.ensures.value in
-    let is = (was.sides a side got).called in
-    let fits : calls a (history m) + 1 < 2 ^ 64 =
-    one_more m.deeds c.push.new.self (deed.Scan c.args.cpu c.args.running) (calls a (history m)) (calls_counted a (history m)) c.in_ok-push.ensures.ok c.in_ok-push.ensures.countable in
-    omega arith
+    let own = c.index_mut-own.result.now in
+    let got = cpu_got _ _ m was a own c.requires.cpu c.index_mut-own.ensures.value in
+    let shows = was.cpus a own got in
+    adds_own m c.push.new.self m.words d a own _ (latest_first m.deeds c.push.new.self d c.in_ok-push.ensures.ok) got refl

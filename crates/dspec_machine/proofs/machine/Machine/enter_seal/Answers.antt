@@ -1,57 +1,56 @@
--- A sealed batch leaves the words and the other sides.
-use Rattle.std.proofs.Common.{◌∷◌, ◌<◌, ◌+◌, ◌∙◌, ◌^◌, ◌≤◌, refl, sym, ap, subst, arith}
-use Rattle.std.proofs.lemmas.List.{length-set}
-use Rattle.std.proofs.lemmas.Option.{slice_get_read}
+-- A sealed batch is the second buffer; the words stay.
+use Rattle.std.proofs.Common.{◌≤◌, ◌∷◌, [], refl, ap, ◌∙◌, subst}
 use Rattle.dspec_deeds.specs.declared.deed.Deed.TheVariants as deed
-use Rattle.dspec_play.specs.declared.flight.Caller.{Caller}
-use Rattle.dspec_machine.specs.Machines.{history}
-use Rattle.dspec_machine.specs.Shown.{ShowsSide}
-use Rattle.dspec_machine.proofs.OtherSides.{words_stay}
-use Rattle.dspec_machine.proofs.OneMore.{latest_first, shown_as, sides_set, map_set, adds_one, caller_there}
-use Rattle.dspec_machine.proofs.PrincipalSides.{sealed_side}
 use Rattle.dspec_deeds.specs.Own.{seals}
-use Rattle.dspec_play.proofs.Counts.{seals_counted, one_more}
+use Rattle.dspec_play.specs.declared.flight.Caller.{Caller}
+use Rattle.dspec_side.specs.declared.side.Side.{Side}
+use Rattle.dspec_side.specs.Sides.{IsFilledWith}
+use Rattle.dspec_machine.specs.Machines.{history}
+use Rattle.dspec_machine.proofs.KeptCpus.{sealing}
+use Rattle.dspec_machine.proofs.MachineReads.{cpu_got}
+use Rattle.dspec_machine.proofs.OneMore.{adds_own, caller_there, enters, latest_first}
+use Rattle.dspec_machine.proofs.Rooms.{seal_counts}
+use Rattle.dspec_machine.proofs.WordsShown.{words_stay}
 use Rattle.dspec_machine.proofs.machine.Machine.enter_seal.Goals as goal
+
+pub seal-own-requires : goal.seal-own-requires
+seal-own-requires g c =
+    let m = c.args.self.now in
+    let a = c.args.cpu in
+    let h = history m in
+    let d = deed.Seal c.args.cpu in
+    let was = c.requires.shown in
+    let own = c.index_mut-own.result.now in
+    let got = cpu_got _ _ m was a own c.requires.cpu c.index_mut-own.ensures.value in
+    let shows = was.cpus a own got in
+    record { seals = seal_counts (g.S.Schema.shape_of m.schema) m.config a _ _ h own.side shows.side m.deeds c.push.new.self d c.in_ok-push.ensures.ok c.in_ok-push.ensures.countable refl }
 
 pub returns-clause-shown : goal.returns-clause-shown
 returns-clause-shown g c =
     let m = c.args.self.now in
+    let a = c.args.cpu in
     let h = history m in
     let d = deed.Seal c.args.cpu in
     let was = c.requires.shown in
-    let sound = c.requires.legal.0 in
-    let a = c.args.cpu in
-    let side = c.index_mut-side.result.now in
-    let got = slice_get_read m.sides.items m.config.cpus a side (sym was.side_count) c.requires.cpu c.index_mut-side.ensures.value in
-    let shows = was.sides a side got in
-    let size = c.clear.ensures.size ∙ (ap g.B.TraceBuffer.capacity c.swap.ensures.x_after ∙ shows.second.sized) in
-    let takes = subst (λ (s : Caller). s.takes ≤ seals a h) (caller_there m.sides.items a side got) c.requires.takes in
-    let swapped = sealed_side g.B.TraceBuffer.has g.B.TraceBuffer.capacity m.schema m.config a h side shows c.clear.new.self size (c.clear.ensures.empty m.schema) takes in
-    let own = subst (λ (b : g.row.B.Denot). ShowsSide g.B.TraceBuffer.has g.B.TraceBuffer.capacity m.schema m.config a (d ∷ h)
-    (record side { seals = side.seals + 1; active = c.clear.new.self; second = b; drops = 0; sealed_drops = side.drops })) (sym c.swap.ensures.y_after) swapped in
-    shown_as g.B.TraceBuffer.has g.B.TraceBuffer.capacity _ (d ∷ h) (latest_first m.deeds c.push.new.self d c.in_ok-push.ensures.ok) record {
-      words = words_stay m.config d h m.words.items (λ t. refl) was.words;
-      active = was.active;
-      side_count = length-set m.sides.items a _ ∙ was.side_count;
-      sides = sides_set g.B.TraceBuffer.has g.B.TraceBuffer.capacity m.schema m.config d h m.sides.items sound was.side_count was.sides a _ refl c.requires.cpu own;
-    }
+    let own = c.index_mut-own.result.now in
+    let got = cpu_got _ _ m was a own c.requires.cpu c.index_mut-own.ensures.value in
+    let shows = was.cpus a own got in
+    let next : IsFilledWith (λ b. g.B.TraceBuffer.has b m.schema) g.B.TraceBuffer.capacity m.config.bufsize []
+    c.clear.new.self = record { sized = c.clear.ensures.size ∙ shows.second.sized; has = c.clear.ensures.empty m.schema } in
+    let takes = subst (λ (x : Caller). x.takes ≤ seals a h) (caller_there m.cpus.items a own got) c.requires.takes in
+    let now = sealing _ _ m.schema m.config a h own shows c.seal-own.new.self c.seal-own.new.next c.seal-own.result (c.seal-own.ensures.shows m.schema m.config a h shows.side next)
+    (ap (λ (x : Side g.row.B.Denot). x.counts.worn) c.seal-own.ensures.rest) c.seal-own.ensures.sealed c.seal-own.ensures.drops takes in
+    enters _ _ m c.push.new.self m.words d a _ was c.requires.cpu (latest_first m.deeds c.push.new.self d c.in_ok-push.ensures.ok) refl refl
+    (words_stay m.config d h m.words.items (λ t. refl) was.words) now
 
 pub returns-clause-entered : goal.returns-clause-entered
 returns-clause-entered g c =
     let m = c.args.self.now in
     let a = c.args.cpu in
-    let side = c.index_mut-side.result.now in
-    let got = slice_get_read m.sides.items m.config.cpus a side (sym c.requires.shown.side_count) c.requires.cpu c.index_mut-side.ensures.value in
-    adds_one m _ (deed.Seal c.args.cpu) refl refl refl (latest_first m.deeds c.push.new.self _ c.in_ok-push.ensures.ok) (map_set (λ s. s.caller) m.sides.items a side _ got refl)
-
-pub overflow_add-side : goal.overflow_add-side
-overflow_add-side g c =
-    let m = c.args.self.now in
-    let a = c.args.cpu in
-    let side = c.index_mut-side.result.now in
+    let h = history m in
+    let d = deed.Seal c.args.cpu in
     let was = c.requires.shown in
-    let got = slice_get_read m.sides.items m.config.cpus a side (sym was.side_count) c.requires.cpu c.index_mut-side.ensures.value in
-    let is = (was.sides a side got).sealed in
-    let fits : seals a (history m) + 1 < 2 ^ 64 =
-    one_more m.deeds c.push.new.self (deed.Seal c.args.cpu) (seals a (history m)) (seals_counted a (history m)) c.in_ok-push.ensures.ok c.in_ok-push.ensures.countable in
-    omega arith
+    let own = c.index_mut-own.result.now in
+    let got = cpu_got _ _ m was a own c.requires.cpu c.index_mut-own.ensures.value in
+    let shows = was.cpus a own got in
+    adds_own m c.push.new.self m.words d a own _ (latest_first m.deeds c.push.new.self d c.in_ok-push.ensures.ok) got refl

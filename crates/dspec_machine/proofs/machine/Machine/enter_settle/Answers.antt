@@ -1,226 +1,165 @@
--- A settlement ends the block of the CPU's buffer.
-use Rattle.std.proofs.Common.{◌≡◌, ◌+◌, ◌-◌, ◌<◌, ◌∷◌, length, map, Some, refl, ap, ◌∙◌, subst, arith}
-use Rattle.std.specs.Prelude.{slice_get}
+-- A settlement ends the CPU's block, and leaves the words.
+use Rattle.std.proofs.Common.{◌≡◌, ◌-◌, ◌≤◌, ◌<◌, ◌∷◌, ◌++◌, [], length, reverse, set, if◌then◌else◌, refl, sym, ap, ◌∙◌, subst, arith}
 use Rattle.std.specs.Vec.{with_item}
-use Rattle.std.proofs.lemmas.List.{length-set}
-use Rattle.dspec_buffer.specs.Extent.{one}
-use Rattle.dspec_deeds.specs.declared.deed.Deed.TheVariants.{Settle}
-use Rattle.dspec_machine.specs.declared.side.Side.{Side}
-use Rattle.dspec_deeds.specs.Own.{contents, held}
-use Rattle.dspec_machine.specs.Shown.{HoldsPieces}
-use Rattle.dspec_machine.specs.Machines.{history}
-use Rattle.dspec_machine.proofs.OtherSides.{words_stay}
-use Rattle.dspec_machine.proofs.MachineReads.{side_read, side_got}
-use Rattle.dspec_machine.proofs.OneMore.{latest_first, shown_as, sides_set, adds_one, map_set}
-use Rattle.dspec_play.proofs.Counts.{drops_counted, one_more}
+use Rattle.dspec_deeds.specs.declared.deed.Deed.{Deed}
+use Rattle.dspec_deeds.specs.FateKinds.{is_copied}
+use Rattle.dspec_deeds.specs.Own.{contents, held, stream}
 use Rattle.dspec_deeds.proofs.Items.{kept_item}
-use Rattle.dspec_machine.proofs.EndedSides.{settle_ends}
-use Rattle.dspec_machine.proofs.Blocks.{on_err, stands, closed_side, settle_fits, settling, acks_set}
+use Rattle.dspec_side.specs.declared.side.Side.{Side}
+use Rattle.dspec_side.specs.Sides.{ShowsList}
+use Rattle.dspec_machine.specs.declared.cpu.Cpu.{Cpu}
+use Rattle.dspec_machine.specs.Machines.{history}
+use Rattle.dspec_deeds.specs.declared.deed.Deed.TheVariants.{Settle}
+use Rattle.dspec_side.proofs.Tallies.{settle_counts}
+use Rattle.dspec_machine.proofs.KeptCpus.{put_deed, put_side}
+use Rattle.dspec_machine.proofs.MachineReads.{cpu_got}
+use Rattle.dspec_machine.proofs.OneMore.{adds_own, enters, latest_first}
+use Rattle.dspec_machine.proofs.OwnSlots.{ack_there, blocks_there, caller_is, mark_there, on_err, place_there, settled_slot, settles_as, settles_on, stream_settles}
+use Rattle.dspec_machine.proofs.Rooms.{decide_counts, lost_counts}
+use Rattle.dspec_machine.proofs.WordsShown.{words_stay}
 use Rattle.dspec_machine.proofs.machine.Machine.enter_settle.Goals as goal
 
 pub overflow_sub-place : goal.overflow_sub-place
 overflow_sub-place g c =
     let m = c.args.self.now in
+    let a = c.args.cpu in
     let h = history m in
+    let d = Settle c.args.cpu c.args.id c.args.fate in
+    let was = c.requires.shown in
+    let own = c.index_mut-own.result.now in
+    let got = cpu_got _ _ m was a own c.requires.cpu c.index_mut-own.ensures.value in
+    let shows = was.cpus a own got in
     let id = c.args.id in
-    let d = Settle c.args.cpu id c.args.fate in
     let sound = c.requires.legal.0 in
-    let its = settling m.config c.args.cpu id c.args.fate h c.requires.ranges sound in
-    let slot = its.slot in
-    let is = its.is in
+    let slot = settled_slot m.config a id c.args.fate h c.requires.ranges sound in
+    let now = sym sound.1.1.1.0 in
     let at = c.slot.ensures.value in
     let least = slot.0 in
-    let most = slot.1 in
     omega arith
 
 pub enter_block-requires : goal.enter_block-requires
 enter_block-requires g c =
     let m = c.args.self.now in
+    let a = c.args.cpu in
     let h = history m in
-    let id = c.args.id in
-    let d = Settle c.args.cpu id c.args.fate in
-    let sound = c.requires.legal.0 in
-    let its = settling m.config c.args.cpu id c.args.fate h c.requires.ranges sound in
-    let slot = its.slot in
-    let is = its.is in
-    let at = c.slot.ensures.value in
-    let least = slot.0 in
-    let most = slot.1 in
-    let has = g.B.TraceBuffer.has in
-    let capacity = g.B.TraceBuffer.capacity in
+    let d = Settle c.args.cpu c.args.id c.args.fate in
     let was = c.requires.shown in
-    let side = c.index_mut-side.result.now in
-    let s = side_read has capacity m was c.args.cpu side c.requires.cpu c.index_mut-side.ensures.value in
-    let count = s.buffer_count in
-    let within : c.slot.result - 1 < length side.speculative.items = omega arith in
-    omega arith
+    let own = c.index_mut-own.result.now in
+    let got = cpu_got _ _ m was a own c.requires.cpu c.index_mut-own.ensures.value in
+    let shows = was.cpus a own got in
+    let id = c.args.id in
+    let sound = c.requires.legal.0 in
+    let slot = settled_slot m.config a id c.args.fate h c.requires.ranges sound in
+    let now = sym sound.1.1.1.0 in
+    let at = c.slot.ensures.value in
+    let there = place_there _ _ m.config a h own.side shows.side id slot in
+    let low = there.0 in
+    let high = there.1 in
+    record { place = omega arith }
 
 pub returns-in_err-enter_block-clause-refused : goal.returns-in_err-enter_block-clause-refused
 returns-in_err-enter_block-clause-refused g c =
     let m = c.args.self.now in
-    let side = c.index_mut-side.result.now in
-    let sides = ap (λ x. with_item m.sides c.args.cpu x) c.in_err-enter_block.ensures.unchanged ∙ kept_item m.sides c.args.cpu side c.index_mut-side.ensures.value in
-    on_err c.from_residual.result (λ i. record m { sides = sides i; deeds = c.in_err-enter_block.ensures.no_deed i })
+    let own = c.index_mut-own.result.now in
+    let cpus = ap (λ (x : Cpu g.row.B.Denot). with_item m.cpus c.args.cpu x) c.in_err-enter_block.ensures.unchanged ∙ kept_item m.cpus c.args.cpu own c.index_mut-own.ensures.value in
+    let deeds = c.in_err-enter_block.ensures.no_deed in
+    on_err c.from_residual.result (λ i. record m { cpus = cpus i; deeds = deeds i })
 
-pub close_block-requires-clause-place : goal.close_block-requires-clause-place
-close_block-requires-clause-place g c =
+pub is_mine-mine-requires : goal.is_mine-mine-requires
+is_mine-mine-requires g c =
     let m = c.args.self.now in
+    let a = c.args.cpu in
     let h = history m in
-    let id = c.args.id in
-    let d = Settle c.args.cpu id c.args.fate in
-    let sound = c.requires.legal.0 in
-    let its = settling m.config c.args.cpu id c.args.fate h c.requires.ranges sound in
-    let slot = its.slot in
-    let is = its.is in
-    let at = c.slot.ensures.value in
-    let least = slot.0 in
-    let most = slot.1 in
-    let has = g.B.TraceBuffer.has in
-    let capacity = g.B.TraceBuffer.capacity in
+    let d = Settle c.args.cpu c.args.id c.args.fate in
     let was = c.requires.shown in
-    let side = c.index_mut-side.result.now in
-    let s = side_read has capacity m was c.args.cpu side c.requires.cpu c.index_mut-side.ensures.value in
-    let count = s.buffer_count in
-    let within : c.slot.result - 1 < length side.speculative.items = omega arith in
-    let there = stands side.speculative.items (c.slot.result - 1) within in
-    let buffer = s.speculative id.slot there.0 slot (subst (λ n. slice_get side.speculative.items (n - 1) ≡ Some there.0) at there.1) in
-    let held_there = subst (λ j. HoldsPieces has capacity m.schema m.config.specsize (map one (contents (held c.args.cpu j h))) there.0) is buffer in
-    let put = c.in_ok-enter_block.ensures.streamed (contents (held c.args.cpu id h)) there.0 there.1 held_there.has_pieces in
-    let same : length c.enter_block.new.self.speculative.items ≡ length side.speculative.items = ap (λ x. length x.speculative.items) put in
-    omega arith
+    let own = c.index_mut-own.result.now in
+    let got = cpu_got _ _ m was a own c.requires.cpu c.index_mut-own.ensures.value in
+    let shows = was.cpus a own got in
+    let id = c.args.id in
+    let sound = c.requires.legal.0 in
+    let slot = settled_slot m.config a id c.args.fate h c.requires.ranges sound in
+    let now = sym sound.1.1.1.0 in
+    let place : c.slot.result - 1 ≡ id.slot - 1 = ap (λ n. n - 1) c.slot.ensures.value in
+    let streamed = blocks_there _ _ m.config a h own.side shows.side id slot c.requires.cpu sound.0 now (c.slot.result - 1)
+    (λ rs. c.enter_block.new.self ≡ record own { accepted = own.accepted ++ (if is_copied c.args.fate then reverse rs else []) }) place c.in_ok-enter_block.ensures.streamed in
+    let mid = put_side _ _ m.schema m.config a h own shows c.enter_block.new.self _ streamed in
+    let pushed : c.enter_block.new.deeds ≡ m.deeds ++ d ∷ [] = c.in_ok-enter_block.ensures.deeds in
+    record { slot = mark_there _ _ m.config a h c.enter_block.new.self.side mid id slot }
 
-pub close_block-requires-clause-drops : goal.close_block-requires-clause-drops
-close_block-requires-clause-drops g c =
+pub settle-requires : goal.settle-requires
+settle-requires g c =
     let m = c.args.self.now in
+    let a = c.args.cpu in
     let h = history m in
-    let id = c.args.id in
-    let d = Settle c.args.cpu id c.args.fate in
-    let sound = c.requires.legal.0 in
-    let its = settling m.config c.args.cpu id c.args.fate h c.requires.ranges sound in
-    let slot = its.slot in
-    let is = its.is in
-    let at = c.slot.ensures.value in
-    let least = slot.0 in
-    let most = slot.1 in
-    let has = g.B.TraceBuffer.has in
-    let capacity = g.B.TraceBuffer.capacity in
+    let d = Settle c.args.cpu c.args.id c.args.fate in
     let was = c.requires.shown in
-    let side = c.index_mut-side.result.now in
-    let s = side_read has capacity m was c.args.cpu side c.requires.cpu c.index_mut-side.ensures.value in
-    let count = s.buffer_count in
-    let within : c.slot.result - 1 < length side.speculative.items = omega arith in
-    let there = stands side.speculative.items (c.slot.result - 1) within in
-    let buffer = s.speculative id.slot there.0 slot (subst (λ n. slice_get side.speculative.items (n - 1) ≡ Some there.0) at there.1) in
-    let held_there = subst (λ j. HoldsPieces has capacity m.schema m.config.specsize (map one (contents (held c.args.cpu j h))) there.0) is buffer in
-    let put = c.in_ok-enter_block.ensures.streamed (contents (held c.args.cpu id h)) there.0 there.1 held_there.has_pieces in
-    let dropping : c.enter_block.new.self.drops ≡ side.drops = ap (λ x. x.drops) put in
-    let counted = s.drops in
-    let bound = drops_counted c.args.cpu h in
-    let fits = one_more m.deeds c.enter_block.new.deeds d side.drops (omega arith) c.in_ok-enter_block.ensures.deeds c.in_ok-enter_block.ensures.countable in
-    omega arith
-
-pub index_mut-requires : goal.index_mut-requires
-index_mut-requires g c =
-    let m = c.args.self.now in
-    let h = history m in
+    let own = c.index_mut-own.result.now in
+    let got = cpu_got _ _ m was a own c.requires.cpu c.index_mut-own.ensures.value in
+    let shows = was.cpus a own got in
     let id = c.args.id in
-    let d = Settle c.args.cpu id c.args.fate in
     let sound = c.requires.legal.0 in
-    let its = settling m.config c.args.cpu id c.args.fate h c.requires.ranges sound in
-    let slot = its.slot in
-    let is = its.is in
-    let at = c.slot.ensures.value in
-    let least = slot.0 in
-    let most = slot.1 in
-    let has = g.B.TraceBuffer.has in
-    let capacity = g.B.TraceBuffer.capacity in
-    let was = c.requires.shown in
-    let side = c.index_mut-side.result.now in
-    let s = side_read has capacity m was c.args.cpu side c.requires.cpu c.index_mut-side.ensures.value in
-    let count = s.buffer_count in
-    let within : c.slot.result - 1 < length side.speculative.items = omega arith in
-    let there = stands side.speculative.items (c.slot.result - 1) within in
-    let buffer = s.speculative id.slot there.0 slot (subst (λ n. slice_get side.speculative.items (n - 1) ≡ Some there.0) at there.1) in
-    let held_there = subst (λ j. HoldsPieces has capacity m.schema m.config.specsize (map one (contents (held c.args.cpu j h))) there.0) is buffer in
-    let put = c.in_ok-enter_block.ensures.streamed (contents (held c.args.cpu id h)) there.0 there.1 held_there.has_pieces in
-    let same : length c.enter_block.new.self.acks.items ≡ length side.acks.items = ap (λ x. length x.acks.items) put in
-    let acks = s.ack_count in
-    omega arith
+    let slot = settled_slot m.config a id c.args.fate h c.requires.ranges sound in
+    let now = sym sound.1.1.1.0 in
+    let place : c.slot.result - 1 ≡ id.slot - 1 = ap (λ n. n - 1) c.slot.ensures.value in
+    let streamed = blocks_there _ _ m.config a h own.side shows.side id slot c.requires.cpu sound.0 now (c.slot.result - 1)
+    (λ rs. c.enter_block.new.self ≡ record own { accepted = own.accepted ++ (if is_copied c.args.fate then reverse rs else []) }) place c.in_ok-enter_block.ensures.streamed in
+    let mid = put_side _ _ m.schema m.config a h own shows c.enter_block.new.self _ streamed in
+    let pushed : c.enter_block.new.deeds ≡ m.deeds ++ d ∷ [] = c.in_ok-enter_block.ensures.deeds in
+    let place' = place_there _ _ m.config a h c.enter_block.new.self.side mid id slot in
+    let acks = ack_there _ _ m.config a h c.enter_block.new.self.side mid id slot in
+    record {
+      slot = (place'.0, place'.1, acks.1);
+      drops = lost_counts (g.S.Schema.shape_of m.schema) m.config a _ _ h c.enter_block.new.self.side mid m.deeds c.enter_block.new.deeds d pushed
+          c.in_ok-enter_block.ensures.countable refl c.args.fate;
+      room = decide_counts (g.S.Schema.shape_of m.schema) m.config a _ _ h c.enter_block.new.self.side mid m.deeds c.enter_block.new.deeds d pushed
+          c.in_ok-enter_block.ensures.countable refl c.args.fate
+          (λ w. settle_counts m.config a w h id c.args.fate (settles_on c.args.fate (settles_as m.config a id c.args.fate h sound))) c.requires.legal;
+    }
 
 pub returns-clause-shown : goal.returns-clause-shown
 returns-clause-shown g c =
     let m = c.args.self.now in
+    let a = c.args.cpu in
     let h = history m in
-    let id = c.args.id in
-    let d = Settle c.args.cpu id c.args.fate in
-    let sound = c.requires.legal.0 in
-    let its = settling m.config c.args.cpu id c.args.fate h c.requires.ranges sound in
-    let slot = its.slot in
-    let is = its.is in
-    let at = c.slot.ensures.value in
-    let least = slot.0 in
-    let most = slot.1 in
-    let has = g.B.TraceBuffer.has in
-    let capacity = g.B.TraceBuffer.capacity in
+    let d = Settle c.args.cpu c.args.id c.args.fate in
     let was = c.requires.shown in
-    let side = c.index_mut-side.result.now in
-    let s = side_read has capacity m was c.args.cpu side c.requires.cpu c.index_mut-side.ensures.value in
-    let count = s.buffer_count in
-    let within : c.slot.result - 1 < length side.speculative.items = omega arith in
-    let there = stands side.speculative.items (c.slot.result - 1) within in
-    let buffer = s.speculative id.slot there.0 slot (subst (λ n. slice_get side.speculative.items (n - 1) ≡ Some there.0) at there.1) in
-    let held_there = subst (λ j. HoldsPieces has capacity m.schema m.config.specsize (map one (contents (held c.args.cpu j h))) there.0) is buffer in
-    let put = c.in_ok-enter_block.ensures.streamed (contents (held c.args.cpu id h)) there.0 there.1 held_there.has_pieces in
-    let changed : Side g.row.B.Denot → Side g.row.B.Denot = λ x. record x { acks = with_item x.acks (c.slot.result - 1) (c.issue.result + 1) } in
-    let tell = record side { acks = with_item side.acks (c.slot.result - 1) (c.issue.result + 1) } in
-    let mid = record c.enter_block.new.self { acks = with_item c.enter_block.new.self.acks (c.slot.result - 1) (c.issue.result + 1) } in
-    let new = c.close_block.new.self in
-    let own = closed_side has capacity g.S.Schema.shape_of m.schema m.config c.args.cpu d id c.args.fate h side tell mid new (c.slot.result - 1) there.0
-    (settle_ends c.args.cpu id c.args.fate h) is slot (ap (λ n. n - 1) at) there.1
-    (ap changed put)
-    (λ e. settle_fits (g.S.Schema.shape_of m.schema) m.config c.args.cpu id c.args.fate h c.requires.legal.1.1 e)
-    record {
-      active = c.close_block.ensures.active;
-      active_size = c.close_block.ensures.active_size;
-      emptied = c.close_block.ensures.emptied;
-      drops = c.close_block.ensures.drops;
-      rest = c.close_block.ensures.rest;
-    }
-    (let counted = s.called in omega arith) (length-set side.acks.items (c.slot.result - 1) (c.issue.result + 1) ∙ s.ack_count)
-    (acks_set m.config c.args.cpu id c.args.fate h side.acks.items (c.slot.result - 1) (c.issue.result + 1) slot sound s.ack_count (ap (λ n. n - 1) at)
-    (ap (λ n. n + 1) c.issue.ensures.value) s.acks) s in
-    shown_as has capacity _ (d ∷ h) (latest_first m.deeds c.enter_block.new.deeds d c.in_ok-enter_block.ensures.deeds) record {
-      words = words_stay m.config d h m.words.items (λ t. refl) was.words;
-      active = was.active;
-      side_count = length-set m.sides.items c.args.cpu new ∙ was.side_count;
-      sides = sides_set has capacity m.schema m.config d h m.sides.items sound was.side_count was.sides c.args.cpu new refl c.requires.cpu own;
-    }
+    let own = c.index_mut-own.result.now in
+    let got = cpu_got _ _ m was a own c.requires.cpu c.index_mut-own.ensures.value in
+    let shows = was.cpus a own got in
+    let id = c.args.id in
+    let sound = c.requires.legal.0 in
+    let slot = settled_slot m.config a id c.args.fate h c.requires.ranges sound in
+    let now = sym sound.1.1.1.0 in
+    let place : c.slot.result - 1 ≡ id.slot - 1 = ap (λ n. n - 1) c.slot.ensures.value in
+    let streamed = blocks_there _ _ m.config a h own.side shows.side id slot c.requires.cpu sound.0 now (c.slot.result - 1)
+    (λ rs. c.enter_block.new.self ≡ record own { accepted = own.accepted ++ (if is_copied c.args.fate then reverse rs else []) }) place c.in_ok-enter_block.ensures.streamed in
+    let mid = put_side _ _ m.schema m.config a h own shows c.enter_block.new.self _ streamed in
+    let pushed : c.enter_block.new.deeds ≡ m.deeds ++ d ∷ [] = c.in_ok-enter_block.ensures.deeds in
+    let caller = caller_is _ _ m.config a h c.enter_block.new.self.side mid id slot c.requires.cpu sound.0 now c.is_mine-mine.result c.is_mine-mine.ensures.tells in
+    let side = c.settle.ensures.shows m.schema m.config a h mid caller (settles_as m.config a id c.args.fate h sound) c.requires.legal.1.1 in
+    let kept = put_deed _ _ m.schema m.config a h own shows d c.enter_block.new.self _ c.settle.new.self streamed refl side
+    (ap (λ (x : Side g.row.B.Denot). x.counts.worn) c.settle.ensures.rest)
+    (ap (λ rs. rs ++ (if is_copied c.args.fate then reverse (contents (held a id h)) else [])) shows.accepted ∙ stream_settles a id c.args.fate h) in
+    enters _ _ m c.enter_block.new.deeds m.words d a _ was c.requires.cpu (latest_first m.deeds c.enter_block.new.deeds d pushed) refl refl
+    (words_stay m.config d h m.words.items (λ t. refl) was.words) kept
 
 pub returns-clause-entered : goal.returns-clause-entered
 returns-clause-entered g c =
     let m = c.args.self.now in
+    let a = c.args.cpu in
     let h = history m in
-    let id = c.args.id in
-    let d = Settle c.args.cpu id c.args.fate in
-    let sound = c.requires.legal.0 in
-    let its = settling m.config c.args.cpu id c.args.fate h c.requires.ranges sound in
-    let slot = its.slot in
-    let is = its.is in
-    let at = c.slot.ensures.value in
-    let least = slot.0 in
-    let most = slot.1 in
-    let has = g.B.TraceBuffer.has in
-    let capacity = g.B.TraceBuffer.capacity in
+    let d = Settle c.args.cpu c.args.id c.args.fate in
     let was = c.requires.shown in
-    let side = c.index_mut-side.result.now in
-    let s = side_read has capacity m was c.args.cpu side c.requires.cpu c.index_mut-side.ensures.value in
-    let count = s.buffer_count in
-    let within : c.slot.result - 1 < length side.speculative.items = omega arith in
-    let there = stands side.speculative.items (c.slot.result - 1) within in
-    let buffer = s.speculative id.slot there.0 slot (subst (λ n. slice_get side.speculative.items (n - 1) ≡ Some there.0) at there.1) in
-    let held_there = subst (λ j. HoldsPieces has capacity m.schema m.config.specsize (map one (contents (held c.args.cpu j h))) there.0) is buffer in
-    let put = c.in_ok-enter_block.ensures.streamed (contents (held c.args.cpu id h)) there.0 there.1 held_there.has_pieces in
-    let got = side_got has capacity m was c.args.cpu side c.requires.cpu c.index_mut-side.ensures.value in
-    let callers = ap (λ x. x.caller) c.close_block.ensures.rest ∙ ap (λ x. x.caller) put in
-    adds_one m _ d refl refl refl (latest_first m.deeds c.enter_block.new.deeds d c.in_ok-enter_block.ensures.deeds)
-    (map_set (λ s. s.caller) m.sides.items c.args.cpu side c.close_block.new.self got callers)
+    let own = c.index_mut-own.result.now in
+    let got = cpu_got _ _ m was a own c.requires.cpu c.index_mut-own.ensures.value in
+    let shows = was.cpus a own got in
+    let id = c.args.id in
+    let sound = c.requires.legal.0 in
+    let slot = settled_slot m.config a id c.args.fate h c.requires.ranges sound in
+    let now = sym sound.1.1.1.0 in
+    let place : c.slot.result - 1 ≡ id.slot - 1 = ap (λ n. n - 1) c.slot.ensures.value in
+    let streamed = blocks_there _ _ m.config a h own.side shows.side id slot c.requires.cpu sound.0 now (c.slot.result - 1)
+    (λ rs. c.enter_block.new.self ≡ record own { accepted = own.accepted ++ (if is_copied c.args.fate then reverse rs else []) }) place c.in_ok-enter_block.ensures.streamed in
+    let mid = put_side _ _ m.schema m.config a h own shows c.enter_block.new.self _ streamed in
+    let pushed : c.enter_block.new.deeds ≡ m.deeds ++ d ∷ [] = c.in_ok-enter_block.ensures.deeds in
+    adds_own m c.enter_block.new.deeds m.words d a own _ (latest_first m.deeds c.enter_block.new.deeds d pushed) got (ap (λ (x : Cpu g.row.B.Denot). x.caller) streamed)

@@ -6,7 +6,7 @@ use Rattle.dspec_deeds.specs.Own.{stream}
 use Rattle.dspec_deeds.specs.Reports.{report}
 use Rattle.dspec_deeds.specs.Closes.{closing}
 use Rattle.dspec_machine.proofs.Collected.{one_more_cpu, streams_there, reports_there}
-use Rattle.dspec_machine.proofs.MachineReads.{side_read}
+use Rattle.dspec_machine.proofs.MachineReads.{cpu_read}
 use Rattle.dspec_machine.proofs.machine.Machine.finish.Goals as goal
 
 pub loop-cpu-preserved : goal.loop-cpu-preserved
@@ -14,8 +14,8 @@ loop-cpu-preserved g c =
     let n = c.close.new.self in
     let a = c.loop-cpu.cpu in
     let h = history n in
-    let side = side_read g.B.TraceBuffer.has g.B.TraceBuffer.capacity n c.in_ok-close.ensures.shown a c.index.result.now c.loop-cpu-test.true c.index.ensures in (
-      one_more_cpu (λ b. stream b h) a c.loop-cpu.accepted c.push.new.self _ c.loop-cpu.invariant.0 c.in_ok-push.ensures.ok (c.in_ok-copied.ensures ∙ (c.as_slice.ensures ∙ side.accepted)),
+    let own = cpu_read g.B.TraceBuffer.has g.B.TraceBuffer.capacity n c.in_ok-close.ensures.shown a c.index.result.now c.loop-cpu-test.true c.index.ensures in (
+      one_more_cpu (λ b. stream b h) a c.loop-cpu.accepted c.push.new.self _ c.loop-cpu.invariant.0 c.in_ok-push.ensures.ok (c.in_ok-copied.ensures ∙ (c.as_slice.ensures ∙ own.accepted)),
       one_more_cpu (λ b. report n.config b (the_caller (state_of n).callers b).worn h) a c.loop-cpu.reports c.push-in-loop-cpu.new.self _ c.loop-cpu.invariant.1
           c.in_ok-push-2.ensures.ok c.report.ensures,
     )

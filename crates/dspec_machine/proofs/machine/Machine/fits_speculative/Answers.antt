@@ -1,34 +1,39 @@
-use Rattle.std.proofs.Common.{◌≡◌, ap, sym, ◌∙◌, arith, map, Some}
-use Rattle.std.specs.Prelude.{nat_le}
-use Rattle.dspec_buffer.specs.Extent.{one}
-use Rattle.dspec_deeds.specs.Own.{contents, held}
+use Rattle.std.proofs.Common.{sym}
 use Rattle.dspec_machine.specs.Machines.{history}
-use Rattle.dspec_machine.proofs.MachineReads.{side_read, buffer_read, slot_in_range, fits_one}
+use Rattle.dspec_machine.proofs.MachineReads.{cpu_read, slot_in_range}
+use Rattle.dspec_machine.proofs.OwnSlots.{caller_is, mark_there, place_there}
 use Rattle.dspec_machine.proofs.machine.Machine.fits_speculative.Goals as goal
 
-pub index-buffer-requires : goal.index-buffer-requires
-index-buffer-requires g c =
-    let s = side_read g.B.TraceBuffer.has g.B.TraceBuffer.capacity c.args.self.now c.requires.shown c.args.cpu c.index.result.now c.requires.cpu c.index.ensures in
-    let r = slot_in_range c.args.self.now.config c.args.id c.requires.slot in
-    let n = s.buffer_count in
-    let v = c.slot.ensures.value in
-    omega (arith, n, v, r.0, r.1)
+pub is_mine-mine-requires : goal.is_mine-mine-requires
+is_mine-mine-requires g c =
+    let m = c.args.self.now in
+    let a = c.args.cpu in
+    let id = c.args.id in
+    let h = history m in
+    let own = c.index.result.now in
+    let shows = cpu_read _ _ m c.requires.shown a own c.requires.cpu c.index.ensures in
+    let slot = slot_in_range m.config id c.requires.slot in
+    record { slot = mark_there _ _ m.config a h own.side shows.side id slot }
 
-pub fits-requires : goal.fits-requires
-fits-requires g c =
-    let e : g.S.Schema.shape_of c.args.self.now.schema c.epid.result ≡ Some c.in-Some.shape = sym c.in-Some.ensures in
-    (g.met.S.Schema.shapes_fit c.args.self.now.schema c.epid.result c.in-Some.shape e).aligned
+pub fits_slot-requires : goal.fits_slot-requires
+fits_slot-requires g c =
+    let m = c.args.self.now in
+    let a = c.args.cpu in
+    let id = c.args.id in
+    let h = history m in
+    let own = c.index.result.now in
+    let shows = cpu_read _ _ m c.requires.shown a own c.requires.cpu c.index.ensures in
+    let slot = slot_in_range m.config id c.requires.slot in
+    record { slot = place_there _ _ m.config a h own.side shows.side id slot; accepted = c.requires.accepted }
 
 pub returns : goal.returns
 returns g c =
-    let has = g.B.TraceBuffer.has in
-    let cap = g.B.TraceBuffer.capacity in
     let m = c.args.self.now in
-    let shape = g.S.Schema.shape_of m.schema in
-    let s = side_read has cap m c.requires.shown c.args.cpu c.index.result.now c.requires.cpu c.index.ensures in
-    let b = buffer_read has cap m c.requires.shown c.args.cpu c.index.result.now c.args.id c.slot.result c.index-buffer.result.now s
-    (slot_in_range m.config c.args.id c.requires.slot) c.slot.ensures.value c.requires.present c.index-buffer.ensures in
-    let ps = map one (contents (held c.args.cpu c.args.id (history m))) in
-    let e : shape c.args.rec.now.epid ≡ Some c.in-Some.shape = ap shape (sym c.epid.ensures) ∙ sym c.in-Some.ensures in
-    c.fits.ensures m.schema ps b.has_pieces
-    ∙ (ap (nat_le _) b.sized ∙ fits_one shape ps c.args.rec.now c.in-Some.shape m.config.specsize e)
+    let a = c.args.cpu in
+    let id = c.args.id in
+    let h = history m in
+    let own = c.index.result.now in
+    let shows = cpu_read _ _ m c.requires.shown a own c.requires.cpu c.index.ensures in
+    let slot = slot_in_range m.config id c.requires.slot in
+    let now = sym c.requires.present in
+    c.fits_slot.ensures a h shows.side (caller_is _ _ m.config a h own.side shows.side id slot c.requires.cpu c.requires.sound now c.is_mine-mine.result c.is_mine-mine.ensures.tells)

@@ -7,15 +7,15 @@ use Rattle.dspec_play.specs.declared.flight.Spare.TheVariants as spare
 use Rattle.dspec_deeds.specs.Own.{seals}
 use Rattle.dspec_play.specs.Coherent.{the_caller}
 use Rattle.dspec_machine.specs.Machines.{history, state_of}
-use Rattle.dspec_machine.proofs.MachineReads.{side_got, side_read}
+use Rattle.dspec_machine.proofs.MachineReads.{cpu_got, cpu_read}
 use Rattle.dspec_machine.proofs.Makings.{adds_none, step_made}
 use Rattle.dspec_machine.proofs.OneMore.{caller_there}
 use Rattle.dspec_play.proofs.ServiceMoves.{unwanted, full, wanted, asks_first, asks_none, asks_spare}
-use Rattle.dspec_machine.proofs.machine.Machine.load_ask.Goals.{then-side-via-then-side, then-side-via-else-side+then-side-self, in-InHand, in_default}
+use Rattle.dspec_machine.proofs.machine.Machine.load_ask.Goals.{then-own-via-then-own, then-own-via-else-own+then-own-self, in-InHand, in_default}
 use Rattle.dspec_machine.proofs.machine.Machine.load_ask.Goals as goal
 
-pub returns-then-side-clause-makes : goal.returns-then-side-clause-makes
-returns-then-side-clause-makes g c =
+pub returns-then-own-clause-makes : goal.returns-then-own-clause-makes
+returns-then-own-clause-makes g c =
     let has = g.B.TraceBuffer.has in
     let capacity = g.B.TraceBuffer.capacity in
     let m = c.args.self.now in
@@ -23,19 +23,20 @@ returns-then-side-clause-makes g c =
     let a = c.args.cpu in
     let h = history m in
     let me = the_caller (state_of m).callers a in
-    let side = c.index-side.result.now in
-    let is : me ≡ side.caller = caller_there m.sides.items a side (side_got has capacity m c.requires.stands.shown a side c.requires.stands.cpu c.index-side.ensures) in
-    let sealed : side.seals ≡ seals a h = (side_read has capacity m c.requires.stands.shown a side c.requires.stands.cpu c.index-side.ensures).sealed in
-    let want : side.caller.want ≡ me.want = ap (λ (x : Caller). x.want) (sym is) in
+    let own = c.index-own.result.now in
+    let is : me ≡ own.caller = caller_there m.cpus.items a own (cpu_got has capacity m c.requires.stands.shown a own c.requires.stands.cpu c.index-own.ensures) in
+    let sealed : own.side.seals ≡ seals a h = (cpu_read has capacity m c.requires.stands.shown a own c.requires.stands.cpu c.index-own.ensures).side.parts.sealed in
+    let want : own.caller.want ≡ me.want = ap (λ (x : Caller). x.want) (sym is) in
     let asks : (nat_lt (seals a h) me.want && nat_lt (seals a h) k.max_calls) ≡ false =
-    elim c.then-side.branch [
-      | then-side-via-then-side w ↦ unwanted (seals a h) me.want k.max_calls (subst (λ n. n ≤ seals a h) want (subst (λ n. side.caller.want ≤ n) sealed w.if-side.true))
-      | then-side-via-else-side+then-side-self w ↦ full (seals a h) me.want k.max_calls (subst (λ n. k.max_calls ≤ n) sealed w.if-side-self.true)
+    elim c.then-own.branch [
+      | then-own-via-then-own w ↦ unwanted (seals a h) me.want k.max_calls (subst (λ n. n ≤ seals a h) want (subst (λ n. own.caller.want ≤ n) sealed w.if-own.true))
+      | then-own-via-else-own+then-own-self w ↦ full (seals a h) me.want k.max_calls (subst (λ n. k.max_calls ≤ n) sealed w.if-own-self.true)
     ] in
     step_made has capacity m m c.serve_first.new.self a []
     (λ (x : Caller). record x { flight = Some (flight.ServiceLoad 1 record { sealed = false; settled = 0 }); steps = x.steps + 1 }) _ c.serve_first.result
     (adds_none m) c.serve_first.ensures.shown c.serve_first.ensures.state c.serve_first.ensures.schema
-    (asks_none (g.S.Schema.shape_of m.schema) k a h me me.spare _ c.serve_first.result asks c.serve_first.ensures.answer ∙ asks_first (g.S.Schema.shape_of m.schema) k a h me c.requires.switched)
+    (asks_none (g.S.Schema.shape_of m.schema) k a h me me.spare _ c.serve_first.result asks c.serve_first.ensures.answer ∙ asks_first (g.S.Schema.shape_of m.schema) k a h me
+    c.requires.switched)
 
 pub returns-then-not-matches-clause-makes : goal.returns-then-not-matches-clause-makes
 returns-then-not-matches-clause-makes g c =
@@ -46,12 +47,13 @@ returns-then-not-matches-clause-makes g c =
     let a = c.args.cpu in
     let h = history m in
     let me = the_caller (state_of m).callers a in
-    let side = c.index-side.result.now in
-    let is : me ≡ side.caller = caller_there m.sides.items a side (side_got has capacity m c.requires.stands.shown a side c.requires.stands.cpu c.index-side.ensures) in
-    let sealed : side.seals ≡ seals a h = (side_read has capacity m c.requires.stands.shown a side c.requires.stands.cpu c.index-side.ensures).sealed in
-    let want : side.caller.want ≡ me.want = ap (λ (x : Caller). x.want) (sym is) in
+    let own = c.index-own.result.now in
+    let is : me ≡ own.caller = caller_there m.cpus.items a own (cpu_got has capacity m c.requires.stands.shown a own c.requires.stands.cpu c.index-own.ensures) in
+    let sealed : own.side.seals ≡ seals a h = (cpu_read has capacity m c.requires.stands.shown a own c.requires.stands.cpu c.index-own.ensures).side.parts.sealed in
+    let want : own.caller.want ≡ me.want = ap (λ (x : Caller). x.want) (sym is) in
     let asks : (nat_lt (seals a h) me.want && nat_lt (seals a h) k.max_calls) ≡ true =
-    wanted (seals a h) me.want k.max_calls (subst (λ n. seals a h < n) want (subst (λ n. n < side.caller.want) sealed c.if-side.false)) (subst (λ n. n < k.max_calls) sealed c.if-side-self.false) in
+    wanted (seals a h) me.want k.max_calls (subst (λ n. seals a h < n) want (subst (λ n. n < own.caller.want) sealed c.if-own.false)) (subst (λ n. n < k.max_calls) sealed
+    c.if-own-self.false) in
     let out : me.spare ≢ spare.InHand =
     elim c.match-matches.branch [
       | in-InHand w ↦ (λ e. absurd (cc (c.if-not-matches.true, w.matches-is)))

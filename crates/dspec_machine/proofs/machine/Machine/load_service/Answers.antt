@@ -11,7 +11,7 @@ use Rattle.dspec_deeds.specs.History.{ack, word_at}
 use Rattle.dspec_play.specs.Coherent.{the_caller}
 use Rattle.dspec_machine.specs.Machines.{Makes, history, state_of}
 use Rattle.dspec_play.specs.Play.{Moved, served}
-use Rattle.dspec_machine.proofs.MachineReads.{side_read}
+use Rattle.dspec_machine.proofs.MachineReads.{cpu_read}
 use Rattle.dspec_machine.proofs.Makings.{adds_none, step_made}
 use Rattle.dspec_machine.proofs.OneMore.{word_there}
 use Rattle.dspec_play.proofs.ServiceMoves.{served_deeds, store_next, passed_by}
@@ -22,8 +22,8 @@ pub index-acked-requires : goal.index-acked-requires
 index-acked-requires g c =
     let m = c.args.self.now in
     let s = c.args.slot in
-    let side = side_read g.B.TraceBuffer.has g.B.TraceBuffer.capacity m c.requires.shown c.args.cpu c.index.result.now c.requires.cpu c.index.ensures in
-    let n = side.ack_count in
+    let parts = (cpu_read g.B.TraceBuffer.has g.B.TraceBuffer.capacity m c.requires.shown c.args.cpu c.index.result.now c.requires.cpu c.index.ensures).side.parts in
+    let n = parts.ack_count in
     let least = c.requires.slot.0 in
     let most = c.requires.slot.1 in
     omega (arith, n, least, most)
@@ -47,10 +47,10 @@ returns-in-Granted g c =
     let me = the_caller (state_of m).callers a in
     let w = c.index-word.result.now in
     let word = word_there k h m.words.items s w c.requires.slot.0 c.requires.slot.1 c.requires.shown.words c.index-word.ensures in
-    let side = side_read g.B.TraceBuffer.has g.B.TraceBuffer.capacity m c.requires.shown a c.index.result.now c.requires.cpu c.index.ensures in
+    let parts = (cpu_read g.B.TraceBuffer.has g.B.TraceBuffer.capacity m c.requires.shown a c.index.result.now c.requires.cpu c.index.ensures).side.parts in
     let lt : s - 1 < k.nspec = let least = c.requires.slot.0 in let most = c.requires.slot.1 in omega (arith, least, most) in
-    let read = slice_get_read c.index.result.now.acks.items k.nspec (s - 1) c.index-acked.result.now (sym side.ack_count) lt c.index-acked.ensures in
-    let shows : slice_get c.index.result.now.acks.items (s - 1) ≡ Some (ack a s h) = side.acks s c.requires.slot in
+    let read = slice_get_read c.index.result.now.side.acks.items k.nspec (s - 1) c.index-acked.result.now (sym parts.ack_count) lt c.index-acked.ensures in
+    let shows : slice_get c.index.result.now.side.acks.items (s - 1) ≡ Some (ack a s h) = parts.acks s c.requires.slot.0 c.requires.slot.1 in
     let acked : c.index-acked.result.now ≡ ack a s h = cc in
     let act : settle_at (word_at s h) (ack a s h) ≡ Granted = sym (ap (λ (x : SlotState). settle_at x c.index-acked.result.now) word ∙ ap (settle_at (word_at s h)) acked)
     ∙ (sym c.settle_at.ensures ∙ c.in-Granted.is) in
@@ -72,10 +72,10 @@ returns-in_default g c =
     let me = the_caller (state_of m).callers a in
     let w = c.index-word.result.now in
     let word = word_there k h m.words.items s w c.requires.slot.0 c.requires.slot.1 c.requires.shown.words c.index-word.ensures in
-    let side = side_read has capacity m c.requires.shown a c.index.result.now c.requires.cpu c.index.ensures in
+    let parts = (cpu_read has capacity m c.requires.shown a c.index.result.now c.requires.cpu c.index.ensures).side.parts in
     let lt : s - 1 < k.nspec = let least = c.requires.slot.0 in let most = c.requires.slot.1 in omega (arith, least, most) in
-    let read = slice_get_read c.index.result.now.acks.items k.nspec (s - 1) c.index-acked.result.now (sym side.ack_count) lt c.index-acked.ensures in
-    let shows : slice_get c.index.result.now.acks.items (s - 1) ≡ Some (ack a s h) = side.acks s c.requires.slot in
+    let read = slice_get_read c.index.result.now.side.acks.items k.nspec (s - 1) c.index-acked.result.now (sym parts.ack_count) lt c.index-acked.ensures in
+    let shows : slice_get c.index.result.now.side.acks.items (s - 1) ≡ Some (ack a s h) = parts.acks s c.requires.slot.0 c.requires.slot.1 in
     let acked : c.index-acked.result.now ≡ ack a s h = cc in
     let act : c.settle_at.result ≡ settle_at (word_at s h) (ack a s h) =
     c.settle_at.ensures ∙ (ap (λ (x : SlotState). settle_at x c.index-acked.result.now) word ∙ ap (settle_at (word_at s h)) acked) in

@@ -59,4 +59,5 @@ returns-in_default-clause-makes g c =
     let me = the_caller (state_of m).callers a in
     let acts = c.act.ensures ∙ act_reads c.args.decision h a id c.word_of-word.result c.is_mine-mine.result c.word_of-word.ensures c.is_mine-mine.ensures in
     let is = shown_voids shape m.config a h me id c.args.decision (λ to e. c.in_default.not-Attempt to (acts ∙ e)) in
-    subst (λ (x : Moved). IfOk c.decide_nothing.result (λ answer. Makes g.B.TraceBuffer.has g.B.TraceBuffer.capacity m c.decide_nothing.new.self a x answer)) (sym is) c.decide_nothing.ensures.makes
+    subst (λ (x : Moved). IfOk c.decide_nothing.result (λ answer. Makes g.B.TraceBuffer.has g.B.TraceBuffer.capacity m c.decide_nothing.new.self a x answer)) (sym is)
+    c.decide_nothing.ensures.makes

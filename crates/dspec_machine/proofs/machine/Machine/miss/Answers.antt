@@ -17,14 +17,15 @@ use Rattle.dspec_play.specs.Coherent.{the_caller, PlayState}
 use Rattle.dspec_machine.specs.Machines.{history, state_of}
 use Rattle.dspec_play.specs.Play.{missed}
 use Rattle.dspec_deeds.specs.Reports.{missed_busy}
-use Rattle.dspec_machine.proofs.MachineReads.{side_read}
+use Rattle.dspec_machine.proofs.MachineReads.{cpu_read}
 use Rattle.dspec_machine.proofs.Makings.{step_made}
 use Rattle.dspec_machine.proofs.machine.Machine.miss.Goals.{then-index, else-index}
 use Rattle.dspec_machine.proofs.machine.Machine.miss.Goals as goal
 
 -- the answer of a call that has failed
 failed : (shape : ℕ → Option Shape) (k : Config) (c : ℕ) (h : List Deed) (me : Caller) (s : ℕ) (w : SlotState) (busy seen : Bool) (told : Opening) (a : Option Answer)
-    → (s == k.nspec) ≡ true → busy ≡ is_decided w.code → seen ≡ missed_busy c (Miss c s busy ∷ h) → told ≡ (if seen then opening.Busy else opening.Unavailable) → a ≡ Some (answer.Opening told)
+    → (s == k.nspec) ≡ true → busy ≡ is_decided w.code → seen ≡ missed_busy c (Miss c s busy ∷ h) → told ≡ (if seen then opening.Busy else opening.Unavailable) → a ≡ Some
+    (answer.Opening told)
     → record { caller = record me { flight = None; steps = 0 }; deeds = Miss c s busy ∷ []; answer = a } ≡ missed shape k c h me s w
 failed shape k c h me s w busy seen told a last code found tells is = rw (last, is, tells, found, code) refl
 
@@ -64,15 +65,15 @@ returns-clause-makes g c =
     let same : n.config ≡ m.config = ap (λ (st : PlayState). st.config) entered.state in
     let deeds : history n ≡ Miss a s busy ∷ history m = ap (λ (st : PlayState). st.deeds) entered.state in
     let cpu : a < n.config.cpus = subst (λ k. a < k.cpus) (sym same) c.requires.cpu in
-    let side = side_read has capacity n c.in_ok-enter_miss.ensures.shown a c.index.result.now cpu c.index.ensures in
-    let seen : c.index.result.now.missed_busy ≡ missed_busy a (Miss a s busy ∷ history m) = side.missed ∙ ap (missed_busy a) deeds in
+    let own = cpu_read has capacity n c.in_ok-enter_miss.ensures.shown a c.index.result.now cpu c.index.ensures in
+    let seen : c.index.result.now.side.missed_busy ≡ missed_busy a (Miss a s busy ∷ history m) = own.side.parts.missed ∙ ap (missed_busy a) deeds in
     let most : m.config.nspec ≤ s = subst (λ k. k.nspec ≤ s) same c.if-slot-self.false in
     let within = c.requires.slot in
     let last : (s == m.config.nspec) ≡ true = grind (arith, nat_tests) in
     let code : busy ≡ is_decided c.args.word.code = search rules in
-    let tells : c.if-index.opening ≡ (if c.index.result.now.missed_busy then opening.Busy else opening.Unavailable) =
+    let tells : c.if-index.opening ≡ (if c.index.result.now.side.missed_busy then opening.Busy else opening.Unavailable) =
     elim c.if-index.branch [ then-index w ↦ rw w.if-index.true w.opening-is | else-index w ↦ rw w.if-index.false w.opening-is ] in
     step_made has capacity m n c.end.new.self a (Miss a s busy ∷ []) (λ (me : Caller). record me { flight = None; steps = 0 }) _ c.end.result entered c.end.ensures.shown
     c.end.ensures.state c.end.ensures.schema
-    (failed (g.S.Schema.shape_of m.schema) m.config a (history m) (the_caller (state_of m).callers a) s c.args.word busy c.index.result.now.missed_busy c.if-index.opening
+    (failed (g.S.Schema.shape_of m.schema) m.config a (history m) (the_caller (state_of m).callers a) s c.args.word busy c.index.result.now.side.missed_busy c.if-index.opening
     c.end.result last code seen tells c.end.ensures.answer)

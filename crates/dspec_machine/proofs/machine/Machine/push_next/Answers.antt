@@ -9,13 +9,13 @@ use Rattle.dspec_machine.proofs.machine.Machine.push_next.Goals as goal
 pub returns-clause-shown : goal.returns-clause-shown
 returns-clause-shown g c =
     let m = c.args.self.now in
-    let side = c.index_mut.result.now in
-    let got = slice_get_read m.sides.items m.config.cpus c.args.cpu side (sym c.requires.shown.side_count) c.requires.cpu c.index_mut.ensures.value in
-    caller_moves g.B.TraceBuffer.has g.B.TraceBuffer.capacity m c.args.cpu side _ c.requires.shown got refl
+    let own = c.index_mut.result.now in
+    let got = slice_get_read m.cpus.items m.config.cpus c.args.cpu own (sym c.requires.shown.cpu_count) c.requires.cpu c.index_mut.ensures.value in
+    caller_moves g.B.TraceBuffer.has g.B.TraceBuffer.capacity m c.args.cpu own _ c.requires.shown got refl refl
 
 pub returns-clause-state : goal.returns-clause-state
 returns-clause-state g c =
     let m = c.args.self.now in
-    let side = c.index_mut.result.now in
-    let got = slice_get_read m.sides.items m.config.cpus c.args.cpu side (sym c.requires.shown.side_count) c.requires.cpu c.index_mut.ensures.value in
-    state_moves m c.args.cpu side (λ (me : Caller). record me { flight = Some flight.ServicePush; steps = me.steps + 1; spare = spare.Sealed }) got
+    let own = c.index_mut.result.now in
+    let got = slice_get_read m.cpus.items m.config.cpus c.args.cpu own (sym c.requires.shown.cpu_count) c.requires.cpu c.index_mut.ensures.value in
+    state_moves m c.args.cpu own _ (λ (me : Caller). record me { flight = Some flight.ServicePush; steps = me.steps + 1; spare = spare.Sealed }) got refl

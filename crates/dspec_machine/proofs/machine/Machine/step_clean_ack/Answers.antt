@@ -5,7 +5,7 @@ use Rattle.std.proofs.lemmas.Bool.Decides.{nat_tests}
 use Rattle.dspec_deeds.specs.History.{ack}
 use Rattle.dspec_machine.specs.Machines.{history, state_of}
 use Rattle.dspec_play.proofs.CleanReads.{clean_stands, clean_steps_fit, number_there}
-use Rattle.dspec_machine.proofs.MachineReads.{side_read}
+use Rattle.dspec_machine.proofs.MachineReads.{cpu_read}
 use Rattle.dspec_machine.proofs.machine.Machine.step_clean_ack.Goals as goal
 
 pub index-requires-2 : goal.index-requires-2
@@ -13,7 +13,7 @@ index-requires-2 g c =
     let m = c.args.self.now in
     let at = clean_stands (g.S.Schema.shape_of m.schema) (state_of m) c.requires.stands.coherent _ c.requires.stands.flight in
     let slot = at.0 in
-    let count = (side_read g.B.TraceBuffer.has g.B.TraceBuffer.capacity m c.requires.stands.shown c.args.cpu c.index.result.now at.2 c.index.ensures).ack_count in
+    let count = (cpu_read g.B.TraceBuffer.has g.B.TraceBuffer.capacity m c.requires.stands.shown c.args.cpu c.index.result.now at.2 c.index.ensures).side.parts.ack_count in
     let low = slot.0 in
     let high = slot.1 in
     omega arith
@@ -31,11 +31,11 @@ pub returns-then-index-issue : goal.returns-then-index-issue
 returns-then-index-issue g c =
     let m = c.args.self.now in
     let at = clean_stands (g.S.Schema.shape_of m.schema) (state_of m) c.requires.stands.coherent _ c.requires.stands.flight in
-    let shows = side_read g.B.TraceBuffer.has g.B.TraceBuffer.capacity m c.requires.stands.shown c.args.cpu c.index.result.now at.2 c.index.ensures in
+    let shows = cpu_read g.B.TraceBuffer.has g.B.TraceBuffer.capacity m c.requires.stands.shown c.args.cpu c.index.result.now at.2 c.index.ensures in
     let low = at.0.0 in
     let high = at.0.1 in
-    let acked = number_there c.index.result.now.acks.items m.config.nspec (c.args.slot - 1) c.index-2.result.now (ack c.args.cpu c.args.slot (history m)) shows.ack_count
-    (omega arith) c.index-2.ensures (shows.acks c.args.slot at.0) in
+    let acked = number_there c.index.result.now.side.acks.items m.config.nspec (c.args.slot - 1) c.index-2.result.now (ack c.args.cpu c.args.slot (history m)) shows.side.parts.ack_count
+    (omega arith) c.index-2.ensures (shows.side.parts.acks c.args.slot low high) in
     let value = c.issue.ensures.value in
     let test = c.if-index-issue.true in
     let is : nat_lt c.args.word.issue (ack c.args.cpu c.args.slot (history m)) ≡ false = grind (arith, nat_tests) in
@@ -45,11 +45,11 @@ pub returns-then-cpu-self : goal.returns-then-cpu-self
 returns-then-cpu-self g c =
     let m = c.args.self.now in
     let at = clean_stands (g.S.Schema.shape_of m.schema) (state_of m) c.requires.stands.coherent _ c.requires.stands.flight in
-    let shows = side_read g.B.TraceBuffer.has g.B.TraceBuffer.capacity m c.requires.stands.shown c.args.cpu c.index.result.now at.2 c.index.ensures in
+    let shows = cpu_read g.B.TraceBuffer.has g.B.TraceBuffer.capacity m c.requires.stands.shown c.args.cpu c.index.result.now at.2 c.index.ensures in
     let low = at.0.0 in
     let high = at.0.1 in
-    let acked = number_there c.index.result.now.acks.items m.config.nspec (c.args.slot - 1) c.index-2.result.now (ack c.args.cpu c.args.slot (history m)) shows.ack_count
-    (omega arith) c.index-2.ensures (shows.acks c.args.slot at.0) in
+    let acked = number_there c.index.result.now.side.acks.items m.config.nspec (c.args.slot - 1) c.index-2.result.now (ack c.args.cpu c.args.slot (history m)) shows.side.parts.ack_count
+    (omega arith) c.index-2.ensures (shows.side.parts.acks c.args.slot low high) in
     let value = c.issue.ensures.value in
     let test = c.if-index-issue.false in
     let is : nat_lt c.args.word.issue (ack c.args.cpu c.args.slot (history m)) ≡ true = grind (arith, nat_tests) in
@@ -61,11 +61,11 @@ pub returns : goal.returns
 returns g c =
     let m = c.args.self.now in
     let at = clean_stands (g.S.Schema.shape_of m.schema) (state_of m) c.requires.stands.coherent _ c.requires.stands.flight in
-    let shows = side_read g.B.TraceBuffer.has g.B.TraceBuffer.capacity m c.requires.stands.shown c.args.cpu c.index.result.now at.2 c.index.ensures in
+    let shows = cpu_read g.B.TraceBuffer.has g.B.TraceBuffer.capacity m c.requires.stands.shown c.args.cpu c.index.result.now at.2 c.index.ensures in
     let low = at.0.0 in
     let high = at.0.1 in
-    let acked = number_there c.index.result.now.acks.items m.config.nspec (c.args.slot - 1) c.index-2.result.now (ack c.args.cpu c.args.slot (history m)) shows.ack_count
-    (omega arith) c.index-2.ensures (shows.acks c.args.slot at.0) in
+    let acked = number_there c.index.result.now.side.acks.items m.config.nspec (c.args.slot - 1) c.index-2.result.now (ack c.args.cpu c.args.slot (history m)) shows.side.parts.ack_count
+    (omega arith) c.index-2.ensures (shows.side.parts.acks c.args.slot low high) in
     let value = c.issue.ensures.value in
     let test = c.if-index-issue.false in
     let is : nat_lt c.args.word.issue (ack c.args.cpu c.args.slot (history m)) ≡ true = grind (arith, nat_tests) in

@@ -21,5 +21,6 @@ step_take-requires-clause-cpu g c =
 pub step_give_back-requires-clause-cpu : goal.step_give_back-requires-clause-cpu
 step_give_back-requires-clause-cpu g c =
     let k = c.args.self.now.config in
-    let below : nat_lt c.in-GiveBack.cpu k.cpus ≡ true = subst (λ (o : ConsumerOp). is_about k o ≡ true) c.in-GiveBack.is (c.requires.kept.about (consumer.Begun c.args.op) c.requires.flight) in
+    let below : nat_lt c.in-GiveBack.cpu k.cpus ≡ true = subst (λ (o : ConsumerOp). is_about k o ≡ true) c.in-GiveBack.is (c.requires.kept.about (consumer.Begun c.args.op)
+    c.requires.flight) in
     grind (arith, nat_tests)

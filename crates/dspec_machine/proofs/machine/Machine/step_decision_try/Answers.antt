@@ -49,7 +49,8 @@ look-requires-clause-legal g c =
     let m = c.args.self.now in
     let is = fails (g.S.Schema.shape_of m.schema) (state_of m) c.requires.stands.coherent c.args.cpu c.requires.stands.cpu c.args.decision c.args.id c.args.from
     c.requires.stands.flight c.word_of-word.result c.ne.result c.word_of-word.ensures c.ne.ensures c.if-ne.true in
-    step_legal (g.S.Schema.shape_of m.schema) (state_of m) c.requires.stands.coherent c.args.cpu c.requires.stands.cpu (try_of c.args.decision c.args.id c.args.from) c.requires.stands.flight _ is
+    step_legal (g.S.Schema.shape_of m.schema) (state_of m) c.requires.stands.coherent c.args.cpu c.requires.stands.cpu (try_of c.args.decision c.args.id c.args.from)
+    c.requires.stands.flight _ is
 
 pub returns-then-ne-clause-makes : goal.returns-then-ne-clause-makes
 returns-then-ne-clause-makes g c =

@@ -50,6 +50,7 @@ miss-requires g c =
       legal = subst (λ (w : SlotState). IsAllowed shape k (Miss a s (is_decided w.code) ∷ h)) (sym word)
           (subst (λ (ds : List Deed). IsAllowed shape k (ds ++ h)) (missed_deeds shape k a h me s (word_at s h)) legal);
       cpu = c.requires.stands.cpu;
+      few = c.requires.stands.few;
       slot = at.0.1;
       steps = steps_fit shape (state_of m) coherent a c.requires.stands.cpu f c.requires.stands.flight;
     }
@@ -66,7 +67,8 @@ returns-in-Attempt-clause-makes g c =
     let w = c.index-word.result.now in
     let at = flight_stands shape (state_of m) c.requires.stands.coherent a c.requires.stands.cpu (flight.ScanLoad s) c.requires.stands.flight in
     let word = word_there k h m.words.items s w at.0.0 at.0.1 c.requires.stands.shown.words c.index-word.ensures in
-    let attempts : open_at (word_at s h) k.max_issues ≡ Attempt c.in-Attempt.field-0 = ap (λ (x : SlotState). open_at x k.max_issues) (sym word) ∙ (sym c.open_at.ensures ∙ c.in-Attempt.is) in
+    let attempts : open_at (word_at s h) k.max_issues ≡ Attempt c.in-Attempt.field-0 = ap (λ (x : SlotState). open_at x k.max_issues) (sym word) ∙ (sym
+    c.open_at.ensures ∙ c.in-Attempt.is) in
     step_made g.B.TraceBuffer.has g.B.TraceBuffer.capacity m m c.go_on.new.self a [] (λ (x : Caller). record x { flight = Some (flight.ScanTry s w); steps = x.steps + 1 }) _ c.go_on.result
     (adds_none m) c.go_on.ensures.shown c.go_on.ensures.state c.go_on.ensures.schema
     (scan_tried shape k a h me s w (word_at s h) c.in-Attempt.field-0 (open_at (word_at s h) k.max_issues) c.go_on.result word attempts c.go_on.ensures.answer)

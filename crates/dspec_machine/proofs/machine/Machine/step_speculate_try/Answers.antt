@@ -114,7 +114,8 @@ returns-in-Attempt-act-clause-makes g c =
     ap (λ x. same_word x c.args.from) (sym c.word_of-word.ensures) ∙ (sym (words_test w c.args.from) ∙ (sym c.eq.ensures ∙ c.if-eq.false)) in
     let act : speculate_at (word_at id.slot h) id (is_among a (callers id h)) ≡ Attempt c.in-Attempt-act.field-0 =
     sym (speculate_reads h a id w c.is_mine-mine.result c.word_of-word.ensures c.is_mine-mine.ensures) ∙ (sym c.speculate_at-act.ensures ∙ c.in-Attempt-act.is) in
-    step_made g.B.TraceBuffer.has g.B.TraceBuffer.capacity m m c.go_on.new.self a [] (λ (x : Caller). record x { flight = Some (flight.SpeculateTry id r w); steps = x.steps + 1 }) _ c.go_on.result
+    step_made g.B.TraceBuffer.has g.B.TraceBuffer.capacity m m c.go_on.new.self a [] (λ (x : Caller). record x { flight = Some (flight.SpeculateTry id r w); steps = x.steps + 1 }) _
+    c.go_on.result
     (adds_none m) c.go_on.ensures.shown c.go_on.ensures.state c.go_on.ensures.schema
     (speculate_tried shape m.config a h me id r c.args.from w c.in-Attempt-act.field-0 c.go_on.result other act c.word_of-word.ensures c.go_on.ensures.answer)
 

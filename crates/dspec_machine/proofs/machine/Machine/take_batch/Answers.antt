@@ -10,38 +10,43 @@ use Rattle.dspec_deeds.specs.Own.{Batch, contents, seals, taken}
 use Rattle.dspec_machine.specs.Machines.{Cleans, history, state_of}
 use Rattle.dspec_play.specs.Play.{batch_at, changes}
 use Rattle.dspec_machine.specs.Shown.{batch_of_last_seal}
-use Rattle.dspec_machine.proofs.CleanMakings.{puts_stops, side_puts, state_puts, taken_side}
+use Rattle.dspec_machine.proofs.CleanMakings.{puts_stops}
 use Rattle.dspec_deeds.proofs.Items.{kept_item}
-use Rattle.dspec_machine.proofs.MachineReads.{length_contents, side_got}
+use Rattle.dspec_machine.proofs.MachineReads.{length_contents, cpu_got}
+use Rattle.dspec_machine.proofs.KeptCpus.{taking}
+use Rattle.dspec_machine.proofs.Makings.{cpu_puts, state_puts}
+use Rattle.dspec_machine.proofs.KeptCpus.{taking}
+use Rattle.dspec_machine.proofs.Makings.{cpu_puts, state_puts}
 use Rattle.dspec_machine.proofs.OneMore.{caller_there}
 use Rattle.dspec_machine.proofs.TakenBatches.{next_batch, taken_more}
-use Rattle.dspec_machine.proofs.Blocks.{on_err}
+use Rattle.dspec_machine.proofs.OwnSlots.{on_err}
 use Rattle.dspec_machine.proofs.machine.Machine.take_batch.Goals as goal
 
 pub returns-in_err-append_records-clause-refused : goal.returns-in_err-append_records-clause-refused
 returns-in_err-append_records-clause-refused g c =
     let m = c.args.self.now in
-    let side = c.index_mut-side.result.now in
-    let none : c.append_records.new.to ≡ side.taken = c.in_err-append_records.ensures.err in
-    let sides = ap (λ (xs : List Record). with_item m.sides c.args.cpu (record side { taken = xs })) none ∙ kept_item m.sides c.args.cpu side c.index_mut-side.ensures.value in
-    on_err c.from_residual.result (λ i. record m { sides = sides i })
+    let own = c.index_mut-own.result.now in
+    let none : c.append_records.new.to ≡ own.taken = c.in_err-append_records.ensures.err in
+    let cpus = ap (λ (xs : List Record). with_item m.cpus c.args.cpu (record own { taken = xs })) none ∙ kept_item m.cpus c.args.cpu own c.index_mut-own.ensures.value in
+    on_err c.from_residual.result (λ i. record m { cpus = cpus i })
 
 pub stop_consumer-requires : goal.stop_consumer-requires
 stop_consumer-requires g c =
     let m = c.args.self.now in
     let a = c.args.cpu in
     let h = history m in
-    let side = c.index_mut-side.result.now in
-    let got = side_got g.B.TraceBuffer.has g.B.TraceBuffer.capacity m c.requires.shown a side c.requires.cpu c.index_mut-side.ensures.value in
-    let shows = c.requires.shown.sides a side got in
-    let sealed : seals a h ≡ side.caller.takes + 1 = subst (λ (x : Caller). seals a h ≡ x.takes + 1) (caller_there m.sides.items a side got) c.requires.sealed in
+    let own = c.index_mut-own.result.now in
+    let got = cpu_got g.B.TraceBuffer.has g.B.TraceBuffer.capacity m c.requires.shown a own c.requires.cpu c.index_mut-own.ensures.value in
+    let shows = c.requires.shown.cpus a own got in
+    let sealed : seals a h ≡ own.caller.takes + 1 = subst (λ (x : Caller). seals a h ≡ x.takes + 1) (caller_there m.cpus.items a own got) c.requires.sealed in
     let grown = c.in_ok-append_records.ensures.ok shows.second.pieces shows.second.has_pieces in
-    let took : c.append_records.new.to ≡ taken (side.caller.takes + 1) a h
-    = grown ∙ (ap (λ (rs : List Record). side.taken ++ reverse rs) shows.second.are
-    ∙ (ap (λ (rs : List Record). rs ++ reverse (contents (batch_of_last_seal a h).offers)) shows.took ∙ sym (taken_more a h side.caller.takes sealed))) in
+    let took : c.append_records.new.to ≡ taken (own.caller.takes + 1) a h
+    = grown ∙ (ap (λ (rs : List Record). own.taken ++ reverse rs) shows.second.are
+    ∙ (ap (λ (rs : List Record). rs ++ reverse (contents (batch_of_last_seal a h).offers)) shows.took ∙ sym (taken_more a h own.caller.takes sealed))) in
     record {
-      shown = side_puts g.B.TraceBuffer.has g.B.TraceBuffer.capacity m a side _ c.requires.shown got
-          (taken_side g.B.TraceBuffer.has g.B.TraceBuffer.capacity m a side (record side.caller { spare = spare.Out; takes = side.caller.takes + 1 }) c.append_records.new.to shows took);
+      shown = cpu_puts g.B.TraceBuffer.has g.B.TraceBuffer.capacity m a own _ c.requires.shown got
+          (taking g.B.TraceBuffer.has g.B.TraceBuffer.capacity m.schema m.config a h own shows (record own.caller { spare = spare.Out; takes = own.caller.takes + 1 })
+          c.append_records.new.to took refl);
     }
 
 pub returns-clause-cleans : goal.returns-clause-cleans
@@ -51,21 +56,21 @@ returns-clause-cleans g c =
     let h = history m in
     let k = m.config in
     let all = (state_of m).callers in
-    let side = c.index_mut-side.result.now in
-    let got = side_got g.B.TraceBuffer.has g.B.TraceBuffer.capacity m c.requires.shown a side c.requires.cpu c.index_mut-side.ensures.value in
-    let shows = c.requires.shown.sides a side got in
-    let is = caller_there m.sides.items a side got in
-    let sealed : seals a h ≡ side.caller.takes + 1 = subst (λ (x : Caller). seals a h ≡ x.takes + 1) is c.requires.sealed in
-    let batch = next_batch a h side.caller.takes sealed in
-    let drops : side.sealed_drops ≡ (batch_at a side.caller.takes h).drops = shows.sealed_drops ∙ ap (λ (b : Batch). b.drops) (sym batch) in
-    let from : c.len-from.result ≡ length (taken side.caller.takes a h) = c.len-from.ensures ∙ ap (λ (rs : List Record). length rs) shows.took in
-    let count : c.count.result ≡ length (batch_at a side.caller.takes h).offers
+    let own = c.index_mut-own.result.now in
+    let got = cpu_got g.B.TraceBuffer.has g.B.TraceBuffer.capacity m c.requires.shown a own c.requires.cpu c.index_mut-own.ensures.value in
+    let shows = c.requires.shown.cpus a own got in
+    let is = caller_there m.cpus.items a own got in
+    let sealed : seals a h ≡ own.caller.takes + 1 = subst (λ (x : Caller). seals a h ≡ x.takes + 1) is c.requires.sealed in
+    let batch = next_batch a h own.caller.takes sealed in
+    let drops : own.sealed_drops ≡ (batch_at a own.caller.takes h).drops = shows.sealed_drops ∙ ap (λ (b : Batch). b.drops) (sym batch) in
+    let from : c.len-from.result ≡ length (taken own.caller.takes a h) = c.len-from.ensures ∙ ap (λ (rs : List Record). length rs) shows.took in
+    let count : c.count.result ≡ length (batch_at a own.caller.takes h).offers
     = c.count.ensures m.schema shows.second.pieces shows.second.has_pieces
     ∙ (ap (λ (rs : List Record). length rs) shows.second.are ∙ (length_contents (batch_of_last_seal a h).offers ∙ ap (λ (b : Batch). length b.offers) (sym batch))) in
-    let said : answer.Took side.sealed_drops c.len-from.result c.count.result
-    ≡ answer.Took (batch_at a side.caller.takes h).drops (length (taken side.caller.takes a h)) (length (batch_at a side.caller.takes h).offers)
+    let said : answer.Took own.sealed_drops c.len-from.result c.count.result
+    ≡ answer.Took (batch_at a own.caller.takes h).drops (length (taken own.caller.takes a h)) (length (batch_at a own.caller.takes h).offers)
     = λ i. answer.Took (drops i) (from i) (count i) in
-    let new = record side { caller = record side.caller { spare = spare.Out; takes = side.caller.takes + 1 }; taken = c.append_records.new.to } in
+    let new = record own { caller = record own.caller { spare = spare.Out; takes = own.caller.takes + 1 }; taken = c.append_records.new.to } in
     subst (λ (x : Caller). Cleans g.B.TraceBuffer.has g.B.TraceBuffer.capacity m c.stop_consumer.new.self
     (changes k h m.consumer all a (record x { spare = spare.Out; takes = x.takes + 1 })
     (answer.Took (batch_at a x.takes h).drops (length (taken x.takes a h)) (length (batch_at a x.takes h).offers))) c.stop_consumer.result) (sym is)

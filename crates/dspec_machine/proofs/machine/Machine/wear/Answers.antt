@@ -1,22 +1,42 @@
-use Rattle.std.proofs.Common.{◌≡◌, ◌+◌, ◌-◌, ◌^◌, None, min, refl, sym, ap, ◌∙◌}
-use Rattle.std.proofs.lemmas.Option.{slice_get_read}
+-- A call more was worn, by the CPU's counts and by its caller.
+use Rattle.std.proofs.Common.{◌≡◌, ◌+◌, ◌-◌, ◌^◌, ◌<◌, ℕ, Bool, true, false, None, min, if◌then◌else◌, refl, sym, ap, ◌∙◌, subst, arith, ⊎_elim}
+use Rattle.std.specs.Prelude.{nat_lt}
+use Rattle.std.proofs.lemmas.Bool.Decides.{nat_tests}
+use Rattle.dspec_deeds.proofs.TestLemmas.{either_way}
 use Rattle.dspec_play.specs.declared.flight.Caller.{Caller}
-use Rattle.dspec_machine.specs.Machines.{state_of}
-use Rattle.dspec_machine.proofs.Makings.{state_moves, caller_moves, with_caller}
+use Rattle.dspec_side.specs.declared.counts.Counts.{Counts}
+use Rattle.dspec_side.specs.Counting.{one_more_worn}
+use Rattle.dspec_machine.specs.declared.cpu.Cpu.{Cpu}
+use Rattle.dspec_machine.specs.Machines.{IsShownMachine, history, state_of}
+use Rattle.std.specs.Vec.{with_item}
+use Rattle.dspec_machine.proofs.KeptCpus.{wearing}
+use Rattle.dspec_machine.proofs.MachineReads.{cpu_got}
+use Rattle.dspec_machine.proofs.Makings.{cpu_puts, state_moves}
 use Rattle.dspec_machine.proofs.machine.Machine.wear.Goals as goal
+
+-- one more, or the greatest number of 64 bits
+one_more : (n : ℕ) → n < 2 ^ 64 → one_more_worn n ≡ min (n + 1) (2 ^ 64 - 1)
+one_more n lt = ⊎_elim
+    (λ (t : nat_lt (n + 1) (2 ^ 64) ≡ true). rw t (grind (arith, nat_tests)))
+    (λ (f : nat_lt (n + 1) (2 ^ 64) ≡ false). rw f (grind (arith, nat_tests)))
+    (either_way (nat_lt (n + 1) (2 ^ 64)))
 
 pub returns-clause-shown : goal.returns-clause-shown
 returns-clause-shown g c =
     let m = c.args.self.now in
-    let side = c.index_mut.result.now in
-    let got = slice_get_read m.sides.items m.config.cpus c.args.cpu side (sym c.requires.shown.side_count) c.requires.cpu c.index_mut.ensures.value in
-    caller_moves g.B.TraceBuffer.has g.B.TraceBuffer.capacity m c.args.cpu side _ c.requires.shown got refl
+    let own = c.index_mut-own.result.now in
+    let got = cpu_got g.B.TraceBuffer.has g.B.TraceBuffer.capacity m c.requires.shown c.args.cpu own c.requires.cpu c.index_mut-own.ensures.value in
+    cpu_puts g.B.TraceBuffer.has g.B.TraceBuffer.capacity m c.args.cpu own _ c.requires.shown got
+    (wearing g.B.TraceBuffer.has g.B.TraceBuffer.capacity m.schema m.config c.args.cpu (history m) own (c.requires.shown.cpus c.args.cpu own got) c.wear.new.self _ c.wear.ensures refl refl)
 
 pub returns-clause-state : goal.returns-clause-state
 returns-clause-state g c =
     let m = c.args.self.now in
-    let side = c.index_mut.result.now in
-    let got = slice_get_read m.sides.items m.config.cpus c.args.cpu side (sym c.requires.shown.side_count) c.requires.cpu c.index_mut.ensures.value in
-    let e : c.saturating_add-caller.result ≡ min (side.caller.worn + 1) (2 ^ 64 - 1) = c.saturating_add-caller.ensures in
-    ap (λ n. state_of (with_caller m c.args.cpu side (record side.caller { flight = None; steps = 0; worn = n }))) e
-    ∙ state_moves m c.args.cpu side (λ (me : Caller). record me { flight = None; steps = 0; worn = min (me.worn + 1) (2 ^ 64 - 1) }) got
+    let own = c.index_mut-own.result.now in
+    let got = cpu_got g.B.TraceBuffer.has g.B.TraceBuffer.capacity m c.requires.shown c.args.cpu own c.requires.cpu c.index_mut-own.ensures.value in
+    let was = (c.requires.shown.cpus c.args.cpu own got).worn in
+    let few = (c.requires.shown.cpus c.args.cpu own got).few_worn in
+    let worn : c.wear.new.self.worn ≡ min (own.caller.worn + 1) (2 ^ 64 - 1) =
+    ap (λ (n : Counts). n.worn) c.wear.ensures ∙ (one_more own.side.counts.worn (subst (λ n. n < 2 ^ 64) (sym was) few) ∙ ap (λ n. min (n + 1) (2 ^ 64 - 1)) was) in
+    state_moves m c.args.cpu own _ (λ (me : Caller). record me { flight = None; steps = 0; worn = min (me.worn + 1) (2 ^ 64 - 1) }) got
+    (ap (λ n. record own.caller { flight = None; steps = 0; worn = n }) worn)

@@ -4,4 +4,4 @@ use Rattle.dspec_session.proofs.Callings.{consumer_called}
 use Rattle.dspec_replay.proofs.playing.Playing.run_consumer.Goals as goal
 
 pub returns-clause-session : goal.returns-clause-session
-returns-clause-session g c = consumer_called _ _ c.args.self.now.session _ c.requires.session c.call_consumer.ensures.session c.call_consumer.ensures.same refl refl
+returns-clause-session g c = consumer_called _ c.args.self.now.session _ c.requires.session c.call_consumer.ensures.session c.call_consumer.ensures.same refl refl

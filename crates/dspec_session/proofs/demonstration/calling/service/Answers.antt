@@ -1,5 +1,7 @@
 use Rattle.std.proofs.Common.{◌++◌, ap, sym, ◌∙◌, rules}
 use Rattle.dspec_deeds.specs.Own.{calls}
+use Rattle.dspec_record.specs.EnablingRows.{EnabledRows}
+use Rattle.dspec_cpu.specs.Standing.{Identity}
 use Rattle.dspec_cpu.specs.Switching.{with_seal}
 use Rattle.dspec_session.proofs.Servings.{service_reads}
 use Rattle.dspec_session.proofs.demonstration.calling.service.Goals as goal
@@ -9,13 +11,13 @@ returns-clause-served c =
     let s = c.service.ensures.serves in
     let number = c.args.cpu.now.cpu in
     let sealed = c.service.result.sealed in
-    let was = c.requires.listed in
-    let now = s.list c.requires.list was in
+    let was = c.stands.ensures.steady.listed in
+    let now = s.list c.stands.ensures.steady.list was in
     record {
       back = search rules;
       called = now.shown.side.called
-          ∙ ap (λ n. calls n (s.settles ++ with_seal sealed number c.requires.list)) c.service.ensures.same.number
-          ∙ (service_reads _ number _ _ s.settles c.requires.list sealed s.slots).1
+          ∙ ap (λ n. calls n (s.settles ++ with_seal sealed number c.stands.ensures.steady.list)) (ap (λ (i : Identity EnabledRows). i.number) c.service.ensures.same)
+          ∙ (service_reads _ number _ _ s.settles c.stands.ensures.steady.list sealed s.slots).1
           ∙ sym was.shown.side.called;
       offered = λ p had. (s.settles ++ with_seal sealed number p, s.list p had, (service_reads _ number _ _ s.settles p sealed s.slots).0);
     }

@@ -1,15 +1,12 @@
 use Rattle.std.proofs.Common.{subst, ap, arith, IfOk}
 use Rattle.dspec_deeds.specs.declared.config.Config.{Config}
-use Rattle.dspec_session.specs.Leaving.{Ready}
 use Rattle.dspec_session.specs.Sessions.{IsSession}
-use Rattle.dspec_record.specs.Schemas.{enabled, table_shape, table_accepts, table_text}
 use Rattle.dspec_session.proofs.Opened.{has_room}
 use Rattle.dspec_session.proofs.demonstration.opening.open.Goals as goal
 
 pub returns-clause-session : goal.returns-clause-session
 returns-clause-session c =
-    subst (λ schema. IfOk c.start.result (λ s. IsSession
-    (Ready (λ s. table_shape s.header (enabled s.rows)) (λ s. table_accepts s.header (enabled s.rows)) (λ s. table_text s.header (enabled s.rows))) schema s)) c.requires c.start.ensures.session
+    subst (λ schema. IfOk c.start.result (λ s. IsSession schema s)) c.requires c.start.ensures.session
 
 pub returns-clause-room : goal.returns-clause-room
 returns-clause-room c =

@@ -3,12 +3,11 @@ use Rattle.dspec_session.proofs.demonstration.working.make_round.Goals as goal
 
 pub returns-clause-worked : goal.returns-clause-worked
 returns-clause-worked g c =
-    let s = c.args.shared.now in
     let x = c.args.cpu.now in
-    and_served 4 2 s x _ _
-    (one_more 3 2 0 s x _ _
-    (one_more 2 1 1 s x _ _
-    (one_more 1 1 0 s x _ _ (begun 1 s x _ c.trace.ensures.called) c.speculation-id.ensures.called)
+    and_served 4 2 x _ _
+    (one_more 3 2 0 x _ _
+    (one_more 2 1 1 x _ _
+    (one_more 1 1 0 x _ _ (begun 1 x _ c.trace.ensures.called) c.speculation-id.ensures.called)
     c.speculate.ensures.called)
     c.decide.ensures.called)
     c.service.ensures.served

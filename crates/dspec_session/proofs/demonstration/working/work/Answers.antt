@@ -4,12 +4,12 @@ use Rattle.dspec_session.proofs.Worked.{none_worked, round_worked}
 use Rattle.dspec_session.proofs.demonstration.working.work.Goals as goal
 
 pub loop-round-init : goal.loop-round-init
-loop-round-init g c = (none_worked c.args.shared.now c.args.cpu c.requires.ready, no_round)
+loop-round-init g c = (none_worked c.args.cpu, no_round)
 
 pub loop-round-preserved : goal.loop-round-preserved
 loop-round-preserved g c =
     let made = c.if-not-make_round.ensures in (
-      round_worked c.loop-round.round c.args.shared.now c.args.cpu c.loop-round.cpu c.make_round.new.cpu c.loop-round.invariant.0 made.worked,
+      round_worked c.loop-round.round c.args.cpu c.loop-round.cpu c.make_round.new.cpu c.loop-round.invariant.0 made.worked,
       one_round (c.loop-round.round + 1) c.make_round.new.cpu c.loop-round.invariant.1 (made.made refl) refl,
     )
 

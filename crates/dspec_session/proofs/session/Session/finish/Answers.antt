@@ -7,11 +7,11 @@ pub part_all-last-requires-clause-parting : goal.part_all-last-requires-clause-p
 part_all-last-requires-clause-parting g c =
     let s = c.requires.session in
     let consumer = c.consumer.inside in
-    let lists = some_lists g.S.Schema.shape_of g.S.Schema.accepted g.S.Schema.text s.0 c.args.self s.1 in
+    let lists = some_lists g.S.Schema.shape_of g.S.Schema.accepted g.S.Schema.text s.0 c.args.self s.1 c.all_stand.ensures in
     let none = none_in consumer.seats.items consumer.seats.len consumer.seats.ok.0 c.consumer.invariant.seats.0 in (
       s.0,
       lists.0,
-      begins_parting g.S.Schema.shape_of g.S.Schema.accepted g.S.Schema.text s.0 c.args.self s.1 c.into_words.result consumer.seats.items record
+      begins_parting g.S.Schema.shape_of g.S.Schema.accepted g.S.Schema.text s.0 c.args.self s.1 c.all_stand.ensures c.into_words.result consumer.seats.items record
           { seat = consumer.seat; ends = consumer.ends.items } consumer.config
           c.into_words.ensures none c.consumer.view_is c.consumer.invariant.all c.consumer.invariant.config lists.0 lists.1,
     )
@@ -21,7 +21,7 @@ returns-clause-closed g c = λ schema is.
     let consumer = c.consumer.inside in
     let none = none_in consumer.seats.items consumer.seats.len consumer.seats.ok.0 c.consumer.invariant.seats.0 in
     let last = c.part_all-last in
-    finished g.S.Schema.shape_of g.S.Schema.accepted g.S.Schema.text schema c.args.self is c.into_words.result consumer.seats.items record
+    finished g.S.Schema.shape_of g.S.Schema.accepted g.S.Schema.text schema c.args.self is c.all_stand.ensures c.into_words.result consumer.seats.items record
     { seat = consumer.seat; ends = consumer.ends.items } consumer.config
     c.into_words.ensures none c.consumer.view_is c.consumer.invariant.all c.consumer.invariant.config _ last.result.1.items c.reverse.new.self.items last.ensures.ended
     (sym last.result.1.ok.0 ∙ (last.ensures.count ∙ c.args.self.cpus.ok.0)) last.ensures.left c.reverse.ensures.items

@@ -1,0 +1,16 @@
+-- Which lane of which session a lane is.
+use Rattle.std.specs.Prelude.{◌≡◌}
+use Rattle.std.specs.Borrow.{GName}
+use Rattle.dspec_record.specs.declared.schema.Schema.{Ghosts}
+use Rattle.dspec_cpu.specs.declared.shared.Shared.{Shared}
+use Rattle.dspec_cpu.specs.Standing.{Identity, identity}
+use Rattle.dspec.specs.declared.lane.Lane.{Lane}
+
+-- the CPU that it is lent, and what that shares: no call changes it
+pub record Place (S : Type 0) : Type 0 where
+  pub shared : Shared
+  pub cpu : Identity S
+  pub lent : GName
+
+abbrev pub place_of : {S : Type 0} {g : Ghosts S} → Lane S g → Place S
+place_of l = record { shared = l.shared.now; cpu = identity l.cpu.now; lent = l.cpu.ghost_name }

@@ -1,0 +1,19 @@
+ghost use Rattle.std.specs.Prelude.{◌≡◌};
+ghost use Rattle.dspec.specs.Lanes.{place_of};
+
+use crate::lane::Lane;
+use dspec_record::Schema;
+use dspec_ring::Batch;
+
+/// What a CPU's thread does.
+pub trait Work<S: Schema>: Sync {
+    /// Calls the lane as often as it likes, and leaves it the one that it was.
+    fn work(&self, lane: &mut Lane<'_, S>)
+        ensures { place_of lane.new ≡ place_of lane.old };
+}
+
+/// Who gets the batches of a session: while it runs, and behind its close what nobody had taken.
+pub trait Sink<S: Schema>: Send + Drop {
+    /// A batch of a CPU, whose records are of this schema.
+    fn batch(&mut self, schema: &S, batch: &Batch);
+}

@@ -1,0 +1,65 @@
+use Rattle.std.proofs.Common.{◌++◌, ◌∙◌, ℕ, [], refl, sym, ap, subst}
+use Rattle.dspec_deeds.specs.declared.config.Config.{Config}
+use Rattle.dspec_table.specs.Seats.{known}
+use Rattle.dspec_cpu.specs.Calls.{rests}
+use Rattle.dspec_cpu.specs.Lists.{words_of}
+use Rattle.dspec_cpu.specs.Scans.{Scanned, opening_deeds}
+use Rattle.dspec_cpu.proofs.Decisions.{worn_shown}
+use Rattle.dspec_cpu.proofs.Limits.{limits}
+use Rattle.dspec_cpu.proofs.Openings.{bare_opening, opening_shown}
+use Rattle.dspec_cpu.proofs.Ready.{roomy, ready_after}
+use Rattle.dspec_cpu.proofs.Scans.{idle_again, none_flies}
+use Rattle.dspec_cpu.specs.Stops.{StopsWhereMet}
+use Rattle.dspec_side.specs.Counting.{is_stopped_opening}
+use Rattle.dspec_cpu.proofs.Stopping.{worn_out}
+use Rattle.dspec_cpu.proofs.parts.CpuParts.speculation.Goals as goal
+
+pub returns-then-self-clause-opens : goal.returns-then-self-clause-opens
+returns-then-self-clause-opens g c = record
+    { missed = []; answer = refl; did = rests; list = λ p had. record { own = had.own; shown = worn_shown _ _ _ c.args.self.now p had.shown _ c.wear.new.self c.wear.ensures } }
+
+pub open-requires : goal.open-requires
+open-requires g c = record { room = roomy _ _ _ (words_of c.args.shared.now) c.args.self.now c.requires.ready c.if-self.false }
+
+pub returns-clause-opens : goal.returns-clause-opens
+returns-clause-opens g c =
+    let cpu = c.args.self.now in
+    let ready = c.requires.ready in
+    let a = c.scan_slots-answer.result.0 in
+    let busy = c.scan_slots-answer.result.1 in
+    let w = known c.scan_slots-answer.new.seat in
+    let got = subst (λ (x : Config × ℕ). Scanned x.0 x.1 (known cpu.seat) a busy w) (λ i. (ready.config i, ready.steady.seat i)) c.scan_slots-answer.ensures.scanned in
+    let some = (limits cpu.config ready.steady.checked).specs.least in
+    record {
+      missed = got.missed;
+      answer = got.answer;
+      did = got.goes;
+      list = λ p had. record {
+        own = bare_opening cpu.cpu p got.missed a ∙ (ap (λ l. opening_deeds cpu.cpu got.missed a ++ l) had.own ∙ sym got.stands.own);
+        shown = opening_shown _ _ _ cpu p had.shown c.scan_slots-answer.new.seat got.missed a busy c.open.new.self some got.answer got.unworn got.any c.open.ensures;
+      };
+    }
+
+pub returns-clause-ready : goal.returns-clause-ready
+unfolding returns-clause-opens
+returns-clause-ready g c =
+    let words = words_of c.args.shared.now in
+    let cpu = c.args.self.now in
+    let ready = c.requires.ready in
+    let a = c.scan_slots-answer.result.0 in
+    let busy = c.scan_slots-answer.result.1 in
+    let w = known c.scan_slots-answer.new.seat in
+    let got = subst (λ (x : Config × ℕ). Scanned x.0 x.1 (known cpu.seat) a busy w) (λ i. (ready.config i, ready.steady.seat i)) c.scan_slots-answer.ensures.scanned in
+    let some = (limits cpu.config ready.steady.checked).specs.least in
+    ready_after _ _ _ words cpu ready _ (opening_deeds cpu.cpu got.missed a) refl refl c.scan_slots-answer.ensures.seat.0 c.scan_slots-answer.ensures.seat.1 got.stands
+    (idle_again cpu.config cpu.cpu (known cpu.seat).own got.missed a some got.answer got.unworn)
+    (none_flies cpu.config cpu.cpu (known cpu.seat).flight got.missed a some got.answer got.unworn) ready.steady.spare ready.steady.few
+    (opening_deeds cpu.cpu got.missed a ++ ready.steady.list) ((returns-clause-opens g c).list ready.steady.list ready.steady.listed)
+
+pub returns-then-self-clause-stops : goal.returns-then-self-clause-stops
+returns-then-self-clause-stops g c = worn_out (known c.args.self.now.seat) (known c.args.self.now.seat)
+
+pub returns-clause-stops : goal.returns-clause-stops
+returns-clause-stops g c =
+    let got = c.scan_slots-answer.ensures.scanned in
+    subst (λ b. StopsWhereMet (known c.args.self.now.seat) b (is_stopped_opening c.scan_slots-answer.result.0) (known c.scan_slots-answer.new.seat)) (sym got.unworn) got.stops

@@ -1,0 +1,205 @@
+use Rattle.std.proofs.Common.{◌≡◌, ◌∙◌, true, false, not, [], ◌∷◌, if◌then◌else◌, arith, refl, sym, ap, subst}
+use Rattle.dspec_deeds.specs.declared.deed.TraceFate.TheVariants as traced
+use Rattle.dspec_deeds.specs.declared.deed.Deed.TheVariants.{Trace}
+use Rattle.dspec_buffer.specs.Stored.{Stored, HasPieces}
+use Rattle.dspec_deeds.proofs.TestLemmas.{number_is_itself}
+use Rattle.dspec_table.specs.Steps.{LoadedActivity}
+use Rattle.dspec_table.specs.Seats.{known}
+use Rattle.dspec_side.specs.Sides.{ShowsList}
+use Rattle.dspec_cpu.specs.Calls.{rests}
+use Rattle.dspec_cpu.specs.Lists.{words_of, worn_of}
+use Rattle.dspec_cpu.proofs.Limits.{limits}
+use Rattle.dspec_cpu.proofs.Ready.{roomy, few_drops, ready_after, set_up_is, holder}
+use Rattle.dspec_cpu.proofs.Shown.{shows, shown_behind}
+use Rattle.dspec_cpu.proofs.Traces.{traces, asked}
+use Rattle.dspec_cpu.proofs.Stopping.{worn_out, shown_stop, shown_running}
+use Rattle.dspec_cpu.proofs.parts.CpuParts.trace.Goals as goal
+
+pub returns-then-self-clause-did : goal.returns-then-self-clause-did
+returns-then-self-clause-did g c = rests
+
+pub trace_stopped-requires : goal.trace_stopped-requires
+trace_stopped-requires g c =
+    let most = (limits c.args.self.now.config c.requires.ready.steady.checked).calls in
+    let lt = c.if-self.false in
+    record { calls = omega arith; counts = roomy _ _ _ (words_of c.args.shared.now) c.args.self.now c.requires.ready c.if-self.false }
+
+pub trace-requires : goal.trace-requires
+trace-requires g c =
+    let few = few_drops _ _ _ (words_of c.args.shared.now) c.args.self.now c.requires.ready c.if-self.false in
+    let most = (limits c.args.self.now.config c.requires.ready.steady.checked).calls in
+    let lt = c.if-self.false in
+    record { accepted = c.requires.accepted; calls = omega arith; drops = omega arith; counts = roomy _ _ _ (words_of c.args.shared.now) c.args.self.now c.requires.ready c.if-self.false }
+
+pub returns-then-not-runs-clause-did : goal.returns-then-not-runs-clause-did
+returns-then-not-runs-clause-did g c =
+    let words = words_of c.args.shared.now in
+    let cpu = c.args.self.now in
+    let ready = c.requires.ready in
+    let fit = c.fits-fits.result in
+    let w = known c.load_activity-runs.new.self in
+    let step = subst (λ b. LoadedActivity (asked c.args.rec.now fit) (known cpu.seat) (not b) w) c.if-not-runs.true c.load_activity-runs.ensures.step in
+    let did = traces cpu.config cpu.cpu (known cpu.seat) w c.args.rec.now fit true traced.Stopped (set_up_is _ _ _ words cpu ready) (holder _ _ _ words cpu ready) step refl in
+    did.goes
+
+pub returns-then-not-runs-clause-list : goal.returns-then-not-runs-clause-list
+returns-then-not-runs-clause-list g c =
+    let words = words_of c.args.shared.now in
+    let cpu = c.args.self.now in
+    let ready = c.requires.ready in
+    let fit = c.fits-fits.result in
+    let w = known c.load_activity-runs.new.self in
+    let step = subst (λ b. LoadedActivity (asked c.args.rec.now fit) (known cpu.seat) (not b) w) c.if-not-runs.true c.load_activity-runs.ensures.step in
+    let did = traces cpu.config cpu.cpu (known cpu.seat) w c.args.rec.now fit true traced.Stopped (set_up_is _ _ _ words cpu ready) (holder _ _ _ words cpu ready) step refl in
+    λ p had. record {
+      own = ap (λ l. Trace cpu.cpu c.args.rec.now traced.Stopped ∷ l) had.own ∙ sym did.stands.own;
+      shown = shown_behind _ _ _ cpu.side p had.shown (Trace cpu.cpu c.args.rec.now traced.Stopped) refl (number_is_itself cpu.cpu) tt
+          c.trace_stopped.new.self (c.trace_stopped.ensures.shows cpu.schema cpu.config cpu.cpu p c.args.rec.now (shows _ _ _ cpu.side p had.shown));
+    }
+
+pub returns-then-not-runs-clause-ready : goal.returns-then-not-runs-clause-ready
+returns-then-not-runs-clause-ready g c =
+    let words = words_of c.args.shared.now in
+    let cpu = c.args.self.now in
+    let ready = c.requires.ready in
+    let fit = c.fits-fits.result in
+    let w = known c.load_activity-runs.new.self in
+    let step = subst (λ b. LoadedActivity (asked c.args.rec.now fit) (known cpu.seat) (not b) w) c.if-not-runs.true c.load_activity-runs.ensures.step in
+    let did = traces cpu.config cpu.cpu (known cpu.seat) w c.args.rec.now fit true traced.Stopped (set_up_is _ _ _ words cpu ready) (holder _ _ _ words cpu ready) step refl in
+    ready_after _ _ _ words cpu ready _ (Trace cpu.cpu c.args.rec.now traced.Stopped ∷ []) refl refl c.load_activity-runs.ensures.seat.0 c.load_activity-runs.ensures.seat.1
+    did.stands ready.steady.idle refl ready.steady.spare ready.steady.few
+    (Trace cpu.cpu c.args.rec.now traced.Stopped ∷ ready.steady.list) (returns-then-not-runs-clause-list g c ready.steady.list ready.steady.listed)
+
+pub returns-then-not-trace-clause-did : goal.returns-then-not-trace-clause-did
+returns-then-not-trace-clause-did g c =
+    let words = words_of c.args.shared.now in
+    let cpu = c.args.self.now in
+    let ready = c.requires.ready in
+    let fit = c.fits-fits.result in
+    let fit_no : fit ≡ false = c.fits-fits.ensures cpu.cpu ready.steady.list (shows _ _ _ cpu.side ready.steady.list ready.steady.listed.shown)
+    ∙ (sym (c.trace.ensures.answer cpu.config cpu.cpu ready.steady.list (shows _ _ _ cpu.side ready.steady.list ready.steady.listed.shown)
+    (c.is_shut-shut.ensures cpu.cpu (worn_of cpu) ready.steady.list ready.steady.listed.shown.counted)) ∙ c.if-not-trace.true) in
+    let w = known c.load_activity-runs.new.self in
+    let step = subst (λ b. LoadedActivity (asked c.args.rec.now fit) (known cpu.seat) (not b) w) c.if-not-runs.false c.load_activity-runs.ensures.step in
+    let did = traces cpu.config cpu.cpu (known cpu.seat) w c.args.rec.now fit false traced.Dropped (set_up_is _ _ _ words cpu ready) (holder _ _ _ words cpu ready) step
+    (ap (λ b. if b then traced.Kept else traced.Dropped) fit_no) in
+    did.goes
+
+pub returns-then-not-trace-clause-list : goal.returns-then-not-trace-clause-list
+returns-then-not-trace-clause-list g c =
+    let words = words_of c.args.shared.now in
+    let cpu = c.args.self.now in
+    let ready = c.requires.ready in
+    let fit = c.fits-fits.result in
+    let fit_no : fit ≡ false = c.fits-fits.ensures cpu.cpu ready.steady.list (shows _ _ _ cpu.side ready.steady.list ready.steady.listed.shown)
+    ∙ (sym (c.trace.ensures.answer cpu.config cpu.cpu ready.steady.list (shows _ _ _ cpu.side ready.steady.list ready.steady.listed.shown)
+    (c.is_shut-shut.ensures cpu.cpu (worn_of cpu) ready.steady.list ready.steady.listed.shown.counted)) ∙ c.if-not-trace.true) in
+    let w = known c.load_activity-runs.new.self in
+    let step = subst (λ b. LoadedActivity (asked c.args.rec.now fit) (known cpu.seat) (not b) w) c.if-not-runs.false c.load_activity-runs.ensures.step in
+    let did = traces cpu.config cpu.cpu (known cpu.seat) w c.args.rec.now fit false traced.Dropped (set_up_is _ _ _ words cpu ready) (holder _ _ _ words cpu ready) step
+    (ap (λ b. if b then traced.Kept else traced.Dropped) fit_no) in
+    λ p had. record {
+      own = ap (λ l. Trace cpu.cpu c.args.rec.now traced.Dropped ∷ l) had.own ∙ sym did.stands.own;
+      shown = shown_behind _ _ _ cpu.side p had.shown (Trace cpu.cpu c.args.rec.now traced.Dropped) refl (number_is_itself cpu.cpu)
+          (sym (sym (c.fits-fits.ensures cpu.cpu p (shows _ _ _ cpu.side p had.shown)) ∙ fit_no))
+          c.trace.new.self
+          (subst (λ b. ShowsList (λ x. HasPieces (g.S.Schema.shape_of cpu.schema) (g.S.Schema.accepted cpu.schema) (g.S.Schema.text cpu.schema) x)
+          (λ (x : Stored). x.size) cpu.config cpu.cpu (Trace cpu.cpu c.args.rec.now (if b then traced.Kept else traced.Dropped) ∷ p) c.trace.new.self) c.if-not-trace.true
+          (c.trace.ensures.shows cpu.config cpu.cpu p (shows _ _ _ cpu.side p had.shown)));
+    }
+
+pub returns-then-not-trace-clause-ready : goal.returns-then-not-trace-clause-ready
+returns-then-not-trace-clause-ready g c =
+    let words = words_of c.args.shared.now in
+    let cpu = c.args.self.now in
+    let ready = c.requires.ready in
+    let fit = c.fits-fits.result in
+    let fit_no : fit ≡ false = c.fits-fits.ensures cpu.cpu ready.steady.list (shows _ _ _ cpu.side ready.steady.list ready.steady.listed.shown)
+    ∙ (sym (c.trace.ensures.answer cpu.config cpu.cpu ready.steady.list (shows _ _ _ cpu.side ready.steady.list ready.steady.listed.shown)
+    (c.is_shut-shut.ensures cpu.cpu (worn_of cpu) ready.steady.list ready.steady.listed.shown.counted)) ∙ c.if-not-trace.true) in
+    let w = known c.load_activity-runs.new.self in
+    let step = subst (λ b. LoadedActivity (asked c.args.rec.now fit) (known cpu.seat) (not b) w) c.if-not-runs.false c.load_activity-runs.ensures.step in
+    let did = traces cpu.config cpu.cpu (known cpu.seat) w c.args.rec.now fit false traced.Dropped (set_up_is _ _ _ words cpu ready) (holder _ _ _ words cpu ready) step
+    (ap (λ b. if b then traced.Kept else traced.Dropped) fit_no) in
+    ready_after _ _ _ words cpu ready _ (Trace cpu.cpu c.args.rec.now traced.Dropped ∷ []) refl refl c.load_activity-runs.ensures.seat.0 c.load_activity-runs.ensures.seat.1
+    did.stands ready.steady.idle refl ready.steady.spare ready.steady.few
+    (Trace cpu.cpu c.args.rec.now traced.Dropped ∷ ready.steady.list) (returns-then-not-trace-clause-list g c ready.steady.list ready.steady.listed)
+
+pub returns-clause-did : goal.returns-clause-did
+returns-clause-did g c =
+    let words = words_of c.args.shared.now in
+    let cpu = c.args.self.now in
+    let ready = c.requires.ready in
+    let fit = c.fits-fits.result in
+    let fit_yes : fit ≡ true = c.fits-fits.ensures cpu.cpu ready.steady.list (shows _ _ _ cpu.side ready.steady.list ready.steady.listed.shown)
+    ∙ (sym (c.trace.ensures.answer cpu.config cpu.cpu ready.steady.list (shows _ _ _ cpu.side ready.steady.list ready.steady.listed.shown)
+    (c.is_shut-shut.ensures cpu.cpu (worn_of cpu) ready.steady.list ready.steady.listed.shown.counted)) ∙ c.if-not-trace.false) in
+    let w = known c.load_activity-runs.new.self in
+    let step = subst (λ b. LoadedActivity (asked c.args.rec.now fit) (known cpu.seat) (not b) w) c.if-not-runs.false c.load_activity-runs.ensures.step in
+    let did = traces cpu.config cpu.cpu (known cpu.seat) w c.args.rec.now fit false traced.Kept (set_up_is _ _ _ words cpu ready) (holder _ _ _ words cpu ready) step
+    (ap (λ b. if b then traced.Kept else traced.Dropped) fit_yes) in
+    did.goes
+
+pub returns-clause-list : goal.returns-clause-list
+returns-clause-list g c =
+    let words = words_of c.args.shared.now in
+    let cpu = c.args.self.now in
+    let ready = c.requires.ready in
+    let fit = c.fits-fits.result in
+    let fit_yes : fit ≡ true = c.fits-fits.ensures cpu.cpu ready.steady.list (shows _ _ _ cpu.side ready.steady.list ready.steady.listed.shown)
+    ∙ (sym (c.trace.ensures.answer cpu.config cpu.cpu ready.steady.list (shows _ _ _ cpu.side ready.steady.list ready.steady.listed.shown)
+    (c.is_shut-shut.ensures cpu.cpu (worn_of cpu) ready.steady.list ready.steady.listed.shown.counted)) ∙ c.if-not-trace.false) in
+    let w = known c.load_activity-runs.new.self in
+    let step = subst (λ b. LoadedActivity (asked c.args.rec.now fit) (known cpu.seat) (not b) w) c.if-not-runs.false c.load_activity-runs.ensures.step in
+    let did = traces cpu.config cpu.cpu (known cpu.seat) w c.args.rec.now fit false traced.Kept (set_up_is _ _ _ words cpu ready) (holder _ _ _ words cpu ready) step
+    (ap (λ b. if b then traced.Kept else traced.Dropped) fit_yes) in
+    λ p had. record {
+      own = ap (λ l. Trace cpu.cpu c.args.rec.now traced.Kept ∷ l) had.own ∙ sym did.stands.own;
+      shown = shown_behind _ _ _ cpu.side p had.shown (Trace cpu.cpu c.args.rec.now traced.Kept) refl (number_is_itself cpu.cpu)
+          (sym (sym (c.fits-fits.ensures cpu.cpu p (shows _ _ _ cpu.side p had.shown)) ∙ fit_yes))
+          c.trace.new.self
+          (subst (λ b. ShowsList (λ x. HasPieces (g.S.Schema.shape_of cpu.schema) (g.S.Schema.accepted cpu.schema) (g.S.Schema.text cpu.schema) x)
+          (λ (x : Stored). x.size) cpu.config cpu.cpu (Trace cpu.cpu c.args.rec.now (if b then traced.Kept else traced.Dropped) ∷ p) c.trace.new.self) c.if-not-trace.false
+          (c.trace.ensures.shows cpu.config cpu.cpu p (shows _ _ _ cpu.side p had.shown)));
+    }
+
+pub returns-clause-ready : goal.returns-clause-ready
+returns-clause-ready g c =
+    let words = words_of c.args.shared.now in
+    let cpu = c.args.self.now in
+    let ready = c.requires.ready in
+    let fit = c.fits-fits.result in
+    let fit_yes : fit ≡ true = c.fits-fits.ensures cpu.cpu ready.steady.list (shows _ _ _ cpu.side ready.steady.list ready.steady.listed.shown)
+    ∙ (sym (c.trace.ensures.answer cpu.config cpu.cpu ready.steady.list (shows _ _ _ cpu.side ready.steady.list ready.steady.listed.shown)
+    (c.is_shut-shut.ensures cpu.cpu (worn_of cpu) ready.steady.list ready.steady.listed.shown.counted)) ∙ c.if-not-trace.false) in
+    let w = known c.load_activity-runs.new.self in
+    let step = subst (λ b. LoadedActivity (asked c.args.rec.now fit) (known cpu.seat) (not b) w) c.if-not-runs.false c.load_activity-runs.ensures.step in
+    let did = traces cpu.config cpu.cpu (known cpu.seat) w c.args.rec.now fit false traced.Kept (set_up_is _ _ _ words cpu ready) (holder _ _ _ words cpu ready) step
+    (ap (λ b. if b then traced.Kept else traced.Dropped) fit_yes) in
+    ready_after _ _ _ words cpu ready _ (Trace cpu.cpu c.args.rec.now traced.Kept ∷ []) refl refl c.load_activity-runs.ensures.seat.0 c.load_activity-runs.ensures.seat.1
+    did.stands ready.steady.idle refl
+    ready.steady.spare ready.steady.few (Trace cpu.cpu c.args.rec.now traced.Kept ∷ ready.steady.list) (returns-clause-list g c ready.steady.list ready.steady.listed)
+
+pub returns-then-self-clause-stops : goal.returns-then-self-clause-stops
+returns-then-self-clause-stops g c = worn_out (known c.args.self.now.seat) (known c.args.self.now.seat)
+
+pub returns-then-not-runs-clause-stops : goal.returns-then-not-runs-clause-stops
+returns-then-not-runs-clause-stops g c =
+    let cpu = c.args.self.now in
+    let w = known c.load_activity-runs.new.self in
+    let step = subst (λ b. LoadedActivity (asked c.args.rec.now c.fits-fits.result) (known cpu.seat) (not b) w) c.if-not-runs.true c.load_activity-runs.ensures.step in
+    shown_stop (asked c.args.rec.now c.fits-fits.result) (known cpu.seat) w step
+
+pub returns-then-not-trace-clause-stops : goal.returns-then-not-trace-clause-stops
+returns-then-not-trace-clause-stops g c =
+    let cpu = c.args.self.now in
+    let w = known c.load_activity-runs.new.self in
+    let step = subst (λ b. LoadedActivity (asked c.args.rec.now c.fits-fits.result) (known cpu.seat) (not b) w) c.if-not-runs.false c.load_activity-runs.ensures.step in
+    shown_running (asked c.args.rec.now c.fits-fits.result) (known cpu.seat) w w step
+
+pub returns-clause-stops : goal.returns-clause-stops
+returns-clause-stops g c =
+    let cpu = c.args.self.now in
+    let w = known c.load_activity-runs.new.self in
+    let step = subst (λ b. LoadedActivity (asked c.args.rec.now c.fits-fits.result) (known cpu.seat) (not b) w) c.if-not-runs.false c.load_activity-runs.ensures.step in
+    shown_running (asked c.args.rec.now c.fits-fits.result) (known cpu.seat) w w step

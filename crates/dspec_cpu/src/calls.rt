@@ -1,0 +1,103 @@
+ghost use Rattle.std.specs.Prelude.{◌≡◌, ◌≤◌, ◌+◌, ◌*◌, IsTrue};
+ghost use Rattle.dspec_deeds.specs.declared.deed.Deed.TheVariants.{Commit, Discard};
+ghost use Rattle.dspec_table.specs.Seats.{known};
+ghost use Rattle.dspec_side.specs.Counting.{is_stopped_opening};
+ghost use Rattle.dspec_cpu.specs.Calls.{Decides, Does, spoken_deeds, traced_deeds, is_worn_decided, is_worn_spoken, is_worn_trace};
+ghost use Rattle.dspec_cpu.specs.Keeping.{CallKeeps};
+ghost use Rattle.dspec_cpu.specs.Lists.{config_of, end_of, in_hand_of, number_in, schema_of, seat_of, words_of, worn_of};
+ghost use Rattle.dspec_cpu.specs.Scans.{Opens, is_worn_opening};
+ghost use Rattle.dspec_cpu.specs.Serving.{Serves};
+ghost use Rattle.dspec_cpu.specs.Standing.{Belongs, identity};
+ghost use Rattle.dspec_cpu.specs.Stops.{is_stopped_decided, is_stopped_spoken, is_stopped_trace};
+ghost use Rattle.dspec_cpu.specs.Switching.{buffers_of, most_moves};
+
+use crate::cpu::Cpu;
+use crate::listed::Listed;
+use crate::shared::Shared;
+use dspec_deeds::{Decided, Opening, Served, Spoken, Traced};
+use dspec_record::{Rec, Schema};
+use dspec_word::SpecId;
+
+impl<S: Schema> Cpu<S> {
+    /// Traces an accepted record into the active principal buffer. Worn: the CPU had made all its calls, and the record wasn't
+    /// offered. Stopped: the session was stopped. Dropped: it didn't fit the rest of the buffer.
+    #[inline]
+    pub fn trace(&mut self, shared: &Shared, rec: &Rec) -> Traced
+        requires of { Belongs (words_of shared.now) (identity self.old) }
+        requires accepted { IsTrue (S.accepted (schema_of self.old) rec.now) }
+        ensures same { identity self.new ≡ identity self.old }
+        ensures keeps { CallKeeps (is_worn_trace result) (is_stopped_trace result) 1 self.old self.new }
+        ensures does { Does (traced_deeds (number_in self.old) rec.now result) (⟦<Cpu<S> as Listed>⟧.has_list self.old) (known (seat_of self.old)) (⟦<Cpu<S> as Listed>⟧.has_list self.new) (known (seat_of self.new)) }
+    {
+        self.parts.trace(shared, rec)
+    }
+
+    /// Opens a speculation, in the first slot that is shown free. Worn: the CPU had made all its calls. Stopped: the session was
+    /// stopped. Busy: every slot was missed, and one of them was decided and isn't released yet. Unavailable: every slot was
+    /// missed, and none was. It takes at most one step, and two for each slot.
+    #[inline]
+    pub fn speculation(&mut self, shared: &Shared) -> Opening
+        requires of { Belongs (words_of shared.now) (identity self.old) }
+        ensures same { identity self.new ≡ identity self.old }
+        ensures keeps { CallKeeps (is_worn_opening result) (is_stopped_opening result) (1 + 2 * (config_of self.old).nspec) self.old self.new }
+        ensures opens { Opens (config_of self.old) (number_in self.old) result (⟦<Cpu<S> as Listed>⟧.has_list self.old) (known (seat_of self.old)) (⟦<Cpu<S> as Listed>⟧.has_list self.new) (known (seat_of self.new)) }
+    {
+        self.parts.speculation(shared)
+    }
+
+    /// Traces an accepted record into the CPU's buffer of a speculation. Worn: the CPU had made all its calls, and the record
+    /// wasn't offered. Stopped: the session was stopped. Void: the identifier isn't open. Dropped: it didn't fit the rest of
+    /// that buffer; the CPU is a caller all the same.
+    #[inline]
+    pub fn speculate(&mut self, shared: &Shared, id: SpecId, rec: &Rec) -> Spoken
+        requires of { Belongs (words_of shared.now) (identity self.old) }
+        requires accepted { IsTrue (S.accepted (schema_of self.old) rec.now) }
+        ensures same { identity self.new ≡ identity self.old }
+        ensures keeps { CallKeeps (is_worn_spoken result) (is_stopped_spoken result) 4 self.old self.new }
+        ensures does { Does (spoken_deeds (number_in self.old) id rec.now result) (⟦<Cpu<S> as Listed>⟧.has_list self.old) (known (seat_of self.old)) (⟦<Cpu<S> as Listed>⟧.has_list self.new) (known (seat_of self.new)) }
+    {
+        self.parts.speculate(shared, id, rec)
+    }
+
+    /// Commits a speculation: the CPU's own block of it is copied whole to the active principal buffer, or lost where it doesn't
+    /// fit, with the number of its records. Worn: the CPU had made all its calls. Stopped: the session was stopped. Void: the
+    /// identifier isn't open. Where no other CPU is a caller, the call releases the slot.
+    #[inline]
+    pub fn commit(&mut self, shared: &Shared, id: SpecId) -> Decided
+        requires of { Belongs (words_of shared.now) (identity self.old) }
+        ensures same { identity self.new ≡ identity self.old }
+        ensures keeps { CallKeeps (is_worn_decided result) (is_stopped_decided result) 5 self.old self.new }
+        ensures decides { Decides (Commit (number_in self.old) id) id result (⟦<Cpu<S> as Listed>⟧.has_list self.old) (known (seat_of self.old)) (⟦<Cpu<S> as Listed>⟧.has_list self.new) (known (seat_of self.new)) }
+    {
+        self.parts.commit(shared, id)
+    }
+
+    /// Discards a speculation: the CPU's own block of it is thrown away, with the number of its records. Worn: the CPU had made
+    /// all its calls. Stopped: the session was stopped. Void: the identifier isn't open. Where the CPU is the one caller, the
+    /// exchange releases the slot.
+    #[inline]
+    pub fn discard(&mut self, shared: &Shared, id: SpecId) -> Decided
+        requires of { Belongs (words_of shared.now) (identity self.old) }
+        ensures same { identity self.new ≡ identity self.old }
+        ensures keeps { CallKeeps (is_worn_decided result) (is_stopped_decided result) 5 self.old self.new }
+        ensures decides { Decides (Discard (number_in self.old) id) id result (⟦<Cpu<S> as Listed>⟧.has_list self.old) (known (seat_of self.old)) (⟦<Cpu<S> as Listed>⟧.has_list self.new) (known (seat_of self.new)) }
+    {
+        self.parts.discard(shared, id)
+    }
+
+    /// Does what the CPU owes the consumer and the other CPUs: where the consumer asked for it, the principal buffers are
+    /// switched (the Guide's chapter on buffers), and what was decided elsewhere is settled in the CPU's own buffers (its chapter
+    /// on speculative tracing: "some time later"). The answer tells whether a batch was sealed, and how many speculations were
+    /// settled. It is never Worn, counts towards no bound on calls, and goes on after a stop.
+    #[inline]
+    pub fn service(&mut self, shared: &Shared) -> Served
+        requires of { Belongs (words_of shared.now) (identity self.old) }
+        ensures same { identity self.new ≡ identity self.old }
+        ensures wears { worn_of self.new ≡ worn_of self.old }
+        ensures bounded { (known (seat_of self.new)).steps ≤ (known (seat_of self.old)).steps + 1 + 2 * (config_of self.old).nspec }
+        ensures moves { (end_of self.new).moves ≤ (end_of self.old).moves + most_moves (in_hand_of self.old) }
+        ensures serves { Serves (config_of self.old) (number_in self.old) result (⟦<Cpu<S> as Listed>⟧.has_list self.old) (known (seat_of self.old)) (buffers_of self.old) (⟦<Cpu<S> as Listed>⟧.has_list self.new) (known (seat_of self.new)) (buffers_of self.new) }
+    {
+        self.parts.service(shared)
+    }
+}

@@ -1,0 +1,6 @@
+mod Further
+mod Looks
+mod Offers
+mod Shown
+mod States
+mod Words

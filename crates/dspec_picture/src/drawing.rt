@@ -1,0 +1,429 @@
+//! The picture of a play.
+ghost use Rattle.std.specs.Prelude.{ℕ, ◌≡◌, ◌+◌, ◌*◌, ◌^◌, ◌<◌, ◌≤◌, ◌↔◌, ◌++◌, All, Err, IfOk, List, OnOk, length, reverse, slice_index_or, string_bytes};
+ghost use Rattle.std.specs.List.{flat_map};
+ghost use Rattle.dspec_deeds.specs.Closes.{numbers_below};
+ghost use Rattle.dspec_shapes.specs.Svg.{svg_text};
+ghost use Rattle.dspec_picture.specs.declared.drawing.PictureFault.TheVariants.{Memory};
+ghost use Rattle.dspec_picture.specs.Drawing.{all_shared_marks, band_frame, band_of, bands_of, deeds_drawn, drawing, free_marks, ground_frame, lane_frame, legend, row_frame, rows_drawn, shared_marks, stop_marks, stream_frame};
+ghost use Rattle.dspec_picture.specs.Grid.{band_height, bands_height, bands_top, row_count, row_height, slot_limit, stream_top};
+ghost use Rattle.dspec_picture.specs.Marks.{IsSmall, all_band_marks};
+
+use crate::band::Band;
+use crate::bars::push_bars;
+use crate::fates::deepest;
+use crate::grid::{
+    COLUMNS, bar_top, bars_above, has_lane, lane_top, lanes_above, middle_x, picture_width,
+    row_count, row_end, row_top, slot_limit,
+};
+use crate::marks::{label_above, push_band};
+use crate::sheet::draw;
+use dspec_deeds::{Config, Deed};
+use dspec_play::Series;
+use dspec_record::Header;
+use dspec_shapes::{Caption, Look, Shape, svg_text};
+use std::alloc::{AllocError, Global};
+
+/// How many deeds a picture shows at the most.
+pub const MOST_DEEDS: usize = 2_000;
+
+/// Why a play has no picture.
+#[derive(Clone, Copy, Debug, PartialEq, Eq, thiserror::Error)]
+pub enum PictureFault {
+    /// More deeds than a picture shows.
+    #[error("more than 2000 deeds")]
+    TooManyDeeds,
+    /// A growth was refused.
+    #[error("out of memory")]
+    Memory,
+}
+
+impl From<AllocError> for PictureFault {
+    ghost from_gives = { λ _ fault. fault ≡ Memory };
+
+    fn from(_fault: AllocError) -> Self {
+        PictureFault::Memory
+    }
+}
+
+fn stream_top(cpu: u32, deeds: &[Deed]) -> u64
+    ensures place { result ≡ stream_top cpu (reverse deeds.now) }
+    ensures small { result ≤ 2066 }
+{
+    18 + 32 * lanes_above(cpu, slot_limit(), deeds)
+}
+
+fn band_height(cpu: u32, deeds: &[Deed]) -> u64
+    requires few { length deeds.now ≤ 2000 }
+    ensures place { result ≡ band_height cpu (reverse deeds.now) }
+    ensures small { result + 8 ≤ 65536 }
+{
+    stream_top(cpu, deeds) + 22 * deepest(cpu, deeds) + 6
+}
+
+fn bands_top(deeds: &[Deed]) -> u64
+    ensures place { result ≡ bands_top (reverse deeds.now) }
+    ensures small { result ≤ 2200 }
+{
+    24 + 34 * bars_above(slot_limit(), deeds)
+}
+
+/// The heights of all bands, each with the gap below it.
+#[tactic(auto, using(crate::proofs::Further::one_band_more))]
+fn bands_height(cpus: u32, deeds: &[Deed]) -> u64
+    requires few { length deeds.now ≤ 2000 }
+    ensures place { result ≡ bands_height cpus (reverse deeds.now) }
+    ensures small { result ≤ 65536 * cpus }
+{
+    let mut height = 0;
+    for cpu in 0..cpus {
+        height += band_height(cpu, deeds) + 8;
+    }
+    height
+}
+
+fn row_height(cpus: u32, deeds: &[Deed]) -> u64
+    requires few { length deeds.now ≤ 2000 }
+    ensures place { result ≡ row_height cpus (reverse deeds.now) }
+    ensures small { result < 2 ^ 50 }
+{
+    bands_top(deeds) + bands_height(cpus, deeds) + 8
+}
+
+/// How many of the CPU's batches the consumer took.
+fn taken_of(batches: &[u64], cpu: u32) -> u64
+    ensures { result ≡ slice_index_or batches.now cpu 0 }
+{
+    match batches.get(cpu as usize) {
+        Some(taken) => *taken,
+        None => 0,
+    }
+}
+
+/// The bands of all CPUs.
+#[tactic(auto, using(crate::proofs::Further::one_band_more, crate::proofs::Further::one_more_mapped))]
+fn bands(
+    alloc: Global,
+    config: &Config,
+    header: Header,
+    batches: &[u64],
+    deeds: &[Deed],
+) -> Result<Series<Band>, AllocError>
+    requires few { length deeds.now ≤ 2000 }
+    ensures bands { IfOk result (λ bands. bands ≡ bands_of config.now header batches.now (reverse deeds.now)) }
+    ensures small { IfOk result (λ bands. All IsSmall bands) }
+{
+    let stride = row_height(config.cpus, deeds);
+    let mut bands = Series::new(alloc);
+    let mut top = bands_top(deeds);
+    for cpu in 0..config.cpus {
+        let height = band_height(cpu, deeds);
+        bands.push(Band {
+            cpu,
+            header,
+            slots: config.nspec,
+            taken: taken_of(batches, cpu),
+            stride,
+            top,
+            height,
+            stream: stream_top(cpu, deeds),
+        })?;
+        top += height + 8;
+    }
+    Ok(bands)
+}
+
+/// The name and the line of a slot's lane in one row, if the CPU spoke to the slot.
+fn push_lane(
+    shapes: &mut Series<Shape>,
+    band: &Band,
+    y: u64,
+    end: u64,
+    deeds: &[Deed],
+    slot: u32,
+) -> Result<(), AllocError>
+    requires slot { slot ≤ 64 }
+    requires place { y < 2 ^ 60 }
+    ensures { OnOk result (shapes.new ≡ shapes.old ++ lane_frame band.now y end (reverse deeds.now) slot) }
+{
+    if !has_lane(band.cpu, slot, deeds) {
+        return Ok(());
+    }
+    let top = y + lane_top(band.cpu, slot, deeds);
+    draw(shapes, Shape::Name(52, top + 14, Caption::Slot(slot)))?;
+    draw(shapes, Shape::LaneLine(top + 10, end))
+}
+
+/// The name and the line of each lane, in one row.
+#[tactic(auto, using(crate::proofs::Further::one_more_drawn))]
+fn push_lanes(
+    shapes: &mut Series<Shape>,
+    band: &Band,
+    y: u64,
+    end: u64,
+    deeds: &[Deed],
+) -> Result<(), AllocError>
+    requires place { y < 2 ^ 60 }
+    ensures { OnOk result (shapes.new ≡ shapes.old ++ flat_map (lane_frame band.now y end (reverse deeds.now)) (numbers_below slot_limit)) }
+{
+    for slot in 0..slot_limit() {
+        push_lane(shapes, band, y, end, deeds, slot)?;
+    }
+    Ok(())
+}
+
+/// The name and the line of a stream, in one row.
+fn push_stream(shapes: &mut Series<Shape>, y: u64, end: u64) -> Result<(), AllocError>
+    requires place { y < 2 ^ 60 }
+    ensures { OnOk result (shapes.new ≡ shapes.old ++ stream_frame y end) }
+{
+    draw(shapes, Shape::Name(52, y + 14, Caption::Stream))?;
+    draw(shapes, Shape::StreamLine(y + 10, end))
+}
+
+/// The ground and the name of a band, in one row.
+fn push_ground(
+    shapes: &mut Series<Shape>,
+    band: &Band,
+    y: u64,
+    width: u64,
+) -> Result<(), AllocError>
+    requires place { y < 2 ^ 60 }
+    ensures { OnOk result (shapes.new ≡ shapes.old ++ ground_frame band.now y width) }
+{
+    draw(shapes, Shape::Ground(y, width, band.height))?;
+    draw(shapes, Shape::Name(8, y + 32, Caption::Cpu(band.cpu)))
+}
+
+/// What stands behind the marks of a CPU, in one row.
+fn push_frame(
+    shapes: &mut Series<Shape>,
+    band: &Band,
+    row: u64,
+    deeds: &[Deed],
+) -> Result<(), AllocError>
+    requires band { IsSmall band.now }
+    requires row { row ≤ 50 }
+    ensures { OnOk result (shapes.new ≡ shapes.old ++ band_frame row (reverse deeds.now) band.now) }
+{
+    let count = deeds.len() as u64;
+    let y = row_top(band.stride, row) + band.top;
+    let end = row_end(row, count);
+    push_ground(shapes, band, y, picture_width(count))?;
+    push_lanes(shapes, band, y, end, deeds)?;
+    push_stream(shapes, y + band.stream, end)
+}
+
+fn push_frames(
+    shapes: &mut Series<Shape>,
+    bands: &[Band],
+    row: u64,
+    deeds: &[Deed],
+) -> Result<(), AllocError>
+    requires small { All IsSmall bands.now }
+    requires row { row ≤ 50 }
+    ensures { OnOk result (shapes.new ≡ shapes.old ++ flat_map (band_frame row (reverse deeds.now)) bands.now) }
+{
+    for band in bands {
+        push_frame(shapes, band, row, deeds)?;
+    }
+    Ok(())
+}
+
+/// The bars of a row, and its bands.
+fn push_row(
+    alloc: Global,
+    shapes: &mut Series<Shape>,
+    stride: u64,
+    bands: &[Band],
+    deeds: &[Deed],
+    row: u64,
+) -> Result<(), AllocError>
+    requires few { length deeds.now ≤ 2000 }
+    requires small { All IsSmall bands.now }
+    requires stride { stride < 2 ^ 50 }
+    requires within { 40 * row ≤ length deeds.now }
+    ensures { OnOk result (shapes.new ≡ shapes.old ++ row_frame stride bands.now (reverse deeds.now) row) }
+{
+    push_bars(alloc, shapes, stride, row, deeds)?;
+    push_frames(shapes, bands, row, deeds)
+}
+
+#[tactic(auto, using(crate::proofs::Further::one_more_drawn))]
+fn push_rows(
+    alloc: Global,
+    shapes: &mut Series<Shape>,
+    stride: u64,
+    bands: &[Band],
+    deeds: &[Deed],
+) -> Result<(), AllocError>
+    requires few { length deeds.now ≤ 2000 }
+    requires small { All IsSmall bands.now }
+    requires stride { stride < 2 ^ 50 }
+    ensures { OnOk result (shapes.new ≡ shapes.old ++ rows_drawn stride bands.now (reverse deeds.now)) }
+{
+    for row in 0..row_count(deeds.len() as u64) {
+        push_row(alloc, shapes, stride, bands, deeds, row)?;
+    }
+    Ok(())
+}
+
+fn push_bands(
+    alloc: Global,
+    shapes: &mut Series<Shape>,
+    bands: &[Band],
+    deeds: &[Deed],
+) -> Result<(), AllocError>
+    requires few { length deeds.now ≤ 2000 }
+    requires small { All IsSmall bands.now }
+    ensures { OnOk result (shapes.new ≡ shapes.old ++ flat_map (all_band_marks (reverse deeds.now)) bands.now) }
+{
+    for band in bands {
+        push_band(alloc, shapes, band, deeds)?;
+    }
+    Ok(())
+}
+
+/// A release above its slot's bar, or a stop through all bands.
+fn push_shared(
+    shapes: &mut Series<Shape>,
+    stride: u64,
+    deeds: &[Deed],
+    column: u64,
+    deed: &Deed,
+) -> Result<(), AllocError>
+    requires stride { stride < 2 ^ 50 }
+    requires column { column ≤ 2000 }
+    ensures { OnOk result (shapes.new ≡ shapes.old ++ shared_marks stride (reverse deeds.now) column deed.now) }
+{
+    let row = row_top(stride, column / COLUMNS);
+    match *deed {
+        Deed::Release(slot) => push_release(shapes, row, deeds, column, slot),
+        Deed::Halt => push_stop(shapes, stride, row, deeds, column),
+        _ => Ok(()),
+    }
+}
+
+fn push_release(
+    shapes: &mut Series<Shape>,
+    row: u64,
+    deeds: &[Deed],
+    column: u64,
+    slot: u32,
+) -> Result<(), AllocError>
+    requires row { row < 2 ^ 60 }
+    ensures { OnOk result (shapes.new ≡ shapes.old ++ free_marks row (reverse deeds.now) column slot) }
+{
+    let y = row + bar_top(slot, deeds);
+    draw(shapes, label_above(column, y, Caption::Free))
+}
+
+fn push_stop(
+    shapes: &mut Series<Shape>,
+    stride: u64,
+    row: u64,
+    deeds: &[Deed],
+    column: u64,
+) -> Result<(), AllocError>
+    requires row { row < 2 ^ 60 }
+    ensures { OnOk result (shapes.new ≡ shapes.old ++ stop_marks stride row (reverse deeds.now) column) }
+{
+    let top = bands_top(deeds);
+    draw(
+        shapes,
+        Shape::StopStroke(middle_x(column), row + top, stride.saturating_sub(top)),
+    )?;
+    draw(shapes, label_above(column, row + top, Caption::Stop))
+}
+
+#[tactic(auto, using(crate::proofs::Further::one_deed_further))]
+fn push_all_shared(
+    shapes: &mut Series<Shape>,
+    stride: u64,
+    deeds: &[Deed],
+) -> Result<(), AllocError>
+    requires few { length deeds.now ≤ 2000 }
+    requires stride { stride < 2 ^ 50 }
+    ensures { OnOk result (shapes.new ≡ shapes.old ++ all_shared_marks stride (reverse deeds.now) (reverse deeds.now)) }
+{
+    for at in 0..deeds.len() {
+        push_shared(shapes, stride, deeds, at as u64, &deeds[at])?;
+    }
+    Ok(())
+}
+
+/// The five fates, each with its name.
+fn push_legend(shapes: &mut Series<Shape>, y: u64) -> Result<(), AllocError>
+    ensures { OnOk result (shapes.new ≡ shapes.old ++ legend y) }
+{
+    draw(shapes, Shape::Key(100, y, Look::Taken))?;
+    draw(shapes, Shape::Key(220, y, Look::Dropped))?;
+    draw(shapes, Shape::Key(370, y, Look::Discarded))?;
+    draw(shapes, Shape::Key(490, y, Look::Void))?;
+    draw(shapes, Shape::Key(610, y, Look::Abandoned))
+}
+
+/// All that the deeds show.
+fn push_deeds(
+    alloc: Global,
+    shapes: &mut Series<Shape>,
+    stride: u64,
+    bands: &[Band],
+    deeds: &[Deed],
+) -> Result<(), AllocError>
+    requires few { length deeds.now ≤ 2000 }
+    requires small { All IsSmall bands.now }
+    requires stride { stride < 2 ^ 50 }
+    ensures { OnOk result (shapes.new ≡ shapes.old ++ deeds_drawn stride bands.now (reverse deeds.now)) }
+{
+    push_rows(alloc, shapes, stride, bands, deeds)?;
+    push_bands(alloc, shapes, bands, deeds)?;
+    push_all_shared(shapes, stride, deeds)
+}
+
+/// Where the legend stands.
+fn legend_top(stride: u64, count: u64) -> u64
+    requires stride { stride < 2 ^ 50 }
+    requires few { count ≤ 2000 }
+    ensures place { result ≡ row_count count * stride + 6 }
+    ensures small { result < 2 ^ 60 }
+{
+    row_top(stride, row_count(count)) + 6
+}
+
+/// The text of the picture of so many deeds as a picture shows.
+fn drawn(
+    alloc: Global,
+    config: &Config,
+    header: Header,
+    batches: &[u64],
+    deeds: &[Deed],
+) -> Result<String, AllocError>
+    requires few { length deeds.now ≤ 2000 }
+    ensures { IfOk result (λ text. string_bytes text ≡ svg_text (drawing config.now header batches.now (reverse deeds.now))) }
+{
+    let stride = row_height(config.cpus, deeds);
+    let bands = bands(alloc, config, header, batches, deeds)?;
+    let mut shapes = Series::new(alloc);
+    push_deeds(alloc, &mut shapes, stride, bands.as_slice(), deeds)?;
+    let count = deeds.len() as u64;
+    let foot = legend_top(stride, count);
+    push_legend(&mut shapes, foot)?;
+    svg_text(alloc, picture_width(count), foot + 34, shapes.as_slice())
+}
+
+/// The SVG text of a play: its deeds in order of time, and how many batches of each CPU the consumer took.
+pub fn picture(
+    alloc: Global,
+    config: &Config,
+    header: Header,
+    batches: &[u64],
+    deeds: &[Deed],
+) -> Result<String, PictureFault>
+    ensures text { IfOk result (λ text. string_bytes text ≡ svg_text (drawing config.now header batches.now (reverse deeds.now))) }
+    ensures refused { (result ≡ Err PictureFault.TooManyDeeds) ↔ (2000 < length deeds.now) }
+{
+    if deeds.len() > MOST_DEEDS {
+        return Err(PictureFault::TooManyDeeds);
+    }
+    Ok(drawn(alloc, config, header, batches, deeds)?)
+}

@@ -1,0 +1,12 @@
+//! The player of a schedule's text: an input is read to its end, and the schedule that it says is played over its own schema.
+//!
+//! It promises that what was read is the input's bytes, that a play is that of the schedule which the text says, and that a line that
+//! is told is the first one at which the text says none, or the one whose turn the play refuses (`specs/PlayedTexts.antt`). Stands on
+//! `dspec_schedule`, which reads, and on `dspec_core`, whose `play` answers for the play itself.
+#![tactic(auto)]
+
+pub mod input;
+pub mod playing;
+
+pub use input::{InputFault, read_whole};
+pub use playing::{Played, play_text};

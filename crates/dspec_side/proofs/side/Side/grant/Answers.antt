@@ -1,0 +1,28 @@
+use Rattle.std.proofs.Common.{◌∙◌, refl, sym}
+use Rattle.dspec_deeds.specs.declared.deed.SpeculateFate.TheVariants as spoken
+use Rattle.dspec_side.proofs.Grants.{as_granted, granted_shown}
+use Rattle.dspec_side.proofs.side.Side.grant.Goals as goal
+
+pub returns-then-not-mark_and_keep-clause-answer : goal.returns-then-not-mark_and_keep-clause-answer
+returns-then-not-mark_and_keep-clause-answer g c = λ k cpu p shown caller.
+    sym c.if-not-mark_and_keep.true
+    ∙ as_granted _ _ (g.S.Schema.shape_of c.args.schema.now) p shown c.args.id c.args.rec.now c.args.mine c.requires.slot.0 c.requires.slot.1 caller c.mark_and_keep.result
+    c.mark_and_keep.new.buffers c.mark_and_keep.ensures.buffer
+
+pub returns-then-not-mark_and_keep-clause-shows : goal.returns-then-not-mark_and_keep-clause-shows
+returns-then-not-mark_and_keep-clause-shows g c = λ k cpu p shown caller.
+    granted_shown _ _ (g.S.Schema.shape_of c.args.schema.now) p shown c.args.id c.args.rec.now c.args.mine c.requires.slot.0 c.requires.slot.1 caller c.mark_and_keep.result
+    spoken.Dropped refl (sym c.if-not-mark_and_keep.true)
+    c.mark_and_keep.new.buffers c.mark_and_keep.ensures.buffer c.mark_and_keep.new.marks c.mark_and_keep.ensures.marks c.speak.new.self c.speak.ensures
+
+pub returns-clause-answer : goal.returns-clause-answer
+returns-clause-answer g c = λ k cpu p shown caller.
+    sym c.if-not-mark_and_keep.false
+    ∙ as_granted _ _ (g.S.Schema.shape_of c.args.schema.now) p shown c.args.id c.args.rec.now c.args.mine c.requires.slot.0 c.requires.slot.1 caller c.mark_and_keep.result
+    c.mark_and_keep.new.buffers c.mark_and_keep.ensures.buffer
+
+pub returns-clause-shows : goal.returns-clause-shows
+returns-clause-shows g c = λ k cpu p shown caller.
+    granted_shown _ _ (g.S.Schema.shape_of c.args.schema.now) p shown c.args.id c.args.rec.now c.args.mine c.requires.slot.0 c.requires.slot.1 caller c.mark_and_keep.result
+    spoken.Kept refl (sym c.if-not-mark_and_keep.false)
+    c.mark_and_keep.new.buffers c.mark_and_keep.ensures.buffer c.mark_and_keep.new.marks c.mark_and_keep.ensures.marks c.speak-2.new.self c.speak-2.ensures

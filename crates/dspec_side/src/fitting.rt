@@ -1,0 +1,126 @@
+ghost use Rattle.std.specs.Prelude.{◌≡◌, ◌≤◌, ◌&&◌, ◌<◌, not, true, ℕ, List, [], ◌∷◌, length, IsTrue, if◌then◌else◌};
+ghost use Rattle.std.specs.Bool.{OnTrue, OnFalse};
+ghost use Rattle.dspec_buffer.specs.Extent.{Piece, one, piece_fits};
+ghost use Rattle.dspec_deeds.specs.declared.deed.Deed.{Deed};
+ghost use Rattle.dspec_deeds.specs.Legal.{fits_principal, fits_speculative, is_closed};
+ghost use Rattle.dspec_side.specs.Counting.{counts_of};
+ghost use Rattle.dspec_side.specs.Sides.{IsCaller, ShowsList};
+
+use crate::side::Side;
+use dspec_buffer::TraceBuffer;
+use dspec_deeds::Config;
+use dspec_record::{Rec, Schema};
+use dspec_word::SpecId;
+
+// Whether a record would fit.
+#[inline]
+fn would_fit<S: Schema, B: TraceBuffer<S>>(buffer: &B, schema: &S, rec: &Rec) -> bool
+    requires accepted { IsTrue (S.accepted schema.now rec.now) }
+    ensures { (ps : List Piece) → B.has buffer.now schema.now ps → result ≡ piece_fits (S.shape_of schema.now) ps (one rec.now) (B.capacity buffer.now) }
+{
+    // An accepted record has a shape. Told so, where nobody asks for the answer no running code is left of the question.
+    let Some(shape) = schema.shape(rec.epid()) else {
+        return false;
+    };
+    buffer.fits(shape.align, shape.size)
+}
+
+// Whether a record would fit an empty buffer of this size.
+fn would_fit_empty<S: Schema>(schema: &S, rec: &Rec, size: u32) -> bool
+    requires accepted { IsTrue (S.accepted schema.now rec.now) }
+    ensures { result ≡ piece_fits (S.shape_of schema.now) [] (one rec.now) size }
+{
+    let Some(shape) = schema.shape(rec.epid()) else {
+        return false;
+    };
+    shape.size <= size
+}
+
+/// Keeps a record in a buffer, which is emptied before where what it has isn't of the same speculation. False where it doesn't
+/// fit.
+#[inline(always)]
+pub(crate) fn keep_in<S: Schema, B: TraceBuffer<S>>(
+    buffer: &mut B,
+    schema: &S,
+    rec: &Rec,
+    mine: bool,
+) -> bool
+    requires accepted { IsTrue (S.accepted schema.now rec.now) }
+    ensures size { B.capacity buffer.new ≡ B.capacity buffer.old }
+    ensures answer { (ps : List Piece) → B.has buffer.old schema.now ps
+        → result ≡ piece_fits (S.shape_of schema.now) (if mine then ps else []) (one rec.now) (B.capacity buffer.old) }
+    ensures has { (ps : List Piece) → B.has buffer.old schema.now ps
+        → B.has buffer.new schema.now (if result then one rec.now ∷ (if mine then ps else []) else (if mine then ps else [])) }
+{
+    if !mine {
+        buffer.clear();
+    }
+    buffer.push(schema, rec)
+}
+
+/// Keeps a record in a principal buffer, where that isn't shut and the record fits.
+#[inline]
+pub(crate) fn keep_open<S: Schema, B: TraceBuffer<S>>(
+    active: &mut B,
+    schema: &S,
+    rec: &Rec,
+    shut: bool,
+) -> bool
+    requires accepted { IsTrue (S.accepted schema.now rec.now) }
+    ensures size { B.capacity active.new ≡ B.capacity active.old }
+    ensures answer { (ps : List Piece) → B.has active.old schema.now ps
+        → result ≡ (piece_fits (S.shape_of schema.now) ps (one rec.now) (B.capacity active.old) && not shut) }
+    ensures kept { OnTrue result ((ps : List Piece) → B.has active.old schema.now ps → B.has active.new schema.now (one rec.now ∷ ps)) }
+    ensures refused { OnFalse result (active.new ≡ active.old) }
+{
+    if shut {
+        return false;
+    }
+    active.push(schema, rec)
+}
+
+impl<B> Side<B> {
+    /// Whether the active principal buffer takes nothing more but empty blocks: under Fill, once it has refused a reservation.
+    #[inline]
+    pub fn is_shut(&self, config: &Config) -> bool
+        ensures { (c worn : ℕ) (p : List Deed) → self.now.counts ≡ counts_of config.now c worn p → result ≡ is_closed config.now c p }
+    {
+        config.policy.is_fill() && self.counts.drops > 0
+    }
+
+    /// Whether the active principal buffer would take a record.
+    #[inline]
+    pub fn fits<S: Schema>(&self, config: &Config, schema: &S, rec: &Rec) -> bool
+    where
+        B: TraceBuffer<S>,
+        requires accepted { IsTrue (S.accepted schema.now rec.now) }
+        ensures { (c : ℕ) (p : List Deed) → ShowsList (λ b. B.has b schema.now) B.capacity config.now c p self.now
+            → result ≡ fits_principal (S.shape_of schema.now) config.now c (one rec.now) p }
+    {
+        would_fit(&self.active, schema, rec) && !self.is_shut(config)
+    }
+
+    /// Whether the CPU's buffer of the speculation would take a record; it is empty where the CPU is no caller.
+    #[inline]
+    pub fn fits_slot<S: Schema>(
+        &self,
+        config: &Config,
+        schema: &S,
+        id: SpecId,
+        rec: &Rec,
+        mine: bool,
+    ) -> bool
+    where
+        B: TraceBuffer<S>,
+        requires slot { (1 ≤ id.slot) × (id.slot ≤ length self.now.speculative.items) }
+        requires accepted { IsTrue (S.accepted schema.now rec.now) }
+        ensures { (c : ℕ) (p : List Deed) → ShowsList (λ b. B.has b schema.now) B.capacity config.now c p self.now → IsCaller c id mine p
+            → result ≡ fits_speculative (S.shape_of schema.now) config.now c id rec.now p }
+    {
+        if mine {
+            would_fit(&self.speculative[id.slot() as usize - 1], schema, rec)
+        } else {
+            would_fit_empty(schema, rec, config.specsize)
+        }
+    }
+}

@@ -1,0 +1,108 @@
+ghost use Rattle.std.specs.Prelude.{◌≡◌, ◌<◌, ◌≤◌, ◌+◌, ◌-◌, ◌^◌, ◌==◌, ◌∷◌, [], ℕ, true, false, List, length, slice_get, slice_set, Some, IsTrue, if◌then◌else◌};
+ghost use Rattle.dspec_buffer.specs.Extent.{Piece, one, piece_fits};
+ghost use Rattle.dspec_record.specs.Record.{Record};
+ghost use Rattle.dspec_word.specs.SpecId.{Speculation};
+ghost use Rattle.dspec_deeds.specs.declared.config.Config.{Config};
+ghost use Rattle.dspec_deeds.specs.declared.deed.Deed.{Deed};
+ghost use Rattle.dspec_deeds.specs.declared.deed.Deed.TheVariants.{Speculate};
+ghost use Rattle.dspec_deeds.specs.FateKinds.{spoken_granted};
+ghost use Rattle.dspec_deeds.specs.Legal.{fits_speculative};
+ghost use Rattle.dspec_side.specs.Counting.{IsRoomy, with_spoken};
+ghost use Rattle.dspec_side.specs.Sides.{IsCaller, ShowsList};
+
+use crate::fitting::keep_in;
+use crate::side::Side;
+use dspec_buffer::TraceBuffer;
+use dspec_deeds::SpeculateFate;
+use dspec_record::{Rec, Schema};
+use dspec_word::SpecId;
+
+// Marks the speculation as granted and keeps the record, where it fits, in its buffer, which is emptied before where what it
+// has is of an older speculation. False where it doesn't fit.
+#[inline(always)]
+fn mark_and_keep<S: Schema, B: TraceBuffer<S>>(
+    marks: &mut Vec<u64>,
+    buffers: &mut Vec<B>,
+    schema: &S,
+    id: SpecId,
+    rec: &Rec,
+    mine: bool,
+) -> bool
+    requires slot { (1 ≤ id.slot) × (id.slot ≤ length buffers.old.items) × (id.slot ≤ length marks.old.items) }
+    requires marked { mine ≡ true → slice_get marks.old.items (id.slot - 1) ≡ Some (id.issue + 1) }
+    requires accepted { IsTrue (S.accepted schema.now rec.now) }
+    ensures marks { marks.new.items ≡ slice_set marks.old.items (id.slot - 1) (id.issue + 1) }
+    ensures buffer { (b : B) → slice_get buffers.old.items (id.slot - 1) ≡ Some b
+        → (n : B) × (B.capacity n ≡ B.capacity b) × (buffers.new.items ≡ slice_set buffers.old.items (id.slot - 1) n)
+        × ((ps : List Piece) → B.has b schema.now ps
+        → (result ≡ piece_fits (S.shape_of schema.now) (if mine then ps else []) (one rec.now) (B.capacity b))
+        × B.has n schema.now (if result then one rec.now ∷ (if mine then ps else []) else (if mine then ps else []))) }
+{
+    let place = id.slot() as usize - 1;
+    if !mine {
+        marks[place] = id.issue() + 1;
+    }
+    keep_in(&mut buffers[place], schema, rec, mine)
+}
+
+impl<B> Side<B> {
+    /// Whether the CPU is a caller of the speculation, by the slot's mark.
+    #[inline]
+    pub fn is_mine(&self, id: SpecId) -> bool
+        requires slot { (1 ≤ id.slot) × (id.slot ≤ length self.now.marks.items) }
+        ensures tells { (m : ℕ) → slice_get self.now.marks.items (id.slot - 1) ≡ Some m → result ≡ (m == id.issue + 1) }
+        ensures marked { result ≡ true → slice_get self.now.marks.items (id.slot - 1) ≡ Some (id.issue + 1) }
+    {
+        self.marks[id.slot() as usize - 1] == id.issue() + 1
+    }
+
+    /// Offers a record to a speculation that was granted to the CPU, of which it was a caller before or not: marked as granted,
+    /// it is kept, or dropped where it doesn't fit the rest of the CPU's buffer.
+    #[inline(always)]
+    pub fn grant<S: Schema>(&mut self, schema: &S, id: SpecId, rec: &Rec, mine: bool) -> bool
+    where
+        B: TraceBuffer<S>,
+        requires slot { (1 ≤ id.slot) × (id.slot ≤ length self.old.speculative.items) × (id.slot ≤ length self.old.marks.items) }
+        requires marked { mine ≡ true → slice_get self.old.marks.items (id.slot - 1) ≡ Some (id.issue + 1) }
+        requires accepted { IsTrue (S.accepted schema.now rec.now) }
+        requires calls { self.old.calls + 1 < 2 ^ 64 }
+        requires counts { IsRoomy self.old.counts }
+        ensures answer { (k : Config) (c : ℕ) (p : List Deed) → ShowsList (λ b. B.has b schema.now) B.capacity k c p self.old → IsCaller c id mine p
+            → result ≡ fits_speculative (S.shape_of schema.now) k c id rec.now p }
+        ensures shows { (k : Config) (c : ℕ) (p : List Deed) → ShowsList (λ b. B.has b schema.now) B.capacity k c p self.old → IsCaller c id mine p
+            → ShowsList (λ b. B.has b schema.now) B.capacity k c (Speculate c id rec.now (if result then SpeculateFate.Kept else SpeculateFate.Dropped) ∷ p) self.new }
+        ensures counts { self.new.counts ≡ with_spoken (if result then SpeculateFate.Kept else SpeculateFate.Dropped) self.old.counts }
+        ensures rest { self.new ≡ record self.old { calls = self.old.calls + 1; marks = self.new.marks; speculative = self.new.speculative; counts = self.new.counts } }
+    {
+        self.calls += 1;
+        if !mark_and_keep(
+            &mut self.marks,
+            &mut self.speculative,
+            schema,
+            id,
+            rec,
+            mine,
+        ) {
+            self.counts.speak(SpeculateFate::Dropped);
+            return false;
+        }
+        self.counts.speak(SpeculateFate::Kept);
+        true
+    }
+
+    /// Counts a record that was granted nothing: the identifier isn't open, or the session was stopped.
+    #[inline]
+    pub fn speak_nowhere<S: Schema>(&mut self, fate: SpeculateFate)
+    where
+        B: TraceBuffer<S>,
+        requires nowhere { spoken_granted fate ≡ false }
+        requires calls { self.old.calls + 1 < 2 ^ 64 }
+        requires counts { IsRoomy self.old.counts }
+        ensures shows { (s : S) (k : Config) (c : ℕ) (p : List Deed) (id : Speculation) (r : Record) → ShowsList (λ b. B.has b s) B.capacity k c p self.old
+            → ShowsList (λ b. B.has b s) B.capacity k c (Speculate c id r fate ∷ p) self.new }
+        ensures rest { self.new ≡ record self.old { calls = self.old.calls + 1; counts = with_spoken fate self.old.counts } }
+    {
+        self.calls += 1;
+        self.counts.speak(fate);
+    }
+}

@@ -1,0 +1,86 @@
+//! Two lanes: each keeps a path, throws one away, and traces a record; one that the schema refuses isn't offered.
+use dspec::{Lane, Sink, Work, trace};
+use dspec_deeds::{Config, Decided, Policy, Report, Traced};
+use dspec_record::{Enablings, Field};
+use dspec_ring::Batch;
+use std::sync::atomic::{AtomicU64, Ordering};
+use std::test::Fail;
+
+const CONFIG: Config = Config {
+    cpus: 2,
+    nspec: 4,
+    bufsize: 64,
+    specsize: 64,
+    max_issues: 8,
+    max_calls: 100,
+    policy: Policy::Switch,
+};
+
+/// What each lane does; it counts the answers that are due.
+#[derive(Drop)]
+struct Requests {
+    due: AtomicU64,
+}
+
+impl Requests {
+    /// Counts an answer that is due.
+    fn count(&self, is_due: bool) {
+        if is_due {
+            self.due.fetch_add(1, Ordering::SeqCst);
+        }
+    }
+}
+
+impl Work<Enablings> for Requests {
+    fn work(&self, lane: &mut Lane<'_, Enablings>) {
+        let kept = lane.path();
+        kept.step(lane, 1, 0, &[7]);
+        let thrown = lane.path();
+        thrown.step(lane, 1, 0, &[8]);
+        self.count(kept.keep(lane) == Decided::Copied(1));
+        self.count(thrown.throw(lane) == Decided::Thrown(1));
+        self.count(lane.record(1, 0, &[9]) == Some(Traced::Kept));
+        self.count(lane.record(1, 0, &[256]).is_none());
+    }
+}
+
+/// How many bytes of records came.
+#[derive(Drop)]
+struct Counted {
+    bytes: u64,
+}
+
+impl Sink<Enablings> for Counted {
+    fn batch(&mut self, _schema: &Enablings, batch: &Batch) {
+        self.bytes = self.bytes.wrapping_add(batch.buffer.bytes().len() as u64);
+    }
+}
+
+#[test]
+fn two_lanes(rt: HostRuntime) -> Result<(), Fail> {
+    let mut schema = Enablings::new();
+    assert!(rt; schema.enable(&[Field::One]).is_ok());
+    let work = Requests {
+        due: AtomicU64::new(0),
+    };
+    let Ok((closed, counted)) = trace(
+        &rt,
+        rt.alloc(),
+        &CONFIG,
+        schema,
+        &work,
+        Counted { bytes: 0 },
+    ) else {
+        return Err("no session".into());
+    };
+    assert!(rt; work.due.load(Ordering::SeqCst) == 8);
+    assert!(rt; counted.bytes == 32);
+    let report = Report {
+        offered: 3,
+        accepted: 2,
+        discarded: 1,
+        ..Report::default()
+    };
+    assert!(rt; *closed.report(0) == report && *closed.report(1) == report);
+    Ok(())
+}

@@ -1,0 +1,103 @@
+-- The file of each CPU stands at its place.
+use Rattle.std.proofs.Common.{◌≡◌, ℕ, ◌+◌, ◌<◌, ◌≤◌, List, [], ◌∷◌, ◌++◌, Option, Bool, true, false, if◌then◌else◌, Some, length}
+use Rattle.std.proofs.Common.{map, reverse, slice_index_or, get_or, refl, sym, ap, ◌∙◌, subst, below_more, ⊎_elim, ◌⊎◌, zero, suc, add-one, arith}
+use Rattle.std.proofs.lemmas.List.{map-append, length-append, length-map, get_or_append_left, get_or_at, get_or_default, get_or-map}
+use Rattle.dspec_record.specs.Record.{Record}
+use Rattle.dspec_record.specs.EnablingRows.{EnabledRows}
+use Rattle.dspec_deeds.specs.declared.deed.Deed.{Deed}
+use Rattle.dspec_deeds.specs.declared.report.Report.{Report}
+use Rattle.dspec_deeds.specs.Closes.{numbers_below, reports}
+use Rattle.dspec_deeds.specs.Own.{stream}
+use Rattle.dspec_ctf.specs.declared.form.Form.{Form}
+use Rattle.dspec_record.specs.declared.field.Shape.{Shape}
+use Rattle.dspec_deeds.specs.declared.config.Config.{Config}
+use Rattle.dspec_deeds.specs.Own.{Offer, accepts, held}
+use Rattle.dspec_deeds.specs.Reports.{accepts_now, report}
+use Rattle.dspec_deeds.specs.Legal.{IsLegal}
+use Rattle.dspec_deeds.specs.Fates.{is_taken}
+use Rattle.dspec_deeds.proofs.DeedEffects.{next_offer, Effect, idle, offering, emptying, Accounts, legal_accounts}
+use Rattle.specview.specs.declared.fault.ViewFault.{ViewFault}
+use Rattle.specview.specs.declared.fault.ViewFault.TheVariants.{Line, NoStamp, NoFrequency, NoEvent, TooMuch, Memory, Read, Write, TooLong, NotEmpty, Usage}
+use Rattle.specview.specs.Batches.{TellsCounts}
+use Rattle.specview.specs.Traces.{AreFiles, AreStreams, IsFile, HasUnknown, IsFileFault, IsFormFault, IsPlayTraceFault}
+use Rattle.dspec_ctf.specs.Names.{metadata_fault as fault_of_metadata}
+use Rattle.dspec_ctf.specs.declared.names.Names.TheVariants.{Numbered}
+use Rattle.dspec_ctf.specs.declared.fault.MetadataFault.{MetadataFault}
+use Rattle.dspec_ctf.specs.declared.fault.MetadataFault.TheVariants as metadata_fault
+
+pub below_long : (n : ℕ) → length (numbers_below n) ≡ n
+below_long zero = refl
+below_long (suc n) = let before = below_long n in let long = length-append (numbers_below n) (n ∷ []) in omega arith
+
+below_at : (n c d : ℕ) → c < n → get_or (numbers_below n) c d ≡ c
+below_at zero c d lt = absurd (omega arith)
+below_at (suc n) c d lt =
+    below_more (λ k. get_or (numbers_below (suc n)) k d ≡ k) n
+    (λ k less. get_or_append_left (numbers_below n) (n ∷ []) d k (let long = below_long n in omega arith) ∙ below_at n k d less)
+    (get_or_at (numbers_below n) n [] d n (below_long n))
+    c (subst (λ m. c < m) (sym (add-one n)) lt)
+
+-- the records of a CPU are its stream
+pub stream_at : (cpus c : ℕ) (deeds : List Deed) (rss : List (List Record)) (rs : List Record) → AreStreams cpus deeds rss → c < cpus → rs ≡ get_or rss c rs → rs ≡ stream c (reverse deeds)
+stream_at cpus c deeds rss rs streams lt is =
+    let f : ℕ → List Record = λ a. stream a (reverse deeds) in
+    let within : c < length (numbers_below cpus) = subst (λ m. c < m) (sym (below_long cpus)) lt in
+    is ∙ (ap (λ xs. get_or xs c rs) streams ∙ (get_or-map f (numbers_below cpus) c 0 rs within ∙ ap f (below_at cpus c 0 lt)))
+
+pub streams_long : (cpus : ℕ) (deeds : List Deed) (rss : List (List Record)) → AreStreams cpus deeds rss → length rss ≡ cpus
+streams_long cpus deeds rss streams = ap length streams ∙ (length-map (numbers_below cpus) (λ a. stream a (reverse deeds)) ∙ below_long cpus)
+
+-- one more CPU's file
+pub file_next : (uuid : List ℕ) (e : EnabledRows) (form : Form) (h : List Deed) (reps : List Report) (old new : List (List ℕ)) (file : List ℕ) (n : ℕ) (r : Report)
+    → length old ≡ n → AreFiles uuid e form h reps old n → n < length reps → r ≡ get_or reps n r → IsFile uuid e n form h r file → new ≡ old ++ file ∷ []
+    → AreFiles uuid e form h reps new (n + 1)
+file_next uuid e form h reps old new file n r long before lt is here more c p less there =
+    below_more (λ k. (q : Report) → q ≡ get_or reps k q → IsFile uuid e k form h q (get_or new k [])) n
+    (λ k below q at. subst (IsFile uuid e k form h q)
+    (sym (ap (λ l. get_or l k []) more ∙ get_or_append_left old (file ∷ []) [] k (let l = long in omega arith))) (before k q below at))
+    (λ q at. subst (λ (x : Report). IsFile uuid e n form h x (get_or new n [])) (is ∙ (get_or_default reps n r q lt ∙ sym at))
+    (subst (IsFile uuid e n form h r) (sym (ap (λ l. get_or l n []) more ∙ get_or_at old file [] [] n long)) here))
+    c less p there
+
+-- why there is no file is why there is no trace
+pub no_trace : (form : Form) (e : EnabledRows) (rss : List (List Record)) (rs : List Record) (c : ℕ) (fault : ViewFault) → c < length rss → rs ≡ get_or rss c rs
+    → IsFileFault form e rs fault → IsPlayTraceFault form e rss fault
+no_trace form e rss rs c (Line line kind) lt is why = why
+no_trace form e rss rs c NoStamp lt is why = why
+no_trace form e rss rs c NoFrequency lt is why = absurd why
+no_trace form e rss rs c (NoEvent epid) lt is why = (c, subst (HasUnknown e epid) (is ∙ get_or_default rss c rs [] lt) why)
+no_trace form e rss rs c TooMuch lt is why = why
+no_trace form e rss rs c Memory lt is why = why
+no_trace form e rss rs c Read lt is why = why
+no_trace form e rss rs c Write lt is why = why
+no_trace form e rss rs c TooLong lt is why = why
+no_trace form e rss rs c NotEmpty lt is why = why
+no_trace form e rss rs c Usage lt is why = why
+
+-- a deed tells how many records it brought
+one_or_none : (b : Bool) (os : List Offer) → (if b then length os else 0) ≡ length (if b then os else [])
+one_or_none true os = refl
+one_or_none false os = refl
+
+effect_told : (c : ℕ) (d : Deed) (h : List Deed) → Effect c d h → accepts_now c d ≡ length (accepts c d h)
+effect_told c d h (idle i) = i.counts.accepts ∙ sym (ap length i.accepted)
+effect_told c d h (offering r f o) = o.counts.accepts ∙ (one_or_none (is_taken f) (next_offer c r h ∷ []) ∙ sym (ap length o.accepted))
+effect_told c d h (emptying id f m) = m.counts.accepts ∙ (one_or_none (is_taken f) (held c id h) ∙ sym (ap length m.accepted))
+
+accounts_told : (c : ℕ) (h : List Deed) → Accounts c h → TellsCounts c h
+accounts_told c [] a = tt
+accounts_told c (d ∷ h) a = (accounts_told c h a.0, effect_told c d h a.1)
+
+pub legal_told : (shape : ℕ → Option Shape) (k : Config) (c : ℕ) (h : List Deed) → IsLegal shape k h → TellsCounts c h
+legal_told shape k c h legal = accounts_told c h (legal_accounts shape k c h legal.0)
+
+pub reports_long : (k : Config) (worn : ℕ → ℕ) (h : List Deed) → length (reports k worn h) ≡ k.cpus
+reports_long k worn h = length-map (numbers_below k.cpus) (λ c. report k c (worn c) h) ∙ below_long k.cpus
+
+-- a fault of the metadata as it is told
+pub form_told : (form : Form) (e : EnabledRows) (rss : List (List Record)) (f : MetadataFault) (told : ViewFault) → (f ≡ metadata_fault.Memory) ⊎ (fault_of_metadata form e Numbered ≡ Some f)
+    → IsFormFault f told → IsPlayTraceFault form e rss told
+form_told form e rss metadata_fault.NoStamp told why is = subst (IsPlayTraceFault form e rss) (sym is) (⊎_elim (λ q. cc) (λ q. q) why)
+form_told form e rss metadata_fault.NoFrequency told why is = subst (IsPlayTraceFault form e rss) (sym is) (⊎_elim (λ q. cc) (λ q. q) why)
+form_told form e rss (metadata_fault.Name fault) told why is = subst (IsPlayTraceFault form e rss) (sym is) tt
+form_told form e rss metadata_fault.Memory told why is = subst (IsPlayTraceFault form e rss) (sym is) tt

@@ -1,0 +1,5 @@
+pub mod Cutting
+pub mod Parts
+pub mod Greatest
+pub mod Files
+pub mod AllFiles

@@ -1,0 +1,69 @@
+-- The records of a CPU's batches, and what is put around them.
+use Rattle.std.proofs.Common.{◌≡◌, ℕ, ◌+◌, ◌<◌, ◌≤◌, List, [], ◌∷◌, ◌++◌, length, map, reverse, Some, take, drop}
+use Rattle.std.proofs.Common.{get_or, refl, sym, ap, ◌∙◌, subst, append_assoc, All, arith, Bool, true, false, ◌==◌, ◌&&◌, if◌then◌else◌}
+use Rattle.std.proofs.lemmas.List.{take_at, drop_at, drop_more, map-append, get_or-map, length-map}
+use Rattle.std.proofs.lemmas.List.Elements.{All-nil, All-cons, All-append, All-take, All-drop, All-get_or}
+use Rattle.dspec_record.specs.Record.{Record}
+use Rattle.dspec_record.specs.EnablingRows.{EnabledRows}
+use Rattle.dspec_deeds.specs.declared.deed.Deed.{Deed}
+use Rattle.dspec_deeds.specs.Own.{contents, stream, Batch, growing, batches, batch_records}
+use Rattle.dspec_deeds.proofs.Prefixes.{stream_in_batches}
+use Rattle.dspec_record.specs.declared.header.Header.TheVariants as header
+use Rattle.dspec_ctf.specs.declared.form.Form.{Form}
+use Rattle.dspec_ctf.specs.declared.form.Form.TheVariants.{AsTaken, ByTime}
+use Rattle.dspec_ctf.specs.declared.fault.MetadataFault.TheVariants.{NoStamp}
+use Rattle.dspec_ctf.specs.declared.names.Names.TheVariants.{Numbered}
+use Rattle.dspec_ctf.specs.Names.{metadata_fault, form_fault}
+use Rattle.specview.specs.declared.batches.Share.{Share}
+use Rattle.specview.specs.Batches.{ShareOf, share_of, shares, last_share, shown_share}
+
+module _ (P : Record → Type 0) where
+  front_all : (xs ys : List Record) → All P (xs ++ ys) → All P xs
+  front_all xs ys all = subst (All P) (take_at xs ys (length xs) refl) (All-take P (length xs) (xs ++ ys) all)
+
+  back_all : (xs ys : List Record) → All P (xs ++ ys) → All P ys
+  back_all xs ys all = subst (All P) (drop_at xs ys (length xs) refl) (All-drop P (length xs) (xs ++ ys) all)
+
+  -- each batch has records of which this is true
+  abbrev pub Within : List ShareOf → Type 0
+  Within ss = All (λ s. All P s.records) ss
+
+  batches_all : (bs : List Batch) → All P (batch_records bs) → Within (map share_of bs)
+  batches_all [] all = All-nil (λ (s : ShareOf). All P s.records)
+  batches_all (b ∷ bs) all =
+      All-cons (λ (s : ShareOf). All P s.records) (share_of b) (map share_of bs) (front_all (reverse (contents b.offers)) (batch_records bs) all)
+      (batches_all bs (back_all (reverse (contents b.offers)) (batch_records bs) all))
+
+  pub last_all : (s : ShareOf) → All P s.records → Within (last_share s)
+  last_all s all = step (s.drops == 0 && length s.records == 0)
+    where
+      step : (b : Bool) → Within (if b then [] else s ∷ [])
+      step true = All-nil (λ (t : ShareOf). All P t.records)
+      step false = All-cons (λ (t : ShareOf). All P t.records) s [] all (All-nil (λ (t : ShareOf). All P t.records))
+
+  -- those of a CPU, where it is true of all that it accepted
+  pub shares_all : (c : ℕ) (h : List Deed) → All P (stream c h) → Within (shares c h)
+  shares_all c h all =
+      let sealed = batch_records (reverse (batches c h)) in
+      let last = reverse (contents (growing c h).offers) in
+      let parts : All P (sealed ++ last) = subst (All P) (stream_in_batches c h) all in
+      All-append (λ (s : ShareOf). All P s.records) (map share_of (reverse (batches c h))) (last_share (share_of (growing c h)))
+      (batches_all (reverse (batches c h)) (front_all sealed last parts))
+      (last_all (share_of (growing c h)) (back_all sealed last parts))
+
+  -- of a CPU without records there is one at the most
+  pub written_all : (c : ℕ) (h : List Deed) (drops : ℕ) (b : Bool) → All P (stream c h) → Within (if b then last_share (record { drops = drops; records = [] }) else shares c h)
+  written_all c h drops true all = last_all (record { drops = drops; records = [] }) (All-nil P)
+  written_all c h drops false all = shares_all c h all
+
+  -- the one at a place
+  pub share_at : (ss : List Share) (i : ℕ) (s : Share) → Within (map shown_share ss) → i < length ss → s ≡ get_or ss i s → All P s.records.now
+  share_at ss i s all lt is =
+      subst (λ (t : ShareOf). All P t.records) (get_or-map shown_share ss i s (shown_share s) lt ∙ ap shown_share (sym is))
+      (All-get_or (λ (t : ShareOf). All P t.records) (map shown_share ss) i (shown_share s) (rw length-map lt) all)
+
+-- records without a stamp have no trace by time
+pub no_stamp : (form : Form) (e : EnabledRows) → (form ≡ AsTaken → ⊥) → e.header ≡ header.One → metadata_fault form e Numbered ≡ Some NoStamp
+unfolding metadata_fault form_fault
+no_stamp AsTaken e timed is = absurd (timed refl)
+no_stamp (ByTime hertz) e timed is = rw is refl

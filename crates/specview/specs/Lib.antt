@@ -1,0 +1,4 @@
+pub mod Batches
+pub mod Traces
+pub mod Faults
+pub mod Folders

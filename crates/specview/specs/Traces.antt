@@ -1,0 +1,136 @@
+-- The trace of a play: its metadata, and the bytes of each CPU's file.
+use Rattle.std.specs.Prelude.{◌≡◌, ℕ, ◌+◌, ◌<◌, ◌==◌, ◌++◌, ◌⊎◌, List, [], ◌∷◌, length, map, reverse}
+use Rattle.std.specs.Prelude.{replicate, min, max, take, slice_get, slice_index_or, Some, unwrap_or, IfSome, Bool, true, false, if◌then◌else◌, string_bytes}
+use Rattle.dspec_record.specs.Record.{Record}
+use Rattle.dspec_record.specs.EnablingRows.{EnabledRows}
+use Rattle.dspec_record.specs.Schemas.{enabled, table_accepts}
+use Rattle.dspec_deeds.specs.declared.deed.Deed.{Deed}
+use Rattle.dspec_deeds.specs.declared.report.Report.{Report}
+use Rattle.dspec_deeds.specs.Closes.{numbers_below}
+use Rattle.dspec_deeds.specs.Own.{stream}
+use Rattle.dspec_deeds.specs.Reports.{report}
+use Rattle.dspec_play.specs.declared.outcome.Outcome.{Outcome}
+use Rattle.dspec_schedule.specs.Reading.{Plan, header_of}
+use Rattle.dspec_player.specs.PlayedTexts.{IsPlayedText, IsTextFault}
+use Rattle.dspec_schedule.specs.declared.fault.ScheduleFault.TheVariants as schedule
+use Rattle.dspec_ctf.specs.declared.form.Form.{Form}
+use Rattle.dspec_ctf.specs.declared.form.Form.TheVariants.{AsTaken, ByTime}
+use Rattle.dspec_ctf.specs.declared.fault.MetadataFault.TheVariants as metadata_fault
+use Rattle.dspec_ctf.specs.declared.names.Names.TheVariants.{Numbered}
+use Rattle.dspec_ctf.specs.ByTime.{ArePacketsOfRecords}
+use Rattle.dspec_ctf.specs.Metadata.{metadata_text}
+use Rattle.dspec_ctf.specs.Names.{metadata_fault as fault_of_metadata}
+use Rattle.dspec_ctf.specs.Packets.{packet}
+use Rattle.dspec_ctf.specs.declared.fault.MetadataFault.{MetadataFault}
+use Rattle.sha1.specs.Sha1.{sha1}
+use Rattle.uuid.specs.declared.Variant.TheVariants.{RFC4122}
+use Rattle.uuid.specs.declared.Version.TheVariants.{Sha1}
+use Rattle.uuid.specs.Parts.{with_variant, with_version}
+use Rattle.uuid.specs.Uuid.{namespace_oid}
+use Rattle.specview.specs.declared.fault.ViewFault.{ViewFault}
+use Rattle.specview.specs.declared.fault.ViewFault.TheVariants.{Line, NoStamp, NoFrequency, NoEvent, TooMuch, Memory, Read, Write, TooLong, NotEmpty, Usage}
+use Rattle.specview.specs.declared.trace.Trace.{Trace}
+use Rattle.specview.specs.Batches.{ShareOf, last_share, shares}
+
+-- the greatest EPID of records, 0 where there is none
+abbrev pub greatest_of : List Record → ℕ
+greatest_of [] = 0
+greatest_of (r ∷ rs) = max r.epid (greatest_of rs)
+
+abbrev pub greatest_epid : List (List Record) → ℕ
+greatest_epid [] = 0
+greatest_epid (rs ∷ rss) = max (greatest_of rs) (greatest_epid rss)
+
+-- The events of a play: the enablings of its schedule; of the default action, events without fields as far as the greatest EPID, 64
+-- at the most.
+abbrev pub event_rows : Plan → List (List Record) → EnabledRows
+event_rows p rss = unwrap_or p.enablings (record { header = header_of p; rows = replicate (min (greatest_epid rss) 64) [] })
+
+module _ (uuid : List ℕ) (e : EnabledRows) (cpu : ℕ) where
+  -- a packet for each batch, where so many reservations were refused before
+  abbrev pub packets_behind : ℕ → List ShareOf → List ℕ
+  packets_behind missed [] = []
+  packets_behind missed (s ∷ ss) = packet uuid e (missed + s.drops) cpu s.records ++ packets_behind (missed + s.drops) ss
+
+  -- a CPU's file as taken: of one without records, one packet where reservations were refused
+  abbrev pub file_as_taken : List Deed → ℕ → List ℕ
+  file_as_taken h drops =
+      packets_behind 0 (if length (stream cpu h) == 0 then last_share (record { drops = drops; records = [] }) else shares cpu h)
+
+  -- The bytes of a CPU's file; none where it has no file.
+  abbrev pub IsFile : Form → List Deed → Report → List ℕ → Type 0
+  IsFile AsTaken h p bytes = bytes ≡ file_as_taken h p.drops
+  IsFile (ByTime hertz) h p bytes = ArePacketsOfRecords e uuid (p.dropped + p.specdropped + p.lost) cpu (stream cpu h) bytes
+
+-- what stands at the place of each of so many CPUs is its file
+abbrev pub AreFiles : List ℕ → EnabledRows → Form → List Deed → List Report → List (List ℕ) → ℕ → Type 0
+AreFiles uuid e form h reps files n =
+    (c : ℕ) (p : Report) → c < n → p ≡ slice_index_or reps c p → IsFile uuid e c form h p (slice_index_or files c [])
+
+-- the records that each of so many CPUs accepted
+abbrev pub AreStreams : ℕ → List Deed → List (List Record) → Type 0
+AreStreams cpus deeds rss = rss ≡ map (λ c. stream c (reverse deeds)) (numbers_below cpus)
+
+-- the trace of a play, with this uuid
+pub record IsPlayTrace (uuid : List ℕ) (form : Form) (p : Plan) (outcome : Outcome) (t : Trace) : Type 0 where
+  pub metadata : string_bytes t.metadata ≡ metadata_text uuid form (event_rows p outcome.close.accepted) Numbered
+  pub count : length t.files.items ≡ p.config.cpus
+  pub files : AreFiles uuid (event_rows p outcome.close.accepted) form (reverse outcome.close.deeds) outcome.close.reports (map (λ f. f.items) t.files.items) p.config.cpus
+
+-- out of memory, or a size or a sum went past 64 bits
+abbrev pub IsSizeFault : ViewFault → Type 0
+IsSizeFault TooMuch = Unit {0}
+IsSizeFault Memory = Unit {0}
+IsSizeFault fault = ⊥
+
+-- a record that the events don't have, with this EPID, is among these
+abbrev pub HasUnknown : EnabledRows → ℕ → List Record → Type 0
+HasUnknown e epid rs = (i : ℕ) × ((r : Record) × ((slice_get rs i ≡ Some r) × ((r.epid ≡ epid) × (table_accepts e.header (enabled e.rows) r ≡ false))))
+
+-- why there is no file of these records
+abbrev pub IsFileFault : Form → EnabledRows → List Record → ViewFault → Type 0
+IsFileFault form e rs NoStamp = fault_of_metadata form e Numbered ≡ Some metadata_fault.NoStamp
+IsFileFault form e rs (NoEvent epid) = HasUnknown e epid rs
+IsFileFault form e rs fault = IsSizeFault fault
+
+-- a record that the events don't have, with this EPID, is among those of a CPU
+abbrev pub IsUnknown : EnabledRows → ℕ → List (List Record) → Type 0
+IsUnknown e epid rss = (c : ℕ) × HasUnknown e epid (slice_index_or rss c [])
+
+-- why a play has no trace
+abbrev pub IsPlayTraceFault : Form → EnabledRows → List (List Record) → ViewFault → Type 0
+IsPlayTraceFault form e rss NoStamp = fault_of_metadata form e Numbered ≡ Some metadata_fault.NoStamp
+IsPlayTraceFault form e rss NoFrequency = fault_of_metadata form e Numbered ≡ Some metadata_fault.NoFrequency
+IsPlayTraceFault form e rss (NoEvent epid) = IsUnknown e epid rss
+IsPlayTraceFault form e rss fault = IsSizeFault fault
+
+-- what is told of a fault of the metadata
+abbrev pub IsFormFault : MetadataFault → ViewFault → Type 0
+IsFormFault metadata_fault.NoStamp told = told ≡ NoStamp
+IsFormFault metadata_fault.NoFrequency told = told ≡ NoFrequency
+IsFormFault (metadata_fault.Name fault) told = told ≡ TooMuch
+IsFormFault metadata_fault.Memory told = told ≡ Memory
+
+-- the uuid of a text's trace, by the text's bytes (version 5 of RFC 4122)
+abbrev pub trace_uuid : List ℕ → List ℕ
+trace_uuid text = with_version (with_variant (take 16 (sha1 (namespace_oid ++ text))) RFC4122) Sha1
+
+-- the trace of a text's play
+pub record IsTraceOf (form : Form) (text : List ℕ) (t : Trace) : Type 0 where
+  pub plan : Plan
+  pub outcome : Outcome
+  pub played : IsPlayedText text plan outcome
+  pub trace : IsPlayTrace (trace_uuid text) form plan outcome t
+
+-- a text's play has no trace, for this fault
+pub record HasNoTrace (form : Form) (text : List ℕ) (fault : ViewFault) : Type 0 where
+  pub plan : Plan
+  pub outcome : Outcome
+  pub played : IsPlayedText text plan outcome
+  pub because : IsPlayTraceFault form (event_rows plan outcome.close.accepted) outcome.close.accepted fault
+
+-- why a text has no trace: it says no schedule, or the play of its schedule is refused or has none
+abbrev pub IsTraceFault : Form → List ℕ → ViewFault → Type 0
+IsTraceFault form text (Line line kind) = IsTextFault text (schedule.Line line kind)
+IsTraceFault form text Memory = Unit {0}
+IsTraceFault form text fault = HasNoTrace form text fault

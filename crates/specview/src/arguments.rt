@@ -1,0 +1,99 @@
+//! What the command line asks for.
+
+use crate::fault::ViewFault;
+use clap::error::ErrorKind;
+use clap::{Arg, ArgMatches, Command, Error};
+use dspec_ctf::Form;
+use std::alloc::{AllocError, Global};
+
+/// The program's version, which `--version` prints.
+const VERSION: &str = "0.1.0";
+
+/// A trace to be written.
+#[derive(Debug, Clone, Copy)]
+pub struct TraceAsk<'a> {
+    /// The folder that it is written to.
+    pub output: &'a str,
+    /// As taken, or by time with its clock's ticks a second.
+    pub form: Form,
+    /// The file of the schedule; standard input where none is named.
+    pub schedule: Option<&'a str>,
+}
+
+/// What there is to do.
+#[derive(Debug, Drop)]
+pub enum Ask<'a> {
+    /// To write a trace.
+    Trace(TraceAsk<'a>),
+    /// To print this text, which was asked for by `--help` or `--version`.
+    Text(String),
+}
+
+/// The subcommand that writes a trace.
+fn ctf_command<'a>(alloc: Global) -> Result<Command<'a>, AllocError> {
+    let output = Arg::new(alloc, "output")
+        .long("output")
+        .required(true)
+        .value_name("FOLDER")
+        .help("the folder of the trace, which is made, or is empty");
+    let hertz = Arg::new(alloc, "by-time")
+        .long("by-time")
+        .value_name("HERTZ")
+        .value_parser(clap::value_parser!(u64))
+        .help("sort by stamp, with a clock that ticks so often in a second");
+    let schedule = Arg::new(alloc, "schedule")
+        .value_name("SCHEDULE")
+        .help("the schedule's file; standard input where none is named");
+    Command::new(alloc, "ctf")
+        .about("play a schedule, and write its streams as a trace of the Common Trace Format")
+        .arg(output)?
+        .arg(hertz)?
+        .arg(schedule)
+}
+
+/// The whole command line: a subcommand for each thing that there is to do.
+fn command<'a>(alloc: Global) -> Result<Command<'a>, AllocError> {
+    Command::new(alloc, "specview")
+        .version(VERSION)
+        .about("shows plays")
+        .subcommand_required(true)
+        .subcommand(ctf_command(alloc)?)
+}
+
+/// The trace that is asked for.
+fn trace_ask<'a>(found: &ArgMatches<'a>) -> Option<TraceAsk<'a>> {
+    let form = match found.get_one::<u64>("by-time") {
+        Some(hertz) => Form::ByTime(hertz),
+        None => Form::AsTaken,
+    };
+    Some(TraceAsk {
+        output: found.get_str("output")?,
+        form,
+        schedule: found.get_str("schedule"),
+    })
+}
+
+/// What these words ask for, the first of which is the program's name.
+pub fn ask_of<'a>(alloc: Global, words: &'a [String]) -> Result<Ask<'a>, ViewFault> {
+    let found = match command(alloc)?.try_get_matches_from(words) {
+        Ok(found) => found,
+        Err(fault) => return told(alloc, fault),
+    };
+    let Some(found) = found.subcommand_matches("ctf") else {
+        return Err(ViewFault::Usage);
+    };
+    match trace_ask(found) {
+        Some(ask) => Ok(Ask::Trace(ask)),
+        None => Err(ViewFault::Usage),
+    }
+}
+
+/// A text that is asked for is told; everything else is a fault.
+fn told<'a>(alloc: Global, fault: Error) -> Result<Ask<'a>, ViewFault> {
+    match fault.kind() {
+        ErrorKind::DisplayHelp | ErrorKind::DisplayVersion => {
+            Ok(Ask::Text(format!(in alloc; "{fault}")?))
+        }
+        _ => Err(ViewFault::from(fault)),
+    }
+}

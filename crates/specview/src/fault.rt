@@ -1,0 +1,128 @@
+ghost use Rattle.std.specs.Prelude.{◌≡◌};
+ghost use Rattle.specview.specs.Faults.{IsReadFault, IsWritingFault};
+ghost use Rattle.specview.specs.declared.fault.ViewFault.TheVariants.{Memory};
+
+use clap::error::ErrorKind;
+use dspec_player::InputFault;
+use dspec_schedule::{LineKind, ScheduleFault};
+use std::alloc::{AllocError, AllocFailed};
+use std::io;
+use thiserror::Error;
+
+/// Why nothing, or no more, was written. Lines are counted from 1.
+#[derive(Clone, Copy, Debug, PartialEq, Eq, Error)]
+pub enum ViewFault {
+    #[error("line {line}: {kind}")]
+    Line { line: u64, kind: LineKind },
+    #[error("by time, but the schedule has no stamps: it wants `header 2`")]
+    NoStamp,
+    #[error("no event for EPID {0}: the schedule enables none")]
+    NoEvent(u32),
+    #[error("numbers of a packet that 64 bits don't hold")]
+    TooMuch,
+    #[error("out of memory")]
+    Memory,
+    #[error("read fault")]
+    Read,
+    #[error("write fault")]
+    Write,
+    #[error("input too long")]
+    TooLong,
+    #[error("the folder has files in it")]
+    NotEmpty,
+    #[error("a clock of frequency 0")]
+    NoFrequency,
+    #[error("usage: specview ctf --output FOLDER [--by-time HERTZ] [SCHEDULE]")]
+    Usage,
+}
+
+impl ViewFault {
+    ghost use Rattle.specview.specs.Faults.{status_of_view};
+
+    /// The exit status that tells of the fault: 1 for what the schedule says, 2 for memory, 3 for input and output, 4 for arguments.
+    pub fn status(&self) -> u8
+        ensures { result ≡ status_of_view self.now }
+    {
+        match self {
+            ViewFault::Line { .. }
+            | ViewFault::NoStamp
+            | ViewFault::NoEvent(_)
+            | ViewFault::TooMuch => 1,
+            ViewFault::Memory => 2,
+            ViewFault::Read | ViewFault::Write | ViewFault::TooLong | ViewFault::NotEmpty => 3,
+            ViewFault::NoFrequency | ViewFault::Usage => 4,
+        }
+    }
+}
+
+impl From<AllocError> for ViewFault {
+    ghost from_gives = { λ _ fault. fault ≡ Memory };
+
+    fn from(_refused: AllocError) -> Self {
+        ViewFault::Memory
+    }
+}
+
+impl<T: Drop> From<AllocFailed<T>> for ViewFault {
+    ghost from_gives = { λ _ fault. fault ≡ Memory };
+
+    fn from(_refused: AllocFailed<T>) -> Self {
+        ViewFault::Memory
+    }
+}
+
+impl From<ScheduleFault> for ViewFault {
+    ghost use Rattle.specview.specs.Faults.{view_of_schedule};
+
+    ghost from_gives = { λ fault told. told ≡ view_of_schedule fault };
+
+    fn from(fault: ScheduleFault) -> Self {
+        match fault {
+            ScheduleFault::Line { line, kind } => ViewFault::Line { line, kind },
+            ScheduleFault::Memory => ViewFault::Memory,
+        }
+    }
+}
+
+impl From<InputFault> for ViewFault {
+    ghost use Rattle.specview.specs.Faults.{view_of_input};
+
+    ghost from_gives = { λ fault told. told ≡ view_of_input fault };
+
+    fn from(fault: InputFault) -> Self {
+        match fault {
+            InputFault::TooLong => ViewFault::TooLong,
+            InputFault::Read => ViewFault::Read,
+            InputFault::Memory => ViewFault::Memory,
+        }
+    }
+}
+
+/// A device's fault where something is read.
+pub fn read_fault(fault: &io::Error) -> ViewFault
+    ensures { IsReadFault result }
+{
+    match fault.kind() {
+        io::ErrorKind::OutOfMemory => ViewFault::Memory,
+        _ => ViewFault::Read,
+    }
+}
+
+/// The same where something is written.
+pub fn write_fault(fault: &io::Error) -> ViewFault
+    ensures { IsWritingFault result }
+{
+    match fault.kind() {
+        io::ErrorKind::OutOfMemory => ViewFault::Memory,
+        _ => ViewFault::Write,
+    }
+}
+
+impl From<clap::Error> for ViewFault {
+    fn from(fault: clap::Error) -> Self {
+        match fault.kind() {
+            ErrorKind::OutOfMemory => ViewFault::Memory,
+            _ => ViewFault::Usage,
+        }
+    }
+}

@@ -1,0 +1,76 @@
+//! `specview` shows plays. `specview ctf --output FOLDER [--by-time HERTZ] [SCHEDULE]` plays a schedule, of a file or of standard
+//! input, and writes what each CPU's principal buffers accepted as a trace of the Common Trace Format, which other tools open: a
+//! folder with the text `metadata` and one file a CPU.
+//!
+//! Nothing is written before the play has succeeded. The folder is made; one that is there has to be empty.
+#![tactic(auto)]
+
+mod arguments;
+mod batches;
+mod events;
+mod fault;
+mod folder;
+mod trace;
+
+use arguments::{Ask, TraceAsk, ask_of};
+use dspec_player::read_whole;
+use fault::{ViewFault, read_fault, write_fault};
+use folder::{SystemFolder, write_trace};
+use std::env;
+use std::fs::File;
+use std::process::ExitCode;
+use trace::trace_of;
+
+/// The bytes of a schedule: of the file that is named, else of standard input.
+fn input(rt: &HostRuntime, path: Option<&str>) -> Result<Vec<u8>, ViewFault> {
+    let Some(path) = path else {
+        return Ok(read_whole(rt.alloc(), &mut rt.stdin())?);
+    };
+    match File::open(rt, path) {
+        Ok(mut file) => Ok(read_whole(rt.alloc(), &mut file)?),
+        Err(fault) => Err(read_fault(&fault)),
+    }
+}
+
+/// Plays a schedule and writes its trace.
+fn run_ctf(rt: &HostRuntime, ask: &TraceAsk<'_>) -> Result<(), ViewFault> {
+    let text = input(rt, ask.schedule)?;
+    let trace = trace_of(rt.alloc(), text.as_slice(), ask.form)?;
+    let mut folder = SystemFolder::new(rt, ask.output)?;
+    write_trace(rt.alloc(), &mut folder, &trace)
+}
+
+/// The words of the command line; words that are no text ask for nothing that the program does.
+fn words_of(rt: &HostRuntime) -> Result<Vec<String>, ViewFault> {
+    let mut words = Vec::new(rt.alloc());
+    let found = match env::args(rt) {
+        Ok(found) => found,
+        Err(_) => return Err(ViewFault::Usage),
+    };
+    for word in found {
+        words.push(word)?;
+    }
+    Ok(words)
+}
+
+/// Does what the words ask for.
+fn run(rt: &HostRuntime) -> Result<(), ViewFault> {
+    let words = words_of(rt)?;
+    match ask_of(rt.alloc(), words.as_slice())? {
+        Ask::Trace(ask) => run_ctf(rt, &ask),
+        Ask::Text(text) => match print!(rt; "{text}") {
+            Ok(()) => Ok(()),
+            Err(fault) => Err(write_fault(&fault)),
+        },
+    }
+}
+
+fn main(rt: HostRuntime) -> ExitCode {
+    match run(&rt) {
+        Ok(()) => ExitCode::SUCCESS,
+        Err(fault) => {
+            let _ = eprintln!(rt; "specview: {fault}");
+            ExitCode::from(fault.status())
+        }
+    }
+}
