@@ -7,7 +7,9 @@ ROUNDS = 50
 COUNT = 100000
 SEED = 1
 
-.PHONY: no_goal check play test examples ctf-check api edits mutants rows soak fuzz build bench bench-instructions build-bench
+JOBS =
+
+.PHONY: no_goal check quick play test examples ctf-check api edits mutants rows soak fuzz build bench bench-instructions bench-peers build-bench
 
 # Plays one schedule, or several (SCHEDULES="a b"), at once: with the proved program where it is built, else with the trial build of the
 # same sources.
@@ -21,6 +23,10 @@ play:
 # Proves one crate, and what it stands on where that has changed, as in make check CRATE=dspec_ring.
 check:
 	@cd "crates/$(CRATE)" && rt check
+
+# All that runs, by trial builds: tests, programs, the corpus, sessions. Nothing is proved by it. Some minutes on four processors.
+quick:
+	@JOBS="$(JOBS)" sh .ci/quick
 
 # Everything: all proofs from nothing, the must-fail edits, the tests, the program, and the corpus.
 test:
@@ -77,6 +83,10 @@ bench: build-bench
 # All of it in instructions, where valgrind is installed.
 bench-instructions: build-bench
 	@crates/bench/instructions $(BENCH)
+
+# A kept record beside the same record by others: C, and LTTng-UST where it is installed.
+bench-peers: build-bench
+	@sh .ci/peers
 
 build-bench:
 	@command -v rt > /dev/null || { echo "make bench needs rt, the toolchain's command" >&2; exit 1; }
