@@ -1,20 +1,27 @@
 # Short targets; README.md says what each takes.
 SCHEDULE =
 SCHEDULES = $(SCHEDULE)
+OUTPUT =
 PROGRAM = crates/specplay/out/specplay
 BENCH = crates/bench/out/bench
 ROUNDS = 50
 COUNT = 100000
 SEED = 1
+PREFIX = /usr/local
 
 JOBS =
 
-.PHONY: no_goal check quick play test examples ctf-check api edits mutants rows soak fuzz build bench bench-instructions bench-peers build-bench
+.PHONY: no_goal check quick play test examples ctf-check api edits mutants rows soak fuzz build bench bench-instructions bench-peers build-bench picture lib c-check install
 
 # Plays one schedule, or several (SCHEDULES="a b"), at once: with the proved program where it is built, else with the trial build of the
 # same sources.
 play:
 	@sh .ci/play $(SCHEDULES)
+
+# Draws the play of a schedule as an SVG, as in make picture SCHEDULE=examples/tutorial/08-stale-exchange.schedule OUTPUT=play.svg: with
+# the proved program where it is built, else with the trial build of the same sources.
+picture:
+	@sh .ci/picture draw "$(SCHEDULE)" "$(OUTPUT)"
 
 # A schedule is no goal, though it is a file.
 %.schedule: no_goal
@@ -91,3 +98,16 @@ bench-peers: build-bench
 build-bench:
 	@command -v rt > /dev/null || { echo "make bench needs rt, the toolchain's command" >&2; exit 1; }
 	@cd crates/bench && rt run > /dev/null
+
+# The C library, proved: build/lib has the archive, build/shared the shared object where one links, build/include the header.
+lib:
+	@cd crates/dspec_c && rt lib > /dev/null
+	@sh .ci/c_lib build build
+
+# The C library's tests, and those of the Rust package: over the archive that make lib builds.
+c-check: lib
+	@sh .ci/c
+
+# The archive, the header and a pkg-config file to PREFIX, behind DESTDIR; with SHARED=1 the shared object too.
+install: lib
+	@DESTDIR="$(DESTDIR)" SHARED="$(SHARED)" sh .ci/c_lib install build "$(PREFIX)"

@@ -1,1 +1,4 @@
+mod Passing
 mod Returning
+mod Standing
+mod Tracing

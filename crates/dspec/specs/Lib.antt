@@ -1,2 +1,4 @@
+pub mod KeptRecords
 pub mod Lanes
 pub mod Lent
+pub mod Passed

@@ -2,15 +2,33 @@
 //! have to be decided.
 //!
 //! No call has a condition, but that a record is one of the schema where it is handed over whole. What a call promises is that it
-//! leaves the lane the one that it is (`specs/Lanes.antt`), and what the CPU's call does. Stands on `dspec_session`.
+//! leaves the lane the one that it is (`specs/Lanes.antt`), and what the CPU's call does. What a sink got of a whole session is
+//! what its CPUs accepted (`specs/Passed.antt`). Whatever else a program needs is found here too. Stands on `dspec_session`.
 #![tactic(auto)]
 
+mod both;
 mod calling;
+mod closing;
+mod configuring;
+mod kept;
 mod lane;
 mod path;
 mod running;
 mod work;
 
+pub use both::Both;
+pub use closing::{ClosedCpu, closed_cpu};
+pub use configuring::config_of;
+pub use dspec_buffer::{ReadFault, Records, read_all};
+pub use dspec_cpu::{Cpu, Shared};
+pub use dspec_deeds::{
+    Config, Decided, Opening, Policy, Report, Served, Spoken, StartFault, Traced,
+};
+pub use dspec_record::{Enablings, Field, Header, Rec, Schema, SchemaFault};
+pub use dspec_ring::Batch;
+pub use dspec_session::{Closed, Consumer, Session};
+pub use dspec_word::SpecId;
+pub use kept::{Kept, KeptFault};
 pub use lane::Lane;
 pub use path::Path;
 pub use running::trace;

@@ -1,16 +1,19 @@
-ghost use Rattle.std.specs.Prelude.{◌≡◌, ℕ, IfOk, length};
+ghost use Rattle.std.specs.Prelude.{◌≡◌, ◌<◌, ℕ, [], ◌∷◌, IfOk, length, slice_get, Some};
 ghost use denote.Param.Send.{IsSync};
 ghost use Rattle.dspec_cpu.specs.Lists.{words_of};
 ghost use Rattle.dspec_cpu.specs.Standing.{IsCallable, identity};
-ghost use Rattle.dspec_session.specs.Consumers.{IsConsumerOf, Stays};
+ghost use Rattle.dspec_session.specs.Consumers.{IsConsumerOf};
+ghost use Rattle.dspec_session.specs.declared.left.Left.{Left};
+ghost use Rattle.dspec_session.specs.Leaving.{AllSteady};
 ghost use Rattle.dspec_session.specs.Sessions.{IsSession};
 ghost use Rattle.dspec.specs.Lent.{AllCallable, AllReturned};
+ghost use Rattle.dspec.specs.Passed.{GotAll, IsTraced, PassesOn, rests_passed};
 
 use crate::lane::Lane;
 use crate::work::{Sink, Work};
 use dspec_cpu::{Cpu, Shared};
 use dspec_deeds::{Config, StartFault};
-use dspec_record::Enablings;
+use dspec_record::{Enablings, Schema};
 use dspec_session::{Closed, Consumer, Session};
 use std::alloc::Global;
 use std::sync::atomic::{AtomicU64, Ordering};
@@ -44,27 +47,40 @@ fn work_all<R: Threads + Sync, W: Work<Enablings>>(
     cpus
 }
 
-// One round of the consumer's: each CPU is asked, and what comes goes to the sink and back.
+// One CPU is asked, and what comes goes to the sink and back.
+fn visit<K: Sink<Enablings>>(
+    consumer: &mut Consumer,
+    shared: &Shared,
+    schema: &Enablings,
+    cpu: u32,
+    sink: &mut K,
+)
+    requires { IsConsumerOf (words_of shared.now) consumer.old }
+    ensures { PassesOn (K.gets schema.now) (words_of shared.now) consumer.old sink.old consumer.new sink.new }
+{
+    consumer.ask(shared, cpu);
+    let Some(batch) = consumer.take(shared, cpu) else {
+        return;
+    };
+    sink.batch(schema, &batch);
+    let _ = consumer.give_back(shared, batch);
+}
+
+// One round of the consumer's.
 fn visit_all<K: Sink<Enablings>>(
-    consumer: Consumer,
+    consumer: &mut Consumer,
     shared: &Shared,
     schema: &Enablings,
     count: u32,
-    sink: K,
-) -> (Consumer, K)
-    requires { IsConsumerOf (words_of shared.now) consumer }
-    ensures { Stays (words_of shared.now) consumer result.0 }
+    sink: &mut K,
+)
+    requires { IsConsumerOf (words_of shared.now) consumer.old }
+    ensures { PassesOn (K.gets schema.now) (words_of shared.now) consumer.old sink.old consumer.new sink.new }
 {
-    let (mut consumer, mut sink) = (consumer, sink);
     for cpu in 0..count {
-        consumer.ask(shared, cpu);
-        if let Some(batch) = consumer.take(shared, cpu) {
-            sink.batch(schema, &batch);
-            let _ = consumer.give_back(shared, batch);
-        }
+        visit(consumer, shared, schema, cpu, sink);
     }
     consumer.clean(shared);
-    (consumer, sink)
 }
 
 // Rounds until the work is over.
@@ -77,14 +93,14 @@ fn drain<K: Sink<Enablings>>(
     over: &AtomicU64,
 ) -> (Consumer, K)
     requires { IsConsumerOf (words_of shared.now) consumer }
-    ensures { Stays (words_of shared.now) consumer result.0 }
+    ensures { PassesOn (K.gets schema.now) (words_of shared.now) consumer sink result.0 result.1 }
 {
     let (mut consumer, mut sink) = (consumer, sink);
     for _ in 0..u64::MAX {
         if over.load(Ordering::SeqCst) == 1 {
             break;
         }
-        (consumer, sink) = visit_all(consumer, shared, schema, count, sink);
+        visit_all(&mut consumer, shared, schema, count, &mut sink);
         thread::yield_now();
     }
     (consumer, sink)
@@ -102,6 +118,7 @@ fn run<R: Threads + Sync, W: Work<Enablings>, K: Sink<Enablings>>(
     requires { IsSession schema.now session }
     ensures lent { IsSession schema.now result.0 }
     ensures words { result.0.shared ≡ session.shared }
+    ensures passes { PassesOn (K.gets schema.now) (words_of session.shared) session.consumer sink result.0.consumer result.1 }
 {
     let over = AtomicU64::new(0);
     let flag = &over;
@@ -115,7 +132,7 @@ fn run<R: Threads + Sync, W: Work<Enablings>, K: Sink<Enablings>>(
         rt,
         move || -> (Consumer, K)
             requires { IsConsumerOf (words_of words.now) consumer }
-            ensures { Stays (words_of words.entry.now) consumer result.0 }
+            ensures { PassesOn (K.gets schema.entry.now) (words_of words.entry.now) consumer sink result.0 result.1 }
         { drain(consumer, words, schema, count, sink, flag) },
         move || -> Vec<Cpu<Enablings>>
             requires { IsSync R.row × AllCallable words.now cpus.items }
@@ -131,6 +148,39 @@ fn run<R: Threads + Sync, W: Work<Enablings>, K: Sink<Enablings>>(
     (session, sink)
 }
 
+// Tells what holds of each CPU, as of every one between two of its calls.
+fn all_stand<S: Schema>(cpus: &Vec<Cpu<S>>)
+    ensures { AllSteady S.shape_of S.accepted S.text cpus.now.items }
+{
+    for each in cpus {
+        each.stands();
+    }
+}
+
+// What nobody had taken of one CPU goes to the sink.
+fn pass_rest<K: Sink<Enablings>>(closed: &Closed, schema: &Enablings, cpu: u32, sink: &mut K)
+    requires { cpu < length closed.now }
+    ensures { (l : Left) → slice_get closed.now cpu ≡ Some l → GotAll (K.gets schema.now) sink.old (rests_passed cpu (l ∷ [])) sink.new }
+{
+    let (sealed, last) = closed.rest(cpu);
+    let Some(batch) = sealed else {
+        sink.batch(schema, last);
+        return;
+    };
+    sink.batch(schema, batch);
+    sink.batch(schema, last);
+}
+
+// So does what nobody had taken of all of them.
+fn pass_rests<K: Sink<Enablings>>(closed: &Closed, schema: &Enablings, count: u32, sink: &mut K)
+    requires { count ≡ length closed.now }
+    ensures { GotAll (K.gets schema.now) sink.old (rests_passed 0 closed.now) sink.new }
+{
+    for cpu in 0..count {
+        pass_rest(closed, schema, cpu, sink);
+    }
+}
+
 /// A whole session: its CPUs work in threads of their own while a further one hands their batches to the sink; then it is closed, and
 /// what nobody had taken goes to the sink too, CPU by CPU: the batch that was sealed, and the last buffer.
 pub fn trace<R: Threads + Sync, W: Work<Enablings>, K: Sink<Enablings>>(
@@ -142,16 +192,13 @@ pub fn trace<R: Threads + Sync, W: Work<Enablings>, K: Sink<Enablings>>(
     sink: K,
 ) -> Result<(Closed, K), StartFault>
     ensures all { IfOk result (λ r. length r.0 ≡ config.now.cpus) }
+    ensures traced { IfOk result (λ r. IsTraced (K.gets schema) (⟦<Enablings as Schema>⟧.shape_of schema) (⟦<Enablings as Schema>⟧.accepted schema) (⟦<Enablings as Schema>⟧.text schema)
+        config.now sink r.0 r.1) }
 {
     let session = Session::start(alloc, config, schema)?;
     let (session, mut sink) = run(rt, session, &schema, config.cpus, work, sink);
+    all_stand(&session.cpus);
     let closed = session.finish();
-    for cpu in 0..config.cpus {
-        let (sealed, last) = closed.rest(cpu);
-        if let Some(batch) = sealed {
-            sink.batch(&schema, batch);
-        }
-        sink.batch(&schema, last);
-    }
+    pass_rests(&closed, &schema, config.cpus, &mut sink);
     Ok((closed, sink))
 }

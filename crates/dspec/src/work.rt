@@ -14,6 +14,12 @@ pub trait Work<S: Schema>: Sync {
 
 /// Who gets the batches of a session: while it runs, and behind its close what nobody had taken.
 pub trait Sink<S: Schema>: Send + Drop {
+    ghost use Rattle.dspec_ring.specs.declared.batch.Batch.{Batch};
+
+    // What a call with this batch makes of the sink. Whoever promises nothing of it leaves it out.
+    ghost gets: { S → Self → Batch → Self → Type 0 } = { λ _ _ _ _. Unit {0} };
+
     /// A batch of a CPU, whose records are of this schema.
-    fn batch(&mut self, schema: &S, batch: &Batch);
+    fn batch(&mut self, schema: &S, batch: &Batch)
+        ensures { gets schema.now self.old batch.now self.new };
 }

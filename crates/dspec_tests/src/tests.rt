@@ -1,8 +1,8 @@
 //! Two lanes: each keeps a path, throws one away, and traces a record; one that the schema refuses isn't offered.
-use dspec::{Lane, Sink, Work, trace};
-use dspec_deeds::{Config, Decided, Policy, Report, Traced};
-use dspec_record::{Enablings, Field};
-use dspec_ring::Batch;
+use dspec::{
+    Batch, Both, Config, Decided, Enablings, Field, Kept, Lane, Policy, Rec, Report, Sink, Traced,
+    Work, closed_cpu, config_of, trace,
+};
 use std::sync::atomic::{AtomicU64, Ordering};
 use std::test::Fail;
 
@@ -82,5 +82,32 @@ fn two_lanes(rt: HostRuntime) -> Result<(), Fail> {
         ..Report::default()
     };
     assert!(rt; *closed.report(0) == report && *closed.report(1) == report);
+    Ok(())
+}
+
+/// One lane records, and two sinks get the same, of which one keeps the records.
+#[test]
+fn records_are_kept(rt: HostRuntime) -> Result<(), Fail> {
+    let mut schema = Enablings::new();
+    assert!(rt; schema.enable(&[Field::One]).is_ok());
+    let work = Requests {
+        due: AtomicU64::new(0),
+    };
+    let sink = Both {
+        first: Kept::new(rt.alloc()),
+        second: Some(Counted { bytes: 0 }),
+    };
+    let config = config_of(1, 4, 64, 64);
+    let Ok((closed, sink)) = trace(&rt, rt.alloc(), &config, schema, &work, sink) else {
+        return Err("no session".into());
+    };
+    assert!(rt; closed_cpu(&closed, 0).report.accepted == 2);
+    assert!(rt; sink.second.map(|counted| counted.bytes) == Some(16));
+    let Ok(records) = sink.first.records() else {
+        return Err("records are missing".into());
+    };
+    assert!(rt; records.len() == 2);
+    assert!(rt; records.first().copied() == Rec::new(1, &[7]));
+    assert!(rt; records.last().copied() == Rec::new(1, &[9]));
     Ok(())
 }

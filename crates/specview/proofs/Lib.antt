@@ -3,3 +3,4 @@ pub mod Parts
 pub mod Greatest
 pub mod Files
 pub mod AllFiles
+pub mod Taking

@@ -2,3 +2,4 @@ pub mod Batches
 pub mod Traces
 pub mod Faults
 pub mod Folders
+pub mod Pictures

@@ -20,11 +20,22 @@ pub struct TraceAsk<'a> {
     pub schedule: Option<&'a str>,
 }
 
+/// A picture to be drawn.
+#[derive(Debug, Clone, Copy)]
+pub struct PictureAsk<'a> {
+    /// The file that it is written to; standard output where none is named.
+    pub output: Option<&'a str>,
+    /// The file of the schedule; standard input where none is named.
+    pub schedule: Option<&'a str>,
+}
+
 /// What there is to do.
 #[derive(Debug, Drop)]
 pub enum Ask<'a> {
     /// To write a trace.
     Trace(TraceAsk<'a>),
+    /// To draw a picture.
+    Picture(PictureAsk<'a>),
     /// To print this text, which was asked for by `--help` or `--version`.
     Text(String),
 }
@@ -41,14 +52,32 @@ fn ctf_command<'a>(alloc: Global) -> Result<Command<'a>, AllocError> {
         .value_name("HERTZ")
         .value_parser(clap::value_parser!(u64))
         .help("sort by stamp, with a clock that ticks so often in a second");
-    let schedule = Arg::new(alloc, "schedule")
-        .value_name("SCHEDULE")
-        .help("the schedule's file; standard input where none is named");
     Command::new(alloc, "ctf")
         .about("play a schedule, and write its streams as a trace of the Common Trace Format")
         .arg(output)?
         .arg(hertz)?
-        .arg(schedule)
+        .arg(schedule_arg(alloc))
+}
+
+/// The argument that names the schedule.
+fn schedule_arg<'a>(alloc: Global) -> Arg<'a> {
+    Arg::new(alloc, "schedule")
+        .value_name("SCHEDULE")
+        .help("the schedule's file; standard input where none is named")
+}
+
+/// The subcommand that draws a picture.
+fn picture_command<'a>(alloc: Global) -> Result<Command<'a>, AllocError> {
+    let output = Arg::new(alloc, "output")
+        .long("output")
+        .value_name("FILE")
+        .help(
+            "the file of the picture, which is made, or replaced once the schedule was played; standard output where none is named",
+        );
+    Command::new(alloc, "picture")
+        .about("play a schedule, and draw its play as an SVG")
+        .arg(output)?
+        .arg(schedule_arg(alloc))
 }
 
 /// The whole command line: a subcommand for each thing that there is to do.
@@ -57,7 +86,8 @@ fn command<'a>(alloc: Global) -> Result<Command<'a>, AllocError> {
         .version(VERSION)
         .about("shows plays")
         .subcommand_required(true)
-        .subcommand(ctf_command(alloc)?)
+        .subcommand(ctf_command(alloc)?)?
+        .subcommand(picture_command(alloc)?)
 }
 
 /// The trace that is asked for.
@@ -73,12 +103,23 @@ fn trace_ask<'a>(found: &ArgMatches<'a>) -> Option<TraceAsk<'a>> {
     })
 }
 
+/// The picture that is asked for.
+fn picture_ask<'a>(found: &ArgMatches<'a>) -> PictureAsk<'a> {
+    PictureAsk {
+        output: found.get_str("output"),
+        schedule: found.get_str("schedule"),
+    }
+}
+
 /// What these words ask for, the first of which is the program's name.
 pub fn ask_of<'a>(alloc: Global, words: &'a [String]) -> Result<Ask<'a>, ViewFault> {
     let found = match command(alloc)?.try_get_matches_from(words) {
         Ok(found) => found,
         Err(fault) => return told(alloc, fault),
     };
+    if let Some(found) = found.subcommand_matches("picture") {
+        return Ok(Ask::Picture(picture_ask(found)));
+    }
     let Some(found) = found.subcommand_matches("ctf") else {
         return Err(ViewFault::Usage);
     };

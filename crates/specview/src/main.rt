@@ -3,21 +3,29 @@
 //! folder with the text `metadata` and one file a CPU.
 //!
 //! Nothing is written before the play has succeeded. The folder is made; one that is there has to be empty.
+//!
+//! `specview picture [--output FILE] [SCHEDULE]` plays a schedule, and draws its play as an SVG: into the file, which is made or
+//! replaced, or on standard output.
 #![tactic(auto)]
 
 mod arguments;
 mod batches;
+mod ending;
 mod events;
 mod fault;
 mod folder;
+mod pictured;
 mod trace;
 
-use arguments::{Ask, TraceAsk, ask_of};
+use arguments::{Ask, PictureAsk, TraceAsk, ask_of};
 use dspec_player::read_whole;
+use ending::RunFault;
 use fault::{ViewFault, read_fault, write_fault};
 use folder::{SystemFolder, write_trace};
+use pictured::picture_of;
 use std::env;
 use std::fs::File;
+use std::io::Write;
 use std::process::ExitCode;
 use trace::trace_of;
 
@@ -40,6 +48,37 @@ fn run_ctf(rt: &HostRuntime, ask: &TraceAsk<'_>) -> Result<(), ViewFault> {
     write_trace(rt.alloc(), &mut folder, &trace)
 }
 
+/// Writes a text to a file, which is made or replaced.
+fn write_file(rt: &HostRuntime, path: &str, text: &str) -> Result<(), ViewFault> {
+    let mut file = match File::create(rt, path) {
+        Ok(file) => file,
+        Err(fault) => return Err(write_fault(&fault)),
+    };
+    match file.write_all(text.as_bytes()) {
+        Ok(()) => Ok(()),
+        Err(fault) => Err(write_fault(&fault)),
+    }
+}
+
+/// Writes a text to standard output.
+fn write_out(rt: &HostRuntime, text: &str) -> Result<(), ViewFault> {
+    match print!(rt; "{text}") {
+        Ok(()) => Ok(()),
+        Err(fault) => Err(write_fault(&fault)),
+    }
+}
+
+/// Plays a schedule and draws its picture.
+fn run_picture(rt: &HostRuntime, ask: &PictureAsk<'_>) -> Result<(), RunFault> {
+    let text = input(rt, ask.schedule)?;
+    let picture = picture_of(rt.alloc(), text.as_slice())?;
+    match ask.output {
+        Some(path) => write_file(rt, path, picture.as_str())?,
+        None => write_out(rt, picture.as_str())?,
+    }
+    Ok(())
+}
+
 /// The words of the command line; words that are no text ask for nothing that the program does.
 fn words_of(rt: &HostRuntime) -> Result<Vec<String>, ViewFault> {
     let mut words = Vec::new(rt.alloc());
@@ -54,17 +93,17 @@ fn words_of(rt: &HostRuntime) -> Result<Vec<String>, ViewFault> {
 }
 
 /// Does what the words ask for.
-fn run(rt: &HostRuntime) -> Result<(), ViewFault> {
+fn run(rt: &HostRuntime) -> Result<(), RunFault> {
     let words = words_of(rt)?;
     match ask_of(rt.alloc(), words.as_slice())? {
-        Ask::Trace(ask) => run_ctf(rt, &ask),
-        Ask::Text(text) => match print!(rt; "{text}") {
-            Ok(()) => Ok(()),
-            Err(fault) => Err(write_fault(&fault)),
-        },
+        Ask::Trace(ask) => run_ctf(rt, &ask)?,
+        Ask::Picture(ask) => run_picture(rt, &ask)?,
+        Ask::Text(text) => write_out(rt, text.as_str())?,
     }
+    Ok(())
 }
 
+/// Tells of a fault on standard error, and by the status.
 fn main(rt: HostRuntime) -> ExitCode {
     match run(&rt) {
         Ok(()) => ExitCode::SUCCESS,

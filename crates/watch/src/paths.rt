@@ -1,14 +1,16 @@
 use crate::requests::{PROBES, ROUNDS, Request};
 use anyhow::{Result, ensure};
-use dspec_deeds::Report;
-use dspec_record::Rec;
+use dspec::{Rec, Report};
 
 /// How many steps of a request were recorded: all that is there of it has to be its first steps, in order.
 fn steps_of(seen: &[Rec], request: Request) -> Result<u64> {
     let mut steps = 0u64;
     for rec in seen {
         if rec.values().first() == Some(&request.number) {
-            let next = steps < request.steps() && *rec == request.step(steps);
+            let (epid, values) = request.step(steps);
+            let next = steps < request.steps()
+                && rec.epid() == epid
+                && rec.values() == values.as_slice();
             ensure!(next, "{rec} is no next step of its request");
             steps = steps.saturating_add(1);
         }

@@ -1,11 +1,9 @@
-use dspec_record::{Enablings, Field, Rec, SchemaFault};
+use dspec::{Enablings, Field, SchemaFault};
 
 /// How many workers there are. Worker W handles the requests W, W + 4, W + 8, ..
 pub const WORKERS: u32 = 4;
-/// How many requests each handles, and all together.
+/// How many requests each handles.
 pub const ROUNDS: u64 = 100;
-
-pub const REQUESTS: u64 = 400;
 
 /// The probes of the server, in the order of their EPIDs, from 1: each step of a request fires one.
 pub const PROBES: [&str; 4] = ["accept", "parse", "query", "answer"];
@@ -55,8 +53,8 @@ impl Request {
         self.queries.saturating_add(2 + answers)
     }
 
-    /// What a step of it records.
-    pub fn step(&self, place: u64) -> Rec {
+    /// The EPID of a step, and what it records.
+    pub fn step(&self, place: u64) -> (u32, [u64; 2]) {
         let epid = match place {
             0 => 1,
             1 => 2,
@@ -64,9 +62,6 @@ impl Request {
             _ => 4,
         };
         let micros = spread(self.noise.wrapping_add(place)) % 1000;
-        let Some(rec) = Rec::new(epid, &[self.number, micros]) else {
-            unreachable!()
-        };
-        rec
+        (epid, [self.number, micros])
     }
 }

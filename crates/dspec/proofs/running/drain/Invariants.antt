@@ -1,7 +1,7 @@
--- The consumer is still that of the session.
+-- The sink got what was taken.
 use Rattle.dspec_cpu.specs.Lists.{words_of}
-use Rattle.dspec_session.specs.Consumers.{Stays}
+use Rattle.dspec.specs.Passed.{PassesOn}
 use Rattle.dspec.proofs.running.drain.Given as goal
 
 abbrev pub invariant-loop : goal.invariant-loop
-invariant-loop g l = Stays (words_of l.shared) l.fn.consumer l.consumer
+invariant-loop g l = PassesOn (g.K.Sink.gets l.schema) (words_of l.shared) l.fn.consumer l.fn.sink l.consumer l.sink

@@ -1,7 +1,7 @@
--- It is the same CPU.
+-- It is the same lane.
 use Rattle.std.proofs.Common.{◌≡◌}
-use Rattle.dspec_cpu.specs.Standing.{identity}
+use Rattle.dspec.specs.Lanes.{place_of}
 use Rattle.watch.proofs.serving.handle.Given as goal
 
 abbrev pub invariant-loop-place : goal.invariant-loop-place
-invariant-loop-place l = identity l.cpu ≡ identity l.fn.cpu
+invariant-loop-place l = place_of l.lane ≡ place_of l.fn.lane

@@ -1,0 +1,116 @@
+/* One call many times, for a tool that counts instructions: `c_cost WAY BYTES NUMBER` takes a way by so many records of 4, 8 or 24
+ * bytes. The ways: traced, dropped (no room is left), speculated, committed (paths of 20 records, each opened and committed), and, of no
+ * record, service, report, ask, and refused (an empty handle). It prints how many calls were answered DSPEC_OK. */
+#include "dspec.h"
+
+#include <stdio.h>
+#include <stdlib.h>
+#include <string.h>
+
+enum { PATH = 20 };
+
+typedef struct lane {
+    dspec_cpu cpu;
+    dspec_consumer consumer;
+    uint32_t epid;
+    size_t n;
+    uint64_t id;
+} lane;
+
+static const uint64_t values[] = { 1, 2, 3, 4 };
+
+static void must(dspec_status status) {
+    if (status == DSPEC_OK) return;
+    fprintf(stderr, "c_cost: %s\n", dspec_status_text(status));
+    exit(1);
+}
+
+static void start(lane *l, const char *bytes) {
+    static const uint8_t four[] = { 4 }, all[] = { 1, 2, 4, 8 };
+    static dspec_session session;
+    dspec_schema schema = DSPEC_EMPTY;
+    const dspec_config config = {
+        .cpus = 1, .nspec = 32, .bufsize = DSPEC_MAX_BUFFER, .specsize = DSPEC_MAX_BUFFER,
+        .max_issues = DSPEC_MAX_ISSUES, .max_calls = DSPEC_MAX_CALLS, .policy = DSPEC_POLICY_SWITCH,
+    };
+    l->n = strcmp(bytes, "24") == 0 ? 4 : strcmp(bytes, "8") == 0 ? 1 : 0;
+    must(dspec_schema_new(&schema));
+    must(dspec_schema_enable(&schema, l->n == 4 ? all : four, l->n, &l->epid));
+    must(dspec_start(&config, &schema, &session));
+    must(dspec_cpu_of(&session, 0, &l->cpu));
+    must(dspec_consumer_of(&session, &l->consumer));
+}
+
+static long traced(lane *l, long number) {
+    long kept = 0;
+    for (long i = 0; i < number; i++) kept += dspec_trace(&l->cpu, l->epid, 0, values, l->n) == DSPEC_OK;
+    return kept;
+}
+
+static long dropped(lane *l, long number) {
+    while (dspec_trace(&l->cpu, l->epid, 0, values, l->n) == DSPEC_OK) continue;
+    return traced(l, number);
+}
+
+static long speculated(lane *l, long number) {
+    long kept = 0;
+    must(dspec_speculation(&l->cpu, &l->id));
+    for (long i = 0; i < number; i++) kept += dspec_speculate(&l->cpu, l->id, l->epid, 0, values, l->n) == DSPEC_OK;
+    return kept;
+}
+
+static long committed(lane *l, long number) {
+    uint32_t count;
+    long kept = 0;
+    for (long i = 0; i < number; i += PATH) {
+        kept += speculated(l, PATH);
+        must(dspec_commit(&l->cpu, l->id, &count));
+    }
+    return kept;
+}
+
+static long served(lane *l, long number) {
+    bool sealed;
+    uint32_t settled;
+    long well = 0;
+    for (long i = 0; i < number; i++) well += dspec_service(&l->cpu, &sealed, &settled) == DSPEC_OK;
+    return well;
+}
+
+static long reported(lane *l, long number) {
+    dspec_report report;
+    long well = 0;
+    for (long i = 0; i < number; i++) well += dspec_cpu_report(&l->cpu, &report) == DSPEC_OK;
+    return well;
+}
+
+static long asked(lane *l, long number) {
+    long well = 0;
+    for (long i = 0; i < number; i++) well += dspec_ask(&l->consumer, 0) == DSPEC_OK;
+    return well;
+}
+
+static long refused(lane *l, long number) {
+    lane none = { .epid = l->epid, .n = l->n };
+    return traced(&none, number);
+}
+
+static const struct way {
+    const char *name;
+    long (*take)(lane *l, long number);
+} ways[] = {
+    { "traced", traced }, { "dropped", dropped }, { "speculated", speculated }, { "committed", committed },
+    { "service", served }, { "report", reported }, { "ask", asked }, { "refused", refused },
+};
+
+int main(int argc, char **argv) {
+    lane l = { .epid = 0 };
+    for (size_t i = 0; argc == 4 && i < sizeof ways / sizeof *ways; i++) {
+        if (strcmp(argv[1], ways[i].name) != 0) continue;
+        start(&l, argv[2]);
+        printf("%ld\n", ways[i].take(&l, atol(argv[3])));
+        return 0;
+    }
+    fputs("usage: c_cost WAY BYTES NUMBER\n", stderr);
+    return 2;
+}

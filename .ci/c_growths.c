@@ -1,0 +1,152 @@
+/* One session, for runs in which one growth of memory is refused (refuse.c). `c_growths again` asks a second time where it is answered
+ * DSPEC_NO_MEMORY, and must then be served as if nothing had been; `c_growths once` lets everything go there. Either way each block is
+ * freed at the end. It prints how many calls were refused: exactly one in a run in which a growth was.
+ *
+ * The linker's --wrap leads the library's calls of malloc, realloc and free through the three functions below, which count. */
+#include "dspec.h"
+
+#include <stdio.h>
+#include <stdlib.h>
+#include <string.h>
+
+void *__real_malloc(size_t bytes);
+void *__real_realloc(void *held, size_t bytes);
+void __real_free(void *held);
+void *__wrap_malloc(size_t bytes);
+void *__wrap_realloc(void *held, size_t bytes);
+void __wrap_free(void *held);
+
+/* Blocks that were given and not freed, and how many were asked for. */
+static long blocks, asked;
+
+void *__wrap_malloc(size_t bytes) {
+    void *held = __real_malloc(bytes);
+    asked++;
+    blocks += held != NULL;
+    return held;
+}
+
+void *__wrap_realloc(void *held, size_t bytes) {
+    void *moved = __real_realloc(held, bytes);
+    asked++;
+    blocks += held == NULL && moved != NULL;
+    return moved;
+}
+
+void __wrap_free(void *held) {
+    blocks -= held != NULL;
+    __real_free(held);
+}
+
+static bool asks_again;
+static int refusals;
+
+static dspec_schema schema;
+static dspec_session session;
+static dspec_cpu cpus[2];
+static dspec_consumer consumer;
+static dspec_closed closed;
+
+static void let_go(void) {
+    dspec_closed_drop(&closed);
+    dspec_consumer_drop(&consumer);
+    for (int i = 0; i < 2; i++) dspec_cpu_drop(&cpus[i]);
+    dspec_session_drop(&session);
+    dspec_schema_drop(&schema);
+}
+
+static _Noreturn void end(int status) {
+    let_go();
+    if (blocks != 0) printf("%ld blocks were not freed\n", blocks);
+    printf("%d refused\n", refusals);
+    exit(blocks == 0 ? status : 1);
+}
+
+static _Noreturn void fail(const char *what, dspec_status status) {
+    printf("%s: %s\n", what, dspec_status_text(status));
+    end(1);
+}
+
+/* Whether the call is to be made again. */
+static bool is_refused(dspec_status status, const void *handle) {
+    bool held;
+    if (status != DSPEC_NO_MEMORY) return false;
+    refusals++;
+    memcpy(&held, handle, sizeof held);
+    if (held) fail("a refused call filled its handle", status);
+    if (!asks_again) end(0);
+    return true;
+}
+
+#define ASK(call, handle)                                   \
+    do {                                                    \
+        dspec_status status_ = (call);                      \
+        if (is_refused(status_, (handle))) status_ = (call); \
+        if (status_ != DSPEC_OK) fail(#call, status_);      \
+    } while (0)
+
+#define OK(call)                                       \
+    do {                                               \
+        dspec_status status_ = (call);                 \
+        if (status_ != DSPEC_OK) fail(#call, status_); \
+    } while (0)
+
+static void start(void) {
+    const dspec_config config = {
+        .cpus = 2, .nspec = 3, .bufsize = 64, .specsize = 24, .max_issues = 9, .max_calls = 99, .policy = DSPEC_POLICY_SWITCH,
+    };
+    uint32_t epid;
+    ASK(dspec_schema_new(&schema), &schema);
+    OK(dspec_schema_enable(&schema, (const uint8_t[]){ 4 }, 1, &epid));
+    ASK(dspec_start(&config, &schema, &session), &session);
+    for (uint32_t i = 0; i < 2; i++) ASK(dspec_cpu_of(&session, i, &cpus[i]), &cpus[i]);
+    ASK(dspec_consumer_of(&session, &consumer), &consumer);
+}
+
+/* A speculation of both CPUs, and a batch: from here on no call takes memory. */
+static void record(void) {
+    uint64_t id;
+    uint32_t count;
+    bool sealed;
+    dspec_batch batch;
+    OK(dspec_speculation(&cpus[0], &id));
+    for (int i = 0; i < 2; i++) {
+        OK(DSPEC_TRACE(&cpus[i], 1, 5));
+        OK(DSPEC_SPECULATE(&cpus[i], id, 1, 6));
+    }
+    OK(dspec_commit(&cpus[0], id, &count));
+    OK(dspec_ask(&consumer, 0));
+    for (int i = 0; i < 2; i++) OK(dspec_service(&cpus[i], &sealed, &count));
+    OK(dspec_clean(&consumer, &count));
+    if (count != 1) fail("clean", DSPEC_OK);
+    OK(dspec_take(&consumer, 0, &batch));
+    if (batch.len != 16 || batch.bytes[4] != 5 || batch.bytes[12] != 6) fail("a batch", DSPEC_OK);
+    OK(dspec_give_back(&consumer, 0));
+}
+
+static void finish(void) {
+    dspec_report report;
+    for (int i = 0; i < 2; i++) OK(dspec_cpu_home(&cpus[i]));
+    OK(dspec_consumer_home(&consumer));
+    OK(dspec_finish(&session, &closed));
+    for (uint32_t i = 0; i < 2; i++) {
+        OK(dspec_closed_report(&closed, i, &report));
+        if (report.offered != 2 || report.accepted != 2) fail("a report", DSPEC_OK);
+    }
+}
+
+int main(int argc, char **argv) {
+    static char buffer[4096];
+    setvbuf(stdout, buffer, _IOFBF, sizeof buffer);
+    asks_again = argc == 2 && strcmp(argv[1], "again") == 0;
+    if (!asks_again && (argc != 2 || strcmp(argv[1], "once") != 0)) {
+        fputs("usage: c_growths again|once\n", stderr);
+        return 2;
+    }
+    start();
+    long before = asked;
+    record();
+    finish();
+    if (asked != before) fail("a call that takes no memory asked for some", DSPEC_OK);
+    end(0);
+}

@@ -1,0 +1,116 @@
+use crate::error::never_refused;
+use crate::handle::Handle;
+use crate::raw::{self, Status};
+use crate::{Decided, Error, Opening, Report, Served, SpecId, Spoken, Traced};
+
+/// A lane of the trace, which one thread at a time has. When it is dropped it goes home to its session, also where its thread panics.
+/// No call waits, and none takes memory.
+pub struct Cpu {
+    handle: Handle,
+}
+
+impl Cpu {
+    pub(crate) fn of(handle: Handle) -> Cpu {
+        Cpu { handle }
+    }
+
+    /// Traces a record into the principal buffer. `stamp` is 0 where records have none. The one error is [`Error::BadRecord`].
+    pub fn trace(&mut self, epid: u32, stamp: u64, values: &[u64]) -> Result<Traced, Error> {
+        // SAFETY: the pointer is to as many values as is told, and the handle is in no other call.
+        match unsafe { raw::dspec_trace(self.handle.at(), epid, stamp, values.as_ptr(), values.len()) } {
+            raw::OK => Ok(Traced::Kept),
+            raw::DROPPED => Ok(Traced::Dropped),
+            raw::STOPPED => Ok(Traced::Stopped),
+            raw::WORN => Ok(Traced::Worn),
+            other => Err(Error::of(other)),
+        }
+    }
+
+    /// Opens a speculation.
+    pub fn speculation(&mut self) -> Opening {
+        let mut id = 0;
+        // SAFETY: the pointers are valid, and the handle is in no other call.
+        match unsafe { raw::dspec_speculation(self.handle.at(), &mut id) } {
+            raw::OK => Opening::Id(SpecId::from_raw(id)),
+            raw::UNAVAILABLE => Opening::Unavailable,
+            raw::BUSY => Opening::Busy,
+            raw::STOPPED => Opening::Stopped,
+            raw::WORN => Opening::Worn,
+            other => unknown(other),
+        }
+    }
+
+    /// Offers a record to a speculation, of this CPU or of another. The one error is [`Error::BadRecord`].
+    pub fn speculate(&mut self, id: SpecId, epid: u32, stamp: u64, values: &[u64]) -> Result<Spoken, Error> {
+        // SAFETY: as in `trace`.
+        match unsafe { raw::dspec_speculate(self.handle.at(), id.raw(), epid, stamp, values.as_ptr(), values.len()) } {
+            raw::OK => Ok(Spoken::Kept),
+            raw::DROPPED => Ok(Spoken::Dropped),
+            raw::VOID => Ok(Spoken::Void),
+            raw::STOPPED => Ok(Spoken::Stopped),
+            raw::WORN => Ok(Spoken::Worn),
+            other => Err(Error::of(other)),
+        }
+    }
+
+    /// Commits a speculation: its records get into the principal buffers, each CPU's at once or not at all.
+    pub fn commit(&mut self, id: SpecId) -> Decided {
+        let mut count = 0;
+        // SAFETY: as in `speculation`.
+        match unsafe { raw::dspec_commit(self.handle.at(), id.raw(), &mut count) } {
+            raw::OK => Decided::Copied(count),
+            raw::LOST => Decided::Lost(count),
+            other => undecided(other),
+        }
+    }
+
+    /// Discards a speculation: its records are thrown away.
+    pub fn discard(&mut self, id: SpecId) -> Decided {
+        let mut count = 0;
+        // SAFETY: as in `speculation`.
+        match unsafe { raw::dspec_discard(self.handle.at(), id.raw(), &mut count) } {
+            raw::OK => Decided::Thrown(count),
+            other => undecided(other),
+        }
+    }
+
+    /// Does what this CPU owes the others: switches the principal buffer where the consumer asked, and settles what other CPUs have
+    /// decided. To be called now and then, between requests or on a timer.
+    pub fn service(&mut self) -> Served {
+        let mut served = Served { sealed: false, settled: 0 };
+        // SAFETY: as in `speculation`.
+        never_refused(unsafe { raw::dspec_service(self.handle.at(), &mut served.sealed, &mut served.settled) });
+        served
+    }
+
+    /// The CPU's counts so far.
+    pub fn report(&mut self) -> Report {
+        let mut report = Report::default();
+        // SAFETY: as in `speculation`; `Report` has the fields of `dspec_report`.
+        never_refused(unsafe { raw::dspec_cpu_report(self.handle.at(), &mut report) });
+        report
+    }
+
+    /// Gives the CPU back to its session, as dropping it does.
+    pub fn go_home(self) {}
+}
+
+impl Drop for Cpu {
+    fn drop(&mut self) {
+        // SAFETY: the handle is in no other call. A refusal leaves it to its own drop.
+        unsafe { raw::dspec_cpu_home(self.handle.at()) };
+    }
+}
+
+fn undecided(status: Status) -> Decided {
+    match status {
+        raw::VOID => Decided::Void,
+        raw::STOPPED => Decided::Stopped,
+        raw::WORN => Decided::Worn,
+        other => unknown(other),
+    }
+}
+
+fn unknown(status: Status) -> ! {
+    panic!("{}", Error::of(status))
+}

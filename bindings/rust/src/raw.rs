@@ -1,0 +1,92 @@
+//! The calls and types of `dspec.h`.
+
+use crate::Report;
+use std::ffi::c_void;
+
+pub(crate) type Status = u32;
+
+pub(crate) const OK: Status = 0;
+pub(crate) const BAD_CPUS: Status = 1;
+pub(crate) const BAD_NSPEC: Status = 2;
+pub(crate) const BAD_BUFSIZE: Status = 3;
+pub(crate) const BAD_SPECSIZE: Status = 4;
+pub(crate) const BAD_MAX_ISSUES: Status = 5;
+pub(crate) const BAD_MAX_CALLS: Status = 6;
+pub(crate) const NO_MEMORY: Status = 7;
+pub(crate) const TOO_MANY_FIELDS: Status = 10;
+pub(crate) const TOO_MANY_ENABLINGS: Status = 11;
+pub(crate) const BAD_RECORD: Status = 16;
+pub(crate) const NO_SUCH_CPU: Status = 19;
+pub(crate) const NOT_HOME: Status = 20;
+pub(crate) const NO_BATCH: Status = 21;
+pub(crate) const OUT: Status = 22;
+pub(crate) const DROPPED: Status = 32;
+pub(crate) const STOPPED: Status = 33;
+pub(crate) const WORN: Status = 34;
+pub(crate) const VOID: Status = 35;
+pub(crate) const UNAVAILABLE: Status = 36;
+pub(crate) const BUSY: Status = 37;
+pub(crate) const LOST: Status = 38;
+
+/// A handle of any kind: all kinds are these two words, and all zeros is the empty one.
+#[repr(C)]
+pub(crate) struct Words {
+    pub(crate) held: bool,
+    pub(crate) at: *mut c_void,
+}
+
+#[repr(C)]
+pub(crate) struct Config {
+    pub(crate) cpus: u32,
+    pub(crate) nspec: u32,
+    pub(crate) bufsize: u32,
+    pub(crate) specsize: u32,
+    pub(crate) max_issues: u64,
+    pub(crate) max_calls: u64,
+    pub(crate) policy: u32,
+}
+
+#[repr(C)]
+pub(crate) struct Batch {
+    pub(crate) bytes: *const u8,
+    pub(crate) len: usize,
+    pub(crate) drops: u64,
+    pub(crate) cpu: u32,
+}
+
+impl Batch {
+    pub(crate) const NONE: Batch = Batch { bytes: std::ptr::null(), len: 0, drops: 0, cpu: 0 };
+}
+
+extern "C" {
+    pub(crate) fn dspec_version() -> u32;
+    pub(crate) fn dspec_drop(handle: *mut c_void);
+
+    pub(crate) fn dspec_schema_new(schema: *mut Words) -> Status;
+    pub(crate) fn dspec_schema_enable(schema: *mut Words, widths: *const u8, n: usize, epid: *mut u32) -> Status;
+    pub(crate) fn dspec_schema_stamp(schema: *mut Words) -> Status;
+
+    pub(crate) fn dspec_start(config: *const Config, schema: *mut Words, session: *mut Words) -> Status;
+    pub(crate) fn dspec_cpu_of(session: *mut Words, number: u32, cpu: *mut Words) -> Status;
+    pub(crate) fn dspec_consumer_of(session: *mut Words, consumer: *mut Words) -> Status;
+    pub(crate) fn dspec_finish(session: *mut Words, closed: *mut Words) -> Status;
+
+    pub(crate) fn dspec_trace(cpu: *mut Words, epid: u32, stamp: u64, values: *const u64, n: usize) -> Status;
+    pub(crate) fn dspec_speculation(cpu: *mut Words, id: *mut u64) -> Status;
+    pub(crate) fn dspec_speculate(cpu: *mut Words, id: u64, epid: u32, stamp: u64, values: *const u64, n: usize) -> Status;
+    pub(crate) fn dspec_commit(cpu: *mut Words, id: u64, count: *mut u32) -> Status;
+    pub(crate) fn dspec_discard(cpu: *mut Words, id: u64, count: *mut u32) -> Status;
+    pub(crate) fn dspec_service(cpu: *mut Words, sealed: *mut bool, settled: *mut u32) -> Status;
+    pub(crate) fn dspec_cpu_report(cpu: *mut Words, report: *mut Report) -> Status;
+    pub(crate) fn dspec_cpu_home(cpu: *mut Words) -> Status;
+
+    pub(crate) fn dspec_ask(consumer: *mut Words, cpu: u32) -> Status;
+    pub(crate) fn dspec_take(consumer: *mut Words, cpu: u32, batch: *mut Batch) -> Status;
+    pub(crate) fn dspec_give_back(consumer: *mut Words, cpu: u32) -> Status;
+    pub(crate) fn dspec_clean(consumer: *mut Words, released: *mut u32) -> Status;
+    pub(crate) fn dspec_stop(consumer: *mut Words) -> Status;
+    pub(crate) fn dspec_consumer_home(consumer: *mut Words) -> Status;
+
+    pub(crate) fn dspec_rest(closed: *mut Words, cpu: u32, last: bool, batch: *mut Batch) -> Status;
+    pub(crate) fn dspec_closed_report(closed: *mut Words, cpu: u32, report: *mut Report) -> Status;
+}

@@ -1,0 +1,128 @@
+use crate::error::answered;
+use crate::handle::Handle;
+use crate::schema::Layouts;
+use crate::{raw, Closed, Consumer, Cpu, Error, Schema};
+use std::fmt;
+use std::sync::Arc;
+
+/// What becomes of a full principal buffer.
+#[derive(Clone, Copy, Debug, Default, PartialEq, Eq, Hash)]
+pub enum Policy {
+    /// The consumer has it switched for a spare one; what doesn't fit meanwhile is dropped.
+    #[default]
+    Switch,
+    /// It stays as it is for good, and takes nothing more.
+    Fill,
+}
+
+/// What a session is started with.
+#[derive(Clone, Copy, Debug, PartialEq, Eq, Hash)]
+pub struct Config {
+    /// How many CPUs: 1 to 64.
+    pub cpus: u32,
+    /// How many speculations at a time: 1 to 63.
+    pub nspec: u32,
+    /// Bytes of a principal buffer, a multiple of 8 from 8 to 1,048,576; each CPU has two.
+    pub bufsize: u32,
+    /// Bytes of a speculative buffer, likewise; each CPU has one for each speculation.
+    pub specsize: u32,
+    /// How many speculations a slot gives out, one after another: 1 to 2^57.
+    pub max_issues: u64,
+    /// How many calls a CPU makes: 1 to 2^62.
+    pub max_calls: u64,
+    /// What becomes of a full principal buffer.
+    pub policy: Policy,
+}
+
+impl Config {
+    /// So many CPUs, 8 speculations at a time, principal buffers of 64 KiB, speculative ones of 4 KiB, the greatest bounds, and
+    /// [`Policy::Switch`].
+    pub fn of_cpus(cpus: u32) -> Config {
+        Config { cpus, nspec: 8, bufsize: 65536, specsize: 4096, max_issues: 1 << 57, max_calls: 1 << 62, policy: Policy::Switch }
+    }
+}
+
+/// A session between its start and its end. Its CPUs and its consumer go to threads of their own, and come home when they are dropped.
+pub struct Session {
+    handle: Handle,
+    layouts: Arc<Layouts>,
+    cpus: u32,
+}
+
+impl Session {
+    /// Starts a session over the schema as it is now. It takes all memory that its CPUs and its consumer will need.
+    pub fn start(config: &Config, schema: &Schema) -> Result<Session, Error> {
+        let given = raw::Config {
+            cpus: config.cpus,
+            nspec: config.nspec,
+            bufsize: config.bufsize,
+            specsize: config.specsize,
+            max_issues: config.max_issues,
+            max_calls: config.max_calls,
+            policy: match config.policy {
+                Policy::Switch => 0,
+                Policy::Fill => 1,
+            },
+        };
+        let handle = Handle::empty();
+        // SAFETY: the pointers are valid, the schema is in no other call, and the handle to be filled is empty.
+        answered(unsafe { raw::dspec_start(&given, schema.handle.at(), handle.at()) })?;
+        Ok(Session { handle, layouts: Arc::new(schema.layouts.clone()), cpus: config.cpus })
+    }
+
+    /// Hands out the CPU of this number, from 0 on, once.
+    pub fn cpu(&mut self, number: u32) -> Result<Cpu, Error> {
+        let cpu = Handle::empty();
+        // SAFETY: the handle to be filled is empty, and nobody else has this session's.
+        answered(unsafe { raw::dspec_cpu_of(self.handle.at(), number, cpu.at()) })?;
+        Ok(Cpu::of(cpu))
+    }
+
+    /// Hands out the consumer, once.
+    pub fn consumer(&mut self) -> Result<Consumer, Error> {
+        let consumer = Handle::empty();
+        // SAFETY: as above.
+        answered(unsafe { raw::dspec_consumer_of(self.handle.at(), consumer.at()) })?;
+        Ok(Consumer::of(consumer, self.layouts.clone()))
+    }
+
+    /// Ends the session, whose CPUs and consumer were dropped or never handed out. Where one of them is still somewhere, the session
+    /// comes back.
+    pub fn finish(self) -> Result<Closed, NotHome> {
+        let closed = Handle::empty();
+        // SAFETY: as above.
+        match unsafe { raw::dspec_finish(self.handle.at(), closed.at()) } {
+            raw::OK => Ok(Closed::of(closed, self.layouts, self.cpus)),
+            status => {
+                assert_eq!(status, raw::NOT_HOME, "libdspec is of another version than this package");
+                Err(NotHome { session: self })
+            }
+        }
+    }
+}
+
+/// A session that couldn't end, since a CPU or the consumer isn't home.
+pub struct NotHome {
+    session: Session,
+}
+
+impl NotHome {
+    /// The session, which goes on as it was.
+    pub fn into_session(self) -> Session {
+        self.session
+    }
+}
+
+impl fmt::Debug for NotHome {
+    fn fmt(&self, f: &mut fmt::Formatter<'_>) -> fmt::Result {
+        f.write_str("NotHome")
+    }
+}
+
+impl fmt::Display for NotHome {
+    fn fmt(&self, f: &mut fmt::Formatter<'_>) -> fmt::Result {
+        f.write_str("a CPU or the consumer is not home")
+    }
+}
+
+impl std::error::Error for NotHome {}

@@ -1,0 +1,267 @@
+//! What the package's types make of the library's calls.
+
+use dspec::{
+    Closed, Config, Consumer, Cpu, Decided, Error, Opening, Policy, Report, Schema, Served, Session, SpecId, Spoken, Traced, Width,
+};
+
+/// One CPU and its consumer, over records of one field of 4 bytes: principal buffers of 8 records, speculative ones of 3.
+fn small(max_calls: u64) -> (Session, Cpu, Consumer, u32) {
+    let mut schema = Schema::new().unwrap();
+    let epid = schema.enable(&[Width::Four]).unwrap();
+    let config = Config { nspec: 2, bufsize: 64, specsize: 24, max_calls, ..Config::of_cpus(2) };
+    let mut session = Session::start(&config, &schema).unwrap();
+    let cpu = session.cpu(0).unwrap();
+    let consumer = session.consumer().unwrap();
+    (session, cpu, consumer, epid)
+}
+
+fn values(closed: &Closed, cpu: u32) -> Vec<u64> {
+    let rest = closed.rest(cpu).unwrap();
+    let untaken = rest.untaken.iter().flat_map(|batch| batch.records()).collect::<Vec<_>>();
+    untaken.into_iter().chain(rest.last.records()).map(|record| record.values()[0]).collect()
+}
+
+#[test]
+fn every_answer_of_a_cpu() {
+    let (session, mut cpu, mut consumer, epid) = small(32);
+    for value in 1..=5 {
+        assert_eq!(cpu.trace(epid, 0, &[value]), Ok(Traced::Kept));
+    }
+    let id = cpu.speculation().id();
+    assert_eq!(id.raw(), 1);
+    for value in 11..=13 {
+        assert_eq!(cpu.speculate(id, epid, 0, &[value]), Ok(Spoken::Kept));
+    }
+    assert_eq!(cpu.speculate(id, epid, 0, &[14]), Ok(Spoken::Dropped));
+    assert_eq!(cpu.commit(id), Decided::Copied(3));
+    assert_eq!(cpu.commit(id), Decided::Void);
+    assert_eq!(cpu.trace(epid, 0, &[6]), Ok(Traced::Dropped));
+    let id = cpu.speculation().id();
+    assert_eq!(cpu.speculate(id, epid, 0, &[21]), Ok(Spoken::Kept));
+    assert_eq!(cpu.commit(id), Decided::Lost(1));
+    let id = cpu.speculation().id();
+    assert_eq!(cpu.speculate(id, epid, 0, &[31]), Ok(Spoken::Kept));
+    assert_eq!(cpu.discard(id), Decided::Thrown(1));
+    assert_eq!(cpu.speculate(SpecId::NONE, epid, 0, &[41]), Ok(Spoken::Void));
+    let open = cpu.speculation().id();
+    let empty = cpu.speculation().id();
+    assert_eq!(cpu.speculation(), Opening::Unavailable);
+    assert_eq!(cpu.discard(empty), Decided::Thrown(0));
+    assert_eq!(cpu.speculation(), Opening::Busy);
+    assert_eq!(cpu.service(), Served { sealed: false, settled: 1 });
+    assert_eq!(cpu.speculate(open, epid, 0, &[51]), Ok(Spoken::Kept));
+    consumer.stop();
+    assert_eq!(cpu.trace(epid, 0, &[7]), Ok(Traced::Stopped));
+    assert_eq!(cpu.speculation(), Opening::Stopped);
+    assert_eq!(cpu.speculate(open, epid, 0, &[52]), Ok(Spoken::Stopped));
+    assert_eq!(cpu.commit(open), Decided::Stopped);
+    assert_eq!(cpu.discard(open), Decided::Stopped);
+    while cpu.speculation() != Opening::Worn {}
+    assert_eq!(cpu.trace(epid, 0, &[8]), Ok(Traced::Worn));
+    assert_eq!(cpu.speculate(open, epid, 0, &[53]), Ok(Spoken::Worn));
+    assert_eq!(cpu.commit(open), Decided::Worn);
+    let due = Report {
+        offered: 15,
+        accepted: 8,
+        dropped: 1,
+        specdropped: 1,
+        lost: 1,
+        discarded: 1,
+        void: 3,
+        held: 0,
+        drops: 2,
+        unavailable: 1,
+        busy: 1,
+        stopped: 5,
+        worn: 4,
+    };
+    let told = cpu.report();
+    assert_eq!(told.offered, told.accepted + told.dropped + told.specdropped + told.lost + told.discarded + told.void + told.held);
+    assert_eq!(Report { held: 0, offered: 15, stopped: told.stopped, ..told }, Report { stopped: told.stopped, ..due });
+    assert_eq!(told.held, 1);
+    drop((cpu, consumer));
+    let closed = session.finish().unwrap();
+    assert_eq!(closed.report(0), Ok(told));
+    assert_eq!(closed.cpus(), 2);
+    assert_eq!(values(&closed, 0), [1, 2, 3, 4, 5, 11, 12, 13]);
+    assert_eq!(values(&closed, 1), []);
+    assert_eq!(closed.report(2), Err(Error::NoSuchCpu));
+    assert!(closed.rest(2).is_err());
+}
+
+#[test]
+fn batches_go_back() {
+    let (session, mut cpu, mut consumer, epid) = small(1 << 62);
+    for round in 0..5 {
+        cpu.trace(epid, 0, &[round]).unwrap();
+        assert!(consumer.take(0).unwrap().is_none());
+        consumer.ask(0).unwrap();
+        assert_eq!(cpu.service(), Served { sealed: true, settled: 0 });
+        let batch = consumer.take(0).unwrap().unwrap();
+        assert_eq!((batch.cpu(), batch.drops(), batch.bytes().len()), (0, 0, 8));
+        assert_eq!(batch.records().map(|record| record.values()[0]).collect::<Vec<_>>(), [round]);
+    }
+    assert_eq!(consumer.ask(2), Err(Error::NoSuchCpu));
+    assert_eq!(consumer.take(2).err(), Some(Error::NoSuchCpu));
+    assert_eq!(consumer.clean(), 0);
+    consumer.go_home();
+    cpu.go_home();
+    assert!(session.finish().is_ok());
+}
+
+#[test]
+fn a_forgotten_batch_is_given_back_by_the_next_take() {
+    let (_session, mut cpu, mut consumer, epid) = small(1 << 62);
+    consumer.ask(0).unwrap();
+    cpu.service();
+    std::mem::forget(consumer.take(0).unwrap().unwrap());
+    assert!(consumer.take(0).unwrap().is_none());
+    cpu.trace(epid, 0, &[9]).unwrap();
+    consumer.ask(0).unwrap();
+    assert!(cpu.service().sealed);
+    assert_eq!(consumer.take(0).unwrap().unwrap().records().count(), 1);
+}
+
+#[test]
+fn what_is_out_comes_home() {
+    let (mut session, cpu, consumer, _) = small(1 << 62);
+    assert_eq!(session.cpu(0).err(), Some(Error::Out));
+    assert_eq!(session.cpu(2).err(), Some(Error::NoSuchCpu));
+    assert_eq!(session.consumer().err(), Some(Error::Out));
+    let why = session.finish().err().unwrap();
+    assert_eq!(why.to_string(), "a CPU or the consumer is not home");
+    session = why.into_session();
+    let worker = std::thread::spawn(move || {
+        let _cpu = cpu;
+        panic!("a worker that panics");
+    });
+    assert!(worker.join().is_err());
+    session = session.finish().err().unwrap().into_session();
+    drop(consumer);
+    assert!(session.finish().is_ok());
+}
+
+#[test]
+fn refused_records_and_schemas() {
+    let mut schema = Schema::new().unwrap();
+    assert_eq!(schema.enable(&[Width::One; 9]), Err(Error::TooManyFields));
+    assert_eq!(schema.enable(&[Width::One]), Ok(1));
+    for epid in 2..=64 {
+        assert_eq!(schema.enable(&[]), Ok(epid));
+    }
+    assert_eq!(schema.enable(&[]), Err(Error::TooManyEnablings));
+    let mut session = Session::start(&Config::of_cpus(1), &schema).unwrap();
+    let mut cpu = session.cpu(0).unwrap();
+    assert_eq!(cpu.trace(1, 0, &[255]), Ok(Traced::Kept));
+    assert_eq!(cpu.trace(2, 0, &[]), Ok(Traced::Kept));
+    for (epid, stamp, values) in
+        [(1, 0, &[256][..]), (1, 0, &[]), (1, 0, &[1, 2]), (1, 1, &[1]), (0, 0, &[]), (65, 0, &[]), (2, 0, &[0; 9])]
+    {
+        assert_eq!(cpu.trace(epid, stamp, values), Err(Error::BadRecord));
+        assert_eq!(cpu.speculate(SpecId::from_raw(1), epid, stamp, values), Err(Error::BadRecord));
+    }
+    assert_eq!(cpu.report().offered, 2);
+}
+
+#[test]
+fn refused_configurations() {
+    let schema = Schema::new().unwrap();
+    let good = Config::of_cpus(1);
+    let refused = |config: Config| Session::start(&config, &schema).err();
+    assert_eq!(refused(good), None);
+    assert_eq!(refused(Config { policy: Policy::Fill, ..good }), None);
+    assert_eq!(refused(Config { cpus: 65, ..good }), Some(Error::Cpus));
+    assert_eq!(refused(Config { nspec: 0, ..good }), Some(Error::Speculations));
+    assert_eq!(refused(Config { bufsize: 12, ..good }), Some(Error::BufSize));
+    assert_eq!(refused(Config { specsize: 0, ..good }), Some(Error::SpecSize));
+    assert_eq!(refused(Config { max_issues: 0, ..good }), Some(Error::Issues));
+    assert_eq!(refused(Config { max_calls: 1 << 63, ..good }), Some(Error::Calls));
+    assert_eq!(Error::Calls.to_string(), "the number of calls a CPU is not 1 to 2^62");
+}
+
+#[test]
+fn records_with_stamps_gaps_and_padding() {
+    let mut schema = Schema::new().unwrap();
+    schema.stamp();
+    let none = schema.enable(&[]).unwrap();
+    let wide = schema.enable(&[Width::Two, Width::Eight, Width::One]).unwrap();
+    let mut session = Session::start(&Config::of_cpus(1), &schema).unwrap();
+    let mut cpu = session.cpu(0).unwrap();
+    for stamp in [7, u64::MAX] {
+        cpu.trace(none, stamp, &[]).unwrap();
+        cpu.trace(wide, stamp, &[0xffff, u64::MAX, 3]).unwrap();
+    }
+    drop(cpu);
+    let closed = session.finish().unwrap();
+    let last = closed.rest(0).unwrap().last;
+    let told: Vec<_> = last.records().map(|record| (record.epid, record.stamp, record.values().to_vec())).collect();
+    let wide_values = vec![0xffff, u64::MAX, 3];
+    let due = [(none, 7, vec![]), (wide, 7, wide_values.clone()), (none, u64::MAX, vec![]), (wide, u64::MAX, wide_values)];
+    assert_eq!(told, due);
+    assert_eq!(last.bytes().len(), 12 + 4 + 28 + 12 + 28);
+}
+
+#[test]
+fn a_cpu_outlives_its_session() {
+    let (session, mut cpu, consumer, epid) = small(1 << 62);
+    drop(session);
+    drop(consumer);
+    assert_eq!(cpu.trace(epid, 0, &[1]), Ok(Traced::Kept));
+    assert_eq!(cpu.report().accepted, 1);
+}
+
+#[test]
+fn threads_trace_and_the_consumer_takes() {
+    let mut schema = Schema::new().unwrap();
+    let epid = schema.enable(&[Width::Eight]).unwrap();
+    let config = Config { bufsize: 256, specsize: 64, ..Config::of_cpus(3) };
+    let mut session = Session::start(&config, &schema).unwrap();
+    let mut consumer = session.consumer().unwrap();
+    let workers: Vec<_> = (0..3)
+        .map(|number| {
+            let mut cpu = session.cpu(number).unwrap();
+            std::thread::spawn(move || {
+                for round in 0..20_000 {
+                    cpu.trace(epid, 0, &[round]).unwrap();
+                    cpu.service();
+                }
+            })
+        })
+        .collect();
+    let mut taken = [0; 3];
+    while workers.iter().any(|worker| !worker.is_finished()) {
+        for cpu in 0..3 {
+            consumer.ask(cpu).unwrap();
+            if let Some(batch) = consumer.take(cpu).unwrap() {
+                taken[cpu as usize] += batch.records().count() as u64;
+            }
+        }
+    }
+    for worker in workers {
+        worker.join().unwrap();
+    }
+    drop(consumer);
+    let closed = session.finish().unwrap();
+    for cpu in 0..3 {
+        let report = closed.report(cpu).unwrap();
+        assert_eq!(report.offered, 20_000);
+        assert_eq!(report.accepted + report.dropped, 20_000);
+        assert_eq!(taken[cpu as usize] + values(&closed, cpu).len() as u64, report.accepted);
+    }
+}
+
+/// What the types promise is looked at by the compiler: CPUs, consumers and sessions may go to other threads.
+#[test]
+fn what_may_go_to_other_threads() {
+    fn is_send<T: Send>() {}
+    is_send::<Schema>();
+    is_send::<Session>();
+    is_send::<Cpu>();
+    is_send::<Consumer>();
+    is_send::<Closed>();
+}
+
+#[test]
+fn versions_are_the_same() {
+    assert_eq!(dspec::library_version(), (0, 1, 0));
+}

@@ -1,0 +1,10 @@
+use Rattle.dspec_cpu.specs.Lists.{words_of}
+use Rattle.dspec.proofs.Passing.{passes_both, passes_nothing}
+use Rattle.dspec.proofs.running.drain.Goals as goal
+
+pub loop-init : goal.loop-init
+loop-init g c = passes_nothing (g.K.Sink.gets c.args.schema.now) (words_of c.args.shared.now) c.args.consumer c.args.sink c.requires
+
+pub loop-preserved : goal.loop-preserved
+loop-preserved g c = passes_both (g.K.Sink.gets c.args.schema.now) (words_of c.args.shared.now) c.args.consumer c.loop.consumer c.visit_all.new.consumer
+    c.args.sink c.loop.sink c.visit_all.new.sink c.loop.invariant c.visit_all.ensures

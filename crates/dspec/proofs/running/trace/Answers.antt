@@ -1,0 +1,30 @@
+use Rattle.std.proofs.Common.{◌≡◌, ap, ◌∙◌, subst}
+use Rattle.dspec_record.specs.EnablingRows.{EnabledRows}
+use Rattle.dspec_record.specs.Schemas.{enabled, table_shape, table_accepts, table_text}
+use Rattle.dspec_deeds.specs.declared.config.Config.{Config}
+use Rattle.dspec_cpu.specs.declared.shared.Shared.{Shared}
+use Rattle.dspec_table.specs.Seats.{set_up}
+use Rattle.dspec_cpu.specs.Lists.{words_of}
+use Rattle.dspec_session.specs.Closing.{IsClosedBy}
+use Rattle.dspec_session.specs.Consumers.{view_of}
+use Rattle.dspec_session.specs.Leaving.{Has}
+use Rattle.dspec_session.specs.Sessions.{HasAt, taken_at, worn_at}
+use Rattle.dspec.proofs.Tracing.{traced}
+use Rattle.dspec.proofs.running.trace.Goals as goal
+
+pub returns-clause-traced : goal.returns-clause-traced
+returns-clause-traced g c =
+    let started = c.in_ok-session.ensures in
+    let s = c.in_ok-session.session in
+    let back = c.run-session.result.0 in
+    let schema = c.args.schema in
+    let shape : EnabledRows → _ = λ e. table_shape e.header (enabled e.rows) in
+    let accepts : EnabledRows → _ = λ e. table_accepts e.header (enabled e.rows) in
+    let text : EnabledRows → _ = λ e. table_text e.header (enabled e.rows) in
+    let same = ap (λ (w : Shared). set_up (words_of w)) c.run-session.ensures.words ∙ started.config in
+    traced shape accepts text (g.K.Sink.gets schema) schema c.args.config.now (words_of s.shared) back.cpus.items (worn_at back.cpus.items) (view_of back.consumer).own
+    s.consumer back.consumer c.args.sink c.run-session.result.1 c.pass_rests.new.sink c.finish-closed.result c.all_stand.ensures started.consumer.1
+    c.run-session.ensures.passes
+    (subst (λ (k : Config). IsClosedBy (shape schema) (accepts schema) (text schema) k (HasAt (Has shape accepts text) back.cpus.items) (worn_at back.cpus.items)
+    (taken_at back.consumer) (view_of back.consumer).own c.finish-closed.result) same (c.finish-closed.ensures.closed schema c.run-session.ensures.lent))
+    c.pass_rests.ensures

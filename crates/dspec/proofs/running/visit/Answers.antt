@@ -1,0 +1,33 @@
+use Rattle.std.proofs.Common.{◌≡◌, ℕ, ◌<◌, ◌≤◌, rules}
+use Rattle.dspec_cpu.specs.Lists.{words_of}
+use Rattle.dspec_session.specs.Consumers.{set_up_of}
+use Rattle.dspec.specs.Passed.{PassesOn}
+use Rattle.dspec.proofs.Passing.{ask_ends, back_taken, ends_taken, none_taken, passes_both, passes_none, passes_one}
+use Rattle.dspec.proofs.running.visit.Goals as goal
+
+pub returns-in_default : goal.returns-in_default
+returns-in_default g c =
+    let gets = g.K.Sink.gets c.args.schema.now in
+    let words = words_of c.args.shared.now in
+    let x = c.args.consumer.now in
+    let k = c.args.sink.now in
+    let ends = ask_ends c.ask.result (c.args.cpu < (set_up_of x).cpus) ((set_up_of x).cpus ≤ c.args.cpu) c.args.cpu x c.ask.new.self c.ask.ensures.asked in
+    passes_both gets words x c.ask.new.self c.take.new.self k k k
+    (passes_none gets words x c.ask.new.self k (record { session = c.ask.ensures.session; same = c.ask.ensures.same }) (ends_taken x c.ask.new.self ends))
+    (passes_none gets words c.ask.new.self c.take.new.self k (record { session = c.take.ensures.session; same = c.take.ensures.same })
+    (λ d. none_taken c.args.cpu c.ask.new.self c.take.new.self d c.in_default.ensures.none))
+
+pub returns : goal.returns
+returns g c =
+    let gets = g.K.Sink.gets c.args.schema.now in
+    let words = words_of c.args.shared.now in
+    let x = c.args.consumer.now in
+    let k = c.args.sink.now in
+    let l = c.batch.new.self in
+    let ends = ask_ends c.ask.result (c.args.cpu < (set_up_of x).cpus) ((set_up_of x).cpus ≤ c.args.cpu) c.args.cpu x c.ask.new.self c.ask.ensures.asked in
+    let asked = passes_none gets words x c.ask.new.self k (record { session = c.ask.ensures.session; same = c.ask.ensures.same }) (ends_taken x c.ask.new.self ends) in
+    let took = passes_one gets words c.args.cpu c.in-Some.batch c.ask.new.self c.take.new.self k l (record { session = c.take.ensures.session; same = c.take.ensures.same })
+    c.in-Some.ensures.took c.batch.ensures in
+    let back = passes_none gets words c.take.new.self c.give_back.new.self l (record { session = c.give_back.ensures.session; same = c.give_back.ensures.same })
+    (λ d. back_taken c.give_back.result c.in-Some.batch c.take.new.self c.give_back.new.self d c.give_back.ensures.given c.give_back.ensures.why) in
+    passes_both gets words x c.take.new.self c.give_back.new.self k l l (passes_both gets words x c.ask.new.self c.take.new.self k k l asked took) back

@@ -1,0 +1,37 @@
+-- What a sink keeps of the batches that it gets.
+use Rattle.std.specs.Prelude.{ℕ, ◌≡◌, List, [], ◌++◌, Option, Some, None}
+use Rattle.dspec_record.specs.Record.{Record}
+use Rattle.dspec_record.specs.EnablingRows.{EnabledRows}
+use Rattle.dspec_record.specs.Schemas.{enabled, table_shape, table_accepts, table_text}
+use Rattle.dspec_buffer.specs.BufferText.{BufferText}
+use Rattle.dspec_buffer.specs.Faults.{StopsAt}
+use Rattle.dspec_ring.specs.declared.batch.Batch.{Batch}
+use Rattle.dspec.specs.declared.kept.KeptFault.{KeptFault}
+use Rattle.dspec.specs.declared.kept.KeptFault.TheVariants.{Text, Memory}
+
+-- the records, in the order in which they came, and why not all were kept
+pub record KeptRecords : Type 0 where
+  pub records : List Record
+  pub fault : Option KeptFault
+
+abbrev pub no_records : KeptRecords
+no_records = record { records = []; fault = None }
+
+module _ (e : EnabledRows) where
+  -- the records of the text came behind those before
+  pub record AddsText (text : List ℕ) (before after : List Record) : Type 0 where
+    pub added : List Record
+    pub is_text : BufferText (table_shape e.header (enabled e.rows)) (table_accepts e.header (enabled e.rows)) (table_text e.header (enabled e.rows)) 0 text added
+    pub behind : after ≡ before ++ added
+
+  -- why the records of a batch weren't kept: it has a text that stops there, or memory was wanting
+  abbrev pub IsKeptFault : Batch → KeptFault → Type 0
+  IsKeptFault b (Text cpu fault) =
+      (cpu ≡ b.cpu) × StopsAt (table_shape e.header (enabled e.rows)) (table_accepts e.header (enabled e.rows)) (table_text e.header (enabled e.rows)) b.buffer.text fault
+  IsKeptFault b Memory = Unit
+
+  -- All records of the batch are kept, or why not; behind a fault nothing more is.
+  pub record KeepsBatch (old : KeptRecords) (b : Batch) (new : KeptRecords) : Type 0 where
+    pub stopped : (fault : KeptFault) → old.fault ≡ Some fault → new ≡ old
+    pub kept : old.fault ≡ None → new.fault ≡ None → AddsText b.buffer.text old.records new.records
+    pub why : (fault : KeptFault) → old.fault ≡ None → new.fault ≡ Some fault → IsKeptFault b fault

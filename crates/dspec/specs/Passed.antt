@@ -1,0 +1,73 @@
+-- What a sink got of a session.
+use Rattle.std.specs.Prelude.{ℕ, ◌≡◌, ◌+◌, ◌==◌, Bool, List, [], ◌∷◌, ◌++◌, slice_get, Option, Some, None, if◌then◌else◌}
+use Rattle.dspec_record.specs.Record.{Record}
+use Rattle.dspec_record.specs.declared.field.Shape.{Shape}
+use Rattle.dspec_deeds.specs.declared.config.Config.{Config}
+use Rattle.dspec_deeds.specs.declared.deed.Deed.{Deed}
+use Rattle.dspec_deeds.specs.Own.{stream}
+use Rattle.dspec_table.specs.declared.seats.Words.{Words}
+use Rattle.dspec_ring.specs.declared.batch.Batch.{Batch}
+use Rattle.dspec_cpu.specs.Sealed.{waiting}
+use Rattle.dspec_session.specs.declared.left.Left.{Left}
+use Rattle.dspec_session.specs.Closing.{ClosesAs, HoldInOrder}
+use Rattle.dspec_session.specs.Consumers.{Consuming, Stays}
+use Rattle.dspec_session.specs.Sessions.{taken_at}
+
+-- a batch, with the number of the CPU that it came from
+pub record Passed : Type 0 where
+  pub from : ℕ
+  pub batch : Batch
+
+-- the batches of one CPU, in their order
+abbrev pub passed_from : ℕ → List Passed → List Batch
+passed_from c [] = []
+passed_from c (x ∷ xs) = if x.from == c then x.batch ∷ passed_from c xs else passed_from c xs
+
+-- what was left of one CPU: the batch that it had sealed and nobody took, then its last buffer
+abbrev pub left_batches : Left → List Batch
+left_batches l = waiting l.rest ++ l.last ∷ []
+
+-- these batches of one CPU
+abbrev pub each_from : ℕ → List Batch → List Passed
+each_from n [] = []
+each_from n (b ∷ bs) = record { from = n; batch = b } ∷ each_from n bs
+
+-- what was left of these CPUs, the first of which has this number
+abbrev pub rests_passed : ℕ → List Left → List Passed
+rests_passed n [] = []
+rests_passed n (l ∷ ls) = each_from n (left_batches l) ++ rests_passed (n + 1) ls
+
+-- a sink that is there gets the batch, and one that was left out stays so
+abbrev pub GetsIfThere : {K : Type 0} → (K → Batch → K → Type 0) → Option K → Batch → Option K → Type 0
+GetsIfThere gets None b None = Unit {0}
+GetsIfThere gets (Some k) b (Some l) = gets k b l
+GetsIfThere gets None b (Some l) = ⊥
+GetsIfThere gets (Some k) b None = ⊥
+
+module _ {K : Type 0} (gets : K → Batch → K → Type 0) where
+  -- the sink got these batches, by one call each, in this order
+  abbrev pub GotAll : K → List Passed → K → Type 0
+  GotAll k [] l = k ≡ l
+  GotAll k (x ∷ xs) l = (m : K) × gets k x.batch m × GotAll m xs l
+
+  -- the consumer took batches, and the sink got those that it took of each CPU, in their order
+  pub record PassesOn (words : Words) (x : Consuming) (k : K) (y : Consuming) (l : K) : Type 0 where
+    pub stays : Stays words x y
+    pub passed : List Passed
+    pub got : GotAll k passed l
+    pub taken : (c : ℕ) → taken_at y c ≡ taken_at x c ++ passed_from c passed
+
+module _ {K : Type 0} (gets : K → Batch → K → Type 0) (shape : ℕ → Option Shape) (accepted : Record → Bool) (text : Record → List ℕ) where
+  -- A session ran and closed, and this was left of its CPUs. One list of all deeds closes it, and what the sink got of each CPU,
+  -- in its order, is all that this CPU accepted: the batches that were taken, then the one that it had sealed, then its last buffer.
+  pub record IsTraced (k : Config) (old : K) (left : List Left) (new : K) : Type 0 where
+    pub passed : List Passed
+    pub got : GotAll gets old passed new
+    pub worn : ℕ → ℕ
+    pub taken : ℕ → List Batch
+    pub consumer : List Deed
+    pub own : ℕ → List Deed
+    pub deeds : List Deed
+    pub closes : ClosesAs shape accepted text k worn taken consumer left own deeds
+    pub whole : (c : ℕ) (l : Left) → slice_get left c ≡ Some l → passed_from c passed ≡ taken c ++ left_batches l
+    pub accepts : (c : ℕ) (l : Left) → slice_get left c ≡ Some l → HoldInOrder shape accepted text (passed_from c passed) (stream c deeds)

@@ -1,0 +1,35 @@
+ghost use Rattle.dspec.specs.Passed.{GetsIfThere};
+
+use crate::work::Sink;
+use dspec_record::Schema;
+use dspec_ring::Batch;
+
+/// Two sinks that get the same: the first first.
+#[derive(Drop)]
+pub struct Both<A: Drop, B: Drop> {
+    /// The one that gets each batch first.
+    pub first: A,
+    /// The other.
+    pub second: B,
+}
+
+impl<S: Schema, A: Sink<S>, B: Sink<S>> Sink<S> for Both<A, B> {
+    ghost gets = { λ schema old batch new. A.gets schema old.first batch new.first × B.gets schema old.second batch new.second };
+
+    fn batch(&mut self, schema: &S, batch: &Batch) {
+        self.first.batch(schema, batch);
+        self.second.batch(schema, batch);
+    }
+}
+
+/// A sink that may be left out.
+impl<S: Schema, K: Sink<S>> Sink<S> for Option<K> {
+    ghost gets = { λ schema old batch new. GetsIfThere (K.gets schema) old batch new };
+
+    fn batch(&mut self, schema: &S, batch: &Batch) {
+        let Some(sink) = self else {
+            return;
+        };
+        sink.batch(schema, batch);
+    }
+}

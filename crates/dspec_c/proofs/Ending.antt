@@ -1,0 +1,95 @@
+-- What is home makes the session that was started.
+use Rattle.std.proofs.Common.{◌≡◌, ℕ, ◌+◌, List, [], ◌∷◌, length, Option, Some, None, suc, zero, refl, sym, ap, ◌∙◌, subst, arith}
+use Rattle.std.specs.Prelude.{slice_get}
+use Rattle.dspec_deeds.specs.Ranges.{start_fault}
+use Rattle.dspec_record.specs.EnablingRows.{EnabledRows}
+use Rattle.dspec_table.specs.Seats.{set_up}
+use Rattle.dspec_cpu.specs.declared.cpu.Cpu.{Cpu}
+use Rattle.dspec_cpu.specs.declared.shared.Shared.{Shared}
+use Rattle.dspec_cpu.specs.Lists.{words_of}
+use Rattle.dspec_session.specs.Consumers.{Consuming, IsConsumerOf, pairs_of}
+use Rattle.dspec_session.specs.Sessions.{IsCpuOf, IsSession}
+use Rattle.dspec_session.specs.declared.session.Session.{Session}
+use Rattle.dspec_cpu.specs.Standing.{identity}
+use Rattle.dspec_c.specs.ConsumerHomes.{IsSameTheirs, Theirs}
+use Rattle.dspec_c.specs.Homes.{Side}
+use Rattle.dspec_c.specs.Whole.{AllCalled, EachFrom, IsCpuAt, IsEnding, IsPlaceOf, IsStarted, IsWhole}
+
+abbrev if_some : {X : Type 0} → Option X → Type 0
+if_some None = ⊥
+if_some (Some x) = Unit {0}
+
+abbrev or_else : {X : Type 0} → X → Option X → X
+or_else x None = x
+or_else x (Some y) = y
+
+pub each_at : {X : Type 0} (P : ℕ → X → Type 0) (n : ℕ) (xs : List X) (k : ℕ) (x : X) → EachFrom P n xs → slice_get xs k ≡ Some x → P (n + k) x
+each_at P n [] k x all at = absurd (subst (λ o. if_some o) (sym at) tt)
+each_at P n (y ∷ ys) zero x all at = subst (λ k. P k x) (omega arith) (subst (λ z. P n z) (ap (or_else y) at) all.0)
+each_at P n (y ∷ ys) (suc k) x all at = subst (λ j. P j x) (omega arith) (each_at P (suc n) ys k x all.1 at)
+
+pub each_from : {X : Type 0} (P : ℕ → X → Type 0) (n : ℕ) (xs : List X) → ((k : ℕ) (x : X) → slice_get xs k ≡ Some x → P (n + k) x) → EachFrom P n xs
+each_from P n [] all = tt
+each_from P n (x ∷ xs) all = (subst (λ k. P k x) (omega arith) (all 0 x refl), each_from P (suc n) xs (λ k y at. subst (λ j. P j y) (omega arith) (all (suc k) y at)))
+
+-- all that is home makes a session
+pub session_is : (shared : Shared) (schema : EnabledRows) (places : List (Option Side)) (consumer : Consuming) (session : Session EnabledRows) → IsEnding shared schema places consumer
+    → session.shared ≡ shared → session.consumer ≡ consumer
+    → EachFrom (IsCpuAt shared schema (pairs_of consumer)) 0 session.cpus.items → length session.cpus.items ≡ length places → IsSession schema session
+session_is shared schema places consumer session is e f home count = record {
+  checked = subst (λ (s : Shared). start_fault (set_up (words_of s)) ≡ None) (sym e) is.checked;
+  consumer = subst (λ (s : Shared). IsConsumerOf (words_of s) session.consumer) (sym e) (subst (λ (y : Consuming). IsConsumerOf (words_of shared) y) (sym f) is.theirs);
+  all = count ∙ is.all ∙ ap (λ (s : Shared). (set_up (words_of s)).cpus) (sym e);
+  each = λ c cpu at.
+      let h : IsCpuAt shared schema (pairs_of consumer) c cpu =
+      subst (λ n. IsCpuAt shared schema (pairs_of consumer) n cpu) (omega arith) (each_at (IsCpuAt shared schema (pairs_of consumer)) 0 session.cpus.items c cpu home at) in
+      subst (λ (s : Shared). IsCpuOf schema (words_of s) c (slice_get (pairs_of session.consumer) c) (identity cpu)) (sym e)
+      (subst (λ (y : Consuming). IsCpuOf schema (words_of shared) c (slice_get (pairs_of y) c) (identity cpu)) (sym f) h);
+}
+
+-- the consumer that came home ends what the first one would have ended
+pub ends_so : (shared : Shared) (cpus : ℕ) (places : List (Option Side)) (place : Option Theirs) (home : Theirs) (consumer : Consuming) → (is : IsWhole shared cpus places place)
+    → ((first : Theirs) → place ≡ Some first → IsSameTheirs first home) → consumer ≡ home.consumer → IsConsumerOf (words_of home.shared) consumer → IsEnding shared is.schema places consumer
+ends_so shared cpus places place home consumer is same e theirs =
+    let so = same is.first is.is in
+    record {
+      checked = is.ending.checked;
+      all = is.ending.all;
+      each = subst (λ ps. EachFrom (IsPlaceOf shared is.schema ps) 0 places) (sym (ap (λ (y : Consuming). pairs_of y) e ∙ so.consumer.pairs)) is.ending.each;
+      theirs = subst (λ (m : Shared). IsConsumerOf (words_of m) consumer) (so.shared ∙ is.shares) theirs;
+    }
+
+-- each CPU of a session can be called
+pub all_called : (schema : EnabledRows) (session : Session EnabledRows) (shared : Shared) → IsSession schema session → shared ≡ session.shared → AllCalled shared session.cpus.items
+all_called schema session shared is e = subst (λ (s : Shared). AllCalled s session.cpus.items) (sym e) (λ c cpu at. (is.each c cpu at).belongs)
+
+-- what a session that was started has
+pub started : (schema : EnabledRows) (session : Session EnabledRows) (shared : Shared) (n : ℕ) → IsSession schema session → shared ≡ session.shared → n ≡ (set_up (words_of session.shared)).cpus
+    → IsStarted shared n session.cpus.items session.consumer
+started schema session shared n is e count = subst (λ (s : Shared). IsStarted s n session.cpus.items session.consumer) (sym e) (record {
+  schema = schema;
+  checked = is.checked;
+  all = is.all;
+  count = count;
+  each = each_from (IsCpuAt session.shared schema (pairs_of session.consumer)) 0 session.cpus.items
+      (λ k x at. subst (λ j. IsCpuAt session.shared schema (pairs_of session.consumer) j x) (omega arith) (is.each k x at));
+  theirs = is.consumer;
+})
+
+-- such a session under way
+pub whole_at_first : (shared clone : Shared) (n : ℕ) (cpus : List (Cpu EnabledRows)) (consumer : Consuming) (places : List (Option Side)) (place : Option Theirs) (home : Theirs)
+    → (is : IsStarted shared n cpus consumer) → place ≡ Some home → home ≡ record { shared = clone; consumer = consumer } → clone ≡ shared → length places ≡ length cpus
+    → EachFrom (IsPlaceOf shared is.schema (pairs_of consumer)) 0 places → IsWhole shared n places place
+whole_at_first shared clone n cpus consumer places place home is at e f count each = record {
+  schema = is.schema;
+  first = record { shared = clone; consumer = consumer };
+  is = at ∙ ap Some e;
+  shares = f;
+  count = is.count;
+  ending = record { checked = is.checked; all = count ∙ is.all; each = each; theirs = is.theirs };
+}
+
+-- looking for what is home changes nothing of it
+pub whole_kept : (shared : Shared) (n m : ℕ) (places now : List (Option Side)) (place there : Option Theirs) → IsWhole shared n places place × (m ≡ 0) → now ≡ places → there ≡ place
+    → IsWhole shared n now there × (m ≡ 0)
+whole_kept shared n m places now place there is e f = (subst (λ xs. IsWhole shared n xs there) (sym e) (subst (λ o. IsWhole shared n places o) (sym f) is.0), is.1)

@@ -1,0 +1,28 @@
+-- What C reads of reports and batches.
+use Rattle.std.specs.Prelude.{◌≡◌, length}
+use Rattle.dspec_deeds.specs.declared.report.Report.{Report}
+use Rattle.dspec_ring.specs.declared.batch.Batch.{Batch}
+use Rattle.dspec_c.specs.declared.batches.CBatch.{CBatch}
+use Rattle.dspec_c.specs.declared.reports.CReport.{CReport}
+
+-- the same counts, each at its name
+pub record TellsReport (c : CReport) (r : Report) : Type 0 where
+  pub offered : c.offered ≡ r.offered
+  pub accepted : c.accepted ≡ r.accepted
+  pub dropped : c.dropped ≡ r.dropped
+  pub specdropped : c.specdropped ≡ r.specdropped
+  pub lost : c.lost ≡ r.lost
+  pub discarded : c.discarded ≡ r.discarded
+  pub void : c.void ≡ r.void
+  pub held : c.held ≡ r.held
+  pub drops : c.drops ≡ r.drops
+  pub unavailable : c.unavailable ≡ r.unavailable
+  pub busy : c.busy ≡ r.busy
+  pub stopped : c.stopped ≡ r.stopped
+  pub worn : c.worn ≡ r.worn
+
+-- whose batch it is, its drops, and how many bytes it has
+pub record TellsBatch (c : CBatch) (b : Batch) : Type 0 where
+  pub cpu : c.cpu ≡ b.cpu
+  pub drops : c.drops ≡ b.drops
+  pub len : c.len ≡ length b.buffer.text

@@ -1,0 +1,63 @@
+-- The numbers of the statuses, by what the library answered, and what goes out beside them.
+use Rattle.std.specs.Prelude.{ℕ, Option, Some, None}
+use Rattle.dspec_deeds.specs.declared.calls.Decided.{Decided}
+use Rattle.dspec_deeds.specs.declared.calls.Decided.TheVariants as decided
+use Rattle.dspec_deeds.specs.declared.calls.Opening.{Opening}
+use Rattle.dspec_deeds.specs.declared.calls.Opening.TheVariants as opening
+use Rattle.dspec_deeds.specs.declared.calls.Spoken.{Spoken}
+use Rattle.dspec_deeds.specs.declared.calls.Spoken.TheVariants as spoken
+use Rattle.dspec_deeds.specs.declared.calls.Traced.{Traced}
+use Rattle.dspec_deeds.specs.declared.calls.Traced.TheVariants as traced
+use Rattle.dspec_deeds.specs.declared.config.StartFault.{StartFault}
+use Rattle.dspec_deeds.specs.declared.config.StartFault.TheVariants as start
+use Rattle.dspec_word.specs.SpecId.{id_number}
+
+abbrev pub start_status : StartFault → ℕ
+start_status start.Cpus = 1
+start_status start.Specs = 2
+start_status start.BufSize = 3
+start_status start.SpecSize = 4
+start_status start.Issues = 5
+start_status start.Calls = 6
+start_status start.Memory = 7
+
+abbrev pub traced_status : Option Traced → ℕ
+traced_status None = 16
+traced_status (Some traced.Kept) = 0
+traced_status (Some traced.Dropped) = 32
+traced_status (Some traced.Stopped) = 33
+traced_status (Some traced.Worn) = 34
+
+abbrev pub spoken_status : Option Spoken → ℕ
+spoken_status None = 16
+spoken_status (Some spoken.Kept) = 0
+spoken_status (Some spoken.Dropped) = 32
+spoken_status (Some spoken.Stopped) = 33
+spoken_status (Some spoken.Worn) = 34
+spoken_status (Some spoken.Void) = 35
+
+abbrev pub opening_status : Opening → ℕ
+opening_status (opening.Id id) = 0
+opening_status opening.Stopped = 33
+opening_status opening.Worn = 34
+opening_status opening.Unavailable = 36
+opening_status opening.Busy = 37
+
+-- the number that goes out, where one is given; else what was there stays
+abbrev pub opened_number : Opening → ℕ → ℕ
+opened_number (opening.Id id) was = id_number id
+opened_number a was = was
+
+abbrev pub decided_status : Decided → ℕ
+decided_status (decided.Copied n) = 0
+decided_status (decided.Thrown n) = 0
+decided_status decided.Stopped = 33
+decided_status decided.Worn = 34
+decided_status decided.Void = 35
+decided_status (decided.Lost n) = 38
+
+abbrev pub decided_number : Decided → ℕ → ℕ
+decided_number (decided.Copied n) was = n
+decided_number (decided.Lost n) was = n
+decided_number (decided.Thrown n) was = n
+decided_number a was = was

@@ -1,0 +1,93 @@
+use dspec_cpu::Shared;
+use dspec_ring::Batch;
+use dspec_session::Consumer;
+use rtrb::Protocol;
+use std::alloc::Global;
+use std::marker::Model;
+use std::sync::Arc;
+
+/// The consumer, with what it shares.
+#[derive(Drop)]
+pub struct ConsumerHoming {
+    shared: Arc<Shared, Global>,
+    consumer: Consumer,
+}
+
+impl Model for ConsumerHoming {
+    ghost use Rattle.std.specs.Arc.{arc_value};
+    ghost use Rattle.dspec_cpu.specs.Lists.{words_of};
+    ghost use Rattle.dspec_session.specs.Consumers.{IsConsumerOf};
+    ghost use Rattle.dspec_c.specs.ConsumerHomes.{Theirs};
+
+    ghost Value = { Theirs };
+
+    ghost view = { λ s. record { shared = arc_value s.shared; consumer = s.consumer } };
+
+    ghost invariant = { λ s. IsConsumerOf (words_of (arc_value s.shared)) s.consumer };
+}
+
+/// What comes through a ring is the same consumer of the same session as what came before.
+#[derive(Clone, Copy)]
+pub struct ConsumerRule;
+
+impl Protocol<ConsumerHoming> for ConsumerRule {
+    ghost use Rattle.dspec_c.specs.ConsumerHomes.{AreSameTheirs};
+
+    ghost allows = { AreSameTheirs };
+}
+
+impl ConsumerHoming {
+    ghost use Rattle.std.specs.Prelude.{◌≡◌};
+    ghost use Rattle.std.specs.Arc.{arc_value};
+    ghost use Rattle.dspec_cpu.specs.Lists.{words_of};
+    ghost use Rattle.dspec_session.specs.Consumers.{IsConsumerOf};
+    ghost use Rattle.dspec_c.specs.ConsumerHomes.{IsSameTheirs};
+
+    pub fn of(shared: Arc<Shared, Global>, consumer: Consumer) -> ConsumerHoming
+        requires { IsConsumerOf (words_of (arc_value shared)) consumer }
+        ensures { result ≡ record { shared = arc_value shared; consumer = consumer } }
+    {
+        ConsumerHoming { shared, consumer }
+    }
+
+    pub fn ask(&mut self, cpu: u32) -> bool
+        ensures same { IsSameTheirs self.old self.new }
+    {
+        self.consumer.ask(&self.shared, cpu)
+    }
+
+    pub fn clean(&mut self) -> u32
+        ensures same { IsSameTheirs self.old self.new }
+    {
+        self.consumer.clean(&self.shared)
+    }
+
+    pub fn stop(&mut self)
+        ensures same { IsSameTheirs self.old self.new }
+    {
+        self.consumer.stop(&self.shared);
+    }
+
+    pub fn take(&mut self, cpu: u32) -> Option<Batch>
+        ensures same { IsSameTheirs self.old self.new }
+    {
+        self.consumer.take(&self.shared, cpu)
+    }
+
+    pub fn give_back(&mut self, batch: Batch) -> Result<(), Batch>
+        ensures same { IsSameTheirs self.old self.new }
+    {
+        self.consumer.give_back(&self.shared, batch)
+    }
+
+    pub fn into_consumer(self) -> Consumer
+        ensures consumer { result ≡ self.consumer }
+        ensures theirs { IsConsumerOf (words_of self.shared) result }
+    {
+        let ConsumerHoming {
+            shared: _,
+            consumer,
+        } = self;
+        consumer
+    }
+}

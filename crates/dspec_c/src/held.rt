@@ -1,0 +1,22 @@
+use crate::consumer_side::ConsumerSide;
+use crate::ended::Ended;
+use crate::out_cpu::OutCpu;
+use crate::under_way::UnderWay;
+use dspec_record::Enablings;
+
+/// What a handle can hold.
+#[derive(Drop)]
+pub enum Held {
+    /// Nothing yet, or nothing any more.
+    Nothing,
+    /// A schema, which grows.
+    Schema(Enablings),
+    /// A session.
+    Session(UnderWay),
+    /// One CPU.
+    Cpu(OutCpu),
+    /// The consumer.
+    Consumer(ConsumerSide),
+    /// A session that has ended.
+    Closed(Ended),
+}

@@ -1,0 +1,67 @@
+ghost use Rattle.std.specs.Prelude.{◌≡◌, false};
+ghost use Rattle.dspec_c.specs.Handles.{is_full};
+
+use crate::handle::Handle;
+use crate::held::Held;
+use crate::statuses::{BAD_HANDLE, OK};
+use std::alloc::Global;
+
+fn is_cpu(held: &Held) -> bool {
+    matches!(held, Held::Cpu(_))
+}
+
+fn is_consumer(held: &Held) -> bool {
+    matches!(held, Held::Consumer(_))
+}
+
+fn send_home(held: Held) {
+    match held {
+        Held::Cpu(out) => out.go_home(),
+        Held::Consumer(side) => side.go_home(),
+        _ => {}
+    }
+}
+
+/// Gives a CPU back to its session.
+#[unsafe(no_mangle)]
+pub extern "C" fn dspec_cpu_home(alloc: Global, cpu: &mut Handle) -> u32
+    ensures empty { is_full cpu.old ≡ false → result ≡ 17 }
+    ensures refused { result ≡ 17 → is_full cpu.new ≡ is_full cpu.old }
+    ensures gone { result ≡ 0 → is_full cpu.new ≡ false }
+{
+    let Some(held) = cpu.take(alloc) else {
+        return BAD_HANDLE;
+    };
+    if !is_cpu(&held) {
+        cpu.put(held);
+        return BAD_HANDLE;
+    }
+    send_home(Box::into_inner(held));
+    OK
+}
+
+/// Gives the consumer back to its session.
+#[unsafe(no_mangle)]
+pub extern "C" fn dspec_consumer_home(alloc: Global, consumer: &mut Handle) -> u32
+    ensures empty { is_full consumer.old ≡ false → result ≡ 17 }
+    ensures refused { result ≡ 17 → is_full consumer.new ≡ is_full consumer.old }
+    ensures gone { result ≡ 0 → is_full consumer.new ≡ false }
+{
+    let Some(held) = consumer.take(alloc) else {
+        return BAD_HANDLE;
+    };
+    if !is_consumer(&held) {
+        consumer.put(held);
+        return BAD_HANDLE;
+    }
+    send_home(Box::into_inner(held));
+    OK
+}
+
+/// Lets go what the handle holds; an empty one stays empty.
+#[unsafe(no_mangle)]
+pub extern "C" fn dspec_drop(alloc: Global, handle: &mut Handle)
+    ensures { is_full handle.new ≡ false }
+{
+    let _ = handle.take(alloc);
+}

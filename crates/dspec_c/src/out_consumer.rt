@@ -1,0 +1,78 @@
+use crate::consumer_homing::{ConsumerHoming, ConsumerRule};
+use dspec_ring::Batch;
+use rtrb::Producer;
+use std::alloc::Global;
+use std::marker::Model;
+
+/// The consumer that was handed out, with its way home, on which there is room for it.
+#[derive(Drop)]
+pub struct OutConsumer {
+    way: Producer<ConsumerHoming, Global, ConsumerRule>,
+    homing: ConsumerHoming,
+}
+
+impl Model for OutConsumer {
+    ghost use Rattle.std.specs.Prelude.{◌<◌};
+    ghost use Rattle.rtrb.specs.Ring.{known_free, sent};
+    ghost use Rattle.dspec_c.specs.ConsumerHomes.{IsOutTheirs, Theirs};
+
+    ghost Value = { Theirs };
+
+    ghost view = { λ s. s.homing };
+
+    ghost invariant = { λ s. IsOutTheirs (sent s.way) s.homing × (0 < known_free s.way) };
+}
+
+impl OutConsumer {
+    ghost use Rattle.std.specs.Prelude.{◌≡◌, ◌<◌};
+    ghost use Rattle.rtrb.specs.Ring.{known_free, sent};
+    ghost use Rattle.dspec_c.specs.ConsumerHomes.{IsOutTheirs, IsSameTheirs};
+
+    pub fn of(
+        way: Producer<ConsumerHoming, Global, ConsumerRule>,
+        homing: ConsumerHoming,
+    ) -> OutConsumer
+        requires out { IsOutTheirs (sent way) homing }
+        requires room { 0 < known_free way }
+        ensures { result ≡ homing }
+    {
+        OutConsumer { way, homing }
+    }
+
+    pub fn ask(&mut self, cpu: u32) -> bool
+        ensures same { IsSameTheirs self.old self.new }
+    {
+        self.homing.ask(cpu)
+    }
+
+    pub fn clean(&mut self) -> u32
+        ensures same { IsSameTheirs self.old self.new }
+    {
+        self.homing.clean()
+    }
+
+    pub fn stop(&mut self)
+        ensures same { IsSameTheirs self.old self.new }
+    {
+        self.homing.stop()
+    }
+
+    pub fn take(&mut self, cpu: u32) -> Option<Batch>
+        ensures same { IsSameTheirs self.old self.new }
+    {
+        self.homing.take(cpu)
+    }
+
+    pub fn give_back(&mut self, batch: Batch) -> Result<(), Batch>
+        ensures same { IsSameTheirs self.old self.new }
+    {
+        self.homing.give_back(batch)
+    }
+
+    /// Sends the consumer home.
+    pub fn go_home(self) {
+        let OutConsumer { way, homing } = self;
+        let mut way = way;
+        way.push_reserved(homing);
+    }
+}

@@ -1,0 +1,88 @@
+use crate::homing::{HomeRule, Homing};
+use dspec_deeds::{Decided, Opening, Report, Served, Spoken, Traced};
+use dspec_word::SpecId;
+use rtrb::Producer;
+use std::alloc::Global;
+use std::marker::Model;
+
+/// A CPU that was handed out, with its way home, on which there is room for it.
+#[derive(Drop)]
+pub struct OutCpu {
+    way: Producer<Homing, Global, HomeRule>,
+    homing: Homing,
+}
+
+impl Model for OutCpu {
+    ghost use Rattle.std.specs.Prelude.{◌<◌};
+    ghost use Rattle.rtrb.specs.Ring.{known_free, sent};
+    ghost use Rattle.dspec_c.specs.Homes.{IsOut, Side};
+
+    ghost Value = { Side };
+
+    ghost view = { λ s. s.homing };
+
+    ghost invariant = { λ s. IsOut (sent s.way) s.homing × (0 < known_free s.way) };
+}
+
+impl OutCpu {
+    ghost use Rattle.std.specs.Prelude.{◌≡◌, ◌<◌};
+    ghost use Rattle.rtrb.specs.Ring.{known_free, sent};
+    ghost use Rattle.dspec_c.specs.Homes.{IsOut, IsSameSide};
+
+    pub fn of(way: Producer<Homing, Global, HomeRule>, homing: Homing) -> OutCpu
+        requires out { IsOut (sent way) homing }
+        requires room { 0 < known_free way }
+        ensures { result ≡ homing }
+    {
+        OutCpu { way, homing }
+    }
+
+    /// None: it isn't a record of the schema.
+    pub fn trace(&mut self, epid: u32, stamp: u64, values: &[u64]) -> Option<Traced>
+        ensures same { IsSameSide self.old self.new }
+    {
+        self.homing.trace(epid, stamp, values)
+    }
+
+    pub fn service(&mut self) -> Served
+        ensures same { IsSameSide self.old self.new }
+    {
+        self.homing.service()
+    }
+
+    /// None: it isn't a record of the schema.
+    pub fn offer(&mut self, id: SpecId, epid: u32, stamp: u64, values: &[u64]) -> Option<Spoken>
+        ensures same { IsSameSide self.old self.new }
+    {
+        self.homing.offer(id, epid, stamp, values)
+    }
+
+    pub fn speculation(&mut self) -> Opening
+        ensures same { IsSameSide self.old self.new }
+    {
+        self.homing.speculation()
+    }
+
+    pub fn commit(&mut self, id: SpecId) -> Decided
+        ensures same { IsSameSide self.old self.new }
+    {
+        self.homing.commit(id)
+    }
+
+    pub fn discard(&mut self, id: SpecId) -> Decided
+        ensures same { IsSameSide self.old self.new }
+    {
+        self.homing.discard(id)
+    }
+
+    pub fn report(&self) -> Report {
+        self.homing.report()
+    }
+
+    /// Sends the CPU home.
+    pub fn go_home(self) {
+        let OutCpu { way, homing } = self;
+        let mut way = way;
+        way.push_reserved(homing);
+    }
+}

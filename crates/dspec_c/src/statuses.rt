@@ -1,0 +1,129 @@
+//! What every call answers, as a number; `dspec.h` has their names.
+
+ghost use Rattle.std.specs.Prelude.{◌≡◌};
+ghost use Rattle.dspec_c.specs.Statuses.{decided_number, decided_status, opened_number, opening_status, spoken_status, start_status, traced_status};
+
+use dspec_deeds::{Decided, Opening, Spoken, StartFault, Traced};
+
+pub const OK: u32 = 0;
+
+pub const NO_MEMORY: u32 = 7;
+
+pub const BAD_POLICY: u32 = 8;
+
+pub const BAD_WIDTH: u32 = 9;
+
+pub const TOO_MANY_FIELDS: u32 = 10;
+
+pub const TOO_MANY_ENABLINGS: u32 = 11;
+
+pub const BAD_RECORD: u32 = 16;
+
+pub const BAD_HANDLE: u32 = 17;
+
+pub const FULL_HANDLE: u32 = 18;
+
+pub const NO_SUCH_CPU: u32 = 19;
+
+pub const NOT_HOME: u32 = 20;
+
+pub const NO_BATCH: u32 = 21;
+
+pub const OUT: u32 = 22;
+
+pub const DROPPED: u32 = 32;
+
+pub const STOPPED: u32 = 33;
+
+pub const WORN: u32 = 34;
+
+pub const VOID: u32 = 35;
+
+pub const UNAVAILABLE: u32 = 36;
+
+pub const BUSY: u32 = 37;
+
+pub const LOST: u32 = 38;
+
+/// Why a session didn't start.
+pub fn of_start(fault: StartFault) -> u32
+    ensures { result ≡ start_status fault }
+{
+    match fault {
+        StartFault::Cpus => 1,
+        StartFault::Specs => 2,
+        StartFault::BufSize => 3,
+        StartFault::SpecSize => 4,
+        StartFault::Issues => 5,
+        StartFault::Calls => 6,
+        StartFault::Memory => NO_MEMORY,
+    }
+}
+
+/// What a trace answered; None: it wasn't a record of the schema.
+pub fn of_traced(answer: Option<Traced>) -> u32
+    ensures { result ≡ traced_status answer }
+{
+    match answer {
+        Some(Traced::Kept) => OK,
+        Some(Traced::Dropped) => DROPPED,
+        Some(Traced::Stopped) => STOPPED,
+        Some(Traced::Worn) => WORN,
+        None => BAD_RECORD,
+    }
+}
+
+/// What a record offered to a speculation was answered; None: it wasn't a record of the schema.
+pub fn of_spoken(answer: Option<Spoken>) -> u32
+    ensures { result ≡ spoken_status answer }
+{
+    match answer {
+        Some(Spoken::Kept) => OK,
+        Some(Spoken::Dropped) => DROPPED,
+        Some(Spoken::Void) => VOID,
+        Some(Spoken::Stopped) => STOPPED,
+        Some(Spoken::Worn) => WORN,
+        None => BAD_RECORD,
+    }
+}
+
+/// What an opening answered, whose identifier goes out where there is one.
+pub fn of_opening(answer: Opening, id: &mut u64) -> u32
+    ensures status { result ≡ opening_status answer }
+    ensures id { id.new ≡ opened_number answer id.old }
+{
+    match answer {
+        Opening::Id(opened) => {
+            *id = opened.raw();
+            OK
+        }
+        Opening::Unavailable => UNAVAILABLE,
+        Opening::Busy => BUSY,
+        Opening::Stopped => STOPPED,
+        Opening::Worn => WORN,
+    }
+}
+
+/// What a commit or a discard answered, whose number of records goes out where there is one.
+pub fn of_decided(answer: Decided, count: &mut u32) -> u32
+    ensures status { result ≡ decided_status answer }
+    ensures count { count.new ≡ decided_number answer count.old }
+{
+    match answer {
+        Decided::Copied(n) => {
+            *count = n;
+            OK
+        }
+        Decided::Lost(n) => {
+            *count = n;
+            LOST
+        }
+        Decided::Thrown(n) => {
+            *count = n;
+            OK
+        }
+        Decided::Void => VOID,
+        Decided::Stopped => STOPPED,
+        Decided::Worn => WORN,
+    }
+}

@@ -1,0 +1,160 @@
+use crate::close::close;
+use crate::consumer_homing::ConsumerHoming;
+use crate::consumer_place::ConsumerPlace;
+use crate::ended::Ended;
+use crate::gather::{all_home, send_home, take_out, waits};
+use crate::out_consumer::OutConsumer;
+use crate::out_cpu::OutCpu;
+use crate::place::Place;
+use crate::places::places;
+use dspec_cpu::{Cpu, Shared};
+use dspec_deeds::{Config, StartFault};
+use dspec_record::Enablings;
+use dspec_session::{Consumer, Session};
+use std::alloc::{AllocError, Global};
+use std::marker::Model;
+use std::sync::Arc;
+
+/// A session between its start and its end: where its parts come home, and those that weren't handed out yet.
+#[derive(Drop)]
+pub struct UnderWay {
+    common: Arc<Shared, Global>,
+    cpus: u32,
+    places: Vec<Place>,
+    place: ConsumerPlace,
+    /// Empty, with room for all CPUs.
+    room: Vec<Cpu<Enablings>>,
+    outs: Vec<Option<OutCpu>>,
+    out: Option<OutConsumer>,
+}
+
+impl Model for UnderWay {
+    ghost use Rattle.std.specs.Prelude.{◌≡◌, length};
+    ghost use Rattle.std.specs.Arc.{arc_value};
+    ghost use Rattle.dspec_c.specs.Whole.{IsWhole};
+
+    ghost Value = { Unit {0} };
+
+    ghost view = { λ _. tt };
+
+    ghost invariant = { λ s. IsWhole (arc_value s.common) s.cpus s.places.items s.place × (length s.room.items ≡ 0) };
+}
+
+impl UnderWay {
+    ghost use Rattle.std.specs.Arc.{arc_value};
+    ghost use Rattle.dspec_c.specs.Whole.{AllCalled, IsStarted};
+
+    fn of(
+        alloc: Global,
+        common: Arc<Shared, Global>,
+        cpus: Vec<Cpu<Enablings>>,
+        consumer: Consumer,
+        count: u32,
+    ) -> Result<UnderWay, AllocError>
+        requires called { AllCalled (arc_value common) cpus.items }
+        requires started { IsStarted (arc_value common) count cpus.items consumer }
+    {
+        let room = Vec::with_capacity(alloc, cpus.len())?;
+        let (places, outs) = places(alloc, &common, cpus)?;
+        let shared = Arc::try_clone(&common)?;
+        let (place, out) = ConsumerPlace::make(alloc, ConsumerHoming::of(shared, consumer))?;
+        Ok(UnderWay {
+            common,
+            cpus: count,
+            places,
+            place,
+            room,
+            outs,
+            out: Some(out),
+        })
+    }
+
+    /// A session that has started. All its CPUs and its consumer wait to be handed out.
+    pub fn start(
+        alloc: Global,
+        config: &Config,
+        schema: Enablings,
+    ) -> Result<UnderWay, StartFault> {
+        let session = Session::start(alloc, config, schema)?;
+        let Session {
+            shared,
+            cpus,
+            consumer,
+        } = session;
+        let Ok(common) = Arc::new(alloc, shared) else {
+            return Err(StartFault::Memory);
+        };
+        let Ok(whole) = UnderWay::of(alloc, common, cpus, consumer, config.cpus) else {
+            return Err(StartFault::Memory);
+        };
+        Ok(whole)
+    }
+
+    /// How many CPUs it has.
+    pub fn count(&self) -> u32 {
+        self.cpus
+    }
+
+    /// Whether there is such a CPU.
+    pub fn has_cpu(&self, cpu: u32) -> bool {
+        (cpu as usize) < self.outs.len()
+    }
+
+    /// Whether such a CPU waits to be handed out.
+    pub fn has_cpu_in(&self, cpu: u32) -> bool {
+        waits(&self.outs, cpu as usize)
+    }
+
+    /// The CPU, where it wasn't handed out yet.
+    pub fn cpu(&mut self, cpu: u32) -> Option<OutCpu> {
+        take_out(&mut self.outs, cpu as usize)
+    }
+
+    /// Whether the consumer waits to be handed out.
+    pub fn has_consumer_in(&self) -> bool {
+        self.out.is_some()
+    }
+
+    /// The consumer, where it wasn't handed out yet.
+    pub fn consumer(&mut self) -> Option<OutConsumer> {
+        self.out.take()
+    }
+
+    /// Whether the consumer and all CPUs are home, or were never handed out.
+    pub fn is_home(&mut self) -> bool {
+        let theirs = self.place.is_in(&self.out);
+        let ours = all_home(&mut self.places, &self.outs);
+        theirs && ours
+    }
+
+    /// Ends it. None, and it is gone: a CPU or the consumer isn't home. `is_home` has looked.
+    pub fn finish(self) -> Option<Ended> {
+        let UnderWay {
+            common,
+            cpus,
+            places,
+            place,
+            room,
+            outs,
+            out,
+        } = self;
+        send_home(outs);
+        send_consumer_home(out);
+        let mut place = place;
+        place.is_home();
+        let Some(homing) = place.into_home() else {
+            return None;
+        };
+        let consumer = homing.into_consumer();
+        let Some(closed) = close(common, places, room, consumer) else {
+            return None;
+        };
+        Some(Ended { closed, cpus })
+    }
+}
+
+fn send_consumer_home(out: Option<OutConsumer>) {
+    if let Some(consumer) = out {
+        consumer.go_home();
+    }
+}

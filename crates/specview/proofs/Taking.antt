@@ -1,0 +1,52 @@
+-- How many batches the consumer took, and why there is no picture.
+use Rattle.std.proofs.Common.{◌≡◌, ◌↔◌, ◌≤◌, ℕ, suc, ◌+◌, ◌<◌, if◌then◌else◌, List, [], ◌∷◌, ◌++◌, length, map, drop, get_or, refl, sym, ap, ◌∙◌, add-one, drop-cons, arith}
+use Rattle.std.proofs.lemmas.List.{map-append}
+use Rattle.dspec_deeds.specs.Closes.{numbers_below}
+use Rattle.dspec_play.specs.Plays.{EndedCall}
+use Rattle.dspec_play.specs.declared.outcome.Outcome.{Outcome}
+use Rattle.dspec_schedule.specs.Reading.{Plan}
+use Rattle.dspec_schedule.specs.declared.fault.ScheduleFault.{ScheduleFault}
+use Rattle.dspec_schedule.specs.declared.fault.ScheduleFault.TheVariants as schedule
+use Rattle.dspec_player.specs.PlayedTexts.{IsPlayedText, IsTextFault}
+use Rattle.specview.specs.declared.ending.RunFault.{RunFault}
+use Rattle.specview.specs.declared.ending.RunFault.TheVariants.{View, TooManyDeeds}
+use Rattle.specview.specs.declared.fault.ViewFault.TheVariants.{Line, NoStamp, NoFrequency, NoEvent, TooMuch, Memory, Read, Write, TooLong, NotEmpty, Usage}
+use Rattle.specview.specs.Faults.{view_of_schedule}
+use Rattle.specview.specs.Pictures.{IsPictureFault, IsPlayPictureFault, taken_batches, took_of}
+
+-- what isn't refused has few deeds
+pub few_enough : (n : ℕ) (X : Type 0) → (X ↔ (2000 < n)) → (X → ⊥) → n ≤ 2000
+few_enough n X many never = let few : 2000 < n → ⊥ = λ lt. never (many.1 lt) in omega arith
+
+-- one CPU more
+pub one_more_counted : (f : ℕ → ℕ) (n : ℕ) → map f (numbers_below (n + 1)) ≡ map f (numbers_below n) ++ f n ∷ []
+one_more_counted f n = rw add-one (map-append f (numbers_below n) (n ∷ []))
+
+-- one call less is left
+pub one_less_left : (c : ℕ) (es : List EndedCall) (i : ℕ) (e : EndedCall) → i < length es → e ≡ get_or es i e
+    → taken_batches c (drop i es) ≡ (if took_of c e.1 e.2 then 1 else 0) + taken_batches c (drop (i + 1) es)
+one_less_left c es i e lt is =
+    let cons : drop i es ≡ e ∷ drop (suc i) es = drop-cons es i e lt ∙ ap (λ (x : EndedCall). x ∷ drop (suc i) es) (sym is) in
+    let next : drop (suc i) es ≡ drop (i + 1) es = ap (λ m. drop m es) (sym (add-one i)) in
+    ap (taken_batches c) cons ∙ ap (λ (l : List EndedCall). (if took_of c e.1 e.2 then 1 else 0) + taken_batches c l) next
+
+-- what the player tells of a text
+pub text_fault : (text : List ℕ) (f : ScheduleFault) → IsTextFault text f → IsPictureFault text (View (view_of_schedule f))
+text_fault text (schedule.Line line kind) why = why
+text_fault text schedule.Memory why = tt
+
+-- and what is told of its play
+pub play_fault_told : (text : List ℕ) (p : Plan) (outcome : Outcome) (fault : RunFault) → IsPlayedText text p outcome
+    → IsPlayPictureFault (length outcome.close.deeds) fault → IsPictureFault text fault
+play_fault_told text p outcome TooManyDeeds played why = record { plan = p; outcome = outcome; played = played; many = why }
+play_fault_told text p outcome (View (Line line kind)) played why = absurd why
+play_fault_told text p outcome (View NoStamp) played why = absurd why
+play_fault_told text p outcome (View (NoEvent epid)) played why = absurd why
+play_fault_told text p outcome (View TooMuch) played why = absurd why
+play_fault_told text p outcome (View Memory) played why = tt
+play_fault_told text p outcome (View Read) played why = absurd why
+play_fault_told text p outcome (View Write) played why = absurd why
+play_fault_told text p outcome (View TooLong) played why = absurd why
+play_fault_told text p outcome (View NotEmpty) played why = absurd why
+play_fault_told text p outcome (View NoFrequency) played why = absurd why
+play_fault_told text p outcome (View Usage) played why = absurd why

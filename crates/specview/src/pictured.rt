@@ -1,0 +1,87 @@
+//! The picture of a play, as text.
+
+ghost use Rattle.std.specs.Prelude.{◌≡◌, IfErr, IfOk, length, string_bytes};
+ghost use Rattle.dspec_schedule.specs.Schedules.{plan_of};
+ghost use Rattle.specview.specs.Pictures.{IsPictureFault, IsPictureOf, IsPlayPicture, IsPlayPictureFault, batches_taken, taken_batches, took_of};
+
+use crate::ending::RunFault;
+use crate::fault::ViewFault;
+use dspec_core::{Actor, Answer, ConsumerOp, Op, Outcome};
+use dspec_picture::{PictureFault, picture};
+use dspec_player::play_text;
+use dspec_schedule::Schedule;
+use std::alloc::{AllocError, Global};
+
+/// Whether the call took a batch of the CPU.
+fn took_of(cpu: u32, op: Op, answer: Answer) -> bool
+    ensures { result ≡ took_of cpu op answer }
+{
+    let Op::Consumer(ConsumerOp::Take(from)) = op else {
+        return false;
+    };
+    match answer {
+        Answer::Took { .. } => cpu == from,
+        _ => false,
+    }
+}
+
+/// How many batches of the CPU the consumer took.
+#[tactic(auto, using(crate::proofs::Taking::one_less_left))]
+fn taken_batches(cpu: u32, answers: &[(Actor, Op, Answer)]) -> u64
+    ensures { result ≡ taken_batches cpu answers.now }
+{
+    let mut taken = 0;
+    for ended in answers {
+        let (_, op, answer) = *ended;
+        taken += u64::from(took_of(cpu, op, answer));
+    }
+    taken
+}
+
+/// How many batches of each CPU the consumer took.
+#[tactic(auto, using(crate::proofs::Taking::one_more_counted))]
+fn batches_taken(
+    alloc: Global,
+    cpus: u32,
+    answers: &[(Actor, Op, Answer)],
+) -> Result<Vec<u64>, AllocError>
+    ensures { IfOk result (λ taken. taken.items ≡ batches_taken cpus answers.now) }
+{
+    let mut taken = Vec::new(alloc);
+    for cpu in 0..cpus {
+        taken.push(taken_batches(cpu, answers))?;
+    }
+    Ok(taken)
+}
+
+/// The picture of a play.
+fn picture_of_play(
+    alloc: Global,
+    schedule: &Schedule,
+    outcome: &Outcome,
+) -> Result<String, RunFault>
+    ensures picture { IfOk result (λ svg. IsPlayPicture (plan_of schedule.now) outcome.now (string_bytes svg)) }
+    ensures fault { IfErr result (IsPlayPictureFault (length outcome.now.close.deeds)) }
+{
+    let batches = batches_taken(alloc, schedule.config.cpus, outcome.answers.as_slice())?;
+    let deeds = outcome.close.deeds.as_slice();
+    let header = schedule.header();
+    match picture(alloc, &schedule.config, header, batches.as_slice(), deeds) {
+        Ok(svg) => Ok(svg),
+        Err(PictureFault::TooManyDeeds) => Err(RunFault::TooManyDeeds),
+        Err(PictureFault::Memory) => Err(RunFault::View(ViewFault::Memory)),
+    }
+}
+
+/// Plays the schedule of a text, and gives the picture of its play.
+#[tactic(auto, using(crate::proofs::Taking::text_fault, crate::proofs::Taking::play_fault_told))]
+pub fn picture_of(alloc: Global, text: &[u8]) -> Result<String, RunFault>
+    ensures picture { IfOk result (λ svg. IsPictureOf text.now (string_bytes svg)) }
+    ensures fault { IfErr result (IsPictureFault text.now) }
+{
+    let played = match play_text(alloc, text) {
+        Ok(played) => played,
+        Err(fault) => return Err(RunFault::View(ViewFault::from(fault))),
+    };
+    picture_of_play(alloc, &played.schedule, &played.outcome)
+}

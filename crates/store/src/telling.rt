@@ -1,0 +1,63 @@
+use crate::probes::{ABORTED, BEGIN, END, PROBES};
+use anyhow::Result;
+use dspec::{Rec, Report};
+
+/// A value of a record; 0 where there is none.
+fn value(rec: &Rec, place: usize) -> u64 {
+    *rec.values().get(place).unwrap_or(&0)
+}
+
+/// Prints a step of a transfer that began at that stamp.
+fn tell_step<R: Print>(rt: &R, began: u64, rec: &Rec) -> Result<()> {
+    let micros = rec.stamp().saturating_sub(began);
+    if rec.epid() == END {
+        let outcome = if value(rec, 1) == ABORTED {
+            "aborted"
+        } else {
+            "slow"
+        };
+        println!(rt; " {outcome} after {micros} us")?;
+        return Ok(());
+    }
+    let Some(event) = PROBES.get((rec.epid() as usize).wrapping_sub(1)) else {
+        return Ok(());
+    };
+    let account = value(rec, 1);
+    match rec.values().get(2) {
+        Some(balance) => print!(rt; " {event} {account}: {balance},")?,
+        None => print!(rt; " {event} {account},")?,
+    }
+    Ok(())
+}
+
+/// Prints the path of the transfer that begins with this record.
+fn tell_path<R: Print>(rt: &R, records: &[Rec], begin: &Rec) -> Result<()> {
+    let (number, worker) = (value(begin, 0), value(begin, 1));
+    print!(rt;
+        "{} us: transfer {number} of worker {worker}:",
+        begin.stamp()
+    )?;
+    for rec in records {
+        if rec.epid() != BEGIN && value(rec, 0) == number {
+            tell_step(rt, begin.stamp(), rec)?;
+        }
+    }
+    Ok(())
+}
+
+/// Prints all paths in the order in which they began. The records are in order of time.
+pub fn tell_paths<R: Print>(rt: &R, records: &[Rec]) -> Result<()> {
+    for rec in records {
+        if rec.epid() == BEGIN {
+            tell_path(rt, records, rec)?;
+        }
+    }
+    Ok(())
+}
+
+/// Prints what a worker's CPU reports.
+pub fn tell_report<R: Print>(rt: &R, worker: u32, report: &Report) -> Result<()> {
+    let (offered, accepted, discarded) = (report.offered, report.accepted, report.discarded);
+    println!(rt; "cpu {worker} offered {offered} accepted {accepted} discarded {discarded}")?;
+    Ok(())
+}
