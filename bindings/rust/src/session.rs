@@ -93,10 +93,8 @@ impl Session {
         // SAFETY: as above.
         match unsafe { raw::dspec_finish(self.handle.at(), closed.at()) } {
             raw::OK => Ok(Closed::of(closed, self.layouts, self.cpus)),
-            status => {
-                assert_eq!(status, raw::NOT_HOME, "libdspec is of another version than this package");
-                Err(NotHome { session: self })
-            }
+            raw::NOT_HOME => Err(NotHome { session: self }),
+            status => panic!("libdspec lost the session, or is of another version than this package: status {status}"),
         }
     }
 }

@@ -8,6 +8,7 @@
 //! - `bench cpu WAY RECORD SIZE NUMBER` takes one way through a CPU by so many records, in small or in large buffers.
 //! - `bench loads NUMBER` makes so many loads of activity, and prints how many showed that the session runs; `bench loads times` times
 //!   them, alone and beside another thread's exchanges on a slot's word.
+//! - `bench together CPUS NUMBER` has so many CPUs at once make so many speculations of twenty records each, and prints what a record took.
 //!
 //! A tool that counts instructions runs a way twice: the difference of both counts is what the further records cost. Nothing is
 //! promised of times.
@@ -16,6 +17,7 @@
 mod cpu;
 mod loads;
 mod push;
+mod together;
 
 use std::process::ExitCode;
 use std::sync::Wait;
@@ -26,14 +28,19 @@ use std::{env, io};
 const USAGE_STATUS: u8 = 2;
 
 /// Takes every way once, and prints what came of it.
-fn check_all<R: Threads + Wait>(threads: &R, rt: &HostRuntime) -> io::Result<()> {
+fn check_all<R: Threads + Wait + Sync>(threads: &R, rt: &HostRuntime) -> io::Result<()> {
     push::check_all(rt)?;
     cpu::check_all(rt)?;
-    loads::check(threads, rt)
+    loads::check(threads, rt)?;
+    together::check(threads, rt)
 }
 
 /// What the words behind the program's name ask for, if it's something that the program does.
-fn run<R: Threads + Wait>(threads: &R, rt: &HostRuntime, words: &[String]) -> io::Result<bool> {
+fn run<R: Threads + Wait + Sync>(
+    threads: &R,
+    rt: &HostRuntime,
+    words: &[String],
+) -> io::Result<bool> {
     let Some((first, rest)) = words.split_first() else {
         check_all(threads, rt)?;
         return Ok(true);
@@ -42,6 +49,7 @@ fn run<R: Threads + Wait>(threads: &R, rt: &HostRuntime, words: &[String]) -> io
         "push" => push::run(rt, rest),
         "cpu" => cpu::run(rt, rest),
         "loads" => loads::run(threads, rt, rest),
+        "together" => together::run(threads, rt, rest),
         _ => Ok(false),
     }
 }
@@ -55,7 +63,7 @@ fn main(rt: HostRuntime) -> io::Result<ExitCode> {
         return Ok(ExitCode::SUCCESS);
     }
     eprintln!(rt;
-        "bench: usage: bench [push times ROUNDS | push count WAY RECORD NUMBER | cpu WAY RECORD SIZE NUMBER | loads NUMBER | loads times]"
+        "bench: usage: bench [push times ROUNDS | push count WAY RECORD NUMBER | cpu WAY RECORD SIZE NUMBER | loads NUMBER | loads times | together CPUS NUMBER]"
     )?;
     Ok(ExitCode::from(USAGE_STATUS))
 }

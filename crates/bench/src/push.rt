@@ -6,6 +6,7 @@ mod setup;
 mod timing;
 mod way;
 
+pub use asking::number_of;
 use asking::{Ask, MOST_RECORDS, ask_of};
 pub use checking::check_all;
 use dspec_samples::Subject;

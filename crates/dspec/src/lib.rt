@@ -9,7 +9,6 @@
 mod both;
 mod calling;
 mod closing;
-mod configuring;
 mod kept;
 mod lane;
 mod path;
@@ -18,8 +17,7 @@ mod work;
 
 pub use both::Both;
 pub use closing::{ClosedCpu, closed_cpu};
-pub use configuring::config_of;
-pub use dspec_buffer::{ReadFault, Records, read_all};
+pub use dspec_buffer::{ReadFault, Reading, Records, read_all, read_prefix};
 pub use dspec_cpu::{Cpu, Shared};
 pub use dspec_deeds::{
     Config, Decided, Opening, Policy, Report, Served, Spoken, StartFault, Traced,

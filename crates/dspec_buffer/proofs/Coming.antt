@@ -1,24 +1,20 @@
 -- How far a reader has come: the bytes behind it are the text of the records that it has read.
-use Rattle.std.proofs.Common.{◌≡◌, ◌+◌, ◌≤◌, ◌++◌, ℕ, Bool, Option, List, [], ◌∷◌, length, take, drop, refl, sym, ap, subst, ◌∙◌, arith, length-append, append_assoc}
+use Rattle.std.proofs.Common.{◌≡◌, ◌+◌, ◌++◌, ℕ, Bool, Option, List, [], ◌∷◌, length, take, drop, refl, sym, ap, subst, ◌∙◌, arith, length-append, append_assoc}
 use Rattle.std.proofs.lemmas.List.{append-nil, take-append-drop, length-take-le, take_at, take_all}
 use Rattle.dspec_record.specs.Record.{Record}
 use Rattle.dspec_record.specs.declared.field.Shape.{Shape}
 use Rattle.dspec_buffer.specs.BufferText.{IsGap, BufferText}
-use Rattle.dspec_buffer.specs.Faults.{StopsAt}
-use Rattle.dspec_buffer.specs.ReadingOn.{NextIs, FaultIs}
+use Rattle.dspec_buffer.specs.Faults.{StopsAt, StopsBehind}
+use Rattle.dspec_buffer.specs.ReadingOn.{HasRead, NextIs, FaultIs}
 use Rattle.dspec_buffer.specs.declared.read_fault.ReadFault.{ReadFault}
 use Rattle.dspec_buffer.proofs.SchemaLaws.{SchemaLaws}
 use Rattle.dspec_buffer.proofs.Gluing.{glued}
 
--- a reader at a place has read some records, whose text ends there
-pub record HasRead (shape : ℕ → Option Shape) (accepted : Record → Bool) (text : Record → List ℕ) (bytes : List ℕ) (place : ℕ) : Type 0 where
-  pub within : place ≤ length bytes
-  pub read : List Record
-  pub is_text : BufferText shape accepted text 0 (take place bytes) read
-
 module _ (shape : ℕ → Option Shape) (accepted : Record → Bool) (text : Record → List ℕ) (laws : SchemaLaws shape accepted text) where
-  pub reads_one : (b : List ℕ) (o : ℕ) (r : Record) (next : ℕ) → HasRead shape accepted text b o → NextIs shape accepted text b o r next → HasRead shape accepted text b next
-  reads_one b o r next h n =
+  -- one record more stands up to the next place
+  pub text_with_one : (b : List ℕ) (o : ℕ) (r : Record) (next : ℕ) → (h : HasRead shape accepted text b o) → NextIs shape accepted text b o r next
+      → BufferText shape accepted text 0 (take next b) (h.read ++ r ∷ [])
+  text_with_one b o r next h n =
       let piece = n.gap ++ text r in
       let front : length (take o b) ≡ o = length-take-le o b h.within in
       let whole : b ≡ (take o b ++ piece) ++ drop next b =
@@ -30,11 +26,11 @@ module _ (shape : ℕ → Option Shape) (accepted : Record → Bool) (text : Rec
       (n.gap, ([], (record { is_accepted = n.stands.is_accepted; is_gap = n.stands.is_gap; aligned = n.stands.aligned; bytes_are = ap (λ z. n.gap ++ z) (sym (append-nil (text r))) }, refl))) in
       let at : o ≡ 0 + length (take o b) = omega arith in
       let all = glued shape accepted text laws 0 (take o b) piece h.read (r ∷ []) h.is_text (subst (λ m. BufferText shape accepted text m piece (r ∷ [])) at last) in
-      record {
-        within = n.within;
-        read = h.read ++ r ∷ [];
-        is_text = subst (λ z. BufferText shape accepted text 0 z (h.read ++ r ∷ [])) (sym bytes) all;
-      }
+      subst (λ z. BufferText shape accepted text 0 z (h.read ++ r ∷ [])) (sym bytes) all
+
+  pub reads_one : (b : List ℕ) (o : ℕ) (r : Record) (next : ℕ) → HasRead shape accepted text b o → NextIs shape accepted text b o r next → HasRead shape accepted text b next
+  reads_one b o r next h n =
+      record { within = n.within; read = h.read ++ r ∷ []; is_text = text_with_one b o r next h n }
 
   pub reads_all : (b : List ℕ) (o : ℕ) → (h : HasRead shape accepted text b o) → o ≡ length b → BufferText shape accepted text 0 b h.read
   reads_all b o h e =
@@ -54,3 +50,9 @@ module _ (shape : ℕ → Option Shape) (accepted : Record → Bool) (text : Rec
         place = f.place_is ∙ ap (λ m. m + length f.gap) (sym front);
         fault_here = f.fault_here;
       }
+
+  -- and what it has read are the whole records before the fault
+  pub stops_behind : (b : List ℕ) (o : ℕ) (fault : ReadFault) → (h : HasRead shape accepted text b o) → FaultIs shape accepted text b o fault
+      → StopsBehind shape accepted text b h.read fault
+  unfolding stops
+  stops_behind b o fault h f = (stops b o fault h f, refl)

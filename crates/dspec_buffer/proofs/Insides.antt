@@ -6,12 +6,12 @@ use Rattle.dspec_buffer.specs.declared.records.Records.TheInside.{Inside}
 use Rattle.dspec_buffer.specs.Remaining.{Remaining}
 use Rattle.dspec_buffer.specs.Laws.Remaining.{Remaining-prop}
 
-pub same_inside : {D : Type 0} {G : Ghosts D} (schema : D) (text : Bor (List ℕ)) (place : ℕ) (w w' : place ≤ length text.now)
-    (m m' : Remaining (G.shape_of schema) (G.accepted schema) (G.text schema) text.now place)
+pub same_inside : {D : Type 0} {G : Ghosts D} (schema : Bor D) (text : Bor (List ℕ)) (place : ℕ) (w w' : place ≤ length text.now)
+    (m m' : Remaining (G.shape_of schema.now) (G.accepted schema.now) (G.text schema.now) text.now place)
     → ◌≡◌ {A = Inside D G} (record { schema = schema; text = text; place = place; within = w; readable = m }) (record { schema = schema; text = text; place = place; within = w'; readable = m' })
 same_inside {D} {G} schema text place w w' m m' =
-    let both : ◌≡◌ {A = (place ≤ length text.now) × Remaining (G.shape_of schema) (G.accepted schema) (G.text schema) text.now place} (w, m) (w', m') =
-    ap (λ z. (z, m)) (le_prop w w') ∙ ap (λ z. (w', z)) (Remaining-prop (G.shape_of schema) (G.accepted schema) (G.text schema) text.now place m m') in
-    let F : ((place ≤ length text.now) × Remaining (G.shape_of schema) (G.accepted schema) (G.text schema) text.now place)
+    let both : ◌≡◌ {A = (place ≤ length text.now) × Remaining (G.shape_of schema.now) (G.accepted schema.now) (G.text schema.now) text.now place} (w, m) (w', m') =
+    ap (λ z. (z, m)) (le_prop w w') ∙ ap (λ z. (w', z)) (Remaining-prop (G.shape_of schema.now) (G.accepted schema.now) (G.text schema.now) text.now place m m') in
+    let F : ((place ≤ length text.now) × Remaining (G.shape_of schema.now) (G.accepted schema.now) (G.text schema.now) text.now place)
     → Inside D G = λ z. record { schema = schema; text = text; place = place; within = z.0; readable = z.1 } in
     ap F both

@@ -7,7 +7,7 @@ use Rattle.dspec_buffer.specs.BufferText.{BufferText}
 use Rattle.dspec_buffer.specs.Walking.{Steps}
 use Rattle.std.specs.Coded.{le_prop}
 use Rattle.dspec_buffer.specs.Stored.{HasAhead}
-use Rattle.dspec_buffer.specs.Remaining.{Remaining}
+use Rattle.dspec_buffer.specs.Remaining.{IsOneText, Remaining}
 use Rattle.dspec_buffer.specs.Laws.Remaining.{records_set, Remaining-prop}
 use Rattle.dspec_buffer.proofs.SchemaLaws.{SchemaLaws}
 use Rattle.dspec_buffer.proofs.OneReading.{one_reading}
@@ -17,8 +17,12 @@ module _ (shape : ℕ → Option Shape) (accepted : Record → Bool) (text : Rec
   remaining_of b o rs h = (rs, (∣ h ∣₁, λ qs k. one_reading shape accepted text laws o (drop o b) qs rs k.ahead h.ahead))
 
   -- the whole text is what is left at the start
+  pub one_text_at_start : (b : List ℕ) (rs : List Record) → BufferText shape accepted text 0 b rs → IsOneText shape accepted text b 0 rs
+  one_text_at_start b rs h =
+      (∣ record { within = omega arith; ahead = h } ∣₁, λ qs k. one_reading shape accepted text laws 0 b qs rs k.ahead h)
+
   pub remaining_at_start : (b : List ℕ) (rs : List Record) → BufferText shape accepted text 0 b rs → Remaining shape accepted text b 0
-  remaining_at_start b rs h = remaining_of b 0 rs (record { within = omega arith; ahead = h })
+  remaining_at_start b rs h = (rs, one_text_at_start b rs h)
 
   -- what a step says where the records ahead are known to be there
   abbrev pub StepsOn : List ℕ → ℕ → Option (Record × ℕ) → Type 0

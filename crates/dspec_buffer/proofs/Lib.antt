@@ -12,10 +12,12 @@ pub mod NoRecord
 pub mod Faulty
 pub mod Ahead
 pub mod Coming
+pub mod Ended
 pub mod Gaps
 pub mod Got
 pub mod Left
 pub mod Insides
+pub mod Taken
 pub mod Fitting
 pub mod Keeping
 pub mod Walks

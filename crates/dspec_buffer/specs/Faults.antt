@@ -36,3 +36,7 @@ module _ (shape : ℕ → Option Shape) (accepted : Record → Bool) (text : Rec
     pub is_gap : IsGap (length before) gap
     pub place : fault.at ≡ length before + length gap
     pub fault_here : FaultHere fault.kind fault.at left
+
+  -- the whole records before this fault are these
+  abbrev pub StopsBehind : List ℕ → List Record → ReadFault → Type 0
+  StopsBehind bytes records fault = (stop : StopsAt bytes fault) × (stop.read ≡ records)

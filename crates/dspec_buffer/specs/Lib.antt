@@ -8,5 +8,6 @@ pub mod ByteFields
 pub mod Listed
 pub mod ListFields
 pub mod Remaining
+pub mod Progress
 pub mod Upgrading
 pub mod Laws

@@ -1,10 +1,10 @@
--- One step of reading: past a padding word, and over one record.
-use Rattle.std.specs.Prelude.{◌≡◌, ◌≢◌, ◌<◌, ◌≤◌, ◌+◌, ◌%◌, ◌⊎◌, ℕ, Bool, IsTrue, List, ◌++◌, length, drop, Option, Some, None, Result, Ok, Err}
+-- One step of reading: past a padding word, and over one record; and how far a reader has come.
+use Rattle.std.specs.Prelude.{◌≡◌, ◌≢◌, ◌<◌, ◌≤◌, ◌+◌, ◌%◌, ◌⊎◌, ℕ, Bool, IsTrue, List, ◌++◌, length, take, drop, Option, Some, None, Result, Ok, Err}
 use Rattle.dspec_record.specs.Record.{Record}
 use Rattle.dspec_record.specs.Reading.{front_epid}
 use Rattle.dspec_record.specs.declared.field.Shape.{Shape}
 use Rattle.dspec_buffer.specs.Extent.{align_of}
-use Rattle.dspec_buffer.specs.BufferText.{IsGap, StandsNext}
+use Rattle.dspec_buffer.specs.BufferText.{IsGap, StandsNext, BufferText}
 use Rattle.dspec_buffer.specs.Faults.{FaultHere}
 use Rattle.dspec_buffer.specs.declared.read_fault.ReadFault.{ReadFault}
 
@@ -56,3 +56,14 @@ module _ (shape : ℕ → Option Shape) (accepted : Record → Bool) (text : Rec
   ReadsNext bytes place (Ok None) = place ≡ length bytes
   ReadsNext bytes place (Ok (Some (r, next))) = NextIs bytes place r next
   ReadsNext bytes place (Err fault) = FaultIs bytes place fault
+
+  -- a reader at a place has read some records, whose text ends there
+  pub record HasRead (bytes : List ℕ) (place : ℕ) : Type 0 where
+    pub within : place ≤ length bytes
+    pub read : List Record
+    pub is_text : BufferText shape accepted text 0 (take place bytes) read
+
+  -- it came to the end, or to this fault
+  abbrev pub EndsAt : List ℕ → ℕ → Option ReadFault → Type 0
+  EndsAt bytes place None = HasRead bytes place × (place ≡ length bytes)
+  EndsAt bytes place (Some fault) = HasRead bytes place × FaultIs bytes place fault

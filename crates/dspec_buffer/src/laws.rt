@@ -33,7 +33,7 @@ pub fn has_what_bytes_say<S: Schema>(_schema: &S, _buffer: &ByteBuffer)
 /// The records that were pushed, alone or in blocks, in their order: never a fault where the buffer has any pieces
 /// by this schema.
 pub fn read_back<'a, S: Schema>(
-    schema: &S,
+    schema: &'a S,
     buffer: &'a ByteBuffer,
 ) -> Result<Records<'a, S>, ReadFault>
     ensures pushed { (ps : List Piece) → ⟦<ByteBuffer as TraceBuffer<S>>⟧.has buffer.now schema.now ps

@@ -4,7 +4,7 @@
 //! multiple of eight, and either fits whole or changes nothing. What pieces a buffer has, how far they reach and
 //! which bytes they make stands in `specs/Extent.antt`; every buffer keeps the clauses and the law of the trait
 //! `TraceBuffer`. Which records some bytes are the text of stands in `specs/BufferText.antt`, which knows nothing
-//! of buffers; `read_all` reads exactly those, and names the fault of anything else (`specs/Faults.antt`). That no
+//! of buffers; `read_all` reads exactly those, and names the fault of anything else (`specs/Faults.antt`), `read_prefix` those before it. That no
 //! bytes are read in two ways, and that what was pushed is read back, are clauses of the functions in `laws`. The
 //! crate stands on `dspec_record`, and only the two `make` take memory.
 #![tactic(auto)]
@@ -12,8 +12,10 @@
 mod byte_buffer;
 pub mod laws;
 mod list_buffer;
+mod prefix;
 mod read_fault;
 mod reader;
+mod reading;
 mod records;
 mod reserving;
 mod trace_buffer;
@@ -21,8 +23,10 @@ pub mod upgrading;
 
 pub use byte_buffer::ByteBuffer;
 pub use list_buffer::ListBuffer;
+pub use prefix::read_prefix;
 pub use read_fault::ReadFault;
 pub use reader::read_all;
+pub use reading::Reading;
 pub use records::Records;
 pub use trace_buffer::TraceBuffer;
 pub use upgrading::{UpgradeFault, upgrade};

@@ -114,7 +114,7 @@ pub(crate) fn next_of_text<S: Schema>(schema: &S, text: &[u8], place: usize) -> 
 
 /// All records of a text, or its first fault. The whole text is checked first; the records are then read from it
 /// again one by one, in no memory of their own.
-pub fn read_all<'a, S: Schema>(schema: &S, text: &'a [u8]) -> Result<Records<'a, S>, ReadFault>
+pub fn read_all<'a, S: Schema>(schema: &'a S, text: &'a [u8]) -> Result<Records<'a, S>, ReadFault>
     ensures records { IfOk result
         (λ records. BufferText (S.shape_of schema.now) (S.accepted schema.now) (S.text schema.now) 0 text.now records) }
     ensures fault { IfErr result
@@ -127,7 +127,7 @@ pub fn read_all<'a, S: Schema>(schema: &S, text: &'a [u8]) -> Result<Records<'a,
         place = found.1;
     }
     Ok(Records {
-        schema: *schema,
+        schema,
         text,
         place: 0,
     })

@@ -7,14 +7,14 @@ use dspec_record::{Rec, Schema};
 use std::fmt;
 use std::marker::Model;
 
-/// The records of a text that `read_all` has read through, in order. It borrows the text and takes no memory.
+/// The records of a text that `read_all` has read through, in order. It borrows the schema and the text, and takes no memory.
 #[derive(Drop)]
 pub struct Records<'a, S: Schema> {
-    pub(crate) schema: S,
+    pub(crate) schema: &'a S,
     pub(crate) text: &'a [u8],
     pub(crate) place: usize,
     ghost within: { place ≤ length text.now },
-    ghost readable: { Remaining (S.shape_of schema) (S.accepted schema) (S.text schema) text.now place } by { Remaining-prop (S.shape_of schema) (S.accepted schema) (S.text schema) text.now place },
+    ghost readable: { Remaining (S.shape_of schema.now) (S.accepted schema.now) (S.text schema.now) text.now place } by { Remaining-prop (S.shape_of schema.now) (S.accepted schema.now) (S.text schema.now) text.now place },
 }
 
 impl<'a, S: Schema> Model for Records<'a, S> {
@@ -44,7 +44,7 @@ impl<'a, S: Schema> Iterator for Records<'a, S> {
     ghost remaining = { item_count (λ s. s) };
 
     fn next(&mut self) -> Option<Rec> {
-        let found = next_of_text(&self.schema, self.text, self.place)?;
+        let found = next_of_text(self.schema, self.text, self.place)?;
         self.place = found.1;
         Some(found.0)
     }

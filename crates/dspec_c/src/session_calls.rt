@@ -7,7 +7,7 @@ use crate::ended::Ended;
 use crate::handle::Handle;
 use crate::held::Held;
 use crate::statuses::{
-    BAD_HANDLE, BAD_POLICY, FULL_HANDLE, NO_MEMORY, NO_SUCH_CPU, NOT_HOME, OK, OUT, of_start,
+    BAD_HANDLE, BAD_POLICY, FULL_HANDLE, GONE, NO_MEMORY, NO_SUCH_CPU, NOT_HOME, OK, OUT, of_start,
 };
 use crate::under_way::UnderWay;
 use dspec_record::Enablings;
@@ -156,17 +156,11 @@ fn is_home(held: &mut Held) -> Result<(), u32> {
     }
 }
 
-fn closed_of(ended: Option<Ended>) -> Held {
-    match ended {
-        Some(ended) => Held::Closed(ended),
-        None => Held::Nothing,
-    }
-}
-
-fn end(held: Held) -> Held {
+// What is left of the session. None, and it is gone: a part wasn't home. `is_home` has looked, so this doesn't come; no proof says so.
+fn end(held: Held) -> Option<Ended> {
     match held {
-        Held::Session(whole) => closed_of(whole.finish()),
-        _ => Held::Nothing,
+        Held::Session(whole) => whole.finish(),
+        _ => None,
     }
 }
 
@@ -188,7 +182,11 @@ pub extern "C" fn dspec_finish(alloc: Global, session: &mut Handle, closed: &mut
         session.put(held);
         return why;
     }
-    *held = end(mem::replace(&mut *held, Held::Nothing));
+    let Some(ended) = end(mem::replace(&mut *held, Held::Nothing)) else {
+        session.put(held);
+        return GONE;
+    };
+    *held = Held::Closed(ended);
     closed.put(held);
     OK
 }

@@ -106,8 +106,8 @@ impl<S: Schema> CpuParts<S> {
         ensures settled { Settled (number_in self.old) (config_of self.old).nspec result (⟦<Cpu<S> as Listed>⟧.has_list self.old) (known (seat_of self.old)) (⟦<Cpu<S> as Listed>⟧.has_list self.new) (known (seat_of self.new)) }
     {
         let mut settled = 0;
-        for below in 0..self.config.nspec {
-            if self.settle_slot(words, below + 1) {
+        for slot in 1..self.config.nspec + 1 {
+            if self.settle_slot(words, slot) {
                 settled += 1;
             }
         }

@@ -38,7 +38,6 @@ impl<S: Schema> CpuParts<S> {
             self.side.counts.wear();
             return Traced::Worn;
         }
-        let shut = self.side.is_shut(&self.config);
         let fits = self.side.fits(&self.config, &self.schema, rec);
         let doing = Doing {
             op: CpuOp::Trace(*rec),
@@ -52,6 +51,7 @@ impl<S: Schema> CpuParts<S> {
             return Traced::Stopped;
         }
         // It answers as the test before the load did, which no running code asks any more.
+        let shut = self.side.is_shut(&self.config);
         if !self.side.trace(&self.schema, rec, shut) {
             return Traced::Dropped;
         }

@@ -91,6 +91,22 @@ fn is_buffer_size(bytes: u32) -> bool
 }
 
 impl Config {
+    /// So many CPUs, speculations, and bytes of a principal and of a speculative buffer. Full principal buffers are switched; slots
+    /// give out as many speculations, and CPUs make as many calls, as there can be. What is out of range `check` tells.
+    pub fn of(cpus: u32, nspec: u32, bufsize: u32, specsize: u32) -> Config
+        ensures { result ≡ record { cpus = cpus; nspec = nspec; bufsize = bufsize; specsize = specsize; max_issues = 2 ^ 57; max_calls = 2 ^ 62; policy = Policy.Switch } }
+    {
+        Config {
+            policy: Policy::Switch,
+            max_issues: 1 << 57,
+            max_calls: 1 << 62,
+            bufsize,
+            specsize,
+            cpus,
+            nspec,
+        }
+    }
+
     /// Looks at the fields in order, and refuses the first that is out of range: 1 to 64 CPUs, 1 to 63 speculations,
     /// two buffer sizes, 1 to 2^57 issues and 1 to 2^62 calls. It never answers Memory.
     pub fn check(&self) -> Result<(), StartFault>

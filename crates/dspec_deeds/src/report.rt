@@ -1,3 +1,5 @@
+use std::fmt;
+
 /// The counts of one CPU. Each offered record is in exactly one of accepted, dropped, specdropped, lost, discarded,
 /// void and held; the others count events.
 #[derive(Clone, Copy, Debug, Default, PartialEq, Eq)]
@@ -28,4 +30,42 @@ pub struct Report {
     pub stopped: u64,
     /// Calls that were answered Worn, of which nothing else is counted; no more are counted than 64 bits hold.
     pub worn: u64,
+}
+
+/// Each count behind its name, as a play's reports tell them behind the number of the CPU.
+impl fmt::Display for Report {
+    fn fmt<W: fmt::Write>(&self, f: &mut fmt::Formatter<W>) -> fmt::Result {
+        let Report {
+            offered,
+            accepted,
+            ..
+        } = *self;
+        write!(f, "offered {offered} accepted {accepted} ")?;
+        let Report {
+            dropped,
+            specdropped,
+            lost,
+            ..
+        } = *self;
+        write!(
+            f,
+            "dropped {dropped} specdropped {specdropped} lost {lost} "
+        )?;
+        let Report {
+            discarded,
+            void,
+            held,
+            ..
+        } = *self;
+        write!(f, "discarded {discarded} void {void} held {held} ")?;
+        let Report {
+            drops,
+            unavailable,
+            busy,
+            ..
+        } = *self;
+        write!(f, "drops {drops} unavailable {unavailable} busy {busy} ")?;
+        let Report { stopped, worn, .. } = *self;
+        write!(f, "stopped {stopped} worn {worn}")
+    }
 }

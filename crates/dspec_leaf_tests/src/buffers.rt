@@ -1,6 +1,6 @@
 //! Both buffers, and the reader of a stored text.
 use crate::same::same;
-use dspec_buffer::{ByteBuffer, ListBuffer, TraceBuffer, laws};
+use dspec_buffer::{ByteBuffer, ListBuffer, ReadFault, Reading, TraceBuffer, laws, read_prefix};
 use dspec_record::{DefaultAction, Enablings, Field, ReadKind, Rec, Schema};
 use dspec_samples::{
     PADDED_TEXT, WHOLE_TEXTS, cut_fault, damaged, damages, fault, fault_of, four_enablings, is_read,
@@ -293,6 +293,70 @@ fn truncated_texts(rt: HostRuntime) -> Result<(), Fail> {
     for (length, count) in WHOLE_TEXTS {
         assert!(rt;
             is_read(&schema, &PADDED_TEXT[..length], &kept[..count]),
+            "at {length}"
+        );
+    }
+    Ok(())
+}
+
+/// Whether reading gives these records before the fault, or before the text's end.
+fn is_read_up_to<S: Schema>(
+    schema: &S,
+    text: &[u8],
+    wanted: &[Rec],
+    stop: Option<ReadFault>,
+) -> bool {
+    let (mut records, fault) = read_prefix(schema, text);
+    for rec in wanted {
+        if records.next() != Some(*rec) {
+            return false;
+        }
+    }
+    records.next().is_none() && fault == stop
+}
+
+#[test]
+fn records_before_a_fault(rt: HostRuntime) -> Result<(), Fail> {
+    let schema = four_enablings()?;
+    let kept = [rec(&rt, 1, &[]), rec(&rt, 2, &[7]), rec(&rt, 4, &[9])];
+    for length in 0..=PADDED_TEXT.len() {
+        let count = match length {
+            0..=3 => 0,
+            4..=23 => 1,
+            24..=31 => 2,
+            _ => 3,
+        };
+        let (text, stop) = (&PADDED_TEXT[..length], cut_fault(length));
+        assert!(rt;
+            is_read_up_to(&schema, text, &kept[..count], stop),
+            "at {length}"
+        );
+    }
+    Ok(())
+}
+
+/// Whether a reader in one pass gives the records of `read_prefix`, and then its fault, or none, at each later call.
+fn reads_in_one_pass<S: Schema>(schema: &S, text: &[u8]) -> bool {
+    let (records, stop) = read_prefix(schema, text);
+    let mut reading = Reading::new(schema, text);
+    for rec in records {
+        if reading.next() != Ok(Some(rec)) {
+            return false;
+        }
+    }
+    let end = match stop {
+        Some(fault) => Err(fault),
+        None => Ok(None),
+    };
+    reading.next() == end && reading.next() == end && reading.next() == end
+}
+
+#[test]
+fn records_in_one_pass(rt: HostRuntime) -> Result<(), Fail> {
+    let schema = four_enablings()?;
+    for length in 0..=PADDED_TEXT.len() {
+        assert!(rt;
+            reads_in_one_pass(&schema, &PADDED_TEXT[..length]),
             "at {length}"
         );
     }

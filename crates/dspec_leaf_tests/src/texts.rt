@@ -2,6 +2,7 @@
 use crate::buffers::buffer;
 use crate::same::same;
 use dspec_buffer::{ByteBuffer, ListBuffer, ReadFault, TraceBuffer, UpgradeFault, read_all};
+use dspec_deeds::Report;
 use dspec_record::{Enablings, ReadKind, Rec, SchemaFault, StampedAction};
 use dspec_samples::four_enablings;
 use dspec_word::SpecId;
@@ -29,6 +30,32 @@ fn printed_records(rt: HostRuntime) -> Result<(), Fail> {
     let stamped = Rec::stamped(4, 9, &[5]).ok_or("one value")?;
     assert!(rt; prints(&rt, stamped, "4@9(5)")?);
     assert!(rt; prints(&rt, SpecId::from_raw(65), "65")?);
+    Ok(())
+}
+
+#[test]
+fn printed_report(rt: HostRuntime) -> Result<(), Fail> {
+    let report = Report {
+        offered: 1,
+        accepted: 2,
+        dropped: 3,
+        specdropped: 4,
+        lost: 5,
+        discarded: 6,
+        void: 7,
+        held: 8,
+        drops: 9,
+        unavailable: 10,
+        busy: 11,
+        stopped: 12,
+        worn: 13,
+    };
+    let text = format!(in rt.alloc(); "{report}")?;
+    same(
+        &rt,
+        text.as_str(),
+        "offered 1 accepted 2 dropped 3 specdropped 4 lost 5 discarded 6 void 7 held 8 drops 9 unavailable 10 busy 11 stopped 12 worn 13",
+    );
     Ok(())
 }
 

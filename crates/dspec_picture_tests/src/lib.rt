@@ -1,5 +1,7 @@
-//! Tests of `dspec_picture`, by worked examples. They stand in a crate above it, so that it isn't proved again with its tests.
+//! Tests of `dspec_picture` and of `dspec_telling`, by worked examples. They stand in a crate above them, so that they aren't proved again with their tests.
 #![tactic(auto)]
 
 #[cfg(test)]
 mod pictures;
+#[cfg(test)]
+mod steps;

@@ -2,7 +2,7 @@
 use Rattle.std.proofs.Common.{◌≡◌, ◌≤◌, ◌<◌, ◌-◌, ◌+◌, ◌++◌, ℕ, List, [], length, take, drop, set, replicate, refl, sym, ◌∙◌, ap, arith}
 use Rattle.std.proofs.lemmas.List.{length-append, length-drop, length-set, take_at, drop_at, drop-replicate, length-replicate, drop-drop, drop-set-lt}
 use Rattle.dspec_record.specs.Layout.{layout}
-use Rattle.dspec_record.specs.EnablingFields.{IsLaidOut}
+use Rattle.dspec_record.specs.EnablingFields.{IsLaidOut, padded_places}
 use Rattle.dspec_record.specs.EnablingRows.{IsFilled}
 use Rattle.dspec_record.specs.declared.field.Field.{Field}
 use Rattle.dspec_record.specs.declared.field.Field.TheVariants.{One}
@@ -10,7 +10,12 @@ use Rattle.dspec_record.specs.declared.header.Header.{Header}
 use Rattle.dspec_record.specs.declared.header.Header.TheVariants as header
 
 -- fields copied over the first of eight places
-pub IsLaidOut-copied : (fs : List Field) → length fs ≤ 8 → IsLaidOut (record { fields = fs ++ drop (length fs) (replicate 8 One); len = length fs; shape = layout header.One fs })
+pub IsLaidOut-copied : (fs : List Field) → length fs ≤ 8 → IsLaidOut (record {
+  fields = fs ++ drop (length fs) (replicate 8 One);
+  len = length fs;
+  shape = layout header.One fs;
+  places = padded_places fs;
+})
 IsLaidOut-copied fs few =
     let held : List Field = fs ++ drop (length fs) (replicate 8 One) in
     let back : take (length fs) held ≡ fs = take_at fs (drop (length fs) (replicate 8 One)) (length fs) refl in
@@ -19,6 +24,7 @@ IsLaidOut-copied fs few =
       few = few;
       rest = drop_at fs (drop (length fs) (replicate 8 One)) (length fs) refl ∙ drop-replicate (length fs) 8 One;
       shape = ap (layout header.One) (sym back);
+      places = ap padded_places (sym back);
     }
 
 pub IsFilled-push : (h : Header) (rows : List (List Field)) (count : ℕ) (fs : List Field) → IsFilled (record { header = h; rows = rows; count = count }) → count < 64

@@ -1,3 +1,4 @@
+pub mod Places
 pub mod Filling
 pub mod Fitting
 pub mod Clearing

@@ -1,12 +1,13 @@
 -- A record's text while it is written.
-use Rattle.std.proofs.Common.{◌≡◌, ◌≤◌, ◌-◌, ◌++◌, ◌%◌, ℕ, IsTrue, List, [], ◌∷◌, length, take, drop, replicate, sym, ◌∙◌, ap, arith}
-use Rattle.std.proofs.lemmas.List.{take_all, take-append-drop, length-drop}
+use Rattle.std.proofs.Common.{◌≡◌, ◌≤◌, ◌-◌, ◌++◌, ◌%◌, ◌^◌, ℕ, ltb, IsTrue, List, [], ◌∷◌, length, take, drop, replicate, sym, ◌∙◌, ap, arith}
+use Rattle.std.proofs.lemmas.List.{append_assoc, take_all, take-append-drop, length-drop}
 use Rattle.dspec_record.specs.Record.{Record}
 use Rattle.dspec_record.specs.Layout.{width, rounded_up, after, fields_start, fields_end, layout}
-use Rattle.dspec_record.specs.RecordText.{gap, header_text, fields_text, record_text, fits}
+use Rattle.dspec_record.specs.RecordText.{little_endian, gap, header_text, fields_text, record_text, fits}
 use Rattle.dspec_record.specs.Writing.{IsClearBehind}
 use Rattle.dspec_record.proofs.Clearing.{clear-part}
 use Rattle.dspec_record.specs.Laws.Layouts.{rounded_up-ge, fields_end-ge, layout-IsShape}
+use Rattle.dspec_record.specs.Laws.Texts.{both}
 use Rattle.dspec_record.specs.declared.field.Field.{Field}
 use Rattle.dspec_record.specs.declared.field.Field.TheVariants.{Four}
 use Rattle.dspec_record.specs.declared.header.Header.{Header}
@@ -41,6 +42,25 @@ IsWriting-room text end out f fs vs w =
 pub IsWriting-near : (text : List ℕ) (end : ℕ) (out : List ℕ) (fs : List Field) (vs : List ℕ) → IsWriting text end out fs vs → end ≤ length out
 IsWriting-near text end out fs vs w =
     omega (arith, w.exact, fields_end-ge end fs, rounded_up-ge Four (fields_end end fs))
+
+regroup : (a b c d : List ℕ) → (a ++ (b ++ c)) ++ d ≡ a ++ (b ++ (c ++ d))
+regroup a b c d = simp append_assoc
+
+-- a value is written behind the gap before it
+pub IsWriting-next : (text : List ℕ) (end : ℕ) (out out' : List ℕ) (f : Field) (fs : List Field) (v : ℕ) (vs : List ℕ) → IsWriting text end out (f ∷ fs) (v ∷ vs)
+    → length out' ≡ length out → take (after end (width f) (width f)) out' ≡ take end out ++ (gap end (width f) ++ little_endian (width f) v)
+    → IsClearBehind (after end (width f) (width f)) out' → IsWriting text (after end (width f) (width f)) out' fs vs
+IsWriting-next text end out out' f fs v vs w same put clear =
+    let next : ℕ = after end (width f) (width f) in
+    record {
+      laid = ap (λ t. t ++ fields_text next fs vs) put
+          ∙ regroup (take end out) (gap end (width f)) (little_endian (width f) v) (fields_text next fs vs) ∙ w.laid;
+      exact = w.exact ∙ sym same;
+      short = omega (arith, w.short);
+      whole = ap (λ n. n % 4) same ∙ w.whole;
+      fit = (both (ltb v (256 ^ width f)) (fits fs vs) w.fit).1;
+      clear = clear;
+    }
 
 -- with the zeros behind the last field the text is whole
 pub IsWriting-end : (text : List ℕ) (end : ℕ) (out : List ℕ) (vs : List ℕ) → IsWriting text end out [] vs → out ≡ text

@@ -33,6 +33,11 @@ abbrev pub fields_end : ℕ → List Field → ℕ
 fields_end start [] = start
 fields_end start (f ∷ fs) = fields_end (after start (width f) (width f)) fs
 
+-- where each of these fields stands, laid one behind the other from `start` on
+abbrev pub field_places : ℕ → List Field → List ℕ
+field_places start [] = []
+field_places start (f ∷ fs) = rounded_up start (width f) ∷ field_places (after start (width f) (width f)) fs
+
 abbrev pub is_eight : Field → Bool
 is_eight Eight = true
 is_eight _ = false

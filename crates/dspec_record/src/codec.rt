@@ -1,6 +1,6 @@
-ghost use Rattle.std.specs.Prelude.{◌≡◌, ◌≢◌, ◌≤◌, ◌<◌, ◌%◌, ◌++◌, ◌^◌, ◌↔◌, ℕ, List, ◌⊎◌, nat_le, IsTrue, IfSome, IfNone, IfOk, IfErr, length, take, drop, replicate};
+ghost use Rattle.std.specs.Prelude.{◌≡◌, ◌≢◌, ◌≤◌, ◌<◌, ◌+◌, ◌%◌, ◌++◌, ◌^◌, ◌↔◌, ℕ, List, ◌⊎◌, nat_le, IsTrue, IfSome, IfNone, IfOk, IfErr, length, take, drop, replicate};
 ghost use Rattle.dspec_record.specs.Record.{Record};
-ghost use Rattle.dspec_record.specs.Layout.{width, rounded_up, after, fields_start, layout};
+ghost use Rattle.dspec_record.specs.Layout.{width, rounded_up, after, field_places, fields_start, layout};
 ghost use Rattle.dspec_record.specs.Reading.{front_epid};
 ghost use Rattle.dspec_record.specs.RecordText.{little_endian, gap, stamp_text, header_text, record_text, stamp_fits, fits, IsRead};
 ghost use Rattle.dspec_record.specs.Writing.{IsClearBehind, IsWrittenWide};
@@ -39,18 +39,23 @@ pub(crate) fn fits_fields(fields: &[Field], values: &[u64]) -> bool
     true
 }
 
-/// Writes the record's text: its header, its values at the places of these fields, and zero between them.
+/// Writes the record's text: its header, its values at the places of these fields, and zero between them. The places are
+/// those without a stamp.
 #[inline(always)]
-pub(crate) fn put_record(header: Header, fields: &[Field], rec: &Rec, out: &mut [u8])
+pub(crate) fn put_record(header: Header, fields: &[Field], places: &[u8], rec: &Rec, out: &mut [u8])
     requires few { length fields.now ≤ 8 }
+    requires places { places.now ≡ field_places 4 fields.now }
     requires fit { IsTrue (fits fields.now rec.now.values) }
     requires exact { length out.old ≡ (layout header fields.now).size }
     ensures { out.new ≡ record_text header fields.now rec.now }
 {
     let values = rec.values();
     let mut end = put_header(header, rec, out);
+    let moved = header.stamp_size();
+    // each place is known: no running code is left of the ends
     for (i, field) in fields.iter().enumerate() {
-        end = put_field(*field, values[i], end, out);
+        let place = places[i] as usize + moved;
+        end = put_field(*field, values[i], end, place, out);
     }
 }
 
@@ -63,31 +68,30 @@ fn put_header(header: Header, rec: &Rec, out: &mut [u8]) -> usize
     ensures put { take (fields_start header) out.new ≡ header_text header rec.now }
     ensures clear { IsClearBehind (fields_start header) out.new }
 {
-    let end = put_field(Field::Four, u64::from(rec.epid()), 0, out);
+    let end = put_field(Field::Four, u64::from(rec.epid()), 0, 0, out);
     match header {
         Header::One => end,
         Header::Two => {
-            let low = put_field(Field::Four, rec.stamp() % WORD, end, out);
-            put_field(Field::Four, rec.stamp() / WORD, low, out)
+            let low = put_field(Field::Four, rec.stamp() % WORD, end, end, out);
+            put_field(Field::Four, rec.stamp() / WORD, low, low, out)
         }
     }
 }
 
 /// Writes a value at the field's place behind `end`; answers where the field ends. What is between is zero already,
 /// and so is what is behind the field, up to the next multiple of eight: no gap is longer.
-#[inline]
-fn put_field(field: Field, value: u64, end: usize, out: &mut [u8]) -> usize
+#[inline(always)]
+fn put_field(field: Field, value: u64, end: usize, place: usize, out: &mut [u8]) -> usize
     requires holds { value < 256 ^ width field }
     requires whole_words { length out.old % 4 ≡ 0 }
-    requires near { end < 2 ^ 32 }
-    requires room { after end (width field) (width field) ≤ length out.old }
+    requires place { place ≡ rounded_up end (width field) }
+    requires room { place + width field ≤ length out.old }
     requires clear { IsClearBehind end out.old }
     ensures end { result ≡ after end (width field) (width field) }
     ensures put { take result out.new
         ≡ take end out.old ++ (gap end (width field) ++ little_endian (width field) value) }
     ensures clear { IsClearBehind result out.new }
 {
-    let place = field.place(end);
     let wide = place + 8 <= out.len();
     write_wide(value, wide, &mut out[place..]);
     place + field.width()
@@ -95,7 +99,7 @@ fn put_field(field: Field, value: u64, end: usize, out: &mut [u8]) -> usize
 
 /// Writes the value's lowest 8, 4, 2 bytes or 1, the most that there is room for: stores of fixed sizes, the zeros
 /// of a gap behind a short value among them. Whether there is room for all eight the caller tells.
-#[inline]
+#[inline(always)]
 fn write_wide(value: u64, wide: bool, out: &mut [u8])
     requires wide { wide ≡ nat_le 8 (length out.old) }
     requires some { 1 ≤ length out.old }

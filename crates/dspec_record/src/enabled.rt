@@ -42,8 +42,8 @@ impl Schema for Enablings {
         };
         // the writing once for each header, so that none of it asks which one it is
         match self.header() {
-            Header::One => put_record(Header::One, enabling.fields(), rec, out),
-            Header::Two => put_record(Header::Two, enabling.fields(), rec, out),
+            Header::One => put_record(Header::One, enabling.fields(), enabling.places(), rec, out),
+            Header::Two => put_record(Header::Two, enabling.fields(), enabling.places(), rec, out),
         }
     }
 

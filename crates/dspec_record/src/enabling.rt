@@ -1,11 +1,11 @@
-use crate::layout::layout_of;
+use crate::layout::{layout_of, places_of};
 use crate::{Field, Header, Shape};
 use std::error::Error;
 use std::fmt;
 use std::marker::Model;
 
 /// The most fields that an enabling has.
-const MAX_FIELDS: usize = 8;
+pub(crate) const MAX_FIELDS: usize = 8;
 
 /// The most enablings that there are.
 const MAX_ENABLINGS: usize = 64;
@@ -30,12 +30,13 @@ impl fmt::Display for SchemaFault {
     }
 }
 
-/// The fields of one enabling, with their layout without a stamp, which is worked out once.
+/// The fields of one enabling, with their layout and the place of each without a stamp, which are worked out once.
 #[derive(Debug, Clone, Copy, PartialEq, Eq)]
 pub(crate) struct Enabling {
     fields: [Field; MAX_FIELDS],
     len: u32,
     shape: Shape,
+    places: [u8; MAX_FIELDS],
 }
 
 impl Model for Enabling {
@@ -58,7 +59,7 @@ impl Model for Enabling {
 
 impl Enabling {
     ghost use Rattle.std.specs.Prelude.{◌≡◌, ◌≤◌, length};
-    ghost use Rattle.dspec_record.specs.Layout.{layout};
+    ghost use Rattle.dspec_record.specs.Layout.{field_places, layout};
 
     fn of(fields: &[Field]) -> Enabling
         requires { length fields.now ≤ 8 }
@@ -70,6 +71,7 @@ impl Enabling {
             fields: held,
             len: fields.len() as u32,
             shape: layout_of(Header::One, fields),
+            places: places_of(fields),
         }
     }
 
@@ -80,18 +82,23 @@ impl Enabling {
         &self.fields[..self.len as usize]
     }
 
+    /// Where each field stands where there is no stamp, in bytes from the record's start.
+    #[inline(always)]
+    pub(crate) fn places(&self) -> &[u8]
+        ensures { result.now ≡ field_places 4 self.now }
+    {
+        &self.places[..self.len as usize]
+    }
+
     /// The layout behind this header: a stamp moves each field by its own eight bytes, and no gap changes.
     #[inline(always)]
     pub(crate) fn shape(&self, header: Header) -> Shape
         ensures layout { result ≡ layout header self.now }
         ensures few { length self.now ≤ 8 }
     {
-        match header {
-            Header::One => self.shape,
-            Header::Two => Shape {
-                size: self.shape.size + 8,
-                align: self.shape.align,
-            },
+        Shape {
+            size: self.shape.size + header.stamp_size() as u32,
+            align: self.shape.align,
         }
     }
 }

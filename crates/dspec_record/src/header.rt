@@ -1,4 +1,4 @@
-ghost use Rattle.std.specs.Prelude.{◌≡◌, ◌+◌};
+ghost use Rattle.std.specs.Prelude.{◌≡◌, ◌≤◌, ◌+◌};
 ghost use Rattle.dspec_record.specs.Layout.{fields_start};
 
 /// What stands before the fields of a record. The bytes don't say which header it is: the schema does.
@@ -19,6 +19,18 @@ impl Header {
         match self {
             Header::One => 4,
             Header::Two => 12,
+        }
+    }
+
+    /// How much of it is the stamp, in bytes: by so much it moves each field.
+    #[inline(always)]
+    pub(crate) fn stamp_size(self) -> usize
+        ensures moves { 4 + result ≡ fields_start self }
+        ensures few { result ≤ 8 }
+    {
+        match self {
+            Header::One => 0,
+            Header::Two => 8,
         }
     }
 }

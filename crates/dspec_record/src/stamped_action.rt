@@ -40,7 +40,7 @@ impl Schema for StampedAction {
     }
 
     fn put(&self, rec: &Rec, out: &mut [u8]) {
-        put_record(Header::Two, &[], rec, out);
+        put_record(Header::Two, &[], &[], rec, out);
     }
 
     #[inline(always)]

@@ -1,3 +1,5 @@
+ghost use Rattle.std.specs.Prelude.{◌≤◌, length};
+
 use crate::left::Left;
 use std::marker::Model;
 
@@ -5,6 +7,7 @@ use std::marker::Model;
 #[derive(Drop)]
 pub struct Closed {
     pub(crate) left: Vec<Left>,
+    ghost few: { length left.items ≤ 64 },
 }
 
 impl Model for Closed {

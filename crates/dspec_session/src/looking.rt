@@ -6,6 +6,13 @@ use dspec_deeds::Report;
 use dspec_ring::Batch;
 
 impl Closed {
+    /// How many CPUs the session had.
+    pub fn cpus(&self) -> u32
+        ensures { result ≡ length self.now }
+    {
+        self.left.len() as u32
+    }
+
     /// The batch that the CPU had sealed and the consumer not taken, if there is one, and its last active buffer with the drops
     /// since the seal before.
     pub fn rest(&self, cpu: u32) -> (Option<&Batch>, &Batch)

@@ -12,7 +12,7 @@ use Rattle.dspec_deeds.proofs.TestLemmas.{either_way, same_number}
 use Rattle.dspec_table.specs.declared.rule.View.{View}
 use Rattle.dspec_table.specs.Rule.{Kept, Least, KnowsAsks}
 use Rattle.dspec_table.specs.Showing.{Shows}
-use Rattle.dspec_table.specs.Layout.{activity_place, ack_place, ask_place}
+use Rattle.dspec_table.specs.Layout.{slot_place, activity_place, ack_place, ask_place}
 use Rattle.dspec_table.specs.Steps.{asking}
 use Rattle.dspec_table.specs.Asks.{with_ask, StoredAskAt, LoadedAsk}
 use Rattle.dspec_table.specs.Holders.{number_of}
@@ -51,7 +51,7 @@ ask_shows k words c n log sh =
     record {
       count = length-set words (ask_place k c) n ∙ sh.count;
       active = (let apart : activity_place k ≢ ask_place k c = (λ e. omega arith) in get_or-set_other words (ask_place k c) (activity_place k) n 0 apart) ∙ sh.active;
-      slots = λ t a b. let apart : t ≢ ask_place k c = (λ e. omega arith) in get_or-set_other words (ask_place k c) t n 0 apart ∙ sh.slots t a b;
+      slots = λ t a b. let apart : slot_place t ≢ ask_place k c = (λ e. omega arith) in get_or-set_other words (ask_place k c) (slot_place t) n 0 apart ∙ sh.slots t a b;
       acks = λ d t x a b. get_or-set_other words (ask_place k c) (ack_place k d t) n 0 (no_ask k d c t a b) ∙ sh.acks d t x a b;
     }
 

@@ -12,7 +12,7 @@ use Rattle.dspec_deeds.proofs.TestLemmas.{either_way, same_number}
 use Rattle.dspec_table.specs.declared.rule.View.{View}
 use Rattle.dspec_table.specs.Since.{here}
 use Rattle.dspec_table.specs.Rule.{times_among, Parts, HaveSeats, Knows, KnowsAsks, Kept, cpus_from, newcomer}
-use Rattle.dspec_table.specs.Layout.{word_count, activity_place, ack_place, ask_place}
+use Rattle.dspec_table.specs.Layout.{slot_place, word_count, activity_place, ack_place, ask_place}
 
 zeros_at : (n i : ℕ) → slice_index (replicate n 0) i ≡ 0
 zeros_at zero i = refl
@@ -76,7 +76,7 @@ starts k ws is = record {
   shows = record {
     count = ap length is ∙ length-replicate (word_count k) 0;
     active = ap (λ l. slice_index l (activity_place k)) is ∙ zeros_at (word_count k) (activity_place k);
-    slots = λ s a b. ap (λ l. slice_index l s) is ∙ zeros_at (word_count k) s;
+    slots = λ s a b. ap (λ l. slice_index l (slot_place s)) is ∙ zeros_at (word_count k) (slot_place s);
     acks = λ c s x a b. ap (λ l. slice_index l (ack_place k c s)) is ∙ zeros_at (word_count k) (ack_place k c s);
   };
   knows = new_known k;

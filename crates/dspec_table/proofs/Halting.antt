@@ -11,7 +11,7 @@ use Rattle.dspec_deeds.specs.History.{halted, owed}
 use Rattle.dspec_table.specs.declared.rule.View.{View}
 use Rattle.dspec_table.specs.Rule.{Kept}
 use Rattle.dspec_table.specs.Showing.{Shows}
-use Rattle.dspec_table.specs.Layout.{activity_place, ack_place}
+use Rattle.dspec_table.specs.Layout.{slot_place, activity_place, ack_place}
 use Rattle.dspec_table.proofs.Places.{after_activity}
 use Rattle.dspec_table.specs.Steps.{acted, StoredActivity}
 use Rattle.dspec_deeds.specs.declared.calls.CpuOp.{CpuOp}
@@ -24,7 +24,7 @@ stop_shows : (k : Config) (words : List ℕ) (log : List Deed) (b : Bool) → ha
 stop_shows k words log b is sh = record {
   count = length-set words (activity_place k) 1 ∙ sh.count;
   active = get_or-set_same words (activity_place k) 1 0 (let count = sh.count in omega arith) ∙ stopped b is;
-  slots = λ s a m. let apart : s ≢ activity_place k = (λ e. omega arith) in get_or-set_other words (activity_place k) s 1 0 apart ∙ (sh.slots s a m ∙ same_word b s);
+  slots = λ s a m. let apart : slot_place s ≢ activity_place k = (λ e. omega arith) in get_or-set_other words (activity_place k) (slot_place s) 1 0 apart ∙ (sh.slots s a m ∙ same_word b s);
   acks = λ c s x a m.
       let after = after_activity k c in
       let apart : ack_place k c s ≢ activity_place k = (λ e. omega arith) in

@@ -1,5 +1,5 @@
 -- The deeds of a step are of the call in flight.
-use Rattle.std.proofs.Common.{◌≡◌, ℕ, ◌∙◌, Bool, true, false, if◌then◌else◌, List, [], ◌∷◌, Option, Some, refl, sym, ap, subst}
+use Rattle.std.proofs.Common.{◌≡◌, ℕ, ◌∙◌, Bool, true, false, if◌then◌else◌, [], ◌∷◌, Option, Some, refl, sym, ap, subst}
 use Rattle.dspec_word.specs.SpecId.{Speculation}
 use Rattle.dspec_word.specs.Word.{SlotState}
 use Rattle.dspec_word.specs.Code.{is_inactive}
@@ -12,13 +12,12 @@ use Rattle.dspec_deeds.specs.declared.calls.CpuOp.{CpuOp}
 use Rattle.dspec_deeds.specs.declared.calls.CpuOp.TheVariants as op
 use Rattle.dspec_deeds.specs.declared.deed.SpeculateFate.TheVariants as spoken
 use Rattle.dspec_deeds.specs.declared.deed.DecideFate.TheVariants as decided
-use Rattle.dspec_deeds.specs.declared.deed.Deed.{Deed}
 use Rattle.dspec_deeds.specs.declared.deed.Deed.TheVariants.{Speculate, Commit, Discard, Release}
 use Rattle.dspec_deeds.specs.History.{in_range}
 use Rattle.dspec_table.specs.declared.rule.View.{View}
 use Rattle.dspec_table.specs.declared.doing.Doing.{Doing}
 use Rattle.dspec_table.specs.Acts.{at_activity, miss_at, speaks, void_commit, void_discard, at_word, at_open, discard_hits, at_hit, at_exchange}
-use Rattle.dspec_table.specs.Conditions.{MayLoad, Attempts}
+use Rattle.dspec_table.specs.Conditions.{MayLoad}
 use Rattle.dspec_table.specs.Flights.{AreOf}
 
 pub activity_of : (k : Config) (c : ℕ) (doing : Doing) (o : CpuOp) (b : Bool) → AreOf (Some o) (at_activity k c doing o b)

@@ -15,6 +15,7 @@ use Rattle.dspec_deeds.specs.FateKinds.{spoken_granted}
 use Rattle.dspec_record.specs.Record.{Record}
 use Rattle.dspec_deeds.specs.declared.deed.Deed.{Deed}
 use Rattle.dspec_deeds.specs.declared.deed.Deed.TheVariants.{Speculate}
+use Rattle.dspec_table.specs.Layout.{slot_place}
 use Rattle.dspec_table.specs.Holders.{Holder, of_cpu, part_of}
 use Rattle.dspec_deeds.specs.History.{same_id, issue, scan, owed, late, present, code_at, word_at, is_among, callers, joined, verdict, opened, standing, is_open}
 use Rattle.dspec_deeds.specs.Legal.{IsSound}
@@ -184,8 +185,8 @@ ready k st kept by v c slot doing at who (op.Discard id) m = flies k st kept by 
 ready k st kept by v c slot doing at who op.Service m = tt
 
 pub loads_word : (k : Config) (slots id c slot : ℕ) (me : Me ℕ View) (doing : Doing) → 1 ≤ slot → slot ≤ k.nspec → me.0.who ≡ of_cpu c → me.0.also ≡ [] → MayLoad k me.0 c doing slot doing.op
-    → Allows (Kept k) slots id me slot (λ n. n) (λ n w. LoadedNumber doing slot me.0 n w.0 × (w.1 ≡ me.1))
-loads_word k slots id c slot me doing one most who alone may = loads k slots id c slot me (LoadedNumber doing slot me.0) who alone
+    → Allows (Kept k) slots id me (slot_place slot) (λ n. n) (λ n w. LoadedNumber doing slot me.0 n w.0 × (w.1 ≡ me.1))
+loads_word k slots id c slot me doing one most who alone may = loads k slots id c (slot_place slot) me (LoadedNumber doing slot me.0) who alone
     (λ st kept at.
     let v = me.0 in
     let log = kept.log in

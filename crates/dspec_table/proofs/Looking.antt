@@ -9,7 +9,7 @@ use Rattle.dspec_table.specs.Holders.{same_holder}
 use Rattle.dspec_deeds.specs.History.{word_at}
 use Rattle.dspec_table.specs.declared.rule.View.{View}
 use Rattle.dspec_table.specs.Rule.{Kept}
-use Rattle.dspec_table.specs.Layout.{activity_place, ack_place}
+use Rattle.dspec_table.specs.Layout.{slot_place, activity_place, ack_place}
 use Rattle.dspec_table.specs.Steps.{acted, Looked, LookedNumber, LoadedAckAt}
 use Rattle.dspec_table.proofs.Keeps.{none_owed, acts_owed, finds, its_config}
 
@@ -24,8 +24,8 @@ module _ (k : Config) (slots id : ℕ) (me : Me ℕ View) (who : same_holder me.
   pub looks_up : Allows (Kept k) slots id me (activity_place k) (λ n. n) (λ n w. Looked me.0 w.0 × (w.1 ≡ me.1))
   looks_up = looks k slots id (activity_place k) me (λ n w. Looked me.0 w) who alone (λ st kept at. (kept.log, finds k st kept id me.0 at who, refl))
 
-  pub looks_word : (slot : ℕ) → 1 ≤ slot → slot ≤ k.nspec → Allows (Kept k) slots id me slot (λ n. n) (λ n w. LookedNumber slot me.0 n w.0 × (w.1 ≡ me.1))
-  looks_word slot one most = looks k slots id slot me (LookedNumber slot me.0) who alone
+  pub looks_word : (slot : ℕ) → 1 ≤ slot → slot ≤ k.nspec → Allows (Kept k) slots id me (slot_place slot) (λ n. n) (λ n w. LookedNumber slot me.0 n w.0 × (w.1 ≡ me.1))
+  looks_word slot one most = looks k slots id (slot_place slot) me (LookedNumber slot me.0) who alone
       (λ st kept at. (word_at slot kept.log, kept.shows.slots slot one most, (kept.log, finds k st kept id me.0 at who, refl, refl)))
 
   -- an acknowledgement, of the CPU and the slot that the word is of

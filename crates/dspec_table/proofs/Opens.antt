@@ -11,6 +11,7 @@ use Rattle.dspec_word.proofs.Numbers.{one_word}
 use Rattle.dspec_deeds.specs.declared.config.Config.{Config}
 use Rattle.dspec_deeds.specs.declared.deed.Deed.{Deed}
 use Rattle.dspec_deeds.specs.declared.deed.Deed.TheVariants.{Opened, Miss}
+use Rattle.dspec_table.specs.Layout.{slot_place}
 use Rattle.dspec_table.specs.Holders.{Holder, of_cpu}
 use Rattle.dspec_deeds.specs.History.{same_id, issue, scan, owed, present, opened, opened_since, code_at, word_at}
 use Rattle.dspec_deeds.specs.Legal.{IsSound}
@@ -68,7 +69,8 @@ missed k c s log seen sound rests one at inactive since apart = record {
 }
 
 pub opens_word : (k : Config) (slots id c slot : ℕ) (me : Me ℕ View) (from to : SlotState) → 1 ≤ slot → slot ≤ k.nspec → me.0.who ≡ of_cpu c → me.0.also ≡ [] → MayOpen k me.0 c slot from to
-    → Allows (Kept k) slots id me slot (λ n. either (n == word_number from) (word_number to) n) (λ n w. OpenedNumber slot me.0 (word_number to) n (n == word_number from) w.0 × (w.1 ≡ me.1))
+    → Allows (Kept k) slots id me (slot_place slot) (λ n. either (n == word_number from) (word_number to) n)
+    (λ n w. OpenedNumber slot me.0 (word_number to) n (n == word_number from) w.0 × (w.1 ≡ me.1))
 opens_word k slots id c slot me from to one most who alone may =
     exchanges k slots id slot (word_number from) (word_number to) me (OpenedNumber slot me.0 (word_number to)) (is_cpu me.0 c who) alone one most
     (λ st kept at found.

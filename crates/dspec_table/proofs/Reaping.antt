@@ -8,6 +8,7 @@ use Rattle.dspec_word.proofs.Numbers.{one_word}
 use Rattle.dspec_deeds.specs.declared.config.Config.{Config}
 use Rattle.dspec_deeds.specs.declared.deed.Deed.{Deed}
 use Rattle.dspec_deeds.specs.declared.deed.Deed.TheVariants.{Release}
+use Rattle.dspec_table.specs.Layout.{slot_place}
 use Rattle.dspec_table.specs.Holders.{Holder, of_consumer, same_holder}
 use Rattle.dspec_deeds.specs.History.{issue, ack, present, settled, releaser, word_at}
 use Rattle.dspec_deeds.proofs.Awaiting.{awaiting}
@@ -38,7 +39,7 @@ awaited_below w can waits = ⊎_elim
     can
 
 pub reaps : (k : Config) (slots id slot : ℕ) (me : Me ℕ View) (from : SlotState) → me.0.who ≡ of_consumer → me.0.also ≡ [] → MayReap k me.0 slot from
-    → Allows (Kept k) slots id me slot (λ n. either (n == word_number from) (word_number (released from.issue)) n)
+    → Allows (Kept k) slots id me (slot_place slot) (λ n. either (n == word_number from) (word_number (released from.issue)) n)
     (λ n w. ReapedNumber slot me.0 n (n == word_number from) w.0 × (w.1 ≡ me.1))
 reaps k slots id s me from who alone may =
     let v = me.0 in

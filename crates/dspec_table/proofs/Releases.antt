@@ -10,6 +10,7 @@ use Rattle.dspec_word.specs.declared.code.Code.TheVariants.{Inactive, Committing
 use Rattle.dspec_deeds.specs.declared.config.Config.{Config}
 use Rattle.dspec_deeds.specs.declared.deed.Deed.{Deed}
 use Rattle.dspec_deeds.specs.declared.deed.Deed.TheVariants.{Release}
+use Rattle.dspec_table.specs.Layout.{slot_place}
 use Rattle.dspec_table.specs.Holders.{of_cpu}
 use Rattle.dspec_deeds.specs.History.{issue, scan, present, opened, releaser, verdict, is_undecided, callers, solo, solo_of, Verdict, undecided, committed, discarded}
 use Rattle.dspec_deeds.specs.Legal.{IsSound}
@@ -47,7 +48,7 @@ decided_word (committed a) cs c e = refl
 decided_word (discarded a) cs c e = refl
 
 pub gives_back : (k : Config) (slots id c : ℕ) (me : Me ℕ View) (spec : Speculation) → c < k.cpus → 1 ≤ spec.slot → spec.slot ≤ k.nspec → me.0.who ≡ of_cpu c → me.0.also ≡ [] → OwnCommit k me.0 c spec
-    → Allows (Kept k) slots id me spec.slot (λ n. either (n == word_number record { issue = spec.issue; code = Committing })
+    → Allows (Kept k) slots id me (slot_place spec.slot) (λ n. either (n == word_number record { issue = spec.issue; code = Committing })
     (word_number record { issue = spec.issue + 1; code = Inactive }) n) (λ n w. ReleasedWord spec.slot me.0 w.0 × (w.1 ≡ me.1))
 gives_back k slots id c me spec lt one most who alone may =
     let s = spec.slot in

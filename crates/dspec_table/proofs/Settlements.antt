@@ -32,7 +32,7 @@ use Rattle.dspec_table.specs.declared.doing.Doing.{Doing}
 use Rattle.dspec_table.specs.Rule.{Kept}
 use Rattle.dspec_table.specs.Showing.{Shows}
 use Rattle.dspec_table.specs.Since.{Since, here, more}
-use Rattle.dspec_table.specs.Layout.{activity_place, group_place, ack_place, ask_place}
+use Rattle.dspec_table.specs.Layout.{slot_place, activity_place, group_place, ack_place, ask_place}
 use Rattle.dspec_table.specs.Steps.{acted, SettledWord, StoredAck}
 use Rattle.dspec_table.specs.Holders.{number_of}
 use Rattle.dspec_table.specs.Acts.{fate_of_settlement}
@@ -56,7 +56,8 @@ ack_shows k words c s n log new lt one most ch sh =
       count = length-set words place n ∙ sh.count;
       active = (let apart : activity_place k ≢ place = (λ e. let e' : activity_place k ≡ group_place k c + s = e in omega arith) in get_or-set_other words place
           (activity_place k) n 0 apart) ∙ (sh.active ∙ sym ch.active);
-      slots = λ t a b. let apart : t ≢ place = (λ e. let e' : t ≡ group_place k c + s = e in omega arith) in get_or-set_other words place t n 0 apart ∙ (sh.slots t a b ∙ sym (ch.slots t));
+      slots = λ t a b. let apart : slot_place t ≢ place = (λ e. let e' : slot_place t ≡ group_place k c + s = e in omega arith) in
+          get_or-set_other words place (slot_place t) n 0 apart ∙ (sh.slots t a b ∙ sym (ch.slots t));
       acks = λ d t x a b. ⊎_elim
           (λ (e : ((d == c) && (t == s)) ≡ true).
           let both = and_tells (d == c) (t == s) e in

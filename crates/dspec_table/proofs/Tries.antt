@@ -14,6 +14,7 @@ use Rattle.dspec_deeds.specs.declared.config.Config.{Config}
 use Rattle.dspec_record.specs.Record.{Record}
 use Rattle.dspec_deeds.specs.declared.deed.Deed.{Deed}
 use Rattle.dspec_deeds.specs.declared.deed.Deed.TheVariants.{Speculate, Commit, Discard, Release}
+use Rattle.dspec_table.specs.Layout.{slot_place}
 use Rattle.dspec_table.specs.Holders.{Holder, of_cpu}
 use Rattle.dspec_deeds.specs.History.{issue, scan, owed, present, releaser, verdict, is_undecided, is_open, committed, discarded}
 use Rattle.dspec_deeds.specs.History.{callers, joined, is_among, standing, active_code, is_sole, code_at, word_at, solo}
@@ -166,7 +167,8 @@ hits k c log doing slot new s rests op.Service f e = absurd e
 
 pub tries_word : (k : Config) (slots id c slot : ℕ) (me : Me ℕ View) (doing : Doing) (from to : SlotState) → 1 ≤ slot → slot ≤ k.nspec → me.0.who ≡ of_cpu c → me.0.also ≡ []
     → MayTry k me.0 c doing slot from to
-    → Allows (Kept k) slots id me slot (λ n. either (n == word_number from) (word_number to) n) (λ n w. TriedNumber doing slot me.0 (word_number to) n (n == word_number from) w.0 × (w.1 ≡ me.1))
+    → Allows (Kept k) slots id me (slot_place slot) (λ n. either (n == word_number from) (word_number to) n)
+    (λ n w. TriedNumber doing slot me.0 (word_number to) n (n == word_number from) w.0 × (w.1 ≡ me.1))
 tries_word k slots id c slot me doing from to one most who alone may =
     exchanges k slots id slot (word_number from) (word_number to) me (TriedNumber doing slot me.0 (word_number to)) (is_cpu me.0 c who) alone one most
     (λ st kept at found.

@@ -1,18 +1,25 @@
 -- Where the words of a session lie. A line of the cache is 64 bytes, eight words.
-use Rattle.std.specs.Prelude.{ℕ, ◌≤◌, ◌+◌, ◌*◌}
+use Rattle.std.specs.Prelude.{ℕ, ◌≤◌, ◌+◌, ◌*◌, ◌/◌}
 use Rattle.dspec_deeds.specs.declared.config.Config.{Config}
 
--- the slots' words lie together from place 1 on, each at its slot's number; behind each group seven places are left free,
--- so that no line that has a word of one group has one of another
+-- each slot's word has a line of its own: eight places a slot; behind each group seven places are left free, so that no line
+-- that has a word of one group has one of another
+abbrev pub slot_place : ℕ → ℕ
+slot_place s = s * 8
+
+-- the slot whose word lies there
+abbrev pub slot_at : ℕ → ℕ
+slot_at p = p / 8
+
 abbrev pub activity_place : Config → ℕ
-activity_place k = k.nspec + 8
+activity_place k = k.nspec * 8 + 8
 
 -- a CPU's group: its ask, and its acknowledgements of the slots
 abbrev pub group_width : Config → ℕ
 group_width k = k.nspec + 8
 
 abbrev pub group_place : Config → ℕ → ℕ
-group_place k c = k.nspec + 16 + c * group_width k
+group_place k c = k.nspec * 8 + 16 + c * group_width k
 
 abbrev pub ask_place : Config → ℕ → ℕ
 ask_place k c = group_place k c

@@ -4,7 +4,7 @@ use Rattle.dspec_word.specs.Word.{word_number}
 use Rattle.dspec_deeds.specs.declared.config.Config.{Config}
 use Rattle.dspec_deeds.specs.declared.deed.Deed.{Deed}
 use Rattle.dspec_deeds.specs.History.{halted, word_at, ack}
-use Rattle.dspec_table.specs.Layout.{activity_place, ack_place, word_count}
+use Rattle.dspec_table.specs.Layout.{slot_place, activity_place, ack_place, word_count}
 
 abbrev pub activity : List Deed → ℕ
 activity log = if halted log then 1 else 0
@@ -15,7 +15,7 @@ word s log = word_number (word_at s log)
 pub record Shows (k : Config) (words : List ℕ) (log : List Deed) : Type 0 where
   pub count : length words ≡ word_count k
   pub active : slice_index words (activity_place k) ≡ activity log
-  pub slots : (s : ℕ) → 1 ≤ s → s ≤ k.nspec → slice_index words s ≡ word s log
+  pub slots : (s : ℕ) → 1 ≤ s → s ≤ k.nspec → slice_index words (slot_place s) ≡ word s log
   pub acks : (c s : ℕ) → c < k.cpus → 1 ≤ s → s ≤ k.nspec → slice_index words (ack_place k c s) ≡ ack c s log
 
 -- the number of a word that can be released
@@ -24,4 +24,4 @@ IsWordNumber n = (n % 8 < 7) × (n ≤ 2 ^ 60)
 
 -- the places of the slots have words
 abbrev pub AreWords : Config → List ℕ → Type 0
-AreWords k words = (s : ℕ) → 1 ≤ s → s ≤ k.nspec → IsWordNumber (slice_index words s)
+AreWords k words = (s : ℕ) → 1 ≤ s → s ≤ k.nspec → IsWordNumber (slice_index words (slot_place s))

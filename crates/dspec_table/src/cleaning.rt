@@ -6,7 +6,7 @@ ghost use Rattle.dspec_table.specs.Steps.{LoadedAck, LookedWord, ReapedWord};
 ghost use Rattle.dspec_table.specs.Seats.{known_there, IsConsumerAt, set_up};
 ghost use Rattle.dspec_word.specs.Word.{CanBeReleased};
 
-use crate::layout::ack_place;
+use crate::layout::{ack_place, slot_place};
 use crate::plays::{LoadsAck, LooksAtWord, Reaps};
 use crate::reading::read_word;
 use crate::seats::{ConsumerSeat, Words};
@@ -24,7 +24,7 @@ impl ConsumerSeat {
         let found = words
             .board
             .shared
-            .load::<LooksAtWord>(&mut self.seat, slot as usize);
+            .load::<LooksAtWord>(&mut self.seat, slot_place(slot));
         read_word(found)
     }
 
@@ -60,7 +60,7 @@ impl ConsumerSeat {
         let found = words
             .board
             .shared
-            .compare_exchange::<Reaps>(&mut self.seat, slot as usize, old, new);
+            .compare_exchange::<Reaps>(&mut self.seat, slot_place(slot), old, new);
         if found == old {
             return Ok(());
         }

@@ -1,14 +1,23 @@
 ghost use Rattle.std.specs.Prelude.{ℕ, ◌≡◌, ◌<◌, ◌≤◌, ◌+◌};
-ghost use Rattle.dspec_table.specs.Layout.{activity_place, group_place, ask_place, ack_place, HasPlaces};
+ghost use Rattle.dspec_table.specs.Layout.{slot_place, slot_at, activity_place, group_place, ask_place, ack_place, HasPlaces};
 ghost use Rattle.dspec_deeds.specs.declared.config.Config.{Config};
 
 use dspec_deeds::Config;
+
+/// Where a slot's word lies.
+#[inline(always)]
+pub(crate) fn slot_place(slot: u32) -> usize
+    ensures place { result ≡ slot_place slot }
+    ensures slot { slot_at result ≡ slot }
+{
+    slot as usize * 8
+}
 
 /// Where activity lies.
 pub(crate) fn activity_place(config: &Config) -> usize
     ensures { result ≡ activity_place config.now }
 {
-    config.nspec as usize + 8
+    config.nspec as usize * 8 + 8
 }
 
 /// Where a CPU's ask lies.
@@ -20,7 +29,7 @@ pub(crate) fn ask_place(config: &Config, cpu: u32) -> usize
     let cpu = cpu as usize;
     let width = config.nspec as usize + 8;
     prove!(cpu * width <= 4544);
-    config.nspec as usize + 16 + cpu * width
+    config.nspec as usize * 8 + 16 + cpu * width
 }
 
 /// Where a CPU's acknowledgement of a slot lies.
@@ -33,10 +42,12 @@ pub(crate) fn ack_place(config: &Config, cpu: u32, slot: u32) -> usize
     ask_place(config, cpu) + slot as usize
 }
 
-/// Law of the places, of eight words a line: activity lies eight places or more from every other word, and so does what lies
-/// in the group of one CPU, its ask and its acknowledgements, from what lies in another's. So no line has words of both.
+/// Law of the places, of eight words a line: eight places or more lie between the words of two slots, between activity and every
+/// other word, and between what lies in the group of one CPU, its ask and its acknowledgements, and in another's. So no line has
+/// words of both.
 pub fn words_lie_apart()
-    ensures slots { (k : Config) (s : ℕ) → s ≤ k.nspec → s + 8 ≤ activity_place k }
+    ensures slots { (s t : ℕ) → s < t → slot_place s + 8 ≤ slot_place t }
+    ensures last { (k : Config) (s : ℕ) → s ≤ k.nspec → slot_place s + 8 ≤ activity_place k }
     ensures activity { (k : Config) (c s : ℕ) → activity_place k + 8 ≤ group_place k c + s }
     ensures asks { (k : Config) (c : ℕ) → ask_place k c ≡ group_place k c }
     ensures acks { (k : Config) (c s : ℕ) → ack_place k c s ≡ group_place k c + s }

@@ -6,7 +6,7 @@ ghost use Rattle.dspec_table.specs.Seats.{known, IsAt, set_up, cpu_of};
 ghost use Rattle.dspec_word.specs.Word.{CanBeReleased};
 
 use crate::doing::Doing;
-use crate::layout::activity_place;
+use crate::layout::{activity_place, slot_place};
 use crate::plays::{Asked, LoadsActivity, LoadsWord};
 use crate::reading::read_word;
 use crate::seats::{CpuSeat, Words};
@@ -50,7 +50,7 @@ impl CpuSeat {
         words
             .board
             .shared
-            .load::<LoadsWord<J>>(&mut self.seat, slot as usize)
+            .load::<LoadsWord<J>>(&mut self.seat, slot_place(slot))
     }
 
     /// Loads a slot's word.

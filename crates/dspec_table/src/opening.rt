@@ -7,6 +7,7 @@ ghost use Rattle.dspec_table.specs.Seats.{known, IsAt, set_up, cpu_of};
 ghost use Rattle.dspec_word.specs.Word.{word_number, CanBeReleased};
 
 use crate::doing::Doing;
+use crate::layout::slot_place;
 use crate::plays::OpensWord;
 use crate::reading::read_word;
 use crate::seats::{CpuSeat, Words};
@@ -39,7 +40,7 @@ impl CpuSeat {
         let found = words
             .board
             .shared
-            .compare_exchange::<OpensWord>(&mut self.seat, slot as usize, old, new);
+            .compare_exchange::<OpensWord>(&mut self.seat, slot_place(slot), old, new);
         if found == old {
             Ok(())
         } else {

@@ -33,18 +33,20 @@ pub struct LoadsWord<J> {
 
 impl<J: Asked> Play<u8, View> for LoadsWord<J> {
     ghost use Rattle.std.specs.Prelude.{◌≡◌};
+    ghost use Rattle.dspec_table.specs.Layout.{slot_at};
     ghost use Rattle.dspec_table.specs.Steps.{LoadedNumber};
 
-    ghost then = { λ st v n w. LoadedNumber J.doing st.word v.0 n w.0 × (w.1 ≡ v.1) };
+    ghost then = { λ st v n w. LoadedNumber J.doing (slot_at st.word) v.0 n w.0 × (w.1 ≡ v.1) };
 }
 
 pub struct OpensWord;
 
 impl Play<u8, View> for OpensWord {
     ghost use Rattle.std.specs.Prelude.{◌≡◌, ◌==◌};
+    ghost use Rattle.dspec_table.specs.Layout.{slot_at};
     ghost use Rattle.dspec_table.specs.Steps.{OpenedNumber};
 
-    ghost then = { λ st v n w. OpenedNumber st.word v.0 st.second n (n == st.first) w.0 × (w.1 ≡ v.1) };
+    ghost then = { λ st v n w. OpenedNumber (slot_at st.word) v.0 st.second n (n == st.first) w.0 × (w.1 ≡ v.1) };
 }
 
 pub struct TriesWord<J> {
@@ -53,18 +55,20 @@ pub struct TriesWord<J> {
 
 impl<J: Asked> Play<u8, View> for TriesWord<J> {
     ghost use Rattle.std.specs.Prelude.{◌≡◌, ◌==◌};
+    ghost use Rattle.dspec_table.specs.Layout.{slot_at};
     ghost use Rattle.dspec_table.specs.Steps.{TriedNumber};
 
-    ghost then = { λ st v n w. TriedNumber J.doing st.word v.0 st.second n (n == st.first) w.0 × (w.1 ≡ v.1) };
+    ghost then = { λ st v n w. TriedNumber J.doing (slot_at st.word) v.0 st.second n (n == st.first) w.0 × (w.1 ≡ v.1) };
 }
 
 pub struct ReleasesWord;
 
 impl Play<u8, View> for ReleasesWord {
     ghost use Rattle.std.specs.Prelude.{◌≡◌};
+    ghost use Rattle.dspec_table.specs.Layout.{slot_at};
     ghost use Rattle.dspec_table.specs.Steps.{ReleasedWord};
 
-    ghost then = { λ st v n w. ReleasedWord st.word v.0 w.0 × (w.1 ≡ v.1) };
+    ghost then = { λ st v n w. ReleasedWord (slot_at st.word) v.0 w.0 × (w.1 ≡ v.1) };
 }
 
 pub struct StoresAck<J> {
@@ -119,9 +123,10 @@ pub struct LooksAtWord;
 
 impl Play<u8, View> for LooksAtWord {
     ghost use Rattle.std.specs.Prelude.{◌≡◌};
+    ghost use Rattle.dspec_table.specs.Layout.{slot_at};
     ghost use Rattle.dspec_table.specs.Steps.{LookedNumber};
 
-    ghost then = { λ st v n w. LookedNumber st.word v.0 n w.0 × (w.1 ≡ v.1) };
+    ghost then = { λ st v n w. LookedNumber (slot_at st.word) v.0 n w.0 × (w.1 ≡ v.1) };
 }
 
 pub struct LoadsAck;
@@ -137,9 +142,10 @@ pub struct Reaps;
 
 impl Play<u8, View> for Reaps {
     ghost use Rattle.std.specs.Prelude.{◌≡◌, ◌==◌};
+    ghost use Rattle.dspec_table.specs.Layout.{slot_at};
     ghost use Rattle.dspec_table.specs.Steps.{ReapedNumber};
 
-    ghost then = { λ st v n w. ReapedNumber st.word v.0 n (n == st.first) w.0 × (w.1 ≡ v.1) };
+    ghost then = { λ st v n w. ReapedNumber (slot_at st.word) v.0 n (n == st.first) w.0 × (w.1 ≡ v.1) };
 }
 
 /// The seat of a CPU is dealt out.

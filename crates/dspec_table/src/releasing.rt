@@ -5,6 +5,7 @@ ghost use Rattle.dspec_table.specs.Steps.{ReleasedWord};
 ghost use Rattle.dspec_table.specs.Seats.{known, IsAt, set_up, cpu_of};
 
 use crate::doing::Doing;
+use crate::layout::slot_place;
 use crate::plays::ReleasesWord;
 use crate::seats::{CpuSeat, Words};
 use dspec_deeds::CpuOp;
@@ -23,7 +24,12 @@ impl CpuSeat {
         words
             .board
             .shared
-            .compare_exchange::<ReleasesWord>(&mut self.seat, slot as usize, from.raw(), to.raw());
+            .compare_exchange::<ReleasesWord>(
+                &mut self.seat,
+                slot_place(slot),
+                from.raw(),
+                to.raw(),
+            );
     }
 
     /// Releases a slot that the seat's CPU has just committed alone, by an exchange that always succeeds.

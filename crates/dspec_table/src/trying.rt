@@ -6,6 +6,7 @@ ghost use Rattle.dspec_table.specs.Seats.{known, IsAt, set_up, cpu_of};
 ghost use Rattle.dspec_word.specs.Word.{word_number, CanBeReleased};
 
 use crate::doing::Doing;
+use crate::layout::slot_place;
 use crate::plays::{Asked, TriesWord};
 use crate::reading::read_word;
 use crate::seats::{CpuSeat, Words};
@@ -42,7 +43,12 @@ impl CpuSeat {
         words
             .board
             .shared
-            .compare_exchange::<TriesWord<J>>(&mut self.seat, slot as usize, from.raw(), to.raw())
+            .compare_exchange::<TriesWord<J>>(
+                &mut self.seat,
+                slot_place(slot),
+                from.raw(),
+                to.raw(),
+            )
     }
 
     fn try_word(

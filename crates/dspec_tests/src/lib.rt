@@ -1,5 +1,7 @@
-//! Tests of dspec: whole sessions by lanes, paths, a work and a sink.
+//! Tests of dspec and dspec_trace: whole sessions by lanes, paths, a work and a sink.
 #![tactic(auto)]
 
+#[cfg(test)]
+mod folders;
 #[cfg(test)]
 mod tests;

@@ -1,7 +1,7 @@
 //! Two lanes: each keeps a path, throws one away, and traces a record; one that the schema refuses isn't offered.
 use dspec::{
     Batch, Both, Config, Decided, Enablings, Field, Kept, Lane, Policy, Rec, Report, Sink, Traced,
-    Work, closed_cpu, config_of, trace,
+    Work, closed_cpu, trace,
 };
 use std::sync::atomic::{AtomicU64, Ordering};
 use std::test::Fail;
@@ -97,7 +97,7 @@ fn records_are_kept(rt: HostRuntime) -> Result<(), Fail> {
         first: Kept::new(rt.alloc()),
         second: Some(Counted { bytes: 0 }),
     };
-    let config = config_of(1, 4, 64, 64);
+    let config = Config::of(1, 4, 64, 64);
     let Ok((closed, sink)) = trace(&rt, rt.alloc(), &config, schema, &work, sink) else {
         return Err("no session".into());
     };

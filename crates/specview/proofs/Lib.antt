@@ -4,3 +4,4 @@ pub mod Greatest
 pub mod Files
 pub mod AllFiles
 pub mod Taking
+pub mod Steppings

@@ -3,3 +3,4 @@ pub mod Traces
 pub mod Faults
 pub mod Folders
 pub mod Pictures
+pub mod Stepping

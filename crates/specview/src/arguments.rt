@@ -36,6 +36,8 @@ pub enum Ask<'a> {
     Trace(TraceAsk<'a>),
     /// To draw a picture.
     Picture(PictureAsk<'a>),
+    /// To tell the steps of a schedule's play, of this file, or of standard input where none is named.
+    Steps(Option<&'a str>),
     /// To print this text, which was asked for by `--help` or `--version`.
     Text(String),
 }
@@ -80,6 +82,13 @@ fn picture_command<'a>(alloc: Global) -> Result<Command<'a>, AllocError> {
         .arg(schedule_arg(alloc))
 }
 
+/// The subcommand that tells steps.
+fn steps_command<'a>(alloc: Global) -> Result<Command<'a>, AllocError> {
+    Command::new(alloc, "steps")
+        .about("play a schedule, and tell each atomic step in a line")
+        .arg(schedule_arg(alloc))
+}
+
 /// The whole command line: a subcommand for each thing that there is to do.
 fn command<'a>(alloc: Global) -> Result<Command<'a>, AllocError> {
     Command::new(alloc, "specview")
@@ -87,7 +96,8 @@ fn command<'a>(alloc: Global) -> Result<Command<'a>, AllocError> {
         .about("shows plays")
         .subcommand_required(true)
         .subcommand(ctf_command(alloc)?)?
-        .subcommand(picture_command(alloc)?)
+        .subcommand(picture_command(alloc)?)?
+        .subcommand(steps_command(alloc)?)
 }
 
 /// The trace that is asked for.
@@ -119,6 +129,9 @@ pub fn ask_of<'a>(alloc: Global, words: &'a [String]) -> Result<Ask<'a>, ViewFau
     };
     if let Some(found) = found.subcommand_matches("picture") {
         return Ok(Ask::Picture(picture_ask(found)));
+    }
+    if let Some(found) = found.subcommand_matches("steps") {
+        return Ok(Ask::Steps(found.get_str("schedule")));
     }
     let Some(found) = found.subcommand_matches("ctf") else {
         return Err(ViewFault::Usage);

@@ -32,7 +32,7 @@ pub enum ViewFault {
     NotEmpty,
     #[error("a clock of frequency 0")]
     NoFrequency,
-    #[error("usage: specview ctf --output FOLDER [--by-time HERTZ] [SCHEDULE], specview picture [--output FILE] [SCHEDULE]")]
+    #[error("usage: specview ctf --output FOLDER [--by-time HERTZ] [SCHEDULE], specview picture [--output FILE] [SCHEDULE], specview steps [SCHEDULE]")]
     Usage,
 }
 

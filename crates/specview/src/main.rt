@@ -5,7 +5,7 @@
 //! Nothing is written before the play has succeeded. The folder is made; one that is there has to be empty.
 //!
 //! `specview picture [--output FILE] [SCHEDULE]` plays a schedule, and draws its play as an SVG: into the file, which is made or
-//! replaced, or on standard output.
+//! replaced, or on standard output. `specview steps [SCHEDULE]` tells each atomic step of the play in a line.
 #![tactic(auto)]
 
 mod arguments;
@@ -15,6 +15,7 @@ mod events;
 mod fault;
 mod folder;
 mod pictured;
+mod stepped;
 mod trace;
 
 use arguments::{Ask, PictureAsk, TraceAsk, ask_of};
@@ -27,6 +28,7 @@ use std::env;
 use std::fs::File;
 use std::io::Write;
 use std::process::ExitCode;
+use stepped::steps_of_text;
 use trace::trace_of;
 
 /// The bytes of a schedule: of the file that is named, else of standard input.
@@ -79,6 +81,13 @@ fn run_picture(rt: &HostRuntime, ask: &PictureAsk<'_>) -> Result<(), RunFault> {
     Ok(())
 }
 
+/// Plays a schedule and tells its steps.
+fn run_steps(rt: &HostRuntime, schedule: Option<&str>) -> Result<(), ViewFault> {
+    let text = input(rt, schedule)?;
+    let told = steps_of_text(rt.alloc(), text.as_slice())?;
+    write_out(rt, told.as_str())
+}
+
 /// The words of the command line; words that are no text ask for nothing that the program does.
 fn words_of(rt: &HostRuntime) -> Result<Vec<String>, ViewFault> {
     let mut words = Vec::new(rt.alloc());
@@ -98,6 +107,7 @@ fn run(rt: &HostRuntime) -> Result<(), RunFault> {
     match ask_of(rt.alloc(), words.as_slice())? {
         Ask::Trace(ask) => run_ctf(rt, &ask)?,
         Ask::Picture(ask) => run_picture(rt, &ask)?,
+        Ask::Steps(schedule) => run_steps(rt, schedule)?,
         Ask::Text(text) => write_out(rt, text.as_str())?,
     }
     Ok(())

@@ -1,9 +1,30 @@
 use dspec::{Enablings, Field, SchemaFault};
+use dspec_trace::EventNames;
 
-/// The names of the enabled probes, in the order of their EPIDs, from 1. Each records the number of its transfer, behind a stamp in
-/// microseconds, and the worker, the account, the account and its balance, or the outcome. A transfer fires `begin`, then `read`,
-/// `wait` and `write` as its steps go, and `end`.
-pub const PROBES: [&str; 5] = ["begin", "read", "wait", "write", "end"];
+/// The names of the enabled probes and of what they record, in the order of their EPIDs, from 1. Each records a stamp in microseconds
+/// too. A transfer fires `begin`, then `read`, `wait` and `write` as its steps go, and `end`.
+pub const PROBES: [EventNames<'static>; 5] = [
+    EventNames {
+        event: "begin",
+        fields: &["transfer", "worker"],
+    },
+    EventNames {
+        event: "read",
+        fields: &["transfer", "account", "balance"],
+    },
+    EventNames {
+        event: "wait",
+        fields: &["transfer", "account"],
+    },
+    EventNames {
+        event: "write",
+        fields: &["transfer", "account", "balance"],
+    },
+    EventNames {
+        event: "end",
+        fields: &["transfer", "outcome"],
+    },
+];
 
 /// Their EPIDs.
 pub const BEGIN: u32 = 1;

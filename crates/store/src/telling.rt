@@ -1,10 +1,16 @@
 use crate::probes::{ABORTED, BEGIN, END, PROBES};
+use crate::serving::WORKERS;
 use anyhow::Result;
 use dspec::{Rec, Report};
 
 /// A value of a record; 0 where there is none.
 fn value(rec: &Rec, place: usize) -> u64 {
     *rec.values().get(place).unwrap_or(&0)
+}
+
+/// Whether a record is of a transfer of that worker.
+pub fn is_of(rec: &Rec, worker: u32) -> bool {
+    value(rec, 0) % u64::from(WORKERS) == u64::from(worker)
 }
 
 /// Prints a step of a transfer that began at that stamp.
@@ -19,10 +25,10 @@ fn tell_step<R: Print>(rt: &R, began: u64, rec: &Rec) -> Result<()> {
         println!(rt; " {outcome} after {micros} us")?;
         return Ok(());
     }
-    let Some(event) = PROBES.get((rec.epid() as usize).wrapping_sub(1)) else {
+    let Some(names) = PROBES.get((rec.epid() as usize).wrapping_sub(1)) else {
         return Ok(());
     };
-    let account = value(rec, 1);
+    let (event, account) = (names.event, value(rec, 1));
     match rec.values().get(2) {
         Some(balance) => print!(rt; " {event} {account}: {balance},")?,
         None => print!(rt; " {event} {account},")?,

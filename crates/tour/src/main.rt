@@ -3,7 +3,7 @@
 #![tactic(auto)]
 
 use anyhow::Result;
-use dspec::{Enablings, Field, Kept, Lane, Work, closed_cpu, config_of, trace};
+use dspec::{Config, Enablings, Field, Kept, Lane, Work, closed_cpu, trace};
 
 /// What the CPU does, by the EPIDs of its two probes.
 #[derive(Drop)]
@@ -32,13 +32,13 @@ fn main(rt: HostRuntime) -> Result<()> {
     let mut schema = Enablings::new();
     let request = schema.enable(&[Field::Four])?;
     let touch = schema.enable(&[Field::Eight, Field::One])?;
-    let config = config_of(1, 2, 64, 64);
+    let config = Config::of(1, 2, 64, 64);
     let work = Requests { request, touch };
     let kept = Kept::new(rt.alloc());
     let (closed, kept) = trace(&rt, rt.alloc(), &config, schema, &work, kept)?;
     for rec in kept.records()? {
         println!(rt; "taken {rec}")?;
     }
-    println!(rt; "{:?}", closed_cpu(&closed, 0).report)?;
+    println!(rt; "report cpu 0 {}", closed_cpu(&closed, 0).report)?;
     Ok(())
 }

@@ -1,7 +1,8 @@
 //! The ways of a record by its schema, and the buffers that it goes into.
 use crate::cpu::asking::Run;
 use crate::cpu::starting::begin;
-use crate::cpu::way::{Way, commit_often, serve_often, trace_often};
+use crate::cpu::way::{Way, commit_often, serve_often, trace_often, trace_over};
+use dspec::Lane;
 use dspec_deeds::{Config, Policy};
 use dspec_record::{DefaultAction, Rec, Schema};
 use dspec_samples::{Subject, timed_enablings};
@@ -50,6 +51,10 @@ fn take_by<S: Schema>(alloc: Global, schema: S, rec: Rec, run: Run) -> Option<u3
     let (mut cpu, shared) = begin(alloc, &config, schema)?;
     match run.way {
         Way::Kept => Some(trace_often(&mut cpu, &shared, &rec, run.number)),
+        Way::Lane => {
+            let mut lane = Lane::of(&shared, &mut cpu);
+            Some(trace_over(&mut lane, &rec, run.number))
+        }
         Way::Dropped => {
             // No record is smaller than 4 bytes.
             trace_often(&mut cpu, &shared, &rec, bufsize / 4);

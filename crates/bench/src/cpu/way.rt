@@ -2,7 +2,9 @@
 ghost use Rattle.std.specs.Prelude.{◌≡◌, IsTrue};
 ghost use Rattle.dspec_cpu.specs.Lists.{schema_of, words_of};
 ghost use Rattle.dspec_cpu.specs.Standing.{Belongs, identity};
+ghost use Rattle.dspec.specs.Lanes.{place_of};
 
+use dspec::Lane;
 use dspec_cpu::{Cpu, Shared};
 use dspec_deeds::{Decided, Opening, Spoken, Traced};
 use dspec_record::{Rec, Schema};
@@ -16,6 +18,8 @@ const BLOCK_RECORDS: u32 = 20;
 pub enum Way {
     /// It is traced and kept.
     Kept,
+    /// It is traced over a lane, and kept.
+    Lane,
     /// It is traced and dropped, since the buffer is full.
     Dropped,
     /// It is one of twenty of a speculation, which is opened, kept and committed.
@@ -25,12 +29,19 @@ pub enum Way {
 }
 
 /// All of them, in the order in which they are told.
-pub const WAYS: [Way; 4] = [Way::Kept, Way::Dropped, Way::Committed, Way::Served];
+pub const WAYS: [Way; 5] = [
+    Way::Kept,
+    Way::Lane,
+    Way::Dropped,
+    Way::Committed,
+    Way::Served,
+];
 
 impl Way {
     pub fn name(self) -> &'static str {
         match self {
             Way::Kept => "kept",
+            Way::Lane => "lane",
             Way::Dropped => "dropped",
             Way::Committed => "committed",
             Way::Served => "served",
@@ -38,8 +49,8 @@ impl Way {
     }
 }
 
-/// One call of trace, which stays a call, as it is one where a probe fires.
-#[inline(never)]
+/// One call of trace. Two ways make it, so that it stays a call, as it is one where several probes fire.
+#[inline]
 fn trace_one<S: Schema>(cpu: &mut Cpu<S>, shared: &Shared, rec: &Rec) -> bool
     requires of { Belongs (words_of shared.now) (identity cpu.old) }
     requires accepted { IsTrue (S.accepted (schema_of cpu.old) rec.now) }
@@ -63,7 +74,30 @@ pub fn trace_often<S: Schema>(cpu: &mut Cpu<S>, shared: &Shared, rec: &Rec, numb
     kept
 }
 
-/// One call of speculate, a call like `trace_one`.
+/// One call of trace over a lane, like `trace_one`.
+#[inline]
+fn trace_on<S: Schema>(lane: &mut Lane<'_, S>, rec: &Rec) -> bool
+    requires accepted { IsTrue (S.accepted (schema_of lane.old.cpu.now) rec.now) }
+    ensures same { place_of lane.new ≡ place_of lane.old }
+{
+    lane.trace(rec) == Traced::Kept
+}
+
+/// Traces the record so many times over a lane: how often it was kept.
+pub fn trace_over<S: Schema>(lane: &mut Lane<'_, S>, rec: &Rec, number: u32) -> u32
+    requires accepted { IsTrue (S.accepted (schema_of lane.old.cpu.now) rec.now) }
+    ensures same { place_of lane.new ≡ place_of lane.old }
+{
+    let mut kept: u32 = 0;
+    for _ in 0..number {
+        if trace_on(lane, rec) {
+            kept = kept.wrapping_add(1);
+        }
+    }
+    kept
+}
+
+/// One call of speculate, which stays a call too.
 #[inline(never)]
 fn speculate_one<S: Schema>(cpu: &mut Cpu<S>, shared: &Shared, id: SpecId, rec: &Rec) -> bool
     requires of { Belongs (words_of shared.now) (identity cpu.old) }
@@ -104,7 +138,7 @@ pub fn commit_often<S: Schema>(cpu: &mut Cpu<S>, shared: &Shared, rec: &Rec, num
     copied
 }
 
-/// One call of service, a call like `trace_one`: whether there was nothing to do.
+/// One call of service, which stays a call too: whether there was nothing to do.
 #[inline(never)]
 fn serve_one<S: Schema>(cpu: &mut Cpu<S>, shared: &Shared) -> bool
     requires of { Belongs (words_of shared.now) (identity cpu.old) }

@@ -37,7 +37,7 @@ pub fn ask_of(words: &[String]) -> Option<Ask> {
 }
 
 /// A number from 1 to the most that there may be.
-fn number_of(word: &str, most: u32) -> Option<u32> {
+pub fn number_of(word: &str, most: u32) -> Option<u32> {
     match word.parse::<u32>() {
         Ok(number) if number > 0 && number <= most => Some(number),
         _ => None,

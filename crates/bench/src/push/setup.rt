@@ -1,7 +1,7 @@
 //! The buffers that a timed record is pushed into.
 ghost use Rattle.std.specs.Prelude.{IsTrue};
 
-use crate::push::way::{BLOCK_RECORDS, Way, push_blocks, push_often, read_through};
+use crate::push::way::{BLOCK_RECORDS, Way, push_blocks, push_often, read_once, read_through};
 use dspec_buffer::{ByteBuffer, TraceBuffer};
 use dspec_record::{Rec, Schema};
 use std::alloc::{AllocError, Global};
@@ -57,7 +57,7 @@ impl<S: Schema> Setup<S> {
     /// What stands before the way is taken by at most so many records: they are there to be read, or there is none.
     pub fn prepare(&mut self, way: Way, most: u32) {
         <ByteBuffer as TraceBuffer<S>>::clear(&mut self.principal);
-        if way == Way::Read {
+        if way == Way::Read || way == Way::Once {
             push_often(&mut self.principal, &self.schema, &self.rec, most);
         }
     }
@@ -75,6 +75,7 @@ impl<S: Schema> Setup<S> {
                 number / BLOCK_RECORDS,
             ),
             Way::Read => sum = read_through(&self.schema, self.first_bytes(number)),
+            Way::Once => sum = read_once(&self.schema, self.first_bytes(number)),
         }
         let buffer = match way {
             Way::Refused => &self.full,

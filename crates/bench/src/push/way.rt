@@ -1,7 +1,7 @@
 //! The ways that a record can take, each as one loop over many records.
 ghost use Rattle.std.specs.Prelude.{IsTrue};
 
-use dspec_buffer::{ByteBuffer, TraceBuffer, read_all};
+use dspec_buffer::{ByteBuffer, Reading, TraceBuffer, read_all};
 use dspec_record::{Rec, Schema};
 
 /// How many records a block has.
@@ -18,10 +18,12 @@ pub enum Way {
     Block,
     /// It is read out of a buffer, by `read_all` and a walk over the records.
     Read,
+    /// It is read out of a buffer by a `Reading`, which checks as it goes.
+    Once,
 }
 
 /// All of them, in the order in which they are told.
-pub const WAYS: [Way; 4] = [Way::Kept, Way::Refused, Way::Block, Way::Read];
+pub const WAYS: [Way; 5] = [Way::Kept, Way::Refused, Way::Block, Way::Read, Way::Once];
 
 impl Way {
     pub fn name(self) -> &'static str {
@@ -30,6 +32,7 @@ impl Way {
             Way::Refused => "refused",
             Way::Block => "block",
             Way::Read => "read",
+            Way::Once => "once",
         }
     }
 }
@@ -69,7 +72,17 @@ pub fn push_blocks<S: Schema>(
     }
 }
 
-/// Reads all records, and adds up the EPIDs and last values; 0 where the bytes are no text.
+/// What a record adds to the sum of all that are read: its EPID and its last value.
+#[inline]
+fn told(rec: &Rec) -> u64 {
+    let last = match rec.values().last() {
+        Some(value) => *value,
+        None => 0,
+    };
+    last.wrapping_add(u64::from(rec.epid()))
+}
+
+/// Reads all records, and adds up what they tell; 0 where the bytes are no text.
 #[inline(never)]
 pub fn read_through<S: Schema>(schema: &S, bytes: &[u8]) -> u64 {
     let mut sum: u64 = 0;
@@ -77,11 +90,20 @@ pub fn read_through<S: Schema>(schema: &S, bytes: &[u8]) -> u64 {
         return sum;
     };
     for rec in records {
-        let last = match rec.values().last() {
-            Some(value) => *value,
-            None => 0,
-        };
-        sum = sum.wrapping_add(last).wrapping_add(u64::from(rec.epid()));
+        sum = sum.wrapping_add(told(&rec));
     }
     sum
+}
+
+/// Reads the records up to the first fault, and adds up what they tell.
+#[inline(never)]
+pub fn read_once<S: Schema>(schema: &S, bytes: &[u8]) -> u64 {
+    let mut sum: u64 = 0;
+    let mut reading = Reading::new(schema, bytes);
+    loop {
+        let Ok(Some(rec)) = reading.next() else {
+            return sum;
+        };
+        sum = sum.wrapping_add(told(&rec));
+    }
 }

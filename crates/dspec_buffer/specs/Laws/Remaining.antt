@@ -14,7 +14,8 @@ record_code =
 pub records_set : IsSet (List Record)
 records_set = Coded-set (coded_list record_code)
 
-IsOneText-prop : (shape : ℕ → Option Shape) (accepted : Record → Bool) (text : Record → List ℕ) (bytes : List ℕ) (place : ℕ) (rs : List Record) → IsProp (IsOneText shape accepted text bytes place rs)
+pub IsOneText-prop : (shape : ℕ → Option Shape) (accepted : Record → Bool) (text : Record → List ℕ) (bytes : List ℕ) (place : ℕ) (rs : List Record)
+    → IsProp (IsOneText shape accepted text bytes place rs)
 IsOneText-prop shape accepted text bytes place rs =
     ×_prop ∥∥₁_prop (Π_prop (λ qs. Π_prop (λ _. records_set qs rs)))
 

@@ -47,6 +47,11 @@ fn configurations(rt: HostRuntime) {
         max_calls: 0,
         ..LARGEST
     };
+    let largest = Config {
+        policy: Policy::Switch,
+        ..LARGEST
+    };
+    assert_eq!(rt; Config::of(64, 63, 1_048_576, 1_048_576), largest);
     for (config, fault) in [
         (SMALL, None),
         (LARGEST, None),

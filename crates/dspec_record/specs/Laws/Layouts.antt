@@ -78,3 +78,7 @@ pub size-stamped : (fs : List Field) → (layout header.Two fs).size ≡ (layout
 size-stamped fs =
     let moved : fields_end 12 fs ≡ 8 + fields_end 4 fs = fields_end-stamped 4 fs in
     omega (arith, moved)
+
+pub size-moved : (h : Header) (moved : ℕ) (fs : List Field) → 4 + moved ≡ fields_start h → (layout h fs).size ≡ (layout header.One fs).size + moved
+size-moved header.One moved fs is = omega arith
+size-moved header.Two moved fs is = omega (arith, size-stamped fs)

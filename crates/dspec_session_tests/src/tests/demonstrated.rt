@@ -177,7 +177,8 @@ fn demonstrated(rt: HostRuntime) {
     }
     assert!(rt; gate.rounds.load(Ordering::SeqCst) == 1000);
     let closed = ends(&rt, shown);
-    for cpu in 0..4 {
+    assert!(rt; closed.cpus() == 4);
+    for cpu in 0..closed.cpus() {
         let (sealed, last) = closed.rest(cpu);
         let report = closed.report(cpu);
         assert!(rt;

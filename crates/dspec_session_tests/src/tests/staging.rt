@@ -131,10 +131,9 @@ impl<S: Schema> Stage<S> {
     pub(super) fn finish(self, rt: &impl Abort, remains: &[Remains<'_>]) -> Closed
         requires session { IsSession self.schema self.session }
     {
-        let cpus = self.session.cpus.len() as u32;
-        assert!(rt; remains.len() == cpus as usize);
         let closed = self.session.finish();
-        for cpu in 0..cpus {
+        assert!(rt; remains.len() == closed.cpus() as usize);
+        for cpu in 0..closed.cpus() {
             let (sealed, last) = closed.rest(cpu);
             assert!(rt;
                 last.cpu == cpu && remains[cpu as usize].are(sealed, last, closed.report(cpu)),

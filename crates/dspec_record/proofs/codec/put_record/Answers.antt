@@ -1,13 +1,15 @@
 -- The header is written first; then each field finds the room that the layout left for it.
-use Rattle.std.proofs.Common.{◌≡◌, ◌≤◌, ◌<◌, ◌+◌, ℕ, List, length, drop, get_or, arith, sym, ◌∙◌, ap, subst, [], ◌∷◌}
+use Rattle.std.proofs.Common.{◌≡◌, ◌≤◌, ◌<◌, ◌+◌, ◌++◌, ℕ, List, length, take, drop, get_or, arith, sym, ◌∙◌, ap, subst, [], ◌∷◌}
 use Rattle.std.proofs.lemmas.List.{drop_more, drop_all}
-use Rattle.dspec_record.specs.Layout.{fields_start, layout}
+use Rattle.dspec_record.specs.Layout.{width, rounded_up, after, fields_start, layout}
 use Rattle.dspec_record.specs.Record.{Record}
 use Rattle.dspec_record.specs.Reading.{IsShape}
-use Rattle.dspec_record.specs.RecordText.{record_text}
+use Rattle.dspec_record.specs.RecordText.{little_endian, gap, record_text}
 use Rattle.dspec_record.specs.Laws.Layouts.{layout-IsShape, header-within}
 use Rattle.dspec_record.proofs.Fitting.{fits-length}
-use Rattle.dspec_record.proofs.Writing.{IsWriting, IsWriting-start, IsWriting-room, IsWriting-near, IsWriting-end}
+use Rattle.dspec_record.specs.Writing.{IsClearBehind}
+use Rattle.dspec_record.proofs.Places.{IsPlaced, IsPlaced-start, IsPlaced-place, IsPlaced-next, length-field_places}
+use Rattle.dspec_record.proofs.Writing.{IsWriting, IsWriting-start, IsWriting-room, IsWriting-next, IsWriting-end}
 use Rattle.dspec_record.specs.declared.field.Field.{Field}
 use Rattle.dspec_record.specs.declared.header.Header.{Header}
 use Rattle.dspec_record.specs.declared.field.Field.TheVariants.{One}
@@ -29,19 +31,36 @@ bounds-values-i c =
     fits-length c.args.fields.now c.args.rec.now.values c.requires.fit in
     omega (arith, same, ap length c.values-values.ensures.values)
 
-pub put_field-end-requires-clause-near : goal.put_field-end-requires-clause-near
-put_field-end-requires-clause-near c =
-    omega (arith, c.loop-i.invariant.short, IsWriting-near _ _ _ _ _ c.loop-i.invariant)
+pub bounds-places-i : goal.bounds-places-i
+bounds-places-i c =
+    omega (arith, ap length c.requires.places ∙ length-field_places 4 c.args.fields.now)
+
+-- the fields and values that are left begin with this one
+here : (text : List ℕ) (end : ℕ) (out : List ℕ) (i : ℕ) (fs : List Field) (vs : List ℕ) → i < length fs → length fs ≡ length vs → IsWriting text end out (drop i fs) (drop i vs)
+    → IsWriting text end out (get_or fs i One ∷ drop (i + 1) fs) (get_or vs i 0 ∷ drop (i + 1) vs)
+here text end out i fs vs within same w =
+    let Left : List Field → Type 0 = λ gs. IsWriting text end out gs (drop i vs) in
+    let Values : List ℕ → Type 0 = λ us. IsWriting text end out (get_or fs i One ∷ drop (i + 1) fs) us in
+    subst Values (drop_more vs i 0 (omega arith)) (subst Left (drop_more fs i One within) w)
+
+pub put_field-end-requires-clause-place : goal.put_field-end-requires-clause-place
+put_field-end-requires-clause-place c =
+    let fs : List Field = c.args.fields.now in
+    let within : c.loop-i.i < length fs = omega arith in
+    IsPlaced-place c.stamp_size-moved.result c.loop-i.end c.loop-i.i fs c.args.places.now within
+    (ap length c.requires.places ∙ length-field_places 4 fs) c.loop-i.invariant.1
 
 pub put_field-end-requires-clause-room : goal.put_field-end-requires-clause-room
 put_field-end-requires-clause-room c =
     let fs : List Field = c.args.fields.now in
     let i : ℕ = c.loop-i.i in
+    let f : Field = get_or fs i One in
     let within : i < length fs = omega arith in
-    let Left : List Field → Type 0 = λ gs. IsWriting (record_text c.args.header fs c.args.rec.now) c.loop-i.end c.loop-i.out gs (drop i c.values-values.result.now) in
-    let w : IsWriting (record_text c.args.header fs c.args.rec.now) c.loop-i.end c.loop-i.out (get_or fs i One ∷ drop (i + 1) fs) (drop i c.values-values.result.now) =
-    subst Left (drop_more fs i One within) c.loop-i.invariant in
-    IsWriting-room _ _ _ _ _ _ w
+    let many : length fs ≡ length c.values-values.result.now =
+    fits-length fs c.args.rec.now.values c.requires.fit ∙ sym (ap length c.values-values.ensures.values) in
+    let w = here (record_text c.args.header fs c.args.rec.now) c.loop-i.end c.loop-i.out i fs c.values-values.result.now within many c.loop-i.invariant.0 in
+    let Room : ℕ → Type 0 = λ p. p + width f ≤ length c.loop-i.out in
+    subst Room (sym (put_field-end-requires-clause-place c)) (IsWriting-room _ _ _ _ _ _ w)
 
 pub loop-i-init : goal.loop-i-init
 loop-i-init c =
@@ -53,8 +72,34 @@ loop-i-init c =
     let start : IsWriting (record_text h fs r) (fields_start h) out fs r.values =
     IsWriting-start h fs r out c.requires.few c.requires.fit c.put_header-end.ensures.put long c.put_header-end.ensures.clear in
     let Values : List ℕ → Type 0 = λ vs. IsWriting (record_text h fs r) (fields_start h) out fs vs in
-    let At : ℕ → Type 0 = λ end. IsWriting (record_text h fs r) end out fs c.values-values.result.now in
-    subst At (sym c.put_header-end.ensures.end) (subst Values (sym c.values-values.ensures.values) start)
+    let At : ℕ → Type 0 = λ end. IsWriting (record_text h fs r) end out fs c.values-values.result.now in (
+      subst At (sym c.put_header-end.ensures.end) (subst Values (sym c.values-values.ensures.values) start),
+      IsPlaced-start h c.stamp_size-moved.result c.put_header-end.result fs c.args.places.now c.stamp_size-moved.ensures.moves c.put_header-end.ensures.end c.requires.places,
+    )
+
+pub loop-i-preserved : goal.loop-i-preserved
+loop-i-preserved c =
+    let fs : List Field = c.args.fields.now in
+    let vs : List ℕ = c.values-values.result.now in
+    let i : ℕ = c.loop-i.i in
+    let f : Field = get_or fs i One in
+    let v : ℕ = get_or vs i 0 in
+    let end : ℕ = c.loop-i.end in
+    let out : List ℕ = c.put_field-end.new.out in
+    let text : List ℕ = record_text c.args.header fs c.args.rec.now in
+    let within : i < length fs = omega arith in
+    let many : length fs ≡ length vs = fits-length fs c.args.rec.now.values c.requires.fit ∙ sym (ap length c.values-values.ensures.values) in
+    let same : c.put_field-end.result ≡ after end (width f) (width f) = c.put_field-end.ensures.end in
+    let Put : ℕ → Type 0 = λ e. take e out ≡ take end c.loop-i.out ++ (gap end (width f) ++ little_endian (width f) v) in
+    let Clear : ℕ → Type 0 = λ e. IsClearBehind e out in
+    let Next : ℕ → Type 0 = λ e. IsWriting text e out (drop (i + 1) fs) (drop (i + 1) vs) in
+    let Placed : ℕ → Type 0 = λ e. IsPlaced c.stamp_size-moved.result e (drop (i + 1) fs) (drop (i + 1) c.args.places.now) in
+    let next : IsWriting text (after end (width f) (width f)) out (drop (i + 1) fs) (drop (i + 1) vs) =
+    IsWriting-next text end c.loop-i.out out f (drop (i + 1) fs) v (drop (i + 1) vs) (here text end c.loop-i.out i fs vs within many c.loop-i.invariant.0)
+    c.put_field-end.auto.out (subst Put same c.put_field-end.ensures.put) (subst Clear same c.put_field-end.ensures.clear) in
+    let placed : IsPlaced c.stamp_size-moved.result (after end (width f) (width f)) (drop (i + 1) fs) (drop (i + 1) c.args.places.now) =
+    IsPlaced-next c.stamp_size-moved.result end i fs c.args.places.now within (ap length c.requires.places ∙ length-field_places 4 fs) c.loop-i.invariant.1 in
+    (subst Next (sym same) next, subst Placed (sym same) placed)
 
 pub returns : goal.returns
 returns c =
@@ -63,5 +108,5 @@ returns c =
     let past : length fs ≤ i = omega arith in
     let Left : List Field → Type 0 = λ gs. IsWriting (record_text c.args.header fs c.args.rec.now) c.loop-i.end c.loop-i.out gs (drop i c.values-values.result.now) in
     let done : IsWriting (record_text c.args.header fs c.args.rec.now) c.loop-i.end c.loop-i.out [] (drop i c.values-values.result.now) =
-    subst Left (drop_all i fs past) c.loop-i.invariant in
+    subst Left (drop_all i fs past) c.loop-i.invariant.0 in
     IsWriting-end _ _ _ _ done

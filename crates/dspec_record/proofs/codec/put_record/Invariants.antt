@@ -1,7 +1,9 @@
-use Rattle.std.proofs.Common.{drop}
+use Rattle.std.proofs.Common.{◌≡◌, drop}
 use Rattle.dspec_record.specs.RecordText.{record_text}
 use Rattle.dspec_record.proofs.Writing.{IsWriting}
+use Rattle.dspec_record.proofs.Places.{IsPlaced}
 use Rattle.dspec_record.proofs.codec.put_record.Given as goal
 
 abbrev pub invariant-loop-i : goal.invariant-loop-i
-invariant-loop-i l = IsWriting (record_text l.fn.header l.fields l.rec) l.end l.out (drop l.i l.fields) (drop l.i l.values)
+invariant-loop-i l =
+    IsWriting (record_text l.fn.header l.fields l.rec) l.end l.out (drop l.i l.fields) (drop l.i l.values) × IsPlaced l.moved l.end (drop l.i l.fields) (drop l.i l.places)

@@ -10,7 +10,7 @@ same-self g c =
 
 pub returns-in_err-found-clause-steps : goal.returns-in_err-found-clause-steps
 returns-in_err-found-clause-steps g c =
-    let s = c.self.inside.schema in
+    let s = c.self.inside.schema.now in
     let laws : SchemaLaws (g.S.Schema.shape_of s) (g.S.Schema.accepted s) (g.S.Schema.text s) = record {
       zero_has_none = g.met.S.Schema.zero_has_none s;
       shapes_fit = g.met.S.Schema.shapes_fit s;
@@ -21,9 +21,9 @@ returns-in_err-found-clause-steps g c =
     c.self.inside.place c.self.inside.readable c.in_err-found.ensures in
     rw c.from_residual.ensures (none, none)
 
-pub invariant_of-self-inside-2 : goal.invariant_of-self-inside-2
-invariant_of-self-inside-2 g c =
-    let s = c.self.inside.schema in
+pub invariant_of-self-inside : goal.invariant_of-self-inside
+invariant_of-self-inside g c =
+    let s = c.self.inside.schema.now in
     let laws : SchemaLaws (g.S.Schema.shape_of s) (g.S.Schema.accepted s) (g.S.Schema.text s) = record {
       zero_has_none = g.met.S.Schema.zero_has_none s;
       shapes_fit = g.met.S.Schema.shapes_fit s;
@@ -40,7 +40,7 @@ invariant_of-self-inside-2 g c =
 
 pub returns-clause-steps : goal.returns-clause-steps
 returns-clause-steps g c =
-    let s = c.self.inside.schema in
+    let s = c.self.inside.schema.now in
     let laws : SchemaLaws (g.S.Schema.shape_of s) (g.S.Schema.accepted s) (g.S.Schema.text s) = record {
       zero_has_none = g.met.S.Schema.zero_has_none s;
       shapes_fit = g.met.S.Schema.shapes_fit s;
@@ -48,7 +48,7 @@ returns-clause-steps g c =
       texts_differ = g.met.S.Schema.texts_differ s;
     } in
     sym c.self.view_is ∙ first_left (g.S.Schema.shape_of s) (g.S.Schema.accepted s) (g.S.Schema.text s) laws c.self.inside.text.now c.self.inside.place c.in_ok-found.found
-    c.self.inside.readable c.self-2-1.given.1.0 c.in_ok-found.ensures
+    c.self.inside.readable c.self-1.given.1.0 c.in_ok-found.ensures
 
 pub returns-clause-goes : goal.returns-clause-goes
 returns-clause-goes g c = let shorter = ap length (returns-clause-steps g c) in search rules

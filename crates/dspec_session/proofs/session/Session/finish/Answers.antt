@@ -1,4 +1,8 @@
-use Rattle.std.proofs.Common.{◌∙◌, sym}
+use Rattle.std.proofs.Common.{◌≤◌, ◌∙◌, length, sym, ap, subst}
+use Rattle.std.proofs.lemmas.List.{length-reverse}
+use Rattle.dspec_deeds.proofs.SetUp.{most_cpus}
+use Rattle.dspec_table.specs.Seats.{set_up}
+use Rattle.dspec_cpu.specs.Lists.{words_of}
 use Rattle.dspec_session.proofs.Ends.{none_in}
 use Rattle.dspec_session.proofs.Ending.{some_lists, begins_parting, finished}
 use Rattle.dspec_session.proofs.session.Session.finish.Goals as goal
@@ -25,3 +29,11 @@ returns-clause-closed g c = λ schema is.
     { seat = consumer.seat; ends = consumer.ends.items } consumer.config
     c.into_words.ensures none c.consumer.view_is c.consumer.invariant.all c.consumer.invariant.config _ last.result.1.items c.reverse.new.self.items last.ensures.ended
     (sym last.result.1.ok.0 ∙ (last.ensures.count ∙ c.args.self.cpus.ok.0)) last.ensures.left c.reverse.ensures.items
+
+pub invariant_of-result : goal.invariant_of-result
+invariant_of-result g c =
+    let session = c.requires.session.1 in
+    let last = c.part_all-last in
+    let count = sym last.result.1.ok.0 ∙ (last.ensures.count ∙ c.args.self.cpus.ok.0) in
+    let all = ap length c.reverse.ensures.items ∙ (length-reverse last.result.1.items ∙ (count ∙ session.all)) in
+    (subst (λ n. n ≤ 64) (sym all) (most_cpus (set_up (words_of c.args.self.shared)) session.checked), tt)

@@ -1,4 +1,5 @@
-use Rattle.std.proofs.Common.{◌∙◌, sym, subst}
+use Rattle.std.proofs.Common.{◌∙◌, sym, ap, subst}
+use Rattle.std.specs.Prelude.{slice_index}
 use Rattle.dspec_deeds.specs.History.{word_at}
 use Rattle.dspec_table.specs.Last.{last_words}
 use Rattle.dspec_table.specs.Showing.{IsWordNumber}
@@ -7,9 +8,12 @@ use Rattle.dspec_word.proofs.Numbers.{one_word}
 use Rattle.dspec_table.proofs.last.LastWords.word.Goals as goal
 
 pub read_word-requires : goal.read_word-requires
-read_word-requires c = subst IsWordNumber (got_is (last_words c.args.self.now) c.args.slot c.word.result c.word.ensures) (c.args.self.now.shown c.args.slot c.requires.slot.0 c.requires.slot.1)
+read_word-requires c = subst IsWordNumber (ap (slice_index (last_words c.args.self.now)) (sym c.slot_place.ensures.place)
+    ∙ got_is (last_words c.args.self.now) c.slot_place.result c.word.result c.word.ensures)
+    (c.args.self.now.shown c.args.slot c.requires.slot.0 c.requires.slot.1)
 
 pub returns : goal.returns
 returns c log shows =
     one_word c.read_word.result (word_at c.args.slot log)
-    (c.read_word.ensures.number ∙ (sym (got_is (last_words c.args.self.now) c.args.slot c.word.result c.word.ensures) ∙ shows.slots c.args.slot c.requires.slot.0 c.requires.slot.1))
+    (c.read_word.ensures.number ∙ (sym (ap (slice_index (last_words c.args.self.now)) (sym c.slot_place.ensures.place)
+    ∙ got_is (last_words c.args.self.now) c.slot_place.result c.word.result c.word.ensures) ∙ shows.slots c.args.slot c.requires.slot.0 c.requires.slot.1))

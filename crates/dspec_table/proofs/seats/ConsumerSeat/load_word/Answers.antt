@@ -1,8 +1,9 @@
-use Rattle.std.proofs.Common.{◌≡◌, true, ◌≤◌, ◌^◌, arith, subst, sym, refl, ◌∙◌}
+use Rattle.std.proofs.Common.{ℕ, ◌≡◌, true, ◌≤◌, ◌^◌, subst, sym, refl, ◌∙◌}
 use Rattle.dspec_word.specs.Word.{SlotState}
 use Rattle.dspec_deeds.specs.declared.config.Config.{Config}
+use Rattle.dspec_table.proofs.Places.{slot_within, slot_there}
 use Rattle.dspec_table.specs.Holders.{Holder, same_holder}
-use Rattle.dspec_table.specs.Steps.{LookedWord}
+use Rattle.dspec_table.specs.Steps.{LookedWord, LookedNumber}
 use Rattle.dspec_table.specs.Seats.{known_there}
 use Rattle.dspec_word.proofs.Numbers.{one_word}
 use Rattle.dspec_table.proofs.Limits.{finds_word}
@@ -14,19 +15,19 @@ load-found-requires c =
     let words = c.args.words.now in
     let seat = c.args.self.now in (
       c.requires.seat.0,
-      (let count = words.words_is in let most = c.requires.slot.1 in omega arith),
-      looks_word words.board.shared.key words.board.shared.table_id.slots seat.seat.id seat.seat.me (subst (λ (x : Holder). same_holder x x ≡ true) (sym seat.who_is) refl)
-          seat.joins_none c.args.slot c.requires.slot.0 (rw words.key_is c.requires.slot.1),
+      rw (c.slot_place.ensures.place, words.words_is) (slot_within words.config c.args.slot c.requires.slot.1),
+      rw (c.slot_place.ensures.place, slot_there c.args.slot) (looks_word words.board.shared.key words.board.shared.table_id.slots seat.seat.id seat.seat.me
+          (subst (λ (x : Holder). same_holder x x ≡ true) (sym seat.who_is) refl) seat.joins_none c.args.slot c.requires.slot.0 (rw words.key_is c.requires.slot.1)),
     )
 
 pub read_word-requires : goal.read_word-requires
 read_word-requires c =
-    let step = c.load-found.ensures.2.0 in
+    let step = subst (λ (s : ℕ). LookedNumber s (known_there c.args.self.now) c.load-found.result c.load-found.new.seat.me.0) c.slot_place.ensures.slot c.load-found.ensures.2.0 in
     let few = subst (λ (k : Config). k.max_issues ≤ 2 ^ 57) (sym c.requires.seat.1) c.args.words.now.issues in
     finds_word (known_there c.args.self.now) step.2.0 c.args.slot c.load-found.result step.0 few step.2.1 step.1 step.2.2
 
 pub returns-clause-step : goal.returns-clause-step
 returns-clause-step c =
-    let step = c.load-found.ensures.2.0 in
+    let step = subst (λ (s : ℕ). LookedNumber s (known_there c.args.self.now) c.load-found.result c.load-found.new.seat.me.0) c.slot_place.ensures.slot c.load-found.ensures.2.0 in
     subst (λ (w : SlotState). LookedWord c.args.slot (known_there c.args.self.now) w c.load-found.new.seat.me.0)
     (one_word step.0 c.read_word.result (sym step.1 ∙ sym c.read_word.ensures.number)) step.2

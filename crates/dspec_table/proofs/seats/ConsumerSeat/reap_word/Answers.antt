@@ -1,6 +1,8 @@
-use Rattle.std.proofs.Common.{◌≤◌, ◌^◌, ◌≡◌, true, ap, sym, subst, ◌∙◌, arith}
+use Rattle.std.proofs.Common.{ℕ, ◌==◌, ◌≤◌, ◌^◌, ◌≡◌, true, ap, sym, subst, ◌∙◌, arith}
 use Rattle.dspec_word.specs.Code.{awaits}
 use Rattle.dspec_word.specs.Word.{SlotState}
+use Rattle.dspec_table.specs.Steps.{ReapedNumber}
+use Rattle.dspec_table.proofs.Places.{slot_within, slot_there}
 use Rattle.dspec_table.proofs.Waiting.{reaped_found}
 use Rattle.dspec_word.specs.Word.{word_number, released}
 use Rattle.dspec_deeds.specs.declared.config.Config.{Config}
@@ -16,14 +18,15 @@ compare_exchange-found-requires c =
     let seat = c.args.self.now in
     let to = c.raw-new.ensures ∙ ap word_number (c.of.ensures ∙ ap released c.issue.ensures.value) in (
       c.requires.seat.0,
-      (let count = words.words_is in let most = c.requires.call.high in omega arith),
-      rw (c.raw-old.ensures, to) (reaps words.board.shared.key words.board.shared.table_id.slots seat.seat.id c.args.slot seat.seat.me c.args.from seat.who_is seat.joins_none
-          (rw words.key_is c.requires.call)),
+      rw (c.slot_place.ensures.place, words.words_is) (slot_within words.config c.args.slot c.requires.call.high),
+      rw (c.slot_place.ensures.place, slot_there c.args.slot, c.raw-old.ensures, to) (reaps words.board.shared.key words.board.shared.table_id.slots seat.seat.id c.args.slot
+          seat.seat.me c.args.from seat.who_is seat.joins_none (rw words.key_is c.requires.call)),
     )
 
 pub read_word-requires : goal.read_word-requires
 read_word-requires c =
-    let step = c.compare_exchange-found.ensures.2.0 in
+    let step = (subst (λ (s : ℕ). ReapedNumber s (known_there c.args.self.now) c.compare_exchange-found.result
+    (c.compare_exchange-found.result == c.raw-old.result) c.compare_exchange-found.new.seat.me.0) c.slot_place.ensures.slot c.compare_exchange-found.ensures.2.0) in
     let few = subst (λ (k : Config). k.max_issues ≤ 2 ^ 57) (sym c.requires.seat.1) c.args.words.now.issues in
     finds_word (known_there c.args.self.now) step.2.0 c.args.slot c.compare_exchange-found.result step.0 few step.2.1 step.1 step.2.2
 
@@ -35,11 +38,14 @@ of-requires c =
 
 pub returns-then-found-old-clause-step : goal.returns-then-found-old-clause-step
 returns-then-found-old-clause-step c = reaped_hit c.args.slot (known_there c.args.self.now) c.compare_exchange-found.new.seat.me.0 c.compare_exchange-found.result
-    c.raw-old.result c.args.from c.if-found-old.true c.raw-old.ensures c.compare_exchange-found.ensures.2.0
+    c.raw-old.result c.args.from c.if-found-old.true c.raw-old.ensures (subst (λ (s : ℕ). ReapedNumber s (known_there c.args.self.now) c.compare_exchange-found.result
+    (c.compare_exchange-found.result == c.raw-old.result) c.compare_exchange-found.new.seat.me.0) c.slot_place.ensures.slot c.compare_exchange-found.ensures.2.0)
 
 pub returns-clause-always : goal.returns-clause-always
 returns-clause-always c =
     let seat = c.args.self.now in
     let waits = subst (λ (w : SlotState). awaits w.code ≡ true) c.requires.last c.requires.call.waits in
-    let here = reaped_found seat.seat.me.0 c.compare_exchange-found.new.seat.me.0 c.args.slot c.compare_exchange-found.result _ seat.who_is waits c.compare_exchange-found.ensures.2.0 in
+    let here = reaped_found seat.seat.me.0 c.compare_exchange-found.new.seat.me.0 c.args.slot c.compare_exchange-found.result _ seat.who_is waits
+    (subst (λ (s : ℕ). ReapedNumber s (known_there c.args.self.now) c.compare_exchange-found.result
+    (c.compare_exchange-found.result == c.raw-old.result) c.compare_exchange-found.new.seat.me.0) c.slot_place.ensures.slot c.compare_exchange-found.ensures.2.0) in
     absurd (c.if-found-old.false (here ∙ sym (c.raw-old.ensures ∙ ap word_number c.requires.last)))

@@ -1,6 +1,8 @@
-use Rattle.std.proofs.Common.{ℕ, ◌≡◌, ◌==◌, true, ◌≤◌, ◌^◌, sym, ap, subst, ◌∙◌, arith}
+use Rattle.std.proofs.Common.{ℕ, ◌≡◌, ◌==◌, true, ◌≤◌, ◌^◌, sym, ap, subst, ◌∙◌}
 use Rattle.dspec_word.specs.Word.{word_number}
 use Rattle.dspec_deeds.specs.declared.config.Config.{Config}
+use Rattle.dspec_table.specs.Steps.{OpenedNumber}
+use Rattle.dspec_table.proofs.Places.{slot_within, slot_there}
 use Rattle.dspec_table.specs.Seats.{known}
 use Rattle.dspec_table.specs.Conditions.{as_active}
 use Rattle.dspec_word.proofs.Numbers.{one_word}
@@ -17,20 +19,22 @@ compare_exchange-found-requires c =
     let from = c.args.from in
     let to = c.raw-new.ensures ∙ ap word_number (c.of.ensures ∙ ap (λ (i : ℕ). as_active record { issue = i; code = from.code }) c.issue.ensures.value) in (
       c.requires.seat.0,
-      (let count = words.words_is in let most = c.requires.slot.1 in omega arith),
-      rw (c.raw-old.ensures, to) (opens_word words.board.shared.key words.board.shared.table_id.slots seat.seat.id seat.cpu c.args.slot seat.seat.me from
-          (as_active from) c.requires.slot.0 (rw words.key_is c.requires.slot.1) seat.who_is seat.joins_none (rw words.key_is c.requires.call)),
+      rw (c.slot_place.ensures.place, words.words_is) (slot_within words.config c.args.slot c.requires.slot.1),
+      rw (c.slot_place.ensures.place, slot_there c.args.slot, c.raw-old.ensures, to) (opens_word words.board.shared.key words.board.shared.table_id.slots seat.seat.id seat.cpu
+          c.args.slot seat.seat.me from (as_active from) c.requires.slot.0 (rw words.key_is c.requires.slot.1) seat.who_is seat.joins_none (rw words.key_is c.requires.call)),
     )
 
 pub read_word-requires : goal.read_word-requires
 read_word-requires c =
-    let step = c.compare_exchange-found.ensures.2.0 in
+    let step = (subst (λ (s : ℕ). OpenedNumber s (known c.args.self.now) c.raw-new.result c.compare_exchange-found.result
+    (c.compare_exchange-found.result == c.raw-old.result) c.compare_exchange-found.new.seat.me.0) c.slot_place.ensures.slot c.compare_exchange-found.ensures.2.0) in
     let few = subst (λ (k : Config). k.max_issues ≤ 2 ^ 57) (sym c.requires.seat.1) c.args.words.now.issues in
     finds_word (known c.args.self.now) step.2.0 c.args.slot c.compare_exchange-found.result step.0 few step.2.1 step.1 step.2.2
 
 pub returns-else-found-old-clause-greater : goal.returns-else-found-old-clause-greater
 returns-else-found-old-clause-greater c =
-    let step = c.compare_exchange-found.ensures.2.0 in
+    let step = (subst (λ (s : ℕ). OpenedNumber s (known c.args.self.now) c.raw-new.result c.compare_exchange-found.result
+    (c.compare_exchange-found.result == c.raw-old.result) c.compare_exchange-found.new.seat.me.0) c.slot_place.ensures.slot c.compare_exchange-found.ensures.2.0) in
     let got = c.read_word.result in
     let same = one_word got step.0 (c.read_word.ensures.number ∙ step.1) in
     shown_greater (known c.args.self.now) step.2.0 c.args.slot c.args.from got c.requires.call.1 step.2.1 (same ∙ step.2.2)
@@ -40,4 +44,6 @@ pub returns-then-found-old-clause-word : goal.returns-then-found-old-clause-word
 returns-then-found-old-clause-word c =
     let to = c.raw-new.ensures ∙ ap word_number (c.of.ensures ∙ ap (λ (i : ℕ). as_active record { issue = i; code = c.args.from.code }) c.issue.ensures.value) in
     left_word c.compare_exchange-found.result c.args.from (as_active c.args.from) _ (c.if-found-old.true ∙ c.raw-old.ensures)
-    (λ hit. sym to ∙ c.compare_exchange-found.ensures.2.0.3 (subst (λ (m : ℕ). (c.compare_exchange-found.result == m) ≡ true) (sym c.raw-old.ensures) hit))
+    (λ hit. sym to ∙ (subst (λ (s : ℕ). OpenedNumber s (known c.args.self.now) c.raw-new.result c.compare_exchange-found.result
+    (c.compare_exchange-found.result == c.raw-old.result) c.compare_exchange-found.new.seat.me.0) c.slot_place.ensures.slot c.compare_exchange-found.ensures.2.0).3
+    (subst (λ (m : ℕ). (c.compare_exchange-found.result == m) ≡ true) (sym c.raw-old.ensures) hit))

@@ -1,6 +1,7 @@
 use Rattle.std.proofs.Common.{◌<◌, ◌∙◌, ap, sym, subst, arith}
 use Rattle.dspec_word.specs.Word.{word_number}
 use Rattle.dspec_deeds.specs.declared.config.Config.{Config}
+use Rattle.dspec_table.proofs.Places.{slot_within, slot_there}
 use Rattle.dspec_table.proofs.Releases.{gives_back}
 use Rattle.dspec_table.proofs.seats.CpuSeat.release_issue.Goals as goal
 
@@ -18,8 +19,8 @@ compare_exchange-requires c =
     let to = c.raw-2.ensures ∙ ap word_number c.of-to.ensures in
     let same = c.requires.seat.1 ∙ sym words.key_is in (
       c.requires.seat.0,
-      (let count = words.words_is in let most = c.requires.slot.1 in omega arith),
-      rw (from, to) (gives_back words.board.shared.key words.board.shared.table_id.slots seat.seat.id seat.cpu seat.seat.me
+      rw (c.slot_place.ensures.place, words.words_is) (slot_within words.config c.args.slot c.requires.slot.1),
+      rw (c.slot_place.ensures.place, slot_there c.args.slot, from, to) (gives_back words.board.shared.key words.board.shared.table_id.slots seat.seat.id seat.cpu seat.seat.me
           (record { issue = c.args.issue; slot = c.args.slot }) (subst (λ (k : Config). seat.cpu < k.cpus) same seat.is_one) c.requires.slot.0
           (rw words.key_is c.requires.slot.1) seat.who_is seat.joins_none (rw words.key_is c.requires.call)),
     )

@@ -1,0 +1,4 @@
+pub mod Room
+pub mod Words
+pub mod Told
+pub mod Steps

@@ -1,0 +1,141 @@
+//! What a step finds room for, before it is made.
+ghost use Rattle.std.specs.Prelude.{◌≡◌, ◌<◌, ◌≤◌, ◌-◌, ◌^◌, ◌⊎◌, true};
+ghost use Rattle.dspec_record.specs.Layout.{rounded_up};
+ghost use Rattle.dspec_buffer.specs.Extent.{extent, reserved};
+ghost use Rattle.dspec_deeds.specs.Legal.{is_closed};
+ghost use Rattle.dspec_deeds.specs.Own.{active};
+ghost use Rattle.dspec_play.specs.Calls.{is_actor};
+ghost use Rattle.dspec_play.specs.Coherent.{the_caller};
+ghost use Rattle.dspec_machine.specs.Machines.{IsShownMachine, history, state_of};
+ghost use Rattle.dspec_telling.specs.Room.{aim_bytes, aimed_bytes, held_bytes, room_at};
+
+use dspec_buffer::TraceBuffer;
+use dspec_deeds::Actor;
+use dspec_machine::Machine;
+use dspec_play::CpuFlight;
+use dspec_record::Schema;
+
+/// The buffers of a CPU as a step finds them.
+#[derive(Clone, Copy, Debug)]
+pub struct Room {
+    /// Whether the active principal buffer takes nothing more.
+    pub shut: bool,
+    /// How far that reaches, in bytes.
+    pub reach: u32,
+    /// What the CPU holds of the speculation that the step is about, in bytes.
+    pub held: u32,
+}
+
+/// Whether the CPU's principal buffer is closed.
+fn is_shut<S: Schema, B: TraceBuffer<S>>(machine: &Machine<S, B>, cpu: u32) -> bool
+    requires shown { IsShownMachine B.has B.capacity machine.now }
+    requires cpu { cpu < machine.now.config.cpus }
+    ensures { result ≡ is_closed machine.now.config cpu (history machine.now) }
+{
+    machine.cpus[cpu as usize].side.is_shut(&machine.config)
+}
+
+/// How far the CPU's active principal buffer reaches.
+fn reach<S: Schema, B: TraceBuffer<S>>(machine: &Machine<S, B>, cpu: u32) -> u32
+    requires shown { IsShownMachine B.has B.capacity machine.now }
+    requires cpu { cpu < machine.now.config.cpus }
+    ensures { result ≡ extent (S.shape_of machine.now.schema) (active cpu (history machine.now)) }
+{
+    machine.cpus[cpu as usize].side.active.offset()
+}
+
+/// What the CPU holds of a speculation, in bytes: nothing where it is no caller.
+fn held_bytes<S: Schema, B: TraceBuffer<S>>(
+    machine: &Machine<S, B>,
+    cpu: u32,
+    slot: u32,
+    issue: u64,
+) -> u32
+    requires shown { IsShownMachine B.has B.capacity machine.now }
+    requires cpu { cpu < machine.now.config.cpus }
+    requires issue { issue ≤ 2 ^ 58 }
+    ensures { result ≡ held_bytes (S.shape_of machine.now.schema) machine.now.config cpu (record { issue = issue; slot = slot }) (history machine.now) }
+{
+    if slot < 1 || slot > machine.config.nspec {
+        return 0;
+    }
+    let side = &machine.cpus[cpu as usize].side;
+    let place = (slot - 1) as usize;
+    if side.marks[place] != issue + 1 {
+        return 0;
+    }
+    side.speculative[place].offset()
+}
+
+/// The same of the speculation that the next step of a call is about, where that may find no room.
+fn aim_bytes<S: Schema, B: TraceBuffer<S>>(
+    machine: &Machine<S, B>,
+    cpu: u32,
+    flight: CpuFlight,
+) -> u32
+    requires shown { IsShownMachine B.has B.capacity machine.now }
+    requires cpu { cpu < machine.now.config.cpus }
+    ensures { result ≡ aim_bytes (S.shape_of machine.now.schema) machine.now.config cpu (history machine.now) flight }
+{
+    match flight {
+        CpuFlight::SpeculateLoad(id, _) => held_bytes(machine, cpu, id.slot(), id.issue()),
+        CpuFlight::SpeculateTry(id, _, _) => held_bytes(machine, cpu, id.slot(), id.issue()),
+        CpuFlight::CommitTry(id, _) => held_bytes(machine, cpu, id.slot(), id.issue()),
+        CpuFlight::ServiceStore(slot, word, _) => held_bytes(machine, cpu, slot, word.issue()),
+        _ => 0,
+    }
+}
+
+/// The same of the call in flight, if one is.
+fn aimed_bytes<S: Schema, B: TraceBuffer<S>>(machine: &Machine<S, B>, cpu: u32) -> u32
+    requires shown { IsShownMachine B.has B.capacity machine.now }
+    requires cpu { cpu < machine.now.config.cpus }
+    ensures { result ≡ aimed_bytes (S.shape_of machine.now.schema) machine.now.config cpu (history machine.now) (the_caller (state_of machine.now).callers cpu).flight }
+{
+    match machine.cpus[cpu as usize].caller.flight {
+        None => 0,
+        Some(flight) => aim_bytes(machine, cpu, flight),
+    }
+}
+
+/// The room that the actor's next step finds.
+pub(crate) fn room_at<S: Schema, B: TraceBuffer<S>>(machine: &Machine<S, B>, actor: Actor) -> Room
+    requires shown { IsShownMachine B.has B.capacity machine.now }
+    requires exists { is_actor machine.now.config actor ≡ true }
+    ensures { result ≡ room_at (S.shape_of machine.now.schema) actor (state_of machine.now) }
+{
+    match actor {
+        Actor::Consumer => Room {
+            shut: false,
+            reach: 0,
+            held: 0,
+        },
+        Actor::Cpu(cpu) => Room {
+            shut: is_shut(machine, cpu),
+            reach: reach(machine, cpu),
+            held: aimed_bytes(machine, cpu),
+        },
+    }
+}
+
+fn rounded(offset: u32, align: u32) -> u64
+    requires { (align ≡ 4) ⊎ (align ≡ 8) }
+    ensures { result ≡ rounded_up offset align }
+{
+    let offset = u64::from(offset);
+    if align == 8 {
+        return (offset + 7) / 8 * 8;
+    }
+    (offset + 3) / 4 * 4
+}
+
+/// The bytes that so many take behind a place, those of the padding before them with them.
+pub(crate) fn bytes_needed(reach: u32, align: u32, size: u32) -> u64
+    requires { (align ≡ 4) ⊎ (align ≡ 8) }
+    ensures { result ≡ reserved reach align size - reach }
+{
+    if size == 0 {
+        return 0;
+    }
+    (rounded(reach, align) + u64::from(size)).saturating_sub(u64::from(reach))
+}

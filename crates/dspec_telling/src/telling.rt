@@ -1,0 +1,400 @@
+//! What the next step of a call in flight does, in words, as the machine shows it.
+ghost use Rattle.std.specs.Prelude.{◌≡◌, ◌<◌, ◌≤◌, ◌+◌, ◌^◌, ◌++◌, nat_lt, true, if◌then◌else◌, codes, decimal, OnOk, string_bytes};
+ghost use Rattle.dspec_deeds.specs.Ranges.{is_fill};
+ghost use Rattle.dspec_deeds.specs.Own.{seals};
+ghost use Rattle.dspec_play.specs.Calls.{consumer_op_of, is_about, is_actor};
+ghost use Rattle.dspec_play.specs.Coherent.{the_caller};
+ghost use Rattle.dspec_play.specs.Whole.{is_out};
+ghost use Rattle.dspec_machine.specs.Machines.{IsShownMachine, history, state_of};
+ghost use Rattle.dspec_machine.specs.Worlds.{IsKept};
+ghost use Rattle.dspec_schedule.specs.Printed.{consumer_op_text, cpu_op_text};
+ghost use Rattle.dspec_word.specs.SpecId.{id_number};
+ghost use Rattle.dspec_telling.specs.Told.{ack_head, ack_told, ask_told, begun_told, consumer_begun_told, consumer_call_told, consumer_flight_told, consumer_told, cpu_call_told, cpu_flight_told, cpu_told, is_given_back, is_handed, is_service, loads_told, running_told, seen, step_told};
+
+use crate::reading::{ack, commits_to, discards_to, has_spoken, released, speaks_to};
+use crate::words::{number_of, tell_exchange, tell_load};
+use dspec_buffer::TraceBuffer;
+use dspec_deeds::{Actor, ConsumerOp, CpuOp, Policy};
+use dspec_machine::Machine;
+use dspec_play::{ConsumerFlight, CpuFlight, Spare};
+use dspec_record::Schema;
+use dspec_word::{Code, SpecId, Word};
+use std::alloc::AllocError;
+
+/// The word of a slot, if it is one of the session's.
+fn seen<S: Schema, B: TraceBuffer<S>>(machine: &Machine<S, B>, slot: u32) -> Option<Word>
+    requires shown { IsShownMachine B.has B.capacity machine.now }
+    ensures { result ≡ seen machine.now.config (history machine.now) slot }
+{
+    if slot < 1 || slot > machine.config.nspec {
+        return None;
+    }
+    Some(machine.words[(slot - 1) as usize])
+}
+
+fn tell_running(text: &mut String, stopped: bool) -> Result<(), AllocError>
+    ensures { OnOk result (string_bytes text.new ≡ string_bytes text.old ++ running_told stopped) }
+{
+    if stopped {
+        return text.push_str("loads that the session is stopped");
+    }
+    text.push_str("loads that the session runs")
+}
+
+fn tell_ask(text: &mut String, wanted: bool) -> Result<(), AllocError>
+    ensures { OnOk result (string_bytes text.new ≡ string_bytes text.old ++ ask_told wanted) }
+{
+    if wanted {
+        return text.push_str("loads the ask: a batch is wanted");
+    }
+    text.push_str("loads the ask: no batch is wanted")
+}
+
+/// Whether the consumer asked for a batch that the CPU hasn't sealed.
+fn is_wanted<S: Schema, B: TraceBuffer<S>>(machine: &Machine<S, B>, cpu: u32) -> bool
+    requires shown { IsShownMachine B.has B.capacity machine.now }
+    requires cpu { cpu < machine.now.config.cpus }
+    ensures { result ≡ nat_lt (seals cpu (history machine.now)) (the_caller (state_of machine.now).callers cpu).want }
+{
+    let own = &machine.cpus[cpu as usize];
+    own.side.seals < own.caller.want
+}
+
+/// The first step of a service.
+fn tell_service<S: Schema, B: TraceBuffer<S>>(
+    text: &mut String,
+    machine: &Machine<S, B>,
+    cpu: u32,
+) -> Result<(), AllocError>
+    requires shown { IsShownMachine B.has B.capacity machine.now }
+    requires cpu { cpu < machine.now.config.cpus }
+    ensures { OnOk result (string_bytes text.new ≡ string_bytes text.old ++ (if is_fill machine.now.config.policy then loads_told machine.now.config (history machine.now) 1
+        else ask_told (nat_lt (seals cpu (history machine.now)) (the_caller (state_of machine.now).callers cpu).want))) }
+{
+    match machine.config.policy {
+        Policy::Fill => tell_load(text, 1, seen(machine, 1)),
+        Policy::Switch => tell_ask(text, is_wanted(machine, cpu)),
+    }
+}
+
+fn is_service(op: CpuOp) -> bool
+    ensures { result ≡ is_service op }
+{
+    matches!(op, CpuOp::Service)
+}
+
+/// The first step of a CPU's call.
+fn tell_begun<S: Schema, B: TraceBuffer<S>>(
+    text: &mut String,
+    machine: &Machine<S, B>,
+    cpu: u32,
+    op: CpuOp,
+) -> Result<(), AllocError>
+    requires shown { IsShownMachine B.has B.capacity machine.now }
+    requires cpu { cpu < machine.now.config.cpus }
+    ensures { OnOk result (string_bytes text.new ≡ string_bytes text.old ++ begun_told machine.now.config (history machine.now) cpu (the_caller (state_of machine.now).callers cpu) op) }
+{
+    if is_service(op) {
+        return tell_service(text, machine, cpu);
+    }
+    if machine.is_worn(cpu) {
+        return text.push_str("has made all its calls");
+    }
+    tell_running(text, machine.halted)
+}
+
+/// Where the CPU's second principal buffer is.
+fn spare_of<S: Schema, B: TraceBuffer<S>>(machine: &Machine<S, B>, cpu: u32) -> Spare
+    requires shown { IsShownMachine B.has B.capacity machine.now }
+    requires cpu { cpu < machine.now.config.cpus }
+    ensures { result ≡ (the_caller (state_of machine.now).callers cpu).spare }
+{
+    machine.cpus[cpu as usize].caller.spare
+}
+
+fn tell_pop(text: &mut String, spare: Spare) -> Result<(), AllocError>
+    ensures { OnOk result (string_bytes text.new ≡ string_bytes text.old
+        ++ (if is_given_back spare then codes "pops a spare buffer" else codes "finds no spare buffer to pop")) }
+{
+    match spare {
+        Spare::GivenBack => text.push_str("pops a spare buffer"),
+        _ => text.push_str("finds no spare buffer to pop"),
+    }
+}
+
+fn tell_take(text: &mut String, spare: Spare, cpu: u32) -> Result<(), AllocError>
+    ensures { OnOk result (string_bytes text.new ≡ string_bytes text.old
+        ++ ((if is_handed spare then codes "pops a batch of cpu " else codes "finds no batch to pop of cpu ") ++ decimal cpu)) }
+{
+    match spare {
+        Spare::Handed => write!(text, "pops a batch of cpu {cpu}"),
+        _ => write!(text, "finds no batch to pop of cpu {cpu}"),
+    }
+}
+
+fn tell_give_back(text: &mut String, spare: Spare, cpu: u32) -> Result<(), AllocError>
+    ensures { OnOk result (string_bytes text.new ≡ string_bytes text.old
+        ++ ((if is_out spare then codes "pushes a spare buffer to cpu " else codes "has no buffer to push to cpu ") ++ decimal cpu)) }
+{
+    match spare {
+        Spare::Out => write!(text, "pushes a spare buffer to cpu {cpu}"),
+        _ => write!(text, "has no buffer to push to cpu {cpu}"),
+    }
+}
+
+/// The next step of a CPU's call.
+fn tell_cpu<S: Schema, B: TraceBuffer<S>>(
+    text: &mut String,
+    machine: &Machine<S, B>,
+    cpu: u32,
+    flight: CpuFlight,
+) -> Result<(), AllocError>
+    requires shown { IsShownMachine B.has B.capacity machine.now }
+    requires cpu { cpu < machine.now.config.cpus }
+    ensures { OnOk result (string_bytes text.new ≡ string_bytes text.old ++ cpu_told machine.now.config (history machine.now) cpu (the_caller (state_of machine.now).callers cpu) flight) }
+{
+    let deeds = machine.deeds.as_slice();
+    match flight {
+        CpuFlight::Begun(op) => tell_begun(text, machine, cpu, op),
+        CpuFlight::ScanLoad(slot) => tell_load(text, slot, seen(machine, slot)),
+        CpuFlight::ScanTry(slot, from) => {
+            let found = seen(machine, slot);
+            tell_exchange(text, slot, from, from.issue(), Code::Active, found)
+        }
+        CpuFlight::SpeculateLoad(id, _) => tell_load(text, id.slot(), seen(machine, id.slot())),
+        CpuFlight::SpeculateTry(id, _, from) => {
+            let to = speaks_to(from, id, has_spoken(cpu, id, deeds));
+            let found = seen(machine, id.slot());
+            tell_exchange(text, id.slot(), from, to.issue, to.code, found)
+        }
+        CpuFlight::CommitLoad(id) => tell_load(text, id.slot(), seen(machine, id.slot())),
+        CpuFlight::CommitTry(id, from) => {
+            let to = commits_to(from, id, has_spoken(cpu, id, deeds));
+            let found = seen(machine, id.slot());
+            tell_exchange(text, id.slot(), from, to.issue, to.code, found)
+        }
+        CpuFlight::CommitRelease(id, _) => write!(text, "releases slot {}", id.slot()),
+        CpuFlight::DiscardLoad(id) => tell_load(text, id.slot(), seen(machine, id.slot())),
+        CpuFlight::DiscardTry(id, from) => {
+            let to = discards_to(from, id, has_spoken(cpu, id, deeds));
+            let found = seen(machine, id.slot());
+            tell_exchange(text, id.slot(), from, to.issue, to.code, found)
+        }
+        CpuFlight::ServicePop => tell_pop(text, spare_of(machine, cpu)),
+        CpuFlight::ServicePush => text.push_str("pushes the batch"),
+        CpuFlight::ServiceLoad(slot, _) => tell_load(text, slot, seen(machine, slot)),
+        CpuFlight::ServiceStore(slot, _, _) => {
+            write!(text, "stores its acknowledgement of slot {slot}")
+        }
+    }
+}
+
+/// The first step of the consumer's call.
+fn tell_consumer_begun<S: Schema, B: TraceBuffer<S>>(
+    text: &mut String,
+    machine: &Machine<S, B>,
+    op: ConsumerOp,
+) -> Result<(), AllocError>
+    requires shown { IsShownMachine B.has B.capacity machine.now }
+    requires about { is_about machine.now.config op ≡ true }
+    ensures { OnOk result (string_bytes text.new ≡ string_bytes text.old
+        ++ consumer_begun_told machine.now.config (history machine.now) (state_of machine.now).callers op) }
+{
+    match op {
+        ConsumerOp::Ask(cpu) => write!(text, "stores the ask of cpu {cpu}"),
+        ConsumerOp::Take(cpu) => tell_take(text, spare_of(machine, cpu), cpu),
+        ConsumerOp::GiveBack(cpu) => tell_give_back(text, spare_of(machine, cpu), cpu),
+        ConsumerOp::Clean => tell_load(text, 1, seen(machine, 1)),
+        ConsumerOp::Stop => text.push_str("stores the stop"),
+    }
+}
+
+#[tactic(auto, unfolding(crate::specs::Told::ack_head))]
+fn tell_ack_head(text: &mut String, cpu: u32) -> Result<(), AllocError>
+    ensures { OnOk result (string_bytes text.new ≡ string_bytes text.old ++ ack_head cpu) }
+{
+    write!(text, "loads whether cpu {cpu} acknowledged ")
+}
+
+fn tell_number(text: &mut String, number: u64) -> Result<(), AllocError>
+    ensures { OnOk result (string_bytes text.new ≡ string_bytes text.old ++ decimal number) }
+{
+    write!(text, "{number}")
+}
+
+/// The load of an acknowledgement of the speculation that the slot had at this word.
+fn tell_ack(
+    text: &mut String,
+    cpu: u32,
+    slot: u32,
+    issue: u64,
+    there: bool,
+) -> Result<(), AllocError>
+    requires { issue ≤ 2 ^ 57 + 1 }
+    ensures { OnOk result (string_bytes text.new ≡ string_bytes text.old ++ ack_told cpu record { issue = issue; slot = slot } there) }
+{
+    tell_ack_head(text, cpu)?;
+    tell_number(text, number_of(slot, issue))?;
+    if there {
+        return text.push_str(": yes");
+    }
+    text.push_str(": no")
+}
+
+/// The next step of the consumer's call.
+fn tell_consumer<S: Schema, B: TraceBuffer<S>>(
+    text: &mut String,
+    machine: &Machine<S, B>,
+    flight: ConsumerFlight,
+) -> Result<(), AllocError>
+    requires shown { IsShownMachine B.has B.capacity machine.now }
+    requires about { is_about machine.now.config (consumer_op_of flight) ≡ true }
+    ensures { OnOk result (string_bytes text.new ≡ string_bytes text.old ++ consumer_told machine.now.config (history machine.now) (state_of machine.now).callers flight) }
+{
+    match flight {
+        ConsumerFlight::Begun(op) => tell_consumer_begun(text, machine, op),
+        ConsumerFlight::CleanLoad(slot, _) => tell_load(text, slot, seen(machine, slot)),
+        ConsumerFlight::CleanAck(slot, word, cpu, _) => {
+            let there = word.issue() < ack(cpu, slot, machine.deeds.as_slice());
+            tell_ack(text, cpu, slot, word.issue(), there)
+        }
+        ConsumerFlight::CleanReap(slot, word, _) => {
+            let to = released(word);
+            tell_exchange(text, slot, word, to.issue, to.code, seen(machine, slot))
+        }
+    }
+}
+
+/// A call about a speculation, behind its name and a space.
+fn tell_about(text: &mut String, verb: &str, id: SpecId) -> Result<(), AllocError>
+    ensures { OnOk result (string_bytes text.new ≡ string_bytes text.old ++ (verb.now ++ decimal (id_number id))) }
+{
+    let number = id.raw();
+    write!(text, "{verb}{number}")
+}
+
+/// A call of a CPU, as a play's lines name it.
+fn tell_cpu_op(text: &mut String, op: CpuOp) -> Result<(), AllocError>
+    ensures { OnOk result (string_bytes text.new ≡ string_bytes text.old ++ cpu_op_text op) }
+{
+    match op {
+        CpuOp::Service => text.push_str("service"),
+        CpuOp::Trace(_) => text.push_str("trace"),
+        CpuOp::Speculation => text.push_str("speculation"),
+        CpuOp::Speculate(id, _) => tell_about(text, "speculate ", id),
+        CpuOp::Commit(id) => tell_about(text, "commit ", id),
+        CpuOp::Discard(id) => tell_about(text, "discard ", id),
+    }
+}
+
+/// A call of the consumer, as a play's lines name it.
+fn tell_consumer_op(text: &mut String, op: ConsumerOp) -> Result<(), AllocError>
+    ensures { OnOk result (string_bytes text.new ≡ string_bytes text.old ++ consumer_op_text op) }
+{
+    match op {
+        ConsumerOp::Clean => text.push_str("clean"),
+        ConsumerOp::Stop => text.push_str("stop"),
+        ConsumerOp::Ask(cpu) => write!(text, "ask {cpu}"),
+        ConsumerOp::Take(cpu) => write!(text, "take {cpu}"),
+        ConsumerOp::GiveBack(cpu) => write!(text, "giveback {cpu}"),
+    }
+}
+
+/// A call of a CPU, between what is told before it and its step.
+fn tell_cpu_name(text: &mut String, op: CpuOp) -> Result<(), AllocError>
+    ensures { OnOk result (string_bytes text.new ≡ string_bytes text.old ++ (codes " " ++ cpu_op_text op ++ codes ": ")) }
+{
+    text.push_str(" ")?;
+    tell_cpu_op(text, op)?;
+    text.push_str(": ")
+}
+
+/// The same of a call of the consumer.
+fn tell_consumer_name(text: &mut String, op: ConsumerOp) -> Result<(), AllocError>
+    ensures { OnOk result (string_bytes text.new ≡ string_bytes text.old ++ (codes " " ++ consumer_op_text op ++ codes ": ")) }
+{
+    text.push_str(" ")?;
+    tell_consumer_op(text, op)?;
+    text.push_str(": ")
+}
+
+/// The CPU's call; nothing where none is in flight.
+fn tell_cpu_call<S: Schema, B: TraceBuffer<S>>(
+    text: &mut String,
+    machine: &Machine<S, B>,
+    cpu: u32,
+) -> Result<(), AllocError>
+    requires shown { IsShownMachine B.has B.capacity machine.now }
+    requires cpu { cpu < machine.now.config.cpus }
+    ensures { OnOk result (string_bytes text.new ≡ string_bytes text.old ++ cpu_call_told (the_caller (state_of machine.now).callers cpu).flight) }
+{
+    match machine.cpus[cpu as usize].caller.flight {
+        None => Ok(()),
+        Some(flight) => tell_cpu_name(text, flight.op()),
+    }
+}
+
+/// The consumer's call; nothing where none is in flight.
+fn tell_consumer_call<S: Schema, B: TraceBuffer<S>>(
+    text: &mut String,
+    machine: &Machine<S, B>,
+) -> Result<(), AllocError>
+    ensures { OnOk result (string_bytes text.new ≡ string_bytes text.old ++ consumer_call_told machine.now.consumer.flight) }
+{
+    match machine.consumer.flight {
+        None => Ok(()),
+        Some(flight) => tell_consumer_name(text, flight.op()),
+    }
+}
+
+/// The next step of the CPU; nothing where no call is in flight.
+fn tell_cpu_step<S: Schema, B: TraceBuffer<S>>(
+    text: &mut String,
+    machine: &Machine<S, B>,
+    cpu: u32,
+) -> Result<(), AllocError>
+    requires shown { IsShownMachine B.has B.capacity machine.now }
+    requires cpu { cpu < machine.now.config.cpus }
+    ensures { OnOk result (string_bytes text.new ≡ string_bytes text.old ++ cpu_flight_told cpu (state_of machine.now) (the_caller (state_of machine.now).callers cpu).flight) }
+{
+    match machine.cpus[cpu as usize].caller.flight {
+        None => Ok(()),
+        Some(flight) => tell_cpu(text, machine, cpu, flight),
+    }
+}
+
+/// The next step of the consumer; nothing where no call is in flight.
+fn tell_consumer_step<S: Schema, B: TraceBuffer<S>>(
+    text: &mut String,
+    machine: &Machine<S, B>,
+) -> Result<(), AllocError>
+    requires kept { IsKept B.has B.capacity S.shape_of S.accepted machine.now }
+    ensures { OnOk result (string_bytes text.new ≡ string_bytes text.old ++ consumer_flight_told (state_of machine.now) machine.now.consumer.flight) }
+{
+    match machine.consumer.flight {
+        None => Ok(()),
+        Some(flight) => tell_consumer(text, machine, flight),
+    }
+}
+
+/// The actor's call, and its next step.
+pub(crate) fn tell_step<S: Schema, B: TraceBuffer<S>>(
+    text: &mut String,
+    machine: &Machine<S, B>,
+    actor: Actor,
+) -> Result<(), AllocError>
+    requires kept { IsKept B.has B.capacity S.shape_of S.accepted machine.now }
+    requires exists { is_actor machine.now.config actor ≡ true }
+    ensures { OnOk result (string_bytes text.new ≡ string_bytes text.old ++ step_told actor (state_of machine.now)) }
+{
+    match actor {
+        Actor::Cpu(cpu) => {
+            tell_cpu_call(text, machine, cpu)?;
+            tell_cpu_step(text, machine, cpu)
+        }
+        Actor::Consumer => {
+            tell_consumer_call(text, machine)?;
+            tell_consumer_step(text, machine)
+        }
+    }
+}

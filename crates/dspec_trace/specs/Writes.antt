@@ -1,0 +1,25 @@
+-- What a place that takes files was asked for.
+use Rattle.std.specs.Prelude.{ℕ, ◌≡◌, List, [], ◌∷◌, ◌++◌, Option, Some, None}
+use Rattle.dspec_trace.specs.Faults.{IsWriteFault}
+use Rattle.dspec_trace.specs.declared.fault.FolderFault.{FolderFault}
+
+-- one write: a file's name, the bytes that are to come behind those that it has, and why they weren't taken whole, where they weren't
+pub record FileWrite : Type 0 where
+  pub name : List ℕ
+  pub bytes : List ℕ
+  pub refused : Option FolderFault
+
+-- where it is known what a place was asked for, this write comes behind
+abbrev pub AddsWrite : Option (List FileWrite) → Option (List FileWrite) → FileWrite → Type 0
+AddsWrite None new w = Unit {0}
+AddsWrite (Some xs) None w = ⊥
+AddsWrite (Some xs) (Some ys) w = ys ≡ xs ++ w ∷ []
+
+-- a place was asked for this write, and took it
+abbrev pub Takes : Option (List FileWrite) → List ℕ → List ℕ → Option (List FileWrite) → Type 0
+Takes old name bytes new = AddsWrite old new (record { name = name; bytes = bytes; refused = None })
+
+-- a place was asked for this write, and refused it for that
+pub record Refuses (old : Option (List FileWrite)) (name bytes : List ℕ) (new : Option (List FileWrite)) (fault : FolderFault) : Type 0 where
+  pub known : IsWriteFault fault
+  pub asked : AddsWrite old new (record { name = name; bytes = bytes; refused = Some fault })

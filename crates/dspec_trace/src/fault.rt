@@ -1,0 +1,70 @@
+ghost use Rattle.std.specs.Prelude.{◌≡◌};
+ghost use Rattle.dspec_trace.specs.Faults.{IsLookFault, IsWriteFault};
+ghost use Rattle.dspec_trace.specs.declared.fault.FolderFault.TheVariants.{Memory};
+
+use dspec_ctf::{MetadataFault, PacketFault};
+use std::alloc::{AllocError, AllocFailed};
+use std::io;
+use thiserror::Error;
+
+/// Why a trace folder isn't written, or not to its end.
+#[derive(Debug, Clone, Copy, PartialEq, Eq, Error)]
+pub enum FolderFault {
+    /// It is there, and has files in it.
+    #[error("the folder has files in it")]
+    NotEmpty,
+    /// There is no metadata for these names.
+    #[error("{0}")]
+    Metadata(MetadataFault),
+    /// A batch of this CPU has no packet.
+    #[error("a batch of cpu {cpu}: {fault}")]
+    Packet { cpu: u32, fault: PacketFault },
+    /// A CPU's number is 64 or more, which no session has.
+    #[error("no cpu {0}")]
+    Cpu(u32),
+    /// The folder can't be looked into.
+    #[error("read fault")]
+    Read,
+    /// The folder, or a file in it, can't be made or written.
+    #[error("write fault")]
+    Write,
+    /// A growth was refused.
+    #[error("out of memory")]
+    Memory,
+}
+
+impl From<AllocError> for FolderFault {
+    ghost from_gives = { λ _ fault. fault ≡ Memory };
+
+    fn from(_refused: AllocError) -> Self {
+        FolderFault::Memory
+    }
+}
+
+impl<T: Drop> From<AllocFailed<T>> for FolderFault {
+    ghost from_gives = { λ _ fault. fault ≡ Memory };
+
+    fn from(_refused: AllocFailed<T>) -> Self {
+        FolderFault::Memory
+    }
+}
+
+/// What is told of a folder that can't be looked into.
+pub(crate) fn look_fault(fault: &io::Error) -> FolderFault
+    ensures { IsLookFault result }
+{
+    match fault.kind() {
+        io::ErrorKind::OutOfMemory => FolderFault::Memory,
+        _ => FolderFault::Read,
+    }
+}
+
+/// What is told of a folder, or of a file in it, that can't be made or written.
+pub(crate) fn write_fault(fault: &io::Error) -> FolderFault
+    ensures { IsWriteFault result }
+{
+    match fault.kind() {
+        io::ErrorKind::OutOfMemory => FolderFault::Memory,
+        _ => FolderFault::Write,
+    }
+}

@@ -1,0 +1,17 @@
+//! A sink that writes a trace folder of the Common Trace Format while a session runs, so that other tools open what was kept.
+//!
+//! A folder has the file `metadata` and one file a CPU, `cpu_0`, `cpu_1`, ..; each batch becomes one packet, and that one write, as
+//! it comes, so that memory doesn't grow with the trace. What a call adds to a folder stands in `specs/Writing.antt`. Stands on
+//! `dspec` and `dspec_ctf`.
+#![tactic(auto)]
+
+mod fault;
+mod folder;
+mod system;
+mod tracing;
+
+pub use dspec_ctf::{EventNames, Form, Names, Stream, first_refused, metadata};
+pub use fault::FolderFault;
+pub use folder::Folder;
+pub use system::SystemFolder;
+pub use tracing::TraceFolder;

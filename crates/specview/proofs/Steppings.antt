@@ -1,0 +1,12 @@
+-- Why no steps are told.
+use Rattle.std.proofs.Common.{ℕ, List}
+use Rattle.dspec_schedule.specs.declared.fault.ScheduleFault.{ScheduleFault}
+use Rattle.dspec_schedule.specs.declared.fault.ScheduleFault.TheVariants as schedule
+use Rattle.dspec_player.specs.PlayedTexts.{IsTextFault}
+use Rattle.specview.specs.Faults.{view_of_schedule}
+use Rattle.specview.specs.Stepping.{IsStepsFault}
+
+-- what the player tells of a text
+pub steps_fault : (text : List ℕ) (f : ScheduleFault) → IsTextFault text f → IsStepsFault text (view_of_schedule f)
+steps_fault text (schedule.Line line kind) why = why
+steps_fault text schedule.Memory why = tt

@@ -1,0 +1,68 @@
+use crate::probes::PROBES;
+use crate::serving::WORKERS;
+use crate::telling::is_of;
+use anyhow::{Result, ensure};
+use dspec::{Enablings, Rec, Report};
+use dspec_trace::{Folder, Form, Names, Stream, first_refused, metadata};
+use std::alloc::Global;
+
+/// The uuid of each trace that this program writes.
+const UUID: [u8; 16] = *b"store-of-account";
+/// Stamps are in microseconds.
+const HERTZ: u64 = 1_000_000;
+
+/// How many records a CPU missed.
+fn missed_of(report: &Report) -> u64 {
+    report
+        .dropped
+        .saturating_add(report.specdropped)
+        .saturating_add(report.lost)
+}
+
+/// The records of a worker's transfers, in their order.
+fn own_records(alloc: Global, worker: u32, records: &[Rec]) -> Result<Vec<Rec>> {
+    let mut own = Vec::new(alloc);
+    for rec in records {
+        if is_of(rec, worker) {
+            own.push(*rec)?;
+        }
+    }
+    Ok(own)
+}
+
+/// Writes the metadata of a trace by time.
+pub fn write_metadata<F: Folder>(alloc: Global, folder: &mut F, schema: &Enablings) -> Result<()> {
+    let names = Names::Given(&PROBES);
+    let text = metadata(alloc, &UUID, Form::ByTime(HERTZ), schema, &names)?;
+    folder.add(alloc, "metadata", text.as_str().as_bytes())?;
+    Ok(())
+}
+
+/// Writes what was kept of a worker's records as packets by time; no file where there is nothing to tell.
+pub fn write_worker<F: Folder>(
+    alloc: Global,
+    folder: &mut F,
+    schema: &Enablings,
+    worker: u32,
+    report: &Report,
+    records: &[Rec],
+) -> Result<()> {
+    let own = own_records(alloc, worker, records)?;
+    ensure!(
+        first_refused(schema, &own).is_none(),
+        "a record that isn't one of the schema's"
+    );
+    let stream = Stream {
+        uuid: UUID,
+        enablings: schema,
+        cpu: worker,
+        missed: missed_of(report),
+    };
+    let bytes = stream.packets_by_time_of(alloc, &own)?;
+    if bytes.is_empty() {
+        return Ok(());
+    }
+    let name = format!(in alloc; "cpu_{worker}")?;
+    folder.add(alloc, name.as_str(), bytes.as_slice())?;
+    Ok(())
+}
