@@ -15,12 +15,14 @@ use Rattle.dspec_deeds.specs.Fates.{fate, content_of}
 use Rattle.dspec_deeds.specs.Own.{offered_by, offers, one_if_record, contents, held}
 use Rattle.dspec_deeds.proofs.TestLemmas.{number_is_itself}
 use Rattle.dspec_shapes.specs.declared.shape.Look.{Look}
+use Rattle.dspec_shapes.specs.declared.shape.Look.TheVariants as look
 use Rattle.dspec_shapes.specs.declared.shape.Caption.{Caption}
 use Rattle.dspec_shapes.specs.declared.shape.Caption.TheVariants as caption
 use Rattle.dspec_shapes.specs.declared.shape.Shape.{Shape}
-use Rattle.dspec_shapes.specs.declared.shape.Shape.TheVariants.{Label, RecordBox}
+use Rattle.dspec_shapes.specs.declared.shape.Shape.TheVariants.{Cross, Label, RecordBox, Tick}
 use Rattle.dspec_picture.specs.declared.band.Band.{Band}
-use Rattle.dspec_picture.specs.Marks.{look_if, offer_look, offered_here, stacked, copied_marks, decision_marks, scan_marks, deed_marks, band_marks}
+use Rattle.dspec_picture.specs.Grid.{middle_x}
+use Rattle.dspec_picture.specs.Marks.{lane_y, look_if, offer_look, offered_here, stacked, copied_marks, decision_marks, scan_marks, deed_marks, band_marks}
 use Rattle.dspec_picture.specs.Shown.{OfferBox, is_offer_box, offer_boxes}
 use Rattle.dspec_picture.proofs.Further.{one_more_mapped}
 
@@ -43,11 +45,15 @@ none_copied : (b : Band) (id : Speculation) (w : List Deed) (n : ℕ) (rs : List
 none_copied b id w n [] = refl
 none_copied b id w n (r ∷ rs) = none_stacked b id _ _ rs
 
+none_thrown : (empty : Bool) (x y : ℕ) → offer_boxes ((if empty then Tick x y else Cross x y look.Discarded) ∷ []) ≡ []
+none_thrown true x y = refl
+none_thrown false x y = refl
+
 none_decided : (b : Band) (verb : Caption) (id : Speculation) (w : List Deed) (n : ℕ) (rs : List Record) (f : DecideFate) (own : Bool)
     → offer_boxes (if own then decision_marks b verb id w n rs f else []) ≡ []
 none_decided b verb id w n rs (decided.Copied m) true = none_copied b id w n rs
 none_decided b verb id w n rs (decided.Lost m) true = refl
-none_decided b verb id w n rs (decided.Thrown m) true = refl
+none_decided b verb id w n rs (decided.Thrown m) true = none_thrown (m == 0) (middle_x n) (lane_y b id.slot w n)
 none_decided b verb id w n rs decided.Void true = refl
 none_decided b verb id w n rs decided.Stopped true = refl
 none_decided b verb id w n rs f false = refl

@@ -11,12 +11,14 @@ use Rattle.dspec_deeds.specs.declared.deed.Deed.TheVariants.{Trace, Scan, Opened
 use Rattle.dspec_deeds.specs.FateKinds.{trace_kept, is_copied}
 use Rattle.dspec_deeds.specs.Own.{Offer, offers, contents, held, accepts, accepted, stream}
 use Rattle.dspec_shapes.specs.declared.shape.Look.{Look}
+use Rattle.dspec_shapes.specs.declared.shape.Look.TheVariants as look
 use Rattle.dspec_shapes.specs.declared.shape.Caption.{Caption}
 use Rattle.dspec_shapes.specs.declared.shape.Caption.TheVariants as caption
 use Rattle.dspec_shapes.specs.declared.shape.Shape.{Shape}
-use Rattle.dspec_shapes.specs.declared.shape.Shape.TheVariants.{Label, RecordBox}
+use Rattle.dspec_shapes.specs.declared.shape.Shape.TheVariants.{Cross, Label, RecordBox, Tick}
 use Rattle.dspec_picture.specs.declared.band.Band.{Band}
-use Rattle.dspec_picture.specs.Marks.{stacked, copied_marks, outcome_marks, decision_marks, scan_marks, deed_marks, band_marks}
+use Rattle.dspec_picture.specs.Grid.{middle_x}
+use Rattle.dspec_picture.specs.Marks.{lane_y, stacked, copied_marks, outcome_marks, decision_marks, scan_marks, deed_marks, band_marks}
 use Rattle.dspec_picture.specs.Shown.{filled_records}
 
 contents-append : (xs ys : List Offer) → contents (xs ++ ys) ≡ contents xs ++ contents ys
@@ -38,18 +40,22 @@ filled_copied : (b : Band) (id : Speculation) (w : List Deed) (n : ℕ) (rs : Li
 filled_copied b id w n [] = refl
 filled_copied b id w n (r ∷ rs) = ap (λ (qs : List Record). r ∷ qs) (filled_stack b id _ _ rs)
 
+filled_thrown : (empty : Bool) (x y : ℕ) → filled_records ((if empty then Tick x y else Cross x y look.Discarded) ∷ []) ≡ []
+filled_thrown true x y = refl
+filled_thrown false x y = refl
+
 filled_outcome : (b : Band) (id : Speculation) (w : List Deed) (n : ℕ) (os : List Offer) (f : DecideFate)
     → filled_records (outcome_marks b id w n (reverse (contents os)) f) ≡ reverse (contents (if is_copied f then os else []))
 filled_outcome b id w n os (decided.Copied m) = filled_copied b id w n (reverse (contents os))
 filled_outcome b id w n os (decided.Lost m) = refl
-filled_outcome b id w n os (decided.Thrown m) = refl
+filled_outcome b id w n os (decided.Thrown m) = filled_thrown (m == 0) (middle_x n) (lane_y b id.slot w n)
 filled_outcome b id w n os decided.Void = refl
 filled_outcome b id w n os decided.Stopped = refl
 
 filled_discard : (b : Band) (id : Speculation) (w : List Deed) (n : ℕ) (f : DecideFate) → filled_records (outcome_marks b id w n [] f) ≡ []
 filled_discard b id w n (decided.Copied m) = refl
 filled_discard b id w n (decided.Lost m) = refl
-filled_discard b id w n (decided.Thrown m) = refl
+filled_discard b id w n (decided.Thrown m) = filled_thrown (m == 0) (middle_x n) (lane_y b id.slot w n)
 filled_discard b id w n decided.Void = refl
 filled_discard b id w n decided.Stopped = refl
 

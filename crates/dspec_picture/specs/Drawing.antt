@@ -1,5 +1,5 @@
 -- The picture of a list of deeds.
-use Rattle.std.specs.Prelude.{ℕ, ◌+◌, ◌-◌, ◌*◌, ◌/◌, List, [], ◌∷◌, ◌++◌, length, map, if◌then◌else◌, slice_index_or}
+use Rattle.std.specs.Prelude.{ℕ, ◌+◌, ◌-◌, ◌*◌, ◌/◌, Bool, List, [], ◌∷◌, ◌++◌, length, map, if◌then◌else◌, slice_index_or}
 use Rattle.std.specs.List.{flat_map}
 use Rattle.dspec_record.specs.declared.header.Header.{Header}
 use Rattle.dspec_deeds.specs.declared.config.Config.{Config}
@@ -33,11 +33,12 @@ band_of k header batches w c = record {
 abbrev pub bands_of : Config → Header → List ℕ → List Deed → List Band
 bands_of k header batches w = map (band_of k header batches w) (numbers_below k.cpus)
 
--- a lane's name and line, in one row
+-- a lane's name and line, in one row, if there is one
+abbrev pub lane_if : Bool → ℕ → ℕ → ℕ → List Shape
+lane_if spoke s y end = if spoke then Name 55 (y + 14) (caption.Slot s) ∷ LaneLine (y + 10) end ∷ [] else []
+
 abbrev pub lane_frame : Band → ℕ → ℕ → List Deed → ℕ → List Shape
-lane_frame b y end w s =
-    if has_lane b.cpu s w then Name 52 (y + lane_top b.cpu s w + 14) (caption.Slot s) ∷ LaneLine (y + lane_top b.cpu s w + 10) end ∷ []
-    else []
+lane_frame b y end w s = lane_if (has_lane b.cpu s w) s (y + lane_top b.cpu s w) end
 
 -- the ground and the name of a band
 abbrev pub ground_frame : Band → ℕ → ℕ → List Shape
@@ -45,7 +46,7 @@ ground_frame b y width = Ground y width b.height ∷ Name 8 (y + 32) (caption.Cp
 
 -- the name and the line of a stream
 abbrev pub stream_frame : ℕ → ℕ → List Shape
-stream_frame y end = Name 52 (y + 14) caption.Stream ∷ StreamLine (y + 10) end ∷ []
+stream_frame y end = Name 55 (y + 14) caption.Stream ∷ StreamLine (y + 10) end ∷ []
 
 -- what stands behind the marks of a CPU, in one row: the band's ground, its names, its lanes and its stream
 abbrev pub band_frame : ℕ → List Deed → Band → List Shape

@@ -76,11 +76,16 @@ copied_marks b id w column (r ∷ rs) =
     Arrow (middle_x column) (lane_y b id.slot w column) (stream_y b column - lane_y b id.slot w column)
     ∷ stacked b id (box_x column) (stream_y b column) (r ∷ rs)
 
+-- what a discarded buffer shows: a cross, or a stroke where it was empty
+abbrev pub thrown_mark : Band → Speculation → List Deed → ℕ → ℕ → Shape
+thrown_mark b id w column n =
+    if n == 0 then Tick (middle_x column) (lane_y b id.slot w column) else Cross (middle_x column) (lane_y b id.slot w column) look.Discarded
+
 -- what became of a buffer, in the speculation's lane; `rs` are its records where they may be accepted, in order
 abbrev pub outcome_marks : Band → Speculation → List Deed → ℕ → List Record → DecideFate → List Shape
 outcome_marks b id w column rs (decided.Copied n) = copied_marks b id w column rs
 outcome_marks b id w column rs (decided.Lost n) = Cross (middle_x column) (lane_y b id.slot w column) look.Dropped ∷ []
-outcome_marks b id w column rs (decided.Thrown n) = Cross (middle_x column) (lane_y b id.slot w column) look.Discarded ∷ []
+outcome_marks b id w column rs (decided.Thrown n) = thrown_mark b id w column n ∷ []
 outcome_marks b id w column rs decided.Void = Label (middle_x column) (lane_y b id.slot w column + 14) caption.Void ∷ []
 outcome_marks b id w column rs decided.Stopped = Label (middle_x column) (lane_y b id.slot w column + 14) caption.Stopped ∷ []
 

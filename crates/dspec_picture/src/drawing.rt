@@ -4,7 +4,7 @@ ghost use Rattle.std.specs.List.{flat_map};
 ghost use Rattle.dspec_deeds.specs.Closes.{numbers_below};
 ghost use Rattle.dspec_shapes.specs.Svg.{svg_text};
 ghost use Rattle.dspec_picture.specs.declared.drawing.PictureFault.TheVariants.{Memory};
-ghost use Rattle.dspec_picture.specs.Drawing.{all_shared_marks, band_frame, band_of, bands_of, deeds_drawn, drawing, free_marks, ground_frame, lane_frame, legend, row_frame, rows_drawn, shared_marks, stop_marks, stream_frame};
+ghost use Rattle.dspec_picture.specs.Drawing.{all_shared_marks, band_frame, band_of, bands_of, deeds_drawn, drawing, free_marks, ground_frame, lane_frame, lane_if, legend, row_frame, rows_drawn, shared_marks, stop_marks, stream_frame};
 ghost use Rattle.dspec_picture.specs.Grid.{band_height, bands_height, bands_top, row_count, row_height, slot_limit, stream_top};
 ghost use Rattle.dspec_picture.specs.Marks.{IsSmall, all_band_marks};
 
@@ -12,8 +12,8 @@ use crate::band::Band;
 use crate::bars::push_bars;
 use crate::fates::deepest;
 use crate::grid::{
-    COLUMNS, bar_top, bars_above, has_lane, lane_top, lanes_above, middle_x, picture_width,
-    row_count, row_end, row_top, slot_limit,
+    COLUMNS, bar_top, bars_above, has_lane, lanes_above, middle_x, picture_width, row_count,
+    row_end, row_top, slot_limit,
 };
 use crate::marks::{label_above, push_band};
 use crate::sheet::draw;
@@ -132,29 +132,29 @@ fn bands(
     Ok(bands)
 }
 
-/// The name and the line of a slot's lane in one row, if the CPU spoke to the slot.
+/// The name and the line of a slot's lane in one row, if the CPU spoke to the slot; so many lanes stand above it.
 fn push_lane(
     shapes: &mut Series<Shape>,
-    band: &Band,
     y: u64,
     end: u64,
-    deeds: &[Deed],
     slot: u32,
+    spoke: bool,
+    above: u64,
 ) -> Result<(), AllocError>
-    requires slot { slot ≤ 64 }
+    requires above { above ≤ 64 }
     requires place { y < 2 ^ 60 }
-    ensures { OnOk result (shapes.new ≡ shapes.old ++ lane_frame band.now y end (reverse deeds.now) slot) }
+    ensures { OnOk result (shapes.new ≡ shapes.old ++ lane_if spoke slot (y + (18 + 32 * above)) end) }
 {
-    if !has_lane(band.cpu, slot, deeds) {
+    if !spoke {
         return Ok(());
     }
-    let top = y + lane_top(band.cpu, slot, deeds);
-    draw(shapes, Shape::Name(52, top + 14, Caption::Slot(slot)))?;
+    let top = y + (18 + 32 * above);
+    draw(shapes, Shape::Name(55, top + 14, Caption::Slot(slot)))?;
     draw(shapes, Shape::LaneLine(top + 10, end))
 }
 
 /// The name and the line of each lane, in one row.
-#[tactic(auto, using(crate::proofs::Further::one_more_drawn))]
+#[tactic(auto, using(crate::proofs::Further::one_more_drawn, crate::proofs::Further::count_one_more))]
 fn push_lanes(
     shapes: &mut Series<Shape>,
     band: &Band,
@@ -165,8 +165,11 @@ fn push_lanes(
     requires place { y < 2 ^ 60 }
     ensures { OnOk result (shapes.new ≡ shapes.old ++ flat_map (lane_frame band.now y end (reverse deeds.now)) (numbers_below slot_limit)) }
 {
+    let mut above = 0;
     for slot in 0..slot_limit() {
-        push_lane(shapes, band, y, end, deeds, slot)?;
+        let spoke = has_lane(band.cpu, slot, deeds);
+        push_lane(shapes, y, end, slot, spoke, above)?;
+        above += u64::from(spoke);
     }
     Ok(())
 }
@@ -176,7 +179,7 @@ fn push_stream(shapes: &mut Series<Shape>, y: u64, end: u64) -> Result<(), Alloc
     requires place { y < 2 ^ 60 }
     ensures { OnOk result (shapes.new ≡ shapes.old ++ stream_frame y end) }
 {
-    draw(shapes, Shape::Name(52, y + 14, Caption::Stream))?;
+    draw(shapes, Shape::Name(55, y + 14, Caption::Stream))?;
     draw(shapes, Shape::StreamLine(y + 10, end))
 }
 

@@ -1,5 +1,5 @@
 //! What the deeds of one CPU show in its band, each in its column.
-ghost use Rattle.std.specs.Prelude.{◌≡◌, ◌==◌, true, ◌+◌, ◌≤◌, ◌<◌, ◌^◌, ◌++◌, ◌∷◌, [], OnOk, length, reverse, take};
+ghost use Rattle.std.specs.Prelude.{◌≡◌, ◌==◌, true, ◌+◌, ◌≤◌, ◌<◌, ◌^◌, ◌++◌, ◌∷◌, [], if◌then◌else◌, OnOk, length, reverse, take};
 ghost use Rattle.dspec_deeds.specs.declared.deed.Deed.TheVariants as deed;
 ghost use Rattle.dspec_deeds.specs.Own.{contents, held, seals};
 ghost use Rattle.dspec_deeds.specs.Owning.{is_of};
@@ -154,6 +154,16 @@ fn push_copied(
     push_stacked(shapes, band, id, box_x(column), stream, recs)
 }
 
+/// What a discarded buffer shows: a cross, or a stroke where it was empty.
+fn thrown(x: u64, y: u64, count: u32) -> Shape
+    ensures { result ≡ (if count == 0 then Shape.Tick x y else Shape.Cross x y Look.Discarded) }
+{
+    if count == 0 {
+        return Shape::Tick(x, y);
+    }
+    Shape::Cross(x, y, Look::Discarded)
+}
+
 /// What became of a buffer, in its speculation's lane.
 fn push_outcome(
     shapes: &mut Series<Shape>,
@@ -174,7 +184,7 @@ fn push_outcome(
     match fate {
         DecideFate::Copied(_) => push_copied(shapes, band, id, deeds, column, recs),
         DecideFate::Lost(_) => draw(shapes, Shape::Cross(x, y, Look::Dropped)),
-        DecideFate::Thrown(_) => draw(shapes, Shape::Cross(x, y, Look::Discarded)),
+        DecideFate::Thrown(count) => draw(shapes, thrown(x, y, count)),
         DecideFate::Void => draw(shapes, Shape::Label(x, y + 14, Caption::Void)),
         DecideFate::Stopped => draw(shapes, Shape::Label(x, y + 14, Caption::Stopped)),
     }

@@ -87,6 +87,20 @@ fn two_speculations(rt: HostRuntime) -> Result<(), Fail> {
     Ok(())
 }
 
+/// A discard of an empty buffer is a stroke, and no cross.
+#[test]
+fn nothing_to_discard(rt: HostRuntime) -> Result<(), Fail> {
+    let id = SpecId::of(0, 1);
+    let deeds = [
+        Deed::Opened(0, id),
+        Deed::Discard(0, id, DecideFate::Thrown(0)),
+    ];
+    let text = drawn(rt.alloc(), &deeds)?;
+    let crosses = times(text.as_str(), "<title>records discarded</title>");
+    assert!(rt; crosses == 0 && times(text.as_str(), "<path class='tick'") == 1);
+    Ok(())
+}
+
 /// A picture shows at most 2,000 deeds.
 #[test]
 fn too_many(rt: HostRuntime) -> Result<(), Fail> {

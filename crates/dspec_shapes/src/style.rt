@@ -28,6 +28,7 @@ path{fill:none}.tip{fill:#2e7d32}\n\
 .on rect{fill:#2e7d32}.on text{fill:#fff}\n\
 .dropped rect,.dropped path{fill:#fff;stroke:#c62828;stroke-width:1.5}.dropped text{fill:#c62828}\n\
 .discarded rect,.discarded path{fill:#fff;stroke:#6d6d6d}.discarded text{fill:#6d6d6d}\n\
+.dropped text+path,.discarded text+path{stroke-opacity:.45}\n\
 .void rect{fill:#fff;stroke:#6d6d6d;stroke-dasharray:3 2}.void text{fill:#6d6d6d}\n\
 .abandoned rect{fill:#fff;stroke:#b26a00;stroke-width:3}.abandoned text{fill:#b26a00}\n\
 .s0 rect{fill:#f2f2f2;stroke:#ccc}.s1 rect{fill:#e3effb;stroke:#5b9bd8}.s2 rect{fill:#b5d6f4;stroke:#5b9bd8}.s3 rect{fill:#7fb6e8;stroke:#2f6fb0}\n\
