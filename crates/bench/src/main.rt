@@ -8,7 +8,8 @@
 //! - `bench cpu WAY RECORD SIZE NUMBER` takes one way through a CPU by so many records, in small or in large buffers.
 //! - `bench loads NUMBER` makes so many loads of activity, and prints how many showed that the session runs; `bench loads times` times
 //!   them, alone and beside another thread's exchanges on a slot's word.
-//! - `bench together CPUS NUMBER` has so many CPUs at once make so many speculations of twenty records each, and prints what a record took.
+//! - `bench together CPUS NUMBER` has so many CPUs at once make so many speculations of twenty records each, and prints what a record took;
+//!   `bench apart CPUS NUMBER` does so without a consumer beside them.
 //!
 //! A tool that counts instructions runs a way twice: the difference of both counts is what the further records cost. Nothing is
 //! promised of times.
@@ -50,6 +51,7 @@ fn run<R: Threads + Wait + Sync>(
         "cpu" => cpu::run(rt, rest),
         "loads" => loads::run(threads, rt, rest),
         "together" => together::run(threads, rt, rest),
+        "apart" => together::run_apart(threads, rt, rest),
         _ => Ok(false),
     }
 }
@@ -63,7 +65,7 @@ fn main(rt: HostRuntime) -> io::Result<ExitCode> {
         return Ok(ExitCode::SUCCESS);
     }
     eprintln!(rt;
-        "bench: usage: bench [push times ROUNDS | push count WAY RECORD NUMBER | cpu WAY RECORD SIZE NUMBER | loads NUMBER | loads times | together CPUS NUMBER]"
+        "bench: usage: bench [push times ROUNDS | push count WAY RECORD NUMBER | cpu WAY RECORD SIZE NUMBER | loads NUMBER | loads times | together CPUS NUMBER | apart CPUS NUMBER]"
     )?;
     Ok(ExitCode::from(USAGE_STATUS))
 }

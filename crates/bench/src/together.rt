@@ -1,12 +1,16 @@
-//! Speculations by several CPUs at once, each in a thread of its own, while the consumer goes its rounds.
+//! Speculations by several CPUs at once, each in a thread of its own, while the consumer goes its rounds, or without it.
 ghost use Rattle.std.specs.Prelude.{◌≡◌};
 ghost use Rattle.dspec.specs.Lanes.{place_of};
+ghost use Rattle.dspec.specs.Lent.{AllCallable};
+ghost use Rattle.dspec_cpu.specs.Standing.{IsCallable};
 
 use crate::push::number_of;
-use dspec::{Closed, Config, Enablings, Field, Kept, Lane, Work, trace};
-use std::io;
+use dspec::{Closed, Config, Cpu, Enablings, Field, Kept, Lane, Session, Shared, Work, trace};
+use std::alloc::Global;
+use std::sync::atomic::{AtomicU64, Ordering};
 use std::thread::Threads;
 use std::time::Instant;
+use std::{io, thread};
 
 /// How many records a speculation has.
 const BLOCK_RECORDS: u32 = 20;
@@ -41,24 +45,18 @@ impl Work<Enablings> for Speculating {
     }
 }
 
-/// A session of so many CPUs whose speculations are so many each; None where it couldn't start.
-fn speculate_all<R: Threads + Sync>(
-    threads: &R,
-    rt: &HostRuntime,
-    cpus: u32,
-    number: u32,
-) -> Option<Closed> {
+/// The schema and the work of a run; None where there is no such schema.
+fn work_of(number: u32) -> Option<(Enablings, Speculating)> {
     let mut schema = Enablings::new();
-    let Ok(epid) = schema.enable(&[Field::Four]) else {
-        return None;
-    };
-    let config = Config::of(cpus, 8, 4096, 4096);
-    let work = Speculating { epid, number };
-    let nobody: Option<Kept> = None;
-    match trace(threads, rt.alloc(), &config, schema, &work, nobody) {
-        Ok((closed, _)) => Some(closed),
+    match schema.enable(&[Field::Four]) {
+        Ok(epid) => Some((schema, Speculating { epid, number })),
         Err(_) => None,
     }
+}
+
+/// The configuration of so many CPUs.
+fn config_of(cpus: u32) -> Config {
+    Config::of(cpus, 8, 4096, 4096)
 }
 
 /// How many records the CPUs of a closed session offered.
@@ -70,39 +68,104 @@ fn offered(closed: &Closed) -> u64 {
     sum
 }
 
-/// Two CPUs at once: how many records they offered.
-pub fn check<R: Threads + Sync>(threads: &R, rt: &HostRuntime) -> io::Result<()> {
-    let count = match speculate_all(threads, rt, 2, 100) {
-        Some(closed) => offered(&closed),
-        None => 0,
+/// A session of so many CPUs whose speculations are so many each: how many records they offered; 0 where it couldn't start.
+fn speculate_all<R: Threads + Sync>(threads: &R, alloc: Global, cpus: u32, number: u32) -> u64 {
+    let Some((schema, work)) = work_of(number) else {
+        return 0;
     };
-    println!(rt; "together 2: {count}")
+    let nobody: Option<Kept> = None;
+    match trace(threads, alloc, &config_of(cpus), schema, &work, nobody) {
+        Ok((closed, _)) => offered(&closed),
+        Err(_) => 0,
+    }
+}
+
+/// Each CPU works in a thread of its own: how many records they offered.
+fn work_apart<R: Threads + Sync>(
+    threads: &R,
+    cpus: Vec<Cpu<Enablings>>,
+    shared: &Shared,
+    work: &Speculating,
+) -> u64
+    requires callable { AllCallable shared.now cpus.items }
+{
+    let mut cpus = cpus;
+    let sum = AtomicU64::new(0);
+    let offered = &sum;
+    let part = move |_number: usize, cpu: &mut Cpu<Enablings>|
+        requires { IsCallable shared.now cpu.now }
+    {
+        let mut lane = Lane::of(shared, cpu);
+        work.work(&mut lane);
+        offered.fetch_add(lane.report().offered, Ordering::SeqCst);
+    };
+    thread::for_each_mut(threads, cpus.as_mut_slice(), MOST_CPUS as usize, &part);
+    sum.load(Ordering::SeqCst)
+}
+
+/// The same without a consumer beside them.
+fn speculate_apart<R: Threads + Sync>(threads: &R, alloc: Global, cpus: u32, number: u32) -> u64 {
+    let Some((schema, work)) = work_of(number) else {
+        return 0;
+    };
+    match Session::start(alloc, &config_of(cpus), schema) {
+        Ok(session) => work_apart(threads, session.cpus, &session.shared, &work),
+        Err(_) => 0,
+    }
+}
+
+/// Two CPUs at once, with a consumer and without: how many records they offered.
+pub fn check<R: Threads + Sync>(threads: &R, rt: &HostRuntime) -> io::Result<()> {
+    let together = speculate_all(threads, rt.alloc(), 2, 100);
+    println!(rt; "together 2: {together}")?;
+    let apart = speculate_apart(threads, rt.alloc(), 2, 100);
+    println!(rt; "apart 2: {apart}")
+}
+
+/// How many CPUs, and how many speculations of each, the words ask for; None where they ask for nothing that is done here.
+fn numbers_of(words: &[String]) -> Option<(u32, u32)> {
+    let [cpus, number] = words else {
+        return None;
+    };
+    let cpus = number_of(cpus.as_str(), MOST_CPUS)?;
+    let number = number_of(number.as_str(), MOST_NUMBER)?;
+    Some((cpus, number))
+}
+
+/// Prints what so many speculations took since then.
+fn tell(rt: &HostRuntime, name: &str, number: u32, count: u64, start: &Instant) -> io::Result<()> {
+    let nanos = start.elapsed(rt)?.as_nanos();
+    let records = u128::from(number).wrapping_mul(u128::from(BLOCK_RECORDS));
+    let tenths = nanos.wrapping_mul(10).checked_div(records).unwrap_or(0);
+    println!(rt;
+        "{name}: {count} records, {}.{} nanoseconds a record of each CPU",
+        tenths / 10,
+        tenths % 10
+    )
 }
 
 /// Times so many CPUs with so many speculations each; false where the words ask for nothing that is done here.
 pub fn run<R: Threads + Sync>(threads: &R, rt: &HostRuntime, words: &[String]) -> io::Result<bool> {
-    let [cpus, number] = words else {
-        return Ok(false);
-    };
-    let (Some(cpus), Some(number)) = (
-        number_of(cpus.as_str(), MOST_CPUS),
-        number_of(number.as_str(), MOST_NUMBER),
-    ) else {
+    let Some((cpus, number)) = numbers_of(words) else {
         return Ok(false);
     };
     let start = Instant::now(rt)?;
-    let closed = speculate_all(threads, rt, cpus, number);
-    let nanos = start.elapsed(rt)?.as_nanos();
-    let count = match closed {
-        Some(closed) => offered(&closed),
-        None => 0,
+    let count = speculate_all(threads, rt.alloc(), cpus, number);
+    tell(rt, "together", number, count, &start)?;
+    Ok(true)
+}
+
+/// The same without a consumer beside them.
+pub fn run_apart<R: Threads + Sync>(
+    threads: &R,
+    rt: &HostRuntime,
+    words: &[String],
+) -> io::Result<bool> {
+    let Some((cpus, number)) = numbers_of(words) else {
+        return Ok(false);
     };
-    let records = u128::from(number).wrapping_mul(u128::from(BLOCK_RECORDS));
-    let tenths = nanos.wrapping_mul(10).checked_div(records).unwrap_or(0);
-    println!(rt;
-        "together {cpus}: {count} records, {}.{} nanoseconds a record of each CPU",
-        tenths / 10,
-        tenths % 10
-    )?;
+    let start = Instant::now(rt)?;
+    let count = speculate_apart(threads, rt.alloc(), cpus, number);
+    tell(rt, "apart", number, count, &start)?;
     Ok(true)
 }

@@ -1,3 +1,4 @@
+mod LeftBehind
 mod Passing
 mod Returning
 mod Standing

@@ -1,3 +1,4 @@
+pub mod ClosedCpus
 pub mod KeptRecords
 pub mod Lanes
 pub mod Lent

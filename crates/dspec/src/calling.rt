@@ -1,10 +1,14 @@
-ghost use Rattle.std.specs.Prelude.{◌≡◌, ◌+◌, ◌*◌, ◌≤◌, ◌&&◌, ◌↔◌, nat_le, length, IsTrue, IsSome, IfSome, IfNone};
+ghost use Rattle.std.specs.Prelude.{◌≡◌, ◌+◌, ◌*◌, ◌≤◌, ◌&&◌, ◌↔◌, nat_le, length, List, IsTrue, IsSome, IfSome, IfNone};
+ghost use Rattle.dspec_deeds.specs.declared.deed.Deed.{Deed};
 ghost use Rattle.dspec_deeds.specs.declared.deed.Deed.TheVariants.{Commit, Discard};
+ghost use Rattle.dspec_deeds.specs.Own.{dropped_in};
+ghost use Rattle.dspec_deeds.specs.Reports.{report};
 ghost use Rattle.dspec_side.specs.Counting.{is_stopped_opening};
 ghost use Rattle.dspec_table.specs.Seats.{known};
 ghost use Rattle.dspec_cpu.specs.Calls.{Decides, Does, spoken_deeds, traced_deeds, is_worn_decided, is_worn_spoken, is_worn_trace};
+ghost use Rattle.dspec_cpu.specs.Dropped.{drops_told};
 ghost use Rattle.dspec_cpu.specs.Keeping.{CallKeeps};
-ghost use Rattle.dspec_cpu.specs.Lists.{config_of, end_of, in_hand_of, number_in, schema_of, seat_of, worn_of};
+ghost use Rattle.dspec_cpu.specs.Lists.{config_of, end_of, held_back_of, number_in, schema_of, seat_of, worn_of};
 ghost use Rattle.dspec_cpu.specs.Scans.{Opens, is_worn_opening};
 ghost use Rattle.dspec_cpu.specs.Serving.{Serves};
 ghost use Rattle.dspec_cpu.specs.Stops.{is_stopped_decided, is_stopped_spoken, is_stopped_trace};
@@ -113,15 +117,33 @@ impl<'a, S: Schema> Lane<'a, S> {
         self.cpu.offer(self.shared, id, epid, stamp, values)
     }
 
+    /// How many records were dropped from the CPU's buffer of the speculation since the CPU became a caller: where there are any,
+    /// the end of the path is cut. 0 where it is no caller, and once the slot's next speculation was granted to it. At the most
+    /// `u32::MAX`.
+    #[inline]
+    pub fn dropped_in(&self, id: SpecId) -> u32
+        ensures { (p : List Deed) → ⟦<Cpu<S> as Listed>⟧.has_list self.now.cpu.now p → result ≡ drops_told (dropped_in (number_in self.now.cpu.now) id p) }
+    {
+        self.cpu.dropped_in(id)
+    }
+
     /// Does what the CPU owes: seals where the consumer asked for a batch, and settles what was decided elsewhere.
     #[inline]
     pub fn service(&mut self) -> Served
         ensures same { place_of self.new ≡ place_of self.old }
         ensures wears { worn_of self.new.cpu.now ≡ worn_of self.old.cpu.now }
         ensures bounded { (known (seat_of self.new.cpu.now)).steps ≤ (known (seat_of self.old.cpu.now)).steps + 1 + 2 * (config_of self.old.cpu.now).nspec }
-        ensures moves { (end_of self.new.cpu.now).moves ≤ (end_of self.old.cpu.now).moves + most_moves (in_hand_of self.old.cpu.now) }
+        ensures moves { (end_of self.new.cpu.now).moves ≤ (end_of self.old.cpu.now).moves + most_moves (held_back_of self.old.cpu.now) }
         ensures serves { Serves (config_of self.old.cpu.now) (number_in self.old.cpu.now) result (⟦<Cpu<S> as Listed>⟧.has_list self.old.cpu.now) (known (seat_of self.old.cpu.now)) (buffers_of self.old.cpu.now) (⟦<Cpu<S> as Listed>⟧.has_list self.new.cpu.now) (known (seat_of self.new.cpu.now)) (buffers_of self.new.cpu.now) }
     {
         self.cpu.service(self.shared)
+    }
+
+    /// The CPU's counts so far.
+    pub fn report(&self) -> Report
+        ensures { (p : List Deed) → ⟦<Cpu<S> as Listed>⟧.has_list self.now.cpu.now p
+            → result ≡ report (config_of self.now.cpu.now) (number_in self.now.cpu.now) (worn_of self.now.cpu.now) p }
+    {
+        self.cpu.report(self.shared)
     }
 }

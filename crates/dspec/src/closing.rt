@@ -1,6 +1,8 @@
 ghost use Rattle.std.specs.Prelude.{◌≡◌, ◌<◌, length, slice_get, Some, option_copied};
 ghost use Rattle.dspec_session.specs.declared.left.Left.{Left};
+ghost use Rattle.dspec.specs.ClosedCpus.{cpus_left, lefts_from};
 
+use crate::each_closed::ClosedCpus;
 use dspec_deeds::Report;
 use dspec_ring::Batch;
 use dspec_session::Closed;
@@ -33,4 +35,11 @@ pub fn closed_cpu(closed: &Closed, number: u32) -> ClosedCpu<'_>
         last,
         report: closed.report(number),
     }
+}
+
+/// All CPUs of a closed session, CPU 0 first.
+pub fn closed_cpus(closed: &Closed) -> ClosedCpus<'_>
+    ensures { cpus_left result ≡ lefts_from 0 closed.now }
+{
+    ClosedCpus { closed, next: 0 }
 }

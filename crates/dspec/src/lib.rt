@@ -9,6 +9,7 @@
 mod both;
 mod calling;
 mod closing;
+mod each_closed;
 mod kept;
 mod lane;
 mod path;
@@ -16,7 +17,7 @@ mod running;
 mod work;
 
 pub use both::Both;
-pub use closing::{ClosedCpu, closed_cpu};
+pub use closing::{ClosedCpu, closed_cpu, closed_cpus};
 pub use dspec_buffer::{ReadFault, Reading, Records, read_all, read_prefix};
 pub use dspec_cpu::{Cpu, Shared};
 pub use dspec_deeds::{
@@ -26,6 +27,7 @@ pub use dspec_record::{Enablings, Field, Header, Rec, Schema, SchemaFault};
 pub use dspec_ring::Batch;
 pub use dspec_session::{Closed, Consumer, Session};
 pub use dspec_word::SpecId;
+pub use each_closed::ClosedCpus;
 pub use kept::{Kept, KeptFault};
 pub use lane::Lane;
 pub use path::Path;

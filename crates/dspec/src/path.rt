@@ -1,9 +1,12 @@
-ghost use Rattle.std.specs.Prelude.{◌≡◌, ◌+◌, ◌*◌, ◌&&◌, ◌↔◌, nat_le, length, IsSome, IsTrue, IfNone, IfSome};
+ghost use Rattle.std.specs.Prelude.{◌≡◌, ◌+◌, ◌*◌, ◌&&◌, ◌↔◌, nat_le, List, length, IsSome, IsTrue, IfNone, IfSome};
+ghost use Rattle.dspec_deeds.specs.declared.deed.Deed.{Deed};
 ghost use Rattle.dspec_deeds.specs.declared.deed.Deed.TheVariants.{Commit, Discard};
+ghost use Rattle.dspec_deeds.specs.Own.{dropped_in};
 ghost use Rattle.dspec_deeds.specs.Told.{id_told};
 ghost use Rattle.dspec_side.specs.Counting.{is_stopped_opening};
 ghost use Rattle.dspec_table.specs.Seats.{known};
 ghost use Rattle.dspec_cpu.specs.Calls.{Decides, Does, spoken_deeds, is_worn_decided, is_worn_spoken};
+ghost use Rattle.dspec_cpu.specs.Dropped.{drops_told};
 ghost use Rattle.dspec_cpu.specs.Keeping.{CallKeeps};
 ghost use Rattle.dspec_cpu.specs.Lists.{config_of, number_in, schema_of, seat_of};
 ghost use Rattle.dspec_cpu.specs.Scans.{Opens, is_worn_opening};
@@ -49,6 +52,16 @@ impl Path {
             (⟦<Cpu<S> as Listed>⟧.has_list lane.old.cpu.now) (known (seat_of lane.old.cpu.now)) (⟦<Cpu<S> as Listed>⟧.has_list lane.new.cpu.now) (known (seat_of lane.new.cpu.now))) }
     {
         lane.offer(self.opening.id(), epid, stamp, values)
+    }
+
+    /// How many of the lane's records were dropped because its buffer of the path was full: where there are any, its end of the
+    /// path is cut. As `Lane::dropped_in`.
+    #[inline]
+    pub fn dropped<S: Schema>(&self, lane: &Lane<'_, S>) -> u32
+        ensures { (p : List Deed) → ⟦<Cpu<S> as Listed>⟧.has_list lane.now.cpu.now p
+            → result ≡ drops_told (dropped_in (number_in lane.now.cpu.now) (id_told self.now.opening) p) }
+    {
+        lane.dropped_in(self.opening.id())
     }
 
     /// Keeps what was offered: the speculation is committed.

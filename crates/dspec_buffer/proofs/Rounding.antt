@@ -1,5 +1,7 @@
 -- Offsets are whole words, and alignments four or eight.
-use Rattle.std.proofs.Common.{◌≡◌, ◌≢◌, ◌+◌, ◌%◌, ◌⊎◌, ℕ, inl, inr, arith}
+use Rattle.std.proofs.Common.{◌≡◌, ◌≢◌, ◌≤◌, ◌+◌, ◌-◌, ◌%◌, ◌⊎◌, ℕ, inl, inr, ⊎_elim, ap, ◌∙◌, arith}
+use Rattle.std.specs.Int.Bits.{bit_and, and_zero_r}
+use Rattle.std.proofs.lemmas.Nat.{and_le_r, and_mod}
 use Rattle.dspec_record.specs.Layout.{rounded_up}
 
 -- what rounding up does: nothing, or one word up to a multiple of eight
@@ -31,3 +33,27 @@ rounded_eight o h = record {
 pub rounded : (o a : ℕ) → o % 4 ≡ 0 → (a ≡ 4) ⊎ (a ≡ 8) → IsRounded o a (rounded_up o a)
 rounded o a h (inl e) = rw e (rounded_four o h)
 rounded o a h (inr e) = rw e (rounded_eight o h)
+
+-- the bit of a whole word tells its distance from the multiple of eight below it
+word-bit : (o : ℕ) → o % 4 ≡ 0 → bit_and o 4 ≡ o % 8
+word-bit o h =
+    let few : bit_and o 4 ≤ 4 = and_le_r o 4 in
+    let low : bit_and o 4 % 8 ≡ bit_and (o % 8) 4 = and_mod o 4 3 in
+    let step : (o % 8 ≡ 0) ⊎ (o % 8 ≡ 4) = grind arith in
+    ⊎_elim
+    (λ e. let bit : bit_and (o % 8) 4 ≡ 0 = ap (λ n. bit_and n 4) e in omega arith)
+    (λ e. let bit : bit_and (o % 8) 4 ≡ 4 = ap (λ n. bit_and n 4) e in omega arith)
+    step
+
+-- so that rounding up adds the bit that the alignment forbids
+pub rounded-bit : (o a : ℕ) → o % 4 ≡ 0 → (a ≡ 4) ⊎ (a ≡ 8) → o + bit_and o (a - 4) ≡ rounded_up o a
+rounded-bit o a h (inl e) =
+    let none : bit_and o (a - 4) ≡ 0 = ap (λ n. bit_and o (n - 4)) e ∙ and_zero_r o in
+    let up : rounded_up o a ≡ rounded_up o 4 = ap (rounded_up o) e in
+    let stays : rounded_up o 4 ≡ o = omega arith in
+    omega arith
+rounded-bit o a h (inr e) =
+    let bit : bit_and o (a - 4) ≡ o % 8 = ap (λ n. bit_and o (n - 4)) e ∙ word-bit o h in
+    let up : rounded_up o a ≡ rounded_up o 8 = ap (rounded_up o) e in
+    let moves : rounded_up o 8 ≡ o + o % 8 = omega arith in
+    omega arith

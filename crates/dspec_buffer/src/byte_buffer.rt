@@ -1,7 +1,7 @@
 use crate::TraceBuffer;
 use crate::reader::next_of_text;
 use crate::reserving::{pad, place_for, put_behind};
-use dspec_record::{Rec, Schema};
+use dspec_record::{Rec, Schema, Shape};
 use std::alloc::{AllocError, Global};
 use std::fmt;
 use std::marker::Model;
@@ -122,11 +122,13 @@ impl<S: Schema> TraceBuffer<S> for ByteBuffer {
 
     #[inline(always)]
     fn push(&mut self, schema: &S, rec: &Rec) -> bool {
-        let shape = schema.shape(rec.epid()).unwrap();
-        let Some(place) = place_for(self.offset, self.size(), shape.align, shape.size) else {
+        let Some(Shape { size, align }) = schema.shape(rec.epid()) else {
+            unreachable!()
+        };
+        let Some(place) = place_for(self.offset, self.size(), align, size) else {
             return false;
         };
-        let end = place + shape.size;
+        let end = place + size;
         let bytes = self.bytes.as_mut_slice();
         let from = self.offset as usize;
         put_behind(schema, rec, bytes, from, place as usize, end as usize);

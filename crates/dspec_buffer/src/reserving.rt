@@ -14,12 +14,8 @@ pub(crate) fn place_for(offset: u32, limit: u32, align: u32, size: u32) -> Optio
     ensures { MatchOption result (limit < after offset align size)
         (λ place. (place ≡ rounded_up offset align) × (place + size ≤ limit)) }
 {
-    // offsets are whole words, so that only a piece that wants eight bytes can want padding
-    let place = if align == 8 && offset % 8 != 0 {
-        offset + 4
-    } else {
-        offset
-    };
+    // offsets are whole words: a word of padding comes where the offset has the bit that an alignment of eight forbids
+    let place = offset + (offset & (align - 4));
     if u64::from(place) + u64::from(size) <= u64::from(limit) {
         Some(place)
     } else {

@@ -1,6 +1,8 @@
 -- Lists each element of which has something at its place.
-use Rattle.std.proofs.Common.{◌≡◌, ℕ, ◌+◌, ◌<◌, List, [], ◌∷◌, ◌++◌, length, length-append, Option, suc, zero, refl, sym, ap, ◌∙◌, subst, arith}
-use Rattle.std.specs.Prelude.{slice_get, slice_index_or, slice_set, remove, Some}
+use Rattle.std.proofs.Common.{◌≡◌, ℕ, ◌+◌, ◌<◌, List, [], ◌∷◌, ◌++◌, length, length-append, append_assoc, Option, None, suc, zero, refl, sym, ap, ◌∙◌, subst, arith}
+use Rattle.std.specs.Prelude.{slice_get, slice_index_or, slice_set, map, remove, Some, IfNone, is_some, false}
+use Rattle.std.specs.Option.{option_map_or}
+use Rattle.std.proofs.lemmas.Option.{slice_get_read}
 use Rattle.dspec_ring.specs.Known.{Pair}
 use Rattle.dspec_record.specs.EnablingRows.{EnabledRows}
 use Rattle.dspec_cpu.specs.declared.cpu.Cpu.{Cpu}
@@ -9,7 +11,7 @@ use Rattle.dspec_cpu.specs.Lists.{words_of}
 use Rattle.dspec_cpu.specs.Standing.{IsCallable, identity}
 use Rattle.dspec_session.specs.Sessions.{IsCpuOf}
 use Rattle.dspec_c.specs.Homes.{IsSameSide, Side}
-use Rattle.dspec_c.specs.Whole.{AllCalled, EachFrom, IsCpuAt, IsPlaceOf}
+use Rattle.dspec_c.specs.Whole.{AllCalled, EachFrom, IsCpuAt, IsPlaceOf, IsWaiting, waiting_so, waits_in}
 
 -- the first element, and what is left when it is removed
 pub first_and_rest : {A : Type 0} (xs : List A) (x : A) → 0 < length xs → x ≡ slice_index_or xs 0 x → x ∷ remove xs 0 ≡ xs
@@ -83,3 +85,31 @@ placed_counts places rest cpu left place now n cons is all =
     let a : length now ≡ length places + 1 = ap length is ∙ length-append places (place ∷ []) in
     let b : length rest ≡ suc (length left) = ap length cons in
     omega (arith, a, b, all)
+
+-- one more waits
+pub one_waits : (shared : Shared) (waiting : List (Option Side)) (rest : List (Cpu EnabledRows)) (cpu : Cpu EnabledRows) (left : List (Cpu EnabledRows)) (side : Side) (now all : List (Option Side))
+    → rest ≡ cpu ∷ left → now ≡ waiting ++ Some side ∷ [] → Some side ≡ waiting_so shared cpu → waiting ++ map (waiting_so shared) rest ≡ all → now ++ map (waiting_so shared) left ≡ all
+one_waits shared waiting rest cpu left side now all cons is made was =
+    ap (λ xs. xs ++ map (waiting_so shared) left) is ∙ append_assoc waiting (Some side ∷ []) (map (waiting_so shared) left) ∙ ap (λ (o : Option Side). waiting ++ o ∷ map (waiting_so shared) left) made
+    ∙ sym (ap (λ xs. waiting ++ map (waiting_so shared) xs) cons) ∙ was
+
+-- the CPUs of a session wait, each at its number
+pub each_waits : (shared : Shared) (schema : EnabledRows) (pairs : List Pair) (n : ℕ) (cpus : List (Cpu EnabledRows)) → EachFrom (IsCpuAt shared schema pairs) n cpus
+    → EachFrom (IsWaiting shared) n (map (waiting_so shared) cpus)
+each_waits shared schema pairs n [] all = tt
+each_waits shared schema pairs n (cpu ∷ cpus) all = ((refl, all.0.number), each_waits shared schema pairs (suc n) cpus all.1)
+
+-- what doesn't wait any more is of no matter
+pub each_without : (shared : Shared) (n c : ℕ) (waiting : List (Option Side)) → EachFrom (IsWaiting shared) n waiting → EachFrom (IsWaiting shared) n (slice_set waiting c None)
+each_without shared n c [] all = tt
+each_without shared n zero (x ∷ xs) all = (tt, all.1)
+each_without shared n (suc c) (x ∷ xs) all = (all.0, each_without shared (suc n) c xs all.1)
+
+-- where none was taken, none was there, and nothing changed
+pub none_there : (xs : List (Option Side)) (c : ℕ) (a x n : Option Side) → c < length xs → x ≡ slice_index_or xs c x → a ≡ x → n ≡ None
+    → IfNone a ((waits_in c xs ≡ false) × (slice_set xs c n ≡ xs))
+none_there xs c None x n small is e f = (
+  ap (λ (o : Option (Option Side)). option_map_or (λ (p : Option Side). is_some p) o false) (slice_get_read xs (length xs) c x refl small is) ∙ ap (λ (o : Option Side). is_some o) (sym e),
+  set_back xs c x n (f ∙ e) is,
+)
+none_there xs c (Some y) x n small is e f = tt

@@ -1,19 +1,22 @@
 -- What is home makes the session that was started.
 use Rattle.std.proofs.Common.{◌≡◌, ℕ, ◌+◌, List, [], ◌∷◌, length, Option, Some, None, suc, zero, refl, sym, ap, ◌∙◌, subst, arith}
-use Rattle.std.specs.Prelude.{slice_get}
+use Rattle.std.specs.Prelude.{IfSome, IsSome, map, slice_get, slice_set}
+use Rattle.std.proofs.lemmas.List.{length-map, length-set}
+use Rattle.dspec_deeds.specs.declared.config.Config.{Config}
 use Rattle.dspec_deeds.specs.Ranges.{start_fault}
 use Rattle.dspec_record.specs.EnablingRows.{EnabledRows}
 use Rattle.dspec_table.specs.Seats.{set_up}
 use Rattle.dspec_cpu.specs.declared.cpu.Cpu.{Cpu}
 use Rattle.dspec_cpu.specs.declared.shared.Shared.{Shared}
 use Rattle.dspec_cpu.specs.Lists.{words_of}
-use Rattle.dspec_session.specs.Consumers.{Consuming, IsConsumerOf, pairs_of}
+use Rattle.dspec_session.specs.Consumers.{Consuming, IsConsumerOf, pairs_of, set_up_of}
 use Rattle.dspec_session.specs.Sessions.{IsCpuOf, IsSession}
 use Rattle.dspec_session.specs.declared.session.Session.{Session}
 use Rattle.dspec_cpu.specs.Standing.{identity}
 use Rattle.dspec_c.specs.ConsumerHomes.{IsSameTheirs, Theirs}
 use Rattle.dspec_c.specs.Homes.{Side}
-use Rattle.dspec_c.specs.Whole.{AllCalled, EachFrom, IsCpuAt, IsEnding, IsPlaceOf, IsStarted, IsWhole}
+use Rattle.dspec_c.specs.Whole.{AllCalled, AllIn, AllWait, EachFrom, Going, IsJustStarted, IsCpuAt, IsEnding, IsPlaceOf, IsStarted, IsWaiting, IsWhole, waiting_so}
+use Rattle.dspec_c.proofs.Each.{each_waits, each_without}
 
 abbrev if_some : {X : Type 0} → Option X → Type 0
 if_some None = ⊥
@@ -90,6 +93,44 @@ whole_at_first shared clone n cpus consumer places place home is at e f count ea
 }
 
 -- looking for what is home changes nothing of it
-pub whole_kept : (shared : Shared) (n m : ℕ) (places now : List (Option Side)) (place there : Option Theirs) → IsWhole shared n places place × (m ≡ 0) → now ≡ places → there ≡ place
-    → IsWhole shared n now there × (m ≡ 0)
-whole_kept shared n m places now place there is e f = (subst (λ xs. IsWhole shared n xs there) (sym e) (subst (λ o. IsWhole shared n places o) (sym f) is.0), is.1)
+pub whole_kept : (shared : Shared) (n m : ℕ) (places now : List (Option Side)) (place there : Option Theirs) (waiting : List (Option Side)) (consumer : Option Theirs)
+    → IsWhole shared n places place × (m ≡ 0) × AllWait shared n waiting consumer → now ≡ places → there ≡ place
+    → IsWhole shared n now there × (m ≡ 0) × AllWait shared n waiting consumer
+whole_kept shared n m places now place there waiting consumer is e f = (subst (λ xs. IsWhole shared n xs there) (sym e) (subst (λ o. IsWhole shared n places o) (sym f) is.0), is.1, is.2)
+
+-- all of a session that was started waits
+pub all_wait : (shared clone : Shared) (n : ℕ) (cpus : List (Cpu EnabledRows)) (consumer : Consuming) (waiting : List (Option Side)) (home : Theirs) → IsStarted shared n cpus consumer
+    → waiting ≡ map (waiting_so shared) cpus → home ≡ record { shared = clone; consumer = consumer } → clone ≡ shared → AllWait shared n waiting (Some home)
+all_wait shared clone n cpus consumer waiting home is e f g = record {
+  all = ap length e ∙ length-map cpus (waiting_so shared) ∙ is.all ∙ sym is.count;
+  each = subst (EachFrom (IsWaiting shared) 0) (sym e) (each_waits shared is.schema (pairs_of consumer) 0 cpus is.each);
+  consumer = (ap (λ (t : Theirs). t.shared) f ∙ g, ap (λ (t : Theirs). (set_up_of t.consumer).cpus) f ∙ ap (λ (k : Config). k.cpus) is.theirs.1 ∙ sym is.count);
+}
+
+all_some : (shared : Shared) (cpus : List (Cpu EnabledRows)) → AllIn (map (waiting_so shared) cpus)
+all_some shared [] = tt
+all_some shared (cpu ∷ cpus) = (refl, all_some shared cpus)
+
+-- what doesn't wait any more is of no matter
+pub one_goes : (shared : Shared) (n c : ℕ) (waiting now : List (Option Side)) (theirs : Option Theirs) → AllWait shared n waiting theirs → now ≡ slice_set waiting c None → AllWait shared n now theirs
+one_goes shared n c waiting now theirs is e = record {
+  all = ap length e ∙ length-set waiting c None ∙ is.all;
+  each = subst (EachFrom (IsWaiting shared) 0) (sym e) (each_without shared 0 c waiting is.each);
+  consumer = is.consumer;
+}
+
+-- a CPU that waited is the one of its number
+pub waits_there : (shared : Shared) (n c : ℕ) (waiting : List (Option Side)) (o : Option Side) (theirs : Option Theirs) → AllWait shared n waiting theirs
+    → IfSome o (λ side. slice_get waiting c ≡ Some (Some side)) → IfSome o (λ side. IsWaiting shared c (Some side))
+waits_there shared n c waiting None theirs is at = tt
+waits_there shared n c waiting (Some side) theirs is at = subst (λ k. IsWaiting shared k (Some side)) (omega arith) (each_at (IsWaiting shared) 0 waiting c (Some side) is.each at)
+
+-- so it is begun
+pub begun : (k : Config) (shared common : Shared) (cpus : List (Cpu EnabledRows)) (n : ℕ) (w : Going) → set_up (words_of shared) ≡ k → common ≡ shared → n ≡ k.cpus → w.shared ≡ common → w.cpus ≡ n
+    → w.waiting ≡ map (waiting_so common) cpus → IsSome w.consumer → IsJustStarted k w
+begun k shared common cpus n w is e f g h i some = record {
+  config = ap (λ (s : Shared). set_up (words_of s)) (g ∙ e) ∙ is;
+  cpus = h ∙ f;
+  all = subst AllIn (sym i) (all_some common cpus);
+  consumer = some;
+}

@@ -1,7 +1,15 @@
+pub mod Answered
+pub mod ClosedCalls
+pub mod Configs
+pub mod ConsumerCalls
 pub mod ConsumerHomes
+pub mod CpuCalls
 pub mod Handles
 pub mod Homes
+pub mod Lending
 pub mod Seals
+pub mod SessionCalls
 pub mod Shows
 pub mod Statuses
 pub mod Whole
+pub mod Widths

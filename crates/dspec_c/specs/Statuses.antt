@@ -1,5 +1,5 @@
 -- The numbers of the statuses, by what the library answered, and what goes out beside them.
-use Rattle.std.specs.Prelude.{ℕ, Option, Some, None}
+use Rattle.std.specs.Prelude.{ℕ, Bool, true, false, Option, Some, None}
 use Rattle.dspec_deeds.specs.declared.calls.Decided.{Decided}
 use Rattle.dspec_deeds.specs.declared.calls.Decided.TheVariants as decided
 use Rattle.dspec_deeds.specs.declared.calls.Opening.{Opening}
@@ -11,6 +11,40 @@ use Rattle.dspec_deeds.specs.declared.calls.Traced.TheVariants as traced
 use Rattle.dspec_deeds.specs.declared.config.StartFault.{StartFault}
 use Rattle.dspec_deeds.specs.declared.config.StartFault.TheVariants as start
 use Rattle.dspec_word.specs.SpecId.{id_number}
+use Rattle.dspec_c.specs.declared.consumer_side.Found.{Found}
+use Rattle.dspec_c.specs.declared.consumer_side.Found.TheVariants as found
+use Rattle.dspec_c.specs.declared.consumer_side.Returned.{Returned}
+use Rattle.dspec_c.specs.declared.consumer_side.Returned.TheVariants as returned
+
+-- the numbers that aren't a library's answer's: memory was refused; there is no such policy; the handle is empty, or holds another
+-- kind; it is full; there is no such CPU; a part isn't home; there is no batch; it was
+-- handed out already; the session was lost
+abbrev pub no_memory : ℕ
+no_memory = 7
+
+abbrev pub bad_policy : ℕ
+bad_policy = 8
+
+abbrev pub bad_handle : ℕ
+bad_handle = 17
+
+abbrev pub full_handle : ℕ
+full_handle = 18
+
+abbrev pub no_such_cpu : ℕ
+no_such_cpu = 19
+
+abbrev pub not_home : ℕ
+not_home = 20
+
+abbrev pub no_batch : ℕ
+no_batch = 21
+
+abbrev pub already_out : ℕ
+already_out = 22
+
+abbrev pub gone : ℕ
+gone = 23
 
 abbrev pub start_status : StartFault → ℕ
 start_status start.Cpus = 1
@@ -61,3 +95,19 @@ decided_number (decided.Copied n) was = n
 decided_number (decided.Lost n) was = n
 decided_number (decided.Thrown n) was = n
 decided_number a was = was
+
+abbrev pub asked_status : Bool → ℕ
+asked_status true = 0
+asked_status false = 19
+
+abbrev pub found_status : Found → ℕ
+found_status found.Taken = 0
+found_status found.NoCpu = 19
+found_status found.NoBatch = 21
+found_status found.IsOut = 22
+
+abbrev pub returned_status : Returned → ℕ
+returned_status returned.Back = 0
+returned_status returned.NoCpu = 19
+returned_status returned.NoneOut = 21
+returned_status returned.NoRoom = 37

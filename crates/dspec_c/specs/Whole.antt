@@ -1,14 +1,16 @@
 -- What a session between its start and its end keeps of its parts.
-use Rattle.std.specs.Prelude.{ℕ, ◌≡◌, List, [], ◌∷◌, Option, Some, None, ⊤, suc, length, slice_get}
+use Rattle.std.specs.Prelude.{ℕ, ◌≡◌, Bool, false, List, [], ◌∷◌, Option, Some, None, IfSome, IsSome, is_some, ⊤, suc, length, slice_get}
+use Rattle.std.specs.Option.{option_map_or}
+use Rattle.dspec_deeds.specs.declared.config.Config.{Config}
 use Rattle.dspec_deeds.specs.Ranges.{start_fault}
 use Rattle.dspec_record.specs.EnablingRows.{EnabledRows}
 use Rattle.dspec_ring.specs.Known.{Pair}
 use Rattle.dspec_table.specs.Seats.{set_up}
 use Rattle.dspec_cpu.specs.declared.cpu.Cpu.{Cpu}
 use Rattle.dspec_cpu.specs.declared.shared.Shared.{Shared}
-use Rattle.dspec_cpu.specs.Lists.{words_of}
+use Rattle.dspec_cpu.specs.Lists.{number_in, words_of}
 use Rattle.dspec_cpu.specs.Standing.{IsCallable, identity}
-use Rattle.dspec_session.specs.Consumers.{Consuming, IsConsumerOf, pairs_of}
+use Rattle.dspec_session.specs.Consumers.{Consuming, IsConsumerOf, pairs_of, set_up_of}
 use Rattle.dspec_session.specs.Sessions.{IsCpuOf}
 use Rattle.dspec_c.specs.ConsumerHomes.{Theirs}
 use Rattle.dspec_c.specs.Homes.{Side}
@@ -48,6 +50,44 @@ pub record IsWhole (shared : Shared) (cpus : ℕ) (places : List (Option Side)) 
   pub shares : first.shared ≡ shared
   pub count : cpus ≡ (set_up (words_of shared)).cpus
   pub ending : IsEnding shared schema places first.consumer
+
+-- a CPU that waits to be handed out is the one of its number, of this session
+abbrev pub IsWaiting : Shared → ℕ → Option Side → Type 0
+IsWaiting shared c None = ⊤
+IsWaiting shared c (Some side) = (side.shared ≡ shared) × (number_in side.cpu ≡ c)
+
+-- how CPUs begin to wait
+abbrev pub waiting_so : Shared → Cpu EnabledRows → Option Side
+waiting_so shared cpu = Some (record { shared = shared; cpu = cpu })
+
+-- what waits to be handed out is of this session: its CPUs, each at its number, and its consumer
+pub record AllWait (shared : Shared) (cpus : ℕ) (waiting : List (Option Side)) (theirs : Option Theirs) : Type 0 where
+  pub all : length waiting ≡ cpus
+  pub each : EachFrom (IsWaiting shared) 0 waiting
+  pub consumer : IfSome theirs (λ (t : Theirs). (t.shared ≡ shared) × ((set_up_of t.consumer).cpus ≡ cpus))
+
+-- what contracts see of a session under way: what its parts share, how many CPUs it has, and what of it waits to be handed out
+pub record Going : Type 0 where
+  pub shared : Shared
+  pub cpus : ℕ
+  pub waiting : List (Option Side)
+  pub consumer : Option Theirs
+
+-- each waits
+abbrev pub AllIn : List (Option Side) → Type 0
+AllIn [] = ⊤
+AllIn (x ∷ xs) = IsSome x × AllIn xs
+
+-- it was started with this, and all of it waits to be handed out
+pub record IsJustStarted (k : Config) (w : Going) : Type 0 where
+  pub config : set_up (words_of w.shared) ≡ k
+  pub cpus : w.cpus ≡ k.cpus
+  pub all : AllIn w.waiting
+  pub consumer : IsSome w.consumer
+
+-- whether the CPU of this number waits
+abbrev pub waits_in : ℕ → List (Option Side) → Bool
+waits_in c waiting = option_map_or (λ (o : Option Side). is_some o) (slice_get waiting c) false
 
 -- what was started with so many CPUs, before anything is handed out
 pub record IsStarted (shared : Shared) (n : ℕ) (cpus : List (Cpu EnabledRows)) (consumer : Consuming) : Type 0 where

@@ -1,3 +1,6 @@
+ghost use Rattle.std.specs.Prelude.{◌≡◌};
+ghost use Rattle.dspec_c.specs.Configs.{asked_for, policy_numbered};
+
 use dspec_deeds::{Config, Policy};
 
 /// A configuration, as C writes it. A policy is 0, to switch, or 1, to fill.
@@ -20,7 +23,9 @@ pub struct CConfig {
     pub policy: u32,
 }
 
-fn policy_of(number: u32) -> Option<Policy> {
+fn policy_of(number: u32) -> Option<Policy>
+    ensures { result ≡ policy_numbered number }
+{
     match number {
         0 => Some(Policy::Switch),
         1 => Some(Policy::Fill),
@@ -30,7 +35,9 @@ fn policy_of(number: u32) -> Option<Policy> {
 
 impl CConfig {
     /// None: there is no such policy.
-    pub(crate) fn read(&self) -> Option<Config> {
+    pub(crate) fn read(&self) -> Option<Config>
+        ensures { result ≡ asked_for self.now }
+    {
         let policy = policy_of(self.policy)?;
         Some(Config {
             cpus: self.cpus,

@@ -37,11 +37,14 @@ impl Protocol<ConsumerHoming> for ConsumerRule {
 }
 
 impl ConsumerHoming {
-    ghost use Rattle.std.specs.Prelude.{◌≡◌};
+    ghost use Rattle.std.specs.Prelude.{◌≡◌, MatchOption, MatchResult};
     ghost use Rattle.std.specs.Arc.{arc_value};
     ghost use Rattle.dspec_cpu.specs.Lists.{words_of};
     ghost use Rattle.dspec_session.specs.Consumers.{IsConsumerOf};
     ghost use Rattle.dspec_c.specs.ConsumerHomes.{IsSameTheirs};
+    ghost use Rattle.dspec_session.specs.Batches.{FoundNone, GaveBack, IsNotTakenBack, Took};
+    ghost use Rattle.dspec_session.specs.Stopping.{Stopped};
+    ghost use Rattle.dspec_c.specs.ConsumerCalls.{Asks, CleansSo, OnTheirs};
 
     pub fn of(shared: Arc<Shared, Global>, consumer: Consumer) -> ConsumerHoming
         requires { IsConsumerOf (words_of (arc_value shared)) consumer }
@@ -52,30 +55,35 @@ impl ConsumerHoming {
 
     pub fn ask(&mut self, cpu: u32) -> bool
         ensures same { IsSameTheirs self.old self.new }
+        ensures did { OnTheirs (Asks cpu result) self.old self.new }
     {
         self.consumer.ask(&self.shared, cpu)
     }
 
     pub fn clean(&mut self) -> u32
         ensures same { IsSameTheirs self.old self.new }
+        ensures did { OnTheirs (CleansSo result) self.old self.new }
     {
         self.consumer.clean(&self.shared)
     }
 
     pub fn stop(&mut self)
         ensures same { IsSameTheirs self.old self.new }
+        ensures did { OnTheirs Stopped self.old self.new }
     {
         self.consumer.stop(&self.shared);
     }
 
     pub fn take(&mut self, cpu: u32) -> Option<Batch>
         ensures same { IsSameTheirs self.old self.new }
+        ensures did { MatchOption result (OnTheirs (FoundNone cpu) self.old self.new) (λ batch. OnTheirs (Took cpu batch) self.old self.new) }
     {
         self.consumer.take(&self.shared, cpu)
     }
 
     pub fn give_back(&mut self, batch: Batch) -> Result<(), Batch>
         ensures same { IsSameTheirs self.old self.new }
+        ensures did { MatchResult result (λ _. OnTheirs (GaveBack batch) self.old self.new) (λ back. (back ≡ batch) × OnTheirs (IsNotTakenBack batch) self.old self.new) }
     {
         self.consumer.give_back(&self.shared, batch)
     }

@@ -34,7 +34,7 @@ impl ConsumerPlace {
         alloc: Global,
         consumer: ConsumerHoming,
     ) -> Result<(ConsumerPlace, OutConsumer), AllocError>
-        ensures { IfOk result (λ r. r.0 ≡ Some consumer) }
+        ensures { IfOk result (λ r. (r.0 ≡ Some consumer) × (r.1 ≡ consumer)) }
     {
         let (way, desk, consumer) = open(alloc, consumer)?;
         let out = OutConsumer::of(way, consumer);

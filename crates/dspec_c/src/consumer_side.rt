@@ -1,3 +1,7 @@
+ghost use Rattle.std.specs.Prelude.{◌≡◌, length, replicate, IfOk, None};
+ghost use Rattle.dspec_session.specs.Consumers.{set_up_of};
+
+use crate::batches::CBatch;
 use crate::out_consumer::OutConsumer;
 use dspec_ring::Batch;
 use std::alloc::{AllocError, Global};
@@ -15,37 +19,63 @@ pub enum Found {
     Taken,
 }
 
+/// What became of a batch that was to go back.
+#[derive(Clone, Copy)]
+pub enum Returned {
+    /// There is no such CPU.
+    NoCpu,
+    /// None of the CPU is out.
+    NoneOut,
+    /// There is no room on the way back, and the batch stays out.
+    NoRoom,
+    /// It went back.
+    Back,
+}
+
 /// The consumer that was handed out, and the batch of each CPU that it took and has not given back.
 #[derive(Drop)]
 pub struct ConsumerSide {
     out: OutConsumer,
     taken: Vec<Option<Batch>>,
+    ghost all: { length taken.items ≡ (set_up_of out.consumer).cpus },
 }
 
 impl ConsumerSide {
-    pub fn new(out: OutConsumer, taken: Vec<Option<Batch>>) -> ConsumerSide {
+    ghost use Rattle.std.specs.Prelude.{◌≡◌, length};
+    ghost use Rattle.dspec_session.specs.Consumers.{set_up_of};
+    ghost use Rattle.dspec_session.specs.Stopping.{Stopped};
+    ghost use Rattle.dspec_c.specs.ConsumerCalls.{Asks, CleansSo, Finds, OnOut, Returns};
+
+    pub fn new(out: OutConsumer, taken: Vec<Option<Batch>>) -> ConsumerSide
+        requires { length taken.items ≡ (set_up_of out.consumer).cpus }
+        ensures out { result.out ≡ out }
+        ensures taken { result.taken.items ≡ taken.items }
+    {
         ConsumerSide { out, taken }
     }
 
-    pub fn ask(&mut self, cpu: u32) -> bool {
+    pub fn ask(&mut self, cpu: u32) -> bool
+        ensures { OnOut (Asks cpu result) self.old self.new }
+    {
         self.out.ask(cpu)
     }
 
-    pub fn clean(&mut self) -> u32 {
+    pub fn clean(&mut self) -> u32
+        ensures { OnOut (CleansSo result) self.old self.new }
+    {
         self.out.clean()
     }
 
-    pub fn stop(&mut self) {
+    pub fn stop(&mut self)
+        ensures { OnOut Stopped self.old self.new }
+    {
         self.out.stop();
     }
 
-    /// Whether there is such a CPU.
-    pub fn has_cpu(&self, cpu: u32) -> bool {
-        (cpu as usize) < self.taken.len()
-    }
-
-    /// Takes the next batch of a CPU, one at a time.
-    pub fn take(&mut self, cpu: u32) -> Found {
+    /// Takes the next batch of a CPU, one at a time, and tells of it. Its bytes stay where they are until it goes back.
+    pub fn take(&mut self, cpu: u32, told: &mut CBatch) -> Found
+        ensures { Finds cpu result told.old told.new self.old self.new }
+    {
         let place = cpu as usize;
         if place >= self.taken.len() {
             return Found::NoCpu;
@@ -56,31 +86,27 @@ impl ConsumerSide {
         let Some(batch) = self.out.take(cpu) else {
             return Found::NoBatch;
         };
+        *told = CBatch::of(&batch);
         self.taken[place] = Some(batch);
         Found::Taken
     }
 
-    /// The batch that is out.
-    pub fn batch(&self, cpu: u32) -> Option<&Batch> {
+    /// Gives the batch that is out back.
+    pub fn give_back(&mut self, cpu: u32) -> Returned
+        ensures { Returns cpu result self.old self.new }
+    {
         let place = cpu as usize;
         if place >= self.taken.len() {
-            return None;
+            return Returned::NoCpu;
         }
-        self.taken[place].as_ref()
-    }
-
-    /// Gives the batch that is out back, and says whether it went; else it stays out. None: none is out.
-    pub fn give_back(&mut self, cpu: u32) -> Option<bool> {
-        let place = cpu as usize;
-        if place >= self.taken.len() {
-            return None;
-        }
-        let batch = self.taken[place].take()?;
+        let Some(batch) = self.taken[place].take() else {
+            return Returned::NoneOut;
+        };
         match self.out.give_back(batch) {
-            Ok(()) => Some(true),
+            Ok(()) => Returned::Back,
             Err(batch) => {
                 self.taken[place] = Some(batch);
-                Some(false)
+                Returned::NoRoom
             }
         }
     }
@@ -93,9 +119,11 @@ impl ConsumerSide {
 }
 
 /// Room for a batch of each CPU.
-pub fn room(alloc: Global, n: u32) -> Result<Vec<Option<Batch>>, AllocError> {
+pub fn room(alloc: Global, n: u32) -> Result<Vec<Option<Batch>>, AllocError>
+    ensures { IfOk result (λ taken. taken.items ≡ replicate n None) }
+{
     let mut taken = Vec::with_capacity(alloc, n as usize)?;
-    for _ in 0..n {
+    for place in 0..n {
         taken.push(None)?;
     }
     Ok(taken)

@@ -1,154 +1,104 @@
-ghost use Rattle.std.specs.Prelude.{◌≡◌, false};
-ghost use Rattle.dspec_c.specs.Handles.{is_full};
+//! The exports of a CPU.
+
+ghost use Rattle.std.specs.Prelude.{◌≡◌};
+ghost use Rattle.dspec_c.specs.Handles.{held_in, is_full};
+ghost use Rattle.dspec_c.specs.CpuCalls.{CommitAnswers, DiscardAnswers, ReportAnswers, ServiceAnswers, SpeculateAnswers, SpeculationAnswers, TraceAnswers};
 
 use crate::handle::Handle;
-use crate::held::Held;
+use crate::held_calls::{
+    held_commit, held_discard, held_report, held_service, held_speculate, held_speculation,
+    held_trace,
+};
 use crate::reports::CReport;
-use crate::statuses::{BAD_HANDLE, OK, of_decided, of_opening, of_spoken, of_traced};
-use dspec_word::SpecId;
-use std::alloc::Global;
+use crate::statuses::BAD_HANDLE;
 
 /// Traces a record.
 #[unsafe(no_mangle)]
-pub extern "C" fn dspec_trace(
-    alloc: Global,
-    cpu: &mut Handle,
-    epid: u32,
-    stamp: u64,
-    values: &[u64],
-) -> u32
-    ensures empty { is_full cpu.old ≡ false → result ≡ 17 }
+pub extern "C" fn dspec_trace(cpu: &mut Handle, epid: u32, stamp: u64, values: &[u64]) -> u32
+    ensures answers { TraceAnswers epid stamp values.now (held_in cpu.old) result (held_in cpu.new) }
     ensures stays { is_full cpu.new ≡ is_full cpu.old }
 {
-    let Some(mut held) = cpu.take(alloc) else {
+    if !cpu.is_held() {
         return BAD_HANDLE;
-    };
-    let answer = match &mut *held {
-        Held::Cpu(side) => of_traced(side.trace(epid, stamp, values)),
-        _ => BAD_HANDLE,
-    };
-    cpu.put(held);
-    answer
+    }
+    held_trace(cpu.lend(), epid, stamp, values)
 }
 
 /// Opens a speculation.
 #[unsafe(no_mangle)]
-pub extern "C" fn dspec_speculation(alloc: Global, cpu: &mut Handle, id: &mut u64) -> u32
-    ensures empty { is_full cpu.old ≡ false → result ≡ 17 }
+pub extern "C" fn dspec_speculation(cpu: &mut Handle, id: &mut u64) -> u32
+    ensures answers { SpeculationAnswers (held_in cpu.old) result id.old id.new (held_in cpu.new) }
     ensures stays { is_full cpu.new ≡ is_full cpu.old }
 {
-    let Some(mut held) = cpu.take(alloc) else {
+    if !cpu.is_held() {
         return BAD_HANDLE;
-    };
-    let answer = match &mut *held {
-        Held::Cpu(side) => of_opening(side.speculation(), id),
-        _ => BAD_HANDLE,
-    };
-    cpu.put(held);
-    answer
+    }
+    held_speculation(cpu.lend(), id)
 }
 
 /// Offers a record to a speculation.
 #[unsafe(no_mangle)]
 pub extern "C" fn dspec_speculate(
-    alloc: Global,
     cpu: &mut Handle,
     id: u64,
     epid: u32,
     stamp: u64,
     values: &[u64],
 ) -> u32
-    ensures empty { is_full cpu.old ≡ false → result ≡ 17 }
+    ensures answers { SpeculateAnswers id epid stamp values.now (held_in cpu.old) result (held_in cpu.new) }
     ensures stays { is_full cpu.new ≡ is_full cpu.old }
 {
-    let Some(mut held) = cpu.take(alloc) else {
+    if !cpu.is_held() {
         return BAD_HANDLE;
-    };
-    let answer = match &mut *held {
-        Held::Cpu(side) => of_spoken(side.offer(SpecId::from_raw(id), epid, stamp, values)),
-        _ => BAD_HANDLE,
-    };
-    cpu.put(held);
-    answer
+    }
+    held_speculate(cpu.lend(), id, epid, stamp, values)
 }
 
 /// Commits a speculation.
 #[unsafe(no_mangle)]
-pub extern "C" fn dspec_commit(alloc: Global, cpu: &mut Handle, id: u64, count: &mut u32) -> u32
-    ensures empty { is_full cpu.old ≡ false → result ≡ 17 }
+pub extern "C" fn dspec_commit(cpu: &mut Handle, id: u64, count: &mut u32) -> u32
+    ensures answers { CommitAnswers id (held_in cpu.old) result count.old count.new (held_in cpu.new) }
     ensures stays { is_full cpu.new ≡ is_full cpu.old }
 {
-    let Some(mut held) = cpu.take(alloc) else {
+    if !cpu.is_held() {
         return BAD_HANDLE;
-    };
-    let answer = match &mut *held {
-        Held::Cpu(side) => of_decided(side.commit(SpecId::from_raw(id)), count),
-        _ => BAD_HANDLE,
-    };
-    cpu.put(held);
-    answer
+    }
+    held_commit(cpu.lend(), id, count)
 }
 
 /// Discards a speculation.
 #[unsafe(no_mangle)]
-pub extern "C" fn dspec_discard(alloc: Global, cpu: &mut Handle, id: u64, count: &mut u32) -> u32
-    ensures empty { is_full cpu.old ≡ false → result ≡ 17 }
+pub extern "C" fn dspec_discard(cpu: &mut Handle, id: u64, count: &mut u32) -> u32
+    ensures answers { DiscardAnswers id (held_in cpu.old) result count.old count.new (held_in cpu.new) }
     ensures stays { is_full cpu.new ≡ is_full cpu.old }
 {
-    let Some(mut held) = cpu.take(alloc) else {
+    if !cpu.is_held() {
         return BAD_HANDLE;
-    };
-    let answer = match &mut *held {
-        Held::Cpu(side) => of_decided(side.discard(SpecId::from_raw(id)), count),
-        _ => BAD_HANDLE,
-    };
-    cpu.put(held);
-    answer
+    }
+    held_discard(cpu.lend(), id, count)
 }
 
 /// Does what the CPU owes the consumer and the other CPUs.
 #[unsafe(no_mangle)]
-pub extern "C" fn dspec_service(
-    alloc: Global,
-    cpu: &mut Handle,
-    sealed: &mut bool,
-    settled: &mut u32,
-) -> u32
-    ensures empty { is_full cpu.old ≡ false → result ≡ 17 }
+pub extern "C" fn dspec_service(cpu: &mut Handle, sealed: &mut bool, settled: &mut u32) -> u32
+    ensures answers { ServiceAnswers (held_in cpu.old) result
+        (record { sealed = sealed.old; settled = settled.old }) (record { sealed = sealed.new; settled = settled.new }) (held_in cpu.new) }
     ensures stays { is_full cpu.new ≡ is_full cpu.old }
 {
-    let Some(mut held) = cpu.take(alloc) else {
+    if !cpu.is_held() {
         return BAD_HANDLE;
-    };
-    let answer = match &mut *held {
-        Held::Cpu(side) => {
-            let served = side.service();
-            *sealed = served.sealed;
-            *settled = served.settled;
-            OK
-        }
-        _ => BAD_HANDLE,
-    };
-    cpu.put(held);
-    answer
+    }
+    held_service(cpu.lend(), sealed, settled)
 }
 
 /// The CPU's counts so far.
 #[unsafe(no_mangle)]
-pub extern "C" fn dspec_cpu_report(alloc: Global, cpu: &mut Handle, report: &mut CReport) -> u32
-    ensures empty { is_full cpu.old ≡ false → result ≡ 17 }
+pub extern "C" fn dspec_cpu_report(cpu: &mut Handle, report: &mut CReport) -> u32
+    ensures answers { ReportAnswers (held_in cpu.old) result report.old report.new (held_in cpu.new) }
     ensures stays { is_full cpu.new ≡ is_full cpu.old }
 {
-    let Some(mut held) = cpu.take(alloc) else {
+    if !cpu.is_held() {
         return BAD_HANDLE;
-    };
-    let answer = match &mut *held {
-        Held::Cpu(side) => {
-            *report = CReport::of(&side.report());
-            OK
-        }
-        _ => BAD_HANDLE,
-    };
-    cpu.put(held);
-    answer
+    }
+    held_report(cpu.lend(), report)
 }

@@ -13,25 +13,31 @@ pub struct Ended {
 }
 
 impl Ended {
+    ghost use Rattle.std.specs.Prelude.{◌≡◌, ◌<◌, IsTrue, length, slice_get, Some, option_copied, ◌↔◌};
+    ghost use Rattle.dspec_session.specs.declared.left.Left.{Left};
+    ghost use Rattle.dspec_c.specs.ClosedCalls.{left_of};
+
     /// Whether there is such a CPU.
-    pub fn has_cpu(&self, cpu: u32) -> bool {
+    pub fn has_cpu(&self, cpu: u32) -> bool
+        ensures { IsTrue result ↔ (cpu < length self.now.closed) }
+    {
         cpu < self.cpus
     }
 
     /// The batch that the CPU handed on and nobody took, or its last buffer.
-    pub fn rest(&self, cpu: u32, last: bool) -> Option<&Batch> {
-        if cpu >= self.cpus {
-            return None;
-        }
+    pub fn rest(&self, cpu: u32, last: bool) -> Option<&Batch>
+        requires { cpu < length self.now.closed }
+        ensures { (l : Left) → slice_get self.now.closed cpu ≡ Some l → option_copied result ≡ left_of last l }
+    {
         let (sealed, active) = self.closed.rest(cpu);
         if last { Some(active) } else { sealed }
     }
 
     /// The CPU's counts.
-    pub fn report(&self, cpu: u32) -> Option<&Report> {
-        if cpu >= self.cpus {
-            return None;
-        }
-        Some(self.closed.report(cpu))
+    pub fn report(&self, cpu: u32) -> &Report
+        requires { cpu < length self.now.closed }
+        ensures { (l : Left) → slice_get self.now.closed cpu ≡ Some l → result.now ≡ l.report }
+    {
+        self.closed.report(cpu)
     }
 }

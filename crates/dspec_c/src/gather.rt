@@ -1,8 +1,8 @@
-ghost use Rattle.std.specs.Prelude.{◌≡◌, ◌<◌, ◌∷◌, ℕ, List, length, IfSome};
+ghost use Rattle.std.specs.Prelude.{◌≡◌, ◌<◌, ◌∷◌, ℕ, List, length, IfSome, IfNone, Some, None, false, slice_get, slice_set};
 ghost use Rattle.dspec_cpu.specs.declared.shared.Shared.{Shared};
 ghost use Rattle.dspec_record.specs.EnablingRows.{EnabledRows};
 ghost use Rattle.dspec_ring.specs.Known.{Pair};
-ghost use Rattle.dspec_c.specs.Whole.{EachFrom, IsCpuAt, IsPlaceOf};
+ghost use Rattle.dspec_c.specs.Whole.{EachFrom, IsCpuAt, IsPlaceOf, waits_in};
 
 use crate::out_cpu::OutCpu;
 use crate::place::Place;
@@ -10,12 +10,18 @@ use dspec_cpu::Cpu;
 use dspec_record::Enablings;
 
 /// Whether such a CPU waits to be handed out.
-pub fn waits(outs: &[Option<OutCpu>], cpu: usize) -> bool {
+pub fn waits(outs: &[Option<OutCpu>], cpu: usize) -> bool
+    ensures { result ≡ waits_in cpu outs.now }
+{
     cpu < outs.len() && outs[cpu].is_some()
 }
 
 /// The CPU, where it waits to be handed out.
-pub fn take_out(outs: &mut Vec<Option<OutCpu>>, cpu: usize) -> Option<OutCpu> {
+pub fn take_out(outs: &mut Vec<Option<OutCpu>>, cpu: usize) -> Option<OutCpu>
+    ensures there { IfSome result (λ out. slice_get outs.old.items cpu ≡ Some (Some out)) }
+    ensures gone { outs.new.items ≡ slice_set outs.old.items cpu None }
+    ensures none { IfNone result ((waits_in cpu outs.old.items ≡ false) × (outs.new.items ≡ outs.old.items)) }
+{
     if cpu >= outs.len() {
         return None;
     }

@@ -1,16 +1,23 @@
+//! The exports that bring a CPU and the consumer home, and that let go what a handle holds.
+
 ghost use Rattle.std.specs.Prelude.{◌≡◌, false};
-ghost use Rattle.dspec_c.specs.Handles.{is_full};
+ghost use Rattle.dspec_c.specs.Handles.{held_in, is_full};
+ghost use Rattle.dspec_c.specs.SessionCalls.{HomeAnswers, is_consumer_in, is_cpu_in};
 
 use crate::handle::Handle;
 use crate::held::Held;
 use crate::statuses::{BAD_HANDLE, OK};
 use std::alloc::Global;
 
-fn is_cpu(held: &Held) -> bool {
+fn is_cpu(held: &Held) -> bool
+    ensures { result ≡ is_cpu_in held.now }
+{
     matches!(held, Held::Cpu(_))
 }
 
-fn is_consumer(held: &Held) -> bool {
+fn is_consumer(held: &Held) -> bool
+    ensures { result ≡ is_consumer_in held.now }
+{
     matches!(held, Held::Consumer(_))
 }
 
@@ -25,9 +32,7 @@ fn send_home(held: Held) {
 /// Gives a CPU back to its session.
 #[unsafe(no_mangle)]
 pub extern "C" fn dspec_cpu_home(alloc: Global, cpu: &mut Handle) -> u32
-    ensures empty { is_full cpu.old ≡ false → result ≡ 17 }
-    ensures refused { result ≡ 17 → is_full cpu.new ≡ is_full cpu.old }
-    ensures gone { result ≡ 0 → is_full cpu.new ≡ false }
+    ensures { HomeAnswers (is_cpu_in (held_in cpu.old)) cpu.old result cpu.new }
 {
     let Some(held) = cpu.take(alloc) else {
         return BAD_HANDLE;
@@ -43,9 +48,7 @@ pub extern "C" fn dspec_cpu_home(alloc: Global, cpu: &mut Handle) -> u32
 /// Gives the consumer back to its session.
 #[unsafe(no_mangle)]
 pub extern "C" fn dspec_consumer_home(alloc: Global, consumer: &mut Handle) -> u32
-    ensures empty { is_full consumer.old ≡ false → result ≡ 17 }
-    ensures refused { result ≡ 17 → is_full consumer.new ≡ is_full consumer.old }
-    ensures gone { result ≡ 0 → is_full consumer.new ≡ false }
+    ensures { HomeAnswers (is_consumer_in (held_in consumer.old)) consumer.old result consumer.new }
 {
     let Some(held) = consumer.take(alloc) else {
         return BAD_HANDLE;

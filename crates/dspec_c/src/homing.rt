@@ -40,7 +40,9 @@ impl Homing {
     ghost use Rattle.std.specs.Prelude.{◌≡◌};
     ghost use Rattle.std.specs.Arc.{arc_value};
     ghost use Rattle.dspec_cpu.specs.Standing.{IsCallable};
+    ghost use Rattle.dspec_deeds.specs.declared.deed.Deed.TheVariants.{Commit, Discard};
     ghost use Rattle.dspec_c.specs.Homes.{IsSameSide};
+    ghost use Rattle.dspec_c.specs.CpuCalls.{DecidedAs, Offered, OnSide, Opened, Recorded, Reports, ServicedSo};
 
     pub fn of(shared: Arc<Shared, Global>, cpu: Cpu<Enablings>) -> Homing
         requires { IsCallable (arc_value shared) cpu }
@@ -52,12 +54,14 @@ impl Homing {
     /// None: it isn't a record of the schema.
     pub fn trace(&mut self, epid: u32, stamp: u64, values: &[u64]) -> Option<Traced>
         ensures same { IsSameSide self.old self.new }
+        ensures did { OnSide (Recorded epid stamp values.now result) self.old self.new }
     {
         self.cpu.record(&self.shared, epid, stamp, values)
     }
 
     pub fn service(&mut self) -> Served
         ensures same { IsSameSide self.old self.new }
+        ensures did { OnSide (ServicedSo result) self.old self.new }
     {
         self.cpu.service(&self.shared)
     }
@@ -65,29 +69,35 @@ impl Homing {
     /// None: it isn't a record of the schema.
     pub fn offer(&mut self, id: SpecId, epid: u32, stamp: u64, values: &[u64]) -> Option<Spoken>
         ensures same { IsSameSide self.old self.new }
+        ensures did { OnSide (Offered id epid stamp values.now result) self.old self.new }
     {
         self.cpu.offer(&self.shared, id, epid, stamp, values)
     }
 
     pub fn speculation(&mut self) -> Opening
         ensures same { IsSameSide self.old self.new }
+        ensures did { OnSide (Opened result) self.old self.new }
     {
         self.cpu.speculation(&self.shared)
     }
 
     pub fn commit(&mut self, id: SpecId) -> Decided
         ensures same { IsSameSide self.old self.new }
+        ensures did { OnSide (DecidedAs Commit id result) self.old self.new }
     {
         self.cpu.commit(&self.shared, id)
     }
 
     pub fn discard(&mut self, id: SpecId) -> Decided
         ensures same { IsSameSide self.old self.new }
+        ensures did { OnSide (DecidedAs Discard id result) self.old self.new }
     {
         self.cpu.discard(&self.shared, id)
     }
 
-    pub fn report(&self) -> Report {
+    pub fn report(&self) -> Report
+        ensures { Reports self.now.cpu result }
+    {
         self.cpu.report(&self.shared)
     }
 

@@ -16,6 +16,8 @@ mod ended;
 mod gather;
 mod handle;
 mod held;
+mod held_calls;
+mod held_consumer_calls;
 mod home_calls;
 mod homing;
 mod out_consumer;

@@ -24,9 +24,12 @@ impl Model for OutConsumer {
 }
 
 impl OutConsumer {
-    ghost use Rattle.std.specs.Prelude.{◌≡◌, ◌<◌};
+    ghost use Rattle.std.specs.Prelude.{◌≡◌, ◌<◌, MatchOption, MatchResult};
     ghost use Rattle.rtrb.specs.Ring.{known_free, sent};
     ghost use Rattle.dspec_c.specs.ConsumerHomes.{IsOutTheirs, IsSameTheirs};
+    ghost use Rattle.dspec_session.specs.Batches.{FoundNone, GaveBack, IsNotTakenBack, Took};
+    ghost use Rattle.dspec_session.specs.Stopping.{Stopped};
+    ghost use Rattle.dspec_c.specs.ConsumerCalls.{Asks, CleansSo, OnTheirs};
 
     pub fn of(
         way: Producer<ConsumerHoming, Global, ConsumerRule>,
@@ -41,30 +44,35 @@ impl OutConsumer {
 
     pub fn ask(&mut self, cpu: u32) -> bool
         ensures same { IsSameTheirs self.old self.new }
+        ensures did { OnTheirs (Asks cpu result) self.old self.new }
     {
         self.homing.ask(cpu)
     }
 
     pub fn clean(&mut self) -> u32
         ensures same { IsSameTheirs self.old self.new }
+        ensures did { OnTheirs (CleansSo result) self.old self.new }
     {
         self.homing.clean()
     }
 
     pub fn stop(&mut self)
         ensures same { IsSameTheirs self.old self.new }
+        ensures did { OnTheirs Stopped self.old self.new }
     {
         self.homing.stop()
     }
 
     pub fn take(&mut self, cpu: u32) -> Option<Batch>
         ensures same { IsSameTheirs self.old self.new }
+        ensures did { MatchOption result (OnTheirs (FoundNone cpu) self.old self.new) (λ batch. OnTheirs (Took cpu batch) self.old self.new) }
     {
         self.homing.take(cpu)
     }
 
     pub fn give_back(&mut self, batch: Batch) -> Result<(), Batch>
         ensures same { IsSameTheirs self.old self.new }
+        ensures did { MatchResult result (λ _. OnTheirs (GaveBack batch) self.old self.new) (λ back. (back ≡ batch) × OnTheirs (IsNotTakenBack batch) self.old self.new) }
     {
         self.homing.give_back(batch)
     }

@@ -27,7 +27,9 @@ impl Model for OutCpu {
 impl OutCpu {
     ghost use Rattle.std.specs.Prelude.{◌≡◌, ◌<◌};
     ghost use Rattle.rtrb.specs.Ring.{known_free, sent};
-    ghost use Rattle.dspec_c.specs.Homes.{IsOut, IsSameSide};
+    ghost use Rattle.dspec_deeds.specs.declared.deed.Deed.TheVariants.{Commit, Discard};
+    ghost use Rattle.dspec_c.specs.Homes.{IsOut};
+    ghost use Rattle.dspec_c.specs.CpuCalls.{DecidedAs, Offered, OnSide, Opened, Recorded, Reports, ServicedSo};
 
     pub fn of(way: Producer<Homing, Global, HomeRule>, homing: Homing) -> OutCpu
         requires out { IsOut (sent way) homing }
@@ -39,43 +41,45 @@ impl OutCpu {
 
     /// None: it isn't a record of the schema.
     pub fn trace(&mut self, epid: u32, stamp: u64, values: &[u64]) -> Option<Traced>
-        ensures same { IsSameSide self.old self.new }
+        ensures did { OnSide (Recorded epid stamp values.now result) self.old self.new }
     {
         self.homing.trace(epid, stamp, values)
     }
 
     pub fn service(&mut self) -> Served
-        ensures same { IsSameSide self.old self.new }
+        ensures did { OnSide (ServicedSo result) self.old self.new }
     {
         self.homing.service()
     }
 
     /// None: it isn't a record of the schema.
     pub fn offer(&mut self, id: SpecId, epid: u32, stamp: u64, values: &[u64]) -> Option<Spoken>
-        ensures same { IsSameSide self.old self.new }
+        ensures did { OnSide (Offered id epid stamp values.now result) self.old self.new }
     {
         self.homing.offer(id, epid, stamp, values)
     }
 
     pub fn speculation(&mut self) -> Opening
-        ensures same { IsSameSide self.old self.new }
+        ensures did { OnSide (Opened result) self.old self.new }
     {
         self.homing.speculation()
     }
 
     pub fn commit(&mut self, id: SpecId) -> Decided
-        ensures same { IsSameSide self.old self.new }
+        ensures did { OnSide (DecidedAs Commit id result) self.old self.new }
     {
         self.homing.commit(id)
     }
 
     pub fn discard(&mut self, id: SpecId) -> Decided
-        ensures same { IsSameSide self.old self.new }
+        ensures did { OnSide (DecidedAs Discard id result) self.old self.new }
     {
         self.homing.discard(id)
     }
 
-    pub fn report(&self) -> Report {
+    pub fn report(&self) -> Report
+        ensures { Reports self.now.cpu result }
+    {
         self.homing.report()
     }
 

@@ -31,7 +31,7 @@ impl Place {
 
     /// The CPU's place, and the CPU itself, handed out.
     pub fn make(alloc: Global, cpu: Homing) -> Result<(Place, OutCpu), AllocError>
-        ensures { IfOk result (λ r. r.0 ≡ Some cpu) }
+        ensures { IfOk result (λ r. (r.0 ≡ Some cpu) × (r.1 ≡ cpu)) }
     {
         let (way, desk, cpu) = open(alloc, cpu)?;
         let out = OutCpu::of(way, cpu);

@@ -1,9 +1,9 @@
-ghost use Rattle.std.specs.Prelude.{◌≡◌, ◌<◌, ◌∷◌, List, length, IfOk, Some};
+ghost use Rattle.std.specs.Prelude.{◌≡◌, ◌<◌, ◌∷◌, List, length, map, IfOk, Some};
 ghost use Rattle.std.specs.Arc.{arc_value};
 ghost use Rattle.dspec_cpu.specs.Standing.{IsCallable};
 ghost use Rattle.dspec_record.specs.EnablingRows.{EnabledRows};
 ghost use Rattle.dspec_ring.specs.Known.{Pair};
-ghost use Rattle.dspec_c.specs.Whole.{AllCalled, EachFrom, IsCpuAt, IsPlaceOf};
+ghost use Rattle.dspec_c.specs.Whole.{AllCalled, EachFrom, IsCpuAt, IsPlaceOf, waiting_so};
 
 use crate::homing::Homing;
 use crate::out_cpu::OutCpu;
@@ -26,7 +26,7 @@ fn place(
     cpu: Cpu<Enablings>,
 ) -> Result<(Place, OutCpu), AllocError>
     requires { IsCallable (arc_value shared.now) cpu }
-    ensures { IfOk result (λ r. r.0 ≡ Some (record { shared = arc_value shared.now; cpu = cpu })) }
+    ensures { IfOk result (λ r. (r.0 ≡ waiting_so (arc_value shared.now) cpu) × (Some r.1 ≡ waiting_so (arc_value shared.now) cpu)) }
 {
     let shared = Arc::try_clone(shared)?;
     Place::make(alloc, Homing::of(shared, cpu))
@@ -41,6 +41,7 @@ pub fn places(
     requires { AllCalled (arc_value shared.now) cpus.items }
     ensures each { IfOk result (λ r. (schema : EnabledRows) (pairs : List Pair) → EachFrom (IsCpuAt (arc_value shared.now) schema pairs) 0 cpus.items → EachFrom (IsPlaceOf (arc_value shared.now) schema pairs) 0 r.0.items) }
     ensures all { IfOk result (λ r. length r.0.items ≡ length cpus.items) }
+    ensures waiting { IfOk result (λ r. r.1.items ≡ map (waiting_so (arc_value shared.now)) cpus.items) }
 {
     let mut rest = cpus;
     let mut places = Vec::with_capacity(alloc, rest.len())?;

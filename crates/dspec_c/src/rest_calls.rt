@@ -1,5 +1,8 @@
-ghost use Rattle.std.specs.Prelude.{◌≡◌, false};
-ghost use Rattle.dspec_c.specs.Handles.{is_full};
+//! The exports of what is left of a session.
+
+ghost use Rattle.std.specs.Prelude.{◌≡◌, slice_get};
+ghost use Rattle.dspec_c.specs.Handles.{held_in, is_full};
+ghost use Rattle.dspec_c.specs.ClosedCalls.{ClosedReportAnswers, RestAnswers, TellsCountsOf, TellsLeftOf};
 
 use crate::batches::CBatch;
 use crate::ended::Ended;
@@ -7,9 +10,10 @@ use crate::handle::Handle;
 use crate::held::Held;
 use crate::reports::CReport;
 use crate::statuses::{BAD_HANDLE, NO_BATCH, NO_SUCH_CPU, OK};
-use std::alloc::Global;
 
-fn rest(ended: &Ended, cpu: u32, last: bool, batch: &mut CBatch) -> u32 {
+fn rest(ended: &Ended, cpu: u32, last: bool, batch: &mut CBatch) -> u32
+    ensures { TellsLeftOf last (slice_get ended.now.closed cpu) result batch.old batch.new }
+{
     if !ended.has_cpu(cpu) {
         return NO_SUCH_CPU;
     }
@@ -20,55 +24,54 @@ fn rest(ended: &Ended, cpu: u32, last: bool, batch: &mut CBatch) -> u32 {
     OK
 }
 
-/// What is left of a CPU.
-#[unsafe(no_mangle)]
-pub extern "C" fn dspec_rest(
-    alloc: Global,
-    closed: &mut Handle,
-    cpu: u32,
-    last: bool,
-    batch: &mut CBatch,
-) -> u32
-    ensures empty { is_full closed.old ≡ false → result ≡ 17 }
-    ensures stays { is_full closed.new ≡ is_full closed.old }
+fn held_rest(held: &mut Held, cpu: u32, last: bool, batch: &mut CBatch) -> u32
+    ensures { RestAnswers cpu last held.old result batch.old batch.new held.new }
 {
-    let Some(mut held) = closed.take(alloc) else {
-        return BAD_HANDLE;
-    };
-    let answer = match &mut *held {
+    match held {
         Held::Closed(ended) => rest(ended, cpu, last, batch),
         _ => BAD_HANDLE,
-    };
-    closed.put(held);
-    answer
+    }
 }
 
-fn report_to(ended: &Ended, cpu: u32, report: &mut CReport) -> u32 {
-    let Some(counts) = ended.report(cpu) else {
+/// What is left of a CPU.
+#[unsafe(no_mangle)]
+pub extern "C" fn dspec_rest(closed: &mut Handle, cpu: u32, last: bool, batch: &mut CBatch) -> u32
+    ensures answers { RestAnswers cpu last (held_in closed.old) result batch.old batch.new (held_in closed.new) }
+    ensures stays { is_full closed.new ≡ is_full closed.old }
+{
+    if !closed.is_held() {
+        return BAD_HANDLE;
+    }
+    held_rest(closed.lend(), cpu, last, batch)
+}
+
+fn report_to(ended: &Ended, cpu: u32, report: &mut CReport) -> u32
+    ensures { TellsCountsOf (slice_get ended.now.closed cpu) result report.old report.new }
+{
+    if !ended.has_cpu(cpu) {
         return NO_SUCH_CPU;
-    };
-    *report = CReport::of(counts);
+    }
+    *report = CReport::of(ended.report(cpu));
     OK
+}
+
+fn held_closed_report(held: &mut Held, cpu: u32, report: &mut CReport) -> u32
+    ensures { ClosedReportAnswers cpu held.old result report.old report.new held.new }
+{
+    match held {
+        Held::Closed(ended) => report_to(ended, cpu, report),
+        _ => BAD_HANDLE,
+    }
 }
 
 /// The counts of a CPU, to its end.
 #[unsafe(no_mangle)]
-pub extern "C" fn dspec_closed_report(
-    alloc: Global,
-    closed: &mut Handle,
-    cpu: u32,
-    report: &mut CReport,
-) -> u32
-    ensures empty { is_full closed.old ≡ false → result ≡ 17 }
+pub extern "C" fn dspec_closed_report(closed: &mut Handle, cpu: u32, report: &mut CReport) -> u32
+    ensures answers { ClosedReportAnswers cpu (held_in closed.old) result report.old report.new (held_in closed.new) }
     ensures stays { is_full closed.new ≡ is_full closed.old }
 {
-    let Some(mut held) = closed.take(alloc) else {
+    if !closed.is_held() {
         return BAD_HANDLE;
-    };
-    let answer = match &mut *held {
-        Held::Closed(ended) => report_to(ended, cpu, report),
-        _ => BAD_HANDLE,
-    };
-    closed.put(held);
-    answer
+    }
+    held_closed_report(closed.lend(), cpu, report)
 }

@@ -1,5 +1,10 @@
-ghost use Rattle.std.specs.Prelude.{◌≡◌, true, false};
-ghost use Rattle.dspec_c.specs.Handles.{is_full};
+//! The exports of a schema.
+
+ghost use Rattle.std.specs.Prelude.{◌≡◌, ◌≤◌, ◌⊎◌, true, false, MatchOption, MatchResult, length, take, Some, None};
+ghost use Rattle.dspec_c.specs.Handles.{held_in, is_full};
+ghost use Rattle.dspec_c.specs.SessionCalls.{StampAnswers, new_schema};
+ghost use Rattle.dspec_c.specs.Widths.{EnableAnswers, Enables, EnablesSo, enable_fault, field_of_width, fields_of_widths};
+ghost use Rattle.dspec_c.specs.declared.held.Held.TheVariants as held_as;
 
 use crate::handle::Handle;
 use crate::held::Held;
@@ -24,8 +29,9 @@ pub extern "C" fn dspec_version() -> u32
 #[unsafe(no_mangle)]
 pub extern "C" fn dspec_schema_new(alloc: Global, schema: &mut Handle) -> u32
     ensures full { is_full schema.old ≡ true → (result ≡ 18) × (schema.new ≡ schema.old) }
-    ensures made { result ≡ 0 → is_full schema.new ≡ true }
+    ensures made { result ≡ 0 → (is_full schema.new ≡ true) × (held_in schema.new ≡ held_as.Schema new_schema) }
     ensures kept { result ≡ 7 → schema.new ≡ schema.old }
+    ensures either { is_full schema.old ≡ false → (result ≡ 0) ⊎ (result ≡ 7) }
 {
     if schema.is_held() {
         return FULL_HANDLE;
@@ -37,7 +43,9 @@ pub extern "C" fn dspec_schema_new(alloc: Global, schema: &mut Handle) -> u32
     OK
 }
 
-fn field_of(width: u8) -> Option<Field> {
+fn field_of(width: u8) -> Option<Field>
+    ensures { result ≡ field_of_width width }
+{
     match width {
         1 => Some(Field::One),
         2 => Some(Field::Two),
@@ -47,17 +55,32 @@ fn field_of(width: u8) -> Option<Field> {
     }
 }
 
-fn enable(schema: &mut Enablings, widths: &[u8]) -> Result<u32, u32> {
-    if widths.len() > 8 {
-        return Err(TOO_MANY_FIELDS);
-    }
+// The fields of these widths, the first of eight.
+fn fields_of(widths: &[u8]) -> Option<[Field; 8]>
+    requires { length widths.now ≤ 8 }
+    ensures { MatchOption result (fields_of_widths widths.now ≡ None)
+        (λ fields. fields_of_widths widths.now ≡ Some (take (length widths.now) fields)) }
+{
     let mut fields = [Field::One; 8];
     for place in 0..widths.len() {
         let Some(field) = field_of(widths[place]) else {
-            return Err(BAD_WIDTH)
+            return None
         };
         fields[place] = field;
     }
+    Some(fields)
+}
+
+fn enable(schema: &mut Enablings, widths: &[u8]) -> Result<u32, u32>
+    ensures { MatchResult result (λ epid. Enables widths.now epid schema.old schema.new)
+        (λ why. (enable_fault widths.now schema.old ≡ Some why) × (schema.new ≡ schema.old)) }
+{
+    if widths.len() > 8 {
+        return Err(TOO_MANY_FIELDS);
+    }
+    let Some(fields) = fields_of(widths) else {
+        return Err(BAD_WIDTH)
+    };
     match schema.enable(&fields[..widths.len()]) {
         Ok(epid) => Ok(epid),
         Err(SchemaFault::TooManyFields) => Err(TOO_MANY_FIELDS),
@@ -65,50 +88,59 @@ fn enable(schema: &mut Enablings, widths: &[u8]) -> Result<u32, u32> {
     }
 }
 
-/// Enables records with fields of these widths.
-#[unsafe(no_mangle)]
-pub extern "C" fn dspec_schema_enable(
-    alloc: Global,
-    schema: &mut Handle,
-    widths: &[u8],
-    epid: &mut u32,
-) -> u32
-    ensures empty { is_full schema.old ≡ false → result ≡ 17 }
-    ensures stays { is_full schema.new ≡ is_full schema.old }
+fn enable_told(schema: &mut Enablings, widths: &[u8], epid: &mut u32) -> u32
+    ensures { EnablesSo widths.now (enable_fault widths.now schema.old) schema.old result epid.old epid.new schema.new }
 {
-    let Some(mut held) = schema.take(alloc) else {
-        return BAD_HANDLE;
-    };
-    let answer = match &mut *held {
-        Held::Schema(enablings) => match enable(enablings, widths) {
-            Ok(number) => {
-                *epid = number;
-                OK
-            }
-            Err(why) => why,
-        },
-        _ => BAD_HANDLE,
-    };
-    schema.put(held);
-    answer
+    match enable(schema, widths) {
+        Ok(number) => {
+            *epid = number;
+            OK
+        }
+        Err(why) => why,
+    }
 }
 
-/// Records have a stamp from now on.
+fn held_enable(held: &mut Held, widths: &[u8], epid: &mut u32) -> u32
+    ensures { EnableAnswers widths.now held.old result epid.old epid.new held.new }
+{
+    match held {
+        Held::Schema(enablings) => enable_told(enablings, widths, epid),
+        _ => BAD_HANDLE,
+    }
+}
+
+/// Enables records with fields of these widths.
 #[unsafe(no_mangle)]
-pub extern "C" fn dspec_schema_stamp(alloc: Global, schema: &mut Handle) -> u32
-    ensures empty { is_full schema.old ≡ false → result ≡ 17 }
+pub extern "C" fn dspec_schema_enable(schema: &mut Handle, widths: &[u8], epid: &mut u32) -> u32
+    ensures answers { EnableAnswers widths.now (held_in schema.old) result epid.old epid.new (held_in schema.new) }
     ensures stays { is_full schema.new ≡ is_full schema.old }
 {
-    let Some(mut held) = schema.take(alloc) else {
+    if !schema.is_held() {
         return BAD_HANDLE;
-    };
-    let answer = match &mut *held {
+    }
+    held_enable(schema.lend(), widths, epid)
+}
+
+fn held_stamp(held: &mut Held) -> u32
+    ensures { StampAnswers held.old result held.new }
+{
+    match held {
         Held::Schema(enablings) => {
             *enablings = enablings.stamped();
             OK
         }
         _ => BAD_HANDLE,
-    };
-    schema.put(held);
-    answer
+    }
+}
+
+/// Records have a stamp from now on.
+#[unsafe(no_mangle)]
+pub extern "C" fn dspec_schema_stamp(schema: &mut Handle) -> u32
+    ensures answers { StampAnswers (held_in schema.old) result (held_in schema.new) }
+    ensures stays { is_full schema.new ≡ is_full schema.old }
+{
+    if !schema.is_held() {
+        return BAD_HANDLE;
+    }
+    held_stamp(schema.lend())
 }

@@ -1,5 +1,11 @@
-ghost use Rattle.std.specs.Prelude.{◌≡◌, true, false};
-ghost use Rattle.dspec_c.specs.Handles.{is_full};
+//! The exports of a session: its start, what it hands out, and its end.
+
+ghost use Rattle.std.specs.Prelude.{◌≡◌, true, false, IfErr, IfOk, IfSome, length};
+ghost use Rattle.dspec_c.specs.Configs.{asked_for};
+ghost use Rattle.dspec_c.specs.Handles.{held_in, is_full};
+ghost use Rattle.dspec_c.specs.SessionCalls.{ConsumerOfAnswers, CpuOfAnswers, FinishAnswers, GivesConsumer, GivesCpu, HandsOut, NotEnding, StartAnswers, StartsSo, consumer_due, cpu_due};
+ghost use Rattle.dspec_c.specs.Whole.{Going};
+ghost use Rattle.dspec_c.specs.declared.held.Held.TheVariants as held_as;
 
 use crate::configs::CConfig;
 use crate::consumer_side::{ConsumerSide, room};
@@ -14,7 +20,9 @@ use dspec_record::Enablings;
 use std::alloc::Global;
 use std::mem;
 
-fn start(alloc: Global, config: &CConfig, schema: Enablings, session: &mut Handle) -> u32 {
+fn start(alloc: Global, config: &CConfig, schema: Enablings, session: &mut Handle) -> u32
+    ensures { StartsSo (asked_for config.now) result session.old session.new }
+{
     let Some(config) = config.read() else {
         return BAD_POLICY;
     };
@@ -29,6 +37,15 @@ fn start(alloc: Global, config: &CConfig, schema: Enablings, session: &mut Handl
     OK
 }
 
+fn held_start(alloc: Global, config: &CConfig, schema: &mut Held, session: &mut Handle) -> u32
+    ensures { StartAnswers (asked_for config.now) schema.old result schema.new session.old session.new }
+{
+    match schema {
+        Held::Schema(enablings) => start(alloc, config, *enablings, session),
+        _ => BAD_HANDLE,
+    }
+}
+
 /// Starts a session over the schema as it is now.
 #[unsafe(no_mangle)]
 pub extern "C" fn dspec_start(
@@ -38,40 +55,54 @@ pub extern "C" fn dspec_start(
     session: &mut Handle,
 ) -> u32
     ensures full { is_full session.old ≡ true → (result ≡ 18) × ((schema.new ≡ schema.old) × (session.new ≡ session.old)) }
-    ensures empty { is_full session.old ≡ false → is_full schema.old ≡ false → (result ≡ 17) × (session.new ≡ session.old) }
+    ensures answers { is_full session.old ≡ false → StartAnswers (asked_for config.now) (held_in schema.old) result (held_in schema.new) session.old session.new }
     ensures stays { is_full schema.new ≡ is_full schema.old }
 {
     if session.is_held() {
         return FULL_HANDLE;
     }
-    let Some(mut held) = schema.take(alloc) else {
+    if !schema.is_held() {
         return BAD_HANDLE;
-    };
-    let answer = match &mut *held {
-        Held::Schema(enablings) => start(alloc, config, *enablings, session),
-        _ => BAD_HANDLE,
-    };
-    schema.put(held);
-    answer
+    }
+    held_start(alloc, config, schema.lend(), session)
+}
+
+fn fill(held: Box<Held>, what: Held) -> Box<Held>
+    ensures { result.value ≡ what }
+{
+    let mut held = held;
+    *held = what;
+    held
 }
 
 // The box comes first: what can't be had in it stays where it is.
-fn hand_out_cpu(alloc: Global, session: &mut UnderWay, number: u32, cpu: &mut Handle) -> u32 {
+fn hand_out_cpu(alloc: Global, session: &mut UnderWay, number: u32, cpu: &mut Handle) -> u32
+    ensures { HandsOut (GivesCpu number) (cpu_due number session.old) session.old result session.new cpu.old cpu.new }
+{
     if !session.has_cpu(number) {
         return NO_SUCH_CPU;
     }
     if !session.has_cpu_in(number) {
         return OUT;
     }
-    let Ok(mut held) = Box::new(alloc, Held::Nothing) else {
+    let Ok(held) = Box::new(alloc, Held::Nothing) else {
         return NO_MEMORY;
     };
     let Some(out) = session.cpu(number) else {
         return OUT;
     };
-    *held = Held::Cpu(out);
-    cpu.put(held);
+    let filled = fill(held, Held::Cpu(out));
+    cpu.put(filled);
     OK
+}
+
+fn held_cpu_of(alloc: Global, session: &mut Held, number: u32, cpu: &mut Handle) -> u32
+    ensures { CpuOfAnswers number session.old result session.new cpu.old cpu.new }
+{
+    match session {
+        Held::Session(whole) => hand_out_cpu(alloc, whole, number, cpu),
+        _ => BAD_HANDLE,
+    }
 }
 
 /// Hands out a CPU.
@@ -83,28 +114,25 @@ pub extern "C" fn dspec_cpu_of(
     cpu: &mut Handle,
 ) -> u32
     ensures full { is_full cpu.old ≡ true → (result ≡ 18) × ((session.new ≡ session.old) × (cpu.new ≡ cpu.old)) }
-    ensures empty { is_full cpu.old ≡ false → is_full session.old ≡ false → (result ≡ 17) × (cpu.new ≡ cpu.old) }
+    ensures answers { is_full cpu.old ≡ false → CpuOfAnswers number (held_in session.old) result (held_in session.new) cpu.old cpu.new }
     ensures stays { is_full session.new ≡ is_full session.old }
 {
     if cpu.is_held() {
         return FULL_HANDLE;
     }
-    let Some(mut held) = session.take(alloc) else {
+    if !session.is_held() {
         return BAD_HANDLE;
-    };
-    let answer = match &mut *held {
-        Held::Session(whole) => hand_out_cpu(alloc, whole, number, cpu),
-        _ => BAD_HANDLE,
-    };
-    session.put(held);
-    answer
+    }
+    held_cpu_of(alloc, session.lend(), number, cpu)
 }
 
-fn hand_out_consumer(alloc: Global, session: &mut UnderWay, consumer: &mut Handle) -> u32 {
+fn hand_out_consumer(alloc: Global, session: &mut UnderWay, consumer: &mut Handle) -> u32
+    ensures { HandsOut GivesConsumer (consumer_due session.old) session.old result session.new consumer.old consumer.new }
+{
     if !session.has_consumer_in() {
         return OUT;
     }
-    let Ok(mut held) = Box::new(alloc, Held::Nothing) else {
+    let Ok(held) = Box::new(alloc, Held::Nothing) else {
         return NO_MEMORY;
     };
     let Ok(taken) = room(alloc, session.count()) else {
@@ -113,9 +141,18 @@ fn hand_out_consumer(alloc: Global, session: &mut UnderWay, consumer: &mut Handl
     let Some(out) = session.consumer() else {
         return OUT;
     };
-    *held = Held::Consumer(ConsumerSide::new(out, taken));
-    consumer.put(held);
+    let filled = fill(held, Held::Consumer(ConsumerSide::new(out, taken)));
+    consumer.put(filled);
     OK
+}
+
+fn held_consumer_of(alloc: Global, session: &mut Held, consumer: &mut Handle) -> u32
+    ensures { ConsumerOfAnswers session.old result session.new consumer.old consumer.new }
+{
+    match session {
+        Held::Session(whole) => hand_out_consumer(alloc, whole, consumer),
+        _ => BAD_HANDLE,
+    }
 }
 
 /// Hands out the consumer.
@@ -126,24 +163,23 @@ pub extern "C" fn dspec_consumer_of(
     consumer: &mut Handle,
 ) -> u32
     ensures full { is_full consumer.old ≡ true → (result ≡ 18) × ((session.new ≡ session.old) × (consumer.new ≡ consumer.old)) }
-    ensures empty { is_full consumer.old ≡ false → is_full session.old ≡ false → (result ≡ 17) × (consumer.new ≡ consumer.old) }
+    ensures answers { is_full consumer.old ≡ false → ConsumerOfAnswers (held_in session.old) result (held_in session.new) consumer.old consumer.new }
     ensures stays { is_full session.new ≡ is_full session.old }
 {
     if consumer.is_held() {
         return FULL_HANDLE;
     }
-    let Some(mut held) = session.take(alloc) else {
+    if !session.is_held() {
         return BAD_HANDLE;
-    };
-    let answer = match &mut *held {
-        Held::Session(whole) => hand_out_consumer(alloc, whole, consumer),
-        _ => BAD_HANDLE,
-    };
-    session.put(held);
-    answer
+    }
+    held_consumer_of(alloc, session.lend(), consumer)
 }
 
-fn is_home(held: &mut Held) -> Result<(), u32> {
+fn is_home(held: &mut Held) -> Result<(), u32>
+    ensures stays { held.new ≡ held.old }
+    ensures home { IfOk result (λ _. (old : Going) × (held.old ≡ held_as.Session old)) }
+    ensures why { IfErr result (λ why. NotEnding held.old why) }
+{
     match held {
         Held::Session(whole) => {
             if whole.is_home() {
@@ -157,7 +193,9 @@ fn is_home(held: &mut Held) -> Result<(), u32> {
 }
 
 // What is left of the session. None, and it is gone: a part wasn't home. `is_home` has looked, so this doesn't come; no proof says so.
-fn end(held: Held) -> Option<Ended> {
+fn end(held: Held) -> Option<Ended>
+    ensures { IfSome result (λ ended. (old : Going) → held ≡ held_as.Session old → length ended.closed ≡ old.cpus) }
+{
     match held {
         Held::Session(whole) => whole.finish(),
         _ => None,
@@ -168,9 +206,7 @@ fn end(held: Held) -> Option<Ended> {
 #[unsafe(no_mangle)]
 pub extern "C" fn dspec_finish(alloc: Global, session: &mut Handle, closed: &mut Handle) -> u32
     ensures full { is_full closed.old ≡ true → (result ≡ 18) × ((session.new ≡ session.old) × (closed.new ≡ closed.old)) }
-    ensures empty { is_full closed.old ≡ false → is_full session.old ≡ false → (result ≡ 17) × (closed.new ≡ closed.old) }
-    ensures stays { is_full closed.old ≡ false → is_full closed.new ≡ false → is_full session.new ≡ is_full session.old }
-    ensures moved { is_full closed.old ≡ false → is_full closed.new ≡ true → is_full session.new ≡ false }
+    ensures answers { is_full closed.old ≡ false → FinishAnswers (held_in session.old) session.old closed.old result session.new closed.new }
 {
     if closed.is_held() {
         return FULL_HANDLE;
@@ -186,7 +222,7 @@ pub extern "C" fn dspec_finish(alloc: Global, session: &mut Handle, closed: &mut
         session.put(held);
         return GONE;
     };
-    *held = Held::Closed(ended);
-    closed.put(held);
+    let filled = fill(held, Held::Closed(ended));
+    closed.put(filled);
     OK
 }

@@ -1,8 +1,9 @@
 //! What every call answers, as a number; `dspec.h` has their names.
 
 ghost use Rattle.std.specs.Prelude.{◌≡◌};
-ghost use Rattle.dspec_c.specs.Statuses.{decided_number, decided_status, opened_number, opening_status, spoken_status, start_status, traced_status};
+ghost use Rattle.dspec_c.specs.Statuses.{asked_status, decided_number, decided_status, found_status, opened_number, opening_status, returned_status, spoken_status, start_status, traced_status};
 
+use crate::consumer_side::{Found, Returned};
 use dspec_deeds::{Decided, Opening, Spoken, StartFault, Traced};
 
 pub const OK: u32 = 0;
@@ -127,5 +128,36 @@ pub fn of_decided(answer: Decided, count: &mut u32) -> u32
         Decided::Void => VOID,
         Decided::Stopped => STOPPED,
         Decided::Worn => WORN,
+    }
+}
+
+/// Whether there is such a CPU to be asked.
+pub fn of_asked(found: bool) -> u32
+    ensures { result ≡ asked_status found }
+{
+    if found { OK } else { NO_SUCH_CPU }
+}
+
+/// What a take found.
+pub fn of_found(found: Found) -> u32
+    ensures { result ≡ found_status found }
+{
+    match found {
+        Found::NoCpu => NO_SUCH_CPU,
+        Found::IsOut => OUT,
+        Found::NoBatch => NO_BATCH,
+        Found::Taken => OK,
+    }
+}
+
+/// What became of a batch that was to go back.
+pub fn of_returned(returned: Returned) -> u32
+    ensures { result ≡ returned_status returned }
+{
+    match returned {
+        Returned::NoCpu => NO_SUCH_CPU,
+        Returned::NoneOut => NO_BATCH,
+        Returned::NoRoom => BUSY,
+        Returned::Back => OK,
     }
 }

@@ -31,18 +31,22 @@ pub struct UnderWay {
 impl Model for UnderWay {
     ghost use Rattle.std.specs.Prelude.{◌≡◌, length};
     ghost use Rattle.std.specs.Arc.{arc_value};
-    ghost use Rattle.dspec_c.specs.Whole.{IsWhole};
+    ghost use Rattle.dspec_c.specs.Whole.{AllWait, Going, IsWhole};
 
-    ghost Value = { Unit {0} };
+    ghost Value = { Going };
 
-    ghost view = { λ _. tt };
+    ghost view = { λ s. record { shared = arc_value s.common; cpus = s.cpus; waiting = s.outs.items; consumer = s.out } };
 
-    ghost invariant = { λ s. IsWhole (arc_value s.common) s.cpus s.places.items s.place × (length s.room.items ≡ 0) };
+    ghost invariant = { λ s. IsWhole (arc_value s.common) s.cpus s.places.items s.place × (length s.room.items ≡ 0) × AllWait (arc_value s.common) s.cpus s.outs.items s.out };
 }
 
 impl UnderWay {
+    ghost use Rattle.std.specs.Prelude.{◌≡◌, ◌≢◌, nat_lt, IfErr, IfOk, IfSome, IfNone, Some, None, false, is_some, IsSome, length, map, slice_get, slice_set};
+    ghost use Rattle.dspec_deeds.specs.declared.config.StartFault.TheVariants as start;
+    ghost use Rattle.dspec_deeds.specs.Ranges.{start_fault};
     ghost use Rattle.std.specs.Arc.{arc_value};
-    ghost use Rattle.dspec_c.specs.Whole.{AllCalled, IsStarted};
+    ghost use Rattle.dspec_c.specs.Whole.{AllCalled, IsJustStarted, IsStarted, IsWaiting, waiting_so, waits_in};
+    ghost use Rattle.dspec_session.specs.Consumers.{set_up_of};
 
     fn of(
         alloc: Global,
@@ -53,6 +57,7 @@ impl UnderWay {
     ) -> Result<UnderWay, AllocError>
         requires called { AllCalled (arc_value common) cpus.items }
         requires started { IsStarted (arc_value common) count cpus.items consumer }
+        ensures { IfOk result (λ w. (w.shared ≡ arc_value common) × (w.cpus ≡ count) × (w.waiting ≡ map (waiting_so (arc_value common)) cpus.items) × IsSome w.consumer) }
     {
         let room = Vec::with_capacity(alloc, cpus.len())?;
         let (places, outs) = places(alloc, &common, cpus)?;
@@ -70,11 +75,12 @@ impl UnderWay {
     }
 
     /// A session that has started. All its CPUs and its consumer wait to be handed out.
-    pub fn start(
-        alloc: Global,
-        config: &Config,
-        schema: Enablings,
-    ) -> Result<UnderWay, StartFault> {
+    pub fn start(alloc: Global, config: &Config, schema: Enablings) -> Result<UnderWay, StartFault>
+        ensures started { IfOk result (λ _. start_fault config.now ≡ None) }
+        ensures whole { IfOk result (λ w. IsJustStarted config.now w) }
+        ensures refused { IfErr result (λ fault. fault ≢ start.Memory → start_fault config.now ≡ Some fault) }
+        ensures memory { IfErr result (λ fault. fault ≡ start.Memory → start_fault config.now ≡ None) }
+    {
         let session = Session::start(alloc, config, schema)?;
         let Session {
             shared,
@@ -91,44 +97,65 @@ impl UnderWay {
     }
 
     /// How many CPUs it has.
-    pub fn count(&self) -> u32 {
+    pub fn count(&self) -> u32
+        ensures { result ≡ self.now.cpus }
+    {
         self.cpus
     }
 
     /// Whether there is such a CPU.
-    pub fn has_cpu(&self, cpu: u32) -> bool {
-        (cpu as usize) < self.outs.len()
+    pub fn has_cpu(&self, cpu: u32) -> bool
+        ensures { result ≡ nat_lt cpu self.now.cpus }
+    {
+        cpu < self.cpus
     }
 
     /// Whether such a CPU waits to be handed out.
-    pub fn has_cpu_in(&self, cpu: u32) -> bool {
+    pub fn has_cpu_in(&self, cpu: u32) -> bool
+        ensures { result ≡ waits_in cpu self.now.waiting }
+    {
         waits(&self.outs, cpu as usize)
     }
 
     /// The CPU, where it wasn't handed out yet.
-    pub fn cpu(&mut self, cpu: u32) -> Option<OutCpu> {
+    pub fn cpu(&mut self, cpu: u32) -> Option<OutCpu>
+        ensures there { IfSome result (λ side. slice_get self.old.waiting cpu ≡ Some (Some side)) }
+        ensures is { IfSome result (λ side. IsWaiting self.old.shared cpu (Some side)) }
+        ensures gone { IfSome result (λ _. self.new ≡ record self.old { waiting = slice_set self.old.waiting cpu None }) }
+        ensures none { IfNone result ((waits_in cpu self.old.waiting ≡ false) × (self.new ≡ self.old)) }
+    {
         take_out(&mut self.outs, cpu as usize)
     }
 
     /// Whether the consumer waits to be handed out.
-    pub fn has_consumer_in(&self) -> bool {
+    pub fn has_consumer_in(&self) -> bool
+        ensures { result ≡ is_some self.now.consumer }
+    {
         self.out.is_some()
     }
 
     /// The consumer, where it wasn't handed out yet.
-    pub fn consumer(&mut self) -> Option<OutConsumer> {
+    pub fn consumer(&mut self) -> Option<OutConsumer>
+        ensures there { result ≡ self.old.consumer }
+        ensures is { IfSome result (λ t. (t.shared ≡ self.old.shared) × ((set_up_of t.consumer).cpus ≡ self.old.cpus)) }
+        ensures gone { self.new ≡ record self.old { consumer = None } }
+    {
         self.out.take()
     }
 
     /// Whether the consumer and all CPUs are home, or were never handed out.
-    pub fn is_home(&mut self) -> bool {
+    pub fn is_home(&mut self) -> bool
+        ensures { self.new ≡ self.old }
+    {
         let theirs = self.place.is_in(&self.out);
         let ours = all_home(&mut self.places, &self.outs);
         theirs && ours
     }
 
     /// Ends it. None, and it is gone: a CPU or the consumer isn't home. `is_home` has looked.
-    pub fn finish(self) -> Option<Ended> {
+    pub fn finish(self) -> Option<Ended>
+        ensures { IfSome result (λ ended. length ended.closed ≡ self.cpus) }
+    {
         let UnderWay {
             common,
             cpus,

@@ -17,7 +17,7 @@ pub use Rattle.dspec_deeds.specs.Told
 pub use Rattle.dspec_play.specs.Bounds
 pub use Rattle.dspec_play.specs.SoloRule
 pub use Rattle.dspec_play.specs.Calls
-pub use Rattle.dspec_machine.specs.Sessions
+pub use Rattle.dspec_machine.specs.WorldViews
 pub use Rattle.dspec_machine.specs.Worlds
 pub use Rattle.dspec_deeds.specs.Closes
 pub use Rattle.dspec_play.specs.ReadOff

@@ -6,7 +6,7 @@ ghost use Rattle.dspec_play.specs.declared.refusal.Stepped.TheVariants as steppe
 ghost use Rattle.dspec_play.specs.Bounds.{steps_limit};
 ghost use Rattle.dspec_play.specs.Calls.{begin_consumer_fault, begin_cpu_fault, call_of, idle_step_fault, is_about, is_actor, is_idle, record_passes, steps_of, told_step};
 ghost use Rattle.dspec_deeds.specs.Closes.{reports, streams, closing};
-ghost use Rattle.dspec_play.specs.Coherent.{the_caller};
+ghost use Rattle.dspec_play.specs.Coherent.{progress_of};
 ghost use Rattle.dspec_deeds.specs.Headline.{Headline};
 ghost use Rattle.dspec_deeds.specs.Legal.{IsLegal};
 ghost use Rattle.dspec_deeds.specs.Own.{stream, taken};
@@ -32,13 +32,13 @@ pub struct World<S: Schema, B: TraceBuffer<S>> {
 }
 
 impl<S: Schema, B: TraceBuffer<S>> Model for World<S, B> {
-    ghost use Rattle.dspec_machine.specs.Sessions.{Session};
+    ghost use Rattle.dspec_machine.specs.WorldViews.{WorldView};
 
-    ghost Value = { Session S };
+    ghost Value = { WorldView S };
 
-    ghost use Rattle.dspec_machine.specs.Worlds.{IsKept, session_of};
+    ghost use Rattle.dspec_machine.specs.Worlds.{IsKept, world_view};
 
-    ghost view = { λ w. session_of w.machine };
+    ghost view = { λ w. world_view w.machine };
 
     ghost invariant = { λ w. IsKept B.has B.capacity S.shape_of S.accepted w.machine };
 }
@@ -191,7 +191,7 @@ impl<S: Schema, B: TraceBuffer<S>> World<S, B> {
         ensures { result ≡ is_idle actor self.now.state }
     {
         match actor {
-            Actor::Cpu(cpu) => self.machine.cpus[cpu as usize].caller.flight.is_none(),
+            Actor::Cpu(cpu) => self.machine.cpus[cpu as usize].progress.flight.is_none(),
             Actor::Consumer => self.machine.consumer.flight.is_none(),
         }
     }
@@ -204,7 +204,7 @@ impl<S: Schema, B: TraceBuffer<S>> World<S, B> {
     {
         match actor {
             Actor::Cpu(cpu) => {
-                let flight = self.machine.cpus[cpu as usize].caller.flight;
+                let flight = self.machine.cpus[cpu as usize].progress.flight;
                 let Some(flight) = flight else { unreachable!() };
                 Op::Cpu(flight.op())
             }
@@ -224,7 +224,7 @@ impl<S: Schema, B: TraceBuffer<S>> World<S, B> {
         ensures bounded { result < steps_limit actor self.now.state }
     {
         match actor {
-            Actor::Cpu(cpu) => self.machine.cpus[cpu as usize].caller.steps,
+            Actor::Cpu(cpu) => self.machine.cpus[cpu as usize].progress.steps,
             Actor::Consumer => self.machine.consumer.steps,
         }
     }
@@ -248,7 +248,7 @@ impl<S: Schema, B: TraceBuffer<S>> World<S, B> {
     /// What the consumer has taken from the CPU so far, in order. Condition: the CPU exists.
     pub fn taken(&self, cpu: u32) -> &[Rec]
         requires { cpu < self.now.state.config.cpus }
-        ensures { result.now ≡ taken (the_caller self.now.state.callers cpu).takes cpu self.now.state.deeds }
+        ensures { result.now ≡ taken (progress_of self.now.state.progresses cpu).takes cpu self.now.state.deeds }
     {
         self.machine.cpus[cpu as usize].taken.as_slice()
     }
@@ -256,7 +256,7 @@ impl<S: Schema, B: TraceBuffer<S>> World<S, B> {
     /// The CPU's counts so far. It takes one pass over the deeds. Condition: the CPU exists.
     pub fn report(&self, cpu: u32) -> Report
         requires { cpu < self.now.state.config.cpus }
-        ensures { result ≡ report self.now.state.config cpu (the_caller self.now.state.callers cpu).worn self.now.state.deeds }
+        ensures { result ≡ report self.now.state.config cpu (progress_of self.now.state.progresses cpu).worn self.now.state.deeds }
     {
         self.machine.report(cpu)
     }
@@ -267,7 +267,7 @@ impl<S: Schema, B: TraceBuffer<S>> World<S, B> {
         requires idle { (actor : Actor) → is_actor self.state.config actor ≡ true → is_idle actor self.state ≡ true }
         ensures deeds { IfOk result (λ close. close.deeds ≡ reverse (closing (S.shape_of self.schema) self.state.config self.state.deeds)) }
         ensures accepted { IfOk result (λ close. close.accepted ≡ streams self.state.config (reverse close.deeds)) }
-        ensures reports { IfOk result (λ close. close.reports ≡ reports self.state.config (λ c. (the_caller self.state.callers c).worn) (reverse close.deeds)) }
+        ensures reports { IfOk result (λ close. close.reports ≡ reports self.state.config (λ c. (progress_of self.state.progresses c).worn) (reverse close.deeds)) }
         ensures legal { IfOk result (λ close. IsLegal (S.shape_of self.schema) self.state.config (reverse close.deeds)) }
         ensures headline { IfOk result (λ close. (c : ℕ) → Headline self.state.config c (reverse close.deeds)) }
     {

@@ -5,6 +5,7 @@ pub mod Shown
 pub mod Ready
 pub mod Traces
 pub mod Mine
+pub mod Outside
 pub mod Retries
 pub mod Stopping
 pub mod Reaches

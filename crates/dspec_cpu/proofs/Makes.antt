@@ -19,7 +19,7 @@ module _ (shape : ℕ → Option Shape) (accepted : Record → Bool) (text : Rec
   pub record IsUnused : Type 0 where
     pub seat : known cpu.seat ≡ fresh_seat cpu.config cpu.cpu
     pub handed : cpu.end.handed ≡ []
-    pub in_hand : cpu.in_hand ≡ None
+    pub held_back : cpu.held_back ≡ None
     pub side : ShowsList (λ b. HasPieces shape accepted text b) (λ b. b.size) cpu.config cpu.cpu [] cpu.side
 
   module _ (u : IsUnused) where
@@ -28,7 +28,7 @@ module _ (shape : ℕ → Option Shape) (accepted : Record → Bool) (text : Rec
     spare_most (Some b) = omega arith
 
     none_sealed : batches_of cpu ≡ []
-    none_sealed = λ i. waiting (u.in_hand i) ++ reverse (u.handed i)
+    none_sealed = λ i. waiting (u.held_back i) ++ reverse (u.handed i)
 
     pub unused_list : HasList shape accepted text cpu []
     unused_list = record {

@@ -16,7 +16,7 @@ use Rattle.dspec_deeds.specs.FateKinds.{trace_kept, spoken_granted, is_commit, i
 use Rattle.dspec_deeds.specs.History.{ack}
 use Rattle.dspec_deeds.specs.Legal.{is_seal}
 use Rattle.dspec_deeds.specs.Marks.{mark}
-use Rattle.dspec_deeds.specs.Own.{active, contents, growing, held, seals, calls}
+use Rattle.dspec_deeds.specs.Own.{active, contents, dropped_in, growing, held, seals, calls}
 use Rattle.dspec_deeds.specs.OwnShown.{last_called}
 use Rattle.dspec_deeds.specs.Owning.{OwnRow, is_of}
 use Rattle.dspec_deeds.specs.Reports.{missed_busy}
@@ -40,6 +40,7 @@ pub record Leaves (c : ℕ) (d : Deed) (p : List Deed) : Type 0 where
   pub marks : (s : ℕ) → mark c s (d ∷ p) ≡ mark c s p
   pub acks : (s : ℕ) → ack c s (d ∷ p) ≡ ack c s p
   pub holds : (id : Speculation) → held c id (d ∷ p) ≡ held c id p
+  pub drops : (id : Speculation) → dropped_in c id (d ∷ p) ≡ dropped_in c id p
   pub principal : active c (d ∷ p) ≡ active c p
   pub sealing : seals c (d ∷ p) ≡ seals c p
 
@@ -51,29 +52,29 @@ still c p = add-zero (seals c p)
 
 pub leaves : (c : ℕ) (d : Deed) (p : List Deed) → quiet d ≡ true → Leaves c d p
 leaves c (Trace a r traced.Kept) p e = no e
-leaves c (Trace a r traced.Dropped) p e = record { marks = λ s. refl; acks = λ s. refl; holds = λ id. refl; principal = refl; sealing = still c p }
-leaves c (Trace a r traced.Stopped) p e = record { marks = λ s. refl; acks = λ s. refl; holds = λ id. refl; principal = refl; sealing = still c p }
-leaves c (Scan a b) p e = record { marks = λ s. refl; acks = λ s. refl; holds = λ id. refl; principal = refl; sealing = still c p }
-leaves c (Opened a id) p e = record { marks = λ s. refl; acks = λ s. refl; holds = λ id. refl; principal = refl; sealing = still c p }
-leaves c (Miss a s b) p e = record { marks = λ s. refl; acks = λ s. refl; holds = λ id. refl; principal = refl; sealing = still c p }
+leaves c (Trace a r traced.Dropped) p e = record { marks = λ s. refl; acks = λ s. refl; holds = λ id. refl; drops = λ id. refl; principal = refl; sealing = still c p }
+leaves c (Trace a r traced.Stopped) p e = record { marks = λ s. refl; acks = λ s. refl; holds = λ id. refl; drops = λ id. refl; principal = refl; sealing = still c p }
+leaves c (Scan a b) p e = record { marks = λ s. refl; acks = λ s. refl; holds = λ id. refl; drops = λ id. refl; principal = refl; sealing = still c p }
+leaves c (Opened a id) p e = record { marks = λ s. refl; acks = λ s. refl; holds = λ id. refl; drops = λ id. refl; principal = refl; sealing = still c p }
+leaves c (Miss a s b) p e = record { marks = λ s. refl; acks = λ s. refl; holds = λ id. refl; drops = λ id. refl; principal = refl; sealing = still c p }
 leaves c (Speculate a id r spoken.Kept) p e = no e
 leaves c (Speculate a id r spoken.Dropped) p e = no e
-leaves c (Speculate a id r spoken.Void) p e = record { marks = λ s. refl; acks = λ s. refl; holds = λ id. refl; principal = refl; sealing = still c p }
-leaves c (Speculate a id r spoken.Stopped) p e = record { marks = λ s. refl; acks = λ s. refl; holds = λ id. refl; principal = refl; sealing = still c p }
+leaves c (Speculate a id r spoken.Void) p e = record { marks = λ s. refl; acks = λ s. refl; holds = λ id. refl; drops = λ id. refl; principal = refl; sealing = still c p }
+leaves c (Speculate a id r spoken.Stopped) p e = record { marks = λ s. refl; acks = λ s. refl; holds = λ id. refl; drops = λ id. refl; principal = refl; sealing = still c p }
 leaves c (Commit a id (decided.Copied n)) p e = no e
 leaves c (Commit a id (decided.Lost n)) p e = no e
-leaves c (Commit a id (decided.Thrown n)) p e = record { marks = λ s. refl; acks = λ s. refl; holds = λ id. refl; principal = refl; sealing = still c p }
-leaves c (Commit a id decided.Void) p e = record { marks = λ s. refl; acks = λ s. refl; holds = λ id. refl; principal = refl; sealing = still c p }
-leaves c (Commit a id decided.Stopped) p e = record { marks = λ s. refl; acks = λ s. refl; holds = λ id. refl; principal = refl; sealing = still c p }
+leaves c (Commit a id (decided.Thrown n)) p e = record { marks = λ s. refl; acks = λ s. refl; holds = λ id. refl; drops = λ id. refl; principal = refl; sealing = still c p }
+leaves c (Commit a id decided.Void) p e = record { marks = λ s. refl; acks = λ s. refl; holds = λ id. refl; drops = λ id. refl; principal = refl; sealing = still c p }
+leaves c (Commit a id decided.Stopped) p e = record { marks = λ s. refl; acks = λ s. refl; holds = λ id. refl; drops = λ id. refl; principal = refl; sealing = still c p }
 leaves c (Discard a id (decided.Thrown n)) p e = no e
-leaves c (Discard a id (decided.Copied n)) p e = record { marks = λ s. refl; acks = λ s. refl; holds = λ id. refl; principal = refl; sealing = still c p }
-leaves c (Discard a id (decided.Lost n)) p e = record { marks = λ s. refl; acks = λ s. refl; holds = λ id. refl; principal = refl; sealing = still c p }
-leaves c (Discard a id decided.Void) p e = record { marks = λ s. refl; acks = λ s. refl; holds = λ id. refl; principal = refl; sealing = still c p }
-leaves c (Discard a id decided.Stopped) p e = record { marks = λ s. refl; acks = λ s. refl; holds = λ id. refl; principal = refl; sealing = still c p }
+leaves c (Discard a id (decided.Copied n)) p e = record { marks = λ s. refl; acks = λ s. refl; holds = λ id. refl; drops = λ id. refl; principal = refl; sealing = still c p }
+leaves c (Discard a id (decided.Lost n)) p e = record { marks = λ s. refl; acks = λ s. refl; holds = λ id. refl; drops = λ id. refl; principal = refl; sealing = still c p }
+leaves c (Discard a id decided.Void) p e = record { marks = λ s. refl; acks = λ s. refl; holds = λ id. refl; drops = λ id. refl; principal = refl; sealing = still c p }
+leaves c (Discard a id decided.Stopped) p e = record { marks = λ s. refl; acks = λ s. refl; holds = λ id. refl; drops = λ id. refl; principal = refl; sealing = still c p }
 leaves c (Settle a id f) p e = no e
 leaves c (Seal a) p e = no e
-leaves c (Release s) p e = record { marks = λ s. refl; acks = λ s. refl; holds = λ id. refl; principal = refl; sealing = still c p }
-leaves c Halt p e = record { marks = λ s. refl; acks = λ s. refl; holds = λ id. refl; principal = refl; sealing = still c p }
+leaves c (Release s) p e = record { marks = λ s. refl; acks = λ s. refl; holds = λ id. refl; drops = λ id. refl; principal = refl; sealing = still c p }
+leaves c Halt p e = record { marks = λ s. refl; acks = λ s. refl; holds = λ id. refl; drops = λ id. refl; principal = refl; sealing = still c p }
 
 pub quiet_unsealed : (d : Deed) → quiet d ≡ true → is_seal d ≡ false
 quiet_unsealed (Seal a) e = no e
@@ -112,6 +113,8 @@ module _ (shape : ℕ → Option Shape) (accepted : Record → Bool) (text : Rec
         let l = leaves cpu.cpu d p e in
         let same : (s : ℕ) → contents (held cpu.cpu (last_called cpu.cpu s p) p) ≡ contents (held cpu.cpu (last_called cpu.cpu s (d ∷ p)) (d ∷ p)) =
         λ s. ap contents (sym (l.holds (last_called cpu.cpu s (d ∷ p)) ∙ ap (λ m. held cpu.cpu record { issue = m - 1; slot = s } p) (l.marks s))) in
+        let dropped : (s : ℕ) → dropped_in cpu.cpu (last_called cpu.cpu s (d ∷ p)) (d ∷ p) ≡ dropped_in cpu.cpu (last_called cpu.cpu s p) p =
+        λ s. l.drops (last_called cpu.cpu s (d ∷ p)) ∙ ap (λ m. dropped_in cpu.cpu record { issue = m - 1; slot = s } p) (l.marks s) in
         record {
           legal = (was.legal, mine, row);
           side = record {
@@ -122,6 +125,8 @@ module _ (shape : ℕ → Option Shape) (accepted : Record → Bool) (text : Rec
             acks = λ s low high. was.side.acks s low high ∙ ap Some (sym (l.acks s));
             mark_count = was.side.mark_count;
             marks = λ s low high. was.side.marks s low high ∙ ap Some (sym (l.marks s));
+            specdrop_count = was.side.specdrop_count;
+            specdrops = λ s low high. was.side.specdrops s low high ∙ ap Some (sym (dropped s));
             buffer_count = was.side.buffer_count;
             speculative = λ s b low high at. subst (λ rs. HasSized shape accepted text cpu.config.specsize (map extent.one rs) b) (same s) (was.side.speculative s b low high at);
             principal = subst (λ ps. HasSized shape accepted text cpu.config.bufsize ps cpu.side.active) (sym l.principal) was.side.principal;

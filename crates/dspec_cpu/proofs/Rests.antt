@@ -1,10 +1,12 @@
 -- One slot that what is left of a CPU settles by the last words.
-use Rattle.std.proofs.Common.{◌≡◌, ℕ, ◌<◌, ◌≤◌, ◌^◌, Bool, true, List, ◌∷◌, Option, if◌then◌else◌, sym, ap, ◌∙◌, subst}
+use Rattle.std.proofs.Common.{◌≡◌, ℕ, ◌<◌, ◌≤◌, ◌^◌, Bool, true, false, List, ◌∷◌, Option, if◌then◌else◌, refl, sym, ap, ◌∙◌, subst}
 use Rattle.dspec_record.specs.Record.{Record}
 use Rattle.dspec_record.specs.declared.field.Shape.{Shape}
 use Rattle.dspec_ring.specs.declared.batch.Batch.{Batch}
 use Rattle.dspec_word.specs.Tables.{settle_at}
-use Rattle.dspec_word.specs.Word.{SlotState}
+use Rattle.dspec_word.specs.Word.{SlotState, CanBeReleased, word_number}
+use Rattle.dspec_word.specs.declared.act.Act.{Act}
+use Rattle.dspec_word.specs.declared.act.Act.TheVariants.{Granted}
 use Rattle.dspec_deeds.specs.declared.config.Config.{Config}
 use Rattle.dspec_deeds.specs.declared.deed.Deed.{Deed}
 use Rattle.dspec_deeds.specs.declared.deed.Deed.TheVariants.{Settle}
@@ -16,6 +18,7 @@ use Rattle.dspec_play.specs.OwnClose.{own_closed_slot}
 use Rattle.dspec_table.specs.declared.last.LastWords.{LastWords}
 use Rattle.dspec_table.specs.Last.{last_set_up, last_words}
 use Rattle.dspec_table.specs.Showing.{Shows}
+use Rattle.dspec_table.proofs.Limits.{limit_of}
 use Rattle.dspec_side.specs.declared.side.Side.{Side}
 use Rattle.dspec_side.specs.Sides.{parts_of_side}
 use Rattle.dspec_cpu.specs.declared.rest.CpuRest.{CpuRest}
@@ -30,9 +33,33 @@ module _ (shape : ℕ → Option Shape) (accepted : Record → Bool) (text : Rec
   shows_last : (log : List Deed) → Shows rest.config (last_words last) log → Shows (last_set_up last) (last_words last) log
   shows_last log sh = subst (λ (k : Config). Shows k (last_words last) log) (sym its.set_up) sh
 
+  -- its word is below the last one
+  pub released : (log now p : List Deed) → CanCloseBehind rest.config rest.cpu slot (last_words last) log now p → CanBeReleased word
+  released log now p closes =
+      let shows = shows_last log closes.shows in
+      let most = subst (λ (k : Config). slot ≤ k.nspec) (sym its.set_up) high in
+      let number : word_number (word_at slot log) ≤ 2 ^ 60 = subst (λ n. n ≤ 2 ^ 60) (shows.slots slot low most) (last.shown slot low most).1 in
+      subst CanBeReleased (sym (word_is log shows)) (limit_of (word_at slot log) number)
+
   module _ (a : ℕ) (a_is : (log : List Deed) → Shows (last_set_up last) (last_words last) log → a ≡ ack rest.cpu slot log) where
     acked : (log now p : List Deed) → CanCloseBehind rest.config rest.cpu slot (last_words last) log now p → settle_at word a ≡ settle_at word (ack rest.cpu slot p)
     acked log now p closes = ap (settle_at word) (a_is log (shows_last log closes.shows) ∙ sym closes.ack)
+
+    -- where the slot isn't to be settled the list stays as it is
+    pub unsettled : (x : Act) → x ≡ settle_at word a → (x ≡ Granted → ⊥) → (handed : List Batch) (log now p : List Deed) → RestHasList shape accepted text rest handed p
+        → CanCloseBehind rest.config rest.cpu slot (last_words last) log now p
+        → RestHasList shape accepted text rest handed (own_closed_slot shape rest.config (λ s. word_at s log) rest.cpu slot p)
+    unsettled x is other handed log now p had closes =
+        let next : SlotState → List Deed = λ w. if is_granted (settle_at w (ack rest.cpu slot p)) then Settle rest.cpu (shown_at slot w)
+        (settle_fate shape rest.config rest.cpu p (shown_at slot w) w.code) ∷ p else p in
+        let none : is_granted (settle_at word (ack rest.cpu slot p)) ≡ false = sym (ap is_granted (is ∙ acked log now p closes)) ∙ ungranted x other in
+        subst (λ w. RestHasList shape accepted text rest handed (next w)) (word_is log (shows_last log closes.shows))
+        (subst (λ b. RestHasList shape accepted text rest handed
+        (if b then Settle rest.cpu (shown_at slot word) (settle_fate shape rest.config rest.cpu p (shown_at slot word) word.code) ∷ p else p)) (sym none) had)
+      where
+        ungranted : (y : Act) → (y ≡ Granted → ⊥) → is_granted y ≡ false
+        ungranted Granted never = absurd (never refl)
+        ungranted y never = refl
 
     module _ (grants : is_granted (settle_at word a) ≡ true) (small : rest.side.calls < 2 ^ 64) where
       granted : (log now p : List Deed) → CanCloseBehind rest.config rest.cpu slot (last_words last) log now p → is_granted (settle_at word (ack rest.cpu slot p)) ≡ true

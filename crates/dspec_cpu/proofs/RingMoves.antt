@@ -7,7 +7,7 @@ use Rattle.dspec_deeds.specs.declared.config.Config.{Config}
 use Rattle.dspec_table.specs.declared.rule.View.{View}
 use Rattle.dspec_cpu.specs.Switching.{Buffers, FindsSpare, HandsOn, Heeds, not_asked, worn_out, no_spare, held_up, switched, Switches, never, looked, most_moves}
 
--- one push for a batch in hand
+-- one push for a batch held back
 handing : Option Batch → ℕ
 handing None = 0
 handing (Some b) = 1
@@ -40,10 +40,10 @@ unfolding handing
 most None = refl
 most (Some b) = refl
 
-pub switched_moves : (k : Config) (c : ℕ) (v : View) (x : Buffers) (sealed : Bool) (w : View) (y : Buffers) → Switches k c v x sealed w y → y.end.moves ≤ x.end.moves + most_moves x.in_hand
+pub switched_moves : (k : Config) (c : ℕ) (v : View) (x : Buffers) (sealed : Bool) (w : View) (y : Buffers) → Switches k c v x sealed w y → y.end.moves ≤ x.end.moves + most_moves x.held_back
 switched_moves k c v x sealed w y (never fill) = omega arith
 switched_moves k c v x sealed w y (looked unfilled e left hands ask u loaded s z heeds) =
-    let first = handed_by x.end x.in_hand e left hands in
-    let then_at_most = heeded_by k c ask (record x { end = e; in_hand = left }) s z heeds in
-    let all = most x.in_hand in
+    let first = handed_by x.end x.held_back e left hands in
+    let then_at_most = heeded_by k c ask (record x { end = e; held_back = left }) s z heeds in
+    let all = most x.held_back in
     omega arith

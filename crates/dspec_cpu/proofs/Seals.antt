@@ -88,9 +88,9 @@ module _ (shape : ℕ → Option Shape) (accepted : Record → Bool) (text : Rec
 
     module _ (seat : CpuSeat) (same : (known seat).own ≡ (known cpu.seat).own) (p : List Deed) (had : HasList shape accepted text cpu p) where
       -- the batches are where they were, or one of them went into the ring
-      pub kept_list : (end : CpuKnows) (in_hand : Option Batch) (spare : Option Stored) → waiting in_hand ++ reverse end.handed ≡ batches_of cpu
-          → HasList shape accepted text (record cpu { seat = seat; end = end; in_hand = in_hand; spare = spare }) p
-      kept_list end in_hand spare batches = record {
+      pub kept_list : (end : CpuKnows) (held_back : Option Batch) (spare : Option Stored) → waiting held_back ++ reverse end.handed ≡ batches_of cpu
+          → HasList shape accepted text (record cpu { seat = seat; end = end; held_back = held_back; spare = spare }) p
+      kept_list end held_back spare batches = record {
         own = had.own ∙ sym same;
         shown = record {
           legal = had.shown.legal;
@@ -101,11 +101,11 @@ module _ (shape : ℕ → Option Shape) (accepted : Record → Bool) (text : Rec
       }
 
       -- the active buffer is the latest batch, and an empty one is active
-      pub sealed_list : (end : CpuKnows) (in_hand : Option Batch) (next : Stored) → waiting in_hand ++ reverse end.handed ≡ batch_of cpu.cpu (buffers_of cpu) ∷ batches_of cpu
+      pub sealed_list : (end : CpuKnows) (held_back : Option Batch) (next : Stored) → waiting held_back ++ reverse end.handed ≡ batch_of cpu.cpu (buffers_of cpu) ∷ batches_of cpu
           → HasSized shape accepted text cpu.config.bufsize [] next → cpu.side.seals < cpu.config.max_calls → is_fill cpu.config.policy ≡ false
           → HasList shape accepted text (record cpu
-          { seat = seat; end = end; in_hand = in_hand; spare = None; side = record cpu.side { active = next; drops = 0; seals = cpu.side.seals + 1 } }) (Seal cpu.cpu ∷ p)
-      sealed_list end in_hand next batches empty lt unfilled =
+          { seat = seat; end = end; held_back = held_back; spare = None; side = record cpu.side { active = next; drops = 0; seals = cpu.side.seals + 1 } }) (Seal cpu.cpu ∷ p)
+      sealed_list end held_back next batches empty lt unfilled =
           let itself = number_is_itself cpu.cpu in
           let side = had.shown.side in
           let idle : scan cpu.config cpu.cpu p ≡ 0 = (apart_bare cpu.config cpu.cpu p).scanning ∙ (ap (scan cpu.config cpu.cpu) had.own ∙ ready.steady.idle) in
@@ -121,6 +121,8 @@ module _ (shape : ℕ → Option Shape) (accepted : Record → Bool) (text : Rec
                 acks = side.acks;
                 mark_count = side.mark_count;
                 marks = side.marks;
+                specdrop_count = side.specdrop_count;
+                specdrops = side.specdrops;
                 buffer_count = side.buffer_count;
                 speculative = side.speculative;
                 principal = subst (λ ps. HasSized shape accepted text cpu.config.bufsize ps next) (ap (λ b. if b then [] else active cpu.cpu p) (sym itself)) empty;

@@ -7,7 +7,9 @@ use Rattle.dspec_record.specs.declared.field.Shape.{Shape}
 use Rattle.dspec_buffer.specs.Stored.{Stored}
 use Rattle.dspec_word.specs.SpecId.{Speculation}
 use Rattle.dspec_word.specs.Word.{SlotState}
-use Rattle.dspec_word.specs.Code.{awaits}
+use Rattle.dspec_word.specs.Code.{awaits, is_decided}
+use Rattle.dspec_word.specs.declared.code.Code.{Code}
+use Rattle.dspec_word.specs.declared.code.Code.TheVariants.{Inactive, Active, ActiveOne, ActiveMany, Committing, CommittingMany, Discarding}
 use Rattle.dspec_word.specs.declared.act.Act.{Act}
 use Rattle.dspec_word.specs.declared.act.Act.TheVariants.{Void, Granted, Attempt, Idle}
 use Rattle.dspec_word.specs.Tables.{settle_at}
@@ -37,6 +39,16 @@ use Rattle.dspec_cpu.specs.Settled.{BlockSettled, CanSettle, IsPartOf, SlotDone,
 use Rattle.dspec_cpu.proofs.Ready.{few, holder, set_up_is, stands_behind}
 use Rattle.dspec_cpu.proofs.Settlements.{can_settle}
 use Rattle.dspec_cpu.proofs.Slots.{stands_more}
+
+-- a speculation that isn't decided waits for no CPU
+pub not_awaiting : (c : Code) → is_decided c ≡ false → awaits c ≡ false
+not_awaiting Inactive e = refl
+not_awaiting Active e = refl
+not_awaiting ActiveOne e = refl
+not_awaiting ActiveMany e = refl
+not_awaiting Committing e = refl
+not_awaiting CommittingMany e = e
+not_awaiting Discarding e = e
 
 pub not_granted : (a : Act) → (a ≡ Granted → ⊥) → is_granted a ≡ false
 not_granted Granted n = absurd (n refl)

@@ -103,12 +103,12 @@ module _ (shape : ℕ → Option Shape) (accepted : Record → Bool) (text : Rec
   emptied_sized size s e = record { sized = e; has = record { all_accepted = search rules; text_is = refl; count_is = refl } }
 
   module _ {S : Type 0} (words : Words) (cpu : Cpu S) (ready : IsReady shape accepted text words cpu) (unfilled : is_fill cpu.config.policy ≡ false)
-      (e : CpuKnows) (left : Option Batch) (hands : HandsOn cpu.end cpu.in_hand e left) (ask : ℕ) where
+      (e : CpuKnows) (left : Option Batch) (hands : HandsOn cpu.end cpu.held_back e left) (ask : ℕ) where
     abbrev looked_at : Buffers
-    looked_at = record (buffers_of cpu) { end = e; in_hand = left }
+    looked_at = record (buffers_of cpu) { end = e; held_back = left }
 
     batches : waiting left ++ reverse e.handed ≡ batches_of cpu
-    batches = (passed cpu.end cpu.in_hand e left hands).batches
+    batches = (passed cpu.end cpu.held_back e left hands).batches
 
     batches_left : (f : CpuKnows) (found_spare : Option Stored) → FindsSpare cpu.config.bufsize e cpu.spare f found_spare → waiting left ++ reverse f.handed ≡ batches_of cpu
     batches_left f s finds = ap (λ bs. waiting left ++ reverse bs) (found cpu.config.bufsize e cpu.spare f s finds).handed ∙ batches
@@ -128,14 +128,14 @@ module _ (shape : ℕ → Option Shape) (accepted : Record → Bool) (text : Rec
 
     -- the CPU has no buffer more than came to it
     pub few_left : length (waiting left ++ reverse e.handed) + spare_count cpu.spare ≤ 1 + length e.spares
-    few_left = subst (λ (q : List Batch × List Batch). length q.0 + spare_count cpu.spare ≤ 1 + length q.1) (λ i. (sym batches i, sym (passed cpu.end cpu.in_hand e left hands).spares i))
+    few_left = subst (λ (q : List Batch × List Batch). length q.0 + spare_count cpu.spare ≤ 1 + length q.1) (λ i. (sym batches i, sym (passed cpu.end cpu.held_back e left hands).spares i))
         ready.steady.few
 
     few_found : (f : CpuKnows) (s : Option Stored) → FindsSpare cpu.config.bufsize e cpu.spare f s → length (waiting left ++ reverse f.handed) + spare_count s ≤ 1 + length f.spares
     few_found f s finds = (found cpu.config.bufsize e cpu.spare f s finds).few _
         (subst (λ bs. length (waiting left ++ reverse bs) + spare_count cpu.spare ≤ 1 + length e.spares) (sym (found cpu.config.bufsize e cpu.spare f s finds).handed) few_left)
 
-    few_after : (sealed : Bool) (y : Buffers) → Heeds cpu.config cpu.cpu ask looked_at sealed y → length (waiting y.in_hand ++ reverse y.end.handed) + spare_count y.spare ≤ 1 + length y.end.spares
+    few_after : (sealed : Bool) (y : Buffers) → Heeds cpu.config cpu.cpu ask looked_at sealed y → length (waiting y.held_back ++ reverse y.end.handed) + spare_count y.spare ≤ 1 + length y.end.spares
     few_after sealed y (not_asked le) = few_left
     few_after sealed y (worn_out lt le) = few_left
     few_after sealed y (no_spare lt below f finds) = few_found f None finds
@@ -190,7 +190,7 @@ module _ (shape : ℕ → Option Shape) (accepted : Record → Bool) (text : Rec
         schema = ap (λ (x : Cpu S). x.schema) is_new;
         config = ap (λ (x : Cpu S). x.config) is_new;
         number = ap (λ (x : Cpu S). x.cpu) is_new;
-        pair = pair_after sealed (buffers_of new) heeds ∙ (passed cpu.end cpu.in_hand e left hands).pair;
+        pair = pair_after sealed (buffers_of new) heeds ∙ (passed cpu.end cpu.held_back e left hands).pair;
       }
 
       pub switched_bounded : (known new.seat).steps ≤ (known cpu.seat).steps + 1

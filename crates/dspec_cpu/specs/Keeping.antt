@@ -22,6 +22,6 @@ pub record CallKeeps {S : Type 0} (is_worn is_stopped : Bool) (most : ℕ) (old 
   pub bounded : (known (seat_of new)).steps ≤ (known (seat_of old)).steps + most
   pub stops : StopsWhereMet (known (seat_of old)) is_worn is_stopped (known (seat_of new))
 
--- it saw more, and is else as it was: its buffers, its rings, the batch and the spare in hand, and what it counted
+-- it saw more, and is else as it was: its buffers, its rings, the batch held back and the spare in hand, and what it counted
 abbrev pub MovesItsSeat : {S : Type 0} → Cpu S → Cpu S → Type 0
 MovesItsSeat old new = new ≡ record old { seat = new.seat }

@@ -1,6 +1,7 @@
 pub mod Sealed
 pub mod Lists
 pub mod Calls
+pub mod Dropped
 pub mod Stops
 pub mod Reaching
 pub mod Reached

@@ -32,9 +32,9 @@ words_of shared = shared.words
 abbrev pub side_of : {S : Type 0} → Cpu S → SideParts Stored
 side_of cpu = parts_of_side cpu.side
 
--- the batches that the CPU sealed, the latest first: the one in hand, and those handed on
+-- the batches that the CPU sealed, the latest first: the one held back, and those handed on
 abbrev pub batches_of : {S : Type 0} → Cpu S → List Batch
-batches_of cpu = waiting cpu.in_hand ++ reverse cpu.end.handed
+batches_of cpu = waiting cpu.held_back ++ reverse cpu.end.handed
 
 -- how many calls were answered Worn
 abbrev pub worn_of : {S : Type 0} → Cpu S → ℕ
@@ -66,8 +66,8 @@ spare_count None = 0
 spare_count (Some b) = 1
 
 -- the batch whose hand-over was refused, and how many batches it sealed
-abbrev pub in_hand_of : {S : Type 0} → Cpu S → Option Batch
-in_hand_of cpu = cpu.in_hand
+abbrev pub held_back_of : {S : Type 0} → Cpu S → Option Batch
+held_back_of cpu = cpu.held_back
 
 abbrev pub seals_of : {S : Type 0} → Cpu S → ℕ
 seals_of cpu = cpu.side.seals

@@ -33,8 +33,8 @@ abbrev pub worn_of_rest : {S : Type 0} → CpuRest S → ℕ
 worn_of_rest rest = rest.side.counts.worn
 
 -- a batch whose hand-over was refused
-abbrev pub in_hand_of_rest : {S : Type 0} → CpuRest S → Option Batch
-in_hand_of_rest rest = rest.in_hand
+abbrev pub held_back_of_rest : {S : Type 0} → CpuRest S → Option Batch
+held_back_of_rest rest = rest.held_back
 
 -- the batch that the last Seal would make
 abbrev pub last_batch : {S : Type 0} → CpuRest S → Batch
@@ -46,14 +46,14 @@ side_of_rest rest = parts_of_side rest.side
 
 -- the batches that the CPU sealed, the latest first, where its end had handed on these, the oldest first
 abbrev pub batches_of_rest : {S : Type 0} → CpuRest S → List Batch → List Batch
-batches_of_rest rest handed = waiting rest.in_hand ++ reverse handed
+batches_of_rest rest handed = waiting rest.held_back ++ reverse handed
 
 -- it is what is left of the same CPU
 pub record IsSameRest {S : Type 0} (old new : CpuRest S) : Type 0 where
   pub schema : new.schema ≡ old.schema
   pub config : new.config ≡ old.config
   pub number : new.cpu ≡ old.cpu
-  pub in_hand : new.in_hand ≡ old.in_hand
+  pub held_back : new.held_back ≡ old.held_back
   pub worn : new.side.counts.worn ≡ old.side.counts.worn
 
 module _ (shape : ℕ → Option Shape) (accepted : Record → Bool) (text : Record → List ℕ) where

@@ -11,7 +11,7 @@ use Rattle.dspec_cpu.specs.Switching.{Buffers, Switches, with_seal}
 -- settlements touch no ring, and neither the batch nor the spare in hand
 pub record LeavesBatches (x y : Buffers) : Type 0 where
   pub end : y.end ≡ x.end
-  pub in_hand : y.in_hand ≡ x.in_hand
+  pub held_back : y.held_back ≡ x.held_back
   pub spare : y.spare ≡ x.spare
   pub seals : y.seals ≡ x.seals
 

@@ -84,7 +84,7 @@ pub record Settled (c n count : ℕ) (had : List Deed → Type 0) (v : View) (ha
 pub record KeepsBatches {S : Type 0} (old new : Cpu S) : Type 0 where
   pub end : new.end ≡ old.end
   pub spare : new.spare ≡ old.spare
-  pub in_hand : new.in_hand ≡ old.in_hand
+  pub held_back : new.held_back ≡ old.held_back
   pub seals : new.side.seals ≡ old.side.seals
 
 -- A list of the CPU's own is its part, but for the Seals, of a list that is legal in its common part; no release is owed, and

@@ -4,7 +4,7 @@ ghost use Rattle.dspec_table.specs.Seats.{known};
 ghost use Rattle.dspec_side.specs.Counting.{is_stopped_opening};
 ghost use Rattle.dspec_cpu.specs.Calls.{Decides, Does, spoken_deeds, traced_deeds, is_worn_decided, is_worn_spoken, is_worn_trace};
 ghost use Rattle.dspec_cpu.specs.Keeping.{CallKeeps};
-ghost use Rattle.dspec_cpu.specs.Lists.{config_of, end_of, in_hand_of, number_in, schema_of, seat_of, words_of, worn_of};
+ghost use Rattle.dspec_cpu.specs.Lists.{config_of, end_of, held_back_of, number_in, schema_of, seat_of, words_of, worn_of};
 ghost use Rattle.dspec_cpu.specs.Scans.{Opens, is_worn_opening};
 ghost use Rattle.dspec_cpu.specs.Serving.{Serves};
 ghost use Rattle.dspec_cpu.specs.Standing.{Belongs, identity};
@@ -95,7 +95,7 @@ impl<S: Schema> Cpu<S> {
         ensures same { identity self.new ≡ identity self.old }
         ensures wears { worn_of self.new ≡ worn_of self.old }
         ensures bounded { (known (seat_of self.new)).steps ≤ (known (seat_of self.old)).steps + 1 + 2 * (config_of self.old).nspec }
-        ensures moves { (end_of self.new).moves ≤ (end_of self.old).moves + most_moves (in_hand_of self.old) }
+        ensures moves { (end_of self.new).moves ≤ (end_of self.old).moves + most_moves (held_back_of self.old) }
         ensures serves { Serves (config_of self.old) (number_in self.old) result (⟦<Cpu<S> as Listed>⟧.has_list self.old) (known (seat_of self.old)) (buffers_of self.old) (⟦<Cpu<S> as Listed>⟧.has_list self.new) (known (seat_of self.new)) (buffers_of self.new) }
     {
         self.parts.service(shared)

@@ -48,7 +48,7 @@ impl<S: Schema> Cpu<S> {
             end,
             side,
             spare: Some(spare),
-            in_hand: None,
+            held_back: None,
         };
         Ok(Cpu { parts })
     }

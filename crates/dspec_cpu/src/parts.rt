@@ -17,5 +17,5 @@ pub struct CpuParts<S: Schema> {
     /// The buffer that is active next.
     pub(crate) spare: Option<ByteBuffer>,
     /// A batch whose hand-over was refused.
-    pub(crate) in_hand: Option<Batch>,
+    pub(crate) held_back: Option<Batch>,
 }

@@ -1,6 +1,8 @@
 ghost use Rattle.std.specs.Prelude.{◌≡◌, List};
+ghost use Rattle.dspec_deeds.specs.Own.{dropped_in};
 ghost use Rattle.dspec_deeds.specs.declared.deed.Deed.{Deed};
 ghost use Rattle.dspec_deeds.specs.Reports.{report};
+ghost use Rattle.dspec_cpu.specs.Dropped.{drops_told};
 ghost use Rattle.dspec_cpu.specs.Lists.{config_of, number_in, words_of, worn_of};
 ghost use Rattle.dspec_cpu.specs.Standing.{Belongs, identity};
 
@@ -9,6 +11,18 @@ use crate::listed::Listed;
 use crate::shared::Shared;
 use dspec_deeds::Report;
 use dspec_record::Schema;
+use dspec_word::SpecId;
+
+// A count of drops as a number of 32 bits.
+#[inline]
+fn told(drops: u64) -> u32
+    ensures { result ≡ drops_told drops }
+{
+    if drops > u64::from(u32::MAX) {
+        return u32::MAX;
+    }
+    drops as u32
+}
 
 impl<S: Schema> Cpu<S> {
     /// The counts so far. It takes no step at the words.
@@ -18,5 +32,17 @@ impl<S: Schema> Cpu<S> {
             → result ≡ report (config_of self.now) (number_in self.now) (worn_of self.now) p }
     {
         self.parts.side.counts.report()
+    }
+
+    /// How many records were dropped from this CPU's buffer of the speculation since it became a caller: where there are any, the
+    /// end of the path is cut. 0 where it is no caller, and once the slot's next speculation was granted to it. At the most
+    /// `u32::MAX`. It takes no step at the words.
+    pub fn dropped_in(&self, id: SpecId) -> u32
+        ensures { (p : List Deed) → ⟦<Cpu<S> as Listed>⟧.has_list self.now p → result ≡ drops_told (dropped_in (number_in self.now) id p) }
+    {
+        if !self.parts.is_inside(id) {
+            return 0;
+        }
+        told(self.parts.side.dropped_in::<S>(id))
     }
 }

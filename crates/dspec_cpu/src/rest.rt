@@ -12,5 +12,5 @@ pub struct CpuRest<S: Schema> {
     pub(crate) config: Config,
     pub(crate) cpu: u32,
     pub(crate) side: Side<ByteBuffer>,
-    pub(crate) in_hand: Option<Batch>,
+    pub(crate) held_back: Option<Batch>,
 }

@@ -6,8 +6,8 @@ ghost use Rattle.dspec_play.specs.OwnClose.{own_closed};
 ghost use Rattle.dspec_ring.specs.declared.batch.Batch.{Batch};
 ghost use Rattle.dspec_table.specs.Last.{last_words};
 ghost use Rattle.dspec_table.specs.Showing.{Shows};
-ghost use Rattle.dspec_cpu.specs.Lists.{IsSteady, config_of, end_of, in_hand_of, number_in, schema_of, seat_of, worn_of};
-ghost use Rattle.dspec_cpu.specs.Rests.{AreItsWords, IsLegalPart, IsSameRest, config_of_rest, in_hand_of_rest, last_batch, number_of_rest, schema_of_rest, worn_of_rest};
+ghost use Rattle.dspec_cpu.specs.Lists.{IsSteady, config_of, end_of, held_back_of, number_in, schema_of, seat_of, worn_of};
+ghost use Rattle.dspec_cpu.specs.Rests.{AreItsWords, IsLegalPart, IsSameRest, config_of_rest, held_back_of_rest, last_batch, number_of_rest, schema_of_rest, worn_of_rest};
 ghost use Rattle.dspec_cpu.specs.Sealed.{AreSealed, IsSealed, waiting};
 ghost use Rattle.dspec_cpu.specs.Settled.{IsPartOf};
 
@@ -30,7 +30,7 @@ impl<S: Schema> Cpu<S> {
         ensures seat { result.0 ≡ seat_of self }
         ensures end { result.1 ≡ end_of self }
         ensures same { (schema_of_rest result.2 ≡ schema_of self) × (config_of_rest result.2 ≡ config_of self) × (number_of_rest result.2 ≡ number_in self) }
-        ensures rest { (in_hand_of_rest result.2 ≡ in_hand_of self) × (worn_of_rest result.2 ≡ worn_of self) }
+        ensures rest { (held_back_of_rest result.2 ≡ held_back_of self) × (worn_of_rest result.2 ≡ worn_of self) }
         ensures list { (p : List Deed) → ⟦<Cpu<S> as Listed>⟧.is_shown self p → ⟦<CpuRest<S> as Rested>⟧.has_list result.2 (end_of self).handed p }
     {
         let CpuParts {
@@ -41,14 +41,14 @@ impl<S: Schema> Cpu<S> {
             end,
             side,
             spare: _,
-            in_hand,
+            held_back,
         } = self.parts;
         let rest = CpuRest {
             schema,
             config,
             cpu,
             side,
-            in_hand,
+            held_back,
         };
         (seat, end, rest)
     }
@@ -84,7 +84,7 @@ impl<S: Schema> CpuRest<S> {
 
     /// The batch whose hand-over was refused, if there is one, and the batch that was growing last.
     pub fn batches(self) -> (Option<Batch>, Batch)
-        ensures rest { result.0 ≡ in_hand_of_rest self }
+        ensures rest { result.0 ≡ held_back_of_rest self }
         ensures last { result.1 ≡ last_batch self }
         ensures sealed { (handed : List Batch) (p : List Deed) → ⟦<CpuRest<S> as Rested>⟧.has_list self handed p
             → AreSealed (S.shape_of (schema_of_rest self)) (S.accepted (schema_of_rest self)) (S.text (schema_of_rest self)) (config_of_rest self) (number_of_rest self) p (waiting result.0 ++ reverse handed)
@@ -93,7 +93,7 @@ impl<S: Schema> CpuRest<S> {
         let CpuRest {
             cpu,
             side,
-            in_hand,
+            held_back,
             ..
         } = self;
         let Side { active, drops, .. } = side;
@@ -102,6 +102,6 @@ impl<S: Schema> CpuRest<S> {
             drops,
             buffer: active,
         };
-        (in_hand, last)
+        (held_back, last)
     }
 }

@@ -1,12 +1,11 @@
 ghost use Rattle.std.specs.Prelude.{◌≡◌, ◌≤◌, ◌^◌, false, if◌then◌else◌, Some};
 ghost use Rattle.dspec_deeds.specs.History.{scan};
 ghost use Rattle.dspec_table.specs.Seats.{known, IsAt, set_up, cpu_of};
-ghost use Rattle.dspec_word.specs.Code.{is_decided};
 ghost use Rattle.dspec_cpu.specs.Scans.{LookedAtSlot, Scanned};
 
 use dspec_deeds::{Config, CpuOp, Opening};
 use dspec_table::{CpuSeat, Doing, Words};
-use dspec_word::{Act, Code, SpecId, open_at};
+use dspec_word::{Act, SpecId, open_at};
 
 /// What became of one slot: its speculation was given out, or it was missed, decided or not.
 pub(crate) enum Look {
@@ -15,7 +14,7 @@ pub(crate) enum Look {
 }
 
 // A call of speculation in flight.
-fn asking() -> Doing
+fn opening_doing() -> Doing
     ensures { result ≡ record { op = CpuOp.Speculation; fits = false; count = 0; mine = false } }
 {
     Doing {
@@ -23,16 +22,6 @@ fn asking() -> Doing
         fits: false,
         count: 0,
         mine: false,
-    }
-}
-
-// Whether the speculation of the slot was committed or discarded, and the slot isn't released yet.
-fn decided(code: Code) -> bool
-    ensures { result ≡ is_decided code }
-{
-    match code {
-        Code::Committing | Code::CommittingMany | Code::Discarding => true,
-        Code::Inactive | Code::Active | Code::ActiveOne | Code::ActiveMany => false,
     }
 }
 
@@ -46,14 +35,14 @@ fn look_at(seat: &mut CpuSeat, words: &Words, slot: u32, max_issues: u64) -> Loo
     ensures seat { IsAt words.now seat.new × (cpu_of seat.new ≡ cpu_of seat.old) }
     ensures looked { LookedAtSlot (set_up words.now) (cpu_of seat.old) slot (known seat.old) result (known seat.new) }
 {
-    let doing = asking();
+    let doing = opening_doing();
     let word = seat.load_word(words, slot, &doing);
     let Act::Attempt(_) = open_at(word, max_issues) else {
-        return Look::Missed(decided(word.code()));
+        return Look::Missed(word.is_decided());
     };
     match seat.open_word(words, slot, word, &doing) {
         Ok(()) => Look::Given(SpecId::of(word.issue(), slot)),
-        Err(shown) => Look::Missed(decided(shown.code())),
+        Err(shown) => Look::Missed(shown.is_decided()),
     }
 }
 
@@ -77,7 +66,7 @@ pub(crate) fn scan_slots(seat: &mut CpuSeat, words: &Words, config: &Config) -> 
     ensures seat { IsAt words.now seat.new × (cpu_of seat.new ≡ cpu_of seat.old) }
     ensures scanned { Scanned (set_up words.now) (cpu_of seat.old) (known seat.old) result.0 result.1 (known seat.new) }
 {
-    if !seat.load_activity(words, &asking()) {
+    if !seat.load_activity(words, &opening_doing()) {
         return (Opening::Stopped, false);
     }
     let mut busy = false;

@@ -1,7 +1,7 @@
 ghost use Rattle.std.specs.Prelude.{◌≡◌, ◌≤◌, ◌+◌, ◌<◌, ◌^◌, ◌++◌, List, length, reverse};
 ghost use Rattle.dspec_deeds.specs.declared.deed.Deed.{Deed};
 ghost use Rattle.dspec_table.specs.Seats.{known};
-ghost use Rattle.dspec_cpu.specs.Lists.{IsSameCpu, batches_of, config_of, end_of, in_hand_of, number_in, seat_of, spare_count};
+ghost use Rattle.dspec_cpu.specs.Lists.{IsSameCpu, batches_of, config_of, end_of, held_back_of, number_in, seat_of, spare_count};
 ghost use Rattle.dspec_cpu.specs.Sealed.{waiting};
 ghost use Rattle.dspec_cpu.specs.Switching.{FindsSpare, HandsOn, Heeds, IsSameBeside, Switches, buffers_of, emptied, most_moves, with_seal};
 
@@ -16,16 +16,16 @@ use dspec_ring::{Batch, CpuEnd};
 use dspec_side::Side;
 use dspec_table::Words;
 
-// Hands on the batch in hand, by one push. It stays in hand where the ring refuses it.
-fn hand_on(end: &mut CpuEnd, in_hand: &mut Option<Batch>)
-    requires few { length (waiting in_hand.old ++ reverse end.old.handed) ≤ 2 ^ 62 }
-    ensures { HandsOn end.old in_hand.old end.new in_hand.new }
+// Hands on the batch held back, by one push. It stays held back where the ring refuses it.
+fn hand_on(end: &mut CpuEnd, held_back: &mut Option<Batch>)
+    requires few { length (waiting held_back.old ++ reverse end.old.handed) ≤ 2 ^ 62 }
+    ensures { HandsOn end.old held_back.old end.new held_back.new }
 {
-    let Some(batch) = in_hand.take() else {
+    let Some(batch) = held_back.take() else {
         return;
     };
     if let Err(back) = end.hand(batch) {
-        *in_hand = Some(back);
+        *held_back = Some(back);
     }
 }
 
@@ -63,7 +63,7 @@ fn seal<S: Schema>(cpu: u32, side: &mut Side<ByteBuffer>, mut spare: ByteBuffer)
 
 impl<S: Schema> CpuParts<S> {
     // Heeds an ask that was shown: where it is for a batch that isn't sealed yet, a Seal is left and there is a spare, the active
-    // buffer is sealed and handed on, and the spare is active. Never while a batch is in hand, which none may replace.
+    // buffer is sealed and handed on, and the spare is active. Never while a batch is held back, which none may replace.
     fn heed(&mut self, ask: u64) -> bool
         requires count { length (batches_of self.old) ≡ self.old.side.seals }
         requires most { self.old.config.max_calls ≤ 2 ^ 62 }
@@ -75,14 +75,14 @@ impl<S: Schema> CpuParts<S> {
             return false;
         }
         find_spare(&mut self.end, &mut self.spare, self.config.bufsize);
-        if self.in_hand.is_some() {
+        if self.held_back.is_some() {
             return false;
         }
         let Some(spare) = self.spare.take() else {
             return false;
         };
-        self.in_hand = Some(seal::<S>(self.cpu, &mut self.side, spare));
-        hand_on(&mut self.end, &mut self.in_hand);
+        self.held_back = Some(seal::<S>(self.cpu, &mut self.side, spare));
+        hand_on(&mut self.end, &mut self.held_back);
         true
     }
 
@@ -95,14 +95,14 @@ impl<S: Schema> CpuParts<S> {
         ensures same { IsSameCpu self.old self.new }
         ensures beside { IsSameBeside self.old self.new }
         ensures bounded { (known (seat_of self.new)).steps ≤ (known (seat_of self.old)).steps + 1 }
-        ensures moves { (end_of self.new).moves ≤ (end_of self.old).moves + most_moves (in_hand_of self.old) }
+        ensures moves { (end_of self.new).moves ≤ (end_of self.old).moves + most_moves (held_back_of self.old) }
         ensures switches { Switches (config_of self.old) (number_in self.old) (known (seat_of self.old)) (buffers_of self.old) result (known (seat_of self.new)) (buffers_of self.new) }
         ensures list { (p : List Deed) → ⟦<Cpu<S> as Listed>⟧.has_list self.old p → ⟦<Cpu<S> as Listed>⟧.has_list self.new (with_seal result (number_in self.old) p) }
     {
         if self.config.policy.is_fill() {
             return false;
         }
-        hand_on(&mut self.end, &mut self.in_hand);
+        hand_on(&mut self.end, &mut self.held_back);
         let ask = self.seat.load_ask(words, &serve(false, 0, false));
         self.heed(ask)
     }

@@ -3,7 +3,6 @@ ghost use Rattle.dspec_ring.specs.declared.batch.Batch.{Batch};
 ghost use Rattle.dspec_deeds.specs.declared.deed.Deed.{Deed};
 ghost use Rattle.dspec_deeds.specs.History.{word_at};
 ghost use Rattle.dspec_play.specs.OwnClose.{own_closed_slot};
-ghost use Rattle.dspec_word.specs.Code.{awaits};
 ghost use Rattle.dspec_table.specs.Last.{last_words};
 ghost use Rattle.dspec_table.specs.Seats.{known};
 ghost use Rattle.dspec_cpu.specs.Lists.{IsSameCpu, config_of, number_in, seat_of, worn_of};
@@ -21,7 +20,7 @@ use dspec_deeds::{Config, CpuOp};
 use dspec_record::Schema;
 use dspec_side::{Side, settled_as};
 use dspec_table::{Doing, LastWords, Words};
-use dspec_word::{Act, Code, SpecId, Word, settle_at};
+use dspec_word::{Act, SpecId, Word, settle_at};
 
 /// A call of service in flight, with a block of so many records.
 pub(crate) fn serve(fits: bool, count: u32, mine: bool) -> Doing
@@ -61,14 +60,6 @@ pub(crate) fn settle_block<S: Schema>(
     serve(fits, count, mine)
 }
 
-// Whether a slot with this code waits for the CPUs.
-#[inline]
-fn waits(code: Code) -> bool
-    ensures { result ≡ awaits code }
-{
-    matches!(code, Code::CommittingMany | Code::Discarding)
-}
-
 impl<S: Schema> CpuParts<S> {
     // One slot of a service: its word is loaded, and where it waits for this CPU too, its speculation is settled.
     fn settle_slot(&mut self, words: &Words, slot: u32) -> bool
@@ -83,7 +74,7 @@ impl<S: Schema> CpuParts<S> {
         let _calls = self.side.calls;
         let word = self.seat.load_word(words, slot, &serve(false, 0, false));
         // asked first by itself: where nobody waits, which is most often, the acknowledgement isn't looked at
-        if !waits(word.code()) {
+        if !word.is_decided() {
             return false;
         }
         match settle_at(word, self.side.acks[slot as usize - 1]) {

@@ -51,8 +51,8 @@ impl<S: Schema> CpuParts<S> {
             return Traced::Stopped;
         }
         // It answers as the test before the load did, which no running code asks any more.
-        let shut = self.side.is_shut(&self.config);
-        if !self.side.trace(&self.schema, rec, shut) {
+        let closed = self.side.is_closed(&self.config);
+        if !self.side.trace(&self.schema, rec, closed) {
             return Traced::Dropped;
         }
         Traced::Kept

@@ -16,7 +16,7 @@ use Rattle.dspec_deeds.specs.Own.{Offer, keeps, empties, held}
 use Rattle.dspec_deeds.specs.Legal.{IsSound}
 use Rattle.dspec_deeds.proofs.TestLemmas.{either_way, off, and_tells, and_false, or_none, or_tells, same_number, same_id_tells, has_joined}
 use Rattle.dspec_deeds.proofs.SoundLists.{unseen}
-use Rattle.dspec_deeds.proofs.PresentIds.{past_closed, decided_shut, later_unopened}
+use Rattle.dspec_deeds.proofs.PresentIds.{past_shut, decided_shut, later_unopened}
 use Rattle.dspec_deeds.proofs.WordChanges.{granted_open}
 use Rattle.dspec_deeds.proofs.Acked.{settled_decided}
 use Rattle.dspec_deeds.proofs.StayingOwn.{held_other}
@@ -184,7 +184,7 @@ release_empty k c s h lt sound = ⊎_elim
 pub past_empty : (k : Config) (c : ℕ) (id : Speculation) (h : List Deed) → c < k.cpus → IsSound k h → id.issue < issue id.slot h → held c id h ≡ []
 past_empty k c id [] lt s past = refl
 past_empty k c id (d ∷ h) lt s past = ⊎_elim
-    (λ (older : id.issue < issue id.slot h). shut_empty k c id d h s (past_closed k h id s.0 older) (past_empty k c id h lt s.0 older))
+    (λ (older : id.issue < issue id.slot h). shut_empty k c id d h s (past_shut k h id s.0 older) (past_empty k c id h lt s.0 older))
     (λ (now : (releases id.slot d ≡ true) × (id.issue ≡ issue id.slot h)). go d s now.0 now.1)
     (when (releases id.slot d) refl)
   where

@@ -12,6 +12,7 @@ pub mod StayingDecided
 pub mod Acked
 pub mod Debtless
 pub mod Awaiting
+pub mod Dropping
 pub mod Emptied
 pub mod SetUp
 pub mod Places

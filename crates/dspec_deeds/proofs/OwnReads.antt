@@ -11,11 +11,11 @@ use Rattle.dspec_deeds.specs.FateKinds.{decided_stopped, is_commit, is_discard, 
 use Rattle.dspec_deeds.specs.History.{same_actor, author, part, scanned, is_among, joined, calls_on, callers, settles, acks, issue_of}
 use Rattle.dspec_deeds.specs.Reports.{Spoken, total, one_if, accepts_now, drops_now, specdrops_now, loses_now, discards_now, voids_now}
 use Rattle.dspec_deeds.specs.Reports.{stops_now, adds_now, speculative, missed_busy, fails_now, busy_fails, other_fails, report}
-use Rattle.dspec_deeds.specs.Own.{contents, one_if_record, offered_by, is_call, seals_now, keeps, empties, held, accepts, active, empty_batch, is_drop}
+use Rattle.dspec_deeds.specs.Own.{contents, one_if_record, offered_by, is_call, seals_now, keeps, empties, held, dropped_after, accepts, active, empty_batch, is_drop}
 use Rattle.dspec_record.specs.declared.field.Shape.{Shape}
 use Rattle.dspec_buffer.specs.Extent.{Piece, one, block, piece_fits}
 use Rattle.dspec_deeds.proofs.TestLemmas.{either_way, and_false, has_joined, other_number}
-use Rattle.dspec_deeds.proofs.StayingOwn.{scan_other, held_other, offers_other, calls_other, accepted_other, seals_other, active_other, growing_other}
+use Rattle.dspec_deeds.proofs.StayingOwn.{scan_other, held_other, dropped_other, offers_other, calls_other, accepted_other, seals_other, active_other, growing_other}
 use Rattle.dspec_deeds.proofs.StayingOwn.{batches_other, is_drop_other, full_other, has_other, settled_other, ack_other, missed_other}
 use Rattle.dspec_deeds.specs.Ranges.{is_fill}
 use Rattle.dspec_deeds.specs.Legal.{is_seal, is_empty, fits_principal}
@@ -37,6 +37,7 @@ nothing_apart k c = record {
   offering = refl;
   calling = refl;
   buffers = λ id. refl;
+  dropping = λ id. refl;
   taking = refl;
   closing = refl;
   called = λ id. refl;
@@ -78,6 +79,7 @@ module _ (k : Config) (c : ℕ) (d : Deed) (g h : List Deed) (e : ReadsApart k c
         offering = ap (λ n. n + one_if_record (offered_by c d)) e.offering;
         calling = ap (λ n. n + (if is_call c d then 1 else 0)) e.calling;
         buffers = λ id. kept id d;
+        dropping = λ id. ap (dropped_after c id d) (e.dropping id);
         taking = let enters = entered d in λ i. enters i ++ e.taking i;
         closing = ap (λ b. is_drop c d || b) e.closing;
         called = λ id. also_called c (calls_on id d) (callers id g) (callers id h) (e.called id);
@@ -244,6 +246,7 @@ apart_other k c d h other = record {
   offering = offers_other c d h other;
   calling = calls_other c d h other;
   buffers = λ id. held_other c id d h other;
+  dropping = λ id. dropped_other c id d h other;
   taking = accepted_other c d h other;
   closing = full_other c d h other;
   called = λ id. has_other c id d h other;
@@ -273,6 +276,7 @@ apart_seal k c a h =
       offering = r.offering;
       calling = r.calling;
       buffers = r.buffers;
+      dropping = r.dropping;
       taking = r.taking;
       closing = r.closing;
       called = r.called;
@@ -291,6 +295,7 @@ apart_back k c g h e = record {
   offering = sym e.offering;
   calling = sym e.calling;
   buffers = λ id. sym (e.buffers id);
+  dropping = λ id. sym (e.dropping id);
   taking = sym e.taking;
   closing = sym e.closing;
   called = λ id. sym (e.called id);
@@ -317,6 +322,7 @@ apart_through k c f g h to on = record {
   offering = to.offering ∙ on.offering;
   calling = to.calling ∙ on.calling;
   buffers = λ id. to.buffers id ∙ on.buffers id;
+  dropping = λ id. to.dropping id ∙ on.dropping id;
   taking = to.taking ∙ on.taking;
   closing = to.closing ∙ on.closing;
   called = λ id. to.called id ∙ on.called id;

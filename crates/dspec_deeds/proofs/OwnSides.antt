@@ -7,7 +7,7 @@ use Rattle.dspec_deeds.specs.declared.config.Policy.TheVariants.{Switch}
 use Rattle.dspec_deeds.specs.declared.calls.Actor.TheVariants.{Cpu}
 use Rattle.dspec_deeds.specs.declared.deed.Deed.{Deed}
 use Rattle.dspec_deeds.specs.History.{part, issue, present}
-use Rattle.dspec_deeds.specs.Own.{contents, held}
+use Rattle.dspec_deeds.specs.Own.{contents, dropped_in, held}
 use Rattle.dspec_deeds.specs.Legal.{IsSound}
 use Rattle.dspec_deeds.specs.Marks.{mark}
 use Rattle.dspec_deeds.specs.OwnShown.{last_called, own_side, TellsPresent}
@@ -26,6 +26,10 @@ some_config = record { cpus = 0; nspec = 0; bufsize = 0; specsize = 0; max_issue
 last_held : (k : Config) (c s : ℕ) (g h : List Deed) → ReadsApart k c g h → held c (last_called c s g) g ≡ held c (last_called c s h) h
 last_held k c s g h e = ap (λ (m : ℕ). held c record { issue = m - 1; slot = s } g) (e.marking s) ∙ e.buffers (last_called c s h)
 
+-- and dropped the same of it
+last_dropped : (k : Config) (c s : ℕ) (g h : List Deed) → ReadsApart k c g h → dropped_in c (last_called c s g) g ≡ dropped_in c (last_called c s h) h
+last_dropped k c s g h e = ap (λ (m : ℕ). dropped_in c record { issue = m - 1; slot = s } g) (e.marking s) ∙ e.dropping (last_called c s h)
+
 -- what a CPU's side shows is the same off the CPU's own list and off the list of all
 pub side_part : (c : ℕ) (h : List Deed) → own_side c (part (Cpu c) h) ≡ own_side c h
 side_part c h =
@@ -36,6 +40,7 @@ side_part c h =
       missed_busy = e.apart.missing i;
       acks = λ s. e.apart.acks s i;
       marks = λ s. e.apart.marking s i;
+      specdrops = λ s. last_dropped some_config c s (part (Cpu c) h) h e.apart i;
       speculative = λ s. contents (last_held some_config c s (part (Cpu c) h) h e.apart i);
       active = e.principal i;
       drops = (e.filling i).drops;

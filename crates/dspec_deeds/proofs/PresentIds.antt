@@ -19,8 +19,8 @@ decided_shut id h e = go (opened id h) e
     go false e = refl
 
 -- what was not open stays so, where it is not given out
-closed_stays : (id : Speculation) (d : Deed) (h : List Deed) → opens id d ≡ false → is_open id h ≡ false → is_open id (d ∷ h) ≡ false
-closed_stays id d h not_given shut = rw not_given (go (opened id h) (verdict id h) (ruling id d) shut)
+stays_shut : (id : Speculation) (d : Deed) (h : List Deed) → opens id d ≡ false → is_open id h ≡ false → is_open id (d ∷ h) ≡ false
+stays_shut id d h not_given shut = rw not_given (go (opened id h) (verdict id h) (ruling id d) shut)
   where
     go : (o : Bool) (v r : Verdict) → (o && is_undecided v) ≡ false → (o && is_undecided (latest r v)) ≡ false
     go false v r e = refl
@@ -29,13 +29,13 @@ closed_stays id d h not_given shut = rw not_given (go (opened id h) (verdict id 
     go true v (discarded c) e = refl
 
 -- a speculation of an earlier issue is not open
-pub past_closed : (k : Config) (h : List Deed) (id : Speculation) → IsSound k h → id.issue < issue id.slot h → is_open id h ≡ false
-past_closed k [] id s past = absurd (omega arith)
-past_closed k (d ∷ h) id s past = ⊎_elim
-    (λ (t : releases id.slot d ≡ true). released d s (past_closed k h id s.0) t (subst (λ b. id.issue < (if b then suc (issue id.slot h) else issue id.slot h)) t past))
+pub past_shut : (k : Config) (h : List Deed) (id : Speculation) → IsSound k h → id.issue < issue id.slot h → is_open id h ≡ false
+past_shut k [] id s past = absurd (omega arith)
+past_shut k (d ∷ h) id s past = ⊎_elim
+    (λ (t : releases id.slot d ≡ true). released d s (past_shut k h id s.0) t (subst (λ b. id.issue < (if b then suc (issue id.slot h) else issue id.slot h)) t past))
     (λ (f : releases id.slot d ≡ false).
     let before : id.issue < issue id.slot h = subst (λ b. id.issue < (if b then suc (issue id.slot h) else issue id.slot h)) f past in
-    closed_stays id d h (not_given d s before) (past_closed k h id s.0 before))
+    stays_shut id d h (not_given d s before) (past_shut k h id s.0 before))
     (either_way (releases id.slot d))
   where
     not_given : (d : Deed) → IsSound k (d ∷ h) → id.issue < issue id.slot h → opens id d ≡ false
@@ -62,7 +62,7 @@ open_is_present k h id s other = ⊎_elim
     (λ (t : opened id h ≡ true).
     let le = opened_by_now k h id s t in
     let lt : id.issue < issue id.slot h = omega arith in
-    past_closed k h id s lt)
+    past_shut k h id s lt)
     (λ (f : opened id h ≡ false). rw f)
     (either_way (opened id h))
 

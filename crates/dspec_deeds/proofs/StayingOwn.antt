@@ -7,7 +7,7 @@ use Rattle.dspec_deeds.specs.declared.deed.Deed.{Deed}
 use Rattle.dspec_deeds.specs.declared.deed.Deed.TheVariants.{Trace, Scan, Opened, Miss, Speculate, Commit, Discard, Settle, Seal}
 use Rattle.dspec_deeds.specs.FateKinds.{trace_kept, trace_dropped, spoken_granted, spoken_kept, is_commit, is_discard, is_copied, is_lost}
 use Rattle.dspec_deeds.specs.History.{same_id, same_actor, author, scan, joined, callers, is_among, settled, late, halted, is_halt, ack, is_scan}
-use Rattle.dspec_deeds.specs.Own.{offers, calls, held, seals_now, seals, accepts, accepted, active, is_drop, full, growing, batches}
+use Rattle.dspec_deeds.specs.Own.{offers, calls, held, dropped_in, seals_now, seals, accepts, accepted, active, is_drop, full, growing, batches}
 use Rattle.dspec_deeds.specs.Reports.{missed_busy}
 use Rattle.dspec_deeds.proofs.TestLemmas.{and_false, has_joined}
 
@@ -66,6 +66,11 @@ held_other c id (Commit a j f) h e = rw e (if_and_false (is_commit f) [] (held c
 held_other c id (Discard a j f) h e = rw e (if_and_false (is_discard f) [] (held c id h))
 held_other c id (Settle a j f) h e = rw e refl
 held_other c id d h e = refl
+
+-- another's deed drops nothing from the CPU's speculative buffers
+pub dropped_other : (c : ℕ) (id : Speculation) (d : Deed) (h : List Deed) → same_actor (Cpu c) (author d h) ≡ false → dropped_in c id (d ∷ h) ≡ dropped_in c id h
+dropped_other c id (Speculate a j r f) h e = rw e (if_and_false (spoken_granted f) _ (dropped_in c id h))
+dropped_other c id d h e = refl
 
 -- another's deed offers no record of the CPU
 pub offers_other : (c : ℕ) (d : Deed) (h : List Deed) → same_actor (Cpu c) (author d h) ≡ false → offers c (d ∷ h) ≡ offers c h

@@ -5,7 +5,7 @@ use Rattle.dspec_buffer.specs.Extent.{Piece, one, block}
 use Rattle.dspec_word.specs.SpecId.{Speculation}
 use Rattle.dspec_deeds.specs.declared.deed.Deed.{Deed}
 use Rattle.dspec_deeds.specs.declared.deed.Deed.TheVariants.{Trace, Scan, Speculate, Commit, Discard, Settle, Seal}
-use Rattle.dspec_deeds.specs.FateKinds.{trace_kept, trace_dropped, spoken_kept, is_commit, is_discard, is_copied, is_lost}
+use Rattle.dspec_deeds.specs.FateKinds.{trace_kept, trace_dropped, spoken_granted, spoken_kept, spoken_dropped, is_commit, is_discard, is_copied, is_lost}
 use Rattle.dspec_deeds.specs.History.{same_id}
 
 -- an offered record; the CPU's number of it, counted from 0, tells equal records apart
@@ -65,6 +65,17 @@ held_after c id d h os = if empties c id d then [] else os
 abbrev pub held : ℕ → Speculation → List Deed → List Offer
 held c id [] = []
 held c id (d ∷ h) = held_after c id d h (held c id h)
+
+-- the records dropped from the CPU's buffer of the speculation since the CPU became a caller; none any more from where another
+-- issue of the slot was granted to it
+abbrev pub dropped_after : ℕ → Speculation → Deed → ℕ → ℕ
+dropped_after c id (Speculate a j r f) n =
+    if spoken_granted f && ((c == a) && (id.slot == j.slot)) then (if id.issue == j.issue then n + (if spoken_dropped f then 1 else 0) else 0) else n
+dropped_after c id d n = n
+
+abbrev pub dropped_in : ℕ → Speculation → List Deed → ℕ
+dropped_in c id [] = 0
+dropped_in c id (d ∷ h) = dropped_after c id d (dropped_in c id h)
 
 -- the records that a deed takes into the CPU's principal buffer
 abbrev pub accepts : ℕ → Deed → List Deed → List Offer

@@ -6,7 +6,7 @@ use Rattle.dspec_word.specs.SpecId.{Speculation}
 use Rattle.dspec_deeds.specs.declared.config.Config.{Config}
 use Rattle.dspec_deeds.specs.declared.deed.Deed.{Deed}
 use Rattle.dspec_deeds.specs.History.{is_among, callers, issue, present, ack}
-use Rattle.dspec_deeds.specs.Own.{Batch, active, batches, calls, contents, growing, held, seals, stream}
+use Rattle.dspec_deeds.specs.Own.{Batch, active, batches, calls, contents, dropped_in, growing, held, seals, stream}
 use Rattle.dspec_deeds.specs.Reports.{missed_busy}
 use Rattle.dspec_deeds.specs.Marks.{mark}
 
@@ -14,14 +14,16 @@ use Rattle.dspec_deeds.specs.Marks.{mark}
 abbrev pub last_called : ℕ → ℕ → List Deed → Speculation
 last_called c s p = record { issue = mark c s p - 1; slot = s }
 
--- what a CPU's side is to show: numbers, of each slot the acknowledgement, the mark and the records in the speculative
--- buffer, the pieces in the active principal buffer and the drops since the last Seal, what was accepted, and the batches
+-- what a CPU's side is to show: numbers, of each slot the acknowledgement, the mark, the records in the speculative buffer and
+-- how many were dropped from it, the pieces in the active principal buffer and the drops since the last Seal, what was accepted,
+-- and the batches
 pub record OwnSide : Type 0 where
   pub calls : ℕ
   pub seals : ℕ
   pub missed_busy : Bool
   pub acks : ℕ → ℕ
   pub marks : ℕ → ℕ
+  pub specdrops : ℕ → ℕ
   pub speculative : ℕ → List Record
   pub active : List Piece
   pub drops : ℕ
@@ -35,6 +37,7 @@ own_side c p = record {
   missed_busy = missed_busy c p;
   acks = λ s. ack c s p;
   marks = λ s. mark c s p;
+  specdrops = λ s. dropped_in c (last_called c s p) p;
   speculative = λ s. contents (held c (last_called c s p) p);
   active = active c p;
   drops = (growing c p).drops;
@@ -42,13 +45,14 @@ own_side c p = record {
   batches = batches c p;
 }
 
--- the numbers and the buffers of a CPU's side; the acknowledgement, mark and buffer of slot s stand at place s - 1
+-- the numbers and the buffers of a CPU's side; the acknowledgement, mark, buffer and drops of slot s stand at place s - 1
 pub record SideParts (B : Type 0) : Type 0 where
   pub calls : ℕ
   pub seals : ℕ
   pub missed_busy : Bool
   pub acks : List ℕ
   pub marks : List ℕ
+  pub specdrops : List ℕ
   pub speculative : List B
   pub active : B
   pub drops : ℕ
@@ -68,6 +72,8 @@ module _ {B : Type 0} (HasPieces : ℕ → List Piece → B → Type 0) (k : Con
     pub acks : (s : ℕ) → 1 ≤ s → s ≤ k.nspec → slice_get side.acks (s - 1) ≡ Some (x.acks s)
     pub mark_count : length side.marks ≡ k.nspec
     pub marks : (s : ℕ) → 1 ≤ s → s ≤ k.nspec → slice_get side.marks (s - 1) ≡ Some (x.marks s)
+    pub specdrop_count : length side.specdrops ≡ k.nspec
+    pub specdrops : (s : ℕ) → 1 ≤ s → s ≤ k.nspec → slice_get side.specdrops (s - 1) ≡ Some (x.specdrops s)
     pub buffer_count : length side.speculative ≡ k.nspec
     pub speculative : ShowsSlots x.speculative side.speculative
     pub principal : HasPieces k.bufsize x.active side.active

@@ -6,7 +6,7 @@ use Rattle.dspec_deeds.specs.declared.config.Config.{Config}
 use Rattle.dspec_deeds.specs.declared.deed.Deed.{Deed}
 use Rattle.dspec_deeds.specs.declared.deed.Deed.TheVariants.{Trace, Scan, Opened, Miss, Speculate, Commit, Discard, Settle, Seal, Release, Halt}
 use Rattle.dspec_deeds.specs.History.{is_among, callers, settled, ack, scan}
-use Rattle.dspec_deeds.specs.Own.{offers, held, accepted, active, full, growing, batches, seals, calls}
+use Rattle.dspec_deeds.specs.Own.{offers, held, dropped_in, accepted, active, full, growing, batches, seals, calls}
 use Rattle.dspec_deeds.specs.Marks.{mark}
 use Rattle.dspec_deeds.specs.Reports.{missed_busy, speculative, report}
 use Rattle.dspec_deeds.specs.Legal.{OwnAllows, sealed_last}
@@ -42,6 +42,7 @@ pub record ReadsApart (k : Config) (c : ℕ) (g h : List Deed) : Type 0 where
   pub offering : offers c g ≡ offers c h
   pub calling : calls c g ≡ calls c h
   pub buffers : (id : Speculation) → held c id g ≡ held c id h
+  pub dropping : (id : Speculation) → dropped_in c id g ≡ dropped_in c id h
   pub taking : accepted c g ≡ accepted c h
   pub closing : full c g ≡ full c h
   pub called : (id : Speculation) → is_among c (callers id g) ≡ is_among c (callers id h)

@@ -132,6 +132,11 @@ fn numbers(rt: HostRuntime) {
     same(&rt, Word::of(1, Code::Inactive).issue(), 1);
     same(&rt, Word::of(1, Code::Inactive).code(), Code::Inactive);
     assert!(rt; Word::of(0, Code::Discarding) < Word::of(1, Code::Inactive));
+    assert!(rt; Word::of(3, Code::ActiveOne).is_at(3, Code::ActiveOne));
+    assert!(rt; !Word::of(3, Code::ActiveOne).is_at(3, Code::ActiveMany));
+    assert!(rt; !Word::of(3, Code::ActiveOne).is_at(4, Code::ActiveOne));
+    assert!(rt; Word::of(3, Code::Committing).is_decided());
+    assert!(rt; !Word::of(3, Code::ActiveMany).is_decided());
 
     same(&rt, SpecId::of(0, 1).raw(), 1);
     same(&rt, SpecId::of(1, 1).raw(), 65);

@@ -1,5 +1,5 @@
 use crate::checking::check;
-use crate::flaws::{Flaw, Halt};
+use crate::flaws::{CheckFault, Flaw};
 use crate::logging::Log;
 use crate::made::healthy;
 use crate::records::record_of;
@@ -187,7 +187,7 @@ pub fn found(alloc: Global, damage: Damage) -> Result<Option<Flaw>, AllocError> 
     damage_numbers(alloc, &mut story, damage);
     match check(alloc, &story, &mut Sums::default()) {
         Ok(()) => Ok(None),
-        Err(Halt::Found(flaw)) => Ok(Some(flaw)),
-        Err(Halt::Memory) => Err(AllocError),
+        Err(CheckFault::Found(flaw)) => Ok(Some(flaw)),
+        Err(CheckFault::Memory) => Err(AllocError),
     }
 }

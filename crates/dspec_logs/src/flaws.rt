@@ -189,28 +189,28 @@ impl fmt::Display for Flaw {
 
 /// Why a check ends early.
 #[derive(Clone, Copy, Debug, PartialEq, Eq)]
-pub enum Halt {
+pub enum CheckFault {
     Memory,
     Found(Flaw),
 }
 
 /// What a check answers.
-pub type Checked<T> = Result<T, Halt>;
+pub type Checked<T> = Result<T, CheckFault>;
 
-impl From<AllocError> for Halt {
+impl From<AllocError> for CheckFault {
     fn from(_refused: AllocError) -> Self {
-        Halt::Memory
+        CheckFault::Memory
     }
 }
 
-impl<T: Drop> From<AllocFailed<T>> for Halt {
+impl<T: Drop> From<AllocFailed<T>> for CheckFault {
     fn from(_refused: AllocFailed<T>) -> Self {
-        Halt::Memory
+        CheckFault::Memory
     }
 }
 
-impl From<Flaw> for Halt {
+impl From<Flaw> for CheckFault {
     fn from(flaw: Flaw) -> Self {
-        Halt::Found(flaw)
+        CheckFault::Found(flaw)
     }
 }

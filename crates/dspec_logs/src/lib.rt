@@ -20,7 +20,7 @@ mod sums;
 pub use answers::identifier_in;
 pub use checking::check;
 pub use damages::{DAMAGES, Damage, found};
-pub use flaws::{Checked, Flaw, Halt, Kind, Number};
+pub use flaws::{CheckFault, Checked, Flaw, Kind, Number};
 pub use logging::{Called, Log};
 pub use records::{KINDS, enable, record_of};
 pub use stories::{Part, Story, Stream};

@@ -6,7 +6,7 @@ use Rattle.dspec_deeds.specs.declared.deed.Deed.{Deed}
 use Rattle.dspec_machine.specs.declared.machine.Machine.{Machine}
 use Rattle.dspec_deeds.specs.declared.report.Report.{Report}
 use Rattle.dspec_deeds.specs.Closes.{numbers_below, streams, reports}
-use Rattle.dspec_play.specs.Coherent.{PlayState, the_caller}
+use Rattle.dspec_play.specs.Coherent.{PlayState, progress_of}
 use Rattle.dspec_machine.specs.Machines.{history, state_of}
 use Rattle.dspec_deeds.specs.Own.{stream}
 use Rattle.dspec_deeds.specs.Reports.{report}
@@ -22,8 +22,8 @@ pub streams_there : {S B : Type 0} (m n : Machine S B) (g : List Deed) (xs : Lis
 streams_there m n g xs c state is all = is ∙ (ap (λ a. map (λ a. stream a (history n)) (numbers_below a)) all ∙ ap (λ (st : PlayState). streams st.config st.deeds) state)
 
 pub reports_there : {S B : Type 0} (m n : Machine S B) (g : List Deed) (xs : List Report) (c : ℕ) → state_of n ≡ record (state_of m) { deeds = g }
-    → xs ≡ map (λ a. report n.config a (the_caller (state_of n).callers a).worn (history n)) (numbers_below c) → c ≡ n.config.cpus
-    → xs ≡ reports m.config (λ a. (the_caller (state_of m).callers a).worn) g
+    → xs ≡ map (λ a. report n.config a (progress_of (state_of n).progresses a).worn (history n)) (numbers_below c) → c ≡ n.config.cpus
+    → xs ≡ reports m.config (λ a. (progress_of (state_of m).progresses a).worn) g
 reports_there m n g xs c state is all =
-    is ∙ (ap (λ b. map (λ a. report n.config a (the_caller (state_of n).callers a).worn (history n)) (numbers_below b)) all
-    ∙ ap (λ (st : PlayState). reports st.config (λ a. (the_caller st.callers a).worn) st.deeds) state)
+    is ∙ (ap (λ b. map (λ a. report n.config a (progress_of (state_of n).progresses a).worn (history n)) (numbers_below b)) all
+    ∙ ap (λ (st : PlayState). reports st.config (λ a. (progress_of st.progresses a).worn) st.deeds) state)

@@ -14,14 +14,14 @@ use Rattle.dspec_deeds.specs.declared.config.Config.{Config}
 use Rattle.dspec_deeds.specs.declared.deed.DecideFate.{DecideFate}
 use Rattle.dspec_deeds.specs.declared.deed.DecideFate.TheVariants as decided
 use Rattle.dspec_deeds.specs.declared.deed.Deed.{Deed}
-use Rattle.dspec_play.specs.declared.flight.Caller.{Caller}
+use Rattle.dspec_play.specs.declared.flight.CpuProgress.{CpuProgress}
 use Rattle.dspec_machine.specs.declared.decision.Decision.{Decision}
 use Rattle.dspec_machine.specs.declared.decision.Decision.TheVariants.{Commit, Discard}
 use Rattle.dspec_deeds.specs.History.{author, is_among, callers, halted, in_range, issue, word_at}
 use Rattle.dspec_deeds.specs.Legal.{IsAllowed}
 use Rattle.dspec_deeds.specs.Settling.{commit_fate}
 use Rattle.dspec_deeds.specs.Told.{answer_of}
-use Rattle.dspec_play.specs.Coherent.{Expects, IsCoherent, OnItsWay, PlayState, StandsCpu, the_caller}
+use Rattle.dspec_play.specs.Coherent.{Expects, IsCoherent, OnItsWay, PlayState, StandsCpu, progress_of}
 use Rattle.dspec_play.specs.Play.{cpu_step, call_goes_on, ends, wears, is_worn, same_word, committed_by, discarded_by}
 use Rattle.dspec_machine.specs.Decisions.{act_of_decision, deed_of, decides, begun_of, load_of, try_of, shown_by}
 use Rattle.dspec_machine.specs.Shown.{ShowsWords}
@@ -73,7 +73,7 @@ pub act_reads : (d : Decision) (h : List Deed) (c : ℕ) (id : Speculation) (w :
 act_reads Commit h c id w mine is told = commit_reads h c id w mine is told
 act_reads Discard h c id w mine is told = discard_reads h c id w mine is told
 
-module _ (shape : ℕ → Option Shape) (k : Config) (c : ℕ) (h : List Deed) (me : Caller) (id : Speculation) where
+module _ (shape : ℕ → Option Shape) (k : Config) (c : ℕ) (h : List Deed) (me : CpuProgress) (id : Speculation) where
   -- the first step
   pub begins : (d : Decision) → cpu_step shape k c h me (begun_of d id)
       ≡ (if is_worn k c h then wears shape k c h me (answer.Decided decided_answer.Worn)
@@ -109,7 +109,7 @@ module _ (shape : ℕ → Option Shape) (k : Config) (c : ℕ) (h : List Deed) (
 
   -- the table attempts an exchange, which is next
   pub shown_next : (d : Decision) (v to : SlotState) (a : Option Answer) → v ≡ word_at id.slot h → act_of_decision d (word_at id.slot h) id (is_among c (callers id h)) ≡ Attempt to → a ≡ None
-      → record { caller = record me { flight = Some (try_of d id v); steps = me.steps + 1 }; deeds = []; answer = a } ≡ shown_by shape k c h me d id
+      → record { progress = record me { flight = Some (try_of d id v); steps = me.steps + 1 }; deeds = []; answer = a } ≡ shown_by shape k c h me d id
   shown_next Commit v to a is act none = commit_next shape k c h me id (word_at id.slot h) v to (commit_at (word_at id.slot h) id (is_among c (callers id h))) a is act none
   shown_next Discard v to a is act none = discard_next shape k c h me id (word_at id.slot h) v to (discard_at (word_at id.slot h) id (is_among c (callers id h))) a is act none
 
@@ -130,20 +130,20 @@ module _ (shape : ℕ → Option Shape) (k : Config) (c : ℕ) (h : List Deed) (
 
 -- an exchange that is tried, in a coherent state, and the word that it is shown
 module _ (shape : ℕ → Option Shape) (st : PlayState) (coherent : IsCoherent shape st) (c : ℕ) (lt : c < st.config.cpus) (d : Decision) (id : Speculation) (from : SlotState)
-    (flies : (the_caller st.callers c).flight ≡ Some (try_of d id from)) where
+    (flies : (progress_of st.progresses c).flight ≡ Some (try_of d id from)) where
   -- it is about a slot of the session
   pub tried_slot : in_range st.config id ≡ true
-  tried_slot = (try_stands shape st.config c st.deeds (the_caller st.callers c) id d from (flight_stands shape st coherent c lt (try_of d id from) flies)).0.in_range
+  tried_slot = (try_stands shape st.config c st.deeds (progress_of st.progresses c) id d from (flight_stands shape st coherent c lt (try_of d id from) flies)).0.in_range
 
   module _ (w : SlotState) (test : Bool) (is : w ≡ word_at id.slot st.deeds) (tests : test ≡ not (word_number w == word_number from)) where
     -- where the word is another one
-    pub fails : test ≡ true → cpu_step shape st.config c st.deeds (the_caller st.callers c) (try_of d id from) ≡ shown_by shape st.config c st.deeds (the_caller st.callers c) d id
-    fails e = try_shows shape st.config c st.deeds (the_caller st.callers c) id d from (another (word_at id.slot st.deeds) w from test is tests e)
+    pub fails : test ≡ true → cpu_step shape st.config c st.deeds (progress_of st.progresses c) (try_of d id from) ≡ shown_by shape st.config c st.deeds (progress_of st.progresses c) d id
+    fails e = try_shows shape st.config c st.deeds (progress_of st.progresses c) id d from (another (word_at id.slot st.deeds) w from test is tests e)
 
     -- where it is the one that was expected, the table attempts
     pub attempts : (mine : Bool) → (id.issue ≡ issue id.slot st.deeds → mine ≡ is_among c (callers id st.deeds)) → test ≡ false → ((to : SlotState) → act_of_decision d w id mine ≢ Attempt to) → ⊥
     attempts mine told e none =
-        let expects = (try_stands shape st.config c st.deeds (the_caller st.callers c) id d from (flight_stands shape st coherent c lt (try_of d id from) flies)).1 in
+        let expects = (try_stands shape st.config c st.deeds (progress_of st.progresses c) id d from (flight_stands shape st coherent c lt (try_of d id from) flies)).1 in
         let now = ap (λ (x : SlotState). act_of_decision d x id (is_among c (callers id st.deeds)))
         (same_word_tells (word_at id.slot st.deeds) from (expected (word_at id.slot st.deeds) w from test is tests e)) in
         none expects.to (act_reads d st.deeds c id w mine is told ∙ (now ∙ expects.attempts))
@@ -154,31 +154,32 @@ module _ (shape : ℕ → Option Shape) (st : PlayState) (coherent : IsCoherent 
       acts x e = ap (λ y. act_of_decision y (word_at id.slot st.deeds) id (is_among c (callers id st.deeds))) (sym e) ∙ (sym (act_reads d st.deeds c id w mine is told) ∙ act)
 
       -- a commit: its step, that its deed is legal, the word that it leaves, and that the speculation is the present one
-      pub commit_is : d ≡ Commit → cpu_step shape st.config c st.deeds (the_caller st.callers c) (try_of d id from) ≡ committed_by shape st.config c st.deeds (the_caller st.callers c) id (Attempt to)
-      commit_is e = ap (λ x. cpu_step shape st.config c st.deeds (the_caller st.callers c) (try_of x id from)) e
-          ∙ try_commits shape st.config c st.deeds (the_caller st.callers c) id from to (expected (word_at id.slot st.deeds) w from test is tests same) (acts Commit e)
+      pub commit_is : d ≡ Commit
+          → cpu_step shape st.config c st.deeds (progress_of st.progresses c) (try_of d id from) ≡ committed_by shape st.config c st.deeds (progress_of st.progresses c) id (Attempt to)
+      commit_is e = ap (λ x. cpu_step shape st.config c st.deeds (progress_of st.progresses c) (try_of x id from)) e
+          ∙ try_commits shape st.config c st.deeds (progress_of st.progresses c) id from to (expected (word_at id.slot st.deeds) w from test is tests same) (acts Commit e)
 
       pub commit_legal : d ≡ Commit → IsAllowed shape st.config (deed_of Commit c id (commit_fate shape st.config c st.deeds id) ∷ st.deeds)
-      commit_legal e = subst (λ (ds : List Deed). IsAllowed shape st.config (ds ++ st.deeds)) (committed_deeds shape st.config c st.deeds (the_caller st.callers c) id (Attempt to))
+      commit_legal e = subst (λ (ds : List Deed). IsAllowed shape st.config (ds ++ st.deeds)) (committed_deeds shape st.config c st.deeds (progress_of st.progresses c) id (Attempt to))
           (step_legal shape st coherent c lt (try_of d id from) flies _ (commit_is e))
 
       pub commit_word : d ≡ Commit → to ≡ word_at id.slot (deed_of Commit c id (commit_fate shape st.config c st.deeds id) ∷ st.deeds)
-      commit_word e = commit_leaves shape st.config c st.deeds (the_caller st.callers c) id to coherent.legal.0 (acts Commit e) (commit_legal e).0
+      commit_word e = commit_leaves shape st.config c st.deeds (progress_of st.progresses c) id to coherent.legal.0 (acts Commit e) (commit_legal e).0
 
       pub commit_present : d ≡ Commit → id.issue ≡ issue id.slot st.deeds
       commit_present e = sym (commit_attempt st.config st.deeds id c to coherent.legal.0 (acts Commit e)).0
 
       -- and a discard
-      pub discard_is : d ≡ Discard → cpu_step shape st.config c st.deeds (the_caller st.callers c) (try_of d id from) ≡ discarded_by shape st.config c st.deeds
-          (the_caller st.callers c) id (Attempt to)
-      discard_is e = ap (λ x. cpu_step shape st.config c st.deeds (the_caller st.callers c) (try_of x id from)) e
-          ∙ try_discards shape st.config c st.deeds (the_caller st.callers c) id from to (expected (word_at id.slot st.deeds) w from test is tests same) (acts Discard e)
+      pub discard_is : d ≡ Discard → cpu_step shape st.config c st.deeds (progress_of st.progresses c) (try_of d id from) ≡ discarded_by shape st.config c st.deeds
+          (progress_of st.progresses c) id (Attempt to)
+      discard_is e = ap (λ x. cpu_step shape st.config c st.deeds (progress_of st.progresses c) (try_of x id from)) e
+          ∙ try_discards shape st.config c st.deeds (progress_of st.progresses c) id from to (expected (word_at id.slot st.deeds) w from test is tests same) (acts Discard e)
 
-      pub discard_legal : d ≡ Discard → IsAllowed shape st.config ((discarded_by shape st.config c st.deeds (the_caller st.callers c) id (Attempt to)).deeds ++ st.deeds)
+      pub discard_legal : d ≡ Discard → IsAllowed shape st.config ((discarded_by shape st.config c st.deeds (progress_of st.progresses c) id (Attempt to)).deeds ++ st.deeds)
       discard_legal e = step_legal shape st coherent c lt (try_of d id from) flies _ (discard_is e)
 
-      pub discard_word : d ≡ Discard → to ≡ word_at id.slot ((discarded_by shape st.config c st.deeds (the_caller st.callers c) id (Attempt to)).deeds ++ st.deeds)
-      discard_word e = discard_leaves shape st.config c st.deeds (the_caller st.callers c) id to coherent.legal.0 (acts Discard e) (discard_legal e).0
+      pub discard_word : d ≡ Discard → to ≡ word_at id.slot ((discarded_by shape st.config c st.deeds (progress_of st.progresses c) id (Attempt to)).deeds ++ st.deeds)
+      discard_word e = discard_leaves shape st.config c st.deeds (progress_of st.progresses c) id to coherent.legal.0 (acts Discard e) (discard_legal e).0
 
       pub discard_present : d ≡ Discard → id.issue ≡ issue id.slot st.deeds
       discard_present e = sym (discard_attempt st.config st.deeds id c to coherent.legal.0 (acts Discard e)).0

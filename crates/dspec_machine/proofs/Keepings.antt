@@ -5,13 +5,13 @@ use Rattle.dspec_record.specs.Record.{Record}
 use Rattle.dspec_buffer.specs.Extent.{Piece}
 use Rattle.dspec_deeds.specs.declared.calls.Answer.{Answer}
 use Rattle.dspec_deeds.specs.declared.calls.CpuOp.{CpuOp}
-use Rattle.dspec_play.specs.declared.flight.Caller.{Caller}
+use Rattle.dspec_play.specs.declared.flight.CpuProgress.{CpuProgress}
 use Rattle.dspec_play.specs.declared.flight.ConsumerFlight.{ConsumerFlight}
 use Rattle.dspec_play.specs.declared.flight.CpuFlight.{CpuFlight}
 use Rattle.dspec_play.specs.declared.flight.CpuFlight.TheVariants as flight
 use Rattle.dspec_machine.specs.declared.machine.Machine.{Machine}
 use Rattle.dspec_play.specs.Calls.{consumer_op_of, record_passes, is_about}
-use Rattle.dspec_play.specs.Coherent.{PlayState, IsCoherent, the_caller}
+use Rattle.dspec_play.specs.Coherent.{PlayState, IsCoherent, progress_of}
 use Rattle.dspec_machine.specs.Machines.{IsShownMachine, Makes, Cleans, history, state_of}
 use Rattle.dspec_play.specs.Play.{cpu_step, consumer_step}
 use Rattle.dspec_play.specs.Turns.{begin_cpu, moved_to, cleaned_to}
@@ -30,7 +30,7 @@ module _ {S B : Type 0} (has : B → S → List Piece → Type 0) (capacity : B 
   -- what is kept of a play's state
   pub record KeepsState (schema : S) (st : PlayState) : Type 0 where
     pub coherent : IsCoherent (shape_of schema) st
-    pub accepted_records : AllPass (IsFit schema) st.config.cpus st.callers
+    pub accepted_records : AllPass (IsFit schema) st.config.cpus st.progresses
     pub within : AllWithin st
     pub about : (f : ConsumerFlight) → st.side.flight ≡ Some f → is_about st.config (consumer_op_of f) ≡ true
 
@@ -44,43 +44,44 @@ module _ {S B : Type 0} (has : B → S → List Piece → Type 0) (capacity : B 
       record { shown = shown; coherent = here.coherent; accepted_records = here.accepted_records; within = here.within; about = here.about }
 
   -- a call of a CPU that begins
-  pub begin_keeps : (schema : S) (st : PlayState) (c : ℕ) (o : CpuOp) → c < st.config.cpus → (the_caller st.callers c).flight ≡ None
+  pub begin_keeps : (schema : S) (st : PlayState) (c : ℕ) (o : CpuOp) → c < st.config.cpus → (progress_of st.progresses c).flight ≡ None
       → record_passes (accepted schema) o ≡ true → KeepsState schema st → KeepsState schema (begin_cpu c o st)
   begin_keeps schema st c o lt idle passes was = record {
     coherent = begin_cpu_coherent (shape_of schema) st c o was.coherent lt idle;
-    accepted_records = set_passes (IsFit schema) st.config.cpus st.callers c _ was.coherent.count was.accepted_records (some_passes (IsFit schema) (flight.Begun o) passes);
-    within = put st.config.cpus (λ b (x : Caller). IsWithin st.config b st.deeds x.flight) st.callers c (record (the_caller st.callers c) { flight = Some (flight.Begun o); steps = 0 })
+    accepted_records = set_passes (IsFit schema) st.config.cpus st.progresses c _ was.coherent.count was.accepted_records (some_passes (IsFit schema) (flight.Begun o) passes);
+    within = put st.config.cpus (λ b (x : CpuProgress). IsWithin st.config b st.deeds x.flight) st.progresses c (record (progress_of st.progresses c) { flight = Some (flight.Begun o); steps = 0 })
         was.coherent.count (λ b less other. was.within b less) (λ less. subst (λ x. IsWithin st.config c st.deeds x) idle (was.within c less));
     about = was.about;
   }
 
   -- a step of a CPU
-  pub cpu_keeps : (schema : S) (st : PlayState) (c : ℕ) (f : CpuFlight) → c < st.config.cpus → (the_caller st.callers c).flight ≡ Some f → KeepsState schema st
-      → KeepsState schema (moved_to st c (cpu_step (shape_of schema) st.config c st.deeds (the_caller st.callers c) f)).state
+  pub cpu_keeps : (schema : S) (st : PlayState) (c : ℕ) (f : CpuFlight) → c < st.config.cpus → (progress_of st.progresses c).flight ≡ Some f → KeepsState schema st
+      → KeepsState schema (moved_to st c (cpu_step (shape_of schema) st.config c st.deeds (progress_of st.progresses c) f)).state
   cpu_keeps schema st c f lt is was = record {
     coherent = step_cpu_coherent (shape_of schema) st c (Some f) was.coherent lt is;
-    accepted_records = set_passes (IsFit schema) st.config.cpus st.callers c _ was.coherent.count was.accepted_records
-        (step_passes (IsFit schema) (shape_of schema) st.config c st.deeds (the_caller st.callers c) f (was.accepted_records c f lt is));
+    accepted_records = set_passes (IsFit schema) st.config.cpus st.progresses c _ was.coherent.count was.accepted_records
+        (step_passes (IsFit schema) (shape_of schema) st.config c st.deeds (progress_of st.progresses c) f (was.accepted_records c f lt is));
     within = cpu_within (shape_of schema) st was.coherent was.within c f lt is;
     about = was.about;
   }
 
   -- a step of the consumer
   pub consumer_keeps_state : (schema : S) (st : PlayState) (f : ConsumerFlight) → st.side.flight ≡ Some f → KeepsState schema st
-      → KeepsState schema (cleaned_to st (consumer_step st.config st.deeds st.side st.callers f)).state
+      → KeepsState schema (cleaned_to st (consumer_step st.config st.deeds st.side st.progresses f)).state
   consumer_keeps_state schema st f is was = record {
     coherent = step_consumer_coherent (shape_of schema) st (Some f) was.coherent is;
-    accepted_records = λ c g lt now. was.accepted_records c g lt (sym (flights_stay st.config st.deeds st.side st.callers was.coherent.count f c lt) ∙ now);
+    accepted_records = λ c g lt now. was.accepted_records c g lt (sym (flights_stay st.config st.deeds st.side st.progresses was.coherent.count f c lt) ∙ now);
     within = consumer_within (shape_of schema) st was.coherent was.within f is;
-    about = clean_goes (λ o. is_about st.config o ≡ true) st.config st.deeds st.side st.callers f (was.about f is);
+    about = clean_goes (λ o. is_about st.config o ≡ true) st.config st.deeds st.side st.progresses f (was.about f is);
   }
 
   -- a machine of which a step of a CPU is made
-  pub made_kept : (m n : Machine S B) (c : ℕ) (f : CpuFlight) (a : Option Answer) → IsKept has capacity shape_of accepted m → c < m.config.cpus → (the_caller (state_of m).callers c).flight ≡ Some f
-      → Makes has capacity m n c (cpu_step (shape_of m.schema) m.config c (history m) (the_caller (state_of m).callers c) f) a → IsKept has capacity shape_of accepted n
+  pub made_kept : (m n : Machine S B) (c : ℕ) (f : CpuFlight) (a : Option Answer) → IsKept has capacity shape_of accepted m → c < m.config.cpus
+      → (progress_of (state_of m).progresses c).flight ≡ Some f
+      → Makes has capacity m n c (cpu_step (shape_of m.schema) m.config c (history m) (progress_of (state_of m).progresses c) f) a → IsKept has capacity shape_of accepted n
   made_kept m n c f a was lt is made = kept_as n m.schema _ made.shown made.state made.schema (cpu_keeps m.schema (state_of m) c f lt is (state_kept m was))
 
   -- a machine of which a step of the consumer is made
   pub cleaned_kept : (m n : Machine S B) (f : ConsumerFlight) (a : Option Answer) → IsKept has capacity shape_of accepted m → m.consumer.flight ≡ Some f
-      → Cleans has capacity m n (consumer_step m.config (history m) m.consumer (state_of m).callers f) a → IsKept has capacity shape_of accepted n
+      → Cleans has capacity m n (consumer_step m.config (history m) m.consumer (state_of m).progresses f) a → IsKept has capacity shape_of accepted n
   cleaned_kept m n f a was is made = kept_as n m.schema _ made.shown made.state made.schema (consumer_keeps_state m.schema (state_of m) f is (state_kept m was))

@@ -26,7 +26,7 @@ use Rattle.dspec_side.specs.Counting.{counts_of, one_more_worn}
 use Rattle.dspec_side.specs.Sides.{IsFilledWith, ShowsList, parts_of_side}
 use Rattle.dspec_side.proofs.Quiet.{quiet_shown}
 use Rattle.dspec_side.proofs.Tallies.{released_counts}
-use Rattle.dspec_play.specs.declared.flight.Caller.{Caller}
+use Rattle.dspec_play.specs.declared.flight.CpuProgress.{CpuProgress}
 use Rattle.dspec_machine.specs.declared.cpu.Cpu.{Cpu}
 use Rattle.dspec_machine.specs.Shown.{HasRecords, ShowsCpu, first_or_empty}
 use Rattle.dspec_machine.proofs.Batches.{active_grows, batches_sealed}
@@ -110,7 +110,7 @@ module _ {S B : Type 0} (has : B → S → List Piece → Type 0) (capacity : B 
         few_worn = was.few_worn;
         second = subst (λ bs. HasRecords has capacity schema k.bufsize (contents (first_or_empty bs).offers) own.second) (sym sealed) was.second;
         accepted = accepts;
-        took = was.took ∙ ap (λ bs. batch_records (take own.caller.takes (reverse bs))) (sym sealed);
+        took = was.took ∙ ap (λ bs. batch_records (take own.progress.takes (reverse bs))) (sym sealed);
         sealed_drops = was.sealed_drops ∙ ap (λ bs. (first_or_empty bs).drops) (sym sealed);
       }
 
@@ -132,7 +132,7 @@ module _ {S B : Type 0} (has : B → S → List Piece → Type 0) (capacity : B 
     few_worn = was.few_worn;
     second = subst (λ bs. HasRecords has capacity schema k.bufsize (contents (first_or_empty bs).offers) own.second) (sym (batches_other c d h other)) was.second;
     accepted = was.accepted ∙ ap (λ os. reverse (contents os)) (sym (accepted_other c d h other));
-    took = was.took ∙ ap (λ bs. batch_records (take own.caller.takes (reverse bs))) (sym (batches_other c d h other));
+    took = was.took ∙ ap (λ bs. batch_records (take own.progress.takes (reverse bs))) (sym (batches_other c d h other));
     sealed_drops = was.sealed_drops ∙ ap (λ bs. (first_or_empty bs).drops) (sym (batches_other c d h other));
   }
 
@@ -164,7 +164,7 @@ module _ {S B : Type 0} (has : B → S → List Piece → Type 0) (capacity : B 
 
   -- a batch sealed, of whose CPU no more were taken than were sealed before
   pub sealing : (side : Side B) (b : B) (n : ℕ) → ShowsList (λ x. has x schema) capacity k c (Seal c ∷ h) side → side.counts.worn ≡ own.side.counts.worn → b ≡ own.side.active → n ≡ own.side.drops
-      → own.caller.takes ≤ seals c h → ShowsCpu has capacity schema k c (Seal c ∷ h) (record own { side = side; second = b; sealed_drops = n })
+      → own.progress.takes ≤ seals c h → ShowsCpu has capacity schema k c (Seal c ∷ h) (record own { side = side; second = b; sealed_drops = n })
   sealing side b n shows worn sealed drops takes = record {
     side = shows;
     worn = worn ∙ was.worn;
@@ -176,14 +176,14 @@ module _ {S B : Type 0} (has : B → S → List Piece → Type 0) (capacity : B 
     sealed_drops = rw (number_is_itself c) (drops ∙ was.side.parts.drops);
   }
     where
-      taken_before : take own.caller.takes (reverse (growing c h ∷ batches c h)) ≡ take own.caller.takes (reverse (batches c h))
+      taken_before : take own.progress.takes (reverse (growing c h ∷ batches c h)) ≡ take own.progress.takes (reverse (batches c h))
       taken_before =
           let count = length-reverse (batches c h) ∙ batches_sealed c h in
-          let within : own.caller.takes ≤ length (reverse (batches c h)) = omega arith in
-          ap (take own.caller.takes) (reverse-append (growing c h ∷ []) (batches c h)) ∙ take-append-le own.caller.takes (reverse (batches c h)) (growing c h ∷ []) within
+          let within : own.progress.takes ≤ length (reverse (batches c h)) = omega arith in
+          ap (take own.progress.takes) (reverse-append (growing c h ∷ []) (batches c h)) ∙ take-append-le own.progress.takes (reverse (batches c h)) (growing c h ∷ []) within
 
-  -- whatever its caller does next
-  pub calling : (me : Caller) → me.takes ≡ own.caller.takes → me.worn ≡ own.caller.worn → ShowsCpu has capacity schema k c h (record own { caller = me })
+  -- whatever its progress is next
+  pub calling : (me : CpuProgress) → me.takes ≡ own.progress.takes → me.worn ≡ own.progress.worn → ShowsCpu has capacity schema k c h (record own { progress = me })
   calling me takes worn = record {
     side = was.side;
     worn = was.worn ∙ sym worn;
@@ -195,8 +195,8 @@ module _ {S B : Type 0} (has : B → S → List Piece → Type 0) (capacity : B 
   }
 
   -- a batch more was taken
-  pub taking : (me : Caller) (rs : List Record) → rs ≡ batch_records (take me.takes (reverse (batches c h))) → me.worn ≡ own.caller.worn
-      → ShowsCpu has capacity schema k c h (record own { caller = me; taken = rs })
+  pub taking : (me : CpuProgress) (rs : List Record) → rs ≡ batch_records (take me.takes (reverse (batches c h))) → me.worn ≡ own.progress.worn
+      → ShowsCpu has capacity schema k c h (record own { progress = me; taken = rs })
   taking me rs took worn = record {
     side = was.side;
     worn = was.worn ∙ sym worn;
@@ -208,8 +208,8 @@ module _ {S B : Type 0} (has : B → S → List Piece → Type 0) (capacity : B 
   }
 
   -- a call more was worn
-  pub wearing : (counts : Counts) (me : Caller) → counts ≡ record own.side.counts { worn = one_more_worn own.side.counts.worn } → me.takes ≡ own.caller.takes → me.worn ≡ counts.worn
-      → ShowsCpu has capacity schema k c h (record own { caller = me; side = record own.side { counts = counts } })
+  pub wearing : (counts : Counts) (me : CpuProgress) → counts ≡ record own.side.counts { worn = one_more_worn own.side.counts.worn } → me.takes ≡ own.progress.takes → me.worn ≡ counts.worn
+      → ShowsCpu has capacity schema k c h (record own { progress = me; side = record own.side { counts = counts } })
   wearing counts me is takes worn =
       let n = one_more_worn own.side.counts.worn in
       let told : counts.worn ≡ n = ap (λ (x : Counts). x.worn) is in

@@ -15,7 +15,7 @@ use Rattle.dspec_deeds.specs.declared.deed.Deed.TheVariants.{Halt, Opened, Relea
 use Rattle.dspec_machine.specs.declared.machine.Machine.{Machine}
 use Rattle.dspec_machine.specs.declared.cpu.Cpu.{Cpu}
 use Rattle.dspec_deeds.specs.History.{halted, author, same_actor, word_at}
-use Rattle.dspec_play.specs.Coherent.{the_caller}
+use Rattle.dspec_play.specs.Coherent.{progress_of}
 use Rattle.dspec_machine.specs.Shown.{ShowsWords, ShowsCpu}
 use Rattle.dspec_machine.specs.Machines.{IsShownMachine, Adds, history}
 use Rattle.dspec_deeds.proofs.TestLemmas.{either_way, same_number, numbers_differ}
@@ -100,18 +100,18 @@ module _ {S B : Type 0} (has : B → S → List Piece → Type 0) (capacity : B 
 
 -- what a play knows of it
 pub adds_own : {S B : Type 0} (m : Machine S B) (ds : List Deed) (ws : Vec SlotState) (d : Deed) (c : ℕ) (own new : Cpu B) → reverse ds ≡ d ∷ history m → slice_get m.cpus.items c ≡ Some own
-    → new.caller ≡ own.caller → Adds (d ∷ []) m (record m { deeds = ds; words = ws; cpus = with_item m.cpus c new })
+    → new.progress ≡ own.progress → Adds (d ∷ []) m (record m { deeds = ds; words = ws; cpus = with_item m.cpus c new })
 adds_own {B = B} m ds ws d c own new is got same =
-    let callers = map_set (λ (x : Cpu B). x.caller) m.cpus.items c own new got same in
-    record { state = λ i. record { config = m.config; deeds = is i; callers = callers i; side = m.consumer }; schema = refl }
+    let progresses = map_set (λ (x : Cpu B). x.progress) m.cpus.items c own new got same in
+    record { state = λ i. record { config = m.config; deeds = is i; progresses = progresses i; side = m.consumer }; schema = refl }
 
 -- what a play knows of a machine with one deed more
 pub adds_one : {S B : Type 0} (m n : Machine S B) (d : Deed) → n.config ≡ m.config → n.schema ≡ m.schema → n.consumer ≡ m.consumer → history n ≡ d ∷ history m
-    → map (λ s. s.caller) n.cpus.items ≡ map (λ s. s.caller) m.cpus.items → Adds (d ∷ []) m n
-adds_one m n d config schema consumer deeds callers = record { state = λ i. record { config = config i; deeds = deeds i; callers = callers i; side = consumer i }; schema = schema }
+    → map (λ s. s.progress) n.cpus.items ≡ map (λ s. s.progress) m.cpus.items → Adds (d ∷ []) m n
+adds_one m n d config schema consumer deeds progresses = record { state = λ i. record { config = config i; deeds = deeds i; progresses = progresses i; side = consumer i }; schema = schema }
 
--- a play's caller is the one that is kept
-pub caller_there : {B : Type 0} (sides : List (Cpu B)) (c : ℕ) (side : Cpu B) → slice_get sides c ≡ Some side → the_caller (map (λ s. s.caller) sides) c ≡ side.caller
-caller_there [] c side got = absurd (cc (got))
-caller_there (s ∷ sides) zero side got = let is : s ≡ side = cc in ap (λ x. x.caller) is
-caller_there (s ∷ sides) (suc c) side got = caller_there sides c side got
+-- a CPU's progress in a play is the one that is kept
+pub progress_there : {B : Type 0} (sides : List (Cpu B)) (c : ℕ) (side : Cpu B) → slice_get sides c ≡ Some side → progress_of (map (λ s. s.progress) sides) c ≡ side.progress
+progress_there [] c side got = absurd (cc (got))
+progress_there (s ∷ sides) zero side got = let is : s ≡ side = cc in ap (λ x. x.progress) is
+progress_there (s ∷ sides) (suc c) side got = progress_there sides c side got

@@ -130,6 +130,9 @@ module _ {B : Type 0} (keeps : B → List Piece → Type 0) (capacity : B → �
   pub mark_there : (1 ≤ id.slot) × (id.slot ≤ length side.marks.items)
   mark_there = let count = was.parts.mark_count in let low = slot.0 in let high = slot.1 in (low, omega arith)
 
+  pub specdrop_there : (1 ≤ id.slot) × (id.slot ≤ length side.specdrops.items)
+  specdrop_there = let count = was.parts.specdrop_count in let low = slot.0 in let high = slot.1 in (low, omega arith)
+
   pub ack_there : (1 ≤ id.slot) × (id.slot ≤ length side.acks.items)
   ack_there = let count = was.parts.ack_count in let low = slot.0 in let high = slot.1 in (low, omega arith)
 

@@ -6,15 +6,15 @@ use Rattle.dspec_machine.specs.declared.machine.Machine.{Machine}
 use Rattle.dspec_play.specs.Coherent.{IsCoherent}
 use Rattle.dspec_machine.specs.Machines.{state_of}
 use Rattle.dspec_play.specs.Promised.{HasHeadline}
-use Rattle.dspec_machine.specs.Sessions.{Session}
-use Rattle.dspec_machine.specs.Worlds.{session_of}
+use Rattle.dspec_machine.specs.WorldViews.{WorldView}
+use Rattle.dspec_machine.specs.Worlds.{world_view}
 use Rattle.dspec_deeds.proofs.Headlines.{headline}
 
 -- a coherent machine's session has the headline
-pub promise_kept : {S B : Type 0} (shape_of : S → ℕ → Option Shape) (m : Machine S B) (w : Session S) → session_of m ≡ w → IsCoherent (shape_of m.schema) (state_of m)
+pub promise_kept : {S B : Type 0} (shape_of : S → ℕ → Option Shape) (m : Machine S B) (w : WorldView S) → world_view m ≡ w → IsCoherent (shape_of m.schema) (state_of m)
     → HasHeadline (shape_of w.schema) w.state
 promise_kept {S} {B} shape_of m w is ok =
-    subst (λ (v : Session S). HasHeadline (shape_of v.schema) v.state) is
+    subst (λ (v : WorldView S). HasHeadline (shape_of v.schema) v.state) is
     record { coherent = ok; headline = λ c. headline (shape_of m.schema) m.config c (state_of m).deeds ok.legal }
 
 -- what holds of a value holds behind a change that keeps it, or is refused and leaves the value

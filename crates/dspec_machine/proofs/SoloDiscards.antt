@@ -29,5 +29,5 @@ solo_words k c id f h words w slot is was =
 
 -- what a play knows of a machine with more deeds
 pub adds_all : {S B : Type 0} (m n : Machine S B) (ds : List Deed) → n.config ≡ m.config → n.schema ≡ m.schema → n.consumer ≡ m.consumer → history n ≡ ds ++ history m
-    → map (λ s. s.caller) n.cpus.items ≡ map (λ s. s.caller) m.cpus.items → Adds ds m n
-adds_all m n ds config schema consumer deeds callers = record { state = λ i. record { config = config i; deeds = deeds i; callers = callers i; side = consumer i }; schema = schema }
+    → map (λ s. s.progress) n.cpus.items ≡ map (λ s. s.progress) m.cpus.items → Adds ds m n
+adds_all m n ds config schema consumer deeds progresses = record { state = λ i. record { config = config i; deeds = deeds i; progresses = progresses i; side = consumer i }; schema = schema }

@@ -11,9 +11,9 @@ use Rattle.dspec_word.specs.Word.{SlotState}
 use Rattle.dspec_deeds.specs.declared.config.Config.{Config}
 use Rattle.dspec_machine.specs.declared.machine.Machine.{Machine}
 use Rattle.dspec_machine.specs.declared.cpu.Cpu.{Cpu}
-use Rattle.dspec_play.specs.Coherent.{the_caller, idle_caller}
+use Rattle.dspec_play.specs.Coherent.{progress_of, idle_progress}
 use Rattle.dspec_deeds.specs.Ranges.{start_fault}
-use Rattle.dspec_play.specs.Turns.{idle_callers, at_start}
+use Rattle.dspec_play.specs.Turns.{idle_cpus, at_start}
 use Rattle.dspec_machine.specs.Shown.{ShowsCpu}
 use Rattle.dspec_machine.specs.Machines.{IsShownMachine, history, state_of}
 use Rattle.dspec_machine.specs.Worlds.{IsWithin}
@@ -51,19 +51,19 @@ module _ {A : Type 0} (P : A → Type 0) where
       let there = slice_get-get_or xs i d (omega arith) in
       (get_or xs i d, there, made.each i (get_or xs i d) there)
 
--- the callers of so many CPUs that have made no call
-pub callers_idle : {B : Type 0} (n : ℕ) (cpus : List (Cpu B)) → length cpus ≡ n → ((i : ℕ) (own : Cpu B) → slice_get cpus i ≡ Some own → own.caller ≡ idle_caller)
-    → map (λ own. own.caller) cpus ≡ idle_callers n
-callers_idle zero [] count each = refl
-callers_idle zero (s ∷ cpus) count each = absurd (omega arith)
-callers_idle (suc n) [] count each = absurd (omega arith)
-callers_idle (suc n) (s ∷ cpus) count each =
+-- the progress of so many CPUs that have made no call
+pub progresses_idle : {B : Type 0} (n : ℕ) (cpus : List (Cpu B)) → length cpus ≡ n → ((i : ℕ) (own : Cpu B) → slice_get cpus i ≡ Some own → own.progress ≡ idle_progress)
+    → map (λ own. own.progress) cpus ≡ idle_cpus n
+progresses_idle zero [] count each = refl
+progresses_idle zero (s ∷ cpus) count each = absurd (omega arith)
+progresses_idle (suc n) [] count each = absurd (omega arith)
+progresses_idle (suc n) (s ∷ cpus) count each =
     let first = each 0 s refl in
-    let rest = callers_idle n cpus (omega arith) (λ i. each (suc i)) in
+    let rest = progresses_idle n cpus (omega arith) (λ i. each (suc i)) in
     cc
 
 -- no call is in flight before the first
-idle_flight : (n c : ℕ) → (the_caller (idle_callers n) c).flight ≡ None
+idle_flight : (n c : ℕ) → (progress_of (idle_cpus n) c).flight ≡ None
 idle_flight zero c = refl
 idle_flight (suc n) zero = refl
 idle_flight (suc n) (suc c) = idle_flight n c
@@ -74,7 +74,7 @@ module _ {S B : Type 0} (has : B → S → List Piece → Type 0) (capacity : B 
   start_keeps schema k fine = record {
     coherent = start_coherent (shape_of schema) k fine;
     accepted_records = λ c f lt e. absurd (let idle = idle_flight k.cpus c in cc);
-    within = λ c lt. let idle : (the_caller (idle_callers k.cpus) c).flight ≡ None = idle_flight k.cpus c in subst (λ x. IsWithin k c [] x) (sym idle) (omega arith);
+    within = λ c lt. let idle : (progress_of (idle_cpus k.cpus) c).flight ≡ None = idle_flight k.cpus c in subst (λ x. IsWithin k c [] x) (sym idle) (omega arith);
     about = λ f e. absurd (cc (e));
   }
 
@@ -85,7 +85,7 @@ IsFree w = w ≡ record { issue = 0; code = Inactive }
 module _ {S B : Type 0} (has : B → S → List Piece → Type 0) (capacity : B → ℕ) where
   -- what is kept of a CPU before the first deed
   abbrev pub HasBegun : Config → Cpu B → Type 0
-  HasBegun k own = ((schema : S) (c : ℕ) → ShowsCpu has capacity schema k c [] own) × (own.caller ≡ idle_caller)
+  HasBegun k own = ((schema : S) (c : ℕ) → ShowsCpu has capacity schema k c [] own) × (own.progress ≡ idle_progress)
 
   -- a machine before the first deed
   pub machine_at_start : (m : Machine S B) → m.deeds ≡ [] → m.halted ≡ false → Made IsFree m.config.nspec m.words.items → Made (HasBegun m.config) m.config.cpus m.cpus.items
@@ -106,5 +106,5 @@ module _ {S B : Type 0} (has : B → S → List Piece → Type 0) (capacity : B 
   pub state_at_start : (m : Machine S B) → m.deeds ≡ [] → m.consumer ≡ record { flight = None; steps = 0 } → Made (HasBegun m.config) m.config.cpus m.cpus.items → state_of m ≡ at_start m.config
   state_at_start m none idle cpus =
       let deeds : history m ≡ [] = ap reverse none in
-      let callers = callers_idle m.config.cpus m.cpus.items cpus.count (λ i own got. (cpus.each i own got).1) in
-      λ i. record { config = m.config; deeds = deeds i; callers = callers i; side = idle i }
+      let progresses = progresses_idle m.config.cpus m.cpus.items cpus.count (λ i own got. (cpus.each i own got).1) in
+      λ i. record { config = m.config; deeds = deeds i; progresses = progresses i; side = idle i }

@@ -17,12 +17,12 @@ use Rattle.dspec_deeds.specs.Own.{calls}
 use Rattle.dspec_deeds.proofs.Going.{AllBy}
 use Rattle.dspec_deeds.proofs.StayingOwn.{calls_other}
 use Rattle.dspec_deeds.proofs.TestLemmas.{either_way, same_number, numbers_differ, same_actor_tells}
-use Rattle.dspec_play.specs.declared.flight.Caller.{Caller}
+use Rattle.dspec_play.specs.declared.flight.CpuProgress.{CpuProgress}
 use Rattle.dspec_play.specs.declared.flight.CpuFlight.{CpuFlight}
 use Rattle.dspec_play.specs.declared.flight.CpuFlight.TheVariants as cpu
 use Rattle.dspec_play.specs.declared.flight.ConsumerFlight.{ConsumerFlight}
 use Rattle.dspec_play.specs.Calls.{op_of}
-use Rattle.dspec_play.specs.Coherent.{IsCoherent, PlayState, StandsSide, the_caller, idle_caller}
+use Rattle.dspec_play.specs.Coherent.{IsCoherent, PlayState, StandsSide, progress_of, idle_progress}
 use Rattle.dspec_play.specs.Play.{Moved, ConsumerStep, cpu_step, consumer_step}
 use Rattle.dspec_play.specs.Wearing.{is_counted, is_first, is_told_worn, enters_call}
 use Rattle.dspec_play.proofs.ConsumerSteps.{consumer_keeps}
@@ -121,8 +121,8 @@ room k c h (cpu.ServiceLoad s sum) a e was told few uncounted unworn = let none 
 room k c h (cpu.ServiceStore s w sum) a e was told few uncounted unworn = let none = uncounted refl in omega arith
 
 -- the CPU whose step it is
-step_within : (shape : ℕ → Option Shape) (k : Config) (c : ℕ) (h : List Deed) (me : Caller) (f : CpuFlight) → IsWithin k c h (Some f)
-    → IsWithin k c ((cpu_step shape k c h me f).deeds ++ h) (cpu_step shape k c h me f).caller.flight
+step_within : (shape : ℕ → Option Shape) (k : Config) (c : ℕ) (h : List Deed) (me : CpuProgress) (f : CpuFlight) → IsWithin k c h (Some f)
+    → IsWithin k c ((cpu_step shape k c h me f).deeds ++ h) (cpu_step shape k c h me f).progress.flight
 step_within shape k c h me f was =
     let m : Moved = cpu_step shape k c h me f in
     let wears = cpu_step_wears shape k c h me f in
@@ -130,7 +130,7 @@ step_within shape k c h me f was =
     ⊎_elim
     (λ (e : HasEnded m).
     let entered = room k c h f m.answer (enters (op.Cpu (op_of f)) m.answer) was wears.told (enters_one (op_of f) m.answer) (enters_never (op_of f) m.answer) (enters_unworn (op_of f) m.answer) in
-    let none : ahead m.caller.flight ≡ 0 = ap ahead e.idle in
+    let none : ahead m.progress.flight ≡ 0 = ap ahead e.idle in
     let left : calls c (m.deeds ++ h) + 0 ≤ k.max_calls = omega arith in
     subst (λ x. IsWithin k c (m.deeds ++ h) x) (sym e.idle) left)
     (λ (g : HasGoneOn k me _ m).
@@ -138,7 +138,7 @@ step_within shape k c h me f was =
     let spends = room k c h f m.answer (spent (Some g.next)) was wears.told (spent_once g.next)
     (λ e. spent_never g.next (ap (λ o. is_counted (op.Cpu o)) same ∙ e)) (λ e. absurd (cc (ap is_told_worn g.answers, e))) in
     let none : enters (op.Cpu (op_of f)) m.answer ≡ 0 = ap (enters (op.Cpu (op_of f))) g.answers in
-    let on : ahead m.caller.flight ≡ ahead (Some g.next) = ap ahead g.flight in
+    let on : ahead m.progress.flight ≡ ahead (Some g.next) = ap ahead g.flight in
     let left : calls c (m.deeds ++ h) + (if is_due (Some g.next) then 1 else 0) ≤ k.max_calls = omega arith in
     subst (λ x. IsWithin k c (m.deeds ++ h) x) (sym g.flight) left)
     (cpu_advances shape k c h me f)
@@ -151,34 +151,34 @@ calls_stay c w other (d ∷ ds) h by =
 
 -- every CPU is within the most calls that it may make
 abbrev pub AllWithin : PlayState → Type 0
-AllWithin st = (c : ℕ) → c < st.config.cpus → IsWithin st.config c st.deeds (the_caller st.callers c).flight
+AllWithin st = (c : ℕ) → c < st.config.cpus → IsWithin st.config c st.deeds (progress_of st.progresses c).flight
 
 module _ (shape : ℕ → Option Shape) (st : PlayState) (ok : IsCoherent shape st) (was : AllWithin st) where
   -- a step of a CPU
-  pub cpu_within : (c : ℕ) (f : CpuFlight) → c < st.config.cpus → (the_caller st.callers c).flight ≡ Some f
+  pub cpu_within : (c : ℕ) (f : CpuFlight) → c < st.config.cpus → (progress_of st.progresses c).flight ≡ Some f
       → AllWithin (record st {
-        deeds = (cpu_step shape st.config c st.deeds (the_caller st.callers c) f).deeds ++ st.deeds;
-        callers = set st.callers c (cpu_step shape st.config c st.deeds (the_caller st.callers c) f).caller;
+        deeds = (cpu_step shape st.config c st.deeds (progress_of st.progresses c) f).deeds ++ st.deeds;
+        progresses = set st.progresses c (cpu_step shape st.config c st.deeds (progress_of st.progresses c) f).progress;
       })
   cpu_within c f lt is =
-      let me : Caller = the_caller st.callers c in
+      let me : CpuProgress = progress_of st.progresses c in
       let m : Moved = cpu_step shape st.config c st.deeds me f in
       let did = cpu_step_stands shape st.config c st.deeds me ok.ranges ok.legal ok.rests (ok.stands c lt) f is in
-      put st.config.cpus (λ b (x : Caller). IsWithin st.config b (m.deeds ++ st.deeds) x.flight) st.callers c m.caller ok.count
-      (λ b less other. subst (λ n. n + (if is_due (the_caller st.callers b).flight then 1 else 0) ≤ st.config.max_calls)
+      put st.config.cpus (λ b (x : CpuProgress). IsWithin st.config b (m.deeds ++ st.deeds) x.flight) st.progresses c m.progress ok.count
+      (λ b less other. subst (λ n. n + (if is_due (progress_of st.progresses b).flight then 1 else 0) ≤ st.config.max_calls)
       (sym (calls_stay b (actor.Cpu c) other m.deeds st.deeds did.goes.by)) (was b less))
       (λ less. step_within shape st.config c st.deeds me f (subst (λ x. IsWithin st.config c st.deeds x) is (was c less)))
 
   -- a step of the consumer
   pub consumer_within : (f : ConsumerFlight) → st.side.flight ≡ Some f
       → AllWithin (record st {
-        deeds = (consumer_step st.config st.deeds st.side st.callers f).deeds ++ st.deeds;
-        callers = (consumer_step st.config st.deeds st.side st.callers f).callers;
-        side = (consumer_step st.config st.deeds st.side st.callers f).side;
+        deeds = (consumer_step st.config st.deeds st.side st.progresses f).deeds ++ st.deeds;
+        progresses = (consumer_step st.config st.deeds st.side st.progresses f).progresses;
+        side = (consumer_step st.config st.deeds st.side st.progresses f).side;
       })
   consumer_within f is =
-      let m : ConsumerStep = consumer_step st.config st.deeds st.side st.callers f in
-      let did = consumer_keeps shape st.config st.deeds st.side st.callers ok.ranges ok.legal ok.rests ok.count ok.stands f (subst (StandsSide st.config st.deeds st.side) is ok.side) in
+      let m : ConsumerStep = consumer_step st.config st.deeds st.side st.progresses f in
+      let did = consumer_keeps shape st.config st.deeds st.side st.progresses ok.ranges ok.legal ok.rests ok.count ok.stands f (subst (StandsSide st.config st.deeds st.side) is ok.side) in
       λ b less. subst (λ (x : ℕ × Option CpuFlight). x.0 + (if is_due x.1 then 1 else 0) ≤ st.config.max_calls)
-      (λ i. (sym (calls_stay b actor.Consumer refl m.deeds st.deeds did.goes.by) i, sym (flights_stay st.config st.deeds st.side st.callers ok.count f b less) i))
+      (λ i. (sym (calls_stay b actor.Consumer refl m.deeds st.deeds did.goes.by) i, sym (flights_stay st.config st.deeds st.side st.progresses ok.count f b less) i))
       (was b less)

@@ -10,7 +10,7 @@ use Rattle.dspec_deeds.specs.declared.config.Config.{Config}
 use Rattle.dspec_deeds.specs.declared.deed.DecideFate.{DecideFate}
 use Rattle.dspec_deeds.specs.declared.deed.Deed.{Deed}
 use Rattle.dspec_deeds.specs.declared.deed.Deed.TheVariants as deed
-use Rattle.dspec_play.specs.declared.flight.Caller.{Caller}
+use Rattle.dspec_play.specs.declared.flight.CpuProgress.{CpuProgress}
 use Rattle.dspec_play.specs.declared.flight.CpuFlight.{CpuFlight}
 use Rattle.dspec_play.specs.declared.flight.CpuFlight.TheVariants as flight
 use Rattle.dspec_machine.specs.declared.decision.Decision.{Decision}
@@ -48,6 +48,6 @@ try_of Commit id from = flight.CommitTry id from
 try_of Discard id from = flight.DiscardTry id from
 
 -- what the word of the slot makes of the call, where it isn't the one that was expected
-abbrev pub shown_by : (ℕ → Option Shape) → Config → ℕ → List Deed → Caller → Decision → Speculation → Moved
+abbrev pub shown_by : (ℕ → Option Shape) → Config → ℕ → List Deed → CpuProgress → Decision → Speculation → Moved
 shown_by shape k c h me Commit id = shown_commit shape k c h me id (word_at id.slot h) (commit_at (word_at id.slot h) id (is_among c (callers id h)))
 shown_by shape k c h me Discard id = shown_discard shape k c h me id (word_at id.slot h) (discard_at (word_at id.slot h) id (is_among c (callers id h)))

@@ -3,5 +3,5 @@ pub mod Machines
 pub mod Decisions
 pub mod Standing
 pub mod Steps
-pub mod Sessions
+pub mod WorldViews
 pub mod Worlds

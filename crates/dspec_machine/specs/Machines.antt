@@ -17,7 +17,7 @@ history m = reverse m.deeds
 
 -- what a play knows of a machine
 abbrev pub state_of : {S B : Type 0} → Machine S B → PlayState
-state_of m = record { config = m.config; deeds = history m; callers = map (λ own. own.caller) m.cpus.items; side = m.consumer }
+state_of m = record { config = m.config; deeds = history m; progresses = map (λ own. own.progress) m.cpus.items; side = m.consumer }
 
 module _ {S B : Type 0} (has : B → S → List Piece → Type 0) (capacity : B → ℕ) where
   pub record IsShownMachine (m : Machine S B) : Type 0 where

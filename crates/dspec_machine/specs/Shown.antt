@@ -36,9 +36,9 @@ module _ {S B : Type 0} (has : B → S → List Piece → Type 0) (capacity : B 
   -- records of the batch sealed last; and what the CPU has accepted, what was taken of it, and the drops of that batch
   pub record ShowsCpu (k : Config) (c : ℕ) (h : List Deed) (own : Cpu B) : Type 0 where
     pub side : ShowsList (λ b. has b schema) capacity k c h own.side
-    pub worn : own.side.counts.worn ≡ own.caller.worn
-    pub few_worn : own.caller.worn < 2 ^ 64
+    pub worn : own.side.counts.worn ≡ own.progress.worn
+    pub few_worn : own.progress.worn < 2 ^ 64
     pub second : HasRecords k.bufsize (contents (batch_of_last_seal c h).offers) own.second
     pub accepted : own.accepted ≡ stream c h
-    pub took : own.taken ≡ taken own.caller.takes c h
+    pub took : own.taken ≡ taken own.progress.takes c h
     pub sealed_drops : own.sealed_drops ≡ (batch_of_last_seal c h).drops

@@ -5,7 +5,7 @@ use Rattle.dspec_buffer.specs.Extent.{Piece}
 use Rattle.dspec_play.specs.declared.flight.ConsumerFlight.{ConsumerFlight}
 use Rattle.dspec_play.specs.declared.flight.CpuFlight.{CpuFlight}
 use Rattle.dspec_machine.specs.declared.machine.Machine.{Machine}
-use Rattle.dspec_play.specs.Coherent.{IsCoherent, the_caller}
+use Rattle.dspec_play.specs.Coherent.{IsCoherent, progress_of}
 use Rattle.dspec_deeds.specs.Own.{calls}
 use Rattle.dspec_machine.specs.Machines.{IsShownMachine, history, state_of}
 
@@ -15,7 +15,7 @@ pub record StandsAt {S B : Type 0} (has : B → S → List Piece → Type 0) (ca
   pub shown : IsShownMachine has capacity m
   pub coherent : IsCoherent (shape_of m.schema) (state_of m)
   pub cpu : c < m.config.cpus
-  pub flight : (the_caller (state_of m).callers c).flight ≡ Some f
+  pub flight : (progress_of (state_of m).progresses c).flight ≡ Some f
   pub few : calls c (history m) ≤ m.config.max_calls
 
 -- the same, and the consumer's call is at that place

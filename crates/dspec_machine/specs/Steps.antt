@@ -10,7 +10,7 @@ use Rattle.dspec_deeds.specs.declared.calls.Answer.{Answer}
 use Rattle.dspec_deeds.specs.declared.calls.Served.{Served}
 use Rattle.dspec_deeds.specs.declared.deed.DecideFate.{DecideFate}
 use Rattle.dspec_deeds.specs.Told.{answer_of}
-use Rattle.dspec_play.specs.declared.flight.Caller.{Caller}
+use Rattle.dspec_play.specs.declared.flight.CpuProgress.{CpuProgress}
 use Rattle.dspec_play.specs.declared.flight.ConsumerFlight.{ConsumerFlight}
 use Rattle.dspec_play.specs.declared.flight.CpuFlight.{CpuFlight}
 use Rattle.dspec_play.specs.declared.flight.CpuFlight.TheVariants as flight
@@ -19,65 +19,65 @@ use Rattle.dspec_play.specs.declared.flight.Spare.TheVariants as spare
 use Rattle.dspec_machine.specs.declared.decision.Decision.{Decision}
 use Rattle.dspec_machine.specs.declared.machine.Machine.{Machine}
 use Rattle.dspec_play.specs.Play.{Moved, ConsumerStep, ends, cpu_step, consumer_step, spoken_at, committed_by, discarded_by, missed, loads_service, served, takes_at}
-use Rattle.dspec_play.specs.Coherent.{PlayState, the_caller}
+use Rattle.dspec_play.specs.Coherent.{PlayState, progress_of}
 use Rattle.dspec_machine.specs.Decisions.{deed_of, shown_by}
 use Rattle.dspec_machine.specs.Machines.{Makes, Cleans, history, state_of}
 
 module _ {S B : Type 0} (m : Machine S B) where
   -- a CPU's side of the play that the machine shows
-  abbrev pub caller_at : ℕ → Caller
-  caller_at c = the_caller (state_of m).callers c
+  abbrev pub progress_at : ℕ → CpuProgress
+  progress_at c = progress_of (state_of m).progresses c
 
-  -- what a play knows of the machine once that CPU's caller is changed so
-  abbrev pub state_with : ℕ → (Caller → Caller) → PlayState
-  state_with c change = record (state_of m) { callers = slice_set (state_of m).callers c (change (caller_at c)) }
+  -- what a play knows of the machine once that CPU's progress is changed so
+  abbrev pub state_with : ℕ → (CpuProgress → CpuProgress) → PlayState
+  state_with c change = record (state_of m) { progresses = slice_set (state_of m).progresses c (change (progress_at c)) }
 
 -- the call goes on: its next step is at that place
-abbrev pub goes_on_at : CpuFlight → Caller → Caller
+abbrev pub goes_on_at : CpuFlight → CpuProgress → CpuProgress
 goes_on_at f me = record me { flight = Some f; steps = me.steps + 1 }
 
 -- the call has ended
-abbrev pub has_ended : Caller → Caller
+abbrev pub has_ended : CpuProgress → CpuProgress
 has_ended me = record me { flight = None; steps = 0 }
 
 -- the call was worn, and is counted as that
-abbrev pub was_worn : Caller → Caller
+abbrev pub was_worn : CpuProgress → CpuProgress
 was_worn me = record me { flight = None; steps = 0; worn = min (me.worn + 1) (2 ^ 64 - 1) }
 
 -- the second buffer is sealed, and its push is next
-abbrev pub has_sealed : Caller → Caller
+abbrev pub has_sealed : CpuProgress → CpuProgress
 has_sealed me = record me { flight = Some flight.ServicePush; steps = me.steps + 1; spare = spare.Sealed }
 
 module _ {S B : Type 0} (shape_of : S → ℕ → Option Shape) (m : Machine S B) (c : ℕ) where
   -- the parts of a CPU's step, each as the play has it
   abbrev pub step_at : CpuFlight → Moved
-  step_at f = cpu_step (shape_of m.schema) m.config c (history m) (caller_at m c) f
+  step_at f = cpu_step (shape_of m.schema) m.config c (history m) (progress_at m c) f
 
   abbrev pub moved_speak : Speculation → Record → Moved
-  moved_speak id r = spoken_at (shape_of m.schema) m.config c (history m) (caller_at m c) id r
+  moved_speak id r = spoken_at (shape_of m.schema) m.config c (history m) (progress_at m c) id r
 
   abbrev pub moved_commit : Speculation → SlotState → Moved
-  moved_commit id to = committed_by (shape_of m.schema) m.config c (history m) (caller_at m c) id (Attempt to)
+  moved_commit id to = committed_by (shape_of m.schema) m.config c (history m) (progress_at m c) id (Attempt to)
 
   abbrev pub moved_discard : Speculation → SlotState → Moved
-  moved_discard id to = discarded_by (shape_of m.schema) m.config c (history m) (caller_at m c) id (Attempt to)
+  moved_discard id to = discarded_by (shape_of m.schema) m.config c (history m) (progress_at m c) id (Attempt to)
 
   -- what the word that is shown makes of a call that decides
   abbrev pub shows : Decision → Speculation → Moved
-  shows d id = shown_by (shape_of m.schema) m.config c (history m) (caller_at m c) d id
+  shows d id = shown_by (shape_of m.schema) m.config c (history m) (progress_at m c) d id
 
   -- the call ends with the deed of that fate
   abbrev pub ends_with : Decision → Speculation → DecideFate → Moved
-  ends_with d id f = ends (shape_of m.schema) m.config c (history m) (caller_at m c) (deed_of d c id f ∷ []) (answer_of f)
+  ends_with d id f = ends (shape_of m.schema) m.config c (history m) (progress_at m c) (deed_of d c id f ∷ []) (answer_of f)
 
   abbrev pub moved_miss : ℕ → SlotState → Moved
-  moved_miss s w = missed (shape_of m.schema) m.config c (history m) (caller_at m c) s w
+  moved_miss s w = missed (shape_of m.schema) m.config c (history m) (progress_at m c) s w
 
   abbrev pub loads : ℕ → Served → Moved
-  loads s sum = loads_service (shape_of m.schema) m.config c (history m) (caller_at m c) s sum
+  loads s sum = loads_service (shape_of m.schema) m.config c (history m) (progress_at m c) s sum
 
   abbrev pub moved_service : ℕ → Served → Moved
-  moved_service s sum = served (shape_of m.schema) m.config c (history m) (caller_at m c) s [] sum
+  moved_service s sum = served (shape_of m.schema) m.config c (history m) (progress_at m c) s [] sum
 
 -- the step of a CPU whose call is at that place makes this of a machine, with that answer
 abbrev pub StepsAs : {S B : Type 0} → (B → S → List Piece → Type 0) → (B → ℕ) → (S → ℕ → Option Shape) → Machine S B → Machine S B → ℕ → CpuFlight → Option Answer → Type 0
@@ -85,8 +85,8 @@ StepsAs has capacity shape_of m n c f answer = Makes has capacity m n c (step_at
 
 -- a take of a CPU's batch, by where its second buffer is
 abbrev pub takes_batch : {S B : Type 0} → Machine S B → ℕ → Spare → ConsumerStep
-takes_batch m c place = takes_at m.config (history m) m.consumer (state_of m).callers c (caller_at m c) place
+takes_batch m c place = takes_at m.config (history m) m.consumer (state_of m).progresses c (progress_at m c) place
 
 -- the step of the consumer whose call is at that place makes this of a machine, with that answer
 abbrev pub CleansAs : {S B : Type 0} → (B → S → List Piece → Type 0) → (B → ℕ) → Machine S B → Machine S B → ConsumerFlight → Option Answer → Type 0
-CleansAs has capacity m n f answer = Cleans has capacity m n (consumer_step m.config (history m) m.consumer (state_of m).callers f) answer
+CleansAs has capacity m n f answer = Cleans has capacity m n (consumer_step m.config (history m) m.consumer (state_of m).progresses f) answer

@@ -11,12 +11,12 @@ use Rattle.dspec_play.specs.declared.flight.CpuFlight.{CpuFlight}
 use Rattle.dspec_play.specs.declared.flight.CpuFlight.TheVariants.{SpeculateLoad, SpeculateTry, CommitLoad, CommitTry, DiscardLoad, DiscardTry}
 use Rattle.dspec_machine.specs.declared.machine.Machine.{Machine}
 use Rattle.dspec_play.specs.Calls.{op_of, consumer_op_of, record_passes, is_about}
-use Rattle.dspec_play.specs.Coherent.{IsCoherent, the_caller}
+use Rattle.dspec_play.specs.Coherent.{IsCoherent, progress_of}
 use Rattle.dspec_machine.specs.Machines.{IsShownMachine, history, state_of}
-use Rattle.dspec_machine.specs.Sessions.{Session}
+use Rattle.dspec_machine.specs.WorldViews.{WorldView}
 
-abbrev pub session_of : {S B : Type 0} → Machine S B → Session S
-session_of m = record { schema = m.schema; state = state_of m }
+abbrev pub world_view : {S B : Type 0} → Machine S B → WorldView S
+world_view m = record { schema = m.schema; state = state_of m }
 
 -- the call in flight was shown that it isn't worn, and its deed, which counts towards the most calls, is to come
 abbrev pub is_due : Option CpuFlight → Bool
@@ -37,6 +37,6 @@ IsWithin k c h f = calls c h + (if is_due f then 1 else 0) ≤ k.max_calls
 pub record IsKept {S B : Type 0} (has : B → S → List Piece → Type 0) (capacity : B → ℕ) (shape_of : S → ℕ → Option Shape) (accepted : S → Record → Bool) (m : Machine S B) : Type 0 where
   pub shown : IsShownMachine has capacity m
   pub coherent : IsCoherent (shape_of m.schema) (state_of m)
-  pub accepted_records : (c : ℕ) (f : CpuFlight) → c < m.config.cpus → (the_caller (state_of m).callers c).flight ≡ Some f → record_passes (accepted m.schema) (op_of f) ≡ true
-  pub within : (c : ℕ) → c < m.config.cpus → IsWithin m.config c (history m) (the_caller (state_of m).callers c).flight
+  pub accepted_records : (c : ℕ) (f : CpuFlight) → c < m.config.cpus → (progress_of (state_of m).progresses c).flight ≡ Some f → record_passes (accepted m.schema) (op_of f) ≡ true
+  pub within : (c : ℕ) → c < m.config.cpus → IsWithin m.config c (history m) (progress_of (state_of m).progresses c).flight
   pub about : (f : ConsumerFlight) → m.consumer.flight ≡ Some f → is_about m.config (consumer_op_of f) ≡ true

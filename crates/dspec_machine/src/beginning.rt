@@ -1,6 +1,6 @@
 ghost use Rattle.std.specs.Prelude.{◌≡◌, ◌<◌, true, None};
 ghost use Rattle.dspec_play.specs.Calls.{record_passes, is_about};
-ghost use Rattle.dspec_play.specs.Coherent.{the_caller};
+ghost use Rattle.dspec_play.specs.Coherent.{progress_of};
 ghost use Rattle.dspec_machine.specs.Machines.{state_of};
 ghost use Rattle.dspec_play.specs.Turns.{begin_cpu, begin_consumer};
 ghost use Rattle.dspec_machine.specs.Worlds.{IsKept};
@@ -16,15 +16,15 @@ impl<S: Schema, B: TraceBuffer<S>> Machine<S, B> {
     pub fn begin_cpu(&mut self, cpu: u32, op: CpuOp)
         requires kept { IsKept B.has B.capacity S.shape_of S.accepted self.old }
         requires cpu { cpu < self.old.config.cpus }
-        requires idle { (the_caller (state_of self.old).callers cpu).flight ≡ None }
+        requires idle { (progress_of (state_of self.old).progresses cpu).flight ≡ None }
         requires accepted { record_passes (S.accepted self.old.schema) op ≡ true }
         ensures kept { IsKept B.has B.capacity S.shape_of S.accepted self.new }
         ensures state { state_of self.new ≡ begin_cpu cpu op (state_of self.old) }
         ensures schema { self.new.schema ≡ self.old.schema }
     {
-        let caller = &mut self.cpus[cpu as usize].caller;
-        caller.flight = Some(CpuFlight::Begun(op));
-        caller.steps = 0;
+        let progress = &mut self.cpus[cpu as usize].progress;
+        progress.flight = Some(CpuFlight::Begun(op));
+        progress.steps = 0;
     }
 
     /// A call of the consumer begins. It takes no atomic step.

@@ -6,7 +6,7 @@ ghost use Rattle.dspec_deeds.specs.FateKinds.{is_copied, trace_kept};
 use crate::walking::append_records;
 use dspec_buffer::TraceBuffer;
 use dspec_deeds::{DecideFate, Deed, TraceFate};
-use dspec_play::{Caller, Series};
+use dspec_play::{CpuProgress, Series};
 use dspec_record::{Rec, Schema};
 use dspec_side::Side;
 use std::alloc::AllocError;
@@ -15,7 +15,7 @@ use std::alloc::AllocError;
 #[derive(Drop)]
 pub struct Cpu<B> {
     /// The call in flight, and what the consumer asked, took and gave back.
-    pub caller: Caller,
+    pub progress: CpuProgress,
     /// What the CPU holds by its own deeds.
     pub side: Side<B>,
     /// The other principal buffer, wherever it is.

@@ -2,7 +2,7 @@ ghost use Rattle.std.specs.Prelude.{◌≡◌, ◌<◌, Some, IfOk, OnErr};
 ghost use Rattle.dspec_deeds.specs.declared.calls.Actor.TheVariants as actor;
 ghost use Rattle.dspec_play.specs.declared.flight.ConsumerFlight.TheVariants as consumer;
 ghost use Rattle.dspec_play.specs.declared.flight.CpuFlight.TheVariants as flight;
-ghost use Rattle.dspec_play.specs.Coherent.{the_caller};
+ghost use Rattle.dspec_play.specs.Coherent.{progress_of};
 ghost use Rattle.dspec_machine.specs.Machines.{state_of};
 ghost use Rattle.dspec_machine.specs.Steps.{StepsAs, CleansAs};
 ghost use Rattle.dspec_play.specs.Turns.{step};
@@ -21,7 +21,7 @@ impl<S: Schema, B: TraceBuffer<S>> Machine<S, B> {
     fn step_begun(&mut self, cpu: u32, op: CpuOp) -> Result<Option<Answer>, AllocError>
         requires kept { IsKept B.has B.capacity S.shape_of S.accepted self.old }
         requires cpu { cpu < self.old.config.cpus }
-        requires flight { (the_caller (state_of self.old).callers cpu).flight ≡ Some (flight.Begun op) }
+        requires flight { (progress_of (state_of self.old).progresses cpu).flight ≡ Some (flight.Begun op) }
         ensures makes { IfOk result (λ answer. StepsAs B.has B.capacity S.shape_of self.old self.new cpu (flight.Begun op) answer) }
         ensures refused { OnErr result (self.new ≡ self.old) }
     {
@@ -39,7 +39,7 @@ impl<S: Schema, B: TraceBuffer<S>> Machine<S, B> {
     fn step_flight(&mut self, cpu: u32, flight: CpuFlight) -> Result<Option<Answer>, AllocError>
         requires kept { IsKept B.has B.capacity S.shape_of S.accepted self.old }
         requires cpu { cpu < self.old.config.cpus }
-        requires flight { (the_caller (state_of self.old).callers cpu).flight ≡ Some flight }
+        requires flight { (progress_of (state_of self.old).progresses cpu).flight ≡ Some flight }
         ensures makes { IfOk result (λ answer. StepsAs B.has B.capacity S.shape_of self.old self.new cpu flight answer) }
         ensures refused { OnErr result (self.new ≡ self.old) }
     {
@@ -77,7 +77,7 @@ impl<S: Schema, B: TraceBuffer<S>> Machine<S, B> {
         ensures schema { self.new.schema ≡ self.old.schema }
         ensures refused { OnErr result (self.new ≡ self.old) }
     {
-        let flight = self.cpus[cpu as usize].caller.flight;
+        let flight = self.cpus[cpu as usize].progress.flight;
         match flight {
             None => Ok(None),
             Some(flight) => self.step_flight(cpu, flight),

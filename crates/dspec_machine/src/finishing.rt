@@ -1,6 +1,6 @@
 ghost use Rattle.std.specs.Prelude.{◌≡◌, ◌<◌, None, IfOk, OnOk, reverse};
 ghost use Rattle.dspec_deeds.specs.Closes.{CanClose, reports, streams, closed_slot, closed_slots, closing};
-ghost use Rattle.dspec_play.specs.Coherent.{IsSlot, the_caller};
+ghost use Rattle.dspec_play.specs.Coherent.{IsSlot, progress_of};
 ghost use Rattle.dspec_machine.specs.Machines.{IsShownMachine, history, state_of};
 ghost use Rattle.dspec_deeds.specs.Ranges.{start_fault};
 
@@ -75,7 +75,7 @@ impl<S: Schema, B: TraceBuffer<S>> Machine<S, B> {
         requires can_close { CanClose (S.shape_of self.schema) self.config (history self) }
         ensures deeds { IfOk result (λ close. close.deeds ≡ reverse (closing (S.shape_of self.schema) self.config (history self))) }
         ensures accepted { IfOk result (λ close. close.accepted ≡ streams self.config (closing (S.shape_of self.schema) self.config (history self))) }
-        ensures reports { IfOk result (λ close. close.reports ≡ reports self.config (λ c. (the_caller (state_of self).callers c).worn) (closing (S.shape_of self.schema) self.config (history self))) }
+        ensures reports { IfOk result (λ close. close.reports ≡ reports self.config (λ c. (progress_of (state_of self).progresses c).worn) (closing (S.shape_of self.schema) self.config (history self))) }
     {
         self.close()?;
         let mut accepted = Series::new(alloc);

@@ -1,6 +1,6 @@
 use crate::cpu::Cpu;
 use dspec_deeds::{Config, Deed};
-use dspec_play::{ConsumerSide, Series};
+use dspec_play::{ConsumerProgress, Series};
 use dspec_word::Word;
 
 /// A session as its atomic steps left it: the shared words, what is kept of each CPU and of the consumer, and the
@@ -18,7 +18,7 @@ pub struct Machine<S, B> {
     /// What is kept of each CPU.
     pub cpus: Vec<Cpu<B>>,
     /// The consumer's call in flight.
-    pub consumer: ConsumerSide,
+    pub consumer: ConsumerProgress,
     /// What was done, in order of time.
     pub deeds: Series<Deed>,
 }

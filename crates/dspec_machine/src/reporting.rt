@@ -1,5 +1,5 @@
 ghost use Rattle.std.specs.Prelude.{◌≡◌, ◌<◌, None};
-ghost use Rattle.dspec_play.specs.Coherent.{the_caller};
+ghost use Rattle.dspec_play.specs.Coherent.{progress_of};
 ghost use Rattle.dspec_deeds.specs.Legal.{IsAllowed};
 ghost use Rattle.dspec_machine.specs.Machines.{IsShownMachine, history, state_of};
 ghost use Rattle.dspec_deeds.specs.Ranges.{start_fault};
@@ -17,7 +17,7 @@ impl<S: Schema, B: TraceBuffer<S>> Machine<S, B> {
         requires fine { start_fault self.now.config ≡ None }
         requires legal { IsAllowed (S.shape_of self.now.schema) self.now.config (history self.now) }
         requires cpu { cpu < self.now.config.cpus }
-        ensures { result ≡ report self.now.config cpu (the_caller (state_of self.now).callers cpu).worn (history self.now) }
+        ensures { result ≡ report self.now.config cpu (progress_of (state_of self.now).progresses cpu).worn (history self.now) }
     {
         self.cpus[cpu as usize].side.counts.report()
     }

@@ -1,6 +1,6 @@
 ghost use Rattle.std.specs.Prelude.{◌≡◌, ◌<◌, ℕ, [], None, IfOk};
 ghost use Rattle.dspec_machine.specs.Machines.{state_of};
-ghost use Rattle.dspec_play.specs.Coherent.{idle_caller};
+ghost use Rattle.dspec_play.specs.Coherent.{idle_progress};
 ghost use Rattle.dspec_deeds.specs.Ranges.{start_fault};
 ghost use Rattle.dspec_machine.specs.Shown.{ShowsCpu};
 ghost use Rattle.dspec_play.specs.Turns.{at_start};
@@ -10,7 +10,7 @@ use crate::cpu::Cpu;
 use crate::machine::Machine;
 use dspec_buffer::TraceBuffer;
 use dspec_deeds::Config;
-use dspec_play::{Caller, ConsumerSide, Series, Spare};
+use dspec_play::{ConsumerProgress, CpuProgress, Series, Spare};
 use dspec_record::Schema;
 use dspec_side::Side;
 use dspec_word::{Code, Word};
@@ -21,11 +21,11 @@ impl<S: Schema, B: TraceBuffer<S>> Machine<S, B> {
     fn make_cpu(alloc: Global, config: &Config) -> Result<Cpu<B>, AllocError>
         requires fine { start_fault config.now ≡ None }
         ensures shown { IfOk result (λ cpu. (schema : S) (c : ℕ) → ShowsCpu B.has B.capacity schema config.now c [] cpu) }
-        ensures idle { IfOk result (λ cpu. cpu.caller ≡ idle_caller) }
+        ensures idle { IfOk result (λ cpu. cpu.progress ≡ idle_progress) }
     {
         let side = Side::<B>::make::<S>(alloc, config)?;
         Ok(Cpu {
-            caller: Caller {
+            progress: CpuProgress {
                 flight: None,
                 steps: 0,
                 spare: Spare::InHand,
@@ -62,7 +62,7 @@ impl<S: Schema, B: TraceBuffer<S>> Machine<S, B> {
             words,
             halted: false,
             cpus,
-            consumer: ConsumerSide {
+            consumer: ConsumerProgress {
                 flight: None,
                 steps: 0,
             },

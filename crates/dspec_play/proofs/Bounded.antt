@@ -13,10 +13,10 @@ use Rattle.dspec_deeds.specs.declared.calls.ConsumerOp.TheVariants as consumer_o
 use Rattle.dspec_deeds.specs.declared.calls.CpuOp.{CpuOp}
 use Rattle.dspec_deeds.specs.declared.calls.CpuOp.TheVariants as cpu_op
 use Rattle.dspec_deeds.specs.declared.deed.Deed.{Deed}
-use Rattle.dspec_play.specs.declared.flight.Caller.{Caller}
+use Rattle.dspec_play.specs.declared.flight.CpuProgress.{CpuProgress}
 use Rattle.dspec_play.specs.declared.flight.ConsumerFlight.{ConsumerFlight}
 use Rattle.dspec_play.specs.declared.flight.ConsumerFlight.TheVariants as consumer
-use Rattle.dspec_play.specs.declared.flight.ConsumerSide.{ConsumerSide}
+use Rattle.dspec_play.specs.declared.flight.ConsumerProgress.{ConsumerProgress}
 use Rattle.dspec_play.specs.declared.flight.CpuFlight.{CpuFlight}
 use Rattle.dspec_play.specs.declared.flight.CpuFlight.TheVariants as cpu
 use Rattle.dspec_deeds.specs.History.{is_among, callers}
@@ -57,7 +57,7 @@ discard_from i mine Committing to e = absurd (cc (e))
 discard_from i mine CommittingMany to e = absurd (cc (e))
 discard_from i mine Discarding to e = absurd (cc (e))
 
-module _ (k : Config) (c : ℕ) (h : List Deed) (me : Caller) (some : 1 ≤ k.nspec) where
+module _ (k : Config) (c : ℕ) (h : List Deed) (me : CpuProgress) (some : 1 ≤ k.nspec) where
   begun_below : (o : CpuOp) → me.steps ≡ 0 → me.steps < op_bound k o
   begun_below (cpu_op.Trace r) e = omega arith
   begun_below cpu_op.Speculation e = omega arith
@@ -97,7 +97,7 @@ module _ (k : Config) (c : ℕ) (h : List Deed) (me : Caller) (some : 1 ≤ k.ns
 shares : (s n q : ℕ) → 1 ≤ s → s ≤ n → (s - 1) * q + q ≤ n * q
 shares s n q one le = subst (λ x. x ≤ n * q) (sym (share s q one)) (mul-le-mul_right q le)
 
-module _ (k : Config) (h : List Deed) (side : ConsumerSide) (some : 1 ≤ k.nspec) where
+module _ (k : Config) (h : List Deed) (side : ConsumerProgress) (some : 1 ≤ k.nspec) where
   -- the consumer's call in flight has made fewer steps than its bound
   pub clean_below : (f : ConsumerFlight) → StandsConsumer k h side f → side.steps < clean_bound k f
   clean_below (consumer.Begun (consumer_op.Ask c)) st = omega arith

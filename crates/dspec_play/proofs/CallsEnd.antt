@@ -6,12 +6,12 @@ use Rattle.dspec_deeds.specs.declared.calls.Actor.{Actor}
 use Rattle.dspec_deeds.specs.declared.calls.Actor.TheVariants as actor
 use Rattle.dspec_deeds.specs.declared.calls.Answer.{Answer}
 use Rattle.dspec_deeds.specs.declared.calls.CpuOp.{CpuOp}
-use Rattle.dspec_play.specs.declared.flight.Caller.{Caller}
+use Rattle.dspec_play.specs.declared.flight.CpuProgress.{CpuProgress}
 use Rattle.dspec_play.specs.declared.flight.ConsumerFlight.{ConsumerFlight}
 use Rattle.dspec_play.specs.declared.flight.CpuFlight.{CpuFlight}
 use Rattle.dspec_play.specs.declared.flight.CpuFlight.TheVariants as cpu
 use Rattle.dspec_play.specs.Play.{Moved, ConsumerStep, cpu_step, consumer_step}
-use Rattle.dspec_play.specs.Coherent.{StandsCaller, StandsSide, the_caller, PlayState, IsCoherent, idle_caller}
+use Rattle.dspec_play.specs.Coherent.{StandsProgress, StandsSide, progress_of, PlayState, IsCoherent, idle_progress}
 use Rattle.dspec_play.specs.Turns.{begin_cpu, Stepped, moved_to, cleaned_to, step_cpu, step_consumer, on_to_end}
 use Rattle.dspec_deeds.proofs.SetUp.{set_up}
 use Rattle.dspec_play.proofs.Coherence.{begin_cpu_coherent, step_cpu_coherent, step_consumer_coherent}
@@ -21,7 +21,7 @@ use Rattle.dspec_play.proofs.StepEnds.{HasEnded, HasGoneOn, HasClosed, HasKeptOn
 
 -- no call of the actor is in flight
 abbrev pub IsIdle : Actor → PlayState → Type 0
-IsIdle (actor.Cpu c) st = (the_caller st.callers c).flight ≡ None
+IsIdle (actor.Cpu c) st = (progress_of st.progresses c).flight ≡ None
 IsIdle actor.Consumer st = st.side.flight ≡ None
 
 -- the call has its answer, and is no longer in flight
@@ -36,33 +36,33 @@ module _ (shape : ℕ → Option Shape) where
   finished (suc n) a st x idle = record { told = x; answers = refl; idle = idle }
 
   -- a CPU's call in flight ends
-  pub cpu_ends : (n c : ℕ) (st : PlayState) (f : CpuFlight) → IsCoherent shape st → c < st.config.cpus → (the_caller st.callers c).flight ≡ Some f
-      → flight_bound st.config f ≤ n + (the_caller st.callers c).steps
+  pub cpu_ends : (n c : ℕ) (st : PlayState) (f : CpuFlight) → IsCoherent shape st → c < st.config.cpus → (progress_of st.progresses c).flight ≡ Some f
+      → flight_bound st.config f ≤ n + (progress_of st.progresses c).steps
       → HasAnswered (actor.Cpu c) (on_to_end shape n (actor.Cpu c) st None)
   cpu_ends zero c st f ok lt is most =
-      let low = cpu_below st.config c st.deeds (the_caller st.callers c) (set_up st.config ok.ranges).1 f
-      (subst (StandsCaller st.config c st.deeds (the_caller st.callers c)) is (ok.stands c lt).flight) in
+      let low = cpu_below st.config c st.deeds (progress_of st.progresses c) (set_up st.config ok.ranges).1 f
+      (subst (StandsProgress st.config c st.deeds (progress_of st.progresses c)) is (ok.stands c lt).flight) in
       absurd (omega arith)
   cpu_ends (suc n) c st f ok lt is most =
       subst (λ x. HasAnswered (actor.Cpu c) (on_to_end shape n (actor.Cpu c) (step_cpu shape c st x).state (step_cpu shape c st x).answer)) (sym is)
       (⊎_elim
       (λ (e : HasEnded m). subst (λ r. HasAnswered (actor.Cpu c) (on_to_end shape n (actor.Cpu c) new r)) (sym e.answers)
-      (finished n (actor.Cpu c) new e.told (ap (λ (x : Caller). x.flight) here ∙ e.idle)))
-      (λ (g : HasGoneOn st.config (the_caller st.callers c) (flight_bound st.config f) m).
-      let steps : (the_caller new.callers c).steps ≡ (the_caller st.callers c).steps + 1 = ap (λ (x : Caller). x.steps) here ∙ g.counted in
+      (finished n (actor.Cpu c) new e.told (ap (λ (x : CpuProgress). x.flight) here ∙ e.idle)))
+      (λ (g : HasGoneOn st.config (progress_of st.progresses c) (flight_bound st.config f) m).
+      let steps : (progress_of new.progresses c).steps ≡ (progress_of st.progresses c).steps + 1 = ap (λ (x : CpuProgress). x.steps) here ∙ g.counted in
       let bound = g.bound in
       subst (λ r. HasAnswered (actor.Cpu c) (on_to_end shape n (actor.Cpu c) new r)) (sym g.answers)
-      (cpu_ends n c new g.next (step_cpu_coherent shape st c (Some f) ok lt is) lt (ap (λ (x : Caller). x.flight) here ∙ g.flight) (omega arith)))
-      (cpu_advances shape st.config c st.deeds (the_caller st.callers c) f))
+      (cpu_ends n c new g.next (step_cpu_coherent shape st c (Some f) ok lt is) lt (ap (λ (x : CpuProgress). x.flight) here ∙ g.flight) (omega arith)))
+      (cpu_advances shape st.config c st.deeds (progress_of st.progresses c) f))
     where
       m : Moved
-      m = cpu_step shape st.config c st.deeds (the_caller st.callers c) f
+      m = cpu_step shape st.config c st.deeds (progress_of st.progresses c) f
 
       new : PlayState
       new = (moved_to st c m).state
 
-      here : the_caller new.callers c ≡ m.caller
-      here = get_or-set_same st.callers c m.caller idle_caller (let count = ok.count in omega arith)
+      here : progress_of new.progresses c ≡ m.progress
+      here = get_or-set_same st.progresses c m.progress idle_progress (let count = ok.count in omega arith)
 
   -- the consumer's call in flight ends
   pub consumer_ends : (n : ℕ) (st : PlayState) (f : ConsumerFlight) → IsCoherent shape st → st.side.flight ≡ Some f → clean_bound st.config f ≤ n + st.side.steps
@@ -79,10 +79,10 @@ module _ (shape : ℕ → Option Shape) where
       let bound = g.bound in
       subst (λ r. HasAnswered actor.Consumer (on_to_end shape n actor.Consumer new r)) (sym g.answers)
       (consumer_ends n new g.next (step_consumer_coherent shape st (Some f) ok is) g.flight (omega arith)))
-      (clean_advances st.config st.deeds st.side st.callers f))
+      (clean_advances st.config st.deeds st.side st.progresses f))
     where
       m : ConsumerStep
-      m = consumer_step st.config st.deeds st.side st.callers f
+      m = consumer_step st.config st.deeds st.side st.progresses f
 
       new : PlayState
       new = (cleaned_to st m).state
@@ -91,6 +91,6 @@ module _ (shape : ℕ → Option Shape) where
   pub cpu_call_answers : (c : ℕ) (o : CpuOp) (st : PlayState) → IsCoherent shape st → c < st.config.cpus → IsIdle (actor.Cpu c) st
       → HasAnswered (actor.Cpu c) (on_to_end shape (op_bound st.config o) (actor.Cpu c) (begin_cpu c o st) None)
   cpu_call_answers c o st ok lt idle =
-      let first : Caller = record (the_caller st.callers c) { flight = Some (cpu.Begun o); steps = 0 } in
-      let here : the_caller (begin_cpu c o st).callers c ≡ first = get_or-set_same st.callers c first idle_caller (let count = ok.count in omega arith) in
-      cpu_ends (op_bound st.config o) c (begin_cpu c o st) (cpu.Begun o) (begin_cpu_coherent shape st c o ok lt idle) lt (ap (λ (x : Caller). x.flight) here) (omega arith)
+      let first : CpuProgress = record (progress_of st.progresses c) { flight = Some (cpu.Begun o); steps = 0 } in
+      let here : progress_of (begin_cpu c o st).progresses c ≡ first = get_or-set_same st.progresses c first idle_progress (let count = ok.count in omega arith) in
+      cpu_ends (op_bound st.config o) c (begin_cpu c o st) (cpu.Begun o) (begin_cpu_coherent shape st c o ok lt idle) lt (ap (λ (x : CpuProgress). x.flight) here) (omega arith)

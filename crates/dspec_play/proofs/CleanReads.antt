@@ -16,16 +16,16 @@ use Rattle.dspec_deeds.specs.declared.config.StartFault.TheVariants.{Cpus, Specs
 use Rattle.dspec_deeds.specs.declared.calls.Answer.TheVariants as answer
 use Rattle.dspec_deeds.specs.declared.deed.Deed.{Deed}
 use Rattle.dspec_deeds.specs.declared.deed.Deed.TheVariants.{Release}
-use Rattle.dspec_play.specs.declared.flight.Caller.{Caller}
+use Rattle.dspec_play.specs.declared.flight.CpuProgress.{CpuProgress}
 use Rattle.dspec_play.specs.declared.flight.ConsumerFlight.{ConsumerFlight}
 use Rattle.dspec_play.specs.declared.flight.ConsumerFlight.TheVariants as consumer
-use Rattle.dspec_play.specs.declared.flight.ConsumerSide.{ConsumerSide}
+use Rattle.dspec_play.specs.declared.flight.ConsumerProgress.{ConsumerProgress}
 use Rattle.dspec_deeds.specs.Ranges.{is_between, is_size, start_fault}
 use Rattle.dspec_deeds.specs.History.{word_at}
 use Rattle.dspec_deeds.specs.Legal.{IsAllowed}
 use Rattle.dspec_deeds.specs.Own.{seals}
 use Rattle.dspec_play.specs.Play.{ConsumerStep, consumer_step, keeps_on, next_slot, same_word, stops}
-use Rattle.dspec_play.specs.Coherent.{PlayState, IsCoherent, StandsConsumer, StandsSide, the_caller}
+use Rattle.dspec_play.specs.Coherent.{PlayState, IsCoherent, StandsConsumer, StandsSide, progress_of}
 use Rattle.dspec_deeds.proofs.TestLemmas.{and_tells}
 use Rattle.dspec_play.proofs.Counts.{takes_sealed}
 use Rattle.dspec_play.proofs.StepReads.{slots_fit}
@@ -68,7 +68,7 @@ few_before : (s cpus : ℕ) → s ≤ 63 → cpus ≤ 64 → (s - 1) * (cpus + 2
 few_before s cpus slots few = mul-le (s - 1) (cpus + 2) 63 66 (omega arith) (omega arith)
 
 -- a clean takes few steps in all
-few_steps : (k : Config) (h : List Deed) (side : ConsumerSide) (f : ConsumerFlight) → k.nspec ≤ 63 → k.cpus ≤ 64 → StandsConsumer k h side f → side.steps < 2 ^ 31
+few_steps : (k : Config) (h : List Deed) (side : ConsumerProgress) (f : ConsumerFlight) → k.nspec ≤ 63 → k.cpus ≤ 64 → StandsConsumer k h side f → side.steps < 2 ^ 31
 few_steps k h side (consumer.Begun o) slots few at = omega arith
 few_steps k h side (consumer.CleanLoad s n) slots few at =
     let slot = at.0.1 in let is = at.2 in let before = few_before s k.cpus (omega arith) few in omega arith
@@ -79,9 +79,9 @@ few_steps k h side (consumer.CleanReap s w n) slots few at =
 
 module _ (shape : ℕ → Option Shape) (st : PlayState) (coherent : IsCoherent shape st) where
   -- one batch more can be counted
-  pub takes_fit : (c : ℕ) → c < st.config.cpus → (the_caller st.callers c).takes + 1 < 2 ^ 64
+  pub takes_fit : (c : ℕ) → c < st.config.cpus → (progress_of st.progresses c).takes + 1 < 2 ^ 64
   takes_fit c lt =
-      let me = the_caller st.callers c in
+      let me = progress_of st.progresses c in
       let taken = takes_sealed (seals c st.deeds) me.takes me.spare (coherent.stands c lt).counts in
       let sealed = seals_within shape st.config c st.deeds (fitting_fitted shape st.config st.deeds coherent.legal.1) in
       let most = calls_fit st.config coherent.ranges in
@@ -97,9 +97,9 @@ module _ (shape : ℕ → Option Shape) (st : PlayState) (coherent : IsCoherent 
     clean_steps_fit = few_steps st.config st.deeds st.side f (slots_fit st.config coherent.ranges) (cpus_fit st.config coherent.ranges) clean_stands
 
     -- the deeds of its step are legal
-    pub clean_legal : (cleaned : ConsumerStep) → consumer_step st.config st.deeds st.side st.callers f ≡ cleaned → IsAllowed shape st.config (cleaned.deeds ++ st.deeds)
+    pub clean_legal : (cleaned : ConsumerStep) → consumer_step st.config st.deeds st.side st.progresses f ≡ cleaned → IsAllowed shape st.config (cleaned.deeds ++ st.deeds)
     clean_legal cleaned e = subst (λ (m : ConsumerStep). IsAllowed shape st.config (m.deeds ++ st.deeds)) e
-        (consumer_keeps shape st.config st.deeds st.side st.callers coherent.ranges coherent.legal coherent.rests coherent.count coherent.stands f clean_stands).goes.legal
+        (consumer_keeps shape st.config st.deeds st.side st.progresses coherent.ranges coherent.legal coherent.rests coherent.count coherent.stands f clean_stands).goes.legal
 
 -- the exchange is tried where the word awaits the acknowledgements
 pub tried_awaits : (w to : SlotState) → reap_at w true ≡ Attempt to → awaits w.code ≡ true
@@ -125,7 +125,7 @@ number_there ns count i n is e lt read there =
     cc
 
 -- what the deeds of a clean are behind a slot
-next_deeds : (k : Config) (h : List Deed) (side : ConsumerSide) (all : List Caller) (s n : ℕ) (ds : List Deed) → (next_slot k h side all s ds n).deeds ≡ ds
+next_deeds : (k : Config) (h : List Deed) (side : ConsumerProgress) (all : List CpuProgress) (s n : ℕ) (ds : List Deed) → (next_slot k h side all s ds n).deeds ≡ ds
 next_deeds k h side all s n ds = go (s == k.nspec)
   where
     go : (b : Bool) → (if◌then◌else◌ {A = ConsumerStep} b (stops k h side all ds (answer.Cleaned n)) (keeps_on k h side all ds (consumer.CleanLoad (s + 1) n))).deeds ≡ ds
@@ -137,6 +137,6 @@ pub reap_legal : (shape : ℕ → Option Shape) (st : PlayState) (coherent : IsC
     → same_word (word_at s st.deeds) w ≡ true
     → IsAllowed shape st.config (Release s ∷ st.deeds)
 reap_legal shape st coherent s n w is same =
-    let step : consumer_step st.config st.deeds st.side st.callers (consumer.CleanReap s w n) ≡ next_slot st.config st.deeds st.side st.callers s (Release s ∷ []) (n + 1) = rw same refl in
-    subst (λ (ds : List Deed). IsAllowed shape st.config (ds ++ st.deeds)) (next_deeds st.config st.deeds st.side st.callers s (n + 1) (Release s ∷ []))
+    let step : consumer_step st.config st.deeds st.side st.progresses (consumer.CleanReap s w n) ≡ next_slot st.config st.deeds st.side st.progresses s (Release s ∷ []) (n + 1) = rw same refl in
+    subst (λ (ds : List Deed). IsAllowed shape st.config (ds ++ st.deeds)) (next_deeds st.config st.deeds st.side st.progresses s (n + 1) (Release s ∷ []))
     (clean_legal shape st coherent (consumer.CleanReap s w n) is _ step)

@@ -12,7 +12,7 @@ use Rattle.dspec_deeds.specs.declared.calls.Answer.TheVariants as answer
 use Rattle.dspec_deeds.specs.declared.calls.Served.{Served}
 use Rattle.dspec_deeds.specs.declared.deed.Deed.{Deed}
 use Rattle.dspec_deeds.specs.declared.deed.Deed.TheVariants.{Settle}
-use Rattle.dspec_play.specs.declared.flight.Caller.{Caller}
+use Rattle.dspec_play.specs.declared.flight.CpuProgress.{CpuProgress}
 use Rattle.dspec_play.specs.declared.flight.CpuFlight.TheVariants as cpu
 use Rattle.dspec_play.specs.declared.flight.Spare.TheVariants as spare
 use Rattle.dspec_deeds.specs.History.{issue, present, opened, verdict, is_undecided, solo, settled, word_at, ack}
@@ -21,7 +21,7 @@ use Rattle.dspec_deeds.specs.Legal.{IsAllowed}
 use Rattle.dspec_play.specs.Play.{served, ends, call_goes_on}
 use Rattle.dspec_deeds.specs.Settling.{settle_fate}
 use Rattle.dspec_deeds.specs.Ranges.{start_fault}
-use Rattle.dspec_play.specs.Coherent.{IsSlot, StandsCaller, CallerStands, the_caller, PlayState, IsCoherent}
+use Rattle.dspec_play.specs.Coherent.{IsSlot, StandsProgress, ProgressStands, progress_of, PlayState, IsCoherent}
 use Rattle.dspec_deeds.proofs.TestLemmas.{either_way, and_tells, number_is_itself, same_number, numbers_differ, id_is_itself}
 use Rattle.dspec_deeds.proofs.SetUp.{set_up}
 use Rattle.dspec_deeds.proofs.SoundLists.{opened_by_now, opened_in_range}
@@ -37,11 +37,11 @@ use Rattle.dspec_deeds.proofs.Going.{GoesOn}
 use Rattle.dspec_play.proofs.CpuSteps.{cpu_step_stands}
 
 -- a play with no call of a CPU in flight can close
-pub can_close : (shape : ℕ → Option Shape) (st : PlayState) → IsCoherent shape st → ((c : ℕ) → c < st.config.cpus → (the_caller st.callers c).flight ≡ None) → CanClose shape st.config st.deeds
+pub can_close : (shape : ℕ → Option Shape) (st : PlayState) → IsCoherent shape st → ((c : ℕ) → c < st.config.cpus → (progress_of st.progresses c).flight ≡ None) → CanClose shape st.config st.deeds
 can_close shape st ok none = record {
   legal = ok.legal;
   rests = ok.rests;
-  idle = λ c lt. (subst (StandsCaller st.config c st.deeds (the_caller st.callers c)) (none c lt) (ok.stands c lt).flight).0;
+  idle = λ c lt. (subst (StandsProgress st.config c st.deeds (progress_of st.progresses c)) (none c lt) (ok.stands c lt).flight).0;
 }
 
 -- a list that settlements have lengthened
@@ -56,7 +56,7 @@ abbrev pub IsSettledAt : ℕ → ℕ → List Deed → Type 0
 IsSettledAt c s h = awaits (word_at s h).code ≡ true → settled c (present s h) h ≡ true
 
 -- the deeds that a service enters at a slot, whichever step comes next
-served_deeds : (shape : ℕ → Option Shape) (k : Config) (c : ℕ) (h : List Deed) (me : Caller) (s : ℕ) (ds : List Deed) (sum : Served) → (served shape k c h me s ds sum).deeds ≡ ds
+served_deeds : (shape : ℕ → Option Shape) (k : Config) (c : ℕ) (h : List Deed) (me : CpuProgress) (s : ℕ) (ds : List Deed) (sum : Served) → (served shape k c h me s ds sum).deeds ≡ ds
 served_deeds shape k c h me s ds sum = go (s == k.nspec)
   where
     go : (b : Bool) → (if b then ends shape k c h me ds (answer.Served sum) else call_goes_on shape k c h me ds (cpu.ServiceLoad (s + 1) sum)).deeds ≡ ds
@@ -89,10 +89,10 @@ module _ (shape : ℕ → Option Shape) (k : Config) (fine : start_fault k ≡ N
       none : Served
       none = record { sealed = false; settled = 0 }
 
-      me : Caller
+      me : CpuProgress
       me = record { flight = Some (cpu.ServiceStore s (word_at s h) none); steps = 0; spare = spare.Out; want = 0; takes = seals c h; worn = 0 }
 
-      stands : CallerStands k c h me
+      stands : ProgressStands k c h me
       stands = record { flight = (slot, rest.idle c lt, omega arith, slot.0, refl, waits, not_yet); counts = refl; pushes = tt; want = omega arith }
 
   pub slot_settles : (c s : ℕ) (h : List Deed) → CanClose shape k h → c < k.cpus → IsSlot k s → HasSettled shape k h (closed_slot shape k c s h) × IsSettledAt c s (closed_slot shape k c s h)

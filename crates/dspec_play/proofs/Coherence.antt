@@ -15,8 +15,8 @@ use Rattle.dspec_play.specs.declared.flight.Spare.{Spare}
 use Rattle.dspec_play.specs.declared.flight.Spare.TheVariants as spare
 use Rattle.dspec_play.specs.Play.{cpu_step}
 use Rattle.dspec_deeds.specs.Ranges.{start_fault}
-use Rattle.dspec_play.specs.Coherent.{StandsCaller, StandsSide, PushesNext, CallerStands, the_caller, PlayState, IsCoherent, idle_caller}
-use Rattle.dspec_play.specs.Turns.{idle_callers, at_start, begin_cpu, begin_consumer, step_cpu, step_consumer, step, on_to_end}
+use Rattle.dspec_play.specs.Coherent.{StandsProgress, StandsSide, PushesNext, ProgressStands, progress_of, PlayState, IsCoherent, idle_progress}
+use Rattle.dspec_play.specs.Turns.{idle_cpus, at_start, begin_cpu, begin_consumer, step_cpu, step_consumer, step, on_to_end}
 use Rattle.dspec_play.proofs.OthersStand.{others_stand}
 use Rattle.dspec_deeds.proofs.Going.{authors_go_on}
 use Rattle.dspec_play.proofs.CpuSteps.{cpu_step_stands}
@@ -29,12 +29,12 @@ IsActor k (actor.Cpu c) = c < k.cpus
 IsActor k actor.Consumer = Unit {0}
 
 -- no call is in flight before the first turn
-pub idle_at : (n c : ℕ) → the_caller (idle_callers n) c ≡ idle_caller
+pub idle_at : (n c : ℕ) → progress_of (idle_cpus n) c ≡ idle_progress
 idle_at zero c = refl
 idle_at (suc n) zero = refl
 idle_at (suc n) (suc c) = idle_at n c
 
-idle_count : (n : ℕ) → length (idle_callers n) ≡ n
+idle_count : (n : ℕ) → length (idle_cpus n) ≡ n
 idle_count zero = refl
 idle_count (suc n) = ap suc (idle_count n)
 
@@ -46,7 +46,7 @@ start_coherent shape k fine = record {
   legal = (tt, tt);
   authors = tt;
   rests = refl;
-  stands = λ c lt. subst (CallerStands k c []) (sym (idle_at k.cpus c)) record { flight = (refl, refl); counts = (refl, refl); pushes = tt; want = omega arith };
+  stands = λ c lt. subst (ProgressStands k c []) (sym (idle_at k.cpus c)) record { flight = (refl, refl); counts = (refl, refl); pushes = tt; want = omega arith };
   side = refl;
 }
 
@@ -59,13 +59,13 @@ pushes_any spare.Out next p = tt
 pushes_any spare.GivenBack next p = tt
 
 -- a call of a CPU that begins
-pub begin_cpu_coherent : (shape : ℕ → Option Shape) (st : PlayState) (c : ℕ) (o : CpuOp) → IsCoherent shape st → c < st.config.cpus → (the_caller st.callers c).flight ≡ None
+pub begin_cpu_coherent : (shape : ℕ → Option Shape) (st : PlayState) (c : ℕ) (o : CpuOp) → IsCoherent shape st → c < st.config.cpus → (progress_of st.progresses c).flight ≡ None
     → IsCoherent shape (begin_cpu c o st)
 begin_cpu_coherent shape st c o ok lt idle =
-    let me = the_caller st.callers c in
+    let me = progress_of st.progresses c in
     let was = ok.stands c lt in
-    let rest = subst (StandsCaller st.config c st.deeds me) idle was.flight in
-    let now : CallerStands st.config c st.deeds (record me { flight = Some (cpu.Begun o); steps = 0 }) = record {
+    let rest = subst (StandsProgress st.config c st.deeds me) idle was.flight in
+    let now : ProgressStands st.config c st.deeds (record me { flight = Some (cpu.Begun o); steps = 0 }) = record {
       flight = (rest.0, refl);
       counts = was.counts;
       pushes = pushes_any me.spare (Some (cpu.Begun o)) (subst (PushesNext me.spare) idle was.pushes);
@@ -73,11 +73,11 @@ begin_cpu_coherent shape st c o ok lt idle =
     } in
     record {
       ranges = ok.ranges;
-      count = length-set st.callers c _ ∙ ok.count;
+      count = length-set st.progresses c _ ∙ ok.count;
       legal = ok.legal;
       authors = ok.authors;
       rests = ok.rests;
-      stands = set_stands st.config st.deeds st.callers c _ ok.count (λ b less apart. ok.stands b less) (λ less. now);
+      stands = set_stands st.config st.deeds st.progresses c _ ok.count (λ b less apart. ok.stands b less) (λ less. now);
       side = ok.side;
     }
 
@@ -88,7 +88,7 @@ begin_consumer_coherent shape st o ok = record { ranges = ok.ranges; count = ok.
 module _ (shape : ℕ → Option Shape) where
   -- a step leaves the configuration
   pub step_config : (a : Actor) (st : PlayState) → (step shape a st).state.config ≡ st.config
-  step_config (actor.Cpu c) st = go (the_caller st.callers c).flight
+  step_config (actor.Cpu c) st = go (progress_of st.progresses c).flight
     where
       go : (f : Option CpuFlight) → (step_cpu shape c st f).state.config ≡ st.config
       go None = refl
@@ -99,29 +99,29 @@ module _ (shape : ℕ → Option Shape) where
       go None = refl
       go (Some f) = refl
 
-  pub step_cpu_coherent : (st : PlayState) (c : ℕ) (f : Option CpuFlight) → IsCoherent shape st → c < st.config.cpus → (the_caller st.callers c).flight ≡ f
+  pub step_cpu_coherent : (st : PlayState) (c : ℕ) (f : Option CpuFlight) → IsCoherent shape st → c < st.config.cpus → (progress_of st.progresses c).flight ≡ f
       → IsCoherent shape (step_cpu shape c st f).state
   step_cpu_coherent st c None ok lt is = ok
   step_cpu_coherent st c (Some f) ok lt is =
       let k = st.config in
       let h = st.deeds in
-      let m = cpu_step shape k c h (the_caller st.callers c) f in
-      let did = cpu_step_stands shape k c h (the_caller st.callers c) ok.ranges ok.legal ok.rests (ok.stands c lt) f is in
+      let m = cpu_step shape k c h (progress_of st.progresses c) f in
+      let did = cpu_step_stands shape k c h (progress_of st.progresses c) ok.ranges ok.legal ok.rests (ok.stands c lt) f is in
       record {
         ranges = ok.ranges;
-        count = length-set st.callers c m.caller ∙ ok.count;
+        count = length-set st.progresses c m.progress ∙ ok.count;
         legal = did.goes.legal;
         authors = authors_go_on k (actor.Cpu c) m.deeds h (λ a e. let same : c ≡ a = cc in subst (λ x. x < k.cpus) same lt) ok.authors did.goes.by;
         rests = did.goes.rests;
-        stands = set_stands k (m.deeds ++ h) st.callers c m.caller ok.count
-            (λ b less apart. others_stand shape k (actor.Cpu c) b m.deeds h (the_caller st.callers b) ok.rests did.goes apart less (ok.stands b less)) (λ less. did.stands);
+        stands = set_stands k (m.deeds ++ h) st.progresses c m.progress ok.count
+            (λ b less apart. others_stand shape k (actor.Cpu c) b m.deeds h (progress_of st.progresses b) ok.rests did.goes apart less (ok.stands b less)) (λ less. did.stands);
         side = side_stands shape k c m.deeds h ok.rests did.goes st.side st.side.flight ok.side;
       }
 
   pub step_consumer_coherent : (st : PlayState) (f : Option ConsumerFlight) → IsCoherent shape st → st.side.flight ≡ f → IsCoherent shape (step_consumer shape st f).state
   step_consumer_coherent st None ok is = ok
   step_consumer_coherent st (Some f) ok is =
-      let did = consumer_keeps shape st.config st.deeds st.side st.callers ok.ranges ok.legal ok.rests ok.count ok.stands f (subst (StandsSide st.config st.deeds st.side) is ok.side) in
+      let did = consumer_keeps shape st.config st.deeds st.side st.progresses ok.ranges ok.legal ok.rests ok.count ok.stands f (subst (StandsSide st.config st.deeds st.side) is ok.side) in
       record {
         ranges = ok.ranges;
         count = did.count;
@@ -135,7 +135,7 @@ module _ (shape : ℕ → Option Shape) where
 
   -- one atomic step
   pub step_coherent : (a : Actor) (st : PlayState) → IsCoherent shape st → IsActor st.config a → IsCoherent shape (step shape a st).state
-  step_coherent (actor.Cpu c) st ok there = step_cpu_coherent st c (the_caller st.callers c).flight ok there refl
+  step_coherent (actor.Cpu c) st ok there = step_cpu_coherent st c (progress_of st.progresses c).flight ok there refl
   step_coherent actor.Consumer st ok there = step_consumer_coherent st st.side.flight ok refl
 
   -- a whole call, or as much of it as the number of steps allows

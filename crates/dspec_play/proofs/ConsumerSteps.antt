@@ -14,10 +14,10 @@ use Rattle.dspec_deeds.specs.declared.calls.ConsumerOp.{ConsumerOp}
 use Rattle.dspec_deeds.specs.declared.calls.ConsumerOp.TheVariants as consumer_op
 use Rattle.dspec_deeds.specs.declared.deed.Deed.{Deed}
 use Rattle.dspec_deeds.specs.declared.deed.Deed.TheVariants.{Release, Halt}
-use Rattle.dspec_play.specs.declared.flight.Caller.{Caller}
+use Rattle.dspec_play.specs.declared.flight.CpuProgress.{CpuProgress}
 use Rattle.dspec_play.specs.declared.flight.ConsumerFlight.{ConsumerFlight}
 use Rattle.dspec_play.specs.declared.flight.ConsumerFlight.TheVariants as consumer
-use Rattle.dspec_play.specs.declared.flight.ConsumerSide.{ConsumerSide}
+use Rattle.dspec_play.specs.declared.flight.ConsumerProgress.{ConsumerProgress}
 use Rattle.dspec_play.specs.declared.flight.CpuFlight.{CpuFlight}
 use Rattle.dspec_play.specs.declared.flight.CpuFlight.TheVariants as cpu
 use Rattle.dspec_play.specs.declared.flight.Spare.{Spare}
@@ -27,7 +27,7 @@ use Rattle.dspec_deeds.specs.Own.{seals}
 use Rattle.dspec_deeds.specs.Legal.{IsAllowed}
 use Rattle.dspec_play.specs.Play.{ConsumerStep, same_word, consumer_step, consumer_begun, changes, stops, takes_at, gives_at, next_slot, loads_slot, loads_ack, reaps}
 use Rattle.dspec_deeds.specs.Ranges.{start_fault}
-use Rattle.dspec_play.specs.Coherent.{IsSlot, StandsCaller, SettledBelow, StandsConsumer, StandsSide, SpareCounts, CallerStands, the_caller, idle_caller}
+use Rattle.dspec_play.specs.Coherent.{IsSlot, StandsProgress, SettledBelow, StandsConsumer, StandsSide, SpareCounts, ProgressStands, progress_of, idle_progress}
 use Rattle.dspec_deeds.proofs.TestLemmas.{either_way, same_number, numbers_differ}
 use Rattle.dspec_deeds.proofs.SetUp.{set_up}
 use Rattle.dspec_deeds.proofs.Acked.{acked}
@@ -36,8 +36,8 @@ use Rattle.dspec_deeds.proofs.Going.{GoesOn}
 use Rattle.dspec_play.proofs.OthersStand.{others_stand}
 
 -- a side's flight stands where it keeps its steps, and a sealed buffer stays one
-reseated : (k : Config) (c : ℕ) (h : List Deed) (me : Caller) (p : Spare) (n t : ℕ) (f : Option CpuFlight) → (me.spare ≡ spare.Sealed → p ≡ spare.Sealed) → StandsCaller k c h me f
-    → StandsCaller k c h (record me { spare = p; want = n; takes = t }) f
+reseated : (k : Config) (c : ℕ) (h : List Deed) (me : CpuProgress) (p : Spare) (n t : ℕ) (f : Option CpuFlight) → (me.spare ≡ spare.Sealed → p ≡ spare.Sealed) → StandsProgress k c h me f
+    → StandsProgress k c h (record me { spare = p; want = n; takes = t }) f
 reseated k c h me p n t None keeps st = st
 reseated k c h me p n t (Some cpu.ServicePush) keeps st = (st.0, st.1, keeps st.2)
 reseated k c h me p n t (Some (cpu.Begun o)) keeps st = st
@@ -54,9 +54,9 @@ reseated k c h me p n t (Some cpu.ServicePop) keeps st = st
 reseated k c h me p n t (Some (cpu.ServiceLoad s sum)) keeps st = st
 reseated k c h me p n t (Some (cpu.ServiceStore s w sum)) keeps st = st
 
--- a CPU's side once the consumer has asked, taken or given back
-module _ (k : Config) (c : ℕ) (h : List Deed) (me : Caller) (st : CallerStands k c h me) where
-  asked_stands : CallerStands k c h (record me { want = me.takes + 1 })
+-- a CPU's progress once the consumer has asked, taken or given back
+module _ (k : Config) (c : ℕ) (h : List Deed) (me : CpuProgress) (st : ProgressStands k c h me) where
+  asked_stands : ProgressStands k c h (record me { want = me.takes + 1 })
   asked_stands = record {
     flight = reseated k c h me me.spare (me.takes + 1) me.takes me.flight (λ e. e) st.flight;
     counts = st.counts;
@@ -64,7 +64,7 @@ module _ (k : Config) (c : ℕ) (h : List Deed) (me : Caller) (st : CallerStands
     want = omega arith;
   }
 
-  taken_stands : me.spare ≡ spare.Handed → CallerStands k c h (record me { spare = spare.Out; takes = me.takes + 1 })
+  taken_stands : me.spare ≡ spare.Handed → ProgressStands k c h (record me { spare = spare.Out; takes = me.takes + 1 })
   taken_stands e = record {
     flight = reseated k c h me spare.Out me.want (me.takes + 1) me.flight (λ (s : me.spare ≡ spare.Sealed). absurd (cc (e, s))) st.flight;
     counts = (let n : seals c h ≡ me.takes + 1 = subst (SpareCounts (seals c h) me.takes) e st.counts in n);
@@ -72,7 +72,7 @@ module _ (k : Config) (c : ℕ) (h : List Deed) (me : Caller) (st : CallerStands
     want = (let le = st.want in omega arith);
   }
 
-  given_stands : me.spare ≡ spare.Out → CallerStands k c h (record me { spare = spare.GivenBack })
+  given_stands : me.spare ≡ spare.Out → ProgressStands k c h (record me { spare = spare.GivenBack })
   given_stands e = record {
     flight = reseated k c h me spare.GivenBack me.want me.takes me.flight (λ (s : me.spare ≡ spare.Sealed). absurd (cc (e, s))) st.flight;
     counts = (let n : seals c h ≡ me.takes = subst (SpareCounts (seals c h) me.takes) e st.counts in n);
@@ -81,29 +81,29 @@ module _ (k : Config) (c : ℕ) (h : List Deed) (me : Caller) (st : CallerStands
   }
 
 -- every CPU's side stands
-abbrev pub AllStand : Config → List Deed → List Caller → Type 0
-AllStand k h all = (c : ℕ) → c < k.cpus → CallerStands k c h (the_caller all c)
+abbrev pub AllStand : Config → List Deed → List CpuProgress → Type 0
+AllStand k h all = (c : ℕ) → c < k.cpus → ProgressStands k c h (progress_of all c)
 
 -- one side replaced by one that stands; a number past the last replaces none
-pub set_stands : (k : Config) (h : List Deed) (all : List Caller) (a : ℕ) (me : Caller) → length all ≡ k.cpus
-    → ((c : ℕ) → c < k.cpus → (c == a) ≡ false → CallerStands k c h (the_caller all c)) → (a < k.cpus → CallerStands k a h me) → AllStand k h (slice_set all a me)
+pub set_stands : (k : Config) (h : List Deed) (all : List CpuProgress) (a : ℕ) (me : CpuProgress) → length all ≡ k.cpus
+    → ((c : ℕ) → c < k.cpus → (c == a) ≡ false → ProgressStands k c h (progress_of all c)) → (a < k.cpus → ProgressStands k a h me) → AllStand k h (slice_set all a me)
 set_stands k h all a me count stand st c lt = ⊎_elim
     (λ (t : (c == a) ≡ true).
     let is = same_number c a t in
     let lt' : a < k.cpus = omega arith in
-    let here : the_caller (slice_set all a me) a ≡ me = get_or-set_same all a me idle_caller (omega arith) in
-    subst (λ x. CallerStands k x h (the_caller (slice_set all a me) x)) (sym is) (subst (CallerStands k a h) (sym here) (st lt')))
+    let here : progress_of (slice_set all a me) a ≡ me = get_or-set_same all a me idle_progress (omega arith) in
+    subst (λ x. ProgressStands k x h (progress_of (slice_set all a me) x)) (sym is) (subst (ProgressStands k a h) (sym here) (st lt')))
     (λ (f : (c == a) ≡ false).
-    let there : the_caller (slice_set all a me) c ≡ the_caller all c = get_or-set_other all a c me idle_caller (numbers_differ c a f) in
-    subst (CallerStands k c h) (sym there) (stand c lt f))
+    let there : progress_of (slice_set all a me) c ≡ progress_of all c = get_or-set_other all a c me idle_progress (numbers_differ c a f) in
+    subst (ProgressStands k c h) (sym there) (stand c lt f))
     (either_way (c == a))
 
 -- what a step of the consumer keeps
 pub record ConsumerKeeps (shape : ℕ → Option Shape) (k : Config) (h : List Deed) (m : ConsumerStep) : Type 0 where
   pub goes : GoesOn shape k Consumer m.deeds h
   pub side : StandsSide k (m.deeds ++ h) m.side m.side.flight
-  pub count : length m.callers ≡ k.cpus
-  pub stand : AllStand k (m.deeds ++ h) m.callers
+  pub count : length m.progresses ≡ k.cpus
+  pub stand : AllStand k (m.deeds ++ h) m.progresses
 
 -- a slot's share of a clean's steps
 pub share : (s q : ℕ) → 1 ≤ s → (s - 1) * q + q ≡ s * q
@@ -112,29 +112,29 @@ share s q one = let t : s ≡ (s - 1) + 1 = omega arith in sym (ap (λ n. n * q)
     more : (n q : ℕ) → (n + 1) * q ≡ n * q + q
     more n q = grind arith
 
-module _ (shape : ℕ → Option Shape) (k : Config) (h : List Deed) (side : ConsumerSide) (all : List Caller) (fine : start_fault k ≡ None) (legal : IsAllowed shape k h) (rests : owed h ≡ 0)
+module _ (shape : ℕ → Option Shape) (k : Config) (h : List Deed) (side : ConsumerProgress) (all : List CpuProgress) (fine : start_fault k ≡ None) (legal : IsAllowed shape k h) (rests : owed h ≡ 0)
     (count : length all ≡ k.cpus) (stand : AllStand k h all) where
   none : GoesOn shape k Consumer [] h
   none = record { legal = legal; rests = rests; by = tt }
 
   all_stand : (ds : List Deed) → GoesOn shape k Consumer ds h → AllStand k (ds ++ h) all
-  all_stand ds goes c lt = others_stand shape k Consumer c ds h (the_caller all c) rests goes refl lt (stand c lt)
+  all_stand ds goes c lt = others_stand shape k Consumer c ds h (progress_of all c) rests goes refl lt (stand c lt)
 
   ended : (ds : List Deed) (a : Answer) → GoesOn shape k Consumer ds h → ConsumerKeeps shape k h (stops k h side all ds a)
   ended ds a goes = record { goes = goes; side = refl; count = count; stand = all_stand ds goes }
 
-  changed : (c : ℕ) (me : Caller) (a : Answer) → (c < k.cpus → CallerStands k c h me) → ConsumerKeeps shape k h (changes k h side all c me a)
+  changed : (c : ℕ) (me : CpuProgress) (a : Answer) → (c < k.cpus → ProgressStands k c h me) → ConsumerKeeps shape k h (changes k h side all c me a)
   changed c me a st = record { goes = none; side = refl; count = length-set all c me ∙ count; stand = set_stands k h all c me count (λ b lt apart. stand b lt) st }
 
-  took : (c : ℕ) (p : Spare) → (the_caller all c).spare ≡ p → ConsumerKeeps shape k h (takes_at k h side all c (the_caller all c) p)
-  took c spare.Handed e = changed c _ _ (λ lt. taken_stands k c h (the_caller all c) (stand c lt) e)
+  took : (c : ℕ) (p : Spare) → (progress_of all c).spare ≡ p → ConsumerKeeps shape k h (takes_at k h side all c (progress_of all c) p)
+  took c spare.Handed e = changed c _ _ (λ lt. taken_stands k c h (progress_of all c) (stand c lt) e)
   took c spare.InHand e = ended [] answer.TookNone none
   took c spare.Sealed e = ended [] answer.TookNone none
   took c spare.Out e = ended [] answer.TookNone none
   took c spare.GivenBack e = ended [] answer.TookNone none
 
-  gave : (c : ℕ) (p : Spare) → (the_caller all c).spare ≡ p → ConsumerKeeps shape k h (gives_at k h side all c (the_caller all c) p)
-  gave c spare.Out e = changed c _ _ (λ lt. given_stands k c h (the_caller all c) (stand c lt) e)
+  gave : (c : ℕ) (p : Spare) → (progress_of all c).spare ≡ p → ConsumerKeeps shape k h (gives_at k h side all c (progress_of all c) p)
+  gave c spare.Out e = changed c _ _ (λ lt. given_stands k c h (progress_of all c) (stand c lt) e)
   gave c spare.InHand e = ended [] (answer.GaveBack false) none
   gave c spare.Sealed e = ended [] (answer.GaveBack false) none
   gave c spare.Handed e = ended [] (answer.GaveBack false) none
@@ -215,9 +215,9 @@ module _ (shape : ℕ → Option Shape) (k : Config) (h : List Deed) (side : Con
       few = let e = share s (k.cpus + 2) st.0.0 in let le = st.3 in omega arith
 
   begun : (o : ConsumerOp) → side.steps ≡ 0 → ConsumerKeeps shape k h (consumer_begun k h side all o)
-  begun (consumer_op.Ask c) e = changed c _ _ (λ lt. asked_stands k c h (the_caller all c) (stand c lt))
-  begun (consumer_op.Take c) e = took c (the_caller all c).spare refl
-  begun (consumer_op.GiveBack c) e = gave c (the_caller all c).spare refl
+  begun (consumer_op.Ask c) e = changed c _ _ (λ lt. asked_stands k c h (progress_of all c) (stand c lt))
+  begun (consumer_op.Take c) e = took c (progress_of all c).spare refl
+  begun (consumer_op.GiveBack c) e = gave c (progress_of all c).spare refl
   begun consumer_op.Clean e = loaded 1 0 (let one = (set_up k fine).1 in (omega arith, one)) (omega arith) (omega arith)
   begun consumer_op.Stop e = stopped
 

@@ -5,14 +5,14 @@ use Rattle.dspec_deeds.specs.declared.config.Config.{Config}
 use Rattle.dspec_deeds.specs.declared.calls.CpuOp.{CpuOp}
 use Rattle.dspec_deeds.specs.declared.calls.CpuOp.TheVariants as cpu_op
 use Rattle.dspec_deeds.specs.declared.deed.Deed.{Deed}
-use Rattle.dspec_play.specs.declared.flight.Caller.{Caller}
+use Rattle.dspec_play.specs.declared.flight.CpuProgress.{CpuProgress}
 use Rattle.dspec_play.specs.declared.flight.CpuFlight.{CpuFlight}
 use Rattle.dspec_play.specs.declared.flight.CpuFlight.TheVariants as cpu
 use Rattle.dspec_deeds.specs.Ranges.{start_fault}
 use Rattle.dspec_deeds.specs.History.{owed, scan}
 use Rattle.dspec_deeds.specs.Legal.{IsAllowed}
 use Rattle.dspec_play.specs.Play.{begun, cpu_step}
-use Rattle.dspec_play.specs.Coherent.{StandsCpu, StandsCaller, CallerStands}
+use Rattle.dspec_play.specs.Coherent.{StandsCpu, StandsProgress, ProgressStands}
 use Rattle.dspec_play.proofs.StepsParts.{IsUnderWay, StepStands, pushes_not}
 use Rattle.dspec_play.proofs.StepsTrace.{trace_begins}
 use Rattle.dspec_play.proofs.StepsScan.{scan_begins, scan_loads, scan_tries}
@@ -21,7 +21,7 @@ use Rattle.dspec_play.proofs.StepsCommit.{commit_begins, commit_loads, commit_tr
 use Rattle.dspec_play.proofs.StepsDiscard.{discard_begins, discard_loads, discard_tries}
 use Rattle.dspec_play.proofs.StepsService.{service_begins, service_pops, service_pushes, service_loads, service_stores}
 
-begins_stand : (shape : ℕ → Option Shape) (k : Config) (c : ℕ) (h : List Deed) (me : Caller) → IsUnderWay shape k c h me → (o : CpuOp) → scan k c h ≡ 0 → me.steps ≡ 0
+begins_stand : (shape : ℕ → Option Shape) (k : Config) (c : ℕ) (h : List Deed) (me : CpuProgress) → IsUnderWay shape k c h me → (o : CpuOp) → scan k c h ≡ 0 → me.steps ≡ 0
     → StepStands shape k c h (begun shape k c h me o)
 begins_stand shape k c h me play (cpu_op.Trace r) idle first = trace_begins shape k c h me play r idle
 begins_stand shape k c h me play cpu_op.Speculation idle first = scan_begins shape k c h me play idle first
@@ -30,14 +30,14 @@ begins_stand shape k c h me play (cpu_op.Commit id) idle first = commit_begins s
 begins_stand shape k c h me play (cpu_op.Discard id) idle first = discard_begins shape k c h me play id idle first
 begins_stand shape k c h me play cpu_op.Service idle first = service_begins shape k c h me play idle first
 
-module _ (shape : ℕ → Option Shape) (k : Config) (c : ℕ) (h : List Deed) (me : Caller) (ranges : start_fault k ≡ None) (legal : IsAllowed shape k h) (rests : owed h ≡ 0)
-    (stands : CallerStands k c h me) where
+module _ (shape : ℕ → Option Shape) (k : Config) (c : ℕ) (h : List Deed) (me : CpuProgress) (ranges : start_fault k ≡ None) (legal : IsAllowed shape k h) (rests : owed h ≡ 0)
+    (stands : ProgressStands k c h me) where
   -- at each step but the push, no sealed batch waits for its push
   under_way : (f : CpuFlight) → me.flight ≡ Some f → f ≢ cpu.ServicePush → IsUnderWay shape k c h me
   under_way f is other = record { ranges = ranges; legal = legal; rests = rests; counts = stands.counts; pushes = pushes_not me.spare f me.flight is other stands.pushes; want = stands.want }
 
   stands_at : (f : CpuFlight) → me.flight ≡ Some f → StandsCpu k c h me f
-  stands_at f is = subst (λ o. StandsCaller k c h me o) is stands.flight
+  stands_at f is = subst (λ o. StandsProgress k c h me o) is stands.flight
 
   -- the deeds that a CPU's step enters are legal and its own, and its side stands behind them
   pub cpu_step_stands : (f : CpuFlight) → me.flight ≡ Some f → StepStands shape k c h (cpu_step shape k c h me f)

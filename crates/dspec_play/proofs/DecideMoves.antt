@@ -19,7 +19,7 @@ use Rattle.dspec_deeds.specs.declared.calls.Decided.TheVariants as decided_answe
 use Rattle.dspec_deeds.specs.declared.deed.DecideFate.TheVariants as decided
 use Rattle.dspec_deeds.specs.declared.deed.Deed.{Deed}
 use Rattle.dspec_deeds.specs.declared.deed.Deed.TheVariants.{Commit, Discard, Release}
-use Rattle.dspec_play.specs.declared.flight.Caller.{Caller}
+use Rattle.dspec_play.specs.declared.flight.CpuProgress.{CpuProgress}
 use Rattle.dspec_play.specs.declared.flight.CpuFlight.TheVariants as cpu
 use Rattle.dspec_deeds.specs.FateKinds.{is_commit}
 use Rattle.dspec_deeds.specs.History.{is_among, callers, issue, is_sole, word_at}
@@ -42,7 +42,7 @@ inactive_test Committing = refl
 inactive_test CommittingMany = refl
 inactive_test Discarding = refl
 
-module _ (shape : ℕ → Option Shape) (k : Config) (c : ℕ) (h : List Deed) (me : Caller) (id : Speculation) (w : SlotState) where
+module _ (shape : ℕ → Option Shape) (k : Config) (c : ℕ) (h : List Deed) (me : CpuProgress) (id : Speculation) (w : SlotState) where
   -- the table attempts nothing
   pub commit_voids : (act : Act) → ((to : SlotState) → act ≢ Attempt to)
       → shown_commit shape k c h me id w act ≡ ends shape k c h me (Commit c id decided.Void ∷ []) (answer.Decided decided_answer.Void)
@@ -60,14 +60,14 @@ module _ (shape : ℕ → Option Shape) (k : Config) (c : ℕ) (h : List Deed) (
 
   -- the table attempts an exchange, which is next
   pub commit_next : (v to : SlotState) (act : Act) (a : Option Answer) → v ≡ w → act ≡ Attempt to → a ≡ None
-      → record { caller = record me { flight = Some (cpu.CommitTry id v); steps = me.steps + 1 }; deeds = []; answer = a } ≡ shown_commit shape k c h me id w act
+      → record { progress = record me { flight = Some (cpu.CommitTry id v); steps = me.steps + 1 }; deeds = []; answer = a } ≡ shown_commit shape k c h me id w act
   commit_next v to act a is attempts none = rw (is, attempts, none) refl
 
   pub discard_next : (v to : SlotState) (act : Act) (a : Option Answer) → v ≡ w → act ≡ Attempt to → a ≡ None
-      → record { caller = record me { flight = Some (cpu.DiscardTry id v); steps = me.steps + 1 }; deeds = []; answer = a } ≡ shown_discard shape k c h me id w act
+      → record { progress = record me { flight = Some (cpu.DiscardTry id v); steps = me.steps + 1 }; deeds = []; answer = a } ≡ shown_discard shape k c h me id w act
   discard_next v to act a is attempts none = rw (is, attempts, none) refl
 
-module _ (shape : ℕ → Option Shape) (k : Config) (c : ℕ) (h : List Deed) (me : Caller) (id : Speculation) where
+module _ (shape : ℕ → Option Shape) (k : Config) (c : ℕ) (h : List Deed) (me : CpuProgress) (id : Speculation) where
   -- the one deed of a commit that decides
   pub committed_deeds : (act : Act) → (committed_by shape k c h me id act).deeds ≡ Commit c id (commit_fate shape k c h id) ∷ []
   committed_deeds act = ⊎_elim (λ (t : is_alone act ≡ true). rw t refl) (λ (f : is_alone act ≡ false). rw f refl) (either_way (is_alone act))

@@ -18,10 +18,10 @@ use Rattle.dspec_deeds.specs.declared.calls.CpuOp.{CpuOp}
 use Rattle.dspec_deeds.specs.declared.calls.CpuOp.TheVariants as cpu_op
 use Rattle.dspec_deeds.specs.declared.calls.Served.{Served}
 use Rattle.dspec_deeds.specs.declared.deed.Deed.{Deed}
-use Rattle.dspec_play.specs.declared.flight.Caller.{Caller}
+use Rattle.dspec_play.specs.declared.flight.CpuProgress.{CpuProgress}
 use Rattle.dspec_play.specs.declared.flight.ConsumerFlight.{ConsumerFlight}
 use Rattle.dspec_play.specs.declared.flight.ConsumerFlight.TheVariants as consumer
-use Rattle.dspec_play.specs.declared.flight.ConsumerSide.{ConsumerSide}
+use Rattle.dspec_play.specs.declared.flight.ConsumerProgress.{ConsumerProgress}
 use Rattle.dspec_play.specs.declared.flight.CpuFlight.{CpuFlight}
 use Rattle.dspec_play.specs.declared.flight.CpuFlight.TheVariants as cpu
 use Rattle.dspec_play.specs.declared.flight.Spare.{Spare}
@@ -33,7 +33,7 @@ use Rattle.dspec_deeds.specs.Legal.{fits_principal, fits_speculative}
 use Rattle.dspec_play.specs.Calls.{op_of, consumer_op_of}
 use Rattle.dspec_play.specs.Play.{Moved, ConsumerStep, same_word, is_alone, is_release, is_worn, is_mine, spoken_at, shown_speculate, shown_commit, shown_discard, missed}
 use Rattle.dspec_play.specs.Play.{shown_scan, asked, begun, popped, served, shown_service, cpu_step, takes_at, gives_at, next_slot, loads_slot, consumer_step}
-use Rattle.dspec_play.specs.Coherent.{the_caller, idle_caller}
+use Rattle.dspec_play.specs.Coherent.{progress_of, idle_progress}
 use Rattle.dspec_deeds.proofs.TestLemmas.{either_way, same_number, numbers_differ}
 
 module _ (P : CpuOp → Type 0) where
@@ -42,8 +42,8 @@ module _ (P : CpuOp → Type 0) where
   Passes flight = (f : CpuFlight) → flight ≡ Some f → P (op_of f)
 
   -- the same of every CPU's call
-  abbrev pub AllPass : ℕ → List Caller → Type 0
-  AllPass n all = (c : ℕ) (f : CpuFlight) → c < n → (the_caller all c).flight ≡ Some f → P (op_of f)
+  abbrev pub AllPass : ℕ → List CpuProgress → Type 0
+  AllPass n all = (c : ℕ) (f : CpuFlight) → c < n → (progress_of all c).flight ≡ Some f → P (op_of f)
 
   pub none_passes : Passes None
   none_passes f e = absurd (cc (e))
@@ -51,19 +51,19 @@ module _ (P : CpuOp → Type 0) where
   pub some_passes : (f : CpuFlight) → P (op_of f) → Passes (Some f)
   some_passes f p g e = let same : f ≡ g = cc (e) in subst (λ x. P (op_of x)) same p
 
-  -- one caller replaced
-  pub set_passes : (n : ℕ) (all : List Caller) (a : ℕ) (me : Caller) → length all ≡ n → AllPass n all → Passes me.flight → AllPass n (slice_set all a me)
+  -- one CPU's progress replaced
+  pub set_passes : (n : ℕ) (all : List CpuProgress) (a : ℕ) (me : CpuProgress) → length all ≡ n → AllPass n all → Passes me.flight → AllPass n (slice_set all a me)
   set_passes n all a me count was own c f lt is = ⊎_elim
       (λ (t : (c == a) ≡ true).
       let same = same_number c a t in
-      let here : the_caller (slice_set all a me) a ≡ me = get_or-set_same all a me idle_caller (omega arith) in
-      own f (ap (λ (y : Caller). y.flight) (sym here) ∙ subst (λ b. (the_caller (slice_set all a me) b).flight ≡ Some f) same is))
-      (λ (t : (c == a) ≡ false). was c f lt (ap (λ (y : Caller). y.flight) (sym (get_or-set_other all a c me idle_caller (numbers_differ c a t))) ∙ is))
+      let here : progress_of (slice_set all a me) a ≡ me = get_or-set_same all a me idle_progress (omega arith) in
+      own f (ap (λ (y : CpuProgress). y.flight) (sym here) ∙ subst (λ b. (progress_of (slice_set all a me) b).flight ≡ Some f) same is))
+      (λ (t : (c == a) ≡ false). was c f lt (ap (λ (y : CpuProgress). y.flight) (sym (get_or-set_other all a c me idle_progress (numbers_differ c a t))) ∙ is))
       (either_way (c == a))
 
-  module _ (shape : ℕ → Option Shape) (k : Config) (c : ℕ) (h : List Deed) (me : Caller) where
+  module _ (shape : ℕ → Option Shape) (k : Config) (c : ℕ) (h : List Deed) (me : CpuProgress) where
     abbrev pub Leaves : Moved → Type 0
-    Leaves m = Passes m.caller.flight
+    Leaves m = Passes m.progress.flight
 
     either : (b : Bool) (x y : Moved) → Leaves x → Leaves y → Leaves (if b then x else y)
     either true x y p q = p
@@ -184,7 +184,7 @@ module _ (P : ConsumerOp → Type 0) where
   ended : Goes None
   ended f e = absurd (cc (e))
 
-  module _ (k : Config) (h : List Deed) (side : ConsumerSide) (all : List Caller) where
+  module _ (k : Config) (h : List Deed) (side : ConsumerProgress) (all : List CpuProgress) where
     one_of : (b : Bool) (x y : ConsumerStep) → Goes x.side.flight → Goes y.side.flight → Goes (if b then x else y).side.flight
     one_of true x y p q = p
     one_of false x y p q = q
@@ -195,14 +195,14 @@ module _ (P : ConsumerOp → Type 0) where
     load_goes : (s n : ℕ) → P consumer_op.Clean → Goes (loads_slot k h side all s n).side.flight
     load_goes s n e = one_of (awaits (word_at s h).code) _ _ (some_goes (consumer.CleanAck s (word_at s h) 0 n) e) (next_goes s n [] e)
 
-    takes_goes : (c : ℕ) (me : Caller) (p : Spare) → Goes (takes_at k h side all c me p).side.flight
+    takes_goes : (c : ℕ) (me : CpuProgress) (p : Spare) → Goes (takes_at k h side all c me p).side.flight
     takes_goes c me spare.InHand = ended
     takes_goes c me spare.Sealed = ended
     takes_goes c me spare.Handed = ended
     takes_goes c me spare.Out = ended
     takes_goes c me spare.GivenBack = ended
 
-    gives_goes : (c : ℕ) (me : Caller) (p : Spare) → Goes (gives_at k h side all c me p).side.flight
+    gives_goes : (c : ℕ) (me : CpuProgress) (p : Spare) → Goes (gives_at k h side all c me p).side.flight
     gives_goes c me spare.InHand = ended
     gives_goes c me spare.Sealed = ended
     gives_goes c me spare.Handed = ended
@@ -212,8 +212,8 @@ module _ (P : ConsumerOp → Type 0) where
     -- a step of the consumer leaves its call in flight, or none
     pub clean_goes : (f : ConsumerFlight) → P (consumer_op_of f) → Goes (consumer_step k h side all f).side.flight
     clean_goes (consumer.Begun (consumer_op.Ask c)) e = ended
-    clean_goes (consumer.Begun (consumer_op.Take c)) e = takes_goes c (the_caller all c) (the_caller all c).spare
-    clean_goes (consumer.Begun (consumer_op.GiveBack c)) e = gives_goes c (the_caller all c) (the_caller all c).spare
+    clean_goes (consumer.Begun (consumer_op.Take c)) e = takes_goes c (progress_of all c) (progress_of all c).spare
+    clean_goes (consumer.Begun (consumer_op.GiveBack c)) e = gives_goes c (progress_of all c) (progress_of all c).spare
     clean_goes (consumer.Begun consumer_op.Clean) e = load_goes 1 0 e
     clean_goes (consumer.Begun consumer_op.Stop) e = one_of (halted h) _ _ ended ended
     clean_goes (consumer.CleanLoad s n) e = load_goes s n e

@@ -9,13 +9,13 @@ use Rattle.dspec_deeds.specs.declared.config.Config.{Config}
 use Rattle.dspec_deeds.specs.declared.calls.Actor.{Actor}
 use Rattle.dspec_deeds.specs.declared.calls.Actor.TheVariants.{Cpu}
 use Rattle.dspec_deeds.specs.declared.deed.Deed.{Deed}
-use Rattle.dspec_play.specs.declared.flight.Caller.{Caller}
+use Rattle.dspec_play.specs.declared.flight.CpuProgress.{CpuProgress}
 use Rattle.dspec_play.specs.declared.flight.CpuFlight.{CpuFlight}
 use Rattle.dspec_play.specs.declared.flight.CpuFlight.TheVariants as cpu
 use Rattle.dspec_deeds.specs.History.{same_actor, author, is_among, issue, present, opened, committed, verdict, is_undecided, callers, solo, settled, scan, opened_since, part, late, owed, word_at}
 use Rattle.dspec_deeds.specs.Own.{seals}
 use Rattle.dspec_deeds.specs.Legal.{IsSound, sealed_last}
-use Rattle.dspec_play.specs.Coherent.{OnItsWay, Expects, StandsCpu, StandsCaller, SpareCounts, CallerStands}
+use Rattle.dspec_play.specs.Coherent.{OnItsWay, Expects, StandsCpu, StandsProgress, SpareCounts, ProgressStands}
 use Rattle.dspec_deeds.proofs.TestLemmas.{same_actor_tells}
 use Rattle.dspec_deeds.proofs.PresentIds.{present_is}
 use Rattle.dspec_deeds.proofs.WordsRise.{words_rise}
@@ -117,7 +117,7 @@ module _ (k : Config) (w : Actor) (c : ℕ) (other : same_actor (Cpu c) w ≡ fa
             shown = both.1.word ∙ was.shown;
           }
 
-  stands_cpu : c < k.cpus → owed h ≡ 0 → (me : Caller) (f : CpuFlight) → StandsCpu k c h me f → StandsCpu k c (ds ++ h) me f
+  stands_cpu : c < k.cpus → owed h ≡ 0 → (me : CpuProgress) (f : CpuFlight) → StandsCpu k c h me f → StandsCpu k c (ds ++ h) me f
   stands_cpu lt rests me (cpu.Begun o) st = (scan_stays ∙ st.0, st.1)
   stands_cpu lt rests me (cpu.ScanLoad s) st = (st.0, scan_stays ∙ st.1, st.2)
   stands_cpu lt rests me (cpu.ScanTry s from) st = (
@@ -145,15 +145,15 @@ module _ (k : Config) (w : Actor) (c : ℕ) (other : same_actor (Cpu c) w ≡ fa
       let now = unsettled lt s v record { given = was.given; ruled = was.ruled; alone = was.alone; unsettled = st.6; shown = st.4 } in
       (st.0, scan_stays ∙ st.1, st.2, st.3, now.shown, st.5, now.unsettled)
 
-  stands_caller : c < k.cpus → owed h ≡ 0 → (me : Caller) (f : Option CpuFlight) → StandsCaller k c h me f → StandsCaller k c (ds ++ h) me f
-  stands_caller lt rests me None st = (scan_stays ∙ st.0, st.1)
-  stands_caller lt rests me (Some f) st = stands_cpu lt rests me f st
+  stands_progress : c < k.cpus → owed h ≡ 0 → (me : CpuProgress) (f : Option CpuFlight) → StandsProgress k c h me f → StandsProgress k c (ds ++ h) me f
+  stands_progress lt rests me None st = (scan_stays ∙ st.0, st.1)
+  stands_progress lt rests me (Some f) st = stands_cpu lt rests me f st
 
 -- another actor's deeds leave a CPU's side standing
-pub others_stand : (shape : ℕ → Option Shape) (k : Config) (w : Actor) (c : ℕ) (ds h : List Deed) (me : Caller) → owed h ≡ 0 → GoesOn shape k w ds h → same_actor (Cpu c) w ≡ false → c < k.cpus
-    → CallerStands k c h me → CallerStands k c (ds ++ h) me
+pub others_stand : (shape : ℕ → Option Shape) (k : Config) (w : Actor) (c : ℕ) (ds h : List Deed) (me : CpuProgress) → owed h ≡ 0 → GoesOn shape k w ds h → same_actor (Cpu c) w ≡ false → c < k.cpus
+    → ProgressStands k c h me → ProgressStands k c (ds ++ h) me
 others_stand shape k w c ds h me rests goes other lt st = record {
-  flight = stands_caller k w c other ds h goes.legal.0 goes.by lt rests me me.flight st.flight;
+  flight = stands_progress k w c other ds h goes.legal.0 goes.by lt rests me me.flight st.flight;
   counts = subst (λ n. SpareCounts n me.takes me.spare) (sym (seals_stays k w c other ds h goes.legal.0 goes.by)) st.counts;
   pushes = st.pushes;
   want = st.want;

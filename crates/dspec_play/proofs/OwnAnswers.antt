@@ -28,7 +28,7 @@ use Rattle.dspec_deeds.specs.declared.deed.SpeculateFate.TheVariants as spoken
 use Rattle.dspec_deeds.specs.declared.deed.TraceFate.TheVariants as traced
 use Rattle.dspec_deeds.specs.declared.deed.Deed.{Deed}
 use Rattle.dspec_deeds.specs.declared.deed.Deed.TheVariants.{Trace, Scan, Miss, Speculate, Commit, Discard, Settle, Seal, Release}
-use Rattle.dspec_play.specs.declared.flight.Caller.{Caller}
+use Rattle.dspec_play.specs.declared.flight.CpuProgress.{CpuProgress}
 use Rattle.dspec_play.specs.declared.flight.CpuFlight.{CpuFlight}
 use Rattle.dspec_play.specs.declared.flight.CpuFlight.TheVariants as cpu
 use Rattle.dspec_play.specs.declared.flight.Spare.{Spare}
@@ -86,10 +86,10 @@ worn_behind n None = n
 worn_behind n (Some a) = if is_worn_answer a then min (n + 1) (2 ^ 64 - 1) else n
 
 -- what a step makes of a call that had entered those deeds
-pub record ReadsOff (c : ℕ) (h : List Deed) (me : Caller) (o : CpuOp) (own : List Deed) (m : Moved) : Type 0 where
-  pub holds : OwnsCall c (m.deeds ++ h) m.caller.flight (m.deeds ++ own)
+pub record ReadsOff (c : ℕ) (h : List Deed) (me : CpuProgress) (o : CpuOp) (own : List Deed) (m : Moved) : Type 0 where
+  pub holds : OwnsCall c (m.deeds ++ h) m.progress.flight (m.deeds ++ own)
   pub reads : Tells m.answer (answer_of_cpu o (m.deeds ++ own))
-  pub wears : m.caller.worn ≡ worn_behind me.worn m.answer
+  pub wears : m.progress.worn ≡ worn_behind me.worn m.answer
 
 -- another's deeds leave what the CPU's call has missed
 missed_stays : (c : ℕ) (w : Actor) → same_actor (Cpu c) w ≡ false → (ds h : List Deed) → AllBy w ds h → missed_busy c (ds ++ h) ≡ missed_busy c h
@@ -121,7 +121,7 @@ told_unworn (decided.Thrown n) = refl
 told_unworn decided.Void = refl
 told_unworn decided.Stopped = refl
 
-module _ (shape : ℕ → Option Shape) (k : Config) (c : ℕ) (h : List Deed) (me : Caller) where
+module _ (shape : ℕ → Option Shape) (k : Config) (c : ℕ) (h : List Deed) (me : CpuProgress) where
   -- what a step does
   abbrev Does : CpuOp → List Deed → Moved → Type 0
   Does o own m = ReadsOff c h me o own m

@@ -16,12 +16,12 @@ use Rattle.dspec_deeds.specs.declared.calls.Op.{Op}
 use Rattle.dspec_deeds.specs.declared.calls.Op.TheVariants as op
 use Rattle.dspec_deeds.specs.declared.calls.Turn.{Turn}
 use Rattle.dspec_deeds.specs.declared.deed.Deed.{Deed}
-use Rattle.dspec_play.specs.declared.flight.Caller.{Caller}
+use Rattle.dspec_play.specs.declared.flight.CpuProgress.{CpuProgress}
 use Rattle.dspec_play.specs.declared.flight.ConsumerFlight.{ConsumerFlight}
 use Rattle.dspec_play.specs.declared.flight.CpuFlight.{CpuFlight}
 use Rattle.dspec_play.specs.declared.flight.CpuFlight.TheVariants as cpu
 use Rattle.dspec_play.specs.Calls.{op_of, consumer_op_of, is_about}
-use Rattle.dspec_play.specs.Coherent.{StandsSide, PlayState, the_caller, idle_caller}
+use Rattle.dspec_play.specs.Coherent.{StandsSide, PlayState, progress_of, idle_progress}
 use Rattle.dspec_play.specs.Play.{Moved, ConsumerStep, cpu_step, consumer_step}
 use Rattle.dspec_deeds.specs.Ranges.{start_fault}
 use Rattle.dspec_play.specs.Plays.{EndedCall, Noted, ended, read_off, IsReadOff, Playing, with_note, with_entered, playing_at_start}
@@ -40,9 +40,9 @@ use Rattle.dspec_play.proofs.PlaysEnd.{IsCoherentPlay, coherence_carried, cohere
 pub record IsRead (shape : ℕ → Option Shape) (k : Config) (p : Playing) : Type 0 where
   pub play : IsCoherentPlay shape k p
   pub noted : AllByRecursion IsReadOff p.noted
-  pub own : (c : ℕ) → c < p.state.config.cpus → OwnsCall c p.state.deeds (the_caller p.state.callers c).flight (p.entered c)
+  pub own : (c : ℕ) → c < p.state.config.cpus → OwnsCall c p.state.deeds (progress_of p.state.progresses c).flight (p.entered c)
   pub cleaned : OwnsClean p.state.config p.state.side.flight p.cleaned
-  pub worn : (c : ℕ) → c < p.state.config.cpus → (the_caller p.state.callers c).worn ≡ worn_count (map ended p.noted) c
+  pub worn : (c : ℕ) → c < p.state.config.cpus → (progress_of p.state.progresses c).worn ≡ worn_count (map ended p.noted) c
 
 -- a call that is noted where it ended
 noted_reads : (a : Actor) (o : Op) (ds : List Deed) (st : PlayState) (r : Option Answer) (ns : List Noted) → Tells r (read_off o ds st) → AllByRecursion IsReadOff ns
@@ -77,16 +77,16 @@ worn_beside c a o ds st (Some x) ns other =
     (ap (λ n. min n (2 ^ 64 - 1)) (let same : worn_answers c (map ended ns) ≡ worn_answers c (map ended ns) + 0 = omega arith in same))
 
 -- of each CPU, where one CPU's side is replaced
-pub put : (n : ℕ) (P : ℕ → Caller → Type 0) (all : List Caller) (c : ℕ) (me : Caller) → length all ≡ n → ((b : ℕ) → b < n → (b == c) ≡ false → P b (the_caller all b))
-    → (c < n → P c me) → (b : ℕ) → b < n → P b (the_caller (slice_set all c me) b)
+pub put : (n : ℕ) (P : ℕ → CpuProgress → Type 0) (all : List CpuProgress) (c : ℕ) (me : CpuProgress) → length all ≡ n → ((b : ℕ) → b < n → (b == c) ≡ false → P b (progress_of all b))
+    → (c < n → P c me) → (b : ℕ) → b < n → P b (progress_of (slice_set all c me) b)
 put n P all c me count others now b lt = ⊎_elim
     (λ (t : (b == c) ≡ true).
     let is = same_number b c t in
     let within : c < n = omega arith in
-    let here : the_caller (slice_set all c me) c ≡ me = get_or-set_same all c me idle_caller (omega arith) in
-    subst (λ x. P x (the_caller (slice_set all c me) x)) (sym is) (subst (P c) (sym here) (now within)))
+    let here : progress_of (slice_set all c me) c ≡ me = get_or-set_same all c me idle_progress (omega arith) in
+    subst (λ x. P x (progress_of (slice_set all c me) x)) (sym is) (subst (P c) (sym here) (now within)))
     (λ (f : (b == c) ≡ false).
-    let there : the_caller (slice_set all c me) b ≡ the_caller all b = get_or-set_other all c b me idle_caller (numbers_differ b c f) in
+    let there : progress_of (slice_set all c me) b ≡ progress_of all b = get_or-set_other all c b me idle_progress (numbers_differ b c f) in
     subst (P b) (sym there) (others b lt f))
     (either_way (b == c))
 
@@ -102,24 +102,24 @@ module _ (shape : ℕ → Option Shape) (k : Config) where
   start_read fine = record {
     play = record { config = refl; coherent = start_coherent shape k fine };
     noted = tt;
-    own = λ c lt. subst (λ (me : Caller). OwnsCall c [] me.flight []) (sym (idle_at k.cpus c)) tt;
+    own = λ c lt. subst (λ (me : CpuProgress). OwnsCall c [] me.flight []) (sym (idle_at k.cpus c)) tt;
     cleaned = tt;
-    worn = λ c lt. ap (λ (me : Caller). me.worn) (idle_at k.cpus c);
+    worn = λ c lt. ap (λ (me : CpuProgress). me.worn) (idle_at k.cpus c);
   }
 
-  cpu_begins : (c : ℕ) (o : CpuOp) (p : Playing) → IsRead shape k p → c < k.cpus → (the_caller p.state.callers c).flight ≡ None → IsRead shape k (begun_cpu c o p)
+  cpu_begins : (c : ℕ) (o : CpuOp) (p : Playing) → IsRead shape k p → c < k.cpus → (progress_of p.state.progresses c).flight ≡ None → IsRead shape k (begun_cpu c o p)
   cpu_begins c o p was lt idle =
-      let me : Caller = record (the_caller p.state.callers c) { flight = Some (cpu.Begun o); steps = 0 } in
+      let me : CpuProgress = record (progress_of p.state.progresses c) { flight = Some (cpu.Begun o); steps = 0 } in
       let count = was.play.coherent.count in
       let within : c < p.state.config.cpus = subst (λ (x : Config). c < x.cpus) (sym was.play.config) lt in
       record {
         play = (coherence_kept shape k).cpu_begins c o p was.play lt idle;
         noted = was.noted;
-        own = put p.state.config.cpus (λ b (x : Caller). OwnsCall b p.state.deeds x.flight (with_entered c [] p.entered b)) p.state.callers c me count
-            (λ b less other. put_beside c b p.state.deeds (the_caller p.state.callers b).flight [] p.entered other (was.own b less))
+        own = put p.state.config.cpus (λ b (x : CpuProgress). OwnsCall b p.state.deeds x.flight (with_entered c [] p.entered b)) p.state.progresses c me count
+            (λ b less other. put_beside c b p.state.deeds (progress_of p.state.progresses b).flight [] p.entered other (was.own b less))
             (λ less. put_here c p.state.deeds (Some (cpu.Begun o)) [] p.entered refl);
         cleaned = was.cleaned;
-        worn = put p.state.config.cpus (λ b (x : Caller). x.worn ≡ worn_count (map ended p.noted) b) p.state.callers c me count (λ b less other. was.worn b less) (λ less. was.worn c within);
+        worn = put p.state.config.cpus (λ b (x : CpuProgress). x.worn ≡ worn_count (map ended p.noted) b) p.state.progresses c me count (λ b less other. was.worn b less) (λ less. was.worn c within);
       }
 
   consumer_begins : (o : ConsumerOp) (p : Playing) → IsRead shape k p → is_about k o ≡ true → p.state.side.flight ≡ None → IsRead shape k (begun_consumer o p)
@@ -131,12 +131,12 @@ module _ (shape : ℕ → Option Shape) (k : Config) where
     worn = was.worn;
   }
 
-  cpu_steps : (c : ℕ) (p : Playing) (f : CpuFlight) → IsRead shape k p → c < k.cpus → (the_caller p.state.callers c).flight ≡ Some f → IsRead shape k (behind_cpu_step shape c p f)
+  cpu_steps : (c : ℕ) (p : Playing) (f : CpuFlight) → IsRead shape k p → c < k.cpus → (progress_of p.state.progresses c).flight ≡ Some f → IsRead shape k (behind_cpu_step shape c p f)
   cpu_steps c p f was lt is =
       let st : PlayState = p.state in
       let ok = was.play.coherent in
       let within : c < st.config.cpus = subst (λ (x : Config). c < x.cpus) (sym was.play.config) lt in
-      let me : Caller = the_caller st.callers c in
+      let me : CpuProgress = progress_of st.progresses c in
       let m : Moved = cpu_step shape st.config c st.deeds me f in
       let ds : List Deed = m.deeds ++ p.entered c in
       let did = cpu_step_stands shape st.config c st.deeds me ok.ranges ok.legal ok.rests (ok.stands c within) f is in
@@ -145,12 +145,12 @@ module _ (shape : ℕ → Option Shape) (k : Config) where
       record {
         play = (coherence_carried shape k).cpu_steps c p f was.play lt is;
         noted = noted_reads (actor.Cpu c) (op.Cpu (op_of f)) ds st m.answer p.noted reads.reads was.noted;
-        own = put st.config.cpus (λ b (x : Caller). OwnsCall b (m.deeds ++ st.deeds) x.flight (with_entered c ds p.entered b)) st.callers c m.caller ok.count
-            (λ b less other. put_beside c b (m.deeds ++ st.deeds) (the_caller st.callers b).flight ds p.entered other
-            (others_own b (actor.Cpu c) other m.deeds st.deeds did.goes.by (the_caller st.callers b).flight (p.entered b) (was.own b less)))
-            (λ less. put_here c (m.deeds ++ st.deeds) m.caller.flight ds p.entered reads.holds);
+        own = put st.config.cpus (λ b (x : CpuProgress). OwnsCall b (m.deeds ++ st.deeds) x.flight (with_entered c ds p.entered b)) st.progresses c m.progress ok.count
+            (λ b less other. put_beside c b (m.deeds ++ st.deeds) (progress_of st.progresses b).flight ds p.entered other
+            (others_own b (actor.Cpu c) other m.deeds st.deeds did.goes.by (progress_of st.progresses b).flight (p.entered b) (was.own b less)))
+            (λ less. put_here c (m.deeds ++ st.deeds) m.progress.flight ds p.entered reads.holds);
         cleaned = was.cleaned;
-        worn = put st.config.cpus (λ b (x : Caller). x.worn ≡ worn_count (map ended (with_note (actor.Cpu c) (op.Cpu (op_of f)) ds st m.answer p.noted)) b) st.callers c m.caller ok.count
+        worn = put st.config.cpus (λ b (x : CpuProgress). x.worn ≡ worn_count (map ended (with_note (actor.Cpu c) (op.Cpu (op_of f)) ds st m.answer p.noted)) b) st.progresses c m.progress ok.count
             (λ b less other. was.worn b less ∙ worn_beside b (actor.Cpu c) (op.Cpu (op_of f)) ds st m.answer p.noted other)
             (λ less. reads.wears ∙ worn_noted c (op.Cpu (op_of f)) ds st m.answer p.noted me.worn (was.worn c within));
       }
@@ -159,16 +159,16 @@ module _ (shape : ℕ → Option Shape) (k : Config) where
   consumer_steps p f was is =
       let st : PlayState = p.state in
       let ok = was.play.coherent in
-      let m : ConsumerStep = consumer_step st.config st.deeds st.side st.callers f in
+      let m : ConsumerStep = consumer_step st.config st.deeds st.side st.progresses f in
       let ds : List Deed = m.deeds ++ p.cleaned in
-      let did = consumer_keeps shape st.config st.deeds st.side st.callers ok.ranges ok.legal ok.rests ok.count ok.stands f (subst (StandsSide st.config st.deeds st.side) is ok.side) in
+      let did = consumer_keeps shape st.config st.deeds st.side st.progresses ok.ranges ok.legal ok.rests ok.count ok.stands f (subst (StandsSide st.config st.deeds st.side) is ok.side) in
       let reads : CleanReads st ok.count ok.stands (consumer_op_of f) p.cleaned m =
       consumer_step_reads st ok.count ok.stands f p.cleaned (subst (λ (x : Option ConsumerFlight). OwnsClean st.config x p.cleaned) is was.cleaned) in
       record {
         play = (coherence_carried shape k).consumer_steps p f was.play is;
         noted = noted_reads actor.Consumer (op.Consumer (consumer_op_of f)) ds st m.answer p.noted reads.reads was.noted;
-        own = λ b less. subst (λ (x : Option CpuFlight). OwnsCall b (m.deeds ++ st.deeds) x (p.entered b)) (sym (flights_stay st.config st.deeds st.side st.callers ok.count f b less))
-            (others_own b actor.Consumer refl m.deeds st.deeds did.goes.by (the_caller st.callers b).flight (p.entered b) (was.own b less));
+        own = λ b less. subst (λ (x : Option CpuFlight). OwnsCall b (m.deeds ++ st.deeds) x (p.entered b)) (sym (flights_stay st.config st.deeds st.side st.progresses ok.count f b less))
+            (others_own b actor.Consumer refl m.deeds st.deeds did.goes.by (progress_of st.progresses b).flight (p.entered b) (was.own b less));
         cleaned = reads.holds;
         worn = λ b less. reads.wears_not b less ∙ (was.worn b less ∙ worn_beside b actor.Consumer (op.Consumer (consumer_op_of f)) ds st m.answer p.noted refl);
       }
@@ -204,7 +204,7 @@ worn_reversed c (n ∷ ns) =
 
 -- so many of a CPU's calls are counted as worn as were answered Worn
 pub played_wears : (shape : ℕ → Option Shape) (accepts : Record → Bool) (k : Config) (ts : List Turn) (c : ℕ) → play_fault shape accepts k ts ≡ None → c < k.cpus
-    → (the_caller (played shape k ts).state.callers c).worn ≡ worn_count (answers_of shape k ts) c
+    → (progress_of (played shape k ts).state.progresses c).worn ≡ worn_count (answers_of shape k ts) c
 played_wears shape accepts k ts c e lt =
     let read = play_reads shape accepts k ts e in
     read.worn c (subst (λ (x : Config). c < x.cpus) (sym read.play.config) lt) ∙ ap (λ n. min n (2 ^ 64 - 1)) (sym (worn_reversed c (played shape k ts).noted))

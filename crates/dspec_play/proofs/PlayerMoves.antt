@@ -10,7 +10,7 @@ use Rattle.dspec_play.specs.declared.flight.ConsumerFlight.{ConsumerFlight}
 use Rattle.dspec_play.specs.declared.flight.CpuFlight.{CpuFlight}
 use Rattle.dspec_play.specs.declared.refusal.Stepped.TheVariants.{Done}
 use Rattle.dspec_play.specs.Calls.{cpu_call_of, consumer_call_of, call_of, is_idle, told_step}
-use Rattle.dspec_play.specs.Coherent.{PlayState, the_caller}
+use Rattle.dspec_play.specs.Coherent.{PlayState, progress_of}
 use Rattle.dspec_play.specs.Plays.{EndedCall, IsPlayingAt, Noted, Playing, cpu_stepped, consumer_stepped, ended, with_note, stepped, to_end}
 use Rattle.dspec_play.specs.Turns.{step}
 
@@ -33,7 +33,7 @@ module _ (shape : ℕ → Option Shape) where
   noted_last a o ds st None ns = refl
   noted_last a o ds st (Some r) ns = sym (put_last record { by = a; call = o; answer = r; deeds = ds; found = st } ns)
 
-  cpu_goes : (c : ℕ) (p : Playing) (f : Option CpuFlight) → (the_caller p.state.callers c).flight ≡ f → is_none f ≡ false
+  cpu_goes : (c : ℕ) (p : Playing) (f : Option CpuFlight) → (progress_of p.state.progresses c).flight ≡ f → is_none f ≡ false
       → IsPlayingAt (step shape (actor.Cpu c) p.state).state
       (with_answer (actor.Cpu c) (cpu_call_of f) (step shape (actor.Cpu c) p.state).answer (map ended (reverse p.noted))) (cpu_stepped shape c p f)
   cpu_goes c p None is busy = absurd (true≢false busy)
@@ -47,7 +47,7 @@ module _ (shape : ℕ → Option Shape) where
 
   goes : (a : Actor) (p : Playing) → is_idle a p.state ≡ false
       → IsPlayingAt (step shape a p.state).state (with_answer a (call_of a p.state) (step shape a p.state).answer (map ended (reverse p.noted))) (stepped shape a p)
-  goes (actor.Cpu c) p busy = cpu_goes c p (the_caller p.state.callers c).flight refl busy
+  goes (actor.Cpu c) p busy = cpu_goes c p (progress_of p.state.progresses c).flight refl busy
   goes actor.Consumer p busy = consumer_goes p p.state.side.flight refl busy
 
   -- a step of an actor that is busy, whose call goes on or has its answer put down

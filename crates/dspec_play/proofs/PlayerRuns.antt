@@ -11,7 +11,7 @@ use Rattle.dspec_deeds.specs.declared.deed.Deed.{Deed}
 use Rattle.dspec_play.specs.declared.outcome.PlayFault.{PlayFault}
 use Rattle.dspec_play.specs.Calls.{is_actor, is_idle}
 use Rattle.dspec_deeds.specs.Closes.{numbers_below, reports}
-use Rattle.dspec_play.specs.Coherent.{PlayState, IsCoherent, the_caller}
+use Rattle.dspec_play.specs.Coherent.{PlayState, IsCoherent, progress_of}
 use Rattle.dspec_play.specs.Plays.{EndedCall, IsPlayingAt, Playing, all_ran, all_turned, cpus_ran, or_else, play_fault}
 use Rattle.dspec_play.specs.Plays.{played, playing_at_start, ran, refusal, setup_fault, turn_fault, turned, worn_count}
 use Rattle.dspec_deeds.specs.Ranges.{start_fault}
@@ -98,6 +98,6 @@ all_idle shape st new before after q at ran ok same a is =
 
 -- the worn calls of each CPU are those that were answered Worn
 pub worn_as_told : (shape : ℕ → Option Shape) (accepts : Record → Bool) (k : Config) (ts : List Turn) (now : PlayState) (answers : List EndedCall) → play_fault shape accepts k ts ≡ None
-    → IsPlayingAt now answers (played shape k ts) → (c : ℕ) → c < k.cpus → (the_caller now.callers c).worn ≡ worn_count answers c
+    → IsPlayingAt now answers (played shape k ts) → (c : ℕ) → c < k.cpus → (progress_of now.progresses c).worn ≡ worn_count answers c
 worn_as_told shape accepts k ts now answers none at c lt =
-    ap (λ (s : PlayState). (the_caller s.callers c).worn) at.state ∙ (played_wears shape accepts k ts c none lt ∙ ap (λ (l : List EndedCall). worn_count l c) (sym at.told))
+    ap (λ (s : PlayState). (progress_of s.progresses c).worn) at.state ∙ (played_wears shape accepts k ts c none lt ∙ ap (λ (l : List EndedCall). worn_count l c) (sym at.told))

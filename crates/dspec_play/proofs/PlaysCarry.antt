@@ -21,7 +21,7 @@ use Rattle.dspec_play.specs.declared.refusal.BeginFault.TheVariants as begin_fau
 use Rattle.dspec_play.specs.declared.refusal.StepFault.TheVariants as step_fault
 use Rattle.dspec_play.specs.Bounds.{most_steps}
 use Rattle.dspec_play.specs.Calls.{op_of, consumer_op_of, record_passes, is_about, is_actor, is_idle, begin_cpu_fault, begin_consumer_fault}
-use Rattle.dspec_play.specs.Coherent.{PlayState, the_caller}
+use Rattle.dspec_play.specs.Coherent.{PlayState, progress_of}
 use Rattle.dspec_play.specs.Play.{cpu_step, consumer_step}
 use Rattle.dspec_deeds.specs.Ranges.{start_fault}
 use Rattle.dspec_play.specs.Turns.{moved_to, cleaned_to, step_cpu, step_consumer}
@@ -32,7 +32,7 @@ module _ (shape : ℕ → Option Shape) where
   -- a play behind a step of a CPU's call in flight
   abbrev pub behind_cpu_step : ℕ → Playing → CpuFlight → Playing
   behind_cpu_step c p f =
-      let m = cpu_step shape p.state.config c p.state.deeds (the_caller p.state.callers c) f in
+      let m = cpu_step shape p.state.config c p.state.deeds (progress_of p.state.progresses c) f in
       record p {
         state = (moved_to p.state c m).state;
         entered = with_entered c (m.deeds ++ p.entered c) p.entered;
@@ -42,7 +42,7 @@ module _ (shape : ℕ → Option Shape) where
   -- a play behind a step of the consumer's call in flight
   abbrev pub behind_consumer_step : Playing → ConsumerFlight → Playing
   behind_consumer_step p f =
-      let m = consumer_step p.state.config p.state.deeds p.state.side p.state.callers f in
+      let m = consumer_step p.state.config p.state.deeds p.state.side p.state.progresses f in
       record p {
         state = (cleaned_to p.state m).state;
         cleaned = m.deeds ++ p.cleaned;
@@ -50,11 +50,11 @@ module _ (shape : ℕ → Option Shape) where
       }
 
   -- a step of a CPU's call in flight
-  pub cpu_stepped_is : (c : ℕ) (p : Playing) (f : CpuFlight) → (the_caller p.state.callers c).flight ≡ Some f → stepped shape (actor.Cpu c) p ≡ behind_cpu_step c p f
+  pub cpu_stepped_is : (c : ℕ) (p : Playing) (f : CpuFlight) → (progress_of p.state.progresses c).flight ≡ Some f → stepped shape (actor.Cpu c) p ≡ behind_cpu_step c p f
   cpu_stepped_is c p f is =
       ap (λ (x : Option CpuFlight). cpu_stepped shape c p x) is
       ∙ ap (λ (x : Option CpuFlight).
-      let m = cpu_step shape p.state.config c p.state.deeds (the_caller p.state.callers c) f in
+      let m = cpu_step shape p.state.config c p.state.deeds (progress_of p.state.progresses c) f in
       record p {
         state = (step_cpu shape c p.state x).state;
         entered = with_entered c (m.deeds ++ p.entered c) p.entered;
@@ -66,7 +66,7 @@ module _ (shape : ℕ → Option Shape) where
   consumer_stepped_is p f is =
       ap (λ (x : Option ConsumerFlight). consumer_stepped shape p x) is
       ∙ ap (λ (x : Option ConsumerFlight).
-      let m = consumer_step p.state.config p.state.deeds p.state.side p.state.callers f in
+      let m = consumer_step p.state.config p.state.deeds p.state.side p.state.progresses f in
       record p {
         state = (step_consumer shape p.state x).state;
         cleaned = m.deeds ++ p.cleaned;
@@ -75,7 +75,7 @@ module _ (shape : ℕ → Option Shape) where
 
   -- a step of an actor with no call in flight
   pub idle_stepped : (a : Actor) (p : Playing) → is_idle a p.state ≡ true → stepped shape a p ≡ p
-  idle_stepped (actor.Cpu c) p idle = go (the_caller p.state.callers c).flight idle
+  idle_stepped (actor.Cpu c) p idle = go (progress_of p.state.progresses c).flight idle
     where
       go : (x : Option CpuFlight) → is_none x ≡ true → cpu_stepped shape c p x ≡ p
       go None e = refl
@@ -89,13 +89,13 @@ module _ (shape : ℕ → Option Shape) where
   -- what each step keeps
   pub record IsCarried (k : Config) (P : Playing → Type 0) : Type 0 where
     pub config : (p : Playing) → P p → p.state.config ≡ k
-    pub cpu_steps : (c : ℕ) (p : Playing) (f : CpuFlight) → P p → c < k.cpus → (the_caller p.state.callers c).flight ≡ Some f → P (behind_cpu_step c p f)
+    pub cpu_steps : (c : ℕ) (p : Playing) (f : CpuFlight) → P p → c < k.cpus → (progress_of p.state.progresses c).flight ≡ Some f → P (behind_cpu_step c p f)
     pub consumer_steps : (p : Playing) (f : ConsumerFlight) → P p → p.state.side.flight ≡ Some f → P (behind_consumer_step p f)
 
   -- what each begin and each step keeps
   pub record IsKept (k : Config) (P : Playing → Type 0) : Type 0 where
     pub steps : IsCarried k P
-    pub cpu_begins : (c : ℕ) (o : CpuOp) (p : Playing) → P p → c < k.cpus → (the_caller p.state.callers c).flight ≡ None → P (begun_cpu c o p)
+    pub cpu_begins : (c : ℕ) (o : CpuOp) (p : Playing) → P p → c < k.cpus → (progress_of p.state.progresses c).flight ≡ None → P (begun_cpu c o p)
     pub consumer_begins : (o : ConsumerOp) (p : Playing) → P p → is_about k o ≡ true → p.state.side.flight ≡ None → P (begun_consumer o p)
 
 -- a refused turn is no play
@@ -129,11 +129,11 @@ below : (a b : ℕ) → nat_lt a b ≡ true → a < b
 below a b e = grind (arith, nat_tests)
 
 -- a begin or a step that isn't refused
-cpu_may_begin : (accepts : Record → Bool) (c : ℕ) (o : CpuOp) (st : PlayState) → begin_cpu_fault accepts c o st ≡ None → (c < st.config.cpus) × ((the_caller st.callers c).flight ≡ None)
+cpu_may_begin : (accepts : Record → Bool) (c : ℕ) (o : CpuOp) (st : PlayState) → begin_cpu_fault accepts c o st ≡ None → (c < st.config.cpus) × ((progress_of st.progresses c).flight ≡ None)
 cpu_may_begin accepts c o st e =
     let one = passes (nat_lt c st.config.cpus) begin_fault.NoSuchActor _ e in
     let two = passes (is_idle (actor.Cpu c) st) begin_fault.Busy (if not (record_passes accepts o) then Some begin_fault.BadRecord else None) one.1 in
-    (below c st.config.cpus one.0, is_nothing (the_caller st.callers c).flight two.0)
+    (below c st.config.cpus one.0, is_nothing (progress_of st.progresses c).flight two.0)
 
 consumer_may_begin : (o : ConsumerOp) (st : PlayState) → begin_consumer_fault o st ≡ None → (is_about st.config o ≡ true) × (st.side.flight ≡ None)
 consumer_may_begin o st e =
@@ -149,9 +149,9 @@ may_step i false idle e = absurd (cc (e))
 module _ (shape : ℕ → Option Shape) (k : Config) (P : Playing → Type 0) (carries : IsCarried shape k P) where
   -- a step of an actor
   pub step_carries : (a : Actor) (p : Playing) → P p → is_actor k a ≡ true → P (stepped shape a p)
-  step_carries (actor.Cpu c) p was there = go (the_caller p.state.callers c).flight refl
+  step_carries (actor.Cpu c) p was there = go (progress_of p.state.progresses c).flight refl
     where
-      go : (x : Option CpuFlight) → (the_caller p.state.callers c).flight ≡ x → P (stepped shape (actor.Cpu c) p)
+      go : (x : Option CpuFlight) → (progress_of p.state.progresses c).flight ≡ x → P (stepped shape (actor.Cpu c) p)
       go None e = subst P (sym (idle_stepped shape (actor.Cpu c) p (ap (λ (y : Option CpuFlight). is_none y) e))) was
       go (Some f) e = subst P (sym (cpu_stepped_is shape c p f e)) (carries.cpu_steps c p f was (below c k.cpus there) e)
   step_carries actor.Consumer p was there = go p.state.side.flight refl
@@ -191,7 +191,7 @@ module _ (shape : ℕ → Option Shape) (k : Config) (P : Playing → Type 0) (c
 
 module _ (shape : ℕ → Option Shape) (accepts : Record → Bool) (k : Config) (P : Playing → Type 0) (keeps : IsKept shape k P) where
   -- what a begin of a turn that isn't refused gives
-  cpu_may : (c : ℕ) (o : CpuOp) (p : Playing) → P p → begin_cpu_fault accepts c o p.state ≡ None → (c < k.cpus) × ((the_caller p.state.callers c).flight ≡ None)
+  cpu_may : (c : ℕ) (o : CpuOp) (p : Playing) → P p → begin_cpu_fault accepts c o p.state ≡ None → (c < k.cpus) × ((progress_of p.state.progresses c).flight ≡ None)
   cpu_may c o p was e =
       let may = cpu_may_begin accepts c o p.state e in
       (subst (λ (x : Config). c < x.cpus) (keeps.steps.config p was) may.0, may.1)

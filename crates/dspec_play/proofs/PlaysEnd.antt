@@ -11,14 +11,14 @@ use Rattle.dspec_deeds.specs.declared.calls.Actor.TheVariants as actor
 use Rattle.dspec_deeds.specs.declared.calls.ConsumerOp.TheVariants as consumer_op
 use Rattle.dspec_deeds.specs.declared.calls.CpuOp.{CpuOp}
 use Rattle.dspec_deeds.specs.declared.calls.CpuOp.TheVariants as cpu_op
-use Rattle.dspec_play.specs.declared.flight.Caller.{Caller}
+use Rattle.dspec_play.specs.declared.flight.CpuProgress.{CpuProgress}
 use Rattle.dspec_play.specs.declared.flight.ConsumerFlight.{ConsumerFlight}
 use Rattle.dspec_play.specs.declared.flight.ConsumerFlight.TheVariants as consumer
 use Rattle.dspec_play.specs.declared.flight.CpuFlight.{CpuFlight}
 use Rattle.dspec_play.specs.declared.flight.CpuFlight.TheVariants as cpu
 use Rattle.dspec_play.specs.Bounds.{op_bound, flight_bound, clean_bound, most_steps}
 use Rattle.dspec_play.specs.Calls.{is_actor, is_idle}
-use Rattle.dspec_play.specs.Coherent.{StandsCaller, StandsSide, IsCoherent, the_caller, idle_caller}
+use Rattle.dspec_play.specs.Coherent.{StandsProgress, StandsSide, IsCoherent, progress_of, idle_progress}
 use Rattle.dspec_play.specs.Play.{Moved, ConsumerStep, cpu_step, consumer_step}
 use Rattle.dspec_play.specs.Plays.{Playing, stepped, to_end, ran, cpus_ran, all_ran}
 use Rattle.dspec_deeds.proofs.SetUp.{set_up}
@@ -83,34 +83,34 @@ module _ (shape : ℕ → Option Shape) where
   ended_stays (suc n) a p idle = rw idle refl
 
   -- a CPU's call in flight ends
-  cpu_idles : (n c : ℕ) (p : Playing) (f : CpuFlight) → IsCoherent shape p.state → c < p.state.config.cpus → (the_caller p.state.callers c).flight ≡ Some f
-      → flight_bound p.state.config f ≤ n + (the_caller p.state.callers c).steps
+  cpu_idles : (n c : ℕ) (p : Playing) (f : CpuFlight) → IsCoherent shape p.state → c < p.state.config.cpus → (progress_of p.state.progresses c).flight ≡ Some f
+      → flight_bound p.state.config f ≤ n + (progress_of p.state.progresses c).steps
       → is_idle (actor.Cpu c) (to_end shape n (actor.Cpu c) p).state ≡ true
   cpu_idles zero c p f ok lt is most =
-      let low = cpu_below p.state.config c p.state.deeds (the_caller p.state.callers c) (set_up p.state.config ok.ranges).1 f
-      (subst (StandsCaller p.state.config c p.state.deeds (the_caller p.state.callers c)) is (ok.stands c lt).flight) in
+      let low = cpu_below p.state.config c p.state.deeds (progress_of p.state.progresses c) (set_up p.state.config ok.ranges).1 f
+      (subst (StandsProgress p.state.config c p.state.deeds (progress_of p.state.progresses c)) is (ok.stands c lt).flight) in
       absurd (omega arith)
   cpu_idles (suc n) c p f ok lt is most =
       subst (λ (b : Bool). is_idle (actor.Cpu c) (if b then p else to_end shape n (actor.Cpu c) (stepped shape (actor.Cpu c) p)).state ≡ true) (sym (ap (λ (x : Option CpuFlight). is_none x) is))
       (subst (λ (q : Playing). is_idle (actor.Cpu c) (to_end shape n (actor.Cpu c) q).state ≡ true) (sym (cpu_stepped_is shape c p f is))
       (⊎_elim
       (λ (e : HasEnded m).
-      let idle : is_idle (actor.Cpu c) new.state ≡ true = ap (λ (x : Option CpuFlight). is_none x) (ap (λ (x : Caller). x.flight) here ∙ e.idle) in
+      let idle : is_idle (actor.Cpu c) new.state ≡ true = ap (λ (x : Option CpuFlight). is_none x) (ap (λ (x : CpuProgress). x.flight) here ∙ e.idle) in
       subst (λ (q : Playing). is_idle (actor.Cpu c) q.state ≡ true) (sym (ended_stays n (actor.Cpu c) new idle)) idle)
-      (λ (g : HasGoneOn p.state.config (the_caller p.state.callers c) (flight_bound p.state.config f) m).
-      let steps : (the_caller new.state.callers c).steps ≡ (the_caller p.state.callers c).steps + 1 = ap (λ (x : Caller). x.steps) here ∙ g.counted in
+      (λ (g : HasGoneOn p.state.config (progress_of p.state.progresses c) (flight_bound p.state.config f) m).
+      let steps : (progress_of new.state.progresses c).steps ≡ (progress_of p.state.progresses c).steps + 1 = ap (λ (x : CpuProgress). x.steps) here ∙ g.counted in
       let bound = g.bound in
-      cpu_idles n c new g.next (step_cpu_coherent shape p.state c (Some f) ok lt is) lt (ap (λ (x : Caller). x.flight) here ∙ g.flight) (omega arith))
-      (cpu_advances shape p.state.config c p.state.deeds (the_caller p.state.callers c) f)))
+      cpu_idles n c new g.next (step_cpu_coherent shape p.state c (Some f) ok lt is) lt (ap (λ (x : CpuProgress). x.flight) here ∙ g.flight) (omega arith))
+      (cpu_advances shape p.state.config c p.state.deeds (progress_of p.state.progresses c) f)))
     where
       m : Moved
-      m = cpu_step shape p.state.config c p.state.deeds (the_caller p.state.callers c) f
+      m = cpu_step shape p.state.config c p.state.deeds (progress_of p.state.progresses c) f
 
       new : Playing
       new = behind_cpu_step shape c p f
 
-      here : the_caller new.state.callers c ≡ m.caller
-      here = get_or-set_same p.state.callers c m.caller idle_caller (let count = ok.count in omega arith)
+      here : progress_of new.state.progresses c ≡ m.progress
+      here = get_or-set_same p.state.progresses c m.progress idle_progress (let count = ok.count in omega arith)
 
   -- the consumer's call in flight ends
   consumer_idles : (n : ℕ) (p : Playing) (f : ConsumerFlight) → IsCoherent shape p.state → p.state.side.flight ≡ Some f → clean_bound p.state.config f ≤ n + p.state.side.steps
@@ -130,19 +130,19 @@ module _ (shape : ℕ → Option Shape) where
       let steps = g.counted in
       let bound = g.bound in
       consumer_idles n new g.next (step_consumer_coherent shape p.state (Some f) ok is) g.flight (omega arith))
-      (clean_advances p.state.config p.state.deeds p.state.side p.state.callers f)))
+      (clean_advances p.state.config p.state.deeds p.state.side p.state.progresses f)))
     where
       m : ConsumerStep
-      m = consumer_step p.state.config p.state.deeds p.state.side p.state.callers f
+      m = consumer_step p.state.config p.state.deeds p.state.side p.state.progresses f
 
       new : Playing
       new = behind_consumer_step shape p f
 
   -- behind a run no call of the actor is in flight
   pub ran_idle : (a : Actor) (p : Playing) → IsCoherent shape p.state → is_actor p.state.config a ≡ true → is_idle a (ran shape a p).state ≡ true
-  ran_idle (actor.Cpu c) p ok there = go (the_caller p.state.callers c).flight refl
+  ran_idle (actor.Cpu c) p ok there = go (progress_of p.state.progresses c).flight refl
     where
-      go : (x : Option CpuFlight) → (the_caller p.state.callers c).flight ≡ x → is_idle (actor.Cpu c) (ran shape (actor.Cpu c) p).state ≡ true
+      go : (x : Option CpuFlight) → (progress_of p.state.progresses c).flight ≡ x → is_idle (actor.Cpu c) (ran shape (actor.Cpu c) p).state ≡ true
       go None e =
           let idle : is_idle (actor.Cpu c) p.state ≡ true = ap (λ (y : Option CpuFlight). is_none y) e in
           subst (λ (q : Playing). is_idle (actor.Cpu c) q.state ≡ true) (sym (ended_stays (most_steps p.state.config (actor.Cpu c)) (actor.Cpu c) p idle)) idle
@@ -164,7 +164,7 @@ module _ (shape : ℕ → Option Shape) where
   record IsResting (k : Config) (d : ℕ) (p : Playing) : Type 0 where
     play : IsCoherentPlay shape k p
     there : d < k.cpus
-    idle : (the_caller p.state.callers d).flight ≡ None
+    idle : (progress_of p.state.progresses d).flight ≡ None
 
   -- steps put no call in flight
   rest_carried : (k : Config) (d : ℕ) → IsCarried shape k (IsResting k d)
@@ -174,15 +174,15 @@ module _ (shape : ℕ → Option Shape) where
       play = (coherence_carried k).cpu_steps c p f was.play lt is;
       there = was.there;
       idle = ⊎_elim
-          (λ (t : (d == c) ≡ true). let busy : (the_caller p.state.callers d).flight ≡ Some f = subst (λ x. (the_caller p.state.callers x).flight ≡ Some f)
+          (λ (t : (d == c) ≡ true). let busy : (progress_of p.state.progresses d).flight ≡ Some f = subst (λ x. (progress_of p.state.progresses x).flight ≡ Some f)
           (sym (same_number d c t)) is in let none = was.idle in absurd (cc (busy, none)))
-          (λ (e : (d == c) ≡ false). ap (λ (y : Caller). y.flight) (get_or-set_other p.state.callers c d _ idle_caller (numbers_differ d c e)) ∙ was.idle)
+          (λ (e : (d == c) ≡ false). ap (λ (y : CpuProgress). y.flight) (get_or-set_other p.state.progresses c d _ idle_progress (numbers_differ d c e)) ∙ was.idle)
           (either_way (d == c));
     };
     consumer_steps = λ p f was is. record {
       play = (coherence_carried k).consumer_steps p f was.play is;
       there = was.there;
-      idle = flights_stay p.state.config p.state.deeds p.state.side p.state.callers was.play.coherent.count f d (subst (λ (x : Config). d < x.cpus) (sym was.play.config) was.there) ∙ was.idle;
+      idle = flights_stay p.state.config p.state.deeds p.state.side p.state.progresses was.play.coherent.count f d (subst (λ (x : Config). d < x.cpus) (sym was.play.config) was.there) ∙ was.idle;
     };
   }
 
@@ -203,7 +203,7 @@ module _ (shape : ℕ → Option Shape) where
       subst (λ x. IsResting k x (cpus_ran shape (suc n) p)) (sym is) record {
         play = ran_carries shape k (IsCoherentPlay shape k) (coherence_carried k) (actor.Cpu n) before now there;
         there = within;
-        idle = is_nothing (the_caller (ran shape (actor.Cpu n) before).state.callers n).flight idle;
+        idle = is_nothing (progress_of (ran shape (actor.Cpu n) before).state.progresses n).flight idle;
       })
       (λ (e : (d == n) ≡ false).
       let apart = numbers_differ d n e in

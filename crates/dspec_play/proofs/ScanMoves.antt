@@ -12,13 +12,13 @@ use Rattle.dspec_deeds.specs.declared.calls.Answer.TheVariants as answer
 use Rattle.dspec_deeds.specs.declared.calls.Opening.TheVariants as opening
 use Rattle.dspec_deeds.specs.declared.deed.Deed.{Deed}
 use Rattle.dspec_deeds.specs.declared.deed.Deed.TheVariants.{Opened, Miss}
-use Rattle.dspec_play.specs.declared.flight.Caller.{Caller}
+use Rattle.dspec_play.specs.declared.flight.CpuProgress.{CpuProgress}
 use Rattle.dspec_play.specs.declared.flight.CpuFlight.TheVariants as cpu
 use Rattle.dspec_deeds.specs.History.{word_at}
 use Rattle.dspec_deeds.specs.Reports.{missed_busy}
 use Rattle.dspec_play.specs.Play.{ends, call_goes_on, missed, shown_scan, same_word, cpu_step}
 
-module _ (shape : ℕ → Option Shape) (k : Config) (c : ℕ) (h : List Deed) (me : Caller) (s : ℕ) where
+module _ (shape : ℕ → Option Shape) (k : Config) (c : ℕ) (h : List Deed) (me : CpuProgress) (s : ℕ) where
   -- the one deed of a slot that can't be given
   pub missed_deeds : (w : SlotState) → (missed shape k c h me s w).deeds ≡ Miss c s (is_decided w.code) ∷ []
   missed_deeds w = go (s == k.nspec)
@@ -38,11 +38,11 @@ module _ (shape : ℕ → Option Shape) (k : Config) (c : ℕ) (h : List Deed) (
 
   -- the table attempts an exchange, which is next
   pub scan_tried : (w now to : SlotState) (act : Act) (a : Option Answer) → w ≡ now → act ≡ Attempt to → a ≡ None
-      → record { caller = record me { flight = Some (cpu.ScanTry s w); steps = me.steps + 1 }; deeds = []; answer = a } ≡ shown_scan shape k c h me s now act
+      → record { progress = record me { flight = Some (cpu.ScanTry s w); steps = me.steps + 1 }; deeds = []; answer = a } ≡ shown_scan shape k c h me s now act
   scan_tried w now to act a is attempts none = rw (is, attempts, none) refl
 
   -- the exchange succeeds
   pub scan_opened : (from : SlotState) (id : Speculation) (a : Option Answer) → same_word (word_at s h) from ≡ true → id ≡ record { issue = from.issue; slot = s }
       → a ≡ Some (answer.Opening (opening.Id id))
-      → record { caller = record me { flight = None; steps = 0 }; deeds = Opened c id ∷ []; answer = a } ≡ cpu_step shape k c h me (cpu.ScanTry s from)
+      → record { progress = record me { flight = None; steps = 0 }; deeds = Opened c id ∷ []; answer = a } ≡ cpu_step shape k c h me (cpu.ScanTry s from)
   scan_opened from id a same is tells = rw (same, tells, is) refl

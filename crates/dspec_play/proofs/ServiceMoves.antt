@@ -10,7 +10,7 @@ use Rattle.dspec_deeds.specs.declared.config.Config.{Config}
 use Rattle.dspec_deeds.specs.declared.calls.Answer.{Answer}
 use Rattle.dspec_deeds.specs.declared.calls.Served.{Served}
 use Rattle.dspec_deeds.specs.declared.deed.Deed.{Deed}
-use Rattle.dspec_play.specs.declared.flight.Caller.{Caller}
+use Rattle.dspec_play.specs.declared.flight.CpuProgress.{CpuProgress}
 use Rattle.dspec_play.specs.declared.flight.CpuFlight.TheVariants as cpu
 use Rattle.dspec_play.specs.declared.flight.Spare.{Spare}
 use Rattle.dspec_play.specs.declared.flight.Spare.TheVariants as spare
@@ -35,7 +35,7 @@ wanted n want most e f =
     let room : nat_lt n most ≡ true = grind (arith, nat_tests) in
     rw (less, room) refl
 
-module _ (shape : ℕ → Option Shape) (k : Config) (c : ℕ) (h : List Deed) (me : Caller) where
+module _ (shape : ℕ → Option Shape) (k : Config) (c : ℕ) (h : List Deed) (me : CpuProgress) where
   -- where full buffers are switched a service begins with the load of the ask
   pub asks_first : is_fill k.policy ≡ false → asked shape k c h me me.spare (nat_lt (seals c h) me.want && nat_lt (seals c h) k.max_calls) ≡ begun shape k c h me cpu_op.Service
   asks_first switched = rw switched refl
@@ -46,7 +46,7 @@ module _ (shape : ℕ → Option Shape) (k : Config) (c : ℕ) (h : List Deed) (
 
   -- the service seals nothing
   pub asks_none : (place : Spare) (asks : Bool) (a : Option Answer) → asks ≡ false → a ≡ None
-      → record { caller = record me { flight = Some (cpu.ServiceLoad 1 record { sealed = false; settled = 0 }); steps = me.steps + 1 }; deeds = []; answer = a } ≡ asked shape k c h me place asks
+      → record { progress = record me { flight = Some (cpu.ServiceLoad 1 record { sealed = false; settled = 0 }); steps = me.steps + 1 }; deeds = []; answer = a } ≡ asked shape k c h me place asks
   asks_none spare.InHand asks a e none = rw (e, none) refl
   asks_none spare.Sealed asks a e none = rw (e, none) refl
   asks_none spare.Handed asks a e none = rw (e, none) refl
@@ -55,7 +55,7 @@ module _ (shape : ℕ → Option Shape) (k : Config) (c : ℕ) (h : List Deed) (
 
   -- the service has no spare in hand
   pub asks_spare : (place : Spare) (asks : Bool) (a : Option Answer) → place ≢ spare.InHand → asks ≡ true → a ≡ None
-      → record { caller = record me { flight = Some cpu.ServicePop; steps = me.steps + 1 }; deeds = []; answer = a } ≡ asked shape k c h me place asks
+      → record { progress = record me { flight = Some cpu.ServicePop; steps = me.steps + 1 }; deeds = []; answer = a } ≡ asked shape k c h me place asks
   asks_spare spare.InHand asks a out e none = absurd (out refl)
   asks_spare spare.Sealed asks a out e none = rw (e, none) refl
   asks_spare spare.Handed asks a out e none = rw (e, none) refl
@@ -64,7 +64,7 @@ module _ (shape : ℕ → Option Shape) (k : Config) (c : ℕ) (h : List Deed) (
 
   -- the table grants a settlement, whose store is next
   pub store_next : (s : ℕ) (sum : Served) (w now : SlotState) (act : Act) (a : Option Answer) → w ≡ now → act ≡ Granted → a ≡ None
-      → record { caller = record me { flight = Some (cpu.ServiceStore s w sum); steps = me.steps + 1 }; deeds = []; answer = a } ≡ shown_service shape k c h me s sum now act
+      → record { progress = record me { flight = Some (cpu.ServiceStore s w sum); steps = me.steps + 1 }; deeds = []; answer = a } ≡ shown_service shape k c h me s sum now act
   store_next s sum w now act a is granted none = rw (is, granted, none) refl
 
   -- the table grants nothing

@@ -11,7 +11,7 @@ use Rattle.dspec_deeds.specs.declared.deed.Deed.{Deed}
 use Rattle.dspec_play.specs.declared.outcome.Close.{Close}
 use Rattle.dspec_play.specs.Calls.{is_actor, is_idle}
 use Rattle.dspec_deeds.specs.Closes.{CanClose, closing}
-use Rattle.dspec_play.specs.Coherent.{the_caller, PlayState, IsCoherent}
+use Rattle.dspec_play.specs.Coherent.{progress_of, PlayState, IsCoherent}
 use Rattle.dspec_deeds.specs.Legal.{IsLegal}
 use Rattle.dspec_play.proofs.ClosedAuthors.{closing_authors}
 use Rattle.dspec_play.proofs.Closing.{can_close, closing_closes}
@@ -25,7 +25,7 @@ none_is (Some x) e = absurd (cc (e))
 
 -- where every actor is idle
 pub idle_closes : (shape : ℕ → Option Shape) (st : PlayState) → IsCoherent shape st → ((a : Actor) → is_actor st.config a ≡ true → is_idle a st ≡ true) → CanClose shape st.config st.deeds
-idle_closes shape st ok idle = can_close shape st ok (λ c lt. none_is (the_caller st.callers c).flight (idle (actor.Cpu c) (is_there st.config c lt)))
+idle_closes shape st ok idle = can_close shape st ok (λ c lt. none_is (progress_of st.progresses c).flight (idle (actor.Cpu c) (is_there st.config c lt)))
 
 -- what is so of the list at the close is so of the deeds that are handed out
 pub told_in_order : {E : Type 0} (P : List Deed → Close → Type 0) (ds : List Deed) (r : Result Close E) → IfOk r (λ close. close.deeds ≡ reverse ds) → IfOk r (P ds)

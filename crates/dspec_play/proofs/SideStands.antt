@@ -6,7 +6,7 @@ use Rattle.dspec_deeds.specs.declared.config.Config.{Config}
 use Rattle.dspec_deeds.specs.declared.calls.Actor.TheVariants.{Cpu}
 use Rattle.dspec_deeds.specs.declared.deed.Deed.{Deed}
 use Rattle.dspec_deeds.specs.declared.deed.Deed.TheVariants.{Release}
-use Rattle.dspec_play.specs.declared.flight.ConsumerSide.{ConsumerSide}
+use Rattle.dspec_play.specs.declared.flight.ConsumerProgress.{ConsumerProgress}
 use Rattle.dspec_play.specs.declared.flight.ConsumerFlight.{ConsumerFlight}
 use Rattle.dspec_play.specs.declared.flight.ConsumerFlight.TheVariants as consumer
 use Rattle.dspec_deeds.specs.History.{same_actor, author, releaser, releases, present, opened, verdict, is_undecided, solo, settled, owed, word_at, opens}
@@ -55,13 +55,13 @@ module _ (shape : ℕ → Option Shape) (k : Config) (a : ℕ) (ds h : List Deed
       let now = over k (Cpu a) (IsDue n s w) (due_stays k a n s w) ds h goes.legal.0 goes.by record { given = was.given; ruled = was.ruled; alone = was.alone; shown = st.0; below = st.2 } in
       (now.shown, st.1, now.below)
 
-  stands_consumer : (side : ConsumerSide) (f : ConsumerFlight) → StandsConsumer k h side f → StandsConsumer k (ds ++ h) side f
+  stands_consumer : (side : ConsumerProgress) (f : ConsumerFlight) → StandsConsumer k h side f → StandsConsumer k (ds ++ h) side f
   stands_consumer side (consumer.Begun o) st = st
   stands_consumer side (consumer.CleanLoad s n) st = st
   stands_consumer side (consumer.CleanAck s w c n) st = (st.0, st.1, st.2, settled_below c s w st.3, st.4)
   stands_consumer side (consumer.CleanReap s w n) st = (st.0, st.1, settled_below k.cpus s w st.2, st.3)
 
   -- a CPU's deeds leave the consumer's side standing
-  pub side_stands : (side : ConsumerSide) (f : Option ConsumerFlight) → StandsSide k h side f → StandsSide k (ds ++ h) side f
+  pub side_stands : (side : ConsumerProgress) (f : Option ConsumerFlight) → StandsSide k h side f → StandsSide k (ds ++ h) side f
   side_stands side None st = st
   side_stands side (Some f) st = stands_consumer side f st

@@ -13,7 +13,7 @@ use Rattle.dspec_deeds.specs.declared.deed.DecideFate.{DecideFate}
 use Rattle.dspec_deeds.specs.declared.deed.DecideFate.TheVariants as decided
 use Rattle.dspec_deeds.specs.declared.deed.Deed.{Deed}
 use Rattle.dspec_deeds.specs.declared.deed.Deed.TheVariants.{Commit, Discard, Release}
-use Rattle.dspec_play.specs.declared.flight.Caller.{Caller}
+use Rattle.dspec_play.specs.declared.flight.CpuProgress.{CpuProgress}
 use Rattle.dspec_play.specs.declared.flight.ConsumerFlight.{ConsumerFlight}
 use Rattle.dspec_play.specs.declared.flight.CpuFlight.{CpuFlight}
 use Rattle.dspec_play.specs.declared.flight.CpuFlight.TheVariants as cpu
@@ -21,7 +21,7 @@ use Rattle.dspec_deeds.specs.FateKinds.{is_commit}
 use Rattle.dspec_deeds.specs.History.{same_id, issue, present, Verdict, undecided, committed, discarded, latest, verdict, is_undecided, callers, is_sole_or_none, solo, solo_of}
 use Rattle.dspec_deeds.specs.Legal.{IsSound}
 use Rattle.dspec_play.specs.Play.{cpu_step, consumer_step}
-use Rattle.dspec_play.specs.Coherent.{StandsSide, the_caller, PlayState, IsCoherent, idle_caller}
+use Rattle.dspec_play.specs.Coherent.{StandsSide, progress_of, PlayState, IsCoherent, idle_progress}
 use Rattle.dspec_play.specs.Turns.{step_cpu, step_consumer, step, on_to_end}
 use Rattle.dspec_deeds.proofs.TestLemmas.{either_way, number_is_itself, same_number, numbers_differ}
 use Rattle.dspec_deeds.proofs.SoundLists.{issue_grows, opened_by_now}
@@ -39,17 +39,17 @@ use Rattle.dspec_play.proofs.SoloRelease.{consumer_decides_not}
 use Rattle.dspec_play.proofs.Coherence.{IsActor, step_config, step_coherent}
 
 -- the call of the CPU is about to release the speculation's slot
-pub record IsAboutToRelease (k : Config) (all : List Caller) (a : ℕ) (id : Speculation) : Type 0 where
+pub record IsAboutToRelease (k : Config) (all : List CpuProgress) (a : ℕ) (id : Speculation) : Type 0 where
   pub within : a < k.cpus
   pub fate : DecideFate
-  pub flight : (the_caller all a).flight ≡ Some (cpu.CommitRelease id fate)
+  pub flight : (progress_of all a).flight ≡ Some (cpu.CommitRelease id fate)
 
 -- each present speculation that a CPU decided alone is being released by that CPU's call
-abbrev pub SoloInFlight : Config → List Deed → List Caller → Type 0
+abbrev pub SoloInFlight : Config → List Deed → List CpuProgress → Type 0
 SoloInFlight k h all = (s a : ℕ) → solo (present s h) h ≡ Some a → IsAboutToRelease k all a (present s h)
 
 -- it is so where the CPU's call in flight is the same
-still_about : (k : Config) (all new : List Caller) (a : ℕ) (id : Speculation) → (the_caller new a).flight ≡ (the_caller all a).flight → IsAboutToRelease k all a id → IsAboutToRelease k new a id
+still_about : (k : Config) (all new : List CpuProgress) (a : ℕ) (id : Speculation) → (progress_of new a).flight ≡ (progress_of all a).flight → IsAboutToRelease k all a id → IsAboutToRelease k new a id
 still_about k all new a id same was = record { within = was.within; fate = was.fate; flight = same ∙ was.flight }
 
 -- what was decided alone was decided
@@ -99,11 +99,11 @@ commits_alone c a id f h before after = ⊎_elim
     absurd (cc (same, before)))
     (either_way (is_commit f && same_id id id))
 
-module _ (shape : ℕ → Option Shape) (st : PlayState) (ok : IsCoherent shape st) (was : SoloInFlight st.config st.deeds st.callers) where
+module _ (shape : ℕ → Option Shape) (st : PlayState) (ok : IsCoherent shape st) (was : SoloInFlight st.config st.deeds st.progresses) where
   -- a step of a CPU
-  cpu_keeps_solo : (c : ℕ) (f : CpuFlight) → c < st.config.cpus → (the_caller st.callers c).flight ≡ Some f
-      → SoloInFlight st.config ((cpu_step shape st.config c st.deeds (the_caller st.callers c) f).deeds ++ st.deeds)
-      (slice_set st.callers c (cpu_step shape st.config c st.deeds (the_caller st.callers c) f).caller)
+  cpu_keeps_solo : (c : ℕ) (f : CpuFlight) → c < st.config.cpus → (progress_of st.progresses c).flight ≡ Some f
+      → SoloInFlight st.config ((cpu_step shape st.config c st.deeds (progress_of st.progresses c) f).deeds ++ st.deeds)
+      (slice_set st.progresses c (cpu_step shape st.config c st.deeds (progress_of st.progresses c) f).progress)
   cpu_keeps_solo c f lt is s a alone = go (solo (present s (ds ++ h)) h) refl
     where
       k : Config
@@ -113,19 +113,19 @@ module _ (shape : ℕ → Option Shape) (st : PlayState) (ok : IsCoherent shape 
       h = st.deeds
 
       ds : List Deed
-      ds = (cpu_step shape st.config c st.deeds (the_caller st.callers c) f).deeds
+      ds = (cpu_step shape st.config c st.deeds (progress_of st.progresses c) f).deeds
 
-      me : Caller
-      me = (cpu_step shape st.config c st.deeds (the_caller st.callers c) f).caller
+      me : CpuProgress
+      me = (cpu_step shape st.config c st.deeds (progress_of st.progresses c) f).progress
 
       id : Speculation
-      id = present s ((cpu_step shape st.config c st.deeds (the_caller st.callers c) f).deeds ++ st.deeds)
+      id = present s ((cpu_step shape st.config c st.deeds (progress_of st.progresses c) f).deeds ++ st.deeds)
 
-      did : StepStands shape k c h (cpu_step shape st.config c st.deeds (the_caller st.callers c) f)
-      did = cpu_step_stands shape k c h (the_caller st.callers c) ok.ranges ok.legal ok.rests (ok.stands c lt) f is
+      did : StepStands shape k c h (cpu_step shape st.config c st.deeds (progress_of st.progresses c) f)
+      did = cpu_step_stands shape k c h (progress_of st.progresses c) ok.ranges ok.legal ok.rests (ok.stands c lt) f is
 
-      here : the_caller (slice_set st.callers c me) c ≡ me
-      here = get_or-set_same st.callers c me idle_caller (let count = ok.count in omega arith)
+      here : progress_of (slice_set st.progresses c me) c ≡ me
+      here = get_or-set_same st.progresses c me idle_progress (let count = ok.count in omega arith)
 
       released : (n : ℕ) → ds ≡ Release s ∷ Discard c id (decided.Thrown n) ∷ [] → ⊥
       released n e =
@@ -136,80 +136,80 @@ module _ (shape : ℕ → Option Shape) (st : PlayState) (ok : IsCoherent shape 
           omega arith
 
       told : Option Answer
-      told = (cpu_step shape st.config c st.deeds (the_caller st.callers c) f).answer
+      told = (cpu_step shape st.config c st.deeds (progress_of st.progresses c) f).answer
 
-      next : solo id h ≡ None → ReleasedNow c id ds me.flight told ⊎ ReleasesNext c id ds me.flight → IsAboutToRelease k (slice_set st.callers c me) a id
+      next : solo id h ≡ None → ReleasedNow c id ds me.flight told ⊎ ReleasesNext c id ds me.flight → IsAboutToRelease k (slice_set st.progresses c me) a id
       next none (inl now) = absurd (released now.0 now.1)
       next none (inr soon) =
           let is_c : c ≡ a = commits_alone c a id soon.0 h none (subst (λ x. solo id (x ++ h) ≡ Some a) soon.1 alone) in
-          subst (λ x. IsAboutToRelease k (slice_set st.callers c me) x id) is_c record { within = lt; fate = soon.0; flight = ap (λ (x : Caller). x.flight) here ∙ soon.2 }
+          subst (λ x. IsAboutToRelease k (slice_set st.progresses c me) x id) is_c record { within = lt; fate = soon.0; flight = ap (λ (x : CpuProgress). x.flight) here ∙ soon.2 }
 
       -- what was decided alone before is another CPU's: the CPU itself would have released it
-      kept : (b : ℕ) → solo id h ≡ Some b → IsAboutToRelease k (slice_set st.callers c me) a id
+      kept : (b : ℕ) → solo id h ≡ Some b → IsAboutToRelease k (slice_set st.progresses c me) a id
       kept b e =
           let stays = solo_stays k id ds h did.goes.legal.0 (alone_ruled (verdict id h) (callers id h) b e) in
           let old : solo id h ≡ Some a = sym stays.same ∙ alone in
           let p = still_present k s a ds h did.goes.legal.0 old in
-          let before : IsAboutToRelease k st.callers a id = subst (IsAboutToRelease k st.callers a) p (was s a (subst (λ j. solo j h ≡ Some a) (sym p) old)) in
+          let before : IsAboutToRelease k st.progresses a id = subst (IsAboutToRelease k st.progresses a) p (was s a (subst (λ j. solo j h ≡ Some a) (sym p) old)) in
           ⊎_elim
           (λ (t : (a == c) ≡ true).
-          let at : (the_caller st.callers c).flight ≡ Some (cpu.CommitRelease id before.fate) =
-          subst (λ x. (the_caller st.callers x).flight ≡ Some (cpu.CommitRelease id before.fate)) (same_number a c t) before.flight in
+          let at : (progress_of st.progresses c).flight ≡ Some (cpu.CommitRelease id before.fate) =
+          subst (λ x. (progress_of st.progresses x).flight ≡ Some (cpu.CommitRelease id before.fate)) (same_number a c t) before.flight in
           let f_is : f ≡ cpu.CommitRelease id before.fate = cc (is, at) in
-          let e : ds ≡ Release s ∷ [] = ap (λ x. (cpu_step shape st.config c st.deeds (the_caller st.callers c) x).deeds) f_is in
+          let e : ds ≡ Release s ∷ [] = ap (λ x. (cpu_step shape st.config c st.deeds (progress_of st.progresses c) x).deeds) f_is in
           let next : issue s (Release s ∷ h) ≡ suc (issue s h) = rw (number_is_itself s) refl in
           let later : issue s (ds ++ h) ≡ suc (issue s h) = ap (λ x. issue s (x ++ h)) e ∙ next in
           let same : issue s h ≡ issue s (ds ++ h) = ap (λ (x : Speculation). x.issue) p in
           absurd (omega arith))
           (λ (t : (a == c) ≡ false).
-          let there : the_caller (slice_set st.callers c me) a ≡ the_caller st.callers a = get_or-set_other st.callers c a me idle_caller (numbers_differ a c t) in
-          still_about k st.callers (slice_set st.callers c me) a id (ap (λ (x : Caller). x.flight) there) before)
+          let there : progress_of (slice_set st.progresses c me) a ≡ progress_of st.progresses a = get_or-set_other st.progresses c a me idle_progress (numbers_differ a c t) in
+          still_about k st.progresses (slice_set st.progresses c me) a id (ap (λ (x : CpuProgress). x.flight) there) before)
           (either_way (a == c))
 
-      go : (o : Option ℕ) → solo id h ≡ o → IsAboutToRelease k (slice_set st.callers c me) a id
+      go : (o : Option ℕ) → solo id h ≡ o → IsAboutToRelease k (slice_set st.progresses c me) a id
       go None e = next e (did.solo_rule id e (λ (n : solo id (ds ++ h) ≡ None). cc (n, alone)))
       go (Some b) e = kept b e
 
 -- a step of the consumer
-consumer_keeps_solo : (shape : ℕ → Option Shape) (st : PlayState) (f : ConsumerFlight) → IsCoherent shape st → SoloInFlight st.config st.deeds st.callers → st.side.flight ≡ Some f
-    → SoloInFlight st.config ((consumer_step st.config st.deeds st.side st.callers f).deeds ++ st.deeds) (consumer_step st.config st.deeds st.side st.callers f).callers
+consumer_keeps_solo : (shape : ℕ → Option Shape) (st : PlayState) (f : ConsumerFlight) → IsCoherent shape st → SoloInFlight st.config st.deeds st.progresses → st.side.flight ≡ Some f
+    → SoloInFlight st.config ((consumer_step st.config st.deeds st.side st.progresses f).deeds ++ st.deeds) (consumer_step st.config st.deeds st.side st.progresses f).progresses
 consumer_keeps_solo shape st f ok was is s a alone =
     let k = st.config in
     let h = st.deeds in
-    let m = consumer_step k h st.side st.callers f in
-    let did = consumer_keeps shape k h st.side st.callers ok.ranges ok.legal ok.rests ok.count ok.stands f (subst (StandsSide k h st.side) is ok.side) in
+    let m = consumer_step k h st.side st.progresses f in
+    let did = consumer_keeps shape k h st.side st.progresses ok.ranges ok.legal ok.rests ok.count ok.stands f (subst (StandsSide k h st.side) is ok.side) in
     let id = present s (m.deeds ++ h) in
     let same : solo id (m.deeds ++ h) ≡ solo id h = consumer_decides_not id m.deeds h did.goes.by in
     let old : solo id h ≡ Some a = sym same ∙ alone in
     let p = still_present k s a m.deeds h did.goes.legal.0 old in
-    let before : IsAboutToRelease k st.callers a id = subst (IsAboutToRelease k st.callers a) p (was s a (subst (λ j. solo j h ≡ Some a) (sym p) old)) in
-    still_about k st.callers m.callers a id (flights_stay k h st.side st.callers ok.count f a before.within) before
+    let before : IsAboutToRelease k st.progresses a id = subst (IsAboutToRelease k st.progresses a) p (was s a (subst (λ j. solo j h ≡ Some a) (sym p) old)) in
+    still_about k st.progresses m.progresses a id (flights_stay k h st.side st.progresses ok.count f a before.within) before
 
 module _ (shape : ℕ → Option Shape) where
-  step_cpu_solo : (st : PlayState) (c : ℕ) (f : Option CpuFlight) → IsCoherent shape st → SoloInFlight st.config st.deeds st.callers → c < st.config.cpus → (the_caller st.callers c).flight ≡ f
-      → SoloInFlight st.config (step_cpu shape c st f).state.deeds (step_cpu shape c st f).state.callers
+  step_cpu_solo : (st : PlayState) (c : ℕ) (f : Option CpuFlight) → IsCoherent shape st → SoloInFlight st.config st.deeds st.progresses → c < st.config.cpus → (progress_of st.progresses c).flight ≡ f
+      → SoloInFlight st.config (step_cpu shape c st f).state.deeds (step_cpu shape c st f).state.progresses
   step_cpu_solo st c None ok was lt is = was
   step_cpu_solo st c (Some f) ok was lt is = cpu_keeps_solo shape st ok was c f lt is
 
-  step_consumer_solo : (st : PlayState) (f : Option ConsumerFlight) → IsCoherent shape st → SoloInFlight st.config st.deeds st.callers → st.side.flight ≡ f
-      → SoloInFlight st.config (step_consumer shape st f).state.deeds (step_consumer shape st f).state.callers
+  step_consumer_solo : (st : PlayState) (f : Option ConsumerFlight) → IsCoherent shape st → SoloInFlight st.config st.deeds st.progresses → st.side.flight ≡ f
+      → SoloInFlight st.config (step_consumer shape st f).state.deeds (step_consumer shape st f).state.progresses
   step_consumer_solo st None ok was is = was
   step_consumer_solo st (Some f) ok was is = consumer_keeps_solo shape st f ok was is
 
   -- one atomic step
-  pub step_solo : (a : Actor) (st : PlayState) → IsCoherent shape st → SoloInFlight st.config st.deeds st.callers → IsActor st.config a
-      → SoloInFlight st.config (step shape a st).state.deeds (step shape a st).state.callers
-  step_solo (actor.Cpu c) st ok was there = step_cpu_solo st c (the_caller st.callers c).flight ok was there refl
+  pub step_solo : (a : Actor) (st : PlayState) → IsCoherent shape st → SoloInFlight st.config st.deeds st.progresses → IsActor st.config a
+      → SoloInFlight st.config (step shape a st).state.deeds (step shape a st).state.progresses
+  step_solo (actor.Cpu c) st ok was there = step_cpu_solo st c (progress_of st.progresses c).flight ok was there refl
   step_solo actor.Consumer st ok was there = step_consumer_solo st st.side.flight ok was refl
 
   -- a whole call, or as much of it as the number of steps allows
-  pub on_to_end_solo : (n : ℕ) (a : Actor) (st : PlayState) (r : Option Answer) → IsCoherent shape st → SoloInFlight st.config st.deeds st.callers → IsActor st.config a
-      → SoloInFlight st.config (on_to_end shape n a st r).state.deeds (on_to_end shape n a st r).state.callers
+  pub on_to_end_solo : (n : ℕ) (a : Actor) (st : PlayState) (r : Option Answer) → IsCoherent shape st → SoloInFlight st.config st.deeds st.progresses → IsActor st.config a
+      → SoloInFlight st.config (on_to_end shape n a st r).state.deeds (on_to_end shape n a st r).state.progresses
   on_to_end_solo zero a st r ok was there = was
   on_to_end_solo (suc n) a st (Some r) ok was there = was
   on_to_end_solo (suc n) a st None ok was there =
       let new = (step shape a st).state in
       let same = step_config shape a st in
-      subst (λ k. SoloInFlight k (on_to_end shape n a new (step shape a st).answer).state.deeds (on_to_end shape n a new (step shape a st).answer).state.callers) same
+      subst (λ k. SoloInFlight k (on_to_end shape n a new (step shape a st).answer).state.deeds (on_to_end shape n a new (step shape a st).answer).state.progresses) same
       (on_to_end_solo n a new (step shape a st).answer (step_coherent shape a st ok there)
-      (subst (λ k. SoloInFlight k new.deeds new.callers) (sym same) (step_solo a st ok was there)) (subst (λ k. IsActor k a) (sym same) there))
+      (subst (λ k. SoloInFlight k new.deeds new.progresses) (sym same) (step_solo a st ok was there)) (subst (λ k. IsActor k a) (sym same) there))

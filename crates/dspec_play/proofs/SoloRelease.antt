@@ -8,13 +8,13 @@ use Rattle.dspec_deeds.specs.declared.calls.Actor.TheVariants.{Cpu, Consumer}
 use Rattle.dspec_deeds.specs.declared.deed.DecideFate.{DecideFate}
 use Rattle.dspec_deeds.specs.declared.deed.Deed.{Deed}
 use Rattle.dspec_deeds.specs.declared.deed.Deed.TheVariants.{Trace, Scan, Opened, Miss, Speculate, Commit, Discard, Settle, Seal, Release, Halt}
-use Rattle.dspec_play.specs.declared.flight.Caller.{Caller}
+use Rattle.dspec_play.specs.declared.flight.CpuProgress.{CpuProgress}
 use Rattle.dspec_play.specs.declared.flight.ConsumerFlight.{ConsumerFlight}
 use Rattle.dspec_play.specs.declared.flight.CpuFlight.{CpuFlight}
 use Rattle.dspec_play.specs.declared.flight.CpuFlight.TheVariants as cpu
 use Rattle.dspec_deeds.specs.History.{verdict, solo}
 use Rattle.dspec_play.specs.Play.{Moved, cpu_step}
-use Rattle.dspec_play.specs.Coherent.{StandsSide, PlayState, the_caller, IsCoherent, idle_caller}
+use Rattle.dspec_play.specs.Coherent.{StandsSide, PlayState, progress_of, IsCoherent, idle_progress}
 use Rattle.dspec_play.specs.SoloRule.{IsReleasing, ReleasesLast, DecidesNothing}
 use Rattle.dspec_play.specs.Turns.{moved_to, step_cpu, step_consumer, step}
 use Rattle.dspec_deeds.proofs.Going.{AllBy}
@@ -55,24 +55,24 @@ consumer_rules_not id (Halt ∷ ds) h by = consumer_rules_not id ds h by.0
 
 module _ (shape : ℕ → Option Shape) (st : PlayState) (ok : IsCoherent shape st) where
   -- the side that a step of the CPU leaves
-  moved_caller : (c : ℕ) (m : Moved) → c < st.config.cpus → the_caller (moved_to st c m).state.callers c ≡ m.caller
-  moved_caller c m there = let count = ok.count in get_or-set_same st.callers c m.caller idle_caller (omega arith)
+  moved_progress : (c : ℕ) (m : Moved) → c < st.config.cpus → progress_of (moved_to st c m).state.progresses c ≡ m.progress
+  moved_progress c m there = let count = ok.count in get_or-set_same st.progresses c m.progress idle_progress (omega arith)
 
   -- what a step of a CPU decides alone is released in that step, its call's last, or is next
   pub decided_alone : (c : ℕ) → c < st.config.cpus → (id : Speculation) → solo id st.deeds ≡ None → solo id (step shape (Cpu c) st).state.deeds ≢ None
       → IsReleasing c id st.deeds (step shape (Cpu c) st)
-  decided_alone c there id before after = go (the_caller st.callers c).flight refl after
+  decided_alone c there id before after = go (progress_of st.progresses c).flight refl after
     where
-      go : (f : Option CpuFlight) → (the_caller st.callers c).flight ≡ f → solo id (step_cpu shape c st f).state.deeds ≢ None → IsReleasing c id st.deeds (step_cpu shape c st f)
+      go : (f : Option CpuFlight) → (progress_of st.progresses c).flight ≡ f → solo id (step_cpu shape c st f).state.deeds ≢ None → IsReleasing c id st.deeds (step_cpu shape c st f)
       go None is now = absurd (now before)
       go (Some f) is now =
-          let me = the_caller st.callers c in
+          let me = progress_of st.progresses c in
           let m = cpu_step shape st.config c st.deeds me f in
           let did = cpu_step_stands shape st.config c st.deeds me ok.ranges ok.legal ok.rests (ok.stands c there) f is in
-          let side : (the_caller (moved_to st c m).state.callers c).flight ≡ m.caller.flight = ap (λ (x : Caller). x.flight) (moved_caller c m there) in
+          let side : (progress_of (moved_to st c m).state.progresses c).flight ≡ m.progress.flight = ap (λ (x : CpuProgress). x.flight) (moved_progress c m there) in
           ⊎_elim
-          (λ (r : ReleasedNow c id m.deeds m.caller.flight m.answer). inl (r.0, ap (λ ds. ds ++ st.deeds) r.1, record { answer = r.3; idle = side ∙ r.2 }))
-          (λ (r : ReleasesNext c id m.deeds m.caller.flight).
+          (λ (r : ReleasedNow c id m.deeds m.progress.flight m.answer). inl (r.0, ap (λ ds. ds ++ st.deeds) r.1, record { answer = r.3; idle = side ∙ r.2 }))
+          (λ (r : ReleasesNext c id m.deeds m.progress.flight).
           inr (r.0, ap (λ ds. ds ++ st.deeds) r.1, record { answer = goes_untold shape st.config c st.deeds me f (cpu.CommitRelease id r.0) r.2; next = side ∙ r.2 }))
           (did.solo_rule id before now)
 
@@ -83,13 +83,13 @@ module _ (shape : ℕ → Option Shape) (st : PlayState) (ok : IsCoherent shape 
       go : (f : Option ConsumerFlight) → st.side.flight ≡ f → DecidesNothing st.deeds (step_consumer shape st f).state.deeds
       go None is = record { verdicts = λ id. refl; solos = λ id. refl }
       go (Some f) is =
-          let did = consumer_keeps shape st.config st.deeds st.side st.callers ok.ranges ok.legal ok.rests ok.count ok.stands f (subst (StandsSide st.config st.deeds st.side) is ok.side) in
+          let did = consumer_keeps shape st.config st.deeds st.side st.progresses ok.ranges ok.legal ok.rests ok.count ok.stands f (subst (StandsSide st.config st.deeds st.side) is ok.side) in
           record { verdicts = λ id. consumer_rules_not id _ st.deeds did.goes.by; solos = λ id. consumer_decides_not id _ st.deeds did.goes.by }
 
   -- the step behind such a commit releases the slot, and is the call's last
-  pub released_next : (c : ℕ) → c < st.config.cpus → (id : Speculation) (f : DecideFate) → (the_caller st.callers c).flight ≡ Some (cpu.CommitRelease id f)
+  pub released_next : (c : ℕ) → c < st.config.cpus → (id : Speculation) (f : DecideFate) → (progress_of st.progresses c).flight ≡ Some (cpu.CommitRelease id f)
       → ReleasesLast c id f st.deeds (step shape (Cpu c) st)
   released_next c there id f is =
-      let m = cpu_step shape st.config c st.deeds (the_caller st.callers c) (cpu.CommitRelease id f) in
+      let m = cpu_step shape st.config c st.deeds (progress_of st.progresses c) (cpu.CommitRelease id f) in
       subst (λ g. ReleasesLast c id f st.deeds (step_cpu shape c st g)) (sym is)
-      record { deeds = refl; last = record { answer = refl; idle = ap (λ (x : Caller). x.flight) (moved_caller c m there) } }
+      record { deeds = refl; last = record { answer = refl; idle = ap (λ (x : CpuProgress). x.flight) (moved_progress c m there) } }

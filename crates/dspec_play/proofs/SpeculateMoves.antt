@@ -15,7 +15,7 @@ use Rattle.dspec_deeds.specs.declared.calls.Spoken.TheVariants as spoken_answer
 use Rattle.dspec_deeds.specs.declared.deed.Deed.{Deed}
 use Rattle.dspec_deeds.specs.declared.deed.Deed.TheVariants.{Speculate}
 use Rattle.dspec_deeds.specs.declared.deed.SpeculateFate.TheVariants as spoken
-use Rattle.dspec_play.specs.declared.flight.Caller.{Caller}
+use Rattle.dspec_play.specs.declared.flight.CpuProgress.{CpuProgress}
 use Rattle.dspec_deeds.specs.declared.calls.Answer.{Answer}
 use Rattle.dspec_play.specs.declared.flight.CpuFlight.TheVariants as cpu
 use Rattle.dspec_deeds.specs.History.{undecided, standing, joined, is_among, callers, verdict, present, issue, is_open, owed, code_at, word_at}
@@ -27,7 +27,7 @@ use Rattle.dspec_deeds.proofs.WordActs.{speculate_granted, speculate_attempt}
 use Rattle.dspec_deeds.proofs.WordChanges.{granted_word}
 
 -- the table grants nothing and attempts nothing
-pub shown_voids : (shape : ℕ → Option Shape) (k : Config) (c : ℕ) (h : List Deed) (me : Caller) (id : Speculation) (r : Record) (w : SlotState) (act : Act) → act ≢ Granted
+pub shown_voids : (shape : ℕ → Option Shape) (k : Config) (c : ℕ) (h : List Deed) (me : CpuProgress) (id : Speculation) (r : Record) (w : SlotState) (act : Act) → act ≢ Granted
     → ((to : SlotState) → act ≢ Attempt to)
     → shown_speculate shape k c h me id r w act ≡ ends shape k c h me (Speculate c id r spoken.Void ∷ []) (answer.Spoken spoken_answer.Void)
 shown_voids shape k c h me id r w Void bare none = refl
@@ -36,10 +36,10 @@ shown_voids shape k c h me id r w (Attempt to) bare none = absurd (none to refl)
 shown_voids shape k c h me id r w Idle bare none = refl
 
 -- the table attempts an exchange, which is next, behind a word that wasn't expected
-pub speculate_tried : (shape : ℕ → Option Shape) (k : Config) (c : ℕ) (h : List Deed) (me : Caller) (id : Speculation) (r : Record) (from w to : SlotState)
+pub speculate_tried : (shape : ℕ → Option Shape) (k : Config) (c : ℕ) (h : List Deed) (me : CpuProgress) (id : Speculation) (r : Record) (from w to : SlotState)
     (a : Option Answer) → same_word (word_at id.slot h) from ≡ false
     → speculate_at (word_at id.slot h) id (is_among c (callers id h)) ≡ Attempt to → w ≡ word_at id.slot h → a ≡ None
-    → record { caller = record me { flight = Some (cpu.SpeculateTry id r w); steps = me.steps + 1 }; deeds = []; answer = a } ≡ cpu_step shape k c h me (cpu.SpeculateTry id r from)
+    → record { progress = record me { flight = Some (cpu.SpeculateTry id r w); steps = me.steps + 1 }; deeds = []; answer = a } ≡ cpu_step shape k c h me (cpu.SpeculateTry id r from)
 speculate_tried shape k c h me id r from w to a other act is none = rw (is, none) (rw other (rw act refl))
 
 module _ (k : Config) (c : ℕ) (h : List Deed) (id : Speculation) (r : Record) (sound : IsSound k h) (rests : owed h ≡ 0) (way : OnItsWay k c h id) where

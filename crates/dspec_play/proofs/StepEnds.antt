@@ -17,10 +17,10 @@ use Rattle.dspec_deeds.specs.declared.calls.CpuOp.{CpuOp}
 use Rattle.dspec_deeds.specs.declared.calls.CpuOp.TheVariants as cpu_op
 use Rattle.dspec_deeds.specs.declared.calls.Served.{Served}
 use Rattle.dspec_deeds.specs.declared.deed.Deed.{Deed}
-use Rattle.dspec_play.specs.declared.flight.Caller.{Caller}
+use Rattle.dspec_play.specs.declared.flight.CpuProgress.{CpuProgress}
 use Rattle.dspec_play.specs.declared.flight.ConsumerFlight.{ConsumerFlight}
 use Rattle.dspec_play.specs.declared.flight.ConsumerFlight.TheVariants as consumer
-use Rattle.dspec_play.specs.declared.flight.ConsumerSide.{ConsumerSide}
+use Rattle.dspec_play.specs.declared.flight.ConsumerProgress.{ConsumerProgress}
 use Rattle.dspec_play.specs.declared.flight.CpuFlight.{CpuFlight}
 use Rattle.dspec_play.specs.declared.flight.CpuFlight.TheVariants as cpu
 use Rattle.dspec_play.specs.declared.flight.Spare.{Spare}
@@ -31,22 +31,22 @@ use Rattle.dspec_deeds.specs.Own.{seals}
 use Rattle.dspec_deeds.specs.Legal.{fits_principal, fits_speculative}
 use Rattle.dspec_play.specs.Play.{Moved, ConsumerStep, same_word, is_alone, is_release, is_worn, is_mine, spoken_at, shown_speculate, shown_commit, shown_discard, missed}
 use Rattle.dspec_play.specs.Play.{shown_scan, asked, begun, popped, served, shown_service, cpu_step, takes_at, gives_at, next_slot, loads_slot, consumer_step}
-use Rattle.dspec_play.specs.Coherent.{the_caller}
+use Rattle.dspec_play.specs.Coherent.{progress_of}
 use Rattle.dspec_play.specs.Bounds.{flight_bound, clean_bound}
 
 -- the call has ended
 pub record HasEnded (m : Moved) : Type 0 where
   pub told : Answer
   pub answers : m.answer ≡ Some told
-  pub idle : m.caller.flight ≡ None
+  pub idle : m.progress.flight ≡ None
 
 -- the call goes on
-pub record HasGoneOn (k : Config) (me : Caller) (most : ℕ) (m : Moved) : Type 0 where
+pub record HasGoneOn (k : Config) (me : CpuProgress) (most : ℕ) (m : Moved) : Type 0 where
   pub next : CpuFlight
   pub answers : m.answer ≡ None
-  pub flight : m.caller.flight ≡ Some next
+  pub flight : m.progress.flight ≡ Some next
   pub bound : flight_bound k next ≡ most
-  pub counted : m.caller.steps ≡ me.steps + 1
+  pub counted : m.progress.steps ≡ me.steps + 1
 
 -- the same, of a step of the consumer
 pub record HasClosed (m : ConsumerStep) : Type 0 where
@@ -54,14 +54,14 @@ pub record HasClosed (m : ConsumerStep) : Type 0 where
   pub answers : m.answer ≡ Some told
   pub idle : m.side.flight ≡ None
 
-pub record HasKeptOn (k : Config) (side : ConsumerSide) (most : ℕ) (m : ConsumerStep) : Type 0 where
+pub record HasKeptOn (k : Config) (side : ConsumerProgress) (most : ℕ) (m : ConsumerStep) : Type 0 where
   pub next : ConsumerFlight
   pub answers : m.answer ≡ None
   pub flight : m.side.flight ≡ Some next
   pub bound : clean_bound k next ≡ most
   pub counted : m.side.steps ≡ side.steps + 1
 
-module _ (shape : ℕ → Option Shape) (k : Config) (c : ℕ) (h : List Deed) (me : Caller) where
+module _ (shape : ℕ → Option Shape) (k : Config) (c : ℕ) (h : List Deed) (me : CpuProgress) where
   -- what a step of a CPU makes of its call
   abbrev pub Advances : ℕ → Moved → Type 0
   Advances most m = HasEnded m ⊎ HasGoneOn k me most m
@@ -70,10 +70,10 @@ module _ (shape : ℕ → Option Shape) (k : Config) (c : ℕ) (h : List Deed) (
   either most true x y p q = p
   either most false x y p q = q
 
-  done : (most : ℕ) (m : Moved) (a : Answer) → m.answer ≡ Some a → m.caller.flight ≡ None → Advances most m
+  done : (most : ℕ) (m : Moved) (a : Answer) → m.answer ≡ Some a → m.progress.flight ≡ None → Advances most m
   done most m a e idle = inl record { told = a; answers = e; idle = idle }
 
-  on : (most : ℕ) (m : Moved) (f : CpuFlight) → m.answer ≡ None → m.caller.flight ≡ Some f → flight_bound k f ≡ most → m.caller.steps ≡ me.steps + 1 → Advances most m
+  on : (most : ℕ) (m : Moved) (f : CpuFlight) → m.answer ≡ None → m.progress.flight ≡ Some f → flight_bound k f ≡ most → m.progress.steps ≡ me.steps + 1 → Advances most m
   on most m f e goes same steps = inr record { next = f; answers = e; flight = goes; bound = same; counted = steps }
 
   spoken_ends : (id : Speculation) (r : Record) → Advances 4 (spoken_at shape k c h me id r)
@@ -176,13 +176,13 @@ module _ (shape : ℕ → Option Shape) (k : Config) (c : ℕ) (h : List Deed) (
   cpu_advances (cpu.ServiceStore s w sum) = served_ends s _ _
 
   -- a step behind which its call is in flight has no answer
-  pub goes_untold : (f next : CpuFlight) → (cpu_step shape k c h me f).caller.flight ≡ Some next → (cpu_step shape k c h me f).answer ≡ None
+  pub goes_untold : (f next : CpuFlight) → (cpu_step shape k c h me f).progress.flight ≡ Some next → (cpu_step shape k c h me f).answer ≡ None
   goes_untold f next is = ⊎_elim
       (λ (ended : HasEnded (cpu_step shape k c h me f)). let idle = ended.idle in absurd (cc (idle, is)))
       (λ (on : HasGoneOn k me (flight_bound k f) (cpu_step shape k c h me f)). on.answers)
       (cpu_advances f)
 
-module _ (k : Config) (h : List Deed) (side : ConsumerSide) (all : List Caller) where
+module _ (k : Config) (h : List Deed) (side : ConsumerProgress) (all : List CpuProgress) where
   -- what a step of the consumer makes of its call
   abbrev pub CleanAdvances : ℕ → ConsumerStep → Type 0
   CleanAdvances most m = HasClosed m ⊎ HasKeptOn k side most m
@@ -204,14 +204,14 @@ module _ (k : Config) (h : List Deed) (side : ConsumerSide) (all : List Caller) 
   load_ends : (s n : ℕ) → CleanAdvances (k.nspec * (k.cpus + 2)) (loads_slot k h side all s n)
   load_ends s n = one_of _ (awaits (word_at s h).code) _ _ (kept _ _ refl refl refl refl) (next_ends s n [])
 
-  takes_ends : (c : ℕ) (me : Caller) (p : Spare) → CleanAdvances 1 (takes_at k h side all c me p)
+  takes_ends : (c : ℕ) (me : CpuProgress) (p : Spare) → CleanAdvances 1 (takes_at k h side all c me p)
   takes_ends c me spare.InHand = closed _ _ _ refl refl
   takes_ends c me spare.Sealed = closed _ _ _ refl refl
   takes_ends c me spare.Handed = closed _ _ _ refl refl
   takes_ends c me spare.Out = closed _ _ _ refl refl
   takes_ends c me spare.GivenBack = closed _ _ _ refl refl
 
-  gives_ends : (c : ℕ) (me : Caller) (p : Spare) → CleanAdvances 1 (gives_at k h side all c me p)
+  gives_ends : (c : ℕ) (me : CpuProgress) (p : Spare) → CleanAdvances 1 (gives_at k h side all c me p)
   gives_ends c me spare.InHand = closed _ _ _ refl refl
   gives_ends c me spare.Sealed = closed _ _ _ refl refl
   gives_ends c me spare.Handed = closed _ _ _ refl refl
@@ -221,8 +221,8 @@ module _ (k : Config) (h : List Deed) (side : ConsumerSide) (all : List Caller) 
   -- a step of the consumer ends its call, or the call goes on
   pub clean_advances : (f : ConsumerFlight) → CleanAdvances (clean_bound k f) (consumer_step k h side all f)
   clean_advances (consumer.Begun (consumer_op.Ask c)) = closed _ _ _ refl refl
-  clean_advances (consumer.Begun (consumer_op.Take c)) = takes_ends c (the_caller all c) (the_caller all c).spare
-  clean_advances (consumer.Begun (consumer_op.GiveBack c)) = gives_ends c (the_caller all c) (the_caller all c).spare
+  clean_advances (consumer.Begun (consumer_op.Take c)) = takes_ends c (progress_of all c) (progress_of all c).spare
+  clean_advances (consumer.Begun (consumer_op.GiveBack c)) = gives_ends c (progress_of all c) (progress_of all c).spare
   clean_advances (consumer.Begun consumer_op.Clean) = load_ends 1 0
   clean_advances (consumer.Begun consumer_op.Stop) = one_of _ (halted h) _ _ (closed _ _ _ refl refl) (closed _ _ _ refl refl)
   clean_advances (consumer.CleanLoad s n) = load_ends s n

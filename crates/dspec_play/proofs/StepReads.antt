@@ -11,14 +11,14 @@ use Rattle.dspec_deeds.specs.declared.config.Config.{Config}
 use Rattle.dspec_deeds.specs.declared.config.StartFault.{StartFault}
 use Rattle.dspec_deeds.specs.declared.config.StartFault.TheVariants.{Cpus, Specs}
 use Rattle.dspec_deeds.specs.declared.deed.Deed.{Deed}
-use Rattle.dspec_play.specs.declared.flight.Caller.{Caller}
+use Rattle.dspec_play.specs.declared.flight.CpuProgress.{CpuProgress}
 use Rattle.dspec_play.specs.declared.flight.CpuFlight.{CpuFlight}
 use Rattle.dspec_play.specs.declared.flight.CpuFlight.TheVariants as cpu
 use Rattle.dspec_deeds.specs.Ranges.{is_between, start_fault}
 use Rattle.dspec_deeds.specs.History.{opened, present, word_at, issue}
 use Rattle.dspec_deeds.specs.Legal.{IsSound, IsAllowed}
 use Rattle.dspec_play.specs.Play.{Moved, cpu_step}
-use Rattle.dspec_play.specs.Coherent.{PlayState, IsCoherent, StandsCpu, StandsCaller, TriedBy, the_caller}
+use Rattle.dspec_play.specs.Coherent.{PlayState, IsCoherent, StandsCpu, StandsProgress, TriedBy, progress_of}
 use Rattle.dspec_deeds.proofs.TestLemmas.{either_way, and_tells}
 use Rattle.dspec_play.proofs.Counts.{issue_below, issues_fit}
 use Rattle.dspec_deeds.proofs.WordCodes.{word_inactive}
@@ -71,7 +71,7 @@ few_tries steps from e = go from.code e
     go Discarding e = omega arith
 
 -- a call takes few steps
-few_steps : (k : Config) (c : ℕ) (h : List Deed) (me : Caller) (f : CpuFlight) → k.nspec ≤ 63 → StandsCpu k c h me f → me.steps < 2 ^ 31
+few_steps : (k : Config) (c : ℕ) (h : List Deed) (me : CpuProgress) (f : CpuFlight) → k.nspec ≤ 63 → StandsCpu k c h me f → me.steps < 2 ^ 31
 few_steps k c h me (cpu.Begun o) most at = let is = at.1 in omega arith
 few_steps k c h me (cpu.ScanLoad s) most at = let slot = at.0.1 in let is = at.2 in omega arith
 few_steps k c h me (cpu.ScanTry s w) most at = let slot = at.0.1 in let is = at.2 in omega arith
@@ -87,16 +87,16 @@ few_steps k c h me cpu.ServicePush most at = let is = at.1 in omega arith
 few_steps k c h me (cpu.ServiceLoad s sum) most at = let slot = at.0.1 in let is = at.2 in omega arith
 few_steps k c h me (cpu.ServiceStore s w sum) most at = let slot = at.0.1 in let is = at.2 in omega arith
 
-module _ (shape : ℕ → Option Shape) (st : PlayState) (coherent : IsCoherent shape st) (c : ℕ) (lt : c < st.config.cpus) (f : CpuFlight) (is : (the_caller st.callers c).flight ≡ Some f) where
+module _ (shape : ℕ → Option Shape) (st : PlayState) (coherent : IsCoherent shape st) (c : ℕ) (lt : c < st.config.cpus) (f : CpuFlight) (is : (progress_of st.progresses c).flight ≡ Some f) where
   -- where the call in flight stands
-  pub flight_stands : StandsCpu st.config c st.deeds (the_caller st.callers c) f
-  flight_stands = subst (λ o. StandsCaller st.config c st.deeds (the_caller st.callers c) o) is (coherent.stands c lt).flight
+  pub flight_stands : StandsCpu st.config c st.deeds (progress_of st.progresses c) f
+  flight_stands = subst (λ o. StandsProgress st.config c st.deeds (progress_of st.progresses c) o) is (coherent.stands c lt).flight
 
   -- its steps can be counted
-  pub steps_fit : (the_caller st.callers c).steps < 2 ^ 31
-  steps_fit = few_steps st.config c st.deeds (the_caller st.callers c) f (slots_fit st.config coherent.ranges) flight_stands
+  pub steps_fit : (progress_of st.progresses c).steps < 2 ^ 31
+  steps_fit = few_steps st.config c st.deeds (progress_of st.progresses c) f (slots_fit st.config coherent.ranges) flight_stands
 
   -- the deeds of its step are legal
-  pub step_legal : (moved : Moved) → cpu_step shape st.config c st.deeds (the_caller st.callers c) f ≡ moved → IsAllowed shape st.config (moved.deeds ++ st.deeds)
+  pub step_legal : (moved : Moved) → cpu_step shape st.config c st.deeds (progress_of st.progresses c) f ≡ moved → IsAllowed shape st.config (moved.deeds ++ st.deeds)
   step_legal moved e = subst (λ (m : Moved). IsAllowed shape st.config (m.deeds ++ st.deeds)) e
-      (cpu_step_stands shape st.config c st.deeds (the_caller st.callers c) coherent.ranges coherent.legal coherent.rests (coherent.stands c lt) f is).goes.legal
+      (cpu_step_stands shape st.config c st.deeds (progress_of st.progresses c) coherent.ranges coherent.legal coherent.rests (coherent.stands c lt) f is).goes.legal

@@ -18,7 +18,7 @@ use Rattle.dspec_deeds.specs.declared.deed.DecideFate.{DecideFate}
 use Rattle.dspec_deeds.specs.declared.deed.DecideFate.TheVariants as decided
 use Rattle.dspec_deeds.specs.declared.deed.Deed.{Deed}
 use Rattle.dspec_deeds.specs.declared.deed.Deed.TheVariants.{Commit, Release}
-use Rattle.dspec_play.specs.declared.flight.Caller.{Caller}
+use Rattle.dspec_play.specs.declared.flight.CpuProgress.{CpuProgress}
 use Rattle.dspec_play.specs.declared.flight.CpuFlight.TheVariants as cpu
 use Rattle.dspec_deeds.specs.FateKinds.{is_commit}
 use Rattle.dspec_deeds.specs.History.{halted, scan, is_among, issue, opened, committed, verdict, is_undecided, is_sole_or_none, solo}
@@ -50,7 +50,7 @@ beside_tells c n cs new is e = go (is_sole_or_none c cs) (subst (λ w. is_alone 
     go true e = absurd (true≢false e)
     go false e = refl
 
-module _ (shape : ℕ → Option Shape) (k : Config) (c : ℕ) (h : List Deed) (me : Caller) (play : IsUnderWay shape k c h me) where
+module _ (shape : ℕ → Option Shape) (k : Config) (c : ℕ) (h : List Deed) (me : CpuProgress) (play : IsUnderWay shape k c h me) where
   -- a commit of an identifier that isn't open
   void_stands : (id : Speculation) → scan k c h ≡ 0 → late c h ≡ false → is_open id h ≡ false
       → StepStands shape k c h (ends shape k c h me (Commit c id decided.Void ∷ []) (answer.Decided decided_answer.Void))

@@ -16,7 +16,7 @@ use Rattle.dspec_deeds.specs.declared.calls.Decided.TheVariants as decided_answe
 use Rattle.dspec_deeds.specs.declared.deed.DecideFate.TheVariants as decided
 use Rattle.dspec_deeds.specs.declared.deed.Deed.{Deed}
 use Rattle.dspec_deeds.specs.declared.deed.Deed.TheVariants.{Discard, Release}
-use Rattle.dspec_play.specs.declared.flight.Caller.{Caller}
+use Rattle.dspec_play.specs.declared.flight.CpuProgress.{CpuProgress}
 use Rattle.dspec_play.specs.declared.flight.CpuFlight.TheVariants as cpu
 use Rattle.dspec_deeds.specs.History.{halted, scan, is_among, issue, owed, discarded, verdict, is_undecided, is_sole, solo}
 use Rattle.dspec_deeds.specs.History.{releaser, same_actor, part, callers, present, word_at, is_open, in_range, late}
@@ -40,7 +40,7 @@ discarded_now c n id h = let own = id_is_itself id in rw own refl
 pub alone_now : (c n : ℕ) (id : Speculation) (h : List Deed) → is_sole c (callers id h) ≡ true → solo id (Discard c id (decided.Thrown n) ∷ h) ≡ Some c
 alone_now c n id h sole = let own = id_is_itself id in rw (own, sole) refl
 
-module _ (shape : ℕ → Option Shape) (k : Config) (c : ℕ) (h : List Deed) (me : Caller) (play : IsUnderWay shape k c h me) where
+module _ (shape : ℕ → Option Shape) (k : Config) (c : ℕ) (h : List Deed) (me : CpuProgress) (play : IsUnderWay shape k c h me) where
   -- a discard of an identifier that isn't open
   void_stands : (id : Speculation) → scan k c h ≡ 0 → late c h ≡ false → is_open id h ≡ false
       → StepStands shape k c h (ends shape k c h me (Discard c id decided.Void ∷ []) (answer.Decided decided_answer.Void))

@@ -8,7 +8,7 @@ use Rattle.dspec_deeds.specs.declared.config.Config.{Config}
 use Rattle.dspec_deeds.specs.declared.calls.Actor.TheVariants.{Cpu}
 use Rattle.dspec_deeds.specs.declared.calls.Answer.{Answer}
 use Rattle.dspec_deeds.specs.declared.deed.Deed.{Deed}
-use Rattle.dspec_play.specs.declared.flight.Caller.{Caller}
+use Rattle.dspec_play.specs.declared.flight.CpuProgress.{CpuProgress}
 use Rattle.dspec_play.specs.declared.flight.CpuFlight.{CpuFlight}
 use Rattle.dspec_play.specs.declared.flight.CpuFlight.TheVariants as cpu
 use Rattle.dspec_play.specs.declared.flight.Spare.{Spare}
@@ -18,7 +18,7 @@ use Rattle.dspec_deeds.specs.History.{author, same_actor, owed, owing, scan, in_
 use Rattle.dspec_deeds.specs.Own.{seals, seals_now}
 use Rattle.dspec_deeds.specs.Legal.{IsSound, IsAllowed, OwnAllows, MayCome, Pays}
 use Rattle.dspec_play.specs.Play.{Moved, call_goes_on, ends, wears}
-use Rattle.dspec_play.specs.Coherent.{IsSlot, StandsCpu, SpareCounts, PushesNext, CallerStands}
+use Rattle.dspec_play.specs.Coherent.{IsSlot, StandsCpu, SpareCounts, PushesNext, ProgressStands}
 use Rattle.dspec_deeds.proofs.TestLemmas.{either_way, off, and_tells, cpu_is_itself}
 use Rattle.dspec_deeds.proofs.SoundLists.{opened_in_range}
 use Rattle.dspec_deeds.proofs.SetUp.{set_up}
@@ -26,7 +26,7 @@ use Rattle.dspec_deeds.proofs.Going.{GoesOn}
 use Rattle.dspec_play.proofs.StepsAlone.{KeepsSoloRule, DecidesBeside, beside_rests, none_rules, one_rules}
 
 -- a play at a CPU whose step isn't the push of a sealed batch
-pub record IsUnderWay (shape : ℕ → Option Shape) (k : Config) (c : ℕ) (h : List Deed) (me : Caller) : Type 0 where
+pub record IsUnderWay (shape : ℕ → Option Shape) (k : Config) (c : ℕ) (h : List Deed) (me : CpuProgress) : Type 0 where
   pub ranges : start_fault k ≡ None
   pub legal : IsAllowed shape k h
   pub rests : owed h ≡ 0
@@ -37,8 +37,8 @@ pub record IsUnderWay (shape : ℕ → Option Shape) (k : Config) (c : ℕ) (h :
 -- a step keeps a play at its own CPU
 pub record StepStands (shape : ℕ → Option Shape) (k : Config) (c : ℕ) (h : List Deed) (m : Moved) : Type 0 where
   pub goes : GoesOn shape k (Cpu c) m.deeds h
-  pub stands : CallerStands k c (m.deeds ++ h) m.caller
-  pub solo_rule : KeepsSoloRule c h m.deeds m.caller.flight m.answer
+  pub stands : ProgressStands k c (m.deeds ++ h) m.progress
+  pub solo_rule : KeepsSoloRule c h m.deeds m.progress.flight m.answer
 
 -- no sealed batch waits for its push outside the step that pushes it
 pub pushes_not : (place : Spare) (f : CpuFlight) (flight : Option CpuFlight) → flight ≡ Some f → f ≢ cpu.ServicePush → PushesNext place flight → (next : Option CpuFlight) → PushesNext place next
@@ -52,7 +52,7 @@ pushes_not spare.GivenBack f flight is other p next = tt
 seals_stay : (c : ℕ) (d : Deed) (h : List Deed) → seals_now c d ≡ false → seals c (d ∷ h) ≡ seals c h
 seals_stay c d h e = rw e (omega arith)
 
-module _ (shape : ℕ → Option Shape) (k : Config) (c : ℕ) (h : List Deed) (me : Caller) (play : IsUnderWay shape k c h me) where
+module _ (shape : ℕ → Option Shape) (k : Config) (c : ℕ) (h : List Deed) (me : CpuProgress) (play : IsUnderWay shape k c h me) where
   none_comes : GoesOn shape k (Cpu c) [] h
   none_comes = record { legal = play.legal; rests = play.rests; by = tt }
 

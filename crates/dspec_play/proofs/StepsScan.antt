@@ -13,7 +13,7 @@ use Rattle.dspec_deeds.specs.declared.calls.CpuOp.TheVariants as cpu_op
 use Rattle.dspec_deeds.specs.declared.calls.Opening.TheVariants as opening
 use Rattle.dspec_deeds.specs.declared.deed.Deed.{Deed}
 use Rattle.dspec_deeds.specs.declared.deed.Deed.TheVariants.{Scan, Opened, Miss}
-use Rattle.dspec_play.specs.declared.flight.Caller.{Caller}
+use Rattle.dspec_play.specs.declared.flight.CpuProgress.{CpuProgress}
 use Rattle.dspec_play.specs.declared.flight.CpuFlight.TheVariants as cpu
 use Rattle.dspec_deeds.specs.History.{halted, scan, word_at, is_free, opened_since}
 use Rattle.dspec_play.specs.Play.{is_worn, begun, wears, ends, call_goes_on, missed, shown_scan, same_word, cpu_step}
@@ -41,7 +41,7 @@ scan_failed k c s busy h at last = let own = number_is_itself c in rw (own, at, 
 scan_next : (k : Config) (c s : ℕ) (busy : Bool) (h : List Deed) → scan k c h ≡ s → (s == k.nspec) ≡ false → scan k c (Miss c s busy ∷ h) ≡ s + 1
 scan_next k c s busy h at more = let own = number_is_itself c in rw (own, at, more) refl
 
-module _ (shape : ℕ → Option Shape) (k : Config) (c : ℕ) (h : List Deed) (me : Caller) (play : IsUnderWay shape k c h me) where
+module _ (shape : ℕ → Option Shape) (k : Config) (c : ℕ) (h : List Deed) (me : CpuProgress) (play : IsUnderWay shape k c h me) where
   pub scan_begins : scan k c h ≡ 0 → me.steps ≡ 0 → StepStands shape k c h (begun shape k c h me cpu_op.Speculation)
   scan_begins idle first = go (is_worn k c h) (halted h) refl
     where

@@ -19,7 +19,7 @@ use Rattle.dspec_deeds.specs.declared.deed.DecideFate.{DecideFate}
 use Rattle.dspec_deeds.specs.declared.deed.DecideFate.TheVariants as decided
 use Rattle.dspec_deeds.specs.declared.deed.Deed.{Deed}
 use Rattle.dspec_deeds.specs.declared.deed.Deed.TheVariants.{Settle, Seal}
-use Rattle.dspec_play.specs.declared.flight.Caller.{Caller}
+use Rattle.dspec_play.specs.declared.flight.CpuProgress.{CpuProgress}
 use Rattle.dspec_play.specs.declared.flight.CpuFlight.TheVariants as cpu
 use Rattle.dspec_play.specs.declared.flight.Spare.{Spare}
 use Rattle.dspec_play.specs.declared.flight.Spare.TheVariants as spare
@@ -50,7 +50,7 @@ not_settled k c s h sound le = let tells = ack_tells k c s h sound in let least 
     go true e = absurd (true≢false (sym e))
     go false e = refl
 
-module _ (shape : ℕ → Option Shape) (k : Config) (c : ℕ) (h : List Deed) (me : Caller) (play : IsUnderWay shape k c h me) where
+module _ (shape : ℕ → Option Shape) (k : Config) (c : ℕ) (h : List Deed) (me : CpuProgress) (play : IsUnderWay shape k c h me) where
   -- the first slot of the settlements is next
   settles_next : scan k c h ≡ 0 → me.steps ≤ 2 → (sealed : Bool) → StepStands shape k c h (call_goes_on shape k c h me [] (cpu.ServiceLoad 1 record { sealed = sealed; settled = 0 }))
   settles_next idle steps sealed = goes_by_none shape k c h me play (cpu.ServiceLoad 1 record { sealed = sealed; settled = 0 })
@@ -58,7 +58,7 @@ module _ (shape : ℕ → Option Shape) (k : Config) (c : ℕ) (h : List Deed) (
 
   -- the active buffer is sealed, and its push is next
   seals_stand : scan k c h ≡ 0 → me.steps ≤ 1 → seals c h < k.max_calls → seals c h ≡ me.takes → is_fill k.policy ≡ false
-      → StepStands shape k c h (record { caller = record me { flight = Some cpu.ServicePush; steps = me.steps + 1; spare = spare.Sealed }; deeds = Seal c ∷ []; answer = None })
+      → StepStands shape k c h (record { progress = record me { flight = Some cpu.ServicePush; steps = me.steps + 1; spare = spare.Sealed }; deeds = Seal c ∷ []; answer = None })
   seals_stand idle steps most same switched = record {
     goes = one_comes shape k c h me play (Seal c) play.rests tt (most, idle, switched) refl refl;
     stands = record { flight = (idle, omega arith, refl); counts = seals_more c h ∙ ap (λ n. n + 1) same; pushes = refl; want = play.want };
@@ -176,7 +176,7 @@ module _ (shape : ℕ → Option Shape) (k : Config) (c : ℕ) (h : List Deed) (
           store (decided.Thrown (length (held c (present s h) h))) Discarding waits (waits.fate (decided.Thrown (length (held c (present s h) h))) refl) refl
 
 -- the push of a sealed batch
-pub service_pushes : (shape : ℕ → Option Shape) (k : Config) (c : ℕ) (h : List Deed) (me : Caller) → start_fault k ≡ None → IsAllowed shape k h → owed h ≡ 0
+pub service_pushes : (shape : ℕ → Option Shape) (k : Config) (c : ℕ) (h : List Deed) (me : CpuProgress) → start_fault k ≡ None → IsAllowed shape k h → owed h ≡ 0
     → SpareCounts (seals c h) me.takes me.spare → me.want ≤ me.takes + 1 → StandsCpu k c h me cpu.ServicePush → StepStands shape k c h (cpu_step shape k c h me cpu.ServicePush)
 service_pushes shape k c h me ranges legal rests counts want at = let steps = at.1 in record {
   goes = record { legal = legal; rests = rests; by = tt };

@@ -15,7 +15,7 @@ use Rattle.dspec_deeds.specs.declared.calls.Spoken.TheVariants as spoken_answer
 use Rattle.dspec_deeds.specs.declared.deed.SpeculateFate.TheVariants as spoken
 use Rattle.dspec_deeds.specs.declared.deed.Deed.{Deed}
 use Rattle.dspec_deeds.specs.declared.deed.Deed.TheVariants.{Speculate}
-use Rattle.dspec_play.specs.declared.flight.Caller.{Caller}
+use Rattle.dspec_play.specs.declared.flight.CpuProgress.{CpuProgress}
 use Rattle.dspec_play.specs.declared.flight.CpuFlight.TheVariants as cpu
 use Rattle.dspec_deeds.specs.History.{halted, scan, is_among, callers, word_at, is_open, in_range, late}
 use Rattle.dspec_deeds.specs.Legal.{fits_speculative}
@@ -26,7 +26,7 @@ use Rattle.dspec_deeds.proofs.WordActs.{speculate_void, speculate_granted, specu
 use Rattle.dspec_play.proofs.StepsWords.{same_word_tells, code_rises, speculate_tells, speculate_not_idle}
 use Rattle.dspec_play.proofs.StepsParts.{IsUnderWay, StepStands, goes_by_none, ends_by, wears_stand, out_not_open}
 
-module _ (shape : ℕ → Option Shape) (k : Config) (c : ℕ) (h : List Deed) (me : Caller) (play : IsUnderWay shape k c h me) where
+module _ (shape : ℕ → Option Shape) (k : Config) (c : ℕ) (h : List Deed) (me : CpuProgress) (play : IsUnderWay shape k c h me) where
   -- a record of an identifier that isn't open
   void_stands : (id : Speculation) (r : Record) → scan k c h ≡ 0 → late c h ≡ false → is_open id h ≡ false
       → StepStands shape k c h (ends shape k c h me (Speculate c id r spoken.Void ∷ []) (answer.Spoken spoken_answer.Void))

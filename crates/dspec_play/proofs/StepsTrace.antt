@@ -10,13 +10,13 @@ use Rattle.dspec_deeds.specs.declared.calls.Traced.TheVariants as traced_answer
 use Rattle.dspec_deeds.specs.declared.deed.TraceFate.TheVariants as traced
 use Rattle.dspec_deeds.specs.declared.deed.Deed.{Deed}
 use Rattle.dspec_deeds.specs.declared.deed.Deed.TheVariants.{Trace}
-use Rattle.dspec_play.specs.declared.flight.Caller.{Caller}
+use Rattle.dspec_play.specs.declared.flight.CpuProgress.{CpuProgress}
 use Rattle.dspec_deeds.specs.History.{halted, scan}
 use Rattle.dspec_deeds.specs.Legal.{fits_principal}
 use Rattle.dspec_play.specs.Play.{is_worn, begun, wears, ends}
 use Rattle.dspec_play.proofs.StepsParts.{IsUnderWay, StepStands, ends_by, wears_stand}
 
-pub trace_begins : (shape : ℕ → Option Shape) (k : Config) (c : ℕ) (h : List Deed) (me : Caller) → IsUnderWay shape k c h me → (r : Record) → scan k c h ≡ 0
+pub trace_begins : (shape : ℕ → Option Shape) (k : Config) (c : ℕ) (h : List Deed) (me : CpuProgress) → IsUnderWay shape k c h me → (r : Record) → scan k c h ≡ 0
     → StepStands shape k c h (begun shape k c h me (cpu_op.Trace r))
 trace_begins shape k c h me play r idle = go (is_worn k c h) (halted h) (fits_principal shape k c (one r) h) refl refl
   where

@@ -13,16 +13,16 @@ use Rattle.dspec_deeds.specs.declared.calls.CpuOp.{CpuOp}
 use Rattle.dspec_deeds.specs.declared.calls.CpuOp.TheVariants as cpu_op
 use Rattle.dspec_deeds.specs.declared.deed.Deed.{Deed}
 use Rattle.dspec_deeds.specs.declared.deed.Deed.TheVariants.{Halt}
-use Rattle.dspec_play.specs.declared.flight.Caller.{Caller}
+use Rattle.dspec_play.specs.declared.flight.CpuProgress.{CpuProgress}
 use Rattle.dspec_play.specs.declared.flight.ConsumerFlight.TheVariants as consumer
-use Rattle.dspec_play.specs.declared.flight.ConsumerSide.{ConsumerSide}
+use Rattle.dspec_play.specs.declared.flight.ConsumerProgress.{ConsumerProgress}
 use Rattle.dspec_play.specs.declared.flight.CpuFlight.{CpuFlight}
 use Rattle.dspec_play.specs.declared.flight.CpuFlight.TheVariants as cpu
 use Rattle.dspec_play.specs.declared.flight.Spare.{Spare}
 use Rattle.dspec_play.specs.declared.flight.Spare.TheVariants as spare
 use Rattle.dspec_deeds.specs.History.{halted, scan}
 use Rattle.dspec_deeds.specs.Own.{seals}
-use Rattle.dspec_play.specs.Coherent.{PlayState, IsCoherent, StandsCaller, SpareCounts, PushesNext, CallerStands, the_caller}
+use Rattle.dspec_play.specs.Coherent.{PlayState, IsCoherent, StandsProgress, SpareCounts, PushesNext, ProgressStands, progress_of}
 use Rattle.dspec_play.specs.Play.{consumer_begun, takes_at, gives_at, stops, took}
 use Rattle.dspec_play.specs.Turns.{begin_cpu, begin_consumer, on_to_end}
 use Rattle.dspec_play.specs.Whole.{whole_cpu, is_out, behind_cpu, behind_consumer, cpu_call, consumer_call, IsApart}
@@ -41,7 +41,7 @@ pub less : (n : ℕ) → 1 ≤ n → (j : ℕ) × (suc j ≡ n)
 less zero le = absurd (omega arith)
 less (suc j) le = (j, refl)
 
-module _ (shape : ℕ → Option Shape) (k : Config) (c : ℕ) (h : List Deed) (at : IsAtRest k c h) (some : 1 ≤ k.nspec) (me : Caller)
+module _ (shape : ℕ → Option Shape) (k : Config) (c : ℕ) (h : List Deed) (at : IsAtRest k c h) (some : 1 ≤ k.nspec) (me : CpuProgress)
     (counts : SpareCounts (seals c h) me.takes me.spare) (unsealed : me.spare ≢ spare.Sealed) where
   -- each call's steps, within its bound
   runs_whole : (o : CpuOp) → runs shape k c (op_bound k o) (begins me o) h None ≡ whole (whole_cpu shape k c (idle me) h o)
@@ -66,28 +66,28 @@ module _ (shape : ℕ → Option Shape) (k : Config) (c : ℕ) (h : List Deed) (
 pub none_sealed : (place : Spare) (f : Option CpuFlight) → f ≡ None → PushesNext place f → place ≢ spare.Sealed
 none_sealed place f none pushes is = let push : f ≡ Some cpu.ServicePush = subst (λ (p : Spare). PushesNext p f) is pushes in cc
 
-module _ (shape : ℕ → Option Shape) (st : PlayState) (side : ConsumerSide) where
+module _ (shape : ℕ → Option Shape) (st : PlayState) (side : ConsumerProgress) where
   -- a take finds a batch exactly where one was sealed that was not taken
-  take_leads : (c : ℕ) (me : Caller) (place : Spare) → SpareCounts (seals c st.deeds) me.takes place → place ≢ spare.Sealed
-      → Clears shape st 0 st.deeds (takes_at st.config st.deeds side st.callers c me place)
+  take_leads : (c : ℕ) (me : CpuProgress) (place : Spare) → SpareCounts (seals c st.deeds) me.takes place → place ≢ spare.Sealed
+      → Clears shape st 0 st.deeds (takes_at st.config st.deeds side st.progresses c me place)
       (if nat_lt me.takes (seals c st.deeds) then record
-      { list = st.deeds; callers = slice_set st.callers c (record me { spare = spare.Out; takes = me.takes + 1 }); answer = took me.takes c st.deeds }
-      else record { list = st.deeds; callers = st.callers; answer = answer.TookNone })
-  take_leads c me spare.InHand n u = let no : nat_lt me.takes (seals c st.deeds) ≡ false = grind (arith, nat_tests) in rw no (clear_ended shape st 0 st.deeds side st.callers [] answer.TookNone)
+      { list = st.deeds; progresses = slice_set st.progresses c (record me { spare = spare.Out; takes = me.takes + 1 }); answer = took me.takes c st.deeds }
+      else record { list = st.deeds; progresses = st.progresses; answer = answer.TookNone })
+  take_leads c me spare.InHand n u = let no : nat_lt me.takes (seals c st.deeds) ≡ false = grind (arith, nat_tests) in rw no (clear_ended shape st 0 st.deeds side st.progresses [] answer.TookNone)
   take_leads c me spare.Sealed n u = absurd (u refl)
   take_leads c me spare.Handed n u = let more : nat_lt me.takes (seals c st.deeds) ≡ true = grind (arith, nat_tests) in rw more record { is = refl }
-  take_leads c me spare.Out n u = let no : nat_lt me.takes (seals c st.deeds) ≡ false = grind (arith, nat_tests) in rw no (clear_ended shape st 0 st.deeds side st.callers [] answer.TookNone)
-  take_leads c me spare.GivenBack n u = let no : nat_lt me.takes (seals c st.deeds) ≡ false = grind (arith, nat_tests) in rw no (clear_ended shape st 0 st.deeds side st.callers [] answer.TookNone)
+  take_leads c me spare.Out n u = let no : nat_lt me.takes (seals c st.deeds) ≡ false = grind (arith, nat_tests) in rw no (clear_ended shape st 0 st.deeds side st.progresses [] answer.TookNone)
+  take_leads c me spare.GivenBack n u = let no : nat_lt me.takes (seals c st.deeds) ≡ false = grind (arith, nat_tests) in rw no (clear_ended shape st 0 st.deeds side st.progresses [] answer.TookNone)
 
-  give_leads : (c : ℕ) (me : Caller) (place : Spare)
-      → Clears shape st 0 st.deeds (gives_at st.config st.deeds side st.callers c me place)
-      (if is_out place then record { list = st.deeds; callers = slice_set st.callers c (record me { spare = spare.GivenBack }); answer = answer.GaveBack true }
-      else record { list = st.deeds; callers = st.callers; answer = answer.GaveBack false })
-  give_leads c me spare.InHand = clear_ended shape st 0 st.deeds side st.callers [] (answer.GaveBack false)
-  give_leads c me spare.Sealed = clear_ended shape st 0 st.deeds side st.callers [] (answer.GaveBack false)
-  give_leads c me spare.Handed = clear_ended shape st 0 st.deeds side st.callers [] (answer.GaveBack false)
+  give_leads : (c : ℕ) (me : CpuProgress) (place : Spare)
+      → Clears shape st 0 st.deeds (gives_at st.config st.deeds side st.progresses c me place)
+      (if is_out place then record { list = st.deeds; progresses = slice_set st.progresses c (record me { spare = spare.GivenBack }); answer = answer.GaveBack true }
+      else record { list = st.deeds; progresses = st.progresses; answer = answer.GaveBack false })
+  give_leads c me spare.InHand = clear_ended shape st 0 st.deeds side st.progresses [] (answer.GaveBack false)
+  give_leads c me spare.Sealed = clear_ended shape st 0 st.deeds side st.progresses [] (answer.GaveBack false)
+  give_leads c me spare.Handed = clear_ended shape st 0 st.deeds side st.progresses [] (answer.GaveBack false)
   give_leads c me spare.Out = record { is = refl }
-  give_leads c me spare.GivenBack = clear_ended shape st 0 st.deeds side st.callers [] (answer.GaveBack false)
+  give_leads c me spare.GivenBack = clear_ended shape st 0 st.deeds side st.progresses [] (answer.GaveBack false)
 
 -- the steps of a clean are its bound's
 steps_of : (cpus j : ℕ) → steps_for cpus j ≡ j * (cpus + 2)
@@ -96,25 +96,25 @@ steps_of cpus (suc j) = let e = plus_is cpus (steps_for cpus j) in let r = steps
 
 module _ (shape : ℕ → Option Shape) (st : PlayState) (ok : IsCoherent shape st) where
   -- a whole call of a CPU
-  pub cpu_whole : (c : ℕ) (o : CpuOp) (n : ℕ) → c < st.config.cpus → (the_caller st.callers c).flight ≡ None → op_bound st.config o ≤ n
+  pub cpu_whole : (c : ℕ) (o : CpuOp) (n : ℕ) → c < st.config.cpus → (progress_of st.progresses c).flight ≡ None → op_bound st.config o ≤ n
       → on_to_end shape n (actor.Cpu c) (begin_cpu c o st) None ≡ record { state = behind_cpu c (cpu_call shape c o st) st; answer = Some (cpu_call shape c o st).answer }
   cpu_whole c o n lt none le =
-      let me : Caller = the_caller st.callers c in
-      let stands : CallerStands st.config c st.deeds me = ok.stands c lt in
-      let still : (scan st.config c st.deeds ≡ 0) × (me.steps ≡ 0) = subst (StandsCaller st.config c st.deeds me) none stands.flight in
+      let me : CpuProgress = progress_of st.progresses c in
+      let stands : ProgressStands st.config c st.deeds me = ok.stands c lt in
+      let still : (scan st.config c st.deeds ≡ 0) × (me.steps ≡ 0) = subst (StandsProgress st.config c st.deeds me) none stands.flight in
       let is_idle : idle me ≡ me = λ i. record me { flight = sym none i; steps = sym still.1 i } in
       let count = ok.count in
-      let there : c < length st.callers = omega arith in
+      let there : c < length st.progresses = omega arith in
       let rest : IsAtRest st.config c st.deeds = record { sound = ok.legal.0; rests = ok.rests; still = still.0 } in
       call_alone shape c st there o (op_bound st.config o) n _ le
       (runs_whole shape st.config c st.deeds rest (set_up st.config ok.ranges).1 me stands.counts (none_sealed me.spare me.flight none stands.pushes) o)
-      ∙ ap (λ (x : Caller). record { state = behind_cpu c (whole_cpu shape st.config c x st.deeds o) st; answer = Some (whole_cpu shape st.config c x st.deeds o).answer }) is_idle
+      ∙ ap (λ (x : CpuProgress). record { state = behind_cpu c (whole_cpu shape st.config c x st.deeds o) st; answer = Some (whole_cpu shape st.config c x st.deeds o).answer }) is_idle
 
   -- the steps of a call of the consumer
-  abbrev begun_side : ConsumerOp → ConsumerSide
+  abbrev begun_side : ConsumerOp → ConsumerProgress
   begun_side o = record { flight = Some (consumer.Begun o); steps = 0 }
 
-  one_step : (o : ConsumerOp) → Clears shape st 0 st.deeds (consumer_begun st.config st.deeds (begun_side o) st.callers o) (consumer_call shape o st)
+  one_step : (o : ConsumerOp) → Clears shape st 0 st.deeds (consumer_begun st.config st.deeds (begun_side o) st.progresses o) (consumer_call shape o st)
       → (n : ℕ) → 1 ≤ n → on_to_end shape n actor.Consumer (begin_consumer o st) None
       ≡ record { state = behind_consumer (consumer_call shape o st) st; answer = Some (consumer_call shape o st).answer }
   one_step o l zero le = absurd (omega arith)
@@ -125,11 +125,11 @@ module _ (shape : ℕ → Option Shape) (st : PlayState) (ok : IsCoherent shape 
       → on_to_end shape n actor.Consumer (begin_consumer o st) None ≡ record { state = behind_consumer (consumer_call shape o st) st; answer = Some (consumer_call shape o st).answer }
   consumer_whole (consumer_op.Ask c) n apart le = one_step (consumer_op.Ask c) record { is = refl } n le
   consumer_whole (consumer_op.Take c) n apart le =
-      let me : Caller = the_caller st.callers c in
-      let stands : CallerStands st.config c st.deeds me = ok.stands c apart.0 in
+      let me : CpuProgress = progress_of st.progresses c in
+      let stands : ProgressStands st.config c st.deeds me = ok.stands c apart.0 in
       one_step (consumer_op.Take c) (take_leads shape st (begun_side (consumer_op.Take c)) c me me.spare stands.counts (none_sealed me.spare me.flight apart.1 stands.pushes)) n le
   consumer_whole (consumer_op.GiveBack c) n apart le =
-      one_step (consumer_op.GiveBack c) (give_leads shape st (begun_side (consumer_op.GiveBack c)) c (the_caller st.callers c) (the_caller st.callers c).spare) n le
+      one_step (consumer_op.GiveBack c) (give_leads shape st (begun_side (consumer_op.GiveBack c)) c (progress_of st.progresses c) (progress_of st.progresses c).spare) n le
   consumer_whole consumer_op.Clean n apart le = go n le
     where
       i : (i : ℕ) × (suc i ≡ st.config.cpus)
@@ -145,11 +145,11 @@ module _ (shape : ℕ → Option Shape) (st : PlayState) (ok : IsCoherent shape 
           let most : steps_for st.config.cpus st.config.nspec ≤ n = let e = steps_of st.config.cpus st.config.nspec in omega arith in
           let all : suc (zero + j.0) ≡ st.config.nspec = let e = j.1 in omega arith in
           at n (subst (λ m. steps_for st.config.cpus m ≤ n) (sym j.1) most)
-          (clean_leads shape st st.callers st.deeds record { sound = ok.legal.0; rests = ok.rests } i.0 i.1 j.0 zero (begun_side consumer_op.Clean) all)
+          (clean_leads shape st st.progresses st.deeds record { sound = ok.legal.0; rests = ok.rests } i.0 i.1 j.0 zero (begun_side consumer_op.Clean) all)
         where
           at : (n : ℕ) → suc (suc (plus st.config.cpus (steps_for st.config.cpus j.0))) ≤ n
               → Clears shape st (suc (plus st.config.cpus (steps_for st.config.cpus j.0))) st.deeds
-              (consumer_begun st.config st.deeds (begun_side consumer_op.Clean) st.callers consumer_op.Clean) (consumer_call shape consumer_op.Clean st)
+              (consumer_begun st.config st.deeds (begun_side consumer_op.Clean) st.progresses consumer_op.Clean) (consumer_call shape consumer_op.Clean st)
               → on_to_end shape n actor.Consumer (begin_consumer consumer_op.Clean st) None
               ≡ record { state = behind_consumer (consumer_call shape consumer_op.Clean st) st; answer = Some (consumer_call shape consumer_op.Clean st).answer }
           at zero le l = absurd (omega arith)
@@ -157,8 +157,8 @@ module _ (shape : ℕ → Option Shape) (st : PlayState) (ok : IsCoherent shape 
   consumer_whole consumer_op.Stop n apart le = one_step consumer_op.Stop (stop_leads (halted st.deeds)) n le
     where
       stop_leads : (b : Bool) → Clears shape st 0 st.deeds
-          (if b then stops st.config st.deeds (begun_side consumer_op.Stop) st.callers [] answer.StopDone else stops st.config st.deeds (begun_side consumer_op.Stop)
-          st.callers (Halt ∷ []) answer.StopDone)
-          record { list = if b then st.deeds else Halt ∷ st.deeds; callers = st.callers; answer = answer.StopDone }
-      stop_leads true = clear_ended shape st 0 st.deeds (begun_side consumer_op.Stop) st.callers [] answer.StopDone
-      stop_leads false = clear_ended shape st 0 st.deeds (begun_side consumer_op.Stop) st.callers (Halt ∷ []) answer.StopDone
+          (if b then stops st.config st.deeds (begun_side consumer_op.Stop) st.progresses [] answer.StopDone else stops st.config st.deeds (begun_side consumer_op.Stop)
+          st.progresses (Halt ∷ []) answer.StopDone)
+          record { list = if b then st.deeds else Halt ∷ st.deeds; progresses = st.progresses; answer = answer.StopDone }
+      stop_leads true = clear_ended shape st 0 st.deeds (begun_side consumer_op.Stop) st.progresses [] answer.StopDone
+      stop_leads false = clear_ended shape st 0 st.deeds (begun_side consumer_op.Stop) st.progresses (Halt ∷ []) answer.StopDone

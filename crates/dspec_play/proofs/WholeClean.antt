@@ -14,10 +14,10 @@ use Rattle.dspec_deeds.specs.declared.calls.Answer.{Answer}
 use Rattle.dspec_deeds.specs.declared.calls.Answer.TheVariants as answer
 use Rattle.dspec_deeds.specs.declared.deed.Deed.{Deed}
 use Rattle.dspec_deeds.specs.declared.deed.Deed.TheVariants.{Release}
-use Rattle.dspec_play.specs.declared.flight.Caller.{Caller}
+use Rattle.dspec_play.specs.declared.flight.CpuProgress.{CpuProgress}
 use Rattle.dspec_play.specs.declared.flight.ConsumerFlight.{ConsumerFlight}
 use Rattle.dspec_play.specs.declared.flight.ConsumerFlight.TheVariants as consumer
-use Rattle.dspec_play.specs.declared.flight.ConsumerSide.{ConsumerSide}
+use Rattle.dspec_play.specs.declared.flight.ConsumerProgress.{ConsumerProgress}
 use Rattle.dspec_deeds.specs.History.{issue, present, verdict, is_undecided, solo, settled, is_busy, owed, releaser, ack, word_at}
 use Rattle.dspec_deeds.specs.Legal.{IsSound}
 use Rattle.dspec_play.specs.Coherent.{PlayState}
@@ -50,28 +50,28 @@ module _ (shape : ℕ → Option Shape) where
 
 module _ (shape : ℕ → Option Shape) (st : PlayState) where
   -- the consumer's side, the CPUs' and the list
-  abbrev pub stands_at : ConsumerSide → List Caller → List Deed → PlayState
-  stands_at side all h = record { config = st.config; deeds = h; callers = all; side = side }
+  abbrev pub stands_at : ConsumerProgress → List CpuProgress → List Deed → PlayState
+  stands_at side all h = record { config = st.config; deeds = h; progresses = all; side = side }
 
-  abbrev pub at_rest : ConsumerSide
+  abbrev pub at_rest : ConsumerProgress
   at_rest = record { flight = None; steps = 0 }
 
   -- what the state becomes behind a whole call of the consumer
   abbrev pub left_by : WholeConsumer → Stepped
-  left_by w = record { state = stands_at at_rest w.callers w.list; answer = Some w.answer }
+  left_by w = record { state = stands_at at_rest w.progresses w.list; answer = Some w.answer }
 
   -- behind a step, so many more steps of the call lead to what the whole call leaves
   pub record Clears (n : ℕ) (h : List Deed) (m : ConsumerStep) (w : WholeConsumer) : Type 0 where
-    pub is : on_to_end shape n actor.Consumer (stands_at m.side m.callers (m.deeds ++ h)) m.answer ≡ left_by w
+    pub is : on_to_end shape n actor.Consumer (stands_at m.side m.progresses (m.deeds ++ h)) m.answer ≡ left_by w
 
-  pub clear_ended : (n : ℕ) (h : List Deed) (side : ConsumerSide) (all : List Caller) (ds : List Deed) (a : Answer)
-      → Clears n h (stops st.config h side all ds a) record { list = ds ++ h; callers = all; answer = a }
+  pub clear_ended : (n : ℕ) (h : List Deed) (side : ConsumerProgress) (all : List CpuProgress) (ds : List Deed) (a : Answer)
+      → Clears n h (stops st.config h side all ds a) record { list = ds ++ h; progresses = all; answer = a }
   clear_ended n h side all ds a = record { is = ended_stays shape n actor.Consumer _ a }
 
-  abbrev pub later_side : ConsumerSide → ConsumerFlight → ConsumerSide
+  abbrev pub later_side : ConsumerProgress → ConsumerFlight → ConsumerProgress
   later_side side f = record { flight = Some f; steps = side.steps + 1 }
 
-  pub clear_goes : (n : ℕ) (h : List Deed) (side : ConsumerSide) (all : List Caller) (ds : List Deed) (f : ConsumerFlight) (w : WholeConsumer)
+  pub clear_goes : (n : ℕ) (h : List Deed) (side : ConsumerProgress) (all : List CpuProgress) (ds : List Deed) (f : ConsumerFlight) (w : WholeConsumer)
       → Clears n (ds ++ h) (consumer_step st.config (ds ++ h) (later_side side f) all f) w → Clears (suc n) h (keeps_on st.config h side all ds f) w
   clear_goes n h side all ds f w l = record { is = l.is }
 
@@ -168,28 +168,28 @@ abbrev pub steps_for : ℕ → ℕ → ℕ
 steps_for cpus zero = 0
 steps_for cpus (suc j) = suc (suc (plus cpus (steps_for cpus j)))
 
-module _ (shape : ℕ → Option Shape) (st : PlayState) (all : List Caller) (h : List Deed) (q : IsQuiet st.config h) (i0 : ℕ) (cpus : suc i0 ≡ st.config.cpus) where
+module _ (shape : ℕ → Option Shape) (st : PlayState) (all : List CpuProgress) (h : List Deed) (q : IsQuiet st.config h) (i0 : ℕ) (cpus : suc i0 ≡ st.config.cpus) where
   -- the list once the first slots are cleaned
   abbrev upto : ℕ → List Deed
   upto n = cleaned_up st.config n h
 
   abbrev cleaned : WholeConsumer
-  cleaned = record { list = upto st.config.nspec; callers = all; answer = answer.Cleaned (releases_up st.config st.config.nspec h) }
+  cleaned = record { list = upto st.config.nspec; progresses = all; answer = answer.Cleaned (releases_up st.config st.config.nspec h) }
 
   -- behind a slot, with so many slots left
   abbrev NextLeads : ℕ → ℕ → Type 0
-  NextLeads j n = (f : ℕ) → steps_for st.config.cpus j ≤ f → (side : ConsumerSide) (ds : List Deed) (count : ℕ) → (ds ++ upto n) ≡ upto (suc n) → count ≡ releases_up st.config (suc n) h
+  NextLeads j n = (f : ℕ) → steps_for st.config.cpus j ≤ f → (side : ConsumerProgress) (ds : List Deed) (count : ℕ) → (ds ++ upto n) ≡ upto (suc n) → count ≡ releases_up st.config (suc n) h
       → Clears shape st f (upto n) (next_slot st.config (upto n) side all (suc n) ds count) cleaned
 
   next_last : (n : ℕ) → suc n ≡ st.config.nspec → NextLeads zero n
   next_last n last f le side ds count list is =
-      let left : record { list = ds ++ upto n; callers = all; answer = answer.Cleaned count } ≡ cleaned =
-      λ i. record { list = (list ∙ ap upto last) i; callers = all; answer = answer.Cleaned ((is ∙ ap (λ m. releases_up st.config m h) last) i) } in
+      let left : record { list = ds ++ upto n; progresses = all; answer = answer.Cleaned count } ≡ cleaned =
+      λ i. record { list = (list ∙ ap upto last) i; progresses = all; answer = answer.Cleaned ((is ∙ ap (λ m. releases_up st.config m h) last) i) } in
       clear_true shape st f _ (suc n == st.config.nspec) _ _ _ (subst (λ m. (suc n == m) ≡ true) last (number_is_itself (suc n)))
       (subst (λ (w : WholeConsumer). Clears shape st f (upto n) (stops st.config (upto n) side all ds (answer.Cleaned count)) w) left (clear_ended shape st f (upto n) side all ds _))
 
   next_more : (j n : ℕ) → suc n < st.config.nspec
-      → ((side : ConsumerSide) → Clears shape st (suc (plus st.config.cpus (steps_for st.config.cpus j))) (upto (suc n))
+      → ((side : ConsumerProgress) → Clears shape st (suc (plus st.config.cpus (steps_for st.config.cpus j))) (upto (suc n))
       (loads_slot st.config (upto (suc n)) side all (suc (suc n)) (releases_up st.config (suc n) h)) cleaned)
       → NextLeads (suc j) n
   next_more j n more rest f le side ds count list is =
@@ -203,13 +203,13 @@ module _ (shape : ℕ → Option Shape) (st : PlayState) (all : List Caller) (h 
       (λ i. (sym list i, next i, sym is i)) (rest (later_side shape st side (consumer.CleanLoad (suc (suc n)) (releases_up st.config (suc n) h)))))))
 
   module _ (j n : ℕ) (next : NextLeads j n) where
-    passes : (f : ℕ) → steps_for st.config.cpus j ≤ f → (side : ConsumerSide) → is_reapable st.config (suc n) (upto n) ≡ false
+    passes : (f : ℕ) → steps_for st.config.cpus j ≤ f → (side : ConsumerProgress) → is_reapable st.config (suc n) (upto n) ≡ false
         → Clears shape st f (upto n) (next_slot st.config (upto n) side all (suc n) [] (releases_up st.config n h)) cleaned
     passes f le side e =
         let none : releases_up st.config n h ≡ releases_up st.config n h + 0 = omega arith in
         next f le side [] _ (sym (ap (λ (b : Bool). if b then Release (suc n) ∷ upto n else upto n) e)) (none ∙ sym (ap (λ (b : Bool). releases_up st.config n h + (if b then 1 else 0)) e))
 
-    reap_leads : (side : ConsumerSide) → is_reapable st.config (suc n) (upto n) ≡ true
+    reap_leads : (side : ConsumerProgress) → is_reapable st.config (suc n) (upto n) ≡ true
         → Clears shape st (steps_for st.config.cpus j) (upto n) (reaps st.config (upto n) side all (suc n) (word_at (suc n) (upto n)) (releases_up st.config n h)) cleaned
     reap_leads side e =
         clear_true shape st _ _ (same_word (word_at (suc n) (upto n)) (word_at (suc n) (upto n))) _ _ _ (same_word_is (word_at (suc n) (upto n)))
@@ -238,7 +238,7 @@ module _ (shape : ℕ → Option Shape) (st : PlayState) (all : List Caller) (h 
     enough i = let e = plus_is i (steps_for st.config.cpus j) in omega arith
 
     -- the acknowledgements, from a CPU to the last one
-    ack_leads : (i a : ℕ) (side : ConsumerSide) → awaits (word_at (suc n) (upto n)).code ≡ true → a + suc i ≡ st.config.cpus → all_settled st.config a (present (suc n) (upto n)) (upto n) ≡ true
+    ack_leads : (i a : ℕ) (side : ConsumerProgress) → awaits (word_at (suc n) (upto n)).code ≡ true → a + suc i ≡ st.config.cpus → all_settled st.config a (present (suc n) (upto n)) (upto n) ≡ true
         → Clears shape st (suc (plus i (steps_for st.config.cpus j))) (upto n) (loads_ack st.config (upto n) side all (suc n) (word_at (suc n) (upto n)) a (releases_up st.config n h)) cleaned
     ack_leads zero a side waits count below =
         let last : suc a ≡ st.config.cpus = omega arith in
@@ -263,7 +263,7 @@ module _ (shape : ℕ → Option Shape) (st : PlayState) (all : List Caller) (h 
         (λ e. passes _ (enough (suc i)) side (reapable_by false waits (is_missing (suc i) a count e)))
 
     -- a slot, from the load of its word
-    slot_leads : (side : ConsumerSide) → Clears shape st (suc (plus st.config.cpus (steps_for st.config.cpus j))) (upto n)
+    slot_leads : (side : ConsumerProgress) → Clears shape st (suc (plus st.config.cpus (steps_for st.config.cpus j))) (upto n)
         (loads_slot st.config (upto n) side all (suc n) (releases_up st.config n h)) cleaned
     slot_leads side =
         let rest : zero + suc i0 ≡ st.config.cpus = omega arith in
@@ -277,7 +277,7 @@ module _ (shape : ℕ → Option Shape) (st : PlayState) (all : List Caller) (h 
         (reapable_is st.config (suc n) (upto n) (cleaned_up_rests st.config n h q) ∙ ap (λ x. x && all_settled st.config st.config.cpus (present (suc n) (upto n)) (upto n)) idle))
 
   -- the slots from one to the last
-  pub clean_leads : (j n : ℕ) (side : ConsumerSide) → suc (n + j) ≡ st.config.nspec
+  pub clean_leads : (j n : ℕ) (side : ConsumerProgress) → suc (n + j) ≡ st.config.nspec
       → Clears shape st (suc (plus st.config.cpus (steps_for st.config.cpus j))) (upto n) (loads_slot st.config (upto n) side all (suc n) (releases_up st.config n h)) cleaned
   clean_leads zero n side last = let at_last : suc n ≡ st.config.nspec = omega arith in slot_leads zero n (next_last n at_last) side
   clean_leads (suc j) n side last =

@@ -16,7 +16,7 @@ use Rattle.dspec_deeds.specs.declared.deed.DecideFate.{DecideFate}
 use Rattle.dspec_deeds.specs.declared.deed.DecideFate.TheVariants as decided
 use Rattle.dspec_deeds.specs.declared.deed.Deed.{Deed}
 use Rattle.dspec_deeds.specs.declared.deed.Deed.TheVariants.{Commit, Discard, Release}
-use Rattle.dspec_play.specs.declared.flight.Caller.{Caller}
+use Rattle.dspec_play.specs.declared.flight.CpuProgress.{CpuProgress}
 use Rattle.dspec_play.specs.declared.flight.CpuFlight.TheVariants as cpu
 use Rattle.dspec_deeds.specs.History.{halted, in_range, is_among, callers, is_open, issue, word_at, is_sole, is_sole_or_none}
 use Rattle.dspec_deeds.specs.Legal.{IsSound}
@@ -67,15 +67,15 @@ word_releases i true = refl
 word_releases i false = refl
 
 module _ (shape : ℕ → Option Shape) (k : Config) (c : ℕ) (h : List Deed) (sound : IsSound k h) (some : 1 ≤ k.nspec) (id : Speculation) where
-  told_ended : (n : ℕ) (at : List Deed) (me : Caller) (ds : List Deed) (f : DecideFate)
+  told_ended : (n : ℕ) (at : List Deed) (me : CpuProgress) (ds : List Deed) (f : DecideFate)
       → Leads shape k c n at (ends shape k c at me ds (answer_of f)) (enters shape k c (idle me) (ds ++ at) (answer_of f))
   told_ended n at me ds f = ended shape k c n at me ds _
 
   -- commit
-  abbrev commit_void_whole : Caller → WholeCpu
+  abbrev commit_void_whole : CpuProgress → WholeCpu
   commit_void_whole me = enters shape k c (idle me) (Commit c id decided.Void ∷ h) (answer.Decided decided_answer.Void)
 
-  abbrev commit_whole : Caller → WholeCpu
+  abbrev commit_whole : CpuProgress → WholeCpu
   commit_whole me =
       if is_sole_or_none c (callers id h) then enters shape k c (idle me) (Release id.slot ∷ Commit c id (commit_fate shape k c h id) ∷ h) (answer_of (commit_fate shape k c h id))
       else enters shape k c (idle me) (Commit c id (commit_fate shape k c h id) ∷ h) (answer_of (commit_fate shape k c h id))
@@ -83,7 +83,7 @@ module _ (shape : ℕ → Option Shape) (k : Config) (c : ℕ) (h : List Deed) (
   abbrev commits : Act
   commits = commit_at (word_at id.slot h) id (is_among c (callers id h))
 
-  committed_leads : (me : Caller) (b : Bool) → b ≡ is_sole_or_none c (callers id h)
+  committed_leads : (me : CpuProgress) (b : Bool) → b ≡ is_sole_or_none c (callers id h)
       → Leads shape k c 1 h (if b then call_goes_on shape k c h me (Commit c id (commit_fate shape k c h id) ∷ [])
       (cpu.CommitRelease id (commit_fate shape k c h id)) else ends shape k c h me (Commit c id (commit_fate shape k c h id) ∷ []) (answer_of (commit_fate shape k c h id))) (commit_whole me)
   committed_leads me b is = subst
@@ -93,7 +93,7 @@ module _ (shape : ℕ → Option Shape) (k : Config) (c : ℕ) (h : List Deed) (
       else enters shape k c (idle me) (Commit c id (commit_fate shape k c h id) ∷ h) (answer_of (commit_fate shape k c h id)))) is
       (both shape k c 1 h b _ _ _ _ (λ t. goes shape k c 0 h me _ _ _ (told_ended 0 _ (later me (cpu.CommitRelease id (commit_fate shape k c h id))) _ _)) (λ f. told_ended 1 h me _ _))
 
-  pub commit_alone : (me : Caller) → runs shape k c 4 (begins me (cpu_op.Commit id)) h None ≡ whole (whole_cpu shape k c (idle me) h (cpu_op.Commit id))
+  pub commit_alone : (me : CpuProgress) → runs shape k c 4 (begins me (cpu_op.Commit id)) h None ≡ whole (whole_cpu shape k c (idle me) h (cpu_op.Commit id))
   commit_alone me = starts shape k c 3 h me (cpu_op.Commit id) _
       (both shape k c 3 h (is_worn k c h) _ _ _ _ (λ t. worn shape k c 3 h me _) (λ f.
       both shape k c 3 h (halted h) _ _ _ _ (λ t. ended shape k c 3 h me _ _) (λ g.
@@ -106,13 +106,13 @@ module _ (shape : ℕ → Option Shape) (k : Config) (c : ℕ) (h : List Deed) (
       never : {P : Type 0} (a : Act) → commits ≡ a → (Decides a → ⊥) → P
       never a e n = absurd (n (subst Decides e (commit_decides _ _ (is_among c (callers id h)) _)))
 
-      shut_leads : (me : Caller) → is_open id h ≡ false → (a : Act) → commits ≡ a → Leads shape k c 2 h (shown_commit shape k c h me id (word_at id.slot h) a) (commit_void_whole me)
+      shut_leads : (me : CpuProgress) → is_open id h ≡ false → (a : Act) → commits ≡ a → Leads shape k c 2 h (shown_commit shape k c h me id (word_at id.slot h) a) (commit_void_whole me)
       shut_leads me shut Void e = ended shape k c 2 h me _ _
       shut_leads me shut Granted e = never Granted e (λ n. n)
       shut_leads me shut (Attempt to) e = off (is_open id h) (commit_attempt k h id c to sound e).1 shut
       shut_leads me shut Idle e = never Idle e (λ n. n)
 
-      open_leads : (me : Caller) → is_open id h ≡ true → (a : Act) → commits ≡ a → Leads shape k c 2 h (shown_commit shape k c h me id (word_at id.slot h) a) (commit_whole me)
+      open_leads : (me : CpuProgress) → is_open id h ≡ true → (a : Act) → commits ≡ a → Leads shape k c 2 h (shown_commit shape k c h me id (word_at id.slot h) a) (commit_whole me)
       open_leads me given Void e = off (is_open id h) given (commit_void k h id (is_among c (callers id h)) sound e)
       open_leads me given Granted e = never Granted e (λ n. n)
       open_leads me given (Attempt to) e = goes shape k c 1 h me [] _ _
@@ -122,10 +122,10 @@ module _ (shape : ℕ → Option Shape) (k : Config) (c : ℕ) (h : List Deed) (
       open_leads me given Idle e = never Idle e (λ n. n)
 
   -- discard
-  abbrev discard_void_whole : Caller → WholeCpu
+  abbrev discard_void_whole : CpuProgress → WholeCpu
   discard_void_whole me = enters shape k c (idle me) (Discard c id decided.Void ∷ h) (answer.Decided decided_answer.Void)
 
-  abbrev discard_whole : Caller → WholeCpu
+  abbrev discard_whole : CpuProgress → WholeCpu
   discard_whole me =
       if is_sole c (callers id h) then enters shape k c (idle me) (Release id.slot ∷ Discard c id (discard_fate shape k c h id) ∷ h) (answer_of (discard_fate shape k c h id))
       else enters shape k c (idle me) (Discard c id (discard_fate shape k c h id) ∷ h) (answer_of (discard_fate shape k c h id))
@@ -133,7 +133,7 @@ module _ (shape : ℕ → Option Shape) (k : Config) (c : ℕ) (h : List Deed) (
   abbrev discards : Act
   discards = discard_at (word_at id.slot h) id (is_among c (callers id h))
 
-  discarded_leads : (me : Caller) (b : Bool) → b ≡ is_sole c (callers id h)
+  discarded_leads : (me : CpuProgress) (b : Bool) → b ≡ is_sole c (callers id h)
       → Leads shape k c 0 h (if b then ends shape k c h me (Release id.slot ∷ Discard c id (discard_fate shape k c h id) ∷ [])
       (answer_of (discard_fate shape k c h id)) else ends shape k c h me (Discard c id (discard_fate shape k c h id) ∷ []) (answer_of (discard_fate shape k c h id))) (discard_whole me)
   discarded_leads me b is = subst
@@ -143,7 +143,7 @@ module _ (shape : ℕ → Option Shape) (k : Config) (c : ℕ) (h : List Deed) (
       else enters shape k c (idle me) (Discard c id (discard_fate shape k c h id) ∷ h) (answer_of (discard_fate shape k c h id)))) is
       (both shape k c 0 h b _ _ _ _ (λ t. ended shape k c 0 h me _ _) (λ f. ended shape k c 0 h me _ _))
 
-  pub discard_alone : (me : Caller) → runs shape k c 3 (begins me (cpu_op.Discard id)) h None ≡ whole (whole_cpu shape k c (idle me) h (cpu_op.Discard id))
+  pub discard_alone : (me : CpuProgress) → runs shape k c 3 (begins me (cpu_op.Discard id)) h None ≡ whole (whole_cpu shape k c (idle me) h (cpu_op.Discard id))
   discard_alone me = starts shape k c 2 h me (cpu_op.Discard id) _
       (both shape k c 2 h (is_worn k c h) _ _ _ _ (λ t. worn shape k c 2 h me _) (λ f.
       both shape k c 2 h (halted h) _ _ _ _ (λ t. ended shape k c 2 h me _ _) (λ g.
@@ -157,13 +157,13 @@ module _ (shape : ℕ → Option Shape) (k : Config) (c : ℕ) (h : List Deed) (
       never : {P : Type 0} (a : Act) → discards ≡ a → (Decides a → ⊥) → P
       never a e n = absurd (n (subst Decides e (discard_decides _ _ (is_among c (callers id h)) _)))
 
-      shut_leads : (me : Caller) → is_open id h ≡ false → (a : Act) → discards ≡ a → Leads shape k c 1 h (shown_discard shape k c h me id (word_at id.slot h) a) (discard_void_whole me)
+      shut_leads : (me : CpuProgress) → is_open id h ≡ false → (a : Act) → discards ≡ a → Leads shape k c 1 h (shown_discard shape k c h me id (word_at id.slot h) a) (discard_void_whole me)
       shut_leads me shut Void e = ended shape k c 1 h me _ _
       shut_leads me shut Granted e = never Granted e (λ n. n)
       shut_leads me shut (Attempt to) e = off (is_open id h) (discard_attempt k h id c to sound e).1 shut
       shut_leads me shut Idle e = never Idle e (λ n. n)
 
-      open_leads : (me : Caller) → is_open id h ≡ true → (a : Act) → discards ≡ a → Leads shape k c 1 h (shown_discard shape k c h me id (word_at id.slot h) a) (discard_whole me)
+      open_leads : (me : CpuProgress) → is_open id h ≡ true → (a : Act) → discards ≡ a → Leads shape k c 1 h (shown_discard shape k c h me id (word_at id.slot h) a) (discard_whole me)
       open_leads me given Void e = off (is_open id h) given (discard_void k h id (is_among c (callers id h)) sound e)
       open_leads me given Granted e = never Granted e (λ n. n)
       open_leads me given (Attempt to) e = goes shape k c 0 h me [] _ _

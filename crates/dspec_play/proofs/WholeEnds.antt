@@ -10,12 +10,12 @@ use Rattle.dspec_deeds.specs.declared.calls.ConsumerOp.{ConsumerOp}
 use Rattle.dspec_deeds.specs.declared.calls.CpuOp.{CpuOp}
 use Rattle.dspec_deeds.specs.declared.calls.Op.{Op}
 use Rattle.dspec_deeds.specs.declared.calls.Op.TheVariants as op
-use Rattle.dspec_play.specs.declared.flight.Caller.{Caller}
+use Rattle.dspec_play.specs.declared.flight.CpuProgress.{CpuProgress}
 use Rattle.dspec_play.specs.declared.flight.ConsumerFlight.{ConsumerFlight}
 use Rattle.dspec_play.specs.declared.flight.CpuFlight.{CpuFlight}
 use Rattle.dspec_play.specs.Bounds.{flight_bound, clean_bound}
 use Rattle.dspec_play.specs.Calls.{op_of, consumer_op_of, is_idle}
-use Rattle.dspec_play.specs.Coherent.{StandsCaller, StandsSide, IsCoherent, the_caller, idle_caller}
+use Rattle.dspec_play.specs.Coherent.{StandsProgress, StandsSide, IsCoherent, progress_of, idle_progress}
 use Rattle.dspec_play.specs.Play.{Moved, ConsumerStep, cpu_step, consumer_step}
 use Rattle.dspec_play.specs.Turns.{Stepped, step_cpu, step_consumer, on_to_end}
 use Rattle.dspec_play.specs.Plays.{Noted, Playing, ended, with_note, stepped, to_end}
@@ -48,12 +48,12 @@ module _ (shape : ℕ → Option Shape) where
 
   -- a CPU's call in flight
   pub cpu_ends_as : (n c : ℕ) (o : CpuOp) (before : List Noted) (p : Playing) (f : CpuFlight) → IsCoherent shape p.state → c < p.state.config.cpus
-      → (the_caller p.state.callers c).flight ≡ Some f → op_of f ≡ o → p.noted ≡ before
-      → flight_bound p.state.config f ≤ n + (the_caller p.state.callers c).steps
+      → (progress_of p.state.progresses c).flight ≡ Some f → op_of f ≡ o → p.noted ≡ before
+      → flight_bound p.state.config f ≤ n + (progress_of p.state.progresses c).steps
       → EndsAs (actor.Cpu c) (op.Cpu o) before (to_end shape n (actor.Cpu c) p) (on_to_end shape n (actor.Cpu c) p.state None)
   cpu_ends_as zero c o before p f ok lt is call was most =
-      let low = cpu_below p.state.config c p.state.deeds (the_caller p.state.callers c) (set_up p.state.config ok.ranges).1 f
-      (subst (StandsCaller p.state.config c p.state.deeds (the_caller p.state.callers c)) is (ok.stands c lt).flight) in
+      let low = cpu_below p.state.config c p.state.deeds (progress_of p.state.progresses c) (set_up p.state.config ok.ranges).1 f
+      (subst (StandsProgress p.state.config c p.state.deeds (progress_of p.state.progresses c)) is (ok.stands c lt).flight) in
       absurd (omega arith)
   cpu_ends_as (suc n) c o before p f ok lt is call was most =
       subst (λ (b : Bool). EndsAs (actor.Cpu c) (op.Cpu o) before (if b then p else to_end shape n (actor.Cpu c) (stepped shape (actor.Cpu c) p))
@@ -63,29 +63,29 @@ module _ (shape : ℕ → Option Shape) where
       (on_to_end shape n (actor.Cpu c) (step_cpu shape c p.state x).state (step_cpu shape c p.state x).answer)) (sym is)
       (⊎_elim
       (λ (e : HasEnded m).
-      let idle : is_idle (actor.Cpu c) new.state ≡ true = ap (λ (x : Option CpuFlight). is_none x) (ap (λ (x : Caller). x.flight) here ∙ e.idle) in
+      let idle : is_idle (actor.Cpu c) new.state ≡ true = ap (λ (x : Option CpuFlight). is_none x) (ap (λ (x : CpuProgress). x.flight) here ∙ e.idle) in
       let last : Noted = record { by = actor.Cpu c; call = op.Cpu (op_of f); answer = e.told; deeds = m.deeds ++ p.entered c; found = p.state } in
       let noted : new.noted ≡ last ∷ before = ap (λ (r : Option Answer). with_note (actor.Cpu c) (op.Cpu (op_of f)) (m.deeds ++ p.entered c) p.state r p.noted) e.answers
       ∙ ap (λ (l : List Noted). last ∷ l) was in
       subst (λ r. EndsAs (actor.Cpu c) (op.Cpu o) before (to_end shape n (actor.Cpu c) new) (on_to_end shape n (actor.Cpu c) new.state r)) (sym e.answers)
       (finished n (actor.Cpu c) (op.Cpu o) before new last idle noted (ap (λ (x : CpuOp). (actor.Cpu c, op.Cpu x, e.told)) call)))
-      (λ (g : HasGoneOn p.state.config (the_caller p.state.callers c) (flight_bound p.state.config f) m).
-      let steps : (the_caller new.state.callers c).steps ≡ (the_caller p.state.callers c).steps + 1 = ap (λ (x : Caller). x.steps) here ∙ g.counted in
+      (λ (g : HasGoneOn p.state.config (progress_of p.state.progresses c) (flight_bound p.state.config f) m).
+      let steps : (progress_of new.state.progresses c).steps ≡ (progress_of p.state.progresses c).steps + 1 = ap (λ (x : CpuProgress). x.steps) here ∙ g.counted in
       let bound = g.bound in
       let noted : new.noted ≡ before = ap (λ (r : Option Answer). with_note (actor.Cpu c) (op.Cpu (op_of f)) (m.deeds ++ p.entered c) p.state r p.noted) g.answers ∙ was in
       subst (λ r. EndsAs (actor.Cpu c) (op.Cpu o) before (to_end shape n (actor.Cpu c) new) (on_to_end shape n (actor.Cpu c) new.state r)) (sym g.answers)
-      (cpu_ends_as n c o before new g.next (step_cpu_coherent shape p.state c (Some f) ok lt is) lt (ap (λ (x : Caller). x.flight) here ∙ g.flight)
-      (step_passes (λ x. x ≡ o) shape p.state.config c p.state.deeds (the_caller p.state.callers c) f call g.next g.flight) noted (omega arith)))
-      (cpu_advances shape p.state.config c p.state.deeds (the_caller p.state.callers c) f))))
+      (cpu_ends_as n c o before new g.next (step_cpu_coherent shape p.state c (Some f) ok lt is) lt (ap (λ (x : CpuProgress). x.flight) here ∙ g.flight)
+      (step_passes (λ x. x ≡ o) shape p.state.config c p.state.deeds (progress_of p.state.progresses c) f call g.next g.flight) noted (omega arith)))
+      (cpu_advances shape p.state.config c p.state.deeds (progress_of p.state.progresses c) f))))
     where
       m : Moved
-      m = cpu_step shape p.state.config c p.state.deeds (the_caller p.state.callers c) f
+      m = cpu_step shape p.state.config c p.state.deeds (progress_of p.state.progresses c) f
 
       new : Playing
       new = behind_cpu_step shape c p f
 
-      here : the_caller new.state.callers c ≡ m.caller
-      here = get_or-set_same p.state.callers c m.caller idle_caller (let count = ok.count in omega arith)
+      here : progress_of new.state.progresses c ≡ m.progress
+      here = get_or-set_same p.state.progresses c m.progress idle_progress (let count = ok.count in omega arith)
 
   -- the consumer's call in flight
   pub consumer_ends_as : (n : ℕ) (o : ConsumerOp) (before : List Noted) (p : Playing) (f : ConsumerFlight) → IsCoherent shape p.state → p.state.side.flight ≡ Some f
@@ -115,11 +115,11 @@ module _ (shape : ℕ → Option Shape) where
       let noted : new.noted ≡ before = ap (λ (r : Option Answer). with_note actor.Consumer (op.Consumer (consumer_op_of f)) (m.deeds ++ p.cleaned) p.state r p.noted) g.answers ∙ was in
       subst (λ r. EndsAs actor.Consumer (op.Consumer o) before (to_end shape n actor.Consumer new) (on_to_end shape n actor.Consumer new.state r)) (sym g.answers)
       (consumer_ends_as n o before new g.next (step_consumer_coherent shape p.state (Some f) ok is) g.flight
-      (clean_goes (λ x. x ≡ o) p.state.config p.state.deeds p.state.side p.state.callers f call g.next g.flight) noted (omega arith)))
-      (clean_advances p.state.config p.state.deeds p.state.side p.state.callers f))))
+      (clean_goes (λ x. x ≡ o) p.state.config p.state.deeds p.state.side p.state.progresses f call g.next g.flight) noted (omega arith)))
+      (clean_advances p.state.config p.state.deeds p.state.side p.state.progresses f))))
     where
       m : ConsumerStep
-      m = consumer_step p.state.config p.state.deeds p.state.side p.state.callers f
+      m = consumer_step p.state.config p.state.deeds p.state.side p.state.progresses f
 
       new : Playing
       new = behind_consumer_step shape p f

@@ -13,7 +13,7 @@ use Rattle.dspec_deeds.specs.declared.deed.Deed.TheVariants.{Settle, Seal, Relea
 use Rattle.dspec_play.specs.declared.flight.Spare.TheVariants as spare
 use Rattle.dspec_deeds.specs.History.{issue, present, verdict, is_undecided, solo, solo_of, settled, same_id}
 use Rattle.dspec_deeds.specs.Legal.{IsSound}
-use Rattle.dspec_play.specs.Coherent.{PlayState, StandsCaller, the_caller}
+use Rattle.dspec_play.specs.Coherent.{PlayState, StandsProgress, progress_of}
 use Rattle.dspec_play.specs.Whole.{Call, of_cpu, of_consumer, behind_call, behind_all, owes, settled_at, settled_up, settles_as, is_sealing}
 use Rattle.dspec_play.specs.Whole.{whole_service, all_settled, is_reapable, cleaned_at, cleaned_up, IsCall, AreCalls, HasService, IsReleased}
 use Rattle.dspec_deeds.proofs.TestLemmas.{either_way, and_tells, number_is_itself, id_is_itself}
@@ -153,8 +153,8 @@ module _ (k : Config) (id : Speculation) where
 
 module _ (shape : ℕ → Option Shape) (id : Speculation) where
   -- released since, or settled by the CPU
-  abbrev Progress : ℕ → PlayState → Type 0
-  Progress c st = IsReleased id st.deeds ⊎ (settled c id st.deeds ≡ true)
+  abbrev IsThrough : ℕ → PlayState → Type 0
+  IsThrough c st = IsReleased id st.deeds ⊎ (settled c id st.deeds ≡ true)
 
   -- between two whole calls, behind a decision that no CPU made alone
   record Waits (st : PlayState) : Type 0 where
@@ -168,8 +168,8 @@ module _ (shape : ℕ → Option Shape) (id : Speculation) where
         (behind_grows shape st w.rest x there) (behind_rests shape st w.rest x there).coherent.legal.0 w.shared;
   }
 
-  progress_stays : (c : ℕ) (x : Call) (st : PlayState) → IsCall st.config x → Waits st → Progress c st → Progress c (behind_call shape x st)
-  progress_stays c x st there w p =
+  through_stays : (c : ℕ) (x : Call) (st : PlayState) → IsCall st.config x → Waits st → IsThrough c st → IsThrough c (behind_call shape x st)
+  through_stays c x st there w p =
       let g = behind_grows shape st w.rest x there in
       ⊎_elim (λ (r : IsReleased id st.deeds). inl (released_stays id st.deeds _ g r)) (λ (s : settled c id st.deeds ≡ true). inr (settled_more c id st.deeds _ g s)) p
 
@@ -179,22 +179,22 @@ module _ (shape : ℕ → Option Shape) (id : Speculation) where
       opened_in_range st.config st.deeds id (set_up st.config ok.ranges).1 ok.legal.0 (decided_given st.config st.deeds id ok.legal.0 w.shared.ruled)
 
   -- a service of the CPU settles it
-  service_progress : (c : ℕ) (st : PlayState) → c < st.config.cpus → Waits st → Progress c (behind_call shape (of_cpu c cpu_op.Service) st)
-  service_progress c st lt w = ⊎_elim
-      (λ (r : IsReleased id st.deeds). progress_stays c (of_cpu c cpu_op.Service) st lt w (inl r))
-      (λ (now : issue id.slot st.deeds ≡ id.issue). inr (go (is_sealing shape st.config c (the_caller st.callers c) st.deeds) now))
+  service_through : (c : ℕ) (st : PlayState) → c < st.config.cpus → Waits st → IsThrough c (behind_call shape (of_cpu c cpu_op.Service) st)
+  service_through c st lt w = ⊎_elim
+      (λ (r : IsReleased id st.deeds). through_stays c (of_cpu c cpu_op.Service) st lt w (inl r))
+      (λ (now : issue id.slot st.deeds ≡ id.issue). inr (go (is_sealing shape st.config c (progress_of st.progresses c) st.deeds) now))
       (unreleased st.config id st.deeds w.rest.coherent.legal.0 w.shared.ruled)
     where
       at : IsAtRest st.config c st.deeds
       at = record {
         sound = w.rest.coherent.legal.0;
         rests = w.rest.coherent.rests;
-        still = (subst (StandsCaller st.config c st.deeds (the_caller st.callers c)) (w.rest.idle c lt) (w.rest.coherent.stands c lt).flight).0;
+        still = (subst (StandsProgress st.config c st.deeds (progress_of st.progresses c)) (w.rest.idle c lt) (w.rest.coherent.stands c lt).flight).0;
       }
 
       go : (b : Bool) → issue id.slot st.deeds ≡ id.issue
-          → settled c id (if b then whole_service shape st.config c (record (the_caller st.callers c) { spare = spare.Handed }) (Seal c ∷ st.deeds) true else whole_service
-          shape st.config c (the_caller st.callers c) st.deeds false).list ≡ true
+          → settled c id (if b then whole_service shape st.config c (record (progress_of st.progresses c) { spare = spare.Handed }) (Seal c ∷ st.deeds) true else whole_service
+          shape st.config c (progress_of st.progresses c) st.deeds false).list ≡ true
       go true now =
           let sealed : IsAtRest st.config c (Seal c ∷ st.deeds) = record { sound = (at.sound, (at.rests, tt)); rests = refl; still = at.still } in
           settles_by shape st.config c id st.config.nspec (Seal c ∷ st.deeds) sealed record { ruled = w.shared.ruled; shared = w.shared.shared } now (slot_there st w).0 (slot_there st w).1
@@ -208,13 +208,13 @@ module _ (shape : ℕ → Option Shape) (id : Speculation) where
       { sound = w.rest.coherent.legal.0; rests = w.rest.coherent.rests } w.shared all (slot_there st w).0 (slot_there st w).1)
       p
 
-  each_progress : (n : ℕ) (st : PlayState) → ((c : ℕ) → c < n → Progress c st) → IsReleased id st.deeds ⊎ (all_settled st.config n id st.deeds ≡ true)
-  each_progress zero st each = inr refl
-  each_progress (suc n) st each = ⊎_elim
+  each_through : (n : ℕ) (st : PlayState) → ((c : ℕ) → c < n → IsThrough c st) → IsReleased id st.deeds ⊎ (all_settled st.config n id st.deeds ≡ true)
+  each_through zero st each = inr refl
+  each_through (suc n) st each = ⊎_elim
       (λ (r : IsReleased id st.deeds). inl r)
       (λ (all : all_settled st.config n id st.deeds ≡ true). ⊎_elim (λ (r : IsReleased id st.deeds). inl r)
       (λ (s : settled n id st.deeds ≡ true). inr (ap (λ b. b && settled n id st.deeds) all ∙ s)) (each n (omega arith)))
-      (each_progress n st (λ c lt. each c (omega arith)))
+      (each_through n st (λ c lt. each c (omega arith)))
 
   -- behind a list of whole calls
   released_all : (xs : List Call) (st : PlayState) → AreCalls st.config xs → IsResting shape st → IsReleased id st.deeds → IsReleased id (behind_all shape xs st).deeds
@@ -226,15 +226,15 @@ module _ (shape : ℕ → Option Shape) (id : Speculation) where
   waits_all [] st all w = w
   waits_all (x ∷ xs) st all w = waits_all xs (behind_call shape x st) (still_calls shape x xs st all.1) (waits_stays x st all.0 w)
 
-  progress_all : (c : ℕ) (xs : List Call) (st : PlayState) → AreCalls st.config xs → Waits st → Progress c st → Progress c (behind_all shape xs st)
-  progress_all c [] st all w p = p
-  progress_all c (x ∷ xs) st all w p = progress_all c xs (behind_call shape x st) (still_calls shape x xs st all.1) (waits_stays x st all.0 w) (progress_stays c x st all.0 w p)
+  through_all : (c : ℕ) (xs : List Call) (st : PlayState) → AreCalls st.config xs → Waits st → IsThrough c st → IsThrough c (behind_all shape xs st)
+  through_all c [] st all w p = p
+  through_all c (x ∷ xs) st all w p = through_all c xs (behind_call shape x st) (still_calls shape x xs st all.1) (waits_stays x st all.0 w) (through_stays c x st all.0 w p)
 
-  service_all : (c : ℕ) (xs : List Call) (st : PlayState) → c < st.config.cpus → AreCalls st.config xs → Waits st → HasService c xs → Progress c (behind_all shape xs st)
+  service_all : (c : ℕ) (xs : List Call) (st : PlayState) → c < st.config.cpus → AreCalls st.config xs → Waits st → HasService c xs → IsThrough c (behind_all shape xs st)
   service_all c [] st lt all w has = absurd has
   service_all c (x ∷ xs) st lt all w has = ⊎_elim
-      (λ (e : x ≡ of_cpu c cpu_op.Service). progress_all c xs (behind_call shape x st) (still_calls shape x xs st all.1) (waits_stays x st all.0 w)
-      (subst (λ y. Progress c (behind_call shape y st)) (sym e) (service_progress c st lt w)))
+      (λ (e : x ≡ of_cpu c cpu_op.Service). through_all c xs (behind_call shape x st) (still_calls shape x xs st all.1) (waits_stays x st all.0 w)
+      (subst (λ y. IsThrough c (behind_call shape y st)) (sym e) (service_through c st lt w)))
       (λ (has : HasService c xs). service_all c xs (behind_call shape x st) (subst (λ k. c < k.cpus) (sym (behind_config shape x st)) lt) (still_calls shape x xs st all.1)
       (waits_stays x st all.0 w) has)
       has
@@ -259,7 +259,7 @@ module _ (shape : ℕ → Option Shape) (id : Speculation) where
       go None none =
           let w : Waits st = record { rest = rest; shared = record { ruled = ruled; shared = none } } in
           let w' : Waits (behind_all shape xs st) = waits_all xs st all_xs w in
-          clean_releases (behind_all shape xs st) w' (each_progress (behind_all shape xs st).config.cpus (behind_all shape xs st)
+          clean_releases (behind_all shape xs st) w' (each_through (behind_all shape xs st).config.cpus (behind_all shape xs st)
           (λ c lt. let lt' : c < st.config.cpus = subst (λ k. c < k.cpus) (config_all shape xs st) lt in service_all c xs st lt' all_xs w (each c lt')))
       go (Some a) some =
           let r : IsReleased id st.deeds = rest.alone id (λ none. some_not (sym none ∙ some)) in

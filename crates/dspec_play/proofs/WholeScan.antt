@@ -14,7 +14,7 @@ use Rattle.dspec_deeds.specs.declared.calls.CpuOp.TheVariants as cpu_op
 use Rattle.dspec_deeds.specs.declared.calls.Opening.TheVariants as opening
 use Rattle.dspec_deeds.specs.declared.deed.Deed.{Deed}
 use Rattle.dspec_deeds.specs.declared.deed.Deed.TheVariants.{Scan, Opened, Miss}
-use Rattle.dspec_play.specs.declared.flight.Caller.{Caller}
+use Rattle.dspec_play.specs.declared.flight.CpuProgress.{CpuProgress}
 use Rattle.dspec_play.specs.declared.flight.CpuFlight.TheVariants as cpu
 use Rattle.dspec_deeds.specs.History.{halted, issue, present, is_free, is_busy, owed, scan, word_at}
 use Rattle.dspec_deeds.specs.Legal.{IsSound}
@@ -61,7 +61,7 @@ module _ (shape : ℕ → Option Shape) (k : Config) (c : ℕ) (h : List Deed) (
   least_here n b none e = λ i. or_slot (none i) (suc n) (e i)
 
   -- the Miss of the last slot
-  missed_last : (f n : ℕ) (me : Caller) → suc n ≡ k.nspec → least_free shape k c (suc n) h ≡ None
+  missed_last : (f n : ℕ) (me : CpuProgress) → suc n ≡ k.nspec → least_free shape k c (suc n) h ≡ None
       → Leads shape k c f (missed_up shape k c n h) (missed shape k c (missed_up shape k c n h) me (suc n) (word_at (suc n) h)) (gives shape k c (idle me) h (least_free shape k c k.nspec h))
   missed_last f n me last none =
       let busy : is_decided (word_at (suc n) h).code ≡ is_busy (suc n) h = busy_is k h (suc n) sound in
@@ -71,7 +71,7 @@ module _ (shape : ℕ → Option Shape) (k : Config) (c : ℕ) (h : List Deed) (
       ap (λ b. missed_busy c (Miss c (suc n) b ∷ missed_up shape k c n h)) busy ∙ (missed_any (suc n) ∙ ap (λ m. is_any_busy shape k c m h) last) in
       let left : enters shape k c (idle me) (Miss c (suc n) (is_decided (word_at (suc n) h).code) ∷ missed_up shape k c n h)
       (answer.Opening (if missed_busy c (Miss c (suc n) (is_decided (word_at (suc n) h).code) ∷ missed_up shape k c n h) then opening.Busy else opening.Unavailable))
-      ≡ gives shape k c (idle me) h None = λ i. record { list = list i; caller = idle me; answer = answer.Opening (if any i then opening.Busy else opening.Unavailable) } in
+      ≡ gives shape k c (idle me) h None = λ i. record { list = list i; progress = idle me; answer = answer.Opening (if any i then opening.Busy else opening.Unavailable) } in
       on_true shape k c f _ (suc n == k.nspec) _ _ _ (subst (λ m. (suc n == m) ≡ true) last (number_is_itself (suc n)))
       (subst (λ (w : WholeCpu). Leads shape k c f (missed_up shape k c n h)
       (ends shape k c (missed_up shape k c n h) me (Miss c (suc n) (is_decided (word_at (suc n) h).code) ∷ [])
@@ -80,7 +80,7 @@ module _ (shape : ℕ → Option Shape) (k : Config) (c : ℕ) (h : List Deed) (
       (ended shape k c f (missed_up shape k c n h) me _ _))
 
   -- a free slot is opened
-  opened_here : (f n j : ℕ) (me : Caller) → suc (n + j) ≡ k.nspec → least_free shape k c (suc n) h ≡ Some (suc n)
+  opened_here : (f n j : ℕ) (me : CpuProgress) → suc (n + j) ≡ k.nspec → least_free shape k c (suc n) h ≡ Some (suc n)
       → Leads shape k c f (missed_up shape k c n h) (cpu_step shape k c (missed_up shape k c n h) me (cpu.ScanTry (suc n) (word_at (suc n) h)))
       (gives shape k c (idle me) h (least_free shape k c k.nspec h))
   opened_here f n j me last least =
@@ -97,7 +97,7 @@ module _ (shape : ℕ → Option Shape) (k : Config) (c : ℕ) (h : List Deed) (
       (ended shape k c f (missed_up shape k c n h) me _ _))
 
   -- the load of a slot's word goes by whether the slot is free
-  load_leads : (f n : ℕ) (me : Caller) (w : WholeCpu)
+  load_leads : (f n : ℕ) (me : CpuProgress) (w : WholeCpu)
       → (is_free k (suc n) h ≡ true → Leads shape k c f (missed_up shape k c n h) (call_goes_on shape k c (missed_up shape k c n h) me [] (cpu.ScanTry (suc n) (word_at (suc n) h))) w)
       → (is_free k (suc n) h ≡ false → Leads shape k c f (missed_up shape k c n h) (missed shape k c (missed_up shape k c n h) me (suc n) (word_at (suc n) h)) w)
       → Leads shape k c f (missed_up shape k c n h) (cpu_step shape k c (missed_up shape k c n h) me (cpu.ScanLoad (suc n))) w
@@ -114,13 +114,13 @@ module _ (shape : ℕ → Option Shape) (k : Config) (c : ℕ) (h : List Deed) (
       go true e = free e
       go false e = taken e
 
-  tries : (f n j : ℕ) (me : Caller) → suc (n + j) ≡ k.nspec → least_free shape k c n h ≡ None → is_free k (suc n) h ≡ true
+  tries : (f n j : ℕ) (me : CpuProgress) → suc (n + j) ≡ k.nspec → least_free shape k c n h ≡ None → is_free k (suc n) h ≡ true
       → Leads shape k c (suc f) (missed_up shape k c n h) (call_goes_on shape k c (missed_up shape k c n h) me [] (cpu.ScanTry (suc n) (word_at (suc n) h)))
       (gives shape k c (idle me) h (least_free shape k c k.nspec h))
   tries f n j me last none e = goes shape k c f (missed_up shape k c n h) me [] _ _ (opened_here f n j (later me (cpu.ScanTry (suc n) (word_at (suc n) h))) last (least_here n true none e))
 
   -- behind the Misses of the slots below
-  scan_leads : (j n : ℕ) (me : Caller) → suc (n + j) ≡ k.nspec → least_free shape k c n h ≡ None
+  scan_leads : (j n : ℕ) (me : CpuProgress) → suc (n + j) ≡ k.nspec → least_free shape k c n h ≡ None
       → Leads shape k c (suc (double j)) (missed_up shape k c n h) (cpu_step shape k c (missed_up shape k c n h) me (cpu.ScanLoad (suc n)))
       (gives shape k c (idle me) h (least_free shape k c k.nspec h))
   scan_leads zero n me last none = load_leads 1 n me _ (tries 0 n zero me last none) (λ e. let at : suc n ≡ k.nspec = omega arith in missed_last 1 n me at (least_here n false none e))
@@ -141,7 +141,7 @@ module _ (shape : ℕ → Option Shape) (k : Config) (c : ℕ) (h : List Deed) (
   fresh : missed_busy c (Scan c true ∷ h) ≡ false
   fresh = rw (number_is_itself c) refl
 
-  pub speculation_alone : (j : ℕ) (me : Caller) → suc j ≡ k.nspec
+  pub speculation_alone : (j : ℕ) (me : CpuProgress) → suc j ≡ k.nspec
       → runs shape k c (suc (suc (suc (double j)))) (begins me cpu_op.Speculation) h None ≡ whole (whole_cpu shape k c (idle me) h cpu_op.Speculation)
   speculation_alone j me last = starts shape k c (suc (suc (double j))) h me cpu_op.Speculation _
       (both shape k c (suc (suc (double j))) h (is_worn k c h) _ _ _ _ (λ t. worn shape k c _ h me _) (λ f.

@@ -15,7 +15,7 @@ use Rattle.dspec_deeds.specs.declared.calls.Served.{Served}
 use Rattle.dspec_deeds.specs.declared.deed.DecideFate.{DecideFate}
 use Rattle.dspec_deeds.specs.declared.deed.Deed.{Deed}
 use Rattle.dspec_deeds.specs.declared.deed.Deed.TheVariants.{Settle, Seal}
-use Rattle.dspec_play.specs.declared.flight.Caller.{Caller}
+use Rattle.dspec_play.specs.declared.flight.CpuProgress.{CpuProgress}
 use Rattle.dspec_play.specs.declared.flight.CpuFlight.TheVariants as cpu
 use Rattle.dspec_play.specs.declared.flight.Spare.{Spare}
 use Rattle.dspec_play.specs.declared.flight.Spare.TheVariants as spare
@@ -97,7 +97,7 @@ module _ (shape : ℕ → Option Shape) (k : Config) (c : ℕ) where
       none_is (Some a) e = absurd (true≢false (sym e))
 
   -- the fate of a settlement goes by the decision
-  fate_is : (h : List Deed) (me : Caller) (s : ℕ) → opened (present s h) h ≡ true → is_undecided (verdict (present s h) h) ≡ false
+  fate_is : (h : List Deed) (me : CpuProgress) (s : ℕ) → opened (present s h) h ≡ true → is_undecided (verdict (present s h) h) ≡ false
       → settle_fate shape k c h (present s h) (word_at s h).code ≡ settles_as shape k c (verdict (present s h) h) (present s h) h
   fate_is h me s o v = go (opened (present s h) h) (verdict (present s h) h) (callers (present s h) h) o v
     where
@@ -143,19 +143,19 @@ module _ (shape : ℕ → Option Shape) (k : Config) (c : ℕ) where
 
   module _ (h : List Deed) (at : IsAtRest k c h) (b : Bool) where
     -- behind the last slot
-    serves_last : (f n : ℕ) (me : Caller) (ds : List Deed) (sum : Served) → suc n ≡ k.nspec → (ds ++ settled_up shape k c n h) ≡ settled_up shape k c (suc n) h → sum ≡ sum_at b (suc n) h
+    serves_last : (f n : ℕ) (me : CpuProgress) (ds : List Deed) (sum : Served) → suc n ≡ k.nspec → (ds ++ settled_up shape k c n h) ≡ settled_up shape k c (suc n) h → sum ≡ sum_at b (suc n) h
         → Leads shape k c f (settled_up shape k c n h) (served shape k c (settled_up shape k c n h) me (suc n) ds sum) (whole_service shape k c (idle me) h b)
     serves_last f n me ds sum last list is =
         let list' : (ds ++ settled_up shape k c n h) ≡ settled_up shape k c k.nspec h = list ∙ ap (λ m. settled_up shape k c m h) last in
         let is' : sum ≡ sum_at b k.nspec h = is ∙ ap (λ m. sum_at b m h) last in
         let left : enters shape k c (idle me) (ds ++ settled_up shape k c n h) (answer.Served sum) ≡ whole_service shape k c (idle me) h b =
-        λ i. record { list = list' i; caller = idle me; answer = answer.Served (is' i) } in
+        λ i. record { list = list' i; progress = idle me; answer = answer.Served (is' i) } in
         on_true shape k c f _ (suc n == k.nspec) _ _ _ (subst (λ m. (suc n == m) ≡ true) last (number_is_itself (suc n)))
         (subst (λ (w : WholeCpu). Leads shape k c f (settled_up shape k c n h) (ends shape k c (settled_up shape k c n h) me ds (answer.Served sum)) w) left
         (ended shape k c f (settled_up shape k c n h) me ds _))
 
     -- behind another slot
-    serves_next : (f n : ℕ) (me : Caller) (ds : List Deed) (sum : Served) → suc n < k.nspec → (ds ++ settled_up shape k c n h) ≡ settled_up shape k c (suc n) h → sum ≡ sum_at b (suc n) h
+    serves_next : (f n : ℕ) (me : CpuProgress) (ds : List Deed) (sum : Served) → suc n < k.nspec → (ds ++ settled_up shape k c n h) ≡ settled_up shape k c (suc n) h → sum ≡ sum_at b (suc n) h
         → Leads shape k c f (settled_up shape k c (suc n) h)
         (cpu_step shape k c (settled_up shape k c (suc n) h) (later me (cpu.ServiceLoad (suc (suc n)) (sum_at b (suc n) h)))
         (cpu.ServiceLoad (suc (suc n)) (sum_at b (suc n) h))) (whole_service shape k c (idle me) h b)
@@ -169,7 +169,7 @@ module _ (shape : ℕ → Option Shape) (k : Config) (c : ℕ) where
         (λ i. (sym list i, next i, sym is i)) l))
 
     -- the load of a slot's word goes by whether the slot waits for the CPU
-    load_serves : (f n : ℕ) (me : Caller) (sum : Served) (w : WholeCpu)
+    load_serves : (f n : ℕ) (me : CpuProgress) (sum : Served) (w : WholeCpu)
         → (owes shape k c (suc n) (settled_up shape k c n h) ≡ true
         → Leads shape k c f (settled_up shape k c n h) (call_goes_on shape k c (settled_up shape k c n h) me [] (cpu.ServiceStore (suc n) (word_at (suc n) (settled_up shape k c n h)) sum)) w)
         → (owes shape k c (suc n) (settled_up shape k c n h) ≡ false → Leads shape k c f (settled_up shape k c n h) (served shape k c (settled_up shape k c n h) me (suc n) [] sum) w)
@@ -187,7 +187,7 @@ module _ (shape : ℕ → Option Shape) (k : Config) (c : ℕ) where
         go false e = goes_by e
 
     -- a settlement enters what the list once the slot is settled has
-    settles_here : (n : ℕ) (me : Caller) → owes shape k c (suc n) (settled_up shape k c n h) ≡ true
+    settles_here : (n : ℕ) (me : CpuProgress) → owes shape k c (suc n) (settled_up shape k c n h) ≡ true
         → (Settle c (present (suc n) (settled_up shape k c n h))
         (settle_fate shape k c (settled_up shape k c n h) (present (suc n) (settled_up shape k c n h)) (word_at (suc n) (settled_up shape k c n h)).code) ∷ settled_up
         shape k c n h) ≡ settled_up shape k c (suc n) h
@@ -212,13 +212,13 @@ module _ (shape : ℕ → Option Shape) (k : Config) (c : ℕ) where
     sum_same n e = let none : settlements_up_to shape k c n h ≡ settlements_up_to shape k c n h + 0 = omega arith in (λ i. record { sealed = b; settled = none i }) ∙ sum_more n false e
 
     -- the slots from one to the last
-    serve_leads : (j n : ℕ) (me : Caller) → suc (n + j) ≡ k.nspec
+    serve_leads : (j n : ℕ) (me : CpuProgress) → suc (n + j) ≡ k.nspec
         → Leads shape k c (suc (double j)) (settled_up shape k c n h) (cpu_step shape k c (settled_up shape k c n h) me (cpu.ServiceLoad (suc n) (sum_at b n h)))
         (whole_service shape k c (idle me) h b)
     serve_leads zero n me last =
         let at_last : suc n ≡ k.nspec = omega arith in
         load_serves 1 n me (sum_at b n h) _
-        (λ e. let stored : Caller = later me (cpu.ServiceStore (suc n) (word_at (suc n) (settled_up shape k c n h)) (sum_at b n h)) in
+        (λ e. let stored : CpuProgress = later me (cpu.ServiceStore (suc n) (word_at (suc n) (settled_up shape k c n h)) (sum_at b n h)) in
         goes shape k c 0 _ me [] _ _ (serves_last 0 n stored _ _ at_last (settles_here n stored e) (sum_more n true e)))
         (λ e. serves_last 1 n me [] _ at_last (passes_here n e) (sum_same n e))
     serve_leads (suc j) n me last =
@@ -227,7 +227,7 @@ module _ (shape : ℕ → Option Shape) (k : Config) (c : ℕ) where
         let fits : suc (double j) ≤ suc (suc (double j)) = omega arith in
         let l : List Deed = settled_up shape k c n h in
         load_serves (suc (double (suc j))) n me (sum_at b n h) _
-        (λ e. let stored : Caller = later me (cpu.ServiceStore (suc n) (word_at (suc n) (settled_up shape k c n h)) (sum_at b n h)) in
+        (λ e. let stored : CpuProgress = later me (cpu.ServiceStore (suc n) (word_at (suc n) (settled_up shape k c n h)) (sum_at b n h)) in
         goes shape k c (double (suc j)) _ me [] _ _
         (serves_next (suc (double j)) n stored _ _ more (settles_here n stored e) (sum_more n true e)
         (serve_leads j (suc n) (later stored (cpu.ServiceLoad (suc (suc n)) (sum_at b (suc n) h))) rest)))
@@ -236,14 +236,14 @@ module _ (shape : ℕ → Option Shape) (k : Config) (c : ℕ) where
 
 module _ (shape : ℕ → Option Shape) (k : Config) (c : ℕ) (h : List Deed) (at : IsAtRest k c h) (j : ℕ) (last : suc j ≡ k.nspec) where
   -- the slots from the first one
-  from_first : (me : Caller) → Leads shape k c (suc (double j)) h (cpu_step shape k c h me (cpu.ServiceLoad 1 record { sealed = false; settled = 0 })) (whole_service shape k c (idle me) h false)
+  from_first : (me : CpuProgress) → Leads shape k c (suc (double j)) h (cpu_step shape k c h me (cpu.ServiceLoad 1 record { sealed = false; settled = 0 })) (whole_service shape k c (idle me) h false)
   from_first me = let all : suc (zero + j) ≡ k.nspec = omega arith in serve_leads shape k c h at false j zero me all
 
   sealed_rests : IsAtRest k c (Seal c ∷ h)
   sealed_rests = record { sound = (at.sound, (at.rests, tt)); rests = refl; still = at.still }
 
   -- behind the Seal: the push, and the slots
-  from_push : (me : Caller) → Leads shape k c (suc (suc (double j))) (Seal c ∷ h) (cpu_step shape k c (Seal c ∷ h) me cpu.ServicePush)
+  from_push : (me : CpuProgress) → Leads shape k c (suc (suc (double j))) (Seal c ∷ h) (cpu_step shape k c (Seal c ∷ h) me cpu.ServicePush)
       (whole_service shape k c (record (idle me) { spare = spare.Handed }) (Seal c ∷ h) true)
   from_push me =
       let all : suc (zero + j) ≡ k.nspec = omega arith in
@@ -252,7 +252,7 @@ module _ (shape : ℕ → Option Shape) (k : Config) (c : ℕ) (h : List Deed) (
             (record me { flight = Some (cpu.ServiceLoad 1 record { sealed = true; settled = 0 }); steps = me.steps + 1; spare = spare.Handed }) all).is;
       }
 
-  abbrev leaves : Caller → Bool → WholeCpu
+  abbrev leaves : CpuProgress → Bool → WholeCpu
   leaves me b = if b then whole_service shape k c (record (idle me) { spare = spare.Handed }) (Seal c ∷ h) true else whole_service shape k c (idle me) h false
 
   -- a spare is in hand, or comes back
@@ -265,7 +265,7 @@ module _ (shape : ℕ → Option Shape) (k : Config) (c : ℕ) (h : List Deed) (
   is_back spare.GivenBack = true
   is_back place = false
 
-  spare_is : (me : Caller) (place : Spare) → me.spare ≡ place → SpareCounts (seals c h) me.takes place → place ≢ spare.Sealed → are_all_back (seals c h) me ≡ has_spare place
+  spare_is : (me : CpuProgress) (place : Spare) → me.spare ≡ place → SpareCounts (seals c h) me.takes place → place ≢ spare.Sealed → are_all_back (seals c h) me ≡ has_spare place
   spare_is me place is counts unsealed = ap (λ (p : Spare). (seals c h == me.takes) && not (is_out p)) is ∙ go place counts unsealed
     where
       go : (p : Spare) → SpareCounts (seals c h) me.takes p → p ≢ spare.Sealed → ((seals c h == me.takes) && not (is_out p)) ≡ has_spare p
@@ -275,24 +275,25 @@ module _ (shape : ℕ → Option Shape) (k : Config) (c : ℕ) (h : List Deed) (
       go spare.Out n u = and_false (seals c h == me.takes)
       go spare.GivenBack n u = let same : (seals c h == me.takes) ≡ true = grind (arith, nat_tests) in rw same refl
 
-  no_spare : (me : Caller) → Leads shape k c (suc (suc (suc (double j)))) h (call_goes_on shape k c h me [] (cpu.ServiceLoad 1 record { sealed = false; settled = 0 })) (leaves me false)
+  no_spare : (me : CpuProgress) → Leads shape k c (suc (suc (suc (double j)))) h (call_goes_on shape k c h me [] (cpu.ServiceLoad 1 record { sealed = false; settled = 0 })) (leaves me false)
   no_spare me = let fits : suc (double j) ≤ suc (suc (double j)) = omega arith in
       goes shape k c (suc (suc (double j))) h me [] _ _ (leads_more shape k c (suc (double j)) _ _ _ _ fits (from_first (later me (cpu.ServiceLoad 1 record { sealed = false; settled = 0 }))))
 
   -- the pop of a spare
-  popped_leads : (me : Caller) (place : Spare) → Leads shape k c (suc (suc (suc (double j)))) h (popped shape k c h me place) (leaves me (is_back place))
+  popped_leads : (me : CpuProgress) (place : Spare) → Leads shape k c (suc (suc (suc (double j)))) h (popped shape k c h me place) (leaves me (is_back place))
   popped_leads me spare.InHand = no_spare me
   popped_leads me spare.Sealed = no_spare me
   popped_leads me spare.Handed = no_spare me
   popped_leads me spare.Out = no_spare me
   popped_leads me spare.GivenBack = record { is = (from_push (record me { flight = Some cpu.ServicePush; steps = me.steps + 1; spare = spare.Sealed })).is }
 
-  pops : (me : Caller) (place : Spare) → me.spare ≡ place → Leads shape k c (suc (suc (suc (suc (double j))))) h (call_goes_on shape k c h me [] cpu.ServicePop) (leaves me (is_back place))
+  pops : (me : CpuProgress) (place : Spare) → me.spare ≡ place → Leads shape k c (suc (suc (suc (suc (double j))))) h (call_goes_on shape k c h me [] cpu.ServicePop) (leaves me (is_back place))
   pops me place is = goes shape k c (suc (suc (suc (double j)))) h me [] _ _
       (subst (λ (p : Spare). Leads shape k c (suc (suc (suc (double j)))) h (popped shape k c h (later me cpu.ServicePop) p) (leaves me (is_back place))) (sym is)
       (popped_leads (later me cpu.ServicePop) place))
 
-  asked_leads : (me : Caller) (place : Spare) → me.spare ≡ place → (t : Bool) → Leads shape k c (suc (suc (suc (suc (double j))))) h (asked shape k c h me place t) (leaves me (t && has_spare place))
+  asked_leads : (me : CpuProgress) (place : Spare) → me.spare ≡ place → (t : Bool)
+      → Leads shape k c (suc (suc (suc (suc (double j))))) h (asked shape k c h me place t) (leaves me (t && has_spare place))
   asked_leads me place is false = subst (λ (m : Moved). Leads shape k c (suc (suc (suc (suc (double j))))) h m (leaves me false)) (sym (not_asked place))
       (leads_more shape k c _ _ _ _ _ fits (no_spare me))
     where
@@ -314,7 +315,7 @@ module _ (shape : ℕ → Option Shape) (k : Config) (c : ℕ) (h : List Deed) (
   asked_leads me spare.GivenBack is true = pops me spare.GivenBack is
 
   -- the first step of a service, by the policy
-  begun_leads : (me : Caller) (sealing : Bool)
+  begun_leads : (me : CpuProgress) (sealing : Bool)
       → Leads shape k c (suc (suc (suc (suc (double j))))) h (asked shape k c h me me.spare (nat_lt (seals c h) me.want && nat_lt (seals c h) k.max_calls)) (leaves me sealing) → (b : Bool)
       → Leads shape k c (suc (suc (suc (suc (double j))))) h
       (if b then loads_service shape k c h me 1 record { sealed = false; settled = 0 } else asked shape k c h me me.spare (nat_lt (seals c h) me.want && nat_lt (seals c h) k.max_calls))
@@ -331,7 +332,7 @@ module _ (shape : ℕ → Option Shape) (k : Config) (c : ℕ) (h : List Deed) (
   swap true false false = refl
   swap false b m = refl
 
-  pub service_alone : (me : Caller) → SpareCounts (seals c h) me.takes me.spare → me.spare ≢ spare.Sealed
+  pub service_alone : (me : CpuProgress) → SpareCounts (seals c h) me.takes me.spare → me.spare ≢ spare.Sealed
       → runs shape k c (suc (suc (suc (suc (suc (double j)))))) (begins me cpu_op.Service) h None ≡ whole (whole_cpu shape k c (idle me) h cpu_op.Service)
   service_alone me counts unsealed =
       let sealing : ((nat_lt (seals c h) me.want && nat_lt (seals c h) k.max_calls) && has_spare me.spare)

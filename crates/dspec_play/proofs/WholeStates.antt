@@ -18,7 +18,7 @@ use Rattle.dspec_deeds.specs.declared.deed.DecideFate.{DecideFate}
 use Rattle.dspec_deeds.specs.declared.deed.DecideFate.TheVariants as decided
 use Rattle.dspec_deeds.specs.declared.deed.Deed.{Deed}
 use Rattle.dspec_deeds.specs.declared.deed.Deed.TheVariants.{Commit, Discard, Release}
-use Rattle.dspec_play.specs.declared.flight.Caller.{Caller}
+use Rattle.dspec_play.specs.declared.flight.CpuProgress.{CpuProgress}
 use Rattle.dspec_play.specs.declared.flight.ConsumerFlight.{ConsumerFlight}
 use Rattle.dspec_play.specs.declared.flight.CpuFlight.{CpuFlight}
 use Rattle.dspec_play.specs.declared.flight.CpuFlight.TheVariants as cpu
@@ -26,7 +26,7 @@ use Rattle.dspec_deeds.specs.History.{issue, solo}
 use Rattle.dspec_deeds.specs.Ranges.{start_fault}
 use Rattle.dspec_deeds.specs.Own.{seals}
 use Rattle.dspec_deeds.specs.Legal.{IsSound, IsLegal}
-use Rattle.dspec_play.specs.Coherent.{PlayState, IsCoherent, StandsCaller, the_caller, idle_caller}
+use Rattle.dspec_play.specs.Coherent.{PlayState, IsCoherent, StandsProgress, progress_of, idle_progress}
 use Rattle.dspec_deeds.specs.Told.{answer_of}
 use Rattle.dspec_play.specs.SoloRule.{IsLast, ReleasesThen}
 use Rattle.dspec_play.specs.Turns.{Stepped, at_start, begin_cpu, begin_consumer, step, step_cpu, step_consumer, on_to_end}
@@ -59,7 +59,7 @@ released_stays id h now g r = subst (IsReleased id) (sym g.is) (go g.deeds)
 
 module _ (shape : ℕ → Option Shape) where
   step_grows : (a : Actor) (st : PlayState) → Grows st.deeds (step shape a st).state.deeds
-  step_grows (actor.Cpu c) st = go (the_caller st.callers c).flight
+  step_grows (actor.Cpu c) st = go (progress_of st.progresses c).flight
     where
       go : (f : Option CpuFlight) → Grows st.deeds (step_cpu shape c st f).state.deeds
       go None = record { deeds = []; is = refl }
@@ -78,13 +78,13 @@ module _ (shape : ℕ → Option Shape) where
 -- between two whole calls: no call is in flight, and what was decided alone is released
 pub record IsResting (shape : ℕ → Option Shape) (st : PlayState) : Type 0 where
   pub coherent : IsCoherent shape st
-  pub idle : (c : ℕ) → c < st.config.cpus → (the_caller st.callers c).flight ≡ None
+  pub idle : (c : ℕ) → c < st.config.cpus → (progress_of st.progresses c).flight ≡ None
   pub side : st.side.flight ≡ None
   pub alone : (id : Speculation) → solo id st.deeds ≢ None → IsReleased id st.deeds
 
 -- what was decided alone is released, or is by the next step of the CPU's call
 abbrev pub Releases : ℕ → PlayState → Type 0
-Releases c st = (id : Speculation) → solo id st.deeds ≢ None → IsReleased id st.deeds ⊎ ((f : DecideFate) × ((the_caller st.callers c).flight ≡ Some (cpu.CommitRelease id f)))
+Releases c st = (id : Speculation) → solo id st.deeds ≢ None → IsReleased id st.deeds ⊎ ((f : DecideFate) × ((progress_of st.progresses c).flight ≡ Some (cpu.CommitRelease id f)))
 
 released_now : (id : Speculation) (h now : List Deed) → id.issue ≡ issue id.slot h → now ≡ Release id.slot ∷ h → IsReleased id now
 released_now id h now is e = subst (IsReleased id) (sym e) (rw (number_is_itself id.slot) (omega arith))
@@ -107,8 +107,8 @@ module _ (shape : ℕ → Option Shape) where
       (decided_alone shape st ok c lt id none now))
       (λ (some : solo id st.deeds ≢ None). ⊎_elim
       (λ (r : IsReleased id st.deeds). inl (released_stays id st.deeds _ (step_grows shape (actor.Cpu c) st) r))
-      (λ (r : (f : DecideFate) × ((the_caller st.callers c).flight ≡ Some (cpu.CommitRelease id f))).
-      let stands = subst (StandsCaller st.config c st.deeds (the_caller st.callers c)) r.1 (ok.stands c lt).flight in
+      (λ (r : (f : DecideFate) × ((progress_of st.progresses c).flight ≡ Some (cpu.CommitRelease id f))).
+      let stands = subst (StandsProgress st.config c st.deeds (progress_of st.progresses c)) r.1 (ok.stands c lt).flight in
       inl (released_now id st.deeds _ stands.5 (released_next shape st ok c lt id r.0 r.1).deeds))
       (all id some))
       (none_or (solo id st.deeds))
@@ -129,11 +129,11 @@ module _ (shape : ℕ → Option Shape) where
 
 module _ (shape : ℕ → Option Shape) (st : PlayState) (rest : IsResting shape st) where
   -- the other CPUs' sides stay
-  set_idle : (all : List Caller) (c d : ℕ) (x : Caller) → c < length all → x.flight ≡ None → (the_caller all d).flight ≡ None → (the_caller (slice_set all c x) d).flight ≡ None
+  set_idle : (all : List CpuProgress) (c d : ℕ) (x : CpuProgress) → c < length all → x.flight ≡ None → (progress_of all d).flight ≡ None → (progress_of (slice_set all c x) d).flight ≡ None
   set_idle all c d x lt none there = ⊎_elim
-      (λ (t : (d == c) ≡ true). let same : d ≡ c = grind (arith, nat_tests) in subst (λ e. (the_caller (slice_set all c x) e).flight ≡ None) (sym same)
-      (ap (λ (y : Caller). y.flight) (get_or-set_same all c x idle_caller lt) ∙ none))
-      (λ (f : (d == c) ≡ false). let other : d ≢ c = numbers_differ d c f in ap (λ (y : Caller). y.flight) (get_or-set_other all c d x idle_caller other) ∙ there)
+      (λ (t : (d == c) ≡ true). let same : d ≡ c = grind (arith, nat_tests) in subst (λ e. (progress_of (slice_set all c x) e).flight ≡ None) (sym same)
+      (ap (λ (y : CpuProgress). y.flight) (get_or-set_same all c x idle_progress lt) ∙ none))
+      (λ (f : (d == c) ≡ false). let other : d ≢ c = numbers_differ d c f in ap (λ (y : CpuProgress). y.flight) (get_or-set_other all c d x idle_progress other) ∙ there)
       (either_way (d == c))
 
   -- behind a whole call of a CPU
@@ -142,20 +142,21 @@ module _ (shape : ℕ → Option Shape) (st : PlayState) (rest : IsResting shape
       let ok = rest.coherent in
       let bound : op_bound st.config o ≤ op_bound st.config o = omega arith in
       let count = ok.count in
-      let there : c < length st.callers = omega arith in
+      let there : c < length st.progresses = omega arith in
       let begun : IsCoherent shape (begin_cpu c o st) = begin_cpu_coherent shape st c o ok lt (rest.idle c lt) in
       let is = ap (λ (x : Stepped). x.state) (cpu_whole shape st ok c o (op_bound st.config o) lt (rest.idle c lt) bound) in
       let answered = cpu_call_answers shape c o st ok lt (rest.idle c lt) in
-      let own : (the_caller (behind_cpu c (cpu_call shape c o st) st).callers c).flight ≡ None = subst (λ (x : PlayState). (the_caller x.callers c).flight ≡ None) is answered.idle in
-      let left : (cpu_call shape c o st).caller.flight ≡ None = ap (λ (x : Caller). x.flight) (sym (get_or-set_same st.callers c (cpu_call shape c o st).caller idle_caller there)) ∙ own in
+      let own : (progress_of (behind_cpu c (cpu_call shape c o st) st).progresses c).flight ≡ None = subst (λ (x : PlayState). (progress_of x.progresses c).flight ≡ None) is answered.idle in
+      let left : (cpu_call shape c o st).progress.flight
+      ≡ None = ap (λ (x : CpuProgress). x.flight) (sym (get_or-set_same st.progresses c (cpu_call shape c o st).progress idle_progress there)) ∙ own in
       let releases : Releases c (behind_cpu c (cpu_call shape c o st) st) =
       subst (Releases c) is (to_end_releases shape (op_bound st.config o) c (begin_cpu c o st) None begun lt (λ id some. inl (rest.alone id some))) in (
         record {
           coherent = subst (IsCoherent shape) is (on_to_end_coherent shape (op_bound st.config o) (actor.Cpu c) (begin_cpu c o st) None begun lt);
-          idle = λ d below. set_idle st.callers c d (cpu_call shape c o st).caller there left (rest.idle d below);
+          idle = λ d below. set_idle st.progresses c d (cpu_call shape c o st).progress there left (rest.idle d below);
           side = rest.side;
           alone = λ id some. ⊎_elim (λ (r : IsReleased id (cpu_call shape c o st).list). r)
-              (λ (r : (f : DecideFate) × ((the_caller (behind_cpu c (cpu_call shape c o st) st).callers c).flight ≡ Some (cpu.CommitRelease id f))). absurd (some_not (sym own ∙ r.1)))
+              (λ (r : (f : DecideFate) × ((progress_of (behind_cpu c (cpu_call shape c o st) st).progresses c).flight ≡ Some (cpu.CommitRelease id f))). absurd (some_not (sym own ∙ r.1)))
               (releases id some);
         },
         subst (λ (x : PlayState). Grows st.deeds x.deeds) is (to_end_grows shape (op_bound st.config o) (actor.Cpu c) (begin_cpu c o st) None),
@@ -164,21 +165,22 @@ module _ (shape : ℕ → Option Shape) (st : PlayState) (rest : IsResting shape
       some_not : {f : CpuFlight} → ◌≡◌ {A = Option CpuFlight} None (Some f) → ⊥
       some_not e = cc (e)
 
-  callers_if : (P : List Caller → Type 0) (b : Bool) (u v : WholeConsumer) → P u.callers → P v.callers → P (if b then u else v).callers
-  callers_if P true u v x y = x
-  callers_if P false u v x y = y
+  progresses_if : (P : List CpuProgress → Type 0) (b : Bool) (u v : WholeConsumer) → P u.progresses → P v.progresses → P (if b then u else v).progresses
+  progresses_if P true u v x y = x
+  progresses_if P false u v x y = y
 
   -- no call of the consumer puts a CPU's call in flight
-  consumer_idle : (o : ConsumerOp) → IsCall st.config (of_consumer o) → (d : ℕ) → d < st.config.cpus → (the_caller (consumer_call shape o st).callers d).flight ≡ None
+  consumer_idle : (o : ConsumerOp) → IsCall st.config (of_consumer o) → (d : ℕ) → d < st.config.cpus → (progress_of (consumer_call shape o st).progresses d).flight ≡ None
   consumer_idle (consumer_op.Ask c) there d below =
-      let count = rest.coherent.count in let lt : c < length st.callers = omega arith in set_idle st.callers c d _ lt (rest.idle c there) (rest.idle d below)
+      let count = rest.coherent.count in let lt : c < length st.progresses = omega arith in set_idle st.progresses c d _ lt (rest.idle c there) (rest.idle d below)
   consumer_idle (consumer_op.Take c) there d below =
-      let count = rest.coherent.count in let lt : c < length st.callers = omega arith in
-      callers_if (λ all. (the_caller all d).flight ≡ None) (nat_lt (the_caller st.callers c).takes (seals c st.deeds)) _ _
-      (set_idle st.callers c d _ lt (rest.idle c there) (rest.idle d below)) (rest.idle d below)
+      let count = rest.coherent.count in let lt : c < length st.progresses = omega arith in
+      progresses_if (λ all. (progress_of all d).flight ≡ None) (nat_lt (progress_of st.progresses c).takes (seals c st.deeds)) _ _
+      (set_idle st.progresses c d _ lt (rest.idle c there) (rest.idle d below)) (rest.idle d below)
   consumer_idle (consumer_op.GiveBack c) there d below =
-      let count = rest.coherent.count in let lt : c < length st.callers = omega arith in
-      callers_if (λ all. (the_caller all d).flight ≡ None) (is_out (the_caller st.callers c).spare) _ _ (set_idle st.callers c d _ lt (rest.idle c there) (rest.idle d below)) (rest.idle d below)
+      let count = rest.coherent.count in let lt : c < length st.progresses = omega arith in
+      progresses_if (λ all. (progress_of all d).flight ≡ None) (is_out (progress_of st.progresses c).spare) _ _ (set_idle st.progresses c d _ lt (rest.idle c there) (rest.idle d below))
+      (rest.idle d below)
   consumer_idle consumer_op.Clean there d below = rest.idle d below
   consumer_idle consumer_op.Stop there d below = rest.idle d below
 
@@ -219,7 +221,7 @@ module _ (shape : ℕ → Option Shape) (st : PlayState) (rest : IsResting shape
 
 -- before the first turn
 pub start_rests : (shape : ℕ → Option Shape) (k : Config) → start_fault k ≡ None → IsResting shape (at_start k)
-start_rests shape k fine = record { coherent = start_coherent shape k fine; idle = λ c lt. ap (λ (x : Caller). x.flight) (idle_at k.cpus c); side = refl; alone = λ id some. absurd (some refl) }
+start_rests shape k fine = record { coherent = start_coherent shape k fine; idle = λ c lt. ap (λ (x : CpuProgress). x.flight) (idle_at k.cpus c); side = refl; alone = λ id some. absurd (some refl) }
 
 pub behind_config : (shape : ℕ → Option Shape) (x : Call) (st : PlayState) → (behind_call shape x st).config ≡ st.config
 behind_config shape (of_cpu c o) st = refl

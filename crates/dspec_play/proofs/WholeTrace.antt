@@ -13,7 +13,7 @@ use Rattle.dspec_deeds.specs.declared.calls.Answer.{Answer}
 use Rattle.dspec_deeds.specs.declared.calls.CpuOp.{CpuOp}
 use Rattle.dspec_deeds.specs.declared.calls.CpuOp.TheVariants as cpu_op
 use Rattle.dspec_deeds.specs.declared.deed.Deed.{Deed}
-use Rattle.dspec_play.specs.declared.flight.Caller.{Caller}
+use Rattle.dspec_play.specs.declared.flight.CpuProgress.{CpuProgress}
 use Rattle.dspec_play.specs.declared.flight.CpuFlight.{CpuFlight}
 use Rattle.dspec_play.specs.declared.flight.CpuFlight.TheVariants as cpu
 use Rattle.dspec_deeds.specs.History.{halted, in_range, opened, verdict, is_undecided, is_open}
@@ -25,14 +25,14 @@ use Rattle.dspec_deeds.proofs.SoundLists.{opened_in_range}
 use Rattle.dspec_play.proofs.WholeRuns.{whole, runs, runs_stay, runs_more}
 
 -- a CPU's side at the beginning of a call, and behind one
-abbrev pub begins : Caller → CpuOp → Caller
+abbrev pub begins : CpuProgress → CpuOp → CpuProgress
 begins me o = record me { flight = Some (cpu.Begun o); steps = 0 }
 
-abbrev pub idle : Caller → Caller
+abbrev pub idle : CpuProgress → CpuProgress
 idle me = record me { flight = None; steps = 0 }
 
 -- one step later
-abbrev pub later : Caller → CpuFlight → Caller
+abbrev pub later : CpuProgress → CpuFlight → CpuProgress
 later me f = record me { flight = Some f; steps = me.steps + 1 }
 
 -- an exchange of a word that nobody else has moved succeeds
@@ -46,18 +46,18 @@ open_in_range k h id some sound o = let at = opened_in_range k h id some sound (
 module _ (shape : ℕ → Option Shape) (k : Config) (c : ℕ) where
   -- behind a step, so many more steps of the call lead to what the whole call leaves
   pub record Leads (n : ℕ) (h : List Deed) (m : Moved) (w : WholeCpu) : Type 0 where
-    pub is : runs shape k c n m.caller (m.deeds ++ h) m.answer ≡ whole w
+    pub is : runs shape k c n m.progress (m.deeds ++ h) m.answer ≡ whole w
 
   -- the step is the call's last
-  pub ended : (n : ℕ) (h : List Deed) (me : Caller) (ds : List Deed) (a : Answer) → Leads n h (ends shape k c h me ds a) (enters shape k c (idle me) (ds ++ h) a)
+  pub ended : (n : ℕ) (h : List Deed) (me : CpuProgress) (ds : List Deed) (a : Answer) → Leads n h (ends shape k c h me ds a) (enters shape k c (idle me) (ds ++ h) a)
   ended n h me ds a = record { is = runs_stay shape k c n (idle me) (ds ++ h) a }
 
   -- a worn call's only step
-  pub worn : (n : ℕ) (h : List Deed) (me : Caller) (a : Answer) → Leads n h (wears shape k c h me a) (wears_out shape k c (idle me) h a)
+  pub worn : (n : ℕ) (h : List Deed) (me : CpuProgress) (a : Answer) → Leads n h (wears shape k c h me a) (wears_out shape k c (idle me) h a)
   worn n h me a = record { is = runs_stay shape k c n _ h a }
 
   -- the call goes on, and its next step leads there
-  pub goes : (n : ℕ) (h : List Deed) (me : Caller) (ds : List Deed) (f : CpuFlight) (w : WholeCpu)
+  pub goes : (n : ℕ) (h : List Deed) (me : CpuProgress) (ds : List Deed) (f : CpuFlight) (w : WholeCpu)
       → Leads n (ds ++ h) (cpu_step shape k c (ds ++ h) (later me f) f) w → Leads (suc n) h (call_goes_on shape k c h me ds f) w
   goes n h me ds f w l = record { is = l.is }
 
@@ -88,10 +88,10 @@ module _ (shape : ℕ → Option Shape) (k : Config) (c : ℕ) where
   whole_not n h false m u v f t = f refl
 
   -- the steps of a call that begins
-  pub starts : (n : ℕ) (h : List Deed) (me : Caller) (o : CpuOp) (w : WholeCpu) → Leads n h (begun shape k c h (begins me o) o) w → runs shape k c (suc n) (begins me o) h None ≡ whole w
+  pub starts : (n : ℕ) (h : List Deed) (me : CpuProgress) (o : CpuOp) (w : WholeCpu) → Leads n h (begun shape k c h (begins me o) o) w → runs shape k c (suc n) (begins me o) h None ≡ whole w
   starts n h me o w l = l.is
 
-  pub trace_alone : (h : List Deed) (me : Caller) (r : Record) → runs shape k c 1 (begins me (cpu_op.Trace r)) h None ≡ whole (whole_cpu shape k c (idle me) h (cpu_op.Trace r))
+  pub trace_alone : (h : List Deed) (me : CpuProgress) (r : Record) → runs shape k c 1 (begins me (cpu_op.Trace r)) h None ≡ whole (whole_cpu shape k c (idle me) h (cpu_op.Trace r))
   trace_alone h me r = starts 0 h me (cpu_op.Trace r) _
       (both 0 h (is_worn k c h) _ _ _ _ (λ t. worn 0 h me _) (λ f.
       both 0 h (halted h) _ _ _ _ (λ t. ended 0 h me _ _) (λ g.

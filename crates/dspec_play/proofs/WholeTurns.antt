@@ -12,7 +12,7 @@ use Rattle.dspec_deeds.specs.declared.calls.Actor.TheVariants as actor
 use Rattle.dspec_deeds.specs.declared.calls.Answer.{Answer}
 use Rattle.dspec_deeds.specs.declared.calls.ConsumerOp.{ConsumerOp}
 use Rattle.dspec_deeds.specs.declared.calls.ConsumerOp.TheVariants as consumer_op
-use Rattle.dspec_play.specs.declared.flight.Caller.{Caller}
+use Rattle.dspec_play.specs.declared.flight.CpuProgress.{CpuProgress}
 use Rattle.dspec_play.specs.declared.flight.ConsumerFlight.{ConsumerFlight}
 use Rattle.dspec_play.specs.declared.flight.ConsumerFlight.TheVariants as consumer
 use Rattle.dspec_play.specs.declared.flight.CpuFlight.{CpuFlight}
@@ -21,7 +21,7 @@ use Rattle.dspec_play.specs.declared.outcome.PlayFault.{PlayFault}
 use Rattle.dspec_play.specs.declared.refusal.BeginFault.TheVariants as begin_fault
 use Rattle.dspec_play.specs.Bounds.{op_bound, consumer_bound, most_steps}
 use Rattle.dspec_play.specs.Calls.{record_passes, is_about}
-use Rattle.dspec_play.specs.Coherent.{PlayState, the_caller, idle_caller}
+use Rattle.dspec_play.specs.Coherent.{PlayState, progress_of, idle_progress}
 use Rattle.dspec_deeds.specs.Ranges.{start_fault}
 use Rattle.dspec_play.specs.Turns.{Stepped, at_start}
 use Rattle.dspec_play.specs.Plays.{EndedCall, Noted, Playing, IsPlayingAt, ended, begun_cpu, begun_consumer, playing_at_start, ran, turned}
@@ -64,13 +64,13 @@ module _ (shape : ℕ → Option Shape) where
       let ok = rest.coherent in
       let count = ok.count in
       let k : Config = p.state.config in
-      let first : Caller = record (the_caller p.state.callers c) { flight = Some (cpu.Begun o); steps = 0 } in
-      let here : the_caller (begun_cpu c o p).state.callers c ≡ first = get_or-set_same p.state.callers c first idle_caller (omega arith) in
+      let first : CpuProgress = record (progress_of p.state.progresses c) { flight = Some (cpu.Begun o); steps = 0 } in
+      let here : progress_of (begun_cpu c o p).state.progresses c ≡ first = get_or-set_same p.state.progresses c first idle_progress (omega arith) in
       let within : op_bound k o ≤ 3 + 2 * k.nspec = op_within k (set_up k ok.ranges).1 o in
-      let most : op_bound k o ≤ (3 + 2 * k.nspec) + (the_caller (begun_cpu c o p).state.callers c).steps = omega arith in
+      let most : op_bound k o ≤ (3 + 2 * k.nspec) + (progress_of (begun_cpu c o p).state.progresses c).steps = omega arith in
       noted_at (of_cpu c o) p _ _
       (cpu_ends_as shape (3 + 2 * k.nspec) c o p.noted (begun_cpu c o p) (cpu.Begun o) (begin_cpu_coherent shape p.state c o ok lt (rest.idle c lt)) lt
-      (ap (λ (x : Caller). x.flight) here) refl refl most)
+      (ap (λ (x : CpuProgress). x.flight) here) refl refl most)
       (cpu_whole shape p.state ok c o (3 + 2 * k.nspec) lt (rest.idle c lt) within)
   turn_plays (of_consumer o) p rest there =
       let ok = rest.coherent in
@@ -138,7 +138,7 @@ module _ (shape : ℕ → Option Shape) (accepts : Record → Bool) where
   unrefused : (i : ℕ) (x : Call) (st : PlayState) → IsResting shape st → IsCall st.config x → HasAcceptedRecord accepts x → refusal shape accepts i (turn_of x) st ≡ None
   unrefused i (of_cpu c o) st rest lt fits =
       let there : nat_lt c st.config.cpus ≡ true = grind (arith, nat_tests) in
-      ap (λ (b : Bool). begin_refusal i (if not b then Some begin_fault.NoSuchActor else if not (is_none (the_caller st.callers c).flight) then Some
+      ap (λ (b : Bool). begin_refusal i (if not b then Some begin_fault.NoSuchActor else if not (is_none (progress_of st.progresses c).flight) then Some
       begin_fault.Busy else if not (record_passes accepts o) then Some begin_fault.BadRecord else None)) there
       ∙ (ap (λ (f : Option CpuFlight). begin_refusal i (if not (is_none f) then Some begin_fault.Busy else if not (record_passes accepts o) then Some begin_fault.BadRecord else None)) (rest.idle c lt)
       ∙ ap (λ (b : Bool). begin_refusal i (if not b then Some begin_fault.BadRecord else None)) fits)

@@ -14,7 +14,7 @@ use Rattle.dspec_deeds.specs.declared.calls.Op.{Op}
 use Rattle.dspec_deeds.specs.declared.calls.Op.TheVariants as op
 use Rattle.dspec_deeds.specs.declared.calls.Turn.{Turn}
 use Rattle.dspec_deeds.specs.declared.deed.Deed.{Deed}
-use Rattle.dspec_play.specs.declared.flight.Caller.{Caller}
+use Rattle.dspec_play.specs.declared.flight.CpuProgress.{CpuProgress}
 use Rattle.dspec_play.specs.declared.flight.ConsumerFlight.{ConsumerFlight}
 use Rattle.dspec_play.specs.declared.flight.CpuFlight.{CpuFlight}
 use Rattle.dspec_play.specs.declared.flight.CpuFlight.TheVariants as cpu
@@ -22,7 +22,7 @@ use Rattle.dspec_deeds.specs.History.{author, same_actor}
 use Rattle.dspec_deeds.specs.Own.{calls}
 use Rattle.dspec_deeds.specs.Ranges.{start_fault}
 use Rattle.dspec_play.specs.Calls.{op_of, consumer_op_of, is_about}
-use Rattle.dspec_play.specs.Coherent.{StandsSide, PlayState, the_caller}
+use Rattle.dspec_play.specs.Coherent.{StandsSide, PlayState, progress_of}
 use Rattle.dspec_play.specs.Play.{Moved, ConsumerStep, cpu_step, consumer_step}
 use Rattle.dspec_play.specs.Plays.{EndedCall, Noted, ended, Playing, with_note, playing_at_start, begun_cpu, begun_consumer, played, answers_of, play_fault, is_by, is_worn_answer}
 use Rattle.dspec_play.specs.Turns.{step_cpu, step_consumer, step}
@@ -43,19 +43,19 @@ use Rattle.dspec_play.proofs.WornSteps.{ahead, enters, cpu_step_wears, consumer_
 
 -- a step of a CPU answers Worn exactly where it is the first of a call that counts, and the CPU has entered as many as it may
 pub step_wears : (shape : ℕ → Option Shape) (st : PlayState) (c : ℕ)
-    → is_told_worn (step shape (actor.Cpu c) st).answer ≡ (is_first (the_caller st.callers c).flight && nat_le st.config.max_calls (calls c st.deeds))
-step_wears shape st c = go (the_caller st.callers c).flight
+    → is_told_worn (step shape (actor.Cpu c) st).answer ≡ (is_first (progress_of st.progresses c).flight && nat_le st.config.max_calls (calls c st.deeds))
+step_wears shape st c = go (progress_of st.progresses c).flight
   where
     go : (x : Option CpuFlight) → is_told_worn (step_cpu shape c st x).answer ≡ (is_first x && nat_le st.config.max_calls (calls c st.deeds))
     go None = refl
-    go (Some f) = (cpu_step_wears shape st.config c st.deeds (the_caller st.callers c) f).told
+    go (Some f) = (cpu_step_wears shape st.config c st.deeds (progress_of st.progresses c) f).told
 
 pub clean_wears : (shape : ℕ → Option Shape) (st : PlayState) → is_told_worn (step shape actor.Consumer st).answer ≡ false
 clean_wears shape st = go st.side.flight
   where
     go : (x : Option ConsumerFlight) → is_told_worn (step_consumer shape st x).answer ≡ false
     go None = refl
-    go (Some f) = consumer_unworn st.config st.deeds st.side st.callers f
+    go (Some f) = consumer_unworn st.config st.deeds st.side st.progresses f
 
 -- a call that counts is past its first step
 abbrev pub is_on : Option CpuFlight → Bool
@@ -144,9 +144,9 @@ entered_beside k b h g x es fs same count was = record {
 }
 
 -- what a CPU has entered behind its own step
-entered_now : (shape : ℕ → Option Shape) (k : Config) (c : ℕ) (h : List Deed) (me : Caller) (f : CpuFlight) (ds : List Deed) (st : PlayState) (ns : List Noted)
+entered_now : (shape : ℕ → Option Shape) (k : Config) (c : ℕ) (h : List Deed) (me : CpuProgress) (f : CpuFlight) (ds : List Deed) (st : PlayState) (ns : List Noted)
     → HasEntered k c h (Some f) (map ended ns)
-    → HasEntered k c ((cpu_step shape k c h me f).deeds ++ h) (cpu_step shape k c h me f).caller.flight
+    → HasEntered k c ((cpu_step shape k c h me f).deeds ++ h) (cpu_step shape k c h me f).progress.flight
     (map ended (with_note (actor.Cpu c) (op.Cpu (op_of f)) ds st (cpu_step shape k c h me f).answer ns))
 entered_now shape k c h me f ds st ns was =
     let m = cpu_step shape k c h me f in
@@ -171,25 +171,25 @@ entered_now shape k c h me f ds st ns was =
 pub record IsWornPlay (shape : ℕ → Option Shape) (k : Config) (p : Playing) : Type 0 where
   pub play : IsCoherentPlay shape k p
   pub right : AreWornRightly k (map ended p.noted)
-  pub entered : (c : ℕ) → c < p.state.config.cpus → HasEntered k c p.state.deeds (the_caller p.state.callers c).flight (map ended p.noted)
+  pub entered : (c : ℕ) → c < p.state.config.cpus → HasEntered k c p.state.deeds (progress_of p.state.progresses c).flight (map ended p.noted)
 
 module _ (shape : ℕ → Option Shape) (k : Config) where
   start_worn : start_fault k ≡ None → IsWornPlay shape k (playing_at_start k)
   start_worn fine = record {
     play = record { config = refl; coherent = start_coherent shape k fine };
     right = tt;
-    entered = λ c lt. subst (λ (me : Caller). HasEntered k c [] me.flight []) (sym (idle_at k.cpus c)) record { counts = refl; unworn = λ on. absurd (cc (on)) };
+    entered = λ c lt. subst (λ (me : CpuProgress). HasEntered k c [] me.flight []) (sym (idle_at k.cpus c)) record { counts = refl; unworn = λ on. absurd (cc (on)) };
   }
 
-  cpu_begins : (c : ℕ) (o : CpuOp) (p : Playing) → IsWornPlay shape k p → c < k.cpus → (the_caller p.state.callers c).flight ≡ None → IsWornPlay shape k (begun_cpu c o p)
+  cpu_begins : (c : ℕ) (o : CpuOp) (p : Playing) → IsWornPlay shape k p → c < k.cpus → (progress_of p.state.progresses c).flight ≡ None → IsWornPlay shape k (begun_cpu c o p)
   cpu_begins c o p was lt idle =
-      let me : Caller = record (the_caller p.state.callers c) { flight = Some (cpu.Begun o); steps = 0 } in
+      let me : CpuProgress = record (progress_of p.state.progresses c) { flight = Some (cpu.Begun o); steps = 0 } in
       let within : c < p.state.config.cpus = subst (λ (x : Config). c < x.cpus) (sym was.play.config) lt in
       let old : HasEntered k c p.state.deeds None (map ended p.noted) = subst (λ x. HasEntered k c p.state.deeds x (map ended p.noted)) idle (was.entered c within) in
       record {
         play = (coherence_kept shape k).cpu_begins c o p was.play lt idle;
         right = was.right;
-        entered = put p.state.config.cpus (λ b (x : Caller). HasEntered k b p.state.deeds x.flight (map ended p.noted)) p.state.callers c me was.play.coherent.count
+        entered = put p.state.config.cpus (λ b (x : CpuProgress). HasEntered k b p.state.deeds x.flight (map ended p.noted)) p.state.progresses c me was.play.coherent.count
             (λ b less other. was.entered b less)
             (λ less. record { counts = old.counts; unworn = λ on. absurd (cc (on)) });
       }
@@ -201,12 +201,12 @@ module _ (shape : ℕ → Option Shape) (k : Config) where
     entered = was.entered;
   }
 
-  cpu_steps : (c : ℕ) (p : Playing) (f : CpuFlight) → IsWornPlay shape k p → c < k.cpus → (the_caller p.state.callers c).flight ≡ Some f → IsWornPlay shape k (behind_cpu_step shape c p f)
+  cpu_steps : (c : ℕ) (p : Playing) (f : CpuFlight) → IsWornPlay shape k p → c < k.cpus → (progress_of p.state.progresses c).flight ≡ Some f → IsWornPlay shape k (behind_cpu_step shape c p f)
   cpu_steps c p f was lt is =
       let st : PlayState = p.state in
       let ok = was.play.coherent in
       let within : c < st.config.cpus = subst (λ (x : Config). c < x.cpus) (sym was.play.config) lt in
-      let me : Caller = the_caller st.callers c in
+      let me : CpuProgress = progress_of st.progresses c in
       let m : Moved = cpu_step shape st.config c st.deeds me f in
       let o : Op = op.Cpu (op_of f) in
       let ds : List Deed = m.deeds ++ p.entered c in
@@ -219,10 +219,12 @@ module _ (shape : ℕ → Option Shape) (k : Config) where
       record {
         play = (coherence_carried shape k).cpu_steps c p f was.play lt is;
         right = note_right k (actor.Cpu c) o ds st m.answer p.noted (λ x e. ap is_told_worn (sym e) ∙ (told ∙ test)) was.right;
-        entered = put st.config.cpus (λ b (x : Caller). HasEntered k b (m.deeds ++ st.deeds) x.flight (map ended (with_note (actor.Cpu c) o ds st m.answer p.noted))) st.callers c m.caller ok.count
-            (λ b less other. entered_beside k b st.deeds (m.deeds ++ st.deeds) (the_caller st.callers b).flight (map ended p.noted) _ (calls_stay b (actor.Cpu c) other m.deeds st.deeds did.goes.by)
+        entered = put st.config.cpus
+            (λ b (x : CpuProgress). HasEntered k b (m.deeds ++ st.deeds) x.flight (map ended (with_note (actor.Cpu c) o ds st m.answer p.noted))) st.progresses c m.progress ok.count
+            (λ b less other. entered_beside k b st.deeds (m.deeds ++ st.deeds) (progress_of st.progresses b).flight (map ended p.noted) _
+            (calls_stay b (actor.Cpu c) other m.deeds st.deeds did.goes.by)
             (note_beside b (actor.Cpu c) o ds st m.answer p.noted other) (was.entered b less))
-            (λ less. subst (λ x. HasEntered x c (m.deeds ++ st.deeds) m.caller.flight (map ended (with_note (actor.Cpu c) o ds st m.answer p.noted))) was.play.config
+            (λ less. subst (λ x. HasEntered x c (m.deeds ++ st.deeds) m.progress.flight (map ended (with_note (actor.Cpu c) o ds st m.answer p.noted))) was.play.config
             (entered_now shape st.config c st.deeds me f ds st p.noted mine));
       }
 
@@ -230,16 +232,16 @@ module _ (shape : ℕ → Option Shape) (k : Config) where
   consumer_steps p f was is =
       let st : PlayState = p.state in
       let ok = was.play.coherent in
-      let m : ConsumerStep = consumer_step st.config st.deeds st.side st.callers f in
+      let m : ConsumerStep = consumer_step st.config st.deeds st.side st.progresses f in
       let o : Op = op.Consumer (consumer_op_of f) in
       let ds : List Deed = m.deeds ++ p.cleaned in
-      let did = consumer_keeps shape st.config st.deeds st.side st.callers ok.ranges ok.legal ok.rests ok.count ok.stands f (subst (StandsSide st.config st.deeds st.side) is ok.side) in
+      let did = consumer_keeps shape st.config st.deeds st.side st.progresses ok.ranges ok.legal ok.rests ok.count ok.stands f (subst (StandsSide st.config st.deeds st.side) is ok.side) in
       record {
         play = (coherence_carried shape k).consumer_steps p f was.play is;
-        right = note_right k actor.Consumer o ds st m.answer p.noted (λ x e. ap is_told_worn (sym e) ∙ consumer_unworn st.config st.deeds st.side st.callers f) was.right;
+        right = note_right k actor.Consumer o ds st m.answer p.noted (λ x e. ap is_told_worn (sym e) ∙ consumer_unworn st.config st.deeds st.side st.progresses f) was.right;
         entered = λ b less. subst (λ (x : Option CpuFlight). HasEntered k b (m.deeds ++ st.deeds) x (map ended (with_note actor.Consumer o ds st m.answer p.noted)))
-            (sym (flights_stay st.config st.deeds st.side st.callers ok.count f b less))
-            (entered_beside k b st.deeds (m.deeds ++ st.deeds) (the_caller st.callers b).flight (map ended p.noted) _ (calls_stay b actor.Consumer refl m.deeds st.deeds did.goes.by)
+            (sym (flights_stay st.config st.deeds st.side st.progresses ok.count f b less))
+            (entered_beside k b st.deeds (m.deeds ++ st.deeds) (progress_of st.progresses b).flight (map ended p.noted) _ (calls_stay b actor.Consumer refl m.deeds st.deeds did.goes.by)
             (note_beside b actor.Consumer o ds st m.answer p.noted refl) (was.entered b less));
       }
 

@@ -29,10 +29,10 @@ use Rattle.dspec_deeds.specs.declared.deed.SpeculateFate.TheVariants as spoken
 use Rattle.dspec_deeds.specs.declared.deed.TraceFate.TheVariants as traced
 use Rattle.dspec_deeds.specs.declared.deed.Deed.{Deed}
 use Rattle.dspec_deeds.specs.declared.deed.Deed.TheVariants.{Trace, Scan, Opened, Miss, Speculate, Commit, Discard, Settle, Release}
-use Rattle.dspec_play.specs.declared.flight.Caller.{Caller}
+use Rattle.dspec_play.specs.declared.flight.CpuProgress.{CpuProgress}
 use Rattle.dspec_play.specs.declared.flight.ConsumerFlight.{ConsumerFlight}
 use Rattle.dspec_play.specs.declared.flight.ConsumerFlight.TheVariants as consumer
-use Rattle.dspec_play.specs.declared.flight.ConsumerSide.{ConsumerSide}
+use Rattle.dspec_play.specs.declared.flight.ConsumerProgress.{ConsumerProgress}
 use Rattle.dspec_play.specs.declared.flight.CpuFlight.{CpuFlight}
 use Rattle.dspec_play.specs.declared.flight.CpuFlight.TheVariants as cpu
 use Rattle.dspec_play.specs.declared.flight.Spare.{Spare}
@@ -47,7 +47,7 @@ use Rattle.dspec_deeds.specs.Settling.{commit_fate, discard_fate, settle_fate}
 use Rattle.dspec_deeds.specs.Told.{answer_of}
 use Rattle.dspec_play.specs.Play.{Moved, ConsumerStep, same_word, is_alone, is_release, is_worn, is_mine, ends, wears, call_goes_on, spoken_at, shown_speculate, shown_commit, shown_discard}
 use Rattle.dspec_play.specs.Play.{missed, shown_scan, asked, begun, popped, served, shown_service, cpu_step, takes_at, gives_at, next_slot, loads_slot, consumer_step}
-use Rattle.dspec_play.specs.Coherent.{the_caller}
+use Rattle.dspec_play.specs.Coherent.{progress_of}
 use Rattle.dspec_play.specs.Plays.{is_worn_answer}
 use Rattle.dspec_play.specs.Wearing.{is_counted, is_first, is_told_worn, enters_call}
 use Rattle.dspec_deeds.proofs.TestLemmas.{number_is_itself}
@@ -72,9 +72,9 @@ none_enters false = refl
 -- what a step of a call makes that had entered so many deeds that count
 pub record Wears (c : ℕ) (h : List Deed) (worn : Bool) (n : ℕ) (o : CpuOp) (m : Moved) : Type 0 where
   pub told : is_told_worn m.answer ≡ worn
-  pub counts : calls c (m.deeds ++ h) + n ≡ (calls c h + ahead m.caller.flight) + enters (op.Cpu o) m.answer
+  pub counts : calls c (m.deeds ++ h) + n ≡ (calls c h + ahead m.progress.flight) + enters (op.Cpu o) m.answer
 
-module _ (shape : ℕ → Option Shape) (k : Config) (c : ℕ) (h : List Deed) (me : Caller) where
+module _ (shape : ℕ → Option Shape) (k : Config) (c : ℕ) (h : List Deed) (me : CpuProgress) where
   abbrev Does : Bool → ℕ → CpuOp → Moved → Type 0
   Does worn n o m = Wears c h worn n o m
 
@@ -231,7 +231,7 @@ module _ (shape : ℕ → Option Shape) (k : Config) (c : ℕ) (h : List Deed) (
   cpu_step_wears (cpu.ServiceStore s w sum) =
       served_wears s (Settle c record { issue = w.issue; slot = s } (settle_fate shape k c h record { issue = w.issue; slot = s } w.code) ∷ []) _ (omega arith)
 
-module _ (k : Config) (h : List Deed) (side : ConsumerSide) (all : List Caller) where
+module _ (k : Config) (h : List Deed) (side : ConsumerProgress) (all : List CpuProgress) where
   abbrev IsUnworn : ConsumerStep → Type 0
   IsUnworn m = is_told_worn m.answer ≡ false
 
@@ -245,14 +245,14 @@ module _ (k : Config) (h : List Deed) (side : ConsumerSide) (all : List Caller) 
   load_unworn : (s n : ℕ) → IsUnworn (loads_slot k h side all s n)
   load_unworn s n = one_of (awaits (word_at s h).code) _ _ refl (next_unworn s n [])
 
-  takes_unworn : (c : ℕ) (me : Caller) (p : Spare) → IsUnworn (takes_at k h side all c me p)
+  takes_unworn : (c : ℕ) (me : CpuProgress) (p : Spare) → IsUnworn (takes_at k h side all c me p)
   takes_unworn c me spare.InHand = refl
   takes_unworn c me spare.Sealed = refl
   takes_unworn c me spare.Handed = refl
   takes_unworn c me spare.Out = refl
   takes_unworn c me spare.GivenBack = refl
 
-  gives_unworn : (c : ℕ) (me : Caller) (p : Spare) → IsUnworn (gives_at k h side all c me p)
+  gives_unworn : (c : ℕ) (me : CpuProgress) (p : Spare) → IsUnworn (gives_at k h side all c me p)
   gives_unworn c me spare.InHand = refl
   gives_unworn c me spare.Sealed = refl
   gives_unworn c me spare.Handed = refl
@@ -262,8 +262,8 @@ module _ (k : Config) (h : List Deed) (side : ConsumerSide) (all : List Caller) 
   -- no call of the consumer is worn
   pub consumer_unworn : (f : ConsumerFlight) → is_told_worn (consumer_step k h side all f).answer ≡ false
   consumer_unworn (consumer.Begun (consumer_op.Ask c)) = refl
-  consumer_unworn (consumer.Begun (consumer_op.Take c)) = takes_unworn c (the_caller all c) (the_caller all c).spare
-  consumer_unworn (consumer.Begun (consumer_op.GiveBack c)) = gives_unworn c (the_caller all c) (the_caller all c).spare
+  consumer_unworn (consumer.Begun (consumer_op.Take c)) = takes_unworn c (progress_of all c) (progress_of all c).spare
+  consumer_unworn (consumer.Begun (consumer_op.GiveBack c)) = gives_unworn c (progress_of all c) (progress_of all c).spare
   consumer_unworn (consumer.Begun consumer_op.Clean) = load_unworn 1 0
   consumer_unworn (consumer.Begun consumer_op.Stop) = one_of (halted h) _ _ refl refl
   consumer_unworn (consumer.CleanLoad s n) = load_unworn s n

@@ -11,7 +11,7 @@ use Rattle.dspec_play.specs.declared.flight.ConsumerFlight.{ConsumerFlight}
 use Rattle.dspec_play.specs.declared.flight.ConsumerFlight.TheVariants as consumer
 use Rattle.dspec_play.specs.declared.flight.CpuFlight.{CpuFlight}
 use Rattle.dspec_play.specs.declared.flight.CpuFlight.TheVariants as cpu
-use Rattle.dspec_play.specs.Coherent.{PlayState, the_caller}
+use Rattle.dspec_play.specs.Coherent.{PlayState, progress_of}
 
 -- the most steps of a call of a CPU
 abbrev pub op_bound : Config → CpuOp → ℕ
@@ -60,7 +60,7 @@ consumer_limit k None = 1
 consumer_limit k (Some f) = clean_bound k f
 
 abbrev pub steps_limit : Actor → PlayState → ℕ
-steps_limit (actor.Cpu c) st = cpu_limit st.config (the_caller st.callers c).flight
+steps_limit (actor.Cpu c) st = cpu_limit st.config (progress_of st.progresses c).flight
 steps_limit actor.Consumer st = consumer_limit st.config st.side.flight
 
 -- the most steps of any call of the actor

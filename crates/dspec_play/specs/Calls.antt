@@ -21,7 +21,7 @@ use Rattle.dspec_play.specs.declared.refusal.StepFault.{StepFault}
 use Rattle.dspec_play.specs.declared.refusal.StepFault.TheVariants as step_fault
 use Rattle.dspec_play.specs.declared.refusal.Stepped.{Stepped}
 use Rattle.dspec_play.specs.declared.refusal.Stepped.TheVariants.{Going, Done}
-use Rattle.dspec_play.specs.Coherent.{PlayState, the_caller}
+use Rattle.dspec_play.specs.Coherent.{PlayState, progress_of}
 
 -- the call of a CPU that is in flight
 abbrev pub op_of : CpuFlight → CpuOp
@@ -57,7 +57,7 @@ consumer_call_of None = op.Consumer consumer_op.Stop
 consumer_call_of (Some f) = op.Consumer (consumer_op_of f)
 
 abbrev pub call_of : Actor → PlayState → Op
-call_of (actor.Cpu c) st = cpu_call_of (the_caller st.callers c).flight
+call_of (actor.Cpu c) st = cpu_call_of (progress_of st.progresses c).flight
 call_of actor.Consumer st = consumer_call_of st.side.flight
 
 -- the record of a call, if it has one, passes a test
@@ -79,12 +79,12 @@ is_actor k actor.Consumer = true
 
 -- no call of the actor is in flight
 abbrev pub is_idle : Actor → PlayState → Bool
-is_idle (actor.Cpu c) st = is_none (the_caller st.callers c).flight
+is_idle (actor.Cpu c) st = is_none (progress_of st.progresses c).flight
 is_idle actor.Consumer st = is_none st.side.flight
 
 -- the steps that the actor's call in flight has made
 abbrev pub steps_of : Actor → PlayState → ℕ
-steps_of (actor.Cpu c) st = (the_caller st.callers c).steps
+steps_of (actor.Cpu c) st = (progress_of st.progresses c).steps
 steps_of actor.Consumer st = st.side.steps
 
 -- why a call of a CPU can't begin

@@ -11,10 +11,10 @@ use Rattle.dspec_word.specs.Tables.{speculate_at, commit_at, discard_at, open_at
 use Rattle.dspec_deeds.specs.declared.config.Config.{Config}
 use Rattle.dspec_deeds.specs.declared.calls.Actor.TheVariants.{Cpu}
 use Rattle.dspec_deeds.specs.declared.deed.Deed.{Deed}
-use Rattle.dspec_play.specs.declared.flight.Caller.{Caller}
+use Rattle.dspec_play.specs.declared.flight.CpuProgress.{CpuProgress}
 use Rattle.dspec_play.specs.declared.flight.ConsumerFlight.{ConsumerFlight}
 use Rattle.dspec_play.specs.declared.flight.ConsumerFlight.TheVariants as consumer
-use Rattle.dspec_play.specs.declared.flight.ConsumerSide.{ConsumerSide}
+use Rattle.dspec_play.specs.declared.flight.ConsumerProgress.{ConsumerProgress}
 use Rattle.dspec_play.specs.declared.flight.CpuFlight.{CpuFlight}
 use Rattle.dspec_play.specs.declared.flight.CpuFlight.TheVariants as cpu
 use Rattle.dspec_play.specs.declared.flight.Spare.{Spare}
@@ -43,7 +43,7 @@ pub record Expects (act : Act) (from : SlotState) (id : Speculation) (h : List D
 abbrev pub TriedBy : ℕ → SlotState → Type 0
 TriedBy steps from = steps ≤ 1 + code_number from.code
 
-abbrev pub StandsCpu : Config → ℕ → List Deed → Caller → CpuFlight → Type 0
+abbrev pub StandsCpu : Config → ℕ → List Deed → CpuProgress → CpuFlight → Type 0
 StandsCpu k c h me (cpu.Begun o) = (scan k c h ≡ 0) × (me.steps ≡ 0)
 StandsCpu k c h me (cpu.ScanLoad s) = IsSlot k s × (scan k c h ≡ s) × (me.steps ≤ 2 * s - 1)
 StandsCpu k c h me (cpu.ScanTry s from) =
@@ -66,21 +66,21 @@ StandsCpu k c h me (cpu.ServiceStore s w sum) =
     × (word_at s h ≡ w) × (awaits w.code ≡ true) × (settled c (present s h) h ≡ false)
 
 -- where no call is in flight
-abbrev pub StandsCaller : Config → ℕ → List Deed → Caller → Option CpuFlight → Type 0
-StandsCaller k c h me None = (scan k c h ≡ 0) × (me.steps ≡ 0)
-StandsCaller k c h me (Some f) = StandsCpu k c h me f
+abbrev pub StandsProgress : Config → ℕ → List Deed → CpuProgress → Option CpuFlight → Type 0
+StandsProgress k c h me None = (scan k c h ≡ 0) × (me.steps ≡ 0)
+StandsProgress k c h me (Some f) = StandsCpu k c h me f
 
 -- the consumer's call in flight: what a decided slot waits for was seen of each CPU before
 abbrev pub SettledBelow : ℕ → ℕ → SlotState → List Deed → Type 0
 SettledBelow n s w h = (word_at s h ≡ w) × (awaits w.code ≡ true) × ((c : ℕ) → c < n → settled c (present s h) h ≡ true)
 
-abbrev pub StandsConsumer : Config → List Deed → ConsumerSide → ConsumerFlight → Type 0
+abbrev pub StandsConsumer : Config → List Deed → ConsumerProgress → ConsumerFlight → Type 0
 StandsConsumer k h side (consumer.Begun o) = side.steps ≡ 0
 StandsConsumer k h side (consumer.CleanLoad s n) = IsSlot k s × (n < s) × (side.steps ≤ (s - 1) * (k.cpus + 2))
 StandsConsumer k h side (consumer.CleanAck s w c n) = IsSlot k s × (n < s) × (c < k.cpus) × SettledBelow c s w h × (side.steps ≤ (s - 1) * (k.cpus + 2) + 1 + c)
 StandsConsumer k h side (consumer.CleanReap s w n) = IsSlot k s × (n < s) × SettledBelow k.cpus s w h × (side.steps ≤ (s - 1) * (k.cpus + 2) + 1 + k.cpus)
 
-abbrev pub StandsSide : Config → List Deed → ConsumerSide → Option ConsumerFlight → Type 0
+abbrev pub StandsSide : Config → List Deed → ConsumerProgress → Option ConsumerFlight → Type 0
 StandsSide k h side None = side.steps ≡ 0
 StandsSide k h side (Some f) = StandsConsumer k h side f
 
@@ -97,31 +97,31 @@ abbrev pub PushesNext : Spare → Option CpuFlight → Type 0
 PushesNext spare.Sealed f = f ≡ Some cpu.ServicePush
 PushesNext place f = Unit {0}
 
-pub record CallerStands (k : Config) (c : ℕ) (h : List Deed) (me : Caller) : Type 0 where
-  pub flight : StandsCaller k c h me me.flight
+pub record ProgressStands (k : Config) (c : ℕ) (h : List Deed) (me : CpuProgress) : Type 0 where
+  pub flight : StandsProgress k c h me me.flight
   pub counts : SpareCounts (seals c h) me.takes me.spare
   pub pushes : PushesNext me.spare me.flight
   pub want : me.want ≤ me.takes + 1
 
--- the side of a CPU that has made no call
-abbrev pub idle_caller : Caller
-idle_caller = record { flight = None; steps = 0; spare = spare.InHand; want = 0; takes = 0; worn = 0 }
+-- the progress of a CPU that has made no call
+abbrev pub idle_progress : CpuProgress
+idle_progress = record { flight = None; steps = 0; spare = spare.InHand; want = 0; takes = 0; worn = 0 }
 
-abbrev pub the_caller : List Caller → ℕ → Caller
-the_caller all c = slice_index_or all c idle_caller
+abbrev pub progress_of : List CpuProgress → ℕ → CpuProgress
+progress_of all c = slice_index_or all c idle_progress
 
--- a play's state: the list, each CPU's side and the consumer's
+-- a play's state: the list, each CPU's progress and the consumer's
 pub record PlayState : Type 0 where
   pub config : Config
   pub deeds : List Deed
-  pub callers : List Caller
-  pub side : ConsumerSide
+  pub progresses : List CpuProgress
+  pub side : ConsumerProgress
 
 pub record IsCoherent (shape : ℕ → Option Shape) (st : PlayState) : Type 0 where
   pub ranges : start_fault st.config ≡ None
-  pub count : length st.callers ≡ st.config.cpus
+  pub count : length st.progresses ≡ st.config.cpus
   pub legal : IsAllowed shape st.config st.deeds
   pub authors : HasAuthors st.config st.deeds
   pub rests : owed st.deeds ≡ 0
-  pub stands : (c : ℕ) → c < st.config.cpus → CallerStands st.config c st.deeds (the_caller st.callers c)
+  pub stands : (c : ℕ) → c < st.config.cpus → ProgressStands st.config c st.deeds (progress_of st.progresses c)
   pub side : StandsSide st.config st.deeds st.side st.side.flight

@@ -27,10 +27,10 @@ use Rattle.dspec_deeds.specs.declared.deed.SpeculateFate.TheVariants as spoken
 use Rattle.dspec_deeds.specs.declared.deed.TraceFate.TheVariants as traced
 use Rattle.dspec_deeds.specs.declared.deed.Deed.{Deed}
 use Rattle.dspec_deeds.specs.declared.deed.Deed.TheVariants.{Trace, Scan, Opened, Miss, Speculate, Commit, Discard, Settle, Seal, Release, Halt}
-use Rattle.dspec_play.specs.declared.flight.Caller.{Caller}
+use Rattle.dspec_play.specs.declared.flight.CpuProgress.{CpuProgress}
 use Rattle.dspec_play.specs.declared.flight.ConsumerFlight.{ConsumerFlight}
 use Rattle.dspec_play.specs.declared.flight.ConsumerFlight.TheVariants as consumer
-use Rattle.dspec_play.specs.declared.flight.ConsumerSide.{ConsumerSide}
+use Rattle.dspec_play.specs.declared.flight.ConsumerProgress.{ConsumerProgress}
 use Rattle.dspec_play.specs.declared.flight.CpuFlight.{CpuFlight}
 use Rattle.dspec_play.specs.declared.flight.CpuFlight.TheVariants as cpu
 use Rattle.dspec_play.specs.declared.flight.Spare.{Spare}
@@ -38,7 +38,7 @@ use Rattle.dspec_play.specs.declared.flight.Spare.TheVariants as spare
 use Rattle.dspec_deeds.specs.Ranges.{is_fill}
 use Rattle.dspec_deeds.specs.History.{halted, in_range, is_among, callers, word_at, ack}
 use Rattle.dspec_deeds.specs.Own.{calls, seals, batches, taken, Batch, empty_batch}
-use Rattle.dspec_play.specs.Coherent.{the_caller}
+use Rattle.dspec_play.specs.Coherent.{progress_of}
 use Rattle.dspec_deeds.specs.Legal.{fits_principal, fits_speculative}
 use Rattle.dspec_deeds.specs.Reports.{missed_busy}
 use Rattle.dspec_deeds.specs.Settling.{commit_fate, discard_fate, settle_fate}
@@ -57,10 +57,10 @@ abbrev pub is_release : Act → Bool
 is_release (Attempt to) = is_inactive to.code
 is_release act = false
 
--- what a step of a CPU makes of its side, the deeds that it enters, the latest first, and the answer where it is the
+-- what a step of a CPU makes of its progress, the deeds that it enters, the latest first, and the answer where it is the
 -- call's last
 pub record Moved : Type 0 where
-  pub caller : Caller
+  pub progress : CpuProgress
   pub deeds : List Deed
   pub answer : Option Answer
 
@@ -68,17 +68,17 @@ pub record Moved : Type 0 where
 abbrev pub is_worn : Config → ℕ → List Deed → Bool
 is_worn k c h = nat_le k.max_calls (calls c h)
 
-module _ (shape : ℕ → Option Shape) (k : Config) (c : ℕ) (h : List Deed) (me : Caller) where
+module _ (shape : ℕ → Option Shape) (k : Config) (c : ℕ) (h : List Deed) (me : CpuProgress) where
   -- the call goes on: the next step is at that place
   abbrev pub call_goes_on : List Deed → CpuFlight → Moved
-  call_goes_on ds f = record { caller = record me { flight = Some f; steps = me.steps + 1 }; deeds = ds; answer = None }
+  call_goes_on ds f = record { progress = record me { flight = Some f; steps = me.steps + 1 }; deeds = ds; answer = None }
 
   abbrev pub ends : List Deed → Answer → Moved
-  ends ds a = record { caller = record me { flight = None; steps = 0 }; deeds = ds; answer = Some a }
+  ends ds a = record { progress = record me { flight = None; steps = 0 }; deeds = ds; answer = Some a }
 
   -- a worn call ends and enters nothing; the count of such calls stays at the most that 64 bits hold
   abbrev pub wears : Answer → Moved
-  wears a = record { caller = record me { flight = None; steps = 0; worn = min (me.worn + 1) (2 ^ 64 - 1) }; deeds = []; answer = Some a }
+  wears a = record { progress = record me { flight = None; steps = 0; worn = min (me.worn + 1) (2 ^ 64 - 1) }; deeds = []; answer = Some a }
 
   abbrev pub is_mine : Speculation → Bool
   is_mine id = is_among c (callers id h)
@@ -127,7 +127,7 @@ module _ (shape : ℕ → Option Shape) (k : Config) (c : ℕ) (h : List Deed) (
 
   -- the load of the ask, which seals where the CPU is asked and a spare is in hand
   abbrev pub asked : Spare → Bool → Moved
-  asked spare.InHand true = record { caller = record me { flight = Some cpu.ServicePush; steps = me.steps + 1; spare = spare.Sealed }; deeds = Seal c ∷ []; answer = None }
+  asked spare.InHand true = record { progress = record me { flight = Some cpu.ServicePush; steps = me.steps + 1; spare = spare.Sealed }; deeds = Seal c ∷ []; answer = None }
   asked place true = call_goes_on [] cpu.ServicePop
   asked place false = call_goes_on [] (cpu.ServiceLoad 1 record { sealed = false; settled = 0 })
 
@@ -175,11 +175,11 @@ module _ (shape : ℕ → Option Shape) (k : Config) (c : ℕ) (h : List Deed) (
 
   -- the pop of a spare, which seals where one came
   abbrev pub popped : Spare → Moved
-  popped spare.GivenBack = record { caller = record me { flight = Some cpu.ServicePush; steps = me.steps + 1; spare = spare.Sealed }; deeds = Seal c ∷ []; answer = None }
+  popped spare.GivenBack = record { progress = record me { flight = Some cpu.ServicePush; steps = me.steps + 1; spare = spare.Sealed }; deeds = Seal c ∷ []; answer = None }
   popped place = call_goes_on [] (cpu.ServiceLoad 1 record { sealed = false; settled = 0 })
 
   abbrev pub pushed : Moved
-  pushed = record { caller = record me { flight = Some (cpu.ServiceLoad 1 record { sealed = true; settled = 0 }); steps = me.steps + 1; spare = spare.Handed }; deeds = []; answer = None }
+  pushed = record { progress = record me { flight = Some (cpu.ServiceLoad 1 record { sealed = true; settled = 0 }); steps = me.steps + 1; spare = spare.Handed }; deeds = []; answer = None }
 
   -- one step of a CPU's call in flight
   abbrev pub cpu_step : CpuFlight → Moved
@@ -207,10 +207,10 @@ module _ (shape : ℕ → Option Shape) (k : Config) (c : ℕ) (h : List Deed) (
   cpu_step (cpu.ServiceStore s w sum) =
       served s (Settle c record { issue = w.issue; slot = s } (settle_fate shape k c h record { issue = w.issue; slot = s } w.code) ∷ []) record { sealed = sum.sealed; settled = sum.settled + 1 }
 
--- what a step of the consumer makes of its own side and of a CPU's, the deeds that it enters, and the answer
+-- what a step of the consumer makes of its own progress and of a CPU's, the deeds that it enters, and the answer
 pub record ConsumerStep : Type 0 where
-  pub side : ConsumerSide
-  pub callers : List Caller
+  pub side : ConsumerProgress
+  pub progresses : List CpuProgress
   pub deeds : List Deed
   pub answer : Option Answer
 
@@ -221,23 +221,23 @@ batch_at c n h = slice_index_or (reverse (batches c h)) n empty_batch
 abbrev pub took : ℕ → ℕ → List Deed → Answer
 took n c h = answer.Took (batch_at c n h).drops (length (taken n c h)) (length (batch_at c n h).offers)
 
-module _ (k : Config) (h : List Deed) (side : ConsumerSide) (all : List Caller) where
+module _ (k : Config) (h : List Deed) (side : ConsumerProgress) (all : List CpuProgress) where
   abbrev pub keeps_on : List Deed → ConsumerFlight → ConsumerStep
-  keeps_on ds f = record { side = record { flight = Some f; steps = side.steps + 1 }; callers = all; deeds = ds; answer = None }
+  keeps_on ds f = record { side = record { flight = Some f; steps = side.steps + 1 }; progresses = all; deeds = ds; answer = None }
 
   abbrev pub stops : List Deed → Answer → ConsumerStep
-  stops ds a = record { side = record { flight = None; steps = 0 }; callers = all; deeds = ds; answer = Some a }
+  stops ds a = record { side = record { flight = None; steps = 0 }; progresses = all; deeds = ds; answer = Some a }
 
-  -- the call is about one CPU's side, which it changes
-  abbrev pub changes : ℕ → Caller → Answer → ConsumerStep
-  changes c me a = record { side = record { flight = None; steps = 0 }; callers = slice_set all c me; deeds = []; answer = Some a }
+  -- the call is about one CPU's progress, which it changes
+  abbrev pub changes : ℕ → CpuProgress → Answer → ConsumerStep
+  changes c me a = record { side = record { flight = None; steps = 0 }; progresses = slice_set all c me; deeds = []; answer = Some a }
 
   -- a take finds what was pushed, and gives the next batch
-  abbrev pub takes_at : ℕ → Caller → Spare → ConsumerStep
+  abbrev pub takes_at : ℕ → CpuProgress → Spare → ConsumerStep
   takes_at c me spare.Handed = changes c (record me { spare = spare.Out; takes = me.takes + 1 }) (took me.takes c h)
   takes_at c me place = stops [] answer.TookNone
 
-  abbrev pub gives_at : ℕ → Caller → Spare → ConsumerStep
+  abbrev pub gives_at : ℕ → CpuProgress → Spare → ConsumerStep
   gives_at c me spare.Out = changes c (record me { spare = spare.GivenBack }) (answer.GaveBack true)
   gives_at c me place = stops [] (answer.GaveBack false)
 
@@ -259,9 +259,9 @@ module _ (k : Config) (h : List Deed) (side : ConsumerSide) (all : List Caller) 
   reaps s w n = if same_word (word_at s h) w then next_slot s (Release s ∷ []) (n + 1) else next_slot s [] n
 
   abbrev pub consumer_begun : ConsumerOp → ConsumerStep
-  consumer_begun (consumer_op.Ask c) = changes c (record (the_caller all c) { want = (the_caller all c).takes + 1 }) answer.AskDone
-  consumer_begun (consumer_op.Take c) = takes_at c (the_caller all c) (the_caller all c).spare
-  consumer_begun (consumer_op.GiveBack c) = gives_at c (the_caller all c) (the_caller all c).spare
+  consumer_begun (consumer_op.Ask c) = changes c (record (progress_of all c) { want = (progress_of all c).takes + 1 }) answer.AskDone
+  consumer_begun (consumer_op.Take c) = takes_at c (progress_of all c) (progress_of all c).spare
+  consumer_begun (consumer_op.GiveBack c) = gives_at c (progress_of all c) (progress_of all c).spare
   consumer_begun consumer_op.Clean = loads_slot 1 0
   consumer_begun consumer_op.Stop = if halted h then stops [] answer.StopDone else stops (Halt ∷ []) answer.StopDone
 

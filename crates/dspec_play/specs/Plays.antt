@@ -31,7 +31,7 @@ use Rattle.dspec_play.specs.declared.refusal.StepFault.TheVariants as step_fault
 use Rattle.dspec_play.specs.ReadOff.{answer_of_cpu, answer_of_consumer}
 use Rattle.dspec_play.specs.Bounds.{most_steps}
 use Rattle.dspec_play.specs.Calls.{op_of, consumer_op_of, is_idle, begin_cpu_fault, begin_consumer_fault, idle_step_fault}
-use Rattle.dspec_play.specs.Coherent.{PlayState, the_caller}
+use Rattle.dspec_play.specs.Coherent.{PlayState, progress_of}
 use Rattle.dspec_play.specs.Play.{cpu_step, consumer_step}
 use Rattle.dspec_deeds.specs.Ranges.{start_fault}
 use Rattle.dspec_play.specs.Turns.{at_start, begin_cpu, begin_consumer, step}
@@ -95,8 +95,8 @@ module _ (shape : ℕ → Option Shape) where
   cpu_stepped c p (Some f) =
       record p {
         state = (step shape (actor.Cpu c) p.state).state;
-        entered = with_entered c ((cpu_step shape p.state.config c p.state.deeds (the_caller p.state.callers c) f).deeds ++ p.entered c) p.entered;
-        noted = with_note (actor.Cpu c) (op.Cpu (op_of f)) ((cpu_step shape p.state.config c p.state.deeds (the_caller p.state.callers c) f).deeds ++ p.entered c) p.state
+        entered = with_entered c ((cpu_step shape p.state.config c p.state.deeds (progress_of p.state.progresses c) f).deeds ++ p.entered c) p.entered;
+        noted = with_note (actor.Cpu c) (op.Cpu (op_of f)) ((cpu_step shape p.state.config c p.state.deeds (progress_of p.state.progresses c) f).deeds ++ p.entered c) p.state
             (step shape (actor.Cpu c) p.state).answer p.noted;
       }
 
@@ -105,13 +105,13 @@ module _ (shape : ℕ → Option Shape) where
   consumer_stepped p (Some f) =
       record p {
         state = (step shape actor.Consumer p.state).state;
-        cleaned = (consumer_step p.state.config p.state.deeds p.state.side p.state.callers f).deeds ++ p.cleaned;
-        noted = with_note actor.Consumer (op.Consumer (consumer_op_of f)) ((consumer_step p.state.config p.state.deeds p.state.side p.state.callers f).deeds ++ p.cleaned) p.state
+        cleaned = (consumer_step p.state.config p.state.deeds p.state.side p.state.progresses f).deeds ++ p.cleaned;
+        noted = with_note actor.Consumer (op.Consumer (consumer_op_of f)) ((consumer_step p.state.config p.state.deeds p.state.side p.state.progresses f).deeds ++ p.cleaned) p.state
             (step shape actor.Consumer p.state).answer p.noted;
       }
 
   abbrev pub stepped : Actor → Playing → Playing
-  stepped (actor.Cpu c) p = cpu_stepped c p (the_caller p.state.callers c).flight
+  stepped (actor.Cpu c) p = cpu_stepped c p (progress_of p.state.progresses c).flight
   stepped actor.Consumer p = consumer_stepped p p.state.side.flight
 
   -- steps of an actor until no call of it is in flight, so many at the most

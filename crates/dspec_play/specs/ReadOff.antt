@@ -20,7 +20,7 @@ use Rattle.dspec_deeds.specs.declared.deed.TraceFate.TheVariants as traced
 use Rattle.dspec_deeds.specs.Told.{answer_of}
 use Rattle.dspec_play.specs.declared.flight.Spare.{Spare}
 use Rattle.dspec_play.specs.declared.flight.Spare.TheVariants as spare
-use Rattle.dspec_play.specs.Coherent.{PlayState, the_caller}
+use Rattle.dspec_play.specs.Coherent.{PlayState, progress_of}
 use Rattle.dspec_deeds.specs.Own.{seals}
 use Rattle.dspec_play.specs.Whole.{is_out}
 use Rattle.dspec_play.specs.Play.{took}
@@ -104,14 +104,14 @@ is_unpushed place = false
 -- a take gives the next batch, and none exactly where each batch sealed is taken or still to be pushed
 abbrev pub take_answer : ℕ → PlayState → Answer
 take_answer c st =
-    if is_unpushed (the_caller st.callers c).spare then answer.TookNone
-    else if nat_lt (the_caller st.callers c).takes (seals c st.deeds) then took (the_caller st.callers c).takes c st.deeds
+    if is_unpushed (progress_of st.progresses c).spare then answer.TookNone
+    else if nat_lt (progress_of st.progresses c).takes (seals c st.deeds) then took (progress_of st.progresses c).takes c st.deeds
     else answer.TookNone
 
 -- the answer of the consumer's call that entered these deeds, and whose last step found this
 abbrev pub answer_of_consumer : ConsumerOp → PlayState → List Deed → Answer
 answer_of_consumer (consumer_op.Ask c) st ds = answer.AskDone
 answer_of_consumer (consumer_op.Take c) st ds = take_answer c st
-answer_of_consumer (consumer_op.GiveBack c) st ds = answer.GaveBack (is_out (the_caller st.callers c).spare)
+answer_of_consumer (consumer_op.GiveBack c) st ds = answer.GaveBack (is_out (progress_of st.progresses c).spare)
 answer_of_consumer consumer_op.Clean st ds = answer.Cleaned (release_count ds)
 answer_of_consumer consumer_op.Stop st ds = answer.StopDone

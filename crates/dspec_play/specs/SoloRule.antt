@@ -10,18 +10,18 @@ use Rattle.dspec_deeds.specs.declared.deed.Deed.TheVariants.{Commit, Discard, Re
 use Rattle.dspec_deeds.specs.History.{verdict, solo}
 use Rattle.dspec_deeds.specs.Told.{answer_of}
 use Rattle.dspec_play.specs.declared.flight.CpuFlight.TheVariants as cpu
-use Rattle.dspec_play.specs.Coherent.{the_caller}
+use Rattle.dspec_play.specs.Coherent.{progress_of}
 use Rattle.dspec_play.specs.Turns.{Stepped}
 
 -- the step is its call's last: it answers, and the CPU has no call in flight
 pub record IsLast (c : ℕ) (told : Answer) (t : Stepped) : Type 0 where
   pub answer : t.answer ≡ Some told
-  pub idle : (the_caller t.state.callers c).flight ≡ None
+  pub idle : (progress_of t.state.progresses c).flight ≡ None
 
 -- the call goes on, and its next step releases the slot
 pub record ReleasesThen (c : ℕ) (id : Speculation) (f : DecideFate) (t : Stepped) : Type 0 where
   pub answer : t.answer ≡ None
-  pub next : (the_caller t.state.callers c).flight ≡ Some (cpu.CommitRelease id f)
+  pub next : (progress_of t.state.progresses c).flight ≡ Some (cpu.CommitRelease id f)
 
 -- the step discards and releases the slot, and is its call's last; or it commits, and its call's next step releases
 abbrev pub IsReleasing : ℕ → Speculation → List Deed → Stepped → Type 0

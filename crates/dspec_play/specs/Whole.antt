@@ -21,7 +21,7 @@ use Rattle.dspec_deeds.specs.declared.deed.SpeculateFate.TheVariants as spoken
 use Rattle.dspec_deeds.specs.declared.deed.TraceFate.TheVariants as traced
 use Rattle.dspec_deeds.specs.declared.deed.Deed.{Deed}
 use Rattle.dspec_deeds.specs.declared.deed.Deed.TheVariants.{Trace, Scan, Opened, Miss, Speculate, Commit, Discard, Settle, Seal, Release, Halt}
-use Rattle.dspec_play.specs.declared.flight.Caller.{Caller}
+use Rattle.dspec_play.specs.declared.flight.CpuProgress.{CpuProgress}
 use Rattle.dspec_play.specs.declared.flight.Spare.{Spare}
 use Rattle.dspec_play.specs.declared.flight.Spare.TheVariants as spare
 use Rattle.dspec_deeds.specs.Ranges.{is_fill}
@@ -30,7 +30,7 @@ use Rattle.dspec_deeds.specs.Own.{seals}
 use Rattle.dspec_deeds.specs.Legal.{fits_principal, fits_speculative}
 use Rattle.dspec_deeds.specs.Settling.{commit_fate, discard_fate}
 use Rattle.dspec_deeds.specs.Told.{answer_of}
-use Rattle.dspec_play.specs.Coherent.{the_caller, PlayState}
+use Rattle.dspec_play.specs.Coherent.{progress_of, PlayState}
 use Rattle.dspec_play.specs.Play.{is_worn, took}
 
 -- a batch that was taken is not given back
@@ -39,17 +39,17 @@ is_out spare.Out = true
 is_out place = false
 
 -- as many batches were given back as sealed: each was taken, and none is out
-abbrev pub are_all_back : ℕ → Caller → Bool
+abbrev pub are_all_back : ℕ → CpuProgress → Bool
 are_all_back sealed me = (sealed == me.takes) && not (is_out me.spare)
 
 abbrev pub or_slot : Option ℕ → ℕ → Bool → Option ℕ
 or_slot (Some s) n free = Some s
 or_slot None n free = if free then Some n else None
 
--- what a whole call of a CPU leaves: the list, the CPU's own side, and the answer
+-- what a whole call of a CPU leaves: the list, the CPU's own progress, and the answer
 pub record WholeCpu : Type 0 where
   pub list : List Deed
-  pub caller : Caller
+  pub progress : CpuProgress
   pub answer : Answer
 
 module _ (shape : ℕ → Option Shape) (k : Config) (c : ℕ) where
@@ -68,11 +68,11 @@ module _ (shape : ℕ → Option Shape) (k : Config) (c : ℕ) where
   missed_up (suc n) h = Miss c (suc n) (is_busy (suc n) h) ∷ missed_up n h
 
   -- behind its Scan a call opens the least free slot, or misses all
-  abbrev pub gives : Caller → List Deed → Option ℕ → WholeCpu
-  gives me h (Some s) = record { list = Opened c (present s h) ∷ missed_up (s - 1) h; caller = me; answer = answer.Opening (opening.Id (present s h)) }
-  gives me h None = record { list = missed_up k.nspec h; caller = me; answer = answer.Opening (if is_any_busy k.nspec h then opening.Busy else opening.Unavailable) }
+  abbrev pub gives : CpuProgress → List Deed → Option ℕ → WholeCpu
+  gives me h (Some s) = record { list = Opened c (present s h) ∷ missed_up (s - 1) h; progress = me; answer = answer.Opening (opening.Id (present s h)) }
+  gives me h None = record { list = missed_up k.nspec h; progress = me; answer = answer.Opening (if is_any_busy k.nspec h then opening.Busy else opening.Unavailable) }
 
-  abbrev pub scans : Caller → List Deed → WholeCpu
+  abbrev pub scans : CpuProgress → List Deed → WholeCpu
   scans me h = gives me h (least_free k.nspec h)
 
   -- the slot's speculation waits for the CPU's settlement
@@ -97,20 +97,20 @@ module _ (shape : ℕ → Option Shape) (k : Config) (c : ℕ) where
   settlements_up_to (suc n) h = settlements_up_to n h + (if owes (suc n) (settled_up n h) then 1 else 0)
 
   -- full buffers are switched, a batch is wanted, and all that were sealed before are given back
-  abbrev pub is_sealing : Caller → List Deed → Bool
+  abbrev pub is_sealing : CpuProgress → List Deed → Bool
   is_sealing me h = not (is_fill k.policy) && (nat_lt (seals c h) me.want && (are_all_back (seals c h) me && nat_lt (seals c h) k.max_calls))
 
-  abbrev pub whole_service : Caller → List Deed → Bool → WholeCpu
-  whole_service me h sealed = record { list = settled_up k.nspec h; caller = me; answer = answer.Served record { sealed = sealed; settled = settlements_up_to k.nspec h } }
+  abbrev pub whole_service : CpuProgress → List Deed → Bool → WholeCpu
+  whole_service me h sealed = record { list = settled_up k.nspec h; progress = me; answer = answer.Served record { sealed = sealed; settled = settlements_up_to k.nspec h } }
 
   -- a worn call is counted, and enters nothing
-  abbrev pub wears_out : Caller → List Deed → Answer → WholeCpu
-  wears_out me h a = record { list = h; caller = record me { worn = min (me.worn + 1) (2 ^ 64 - 1) }; answer = a }
+  abbrev pub wears_out : CpuProgress → List Deed → Answer → WholeCpu
+  wears_out me h a = record { list = h; progress = record me { worn = min (me.worn + 1) (2 ^ 64 - 1) }; answer = a }
 
-  abbrev pub enters : Caller → List Deed → Answer → WholeCpu
-  enters me h a = record { list = h; caller = me; answer = a }
+  abbrev pub enters : CpuProgress → List Deed → Answer → WholeCpu
+  enters me h a = record { list = h; progress = me; answer = a }
 
-  abbrev pub whole_cpu : Caller → List Deed → CpuOp → WholeCpu
+  abbrev pub whole_cpu : CpuProgress → List Deed → CpuOp → WholeCpu
   whole_cpu me h (cpu_op.Trace r) =
       if is_worn k c h then wears_out me h (answer.Traced traced_answer.Worn)
       else if halted h then enters me (Trace c r traced.Stopped ∷ h) (answer.Traced traced_answer.Stopped)
@@ -145,7 +145,7 @@ module _ (shape : ℕ → Option Shape) (k : Config) (c : ℕ) where
 -- what a whole call of the consumer leaves: the list, the CPUs' sides, and the answer
 pub record WholeConsumer : Type 0 where
   pub list : List Deed
-  pub callers : List Caller
+  pub progresses : List CpuProgress
   pub answer : Answer
 
 module _ (k : Config) where
@@ -171,29 +171,29 @@ module _ (k : Config) where
   releases_up zero h = 0
   releases_up (suc n) h = releases_up n h + (if is_reapable (suc n) (cleaned_up n h) then 1 else 0)
 
-  abbrev pub whole_consumer : List Caller → List Deed → ConsumerOp → WholeConsumer
+  abbrev pub whole_consumer : List CpuProgress → List Deed → ConsumerOp → WholeConsumer
   whole_consumer all h (consumer_op.Ask c) =
-      record { list = h; callers = slice_set all c (record (the_caller all c) { want = (the_caller all c).takes + 1 }); answer = answer.AskDone }
+      record { list = h; progresses = slice_set all c (record (progress_of all c) { want = (progress_of all c).takes + 1 }); answer = answer.AskDone }
   whole_consumer all h (consumer_op.Take c) =
-      if nat_lt (the_caller all c).takes (seals c h) then record {
+      if nat_lt (progress_of all c).takes (seals c h) then record {
         list = h;
-        callers = slice_set all c (record (the_caller all c) { spare = spare.Out; takes = (the_caller all c).takes + 1 });
-        answer = took (the_caller all c).takes c h;
+        progresses = slice_set all c (record (progress_of all c) { spare = spare.Out; takes = (progress_of all c).takes + 1 });
+        answer = took (progress_of all c).takes c h;
       }
-      else record { list = h; callers = all; answer = answer.TookNone }
+      else record { list = h; progresses = all; answer = answer.TookNone }
   whole_consumer all h (consumer_op.GiveBack c) =
-      if is_out (the_caller all c).spare
-      then record { list = h; callers = slice_set all c (record (the_caller all c) { spare = spare.GivenBack }); answer = answer.GaveBack true }
-      else record { list = h; callers = all; answer = answer.GaveBack false }
-  whole_consumer all h consumer_op.Clean = record { list = cleaned_up k.nspec h; callers = all; answer = answer.Cleaned (releases_up k.nspec h) }
-  whole_consumer all h consumer_op.Stop = record { list = if halted h then h else Halt ∷ h; callers = all; answer = answer.StopDone }
+      if is_out (progress_of all c).spare
+      then record { list = h; progresses = slice_set all c (record (progress_of all c) { spare = spare.GivenBack }); answer = answer.GaveBack true }
+      else record { list = h; progresses = all; answer = answer.GaveBack false }
+  whole_consumer all h consumer_op.Clean = record { list = cleaned_up k.nspec h; progresses = all; answer = answer.Cleaned (releases_up k.nspec h) }
+  whole_consumer all h consumer_op.Stop = record { list = if halted h then h else Halt ∷ h; progresses = all; answer = answer.StopDone }
 
 -- the state behind a whole call
 abbrev pub behind_cpu : ℕ → WholeCpu → PlayState → PlayState
-behind_cpu c w st = record st { deeds = w.list; callers = slice_set st.callers c w.caller }
+behind_cpu c w st = record st { deeds = w.list; progresses = slice_set st.progresses c w.progress }
 
 abbrev pub behind_consumer : WholeConsumer → PlayState → PlayState
-behind_consumer w st = record st { deeds = w.list; callers = w.callers; side = record { flight = None; steps = 0 } }
+behind_consumer w st = record st { deeds = w.list; progresses = w.progresses; side = record { flight = None; steps = 0 } }
 
 -- a whole call, with its CPU
 pub data Call : Type 0 where
@@ -202,10 +202,10 @@ pub data Call : Type 0 where
 
 module _ (shape : ℕ → Option Shape) where
   abbrev pub cpu_call : ℕ → CpuOp → PlayState → WholeCpu
-  cpu_call c o st = whole_cpu shape st.config c (the_caller st.callers c) st.deeds o
+  cpu_call c o st = whole_cpu shape st.config c (progress_of st.progresses c) st.deeds o
 
   abbrev pub consumer_call : ConsumerOp → PlayState → WholeConsumer
-  consumer_call o st = whole_consumer st.config st.callers st.deeds o
+  consumer_call o st = whole_consumer st.config st.progresses st.deeds o
 
   abbrev pub behind_call : Call → PlayState → PlayState
   behind_call (of_cpu c o) st = behind_cpu c (cpu_call c o st) st
@@ -222,7 +222,7 @@ module _ (shape : ℕ → Option Shape) where
 
 -- the consumer's call takes no batch of a CPU that there isn't, or whose call is in flight
 abbrev pub IsApart : ConsumerOp → PlayState → Type 0
-IsApart (consumer_op.Take c) st = (c < st.config.cpus) × ((the_caller st.callers c).flight ≡ None)
+IsApart (consumer_op.Take c) st = (c < st.config.cpus) × ((progress_of st.progresses c).flight ≡ None)
 IsApart o st = Unit {0}
 
 -- a call of a CPU that there is, or about one

@@ -68,10 +68,10 @@ pub enum Spare {
     GivenBack,
 }
 
-/// What a CPU's side of a session holds beside its deeds: the call in flight and its steps, the second buffer's place,
+/// A CPU's progress in its calls, which its deeds don't tell: the call in flight and its steps, the second buffer's place,
 /// how many batches were wanted, taken and given back, and how many calls were answered Worn.
 #[derive(Clone, Copy, Debug, PartialEq, Eq)]
-pub struct Caller {
+pub struct CpuProgress {
     /// The call in flight, if there is one.
     pub flight: Option<CpuFlight>,
     /// How many steps the call in flight has made.
@@ -86,9 +86,9 @@ pub struct Caller {
     pub worn: u64,
 }
 
-/// The consumer's call in flight and its steps.
+/// The consumer's progress: its call in flight and its steps.
 #[derive(Clone, Copy, Debug, PartialEq, Eq)]
-pub struct ConsumerSide {
+pub struct ConsumerProgress {
     /// The call in flight, if there is one.
     pub flight: Option<ConsumerFlight>,
     /// How many steps the call in flight has made.

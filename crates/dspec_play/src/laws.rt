@@ -20,7 +20,7 @@ ghost use Rattle.dspec_deeds.specs.History.{solo, verdict, is_undecided, part, o
 ghost use Rattle.dspec_deeds.specs.Legal.{IsLegal, HasAuthors, IsSound};
 ghost use Rattle.dspec_deeds.specs.Own.{calls};
 ghost use Rattle.dspec_play.specs.Wearing.{is_first, is_told_worn, AreWornRightly};
-ghost use Rattle.dspec_play.specs.Coherent.{IsCoherent, PlayState, the_caller};
+ghost use Rattle.dspec_play.specs.Coherent.{IsCoherent, PlayState, progress_of};
 ghost use Rattle.dspec_play.specs.Turns.{at_start, begin_cpu, begin_consumer, step, on_to_end};
 ghost use Rattle.dspec_deeds.specs.Closes.{closing, CanClose, WaitsUndecided};
 ghost use Rattle.dspec_play.specs.Bounds.{flight_bound, clean_bound, op_bound, consumer_bound};
@@ -36,7 +36,7 @@ ghost use Rattle.dspec_deeds.specs.Weaving.{woven, HaveLists};
 pub fn schedule_legality()
     ensures start { (shape : ℕ → Option Shape) (k : Config) → start_fault k ≡ None → IsCoherent shape (at_start k) }
     ensures cpu_begins { (shape : ℕ → Option Shape) (st : PlayState) (c : ℕ) (o : CpuOp) → IsCoherent shape st
-        → c < st.config.cpus → (the_caller st.callers c).flight ≡ None → IsCoherent shape (begin_cpu c o st) }
+        → c < st.config.cpus → (progress_of st.progresses c).flight ≡ None → IsCoherent shape (begin_cpu c o st) }
     ensures consumer_begins { (shape : ℕ → Option Shape) (st : PlayState) (o : ConsumerOp) → IsCoherent shape st
         → IsCoherent shape (begin_consumer o st) }
     ensures cpu_steps { (shape : ℕ → Option Shape) (st : PlayState) (c : ℕ) → IsCoherent shape st
@@ -49,8 +49,8 @@ pub fn schedule_legality()
 /// While a call is in flight it has made fewer steps than its bound.
 pub fn bounded_steps()
     ensures cpu { (shape : ℕ → Option Shape) (st : PlayState) (c : ℕ) (f : CpuFlight) → IsCoherent shape st
-        → c < st.config.cpus → (the_caller st.callers c).flight ≡ Some f
-        → (the_caller st.callers c).steps < flight_bound st.config f }
+        → c < st.config.cpus → (progress_of st.progresses c).flight ≡ Some f
+        → (progress_of st.progresses c).steps < flight_bound st.config f }
     ensures consumer { (shape : ℕ → Option Shape) (st : PlayState) (f : ConsumerFlight) → IsCoherent shape st
         → st.side.flight ≡ Some f → st.side.steps < clean_bound st.config f }
 {}
@@ -62,7 +62,7 @@ pub fn solo_rule()
         → c < st.config.cpus → solo id st.deeds ≡ None → solo id (step shape (actor.Cpu c) st).state.deeds ≢ None
         → IsReleasing c id st.deeds (step shape (actor.Cpu c) st) }
     ensures released { (shape : ℕ → Option Shape) (st : PlayState) (c : ℕ) (id : Speculation) (f : DecideFate) → IsCoherent shape st
-        → c < st.config.cpus → (the_caller st.callers c).flight ≡ Some (flight.CommitRelease id f)
+        → c < st.config.cpus → (progress_of st.progresses c).flight ≡ Some (flight.CommitRelease id f)
         → ReleasesLast c id f st.deeds (step shape (actor.Cpu c) st) }
     ensures consumer { (shape : ℕ → Option Shape) (st : PlayState) → IsCoherent shape st
         → DecidesNothing st.deeds (step shape actor.Consumer st).state.deeds }
@@ -72,7 +72,7 @@ pub fn solo_rule()
 /// calls of a play, exactly those are Worn whose CPU had so many calls before that weren't. A service never is.
 pub fn worn_rule()
     ensures cpu { (shape : ℕ → Option Shape) (st : PlayState) (c : ℕ) → is_told_worn (step shape (actor.Cpu c) st).answer
-        ≡ (is_first (the_caller st.callers c).flight && nat_le st.config.max_calls (calls c st.deeds)) }
+        ≡ (is_first (progress_of st.progresses c).flight && nat_le st.config.max_calls (calls c st.deeds)) }
     ensures consumer { (shape : ℕ → Option Shape) (st : PlayState)
         → is_told_worn (step shape actor.Consumer st).answer ≡ false }
     ensures played { (shape : ℕ → Option Shape) (accepts : Record → Bool) (k : Config) (ts : List Turn) → play_fault shape accepts k ts ≡ None
@@ -82,10 +82,10 @@ pub fn worn_rule()
 /// The settlements of the close keep the list legal, and what waits behind them waits for a speculation that is undecided.
 pub fn close_is_legal()
     ensures legal { (shape : ℕ → Option Shape) (st : PlayState) → IsCoherent shape st
-        → ((c : ℕ) → c < st.config.cpus → (the_caller st.callers c).flight ≡ None)
+        → ((c : ℕ) → c < st.config.cpus → (progress_of st.progresses c).flight ≡ None)
         → IsLegal shape st.config (closing shape st.config st.deeds) }
     ensures can_close { (shape : ℕ → Option Shape) (st : PlayState) → IsCoherent shape st
-        → ((c : ℕ) → c < st.config.cpus → (the_caller st.callers c).flight ≡ None) → CanClose shape st.config st.deeds }
+        → ((c : ℕ) → c < st.config.cpus → (progress_of st.progresses c).flight ≡ None) → CanClose shape st.config st.deeds }
     ensures waits { (shape : ℕ → Option Shape) (k : Config) (h : List Deed) → start_fault k ≡ None → CanClose shape k h
         → WaitsUndecided k (closing shape k h) }
 {}
@@ -93,7 +93,7 @@ pub fn close_is_legal()
 /// A call that runs alone does what the definition of whole calls says.
 pub fn whole_calls()
     ensures cpu { (shape : ℕ → Option Shape) (st : PlayState) (c : ℕ) (o : CpuOp) → IsCoherent shape st
-        → c < st.config.cpus → (the_caller st.callers c).flight ≡ None
+        → c < st.config.cpus → (progress_of st.progresses c).flight ≡ None
         → on_to_end shape (op_bound st.config o) (actor.Cpu c) (begin_cpu c o st) None
         ≡ record { state = behind_cpu c (cpu_call shape c o st) st; answer = Some (cpu_call shape c o st).answer } }
     ensures consumer { (shape : ℕ → Option Shape) (st : PlayState) (o : ConsumerOp) → IsCoherent shape st
@@ -108,7 +108,7 @@ pub fn schedule_answers()
     ensures read_off { (shape : ℕ → Option Shape) (accepts : Record → Bool) (k : Config) (ts : List Turn) → play_fault shape accepts k ts ≡ None
         → AllByRecursion IsReadOff (played shape k ts).noted }
     ensures worn { (shape : ℕ → Option Shape) (accepts : Record → Bool) (k : Config) (ts : List Turn) (c : ℕ) → play_fault shape accepts k ts ≡ None
-        → c < k.cpus → (the_caller (played shape k ts).state.callers c).worn ≡ worn_count (answers_of shape k ts) c }
+        → c < k.cpus → (progress_of (played shape k ts).state.progresses c).worn ≡ worn_count (answers_of shape k ts) c }
 {}
 
 /// A schedule of whole calls, one after another, is refused nowhere, and plays what the definition of whole calls says,

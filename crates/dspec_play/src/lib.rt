@@ -11,7 +11,7 @@ pub mod outcome;
 pub mod refusal;
 pub mod series;
 
-pub use flight::{Caller, ConsumerFlight, ConsumerSide, CpuFlight, Spare};
+pub use flight::{ConsumerFlight, ConsumerProgress, CpuFlight, CpuProgress, Spare};
 pub use laws::{
     bounded_steps, close_is_legal, schedule_answers, schedule_legality, solo_rule, whole_calls,
     whole_plays, whole_release, worn_rule, woven_close,

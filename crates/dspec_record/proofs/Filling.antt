@@ -2,7 +2,7 @@
 use Rattle.std.proofs.Common.{◌≡◌, ◌≤◌, ◌<◌, ◌-◌, ◌+◌, ◌++◌, ℕ, List, [], length, take, drop, set, replicate, refl, sym, ◌∙◌, ap, arith}
 use Rattle.std.proofs.lemmas.List.{length-append, length-drop, length-set, take_at, drop_at, drop-replicate, length-replicate, drop-drop, drop-set-lt}
 use Rattle.dspec_record.specs.Layout.{layout}
-use Rattle.dspec_record.specs.EnablingFields.{IsLaidOut, padded_places}
+use Rattle.dspec_record.specs.EnablingFields.{IsLaidOut, padded_places, padded_limits}
 use Rattle.dspec_record.specs.EnablingRows.{IsFilled}
 use Rattle.dspec_record.specs.declared.field.Field.{Field}
 use Rattle.dspec_record.specs.declared.field.Field.TheVariants.{One}
@@ -15,6 +15,7 @@ pub IsLaidOut-copied : (fs : List Field) → length fs ≤ 8 → IsLaidOut (reco
   len = length fs;
   shape = layout header.One fs;
   places = padded_places fs;
+  limits = padded_limits fs;
 })
 IsLaidOut-copied fs few =
     let held : List Field = fs ++ drop (length fs) (replicate 8 One) in
@@ -25,6 +26,7 @@ IsLaidOut-copied fs few =
       rest = drop_at fs (drop (length fs) (replicate 8 One)) (length fs) refl ∙ drop-replicate (length fs) 8 One;
       shape = ap (layout header.One) (sym back);
       places = ap padded_places (sym back);
+      limits = ap padded_limits (sym back);
     }
 
 pub IsFilled-push : (h : Header) (rows : List (List Field)) (count : ℕ) (fs : List Field) → IsFilled (record { header = h; rows = rows; count = count }) → count < 64

@@ -1,4 +1,5 @@
 pub mod Places
+pub mod Limits
 pub mod Filling
 pub mod Fitting
 pub mod Clearing

@@ -1,6 +1,6 @@
 -- Where the fields of a record stand: every field at the first multiple of its width behind the field
 -- before it, counted from the record's start.
-use Rattle.std.specs.Prelude.{ℕ, ◌+◌, ◌-◌, ◌*◌, ◌/◌, Bool, true, false, List, [], ◌∷◌, if◌then◌else◌}
+use Rattle.std.specs.Prelude.{ℕ, ◌+◌, ◌-◌, ◌*◌, ◌/◌, ◌^◌, Bool, true, false, List, [], ◌∷◌, if◌then◌else◌}
 use Rattle.std.specs.List.{list_any}
 use Rattle.dspec_record.specs.declared.field.Field.{Field}
 use Rattle.dspec_record.specs.declared.field.Field.TheVariants.{One, Two, Four, Eight}
@@ -14,6 +14,10 @@ width One = 1
 width Two = 2
 width Four = 4
 width Eight = 8
+
+-- the greatest value that the field holds
+abbrev pub limit : Field → ℕ
+limit f = 256 ^ width f - 1
 
 -- the first multiple of `a` that isn't below `o`
 abbrev pub rounded_up : ℕ → ℕ → ℕ

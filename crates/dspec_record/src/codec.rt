@@ -1,6 +1,6 @@
-ghost use Rattle.std.specs.Prelude.{◌≡◌, ◌≢◌, ◌≤◌, ◌<◌, ◌+◌, ◌%◌, ◌++◌, ◌^◌, ◌↔◌, ℕ, List, ◌⊎◌, nat_le, IsTrue, IfSome, IfNone, IfOk, IfErr, length, take, drop, replicate};
+ghost use Rattle.std.specs.Prelude.{◌≡◌, ◌≢◌, ◌≤◌, ◌<◌, ◌+◌, ◌%◌, ◌++◌, ◌^◌, ◌↔◌, ℕ, List, ◌⊎◌, nat_le, IsTrue, IfSome, IfNone, IfOk, IfErr, length, map, take, drop, replicate};
 ghost use Rattle.dspec_record.specs.Record.{Record};
-ghost use Rattle.dspec_record.specs.Layout.{width, rounded_up, after, field_places, fields_start, layout};
+ghost use Rattle.dspec_record.specs.Layout.{width, limit, rounded_up, after, field_places, fields_start, layout};
 ghost use Rattle.dspec_record.specs.Reading.{front_epid};
 ghost use Rattle.dspec_record.specs.RecordText.{little_endian, gap, stamp_text, header_text, record_text, stamp_fits, fits, IsRead};
 ghost use Rattle.dspec_record.specs.Writing.{IsClearBehind, IsWrittenWide};
@@ -24,15 +24,17 @@ pub(crate) fn fits_header(header: Header, stamp: u64) -> bool
     }
 }
 
-/// Whether there is a value for each field, and each fits its field's width.
-pub(crate) fn fits_fields(fields: &[Field], values: &[u64]) -> bool
+/// Whether there is a value for each field, and none is above the field's limit.
+#[inline]
+pub(crate) fn fits_fields(fields: &[Field], limits: &[u64], values: &[u64]) -> bool
+    requires limits { limits.now ≡ map limit fields.now }
     ensures { result ≡ fits fields.now values.now }
 {
     if fields.len() != values.len() {
         return false;
     }
-    for (i, field) in fields.iter().enumerate() {
-        if !field.holds(values[i]) {
+    for (i, limit) in limits.iter().enumerate() {
+        if values[i] > *limit {
             return false;
         }
     }

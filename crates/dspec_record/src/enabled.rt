@@ -30,7 +30,7 @@ impl Schema for Enablings {
     fn accepts(&self, rec: &Rec) -> bool {
         match self.enabling(rec.epid()) {
             Some(enabling) => fits_header(self.header(), rec.stamp())
-                && fits_fields(enabling.fields(), rec.values()),
+                && fits_fields(enabling.fields(), enabling.limits(), rec.values()),
             None => false,
         }
     }

@@ -1,4 +1,4 @@
-use crate::layout::{layout_of, places_of};
+use crate::layout::{layout_of, limits_of, places_of};
 use crate::{Field, Header, Shape};
 use std::error::Error;
 use std::fmt;
@@ -30,13 +30,15 @@ impl fmt::Display for SchemaFault {
     }
 }
 
-/// The fields of one enabling, with their layout and the place of each without a stamp, which are worked out once.
+/// The fields of one enabling, with their layout, the place of each without a stamp and the greatest value of each, which are
+/// worked out once.
 #[derive(Debug, Clone, Copy, PartialEq, Eq)]
 pub(crate) struct Enabling {
     fields: [Field; MAX_FIELDS],
     len: u32,
     shape: Shape,
     places: [u8; MAX_FIELDS],
+    limits: [u64; MAX_FIELDS],
 }
 
 impl Model for Enabling {
@@ -58,8 +60,8 @@ impl Model for Enabling {
 }
 
 impl Enabling {
-    ghost use Rattle.std.specs.Prelude.{◌≡◌, ◌≤◌, length};
-    ghost use Rattle.dspec_record.specs.Layout.{field_places, layout};
+    ghost use Rattle.std.specs.Prelude.{◌≡◌, ◌≤◌, length, map};
+    ghost use Rattle.dspec_record.specs.Layout.{limit, field_places, layout};
 
     fn of(fields: &[Field]) -> Enabling
         requires { length fields.now ≤ 8 }
@@ -72,6 +74,7 @@ impl Enabling {
             len: fields.len() as u32,
             shape: layout_of(Header::One, fields),
             places: places_of(fields),
+            limits: limits_of(fields),
         }
     }
 
@@ -88,6 +91,14 @@ impl Enabling {
         ensures { result.now ≡ field_places 4 self.now }
     {
         &self.places[..self.len as usize]
+    }
+
+    /// The greatest value of each field.
+    #[inline(always)]
+    pub(crate) fn limits(&self) -> &[u64]
+        ensures { result.now ≡ map limit self.now }
+    {
+        &self.limits[..self.len as usize]
     }
 
     /// The layout behind this header: a stamp moves each field by its own eight bytes, and no gap changes.

@@ -1,5 +1,5 @@
-ghost use Rattle.std.specs.Prelude.{◌≡◌, ◌<◌, ◌^◌, ◌+◌, length, nat_lt};
-ghost use Rattle.dspec_record.specs.Layout.{width, rounded_up};
+ghost use Rattle.std.specs.Prelude.{◌≡◌, ◌<◌, ◌^◌, ◌+◌, length};
+ghost use Rattle.dspec_record.specs.Layout.{width, limit, rounded_up};
 ghost use Rattle.dspec_record.specs.RecordText.{little_endian};
 
 /// A field of a record, by its width: 1, 2, 4 or 8 bytes, little-endian.
@@ -41,15 +41,15 @@ impl Field {
         }
     }
 
-    /// Whether the value has no more bytes than the field.
-    pub(crate) fn holds(self, value: u64) -> bool
-        ensures { result ≡ nat_lt value (256 ^ width self) }
+    /// The greatest value that the field holds.
+    pub(crate) fn limit(self) -> u64
+        ensures { result ≡ limit self }
     {
         match self {
-            Field::One => value < 1 << 8,
-            Field::Two => value < 1 << 16,
-            Field::Four => value < 1 << 32,
-            Field::Eight => true,
+            Field::One => 0xff,
+            Field::Two => 0xffff,
+            Field::Four => 0xffff_ffff,
+            Field::Eight => u64::MAX,
         }
     }
 

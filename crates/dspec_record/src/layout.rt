@@ -1,6 +1,6 @@
 ghost use Rattle.std.specs.Prelude.{◌≡◌, ◌≤◌, length};
 ghost use Rattle.std.specs.List.{list_any};
-ghost use Rattle.dspec_record.specs.EnablingFields.{padded_places};
+ghost use Rattle.dspec_record.specs.EnablingFields.{padded_places, padded_limits};
 ghost use Rattle.dspec_record.specs.Layout.{layout, is_eight};
 
 use crate::enabling::MAX_FIELDS;
@@ -35,6 +35,18 @@ pub(crate) fn places_of(fields: &[Field]) -> [u8; MAX_FIELDS]
         end = place + field.width();
     }
     places
+}
+
+/// The greatest value of each of these fields; 0 behind the last.
+pub(crate) fn limits_of(fields: &[Field]) -> [u64; MAX_FIELDS]
+    requires { length fields.now ≤ 8 }
+    ensures { result ≡ padded_limits fields.now }
+{
+    let mut limits = [0; MAX_FIELDS];
+    for (i, field) in fields.iter().enumerate() {
+        limits[i] = field.limit();
+    }
+    limits
 }
 
 fn has_eight(fields: &[Field]) -> bool

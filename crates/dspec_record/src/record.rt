@@ -34,9 +34,10 @@ impl Model for Rec {
 }
 
 impl Rec {
-    ghost use Rattle.std.specs.Prelude.{◌≡◌, ◌≤◌, ◌<◌, ◌↔◌, ◌++◌, ◌∷◌, [], length, IfSome, IsSome};
+    ghost use Rattle.std.specs.Prelude.{◌≡◌, ◌≤◌, ◌<◌, ◌-◌, ◌↔◌, ◌++◌, ◌∷◌, [], length, take, drop, replicate, IfSome, IsSome};
 
     /// The record with these values and stamp 0; None for more than eight values.
+    #[inline]
     pub fn new(epid: u32, values: &[u64]) -> Option<Rec>
         ensures present { IsSome result ↔ (length values.now ≤ 8) }
         ensures holds { IfSome result (λ r. r ≡ record { epid = epid; stamp = 0; values = values.now }) }
@@ -45,21 +46,43 @@ impl Rec {
     }
 
     /// The record with this stamp and these values; None for more than eight values.
+    #[inline]
     pub fn stamped(epid: u32, stamp: u64, values: &[u64]) -> Option<Rec>
         ensures present { IsSome result ↔ (length values.now ≤ 8) }
         ensures holds { IfSome result (λ r. r ≡ record { epid = epid; stamp = stamp; values = values.now }) }
     {
-        if values.len() > MAX_VALUES {
-            return None;
+        match values {
+            [] => Some(Rec::of(epid, stamp, 0, [0; MAX_VALUES])),
+            [a] => Some(Rec::of(epid, stamp, 1, [*a, 0, 0, 0, 0, 0, 0, 0])),
+            [a, b] => Some(Rec::of(epid, stamp, 2, [*a, *b, 0, 0, 0, 0, 0, 0])),
+            [a, b, c] => Some(Rec::of(epid, stamp, 3, [*a, *b, *c, 0, 0, 0, 0, 0])),
+            [a, b, c, d] => Some(Rec::of(epid, stamp, 4, [*a, *b, *c, *d, 0, 0, 0, 0])),
+            [a, b, c, d, e] => Some(Rec::of(epid, stamp, 5, [*a, *b, *c, *d, *e, 0, 0, 0])),
+            [a, b, c, d, e, f] => Some(Rec::of(epid, stamp, 6, [*a, *b, *c, *d, *e, *f, 0, 0])),
+            [a, b, c, d, e, f, g] => Some(Rec::of(epid, stamp, 7, [*a, *b, *c, *d, *e, *f, *g, 0])),
+            [a, b, c, d, e, f, g, h] => Some(Rec::of(
+                epid,
+                stamp,
+                8,
+                [*a, *b, *c, *d, *e, *f, *g, *h],
+            )),
+            _ => None,
         }
-        let mut held = [0; MAX_VALUES];
-        held[..values.len()].copy_from_slice(values);
-        Some(Rec {
+    }
+
+    /// The record with the first so many of these values; those behind them are 0.
+    #[inline(always)]
+    fn of(epid: u32, stamp: u64, len: u32, values: [u64; MAX_VALUES]) -> Rec
+        requires few { len ≤ 8 }
+        requires zeros { drop len values ≡ replicate (8 - len) 0 }
+        ensures { result ≡ record { epid = epid; stamp = stamp; values = take len values } }
+    {
+        Rec {
             epid,
-            len: values.len() as u32,
+            len,
             stamp,
-            values: held,
-        })
+            values,
+        }
     }
 
     /// The record with no value.

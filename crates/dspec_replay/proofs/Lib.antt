@@ -1,1 +1,1 @@
-pub mod Halts
+pub mod Refusals

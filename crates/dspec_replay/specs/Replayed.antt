@@ -16,9 +16,9 @@ use Rattle.dspec_deeds.specs.Ranges.{start_fault}
 use Rattle.dspec_play.specs.declared.outcome.PlayFault.TheVariants as play_fault
 use Rattle.dspec_play.specs.Calls.{record_passes}
 use Rattle.dspec_play.specs.Plays.{EndedCall}
-use Rattle.dspec_replay.specs.declared.halt.Halt.{Halt}
+use Rattle.dspec_replay.specs.declared.session_fault.SessionFault.{SessionFault}
 use Rattle.dspec_replay.specs.declared.playing.Playing.{Playing}
-use Rattle.dspec_replay.specs.declared.halt.Halt.TheVariants.{Play, NoText, NoWholeCall}
+use Rattle.dspec_replay.specs.declared.session_fault.SessionFault.TheVariants.{Play, NoText, NoWholeCall}
 
 -- who makes the whole call that a turn is, and which call it is
 abbrev pub whole_call_of : Turn → Option (Actor × Op)
@@ -38,39 +38,39 @@ is_about_one_of n (consumer_op.GiveBack c) = nat_lt c n
 is_about_one_of n o = true
 
 -- why the turn with a number isn't played by a session of so many CPUs
-abbrev pub turn_halt : (Record → Bool) → ℕ → ℕ → Turn → Option Halt
-turn_halt accepted n i (RunCpu c o) =
+abbrev pub turn_refusal : (Record → Bool) → ℕ → ℕ → Turn → Option SessionFault
+turn_refusal accepted n i (RunCpu c o) =
     if nat_lt c n then (if record_passes accepted o then None else Some (Play (play_fault.BadRecord i))) else Some (Play (play_fault.NoSuchActor i))
-turn_halt accepted n i (RunConsumer o) = if is_about_one_of n o then None else Some (Play (play_fault.NoSuchActor i))
-turn_halt accepted n i t = Some (NoWholeCall i)
+turn_refusal accepted n i (RunConsumer o) = if is_about_one_of n o then None else Some (Play (play_fault.NoSuchActor i))
+turn_refusal accepted n i t = Some (NoWholeCall i)
 
 -- the first of two that is due, if one is
-abbrev pub first_of : Option Halt → Option Halt → Option Halt
+abbrev pub first_of : Option SessionFault → Option SessionFault → Option SessionFault
 first_of None b = b
 first_of (Some h) b = Some h
 
 -- the first of these turns, numbered from there on, that isn't played
-abbrev pub first_halt : (Record → Bool) → ℕ → ℕ → List Turn → Option Halt
-first_halt accepted n i [] = None
-first_halt accepted n i (t ∷ ts) = first_of (turn_halt accepted n i t) (first_halt accepted n (i + 1) ts)
+abbrev pub first_refusal : (Record → Bool) → ℕ → ℕ → List Turn → Option SessionFault
+first_refusal accepted n i [] = None
+first_refusal accepted n i (t ∷ ts) = first_of (turn_refusal accepted n i t) (first_refusal accepted n (i + 1) ts)
 
-abbrev pub setup_halt : Option StartFault → Option Halt
-setup_halt None = None
-setup_halt (Some f) = Some (Play (play_fault.Setup f))
+abbrev pub setup_refusal : Option StartFault → Option SessionFault
+setup_refusal None = None
+setup_refusal (Some f) = Some (Play (play_fault.Setup f))
 
 -- why a schedule isn't played: its configuration, else its first turn that can't be
-abbrev pub schedule_halt : (Record → Bool) → Config → List Turn → Option Halt
-schedule_halt accepted k ts = first_of (setup_halt (start_fault k)) (first_halt accepted k.cpus 0 ts)
+abbrev pub schedule_refusal : (Record → Bool) → Config → List Turn → Option SessionFault
+schedule_refusal accepted k ts = first_of (setup_refusal (start_fault k)) (first_refusal accepted k.cpus 0 ts)
 
--- a halt is the one that is due; want of memory, and a buffer that can't be read back, may come at any time
-abbrev pub IsDue : Option Halt → Halt → Type 0
+-- a fault is the one that is due; want of memory, and a buffer that can't be read back, may come at any time
+abbrev pub IsDue : Option SessionFault → SessionFault → Type 0
 IsDue due (Play play_fault.Memory) = Unit {0}
 IsDue due (NoText c) = Unit {0}
 IsDue due h = due ≡ Some h
 
 -- it may come at any time
-abbrev pub IsSudden : Halt → Type 0
-IsSudden h = (due : Option Halt) → IsDue due h
+abbrev pub IsSudden : SessionFault → Type 0
+IsSudden h = (due : Option SessionFault) → IsDue due h
 
 -- what a call leaves of a session that is played on: its schema, and how many CPUs it has
 pub record IsSamePlay {S : Type 0} (old new : Playing S) : Type 0 where

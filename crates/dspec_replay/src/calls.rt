@@ -3,7 +3,7 @@ ghost use Rattle.dspec_cpu.specs.Lists.{words_of};
 ghost use Rattle.dspec_session.specs.Consumers.{IsConsumerOf, IsSameConsumer};
 ghost use Rattle.dspec_replay.specs.Replayed.{IsSudden};
 
-use crate::halt::Halt;
+use crate::session_fault::SessionFault;
 use crate::taken::Basket;
 use dspec_cpu::Shared;
 use dspec_deeds::{Answer, ConsumerOp};
@@ -29,7 +29,7 @@ pub fn call_consumer<S: Schema>(
     consumer: &mut Consumer,
     basket: &mut Basket,
     op: ConsumerOp,
-) -> Result<Answer, Halt>
+) -> Result<Answer, SessionFault>
     requires session { IsConsumerOf (words_of shared.now) consumer.old }
     ensures session { IsConsumerOf (words_of shared.now) consumer.new }
     ensures same { IsSameConsumer consumer.old consumer.new }

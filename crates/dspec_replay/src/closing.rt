@@ -2,8 +2,8 @@ ghost use Rattle.std.specs.Prelude.{◌≡◌, ◌<◌, length, IfErr, IfOk};
 ghost use Rattle.dspec_session.specs.Sessions.{IsSession};
 ghost use Rattle.dspec_replay.specs.Replayed.{IsSudden};
 
-use crate::halt::Halt;
 use crate::playing::Playing;
+use crate::session_fault::SessionFault;
 use crate::taken::Basket;
 use dspec_cpu::{Cpu, Listed};
 use dspec_deeds::Report;
@@ -19,7 +19,7 @@ fn read_left<S: Schema>(
     cpu: u32,
     basket: &mut Basket,
     reports: &mut Series<Report>,
-) -> Result<(), Halt>
+) -> Result<(), SessionFault>
     requires { cpu < length closed.now }
     ensures { IfErr result IsSudden }
 {
@@ -34,7 +34,7 @@ fn read_left<S: Schema>(
 
 impl<S: Schema> Playing<S> {
     /// Ends the session, and gives what a play leaves, but for the deeds: what is left of each CPU is read behind what was taken.
-    pub fn close(self, alloc: Global) -> Result<Outcome, Halt>
+    pub fn close(self, alloc: Global) -> Result<Outcome, SessionFault>
         requires session { IsSession self.schema self.session }
         ensures answers { IfOk result (λ outcome. outcome.answers ≡ self.answers) }
         ensures refused { IfErr result IsSudden }

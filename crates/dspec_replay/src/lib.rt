@@ -8,10 +8,12 @@
 
 mod calls;
 mod closing;
-pub mod halt;
 mod playing;
 mod replaying;
+pub mod session_fault;
 mod taken;
+pub mod whole_calls;
 
-pub use halt::Halt;
 pub use replaying::{replay, replay_schedule};
+pub use session_fault::SessionFault;
+pub use whole_calls::{Uncalled, call_cpu, is_accepted, meet_all, run_cpu};

@@ -2,12 +2,12 @@ ghost use Rattle.std.specs.Prelude.{◌≡◌, ◌++◌, ◌∷◌, [], None, So
 ghost use Rattle.dspec_deeds.specs.Ranges.{start_fault};
 ghost use Rattle.dspec_session.specs.Sessions.{IsSession};
 ghost use Rattle.dspec_deeds.specs.declared.calls.Turn.TheVariants.{RunCpu, RunConsumer};
-ghost use Rattle.dspec_replay.specs.Replayed.{IsDue, IsSamePlay, call_that_ended, setup_halt, turn_halt, whole_call_of};
+ghost use Rattle.dspec_replay.specs.Replayed.{IsDue, IsSamePlay, call_that_ended, setup_refusal, turn_refusal, whole_call_of};
 
 use crate::calls::call_consumer;
-use crate::halt::Halt;
+use crate::session_fault::SessionFault;
 use crate::taken::Basket;
-use dspec_calls::{Uncalled, meet_all, run_cpu};
+use crate::whole_calls::{Uncalled, meet_all, run_cpu};
 use dspec_cpu::{Cpu, Listed};
 use dspec_deeds::{Actor, Answer, Config, ConsumerOp, CpuOp, Op, StartFault, Turn};
 use dspec_play::{PlayFault, Series};
@@ -27,18 +27,18 @@ pub struct Playing<S: Schema> {
 
 impl<S: Schema> Playing<S> {
     /// A session that has just begun.
-    pub fn start(alloc: Global, config: &Config, schema: S) -> Result<Playing<S>, Halt>
+    pub fn start(alloc: Global, config: &Config, schema: S) -> Result<Playing<S>, SessionFault>
         ensures session { IfOk result (λ p. IsSession p.schema p.session) }
         ensures schema { IfOk result (λ p. p.schema ≡ schema) }
         ensures cpus { IfOk result (λ p. length p.session.cpus.items ≡ config.now.cpus) }
         ensures empty { IfOk result (λ p. p.answers ≡ []) }
         ensures allowed { IfOk result (λ _. start_fault config.now ≡ None) }
-        ensures refused { IfErr result (IsDue (setup_halt (start_fault config.now))) }
+        ensures refused { IfErr result (IsDue (setup_refusal (start_fault config.now))) }
     {
         let session = match Session::start(alloc, config, schema) {
             Ok(session) => session,
-            Err(StartFault::Memory) => return Err(Halt::Play(PlayFault::Memory)),
-            Err(fault) => return Err(Halt::Play(PlayFault::Setup(fault))),
+            Err(StartFault::Memory) => return Err(SessionFault::Play(PlayFault::Memory)),
+            Err(fault) => return Err(SessionFault::Play(PlayFault::Setup(fault))),
         };
         Ok(Playing {
             schema,
@@ -49,34 +49,34 @@ impl<S: Schema> Playing<S> {
     }
 
     /// A whole call of a CPU.
-    fn run_cpu(&mut self, number: usize, cpu: u32, op: CpuOp) -> Result<Answer, Halt>
+    fn run_cpu(&mut self, number: usize, cpu: u32, op: CpuOp) -> Result<Answer, SessionFault>
         requires session { IsSession self.old.schema self.old.session }
         ensures session { IsSession self.new.schema self.new.session }
         ensures same { IsSamePlay self.old self.new }
         ensures answers { self.new.answers ≡ self.old.answers }
-        ensures allowed { IfOk result (λ _. turn_halt (S.accepted self.old.schema) (length self.old.session.cpus.items) number (RunCpu cpu op) ≡ None) }
-        ensures refused { IfErr result (IsDue (turn_halt (S.accepted self.old.schema) (length self.old.session.cpus.items) number (RunCpu cpu op))) }
+        ensures allowed { IfOk result (λ _. turn_refusal (S.accepted self.old.schema) (length self.old.session.cpus.items) number (RunCpu cpu op) ≡ None) }
+        ensures refused { IfErr result (IsDue (turn_refusal (S.accepted self.old.schema) (length self.old.session.cpus.items) number (RunCpu cpu op))) }
     {
         match run_cpu(&mut self.session, &self.schema, cpu, op) {
             Ok(answer) => Ok(answer),
-            Err(Uncalled::NoSuchCpu) => Err(Halt::Play(PlayFault::NoSuchActor(number))),
-            Err(Uncalled::BadRecord) => Err(Halt::Play(PlayFault::BadRecord(number))),
+            Err(Uncalled::NoSuchCpu) => Err(SessionFault::Play(PlayFault::NoSuchActor(number))),
+            Err(Uncalled::BadRecord) => Err(SessionFault::Play(PlayFault::BadRecord(number))),
         }
     }
 
     /// A whole call of the consumer.
-    fn run_consumer(&mut self, number: usize, op: ConsumerOp) -> Result<Answer, Halt>
+    fn run_consumer(&mut self, number: usize, op: ConsumerOp) -> Result<Answer, SessionFault>
         requires session { IsSession self.old.schema self.old.session }
         ensures session { IsSession self.new.schema self.new.session }
         ensures same { IsSamePlay self.old self.new }
         ensures answers { self.new.answers ≡ self.old.answers }
-        ensures allowed { IfOk result (λ _. turn_halt (S.accepted self.old.schema) (length self.old.session.cpus.items) number (RunConsumer op) ≡ None) }
-        ensures refused { IfErr result (IsDue (turn_halt (S.accepted self.old.schema) (length self.old.session.cpus.items) number (RunConsumer op))) }
+        ensures allowed { IfOk result (λ _. turn_refusal (S.accepted self.old.schema) (length self.old.session.cpus.items) number (RunConsumer op) ≡ None) }
+        ensures refused { IfErr result (IsDue (turn_refusal (S.accepted self.old.schema) (length self.old.session.cpus.items) number (RunConsumer op))) }
     {
         let session = &mut self.session;
         if let ConsumerOp::Ask(cpu) | ConsumerOp::Take(cpu) | ConsumerOp::GiveBack(cpu) = op {
             if cpu as usize >= session.cpus.len() {
-                return Err(Halt::Play(PlayFault::NoSuchActor(number)));
+                return Err(SessionFault::Play(PlayFault::NoSuchActor(number)));
             }
         }
         call_consumer(
@@ -89,14 +89,14 @@ impl<S: Schema> Playing<S> {
     }
 
     /// A whole call, with who makes it and what it answers.
-    fn run(&mut self, number: usize, turn: Turn) -> Result<(Actor, Op, Answer), Halt>
+    fn run(&mut self, number: usize, turn: Turn) -> Result<(Actor, Op, Answer), SessionFault>
         requires session { IsSession self.old.schema self.old.session }
         ensures session { IsSession self.new.schema self.new.session }
         ensures same { IsSamePlay self.old self.new }
         ensures answers { self.new.answers ≡ self.old.answers }
         ensures its { IfOk result (λ ended. call_that_ended ended ≡ whole_call_of turn) }
-        ensures allowed { IfOk result (λ _. turn_halt (S.accepted self.old.schema) (length self.old.session.cpus.items) number turn ≡ None) }
-        ensures refused { IfErr result (IsDue (turn_halt (S.accepted self.old.schema) (length self.old.session.cpus.items) number turn)) }
+        ensures allowed { IfOk result (λ _. turn_refusal (S.accepted self.old.schema) (length self.old.session.cpus.items) number turn ≡ None) }
+        ensures refused { IfErr result (IsDue (turn_refusal (S.accepted self.old.schema) (length self.old.session.cpus.items) number turn)) }
     {
         match turn {
             Turn::RunCpu(cpu, op) => Ok((
@@ -110,19 +110,19 @@ impl<S: Schema> Playing<S> {
                 self.run_consumer(number, op)?,
             )),
             Turn::BeginCpu(..) | Turn::BeginConsumer(_) | Turn::Step(_) => {
-                Err(Halt::NoWholeCall(number))
+                Err(SessionFault::NoWholeCall(number))
             }
         }
     }
 
     /// One turn, which has to be a whole call, and then the meetings of the consumer with each CPU.
-    pub fn turn(&mut self, number: usize, turn: Turn) -> Result<(), Halt>
+    pub fn turn(&mut self, number: usize, turn: Turn) -> Result<(), SessionFault>
         requires session { IsSession self.old.schema self.old.session }
         ensures session { IsSession self.new.schema self.new.session }
         ensures same { IsSamePlay self.old self.new }
         ensures answered { OnOk result (map call_that_ended self.new.answers ≡ map call_that_ended self.old.answers ++ whole_call_of turn ∷ []) }
-        ensures allowed { IfOk result (λ _. turn_halt (S.accepted self.old.schema) (length self.old.session.cpus.items) number turn ≡ None) }
-        ensures refused { IfErr result (IsDue (turn_halt (S.accepted self.old.schema) (length self.old.session.cpus.items) number turn)) }
+        ensures allowed { IfOk result (λ _. turn_refusal (S.accepted self.old.schema) (length self.old.session.cpus.items) number turn ≡ None) }
+        ensures refused { IfErr result (IsDue (turn_refusal (S.accepted self.old.schema) (length self.old.session.cpus.items) number turn)) }
     {
         let ended = self.run(number, turn)?;
         meet_all(&mut self.session, &self.schema);

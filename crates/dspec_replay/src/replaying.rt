@@ -1,8 +1,8 @@
 ghost use Rattle.std.specs.Prelude.{◌≡◌, None, map, IfErr, IfOk};
-ghost use Rattle.dspec_replay.specs.Replayed.{IsDue, call_that_ended, schedule_halt, whole_call_of};
+ghost use Rattle.dspec_replay.specs.Replayed.{IsDue, call_that_ended, schedule_refusal, whole_call_of};
 
-use crate::halt::Halt;
 use crate::playing::Playing;
+use crate::session_fault::SessionFault;
 use dspec_deeds::{Config, Turn};
 use dspec_play::Outcome;
 use dspec_record::{DefaultAction, Header, Schema, StampedAction};
@@ -12,16 +12,16 @@ use std::alloc::Global;
 /// Plays turns under a schema, and ends the session: each turn, in order, by its actor. The schedule isn't played where its
 /// configuration has a fault, else because of the first turn that is no whole call, names a CPU that there isn't or has a record
 /// that isn't one of the schema; want of memory may come at any time.
-#[tactic(auto, using(crate::proofs::Halts::so_far_refused))]
+#[tactic(auto, using(crate::proofs::Refusals::so_far_refused))]
 pub fn replay<S: Schema>(
     alloc: Global,
     config: &Config,
     schema: S,
     turns: &[Turn],
-) -> Result<Outcome, Halt>
+) -> Result<Outcome, SessionFault>
     ensures answered { IfOk result (λ outcome. map call_that_ended outcome.answers ≡ map whole_call_of turns.now) }
-    ensures allowed { IfOk result (λ _. schedule_halt (S.accepted schema) config.now turns.now ≡ None) }
-    ensures refused { IfErr result (IsDue (schedule_halt (S.accepted schema) config.now turns.now)) }
+    ensures allowed { IfOk result (λ _. schedule_refusal (S.accepted schema) config.now turns.now ≡ None) }
+    ensures refused { IfErr result (IsDue (schedule_refusal (S.accepted schema) config.now turns.now)) }
 {
     let mut playing = Playing::start(alloc, config, schema)?;
     for (number, turn) in turns.iter().enumerate() {
@@ -31,7 +31,7 @@ pub fn replay<S: Schema>(
 }
 
 /// The play of a schedule under its enablings, else under the default action of its header.
-pub fn replay_schedule(alloc: Global, schedule: &Schedule) -> Result<Outcome, Halt> {
+pub fn replay_schedule(alloc: Global, schedule: &Schedule) -> Result<Outcome, SessionFault> {
     let turns = schedule.turns.as_slice();
     match (schedule.enablings, schedule.header()) {
         (Some(enablings), _) => replay(alloc, &schedule.config, enablings, turns),

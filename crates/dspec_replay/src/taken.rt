@@ -1,7 +1,7 @@
 ghost use Rattle.std.specs.Prelude.{IfErr};
 ghost use Rattle.dspec_replay.specs.Replayed.{IsSudden};
 
-use crate::halt::Halt;
+use crate::session_fault::SessionFault;
 use dspec_buffer::read_all;
 use dspec_deeds::Answer;
 use dspec_play::Series;
@@ -30,11 +30,11 @@ fn read_back<S: Schema>(
     batch: &Batch,
     cpu: u32,
     stream: &mut Series<Rec>,
-) -> Result<Answer, Halt>
+) -> Result<Answer, SessionFault>
     ensures { IfErr result IsSudden }
 {
     let Ok(records) = read_all(schema, batch.buffer.bytes()) else {
-        return Err(Halt::NoText(cpu));
+        return Err(SessionFault::NoText(cpu));
     };
     let from = stream.len();
     let mut count: u32 = 0;
@@ -63,7 +63,12 @@ impl Basket {
     }
 
     /// A batch of the CPU is read, and is out from then on.
-    pub fn add<S: Schema>(&mut self, schema: &S, cpu: u32, batch: Batch) -> Result<Answer, Halt>
+    pub fn add<S: Schema>(
+        &mut self,
+        schema: &S,
+        cpu: u32,
+        batch: Batch,
+    ) -> Result<Answer, SessionFault>
         ensures { IfErr result IsSudden }
     {
         let Some(taken) = self.taken.get_mut(cpu as usize) else {
@@ -75,7 +80,12 @@ impl Basket {
     }
 
     /// A batch of the CPU that is left at the end is read.
-    pub fn read<S: Schema>(&mut self, schema: &S, cpu: u32, batch: &Batch) -> Result<(), Halt>
+    pub fn read<S: Schema>(
+        &mut self,
+        schema: &S,
+        cpu: u32,
+        batch: &Batch,
+    ) -> Result<(), SessionFault>
         ensures { IfErr result IsSudden }
     {
         let Some(taken) = self.taken.get_mut(cpu as usize) else {
@@ -95,7 +105,7 @@ impl Basket {
     }
 
     /// The records of each CPU.
-    pub fn streams(self, alloc: Global) -> Result<Series<Series<Rec>>, Halt>
+    pub fn streams(self, alloc: Global) -> Result<Series<Series<Rec>>, SessionFault>
         ensures { IfErr result IsSudden }
     {
         let mut streams = Series::new(alloc);

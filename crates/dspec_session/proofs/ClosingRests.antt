@@ -7,8 +7,8 @@ use Rattle.dspec_cpu.specs.Sealed.{waiting}
 use Rattle.dspec_session.specs.Closing.{rest_of}
 
 -- the batches taken, and the one in hand
-in_hand_last : (taken : List Batch) (x : Option Batch) → reverse (taken ++ waiting x) ≡ waiting x ++ reverse taken
-in_hand_last taken x = reverse-append taken (waiting x) ∙ ap (λ bs. bs ++ reverse taken) (alone x)
+held_back_last : (taken : List Batch) (x : Option Batch) → reverse (taken ++ waiting x) ≡ waiting x ++ reverse taken
+held_back_last taken x = reverse-append taken (waiting x) ∙ ap (λ bs. bs ++ reverse taken) (alone x)
   where
     alone : (x : Option Batch) → reverse (waiting x) ≡ waiting x
     alone None = refl
@@ -21,7 +21,7 @@ prefix_length xs ys p = let e : length xs + length p.0 ≡ length ys = sym (leng
 -- no more of them than one
 rest_told : (x : Option Batch) (taken drained : List Batch) → length (waiting x) + length drained ≤ 1
     → reverse (taken ++ waiting (rest_of x drained)) ≡ waiting x ++ reverse (taken ++ drained)
-rest_told x taken [] le = in_hand_last taken x ∙ ap (λ bs. waiting x ++ reverse bs) (sym (append-nil taken))
+rest_told x taken [] le = held_back_last taken x ∙ ap (λ bs. waiting x ++ reverse bs) (sym (append-nil taken))
 rest_told None taken (b ∷ []) le = refl
 rest_told (Some a) taken (b ∷ []) le = absurd (omega arith)
 rest_told x taken (b ∷ d ∷ drained) le = absurd (omega arith)

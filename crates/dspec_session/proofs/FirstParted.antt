@@ -38,7 +38,7 @@ pub record IsRestOf {S : Type 0} (cpu : Cpu S) (end : CpuKnows) (rest : CpuRest 
   pub schema : rest.schema ≡ cpu.schema
   pub config : rest.config ≡ cpu.config
   pub number : rest.cpu ≡ cpu.cpu
-  pub in_hand : rest.in_hand ≡ cpu.in_hand
+  pub held_back : rest.held_back ≡ cpu.held_back
   pub worn : rest.side.counts.worn ≡ worn_of cpu
 
 module _ {S : Type 0} (shape_of : S → ℕ → Option Shape) (accepted : S → Record → Bool) (text : S → Record → List ℕ)
@@ -68,10 +68,11 @@ module _ {S : Type 0} (shape_of : S → ℕ → Option Shape) (accepted : S → 
   pub next_has : Has shape_of accepted text cpu (p (length seats))
   next_has = let z : length seats + 0 ≡ length seats = omega arith in subst (λ n. Has shape_of accepted text cpu (p n)) z (split.each 0 cpu refl).2
 
-  pub next_few : (end : CpuKnows) (x : CpuRest S) → IsRestOf cpu end x → length (waiting x.in_hand ++ reverse end.handed) ≤ 1 + length end.spares
+  pub next_few : (end : CpuKnows) (x : CpuRest S) → IsRestOf cpu end x → length (waiting x.held_back ++ reverse end.handed) ≤ 1 + length end.spares
   next_few end x is =
       let few = (split.each 0 cpu refl).1.few in
-      let a : length (waiting x.in_hand ++ reverse end.handed) ≡ length (waiting cpu.in_hand ++ reverse (end_of cpu).handed) = λ i. length (waiting (is.in_hand i) ++ reverse (is.end_is i).handed) in
+      let a : length (waiting x.held_back ++ reverse end.handed)
+      ≡ length (waiting cpu.held_back ++ reverse (end_of cpu).handed) = λ i. length (waiting (is.held_back i) ++ reverse (is.end_is i).handed) in
       let b : length end.spares ≡ length (end_of cpu).spares = λ i. length (is.end_is i).spares in
       omega arith
 

@@ -56,13 +56,13 @@ module _ {S : Type 0} (shape_of : S → ℕ → Option Shape) (accepted : S → 
       subst (λ x. IsClosing (shape_of x) j words d p log g) schema (subst (λ x. IsClosing (shape_of s) x words d p log g) config (subst (λ x. IsClosing (shape_of s) k words x p log g) number is))
 
 -- the batches sealed are those taken, then the one that wasn't
-pub sealed_left : (shape : ℕ → Option Shape) (accepted : Record → Bool) (text : Record → List ℕ) (k : Config) (c : ℕ) (q : List Deed) (x r in_hand : Option Batch)
+pub sealed_left : (shape : ℕ → Option Shape) (accepted : Record → Bool) (text : Record → List ℕ) (k : Config) (c : ℕ) (q : List Deed) (x r held_back : Option Batch)
     (handed spares taken given drained after : List Batch)
-    → length (waiting in_hand ++ reverse handed) ≤ 1 + length spares → x ≡ in_hand → IsPrefix spares given → length given ≤ length taken → taken ++ drained ≡ handed
+    → length (waiting held_back ++ reverse handed) ≤ 1 + length spares → x ≡ held_back → IsPrefix spares given → length given ≤ length taken → taken ++ drained ≡ handed
     → YieldsFirst (λ (s : List Batch). s) drained r after
     → AreSealed shape accepted text k c q (waiting x ++ reverse handed) → AreSealed shape accepted text k c q (reverse (taken ++ waiting (option_or r x)))
-sealed_left shape accepted text k c q x r in_hand handed spares taken given drained after few is prefix back all yields sealed =
+sealed_left shape accepted text k c q x r held_back handed spares taken given drained after few is prefix back all yields sealed =
     let room : length (waiting x ++ reverse handed) + 0 ≤ 1 + length spares =
-    let e : length (waiting x ++ reverse handed) ≡ length (waiting in_hand ++ reverse handed) = ap (λ o. length (waiting o ++ reverse handed)) is in omega arith in
+    let e : length (waiting x ++ reverse handed) ≡ length (waiting held_back ++ reverse handed) = ap (λ o. length (waiting o ++ reverse handed)) is in omega arith in
     subst (λ bs. AreSealed shape accepted text k c q bs)
     (sym (ap (λ o. reverse (taken ++ waiting o)) (rest_is r x drained after yields) ∙ one_left x 0 handed spares taken given drained room prefix back all)) sealed

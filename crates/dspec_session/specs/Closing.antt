@@ -28,8 +28,8 @@ use Rattle.dspec_session.specs.declared.left.Left.{Left}
 
 -- which sealed batch wasn't taken: the first of those drained, else the one in hand
 abbrev pub rest_of : Option Batch → List Batch → Option Batch
-rest_of in_hand [] = in_hand
-rest_of in_hand (b ∷ drained) = Some b
+rest_of held_back [] = held_back
+rest_of held_back (b ∷ drained) = Some b
 
 module _ (shape : ℕ → Option Shape) (accepted : Record → Bool) (text : Record → List ℕ) where
   -- the buffers of these batches, the oldest first, hold these records in order

@@ -24,8 +24,8 @@ pub fn close_of_lists()
 /// Where the batches sealed, and the spare in hand, are no more than one and the spares that came, one sealed batch at most was
 /// not taken: the one that is drained, or else the one in hand.
 pub fn one_batch_left()
-    ensures { (in_hand : Option Batch) (spare : ℕ) (handed spares taken given drained : List Batch)
-        → length (waiting in_hand ++ reverse handed) + spare ≤ 1 + length spares → IsPrefix spares given
+    ensures { (held_back : Option Batch) (spare : ℕ) (handed spares taken given drained : List Batch)
+        → length (waiting held_back ++ reverse handed) + spare ≤ 1 + length spares → IsPrefix spares given
         → length given ≤ length taken → taken ++ drained ≡ handed
-        → reverse (taken ++ waiting (rest_of in_hand drained)) ≡ waiting in_hand ++ reverse handed }
+        → reverse (taken ++ waiting (rest_of held_back drained)) ≡ waiting held_back ++ reverse handed }
 {}

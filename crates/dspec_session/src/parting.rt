@@ -4,7 +4,7 @@ ghost use Rattle.dspec_table.specs.Last.{Ended, last_words, last_set_up};
 ghost use Rattle.dspec_table.specs.Seats.{IsConsumerAt, known_there, set_up};
 ghost use Rattle.dspec_cpu.specs.declared.cpu.Cpu.{Cpu};
 ghost use Rattle.dspec_cpu.specs.Lists.{seat_of};
-ghost use Rattle.dspec_cpu.specs.Rests.{AreItsWords, config_of_rest, in_hand_of_rest, number_of_rest, schema_of_rest, worn_of_rest};
+ghost use Rattle.dspec_cpu.specs.Rests.{AreItsWords, config_of_rest, held_back_of_rest, number_of_rest, schema_of_rest, worn_of_rest};
 ghost use Rattle.dspec_cpu.specs.Sealed.{waiting};
 ghost use Rattle.dspec_session.specs.Leaving.{AllSteady, AreLeft, AreParting, IsClosing, Leaves};
 
@@ -18,7 +18,7 @@ use dspec_table::{ConsumerSeat, CpuSeat, LastWords, Words};
 // What is left of one CPU, once the words are closed.
 fn leave<S: Schema>(rest: CpuRest<S>, end: CpuEnd, other: CountedEnd, last: &LastWords) -> Left
     requires pair { other.pair ≡ end.pair }
-    requires few { length (waiting (in_hand_of_rest rest) ++ reverse end.handed) ≤ 1 + length end.spares }
+    requires few { length (waiting (held_back_of_rest rest) ++ reverse end.handed) ≤ 1 + length end.spares }
     requires words { AreItsWords last.now (config_of_rest rest) (number_of_rest rest) }
     requires some { (p : List Deed) × (log : List Deed) × (g : List Deed) × ⟦<CpuRest<S> as Rested>⟧.has_list rest end.handed p
         × IsClosing (S.shape_of (schema_of_rest rest)) (config_of_rest rest) (last_words last.now) (number_of_rest rest) p log g }
@@ -28,11 +28,11 @@ fn leave<S: Schema>(rest: CpuRest<S>, end: CpuEnd, other: CountedEnd, last: &Las
     let mut rest = rest;
     rest.settle(last);
     let report = rest.report();
-    let (in_hand, active) = rest.batches();
+    let (held_back, active) = rest.batches();
     let mut drained = drain_beside(end, other.into_end());
     let waiting = drained.next();
     Left {
-        rest: waiting.or(in_hand),
+        rest: waiting.or(held_back),
         last: active,
         report,
     }

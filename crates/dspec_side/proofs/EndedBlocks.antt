@@ -19,7 +19,7 @@ use Rattle.dspec_deeds.specs.FateKinds.{is_commit, is_copied, is_discard, is_los
 use Rattle.dspec_deeds.specs.History.{ack, same_id}
 use Rattle.dspec_deeds.specs.Legal.{OwnAllows, fits_principal}
 use Rattle.dspec_deeds.specs.Marks.{mark}
-use Rattle.dspec_deeds.specs.Own.{Offer, active, calls, contents, growing, held, seals}
+use Rattle.dspec_deeds.specs.Own.{Offer, active, calls, contents, dropped_in, growing, held, seals}
 use Rattle.dspec_deeds.specs.OwnShown.{last_called}
 use Rattle.dspec_deeds.specs.Reports.{missed_busy}
 use Rattle.dspec_deeds.proofs.TestLemmas.{either_way, same_number, number_is_itself, id_is_itself, same_id_tells, other_slot, and_tells}
@@ -80,11 +80,12 @@ module _ {B : Type 0} (keeps : B → List Piece → Type 0) (capacity : B → �
   abbrev Copied : Bool → B → Type 0
   Copied fit new = CopiedAt (id.slot - 1) fit new
 
-  -- a deed that ends the block, and touches no other buffer, nor a mark or a batch
+  -- a deed that ends the block, and touches no other buffer, nor a mark, a count of drops or a batch
   record Ends (fit : Bool) (deed : Deed) : Type 0 where
     pub holds : (j : Speculation) → held c j (deed ∷ p) ≡ (if same_id j id then [] else held c j p)
     pub principal : active c (deed ∷ p) ≡ (if fit then extent.block have ∷ active c p else active c p)
     pub marks : (s : ℕ) → mark c s (deed ∷ p) ≡ mark c s p
+    pub drops : (j : Speculation) → dropped_in c j (deed ∷ p) ≡ dropped_in c j p
     pub sealing : seals c (deed ∷ p) ≡ seals c p
     pub missing : missed_busy c (deed ∷ p) ≡ missed_busy c p
     pub room : fit ≡ true → piece_fits shape (active c p) (extent.block have) k.bufsize ≡ true
@@ -171,6 +172,9 @@ module _ {B : Type 0} (keeps : B → List Piece → Type 0) (capacity : B → �
             acks = numbers.acks;
             mark_count = was.parts.mark_count;
             marks = λ s one_low one_high. was.parts.marks s one_low one_high ∙ ap Some (sym (ends.marks s));
+            specdrop_count = was.parts.specdrop_count;
+            specdrops = λ s one_low one_high. was.parts.specdrops s one_low one_high
+                ∙ ap Some (ap (λ j. dropped_in c j p) (last_stays s) ∙ sym (ends.drops (last_called c s (deed ∷ p))));
             buffer_count = b.0;
             speculative = λ s x one_low one_high got. subst (λ j. IsFilledWith keeps capacity k.specsize (map extent.one (contents (held c j (deed ∷ p)))) x) (last_stays s)
                 (b.1 s x one_low one_high got);
@@ -222,6 +226,7 @@ module _ {B : Type 0} (keeps : B → List Piece → Type 0) (capacity : B → �
             holds = λ j. rw (commits, number_is_itself c) refl;
             principal = copies;
             marks = λ s. refl;
+            drops = λ j. refl;
             sealing = add-zero (seals c p);
             missing = refl;
             room = λ e. (and_tells _ _ (sym (lawful f commits allows) ∙ e)).0;
@@ -258,6 +263,7 @@ module _ {B : Type 0} (keeps : B → List Piece → Type 0) (capacity : B → �
             holds = λ j. rw (number_is_itself c) refl;
             principal = copies;
             marks = λ s. refl;
+            drops = λ j. refl;
             sealing = add-zero (seals c p);
             missing = refl;
             room = λ e. (and_tells _ _ (room f ends allows e)).0;
@@ -314,6 +320,7 @@ module _ {B : Type 0} (keeps : B → List Piece → Type 0) (capacity : B → �
             holds = λ j. rw (discards, number_is_itself c) refl;
             principal = ap (λ b. if b then extent.block have ∷ active c p else active c p) (sym (uncopied f discards));
             marks = λ s. refl;
+            drops = λ j. refl;
             sealing = add-zero (seals c p);
             missing = refl;
             room = λ e. absurd (true≢false (sym e ∙ uncopied f discards));

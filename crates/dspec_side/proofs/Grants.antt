@@ -25,6 +25,7 @@ use Rattle.dspec_side.specs.declared.counts.Counts.{Counts}
 use Rattle.dspec_side.specs.declared.side.Side.{Side}
 use Rattle.dspec_side.specs.Counting.{counts_of, with_spoken}
 use Rattle.dspec_side.specs.Sides.{IsFilledWith, IsCaller, ShowsList}
+use Rattle.dspec_side.proofs.Drops.{AreDropped}
 use Rattle.dspec_side.proofs.Tallies.{spoken_counts}
 use Rattle.dspec_side.proofs.Places.{got_set, got_other}
 
@@ -160,9 +161,10 @@ module _ {B : Type 0} (keeps : B → List Piece → Type 0) (capacity : B → �
 
     -- the side shows the list with the record in front
     pub granted_shown : (buffers : Vec B) → IsGranted kept buffers → (marks : Vec ℕ) → marks.items ≡ slice_set side.marks.items (id.slot - 1) (id.issue + 1)
+        → (specdrops : Vec ℕ) → AreDropped k c specdrops.items (deed ∷ p)
         → (counts : Counts) → counts ≡ with_spoken f side.counts
-        → ShowsList keeps capacity k c (deed ∷ p) (record side { calls = side.calls + 1; marks = marks; speculative = buffers; counts = counts })
-    granted_shown buffers told marks is counts plus =
+        → ShowsList keeps capacity k c (deed ∷ p) (record side { calls = side.calls + 1; marks = marks; specdrops = specdrops; speculative = buffers; counts = counts })
+    granted_shown buffers told marks is specdrops dropped counts plus =
         let b = granted_buffers buffers told in
         let m = granted_marks marks.items is in
         let worn : counts.worn ≡ side.counts.worn = ap (λ (n : Counts). n.worn) plus in
@@ -175,6 +177,8 @@ module _ {B : Type 0} (keeps : B → List Piece → Type 0) (capacity : B → �
             acks = was.parts.acks;
             mark_count = m.0;
             marks = m.1;
+            specdrop_count = dropped.count;
+            specdrops = dropped.each;
             buffer_count = b.0;
             speculative = b.1;
             principal = was.parts.principal;

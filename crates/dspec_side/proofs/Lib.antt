@@ -4,6 +4,7 @@ pub mod Starts
 pub mod Tallies
 pub mod Quiet
 pub mod Traces
+pub mod Drops
 pub mod Grants
 pub mod EndedBlocks
 pub mod Unanswered

@@ -12,7 +12,7 @@ use Rattle.dspec_deeds.specs.declared.deed.Deed.TheVariants.{Trace, Scan, Opened
 use Rattle.dspec_deeds.specs.FateKinds.{trace_kept, spoken_granted, is_commit, is_discard}
 use Rattle.dspec_deeds.specs.History.{ack}
 use Rattle.dspec_deeds.specs.Marks.{mark}
-use Rattle.dspec_deeds.specs.Own.{active, contents, growing, held, seals, calls}
+use Rattle.dspec_deeds.specs.Own.{active, contents, dropped_in, growing, held, seals, calls}
 use Rattle.dspec_deeds.specs.OwnShown.{last_called}
 use Rattle.dspec_deeds.specs.Reports.{missed_busy}
 use Rattle.dspec_side.specs.declared.counts.Counts.{Counts}
@@ -33,6 +33,7 @@ pub record Leaves (c : ℕ) (d : Deed) (p : List Deed) : Type 0 where
   pub marks : (s : ℕ) → mark c s (d ∷ p) ≡ mark c s p
   pub acks : (s : ℕ) → ack c s (d ∷ p) ≡ ack c s p
   pub holds : (id : Speculation) → held c id (d ∷ p) ≡ held c id p
+  pub drops : (id : Speculation) → dropped_in c id (d ∷ p) ≡ dropped_in c id p
   pub principal : active c (d ∷ p) ≡ active c p
   pub sealing : seals c (d ∷ p) ≡ seals c p
 
@@ -44,29 +45,29 @@ still c p = add-zero (seals c p)
 
 pub leaves : (c : ℕ) (d : Deed) (p : List Deed) → quiet d ≡ true → Leaves c d p
 leaves c (Trace a r traced.Kept) p e = no e
-leaves c (Trace a r traced.Dropped) p e = record { marks = λ s. refl; acks = λ s. refl; holds = λ id. refl; principal = refl; sealing = still c p }
-leaves c (Trace a r traced.Stopped) p e = record { marks = λ s. refl; acks = λ s. refl; holds = λ id. refl; principal = refl; sealing = still c p }
-leaves c (Scan a b) p e = record { marks = λ s. refl; acks = λ s. refl; holds = λ id. refl; principal = refl; sealing = still c p }
-leaves c (Opened a id) p e = record { marks = λ s. refl; acks = λ s. refl; holds = λ id. refl; principal = refl; sealing = still c p }
-leaves c (Miss a s b) p e = record { marks = λ s. refl; acks = λ s. refl; holds = λ id. refl; principal = refl; sealing = still c p }
+leaves c (Trace a r traced.Dropped) p e = record { marks = λ s. refl; acks = λ s. refl; holds = λ id. refl; drops = λ id. refl; principal = refl; sealing = still c p }
+leaves c (Trace a r traced.Stopped) p e = record { marks = λ s. refl; acks = λ s. refl; holds = λ id. refl; drops = λ id. refl; principal = refl; sealing = still c p }
+leaves c (Scan a b) p e = record { marks = λ s. refl; acks = λ s. refl; holds = λ id. refl; drops = λ id. refl; principal = refl; sealing = still c p }
+leaves c (Opened a id) p e = record { marks = λ s. refl; acks = λ s. refl; holds = λ id. refl; drops = λ id. refl; principal = refl; sealing = still c p }
+leaves c (Miss a s b) p e = record { marks = λ s. refl; acks = λ s. refl; holds = λ id. refl; drops = λ id. refl; principal = refl; sealing = still c p }
 leaves c (Speculate a id r spoken.Kept) p e = no e
 leaves c (Speculate a id r spoken.Dropped) p e = no e
-leaves c (Speculate a id r spoken.Void) p e = record { marks = λ s. refl; acks = λ s. refl; holds = λ id. refl; principal = refl; sealing = still c p }
-leaves c (Speculate a id r spoken.Stopped) p e = record { marks = λ s. refl; acks = λ s. refl; holds = λ id. refl; principal = refl; sealing = still c p }
+leaves c (Speculate a id r spoken.Void) p e = record { marks = λ s. refl; acks = λ s. refl; holds = λ id. refl; drops = λ id. refl; principal = refl; sealing = still c p }
+leaves c (Speculate a id r spoken.Stopped) p e = record { marks = λ s. refl; acks = λ s. refl; holds = λ id. refl; drops = λ id. refl; principal = refl; sealing = still c p }
 leaves c (Commit a id (decided.Copied n)) p e = no e
 leaves c (Commit a id (decided.Lost n)) p e = no e
-leaves c (Commit a id (decided.Thrown n)) p e = record { marks = λ s. refl; acks = λ s. refl; holds = λ id. refl; principal = refl; sealing = still c p }
-leaves c (Commit a id decided.Void) p e = record { marks = λ s. refl; acks = λ s. refl; holds = λ id. refl; principal = refl; sealing = still c p }
-leaves c (Commit a id decided.Stopped) p e = record { marks = λ s. refl; acks = λ s. refl; holds = λ id. refl; principal = refl; sealing = still c p }
+leaves c (Commit a id (decided.Thrown n)) p e = record { marks = λ s. refl; acks = λ s. refl; holds = λ id. refl; drops = λ id. refl; principal = refl; sealing = still c p }
+leaves c (Commit a id decided.Void) p e = record { marks = λ s. refl; acks = λ s. refl; holds = λ id. refl; drops = λ id. refl; principal = refl; sealing = still c p }
+leaves c (Commit a id decided.Stopped) p e = record { marks = λ s. refl; acks = λ s. refl; holds = λ id. refl; drops = λ id. refl; principal = refl; sealing = still c p }
 leaves c (Discard a id (decided.Thrown n)) p e = no e
-leaves c (Discard a id (decided.Copied n)) p e = record { marks = λ s. refl; acks = λ s. refl; holds = λ id. refl; principal = refl; sealing = still c p }
-leaves c (Discard a id (decided.Lost n)) p e = record { marks = λ s. refl; acks = λ s. refl; holds = λ id. refl; principal = refl; sealing = still c p }
-leaves c (Discard a id decided.Void) p e = record { marks = λ s. refl; acks = λ s. refl; holds = λ id. refl; principal = refl; sealing = still c p }
-leaves c (Discard a id decided.Stopped) p e = record { marks = λ s. refl; acks = λ s. refl; holds = λ id. refl; principal = refl; sealing = still c p }
+leaves c (Discard a id (decided.Copied n)) p e = record { marks = λ s. refl; acks = λ s. refl; holds = λ id. refl; drops = λ id. refl; principal = refl; sealing = still c p }
+leaves c (Discard a id (decided.Lost n)) p e = record { marks = λ s. refl; acks = λ s. refl; holds = λ id. refl; drops = λ id. refl; principal = refl; sealing = still c p }
+leaves c (Discard a id decided.Void) p e = record { marks = λ s. refl; acks = λ s. refl; holds = λ id. refl; drops = λ id. refl; principal = refl; sealing = still c p }
+leaves c (Discard a id decided.Stopped) p e = record { marks = λ s. refl; acks = λ s. refl; holds = λ id. refl; drops = λ id. refl; principal = refl; sealing = still c p }
 leaves c (Settle a id f) p e = no e
 leaves c (Seal a) p e = no e
-leaves c (Release s) p e = record { marks = λ s. refl; acks = λ s. refl; holds = λ id. refl; principal = refl; sealing = still c p }
-leaves c Halt p e = record { marks = λ s. refl; acks = λ s. refl; holds = λ id. refl; principal = refl; sealing = still c p }
+leaves c (Release s) p e = record { marks = λ s. refl; acks = λ s. refl; holds = λ id. refl; drops = λ id. refl; principal = refl; sealing = still c p }
+leaves c Halt p e = record { marks = λ s. refl; acks = λ s. refl; holds = λ id. refl; drops = λ id. refl; principal = refl; sealing = still c p }
 
 module _ {B : Type 0} (keeps : B → List Piece → Type 0) (capacity : B → ℕ) {k : Config} {c : ℕ} {side : Side B} (p : List Deed) (was : ShowsList keeps capacity k c p side) where
   -- what shows the list shows it with such a deed in front, once numbers and counts are those of the longer list
@@ -77,6 +78,8 @@ module _ {B : Type 0} (keeps : B → List Piece → Type 0) (capacity : B → �
       let l = leaves c d p e in
       let same : (s : ℕ) → contents (held c (last_called c s p) p) ≡ contents (held c (last_called c s (d ∷ p)) (d ∷ p)) =
       λ s. ap contents (sym (l.holds (last_called c s (d ∷ p)) ∙ ap (λ m. held c record { issue = m - 1; slot = s } p) (l.marks s))) in
+      let dropped : (s : ℕ) → dropped_in c (last_called c s (d ∷ p)) (d ∷ p) ≡ dropped_in c (last_called c s p) p =
+      λ s. l.drops (last_called c s (d ∷ p)) ∙ ap (λ m. dropped_in c record { issue = m - 1; slot = s } p) (l.marks s) in
       record {
         parts = record {
           called = call_is;
@@ -86,6 +89,8 @@ module _ {B : Type 0} (keeps : B → List Piece → Type 0) (capacity : B → �
           acks = λ s low high. was.parts.acks s low high ∙ ap Some (sym (l.acks s));
           mark_count = was.parts.mark_count;
           marks = λ s low high. was.parts.marks s low high ∙ ap Some (sym (l.marks s));
+          specdrop_count = was.parts.specdrop_count;
+          specdrops = λ s low high. was.parts.specdrops s low high ∙ ap Some (sym (dropped s));
           buffer_count = was.parts.buffer_count;
           speculative = λ s b low high at. subst (λ rs. IsFilledWith keeps capacity k.specsize (map extent.one rs) b) (same s) (was.parts.speculative s b low high at);
           principal = subst (λ ps. IsFilledWith keeps capacity k.bufsize ps side.active) (sym l.principal) was.parts.principal;

@@ -54,6 +54,8 @@ module _ {B : Type 0} (keeps : B → List Piece → Type 0) (capacity : B → �
       acks = was.parts.acks;
       mark_count = was.parts.mark_count;
       marks = was.parts.marks;
+      specdrop_count = was.parts.specdrop_count;
+      specdrops = was.parts.specdrops;
       buffer_count = was.parts.buffer_count;
       speculative = was.parts.speculative;
       principal = rw (number_is_itself c) record { sized = size ∙ was.parts.principal.sized; has = has };
@@ -62,8 +64,8 @@ module _ {B : Type 0} (keeps : B → List Piece → Type 0) (capacity : B → �
     counted = counted traced.Kept counts is;
   }
 
-  -- what the buffer answers, which may be shut, is what the list tells
-  pub as_kept : (shape : ℕ → Option Shape) (shut kept : Bool) → shut ≡ is_closed k c p → kept ≡ (piece_fits shape (active c p) (one r) (capacity side.active) && not shut)
+  -- what the buffer answers, which may be closed, is what the list tells
+  pub as_kept : (shape : ℕ → Option Shape) (closed kept : Bool) → closed ≡ is_closed k c p → kept ≡ (piece_fits shape (active c p) (one r) (capacity side.active) && not closed)
       → kept ≡ fits_principal shape k c (one r) p
-  as_kept shape shut kept closed is =
-      is ∙ (ap (λ n. piece_fits shape (active c p) (one r) n && not shut) was.parts.principal.sized ∙ ap (λ b. piece_fits shape (active c p) (one r) k.bufsize && not b) closed)
+  as_kept shape closed kept told is =
+      is ∙ (ap (λ n. piece_fits shape (active c p) (one r) n && not closed) was.parts.principal.sized ∙ ap (λ b. piece_fits shape (active c p) (one r) k.bufsize && not b) told)

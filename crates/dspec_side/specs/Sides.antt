@@ -24,6 +24,7 @@ parts_of_side side = record {
   active = side.active;
   speculative = side.speculative.items;
   marks = side.marks.items;
+  specdrops = side.specdrops.items;
   acks = side.acks.items;
 }
 

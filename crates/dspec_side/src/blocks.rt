@@ -112,8 +112,8 @@ impl<B> Side<B> {
         ensures { (shape : ℕ → Option Shape) (c worn : ℕ) (p : List Deed) (rs : List Record) → self.now.counts ≡ counts_of config.now c worn p → count ≡ length rs
             → room ≡ piece_fits shape (active c p) (block rs) config.now.bufsize → result ≡ fits_principal shape config.now c (block rs) p }
     {
-        let shut = self.is_shut(config);
-        room && (count == 0 || !shut)
+        let closed = self.is_closed(config);
+        room && (count == 0 || !closed)
     }
 
     /// Whether the active principal buffer would take the CPU's block of the speculation, and how many records that has; a CPU

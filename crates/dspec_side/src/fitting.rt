@@ -58,22 +58,22 @@ pub(crate) fn keep_in<S: Schema, B: TraceBuffer<S>>(
     buffer.push(schema, rec)
 }
 
-/// Keeps a record in a principal buffer, where that isn't shut and the record fits.
+/// Keeps a record in a principal buffer, where that isn't closed and the record fits.
 #[inline]
 pub(crate) fn keep_open<S: Schema, B: TraceBuffer<S>>(
     active: &mut B,
     schema: &S,
     rec: &Rec,
-    shut: bool,
+    closed: bool,
 ) -> bool
     requires accepted { IsTrue (S.accepted schema.now rec.now) }
     ensures size { B.capacity active.new ≡ B.capacity active.old }
     ensures answer { (ps : List Piece) → B.has active.old schema.now ps
-        → result ≡ (piece_fits (S.shape_of schema.now) ps (one rec.now) (B.capacity active.old) && not shut) }
+        → result ≡ (piece_fits (S.shape_of schema.now) ps (one rec.now) (B.capacity active.old) && not closed) }
     ensures kept { OnTrue result ((ps : List Piece) → B.has active.old schema.now ps → B.has active.new schema.now (one rec.now ∷ ps)) }
     ensures refused { OnFalse result (active.new ≡ active.old) }
 {
-    if shut {
+    if closed {
         return false;
     }
     active.push(schema, rec)
@@ -82,7 +82,7 @@ pub(crate) fn keep_open<S: Schema, B: TraceBuffer<S>>(
 impl<B> Side<B> {
     /// Whether the active principal buffer takes nothing more but empty blocks: under Fill, once it has refused a reservation.
     #[inline]
-    pub fn is_shut(&self, config: &Config) -> bool
+    pub fn is_closed(&self, config: &Config) -> bool
         ensures { (c worn : ℕ) (p : List Deed) → self.now.counts ≡ counts_of config.now c worn p → result ≡ is_closed config.now c p }
     {
         config.policy.is_fill() && self.counts.drops > 0
@@ -97,7 +97,7 @@ impl<B> Side<B> {
         ensures { (c : ℕ) (p : List Deed) → ShowsList (λ b. B.has b schema.now) B.capacity config.now c p self.now
             → result ≡ fits_principal (S.shape_of schema.now) config.now c (one rec.now) p }
     {
-        would_fit(&self.active, schema, rec) && !self.is_shut(config)
+        would_fit(&self.active, schema, rec) && !self.is_closed(config)
     }
 
     /// Whether the CPU's buffer of the speculation would take a record; it is empty where the CPU is no caller.

@@ -7,6 +7,7 @@ ghost use Rattle.dspec_deeds.specs.declared.deed.Deed.{Deed};
 ghost use Rattle.dspec_deeds.specs.declared.deed.Deed.TheVariants.{Speculate};
 ghost use Rattle.dspec_deeds.specs.FateKinds.{spoken_granted};
 ghost use Rattle.dspec_deeds.specs.Legal.{fits_speculative};
+ghost use Rattle.dspec_deeds.specs.Own.{dropped_in};
 ghost use Rattle.dspec_side.specs.Counting.{IsRoomy, with_spoken};
 ghost use Rattle.dspec_side.specs.Sides.{IsCaller, ShowsList};
 
@@ -17,21 +18,23 @@ use dspec_deeds::SpeculateFate;
 use dspec_record::{Rec, Schema};
 use dspec_word::SpecId;
 
-// Marks the speculation as granted and keeps the record, where it fits, in its buffer, which is emptied before where what it
-// has is of an older speculation. False where it doesn't fit.
+// Marks the speculation as granted and keeps the record, where it fits, in its buffer. What that has and has dropped of an older
+// speculation is forgotten before. False where it doesn't fit.
 #[inline(always)]
 fn mark_and_keep<S: Schema, B: TraceBuffer<S>>(
     marks: &mut Vec<u64>,
+    specdrops: &mut Vec<u64>,
     buffers: &mut Vec<B>,
     schema: &S,
     id: SpecId,
     rec: &Rec,
     mine: bool,
 ) -> bool
-    requires slot { (1 ≤ id.slot) × (id.slot ≤ length buffers.old.items) × (id.slot ≤ length marks.old.items) }
+    requires slot { (1 ≤ id.slot) × (id.slot ≤ length buffers.old.items) × (id.slot ≤ length marks.old.items) × (id.slot ≤ length specdrops.old.items) }
     requires marked { mine ≡ true → slice_get marks.old.items (id.slot - 1) ≡ Some (id.issue + 1) }
     requires accepted { IsTrue (S.accepted schema.now rec.now) }
     ensures marks { marks.new.items ≡ slice_set marks.old.items (id.slot - 1) (id.issue + 1) }
+    ensures specdrops { specdrops.new.items ≡ (if mine then specdrops.old.items else slice_set specdrops.old.items (id.slot - 1) 0) }
     ensures buffer { (b : B) → slice_get buffers.old.items (id.slot - 1) ≡ Some b
         → (n : B) × (B.capacity n ≡ B.capacity b) × (buffers.new.items ≡ slice_set buffers.old.items (id.slot - 1) n)
         × ((ps : List Piece) → B.has b schema.now ps
@@ -41,8 +44,19 @@ fn mark_and_keep<S: Schema, B: TraceBuffer<S>>(
     let place = id.slot() as usize - 1;
     if !mine {
         marks[place] = id.issue() + 1;
+        specdrops[place] = 0;
     }
     keep_in(&mut buffers[place], schema, rec, mine)
+}
+
+// Counts one drop more from the speculation's buffer. No CPU makes so many calls that the count stays at its most.
+#[inline]
+fn count_specdrop(specdrops: &mut Vec<u64>, id: SpecId)
+    requires slot { (1 ≤ id.slot) × (id.slot ≤ length specdrops.old.items) }
+    ensures { (n : ℕ) → slice_get specdrops.old.items (id.slot - 1) ≡ Some n → n + 1 < 2 ^ 64 → specdrops.new.items ≡ slice_set specdrops.old.items (id.slot - 1) (n + 1) }
+{
+    let place = id.slot() as usize - 1;
+    specdrops[place] = specdrops[place].saturating_add(1);
 }
 
 impl<B> Side<B> {
@@ -56,13 +70,28 @@ impl<B> Side<B> {
         self.marks[id.slot() as usize - 1] == id.issue() + 1
     }
 
+    /// How many records were dropped from the CPU's buffer of the speculation since the CPU became a caller of it; 0 where it is
+    /// none.
+    #[inline]
+    pub fn dropped_in<S: Schema>(&self, id: SpecId) -> u64
+    where
+        B: TraceBuffer<S>,
+        requires slot { (1 ≤ id.slot) × (id.slot ≤ length self.now.marks.items) × (id.slot ≤ length self.now.specdrops.items) }
+        ensures { (s : S) (k : Config) (c : ℕ) (p : List Deed) → ShowsList (λ b. B.has b s) B.capacity k c p self.now → result ≡ dropped_in c id p }
+    {
+        if !self.is_mine(id) {
+            return 0;
+        }
+        self.specdrops[id.slot() as usize - 1]
+    }
+
     /// Offers a record to a speculation that was granted to the CPU, of which it was a caller before or not: marked as granted,
     /// it is kept, or dropped where it doesn't fit the rest of the CPU's buffer.
     #[inline(always)]
     pub fn grant<S: Schema>(&mut self, schema: &S, id: SpecId, rec: &Rec, mine: bool) -> bool
     where
         B: TraceBuffer<S>,
-        requires slot { (1 ≤ id.slot) × (id.slot ≤ length self.old.speculative.items) × (id.slot ≤ length self.old.marks.items) }
+        requires slot { (1 ≤ id.slot) × (id.slot ≤ length self.old.speculative.items) × (id.slot ≤ length self.old.marks.items) × (id.slot ≤ length self.old.specdrops.items) }
         requires marked { mine ≡ true → slice_get self.old.marks.items (id.slot - 1) ≡ Some (id.issue + 1) }
         requires accepted { IsTrue (S.accepted schema.now rec.now) }
         requires calls { self.old.calls + 1 < 2 ^ 64 }
@@ -72,17 +101,19 @@ impl<B> Side<B> {
         ensures shows { (k : Config) (c : ℕ) (p : List Deed) → ShowsList (λ b. B.has b schema.now) B.capacity k c p self.old → IsCaller c id mine p
             → ShowsList (λ b. B.has b schema.now) B.capacity k c (Speculate c id rec.now (if result then SpeculateFate.Kept else SpeculateFate.Dropped) ∷ p) self.new }
         ensures counts { self.new.counts ≡ with_spoken (if result then SpeculateFate.Kept else SpeculateFate.Dropped) self.old.counts }
-        ensures rest { self.new ≡ record self.old { calls = self.old.calls + 1; marks = self.new.marks; speculative = self.new.speculative; counts = self.new.counts } }
+        ensures rest { self.new ≡ record self.old { calls = self.old.calls + 1; marks = self.new.marks; specdrops = self.new.specdrops; speculative = self.new.speculative; counts = self.new.counts } }
     {
         self.calls += 1;
         if !mark_and_keep(
             &mut self.marks,
+            &mut self.specdrops,
             &mut self.speculative,
             schema,
             id,
             rec,
             mine,
         ) {
+            count_specdrop(&mut self.specdrops, id);
             self.counts.speak(SpeculateFate::Dropped);
             return false;
         }

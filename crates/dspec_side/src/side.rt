@@ -8,8 +8,8 @@ use dspec_deeds::Config;
 use dspec_record::Schema;
 use std::alloc::{AllocError, Global};
 
-/// What one CPU holds by its own deeds: the active principal buffer, of each slot a speculative buffer, a mark and an
-/// acknowledgement, and what it has counted.
+/// What one CPU holds by its own deeds: the active principal buffer, of each slot a speculative buffer with its drops, a mark
+/// and an acknowledgement, and what it has counted.
 #[derive(Drop)]
 pub struct Side<B> {
     /// The calls that count towards the most that the CPU may make.
@@ -22,6 +22,8 @@ pub struct Side<B> {
     pub acks: Vec<u64>,
     /// For each slot one more than the issue last granted to the CPU, or 0.
     pub marks: Vec<u64>,
+    /// For each slot how many records were dropped from its buffer since that issue was granted first.
+    pub specdrops: Vec<u64>,
     /// A speculative buffer for each slot.
     pub speculative: Vec<B>,
     /// The principal buffer that is written.
@@ -47,6 +49,7 @@ impl<B> Side<B> {
         }
         let acks = vec![in alloc; 0; config.nspec as usize]?;
         let marks = vec![in alloc; 0; config.nspec as usize]?;
+        let specdrops = vec![in alloc; 0; config.nspec as usize]?;
         Ok(Side {
             calls: 0,
             seals: 0,
@@ -56,6 +59,7 @@ impl<B> Side<B> {
             active: B::make(alloc, config.bufsize)?,
             speculative,
             marks,
+            specdrops,
             acks,
         })
     }

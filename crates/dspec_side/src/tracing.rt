@@ -15,16 +15,16 @@ use dspec_deeds::TraceFate;
 use dspec_record::{Rec, Schema};
 
 impl<B> Side<B> {
-    /// Traces a record into the active principal buffer, which is shut or not; it is kept, or dropped where it doesn't fit.
+    /// Traces a record into the active principal buffer, which is closed or not; it is kept, or dropped where it doesn't fit.
     #[inline]
-    pub fn trace<S: Schema>(&mut self, schema: &S, rec: &Rec, shut: bool) -> bool
+    pub fn trace<S: Schema>(&mut self, schema: &S, rec: &Rec, closed: bool) -> bool
     where
         B: TraceBuffer<S>,
         requires accepted { IsTrue (S.accepted schema.now rec.now) }
         requires calls { self.old.calls + 1 < 2 ^ 64 }
         requires drops { self.old.drops + 1 < 2 ^ 64 }
         requires counts { IsRoomy self.old.counts }
-        ensures answer { (k : Config) (c : ℕ) (p : List Deed) → ShowsList (λ b. B.has b schema.now) B.capacity k c p self.old → shut ≡ is_closed k c p
+        ensures answer { (k : Config) (c : ℕ) (p : List Deed) → ShowsList (λ b. B.has b schema.now) B.capacity k c p self.old → closed ≡ is_closed k c p
             → result ≡ fits_principal (S.shape_of schema.now) k c (one rec.now) p }
         ensures shows { (k : Config) (c : ℕ) (p : List Deed) → ShowsList (λ b. B.has b schema.now) B.capacity k c p self.old
             → ShowsList (λ b. B.has b schema.now) B.capacity k c (Trace c rec.now (if result then TraceFate.Kept else TraceFate.Dropped) ∷ p) self.new }
@@ -32,7 +32,7 @@ impl<B> Side<B> {
         ensures rest { self.new ≡ record self.old { calls = self.old.calls + 1; active = self.new.active; drops = self.new.drops; counts = self.new.counts } }
     {
         self.calls += 1;
-        if !keep_open(&mut self.active, schema, rec, shut) {
+        if !keep_open(&mut self.active, schema, rec, closed) {
             self.drops += 1;
             self.counts.trace(TraceFate::Dropped);
             return false;

@@ -10,13 +10,13 @@ use Rattle.dspec_deeds.specs.declared.deed.Deed.TheVariants.{Release}
 use Rattle.dspec_deeds.specs.History.{halted, word_at, ack}
 use Rattle.dspec_deeds.specs.Weaving.{bare}
 use Rattle.dspec_deeds.proofs.BareReads.{shows_bare}
-use Rattle.dspec_play.specs.declared.flight.Caller.{Caller}
+use Rattle.dspec_play.specs.declared.flight.CpuProgress.{CpuProgress}
 use Rattle.dspec_play.specs.declared.flight.ConsumerFlight.{ConsumerFlight}
 use Rattle.dspec_play.specs.declared.flight.ConsumerFlight.TheVariants as consumer
-use Rattle.dspec_play.specs.declared.flight.ConsumerSide.{ConsumerSide}
+use Rattle.dspec_play.specs.declared.flight.ConsumerProgress.{ConsumerProgress}
 use Rattle.dspec_play.specs.declared.flight.Spare.{Spare}
 use Rattle.dspec_play.specs.declared.flight.Spare.TheVariants as spare
-use Rattle.dspec_play.specs.Coherent.{the_caller}
+use Rattle.dspec_play.specs.Coherent.{progress_of}
 use Rattle.dspec_play.specs.Play.{same_word, consumer_step, next_slot, loads_slot, loads_ack, reaps, takes_at, gives_at}
 use Rattle.dspec_table.specs.declared.rule.View.{View}
 use Rattle.dspec_play.proofs.StepsWords.{word_is_itself}
@@ -25,7 +25,7 @@ use Rattle.dspec_table.specs.Steps.{Found, Entered, LookedWord}
 use Rattle.dspec_steps.specs.SameSteps.{slot_there, seat_cleans, ConsumerSeatStep, IsBehind, IsStepOfPlay}
 use Rattle.dspec_steps.proofs.SeatsDid.{bare_joined, did}
 
-module _ (k : Config) (h : List Deed) (side : ConsumerSide) (all : List Caller) where
+module _ (k : Config) (h : List Deed) (side : ConsumerProgress) (all : List CpuProgress) where
   next_deeds : (s : ℕ) (ds : List Deed) (n : ℕ) → (next_slot k h side all s ds n).deeds ≡ ds
   next_deeds s ds n = go (s == k.nspec) refl
     where
@@ -55,14 +55,14 @@ module _ (k : Config) (h : List Deed) (side : ConsumerSide) (all : List Caller) 
       go true e = rw e (next_deeds s (Release s ∷ []) (n + 1))
       go false e = rw e (next_deeds s [] n)
 
-  take_deeds : (c : ℕ) (me : Caller) (place : Spare) → (takes_at k h side all c me place).deeds ≡ []
+  take_deeds : (c : ℕ) (me : CpuProgress) (place : Spare) → (takes_at k h side all c me place).deeds ≡ []
   take_deeds c me spare.InHand = refl
   take_deeds c me spare.Sealed = refl
   take_deeds c me spare.Handed = refl
   take_deeds c me spare.Out = refl
   take_deeds c me spare.GivenBack = refl
 
-  give_deeds : (c : ℕ) (me : Caller) (place : Spare) → (gives_at k h side all c me place).deeds ≡ []
+  give_deeds : (c : ℕ) (me : CpuProgress) (place : Spare) → (gives_at k h side all c me place).deeds ≡ []
   give_deeds c me spare.InHand = refl
   give_deeds c me spare.Sealed = refl
   give_deeds c me spare.Handed = refl
@@ -75,8 +75,8 @@ module _ (k : Config) (h : List Deed) (side : ConsumerSide) (all : List Caller) 
 
   cleans_by_place : (f : ConsumerFlight) → (consumer_step k h side all f).deeds ≡ seat_cleans (halted h) (word_at (slot_there f) h) f
   cleans_by_place (consumer.Begun (consumer_op.Ask c)) = refl
-  cleans_by_place (consumer.Begun (consumer_op.Take c)) = take_deeds c (the_caller all c) (the_caller all c).spare
-  cleans_by_place (consumer.Begun (consumer_op.GiveBack c)) = give_deeds c (the_caller all c) (the_caller all c).spare
+  cleans_by_place (consumer.Begun (consumer_op.Take c)) = take_deeds c (progress_of all c) (progress_of all c).spare
+  cleans_by_place (consumer.Begun (consumer_op.GiveBack c)) = give_deeds c (progress_of all c) (progress_of all c).spare
   cleans_by_place (consumer.Begun consumer_op.Clean) = slot_deeds 1 0
   cleans_by_place (consumer.Begun consumer_op.Stop) = stop_deeds (halted h) refl
   cleans_by_place (consumer.CleanLoad s n) = slot_deeds s n
@@ -125,7 +125,7 @@ consumer_did v w (consumer.CleanReap s from n) (log, found, is, entered) = (
 )
 
 pub consumer_plays : (v w : View) (f : ConsumerFlight) → ConsumerSeatStep v f w
-    → (log : List Deed) × Found v log × ((h : List Deed) (side : ConsumerSide) (all : List Caller) → bare h ≡ log → IsStepOfPlay (consumer_step v.config h side all f).deeds h v w)
+    → (log : List Deed) × Found v log × ((h : List Deed) (side : ConsumerProgress) (all : List CpuProgress) → bare h ≡ log → IsStepOfPlay (consumer_step v.config h side all f).deeds h v w)
 consumer_plays v w f step =
     let d = consumer_did v w f step in (
       d.0,

@@ -30,7 +30,7 @@ use Rattle.dspec_deeds.specs.declared.calls.Actor.TheVariants.{Cpu}
 use Rattle.dspec_deeds.proofs.OwnReads.{reads, fits_alike, block_alike}
 use Rattle.dspec_deeds.specs.Settling as settling
 use Rattle.dspec_deeds.proofs.TestLemmas.{same_number, either_way, off}
-use Rattle.dspec_play.specs.declared.flight.Caller.{Caller}
+use Rattle.dspec_play.specs.declared.flight.CpuProgress.{CpuProgress}
 use Rattle.dspec_play.specs.declared.flight.CpuFlight.{CpuFlight}
 use Rattle.dspec_play.specs.declared.flight.CpuFlight.TheVariants as cpu
 use Rattle.dspec_play.specs.declared.flight.Spare.{Spare}
@@ -94,7 +94,7 @@ measured_alike shape k c g h alike doing = go
     go (cpu.ServiceLoad s sum) m = tt
     go (cpu.ServiceStore s w sum) m = whole record { issue = w.issue; slot = s } m
 
-module _ (shape : ℕ → Option Shape) (k : Config) (c : ℕ) (h : List Deed) (me : Caller) (doing : Doing) where
+module _ (shape : ℕ → Option Shape) (k : Config) (c : ℕ) (h : List Deed) (me : CpuProgress) (doing : Doing) where
   spoken_deeds : (id : Speculation) (r : Record) → doing.fits ≡ fits_speculative shape k c id r h
       → bare (spoken_at shape k c h me id r).deeds ≡ Speculate c id r (if doing.fits then spoken.Kept else spoken.Dropped) ∷ []
   spoken_deeds id r piece_fits = rw piece_fits (go (fits_speculative shape k c id r h) refl)

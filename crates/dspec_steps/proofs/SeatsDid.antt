@@ -14,7 +14,7 @@ use Rattle.dspec_table.specs.Conditions.{IsInFlight}
 use Rattle.dspec_deeds.specs.Weaving.{bare}
 use Rattle.std.proofs.lemmas.Bool.Decides.{nat_tests}
 use Rattle.dspec_deeds.proofs.TestLemmas.{either_way}
-use Rattle.dspec_play.specs.declared.flight.Caller.{Caller}
+use Rattle.dspec_play.specs.declared.flight.CpuProgress.{CpuProgress}
 use Rattle.dspec_play.specs.declared.flight.CpuFlight.{CpuFlight}
 use Rattle.dspec_play.specs.declared.flight.CpuFlight.TheVariants as cpu
 use Rattle.dspec_play.specs.Calls.{op_of}
@@ -119,7 +119,7 @@ seat_did doing v w (cpu.ServiceStore s from sum) (last, (log, found, entered)) =
 
 -- so a step of the play leaves what the seat's step leaves
 pub seat_plays : (doing : Doing) (v w : View) (f : CpuFlight) → SeatStep doing v f w
-    → (log : List Deed) × Found v log × ((shape : ℕ → Option Shape) (h : List Deed) (me : Caller) → bare h ≡ log → IsSameCall shape v.config (number_of v.who) h me f doing
+    → (log : List Deed) × Found v log × ((shape : ℕ → Option Shape) (h : List Deed) (me : CpuProgress) → bare h ≡ log → IsSameCall shape v.config (number_of v.who) h me f doing
     → IsStepOfPlay (cpu_step shape v.config (number_of v.who) h me f).deeds h v w)
 seat_plays doing v w f step =
     let d = seat_did doing v w f step in (

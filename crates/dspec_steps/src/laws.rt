@@ -5,9 +5,9 @@ ghost use Rattle.dspec_deeds.specs.declared.config.Config.{Config};
 ghost use Rattle.dspec_deeds.specs.declared.deed.Deed.{Deed};
 ghost use Rattle.dspec_deeds.specs.History.{halted, word_at};
 ghost use Rattle.dspec_deeds.specs.Weaving.{bare};
-ghost use Rattle.dspec_play.specs.declared.flight.Caller.{Caller};
+ghost use Rattle.dspec_play.specs.declared.flight.CpuProgress.{CpuProgress};
 ghost use Rattle.dspec_play.specs.declared.flight.ConsumerFlight.{ConsumerFlight};
-ghost use Rattle.dspec_play.specs.declared.flight.ConsumerSide.{ConsumerSide};
+ghost use Rattle.dspec_play.specs.declared.flight.ConsumerProgress.{ConsumerProgress};
 ghost use Rattle.dspec_play.specs.declared.flight.CpuFlight.{CpuFlight};
 ghost use Rattle.dspec_play.specs.Play.{cpu_step, consumer_step};
 ghost use Rattle.dspec_table.specs.declared.doing.Doing.{Doing};
@@ -22,18 +22,18 @@ ghost use Rattle.dspec_steps.specs.SameSteps.{IsSameCall, IsMine, slot_of, seat_
 /// what the seat's step enters there, by its call in flight and by the activity and the word that its list shows. Whether the CPU
 /// is a caller is known to the call in flight as the words' functions ask it.
 pub fn same_steps()
-    ensures cpu { (shape : ℕ → Option Shape) (k : Config) (c : ℕ) (h : List Deed) (me : Caller) (f : CpuFlight) (doing : Doing)
+    ensures cpu { (shape : ℕ → Option Shape) (k : Config) (c : ℕ) (h : List Deed) (me : CpuProgress) (f : CpuFlight) (doing : Doing)
         → IsSameCall shape k c h me f doing
         → bare (cpu_step shape k c h me f).deeds ≡ seat_deeds k c doing (halted (bare h)) (word_at (slot_of f) (bare h)) f }
-    ensures consumer { (k : Config) (h : List Deed) (side : ConsumerSide) (all : List Caller) (f : ConsumerFlight)
+    ensures consumer { (k : Config) (h : List Deed) (side : ConsumerProgress) (all : List CpuProgress) (f : ConsumerFlight)
         → (consumer_step k h side all f).deeds ≡ seat_cleans (halted (bare h)) (word_at (slot_there f) (bare h)) f }
     ensures mine { (k : Config) (v : View) (c : ℕ) (doing : Doing) (id : Speculation) (slot : ℕ) (p : List Deed) → v.own ≡ bare p
         → IsInFlight k v c doing id slot → IsMine c p id doing }
     ensures cpu_seat { (doing : Doing) (v w : View) (f : CpuFlight) → SeatStep doing v f w
-        → (log : List Deed) × Found v log × ((shape : ℕ → Option Shape) (h : List Deed) (me : Caller) → bare h ≡ log
+        → (log : List Deed) × Found v log × ((shape : ℕ → Option Shape) (h : List Deed) (me : CpuProgress) → bare h ≡ log
         → IsSameCall shape v.config (number_of v.who) h me f doing
         → IsStepOfPlay (cpu_step shape v.config (number_of v.who) h me f).deeds h v w) }
     ensures consumer_seat { (v w : View) (f : ConsumerFlight) → ConsumerSeatStep v f w
-        → (log : List Deed) × Found v log × ((h : List Deed) (side : ConsumerSide) (all : List Caller) → bare h ≡ log
+        → (log : List Deed) × Found v log × ((h : List Deed) (side : ConsumerProgress) (all : List CpuProgress) → bare h ≡ log
         → IsStepOfPlay (consumer_step v.config h side all f).deeds h v w) }
 {}

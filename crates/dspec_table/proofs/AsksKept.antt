@@ -13,7 +13,7 @@ use Rattle.dspec_table.specs.declared.rule.View.{View}
 use Rattle.dspec_table.specs.Rule.{Kept, Least, KnowsAsks}
 use Rattle.dspec_table.specs.Showing.{Shows}
 use Rattle.dspec_table.specs.Layout.{slot_place, activity_place, ack_place, ask_place}
-use Rattle.dspec_table.specs.Steps.{asking}
+use Rattle.dspec_table.specs.Steps.{with_asks}
 use Rattle.dspec_table.specs.Asks.{with_ask, StoredAskAt, LoadedAsk}
 use Rattle.dspec_table.specs.Holders.{number_of}
 use Rattle.dspec_table.proofs.Quiet.{same_words}
@@ -74,7 +74,7 @@ stores_ask k slots id c n me lt who alone rises st kept homes at bound =
     λ xs least. at_ask (λ d. d < k.cpus → slice_index xs d ≤ slice_index new (ask_place k d)) c
     (λ l. let a = least c l in let b = mine.exact who c l in omega arith)
     (λ d apart l. let b = kept_at d apart in let m = least d l in omega arith) in (
-      asking v log [] asks,
+      with_asks v log [] asks,
       keeps,
       tt,
       acts_asking k st kept id v me.1 at alone is_me [] (ask_place k c) n asks v.flight tt kept.rests (ask_shows k old c n log kept.shows)
@@ -110,11 +110,11 @@ loads_ask k slots id c me lt who alone st kept homes at bound =
     let same = same_words st.words (ask_place k c) in
     let mine = kept.asks id v at in
     let shown : slice_index v.asks (number_of v.who) ≤ n = subst (λ (x : ℕ). slice_index v.asks x ≤ n) (sym c') (mine.least c lt) in (
-      asking v log [] asks,
+      with_asks v log [] asks,
       keeps,
       tt,
       acts_asking k st kept id v me.1 at alone is_me [] (ask_place k c) n asks v.flight tt kept.rests (subst (λ ws. Shows k ws log) (sym same) kept.shows)
-          (subst (λ ws. KnowsAsks k ws (asking v log [] asks)) (sym same) (record {
+          (subst (λ ws. KnowsAsks k ws (with_asks v log [] asks)) (sym same) (record {
             past = mine.past;
             least = subst (λ (x : ℕ). (d : ℕ) → d < k.cpus → slice_index (with_ask v.asks x n) d ≤ slice_index st.words (ask_place k d)) (sym c')
                 (at_ask (λ d. d < k.cpus → slice_index (with_ask v.asks c n) d ≤ slice_index st.words (ask_place k d)) c

@@ -22,7 +22,7 @@ use Rattle.dspec_table.specs.declared.rule.Past.{Past}
 use Rattle.dspec_table.specs.Rule.{holdings, times_among, Parts, Each, Remembers, Least, Knows, KnowsAsks, Kept}
 use Rattle.dspec_table.specs.Layout.{ask_place}
 use Rattle.dspec_table.specs.Flights.{AreOf, flight_after}
-use Rattle.dspec_table.specs.Steps.{asking, acted, Found, Entered}
+use Rattle.dspec_table.specs.Steps.{with_asks, acted, Found, Entered}
 use Rattle.dspec_table.proofs.Quiet.{IsQuiet, quiet_shows, same_words}
 use Rattle.dspec_table.proofs.Pasts.{each_map}
 use Rattle.dspec_table.proofs.Totals.{total_two, total_set, one_seat, same_seats, of_session}
@@ -89,12 +89,12 @@ flying f v = record v { flight = f }
 -- a step of a seat with deeds of its own, after which it knows these asks
 pub acts_asking : (k : Config) (st : State ℕ View) (kept : Kept k st) (by : ℕ) (v : View) (carried : List (ℕ × ℕ)) → get_elem? st.views by ≡ some v → v.also ≡ [] → same_holder v.who v.who ≡ true
     → (ds : List Deed) (i n : ℕ) (asks : List ℕ) (f : Option CpuOp) → Adds k v.who kept.log ds → owed (ds ++ kept.log) ≡ 0 → Shows k (slice_set st.words i n) (ds ++ kept.log)
-    → KnowsAsks k (slice_set st.words i n) (flying f (asking v kept.log ds asks))
+    → KnowsAsks k (slice_set st.words i n) (flying f (with_asks v kept.log ds asks))
     → ((u : View) → same_holder u.who v.who ≡ false → KnowsAsks k st.words u → KnowsAsks k (slice_set st.words i n) u)
-    → Kept k (stepped st i n by carried (flying f (asking v kept.log ds asks)) keeps)
+    → Kept k (stepped st i n by carried (flying f (with_asks v kept.log ds asks)) keeps)
 acts_asking k st kept by v carried at alone me ds i n asks f adds rests shows own_asks other_asks =
     let log = kept.log in
-    let w = flying f (asking v log ds asks) in
+    let w = flying f (with_asks v log ds asks) in
     let mine = kept.knows by v at in
     record {
       log = ds ++ log;

@@ -7,7 +7,7 @@ use Rattle.dspec_table.specs.declared.rule.View.{View}
 use Rattle.dspec_table.specs.Holders.{part_of, of_nobody}
 use Rattle.dspec_table.specs.Since.{Since}
 use Rattle.dspec_table.specs.Notes.{greater}
-use Rattle.dspec_table.specs.Steps.{asking, acted}
+use Rattle.dspec_table.specs.Steps.{with_asks, acted}
 
 -- Both have seen one list, which begins with what each had seen; the consumer, which looks last, may have seen more of it.
 -- Neither has done a deed, so each one's part of what it has seen is its list, as before. The CPU knows the consumer's asks.
@@ -24,5 +24,5 @@ pub record Met (cpu consumer cpu_after consumer_after : View) : Type 0 where
   pub consumer_before : Since of_nobody consumer.seen both
   pub consumer_since : Since consumer.who consumer.seen later
   pub both_before : Since of_nobody both later
-  pub cpu_is : cpu_after ≡ asking cpu both [] (greater cpu.asks consumer.asks)
+  pub cpu_is : cpu_after ≡ with_asks cpu both [] (greater cpu.asks consumer.asks)
   pub consumer_is : consumer_after ≡ acted consumer later []

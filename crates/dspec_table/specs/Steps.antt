@@ -16,8 +16,8 @@ use Rattle.dspec_table.specs.Flights.{AreOf, flight_after, calling}
 use Rattle.dspec_table.specs.Acts.{at_activity, at_word, at_open, at_exchange, fate_of_settlement, at_stop}
 
 -- the view after deeds of its own behind the list that the step found, where it then knows these asks
-abbrev pub asking : View → List Deed → List Deed → List ℕ → View
-asking v log ds asks = record {
+abbrev pub with_asks : View → List Deed → List Deed → List ℕ → View
+with_asks v log ds asks = record {
   config = v.config;
   who = v.who;
   own = ds ++ v.own;
@@ -32,7 +32,7 @@ asking v log ds asks = record {
 
 -- the same with the asks that it knew
 abbrev pub acted : View → List Deed → List Deed → View
-acted v log ds = asking v log ds v.asks
+acted v log ds = with_asks v log ds v.asks
 
 -- the list that the step found: it is legal, it goes on from what the seat had seen and from what a note had told it, by
 -- deeds of others, and the seat's part of it is the seat's list

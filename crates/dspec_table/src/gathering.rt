@@ -4,21 +4,21 @@ ghost use Rattle.dspec_table.specs.Seats.{known_there, set_up, IsConsumerAt};
 
 use crate::last::LastWords;
 use crate::plays::Gather;
-use crate::rule::{Board, Place};
+use crate::rule::{AnySeat, Board};
 use crate::seats::{ConsumerSeat, CpuSeat, Words};
 
-fn collect(board: &Board, mut seats: Vec<CpuSeat>, place: &mut Place)
-    requires place { place.old.table_id ≡ board.now.shared.table_id }
+fn collect(board: &Board, mut seats: Vec<CpuSeat>, gatherer: &mut AnySeat)
+    requires gatherer { gatherer.old.table_id ≡ board.now.shared.table_id }
     requires seats { AllAt board.now.shared.table_id seats.items }
     requires words { 0 < board.now.shared.table_id.words }
-    ensures place { (place.new.table_id ≡ board.now.shared.table_id) × (place.new.me.0.who ≡ place.old.me.0.who) × (place.new.me.0.own ≡ place.old.me.0.own) }
-    ensures knows { (place.new.me.0.seen ≡ place.old.me.0.seen) × (place.new.me.0.asks ≡ place.old.me.0.asks) }
-    ensures joined { Joined seats.items place.new.me.0 }
-    ensures recalled { Recalled seats.items place.new.me.0 }
+    ensures gatherer { (gatherer.new.table_id ≡ board.now.shared.table_id) × (gatherer.new.me.0.who ≡ gatherer.old.me.0.who) × (gatherer.new.me.0.own ≡ gatherer.old.me.0.own) }
+    ensures knows { (gatherer.new.me.0.seen ≡ gatherer.old.me.0.seen) × (gatherer.new.me.0.asks ≡ gatherer.old.me.0.asks) }
+    ensures joined { Joined seats.items gatherer.new.me.0 }
+    ensures recalled { Recalled seats.items gatherer.new.me.0 }
 {
     while let Some(next) = seats.pop() {
         let CpuSeat { seat, cpu: _ } = next;
-        board.shared.join_seat::<Gather>(place, seat);
+        board.shared.join_seat::<Gather>(gatherer, seat);
     }
 }
 
@@ -31,9 +31,9 @@ impl Words {
         ensures config { last_set_up result ≡ set_up self }
     {
         let Words { board, config } = self;
-        let ConsumerSeat { seat: mut place } = consumer;
-        collect(&board, seats, &mut place);
-        let closed = board.close_with(place);
+        let ConsumerSeat { seat: mut gatherer } = consumer;
+        collect(&board, seats, &mut gatherer);
+        let closed = board.close_with(gatherer);
         LastWords { closed, config }
     }
 }

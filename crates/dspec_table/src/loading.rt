@@ -7,14 +7,14 @@ ghost use Rattle.dspec_word.specs.Word.{CanBeReleased};
 
 use crate::doing::Doing;
 use crate::layout::{activity_place, slot_place};
-use crate::plays::{Asked, LoadsActivity, LoadsWord};
+use crate::plays::{HasDoing, LoadsActivity, LoadsWord};
 use crate::reading::read_word;
 use crate::seats::{CpuSeat, Words};
 use dspec_word::Word;
 use std::marker::Brand;
 
 impl CpuSeat {
-    fn load_activity_as<J: Asked>(&mut self, words: &Words, doing: &Doing) -> bool
+    fn load_activity_as<J: HasDoing>(&mut self, words: &Words, doing: &Doing) -> bool
         requires doing { doing.now ≡ J.doing }
         requires seat { IsAt words.now self.old }
         requires idle { scan (set_up words.now) (cpu_of self.old) (known self.old).own ≡ 0 }
@@ -39,7 +39,7 @@ impl CpuSeat {
         !stopped
     }
 
-    fn load_word_as<J: Asked>(&mut self, words: &Words, slot: u32, doing: &Doing) -> u64
+    fn load_word_as<J: HasDoing>(&mut self, words: &Words, slot: u32, doing: &Doing) -> u64
         requires doing { doing.now ≡ J.doing }
         requires seat { IsAt words.now self.old }
         requires slot { (1 ≤ slot) × (slot ≤ (set_up words.now).nspec) }

@@ -7,50 +7,50 @@ ghost use Rattle.dspec_table.specs.Seats.{known, known_there, IsAt, IsConsumerAt
 
 use crate::layout::activity_place;
 use crate::plays::{Answer, Looks, Note};
-use crate::rule::Place;
+use crate::rule::AnySeat;
 use crate::seats::{ConsumerSeat, CpuSeat, Words};
 
 impl Words {
     // A load of activity that enters nothing.
-    fn look(&self, place: &mut Place)
-        requires place { (place.old.table_id ≡ self.now.board.shared.table_id) × (same_holder place.old.me.0.who place.old.me.0.who ≡ true) × (place.old.me.0.also ≡ []) }
-        ensures place { (place.new.table_id ≡ place.old.table_id) × (place.new.me.1 ≡ place.old.me.1) }
-        ensures step { Looked place.old.me.0 place.new.me.0 }
+    fn look(&self, seat: &mut AnySeat)
+        requires seat { (seat.old.table_id ≡ self.now.board.shared.table_id) × (same_holder seat.old.me.0.who seat.old.me.0.who ≡ true) × (seat.old.me.0.also ≡ []) }
+        ensures seat { (seat.new.table_id ≡ seat.old.table_id) × (seat.new.me.1 ≡ seat.old.me.1) }
+        ensures step { Looked seat.old.me.0 seat.new.me.0 }
     {
         self.board
             .shared
-            .load::<Looks>(place, activity_place(&self.config));
+            .load::<Looks>(seat, activity_place(&self.config));
     }
 
     // A note of what the seat has seen, and of the asks that it knows.
-    fn note(&self, place: &mut Place) -> Place
-        requires place { place.old.table_id ≡ self.now.board.shared.table_id }
-        ensures place { (place.new.table_id ≡ place.old.table_id) × (place.new.me ≡ place.old.me) }
-        ensures note { (result.table_id ≡ self.now.board.shared.table_id) × (result.me ≡ (note place.old.me.0, [])) }
+    fn note(&self, seat: &mut AnySeat) -> AnySeat
+        requires seat { seat.old.table_id ≡ self.now.board.shared.table_id }
+        ensures seat { (seat.new.table_id ≡ seat.old.table_id) × (seat.new.me ≡ seat.old.me) }
+        ensures note { (result.table_id ≡ self.now.board.shared.table_id) × (result.me ≡ (note seat.old.me.0, [])) }
     {
-        self.board.shared.split_seat::<Note>(place)
+        self.board.shared.split_seat::<Note>(seat)
     }
 
     // A CPU's seat takes in a note.
-    fn hear(&self, place: &mut Place, told: Place)
-        requires place { place.old.table_id ≡ self.now.board.shared.table_id }
+    fn hear(&self, seat: &mut AnySeat, told: AnySeat)
+        requires seat { seat.old.table_id ≡ self.now.board.shared.table_id }
         requires note { (told.table_id ≡ self.now.board.shared.table_id) × (told.me.1 ≡ []) × (told.me.0.who ≡ of_nobody) × (told.me.0.also ≡ []) }
-        ensures place { (place.new.table_id ≡ place.old.table_id) × (place.new.me ≡ (heard place.old.me.0 told.me.0, place.old.me.1)) }
+        ensures seat { (seat.new.table_id ≡ seat.old.table_id) × (seat.new.me ≡ (heard seat.old.me.0 told.me.0, seat.old.me.1)) }
     {
-        self.board.shared.join_seat::<Note>(place, told);
+        self.board.shared.join_seat::<Note>(seat, told);
     }
 
     // The consumer's seat takes in a note.
-    fn hear_there(&self, place: &mut Place, told: Place)
-        requires place { place.old.table_id ≡ self.now.board.shared.table_id }
+    fn hear_there(&self, seat: &mut AnySeat, told: AnySeat)
+        requires seat { seat.old.table_id ≡ self.now.board.shared.table_id }
         requires note { (told.table_id ≡ self.now.board.shared.table_id) × (told.me.1 ≡ []) × (told.me.0.who ≡ of_nobody) × (told.me.0.also ≡ []) }
-        ensures place { (place.new.table_id ≡ place.old.table_id) × (place.new.me ≡ (answered place.old.me.0 told.me.0, place.old.me.1)) }
+        ensures seat { (seat.new.table_id ≡ seat.old.table_id) × (seat.new.me ≡ (answered seat.old.me.0 told.me.0, seat.old.me.1)) }
     {
-        self.board.shared.join_seat::<Answer>(place, told);
+        self.board.shared.join_seat::<Answer>(seat, told);
     }
 
     // Between the notes and the loads the seats are no whole seats, since a note waits.
-    fn meet_there(&self, cpu: &mut Place, consumer: &mut Place)
+    fn meet_there(&self, cpu: &mut AnySeat, consumer: &mut AnySeat)
         requires cpu { (cpu.old.table_id ≡ self.now.board.shared.table_id) × (same_holder cpu.old.me.0.who cpu.old.me.0.who ≡ true) × (cpu.old.me.0.also ≡ []) }
         requires consumer { (consumer.old.table_id ≡ self.now.board.shared.table_id) × (same_holder consumer.old.me.0.who consumer.old.me.0.who ≡ true) × (consumer.old.me.0.also ≡ []) }
         ensures cpu { (cpu.new.table_id ≡ cpu.old.table_id) × (cpu.new.me.1 ≡ cpu.old.me.1) }

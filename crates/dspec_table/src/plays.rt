@@ -4,13 +4,13 @@ use atomic_table::{Join, Play, Split};
 use std::marker::{Brand, PhantomData};
 
 /// What a CPU does in the step. Each call picks it.
-pub trait Asked {
+pub trait HasDoing {
     ghost use Rattle.dspec_table.specs.declared.doing.Doing.{Doing};
 
     ghost doing: { Doing };
 }
 
-impl Asked for Brand {
+impl HasDoing for Brand {
     ghost use Rattle.dspec_table.specs.Acts.{nothing};
 
     ghost doing = { nothing };
@@ -20,7 +20,7 @@ pub struct LoadsActivity<J> {
     of: PhantomData<J>,
 }
 
-impl<J: Asked> Play<u8, View> for LoadsActivity<J> {
+impl<J: HasDoing> Play<u8, View> for LoadsActivity<J> {
     ghost use Rattle.std.specs.Prelude.{◌≡◌, ◌==◌};
     ghost use Rattle.dspec_table.specs.Steps.{LoadedActivity};
 
@@ -31,7 +31,7 @@ pub struct LoadsWord<J> {
     of: PhantomData<J>,
 }
 
-impl<J: Asked> Play<u8, View> for LoadsWord<J> {
+impl<J: HasDoing> Play<u8, View> for LoadsWord<J> {
     ghost use Rattle.std.specs.Prelude.{◌≡◌};
     ghost use Rattle.dspec_table.specs.Layout.{slot_at};
     ghost use Rattle.dspec_table.specs.Steps.{LoadedNumber};
@@ -53,7 +53,7 @@ pub struct TriesWord<J> {
     of: PhantomData<J>,
 }
 
-impl<J: Asked> Play<u8, View> for TriesWord<J> {
+impl<J: HasDoing> Play<u8, View> for TriesWord<J> {
     ghost use Rattle.std.specs.Prelude.{◌≡◌, ◌==◌};
     ghost use Rattle.dspec_table.specs.Layout.{slot_at};
     ghost use Rattle.dspec_table.specs.Steps.{TriedNumber};
@@ -75,7 +75,7 @@ pub struct StoresAck<J> {
     of: PhantomData<J>,
 }
 
-impl<J: Asked> Play<u8, View> for StoresAck<J> {
+impl<J: HasDoing> Play<u8, View> for StoresAck<J> {
     ghost use Rattle.std.specs.Prelude.{◌≡◌};
     ghost use Rattle.dspec_table.specs.Steps.{StoredAck};
 

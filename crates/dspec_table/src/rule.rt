@@ -56,4 +56,5 @@ impl TableRule<u8, View, Config> for OneList {
 // The table has no slots for values; the type of theirs is any.
 pub(crate) type Board = Table<u8, View, Config, OneList, Global>;
 
-pub(crate) type Place = Seat<u8, View>;
+// A seat at the words, whoever's: a CPU's, the consumer's, or a note's.
+pub(crate) type AnySeat = Seat<u8, View>;

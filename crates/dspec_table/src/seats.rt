@@ -2,7 +2,7 @@ ghost use Rattle.std.specs.Prelude.{◌≡◌, ◌<◌, ◌≤◌, ◌^◌, []};
 ghost use Rattle.dspec_table.specs.Holders.{of_cpu, of_consumer};
 ghost use Rattle.dspec_table.specs.Layout.{word_count};
 
-use crate::rule::{Board, Place};
+use crate::rule::{AnySeat, Board};
 use dspec_deeds::Config;
 
 /// The shared words of a session. Every thread steps on them through a `&`, with a seat of its own.
@@ -22,7 +22,7 @@ pub struct Words {
 /// A CPU's seat at the words: what it has done and seen, and how many steps it made. It has no bytes but the CPU's number.
 #[derive(Drop)]
 pub struct CpuSeat {
-    pub(crate) seat: Place,
+    pub(crate) seat: AnySeat,
     pub(crate) cpu: u32,
     pub ghost bare: { seat.me.1 ≡ [] },
     pub ghost who_is: { seat.me.0.who ≡ of_cpu cpu },
@@ -34,7 +34,7 @@ pub struct CpuSeat {
 /// The consumer's seat at the words.
 #[derive(Drop)]
 pub struct ConsumerSeat {
-    pub(crate) seat: Place,
+    pub(crate) seat: AnySeat,
     pub ghost bare: { seat.me.1 ≡ [] },
     pub ghost who_is: { seat.me.0.who ≡ of_consumer },
     pub ghost joins_none: { seat.me.0.also ≡ [] },

@@ -6,12 +6,12 @@ ghost use Rattle.dspec_table.specs.Seats.{known, IsAt, set_up, cpu_of};
 
 use crate::doing::Doing;
 use crate::layout::ack_place;
-use crate::plays::{Asked, StoresAck};
+use crate::plays::{HasDoing, StoresAck};
 use crate::seats::{CpuSeat, Words};
 use std::marker::Brand;
 
 impl CpuSeat {
-    fn store_ack_as<J: Asked>(&mut self, words: &Words, slot: u32, issue: u64, doing: &Doing)
+    fn store_ack_as<J: HasDoing>(&mut self, words: &Words, slot: u32, issue: u64, doing: &Doing)
         requires doing { doing.now ≡ J.doing }
         requires seat { IsAt words.now self.old }
         requires issue { issue < 2 ^ 57 }

@@ -5,7 +5,7 @@ ghost use Rattle.dspec_table.specs.Layout.{word_count};
 ghost use Rattle.dspec_table.specs.Seats.{dealing, last_seat, set_up, DealtSeats, FreshSeats, IsConsumerAt, known_there};
 
 use crate::plays::Deal;
-use crate::rule::{Board, Place};
+use crate::rule::{AnySeat, Board};
 use crate::seats::{ConsumerSeat, CpuSeat, Words};
 use dspec_deeds::{Config, StartFault};
 use std::alloc::{AllocError, Global};
@@ -25,16 +25,16 @@ fn deal(
     alloc: Global,
     board: &Board,
     config: &Config,
-    place: &mut Place,
+    dealer: &mut AnySeat,
 ) -> Result<Vec<CpuSeat>, AllocError>
-    requires place { (place.old.table_id ≡ board.now.shared.table_id) × (place.old.me ≡ (dealing config.now 0, [])) }
+    requires dealer { (dealer.old.table_id ≡ board.now.shared.table_id) × (dealer.old.me ≡ (dealing config.now 0, [])) }
     requires key { (board.now.shared.key ≡ config.now) × (board.now.shared.table_id.words ≡ word_count config.now) }
-    ensures place { IfOk result (λ v. (place.new.table_id ≡ board.now.shared.table_id) × (place.new.me ≡ (last_seat config.now, []))) }
+    ensures dealer { IfOk result (λ v. (dealer.new.table_id ≡ board.now.shared.table_id) × (dealer.new.me ≡ (last_seat config.now, []))) }
     ensures seats { IfOk result (λ v. (length v.items ≡ config.now.cpus) × DealtSeats board.now.shared.table_id config.now v.items) }
 {
     let mut seats = Vec::with_capacity(alloc, config.cpus as usize)?;
     for cpu in 0..config.cpus {
-        let seat = board.shared.split_seat::<Deal>(place);
+        let seat = board.shared.split_seat::<Deal>(dealer);
         seats.push(CpuSeat { seat, cpu })?;
     }
     Ok(seats)

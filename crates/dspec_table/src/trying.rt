@@ -7,7 +7,7 @@ ghost use Rattle.dspec_word.specs.Word.{word_number, CanBeReleased};
 
 use crate::doing::Doing;
 use crate::layout::slot_place;
-use crate::plays::{Asked, TriesWord};
+use crate::plays::{HasDoing, TriesWord};
 use crate::reading::read_word;
 use crate::seats::{CpuSeat, Words};
 use dspec_word::{Code, Word};
@@ -25,7 +25,7 @@ fn with_caller(from: Word) -> Word
 }
 
 impl CpuSeat {
-    fn try_word_as<J: Asked>(
+    fn try_word_as<J: HasDoing>(
         &mut self,
         words: &Words,
         slot: u32,

@@ -1,3 +1,4 @@
 pub mod Further
 pub mod Buffers
+pub mod Tellable
 pub mod Runs

@@ -15,14 +15,14 @@ use Rattle.dspec_play.specs.declared.flight.CpuFlight.{CpuFlight}
 use Rattle.dspec_play.specs.declared.flight.ConsumerFlight.{ConsumerFlight}
 use Rattle.dspec_play.specs.declared.outcome.PlayFault.{PlayFault}
 use Rattle.dspec_play.specs.Calls.{is_idle}
-use Rattle.dspec_play.specs.Coherent.{PlayState, the_caller}
+use Rattle.dspec_play.specs.Coherent.{PlayState, progress_of}
 use Rattle.dspec_play.specs.Plays.{Playing, all_turned, cpu_stepped, consumer_stepped, cpus_ran, ran, playing_at_start, stepped, to_end, turned}
 use Rattle.dspec_play.specs.Plays.{or_else, play_fault, refusal, setup_fault, turn_fault}
 use Rattle.dspec_play.specs.Turns.{step, step_cpu, step_consumer}
 use Rattle.dspec_telling.specs.Steps.{all_lines, cpus_lines, last_lines, line_at, ran_lines, run_lines, step_line, turn_lines}
 
 module _ (shape : ℕ → Option Shape) where
-  cpu_goes_on : (c : ℕ) (p : Playing) (f : Option CpuFlight) → (the_caller p.state.callers c).flight ≡ f → is_none f ≡ false
+  cpu_goes_on : (c : ℕ) (p : Playing) (f : Option CpuFlight) → (progress_of p.state.progresses c).flight ≡ f → is_none f ≡ false
       → (cpu_stepped shape c p f).state ≡ (step shape (actor.Cpu c) p.state).state
   cpu_goes_on c p None is busy = absurd (true≢false busy)
   cpu_goes_on c p (Some f) is busy = refl
@@ -33,7 +33,7 @@ module _ (shape : ℕ → Option Shape) where
 
   -- a step of an actor that is busy leaves what the step leaves
   pub goes_on : (a : Actor) (p : Playing) → is_idle a p.state ≡ false → (stepped shape a p).state ≡ (step shape a p.state).state
-  goes_on (actor.Cpu c) p busy = cpu_goes_on c p (the_caller p.state.callers c).flight refl busy
+  goes_on (actor.Cpu c) p busy = cpu_goes_on c p (progress_of p.state.progresses c).flight refl busy
   goes_on actor.Consumer p busy = consumer_goes_on p p.state.side.flight busy
 
   -- what the step leaves, and its line, by what has been played
@@ -55,7 +55,7 @@ module _ (shape : ℕ → Option Shape) where
 
   -- no step changes the configuration
   pub same_config : (a : Actor) (st : PlayState) → (step shape a st).state.config ≡ st.config
-  same_config (actor.Cpu c) st = cpu_same_config c st (the_caller st.callers c).flight
+  same_config (actor.Cpu c) st = cpu_same_config c st (progress_of st.progresses c).flight
   same_config actor.Consumer st = consumer_same_config st st.side.flight
 
 -- a run so far: behind `done` of at most `total` steps it goes on to the same end and to the same lines

@@ -1,3 +1,5 @@
+pub mod Attempts
+pub mod Tellable
 pub mod Room
 pub mod Words
 pub mod Told

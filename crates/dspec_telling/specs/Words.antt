@@ -1,13 +1,11 @@
 -- The words in which a step is told: words of slots, deeds, actors.
-use Rattle.std.specs.Prelude.{ℕ, ◌-◌, Bool, ◌==◌, List, [], ◌++◌, if◌then◌else◌, codes, decimal, Option, Some, None}
+use Rattle.std.specs.Prelude.{ℕ, ◌-◌, Bool, ◌==◌, List, [], ◌++◌, if◌then◌else◌, codes, decimal, Option}
 use Rattle.dspec_record.specs.Record.{Record}
 use Rattle.dspec_record.specs.declared.field.Shape.{Shape}
 use Rattle.dspec_record.specs.declared.header.Header.{Header}
 use Rattle.dspec_buffer.specs.Extent.{align_of, reserved, size_of}
 use Rattle.dspec_word.specs.declared.code.Code.{Code}
 use Rattle.dspec_word.specs.declared.code.Code.TheVariants.{Inactive, Active, ActiveOne, ActiveMany, Committing, CommittingMany, Discarding}
-use Rattle.dspec_word.specs.declared.act.Act.{Act}
-use Rattle.dspec_word.specs.declared.act.Act.TheVariants.{Attempt}
 use Rattle.dspec_word.specs.SpecId.{Speculation, id_number}
 use Rattle.dspec_word.specs.Word.{SlotState, word_number}
 use Rattle.dspec_deeds.specs.declared.config.Config.{Config}
@@ -92,7 +90,7 @@ refused_behind size reach a n = bytes_told (reserved reach a n - reach) (size - 
 
 -- the same of the principal buffer, which may be closed
 abbrev pub refused_principal : Config → Room → ℕ → ℕ → List ℕ
-refused_principal k room a n = if room.shut then codes ": the buffer is closed" else refused_behind k.bufsize room.reach a n
+refused_principal k room a n = if room.closed then codes ": the buffer is closed" else refused_behind k.bufsize room.reach a n
 
 module _ (shape : ℕ → Option Shape) (k : Config) (room : Room) where
   -- behind a deed by which a buffer refused a record, or a block of a speculation
@@ -107,32 +105,19 @@ module _ (shape : ℕ → Option Shape) (k : Config) (room : Room) where
   abbrev pub deed_behind : Header → Deed → List ℕ
   deed_behind header d = codes "; " ++ deed_told header d ++ refusal_told d
 
--- the word that an exchange attempts; without an attempt the word stays
-abbrev pub attempted : Act → SlotState → SlotState
-attempted (Attempt to) from = to
-attempted act from = from
-
 unfoldable pub is_that_word : SlotState → SlotState → Bool
 is_that_word w from = word_number w == word_number from
 
 -- a load of a slot's word
-abbrev pub shown_told : ℕ → Option SlotState → List ℕ
-shown_told s None = []
-shown_told s (Some w) = word_told s w
-
 unfoldable pub load_head : ℕ → List ℕ
 load_head s = codes "loads slot " ++ decimal s ++ codes ": "
 
-abbrev pub load_told : ℕ → Option SlotState → List ℕ
-load_told s found = load_head s ++ shown_told s found
+abbrev pub load_told : ℕ → SlotState → List ℕ
+load_told s w = load_head s ++ word_told s w
 
 -- an exchange of a slot's word: it succeeds where the slot still has the word that it expects
 abbrev pub exchanged_told : ℕ → SlotState → SlotState → List ℕ
 exchanged_told s from w = if is_that_word w from then codes "done" else codes "fails, shown " ++ word_told s w
 
-abbrev pub exchange_end : ℕ → SlotState → Option SlotState → List ℕ
-exchange_end s from None = []
-exchange_end s from (Some w) = exchanged_told s from w
-
-abbrev pub exchange_told : ℕ → SlotState → SlotState → Option SlotState → List ℕ
-exchange_told s from to found = codes "exchanges " ++ word_told s from ++ codes " for " ++ word_told s to ++ codes ": " ++ exchange_end s from found
+abbrev pub exchange_told : ℕ → SlotState → SlotState → SlotState → List ℕ
+exchange_told s from to w = codes "exchanges " ++ word_told s from ++ codes " for " ++ word_told s to ++ codes ": " ++ exchanged_told s from w

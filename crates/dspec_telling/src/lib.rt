@@ -6,8 +6,8 @@
 //! It steps the machine of `dspec_machine` itself, since only that shows which call is in flight.
 #![tactic(auto)]
 
-mod reading;
 mod room;
+mod showing;
 mod telling;
 mod walking;
 mod words;

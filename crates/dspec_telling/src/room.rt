@@ -1,25 +1,29 @@
 //! What a step finds room for, before it is made.
-ghost use Rattle.std.specs.Prelude.{◌≡◌, ◌<◌, ◌≤◌, ◌-◌, ◌^◌, ◌⊎◌, true};
+ghost use Rattle.std.specs.Prelude.{◌≡◌, ◌<◌, ◌-◌, ◌⊎◌, true};
 ghost use Rattle.dspec_record.specs.Layout.{rounded_up};
 ghost use Rattle.dspec_buffer.specs.Extent.{extent, reserved};
 ghost use Rattle.dspec_deeds.specs.Legal.{is_closed};
 ghost use Rattle.dspec_deeds.specs.Own.{active};
 ghost use Rattle.dspec_play.specs.Calls.{is_actor};
-ghost use Rattle.dspec_play.specs.Coherent.{the_caller};
+ghost use Rattle.dspec_play.specs.Coherent.{IsSlot, progress_of};
 ghost use Rattle.dspec_machine.specs.Machines.{IsShownMachine, history, state_of};
+ghost use Rattle.dspec_machine.specs.Worlds.{IsKept};
+ghost use Rattle.dspec_telling.specs.Tellable.{CanBeTold, IsTellable};
 ghost use Rattle.dspec_telling.specs.Room.{aim_bytes, aimed_bytes, held_bytes, room_at};
 
+use crate::showing::is_marked;
 use dspec_buffer::TraceBuffer;
 use dspec_deeds::Actor;
 use dspec_machine::Machine;
 use dspec_play::CpuFlight;
 use dspec_record::Schema;
+use dspec_word::SpecId;
 
 /// The buffers of a CPU as a step finds them.
 #[derive(Clone, Copy, Debug)]
 pub struct Room {
     /// Whether the active principal buffer takes nothing more.
-    pub shut: bool,
+    pub closed: bool,
     /// How far that reaches, in bytes.
     pub reach: u32,
     /// What the CPU holds of the speculation that the step is about, in bytes.
@@ -27,12 +31,12 @@ pub struct Room {
 }
 
 /// Whether the CPU's principal buffer is closed.
-fn is_shut<S: Schema, B: TraceBuffer<S>>(machine: &Machine<S, B>, cpu: u32) -> bool
+fn is_closed<S: Schema, B: TraceBuffer<S>>(machine: &Machine<S, B>, cpu: u32) -> bool
     requires shown { IsShownMachine B.has B.capacity machine.now }
     requires cpu { cpu < machine.now.config.cpus }
     ensures { result ≡ is_closed machine.now.config cpu (history machine.now) }
 {
-    machine.cpus[cpu as usize].side.is_shut(&machine.config)
+    machine.cpus[cpu as usize].side.is_closed(&machine.config)
 }
 
 /// How far the CPU's active principal buffer reaches.
@@ -45,26 +49,16 @@ fn reach<S: Schema, B: TraceBuffer<S>>(machine: &Machine<S, B>, cpu: u32) -> u32
 }
 
 /// What the CPU holds of a speculation, in bytes: nothing where it is no caller.
-fn held_bytes<S: Schema, B: TraceBuffer<S>>(
-    machine: &Machine<S, B>,
-    cpu: u32,
-    slot: u32,
-    issue: u64,
-) -> u32
+fn held_bytes<S: Schema, B: TraceBuffer<S>>(machine: &Machine<S, B>, cpu: u32, id: SpecId) -> u32
     requires shown { IsShownMachine B.has B.capacity machine.now }
     requires cpu { cpu < machine.now.config.cpus }
-    requires issue { issue ≤ 2 ^ 58 }
-    ensures { result ≡ held_bytes (S.shape_of machine.now.schema) machine.now.config cpu (record { issue = issue; slot = slot }) (history machine.now) }
+    requires slot { IsSlot machine.now.config id.slot }
+    ensures { result ≡ held_bytes (S.shape_of machine.now.schema) cpu id (history machine.now) }
 {
-    if slot < 1 || slot > machine.config.nspec {
-        return 0;
+    if is_marked(machine, cpu, id) {
+        return machine.cpus[cpu as usize].side.speculative[id.slot() as usize - 1].offset();
     }
-    let side = &machine.cpus[cpu as usize].side;
-    let place = (slot - 1) as usize;
-    if side.marks[place] != issue + 1 {
-        return 0;
-    }
-    side.speculative[place].offset()
+    0
 }
 
 /// The same of the speculation that the next step of a call is about, where that may find no room.
@@ -73,26 +67,30 @@ fn aim_bytes<S: Schema, B: TraceBuffer<S>>(
     cpu: u32,
     flight: CpuFlight,
 ) -> u32
-    requires shown { IsShownMachine B.has B.capacity machine.now }
+    requires tellable { IsTellable B.has B.capacity machine.now }
     requires cpu { cpu < machine.now.config.cpus }
-    ensures { result ≡ aim_bytes (S.shape_of machine.now.schema) machine.now.config cpu (history machine.now) flight }
+    requires told { CanBeTold machine.now.config flight }
+    ensures { result ≡ aim_bytes (S.shape_of machine.now.schema) cpu (history machine.now) flight }
 {
     match flight {
-        CpuFlight::SpeculateLoad(id, _) => held_bytes(machine, cpu, id.slot(), id.issue()),
-        CpuFlight::SpeculateTry(id, _, _) => held_bytes(machine, cpu, id.slot(), id.issue()),
-        CpuFlight::CommitTry(id, _) => held_bytes(machine, cpu, id.slot(), id.issue()),
-        CpuFlight::ServiceStore(slot, word, _) => held_bytes(machine, cpu, slot, word.issue()),
+        CpuFlight::SpeculateLoad(id, _) => held_bytes(machine, cpu, id),
+        CpuFlight::SpeculateTry(id, _, _) => held_bytes(machine, cpu, id),
+        CpuFlight::CommitTry(id, _) => held_bytes(machine, cpu, id),
+        CpuFlight::ServiceStore(slot, word, _) => {
+            held_bytes(machine, cpu, SpecId::of(word.issue(), slot))
+        }
         _ => 0,
     }
 }
 
 /// The same of the call in flight, if one is.
+#[tactic(auto, using(crate::proofs::Tellable::kept_tells, crate::proofs::Tellable::cpu_can_be_told))]
 fn aimed_bytes<S: Schema, B: TraceBuffer<S>>(machine: &Machine<S, B>, cpu: u32) -> u32
-    requires shown { IsShownMachine B.has B.capacity machine.now }
+    requires kept { IsKept B.has B.capacity S.shape_of S.accepted machine.now }
     requires cpu { cpu < machine.now.config.cpus }
-    ensures { result ≡ aimed_bytes (S.shape_of machine.now.schema) machine.now.config cpu (history machine.now) (the_caller (state_of machine.now).callers cpu).flight }
+    ensures { result ≡ aimed_bytes (S.shape_of machine.now.schema) cpu (history machine.now) (progress_of (state_of machine.now).progresses cpu).flight }
 {
-    match machine.cpus[cpu as usize].caller.flight {
+    match machine.cpus[cpu as usize].progress.flight {
         None => 0,
         Some(flight) => aim_bytes(machine, cpu, flight),
     }
@@ -100,18 +98,18 @@ fn aimed_bytes<S: Schema, B: TraceBuffer<S>>(machine: &Machine<S, B>, cpu: u32) 
 
 /// The room that the actor's next step finds.
 pub(crate) fn room_at<S: Schema, B: TraceBuffer<S>>(machine: &Machine<S, B>, actor: Actor) -> Room
-    requires shown { IsShownMachine B.has B.capacity machine.now }
+    requires kept { IsKept B.has B.capacity S.shape_of S.accepted machine.now }
     requires exists { is_actor machine.now.config actor ≡ true }
     ensures { result ≡ room_at (S.shape_of machine.now.schema) actor (state_of machine.now) }
 {
     match actor {
         Actor::Consumer => Room {
-            shut: false,
+            closed: false,
             reach: 0,
             held: 0,
         },
         Actor::Cpu(cpu) => Room {
-            shut: is_shut(machine, cpu),
+            closed: is_closed(machine, cpu),
             reach: reach(machine, cpu),
             held: aimed_bytes(machine, cpu),
         },

@@ -1,35 +1,59 @@
 //! What the next step of a call in flight does, in words, as the machine shows it.
-ghost use Rattle.std.specs.Prelude.{◌≡◌, ◌<◌, ◌≤◌, ◌+◌, ◌^◌, ◌++◌, nat_lt, true, if◌then◌else◌, codes, decimal, OnOk, string_bytes};
+ghost use Rattle.std.specs.Prelude.{◌≡◌, ◌<◌, ◌++◌, nat_lt, true, if◌then◌else◌, codes, decimal, OnOk, string_bytes};
 ghost use Rattle.dspec_deeds.specs.Ranges.{is_fill};
 ghost use Rattle.dspec_deeds.specs.Own.{seals};
-ghost use Rattle.dspec_play.specs.Calls.{consumer_op_of, is_about, is_actor};
-ghost use Rattle.dspec_play.specs.Coherent.{the_caller};
+ghost use Rattle.dspec_play.specs.Calls.{is_about, is_actor};
+ghost use Rattle.dspec_play.specs.Coherent.{IsSlot, progress_of};
 ghost use Rattle.dspec_play.specs.Whole.{is_out};
 ghost use Rattle.dspec_machine.specs.Machines.{IsShownMachine, history, state_of};
 ghost use Rattle.dspec_machine.specs.Worlds.{IsKept};
 ghost use Rattle.dspec_schedule.specs.Printed.{consumer_op_text, cpu_op_text};
 ghost use Rattle.dspec_word.specs.SpecId.{id_number};
-ghost use Rattle.dspec_telling.specs.Told.{ack_head, ack_told, ask_told, begun_told, consumer_begun_told, consumer_call_told, consumer_flight_told, consumer_told, cpu_call_told, cpu_flight_told, cpu_told, is_given_back, is_handed, is_service, loads_told, running_told, seen, step_told};
+ghost use Rattle.dspec_telling.specs.Tellable.{CanBeTold, ConsumerCanBeTold, IsTellable};
+ghost use Rattle.dspec_telling.specs.Told.{ack_head, ack_told, ask_told, begun_told, consumer_begun_told, consumer_call_told, consumer_flight_told, consumer_told, cpu_call_told, cpu_flight_told, cpu_told, exchanges_told, is_given_back, is_handed, is_service, loads_told, running_told, step_told};
 
-use crate::reading::{ack, commits_to, discards_to, has_spoken, released, speaks_to};
-use crate::words::{number_of, tell_exchange, tell_load};
+use crate::showing::{ack, attempted, is_marked, word_at};
+use crate::words::{tell_exchange, tell_load};
 use dspec_buffer::TraceBuffer;
 use dspec_deeds::{Actor, ConsumerOp, CpuOp, Policy};
 use dspec_machine::Machine;
 use dspec_play::{ConsumerFlight, CpuFlight, Spare};
 use dspec_record::Schema;
-use dspec_word::{Code, SpecId, Word};
+use dspec_word::{Act, SpecId, Word, commit_at, discard_at, open_at, reap_at, speculate_at};
 use std::alloc::AllocError;
 
-/// The word of a slot, if it is one of the session's.
-fn seen<S: Schema, B: TraceBuffer<S>>(machine: &Machine<S, B>, slot: u32) -> Option<Word>
-    requires shown { IsShownMachine B.has B.capacity machine.now }
-    ensures { result ≡ seen machine.now.config (history machine.now) slot }
+/// A load of a slot's word.
+fn tell_slot<S: Schema, B: TraceBuffer<S>>(
+    text: &mut String,
+    machine: &Machine<S, B>,
+    slot: u32,
+) -> Result<(), AllocError>
+    requires tellable { IsTellable B.has B.capacity machine.now }
+    requires slot { IsSlot machine.now.config slot }
+    ensures { OnOk result (string_bytes text.new ≡ string_bytes text.old ++ loads_told (history machine.now) slot) }
 {
-    if slot < 1 || slot > machine.config.nspec {
-        return None;
-    }
-    Some(machine.words[(slot - 1) as usize])
+    tell_load(text, slot, word_at(machine, slot))
+}
+
+/// An exchange of a slot's word, by what the call does at the word that it was shown.
+fn tell_try<S: Schema, B: TraceBuffer<S>>(
+    text: &mut String,
+    machine: &Machine<S, B>,
+    slot: u32,
+    from: Word,
+    act: Act,
+) -> Result<(), AllocError>
+    requires tellable { IsTellable B.has B.capacity machine.now }
+    requires slot { IsSlot machine.now.config slot }
+    ensures { OnOk result (string_bytes text.new ≡ string_bytes text.old ++ exchanges_told (history machine.now) slot from act) }
+{
+    tell_exchange(
+        text,
+        slot,
+        from,
+        attempted(act, from),
+        word_at(machine, slot),
+    )
 }
 
 fn tell_running(text: &mut String, stopped: bool) -> Result<(), AllocError>
@@ -54,10 +78,10 @@ fn tell_ask(text: &mut String, wanted: bool) -> Result<(), AllocError>
 fn is_wanted<S: Schema, B: TraceBuffer<S>>(machine: &Machine<S, B>, cpu: u32) -> bool
     requires shown { IsShownMachine B.has B.capacity machine.now }
     requires cpu { cpu < machine.now.config.cpus }
-    ensures { result ≡ nat_lt (seals cpu (history machine.now)) (the_caller (state_of machine.now).callers cpu).want }
+    ensures { result ≡ nat_lt (seals cpu (history machine.now)) (progress_of (state_of machine.now).progresses cpu).want }
 {
     let own = &machine.cpus[cpu as usize];
-    own.side.seals < own.caller.want
+    own.side.seals < own.progress.want
 }
 
 /// The first step of a service.
@@ -66,13 +90,13 @@ fn tell_service<S: Schema, B: TraceBuffer<S>>(
     machine: &Machine<S, B>,
     cpu: u32,
 ) -> Result<(), AllocError>
-    requires shown { IsShownMachine B.has B.capacity machine.now }
+    requires tellable { IsTellable B.has B.capacity machine.now }
     requires cpu { cpu < machine.now.config.cpus }
-    ensures { OnOk result (string_bytes text.new ≡ string_bytes text.old ++ (if is_fill machine.now.config.policy then loads_told machine.now.config (history machine.now) 1
-        else ask_told (nat_lt (seals cpu (history machine.now)) (the_caller (state_of machine.now).callers cpu).want))) }
+    ensures { OnOk result (string_bytes text.new ≡ string_bytes text.old ++ (if is_fill machine.now.config.policy then loads_told (history machine.now) 1
+        else ask_told (nat_lt (seals cpu (history machine.now)) (progress_of (state_of machine.now).progresses cpu).want))) }
 {
     match machine.config.policy {
-        Policy::Fill => tell_load(text, 1, seen(machine, 1)),
+        Policy::Fill => tell_slot(text, machine, 1),
         Policy::Switch => tell_ask(text, is_wanted(machine, cpu)),
     }
 }
@@ -90,9 +114,9 @@ fn tell_begun<S: Schema, B: TraceBuffer<S>>(
     cpu: u32,
     op: CpuOp,
 ) -> Result<(), AllocError>
-    requires shown { IsShownMachine B.has B.capacity machine.now }
+    requires tellable { IsTellable B.has B.capacity machine.now }
     requires cpu { cpu < machine.now.config.cpus }
-    ensures { OnOk result (string_bytes text.new ≡ string_bytes text.old ++ begun_told machine.now.config (history machine.now) cpu (the_caller (state_of machine.now).callers cpu) op) }
+    ensures { OnOk result (string_bytes text.new ≡ string_bytes text.old ++ begun_told machine.now.config (history machine.now) cpu (progress_of (state_of machine.now).progresses cpu) op) }
 {
     if is_service(op) {
         return tell_service(text, machine, cpu);
@@ -107,9 +131,9 @@ fn tell_begun<S: Schema, B: TraceBuffer<S>>(
 fn spare_of<S: Schema, B: TraceBuffer<S>>(machine: &Machine<S, B>, cpu: u32) -> Spare
     requires shown { IsShownMachine B.has B.capacity machine.now }
     requires cpu { cpu < machine.now.config.cpus }
-    ensures { result ≡ (the_caller (state_of machine.now).callers cpu).spare }
+    ensures { result ≡ (progress_of (state_of machine.now).progresses cpu).spare }
 {
-    machine.cpus[cpu as usize].caller.spare
+    machine.cpus[cpu as usize].progress.spare
 }
 
 fn tell_pop(text: &mut String, spare: Spare) -> Result<(), AllocError>
@@ -149,40 +173,37 @@ fn tell_cpu<S: Schema, B: TraceBuffer<S>>(
     cpu: u32,
     flight: CpuFlight,
 ) -> Result<(), AllocError>
-    requires shown { IsShownMachine B.has B.capacity machine.now }
+    requires tellable { IsTellable B.has B.capacity machine.now }
     requires cpu { cpu < machine.now.config.cpus }
-    ensures { OnOk result (string_bytes text.new ≡ string_bytes text.old ++ cpu_told machine.now.config (history machine.now) cpu (the_caller (state_of machine.now).callers cpu) flight) }
+    requires told { CanBeTold machine.now.config flight }
+    ensures { OnOk result (string_bytes text.new ≡ string_bytes text.old ++ cpu_told machine.now.config (history machine.now) cpu (progress_of (state_of machine.now).progresses cpu) flight) }
 {
-    let deeds = machine.deeds.as_slice();
     match flight {
         CpuFlight::Begun(op) => tell_begun(text, machine, cpu, op),
-        CpuFlight::ScanLoad(slot) => tell_load(text, slot, seen(machine, slot)),
+        CpuFlight::ScanLoad(slot) => tell_slot(text, machine, slot),
         CpuFlight::ScanTry(slot, from) => {
-            let found = seen(machine, slot);
-            tell_exchange(text, slot, from, from.issue(), Code::Active, found)
+            let act = open_at(from, machine.config.max_issues);
+            tell_try(text, machine, slot, from, act)
         }
-        CpuFlight::SpeculateLoad(id, _) => tell_load(text, id.slot(), seen(machine, id.slot())),
+        CpuFlight::SpeculateLoad(id, _) => tell_slot(text, machine, id.slot()),
         CpuFlight::SpeculateTry(id, _, from) => {
-            let to = speaks_to(from, id, has_spoken(cpu, id, deeds));
-            let found = seen(machine, id.slot());
-            tell_exchange(text, id.slot(), from, to.issue, to.code, found)
+            let act = speculate_at(from, id, is_marked(machine, cpu, id));
+            tell_try(text, machine, id.slot(), from, act)
         }
-        CpuFlight::CommitLoad(id) => tell_load(text, id.slot(), seen(machine, id.slot())),
+        CpuFlight::CommitLoad(id) => tell_slot(text, machine, id.slot()),
         CpuFlight::CommitTry(id, from) => {
-            let to = commits_to(from, id, has_spoken(cpu, id, deeds));
-            let found = seen(machine, id.slot());
-            tell_exchange(text, id.slot(), from, to.issue, to.code, found)
+            let act = commit_at(from, id, is_marked(machine, cpu, id));
+            tell_try(text, machine, id.slot(), from, act)
         }
         CpuFlight::CommitRelease(id, _) => write!(text, "releases slot {}", id.slot()),
-        CpuFlight::DiscardLoad(id) => tell_load(text, id.slot(), seen(machine, id.slot())),
+        CpuFlight::DiscardLoad(id) => tell_slot(text, machine, id.slot()),
         CpuFlight::DiscardTry(id, from) => {
-            let to = discards_to(from, id, has_spoken(cpu, id, deeds));
-            let found = seen(machine, id.slot());
-            tell_exchange(text, id.slot(), from, to.issue, to.code, found)
+            let act = discard_at(from, id, is_marked(machine, cpu, id));
+            tell_try(text, machine, id.slot(), from, act)
         }
         CpuFlight::ServicePop => tell_pop(text, spare_of(machine, cpu)),
         CpuFlight::ServicePush => text.push_str("pushes the batch"),
-        CpuFlight::ServiceLoad(slot, _) => tell_load(text, slot, seen(machine, slot)),
+        CpuFlight::ServiceLoad(slot, _) => tell_slot(text, machine, slot),
         CpuFlight::ServiceStore(slot, _, _) => {
             write!(text, "stores its acknowledgement of slot {slot}")
         }
@@ -195,16 +216,16 @@ fn tell_consumer_begun<S: Schema, B: TraceBuffer<S>>(
     machine: &Machine<S, B>,
     op: ConsumerOp,
 ) -> Result<(), AllocError>
-    requires shown { IsShownMachine B.has B.capacity machine.now }
+    requires tellable { IsTellable B.has B.capacity machine.now }
     requires about { is_about machine.now.config op ≡ true }
     ensures { OnOk result (string_bytes text.new ≡ string_bytes text.old
-        ++ consumer_begun_told machine.now.config (history machine.now) (state_of machine.now).callers op) }
+        ++ consumer_begun_told (history machine.now) (state_of machine.now).progresses op) }
 {
     match op {
         ConsumerOp::Ask(cpu) => write!(text, "stores the ask of cpu {cpu}"),
         ConsumerOp::Take(cpu) => tell_take(text, spare_of(machine, cpu), cpu),
         ConsumerOp::GiveBack(cpu) => tell_give_back(text, spare_of(machine, cpu), cpu),
-        ConsumerOp::Clean => tell_load(text, 1, seen(machine, 1)),
+        ConsumerOp::Clean => tell_slot(text, machine, 1),
         ConsumerOp::Stop => text.push_str("stores the stop"),
     }
 }
@@ -216,25 +237,19 @@ fn tell_ack_head(text: &mut String, cpu: u32) -> Result<(), AllocError>
     write!(text, "loads whether cpu {cpu} acknowledged ")
 }
 
-fn tell_number(text: &mut String, number: u64) -> Result<(), AllocError>
-    ensures { OnOk result (string_bytes text.new ≡ string_bytes text.old ++ decimal number) }
+fn tell_id(text: &mut String, id: SpecId) -> Result<(), AllocError>
+    ensures { OnOk result (string_bytes text.new ≡ string_bytes text.old ++ decimal (id_number id)) }
 {
+    let number = id.raw();
     write!(text, "{number}")
 }
 
-/// The load of an acknowledgement of the speculation that the slot had at this word.
-fn tell_ack(
-    text: &mut String,
-    cpu: u32,
-    slot: u32,
-    issue: u64,
-    there: bool,
-) -> Result<(), AllocError>
-    requires { issue ≤ 2 ^ 57 + 1 }
-    ensures { OnOk result (string_bytes text.new ≡ string_bytes text.old ++ ack_told cpu record { issue = issue; slot = slot } there) }
+/// The load of an acknowledgement of a speculation.
+fn tell_ack(text: &mut String, cpu: u32, id: SpecId, there: bool) -> Result<(), AllocError>
+    ensures { OnOk result (string_bytes text.new ≡ string_bytes text.old ++ ack_told cpu id there) }
 {
     tell_ack_head(text, cpu)?;
-    tell_number(text, number_of(slot, issue))?;
+    tell_id(text, id)?;
     if there {
         return text.push_str(": yes");
     }
@@ -247,20 +262,19 @@ fn tell_consumer<S: Schema, B: TraceBuffer<S>>(
     machine: &Machine<S, B>,
     flight: ConsumerFlight,
 ) -> Result<(), AllocError>
-    requires shown { IsShownMachine B.has B.capacity machine.now }
-    requires about { is_about machine.now.config (consumer_op_of flight) ≡ true }
-    ensures { OnOk result (string_bytes text.new ≡ string_bytes text.old ++ consumer_told machine.now.config (history machine.now) (state_of machine.now).callers flight) }
+    requires tellable { IsTellable B.has B.capacity machine.now }
+    requires told { ConsumerCanBeTold machine.now.config flight }
+    ensures { OnOk result (string_bytes text.new ≡ string_bytes text.old ++ consumer_told (history machine.now) (state_of machine.now).progresses flight) }
 {
     match flight {
         ConsumerFlight::Begun(op) => tell_consumer_begun(text, machine, op),
-        ConsumerFlight::CleanLoad(slot, _) => tell_load(text, slot, seen(machine, slot)),
+        ConsumerFlight::CleanLoad(slot, _) => tell_slot(text, machine, slot),
         ConsumerFlight::CleanAck(slot, word, cpu, _) => {
-            let there = word.issue() < ack(cpu, slot, machine.deeds.as_slice());
-            tell_ack(text, cpu, slot, word.issue(), there)
+            let id = SpecId::of(word.issue(), slot);
+            tell_ack(text, cpu, id, word.issue() < ack(machine, cpu, slot))
         }
         ConsumerFlight::CleanReap(slot, word, _) => {
-            let to = released(word);
-            tell_exchange(text, slot, word, to.issue, to.code, seen(machine, slot))
+            tell_try(text, machine, slot, word, reap_at(word, true))
         }
     }
 }
@@ -326,9 +340,9 @@ fn tell_cpu_call<S: Schema, B: TraceBuffer<S>>(
 ) -> Result<(), AllocError>
     requires shown { IsShownMachine B.has B.capacity machine.now }
     requires cpu { cpu < machine.now.config.cpus }
-    ensures { OnOk result (string_bytes text.new ≡ string_bytes text.old ++ cpu_call_told (the_caller (state_of machine.now).callers cpu).flight) }
+    ensures { OnOk result (string_bytes text.new ≡ string_bytes text.old ++ cpu_call_told (progress_of (state_of machine.now).progresses cpu).flight) }
 {
-    match machine.cpus[cpu as usize].caller.flight {
+    match machine.cpus[cpu as usize].progress.flight {
         None => Ok(()),
         Some(flight) => tell_cpu_name(text, flight.op()),
     }
@@ -348,22 +362,24 @@ fn tell_consumer_call<S: Schema, B: TraceBuffer<S>>(
 }
 
 /// The next step of the CPU; nothing where no call is in flight.
+#[tactic(auto, using(crate::proofs::Tellable::kept_tells, crate::proofs::Tellable::cpu_can_be_told))]
 fn tell_cpu_step<S: Schema, B: TraceBuffer<S>>(
     text: &mut String,
     machine: &Machine<S, B>,
     cpu: u32,
 ) -> Result<(), AllocError>
-    requires shown { IsShownMachine B.has B.capacity machine.now }
+    requires kept { IsKept B.has B.capacity S.shape_of S.accepted machine.now }
     requires cpu { cpu < machine.now.config.cpus }
-    ensures { OnOk result (string_bytes text.new ≡ string_bytes text.old ++ cpu_flight_told cpu (state_of machine.now) (the_caller (state_of machine.now).callers cpu).flight) }
+    ensures { OnOk result (string_bytes text.new ≡ string_bytes text.old ++ cpu_flight_told cpu (state_of machine.now) (progress_of (state_of machine.now).progresses cpu).flight) }
 {
-    match machine.cpus[cpu as usize].caller.flight {
+    match machine.cpus[cpu as usize].progress.flight {
         None => Ok(()),
         Some(flight) => tell_cpu(text, machine, cpu, flight),
     }
 }
 
 /// The next step of the consumer; nothing where no call is in flight.
+#[tactic(auto, using(crate::proofs::Tellable::kept_tells, crate::proofs::Tellable::consumer_can_be_told))]
 fn tell_consumer_step<S: Schema, B: TraceBuffer<S>>(
     text: &mut String,
     machine: &Machine<S, B>,

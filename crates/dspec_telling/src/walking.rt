@@ -127,7 +127,7 @@ fn is_idle<S: Schema, B: TraceBuffer<S>>(machine: &Machine<S, B>, actor: Actor) 
     ensures { result ≡ is_idle actor (state_of machine.now) }
 {
     match actor {
-        Actor::Cpu(cpu) => machine.cpus[cpu as usize].caller.flight.is_none(),
+        Actor::Cpu(cpu) => machine.cpus[cpu as usize].progress.flight.is_none(),
         Actor::Consumer => machine.consumer.flight.is_none(),
     }
 }

@@ -1,9 +1,9 @@
 //! The words in which a step is told.
-ghost use Rattle.std.specs.Prelude.{◌≡◌, [], ◌+◌, ◌++◌, ◌^◌, ◌≤◌, ◌⊎◌, if◌then◌else◌, OnOk, codes, decimal, string_bytes};
+ghost use Rattle.std.specs.Prelude.{◌≡◌, ◌<◌, [], ◌++◌, ◌⊎◌, if◌then◌else◌, OnOk, codes, decimal, string_bytes};
 ghost use Rattle.dspec_word.specs.SpecId.{id_number};
 ghost use Rattle.dspec_deeds.specs.FateKinds.{is_lost, spoken_dropped, trace_dropped};
 ghost use Rattle.dspec_buffer.specs.Extent.{align_of, size_of};
-ghost use Rattle.dspec_telling.specs.Words.{bytes_told, decided_told, deed_behind, deed_told, exchange_end, exchange_told, exchanged_told, is_that_word, load_head, load_told, needed_told, refusal_told, refused_behind, refused_principal, shown_told, speculate_told, spoken_told, standing_word, trace_told, traced_told, verb_told, word_told};
+ghost use Rattle.dspec_telling.specs.Words.{bytes_told, decided_told, deed_behind, deed_told, exchange_told, exchanged_told, is_that_word, load_head, load_told, needed_told, refusal_told, refused_behind, refused_principal, speculate_told, spoken_told, standing_word, trace_told, traced_told, verb_told, word_told};
 
 use crate::room::{Room, bytes_needed};
 use dspec_deeds::{Config, DecideFate, Deed, SpeculateFate, TraceFate};
@@ -27,34 +27,15 @@ fn standing_name(code: Code) -> &'static str
     }
 }
 
-/// The number of the speculation that a slot has at an issue, which may be one more than a word has.
-pub(crate) fn number_of(slot: u32, issue: u64) -> u64
-    requires { issue ≤ 2 ^ 57 + 1 }
-    ensures { result ≡ id_number record { issue = issue; slot = slot } }
-{
-    64 * issue + u64::from(slot)
-}
-
-/// A slot's word, by its issue and its code.
+/// A slot's word, by the number of the speculation that it has or gives out next.
 #[tactic(auto, unfolding(crate::specs::Words::word_told))]
-pub(crate) fn tell_parts(
-    text: &mut String,
-    slot: u32,
-    issue: u64,
-    code: Code,
-) -> Result<(), AllocError>
-    requires { issue ≤ 2 ^ 57 + 1 }
-    ensures { OnOk result (string_bytes text.new ≡ string_bytes text.old ++ word_told slot record { issue = issue; code = code }) }
-{
-    let number = number_of(slot, issue);
-    let name = standing_name(code);
-    write!(text, "{number} {name}")
-}
-
-pub(crate) fn tell_word(text: &mut String, slot: u32, word: Word) -> Result<(), AllocError>
+fn tell_word(text: &mut String, slot: u32, word: Word) -> Result<(), AllocError>
+    requires slot { slot < 64 }
     ensures { OnOk result (string_bytes text.new ≡ string_bytes text.old ++ word_told slot word) }
 {
-    tell_parts(text, slot, word.issue(), word.code())
+    let number = SpecId::of(word.issue(), slot).raw();
+    let name = standing_name(word.code());
+    write!(text, "{number} {name}")
 }
 
 fn traced_name(fate: TraceFate) -> &'static str
@@ -217,7 +198,7 @@ fn tell_principal(
     requires { (align ≡ 4) ⊎ (align ≡ 8) }
     ensures { OnOk result (string_bytes text.new ≡ string_bytes text.old ++ refused_principal config.now room align needed) }
 {
-    if room.shut {
+    if room.closed {
         return text.push_str(": the buffer is closed");
     }
     tell_refused(text, config.bufsize, room.reach, align, needed)
@@ -325,15 +306,6 @@ pub(crate) fn tell_behind<S: Schema>(
     tell_refusal(text, config, schema, room, deed)
 }
 
-fn tell_shown(text: &mut String, slot: u32, found: Option<Word>) -> Result<(), AllocError>
-    ensures { OnOk result (string_bytes text.new ≡ string_bytes text.old ++ shown_told slot found) }
-{
-    match found {
-        None => Ok(()),
-        Some(word) => tell_word(text, slot, word),
-    }
-}
-
 #[tactic(auto, unfolding(crate::specs::Words::load_head))]
 fn tell_load_head(text: &mut String, slot: u32) -> Result<(), AllocError>
     ensures { OnOk result (string_bytes text.new ≡ string_bytes text.old ++ load_head slot) }
@@ -342,11 +314,12 @@ fn tell_load_head(text: &mut String, slot: u32) -> Result<(), AllocError>
 }
 
 /// A load of a slot's word.
-pub(crate) fn tell_load(text: &mut String, slot: u32, found: Option<Word>) -> Result<(), AllocError>
-    ensures { OnOk result (string_bytes text.new ≡ string_bytes text.old ++ load_told slot found) }
+pub(crate) fn tell_load(text: &mut String, slot: u32, word: Word) -> Result<(), AllocError>
+    requires slot { slot < 64 }
+    ensures { OnOk result (string_bytes text.new ≡ string_bytes text.old ++ load_told slot word) }
 {
     tell_load_head(text, slot)?;
-    tell_shown(text, slot, found)
+    tell_word(text, slot, word)
 }
 
 /// Whether two words are one.
@@ -359,13 +332,16 @@ fn is_that_word(word: Word, from: Word) -> bool
 
 /// A word of a slot, behind what is told of it.
 fn tell_found(text: &mut String, told: &str, slot: u32, word: Word) -> Result<(), AllocError>
+    requires slot { slot < 64 }
     ensures { OnOk result (string_bytes text.new ≡ string_bytes text.old ++ (told.now ++ word_told slot word)) }
 {
     text.push_str(told)?;
     tell_word(text, slot, word)
 }
 
+/// What an exchange that expects a word comes to.
 fn tell_exchanged(text: &mut String, slot: u32, from: Word, word: Word) -> Result<(), AllocError>
+    requires slot { slot < 64 }
     ensures { OnOk result (string_bytes text.new ≡ string_bytes text.old ++ exchanged_told slot from word) }
 {
     if is_that_word(word, from) {
@@ -374,31 +350,19 @@ fn tell_exchanged(text: &mut String, slot: u32, from: Word, word: Word) -> Resul
     tell_found(text, "fails, shown ", slot, word)
 }
 
-fn tell_end(text: &mut String, slot: u32, from: Word, found: Option<Word>) -> Result<(), AllocError>
-    ensures { OnOk result (string_bytes text.new ≡ string_bytes text.old ++ exchange_end slot from found) }
-{
-    match found {
-        None => Ok(()),
-        Some(word) => tell_exchanged(text, slot, from, word),
-    }
-}
-
-/// An exchange of a slot's word for one of this issue and code.
+/// An exchange of a slot's word, which expects one and attempts another.
 pub(crate) fn tell_exchange(
     text: &mut String,
     slot: u32,
     from: Word,
-    issue: u64,
-    code: Code,
-    found: Option<Word>,
+    to: Word,
+    word: Word,
 ) -> Result<(), AllocError>
-    requires { issue ≤ 2 ^ 57 + 1 }
-    ensures { OnOk result (string_bytes text.new ≡ string_bytes text.old ++ exchange_told slot from record { issue = issue; code = code } found) }
+    requires slot { slot < 64 }
+    ensures { OnOk result (string_bytes text.new ≡ string_bytes text.old ++ exchange_told slot from to word) }
 {
-    text.push_str("exchanges ")?;
-    tell_word(text, slot, from)?;
-    text.push_str(" for ")?;
-    tell_parts(text, slot, issue, code)?;
+    tell_found(text, "exchanges ", slot, from)?;
+    tell_found(text, " for ", slot, to)?;
     text.push_str(": ")?;
-    tell_end(text, slot, from, found)
+    tell_exchanged(text, slot, from, word)
 }

@@ -1,7 +1,7 @@
 //! Two lanes: each keeps a path, throws one away, and traces a record; one that the schema refuses isn't offered.
 use dspec::{
     Batch, Both, Config, Decided, Enablings, Field, Kept, Lane, Policy, Rec, Report, Sink, Traced,
-    Work, closed_cpu, trace,
+    Work, closed_cpu, closed_cpus, trace,
 };
 use std::sync::atomic::{AtomicU64, Ordering};
 use std::test::Fail;
@@ -41,6 +41,33 @@ impl Work<Enablings> for Requests {
         self.count(thrown.throw(lane) == Decided::Thrown(1));
         self.count(lane.record(1, 0, &[9]) == Some(Traced::Kept));
         self.count(lane.record(1, 0, &[256]).is_none());
+        self.count(lane.report().offered == 3);
+    }
+}
+
+/// A path of three records where two of eight bytes have room: its end is cut by one. It counts the answers that are due.
+#[derive(Drop)]
+struct LongPath {
+    due: AtomicU64,
+}
+
+impl LongPath {
+    fn count(&self, is_due: bool) {
+        if is_due {
+            self.due.fetch_add(1, Ordering::SeqCst);
+        }
+    }
+}
+
+impl Work<Enablings> for LongPath {
+    fn work(&self, lane: &mut Lane<'_, Enablings>) {
+        let path = lane.path();
+        path.step(lane, 1, 0, &[1]);
+        path.step(lane, 1, 0, &[2]);
+        self.count(path.dropped(lane) == 0);
+        path.step(lane, 1, 0, &[3]);
+        self.count(path.dropped(lane) == 1);
+        self.count(path.keep(lane) == Decided::Copied(2));
     }
 }
 
@@ -73,7 +100,7 @@ fn two_lanes(rt: HostRuntime) -> Result<(), Fail> {
     ) else {
         return Err("no session".into());
     };
-    assert!(rt; work.due.load(Ordering::SeqCst) == 8);
+    assert!(rt; work.due.load(Ordering::SeqCst) == 10);
     assert!(rt; counted.bytes == 32);
     let report = Report {
         offered: 3,
@@ -81,7 +108,11 @@ fn two_lanes(rt: HostRuntime) -> Result<(), Fail> {
         discarded: 1,
         ..Report::default()
     };
-    assert!(rt; *closed.report(0) == report && *closed.report(1) == report);
+    let mut numbers = 0..2;
+    for cpu in closed_cpus(&closed) {
+        assert!(rt; numbers.next() == Some(cpu.number) && *cpu.report == report);
+    }
+    assert!(rt; numbers.next().is_none());
     Ok(())
 }
 
@@ -109,5 +140,30 @@ fn records_are_kept(rt: HostRuntime) -> Result<(), Fail> {
     assert!(rt; records.len() == 2);
     assert!(rt; records.first().copied() == Rec::new(1, &[7]));
     assert!(rt; records.last().copied() == Rec::new(1, &[9]));
+    Ok(())
+}
+
+/// A path that outgrows its buffer says so before it is kept.
+#[test]
+fn end_of_a_path_is_cut(rt: HostRuntime) -> Result<(), Fail> {
+    let mut schema = Enablings::new();
+    assert!(rt; schema.enable(&[Field::One]).is_ok());
+    let work = LongPath {
+        due: AtomicU64::new(0),
+    };
+    let config = Config::of(1, 4, 64, 16);
+    let Ok((closed, counted)) = trace(
+        &rt,
+        rt.alloc(),
+        &config,
+        schema,
+        &work,
+        Counted { bytes: 0 },
+    ) else {
+        return Err("no session".into());
+    };
+    assert!(rt; work.due.load(Ordering::SeqCst) == 3);
+    assert!(rt; counted.bytes == 16);
+    assert!(rt; closed.report(0).specdropped == 1);
     Ok(())
 }

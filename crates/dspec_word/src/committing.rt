@@ -10,6 +10,10 @@ pub fn commit_at(word: Word, id: SpecId, mine: bool) -> Act
     requires { CanBeReleased word }
     ensures { result ≡ commit_at word id mine }
 {
+    // a caller's own speculation, which is most often, is told by one comparison
+    if mine && word.is_at(id.issue(), Code::ActiveOne) {
+        return Act::Attempt(word.with_code(Code::Committing));
+    }
     if word.issue() != id.issue() {
         return Act::Void;
     }

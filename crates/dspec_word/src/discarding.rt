@@ -10,6 +10,10 @@ pub fn discard_at(word: Word, id: SpecId, mine: bool) -> Act
     requires { CanBeReleased word }
     ensures { result ≡ discard_at word id mine }
 {
+    // a caller's own speculation, which is most often, is told by one comparison
+    if mine && word.is_at(id.issue(), Code::ActiveOne) {
+        return Act::Attempt(word.released());
+    }
     if word.issue() != id.issue() {
         return Act::Void;
     }

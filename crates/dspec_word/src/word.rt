@@ -1,4 +1,5 @@
-ghost use Rattle.std.specs.Prelude.{◌≡◌, ◌/◌, ◌%◌, ◌^◌, ◌<◌, ◌≤◌, ◌↔◌, ◌⊎◌, IsNone, IfSome, Some};
+ghost use Rattle.std.specs.Prelude.{◌≡◌, ◌/◌, ◌%◌, ◌^◌, ◌<◌, ◌≤◌, ◌↔◌, ◌⊎◌, IsNone, IfSome, Some, true};
+ghost use Rattle.dspec_word.specs.Code.{is_decided};
 ghost use Rattle.dspec_word.specs.Word.{SlotState, word_number, released};
 
 use crate::Code;
@@ -89,6 +90,23 @@ impl Word {
         ensures { result ≡ self.code }
     {
         Code::of_number(self.raw % 8)
+    }
+
+    /// Whether it is the word of this issue and code: one comparison.
+    #[inline(always)]
+    pub fn is_at(self, issue: u64, code: Code) -> bool
+        requires { issue < 2 ^ 58 }
+        ensures { (result ≡ true) ↔ (self ≡ record { issue = issue; code = code }) }
+    {
+        self.raw == 8 * issue + code.number()
+    }
+
+    /// Whether the speculation was committed or discarded, and the slot isn't released yet: one test.
+    #[inline(always)]
+    pub fn is_decided(self) -> bool
+        ensures { result ≡ is_decided self.code }
+    {
+        self.raw % 8 >= 4
     }
 
     pub(crate) fn with_code(self, code: Code) -> Word

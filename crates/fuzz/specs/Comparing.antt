@@ -1,7 +1,7 @@
 -- How what the player and a session told of a schedule compares.
 use Rattle.std.specs.Prelude.{◌≡◌, string_bytes}
 use Rattle.fuzz.specs.declared.comparing.Told.{Told}
-use Rattle.fuzz.specs.declared.comparing.Told.TheVariants.{Printed, Refused, Halted}
+use Rattle.fuzz.specs.declared.comparing.Told.TheVariants.{Printed, Refused, CantGoOn}
 
 -- both printed the same bytes
 abbrev pub IsAlike : Told → Told → Type 0

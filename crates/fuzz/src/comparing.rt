@@ -8,7 +8,7 @@ use dspec_core::play;
 use dspec_deeds::{Config, Turn};
 use dspec_play::{Outcome, PlayFault};
 use dspec_record::{DefaultAction, Header, StampedAction};
-use dspec_replay::{Halt, replay_schedule};
+use dspec_replay::{SessionFault, replay_schedule};
 use dspec_schedule::{Schedule, printed};
 use std::alloc::{AllocError, Global};
 
@@ -20,7 +20,7 @@ pub enum Told {
     /// It refused it.
     Refused(PlayFault),
     /// The session couldn't go on where the player has to.
-    Halted(Halt),
+    CantGoOn(SessionFault),
 }
 
 /// How both compare.
@@ -57,9 +57,9 @@ fn player_told(alloc: Global, schedule: &Schedule) -> Result<Told, AllocError> {
 fn session_told(alloc: Global, schedule: &Schedule) -> Result<Told, AllocError> {
     match replay_schedule(alloc, schedule) {
         Ok(outcome) => Ok(Told::Printed(printed(alloc, schedule.header(), &outcome)?)),
-        Err(Halt::Play(PlayFault::Memory)) => Err(AllocError),
-        Err(Halt::Play(fault)) => Ok(Told::Refused(fault)),
-        Err(halt) => Ok(Told::Halted(halt)),
+        Err(SessionFault::Play(PlayFault::Memory)) => Err(AllocError),
+        Err(SessionFault::Play(fault)) => Ok(Told::Refused(fault)),
+        Err(fault) => Ok(Told::CantGoOn(fault)),
     }
 }
 

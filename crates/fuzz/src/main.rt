@@ -6,19 +6,19 @@
 //! refused it alike. One seed gives the same schedules on every machine.
 #![tactic(auto)]
 
-mod asking;
 mod comparing;
 mod making;
+mod options;
 mod records;
 mod sample;
 mod shortening;
 mod tally;
 mod writing;
 
-use asking::{Ask, ask_of};
 use comparing::{Verdict, both_told, verdict_of};
 use dspec_dice::Dice;
 use making::sample;
+use options::{Options, options_of};
 use sample::Sample;
 use shortening::shorten;
 use std::alloc::{AllocError, Global};
@@ -31,10 +31,10 @@ use writing::difference;
 const USAGE_STATUS: u8 = 4;
 
 /// Plays random schedules until both players differ, and gives the counts and the schedule at which they do, shortened.
-fn play_all(alloc: Global, ask: Ask) -> Result<(Tally, Option<Sample>), AllocError> {
-    let mut dice = Dice::new(ask.seed);
+fn play_all(alloc: Global, options: Options) -> Result<(Tally, Option<Sample>), AllocError> {
+    let mut dice = Dice::new(options.seed);
     let mut tally = Tally::default();
-    for _ in 0..ask.count {
+    for _ in 0..options.count {
         let mut sample = sample(alloc, &mut dice)?;
         let (player, session) = both_told(alloc, &sample)?;
         let verdict = verdict_of(&player, &session);
@@ -48,8 +48,8 @@ fn play_all(alloc: Global, ask: Ask) -> Result<(Tally, Option<Sample>), AllocErr
 }
 
 /// Plays, and prints the difference, where there is one, and the counts. Says whether there was none.
-fn run(rt: &HostRuntime, ask: Ask) -> io::Result<bool> {
-    let (tally, found) = play_all(rt.alloc(), ask)?;
+fn run(rt: &HostRuntime, options: Options) -> io::Result<bool> {
+    let (tally, found) = play_all(rt.alloc(), options)?;
     if let Some(sample) = &found {
         let (player, session) = both_told(rt.alloc(), sample)?;
         let text = difference(rt.alloc(), sample, &player, &session)?;
@@ -60,20 +60,20 @@ fn run(rt: &HostRuntime, ask: Ask) -> io::Result<bool> {
 }
 
 /// What the arguments ask, if it is something that the program does.
-fn asked(rt: &HostRuntime) -> io::Result<Option<Ask>> {
+fn read_options(rt: &HostRuntime) -> io::Result<Option<Options>> {
     let mut words = Vec::new(rt.alloc());
     for word in env::args(rt)? {
         words.push(word)?;
     }
-    Ok(ask_of(words.as_slice()))
+    Ok(options_of(words.as_slice()))
 }
 
 fn main(rt: HostRuntime) -> io::Result<ExitCode> {
-    let Some(ask) = asked(&rt)? else {
+    let Some(options) = read_options(&rt)? else {
         eprintln!(rt; "fuzz: usage: fuzz SEED COUNT")?;
         return Ok(ExitCode::from(USAGE_STATUS));
     };
-    if run(&rt, ask)? {
+    if run(&rt, options)? {
         Ok(ExitCode::SUCCESS)
     } else {
         Ok(ExitCode::FAILURE)

@@ -113,7 +113,7 @@ fn write_told(text: &mut String, who: &str, told: &Told) -> Result<(), AllocErro
     match told {
         Told::Printed(lines) => write!(text, "-- {who} prints:\n{lines}"),
         Told::Refused(fault) => writeln!(text, "-- {who} refuses it: {fault}"),
-        Told::Halted(halt) => writeln!(text, "-- {who} can't go on: {halt:?}"),
+        Told::CantGoOn(fault) => writeln!(text, "-- {who} can't go on: {fault:?}"),
     }
 }
 

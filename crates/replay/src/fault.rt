@@ -1,4 +1,4 @@
-use dspec_replay::Halt;
+use dspec_replay::SessionFault;
 use dspec_schedule::{LineKind, Schedule, ScheduleFault};
 use std::alloc::AllocError;
 use thiserror::Error;
@@ -48,11 +48,11 @@ impl From<ScheduleFault> for ReplayFault {
 }
 
 /// The same of a session that doesn't go on, told at the line of its turn.
-pub fn told(halt: Halt, schedule: &Schedule) -> ReplayFault {
-    match halt {
-        Halt::Play(fault) => ReplayFault::from(schedule.blame(fault)),
-        Halt::NoText(cpu) => ReplayFault::NoText { cpu },
-        Halt::NoWholeCall(turn) => ReplayFault::NoWholeCall {
+pub fn told(fault: SessionFault, schedule: &Schedule) -> ReplayFault {
+    match fault {
+        SessionFault::Play(fault) => ReplayFault::from(schedule.blame(fault)),
+        SessionFault::NoText(cpu) => ReplayFault::NoText { cpu },
+        SessionFault::NoWholeCall(turn) => ReplayFault::NoWholeCall {
             line: schedule.lines.get(turn).copied().unwrap_or(0),
         },
     }

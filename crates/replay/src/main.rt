@@ -20,7 +20,7 @@ fn replay_text(alloc: Global, text: &[u8]) -> Result<String, ReplayFault> {
     let schedule = read_schedule(alloc, text)?;
     match replay_schedule(alloc, &schedule) {
         Ok(outcome) => Ok(printed(alloc, schedule.header(), &outcome)?),
-        Err(halt) => Err(told(halt, &schedule)),
+        Err(fault) => Err(told(fault, &schedule)),
     }
 }
 

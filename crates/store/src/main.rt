@@ -6,8 +6,6 @@
 //! The stamps are of a clock that each worker counts for itself, so that the same is printed however the threads run.
 #![tactic(auto)]
 
-ghost use Rattle.std.specs.Prelude.{◌≤◌, length};
-
 mod board;
 mod folder;
 mod probes;
@@ -16,7 +14,7 @@ mod telling;
 
 use anyhow::{Context, Result, ensure};
 use board::Board;
-use dspec::{Closed, Config, Enablings, Kept, Rec, closed_cpu, trace};
+use dspec::{Closed, Config, Enablings, Kept, Rec, closed_cpus, trace};
 use dspec_trace::{Folder, SystemFolder};
 use folder::{write_metadata, write_worker};
 use probes::enable;
@@ -43,13 +41,10 @@ fn write_trace<F: Folder>(
     schema: &Enablings,
     closed: &Closed,
     records: &[Rec],
-) -> Result<()>
-    requires { 3 ≤ length closed.now }
-{
+) -> Result<()> {
     write_metadata(alloc, &mut folder, schema)?;
-    for worker in 0..WORKERS {
-        let report = closed_cpu(closed, worker).report;
-        write_worker(alloc, &mut folder, schema, worker, report, records)?;
+    for cpu in closed_cpus(closed) {
+        write_worker(alloc, &mut folder, schema, cpu.number, cpu.report, records)?;
     }
     Ok(())
 }
@@ -71,8 +66,8 @@ fn main(rt: HostRuntime) -> Result<()> {
     records.sort_by_key(|rec: &Rec| rec.stamp())?;
     tell_paths(&rt, &records)?;
     server.board.tell(&rt)?;
-    for worker in 0..WORKERS {
-        tell_report(&rt, worker, closed_cpu(&closed, worker).report)?;
+    for cpu in closed_cpus(&closed) {
+        tell_report(&rt, cpu.number, cpu.report)?;
     }
     if let Some(folder) = folder {
         write_trace(rt.alloc(), folder, &schema, &closed, &records)?;

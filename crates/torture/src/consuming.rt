@@ -17,7 +17,7 @@ fn give_back(consumer: &mut Consumer, shared: &Shared, basket: &mut Basket)
     requires { IsConsumerOf (words_of shared.now) consumer.old }
     ensures { Stays (words_of shared.now) consumer.old consumer.new }
 {
-    let Some(batch) = basket.oldest() else {
+    let Some(batch) = basket.take_oldest() else {
         return;
     };
     if consumer.give_back(shared, batch).is_err() {

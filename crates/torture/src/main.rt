@@ -18,7 +18,7 @@ mod telling;
 mod working;
 
 use anyhow::{Context, Result};
-use dspec_logs::{DAMAGES, Halt, Sums, check, found};
+use dspec_logs::{CheckFault, DAMAGES, Sums, check, found};
 use planning::Plan;
 use running::run;
 use std::alloc::Global;
@@ -46,11 +46,11 @@ fn try_seed<R: Threads + Print + Sync>(
     let story = run(rt, alloc, &plan)?;
     match check(alloc, &story, sums) {
         Ok(()) => Ok(true),
-        Err(Halt::Found(flaw)) => {
+        Err(CheckFault::Found(flaw)) => {
             tell(rt, seed, &story, &flaw)?;
             Ok(false)
         }
-        Err(Halt::Memory) => anyhow::bail!("out of memory"),
+        Err(CheckFault::Memory) => anyhow::bail!("out of memory"),
     }
 }
 

@@ -71,7 +71,7 @@ impl Basket {
     }
 
     /// The batch that is out longest.
-    pub fn oldest(&mut self) -> Option<Batch> {
+    pub fn take_oldest(&mut self) -> Option<Batch> {
         if self.out.is_empty() {
             return None;
         }

@@ -12,7 +12,7 @@ mod requests;
 mod serving;
 
 use anyhow::{Context, Result};
-use dspec::{Both, Config, Enablings, Kept, closed_cpu, trace};
+use dspec::{Both, Config, Enablings, Kept, closed_cpus, trace};
 use dspec_trace::{EventNames, Names, SystemFolder, TraceFolder};
 use paths::{compare, tell};
 use requests::{PROBES, WORKERS, enable};
@@ -20,13 +20,13 @@ use serving::Server;
 use std::env;
 
 /// What the command line asks for.
-struct Asked {
+struct CommandLine {
     seed: u64,
     folder: Option<String>,
 }
 
 /// The seed that the command line names, or 1, and the folder, if it names one.
-fn asked_of(rt: &HostRuntime) -> Result<Asked> {
+fn read_words(rt: &HostRuntime) -> Result<CommandLine> {
     let mut words = env::args(rt)?;
     let _program = words.next();
     let mut word = words.next();
@@ -39,7 +39,7 @@ fn asked_of(rt: &HostRuntime) -> Result<Asked> {
         Some(word) => word.as_str().parse::<u64>().context("a seed is a number")?,
         None => 1,
     };
-    Ok(Asked { seed, folder })
+    Ok(CommandLine { seed, folder })
 }
 
 /// Begins a trace in the folder of that path, with the names of the probes in its metadata.
@@ -58,7 +58,7 @@ fn begin_trace<'a>(
 }
 
 fn main(rt: HostRuntime) -> Result<()> {
-    let Asked { seed, folder } = asked_of(&rt)?;
+    let CommandLine { seed, folder } = read_words(&rt)?;
     let schema = enable()?;
     let second = match &folder {
         Some(path) => Some(begin_trace(&rt, path.as_str(), &schema)?),
@@ -70,10 +70,9 @@ fn main(rt: HostRuntime) -> Result<()> {
     let (closed, sink) = trace(&rt, rt.alloc(), &config, schema, &Server { seed }, sink)?;
     let Both { first, second } = sink;
     let seen = first.records()?;
-    for worker in 0..WORKERS {
-        let report = closed_cpu(&closed, worker).report;
-        tell(&rt, seed, worker, seen.as_slice(), report)?;
-        compare(seed, worker, seen.as_slice(), report)?;
+    for cpu in closed_cpus(&closed) {
+        tell(&rt, seed, cpu.number, seen.as_slice(), cpu.report)?;
+        compare(seed, cpu.number, seen.as_slice(), cpu.report)?;
     }
     if let Some(folder) = second {
         folder.finish()?;

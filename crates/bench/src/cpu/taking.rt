@@ -1,7 +1,7 @@
 //! The ways of a record by its schema, and the buffers that it goes into.
 use crate::cpu::asking::Run;
 use crate::cpu::starting::begin;
-use crate::cpu::way::{Way, commit_often, serve_often, trace_often, trace_over};
+use crate::cpu::way::{Way, commit_often, serve_often, single_often, trace_often, trace_over};
 use dspec::Lane;
 use dspec_deeds::{Config, Policy};
 use dspec_record::{DefaultAction, Rec, Schema};
@@ -62,6 +62,7 @@ fn take_by<S: Schema>(alloc: Global, schema: S, rec: Rec, run: Run) -> Option<u3
             Some(run.number.saturating_sub(kept))
         }
         Way::Committed => Some(commit_often(&mut cpu, &shared, &rec, run.number)),
+        Way::Single => Some(single_often(&mut cpu, &shared, &rec, run.number)),
         Way::Served => Some(serve_often(&mut cpu, &shared, run.number)),
     }
 }

@@ -24,16 +24,19 @@ pub enum Way {
     Dropped,
     /// It is one of twenty of a speculation, which is opened, kept and committed.
     Committed,
+    /// It is the one of a speculation, which is opened, kept and committed.
+    Single,
     /// There is none: the CPU services, and nothing is owed.
     Served,
 }
 
 /// All of them, in the order in which they are told.
-pub const WAYS: [Way; 5] = [
+pub const WAYS: [Way; 6] = [
     Way::Kept,
     Way::Lane,
     Way::Dropped,
     Way::Committed,
+    Way::Single,
     Way::Served,
 ];
 
@@ -44,6 +47,7 @@ impl Way {
             Way::Lane => "lane",
             Way::Dropped => "dropped",
             Way::Committed => "committed",
+            Way::Single => "single",
             Way::Served => "served",
         }
     }
@@ -134,6 +138,35 @@ pub fn commit_often<S: Schema>(cpu: &mut Cpu<S>, shared: &Shared, rec: &Rec, num
     let mut copied: u32 = 0;
     for _ in 0..number / BLOCK_RECORDS {
         copied = copied.wrapping_add(commit_one(cpu, shared, rec));
+    }
+    copied
+}
+
+/// One speculation of one record, which stays a call: whether its commit copied that.
+#[inline(never)]
+fn commit_single<S: Schema>(cpu: &mut Cpu<S>, shared: &Shared, rec: &Rec) -> bool
+    requires of { Belongs (words_of shared.now) (identity cpu.old) }
+    requires accepted { IsTrue (S.accepted (schema_of cpu.old) rec.now) }
+    ensures same { identity cpu.new ≡ identity cpu.old }
+{
+    let Opening::Id(id) = cpu.speculation(shared) else {
+        return false;
+    };
+    let _ = speculate_one(cpu, shared, id, rec);
+    cpu.commit(shared, id) == Decided::Copied(1)
+}
+
+/// So many speculations of one record: how many were copied.
+pub fn single_often<S: Schema>(cpu: &mut Cpu<S>, shared: &Shared, rec: &Rec, number: u32) -> u32
+    requires of { Belongs (words_of shared.now) (identity cpu.old) }
+    requires accepted { IsTrue (S.accepted (schema_of cpu.old) rec.now) }
+    ensures same { identity cpu.new ≡ identity cpu.old }
+{
+    let mut copied: u32 = 0;
+    for _ in 0..number {
+        if commit_single(cpu, shared, rec) {
+            copied = copied.wrapping_add(1);
+        }
     }
     copied
 }

@@ -1,7 +1,9 @@
 //! The buffers that a timed record is pushed into.
 ghost use Rattle.std.specs.Prelude.{IsTrue};
 
-use crate::push::way::{BLOCK_RECORDS, Way, push_blocks, push_often, read_once, read_through};
+use crate::push::way::{
+    BLOCK_RECORDS, Way, push_blocks, push_often, read_nothing_often, read_once, read_through,
+};
 use dspec_buffer::{ByteBuffer, TraceBuffer};
 use dspec_record::{Rec, Schema};
 use std::alloc::{AllocError, Global};
@@ -74,8 +76,7 @@ impl<S: Schema> Setup<S> {
                 &self.block,
                 number / BLOCK_RECORDS,
             ),
-            Way::Read => sum = read_through(&self.schema, self.first_bytes(number)),
-            Way::Once => sum = read_once(&self.schema, self.first_bytes(number)),
+            Way::Read | Way::Once | Way::Empty => sum = self.read(way, number),
         }
         let buffer = match way {
             Way::Refused => &self.full,
@@ -85,6 +86,15 @@ impl<S: Schema> Setup<S> {
             count: <ByteBuffer as TraceBuffer<S>>::count(buffer),
             offset: <ByteBuffer as TraceBuffer<S>>::offset(buffer),
             sum,
+        }
+    }
+
+    /// Reads so many records, or so many times none: what came of it.
+    fn read(&self, way: Way, number: u32) -> u64 {
+        match way {
+            Way::Empty => read_nothing_often(&self.schema, number),
+            Way::Once => read_once(&self.schema, self.first_bytes(number)),
+            _ => read_through(&self.schema, self.first_bytes(number)),
         }
     }
 

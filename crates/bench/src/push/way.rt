@@ -20,10 +20,19 @@ pub enum Way {
     Read,
     /// It is read out of a buffer by a `Reading`, which checks as it goes.
     Once,
+    /// There is none: `read_all` reads a text of no bytes.
+    Empty,
 }
 
 /// All of them, in the order in which they are told.
-pub const WAYS: [Way; 5] = [Way::Kept, Way::Refused, Way::Block, Way::Read, Way::Once];
+pub const WAYS: [Way; 6] = [
+    Way::Kept,
+    Way::Refused,
+    Way::Block,
+    Way::Read,
+    Way::Once,
+    Way::Empty,
+];
 
 impl Way {
     pub fn name(self) -> &'static str {
@@ -33,6 +42,7 @@ impl Way {
             Way::Block => "block",
             Way::Read => "read",
             Way::Once => "once",
+            Way::Empty => "empty",
         }
     }
 }
@@ -106,4 +116,21 @@ pub fn read_once<S: Schema>(schema: &S, bytes: &[u8]) -> u64 {
         };
         sum = sum.wrapping_add(told(&rec));
     }
+}
+
+/// One `read_all` of no bytes, which stays a call: whether the text could be read.
+#[inline(never)]
+fn read_nothing<S: Schema>(schema: &S) -> bool {
+    read_all(schema, &[]).is_ok()
+}
+
+/// Reads no bytes so many times: how often they could be read.
+pub fn read_nothing_often<S: Schema>(schema: &S, number: u32) -> u64 {
+    let mut read: u64 = 0;
+    for _ in 0..number {
+        if read_nothing(schema) {
+            read = read.wrapping_add(1);
+        }
+    }
+    read
 }

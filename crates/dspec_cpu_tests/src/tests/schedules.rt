@@ -161,7 +161,7 @@ fn reported<S: Schema>(alloc: Global, cpus: &Cpus<S>) -> Result<Series<Report>, 
     Ok(reports)
 }
 
-/// What is left of a CPU behind what was taken of it: what waits in the ring, the batch that waits in hand, and the one that grew
+/// What is left of a CPU behind what was taken of it: what waits in the ring, the batch held back, and the one that grew
 /// last.
 fn leave<S: Schema>(schema: &S, cpu: Cpu<S>, taker: &mut Taker) -> Result<(), Fail> {
     taker.take(schema)?;

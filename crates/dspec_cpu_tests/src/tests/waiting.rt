@@ -3,7 +3,7 @@ use crate::tests::schedules::{PLAIN, Row, play_all};
 use std::test::Fail;
 
 const ROWS: [Row<'static>; 5] = [
-    // A batch that the full ring refuses waits in hand, and is handed on by a later service, before anything is sealed. It takes
+    // A batch that the full ring refuses is held back, and is handed on by a later service, before anything is sealed. It takes
     // a consumer that gives back what it never took.
     Row {
         name: "refused-batch",
@@ -47,7 +47,7 @@ stream cpu 0: 1 2 3 4
 ",
         ..PLAIN
     },
-    // What waits in hand at the end is left, between what was taken and what grew last.
+    // What is held back at the end is left, between what was taken and what grew last.
     Row {
         name: "refused-batch-at-the-end",
         asked: 9,
@@ -97,7 +97,7 @@ stream cpu 0: 1 2
 ",
         ..PLAIN
     },
-    // A spare is found while a batch waits in hand, which no other may replace: nothing is sealed. The spare is kept, and taken by
+    // A spare is found while a batch is held back, which no other may replace: nothing is sealed. The spare is kept, and taken by
     // the service that hands the batch on.
     Row {
         name: "spare-behind-a-batch-in-hand",
@@ -142,7 +142,7 @@ stream cpu 0: 1 2 3 4
 ",
         ..PLAIN
     },
-    // Behind a batch in hand a buffer of another size is no spare either. What was found then is kept, and at the end the batch in
+    // Behind a batch held back a buffer of another size is no spare either. What was found then is kept, and at the end the batch in
     // hand stands in front of what grew last.
     Row {
         name: "other-size-behind-a-batch-in-hand",

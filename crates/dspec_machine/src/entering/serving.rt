@@ -2,7 +2,7 @@ ghost use Rattle.std.specs.Prelude.{◌≡◌, ◌<◌, ◌≤◌, ◌+◌, ◌�
 ghost use Rattle.dspec_deeds.specs.declared.deed.Deed.TheVariants as deed;
 ghost use Rattle.dspec_deeds.specs.Legal.{IsAllowed};
 ghost use Rattle.dspec_machine.specs.Machines.{Adds, IsShownMachine, history, state_of};
-ghost use Rattle.dspec_play.specs.Coherent.{the_caller};
+ghost use Rattle.dspec_play.specs.Coherent.{progress_of};
 ghost use Rattle.dspec_deeds.specs.Own.{seals};
 ghost use Rattle.dspec_deeds.specs.Ranges.{start_fault};
 
@@ -40,7 +40,7 @@ impl<S: Schema, B: TraceBuffer<S>> Machine<S, B> {
         requires ranges { start_fault self.old.config ≡ None }
         requires legal { IsAllowed (S.shape_of self.old.schema) self.old.config (deed.Seal cpu ∷ [] ++ history self.old) }
         requires cpu { cpu < self.old.config.cpus }
-        requires takes { (the_caller (state_of self.old).callers cpu).takes ≤ seals cpu (history self.old) }
+        requires takes { (progress_of (state_of self.old).progresses cpu).takes ≤ seals cpu (history self.old) }
         ensures shown { OnOk result (IsShownMachine B.has B.capacity self.new) }
         ensures entered { OnOk result (Adds (deed.Seal cpu ∷ []) self.old self.new) }
         ensures refused { OnErr result (self.new ≡ self.old) }

@@ -31,8 +31,8 @@ impl<S: Schema, B: TraceBuffer<S>> Machine<S, B> {
             own.side.trace_stopped::<S>();
             return Ok(());
         }
-        let shut = own.side.is_shut(&self.config);
-        own.side.trace(&self.schema, rec, shut);
+        let closed = own.side.is_closed(&self.config);
+        own.side.trace(&self.schema, rec, closed);
         Ok(())
     }
 }

@@ -2,7 +2,7 @@ ghost use Rattle.std.specs.Prelude.{◌≡◌, ◌<◌, ◌≤◌, ◌+◌, ◌^
 ghost use Rattle.dspec_deeds.specs.declared.calls.ConsumerOp.TheVariants as consumer_op;
 ghost use Rattle.dspec_play.specs.declared.flight.ConsumerFlight.TheVariants as flight;
 ghost use Rattle.dspec_play.specs.declared.flight.Spare.TheVariants as spare;
-ghost use Rattle.dspec_play.specs.Coherent.{IsSlot, the_caller};
+ghost use Rattle.dspec_play.specs.Coherent.{IsSlot, progress_of};
 ghost use Rattle.dspec_deeds.specs.Legal.{IsAllowed};
 ghost use Rattle.dspec_machine.specs.Machines.{Cleans, IsShownMachine, history, state_of};
 ghost use Rattle.dspec_machine.specs.Standing.{ConsumerStandsAt};
@@ -27,8 +27,8 @@ impl<S: Schema, B: TraceBuffer<S>> Machine<S, B> {
         requires cpu { cpu < self.old.config.cpus }
         ensures { CleansAs B.has B.capacity self.old self.new (flight.Begun (consumer_op.Ask cpu)) result }
     {
-        let caller = &mut self.cpus[cpu as usize].caller;
-        caller.want = caller.takes + 1;
+        let progress = &mut self.cpus[cpu as usize].progress;
+        progress.want = progress.takes + 1;
         self.stop_consumer(Answer::AskDone)
     }
 
@@ -40,7 +40,7 @@ impl<S: Schema, B: TraceBuffer<S>> Machine<S, B> {
         ensures refused { OnErr result (self.new ≡ self.old) }
     {
         let own = &self.cpus[cpu as usize];
-        if !matches!(&own.caller.spare, Spare::Handed) {
+        if !matches!(&own.progress.spare, Spare::Handed) {
             return Ok(self.stop_consumer(Answer::TookNone));
         }
         self.take_batch(cpu)
@@ -50,16 +50,16 @@ impl<S: Schema, B: TraceBuffer<S>> Machine<S, B> {
     fn take_batch(&mut self, cpu: u32) -> Result<Option<Answer>, AllocError>
         requires shown { IsShownMachine B.has B.capacity self.old }
         requires cpu { cpu < self.old.config.cpus }
-        requires fits { (the_caller (state_of self.old).callers cpu).takes + 1 < 2 ^ 64 }
-        requires sealed { seals cpu (history self.old) ≡ (the_caller (state_of self.old).callers cpu).takes + 1 }
+        requires fits { (progress_of (state_of self.old).progresses cpu).takes + 1 < 2 ^ 64 }
+        requires sealed { seals cpu (history self.old) ≡ (progress_of (state_of self.old).progresses cpu).takes + 1 }
         ensures cleans { IfOk result (λ answer. Cleans B.has B.capacity self.old self.new (takes_batch self.old cpu spare.Handed) answer) }
         ensures refused { OnErr result (self.new ≡ self.old) }
     {
         let own = &mut self.cpus[cpu as usize];
         let from = own.taken.len();
         append_records(&mut own.taken, &self.schema, &own.second)?;
-        own.caller.spare = Spare::Out;
-        own.caller.takes += 1;
+        own.progress.spare = Spare::Out;
+        own.progress.takes += 1;
         let answer = Answer::Took {
             drops: own.sealed_drops,
             from,
@@ -75,10 +75,10 @@ impl<S: Schema, B: TraceBuffer<S>> Machine<S, B> {
         ensures { CleansAs B.has B.capacity self.old self.new (flight.Begun (consumer_op.GiveBack cpu)) result }
     {
         let own = &self.cpus[cpu as usize];
-        if !matches!(&own.caller.spare, Spare::Out) {
+        if !matches!(&own.progress.spare, Spare::Out) {
             return self.stop_consumer(Answer::GaveBack(false));
         }
-        self.cpus[cpu as usize].caller.spare = Spare::GivenBack;
+        self.cpus[cpu as usize].progress.spare = Spare::GivenBack;
         self.stop_consumer(Answer::GaveBack(true))
     }
 
@@ -96,7 +96,7 @@ impl<S: Schema, B: TraceBuffer<S>> Machine<S, B> {
 
     fn stop_consumer(&mut self, answer: Answer) -> Option<Answer>
         requires shown { IsShownMachine B.has B.capacity self.old }
-        ensures { Cleans B.has B.capacity self.old self.new (stops self.old.config (history self.old) self.old.consumer (state_of self.old).callers [] answer) result }
+        ensures { Cleans B.has B.capacity self.old self.new (stops self.old.config (history self.old) self.old.consumer (state_of self.old).progresses [] answer) result }
     {
         self.consumer.flight = None;
         self.consumer.steps = 0;
@@ -106,7 +106,7 @@ impl<S: Schema, B: TraceBuffer<S>> Machine<S, B> {
     fn keep_on(&mut self, flight: ConsumerFlight) -> Option<Answer>
         requires shown { IsShownMachine B.has B.capacity self.old }
         requires steps { self.old.consumer.steps < 2 ^ 31 }
-        ensures { Cleans B.has B.capacity self.old self.new (keeps_on self.old.config (history self.old) self.old.consumer (state_of self.old).callers [] flight) result }
+        ensures { Cleans B.has B.capacity self.old self.new (keeps_on self.old.config (history self.old) self.old.consumer (state_of self.old).progresses [] flight) result }
     {
         self.consumer.flight = Some(flight);
         self.consumer.steps += 1;
@@ -118,7 +118,7 @@ impl<S: Schema, B: TraceBuffer<S>> Machine<S, B> {
         requires shown { IsShownMachine B.has B.capacity self.old }
         requires steps { self.old.consumer.steps < 2 ^ 31 }
         requires slot { slot ≤ self.old.config.nspec }
-        ensures { Cleans B.has B.capacity self.old self.new (next_slot self.old.config (history self.old) self.old.consumer (state_of self.old).callers slot [] released) result }
+        ensures { Cleans B.has B.capacity self.old self.new (next_slot self.old.config (history self.old) self.old.consumer (state_of self.old).progresses slot [] released) result }
     {
         if slot == self.config.nspec {
             return self.stop_consumer(Answer::Cleaned(released));
@@ -133,7 +133,7 @@ impl<S: Schema, B: TraceBuffer<S>> Machine<S, B> {
         requires legal { IsAllowed (S.shape_of self.old.schema) self.old.config (history self.old) }
         requires steps { self.old.consumer.steps < 2 ^ 31 }
         requires slot { IsSlot self.old.config slot }
-        ensures { Cleans B.has B.capacity self.old self.new (loads_slot self.old.config (history self.old) self.old.consumer (state_of self.old).callers slot released) result }
+        ensures { Cleans B.has B.capacity self.old self.new (loads_slot self.old.config (history self.old) self.old.consumer (state_of self.old).progresses slot released) result }
     {
         let word = self.words[(slot - 1) as usize];
         match reap_at(word, true) {

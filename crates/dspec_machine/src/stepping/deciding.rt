@@ -5,7 +5,7 @@ ghost use Rattle.dspec_deeds.specs.Ranges.{start_fault};
 ghost use Rattle.dspec_deeds.specs.Legal.{IsAllowed, IsSound};
 ghost use Rattle.dspec_deeds.specs.History.{in_range, issue, word_at};
 ghost use Rattle.dspec_deeds.specs.Own.{calls};
-ghost use Rattle.dspec_play.specs.Coherent.{IsCoherent, the_caller};
+ghost use Rattle.dspec_play.specs.Coherent.{IsCoherent, progress_of};
 ghost use Rattle.dspec_machine.specs.Decisions.{begun_of, decides, deed_of, load_of, try_of};
 ghost use Rattle.dspec_machine.specs.Machines.{Makes, IsShownMachine, history, state_of};
 ghost use Rattle.dspec_machine.specs.Standing.{StandsAt};
@@ -97,7 +97,7 @@ impl<S: Schema, B: TraceBuffer<S>> Machine<S, B> {
         requires cpu { cpu < self.old.config.cpus }
         requires few { calls cpu (history self.old) ≤ self.old.config.max_calls }
         requires slot { in_range self.old.config id ≡ true }
-        requires steps { (the_caller (state_of self.old).callers cpu).steps < 2 ^ 31 }
+        requires steps { (progress_of (state_of self.old).progresses cpu).steps < 2 ^ 31 }
         requires legal { IsAllowed (S.shape_of self.old.schema) self.old.config ((shows S.shape_of self.old cpu decision id).deeds ++ history self.old) }
         ensures makes { IfOk result (λ answer. Makes B.has B.capacity self.old self.new cpu (shows S.shape_of self.old cpu decision id) answer) }
         ensures refused { OnErr result (self.new ≡ self.old) }
@@ -139,7 +139,7 @@ impl<S: Schema, B: TraceBuffer<S>> Machine<S, B> {
         requires sound { IsSound self.old.config (history self.old) }
         requires slot { in_range self.old.config id ≡ true }
         requires present { id.issue ≡ issue id.slot (history self.old) }
-        requires steps { (the_caller (state_of self.old).callers cpu).steps < 2 ^ 31 }
+        requires steps { (progress_of (state_of self.old).progresses cpu).steps < 2 ^ 31 }
         requires legal { IsAllowed (S.shape_of self.old.schema) self.old.config (deed.Commit cpu id (commit_fate (S.shape_of self.old.schema) self.old.config cpu (history self.old) id) ∷ [] ++ history self.old) }
         requires word { word ≡ word_at id.slot (deed.Commit cpu id (commit_fate (S.shape_of self.old.schema) self.old.config cpu (history self.old) id) ∷ history self.old) }
         ensures makes { IfOk result (λ answer. Makes B.has B.capacity self.old self.new cpu (moved_commit S.shape_of self.old cpu id word) answer) }

@@ -1,5 +1,5 @@
 ghost use Rattle.std.specs.Prelude.{◌≡◌, ◌<◌, ◌^◌, None, Some};
-ghost use Rattle.dspec_play.specs.Coherent.{the_caller};
+ghost use Rattle.dspec_play.specs.Coherent.{progress_of};
 ghost use Rattle.dspec_machine.specs.Machines.{IsShownMachine, state_of};
 ghost use Rattle.dspec_machine.specs.Steps.{state_with, goes_on_at, has_ended, was_worn, has_sealed};
 
@@ -14,15 +14,15 @@ impl<S: Schema, B: TraceBuffer<S>> Machine<S, B> {
     pub fn go_on(&mut self, cpu: u32, flight: CpuFlight) -> Option<Answer>
         requires shown { IsShownMachine B.has B.capacity self.old }
         requires cpu { cpu < self.old.config.cpus }
-        requires steps { (the_caller (state_of self.old).callers cpu).steps < 2 ^ 31 }
+        requires steps { (progress_of (state_of self.old).progresses cpu).steps < 2 ^ 31 }
         ensures shown { IsShownMachine B.has B.capacity self.new }
         ensures state { state_of self.new ≡ state_with self.old cpu (goes_on_at flight) }
         ensures schema { self.new.schema ≡ self.old.schema }
         ensures answer { result ≡ None }
     {
-        let caller = &mut self.cpus[cpu as usize].caller;
-        caller.flight = Some(flight);
-        caller.steps += 1;
+        let progress = &mut self.cpus[cpu as usize].progress;
+        progress.flight = Some(flight);
+        progress.steps += 1;
         None
     }
 
@@ -35,9 +35,9 @@ impl<S: Schema, B: TraceBuffer<S>> Machine<S, B> {
         ensures schema { self.new.schema ≡ self.old.schema }
         ensures answer { result ≡ Some answer }
     {
-        let caller = &mut self.cpus[cpu as usize].caller;
-        caller.flight = None;
-        caller.steps = 0;
+        let progress = &mut self.cpus[cpu as usize].progress;
+        progress.flight = None;
+        progress.steps = 0;
         Some(answer)
     }
 
@@ -52,9 +52,9 @@ impl<S: Schema, B: TraceBuffer<S>> Machine<S, B> {
     {
         let own = &mut self.cpus[cpu as usize];
         own.side.counts.wear();
-        own.caller.flight = None;
-        own.caller.steps = 0;
-        own.caller.worn = own.side.counts.worn;
+        own.progress.flight = None;
+        own.progress.steps = 0;
+        own.progress.worn = own.side.counts.worn;
         Some(answer)
     }
 
@@ -62,16 +62,16 @@ impl<S: Schema, B: TraceBuffer<S>> Machine<S, B> {
     pub fn push_next(&mut self, cpu: u32) -> Option<Answer>
         requires shown { IsShownMachine B.has B.capacity self.old }
         requires cpu { cpu < self.old.config.cpus }
-        requires steps { (the_caller (state_of self.old).callers cpu).steps < 2 ^ 31 }
+        requires steps { (progress_of (state_of self.old).progresses cpu).steps < 2 ^ 31 }
         ensures shown { IsShownMachine B.has B.capacity self.new }
         ensures state { state_of self.new ≡ state_with self.old cpu has_sealed }
         ensures schema { self.new.schema ≡ self.old.schema }
         ensures answer { result ≡ None }
     {
-        let caller = &mut self.cpus[cpu as usize].caller;
-        caller.flight = Some(CpuFlight::ServicePush);
-        caller.steps += 1;
-        caller.spare = Spare::Sealed;
+        let progress = &mut self.cpus[cpu as usize].progress;
+        progress.flight = Some(CpuFlight::ServicePush);
+        progress.steps += 1;
+        progress.spare = Spare::Sealed;
         None
     }
 }

@@ -6,7 +6,7 @@ ghost use Rattle.dspec_deeds.specs.Ranges.{start_fault};
 ghost use Rattle.dspec_deeds.specs.Legal.{IsAllowed};
 ghost use Rattle.dspec_deeds.specs.Own.{calls};
 ghost use Rattle.dspec_word.specs.Code.{is_decided};
-ghost use Rattle.dspec_play.specs.Coherent.{the_caller};
+ghost use Rattle.dspec_play.specs.Coherent.{progress_of};
 ghost use Rattle.dspec_machine.specs.Machines.{Makes, IsShownMachine, history, state_of};
 ghost use Rattle.dspec_machine.specs.Standing.{StandsAt};
 ghost use Rattle.dspec_machine.specs.Steps.{StepsAs, moved_miss};
@@ -16,7 +16,7 @@ use dspec_buffer::TraceBuffer;
 use dspec_deeds::{Answer, Opening};
 use dspec_play::CpuFlight;
 use dspec_record::Schema;
-use dspec_word::{Act, Code, SpecId, Word, open_at};
+use dspec_word::{Act, SpecId, Word, open_at};
 use std::alloc::AllocError;
 
 impl<S: Schema, B: TraceBuffer<S>> Machine<S, B> {
@@ -79,14 +79,11 @@ impl<S: Schema, B: TraceBuffer<S>> Machine<S, B> {
         requires cpu { cpu < self.old.config.cpus }
         requires few { calls cpu (history self.old) ≤ self.old.config.max_calls }
         requires slot { slot ≤ self.old.config.nspec }
-        requires steps { (the_caller (state_of self.old).callers cpu).steps < 2 ^ 31 }
+        requires steps { (progress_of (state_of self.old).progresses cpu).steps < 2 ^ 31 }
         ensures makes { IfOk result (λ answer. Makes B.has B.capacity self.old self.new cpu (moved_miss S.shape_of self.old cpu slot word) answer) }
         ensures refused { OnErr result (self.new ≡ self.old) }
     {
-        let busy = matches!(
-            word.code(),
-            Code::Committing | Code::CommittingMany | Code::Discarding
-        );
+        let busy = word.is_decided();
         self.enter_miss(cpu, slot, busy)?;
         if slot < self.config.nspec {
             return Ok(self.go_on(cpu, CpuFlight::ScanLoad(slot + 1)));

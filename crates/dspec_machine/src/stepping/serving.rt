@@ -2,7 +2,7 @@ ghost use Rattle.std.specs.Prelude.{◌≡◌, ◌<◌, ◌≤◌, ◌^◌, fals
 ghost use Rattle.dspec_deeds.specs.declared.calls.CpuOp.TheVariants as cpu_op;
 ghost use Rattle.dspec_play.specs.declared.flight.CpuFlight.TheVariants as flight;
 ghost use Rattle.dspec_deeds.specs.Ranges.{is_fill};
-ghost use Rattle.dspec_play.specs.Coherent.{IsCoherent, IsSlot, the_caller};
+ghost use Rattle.dspec_play.specs.Coherent.{IsCoherent, IsSlot, progress_of};
 ghost use Rattle.dspec_machine.specs.Machines.{IsShownMachine, Makes, state_of};
 ghost use Rattle.dspec_machine.specs.Standing.{StandsAt};
 ghost use Rattle.dspec_machine.specs.Steps.{StepsAs, loads, moved_service, state_with, goes_on_at};
@@ -40,10 +40,10 @@ impl<S: Schema, B: TraceBuffer<S>> Machine<S, B> {
         ensures refused { OnErr result (self.new ≡ self.old) }
     {
         let own = &self.cpus[cpu as usize];
-        if own.side.seals >= own.caller.want || own.side.seals >= self.config.max_calls {
+        if own.side.seals >= own.progress.want || own.side.seals >= self.config.max_calls {
             return Ok(self.serve_first(cpu));
         }
-        if !matches!(&own.caller.spare, Spare::InHand) {
+        if !matches!(&own.progress.spare, Spare::InHand) {
             return Ok(self.go_on(cpu, CpuFlight::ServicePop));
         }
         self.enter_seal(cpu)?;
@@ -57,7 +57,7 @@ impl<S: Schema, B: TraceBuffer<S>> Machine<S, B> {
         ensures refused { OnErr result (self.new ≡ self.old) }
     {
         let own = &self.cpus[cpu as usize];
-        if !matches!(&own.caller.spare, Spare::GivenBack) {
+        if !matches!(&own.progress.spare, Spare::GivenBack) {
             return Ok(self.serve_first(cpu));
         }
         self.enter_seal(cpu)?;
@@ -69,16 +69,16 @@ impl<S: Schema, B: TraceBuffer<S>> Machine<S, B> {
         requires stands { StandsAt B.has B.capacity S.shape_of self.old cpu (flight.ServicePush) }
         ensures { StepsAs B.has B.capacity S.shape_of self.old self.new cpu (flight.ServicePush) result }
     {
-        let caller = &mut self.cpus[cpu as usize].caller;
-        caller.flight = Some(CpuFlight::ServiceLoad(
+        let progress = &mut self.cpus[cpu as usize].progress;
+        progress.flight = Some(CpuFlight::ServiceLoad(
             1,
             Served {
                 sealed: true,
                 settled: 0,
             },
         ));
-        caller.steps += 1;
-        caller.spare = Spare::Handed;
+        progress.steps += 1;
+        progress.spare = Spare::Handed;
         None
     }
 
@@ -96,7 +96,7 @@ impl<S: Schema, B: TraceBuffer<S>> Machine<S, B> {
         requires coherent { IsCoherent (S.shape_of self.old.schema) (state_of self.old) }
         requires cpu { cpu < self.old.config.cpus }
         requires slot { IsSlot self.old.config slot }
-        requires steps { (the_caller (state_of self.old).callers cpu).steps < 2 ^ 31 }
+        requires steps { (progress_of (state_of self.old).progresses cpu).steps < 2 ^ 31 }
         ensures { Makes B.has B.capacity self.old self.new cpu (loads S.shape_of self.old cpu slot sum) result }
     {
         let place = (slot - 1) as usize;
@@ -134,7 +134,7 @@ impl<S: Schema, B: TraceBuffer<S>> Machine<S, B> {
     fn serve_first(&mut self, cpu: u32) -> Option<Answer>
         requires shown { IsShownMachine B.has B.capacity self.old }
         requires cpu { cpu < self.old.config.cpus }
-        requires steps { (the_caller (state_of self.old).callers cpu).steps < 2 ^ 31 }
+        requires steps { (progress_of (state_of self.old).progresses cpu).steps < 2 ^ 31 }
         ensures shown { IsShownMachine B.has B.capacity self.new }
         ensures state { state_of self.new ≡ state_with self.old cpu (goes_on_at (flight.ServiceLoad 1 (record { sealed = false; settled = 0 }))) }
         ensures schema { self.new.schema ≡ self.old.schema }
@@ -156,10 +156,10 @@ impl<S: Schema, B: TraceBuffer<S>> Machine<S, B> {
     fn serve_next(&mut self, cpu: u32, slot: u32, sum: Served) -> Option<Answer>
         requires shown { IsShownMachine B.has B.capacity self.old }
         requires cpu { cpu < self.old.config.cpus }
-        requires steps { (the_caller (state_of self.old).callers cpu).steps < 2 ^ 31 }
+        requires steps { (progress_of (state_of self.old).progresses cpu).steps < 2 ^ 31 }
         requires slot { slot ≤ self.old.config.nspec }
         ensures shown { IsShownMachine B.has B.capacity self.new }
-        ensures state { state_of self.new ≡ state_with self.old cpu (λ _. (moved_service S.shape_of self.old cpu slot sum).caller) }
+        ensures state { state_of self.new ≡ state_with self.old cpu (λ _. (moved_service S.shape_of self.old cpu slot sum).progress) }
         ensures schema { self.new.schema ≡ self.old.schema }
         ensures answer { result ≡ (moved_service S.shape_of self.old cpu slot sum).answer }
     {

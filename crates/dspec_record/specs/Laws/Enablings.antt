@@ -17,7 +17,7 @@ inside_of-fields_of a p =
     let len : length (take a.len a.fields) ≡ a.len = length-take-le a.len a.fields few in
     let fields : fields_of a ++ replicate (8 - length (fields_of a)) One ≡ a.fields =
     padded_list a.fields a.len 8 One p.eight p.few p.rest in
-    λ i. record { fields = fields i; len = len i; shape = sym p.shape i; places = sym p.places i }
+    λ i. record { fields = fields i; len = len i; shape = sym p.shape i; places = sym p.places i; limits = sym p.limits i }
 
 pub inside_of-rows_of : (a : all.Inside) → IsFilled a → filled.inside_of (rows_of a) ≡ a
 inside_of-rows_of a p =

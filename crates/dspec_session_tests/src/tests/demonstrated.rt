@@ -4,10 +4,10 @@ ghost use Rattle.dspec_session.specs.Results.{IsDone};
 ghost use Rattle.dspec_session.specs.Sessions.{IsSession};
 
 use super::calls::valued;
-use dspec_calls::run_cpu;
 use dspec_cpu::{Cpu, Listed};
 use dspec_deeds::{Answer, CpuOp, Decided, Opening, Report, Spoken, Traced};
 use dspec_record::Enablings;
+use dspec_replay::run_cpu;
 use dspec_session::{Closed, Demonstration, Gate, RoundGate, Session, demonstrate};
 use dspec_word::SpecId;
 use std::process::Abort;

@@ -6,10 +6,10 @@ ghost use Rattle.dspec_session.specs.Sessions.{IsSession};
 
 use super::batches::comes_back;
 use super::calls::{Call, Dealing, Remains};
-use dspec_calls::{meet_all, run_cpu};
 use dspec_cpu::{Cpu, Listed, Shared};
 use dspec_deeds::{Config, Report};
 use dspec_record::Schema;
+use dspec_replay::{meet_all, run_cpu};
 use dspec_ring::Batch;
 use dspec_session::{Closed, Consumer, Session};
 use std::alloc::{AllocError, Global};

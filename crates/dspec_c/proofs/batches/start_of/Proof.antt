@@ -13,8 +13,8 @@ use sound.WpLaws.{WpFn-mono}
 use types.Logic.{Logic}
 use types.Kit.{‵, raw, ◌⊛◌, prop, ◌$◌, ◌∵◌, !, qed, move, keep, drop, split, fsplit, fjoin, feq_l, feq_i, regoal, suffices, group, done, flt_l}
 use types.Part.{sub, whole}
-use types.Run.{enter, returns, fld, stop, addr, from, hop, of_opd}
-use types.ByLocal.{alloc_all, pass_all, free_all, look_at, get, sets, look_in_at}
+use types.Run.{enter, returns, fld, stop, addr, from, hop}
+use types.ByLocal.{alloc_all, pass_all, free_all, look_at, sets, look_in_at}
 use denote.Exit.{yes}
 use denote.RattleType.{owns}
 use denote.Builtin.{u8, SliceRefOf}

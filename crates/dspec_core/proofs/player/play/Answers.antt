@@ -1,6 +1,6 @@
 use Rattle.std.proofs.Common.{◌≡◌, ◌≤◌, length, reverse, sym, ap, ◌∙◌, subst, arith}
 use Rattle.dspec_deeds.specs.Closes.{reports}
-use Rattle.dspec_play.specs.Coherent.{IsCoherent, the_caller}
+use Rattle.dspec_play.specs.Coherent.{IsCoherent, progress_of}
 use Rattle.dspec_deeds.specs.declared.config.Config.{Config}
 use Rattle.dspec_deeds.specs.Headline.{Headline}
 use Rattle.dspec_play.specs.Plays.{IsPlayingAt, all_ran, all_turned, playing_at_start, worn_count}
@@ -46,8 +46,8 @@ returns-clause-reports g c =
     let ran = subst (λ schema. IsPlayingAt c.run_all.new.world.state c.run_all.new.answers (all_ran (g.S.Schema.shape_of schema) (all_turned shape ts (playing_at_start k)))) c.loop-number.invariant.1
     (c.in_ok-run_all.ensures.ran (all_turned shape ts (playing_at_start k)) at) in
     c.in_ok-close.ensures.reports
-    ∙ (ap (λ (m : Config). reports m (λ n. (the_caller c.run_all.new.world.state.callers n).worn) (reverse c.in_ok-close.close.deeds)) same
-    ∙ same_reports k (λ n. (the_caller c.run_all.new.world.state.callers n).worn) (worn_count c.run_all.new.answers) (reverse c.in_ok-close.close.deeds)
+    ∙ (ap (λ (m : Config). reports m (λ n. (progress_of c.run_all.new.world.state.progresses n).worn) (reverse c.in_ok-close.close.deeds)) same
+    ∙ same_reports k (λ n. (progress_of c.run_all.new.world.state.progresses n).worn) (worn_count c.run_all.new.answers) (reverse c.in_ok-close.close.deeds)
     (worn_as_told shape accepts k ts c.run_all.new.world.state c.run_all.new.answers none ran))
 
 pub returns-clause-headline : goal.returns-clause-headline

@@ -14,13 +14,13 @@ returns-in_default c =
     let seat = c.args.seat.now in
     let word = c.load_word-word.result in
     let w = known c.load_word-word.new.self in
-    let step = subst (λ d. LoadedWord d c.args.slot (known seat) word w) c.asking-doing.ensures c.load_word-word.ensures.step in
+    let step = subst (λ d. LoadedWord d c.args.slot (known seat) word w) c.opening_doing-doing.ensures c.load_word-word.ensures.step in
     let most = c.requires.most.0 in
     let void = passes word k.max_issues (λ to e. c.in_default.not-Attempt to (c.open_at.ensures ∙ (ap (open_at word) most ∙ e))) in
     record {
       seat = c.load_word-word.ensures.seat;
-      looked = passed k (cpu_of seat) c.args.slot (known seat) c.requires.seat.1 seat.who_is word c.decided.result w step void
-          (c.decided.ensures ∙ ap Rattle.dspec_word.specs.Code.is_decided c.code.ensures);
+      looked = passed k (cpu_of seat) c.args.slot (known seat) c.requires.seat.1 seat.who_is word c.is_decided.result w step void
+          c.is_decided.ensures;
     }
 
 pub returns-in-Ok-clause-looked : goal.returns-in-Ok-clause-looked
@@ -29,7 +29,7 @@ returns-in-Ok-clause-looked c =
     let seat = c.args.seat.now in
     let word = c.load_word-word.result in
     let u = known c.load_word-word.new.self in
-    let step = subst (λ d. LoadedWord d c.args.slot (known seat) word u) c.asking-doing.ensures c.load_word-word.ensures.step in
+    let step = subst (λ d. LoadedWord d c.args.slot (known seat) word u) c.opening_doing-doing.ensures c.load_word-word.ensures.step in
     let most = c.requires.most.0 in
     let free = sym (c.open_at.ensures ∙ ap (open_at word) most) ∙ c.in-Attempt.is in
     let id : c.of.result ≡ record { issue = word.issue; slot = c.args.slot } = c.of.ensures ∙ ap (λ n. record { issue = n; slot = c.args.slot }) c.issue.ensures.value in
@@ -43,10 +43,9 @@ returns-in-Err-clause-looked c =
     let seat = c.args.seat.now in
     let word = c.load_word-word.result in
     let u = known c.load_word-word.new.self in
-    let step = subst (λ d. LoadedWord d c.args.slot (known seat) word u) c.asking-doing.ensures c.load_word-word.ensures.step in
+    let step = subst (λ d. LoadedWord d c.args.slot (known seat) word u) c.opening_doing-doing.ensures c.load_word-word.ensures.step in
     let most = c.requires.most.0 in
     let free = sym (c.open_at.ensures ∙ ap (open_at word) most) ∙ c.in-Attempt.is in
-    let busy = c.decided-in-Err.ensures ∙ ap Rattle.dspec_word.specs.Code.is_decided c.code-in-Err.ensures in
     tried k (cpu_of seat) c.args.slot (known seat) c.requires.seat.1 seat.who_is word c.in-Attempt.field-0 c.in-Err.shown false u (known c.open_word.new.self) step free
-    c.in-Err.ensures.step (look.Missed c.decided-in-Err.result)
-    (ap (λ b. Miss (cpu_of seat) c.args.slot b ∷ []) (sym busy)) tt
+    c.in-Err.ensures.step (look.Missed c.is_decided-in-Err.result)
+    (ap (λ b. Miss (cpu_of seat) c.args.slot b ∷ []) (sym c.is_decided-in-Err.ensures)) tt

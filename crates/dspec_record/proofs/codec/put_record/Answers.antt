@@ -1,7 +1,7 @@
 -- The header is written first; then each field finds the room that the layout left for it.
 use Rattle.std.proofs.Common.{◌≡◌, ◌≤◌, ◌<◌, ◌+◌, ◌++◌, ℕ, List, length, take, drop, get_or, arith, sym, ◌∙◌, ap, subst, [], ◌∷◌}
 use Rattle.std.proofs.lemmas.List.{drop_more, drop_all}
-use Rattle.dspec_record.specs.Layout.{width, rounded_up, after, fields_start, layout}
+use Rattle.dspec_record.specs.Layout.{width, after, fields_start, layout}
 use Rattle.dspec_record.specs.Record.{Record}
 use Rattle.dspec_record.specs.Reading.{IsShape}
 use Rattle.dspec_record.specs.RecordText.{little_endian, gap, record_text}

@@ -1,4 +1,4 @@
-use Rattle.std.proofs.Common.{◌≡◌, drop}
+use Rattle.std.proofs.Common.{drop}
 use Rattle.dspec_record.specs.RecordText.{record_text}
 use Rattle.dspec_record.proofs.Writing.{IsWriting}
 use Rattle.dspec_record.proofs.Places.{IsPlaced}

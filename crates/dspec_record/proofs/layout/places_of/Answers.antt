@@ -1,9 +1,9 @@
 -- The place of each field is written behind those before it.
-use Rattle.std.proofs.Common.{◌≡◌, ◌≤◌, ◌<◌, ◌+◌, ℕ, List, length, get_or, set, arith, sym, ◌∙◌, ap, subst, replicate}
-use Rattle.dspec_record.specs.Layout.{width, rounded_up, after}
+use Rattle.std.proofs.Common.{◌<◌, ◌+◌, ℕ, List, length, get_or, set, arith, sym, subst, replicate}
+use Rattle.dspec_record.specs.Layout.{width, rounded_up}
 use Rattle.dspec_record.specs.declared.field.Field.{Field}
 use Rattle.dspec_record.specs.declared.field.Field.TheVariants.{One}
-use Rattle.dspec_record.proofs.Places.{ArePlaced, ArePlaced-start, ArePlaced-next, ArePlaced-end, place-le}
+use Rattle.dspec_record.proofs.Places.{ArePlaced, ArePlaced-start, ArePlaced-next}
 use Rattle.dspec_record.proofs.layout.places_of.Goals as goal
 
 pub loop-i-init : goal.loop-i-init

@@ -1,7 +1,7 @@
 -- The turns so far were played, and behind the last all were.
 use Rattle.std.proofs.Common.{◌≡◌, None, length, map, ap, ◌∙◌, subst}
-use Rattle.dspec_replay.specs.Replayed.{call_that_ended, turn_halt}
-use Rattle.dspec_replay.proofs.Halts.{ok_then, so_far_last, so_far_more}
+use Rattle.dspec_replay.specs.Replayed.{call_that_ended, turn_refusal}
+use Rattle.dspec_replay.proofs.Refusals.{ok_then, so_far_last, so_far_more}
 use Rattle.dspec_replay.proofs.replaying.replay.Goals as goal
 
 pub loop-number-preserved : goal.loop-number-preserved
@@ -9,7 +9,7 @@ loop-number-preserved g c =
     let inv = c.loop-number.invariant in
     let keeps = c.turn.ensures.same in
     let n = length c.loop-number.playing.session.cpus.items in
-    let allowed = subst (λ s. turn_halt (g.S.Schema.accepted s) n c.loop-number.number c.index-turns-number.result ≡ None) inv.2 c.in_ok-turn.ensures.allowed in (
+    let allowed = subst (λ s. turn_refusal (g.S.Schema.accepted s) n c.loop-number.number c.index-turns-number.result ≡ None) inv.2 c.in_ok-turn.ensures.allowed in (
       c.turn.ensures.session,
       so_far_more (g.S.Schema.accepted c.args.schema) c.args.config.now c.args.turns.now c.loop-number.number n _ _ _ _ c.loop-number-test.true c.index-turns-number.is inv.3
           allowed c.in_ok-turn.ensures.answered inv.1,

@@ -69,7 +69,7 @@ leave-requires-clause-few g t c =
     let part = c.part-seat.ensures in
     next_few g.S.Schema.shape_of g.S.Schema.accepted g.S.Schema.text s.0 c.args.words s.1 c.args.seats.items cpus ends s.2 c.remove.result c.remove.new.self.items
     c.remove-other.result c.remove-other.new.self.items cpus_are ends_are
-    c.part-seat.result.1 c.part-seat.result.2 record { end_is = part.end; schema = part.same.0; config = part.same.1; number = part.same.2; in_hand = part.rest.0; worn = part.rest.1 }
+    c.part-seat.result.1 c.part-seat.result.2 record { end_is = part.end; schema = part.same.0; config = part.same.1; number = part.same.2; held_back = part.rest.0; worn = part.rest.1 }
 
 pub leave-requires-clause-words : goal.leave-requires-clause-words
 leave-requires-clause-words g t c =
@@ -84,7 +84,7 @@ leave-requires-clause-words g t c =
     next_words g.S.Schema.shape_of g.S.Schema.accepted g.S.Schema.text s.0 c.args.words s.1 c.args.seats.items cpus ends s.2 c.remove.result c.remove.new.self.items
     c.remove-other.result c.remove-other.new.self.items cpus_are ends_are
     c.part_all-last.result.0 c.part-seat.result.1 c.part-seat.result.2 record
-    { end_is = part.end; schema = part.same.0; config = part.same.1; number = part.same.2; in_hand = part.rest.0; worn = part.rest.1 } c.part_all-last.ensures.config
+    { end_is = part.end; schema = part.same.0; config = part.same.1; number = part.same.2; held_back = part.rest.0; worn = part.rest.1 } c.part_all-last.ensures.config
 
 pub leave-requires-clause-some : goal.leave-requires-clause-some
 leave-requires-clause-some g t c =
@@ -101,7 +101,7 @@ leave-requires-clause-some g t c =
     let part = c.part-seat.ensures in
     let rest = c.part-seat.result.2 in
     let is : IsRestOf c.remove.result c.part-seat.result.1 rest =
-    record { end_is = part.end; schema = part.same.0; config = part.same.1; number = part.same.2; in_hand = part.rest.0; worn = part.rest.1 } in
+    record { end_is = part.end; schema = part.same.0; config = part.same.1; number = part.same.2; held_back = part.rest.0; worn = part.rest.1 } in
     let ended = subst (λ (ss : List CpuSeat). Ended (set_up c.args.words) (last_words c.part_all-last.result.0) ss (known_there c.args.consumer))
     (same_seats g.S.Schema.shape_of g.S.Schema.accepted g.S.Schema.text s.0 c.args.words s.1 seats cpus ends s.2 c.remove.result c.remove.new.self.items c.remove-other.result
     c.remove-other.new.self.items cpus_are ends_are c.push.new.self.items new) c.part_all-last.ensures.ended in
@@ -145,7 +145,7 @@ returns-clause-left g t c =
     let part = c.part-seat.ensures in
     let rest = c.part-seat.result.2 in
     let is : IsRestOf c.remove.result c.part-seat.result.1 rest =
-    record { end_is = part.end; schema = part.same.0; config = part.same.1; number = part.same.2; in_hand = part.rest.0; worn = part.rest.1 } in
+    record { end_is = part.end; schema = part.same.0; config = part.same.1; number = part.same.2; held_back = part.rest.0; worn = part.rest.1 } in
     let inner = c.part_all-last.result.1.items in
     let more = pushed_is c.push-2.result c.unwrap-2.result c.push-2.new.self.items (inner ++ c.leave.result ∷ []) inner c.unwrap-2.ensures c.push-2.ensures.items in
     next_left g.S.Schema.shape_of g.S.Schema.accepted g.S.Schema.text s.0 c.args.words s.1 seats cpus ends s.2 c.remove.result c.remove.new.self.items c.remove-other.result

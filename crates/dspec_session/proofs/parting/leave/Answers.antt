@@ -4,7 +4,7 @@ use Rattle.dspec_deeds.specs.History.{word_at}
 use Rattle.dspec_play.specs.OwnClose.{own_closed}
 use Rattle.dspec_ring.specs.declared.batch.Batch.{Batch}
 use Rattle.dspec_ring.specs.Known.{ConsumerKnows}
-use Rattle.dspec_cpu.specs.Rests.{in_hand_of_rest}
+use Rattle.dspec_cpu.specs.Rests.{held_back_of_rest}
 use Rattle.dspec_cpu.specs.Sealed.{AreSealed, waiting}
 use Rattle.dspec_session.proofs.Leavings.{closing_part, legal_now, sealed_left, shows_before}
 use Rattle.dspec_session.proofs.parting.leave.Goals as goal
@@ -30,13 +30,13 @@ returns g c = λ p log h has is.
     let other = c.args.other in
     let q = own_closed (g.S.Schema.shape_of rest.schema) rest.config (λ n. word_at n log) rest.cpu rest.config.nspec p in
     let now = c.settle.ensures.list end.handed p log has is.shows (closing_part _ _ _ _ p log h is) in
-    let batches = c.batches-in_hand.ensures.sealed end.handed q now in
+    let batches = c.batches-held_back.ensures.sealed end.handed q now in
     let drained = c.drain_beside-drained.result in
     let all : other.taken ++ drained ≡ end.handed = subst (λ (e : ConsumerKnows). e.taken ++ drained ≡ end.handed) c.into_end.ensures.end c.drain_beside-drained.ensures.batches in
     let prefix : IsPrefix end.spares other.given = subst (λ (e : ConsumerKnows). IsPrefix end.spares e.given) c.into_end.ensures.end c.drain_beside-drained.ensures.spares in
     let sealed = sealed_left (g.S.Schema.shape_of after.schema) (g.S.Schema.accepted after.schema) (g.S.Schema.text after.schema) after.config after.cpu q
-    c.batches-in_hand.result.0 c.next-waiting.result (in_hand_of_rest rest) end.handed
-    end.spares other.taken other.given drained c.next-waiting.new.self c.requires.few (c.batches-in_hand.ensures.rest ∙ c.settle.ensures.same.in_hand) prefix
+    c.batches-held_back.result.0 c.next-waiting.result (held_back_of_rest rest) end.handed
+    end.spares other.taken other.given drained c.next-waiting.new.self c.requires.few (c.batches-held_back.ensures.rest ∙ c.settle.ensures.same.held_back) prefix
     c.into_end.ensures.order all c.next-waiting.ensures.steps batches.0 in
     shows_before g.S.Schema.shape_of g.S.Schema.accepted g.S.Schema.text rest after c.settle.ensures.same other.taken q _ record {
       sealed = subst (λ (o : Option Batch). AreSealed (g.S.Schema.shape_of after.schema) (g.S.Schema.accepted after.schema) (g.S.Schema.text after.schema) after.config

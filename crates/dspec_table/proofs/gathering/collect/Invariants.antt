@@ -8,11 +8,11 @@ use Rattle.dspec_table.proofs.gathering.collect.Given as goal
 
 abbrev pub invariant-loop-next : goal.invariant-loop-next
 invariant-loop-next l = record {
-  place : (l.place.table_id ≡ l.board.shared.table_id) × (l.place.me.0.who ≡ l.fn.place.me.0.who) × (l.place.me.0.own ≡ l.fn.place.me.0.own);
-  knows : (l.place.me.0.seen ≡ l.fn.place.me.0.seen) × (l.place.me.0.asks ≡ l.fn.place.me.0.asks);
+  gatherer : (l.gatherer.table_id ≡ l.board.shared.table_id) × (l.gatherer.me.0.who ≡ l.fn.gatherer.me.0.who) × (l.gatherer.me.0.own ≡ l.fn.gatherer.me.0.own);
+  knows : (l.gatherer.me.0.seen ≡ l.fn.gatherer.me.0.seen) × (l.gatherer.me.0.asks ≡ l.fn.gatherer.me.0.asks);
   seats : AllAt l.board.shared.table_id l.seats.items;
-  joined : (c : ℕ) (s : CpuSeat) → slice_get l.fn.seats.items c ≡ Some s → (slice_get l.seats.items c ≡ Some s) ⊎ In ((known s).who, (known s).own) l.place.me.0.also;
-  recalled : (c : ℕ) (s : CpuSeat) → slice_get l.fn.seats.items c ≡ Some s → (slice_get l.seats.items c ≡ Some s) ⊎ In (past_of (known s)) l.place.me.0.past;
+  joined : (c : ℕ) (s : CpuSeat) → slice_get l.fn.seats.items c ≡ Some s → (slice_get l.seats.items c ≡ Some s) ⊎ In ((known s).who, (known s).own) l.gatherer.me.0.also;
+  recalled : (c : ℕ) (s : CpuSeat) → slice_get l.fn.seats.items c ≡ Some s → (slice_get l.seats.items c ≡ Some s) ⊎ In (past_of (known s)) l.gatherer.me.0.past;
 }
 
 abbrev pub decreases-loop-next : goal.decreases-loop-next

@@ -7,17 +7,17 @@ use Rattle.dspec_table.proofs.starting.deal.Goals as goal
 
 pub split_seat-seat-requires : goal.split_seat-seat-requires
 split_seat-seat-requires c =
-    let at = c.loop-cpu.invariant.place in
+    let at = c.loop-cpu.invariant.dealer in
     let k = c.args.config.now in (
-      at.0 ∙ c.requires.place.0,
+      at.0 ∙ c.requires.dealer.0,
       (let count = c.requires.key.1 in omega arith),
-      deals_next c.args.board.now.shared.key k c.loop-cpu.place.id c.loop-cpu.cpu
-          c.loop-cpu.place.me.0 (ap (λ m. m.0) at.1) c.loop-cpu-test.true,
+      deals_next c.args.board.now.shared.key k c.loop-cpu.dealer.id c.loop-cpu.cpu
+          c.loop-cpu.dealer.me.0 (ap (λ m. m.0) at.1) c.loop-cpu-test.true,
     )
 
 pub invariant_of-push : goal.invariant_of-push
 invariant_of-push c =
-    let at = c.loop-cpu.invariant.place in
+    let at = c.loop-cpu.invariant.dealer in
     let k = c.args.config.now in
     let new : c.split_seat-seat.result.me ≡ (fresh_seat k c.loop-cpu.cpu, []) =
     c.split_seat-seat.ensures.4 ∙ ap (λ v. (v, [])) (ap (λ m. dealt m.0) at.1 ∙ dealt_one k c.loop-cpu.cpu c.loop-cpu-test.true) in
@@ -31,17 +31,17 @@ invariant_of-push c =
 
 pub loop-cpu-preserved : goal.loop-cpu-preserved
 loop-cpu-preserved c =
-    let at = c.loop-cpu.invariant.place in
+    let at = c.loop-cpu.invariant.dealer in
     let k = c.args.config.now in
     let new : c.split_seat-seat.result.me ≡ (fresh_seat k c.loop-cpu.cpu, []) =
     c.split_seat-seat.ensures.4 ∙ ap (λ v. (v, [])) (ap (λ m. dealt m.0) at.1 ∙ dealt_one k c.loop-cpu.cpu c.loop-cpu-test.true) in
-    let z = c.args.place.now.table_id in
+    let z = c.args.dealer.now.table_id in
     let step = c.split_seat-seat.ensures in
     let rest : c.split_seat-seat.new.seat.me ≡ (dealing k (c.loop-cpu.cpu + 1), []) =
     step.2 ∙ (ap (λ m. (without m.0, m.1)) at.1 ∙ ap (λ v. (v, [])) (dealt_rest k c.loop-cpu.cpu c.loop-cpu-test.true)) in
     let count = c.loop-cpu.invariant.count in
     record {
-      place = (step.0 ∙ at.0, rest);
+      dealer = (step.0 ∙ at.0, rest);
       count = ap length c.in_ok-push.ensures.items ∙ (length-append c.loop-cpu.seats.items _ ∙ ap (λ n. n + 1) count);
       dealt = subst (DealtSeats z k) (sym c.in_ok-push.ensures.items)
           (dealt_push z k c.loop-cpu.seats.items _ c.loop-cpu.invariant.dealt (step.3 ∙ at.0) (sym count) (ap (λ m. m.0) new ∙ ap (λ m. fresh_seat k m) (sym count)));

@@ -4,7 +4,7 @@ use Rattle.dspec_table.proofs.starting.deal.Given as goal
 
 abbrev pub invariant-loop-cpu : goal.invariant-loop-cpu
 invariant-loop-cpu l = record {
-  place : (l.place.table_id ≡ l.fn.place.table_id) × (l.place.me ≡ (dealing l.fn.config l.cpu, []));
+  dealer : (l.dealer.table_id ≡ l.fn.dealer.table_id) × (l.dealer.me ≡ (dealing l.fn.config l.cpu, []));
   count : length l.seats.items ≡ l.cpu;
-  dealt : DealtSeats l.fn.place.table_id l.fn.config l.seats.items;
+  dealt : DealtSeats l.fn.dealer.table_id l.fn.config l.seats.items;
 }

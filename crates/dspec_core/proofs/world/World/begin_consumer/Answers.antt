@@ -1,6 +1,6 @@
 -- What is promised, from coherence.
 use Rattle.std.proofs.Common.{refl}
-use Rattle.dspec_machine.specs.Worlds.{session_of}
+use Rattle.dspec_machine.specs.Worlds.{world_view}
 use Rattle.dspec_machine.proofs.PromiseKept.{promise_kept}
 use Rattle.dspec_core.proofs.world.World.begin_consumer.Goals as goal
 
@@ -11,4 +11,4 @@ pub returns-then-not-is_idle-clause-promised : goal.returns-then-not-is_idle-cla
 returns-then-not-is_idle-clause-promised g c = promise_kept g.S.Schema.shape_of c.self.inside.machine c.args.self.now c.self.view_is c.self.invariant.coherent
 
 pub returns-clause-promised : goal.returns-clause-promised
-returns-clause-promised g c = promise_kept g.S.Schema.shape_of c.begin_consumer.new.self (session_of c.begin_consumer.new.self) refl c.begin_consumer.ensures.kept.coherent
+returns-clause-promised g c = promise_kept g.S.Schema.shape_of c.begin_consumer.new.self (world_view c.begin_consumer.new.self) refl c.begin_consumer.ensures.kept.coherent

@@ -1,6 +1,6 @@
 -- What is promised, from coherence.
 use Rattle.std.proofs.Common.{refl}
-use Rattle.dspec_machine.specs.Worlds.{session_of}
+use Rattle.dspec_machine.specs.Worlds.{world_view}
 use Rattle.dspec_machine.proofs.PromiseKept.{promise_kept}
 use Rattle.dspec_core.proofs.world.World.begin_cpu.Goals as goal
 
@@ -14,4 +14,4 @@ pub returns-then-not-is_accepted-clause-promised : goal.returns-then-not-is_acce
 returns-then-not-is_accepted-clause-promised g c = promise_kept g.S.Schema.shape_of c.self.inside.machine c.args.self.now c.self.view_is c.self.invariant.coherent
 
 pub returns-clause-promised : goal.returns-clause-promised
-returns-clause-promised g c = promise_kept g.S.Schema.shape_of c.begin_cpu.new.self (session_of c.begin_cpu.new.self) refl c.begin_cpu.ensures.kept.coherent
+returns-clause-promised g c = promise_kept g.S.Schema.shape_of c.begin_cpu.new.self (world_view c.begin_cpu.new.self) refl c.begin_cpu.ensures.kept.coherent

@@ -6,7 +6,7 @@ use Rattle.dspec_deeds.specs.declared.calls.Actor.{Actor}
 use Rattle.dspec_deeds.specs.declared.deed.Deed.{Deed}
 use Rattle.dspec_play.specs.Calls.{is_actor, is_idle}
 use Rattle.dspec_deeds.specs.Closes.{reports, streams, closing}
-use Rattle.dspec_play.specs.Coherent.{PlayState, the_caller}
+use Rattle.dspec_play.specs.Coherent.{PlayState, progress_of}
 use Rattle.dspec_deeds.specs.Headline.{Headline}
 use Rattle.dspec_deeds.specs.Legal.{IsLegal}
 use Rattle.dspec_machine.specs.Machines.{history, state_of}
@@ -42,8 +42,8 @@ returns-clause-reports g c =
     let m = c.self.inside.machine in
     let same : state_of m ≡ c.args.self.state = λ i. (c.self.view_is i).state in
     let last = closing (g.S.Schema.shape_of m.schema) m.config (history m) in
-    subst (λ (st : PlayState). IfOk c.finish.result (λ close. close.reports ≡ reports st.config (λ a. (the_caller st.callers a).worn) (reverse close.deeds))) same
-    (told_in_order (λ ds close. close.reports ≡ reports m.config (λ a. (the_caller (state_of m).callers a).worn) ds) last c.finish.result c.finish.ensures.deeds c.finish.ensures.reports)
+    subst (λ (st : PlayState). IfOk c.finish.result (λ close. close.reports ≡ reports st.config (λ a. (progress_of st.progresses a).worn) (reverse close.deeds))) same
+    (told_in_order (λ ds close. close.reports ≡ reports m.config (λ a. (progress_of (state_of m).progresses a).worn) ds) last c.finish.result c.finish.ensures.deeds c.finish.ensures.reports)
 
 pub returns-clause-legal : goal.returns-clause-legal
 returns-clause-legal g c =

@@ -2,13 +2,13 @@
 use Rattle.std.proofs.Common.{◌≡◌, ◌<◌, true, refl, sym, ap, subst}
 use Rattle.dspec_deeds.specs.declared.calls.Actor.{Actor}
 use Rattle.dspec_deeds.specs.declared.calls.Actor.TheVariants as actor
-use Rattle.dspec_play.specs.declared.flight.Caller.{Caller}
+use Rattle.dspec_play.specs.declared.flight.CpuProgress.{CpuProgress}
 use Rattle.dspec_play.specs.Bounds.{steps_limit}
 use Rattle.dspec_play.specs.Calls.{is_actor}
 use Rattle.dspec_play.specs.Coherent.{PlayState}
 use Rattle.dspec_machine.specs.Machines.{state_of}
 use Rattle.dspec_machine.proofs.MachineReads.{cpu_got}
-use Rattle.dspec_machine.proofs.OneMore.{caller_there}
+use Rattle.dspec_machine.proofs.OneMore.{progress_there}
 use Rattle.dspec_play.proofs.StepCounts.{is_below, steps_below}
 use Rattle.dspec_core.proofs.world.World.steps.Goals as goal
 
@@ -22,9 +22,9 @@ returns-in-Cpu-clause-bounded g c =
     subst (λ (x : Actor). is_actor m.config x ≡ true) c.in-Cpu.is (subst (λ (st : PlayState). is_actor st.config c.args.actor ≡ true) (sym same) c.requires) in
     let low = steps_below (g.S.Schema.shape_of m.schema) (state_of m) (actor.Cpu a) c.self.invariant.coherent there in
     let got = cpu_got g.B.TraceBuffer.has g.B.TraceBuffer.capacity m c.self.invariant.shown a side (is_below m.config a there) c.index.ensures in
-    let made = ap (λ (x : Caller). x.steps) (caller_there m.cpus.items a side got) in
-    subst (λ (st : PlayState). side.caller.steps < steps_limit c.args.actor st) same
-    (subst (λ (x : Actor). side.caller.steps < steps_limit x (state_of m)) (sym c.in-Cpu.is)
+    let made = ap (λ (x : CpuProgress). x.steps) (progress_there m.cpus.items a side got) in
+    subst (λ (st : PlayState). side.progress.steps < steps_limit c.args.actor st) same
+    (subst (λ (x : Actor). side.progress.steps < steps_limit x (state_of m)) (sym c.in-Cpu.is)
     (subst (λ n. n < steps_limit (actor.Cpu a) (state_of m)) made low))
 
 pub returns-in-Consumer-clause-bounded : goal.returns-in-Consumer-clause-bounded

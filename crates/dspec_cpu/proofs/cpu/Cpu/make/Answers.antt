@@ -7,7 +7,7 @@ pub returns-clause-list : goal.returns-clause-list
 returns-clause-list g c = unused_list _ _ _ _ record {
   seat = c.requires.unused;
   handed = c.requires.end.handed;
-  in_hand = refl;
+  held_back = refl;
   side = c.in_ok-side.ensures.shows c.args.schema c.args.cpu;
 }
 
@@ -15,7 +15,7 @@ pub invariant_of-result : goal.invariant_of-result
 invariant_of-result g c = unused_steady _ _ _ _ record {
   seat = c.requires.unused;
   handed = c.requires.end.handed;
-  in_hand = refl;
+  held_back = refl;
   side = c.in_ok-side.ensures.shows c.args.schema c.args.cpu;
 } c.requires.seat c.requires.fine (λ b e. ap (λ (x : Stored). x.size) (sym (is e)) ∙ c.in_ok-spare.ensures.size)
   where

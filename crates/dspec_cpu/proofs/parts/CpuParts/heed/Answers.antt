@@ -3,7 +3,7 @@ use Rattle.dspec_buffer.specs.Stored.{Stored}
 use Rattle.dspec_side.specs.declared.side.Side.{Side}
 use Rattle.dspec_cpu.specs.declared.parts.CpuParts.{CpuParts as Cpu}
 use Rattle.dspec_cpu.specs.Switching.{not_asked, worn_out, buffers_of, with_buffers}
-use Rattle.dspec_cpu.proofs.Heeding.{left_in_hand, none_found, sealed_now}
+use Rattle.dspec_cpu.proofs.Heeding.{left_held_back, none_found, sealed_now}
 use Rattle.dspec_cpu.proofs.parts.CpuParts.heed.Goals.{then-ask-self-via-then-ask-self, then-ask-self-via-else-ask-self+then-self}
 use Rattle.dspec_cpu.proofs.parts.CpuParts.heed.Goals as goal
 
@@ -14,7 +14,7 @@ returns-then-ask-self-clause-heeds g c =
 pub returns-then-is_some-clause-heeds : goal.returns-then-is_some-clause-heeds
 returns-then-is_some-clause-heeds g c =
     let cpu = c.args.self.now in
-    left_in_hand cpu.config cpu.cpu c.args.ask (buffers_of cpu) c.if-ask-self.false c.if-self.false c.find_spare.new.end c.find_spare.new.spare c.find_spare.ensures
+    left_held_back cpu.config cpu.cpu c.args.ask (buffers_of cpu) c.if-ask-self.false c.if-self.false c.find_spare.new.end c.find_spare.new.spare c.find_spare.ensures
     (sym c.is_some.ensures ∙ c.if-is_some.true) c.requires.few c.find_spare.new.spare refl
 
 pub returns-in_default-clause-heeds : goal.returns-in_default-clause-heeds
@@ -33,14 +33,14 @@ pub returns-clause-heeds : goal.returns-clause-heeds
 returns-clause-heeds g c =
     let cpu = c.args.self.now in
     sealed_now cpu.config cpu.cpu c.args.ask (buffers_of cpu) c.if-ask-self.false c.if-self.false c.find_spare.new.end c.find_spare.new.spare c.find_spare.ensures
-    c.in-Some.spare c.take.new.self c.seal.new.side.active c.seal.new.side.drops c.seal.new.side.seals c.seal.result c.hand_on.new.end c.hand_on.new.in_hand
+    c.in-Some.spare c.take.new.self c.seal.new.side.active c.seal.new.side.drops c.seal.new.side.seals c.seal.result c.hand_on.new.end c.hand_on.new.held_back
     (sym c.take.ensures.value ∙ c.in-Some.is) (sym c.is_some.ensures ∙ c.if-is_some.false) c.take.ensures.after c.seal.ensures.batch
     (ap (λ (x : Side Stored). x.active) c.seal.ensures.side) (ap (λ (x : Side Stored). x.drops) c.seal.ensures.side) (ap (λ (x : Side Stored). x.seals) c.seal.ensures.side) c.hand_on.ensures
 
 pub returns-clause-beside : goal.returns-clause-beside
 returns-clause-beside g c =
     let cpu = c.args.self.now in (
-      subst (λ (x : Side Stored). ◌≡◌ {A = Cpu g.row.S.Denot} (record cpu { end = c.hand_on.new.end; spare = c.take.new.self; in_hand = c.hand_on.new.in_hand; side = x })
-          (with_buffers cpu cpu.seat (buffers_of (record cpu { end = c.hand_on.new.end; spare = c.take.new.self; in_hand = c.hand_on.new.in_hand; side = x })))) (sym c.seal.ensures.side) refl,
+      subst (λ (x : Side Stored). ◌≡◌ {A = Cpu g.row.S.Denot} (record cpu { end = c.hand_on.new.end; spare = c.take.new.self; held_back = c.hand_on.new.held_back; side = x })
+          (with_buffers cpu cpu.seat (buffers_of (record cpu { end = c.hand_on.new.end; spare = c.take.new.self; held_back = c.hand_on.new.held_back; side = x })))) (sym c.seal.ensures.side) refl,
       refl,
     )

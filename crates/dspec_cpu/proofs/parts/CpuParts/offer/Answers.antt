@@ -1,4 +1,4 @@
-use Rattle.std.proofs.Common.{◌≡◌, ◌+◌, ◌==◌, ◌∙◌, ℕ, true, false, [], ◌∷◌, arith, refl, sym, ap, subst}
+use Rattle.std.proofs.Common.{◌≡◌, ◌+◌, ◌==◌, ◌≤◌, ◌∙◌, ℕ, true, false, [], ◌∷◌, arith, refl, sym, ap, subst}
 use Rattle.dspec_deeds.specs.declared.deed.SpeculateFate.TheVariants as spoken
 use Rattle.dspec_deeds.specs.declared.deed.Deed.TheVariants.{Speculate}
 use Rattle.dspec_deeds.specs.declared.config.Config.{Config}
@@ -36,6 +36,26 @@ speak_nowhere-requires-in-Void g c =
     let most = (limits c.args.self.now.config c.requires.ready.steady.checked).calls in
     let lt = c.requires.calls in
     record { nowhere = refl; calls = omega arith; counts = roomy _ _ _ (words_of c.args.shared.now) c.args.self.now c.requires.ready c.requires.calls }
+
+pub grant-kept-requires-clause-slot : goal.grant-kept-requires-clause-slot
+grant-kept-requires-clause-slot g c =
+    let cpu = c.args.self.now in
+    let ready = c.requires.ready in
+    let w = known c.go_on-reached.new.seat in
+    let got = subst (λ (x : Config × ℕ). Reached x.0 x.1 (asked c.args.id c.args.rec.now c.fits_slot-fits.result c.args.mine) c.args.id (known cpu.seat) c.go_on-reached.result w)
+    (λ i. (ready.config i, ready.steady.seat i)) c.go_on-reached.ensures.reached in
+    let slot = slot_inside cpu.config c.args.id (got.present (grants c.go_on-reached.result c.in-Granted.is)).1 in
+    let side = ready.steady.listed.shown.side in
+    (slot.0, within slot.1 (sym side.buffer_count), within slot.1 (sym side.mark_count), within slot.1 (sym side.specdrop_count))
+  where
+    within : {i n m : ℕ} → i ≤ n → n ≡ m → i ≤ m
+    within {i} le is = subst (λ x. i ≤ x) is le
+
+pub grant-kept-requires-clause-calls : goal.grant-kept-requires-clause-calls
+grant-kept-requires-clause-calls g c =
+    let most = (limits c.args.self.now.config c.requires.ready.steady.checked).calls in
+    let lt = c.requires.calls in
+    omega arith
 
 pub grant-kept-requires-clause-counts : goal.grant-kept-requires-clause-counts
 grant-kept-requires-clause-counts g c = roomy _ _ _ (words_of c.args.shared.now) c.args.self.now c.requires.ready c.requires.calls

@@ -44,6 +44,6 @@ returns-clause-serves g c =
       slots = subst (λ (x : ℕ × Config). SettledSlots x.0 (known mid.seat) x.1.nspec settled.settles (known new.seat)) (λ i. (same.number i, same.config i)) settled.slots;
       goes = settled.goes;
       number = settled.number;
-      leaves = record { end = keeps.end; in_hand = keeps.in_hand; spare = keeps.spare; seals = keeps.seals };
+      leaves = record { end = keeps.end; held_back = keeps.held_back; spare = keeps.spare; seals = keeps.seals };
       list = λ p had. settled.list _ (c.switch-sealed.ensures.list p had);
     }

@@ -1,11 +1,10 @@
 use Rattle.std.proofs.Common.{◌<◌, ◌^◌, ◌∙◌, [], refl, sym, ap, arith}
-use Rattle.dspec_word.specs.Code.{awaits}
 use Rattle.dspec_deeds.specs.Closes.{is_granted}
 use Rattle.dspec_table.specs.Seats.{cpu_of, set_up}
 use Rattle.dspec_cpu.specs.Lists.{batches_of}
 use Rattle.dspec_cpu.proofs.Limits.{limits}
 use Rattle.dspec_cpu.proofs.Ready.{ready_after}
-use Rattle.dspec_cpu.proofs.Services.{can, load_stands, may_settle, not_granted, passed, passed_early, passed_list, settle_stands, settled_list, slot_done}
+use Rattle.dspec_cpu.proofs.Services.{can, load_stands, may_settle, not_awaiting, not_granted, passed, passed_early, passed_list, settle_stands, settled_list, slot_done}
 use Rattle.dspec_cpu.proofs.parts.CpuParts.settle_slot.Goals as goal
 
 pub settle_block-doing-requires : goal.settle_block-doing-requires
@@ -88,15 +87,15 @@ returns-in_default g c =
           (passed_list _ _ _ c.args.words.now cpu ready c.args.slot c.requires.slot.0 c.requires.slot.1 c.load_word-word.new.self c.load_word-word.result c.serve.result
           c.serve.ensures c.load_word-word.ensures.step ready.steady.list ready.steady.listed);
       same = (record { schema = refl; config = refl; number = refl; pair = refl }, refl);
-      keeps = record { end = refl; spare = refl; in_hand = refl; seals = refl };
+      keeps = record { end = refl; spare = refl; held_back = refl; seals = refl };
       settled = done;
     }
 
-pub returns-then-not-waits : goal.returns-then-not-waits
-returns-then-not-waits g c =
+pub returns-then-not-is_decided : goal.returns-then-not-is_decided
+returns-then-not-is_decided g c =
     let cpu = c.args.self.now in
     let ready = c.requires.ready in
-    let none = sym (c.waits.ensures ∙ ap awaits c.code.ensures) ∙ c.if-not-waits.true in
+    let none = not_awaiting c.load_word-word.result.code (sym c.is_decided.ensures ∙ c.if-not-is_decided.true) in
     let done = passed_early _ _ _ c.args.words.now cpu ready c.args.slot c.requires.slot.0 c.requires.slot.1 c.load_word-word.new.self c.load_word-word.result c.serve.result
     c.serve.ensures c.load_word-word.ensures.step none in
     record {
@@ -107,6 +106,6 @@ returns-then-not-waits g c =
           (passed_list _ _ _ c.args.words.now cpu ready c.args.slot c.requires.slot.0 c.requires.slot.1 c.load_word-word.new.self c.load_word-word.result c.serve.result
           c.serve.ensures c.load_word-word.ensures.step ready.steady.list ready.steady.listed);
       same = (record { schema = refl; config = refl; number = refl; pair = refl }, refl);
-      keeps = record { end = refl; spare = refl; in_hand = refl; seals = refl };
+      keeps = record { end = refl; spare = refl; held_back = refl; seals = refl };
       settled = done;
     }

@@ -14,7 +14,7 @@ loop-slot-init g c =
       from = omega arith;
       ready = c.requires.ready;
       same = (record { schema = refl; config = refl; number = refl; pair = refl }, refl);
-      keeps = record { end = refl; spare = refl; in_hand = refl; seals = refl };
+      keeps = record { end = refl; spare = refl; held_back = refl; seals = refl };
       settled = none_settled cpu.cpu (λ p. HasList (g.S.Schema.shape_of cpu.schema) (g.S.Schema.accepted cpu.schema) (g.S.Schema.text cpu.schema) cpu p) (known cpu.seat);
     }
 
@@ -68,7 +68,7 @@ loop-slot-preserved g c =
       keeps = record {
         end = now.keeps.end ∙ was.keeps.end;
         spare = now.keeps.spare ∙ was.keeps.spare;
-        in_hand = now.keeps.in_hand ∙ was.keeps.in_hand;
+        held_back = now.keeps.held_back ∙ was.keeps.held_back;
         seals = now.keeps.seals ∙ was.keeps.seals;
       };
       settled = subst (λ (m : ℕ). Settled cpu.cpu m c.if-settle_slot.settled had (known cpu.seat) has (known new.seat)) there

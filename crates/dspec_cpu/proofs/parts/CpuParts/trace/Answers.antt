@@ -78,7 +78,7 @@ returns-then-not-trace-clause-did g c =
     let fit = c.fits-fits.result in
     let fit_no : fit ≡ false = c.fits-fits.ensures cpu.cpu ready.steady.list (shows _ _ _ cpu.side ready.steady.list ready.steady.listed.shown)
     ∙ (sym (c.trace.ensures.answer cpu.config cpu.cpu ready.steady.list (shows _ _ _ cpu.side ready.steady.list ready.steady.listed.shown)
-    (c.is_shut-shut.ensures cpu.cpu (worn_of cpu) ready.steady.list ready.steady.listed.shown.counted)) ∙ c.if-not-trace.true) in
+    (c.is_closed-closed.ensures cpu.cpu (worn_of cpu) ready.steady.list ready.steady.listed.shown.counted)) ∙ c.if-not-trace.true) in
     let w = known c.load_activity-runs.new.self in
     let step = subst (λ b. LoadedActivity (asked c.args.rec.now fit) (known cpu.seat) (not b) w) c.if-not-runs.false c.load_activity-runs.ensures.step in
     let did = traces cpu.config cpu.cpu (known cpu.seat) w c.args.rec.now fit false traced.Dropped (set_up_is _ _ _ words cpu ready) (holder _ _ _ words cpu ready) step
@@ -93,7 +93,7 @@ returns-then-not-trace-clause-list g c =
     let fit = c.fits-fits.result in
     let fit_no : fit ≡ false = c.fits-fits.ensures cpu.cpu ready.steady.list (shows _ _ _ cpu.side ready.steady.list ready.steady.listed.shown)
     ∙ (sym (c.trace.ensures.answer cpu.config cpu.cpu ready.steady.list (shows _ _ _ cpu.side ready.steady.list ready.steady.listed.shown)
-    (c.is_shut-shut.ensures cpu.cpu (worn_of cpu) ready.steady.list ready.steady.listed.shown.counted)) ∙ c.if-not-trace.true) in
+    (c.is_closed-closed.ensures cpu.cpu (worn_of cpu) ready.steady.list ready.steady.listed.shown.counted)) ∙ c.if-not-trace.true) in
     let w = known c.load_activity-runs.new.self in
     let step = subst (λ b. LoadedActivity (asked c.args.rec.now fit) (known cpu.seat) (not b) w) c.if-not-runs.false c.load_activity-runs.ensures.step in
     let did = traces cpu.config cpu.cpu (known cpu.seat) w c.args.rec.now fit false traced.Dropped (set_up_is _ _ _ words cpu ready) (holder _ _ _ words cpu ready) step
@@ -116,7 +116,7 @@ returns-then-not-trace-clause-ready g c =
     let fit = c.fits-fits.result in
     let fit_no : fit ≡ false = c.fits-fits.ensures cpu.cpu ready.steady.list (shows _ _ _ cpu.side ready.steady.list ready.steady.listed.shown)
     ∙ (sym (c.trace.ensures.answer cpu.config cpu.cpu ready.steady.list (shows _ _ _ cpu.side ready.steady.list ready.steady.listed.shown)
-    (c.is_shut-shut.ensures cpu.cpu (worn_of cpu) ready.steady.list ready.steady.listed.shown.counted)) ∙ c.if-not-trace.true) in
+    (c.is_closed-closed.ensures cpu.cpu (worn_of cpu) ready.steady.list ready.steady.listed.shown.counted)) ∙ c.if-not-trace.true) in
     let w = known c.load_activity-runs.new.self in
     let step = subst (λ b. LoadedActivity (asked c.args.rec.now fit) (known cpu.seat) (not b) w) c.if-not-runs.false c.load_activity-runs.ensures.step in
     let did = traces cpu.config cpu.cpu (known cpu.seat) w c.args.rec.now fit false traced.Dropped (set_up_is _ _ _ words cpu ready) (holder _ _ _ words cpu ready) step
@@ -133,7 +133,7 @@ returns-clause-did g c =
     let fit = c.fits-fits.result in
     let fit_yes : fit ≡ true = c.fits-fits.ensures cpu.cpu ready.steady.list (shows _ _ _ cpu.side ready.steady.list ready.steady.listed.shown)
     ∙ (sym (c.trace.ensures.answer cpu.config cpu.cpu ready.steady.list (shows _ _ _ cpu.side ready.steady.list ready.steady.listed.shown)
-    (c.is_shut-shut.ensures cpu.cpu (worn_of cpu) ready.steady.list ready.steady.listed.shown.counted)) ∙ c.if-not-trace.false) in
+    (c.is_closed-closed.ensures cpu.cpu (worn_of cpu) ready.steady.list ready.steady.listed.shown.counted)) ∙ c.if-not-trace.false) in
     let w = known c.load_activity-runs.new.self in
     let step = subst (λ b. LoadedActivity (asked c.args.rec.now fit) (known cpu.seat) (not b) w) c.if-not-runs.false c.load_activity-runs.ensures.step in
     let did = traces cpu.config cpu.cpu (known cpu.seat) w c.args.rec.now fit false traced.Kept (set_up_is _ _ _ words cpu ready) (holder _ _ _ words cpu ready) step
@@ -148,7 +148,7 @@ returns-clause-list g c =
     let fit = c.fits-fits.result in
     let fit_yes : fit ≡ true = c.fits-fits.ensures cpu.cpu ready.steady.list (shows _ _ _ cpu.side ready.steady.list ready.steady.listed.shown)
     ∙ (sym (c.trace.ensures.answer cpu.config cpu.cpu ready.steady.list (shows _ _ _ cpu.side ready.steady.list ready.steady.listed.shown)
-    (c.is_shut-shut.ensures cpu.cpu (worn_of cpu) ready.steady.list ready.steady.listed.shown.counted)) ∙ c.if-not-trace.false) in
+    (c.is_closed-closed.ensures cpu.cpu (worn_of cpu) ready.steady.list ready.steady.listed.shown.counted)) ∙ c.if-not-trace.false) in
     let w = known c.load_activity-runs.new.self in
     let step = subst (λ b. LoadedActivity (asked c.args.rec.now fit) (known cpu.seat) (not b) w) c.if-not-runs.false c.load_activity-runs.ensures.step in
     let did = traces cpu.config cpu.cpu (known cpu.seat) w c.args.rec.now fit false traced.Kept (set_up_is _ _ _ words cpu ready) (holder _ _ _ words cpu ready) step
@@ -171,7 +171,7 @@ returns-clause-ready g c =
     let fit = c.fits-fits.result in
     let fit_yes : fit ≡ true = c.fits-fits.ensures cpu.cpu ready.steady.list (shows _ _ _ cpu.side ready.steady.list ready.steady.listed.shown)
     ∙ (sym (c.trace.ensures.answer cpu.config cpu.cpu ready.steady.list (shows _ _ _ cpu.side ready.steady.list ready.steady.listed.shown)
-    (c.is_shut-shut.ensures cpu.cpu (worn_of cpu) ready.steady.list ready.steady.listed.shown.counted)) ∙ c.if-not-trace.false) in
+    (c.is_closed-closed.ensures cpu.cpu (worn_of cpu) ready.steady.list ready.steady.listed.shown.counted)) ∙ c.if-not-trace.false) in
     let w = known c.load_activity-runs.new.self in
     let step = subst (λ b. LoadedActivity (asked c.args.rec.now fit) (known cpu.seat) (not b) w) c.if-not-runs.false c.load_activity-runs.ensures.step in
     let did = traces cpu.config cpu.cpu (known cpu.seat) w c.args.rec.now fit false traced.Kept (set_up_is _ _ _ words cpu ready) (holder _ _ _ words cpu ready) step

@@ -38,7 +38,7 @@ loop-below-preserved g c =
         schema = now.same.schema ∙ was.same.schema;
         config = now.same.config ∙ was.same.config;
         number = now.same.number ∙ was.same.number;
-        in_hand = now.same.in_hand ∙ was.same.in_hand;
+        held_back = now.same.held_back ∙ was.same.held_back;
         worn = now.same.worn ∙ was.same.worn;
       };
       list = λ handed p log had shows its.

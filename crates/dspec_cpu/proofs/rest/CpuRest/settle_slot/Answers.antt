@@ -1,9 +1,22 @@
-use Rattle.std.proofs.Common.{◌<◌, ◌^◌, sym, ap, arith}
+use Rattle.std.proofs.Common.{◌<◌, ◌^◌, refl, sym, ap, arith}
 use Rattle.dspec_deeds.specs.Closes.{is_granted}
 use Rattle.dspec_deeds.specs.declared.config.Config.{Config}
 use Rattle.dspec_cpu.specs.Rests.{batches_of_rest}
-use Rattle.dspec_cpu.proofs.Rests.{can, closed}
+use Rattle.dspec_cpu.proofs.Rests.{can, closed, released, unsettled}
 use Rattle.dspec_cpu.proofs.rest.CpuRest.settle_slot.Goals as goal
+
+pub settle_at-requires : goal.settle_at-requires
+settle_at-requires g c =
+    let some = c.requires.some in
+    released (g.S.Schema.shape_of c.args.self.now.schema) (g.S.Schema.accepted c.args.self.now.schema) (g.S.Schema.text c.args.self.now.schema) c.args.self.now c.args.last.now
+    c.requires.words c.args.slot c.requires.slot.0 c.requires.slot.1 c.word-word.result c.word-word.ensures some.2 some.3 some.1 some.5
+
+pub returns-in_default : goal.returns-in_default
+returns-in_default g c = record {
+  same = record { schema = refl; config = refl; number = refl; held_back = refl; worn = refl };
+  list = λ handed p log now had closes. unsettled _ _ _ c.args.self.now c.args.last.now c.requires.words c.args.slot c.requires.slot.0 c.requires.slot.1
+      c.word-word.result c.word-word.ensures c.ack.result c.ack.ensures c.settle_at.result c.settle_at.ensures c.in_default.not-Granted handed log now p had closes;
+}
 
 pub settle_block-requires : goal.settle_block-requires
 settle_block-requires g c =

@@ -1,5 +1,5 @@
 -- What is read, and the settlement that the table grants.
-use Rattle.std.proofs.Common.{◌≡◌, ◌∷◌, List, refl, sym, ap, ◌∙◌, subst, arith}
+use Rattle.std.proofs.Common.{◌≡◌, ◌∷◌, List, refl, sym, ap, ◌∙◌, subst, arith, rules}
 use Rattle.dspec_word.specs.SpecId.{Speculation}
 use Rattle.dspec_word.specs.Tables.{settle_at}
 use Rattle.dspec_word.specs.Word.{SlotState, CanBeReleased}
@@ -79,8 +79,8 @@ enter_settle-requires-clause-legal g c =
     (λ i. Settle a (is i) (fate i) ∷ h) ∙ sym (one_due shape k a s h c.settle_at.result act c.in-Granted.is) in
     subst (λ (ds : List Deed). IsAllowed shape k ds) (sym entered) (closes_on shape k a s h c.requires.fine c.requires.can_close c.requires.cpu c.requires.slot).legal
 
-pub returns-clause-can_close : goal.returns-clause-can_close
-returns-clause-can_close g c =
+pub returns : goal.returns
+returns g c =
     let m = c.args.self.now in
     let k = m.config in
     let a = c.args.cpu in
@@ -99,31 +99,16 @@ returns-clause-can_close g c =
     ∙ (ap (λ j. settle_fate shape k a h j w.code) is ∙ ap (λ (x : SlotState). settle_fate shape k a h (present s h) x.code) word)) in
     let entered : Settle a c.of-id.result c.settle_fate-fate.result ∷ h ≡ closed_slot shape k a s h =
     (λ i. Settle a (is i) (fate i) ∷ h) ∙ sym (one_due shape k a s h c.settle_at.result act c.in-Granted.is) in
-    on_ok c.enter_settle.result
-    (λ adds. can_close_there g.S.Schema.shape_of m c.enter_settle.new.self (closed_slot shape k a s h)
-    (settles_one m c.enter_settle.new.self (Settle a c.of-id.result c.settle_fate-fate.result) (closed_slot shape k a s h) entered adds)
-    (closes_on shape k a s h c.requires.fine c.requires.can_close c.requires.cpu c.requires.slot))
-    c.enter_settle.ensures.entered
-
-pub returns-clause-settled : goal.returns-clause-settled
-returns-clause-settled g c =
-    let m = c.args.self.now in
-    let k = m.config in
-    let a = c.args.cpu in
-    let s = c.args.slot in
-    let h = history m in
-    let w = c.index-word.result.now in
-    let shape = g.S.Schema.shape_of m.schema in
-    let word = word_there k h m.words.items s w c.requires.slot.0 c.requires.slot.1 c.requires.shown.words c.index-word.ensures in
-    let acked = ack_read g.B.TraceBuffer.has g.B.TraceBuffer.capacity m c.requires.shown a s c.requires.cpu c.requires.slot c.index.result.now c.index.ensures c.index-2.result.now
-    c.index-2.ensures in
-    let act : c.settle_at.result ≡ settle_at (word_at s h) (ack a s h) = c.settle_at.ensures ∙ (ap (λ (x : SlotState). settle_at x c.index-2.result.now) word ∙ ap (settle_at
-    (word_at s h)) acked) in
-    let is : c.of-id.result ≡ present s h = c.of-id.ensures ∙ ap (λ n. record { issue = n; slot = s }) (c.issue.ensures.value ∙ ap (λ (x : SlotState). x.issue) word) in
-    let fate : c.settle_fate-fate.result ≡ settle_fate shape k a h (present s h) (word_at s h).code =
-    c.settle_fate-fate.ensures ∙ (ap (settle_fate shape k a h c.of-id.result) c.code.ensures
-    ∙ (ap (λ j. settle_fate shape k a h j w.code) is ∙ ap (λ (x : SlotState). settle_fate shape k a h (present s h) x.code) word)) in
-    let entered : Settle a c.of-id.result c.settle_fate-fate.result ∷ h ≡ closed_slot shape k a s h =
-    (λ i. Settle a (is i) (fate i) ∷ h) ∙ sym (one_due shape k a s h c.settle_at.result act c.in-Granted.is) in
-    on_ok c.enter_settle.result (λ adds. (settles_one m c.enter_settle.new.self (Settle a c.of-id.result c.settle_fate-fate.result) (closed_slot shape k a s h) entered
-    adds).state) c.enter_settle.ensures.entered
+    record {
+      shown = search rules;
+      can_close =
+          on_ok c.enter_settle.result
+          (λ adds. can_close_there g.S.Schema.shape_of m c.enter_settle.new.self (closed_slot shape k a s h)
+          (settles_one m c.enter_settle.new.self (Settle a c.of-id.result c.settle_fate-fate.result) (closed_slot shape k a s h) entered adds)
+          (closes_on shape k a s h c.requires.fine c.requires.can_close c.requires.cpu c.requires.slot))
+          c.enter_settle.ensures.entered;
+      settled =
+          on_ok c.enter_settle.result (λ adds. (settles_one m c.enter_settle.new.self (Settle a c.of-id.result c.settle_fate-fate.result) (closed_slot shape k a s h) entered
+          adds).state) c.enter_settle.ensures.entered;
+      schema = search rules;
+    }

@@ -1,7 +1,7 @@
 -- The fate of a commit that decides is a commit's.
 use Rattle.std.proofs.Common.{◌≡◌, true, sym, subst}
 use Rattle.dspec_deeds.specs.FateKinds.{is_commit}
-use Rattle.dspec_play.specs.Coherent.{the_caller}
+use Rattle.dspec_play.specs.Coherent.{progress_of}
 use Rattle.dspec_machine.specs.Machines.{history, state_of}
 use Rattle.dspec_play.proofs.DecideMoves.{commit_decides}
 use Rattle.dspec_machine.proofs.machine.Machine.commit.Goals as goal
@@ -10,4 +10,4 @@ pub enter_decided-requires-clause-decides : goal.enter_decided-requires-clause-d
 enter_decided-requires-clause-decides g c =
     let m = c.args.self.now in
     subst (λ f. is_commit f ≡ true) (sym c.commit_fate-fate.ensures)
-    (commit_decides (g.S.Schema.shape_of m.schema) m.config c.args.cpu (history m) (the_caller (state_of m).callers c.args.cpu) c.args.id)
+    (commit_decides (g.S.Schema.shape_of m.schema) m.config c.args.cpu (history m) (progress_of (state_of m).progresses c.args.cpu) c.args.id)

@@ -5,7 +5,7 @@ use Rattle.dspec_word.specs.declared.code.Code.TheVariants.{Inactive}
 use Rattle.dspec_deeds.specs.declared.deed.DecideFate.{DecideFate}
 use Rattle.dspec_deeds.specs.declared.deed.Deed.TheVariants.{Discard, Release}
 use Rattle.dspec_deeds.specs.Legal.{IsAllowed}
-use Rattle.dspec_play.specs.Coherent.{the_caller}
+use Rattle.dspec_play.specs.Coherent.{progress_of}
 use Rattle.dspec_machine.specs.Machines.{history, state_of}
 use Rattle.dspec_play.specs.Play.{Moved}
 use Rattle.dspec_play.proofs.DecideMoves.{discards_alone}
@@ -18,7 +18,7 @@ enter_solo_discard-requires-clause-legal g c =
     let h = history m in
     let id = c.args.id in
     let shape = g.S.Schema.shape_of m.schema in
-    let me = the_caller (state_of m).callers a in
+    let me = progress_of (state_of m).progresses a in
     let alone : sameb the_type c.args.word.code Inactive ≡ true = ap (λ x. sameb the_type x Inactive) (sym c.code.ensures) ∙ (sym c.eq.ensures ∙ c.if-eq.true) in
     let legal = subst (λ (x : Moved). IsAllowed shape m.config (x.deeds ++ h)) (discards_alone shape m.config a h me id c.args.word alone) c.requires.legal in
     subst (λ (f : DecideFate). IsAllowed shape m.config (Release id.slot ∷ Discard a id f ∷ h)) (sym c.discard_fate-fate.ensures) legal

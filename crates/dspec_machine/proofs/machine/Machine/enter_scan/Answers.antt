@@ -1,5 +1,5 @@
 -- A scan is on its CPU's side, and leaves the words.
-use Rattle.std.proofs.Common.{◌∷◌, refl, ap}
+use Rattle.std.proofs.Common.{◌∷◌, refl, ap, rules}
 use Rattle.dspec_side.specs.declared.side.Side.{Side}
 use Rattle.dspec_deeds.specs.declared.deed.Deed.TheVariants as deed
 use Rattle.dspec_machine.specs.Machines.{history}
@@ -26,8 +26,8 @@ scan-requires g c =
       counts = counts_fit (g.S.Schema.shape_of m.schema) m.config a _ _ h own.side shows.side c.requires.ranges d legal c.requires.few;
     }
 
-pub returns-clause-shown : goal.returns-clause-shown
-returns-clause-shown g c =
+pub returns : goal.returns
+returns g c =
     let m = c.args.self.now in
     let a = c.args.cpu in
     let h = history m in
@@ -36,19 +36,12 @@ returns-clause-shown g c =
     let own = c.index_mut-own.result.now in
     let got = cpu_got _ _ m was a own c.requires.cpu c.index_mut-own.ensures.value in
     let shows = was.cpus a own got in
-    let now = own_deed _ _ m.schema m.config a h own shows d c.scan.new.self own.accepted refl (c.scan.ensures.shows m.schema m.config a h shows.side)
-    (ap (λ (x : Side g.row.B.Denot). x.counts.worn) c.scan.ensures.rest) shows.accepted in
-    enters _ _ m c.push.new.self m.words d a _ was c.requires.cpu (latest_first m.deeds c.push.new.self d c.in_ok-push.ensures.ok) refl refl
-    (words_stay m.config d h m.words.items (λ t. refl) was.words) now
-
-pub returns-clause-entered : goal.returns-clause-entered
-returns-clause-entered g c =
-    let m = c.args.self.now in
-    let a = c.args.cpu in
-    let h = history m in
-    let d = deed.Scan c.args.cpu c.args.running in
-    let was = c.requires.shown in
-    let own = c.index_mut-own.result.now in
-    let got = cpu_got _ _ m was a own c.requires.cpu c.index_mut-own.ensures.value in
-    let shows = was.cpus a own got in
-    adds_own m c.push.new.self m.words d a own _ (latest_first m.deeds c.push.new.self d c.in_ok-push.ensures.ok) got refl
+    record {
+      shown =
+          let now = own_deed _ _ m.schema m.config a h own shows d c.scan.new.self own.accepted refl (c.scan.ensures.shows m.schema m.config a h shows.side)
+          (ap (λ (x : Side g.row.B.Denot). x.counts.worn) c.scan.ensures.rest) shows.accepted in
+          enters _ _ m c.push.new.self m.words d a _ was c.requires.cpu (latest_first m.deeds c.push.new.self d c.in_ok-push.ensures.ok) refl refl
+          (words_stay m.config d h m.words.items (λ t. refl) was.words) now;
+      entered = adds_own m c.push.new.self m.words d a own _ (latest_first m.deeds c.push.new.self d c.in_ok-push.ensures.ok) got refl;
+      refused = search rules;
+    }

@@ -1,5 +1,5 @@
 -- A settlement ends the CPU's block, and leaves the words.
-use Rattle.std.proofs.Common.{◌≡◌, ◌-◌, ◌≤◌, ◌<◌, ◌∷◌, ◌++◌, [], length, reverse, set, if◌then◌else◌, refl, sym, ap, ◌∙◌, subst, arith}
+use Rattle.std.proofs.Common.{◌≡◌, ◌-◌, ◌≤◌, ◌<◌, ◌∷◌, ◌++◌, [], length, reverse, set, if◌then◌else◌, refl, sym, ap, ◌∙◌, subst, arith, rules}
 use Rattle.std.specs.Vec.{with_item}
 use Rattle.dspec_deeds.specs.declared.deed.Deed.{Deed}
 use Rattle.dspec_deeds.specs.FateKinds.{is_copied}
@@ -116,8 +116,8 @@ settle-requires g c =
           (λ w. settle_counts m.config a w h id c.args.fate (settles_on c.args.fate (settles_as m.config a id c.args.fate h sound))) c.requires.legal;
     }
 
-pub returns-clause-shown : goal.returns-clause-shown
-returns-clause-shown g c =
+pub returns : goal.returns
+returns g c =
     let m = c.args.self.now in
     let a = c.args.cpu in
     let h = history m in
@@ -135,31 +135,15 @@ returns-clause-shown g c =
     (λ rs. c.enter_block.new.self ≡ record own { accepted = own.accepted ++ (if is_copied c.args.fate then reverse rs else []) }) place c.in_ok-enter_block.ensures.streamed in
     let mid = put_side _ _ m.schema m.config a h own shows c.enter_block.new.self _ streamed in
     let pushed : c.enter_block.new.deeds ≡ m.deeds ++ d ∷ [] = c.in_ok-enter_block.ensures.deeds in
-    let caller = caller_is _ _ m.config a h c.enter_block.new.self.side mid id slot c.requires.cpu sound.0 now c.is_mine-mine.result c.is_mine-mine.ensures.tells in
-    let side = c.settle.ensures.shows m.schema m.config a h mid caller (settles_as m.config a id c.args.fate h sound) c.requires.legal.1.1 in
-    let kept = put_deed _ _ m.schema m.config a h own shows d c.enter_block.new.self _ c.settle.new.self streamed refl side
-    (ap (λ (x : Side g.row.B.Denot). x.counts.worn) c.settle.ensures.rest)
-    (ap (λ rs. rs ++ (if is_copied c.args.fate then reverse (contents (held a id h)) else [])) shows.accepted ∙ stream_settles a id c.args.fate h) in
-    enters _ _ m c.enter_block.new.deeds m.words d a _ was c.requires.cpu (latest_first m.deeds c.enter_block.new.deeds d pushed) refl refl
-    (words_stay m.config d h m.words.items (λ t. refl) was.words) kept
-
-pub returns-clause-entered : goal.returns-clause-entered
-returns-clause-entered g c =
-    let m = c.args.self.now in
-    let a = c.args.cpu in
-    let h = history m in
-    let d = Settle c.args.cpu c.args.id c.args.fate in
-    let was = c.requires.shown in
-    let own = c.index_mut-own.result.now in
-    let got = cpu_got _ _ m was a own c.requires.cpu c.index_mut-own.ensures.value in
-    let shows = was.cpus a own got in
-    let id = c.args.id in
-    let sound = c.requires.legal.0 in
-    let slot = settled_slot m.config a id c.args.fate h c.requires.ranges sound in
-    let now = sym sound.1.1.1.0 in
-    let place : c.slot.result - 1 ≡ id.slot - 1 = ap (λ n. n - 1) c.slot.ensures.value in
-    let streamed = blocks_there _ _ m.config a h own.side shows.side id slot c.requires.cpu sound.0 now (c.slot.result - 1)
-    (λ rs. c.enter_block.new.self ≡ record own { accepted = own.accepted ++ (if is_copied c.args.fate then reverse rs else []) }) place c.in_ok-enter_block.ensures.streamed in
-    let mid = put_side _ _ m.schema m.config a h own shows c.enter_block.new.self _ streamed in
-    let pushed : c.enter_block.new.deeds ≡ m.deeds ++ d ∷ [] = c.in_ok-enter_block.ensures.deeds in
-    adds_own m c.enter_block.new.deeds m.words d a own _ (latest_first m.deeds c.enter_block.new.deeds d pushed) got (ap (λ (x : Cpu g.row.B.Denot). x.caller) streamed)
+    record {
+      shown =
+          let caller = caller_is _ _ m.config a h c.enter_block.new.self.side mid id slot c.requires.cpu sound.0 now c.is_mine-mine.result c.is_mine-mine.ensures.tells in
+          let side = c.settle.ensures.shows m.schema m.config a h mid caller (settles_as m.config a id c.args.fate h sound) c.requires.legal.1.1 in
+          let kept = put_deed _ _ m.schema m.config a h own shows d c.enter_block.new.self _ c.settle.new.self streamed refl side
+          (ap (λ (x : Side g.row.B.Denot). x.counts.worn) c.settle.ensures.rest)
+          (ap (λ rs. rs ++ (if is_copied c.args.fate then reverse (contents (held a id h)) else [])) shows.accepted ∙ stream_settles a id c.args.fate h) in
+          enters _ _ m c.enter_block.new.deeds m.words d a _ was c.requires.cpu (latest_first m.deeds c.enter_block.new.deeds d pushed) refl refl
+          (words_stay m.config d h m.words.items (λ t. refl) was.words) kept;
+      entered = adds_own m c.enter_block.new.deeds m.words d a own _ (latest_first m.deeds c.enter_block.new.deeds d pushed) got (ap (λ (x : Cpu g.row.B.Denot). x.progress) streamed);
+      refused = search rules;
+    }

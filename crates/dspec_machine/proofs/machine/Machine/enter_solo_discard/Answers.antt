@@ -1,5 +1,5 @@
 -- A discard by the one caller throws its block away, and releases the slot.
-use Rattle.std.proofs.Common.{◌≡◌, ◌-◌, ◌≤◌, [], ◌∷◌, ◌++◌, set, if◌then◌else◌, refl, sym, ap, ◌∙◌, subst, arith}
+use Rattle.std.proofs.Common.{◌≡◌, ◌-◌, ◌≤◌, [], ◌∷◌, ◌++◌, set, if◌then◌else◌, refl, sym, ap, ◌∙◌, subst, arith, rules}
 use Rattle.std.proofs.lemmas.List.{length-set}
 use Rattle.dspec_deeds.specs.declared.deed.Deed.TheVariants.{Discard, Release}
 use Rattle.dspec_deeds.proofs.PresentIds.{open_present}
@@ -89,8 +89,8 @@ decide-requires g c =
           (λ w. decided_counts (g.S.Schema.shape_of m.schema) m.config a decision.Discard id c.args.fate w h c.requires.discard) legal;
     }
 
-pub returns-clause-shown : goal.returns-clause-shown
-returns-clause-shown g c =
+pub returns : goal.returns
+returns g c =
     let m = c.args.self.now in
     let a = c.args.cpu in
     let h = history m in
@@ -100,40 +100,33 @@ returns-clause-shown g c =
     let got = cpu_got _ _ m was a own c.requires.cpu c.index_mut-own.ensures.value in
     let shows = was.cpus a own got in
     let id = c.args.id in
-    let sound = c.requires.legal.0.0 in
-    let legal : IsAllowed (g.S.Schema.shape_of m.schema) m.config (Discard a id c.args.fate ∷ h) = (c.requires.legal.0.0, c.requires.legal.1.0) in
-    let opens = discard_open m.config a id c.args.fate h sound c.requires.discard in
-    let slot = open_slot m.config h id c.requires.ranges sound.0 opens in
-    let now = (open_present m.config h id sound.0 opens).now in
-    let caller = caller_is _ _ m.config a h own.side shows.side id slot c.requires.cpu sound.0 now c.is_mine-mine.result c.is_mine-mine.ensures.tells in
-    let side = c.decide.ensures.discards m.schema m.config a h shows.side caller c.requires.discard legal.1.1 in
-    let kept = own_deed _ _ m.schema m.config a h own shows d c.decide.new.self own.accepted refl side (ap (λ (x : Side g.row.B.Denot). x.counts.worn)
-    c.decide.ensures.rest) shows.accepted in
-    let count = was.cpu_count in
-    let all = cpus_set _ _ m.schema m.config h m.cpus.items was.cpus d a _ refl (let lt = c.requires.cpu in omega arith) kept in
-    let deeds = latest_first c.push.new.self c.push-2.new.self (Release id.slot)
-    (of_ok c.push-2.result (sym c.if-is_err.ensures.value) c.push-2.ensures.ok ∙ ap (λ n. c.push.new.self ++ Release n ∷ []) c.slot.ensures.value)
-    ∙ ap (λ ds. Release id.slot ∷ ds) (latest_first m.deeds c.push.new.self d c.in_ok-push.ensures.ok) in
-    shown_as g.B.TraceBuffer.has g.B.TraceBuffer.capacity _ (Release id.slot ∷ d ∷ h) deeds record {
-      words = subst (λ n. ShowsWords m.config (Release id.slot ∷ d ∷ h) (set m.words.items (n - 1) c.args.word)) (sym c.slot-2.ensures.value)
-          (solo_words m.config a id c.args.fate h m.words.items c.args.word slot c.requires.word was.words);
-      active = was.active;
-      cpu_count = length-set m.cpus.items a _ ∙ was.cpu_count;
-      cpus = cpus_released _ _ m.schema m.config (d ∷ h) _ all id.slot;
+    record {
+      shown =
+          let sound = c.requires.legal.0.0 in
+          let legal : IsAllowed (g.S.Schema.shape_of m.schema) m.config (Discard a id c.args.fate ∷ h) = (c.requires.legal.0.0, c.requires.legal.1.0) in
+          let opens = discard_open m.config a id c.args.fate h sound c.requires.discard in
+          let slot = open_slot m.config h id c.requires.ranges sound.0 opens in
+          let now = (open_present m.config h id sound.0 opens).now in
+          let caller = caller_is _ _ m.config a h own.side shows.side id slot c.requires.cpu sound.0 now c.is_mine-mine.result c.is_mine-mine.ensures.tells in
+          let side = c.decide.ensures.discards m.schema m.config a h shows.side caller c.requires.discard legal.1.1 in
+          let kept = own_deed _ _ m.schema m.config a h own shows d c.decide.new.self own.accepted refl side (ap (λ (x : Side g.row.B.Denot). x.counts.worn)
+          c.decide.ensures.rest) shows.accepted in
+          let count = was.cpu_count in
+          let all = cpus_set _ _ m.schema m.config h m.cpus.items was.cpus d a _ refl (let lt = c.requires.cpu in omega arith) kept in
+          let deeds = latest_first c.push.new.self c.push-2.new.self (Release id.slot)
+          (of_ok c.push-2.result (sym c.if-is_err.ensures.value) c.push-2.ensures.ok ∙ ap (λ n. c.push.new.self ++ Release n ∷ []) c.slot.ensures.value)
+          ∙ ap (λ ds. Release id.slot ∷ ds) (latest_first m.deeds c.push.new.self d c.in_ok-push.ensures.ok) in
+          shown_as g.B.TraceBuffer.has g.B.TraceBuffer.capacity _ (Release id.slot ∷ d ∷ h) deeds record {
+            words = subst (λ n. ShowsWords m.config (Release id.slot ∷ d ∷ h) (set m.words.items (n - 1) c.args.word)) (sym c.slot-2.ensures.value)
+                (solo_words m.config a id c.args.fate h m.words.items c.args.word slot c.requires.word was.words);
+            active = was.active;
+            cpu_count = length-set m.cpus.items a _ ∙ was.cpu_count;
+            cpus = cpus_released _ _ m.schema m.config (d ∷ h) _ all id.slot;
+          };
+      entered =
+          let deeds = latest_first c.push.new.self c.push-2.new.self (Release id.slot)
+          (of_ok c.push-2.result (sym c.if-is_err.ensures.value) c.push-2.ensures.ok ∙ ap (λ n. c.push.new.self ++ Release n ∷ []) c.slot.ensures.value)
+          ∙ ap (λ ds. Release id.slot ∷ ds) (latest_first m.deeds c.push.new.self d c.in_ok-push.ensures.ok) in
+          adds_all m _ (Release id.slot ∷ d ∷ []) refl refl refl deeds (map_set (λ own. own.progress) m.cpus.items a own _ got refl);
+      refused = search rules;
     }
-
-pub returns-clause-entered : goal.returns-clause-entered
-returns-clause-entered g c =
-    let m = c.args.self.now in
-    let a = c.args.cpu in
-    let h = history m in
-    let d = Discard c.args.cpu c.args.id c.args.fate in
-    let was = c.requires.shown in
-    let own = c.index_mut-own.result.now in
-    let got = cpu_got _ _ m was a own c.requires.cpu c.index_mut-own.ensures.value in
-    let shows = was.cpus a own got in
-    let id = c.args.id in
-    let deeds = latest_first c.push.new.self c.push-2.new.self (Release id.slot)
-    (of_ok c.push-2.result (sym c.if-is_err.ensures.value) c.push-2.ensures.ok ∙ ap (λ n. c.push.new.self ++ Release n ∷ []) c.slot.ensures.value)
-    ∙ ap (λ ds. Release id.slot ∷ ds) (latest_first m.deeds c.push.new.self d c.in_ok-push.ensures.ok) in
-    adds_all m _ (Release id.slot ∷ d ∷ []) refl refl refl deeds (map_set (λ own. own.caller) m.cpus.items a own _ got refl)

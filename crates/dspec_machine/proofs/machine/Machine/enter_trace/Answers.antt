@@ -1,5 +1,5 @@
 -- A traced record is on its CPU's side and, kept, in the stream; the words stay.
-use Rattle.std.proofs.Common.{◌≡◌, true, ◌∷◌, [], reverse, if◌then◌else◌, refl, sym, ap, ◌∙◌, subst, true≢false}
+use Rattle.std.proofs.Common.{◌≡◌, true, ◌∷◌, [], reverse, if◌then◌else◌, refl, sym, ap, ◌∙◌, subst, true≢false, rules}
 use Rattle.std.specs.Vec.{with_item}
 use Rattle.dspec_record.specs.Record.{Record}
 use Rattle.dspec_deeds.specs.declared.deed.Deed.{Deed}
@@ -66,8 +66,8 @@ trace-requires g c =
       counts = counts_fit (g.S.Schema.shape_of m.schema) m.config a _ _ h c.enter_record.new.self.side mid c.requires.ranges d legal c.requires.few;
     }
 
-pub returns-then-matches-clause-shown : goal.returns-then-matches-clause-shown
-returns-then-matches-clause-shown g c =
+pub returns-then-matches : goal.returns-then-matches
+returns-then-matches g c =
     let m = c.args.self.now in
     let a = c.args.cpu in
     let h = history m in
@@ -76,19 +76,26 @@ returns-then-matches-clause-shown g c =
     let own = c.index_mut-own.result.now in
     let got = cpu_got _ _ m was a own c.requires.cpu c.index_mut-own.ensures.value in
     let shows = was.cpus a own got in
-    let streamed = c.in_ok-enter_record.ensures.streamed in
-    let mid = put_side _ _ m.schema m.config a h own shows c.enter_record.new.self _ streamed in
-    let legal = c.requires.legal in
-    let stopped : c.args.fate ≡ traced.Stopped = elim c.match-matches.branch [ in-Stopped w ↦ w.in-Stopped.is | in_default w ↦ absurd (true≢false (sym c.if-matches.true ∙ w.matches-is)) ] in
-    let side = subst (λ f. ShowsList (λ b. g.B.TraceBuffer.has b m.schema) g.B.TraceBuffer.capacity m.config a (deed.Trace a c.args.rec.now f ∷ h) c.trace_stopped.new.self) (sym stopped)
-    (c.trace_stopped.ensures.shows m.schema m.config a h c.args.rec.now mid) in
-    let now = put_deed _ _ m.schema m.config a h own shows d c.enter_record.new.self _ c.trace_stopped.new.self streamed refl side
-    (ap (λ (x : Side g.row.B.Denot). x.counts.worn) c.trace_stopped.ensures.rest) (stream_traces a c.args.rec.now c.args.fate h own.accepted shows.accepted) in
-    enters _ _ m c.enter_record.new.deeds m.words d a _ was c.requires.cpu (latest_first m.deeds c.enter_record.new.deeds d c.in_ok-enter_record.ensures.deeds) refl refl
-    (words_stay m.config d h m.words.items (λ t. refl) was.words) now
+    record {
+      shown =
+          let streamed = c.in_ok-enter_record.ensures.streamed in
+          let mid = put_side _ _ m.schema m.config a h own shows c.enter_record.new.self _ streamed in
+          let legal = c.requires.legal in
+          let stopped : c.args.fate ≡ traced.Stopped = elim c.match-matches.branch [ in-Stopped w ↦ w.in-Stopped.is | in_default w ↦ absurd (true≢false (sym c.if-matches.true ∙ w.matches-is)) ] in
+          let side = subst (λ f. ShowsList (λ b. g.B.TraceBuffer.has b m.schema) g.B.TraceBuffer.capacity m.config a (deed.Trace a c.args.rec.now f ∷ h) c.trace_stopped.new.self) (sym stopped)
+          (c.trace_stopped.ensures.shows m.schema m.config a h c.args.rec.now mid) in
+          let now = put_deed _ _ m.schema m.config a h own shows d c.enter_record.new.self _ c.trace_stopped.new.self streamed refl side
+          (ap (λ (x : Side g.row.B.Denot). x.counts.worn) c.trace_stopped.ensures.rest) (stream_traces a c.args.rec.now c.args.fate h own.accepted shows.accepted) in
+          enters _ _ m c.enter_record.new.deeds m.words d a _ was c.requires.cpu (latest_first m.deeds c.enter_record.new.deeds d c.in_ok-enter_record.ensures.deeds) refl refl
+          (words_stay m.config d h m.words.items (λ t. refl) was.words) now;
+      entered =
+          adds_own m c.enter_record.new.deeds m.words d a own _ (latest_first m.deeds c.enter_record.new.deeds d c.in_ok-enter_record.ensures.deeds) got (ap
+          (λ (x : Cpu g.row.B.Denot). x.progress) c.in_ok-enter_record.ensures.streamed);
+      refused = search rules;
+    }
 
-pub returns-clause-shown : goal.returns-clause-shown
-returns-clause-shown g c =
+pub returns : goal.returns
+returns g c =
     let m = c.args.self.now in
     let a = c.args.cpu in
     let h = history m in
@@ -97,45 +104,26 @@ returns-clause-shown g c =
     let own = c.index_mut-own.result.now in
     let got = cpu_got _ _ m was a own c.requires.cpu c.index_mut-own.ensures.value in
     let shows = was.cpus a own got in
-    let streamed = c.in_ok-enter_record.ensures.streamed in
-    let mid = put_side _ _ m.schema m.config a h own shows c.enter_record.new.self _ streamed in
-    let legal = c.requires.legal in
-    let runs : c.args.fate ≡ traced.Stopped → ⊥ = elim c.match-matches.branch [
-      | in-Stopped w ↦ (λ e. true≢false
-          (sym w.matches-is ∙ c.if-matches.false))
-      | in_default w ↦ w.in_default.not-Stopped
-    ] in
-    let shut = c.is_shut-shut.ensures a c.enter_record.new.self.side.counts.worn h mid.counted in
-    let is = traced_as (g.S.Schema.shape_of m.schema) m.config a c.args.rec.now c.args.fate c.trace.result h runs legal.1.1 (c.trace.ensures.answer m.config a h mid shut) in
-    let side = subst (λ f. ShowsList (λ b. g.B.TraceBuffer.has b m.schema) g.B.TraceBuffer.capacity m.config a (deed.Trace a c.args.rec.now f ∷ h) c.trace.new.self) is
-    (c.trace.ensures.shows m.config a h mid) in
-    let now = put_deed _ _ m.schema m.config a h own shows d c.enter_record.new.self _ c.trace.new.self streamed refl side
-    (ap (λ (n : Counts). n.worn) c.trace.ensures.counts) (stream_traces a c.args.rec.now c.args.fate h own.accepted shows.accepted) in
-    enters _ _ m c.enter_record.new.deeds m.words d a _ was c.requires.cpu (latest_first m.deeds c.enter_record.new.deeds d c.in_ok-enter_record.ensures.deeds) refl refl
-    (words_stay m.config d h m.words.items (λ t. refl) was.words) now
-
-pub returns-then-matches-clause-entered : goal.returns-then-matches-clause-entered
-returns-then-matches-clause-entered g c =
-    let m = c.args.self.now in
-    let a = c.args.cpu in
-    let h = history m in
-    let d = deed.Trace c.args.cpu c.args.rec.now c.args.fate in
-    let was = c.requires.shown in
-    let own = c.index_mut-own.result.now in
-    let got = cpu_got _ _ m was a own c.requires.cpu c.index_mut-own.ensures.value in
-    let shows = was.cpus a own got in
-    adds_own m c.enter_record.new.deeds m.words d a own _ (latest_first m.deeds c.enter_record.new.deeds d c.in_ok-enter_record.ensures.deeds) got (ap
-    (λ (x : Cpu g.row.B.Denot). x.caller) c.in_ok-enter_record.ensures.streamed)
-
-pub returns-clause-entered : goal.returns-clause-entered
-returns-clause-entered g c =
-    let m = c.args.self.now in
-    let a = c.args.cpu in
-    let h = history m in
-    let d = deed.Trace c.args.cpu c.args.rec.now c.args.fate in
-    let was = c.requires.shown in
-    let own = c.index_mut-own.result.now in
-    let got = cpu_got _ _ m was a own c.requires.cpu c.index_mut-own.ensures.value in
-    let shows = was.cpus a own got in
-    adds_own m c.enter_record.new.deeds m.words d a own _ (latest_first m.deeds c.enter_record.new.deeds d c.in_ok-enter_record.ensures.deeds) got (ap
-    (λ (x : Cpu g.row.B.Denot). x.caller) c.in_ok-enter_record.ensures.streamed)
+    record {
+      shown =
+          let streamed = c.in_ok-enter_record.ensures.streamed in
+          let mid = put_side _ _ m.schema m.config a h own shows c.enter_record.new.self _ streamed in
+          let legal = c.requires.legal in
+          let runs : c.args.fate ≡ traced.Stopped → ⊥ = elim c.match-matches.branch [
+            | in-Stopped w ↦ (λ e. true≢false
+                (sym w.matches-is ∙ c.if-matches.false))
+            | in_default w ↦ w.in_default.not-Stopped
+          ] in
+          let closed = c.is_closed-closed.ensures a c.enter_record.new.self.side.counts.worn h mid.counted in
+          let is = traced_as (g.S.Schema.shape_of m.schema) m.config a c.args.rec.now c.args.fate c.trace.result h runs legal.1.1 (c.trace.ensures.answer m.config a h mid closed) in
+          let side = subst (λ f. ShowsList (λ b. g.B.TraceBuffer.has b m.schema) g.B.TraceBuffer.capacity m.config a (deed.Trace a c.args.rec.now f ∷ h) c.trace.new.self) is
+          (c.trace.ensures.shows m.config a h mid) in
+          let now = put_deed _ _ m.schema m.config a h own shows d c.enter_record.new.self _ c.trace.new.self streamed refl side
+          (ap (λ (n : Counts). n.worn) c.trace.ensures.counts) (stream_traces a c.args.rec.now c.args.fate h own.accepted shows.accepted) in
+          enters _ _ m c.enter_record.new.deeds m.words d a _ was c.requires.cpu (latest_first m.deeds c.enter_record.new.deeds d c.in_ok-enter_record.ensures.deeds) refl refl
+          (words_stay m.config d h m.words.items (λ t. refl) was.words) now;
+      entered =
+          adds_own m c.enter_record.new.deeds m.words d a own _ (latest_first m.deeds c.enter_record.new.deeds d c.in_ok-enter_record.ensures.deeds) got (ap
+          (λ (x : Cpu g.row.B.Denot). x.progress) c.in_ok-enter_record.ensures.streamed);
+      refused = search rules;
+    }

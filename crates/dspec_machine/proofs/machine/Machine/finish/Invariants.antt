@@ -1,7 +1,7 @@
 -- The streams and the reports of the CPUs so far.
 use Rattle.std.proofs.Common.{◌≡◌, map}
 use Rattle.dspec_deeds.specs.Closes.{numbers_below}
-use Rattle.dspec_play.specs.Coherent.{the_caller}
+use Rattle.dspec_play.specs.Coherent.{progress_of}
 use Rattle.dspec_machine.specs.Machines.{history, state_of}
 use Rattle.dspec_deeds.specs.Own.{stream}
 use Rattle.dspec_deeds.specs.Reports.{report}
@@ -10,4 +10,4 @@ use Rattle.dspec_machine.proofs.machine.Machine.finish.Given as goal
 abbrev pub invariant-loop-cpu : goal.invariant-loop-cpu
 invariant-loop-cpu g l =
     (l.accepted ≡ map (λ c. stream c (history l.self)) (numbers_below l.cpu))
-    × (l.reports ≡ map (λ c. report l.self.config c (the_caller (state_of l.self).callers c).worn (history l.self)) (numbers_below l.cpu))
+    × (l.reports ≡ map (λ c. report l.self.config c (progress_of (state_of l.self).progresses c).worn (history l.self)) (numbers_below l.cpu))

@@ -5,10 +5,10 @@ use Rattle.std.proofs.lemmas.Option.{slice_get_read}
 use Rattle.dspec_word.specs.declared.act.Act.TheVariants.{Granted}
 use Rattle.dspec_word.specs.Word.{SlotState, CanBeReleased}
 use Rattle.dspec_word.specs.Tables.{settle_at}
-use Rattle.dspec_play.specs.declared.flight.Caller.{Caller}
+use Rattle.dspec_play.specs.declared.flight.CpuProgress.{CpuProgress}
 use Rattle.dspec_play.specs.declared.flight.CpuFlight.TheVariants as flight
 use Rattle.dspec_deeds.specs.History.{ack, word_at}
-use Rattle.dspec_play.specs.Coherent.{the_caller}
+use Rattle.dspec_play.specs.Coherent.{progress_of}
 use Rattle.dspec_machine.specs.Machines.{Makes, history, state_of}
 use Rattle.dspec_play.specs.Play.{Moved, served}
 use Rattle.dspec_machine.proofs.MachineReads.{cpu_read}
@@ -44,7 +44,7 @@ returns-in-Granted g c =
     let s = c.args.slot in
     let h = history m in
     let shape = g.S.Schema.shape_of m.schema in
-    let me = the_caller (state_of m).callers a in
+    let me = progress_of (state_of m).progresses a in
     let w = c.index-word.result.now in
     let word = word_there k h m.words.items s w c.requires.slot.0 c.requires.slot.1 c.requires.shown.words c.index-word.ensures in
     let parts = (cpu_read g.B.TraceBuffer.has g.B.TraceBuffer.capacity m c.requires.shown a c.index.result.now c.requires.cpu c.index.ensures).side.parts in
@@ -55,7 +55,7 @@ returns-in-Granted g c =
     let act : settle_at (word_at s h) (ack a s h) ≡ Granted = sym (ap (λ (x : SlotState). settle_at x c.index-acked.result.now) word ∙ ap (settle_at (word_at s h)) acked)
     ∙ (sym c.settle_at.ensures ∙ c.in-Granted.is) in
     step_made g.B.TraceBuffer.has g.B.TraceBuffer.capacity m m c.go_on.new.self a []
-    (λ (x : Caller). record x { flight = Some (flight.ServiceStore s w c.args.sum); steps = x.steps + 1 }) _ c.go_on.result
+    (λ (x : CpuProgress). record x { flight = Some (flight.ServiceStore s w c.args.sum); steps = x.steps + 1 }) _ c.go_on.result
     (adds_none m) c.go_on.ensures.shown c.go_on.ensures.state c.go_on.ensures.schema
     (store_next shape k a h me s c.args.sum w (word_at s h) (settle_at (word_at s h) (ack a s h)) c.go_on.result word act c.go_on.ensures.answer)
 
@@ -69,7 +69,7 @@ returns-in_default g c =
     let s = c.args.slot in
     let h = history m in
     let shape = g.S.Schema.shape_of m.schema in
-    let me = the_caller (state_of m).callers a in
+    let me = progress_of (state_of m).progresses a in
     let w = c.index-word.result.now in
     let word = word_there k h m.words.items s w c.requires.slot.0 c.requires.slot.1 c.requires.shown.words c.index-word.ensures in
     let parts = (cpu_read has capacity m c.requires.shown a c.index.result.now c.requires.cpu c.index.ensures).side.parts in
@@ -84,7 +84,7 @@ returns-in_default g c =
     let made : Makes has capacity m c.serve_next.new.self a moved c.serve_next.result = record {
       shown = c.serve_next.ensures.shown;
       state = c.serve_next.ensures.state ∙ ap (λ ds. (Rattle.dspec_play.specs.Turns.moved_to (state_of m) a record
-          { caller = moved.caller; deeds = ds; answer = moved.answer }).state) (sym (served_deeds shape k a h me s [] c.args.sum));
+          { progress = moved.progress; deeds = ds; answer = moved.answer }).state) (sym (served_deeds shape k a h me s [] c.args.sum));
       schema = c.serve_next.ensures.schema;
       answered = c.serve_next.ensures.answer;
     } in

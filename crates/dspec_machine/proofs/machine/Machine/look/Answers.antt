@@ -3,9 +3,9 @@ use Rattle.std.proofs.Common.{[], ◌++◌, ◌+◌, Some, sym, ap, ◌∙◌, s
 use Rattle.std.specs.Prelude.{IfOk}
 use Rattle.dspec_word.specs.Word.{CanBeReleased}
 use Rattle.dspec_deeds.specs.Legal.{IsAllowed}
-use Rattle.dspec_play.specs.declared.flight.Caller.{Caller}
+use Rattle.dspec_play.specs.declared.flight.CpuProgress.{CpuProgress}
 use Rattle.dspec_play.specs.declared.flight.CpuFlight.{CpuFlight}
-use Rattle.dspec_play.specs.Coherent.{the_caller}
+use Rattle.dspec_play.specs.Coherent.{progress_of}
 use Rattle.dspec_play.specs.Play.{Moved}
 use Rattle.dspec_machine.specs.Machines.{Makes, history, state_of}
 use Rattle.dspec_play.proofs.StepReads.{can_be_released}
@@ -25,7 +25,7 @@ decide_nothing-requires-clause-legal g c =
     let h = history m in
     let id = c.args.id in
     let shape = g.S.Schema.shape_of m.schema in
-    let me = the_caller (state_of m).callers a in
+    let me = progress_of (state_of m).progresses a in
     let acts = c.act.ensures ∙ act_reads c.args.decision h a id c.word_of-word.result c.is_mine-mine.result c.word_of-word.ensures c.is_mine-mine.ensures in
     let is = shown_voids shape m.config a h me id c.args.decision (λ to e. c.in_default.not-Attempt to (acts ∙ e)) in
     subst (λ (x : Moved). IsAllowed shape m.config (x.deeds ++ h)) is c.requires.legal
@@ -42,10 +42,10 @@ returns-in-Attempt-clause-makes g c =
     let d = c.args.decision in
     let w = c.word_of-word.result in
     let shape = g.S.Schema.shape_of m.schema in
-    let me = the_caller (state_of m).callers a in
+    let me = progress_of (state_of m).progresses a in
     let act = sym (c.act.ensures ∙ act_reads d h a id w c.is_mine-mine.result c.word_of-word.ensures c.is_mine-mine.ensures) ∙ c.in-Attempt.is in
-    let At : CpuFlight → Moved = λ f. record { caller = record me { flight = Some f; steps = me.steps + 1 }; deeds = []; answer = c.go_on.result } in
-    step_made g.B.TraceBuffer.has g.B.TraceBuffer.capacity m m c.go_on.new.self a [] (λ (x : Caller). record x { flight = Some c.attempt.result; steps = x.steps + 1 }) _ c.go_on.result
+    let At : CpuFlight → Moved = λ f. record { progress = record me { flight = Some f; steps = me.steps + 1 }; deeds = []; answer = c.go_on.result } in
+    step_made g.B.TraceBuffer.has g.B.TraceBuffer.capacity m m c.go_on.new.self a [] (λ (x : CpuProgress). record x { flight = Some c.attempt.result; steps = x.steps + 1 }) _ c.go_on.result
     (adds_none m) c.go_on.ensures.shown c.go_on.ensures.state c.go_on.ensures.schema
     (ap At c.attempt.ensures ∙ shown_next shape m.config a h me id d w c.in-Attempt.field-0 c.go_on.result c.word_of-word.ensures act c.go_on.ensures.answer)
 
@@ -56,7 +56,7 @@ returns-in_default-clause-makes g c =
     let h = history m in
     let id = c.args.id in
     let shape = g.S.Schema.shape_of m.schema in
-    let me = the_caller (state_of m).callers a in
+    let me = progress_of (state_of m).progresses a in
     let acts = c.act.ensures ∙ act_reads c.args.decision h a id c.word_of-word.result c.is_mine-mine.result c.word_of-word.ensures c.is_mine-mine.ensures in
     let is = shown_voids shape m.config a h me id c.args.decision (λ to e. c.in_default.not-Attempt to (acts ∙ e)) in
     subst (λ (x : Moved). IfOk c.decide_nothing.result (λ answer. Makes g.B.TraceBuffer.has g.B.TraceBuffer.capacity m c.decide_nothing.new.self a x answer)) (sym is)

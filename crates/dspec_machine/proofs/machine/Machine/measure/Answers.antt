@@ -26,8 +26,8 @@ measure-requires g c =
     let slot = slot_in_range m.config id c.requires.slot in
     record { slot = place_there _ _ m.config a h own.side shows.side id slot }
 
-pub returns-clause-fits : goal.returns-clause-fits
-returns-clause-fits g c =
+pub returns : goal.returns
+returns g c =
     let m = c.args.self.now in
     let a = c.args.cpu in
     let id = c.args.id in
@@ -36,18 +36,11 @@ returns-clause-fits g c =
     let shows = cpu_read _ _ m c.requires.shown a own c.requires.cpu c.index.ensures in
     let slot = slot_in_range m.config id c.requires.slot in
     let now = sym c.requires.present in
-    c.measure.ensures.fits m.schema a h shows.side (caller_is _ _ m.config a h own.side shows.side id slot c.requires.cpu c.requires.sound now c.is_mine-mine.result
-    c.is_mine-mine.ensures.tells)
-
-pub returns-clause-count : goal.returns-clause-count
-returns-clause-count g c =
-    let m = c.args.self.now in
-    let a = c.args.cpu in
-    let id = c.args.id in
-    let h = history m in
-    let own = c.index.result.now in
-    let shows = cpu_read _ _ m c.requires.shown a own c.requires.cpu c.index.ensures in
-    let slot = slot_in_range m.config id c.requires.slot in
-    let now = sym c.requires.present in
-    c.measure.ensures.count m.schema a h shows.side (caller_is _ _ m.config a h own.side shows.side id slot c.requires.cpu c.requires.sound now c.is_mine-mine.result
-    c.is_mine-mine.ensures.tells)
+    record {
+      fits =
+          c.measure.ensures.fits m.schema a h shows.side (caller_is _ _ m.config a h own.side shows.side id slot c.requires.cpu c.requires.sound now c.is_mine-mine.result
+          c.is_mine-mine.ensures.tells);
+      count =
+          c.measure.ensures.count m.schema a h shows.side (caller_is _ _ m.config a h own.side shows.side id slot c.requires.cpu c.requires.sound now c.is_mine-mine.result
+          c.is_mine-mine.ensures.tells);
+    }

@@ -1,9 +1,9 @@
 -- The side counts what the list counts.
 use Rattle.std.proofs.Common.{sym, ap, ◌∙◌}
-use Rattle.dspec_play.specs.declared.flight.Caller.{Caller}
+use Rattle.dspec_play.specs.declared.flight.CpuProgress.{CpuProgress}
 use Rattle.dspec_machine.specs.Machines.{history}
 use Rattle.dspec_machine.proofs.MachineReads.{cpu_got, cpu_read}
-use Rattle.dspec_machine.proofs.OneMore.{caller_there}
+use Rattle.dspec_machine.proofs.OneMore.{progress_there}
 use Rattle.dspec_machine.proofs.Rooms.{fates_within, told}
 use Rattle.dspec_machine.proofs.machine.Machine.report.Goals as goal
 
@@ -20,5 +20,5 @@ returns g c =
     let own = c.index.result.now in
     let shows = cpu_read _ _ m c.requires.shown c.args.cpu own c.requires.cpu c.index.ensures in
     let got = cpu_got _ _ m c.requires.shown c.args.cpu own c.requires.cpu c.index.ensures in
-    let worn = shows.worn ∙ ap (λ (x : Caller). x.worn) (sym (caller_there m.cpus.items c.args.cpu own got)) in
+    let worn = shows.worn ∙ ap (λ (x : CpuProgress). x.worn) (sym (progress_there m.cpus.items c.args.cpu own got)) in
     told (g.S.Schema.shape_of m.schema) m.config c.args.cpu (history m) own.side.counts _ c.report.result shows.side.counted worn c.requires.legal c.report.ensures

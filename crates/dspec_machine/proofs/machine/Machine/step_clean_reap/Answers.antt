@@ -45,6 +45,6 @@ returns-then-ne-clause-cleans g c =
     let test : not (same_word w from) ≡ true = ap not (sym (words_test w from)) ∙ (sym c.ne.ensures ∙ c.if-ne.true) in
     let other : same_word (word_at s (history m)) from ≡ false = ap (λ x. same_word x from) (sym word) ∙ was_not (same_word w from) test in
     subst (λ b. Cleans g.B.TraceBuffer.has g.B.TraceBuffer.capacity m c.clean_next.new.self
-    (if b then next_slot m.config (history m) m.consumer (state_of m).callers s (Release s ∷ []) (c.args.released + 1) else next_slot m.config (history m) m.consumer
-    (state_of m).callers s [] c.args.released)
+    (if b then next_slot m.config (history m) m.consumer (state_of m).progresses s (Release s ∷ []) (c.args.released + 1) else next_slot m.config (history m) m.consumer
+    (state_of m).progresses s [] c.args.released)
     c.clean_next.result) (sym other) c.clean_next.ensures

@@ -5,7 +5,7 @@ use Rattle.dspec_deeds.specs.declared.deed.DecideFate.TheVariants as decided
 use Rattle.dspec_deeds.specs.History.{halted, in_range}
 use Rattle.dspec_deeds.specs.Own.{calls}
 use Rattle.dspec_deeds.specs.Told.{answer_of}
-use Rattle.dspec_play.specs.Coherent.{the_caller}
+use Rattle.dspec_play.specs.Coherent.{progress_of}
 use Rattle.dspec_play.specs.Play.{cpu_step, ends}
 use Rattle.dspec_machine.specs.Decisions.{begun_of, deed_of}
 use Rattle.dspec_machine.specs.Machines.{history, state_of}
@@ -28,7 +28,7 @@ decide_nothing-requires-2-clause-legal g c =
     let id = c.args.id in
     let d = c.args.decision in
     let shape = g.S.Schema.shape_of m.schema in
-    let me = the_caller (state_of m).callers a in
+    let me = progress_of (state_of m).progresses a in
     let worn : nat_le k.max_calls (calls a h) ≡ false = sym c.is_worn.ensures ∙ c.if-is_worn.false in
     let runs : halted h ≡ false = sym c.requires.stands.shown.active ∙ c.if-self.false in
     let out : in_range k id ≡ false = sym c.has_slot.ensures ∙ c.if-has_slot.false in

@@ -1,7 +1,7 @@
 -- Where the call stands, and what its step is.
 use Rattle.std.proofs.Common.{sym, subst}
 use Rattle.std.specs.Prelude.{IfOk}
-use Rattle.dspec_play.specs.Coherent.{the_caller}
+use Rattle.dspec_play.specs.Coherent.{progress_of}
 use Rattle.dspec_play.specs.Play.{Moved}
 use Rattle.dspec_machine.specs.Decisions.{load_of}
 use Rattle.dspec_machine.specs.Machines.{Makes, history, state_of}
@@ -14,7 +14,7 @@ look-requires-clause-slot g c =
     let m = c.args.self.now in
     let a = c.args.cpu in
     let st = state_of m in
-    (load_stands (g.S.Schema.shape_of m.schema) m.config a (history m) (the_caller st.callers a) c.args.id c.args.decision
+    (load_stands (g.S.Schema.shape_of m.schema) m.config a (history m) (progress_of st.progresses a) c.args.id c.args.decision
     (flight_stands (g.S.Schema.shape_of m.schema) st c.requires.stands.coherent a c.requires.stands.cpu (load_of c.args.decision c.args.id) c.requires.stands.flight)).in_range
 
 pub look-requires-clause-steps : goal.look-requires-clause-steps
@@ -29,11 +29,11 @@ look-requires-clause-legal g c =
     let st = state_of m in
     let shape = g.S.Schema.shape_of m.schema in
     step_legal shape st c.requires.stands.coherent a c.requires.stands.cpu (load_of c.args.decision c.args.id) c.requires.stands.flight _
-    (load_shows shape m.config a (history m) (the_caller st.callers a) c.args.id c.args.decision)
+    (load_shows shape m.config a (history m) (progress_of st.progresses a) c.args.id c.args.decision)
 
 pub returns-clause-makes : goal.returns-clause-makes
 returns-clause-makes g c =
     let m = c.args.self.now in
     let a = c.args.cpu in
-    let is = load_shows (g.S.Schema.shape_of m.schema) m.config a (history m) (the_caller (state_of m).callers a) c.args.id c.args.decision in
+    let is = load_shows (g.S.Schema.shape_of m.schema) m.config a (history m) (progress_of (state_of m).progresses a) c.args.id c.args.decision in
     subst (λ (x : Moved). IfOk c.look.result (λ answer. Makes g.B.TraceBuffer.has g.B.TraceBuffer.capacity m c.look.new.self a x answer)) (sym is) c.look.ensures.makes

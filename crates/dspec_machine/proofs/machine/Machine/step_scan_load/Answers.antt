@@ -6,11 +6,11 @@ use Rattle.dspec_word.specs.Word.{SlotState, CanBeReleased}
 use Rattle.dspec_word.specs.Tables.{open_at}
 use Rattle.dspec_deeds.specs.declared.deed.Deed.{Deed}
 use Rattle.dspec_deeds.specs.declared.deed.Deed.TheVariants.{Miss}
-use Rattle.dspec_play.specs.declared.flight.Caller.{Caller}
+use Rattle.dspec_play.specs.declared.flight.CpuProgress.{CpuProgress}
 use Rattle.dspec_play.specs.declared.flight.CpuFlight.TheVariants as flight
 use Rattle.dspec_deeds.specs.History.{word_at}
 use Rattle.dspec_deeds.specs.Legal.{IsAllowed}
-use Rattle.dspec_play.specs.Coherent.{the_caller}
+use Rattle.dspec_play.specs.Coherent.{progress_of}
 use Rattle.dspec_machine.specs.Machines.{Makes, history, state_of}
 use Rattle.dspec_play.specs.Play.{Moved, missed}
 use Rattle.dspec_machine.proofs.Makings.{adds_none, step_made}
@@ -36,7 +36,7 @@ miss-requires g c =
     let s = c.args.slot in
     let h = history m in
     let shape = g.S.Schema.shape_of m.schema in
-    let me = the_caller (state_of m).callers a in
+    let me = progress_of (state_of m).progresses a in
     let coherent = c.requires.stands.coherent in
     let f = flight.ScanLoad s in
     let at = flight_stands shape (state_of m) coherent a c.requires.stands.cpu f c.requires.stands.flight in
@@ -63,13 +63,13 @@ returns-in-Attempt-clause-makes g c =
     let s = c.args.slot in
     let h = history m in
     let shape = g.S.Schema.shape_of m.schema in
-    let me = the_caller (state_of m).callers a in
+    let me = progress_of (state_of m).progresses a in
     let w = c.index-word.result.now in
     let at = flight_stands shape (state_of m) c.requires.stands.coherent a c.requires.stands.cpu (flight.ScanLoad s) c.requires.stands.flight in
     let word = word_there k h m.words.items s w at.0.0 at.0.1 c.requires.stands.shown.words c.index-word.ensures in
     let attempts : open_at (word_at s h) k.max_issues ≡ Attempt c.in-Attempt.field-0 = ap (λ (x : SlotState). open_at x k.max_issues) (sym word) ∙ (sym
     c.open_at.ensures ∙ c.in-Attempt.is) in
-    step_made g.B.TraceBuffer.has g.B.TraceBuffer.capacity m m c.go_on.new.self a [] (λ (x : Caller). record x { flight = Some (flight.ScanTry s w); steps = x.steps + 1 }) _ c.go_on.result
+    step_made g.B.TraceBuffer.has g.B.TraceBuffer.capacity m m c.go_on.new.self a [] (λ (x : CpuProgress). record x { flight = Some (flight.ScanTry s w); steps = x.steps + 1 }) _ c.go_on.result
     (adds_none m) c.go_on.ensures.shown c.go_on.ensures.state c.go_on.ensures.schema
     (scan_tried shape k a h me s w (word_at s h) c.in-Attempt.field-0 (open_at (word_at s h) k.max_issues) c.go_on.result word attempts c.go_on.ensures.answer)
 
@@ -81,7 +81,7 @@ returns-in_default g c =
     let s = c.args.slot in
     let h = history m in
     let shape = g.S.Schema.shape_of m.schema in
-    let me = the_caller (state_of m).callers a in
+    let me = progress_of (state_of m).progresses a in
     let at = flight_stands shape (state_of m) c.requires.stands.coherent a c.requires.stands.cpu (flight.ScanLoad s) c.requires.stands.flight in
     let word = word_there k h m.words.items s c.index-word.result.now at.0.0 at.0.1 c.requires.stands.shown.words c.index-word.ensures in
     let is = shown_misses shape k a h me s (word_at s h) (open_at (word_at s h) k.max_issues)

@@ -7,11 +7,11 @@ use Rattle.dspec_deeds.specs.declared.calls.Answer.TheVariants as answer
 use Rattle.dspec_deeds.specs.declared.calls.Opening.TheVariants as opening
 use Rattle.dspec_deeds.specs.declared.deed.Deed.{Deed}
 use Rattle.dspec_deeds.specs.declared.deed.Deed.TheVariants.{Opened, Miss}
-use Rattle.dspec_play.specs.declared.flight.Caller.{Caller}
+use Rattle.dspec_play.specs.declared.flight.CpuProgress.{CpuProgress}
 use Rattle.dspec_play.specs.declared.flight.CpuFlight.TheVariants as flight
 use Rattle.dspec_deeds.specs.History.{word_at}
 use Rattle.dspec_deeds.specs.Legal.{IsAllowed}
-use Rattle.dspec_play.specs.Coherent.{the_caller}
+use Rattle.dspec_play.specs.Coherent.{progress_of}
 use Rattle.dspec_machine.specs.Machines.{Makes, history, state_of}
 use Rattle.dspec_play.specs.Play.{Moved, same_word, ends, missed, cpu_step}
 use Rattle.dspec_machine.proofs.Makings.{step_made}
@@ -38,7 +38,7 @@ miss-requires-clause-legal g c =
     let from = c.args.from in
     let h = history m in
     let shape = g.S.Schema.shape_of m.schema in
-    let me = the_caller (state_of m).callers a in
+    let me = progress_of (state_of m).progresses a in
     let f = flight.ScanTry s from in
     let at = flight_stands shape (state_of m) c.requires.stands.coherent a c.requires.stands.cpu f c.requires.stands.flight in
     let w = c.index.result.now in
@@ -59,7 +59,7 @@ returns-then-ne-clause-makes g c =
     let from = c.args.from in
     let h = history m in
     let shape = g.S.Schema.shape_of m.schema in
-    let me = the_caller (state_of m).callers a in
+    let me = progress_of (state_of m).progresses a in
     let f = flight.ScanTry s from in
     let at = flight_stands shape (state_of m) c.requires.stands.coherent a c.requires.stands.cpu f c.requires.stands.flight in
     let w = c.index.result.now in
@@ -79,7 +79,7 @@ enter_opened-requires-clause-legal g c =
     let from = c.args.from in
     let h = history m in
     let shape = g.S.Schema.shape_of m.schema in
-    let me = the_caller (state_of m).callers a in
+    let me = progress_of (state_of m).progresses a in
     let f = flight.ScanTry s from in
     let at = flight_stands shape (state_of m) c.requires.stands.coherent a c.requires.stands.cpu f c.requires.stands.flight in
     let w = c.index.result.now in
@@ -101,7 +101,7 @@ returns-clause-makes g c =
     let from = c.args.from in
     let h = history m in
     let shape = g.S.Schema.shape_of m.schema in
-    let me = the_caller (state_of m).callers a in
+    let me = progress_of (state_of m).progresses a in
     let at = flight_stands shape (state_of m) c.requires.stands.coherent a c.requires.stands.cpu (flight.ScanTry s from) c.requires.stands.flight in
     let w = c.index.result.now in
     let word = word_there k h m.words.items s w at.0.0 at.0.1 c.requires.stands.shown.words c.index.ensures in
@@ -109,6 +109,6 @@ returns-clause-makes g c =
     let same : same_word (word_at s h) from ≡ true = ap (λ x. same_word x from) (sym word) ∙ was (same_word w from) test in
     let named : c.of-id.result ≡ record { issue = from.issue; slot = s } = c.of-id.ensures ∙ ap (λ n. record { issue = n; slot = s }) c.issue.ensures.value in
     step_made g.B.TraceBuffer.has g.B.TraceBuffer.capacity m c.enter_opened.new.self c.end.new.self a (Opened a c.of-id.result ∷ [])
-    (λ (x : Caller). record x { flight = None; steps = 0 }) _ c.end.result
+    (λ (x : CpuProgress). record x { flight = None; steps = 0 }) _ c.end.result
     c.in_ok-enter_opened.ensures.entered c.end.ensures.shown c.end.ensures.state c.end.ensures.schema
     (scan_opened shape k a h me s from c.of-id.result c.end.result same named c.end.ensures.answer)

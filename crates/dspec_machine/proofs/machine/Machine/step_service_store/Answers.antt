@@ -6,7 +6,7 @@ use Rattle.dspec_deeds.specs.declared.deed.Deed.TheVariants.{Settle}
 use Rattle.dspec_deeds.specs.declared.deed.DecideFate.{DecideFate}
 use Rattle.dspec_play.specs.declared.flight.CpuFlight.TheVariants as flight
 use Rattle.dspec_deeds.specs.Legal.{IsAllowed}
-use Rattle.dspec_play.specs.Coherent.{the_caller}
+use Rattle.dspec_play.specs.Coherent.{progress_of}
 use Rattle.dspec_machine.specs.Machines.{history, state_of}
 use Rattle.dspec_deeds.specs.Settling.{settle_fate}
 use Rattle.dspec_play.proofs.StepReads.{step_legal}
@@ -22,7 +22,7 @@ enter_settle-requires-clause-legal g c =
     let w = c.args.word in
     let h = history m in
     let shape = g.S.Schema.shape_of m.schema in
-    let me = the_caller (state_of m).callers a in
+    let me = progress_of (state_of m).progresses a in
     let f = flight.ServiceStore s w c.args.sum in
     let named : Speculation = record { issue = w.issue; slot = s } in
     let is : c.of-id.result ≡ named = c.of-id.ensures ∙ ap (λ n. record { issue = n; slot = s }) c.issue.ensures.value in

@@ -8,7 +8,7 @@ use Rattle.dspec_deeds.specs.declared.deed.SpeculateFate.TheVariants as spoken
 use Rattle.dspec_play.specs.declared.flight.CpuFlight.TheVariants as flight
 use Rattle.dspec_deeds.specs.History.{halted, in_range}
 use Rattle.dspec_deeds.specs.Own.{calls}
-use Rattle.dspec_play.specs.Coherent.{the_caller}
+use Rattle.dspec_play.specs.Coherent.{progress_of}
 use Rattle.dspec_machine.specs.Machines.{history, state_of}
 use Rattle.dspec_play.specs.Play.{cpu_step, ends}
 use Rattle.dspec_play.proofs.StepReads.{step_legal}
@@ -21,7 +21,7 @@ enter_unspoken-requires-2-clause-legal g c =
     let a = c.args.cpu in
     let h = history m in
     let shape = g.S.Schema.shape_of m.schema in
-    let me = the_caller (state_of m).callers a in
+    let me = progress_of (state_of m).progresses a in
     let f = flight.Begun (cpu_op.Speculate c.args.id c.args.rec.now) in
     let worn : nat_le k.max_calls (calls a h) ≡ false = sym c.is_worn.ensures ∙ c.if-is_worn.false in
     let runs : halted h ≡ false = sym c.requires.stands.shown.active ∙ c.if-self.false in

@@ -5,7 +5,7 @@ use Rattle.dspec_word.specs.Word.{CanBeReleased}
 use Rattle.dspec_word.specs.Tables.{speculate_at}
 use Rattle.dspec_play.specs.declared.flight.CpuFlight.TheVariants as flight
 use Rattle.dspec_deeds.specs.History.{is_among, callers, word_at}
-use Rattle.dspec_play.specs.Coherent.{the_caller}
+use Rattle.dspec_play.specs.Coherent.{progress_of}
 use Rattle.dspec_machine.specs.Machines.{history, state_of}
 use Rattle.dspec_play.specs.Play.{cpu_step, spoken_at}
 use Rattle.dspec_play.proofs.StepReads.{can_be_released, flight_stands, step_legal}
@@ -26,7 +26,7 @@ speak-requires-clause-legal g c =
     let id = c.args.id in
     let r = c.args.rec.now in
     let shape = g.S.Schema.shape_of m.schema in
-    let me = the_caller (state_of m).callers a in
+    let me = progress_of (state_of m).progresses a in
     let f = flight.SpeculateLoad id r in
     let act : speculate_at (word_at id.slot h) id (is_among a (callers id h)) ≡ Granted =
     sym (speculate_reads h a id c.word_of-word.result c.is_mine-mine.result c.word_of-word.ensures c.is_mine-mine.ensures) ∙ (sym c.speculate_at.ensures ∙ c.in-Granted.is) in
@@ -54,7 +54,7 @@ enter_unspoken-requires-clause-legal g c =
     let id = c.args.id in
     let r = c.args.rec.now in
     let shape = g.S.Schema.shape_of m.schema in
-    let me = the_caller (state_of m).callers a in
+    let me = progress_of (state_of m).progresses a in
     let f = flight.SpeculateLoad id r in
     let acts = c.speculate_at.ensures ∙ speculate_reads h a id c.word_of-word.result c.is_mine-mine.result c.word_of-word.ensures c.is_mine-mine.ensures in
     let is = shown_voids shape m.config a h me id r (word_at id.slot h) (speculate_at (word_at id.slot h) id (is_among a (callers id h)))

@@ -6,10 +6,10 @@ use Rattle.dspec_word.specs.Tables.{speculate_at}
 use Rattle.dspec_deeds.specs.declared.calls.Answer.{Answer}
 use Rattle.dspec_deeds.specs.declared.deed.Deed.TheVariants.{Speculate}
 use Rattle.dspec_deeds.specs.declared.deed.SpeculateFate.TheVariants as spoken
-use Rattle.dspec_play.specs.declared.flight.Caller.{Caller}
+use Rattle.dspec_play.specs.declared.flight.CpuProgress.{CpuProgress}
 use Rattle.dspec_play.specs.declared.flight.CpuFlight.TheVariants as flight
 use Rattle.dspec_deeds.specs.History.{is_among, callers, word_at}
-use Rattle.dspec_play.specs.Coherent.{the_caller}
+use Rattle.dspec_play.specs.Coherent.{progress_of}
 use Rattle.dspec_machine.specs.Machines.{history, state_of}
 use Rattle.dspec_play.specs.Play.{Moved, cpu_step, same_word, shown_speculate, spoken_at}
 use Rattle.dspec_machine.proofs.Makings.{adds_none, step_made}
@@ -32,7 +32,7 @@ speak-requires-clause-legal g c =
     let id = c.args.id in
     let r = c.args.rec.now in
     let shape = g.S.Schema.shape_of m.schema in
-    let me = the_caller (state_of m).callers a in
+    let me = progress_of (state_of m).progresses a in
     let f = flight.SpeculateTry id r c.args.from in
     let same : same_word (word_at id.slot h) c.args.from ≡ true =
     ap (λ w. same_word w c.args.from) (sym c.word_of-word.ensures) ∙ (sym (words_test c.word_of-word.result c.args.from) ∙ (sym c.eq.ensures ∙ c.if-eq.true)) in
@@ -60,7 +60,7 @@ speak-requires-in-Granted-clause-legal g c =
     let id = c.args.id in
     let r = c.args.rec.now in
     let shape = g.S.Schema.shape_of m.schema in
-    let me = the_caller (state_of m).callers a in
+    let me = progress_of (state_of m).progresses a in
     let f = flight.SpeculateTry id r c.args.from in
     let other : same_word (word_at id.slot h) c.args.from ≡ false =
     ap (λ w. same_word w c.args.from) (sym c.word_of-word.ensures) ∙ (sym (words_test c.word_of-word.result c.args.from) ∙ (sym c.eq.ensures ∙ c.if-eq.false)) in
@@ -90,7 +90,7 @@ enter_unspoken-requires-clause-legal g c =
     let id = c.args.id in
     let r = c.args.rec.now in
     let shape = g.S.Schema.shape_of m.schema in
-    let me = the_caller (state_of m).callers a in
+    let me = progress_of (state_of m).progresses a in
     let f = flight.SpeculateTry id r c.args.from in
     let other : same_word (word_at id.slot h) c.args.from ≡ false =
     ap (λ w. same_word w c.args.from) (sym c.word_of-word.ensures) ∙ (sym (words_test c.word_of-word.result c.args.from) ∙ (sym c.eq.ensures ∙ c.if-eq.false)) in
@@ -109,12 +109,12 @@ returns-in-Attempt-act-clause-makes g c =
     let r = c.args.rec.now in
     let w = c.word_of-word.result in
     let shape = g.S.Schema.shape_of m.schema in
-    let me = the_caller (state_of m).callers a in
+    let me = progress_of (state_of m).progresses a in
     let other : same_word (word_at id.slot h) c.args.from ≡ false =
     ap (λ x. same_word x c.args.from) (sym c.word_of-word.ensures) ∙ (sym (words_test w c.args.from) ∙ (sym c.eq.ensures ∙ c.if-eq.false)) in
     let act : speculate_at (word_at id.slot h) id (is_among a (callers id h)) ≡ Attempt c.in-Attempt-act.field-0 =
     sym (speculate_reads h a id w c.is_mine-mine.result c.word_of-word.ensures c.is_mine-mine.ensures) ∙ (sym c.speculate_at-act.ensures ∙ c.in-Attempt-act.is) in
-    step_made g.B.TraceBuffer.has g.B.TraceBuffer.capacity m m c.go_on.new.self a [] (λ (x : Caller). record x { flight = Some (flight.SpeculateTry id r w); steps = x.steps + 1 }) _
+    step_made g.B.TraceBuffer.has g.B.TraceBuffer.capacity m m c.go_on.new.self a [] (λ (x : CpuProgress). record x { flight = Some (flight.SpeculateTry id r w); steps = x.steps + 1 }) _
     c.go_on.result
     (adds_none m) c.go_on.ensures.shown c.go_on.ensures.state c.go_on.ensures.schema
     (speculate_tried shape m.config a h me id r c.args.from w c.in-Attempt-act.field-0 c.go_on.result other act c.word_of-word.ensures c.go_on.ensures.answer)
@@ -127,14 +127,14 @@ returns-in_ok-enter_unspoken-in_default-act-clause-makes g c =
     let id = c.args.id in
     let r = c.args.rec.now in
     let shape = g.S.Schema.shape_of m.schema in
-    let me = the_caller (state_of m).callers a in
+    let me = progress_of (state_of m).progresses a in
     let other : same_word (word_at id.slot h) c.args.from ≡ false =
     ap (λ w. same_word w c.args.from) (sym c.word_of-word.ensures) ∙ (sym (words_test c.word_of-word.result c.args.from) ∙ (sym c.eq.ensures ∙ c.if-eq.false)) in
     let acts = c.speculate_at-act.ensures ∙ speculate_reads h a id c.word_of-word.result c.is_mine-mine.result c.word_of-word.ensures c.is_mine-mine.ensures in
     let act = speculate_at (word_at id.slot h) id (is_among a (callers id h)) in
     let shown : cpu_step shape m.config a h me (flight.SpeculateTry id r c.args.from) ≡ shown_speculate shape m.config a h me id r (word_at id.slot h) act = rw other refl in
     let is = shown_voids shape m.config a h me id r (word_at id.slot h) act (λ e. c.in_default-act.not-Granted (acts ∙ e)) (λ to e. c.in_default-act.not-Attempt to (acts ∙ e)) in
-    let Ends : Option Answer → Moved = λ x. record { caller = record me { flight = None; steps = 0 }; deeds = Speculate a id r spoken.Void ∷ []; answer = x } in
+    let Ends : Option Answer → Moved = λ x. record { progress = record me { flight = None; steps = 0 }; deeds = Speculate a id r spoken.Void ∷ []; answer = x } in
     step_made g.B.TraceBuffer.has g.B.TraceBuffer.capacity m c.enter_unspoken.new.self c.end.new.self a (Speculate a id r spoken.Void ∷ [])
-    (λ (x : Caller). record x { flight = None; steps = 0 }) _ c.end.result
+    (λ (x : CpuProgress). record x { flight = None; steps = 0 }) _ c.end.result
     c.in_ok-enter_unspoken-in_default-act.ensures.entered c.end.ensures.shown c.end.ensures.state c.end.ensures.schema (ap Ends c.end.ensures.answer ∙ sym (shown ∙ is))

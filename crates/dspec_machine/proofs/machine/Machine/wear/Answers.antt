@@ -1,9 +1,9 @@
--- A call more was worn, by the CPU's counts and by its caller.
+-- A call more was worn, by the CPU's counts and by its progress.
 use Rattle.std.proofs.Common.{◌≡◌, ◌+◌, ◌-◌, ◌^◌, ◌<◌, ℕ, Bool, true, false, None, min, if◌then◌else◌, refl, sym, ap, ◌∙◌, subst, arith, ⊎_elim}
 use Rattle.std.specs.Prelude.{nat_lt}
 use Rattle.std.proofs.lemmas.Bool.Decides.{nat_tests}
 use Rattle.dspec_deeds.proofs.TestLemmas.{either_way}
-use Rattle.dspec_play.specs.declared.flight.Caller.{Caller}
+use Rattle.dspec_play.specs.declared.flight.CpuProgress.{CpuProgress}
 use Rattle.dspec_side.specs.declared.counts.Counts.{Counts}
 use Rattle.dspec_side.specs.Counting.{one_more_worn}
 use Rattle.dspec_machine.specs.declared.cpu.Cpu.{Cpu}
@@ -36,7 +36,7 @@ returns-clause-state g c =
     let got = cpu_got g.B.TraceBuffer.has g.B.TraceBuffer.capacity m c.requires.shown c.args.cpu own c.requires.cpu c.index_mut-own.ensures.value in
     let was = (c.requires.shown.cpus c.args.cpu own got).worn in
     let few = (c.requires.shown.cpus c.args.cpu own got).few_worn in
-    let worn : c.wear.new.self.worn ≡ min (own.caller.worn + 1) (2 ^ 64 - 1) =
+    let worn : c.wear.new.self.worn ≡ min (own.progress.worn + 1) (2 ^ 64 - 1) =
     ap (λ (n : Counts). n.worn) c.wear.ensures ∙ (one_more own.side.counts.worn (subst (λ n. n < 2 ^ 64) (sym was) few) ∙ ap (λ n. min (n + 1) (2 ^ 64 - 1)) was) in
-    state_moves m c.args.cpu own _ (λ (me : Caller). record me { flight = None; steps = 0; worn = min (me.worn + 1) (2 ^ 64 - 1) }) got
-    (ap (λ n. record own.caller { flight = None; steps = 0; worn = n }) worn)
+    state_moves m c.args.cpu own _ (λ (me : CpuProgress). record me { flight = None; steps = 0; worn = min (me.worn + 1) (2 ^ 64 - 1) }) got
+    (ap (λ n. record own.progress { flight = None; steps = 0; worn = n }) worn)

@@ -9,4 +9,4 @@ returns-then-would_fit g c = λ cpu p shown.
     let side = c.args.self.now in
     let room = ap (λ n. piece_fits (g.S.Schema.shape_of c.args.schema.now) (active cpu p) (one c.args.rec.now) n) (sym shown.parts.principal.sized)
     ∙ (sym (c.would_fit.ensures (active cpu p) shown.parts.principal.has) ∙ c.if-would_fit.true) in
-    ap not (c.is_shut.ensures cpu side.counts.worn p shown.counted) ∙ ap (λ b. b && not (is_closed c.args.config.now cpu p)) (sym room)
+    ap not (c.is_closed.ensures cpu side.counts.worn p shown.counted) ∙ ap (λ b. b && not (is_closed c.args.config.now cpu p)) (sym room)

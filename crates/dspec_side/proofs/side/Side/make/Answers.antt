@@ -14,6 +14,7 @@ returns-clause-shows g c =
     let k = c.args.config.now in
     let acks : c.in_ok-acks.acks.items ≡ replicate k.nspec 0 = c.in_ok-acks.ensures.items_if_clones_equal (λ y e. e) in
     let marks : c.in_ok-marks.marks.items ≡ replicate k.nspec 0 = c.in_ok-marks.ensures.items_if_clones_equal (λ y e. e) in
+    let specdrops : c.in_ok-specdrops.specdrops.items ≡ replicate k.nspec 0 = c.in_ok-specdrops.ensures.items_if_clones_equal (λ y e. e) in
     λ schema cpu. record {
       parts = record {
         called = refl;
@@ -23,6 +24,8 @@ returns-clause-shows g c =
         acks = λ s low high. zero_there k.nspec (s - 1) _ acks (omega arith);
         mark_count = zero_count k.nspec _ marks;
         marks = λ s low high. zero_there k.nspec (s - 1) _ marks (omega arith);
+        specdrop_count = zero_count k.nspec _ specdrops;
+        specdrops = λ s low high. zero_there k.nspec (s - 1) _ specdrops (omega arith);
         buffer_count = let count = c.loop.invariant.count in omega arith;
         speculative = λ s b low high got. let made = c.loop.invariant.each (s - 1) b got in record { sized = made.0; has = made.1 schema };
         principal = record { sized = c.in_ok-make-2.ensures.size; has = c.in_ok-make-2.ensures.empty schema };

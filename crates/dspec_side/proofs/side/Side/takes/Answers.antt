@@ -5,11 +5,11 @@ use Rattle.dspec_deeds.specs.Legal.{is_closed, is_empty}
 use Rattle.dspec_deeds.specs.Own.{active}
 use Rattle.dspec_side.proofs.side.Side.takes.Goals as goal
 
-open_to : (rs : List Record) (room shut : Bool) → length rs ≢ 0 → room ≡ true → not shut ≡ (room && (is_empty (block rs) || not shut))
-open_to [] room shut some t = absurd (some refl)
-open_to (r ∷ rs) room shut some t = ap (λ b. b && not shut) (sym t)
+open_to : (rs : List Record) (room closed : Bool) → length rs ≢ 0 → room ≡ true → not closed ≡ (room && (is_empty (block rs) || not closed))
+open_to [] room closed some t = absurd (some refl)
+open_to (r ∷ rs) room closed some t = ap (λ b. b && not closed) (sym t)
 
 pub returns-else-count-eq0 : goal.returns-else-count-eq0
 returns-else-count-eq0 g c = λ shape cpu worn p rs counted count room.
-    ap not (c.is_shut-shut.ensures cpu worn p counted)
+    ap not (c.is_closed-closed.ensures cpu worn p counted)
     ∙ open_to rs (piece_fits shape (active cpu p) (block rs) c.args.config.now.bufsize) (is_closed c.args.config.now cpu p) (λ e. c.if-count-eq0.false (count ∙ e)) (sym room ∙ c.if-room.true)

@@ -9,5 +9,5 @@ load-requires g c =
       c.requires.seat.0,
       rw (c.activity_place.ensures) (let count = words.words_is in omega arith),
       rw (c.activity_place.ensures, words.key_is)
-          (loads_activity words.config words.board.shared.table_id.slots seat.seat.id seat.cpu seat.seat.me g.J.Asked.doing words.some_slot seat.who_is seat.joins_none c.requires.idle),
+          (loads_activity words.config words.board.shared.table_id.slots seat.seat.id seat.cpu seat.seat.me g.J.HasDoing.doing words.some_slot seat.who_is seat.joins_none c.requires.idle),
     )

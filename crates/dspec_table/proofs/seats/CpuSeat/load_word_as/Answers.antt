@@ -9,5 +9,5 @@ load-requires g c =
       c.requires.seat.0,
       rw (c.slot_place.ensures.place, words.words_is) (slot_within words.config c.args.slot c.requires.slot.1),
       rw (c.slot_place.ensures.place, slot_there c.args.slot) (loads_word words.board.shared.key words.board.shared.table_id.slots seat.seat.id seat.cpu c.args.slot
-          seat.seat.me g.J.Asked.doing c.requires.slot.0 (rw words.key_is c.requires.slot.1) seat.who_is seat.joins_none (rw words.key_is c.requires.call)),
+          seat.seat.me g.J.HasDoing.doing c.requires.slot.0 (rw words.key_is c.requires.slot.1) seat.who_is seat.joins_none (rw words.key_is c.requires.call)),
     )

@@ -19,7 +19,7 @@ store-requires g c =
       c.requires.seat.0,
       rw (c.ack_place-place.ensures, words.words_is) (ack_within k seat.cpu id.slot lt c.requires.call.high),
       rw (c.ack_place-place.ensures, words.key_is)
-          (stores_ack k words.board.shared.table_id.slots seat.seat.id seat.cpu seat.seat.me g.J.Asked.doing id c.requires.seat.1 lt seat.who_is seat.joins_none c.requires.call),
+          (stores_ack k words.board.shared.table_id.slots seat.seat.id seat.cpu seat.seat.me g.J.HasDoing.doing id c.requires.seat.1 lt seat.who_is seat.joins_none c.requires.call),
     )
 
 pub returns-clause-step : goal.returns-clause-step

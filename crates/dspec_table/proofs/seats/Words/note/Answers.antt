@@ -5,5 +5,5 @@ use Rattle.dspec_table.proofs.seats.Words.note.Goals as goal
 pub split_seat-requires : goal.split_seat-requires
 split_seat-requires c =
     let words = c.args.self.now in
-    let place = c.args.place.now in
-    (c.requires.place, (let count = words.words_is in omega arith), tells words.board.shared.key place.id place.me.0)
+    let seat = c.args.seat.now in
+    (c.requires.seat, (let count = words.words_is in omega arith), tells words.board.shared.key seat.id seat.me.0)

@@ -1,0 +1,6 @@
+use Rattle.std.proofs.Common.{◌≡◌}
+use Rattle.dspec_cpu.specs.Standing.{identity}
+use Rattle.bench.proofs.cpu.way.single_often.Given as goal
+
+abbrev pub invariant-loop : goal.invariant-loop
+invariant-loop g l = identity l.cpu ≡ identity l.fn.cpu

@@ -1,0 +1,42 @@
+-- A call on what a handle holds is one on the CPU, or the consumer, that is there.
+use Rattle.std.proofs.Common.{◌≡◌, ℕ, Option, Some, None, sym, subst}
+use Rattle.std.specs.Prelude.{Result, Ok, Err, IfErr, IfNone, IfSome, MatchOption, MatchResult, OnErr, OnOk}
+use Rattle.dspec_ring.specs.declared.batch.Batch.{Batch}
+use Rattle.dspec_record.specs.EnablingRows.{EnabledRows}
+use Rattle.dspec_cpu.specs.declared.cpu.Cpu.{Cpu}
+use Rattle.dspec_session.specs.Batches.{FoundNone, GaveBack, IsNotTakenBack, Took}
+use Rattle.dspec_session.specs.Consumers.{Consuming}
+use Rattle.dspec_c.specs.ConsumerCalls.{OnConsumer, OnTheirs}
+use Rattle.dspec_c.specs.ConsumerHomes.{Theirs}
+use Rattle.dspec_c.specs.CpuCalls.{OnCpu, OnSide}
+use Rattle.dspec_c.specs.Homes.{Side}
+use Rattle.dspec_c.specs.declared.consumer_side.ConsumerSide.{ConsumerSide}
+use Rattle.dspec_c.specs.declared.held.Held.{Held}
+use Rattle.dspec_c.specs.declared.held.Held.TheVariants as held
+
+pub on_side : (did : Cpu EnabledRows → Cpu EnabledRows → Type 0) (old was new : Side) → was ≡ old → new.shared ≡ was.shared → did was.cpu new.cpu → OnSide did old new
+on_side did old was new e shared done = subst (λ (s : Side). OnSide did s new) e (record { shared = shared; cpu = done })
+
+pub on_cpu : (did : Side → Side → Type 0) (stays : Type 0) (was : Held) (status : ℕ) (now : Held) (old new : Side) → was ≡ held.Cpu old → now ≡ held.Cpu new → did old new
+    → OnCpu did stays was status now
+on_cpu did stays was status now old new e f done = subst (λ (h : Held). OnCpu did stays h status now) (sym e) (new, f, done)
+
+pub on_consumer : (did : ConsumerSide → ConsumerSide → Type 0) (stays : Type 0) (was : Held) (status : ℕ) (now : Held) (old new : ConsumerSide) → was ≡ held.Consumer old → now ≡ held.Consumer new
+    → did old new → OnConsumer did stays was status now
+on_consumer did stays was status now old new e f done = subst (λ (h : Held). OnConsumer did stays h status now) (sym e) (new, f, done)
+
+pub on_theirs : (did : Consuming → Consuming → Type 0) (old was new : Theirs) → was ≡ old → new.shared ≡ was.shared → did was.consumer new.consumer → OnTheirs did old new
+on_theirs did old was new e shared done = subst (λ (s : Theirs). OnTheirs did s new) e (record { shared = shared; consumer = done })
+
+-- a batch was taken, or none had come
+pub took_so : (c : ℕ) (a : Option Batch) (old was new : Theirs) → was ≡ old → new.shared ≡ was.shared → IfSome a (λ b. Took c b was.consumer new.consumer)
+    → IfNone a (FoundNone c was.consumer new.consumer) → MatchOption a (OnTheirs (FoundNone c) old new) (λ b. OnTheirs (Took c b) old new)
+took_so c None old was new e shared some none = on_theirs (FoundNone c) old was new e shared none
+took_so c (Some b) old was new e shared some none = on_theirs (Took c b) old was new e shared some
+
+-- it went back, or is still there
+pub gave_so : {U : Type 0} (batch : Batch) (a : Result U Batch) (old was new : Theirs) → was ≡ old → new.shared ≡ was.shared → OnOk a (GaveBack batch was.consumer new.consumer)
+    → IfErr a (λ back. back ≡ batch) → OnErr a (IsNotTakenBack batch was.consumer new.consumer)
+    → MatchResult a (λ _. OnTheirs (GaveBack batch) old new) (λ back. (back ≡ batch) × OnTheirs (IsNotTakenBack batch) old new)
+gave_so batch (Ok u) old was new e shared given back why = on_theirs (GaveBack batch) old was new e shared given
+gave_so batch (Err b) old was new e shared given back why = (back, on_theirs (IsNotTakenBack batch) old was new e shared why)

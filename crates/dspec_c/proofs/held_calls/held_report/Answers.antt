@@ -1,0 +1,10 @@
+use Rattle.std.proofs.Common.{refl, ◌≡◌}
+use Rattle.dspec_deeds.specs.declared.report.Report.{Report}
+use Rattle.dspec_c.specs.CpuCalls.{Reports}
+use Rattle.dspec_c.specs.Shows.{TellsReport}
+use Rattle.dspec_c.proofs.Calls.{on_cpu}
+use Rattle.dspec_c.proofs.held_calls.held_report.Goals as goal
+
+pub returns-in-Cpu : goal.returns-in-Cpu
+returns-in-Cpu c = on_cpu (λ old new. (0 ≡ 0) × (new ≡ old) × ((r : Report) × Reports old.cpu r × TellsReport c.of.result r)) (c.of.result ≡ c.args.report.now) _ _ _ c.in-Cpu.side c.in-Cpu.side
+    c.in-Cpu.is refl (refl, refl, (c.report.result, c.report.ensures, c.of.ensures))

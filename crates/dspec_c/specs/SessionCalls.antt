@@ -1,0 +1,129 @@
+-- The calls on schemas and sessions, and those that bring a CPU or the consumer home.
+use Rattle.std.specs.Prelude.{ℕ, ◌≡◌, Bool, true, false, nat_lt, [], length, replicate, Option, Some, None, is_some, ◌⊎◌, slice_get, slice_set, if◌then◌else◌}
+use Rattle.dspec_record.specs.EnablingRows.{EnabledRows}
+use Rattle.dspec_record.specs.declared.header.Header.TheVariants.{One, Two}
+use Rattle.dspec_deeds.specs.declared.config.Config.{Config}
+use Rattle.dspec_deeds.specs.declared.config.StartFault.{StartFault}
+use Rattle.dspec_deeds.specs.Ranges.{start_fault}
+use Rattle.dspec_cpu.specs.Lists.{number_in}
+use Rattle.dspec_c.specs.Homes.{Side}
+use Rattle.dspec_c.specs.Whole.{Going, IsJustStarted, waits_in}
+use Rattle.dspec_c.specs.declared.consumer_side.ConsumerSide.{ConsumerSide}
+use Rattle.dspec_c.specs.declared.ended.Ended.{Ended}
+use Rattle.dspec_c.specs.Handles.{held_in, is_full}
+use Rattle.dspec_c.specs.Statuses.{bad_handle, bad_policy, gone, already_out, no_memory, no_such_cpu, not_home, start_status}
+use Rattle.dspec_c.specs.declared.handle.Handle.{Handle}
+use Rattle.dspec_c.specs.declared.held.Held.{Held}
+use Rattle.dspec_c.specs.declared.held.Held.TheVariants as held
+
+-- no enablings, and no stamp
+abbrev pub new_schema : EnabledRows
+new_schema = record { header = One; rows = [] }
+
+-- a schema's records have a stamp from then on; nothing else changes
+abbrev pub StampAnswers : Held → ℕ → Held → Type 0
+StampAnswers (held.Schema e) status now = (status ≡ 0) × (now ≡ held.Schema (record { header = Two; rows = e.rows }))
+StampAnswers was status now = (status ≡ bad_handle) × (now ≡ was)
+
+-- a session was started with this, and the handle has it
+pub record Begins (k : Config) (now : Handle) : Type 0 where
+  pub full : is_full now ≡ true
+  pub whole : Going
+  pub holds : held_in now ≡ held.Session whole
+  pub begun : IsJustStarted k whole
+
+-- Whether a session starts with what was asked for, which has no policy where that isn't one; where it doesn't, the handle for it
+-- stays as it was.
+abbrev pub StartsSo : Option Config → ℕ → Handle → Handle → Type 0
+StartsSo None status was now = (status ≡ bad_policy) × (now ≡ was)
+StartsSo (Some k) status was now =
+    ((start_fault k ≡ None) × (((status ≡ 0) × Begins k now) ⊎ ((status ≡ no_memory) × (now ≡ was))))
+    ⊎ ((fault : StartFault) × (start_fault k ≡ Some fault) × (status ≡ start_status fault) × (now ≡ was))
+
+-- a schema is looked at, and stays as it was
+abbrev pub StartAnswers : Option Config → Held → ℕ → Held → Handle → Handle → Type 0
+StartAnswers k (held.Schema e) status left was now = (left ≡ held.Schema e) × StartsSo k status was now
+StartAnswers k schema status left was now = (left ≡ schema) × (status ≡ bad_handle) × (now ≡ was)
+
+abbrev pub is_cpu_in : Held → Bool
+is_cpu_in (held.Cpu side) = true
+is_cpu_in h = false
+
+abbrev pub is_consumer_in : Held → Bool
+is_consumer_in (held.Consumer side) = true
+is_consumer_in h = false
+
+-- why a CPU isn't handed out: there is none of the number, or it is out
+abbrev pub cpu_due : ℕ → Going → Option ℕ
+cpu_due c whole = if nat_lt c whole.cpus then (if waits_in c whole.waiting then None else Some already_out) else Some no_such_cpu
+
+-- and why the consumer isn't
+abbrev pub consumer_due : Going → Option ℕ
+consumer_due whole = if is_some whole.consumer then None else Some already_out
+
+-- the handle has the CPU of that number, of this session, which waits no more
+pub record GivesCpu (c : ℕ) (old new : Going) (now : Handle) : Type 0 where
+  pub side : Side
+  pub there : slice_get old.waiting c ≡ Some (Some side)
+  pub shared : side.shared ≡ old.shared
+  pub number : number_in side.cpu ≡ c
+  pub gone : new ≡ record old { waiting = slice_set old.waiting c None }
+  pub full : is_full now ≡ true
+  pub holds : held_in now ≡ held.Cpu side
+
+-- the handle has the consumer of this session, of which no batch is out
+pub record GivesConsumer (old new : Going) (now : Handle) : Type 0 where
+  pub side : ConsumerSide
+  pub there : old.consumer ≡ Some side.out
+  pub shared : side.out.shared ≡ old.shared
+  pub none_out : side.taken.items ≡ replicate old.cpus None
+  pub gone : new ≡ record old { consumer = None }
+  pub full : is_full now ≡ true
+  pub holds : held_in now ≡ held.Consumer side
+
+-- neither the session nor the handle for it changes
+abbrev pub KeepsWhole : Going → Going → Handle → Handle → Type 0
+KeepsWhole old new was now = (new ≡ old) × (now ≡ was)
+
+-- it is handed out where nothing is due that refuses it, and there is memory
+abbrev pub HandsOut : (Going → Going → Handle → Type 0) → Option ℕ → Going → ℕ → Going → Handle → Handle → Type 0
+HandsOut gives (Some why) old status new was now = (status ≡ why) × KeepsWhole old new was now
+HandsOut gives None old status new was now = ((status ≡ 0) × gives old new now) ⊎ ((status ≡ no_memory) × KeepsWhole old new was now)
+
+abbrev pub CpuOfAnswers : ℕ → Held → ℕ → Held → Handle → Handle → Type 0
+CpuOfAnswers c (held.Session old) status left was now = (new : Going) × (left ≡ held.Session new) × HandsOut (GivesCpu c) (cpu_due c old) old status new was now
+CpuOfAnswers c session status left was now = (left ≡ session) × (status ≡ bad_handle) × (now ≡ was)
+
+abbrev pub ConsumerOfAnswers : Held → ℕ → Held → Handle → Handle → Type 0
+ConsumerOfAnswers (held.Session old) status left was now = (new : Going) × (left ≡ held.Session new) × HandsOut GivesConsumer (consumer_due old) old status new was now
+ConsumerOfAnswers session status left was now = (left ≡ session) × (status ≡ bad_handle) × (now ≡ was)
+
+-- the session has ended: its handle is empty, and the other one has what is left of each of its CPUs
+pub record Ends (old : Going) (now left : Handle) : Type 0 where
+  pub emptied : is_full now ≡ false
+  pub full : is_full left ≡ true
+  pub ended : Ended
+  pub holds : held_in left ≡ held.Closed ended
+  pub all : length ended.closed ≡ old.cpus
+
+-- both handles have what they had
+pub record Keeps (was now closed left : Handle) : Type 0 where
+  pub full : is_full now ≡ is_full was
+  pub holds : held_in now ≡ held_in was
+  pub other : left ≡ closed
+
+-- why what is held isn't ended: a part isn't home, or it is no session
+abbrev pub NotEnding : Held → ℕ → Type 0
+NotEnding (held.Session old) why = why ≡ not_home
+NotEnding h why = why ≡ bad_handle
+
+-- A session ends; or a part isn't home, and it goes on as it was; or it is lost.
+abbrev pub FinishAnswers : Held → Handle → Handle → ℕ → Handle → Handle → Type 0
+FinishAnswers (held.Session old) was closed status now left =
+    ((status ≡ 0) × Ends old now left) ⊎ ((status ≡ not_home) × Keeps was now closed left) ⊎ ((status ≡ gone) × (left ≡ closed))
+FinishAnswers h was closed status now left = (status ≡ bad_handle) × Keeps was now closed left
+
+-- it went home, and the handle is empty; else it wasn't one, and nothing changed
+abbrev pub HomeAnswers : Bool → Handle → ℕ → Handle → Type 0
+HomeAnswers true was status now = (status ≡ 0) × (is_full now ≡ false)
+HomeAnswers false was status now = (status ≡ bad_handle) × (is_full now ≡ is_full was) × (held_in now ≡ held_in was)

@@ -1,0 +1,80 @@
+//! The calls of a CPU, on what a handle holds.
+
+ghost use Rattle.dspec_c.specs.CpuCalls.{CommitAnswers, DiscardAnswers, ReportAnswers, ServiceAnswers, SpeculateAnswers, SpeculationAnswers, TraceAnswers};
+
+use crate::held::Held;
+use crate::reports::CReport;
+use crate::statuses::{BAD_HANDLE, OK, of_decided, of_opening, of_spoken, of_traced};
+use dspec_word::SpecId;
+
+pub fn held_trace(held: &mut Held, epid: u32, stamp: u64, values: &[u64]) -> u32
+    ensures { TraceAnswers epid stamp values.now held.old result held.new }
+{
+    match held {
+        Held::Cpu(side) => of_traced(side.trace(epid, stamp, values)),
+        _ => BAD_HANDLE,
+    }
+}
+
+pub fn held_speculation(held: &mut Held, id: &mut u64) -> u32
+    ensures { SpeculationAnswers held.old result id.old id.new held.new }
+{
+    match held {
+        Held::Cpu(side) => of_opening(side.speculation(), id),
+        _ => BAD_HANDLE,
+    }
+}
+
+pub fn held_speculate(held: &mut Held, id: u64, epid: u32, stamp: u64, values: &[u64]) -> u32
+    ensures { SpeculateAnswers id epid stamp values.now held.old result held.new }
+{
+    match held {
+        Held::Cpu(side) => of_spoken(side.offer(SpecId::from_raw(id), epid, stamp, values)),
+        _ => BAD_HANDLE,
+    }
+}
+
+pub fn held_commit(held: &mut Held, id: u64, count: &mut u32) -> u32
+    ensures { CommitAnswers id held.old result count.old count.new held.new }
+{
+    match held {
+        Held::Cpu(side) => of_decided(side.commit(SpecId::from_raw(id)), count),
+        _ => BAD_HANDLE,
+    }
+}
+
+pub fn held_discard(held: &mut Held, id: u64, count: &mut u32) -> u32
+    ensures { DiscardAnswers id held.old result count.old count.new held.new }
+{
+    match held {
+        Held::Cpu(side) => of_decided(side.discard(SpecId::from_raw(id)), count),
+        _ => BAD_HANDLE,
+    }
+}
+
+pub fn held_service(held: &mut Held, sealed: &mut bool, settled: &mut u32) -> u32
+    ensures { ServiceAnswers held.old result
+        (record { sealed = sealed.old; settled = settled.old }) (record { sealed = sealed.new; settled = settled.new }) held.new }
+{
+    match held {
+        Held::Cpu(side) => {
+            let served = side.service();
+            *sealed = served.sealed;
+            *settled = served.settled;
+            OK
+        }
+        _ => BAD_HANDLE,
+    }
+}
+
+pub fn held_report(held: &mut Held, report: &mut CReport) -> u32
+    ensures { ReportAnswers held.old result report.old report.new held.new }
+{
+    match held {
+        Held::Cpu(side) => {
+            *report = CReport::of(&side.report());
+            OK
+        }
+        _ => BAD_HANDLE,
+    }
+}

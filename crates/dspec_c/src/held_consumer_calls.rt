@@ -1,0 +1,58 @@
+//! The calls of the consumer, on what a handle holds.
+
+ghost use Rattle.dspec_c.specs.ConsumerCalls.{AskAnswers, CleanAnswers, GiveBackAnswers, StopAnswers, TakeAnswers};
+
+use crate::batches::CBatch;
+use crate::held::Held;
+use crate::statuses::{BAD_HANDLE, OK, of_asked, of_found, of_returned};
+
+pub fn held_ask(held: &mut Held, cpu: u32) -> u32
+    ensures { AskAnswers cpu held.old result held.new }
+{
+    match held {
+        Held::Consumer(side) => of_asked(side.ask(cpu)),
+        _ => BAD_HANDLE,
+    }
+}
+
+pub fn held_take(held: &mut Held, cpu: u32, batch: &mut CBatch) -> u32
+    ensures { TakeAnswers cpu held.old result batch.old batch.new held.new }
+{
+    match held {
+        Held::Consumer(side) => of_found(side.take(cpu, batch)),
+        _ => BAD_HANDLE,
+    }
+}
+
+pub fn held_give_back(held: &mut Held, cpu: u32) -> u32
+    ensures { GiveBackAnswers cpu held.old result held.new }
+{
+    match held {
+        Held::Consumer(side) => of_returned(side.give_back(cpu)),
+        _ => BAD_HANDLE,
+    }
+}
+
+pub fn held_clean(held: &mut Held, released: &mut u32) -> u32
+    ensures { CleanAnswers held.old result released.old released.new held.new }
+{
+    match held {
+        Held::Consumer(side) => {
+            *released = side.clean();
+            OK
+        }
+        _ => BAD_HANDLE,
+    }
+}
+
+pub fn held_stop(held: &mut Held) -> u32
+    ensures { StopAnswers held.old result held.new }
+{
+    match held {
+        Held::Consumer(side) => {
+            side.stop();
+            OK
+        }
+        _ => BAD_HANDLE,
+    }
+}

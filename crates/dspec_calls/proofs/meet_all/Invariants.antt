@@ -1,7 +1,0 @@
--- It is still a session, of as many CPUs.
-use Rattle.std.proofs.Common.{◌≡◌, length}
-use Rattle.dspec_session.specs.Sessions.{IsSession}
-use Rattle.dspec_calls.proofs.meet_all.Given as goal
-
-abbrev pub invariant-loop-place : goal.invariant-loop-place
-invariant-loop-place g l = IsSession l.fn._schema l.session × (length l.session.cpus.items ≡ l.place-end)

@@ -1,6 +1,0 @@
--- What contracts see of a world: its schema, and what a play knows of it.
-use Rattle.dspec_play.specs.Coherent.{PlayState}
-
-pub record Session (S : Type 0) : Type 0 where
-  pub schema : S
-  pub state : PlayState
