@@ -3,8 +3,9 @@ ghost use Rattle.dspec.specs.Passed.{GetsIfThere};
 use crate::work::Sink;
 use dspec_record::Schema;
 use dspec_ring::Batch;
+use std::thread;
 
-/// Two sinks that get the same: the first first.
+/// Two sinks that get the same: the first first. Between two rounds the first pauses.
 #[derive(Drop)]
 pub struct Both<A: Drop, B: Drop> {
     /// The one that gets each batch first.
@@ -20,6 +21,10 @@ impl<S: Schema, A: Sink<S>, B: Sink<S>> Sink<S> for Both<A, B> {
         self.first.batch(schema, batch);
         self.second.batch(schema, batch);
     }
+
+    fn pause(&self) {
+        self.first.pause();
+    }
 }
 
 /// A sink that may be left out.
@@ -31,5 +36,12 @@ impl<S: Schema, K: Sink<S>> Sink<S> for Option<K> {
             return;
         };
         sink.batch(schema, batch);
+    }
+
+    fn pause(&self) {
+        match self {
+            Some(sink) => sink.pause(),
+            None => thread::yield_now(),
+        }
     }
 }

@@ -101,7 +101,7 @@ fn drain<K: Sink<Enablings>>(
             break;
         }
         visit_all(&mut consumer, shared, schema, count, &mut sink);
-        thread::yield_now();
+        sink.pause();
     }
     (consumer, sink)
 }

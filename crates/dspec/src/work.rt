@@ -4,6 +4,7 @@ ghost use Rattle.dspec.specs.Lanes.{place_of};
 use crate::lane::Lane;
 use dspec_record::Schema;
 use dspec_ring::Batch;
+use std::thread;
 
 /// What a CPU's thread does.
 pub trait Work<S: Schema>: Sync {
@@ -22,4 +23,10 @@ pub trait Sink<S: Schema>: Send + Drop {
     /// A batch of a CPU, whose records are of this schema.
     fn batch(&mut self, schema: &S, batch: &Batch)
         ensures { gets schema.now self.old batch.now self.new };
+
+    /// What the consumer does between two of its rounds, in which each CPU is visited once: it lets another thread run, unless the
+    /// sink does something else, as one that waits for some milliseconds.
+    fn pause(&self) {
+        thread::yield_now();
+    }
 }

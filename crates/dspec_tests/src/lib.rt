@@ -4,4 +4,6 @@
 #[cfg(test)]
 mod folders;
 #[cfg(test)]
+mod pauses;
+#[cfg(test)]
 mod tests;
