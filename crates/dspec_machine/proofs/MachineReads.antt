@@ -1,5 +1,5 @@
 -- What a read of a machine's parts shows.
-use Rattle.std.proofs.Common.{ℕ, suc, ◌≡◌, ◌<◌, true, List, [], ◌∷◌, length, get_or, Option, Some, refl, sym, arith}
+use Rattle.std.proofs.Common.{ℕ, suc, ◌≡◌, ◌-◌, ◌<◌, ◌≤◌, true, List, [], ◌∷◌, length, get_or, Option, Some, refl, sym, arith}
 use Rattle.std.specs.Prelude.{slice_get}
 use Rattle.std.proofs.lemmas.Option.{slice_get_read}
 use Rattle.std.proofs.lemmas.Bool.Decides.{nat_tests}
@@ -16,6 +16,10 @@ use Rattle.dspec_machine.specs.Machines.{IsShownMachine, history}
 
 pub slot_in_range : (k : Config) (id : Speculation) → in_range k id ≡ true → IsSlot k id.slot
 slot_in_range k id e = (grind (arith, nat_tests), grind (arith, nat_tests))
+
+-- the place of a slot's number in what has an element for each slot
+pub place_within : (n s most count : ℕ) → n ≡ s → 1 ≤ s → s ≤ most → count ≡ most → n - 1 < count
+place_within n s most count is low high counted = omega arith
 
 pub length_contents : (os : List Offer) → length (contents os) ≡ length os
 length_contents [] = refl

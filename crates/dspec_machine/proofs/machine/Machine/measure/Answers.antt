@@ -11,9 +11,9 @@ is_mine-mine-requires g c =
     let id = c.args.id in
     let h = history m in
     let own = c.index.result.now in
-    let shows = cpu_read _ _ m c.requires.shown a own c.requires.cpu c.index.ensures in
+    let shows = cpu_read g.B.TraceBuffer.has g.B.TraceBuffer.capacity m c.requires.shown a own c.requires.cpu c.index.ensures in
     let slot = slot_in_range m.config id c.requires.slot in
-    record { slot = mark_there _ _ m.config a h own.side shows.side id slot }
+    record { slot = mark_there (λ b. g.B.TraceBuffer.has b m.schema) g.B.TraceBuffer.capacity m.config a h own.side shows.side id slot }
 
 pub measure-requires : goal.measure-requires
 measure-requires g c =
@@ -22,9 +22,9 @@ measure-requires g c =
     let id = c.args.id in
     let h = history m in
     let own = c.index.result.now in
-    let shows = cpu_read _ _ m c.requires.shown a own c.requires.cpu c.index.ensures in
+    let shows = cpu_read g.B.TraceBuffer.has g.B.TraceBuffer.capacity m c.requires.shown a own c.requires.cpu c.index.ensures in
     let slot = slot_in_range m.config id c.requires.slot in
-    record { slot = place_there _ _ m.config a h own.side shows.side id slot }
+    record { slot = place_there (λ b. g.B.TraceBuffer.has b m.schema) g.B.TraceBuffer.capacity m.config a h own.side shows.side id slot }
 
 pub returns : goal.returns
 returns g c =
@@ -33,14 +33,14 @@ returns g c =
     let id = c.args.id in
     let h = history m in
     let own = c.index.result.now in
-    let shows = cpu_read _ _ m c.requires.shown a own c.requires.cpu c.index.ensures in
+    let shows = cpu_read g.B.TraceBuffer.has g.B.TraceBuffer.capacity m c.requires.shown a own c.requires.cpu c.index.ensures in
     let slot = slot_in_range m.config id c.requires.slot in
     let now = sym c.requires.present in
     record {
       fits =
-          c.measure.ensures.fits m.schema a h shows.side (caller_is _ _ m.config a h own.side shows.side id slot c.requires.cpu c.requires.sound now c.is_mine-mine.result
+          c.measure.ensures.fits m.schema a h shows.side (caller_is (λ b. g.B.TraceBuffer.has b m.schema) g.B.TraceBuffer.capacity m.config a h own.side shows.side id slot c.requires.cpu c.requires.sound now c.is_mine-mine.result
           c.is_mine-mine.ensures.tells);
       count =
-          c.measure.ensures.count m.schema a h shows.side (caller_is _ _ m.config a h own.side shows.side id slot c.requires.cpu c.requires.sound now c.is_mine-mine.result
+          c.measure.ensures.count m.schema a h shows.side (caller_is (λ b. g.B.TraceBuffer.has b m.schema) g.B.TraceBuffer.capacity m.config a h own.side shows.side id slot c.requires.cpu c.requires.sound now c.is_mine-mine.result
           c.is_mine-mine.ensures.tells);
     }

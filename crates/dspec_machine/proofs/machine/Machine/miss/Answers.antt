@@ -22,6 +22,13 @@ use Rattle.dspec_machine.proofs.Makings.{step_made}
 use Rattle.dspec_machine.proofs.machine.Machine.miss.Goals.{then-index, else-index}
 use Rattle.dspec_machine.proofs.machine.Machine.miss.Goals as goal
 
+-- a slot before the last, and the last
+before_last : (s n : ℕ) → s < n → (s == n) ≡ false
+before_last s n lt = grind (arith, nat_tests)
+
+is_last : (s n : ℕ) → s ≤ n → n ≤ s → (s == n) ≡ true
+is_last s n within most = grind (arith, nat_tests)
+
 -- the answer of a call that has failed
 failed : (shape : ℕ → Option Shape) (k : Config) (c : ℕ) (h : List Deed) (me : CpuProgress) (s : ℕ) (w : SlotState) (busy seen : Bool) (told : Opening) (a : Option Answer)
     → (s == k.nspec) ≡ true → busy ≡ is_decided w.code → seen ≡ missed_busy c (Miss c s busy ∷ h) → told ≡ (if seen then opening.Busy else opening.Unavailable) → a ≡ Some
@@ -45,7 +52,7 @@ returns-then-slot-self-clause-makes g c =
     let entered = c.in_ok-enter_miss.ensures.entered in
     let same : n.config ≡ m.config = ap (λ (st : PlayState). st.config) entered.state in
     let below : s < m.config.nspec = subst (λ k. s < k.nspec) same c.if-slot-self.true in
-    let more : (s == m.config.nspec) ≡ false = grind (arith, nat_tests) in
+    let more = before_last s m.config.nspec below in
     step_made g.B.TraceBuffer.has g.B.TraceBuffer.capacity m n c.go_on.new.self a (Miss a s busy ∷ [])
     (λ (me : CpuProgress). record me { flight = Some (flight.ScanLoad (s + 1)); steps = me.steps + 1 }) _ c.go_on.result
     entered c.go_on.ensures.shown c.go_on.ensures.state c.go_on.ensures.schema
@@ -67,8 +74,7 @@ returns-clause-makes g c =
     let own = cpu_read has capacity n c.in_ok-enter_miss.ensures.shown a c.index.result.now cpu c.index.ensures in
     let seen : c.index.result.now.side.missed_busy ≡ missed_busy a (Miss a s busy ∷ history m) = own.side.parts.missed ∙ ap (missed_busy a) deeds in
     let most : m.config.nspec ≤ s = subst (λ k. k.nspec ≤ s) same c.if-slot-self.false in
-    let within = c.requires.slot in
-    let last : (s == m.config.nspec) ≡ true = grind (arith, nat_tests) in
+    let last = is_last s m.config.nspec c.requires.slot most in
     let tells : c.if-index.opening ≡ (if c.index.result.now.side.missed_busy then opening.Busy else opening.Unavailable) =
     elim c.if-index.branch [ then-index w ↦ rw w.if-index.true w.opening-is | else-index w ↦ rw w.if-index.false w.opening-is ] in
     step_made has capacity m n c.end.new.self a (Miss a s busy ∷ []) (λ (me : CpuProgress). record me { flight = None; steps = 0 }) _ c.end.result entered c.end.ensures.shown
