@@ -15,7 +15,7 @@ use Rattle.dspec_machine.specs.Shown.{ShowsWords}
 use Rattle.dspec_machine.proofs.DecidedCpus.{decided_either, decided_open, decided_stream, decided_unsealed, decided_words}
 use Rattle.dspec_machine.proofs.DecisionMoves.{by_its_cpu, halted_still}
 use Rattle.dspec_machine.proofs.KeptCpus.{put_deed, put_side}
-use Rattle.dspec_machine.proofs.MachineReads.{cpu_got}
+use Rattle.dspec_machine.proofs.MachineReads.{cpu_got, place_within}
 use Rattle.dspec_machine.proofs.OneMore.{adds_own, enters, latest_first}
 use Rattle.dspec_machine.proofs.OwnSlots.{blocks_there, caller_is, mark_there, on_err, open_slot, place_there}
 use Rattle.dspec_machine.proofs.Rooms.{call_counts, decide_counts, decided_counts, drop_counts}
@@ -26,26 +26,17 @@ overflow_sub-place g c =
     let m = c.args.self.now in
     let a = c.args.cpu in
     let h = history m in
-    let d = deed_of c.args.decision c.args.cpu c.args.id c.args.fate in
-    let was = c.requires.shown in
-    let own = c.index_mut-own.result.now in
-    let got = cpu_got _ _ m was a own c.requires.cpu c.index_mut-own.ensures.value in
-    let shows = was.cpus a own got in
     let id = c.args.id in
     let sound = c.requires.legal.0 in
     let opens = decided_open m.config a id c.args.fate h c.args.decision c.requires.decides sound in
     let slot = open_slot m.config h id c.requires.ranges sound.0 opens in
-    let now = (open_present m.config h id sound.0 opens).now in
-    let at = c.slot.ensures.value in
-    let least = slot.0 in
-    omega arith
+    subst (λ n. 1 ≤ n) (sym c.slot.ensures.value) slot.0
 
 pub enter_block-requires : goal.enter_block-requires
 enter_block-requires g c =
     let m = c.args.self.now in
     let a = c.args.cpu in
     let h = history m in
-    let d = deed_of c.args.decision c.args.cpu c.args.id c.args.fate in
     let was = c.requires.shown in
     let own = c.index_mut-own.result.now in
     let got = cpu_got _ _ m was a own c.requires.cpu c.index_mut-own.ensures.value in
@@ -54,12 +45,8 @@ enter_block-requires g c =
     let sound = c.requires.legal.0 in
     let opens = decided_open m.config a id c.args.fate h c.args.decision c.requires.decides sound in
     let slot = open_slot m.config h id c.requires.ranges sound.0 opens in
-    let now = (open_present m.config h id sound.0 opens).now in
-    let at = c.slot.ensures.value in
     let there = place_there _ _ m.config a h own.side shows.side id slot in
-    let low = there.0 in
-    let high = there.1 in
-    record { place = omega arith }
+    record { place = place_within c.slot.result id.slot (length own.side.speculative.items) (length own.side.speculative.items) c.slot.ensures.value there.0 there.1 refl }
 
 pub returns-in_err-enter_block-clause-refused : goal.returns-in_err-enter_block-clause-refused
 returns-in_err-enter_block-clause-refused g c =
@@ -126,21 +113,11 @@ index_mut-requires g c =
     let m = c.args.self.now in
     let a = c.args.cpu in
     let h = history m in
-    let d = deed_of c.args.decision c.args.cpu c.args.id c.args.fate in
-    let was = c.requires.shown in
-    let own = c.index_mut-own.result.now in
-    let got = cpu_got _ _ m was a own c.requires.cpu c.index_mut-own.ensures.value in
-    let shows = was.cpus a own got in
     let id = c.args.id in
     let sound = c.requires.legal.0 in
     let opens = decided_open m.config a id c.args.fate h c.args.decision c.requires.decides sound in
     let slot = open_slot m.config h id c.requires.ranges sound.0 opens in
-    let now = (open_present m.config h id sound.0 opens).now in
-    let at = c.slot.ensures.value in
-    let count = was.words.count in
-    let low = slot.0 in
-    let high = slot.1 in
-    omega arith
+    place_within c.slot.result c.args.id.slot m.config.nspec m.words.len c.slot.ensures.value slot.0 slot.1 (m.words.ok.0 ∙ c.requires.shown.words.count)
 
 pub returns : goal.returns
 returns g c =

@@ -12,7 +12,7 @@ use Rattle.dspec_machine.specs.Machines.{history}
 use Rattle.dspec_deeds.specs.declared.deed.Deed.TheVariants.{Settle}
 use Rattle.dspec_side.proofs.Tallies.{settle_counts}
 use Rattle.dspec_machine.proofs.KeptCpus.{put_deed, put_side}
-use Rattle.dspec_machine.proofs.MachineReads.{cpu_got}
+use Rattle.dspec_machine.proofs.MachineReads.{cpu_got, place_within}
 use Rattle.dspec_machine.proofs.OneMore.{adds_own, enters, latest_first}
 use Rattle.dspec_machine.proofs.OwnSlots.{ack_there, blocks_there, caller_is, mark_there, on_err, place_there, settled_slot, settles_as, settles_on, stream_settles}
 use Rattle.dspec_machine.proofs.Rooms.{decide_counts, lost_counts}
@@ -24,25 +24,16 @@ overflow_sub-place g c =
     let m = c.args.self.now in
     let a = c.args.cpu in
     let h = history m in
-    let d = Settle c.args.cpu c.args.id c.args.fate in
-    let was = c.requires.shown in
-    let own = c.index_mut-own.result.now in
-    let got = cpu_got _ _ m was a own c.requires.cpu c.index_mut-own.ensures.value in
-    let shows = was.cpus a own got in
     let id = c.args.id in
     let sound = c.requires.legal.0 in
     let slot = settled_slot m.config a id c.args.fate h c.requires.ranges sound in
-    let now = sym sound.1.1.1.0 in
-    let at = c.slot.ensures.value in
-    let least = slot.0 in
-    omega arith
+    subst (λ n. 1 ≤ n) (sym c.slot.ensures.value) slot.0
 
 pub enter_block-requires : goal.enter_block-requires
 enter_block-requires g c =
     let m = c.args.self.now in
     let a = c.args.cpu in
     let h = history m in
-    let d = Settle c.args.cpu c.args.id c.args.fate in
     let was = c.requires.shown in
     let own = c.index_mut-own.result.now in
     let got = cpu_got _ _ m was a own c.requires.cpu c.index_mut-own.ensures.value in
@@ -50,12 +41,8 @@ enter_block-requires g c =
     let id = c.args.id in
     let sound = c.requires.legal.0 in
     let slot = settled_slot m.config a id c.args.fate h c.requires.ranges sound in
-    let now = sym sound.1.1.1.0 in
-    let at = c.slot.ensures.value in
     let there = place_there _ _ m.config a h own.side shows.side id slot in
-    let low = there.0 in
-    let high = there.1 in
-    record { place = omega arith }
+    record { place = place_within c.slot.result id.slot (length own.side.speculative.items) (length own.side.speculative.items) c.slot.ensures.value there.0 there.1 refl }
 
 pub returns-in_err-enter_block-clause-refused : goal.returns-in_err-enter_block-clause-refused
 returns-in_err-enter_block-clause-refused g c =

@@ -11,7 +11,7 @@ use Rattle.dspec_machine.specs.declared.decision.Decision.TheVariants as decisio
 use Rattle.dspec_machine.specs.Machines.{history}
 use Rattle.dspec_machine.specs.Shown.{ShowsWords}
 use Rattle.dspec_machine.proofs.KeptCpus.{own_deed}
-use Rattle.dspec_machine.proofs.MachineReads.{cpu_got}
+use Rattle.dspec_machine.proofs.MachineReads.{cpu_got, place_within}
 use Rattle.dspec_machine.proofs.OneMore.{cpus_released, cpus_set, latest_first, map_set, shown_as}
 use Rattle.dspec_machine.proofs.OwnSlots.{caller_is, mark_there, open_slot, place_there}
 use Rattle.dspec_machine.proofs.Rooms.{call_counts, decide_counts, decided_counts, drop_counts}
@@ -25,12 +25,9 @@ overflow_sub-slot g c =
     let h = history m in
     let id = c.args.id in
     let sound = c.requires.legal.0.0 in
-    let legal : IsAllowed (g.S.Schema.shape_of m.schema) m.config (Discard a id c.args.fate ∷ h) = (c.requires.legal.0.0, c.requires.legal.1.0) in
     let opens = discard_open m.config a id c.args.fate h sound c.requires.discard in
     let slot = open_slot m.config h id c.requires.ranges sound.0 opens in
-    let now = (open_present m.config h id sound.0 opens).now in
-    let is = c.slot-2.ensures.value in
-    omega (arith, slot.0)
+    subst (λ n. 1 ≤ n) (sym c.slot-2.ensures.value) slot.0
 
 pub index_mut-requires : goal.index_mut-requires
 index_mut-requires g c =
@@ -39,12 +36,9 @@ index_mut-requires g c =
     let h = history m in
     let id = c.args.id in
     let sound = c.requires.legal.0.0 in
-    let legal : IsAllowed (g.S.Schema.shape_of m.schema) m.config (Discard a id c.args.fate ∷ h) = (c.requires.legal.0.0, c.requires.legal.1.0) in
     let opens = discard_open m.config a id c.args.fate h sound c.requires.discard in
     let slot = open_slot m.config h id c.requires.ranges sound.0 opens in
-    let now = (open_present m.config h id sound.0 opens).now in
-    let is = c.slot-2.ensures.value in
-    omega (arith, slot.0, slot.1, c.requires.shown.words.count)
+    place_within c.slot-2.result c.args.id.slot m.config.nspec m.words.len c.slot-2.ensures.value slot.0 slot.1 (m.words.ok.0 ∙ c.requires.shown.words.count)
 
 pub is_mine-mine-requires : goal.is_mine-mine-requires
 is_mine-mine-requires g c =

@@ -8,7 +8,7 @@ use Rattle.dspec_side.specs.Sides.{ShowsList}
 use Rattle.dspec_machine.specs.Machines.{history}
 use Rattle.dspec_machine.specs.Shown.{ShowsWords}
 use Rattle.dspec_machine.proofs.KeptCpus.{own_deed}
-use Rattle.dspec_machine.proofs.MachineReads.{cpu_got}
+use Rattle.dspec_machine.proofs.MachineReads.{cpu_got, place_within}
 use Rattle.dspec_machine.proofs.OneMore.{adds_own, enters, latest_first}
 use Rattle.dspec_machine.proofs.OwnSlots.{caller_is, mark_there, open_slot, place_there, specdrop_there, spoken_as}
 use Rattle.dspec_machine.proofs.Rooms.{call_fits, counts_fit}
@@ -24,10 +24,7 @@ overflow_sub-slot g c =
     let sound = c.requires.legal.0 in
     let opens = granted_open m.config a id c.args.rec.now c.args.fate h sound c.requires.granted in
     let slot = open_slot m.config h id c.requires.ranges sound.0 opens in
-    let now = (open_present m.config h id sound.0 opens).now in
-    let at = c.slot.ensures.value in
-    let least = slot.0 in
-    omega arith
+    subst (λ n. 1 ≤ n) (sym c.slot.ensures.value) slot.0
 
 pub index_mut-requires : goal.index_mut-requires
 index_mut-requires g c =
@@ -38,9 +35,7 @@ index_mut-requires g c =
     let sound = c.requires.legal.0 in
     let opens = granted_open m.config a id c.args.rec.now c.args.fate h sound c.requires.granted in
     let slot = open_slot m.config h id c.requires.ranges sound.0 opens in
-    let now = (open_present m.config h id sound.0 opens).now in
-    let at = c.slot.ensures.value in
-    omega (arith, slot.0, slot.1, at, c.requires.shown.words.count)
+    place_within c.slot.result c.args.id.slot m.config.nspec m.words.len c.slot.ensures.value slot.0 slot.1 (m.words.ok.0 ∙ c.requires.shown.words.count)
 
 pub is_mine-mine-requires : goal.is_mine-mine-requires
 is_mine-mine-requires g c =

@@ -1,5 +1,5 @@
 -- The table's act at the word and the acknowledgement that the list shows.
-use Rattle.std.proofs.Common.{◌≡◌, ◌<◌, ◌+◌, ◌-◌, [], Some, sym, ap, ◌∙◌, subst, arith}
+use Rattle.std.proofs.Common.{◌≡◌, ◌<◌, ◌+◌, ◌-◌, [], Some, refl, sym, ap, ◌∙◌, subst, arith}
 use Rattle.std.specs.Prelude.{slice_get}
 use Rattle.std.proofs.lemmas.Option.{slice_get_read}
 use Rattle.dspec_word.specs.declared.act.Act.TheVariants.{Granted}
@@ -11,7 +11,7 @@ use Rattle.dspec_deeds.specs.History.{ack, word_at}
 use Rattle.dspec_play.specs.Coherent.{progress_of}
 use Rattle.dspec_machine.specs.Machines.{Makes, history, state_of}
 use Rattle.dspec_play.specs.Play.{Moved, served}
-use Rattle.dspec_machine.proofs.MachineReads.{cpu_read}
+use Rattle.dspec_machine.proofs.MachineReads.{cpu_read, place_within}
 use Rattle.dspec_machine.proofs.Makings.{adds_none, step_made}
 use Rattle.dspec_machine.proofs.OneMore.{word_there}
 use Rattle.dspec_play.proofs.ServiceMoves.{served_deeds, store_next, passed_by}
@@ -48,7 +48,7 @@ returns-in-Granted g c =
     let w = c.index-word.result.now in
     let word = word_there k h m.words.items s w c.requires.slot.0 c.requires.slot.1 c.requires.shown.words c.index-word.ensures in
     let parts = (cpu_read g.B.TraceBuffer.has g.B.TraceBuffer.capacity m c.requires.shown a c.index.result.now c.requires.cpu c.index.ensures).side.parts in
-    let lt : s - 1 < k.nspec = let least = c.requires.slot.0 in let most = c.requires.slot.1 in omega (arith, least, most) in
+    let lt = place_within s s k.nspec k.nspec refl c.requires.slot.0 c.requires.slot.1 refl in
     let read = slice_get_read c.index.result.now.side.acks.items k.nspec (s - 1) c.index-acked.result.now (sym parts.ack_count) lt c.index-acked.ensures in
     let shows : slice_get c.index.result.now.side.acks.items (s - 1) ≡ Some (ack a s h) = parts.acks s c.requires.slot.0 c.requires.slot.1 in
     let acked : c.index-acked.result.now ≡ ack a s h = cc in
@@ -73,7 +73,7 @@ returns-in_default g c =
     let w = c.index-word.result.now in
     let word = word_there k h m.words.items s w c.requires.slot.0 c.requires.slot.1 c.requires.shown.words c.index-word.ensures in
     let parts = (cpu_read has capacity m c.requires.shown a c.index.result.now c.requires.cpu c.index.ensures).side.parts in
-    let lt : s - 1 < k.nspec = let least = c.requires.slot.0 in let most = c.requires.slot.1 in omega (arith, least, most) in
+    let lt = place_within s s k.nspec k.nspec refl c.requires.slot.0 c.requires.slot.1 refl in
     let read = slice_get_read c.index.result.now.side.acks.items k.nspec (s - 1) c.index-acked.result.now (sym parts.ack_count) lt c.index-acked.ensures in
     let shows : slice_get c.index.result.now.side.acks.items (s - 1) ≡ Some (ack a s h) = parts.acks s c.requires.slot.0 c.requires.slot.1 in
     let acked : c.index-acked.result.now ≡ ack a s h = cc in

@@ -38,9 +38,9 @@ returns g c =
     let now = sym c.requires.present in
     record {
       fits =
-          c.measure.ensures.fits m.schema a h shows.side (caller_is (λ b. g.B.TraceBuffer.has b m.schema) g.B.TraceBuffer.capacity m.config a h own.side shows.side id slot c.requires.cpu c.requires.sound now c.is_mine-mine.result
-          c.is_mine-mine.ensures.tells);
+          c.measure.ensures.fits m.schema a h shows.side (caller_is (λ b. g.B.TraceBuffer.has b m.schema) g.B.TraceBuffer.capacity m.config a h own.side shows.side id slot
+          c.requires.cpu c.requires.sound now c.is_mine-mine.result c.is_mine-mine.ensures.tells);
       count =
-          c.measure.ensures.count m.schema a h shows.side (caller_is (λ b. g.B.TraceBuffer.has b m.schema) g.B.TraceBuffer.capacity m.config a h own.side shows.side id slot c.requires.cpu c.requires.sound now c.is_mine-mine.result
-          c.is_mine-mine.ensures.tells);
+          c.measure.ensures.count m.schema a h shows.side (caller_is (λ b. g.B.TraceBuffer.has b m.schema) g.B.TraceBuffer.capacity m.config a h own.side shows.side id slot
+          c.requires.cpu c.requires.sound now c.is_mine-mine.result c.is_mine-mine.ensures.tells);
     }

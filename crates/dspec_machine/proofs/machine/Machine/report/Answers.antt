@@ -22,4 +22,5 @@ returns g c =
     let shows = cpu_read g.B.TraceBuffer.has g.B.TraceBuffer.capacity m c.requires.shown c.args.cpu own c.requires.cpu c.index.ensures in
     let got = cpu_got g.B.TraceBuffer.has g.B.TraceBuffer.capacity m c.requires.shown c.args.cpu own c.requires.cpu c.index.ensures in
     let worn : own.side.counts.worn ≡ (progress_of (state_of m).progresses c.args.cpu).worn = shows.worn ∙ ap (λ (x : CpuProgress). x.worn) (sym (progress_there m.cpus.items c.args.cpu own got)) in
-    told (g.S.Schema.shape_of m.schema) m.config c.args.cpu (history m) own.side.counts (progress_of (state_of m).progresses c.args.cpu).worn c.report.result shows.side.counted worn c.requires.legal c.report.ensures
+    told (g.S.Schema.shape_of m.schema) m.config c.args.cpu (history m) own.side.counts (progress_of (state_of m).progresses c.args.cpu).worn c.report.result shows.side.counted worn
+    c.requires.legal c.report.ensures
