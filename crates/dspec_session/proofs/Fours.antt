@@ -1,5 +1,5 @@
 -- Lists of four.
-use Rattle.std.proofs.Common.{◌≡◌, ℕ, zero, suc, List, [], ◌∷◌, length, Some, refl, ap, ◌∙◌, subst, arith}
+use Rattle.std.proofs.Common.{◌≡◌, ℕ, zero, suc, ◌+◌, ◌≤◌, List, [], ◌∷◌, ◌++◌, length, Some, refl, ap, ◌∙◌, subst, arith}
 use Rattle.std.specs.Prelude.{remove, slice_get, slice_index_or}
 
 -- what was removed from the front stood there
@@ -30,3 +30,22 @@ all_four xs ys zs us vs a b c d count a_is ys_is b_is zs_is c_is us_is d_is vs_i
     let h = front us vs d 0 g.1 d_is vs_is in
     let n = none vs h.1 in
     (e.0 ∙ ap (λ l. a ∷ l) (f.0 ∙ ap (λ l. b ∷ l) (g.0 ∙ ap (λ l. c ∷ l) (h.0 ∙ ap (λ l. d ∷ l) n))), n)
+
+-- what four were pushed to, where nothing stood
+pub four_pushed : {A : Type 0} (xs ys zs us vs : List A) (a b c d : A) → xs ≡ [] → ys ≡ xs ++ a ∷ [] → zs ≡ ys ++ b ∷ [] → us ≡ zs ++ c ∷ [] → vs ≡ us ++ d ∷ []
+    → vs ≡ a ∷ b ∷ c ∷ d ∷ []
+four_pushed xs ys zs us vs a b c d none first second third fourth =
+    let one : ys ≡ a ∷ [] = first ∙ ap (λ l. l ++ a ∷ []) none in
+    let two : zs ≡ a ∷ b ∷ [] = second ∙ ap (λ l. l ++ b ∷ []) one in
+    let three : us ≡ a ∷ b ∷ c ∷ [] = third ∙ ap (λ l. l ++ c ∷ []) two in
+    fourth ∙ ap (λ l. l ++ d ∷ []) three
+
+-- a push took one of the places that were free, and none is refused while one is
+pub one_less : (length room length_then room_then free : ℕ) → suc free + length ≤ room → length_then ≡ length + 1 → room ≤ room_then → free + length_then ≤ room_then
+one_less length room length_then room_then free a b c = omega arith
+
+pub not_full : (length room free : ℕ) → suc free + length ≤ room → room ≤ length → ⊥
+not_full length room free a b = omega arith
+
+pub all_free : {A : Type 0} (xs : List A) (n room : ℕ) → n ≡ length xs → xs ≡ [] → 4 ≤ room → 4 + n ≤ room
+all_free xs n room count none fits = let e : length xs ≡ 0 = ap length none in omega arith
