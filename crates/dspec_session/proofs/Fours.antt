@@ -1,5 +1,5 @@
 -- Lists of four.
-use Rattle.std.proofs.Common.{◌≡◌, ℕ, zero, suc, ◌+◌, ◌≤◌, List, [], ◌∷◌, ◌++◌, length, Some, refl, ap, ◌∙◌, subst, arith}
+use Rattle.std.proofs.Common.{◌≡◌, ℕ, zero, suc, ◌+◌, ◌<◌, ◌≤◌, List, [], ◌∷◌, ◌++◌, length, Some, refl, ap, ◌∙◌, subst, arith}
 use Rattle.std.specs.Prelude.{remove, slice_get, slice_index_or}
 
 -- what was removed from the front stood there
@@ -40,12 +40,12 @@ four_pushed xs ys zs us vs a b c d none first second third fourth =
     let three : us ≡ a ∷ b ∷ c ∷ [] = third ∙ ap (λ l. l ++ c ∷ []) two in
     fourth ∙ ap (λ l. l ++ d ∷ []) three
 
--- a push took one of the places that were free, and none is refused while one is
+-- a push took one of the places that were free, and one more has a place while one is
 pub one_less : (length room length_then room_then free : ℕ) → suc free + length ≤ room → length_then ≡ length + 1 → room ≤ room_then → free + length_then ≤ room_then
 one_less length room length_then room_then free a b c = omega arith
 
-pub not_full : (length room free : ℕ) → suc free + length ≤ room → room ≤ length → ⊥
-not_full length room free a b = omega arith
+pub has_place : (length room free : ℕ) → suc free + length ≤ room → length < room
+has_place length room free a = omega arith
 
 pub all_free : {A : Type 0} (xs : List A) (n room : ℕ) → n ≡ length xs → xs ≡ [] → 4 ≤ room → 4 + n ≤ room
 all_free xs n room count none fits = let e : length xs ≡ 0 = ap length none in omega arith

@@ -1,4 +1,4 @@
-ghost use Rattle.std.specs.Prelude.{◌≡◌, ◌≤◌, [], ◌∷◌, length, vec_capacity};
+ghost use Rattle.std.specs.Prelude.{◌≡◌, ◌<◌, ◌≤◌, ◌+◌, ◌++◌, [], ◌∷◌, length, vec_len, vec_capacity};
 
 use super::four::Four;
 use dspec_cpu::Cpu;
@@ -23,6 +23,17 @@ pub(crate) fn take_all(cpus: &mut Vec<Cpu<Enablings>>) -> Four<Cpu<Enablings>>
     }
 }
 
+// Puts one more at the end of a list that has room.
+#[inline]
+fn put(cpus: &mut Vec<Cpu<Enablings>>, cpu: Cpu<Enablings>)
+    requires { vec_len cpus.old < vec_capacity cpus.old }
+    ensures items { cpus.new.items ≡ cpus.old.items ++ cpu ∷ [] }
+    ensures len { vec_len cpus.new ≡ vec_len cpus.old + 1 }
+    ensures capacity { vec_capacity cpus.old ≤ vec_capacity cpus.new }
+{
+    cpus.push(cpu).unwrap();
+}
+
 /// Puts them back, in order.
 pub(crate) fn put_all(
     cpus: &mut Vec<Cpu<Enablings>>,
@@ -35,12 +46,8 @@ pub(crate) fn put_all(
     requires room { 4 ≤ vec_capacity cpus.old }
     ensures { cpus.new.items ≡ first ∷ second ∷ third ∷ fourth ∷ [] }
 {
-    let (Ok(()), Ok(()), Ok(()), Ok(())) = (
-        cpus.push(first),
-        cpus.push(second),
-        cpus.push(third),
-        cpus.push(fourth),
-    ) else {
-        unreachable!()
-    };
+    put(cpus, first);
+    put(cpus, second);
+    put(cpus, third);
+    put(cpus, fourth);
 }
