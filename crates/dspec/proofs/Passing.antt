@@ -9,11 +9,11 @@ use Rattle.dspec_table.specs.declared.seats.Words.{Words}
 use Rattle.dspec_ring.specs.declared.batch.Batch.{Batch}
 use Rattle.dspec_ring.specs.Known.{ConsumerKnows, consumer_moved}
 use Rattle.dspec_cpu.specs.Sealed.{waiting}
-use Rattle.dspec_session.specs.declared.left.Left.{Left}
-use Rattle.dspec_session.specs.Batches.{Took, FoundNone, GaveBack, IsNotTakenBack}
-use Rattle.dspec_session.specs.Asking.{Asked}
-use Rattle.dspec_session.specs.Consumers.{Consuming, IsConsumerOf, IsSameConsumer, Stays}
-use Rattle.dspec_session.specs.Sessions.{taken_at}
+use Rattle.dspec_consumer.specs.declared.left.Left.{Left}
+use Rattle.dspec_consumer.specs.Batches.{Took, FoundNone, GaveBack, IsNotTakenBack}
+use Rattle.dspec_consumer.specs.Asking.{Asked}
+use Rattle.dspec_consumer.specs.Consumers.{Consuming, IsConsumerOf, IsSameConsumer, Stays}
+use Rattle.dspec_consumer.specs.Sessions.{taken_at}
 use Rattle.dspec.specs.Passed.{Passed, passed_from, each_from, left_batches, rests_passed, GotAll, PassesOn}
 
 -- a batch more stands before the others of its CPU

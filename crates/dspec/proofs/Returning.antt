@@ -7,9 +7,9 @@ use Rattle.dspec_cpu.specs.declared.cpu.Cpu.{Cpu}
 use Rattle.dspec_cpu.specs.declared.shared.Shared.{Shared}
 use Rattle.dspec_cpu.specs.Lists.{words_of}
 use Rattle.dspec_cpu.specs.Standing.{IsCallable, identity}
-use Rattle.dspec_session.specs.declared.session.Session.{Session}
-use Rattle.dspec_session.specs.Consumers.{Stays, pairs_of}
-use Rattle.dspec_session.specs.Sessions.{IsCpuOf, IsSession}
+use Rattle.dspec_consumer.specs.declared.session.Session.{Session}
+use Rattle.dspec_consumer.specs.Consumers.{Stays, pairs_of}
+use Rattle.dspec_consumer.specs.Sessions.{IsCpuOf, IsSession}
 use Rattle.dspec.specs.Lent.{AllCallable, AllReturned}
 
 module _ {S : Type 0} where

@@ -14,11 +14,11 @@ use Rattle.dspec_ring.specs.declared.batch.Batch.{Batch}
 use Rattle.dspec_ring.specs.Known.{ConsumerKnows, IsUnusedConsumer}
 use Rattle.dspec_cpu.specs.declared.cpu.Cpu.{Cpu}
 use Rattle.dspec_cpu.specs.Sealed.{waiting}
-use Rattle.dspec_session.specs.declared.left.Left.{Left}
-use Rattle.dspec_session.specs.Closing.{HoldInOrder, IsClosedBy}
-use Rattle.dspec_session.specs.Consumers.{Consuming}
-use Rattle.dspec_session.specs.Leaving.{AllSteady, Has}
-use Rattle.dspec_session.specs.Sessions.{HasAt, taken_at}
+use Rattle.dspec_consumer.specs.declared.left.Left.{Left}
+use Rattle.dspec_consumer.specs.Closing.{HoldInOrder, IsClosedBy}
+use Rattle.dspec_consumer.specs.Consumers.{Consuming}
+use Rattle.dspec_consumer.specs.Leaving.{AllSteady, Has}
+use Rattle.dspec_consumer.specs.Sessions.{HasAt, taken_at}
 use Rattle.dspec.specs.Passed.{Passed, passed_from, left_batches, rests_passed, GotAll, PassesOn, IsTraced}
 use Rattle.dspec.proofs.Passing.{from_both, got_both, rest_there}
 

@@ -8,10 +8,10 @@ use Rattle.dspec_deeds.specs.Own.{stream}
 use Rattle.dspec_table.specs.declared.seats.Words.{Words}
 use Rattle.dspec_ring.specs.declared.batch.Batch.{Batch}
 use Rattle.dspec_cpu.specs.Sealed.{waiting}
-use Rattle.dspec_session.specs.declared.left.Left.{Left}
-use Rattle.dspec_session.specs.Closing.{ClosesAs, HoldInOrder}
-use Rattle.dspec_session.specs.Consumers.{Consuming, Stays}
-use Rattle.dspec_session.specs.Sessions.{taken_at}
+use Rattle.dspec_consumer.specs.declared.left.Left.{Left}
+use Rattle.dspec_consumer.specs.Closing.{ClosesAs, HoldInOrder}
+use Rattle.dspec_consumer.specs.Consumers.{Consuming, Stays}
+use Rattle.dspec_consumer.specs.Sessions.{taken_at}
 
 -- a batch, with the number of the CPU that it came from
 pub record Passed : Type 0 where

@@ -3,7 +3,7 @@
 //!
 //! No call has a condition, but that a record is one of the schema where it is handed over whole. What a call promises is that it
 //! leaves the lane the one that it is (`specs/Lanes.antt`), and what the CPU's call does. What a sink got of a whole session is
-//! what its CPUs accepted (`specs/Passed.antt`). Whatever else a program needs is found here too. Stands on `dspec_session`.
+//! what its CPUs accepted (`specs/Passed.antt`). Whatever else a program needs is found here too. Stands on `dspec_consumer`.
 #![tactic(auto)]
 
 mod both;
@@ -25,7 +25,7 @@ pub use dspec_deeds::{
 };
 pub use dspec_record::{Enablings, Field, Header, Rec, Schema, SchemaFault};
 pub use dspec_ring::Batch;
-pub use dspec_session::{Closed, Consumer, Session};
+pub use dspec_consumer::{Closed, Consumer, Session};
 pub use dspec_word::SpecId;
 pub use each_closed::ClosedCpus;
 pub use kept::{Kept, KeptFault};

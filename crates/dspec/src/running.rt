@@ -2,10 +2,10 @@ ghost use Rattle.std.specs.Prelude.{◌≡◌, ◌<◌, ℕ, [], ◌∷◌, IfOk
 ghost use denote.Param.Send.{IsSync};
 ghost use Rattle.dspec_cpu.specs.Lists.{words_of};
 ghost use Rattle.dspec_cpu.specs.Standing.{IsCallable, identity};
-ghost use Rattle.dspec_session.specs.Consumers.{IsConsumerOf};
-ghost use Rattle.dspec_session.specs.declared.left.Left.{Left};
-ghost use Rattle.dspec_session.specs.Leaving.{AllSteady};
-ghost use Rattle.dspec_session.specs.Sessions.{IsSession};
+ghost use Rattle.dspec_consumer.specs.Consumers.{IsConsumerOf};
+ghost use Rattle.dspec_consumer.specs.declared.left.Left.{Left};
+ghost use Rattle.dspec_consumer.specs.Leaving.{AllSteady};
+ghost use Rattle.dspec_consumer.specs.Sessions.{IsSession};
 ghost use Rattle.dspec.specs.Lent.{AllCallable, AllReturned};
 ghost use Rattle.dspec.specs.Passed.{GotAll, IsTraced, PassesOn, rests_passed};
 
@@ -14,7 +14,7 @@ use crate::work::{Sink, Work};
 use dspec_cpu::{Cpu, Shared};
 use dspec_deeds::{Config, StartFault};
 use dspec_record::{Enablings, Schema};
-use dspec_session::{Closed, Consumer, Session};
+use dspec_consumer::{Closed, Consumer, Session};
 use std::alloc::Global;
 use std::sync::atomic::{AtomicU64, Ordering};
 use std::thread;

@@ -4,8 +4,8 @@ use Rattle.std.specs.Prelude.{Result, Ok, Err, IfErr, IfNone, IfSome, MatchOptio
 use Rattle.dspec_ring.specs.declared.batch.Batch.{Batch}
 use Rattle.dspec_record.specs.EnablingRows.{EnabledRows}
 use Rattle.dspec_cpu.specs.declared.cpu.Cpu.{Cpu}
-use Rattle.dspec_session.specs.Batches.{FoundNone, GaveBack, IsNotTakenBack, Took}
-use Rattle.dspec_session.specs.Consumers.{Consuming}
+use Rattle.dspec_consumer.specs.Batches.{FoundNone, GaveBack, IsNotTakenBack, Took}
+use Rattle.dspec_consumer.specs.Consumers.{Consuming}
 use Rattle.dspec_c.specs.ConsumerCalls.{OnConsumer, OnTheirs}
 use Rattle.dspec_c.specs.ConsumerHomes.{Theirs}
 use Rattle.dspec_c.specs.CpuCalls.{OnCpu, OnSide}

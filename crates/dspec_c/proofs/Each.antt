@@ -9,7 +9,7 @@ use Rattle.dspec_cpu.specs.declared.cpu.Cpu.{Cpu}
 use Rattle.dspec_cpu.specs.declared.shared.Shared.{Shared}
 use Rattle.dspec_cpu.specs.Lists.{words_of}
 use Rattle.dspec_cpu.specs.Standing.{IsCallable, identity}
-use Rattle.dspec_session.specs.Sessions.{IsCpuOf}
+use Rattle.dspec_consumer.specs.Sessions.{IsCpuOf}
 use Rattle.dspec_c.specs.Homes.{IsSameSide, Side}
 use Rattle.dspec_c.specs.Whole.{AllCalled, EachFrom, IsCpuAt, IsPlaceOf, IsWaiting, waiting_so, waits_in}
 

@@ -9,9 +9,9 @@ use Rattle.dspec_table.specs.Seats.{set_up}
 use Rattle.dspec_cpu.specs.declared.cpu.Cpu.{Cpu}
 use Rattle.dspec_cpu.specs.declared.shared.Shared.{Shared}
 use Rattle.dspec_cpu.specs.Lists.{words_of}
-use Rattle.dspec_session.specs.Consumers.{Consuming, IsConsumerOf, pairs_of, set_up_of}
-use Rattle.dspec_session.specs.Sessions.{IsCpuOf, IsSession}
-use Rattle.dspec_session.specs.declared.session.Session.{Session}
+use Rattle.dspec_consumer.specs.Consumers.{Consuming, IsConsumerOf, pairs_of, set_up_of}
+use Rattle.dspec_consumer.specs.Sessions.{IsCpuOf, IsSession}
+use Rattle.dspec_consumer.specs.declared.session.Session.{Session}
 use Rattle.dspec_cpu.specs.Standing.{identity}
 use Rattle.dspec_c.specs.ConsumerHomes.{IsSameTheirs, Theirs}
 use Rattle.dspec_c.specs.Homes.{Side}

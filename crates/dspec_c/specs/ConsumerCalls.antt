@@ -1,11 +1,11 @@
 -- The calls on the consumer's handle: each did what the library's call says of its answer.
 use Rattle.std.specs.Prelude.{ℕ, ◌≡◌, ◌<◌, ◌≤◌, Bool, Some, None, MatchBool, slice_get, slice_set, ⊤}
 use Rattle.dspec_ring.specs.declared.batch.Batch.{Batch}
-use Rattle.dspec_session.specs.Asking.{Asked}
-use Rattle.dspec_session.specs.Batches.{FoundNone, GaveBack, IsNotTakenBack, Took}
-use Rattle.dspec_session.specs.Cleaning.{Cleaned}
-use Rattle.dspec_session.specs.Consumers.{Consuming, set_up_of, view_of}
-use Rattle.dspec_session.specs.Stopping.{Stopped}
+use Rattle.dspec_consumer.specs.Asking.{Asked}
+use Rattle.dspec_consumer.specs.Batches.{FoundNone, GaveBack, IsNotTakenBack, Took}
+use Rattle.dspec_consumer.specs.Cleaning.{Cleaned}
+use Rattle.dspec_consumer.specs.Consumers.{Consuming, set_up_of, view_of}
+use Rattle.dspec_consumer.specs.Stopping.{Stopped}
 use Rattle.dspec_c.specs.Answered.{Answered}
 use Rattle.dspec_c.specs.ConsumerHomes.{Theirs}
 use Rattle.dspec_c.specs.Shows.{TellsBatch}

@@ -1,7 +1,7 @@
 -- How the consumer comes home, as a CPU does.
 use Rattle.std.specs.Prelude.{◌≡◌, List, [], ◌∷◌, Option, IfSome, IfNone, ⊤}
 use Rattle.dspec_cpu.specs.declared.shared.Shared.{Shared}
-use Rattle.dspec_session.specs.Consumers.{Consuming, IsSameConsumer}
+use Rattle.dspec_consumer.specs.Consumers.{Consuming, IsSameConsumer}
 
 -- a consumer, and what it shares
 pub record Theirs : Type 0 where

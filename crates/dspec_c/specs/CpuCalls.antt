@@ -25,7 +25,7 @@ use Rattle.dspec_cpu.specs.Serving.{Serves}
 use Rattle.dspec_cpu.specs.Standing.{identity}
 use Rattle.dspec_cpu.specs.Stops.{is_stopped_decided, is_stopped_spoken, is_stopped_trace}
 use Rattle.dspec_cpu.specs.Switching.{buffers_of, most_moves}
-use Rattle.dspec_session.specs.Demonstrated.{Has}
+use Rattle.dspec_consumer.specs.Sessions.{Has}
 use Rattle.dspec_c.specs.Answered.{Answered, AnsweredWith}
 use Rattle.dspec_c.specs.Homes.{Side}
 use Rattle.dspec_c.specs.Shows.{TellsReport}

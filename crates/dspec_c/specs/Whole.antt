@@ -10,8 +10,8 @@ use Rattle.dspec_cpu.specs.declared.cpu.Cpu.{Cpu}
 use Rattle.dspec_cpu.specs.declared.shared.Shared.{Shared}
 use Rattle.dspec_cpu.specs.Lists.{number_in, words_of}
 use Rattle.dspec_cpu.specs.Standing.{IsCallable, identity}
-use Rattle.dspec_session.specs.Consumers.{Consuming, IsConsumerOf, pairs_of, set_up_of}
-use Rattle.dspec_session.specs.Sessions.{IsCpuOf}
+use Rattle.dspec_consumer.specs.Consumers.{Consuming, IsConsumerOf, pairs_of, set_up_of}
+use Rattle.dspec_consumer.specs.Sessions.{IsCpuOf}
 use Rattle.dspec_c.specs.ConsumerHomes.{Theirs}
 use Rattle.dspec_c.specs.Homes.{Side}
 

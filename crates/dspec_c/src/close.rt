@@ -9,7 +9,7 @@ use crate::gather::gather;
 use crate::place::Place;
 use dspec_cpu::{Cpu, Shared};
 use dspec_record::Enablings;
-use dspec_session::{Closed, Consumer, Session};
+use dspec_consumer::{Closed, Consumer, Session};
 use std::alloc::Global;
 use std::sync::Arc;
 

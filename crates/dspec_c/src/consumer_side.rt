@@ -1,5 +1,5 @@
 ghost use Rattle.std.specs.Prelude.{◌≡◌, length, replicate, IfOk, None};
-ghost use Rattle.dspec_session.specs.Consumers.{set_up_of};
+ghost use Rattle.dspec_consumer.specs.Consumers.{set_up_of};
 
 use crate::batches::CBatch;
 use crate::out_consumer::OutConsumer;
@@ -42,8 +42,8 @@ pub struct ConsumerSide {
 
 impl ConsumerSide {
     ghost use Rattle.std.specs.Prelude.{◌≡◌, length};
-    ghost use Rattle.dspec_session.specs.Consumers.{set_up_of};
-    ghost use Rattle.dspec_session.specs.Stopping.{Stopped};
+    ghost use Rattle.dspec_consumer.specs.Consumers.{set_up_of};
+    ghost use Rattle.dspec_consumer.specs.Stopping.{Stopped};
     ghost use Rattle.dspec_c.specs.ConsumerCalls.{Asks, CleansSo, Finds, OnOut, Returns};
 
     pub fn new(out: OutConsumer, taken: Vec<Option<Batch>>) -> ConsumerSide

@@ -2,7 +2,7 @@ ghost use Rattle.std.specs.Prelude.{◌≡◌, length};
 
 use dspec_deeds::Report;
 use dspec_ring::Batch;
-use dspec_session::Closed;
+use dspec_consumer::Closed;
 
 /// What is left of a session, and of how many CPUs.
 #[derive(Drop)]
@@ -14,7 +14,7 @@ pub struct Ended {
 
 impl Ended {
     ghost use Rattle.std.specs.Prelude.{◌≡◌, ◌<◌, IsTrue, length, slice_get, Some, option_copied, ◌↔◌};
-    ghost use Rattle.dspec_session.specs.declared.left.Left.{Left};
+    ghost use Rattle.dspec_consumer.specs.declared.left.Left.{Left};
     ghost use Rattle.dspec_c.specs.ClosedCalls.{left_of};
 
     /// Whether there is such a CPU.

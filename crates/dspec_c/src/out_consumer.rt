@@ -27,8 +27,8 @@ impl OutConsumer {
     ghost use Rattle.std.specs.Prelude.{◌≡◌, ◌<◌, MatchOption, MatchResult};
     ghost use Rattle.rtrb.specs.Ring.{known_free, sent};
     ghost use Rattle.dspec_c.specs.ConsumerHomes.{IsOutTheirs, IsSameTheirs};
-    ghost use Rattle.dspec_session.specs.Batches.{FoundNone, GaveBack, IsNotTakenBack, Took};
-    ghost use Rattle.dspec_session.specs.Stopping.{Stopped};
+    ghost use Rattle.dspec_consumer.specs.Batches.{FoundNone, GaveBack, IsNotTakenBack, Took};
+    ghost use Rattle.dspec_consumer.specs.Stopping.{Stopped};
     ghost use Rattle.dspec_c.specs.ConsumerCalls.{Asks, CleansSo, OnTheirs};
 
     pub fn of(

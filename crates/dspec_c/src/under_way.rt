@@ -10,7 +10,7 @@ use crate::places::places;
 use dspec_cpu::{Cpu, Shared};
 use dspec_deeds::{Config, StartFault};
 use dspec_record::Enablings;
-use dspec_session::{Consumer, Session};
+use dspec_consumer::{Consumer, Session};
 use std::alloc::{AllocError, Global};
 use std::marker::Model;
 use std::sync::Arc;
@@ -46,7 +46,7 @@ impl UnderWay {
     ghost use Rattle.dspec_deeds.specs.Ranges.{start_fault};
     ghost use Rattle.std.specs.Arc.{arc_value};
     ghost use Rattle.dspec_c.specs.Whole.{AllCalled, IsJustStarted, IsStarted, IsWaiting, waiting_so, waits_in};
-    ghost use Rattle.dspec_session.specs.Consumers.{set_up_of};
+    ghost use Rattle.dspec_consumer.specs.Consumers.{set_up_of};
 
     fn of(
         alloc: Global,

@@ -15,7 +15,7 @@ use Rattle.dspec_cpu.specs.Lists.{calls_of, config_of, number_in, seat_of}
 use Rattle.dspec_cpu.specs.Scans.{Opens, is_worn_opening}
 use Rattle.dspec_cpu.specs.Serving.{Serves}
 use Rattle.dspec_cpu.specs.Switching.{buffers_of}
-use Rattle.dspec_session.specs.declared.session.Session.{Session}
+use Rattle.dspec_consumer.specs.declared.session.Session.{Session}
 use Rattle.dspec_replay.specs.declared.whole_calls.Uncalled.{Uncalled}
 use Rattle.dspec_replay.specs.declared.whole_calls.Uncalled.TheVariants.{BadRecord, NoSuchCpu}
 

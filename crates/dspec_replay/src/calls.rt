@@ -1,6 +1,6 @@
 ghost use Rattle.std.specs.Prelude.{IfErr};
 ghost use Rattle.dspec_cpu.specs.Lists.{words_of};
-ghost use Rattle.dspec_session.specs.Consumers.{IsConsumerOf, IsSameConsumer};
+ghost use Rattle.dspec_consumer.specs.Consumers.{IsConsumerOf, IsSameConsumer};
 ghost use Rattle.dspec_replay.specs.Replayed.{IsSudden};
 
 use crate::session_fault::SessionFault;
@@ -8,7 +8,7 @@ use crate::taken::Basket;
 use dspec_cpu::Shared;
 use dspec_deeds::{Answer, ConsumerOp};
 use dspec_record::Schema;
-use dspec_session::Consumer;
+use dspec_consumer::Consumer;
 
 /// Gives the batch of a CPU that is out longest back, and says whether it went; there may be none.
 fn give_oldest_back(shared: &Shared, consumer: &mut Consumer, basket: &mut Basket, cpu: u32) -> bool

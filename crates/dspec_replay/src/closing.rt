@@ -1,5 +1,5 @@
 ghost use Rattle.std.specs.Prelude.{◌≡◌, ◌<◌, length, IfErr, IfOk};
-ghost use Rattle.dspec_session.specs.Sessions.{IsSession};
+ghost use Rattle.dspec_consumer.specs.Sessions.{IsSession};
 ghost use Rattle.dspec_replay.specs.Replayed.{IsSudden};
 
 use crate::playing::Playing;
@@ -9,7 +9,7 @@ use dspec_cpu::{Cpu, Listed};
 use dspec_deeds::Report;
 use dspec_play::{Close, Outcome, Series};
 use dspec_record::Schema;
-use dspec_session::Closed;
+use dspec_consumer::Closed;
 use std::alloc::Global;
 
 /// What is left of a CPU is read behind what was taken of it, and its report is put down.

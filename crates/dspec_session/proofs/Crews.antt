@@ -8,12 +8,12 @@ use Rattle.dspec_cpu.specs.declared.cpu.Cpu.{Cpu}
 use Rattle.dspec_cpu.specs.declared.shared.Shared.{Shared}
 use Rattle.dspec_cpu.specs.Lists.{words_of}
 use Rattle.dspec_cpu.specs.Standing.{identity}
-use Rattle.dspec_session.specs.declared.session.Session.{Session}
-use Rattle.dspec_session.specs.Consumers.{Consuming, pairs_of, Stays}
+use Rattle.dspec_consumer.specs.declared.session.Session.{Session}
+use Rattle.dspec_consumer.specs.Consumers.{Consuming, pairs_of, Stays}
 use Rattle.dspec_session.specs.declared.demonstration.four.Four.{Four}
 use Rattle.dspec_session.specs.Crews.{AllCanWork, AllWorked}
-use Rattle.dspec_session.specs.Demonstrated.{CanWork, CpuRounds, demonstrated, IsBack, Has, Worked}
-use Rattle.dspec_session.specs.Sessions.{IsCpuOf}
+use Rattle.dspec_consumer.specs.Sessions.{Has, IsCpuOf}
+use Rattle.dspec_session.specs.Demonstrated.{CanWork, CpuRounds, demonstrated, IsBack, Worked}
 use Rattle.dspec_session.specs.Races.{HaveMade, HaveOffered, HaveRoom, IsDemonstrated, IsAtPlace, all_finished}
 use Rattle.dspec_session.proofs.Fours.{at_each}
 

@@ -17,14 +17,13 @@ use Rattle.dspec_deeds.proofs.TestLemmas.{number_is_itself}
 use Rattle.dspec_play.specs.OwnClose.{own_closed, own_closed_slot}
 use Rattle.dspec_ring.specs.declared.batch.Batch.{Batch}
 use Rattle.dspec_cpu.specs.declared.cpu.Cpu.{Cpu}
-use Rattle.dspec_session.specs.Closing.{IsClosedBy, IsLeftBy}
-use Rattle.dspec_session.specs.declared.session.Session.{Session}
-use Rattle.dspec_session.specs.Consumers.{Consuming, IsConsumerOf, IsSameConsumer}
-use Rattle.dspec_session.specs.Sessions.{HasAt}
+use Rattle.dspec_consumer.specs.Closing.{IsClosedBy, IsLeftBy}
+use Rattle.dspec_consumer.specs.declared.session.Session.{Session}
+use Rattle.dspec_consumer.specs.Consumers.{Consuming, IsConsumerOf, IsSameConsumer}
+use Rattle.dspec_consumer.specs.Sessions.{Has, HasAt}
 use Rattle.dspec_cpu.specs.Lists.{words_of}
 use Rattle.dspec_session.specs.declared.demonstration.lines.DemoLine.{DemoLine}
-use Rattle.dspec_session.specs.declared.left.Left.{Left}
-use Rattle.dspec_session.specs.Demonstrated.{Has}
+use Rattle.dspec_consumer.specs.declared.left.Left.{Left}
 use Rattle.dspec_session.specs.Races.{AllTold, HaveOffered, IsDemonstrated}
 
 -- the settlements of the close offer nothing

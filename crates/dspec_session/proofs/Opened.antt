@@ -7,9 +7,8 @@ use Rattle.dspec_deeds.specs.declared.config.StartFault.{StartFault}
 use Rattle.dspec_table.specs.Seats.{set_up}
 use Rattle.dspec_cpu.specs.declared.cpu.Cpu.{Cpu}
 use Rattle.dspec_cpu.specs.Lists.{words_of}
-use Rattle.dspec_session.specs.declared.session.Session.{Session}
-use Rattle.dspec_session.specs.Sessions.{IsFresh}
-use Rattle.dspec_session.specs.Demonstrated.{Has}
+use Rattle.dspec_consumer.specs.declared.session.Session.{Session}
+use Rattle.dspec_consumer.specs.Sessions.{Has, IsFresh}
 use Rattle.dspec_session.specs.Races.{HaveRoom, IsDemonstrated}
 
 -- no call was made of its CPUs

@@ -1,8 +1,8 @@
 -- What a visit of the demonstration's consumer came to.
 use Rattle.std.proofs.Common.{◌≡◌, ℕ, ◌<◌, ◌≤◌, inl, inr, Bool, true, false, Result, Ok, Err, OnErr, OnOk, MatchBool, arith}
 use Rattle.dspec_ring.specs.declared.batch.Batch.{Batch}
-use Rattle.dspec_session.specs.Batches.{GaveBack, IsNotTakenBack}
-use Rattle.dspec_session.specs.Consumers.{Consuming}
+use Rattle.dspec_consumer.specs.Batches.{GaveBack, IsNotTakenBack}
+use Rattle.dspec_consumer.specs.Consumers.{Consuming}
 use Rattle.dspec_session.specs.Visits.{IsBackOrRefused}
 
 -- a CPU that is there was asked

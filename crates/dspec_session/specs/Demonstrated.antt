@@ -2,7 +2,6 @@
 use Rattle.std.specs.Prelude.{ℕ, ◌≡◌, ◌≤◌, ◌+◌, ◌%◌, ◌==◌, Bool, true, List, [], ◌∷◌, ◌++◌, if◌then◌else◌}
 use Rattle.dspec_record.specs.Record.{Record}
 use Rattle.dspec_record.specs.EnablingRows.{EnabledRows}
-use Rattle.dspec_record.specs.Schemas.{enabled, table_shape, table_accepts, table_text}
 use Rattle.dspec_record.specs.declared.field.Field.TheVariants.{Four}
 use Rattle.dspec_record.specs.declared.header.Header.TheVariants.{One}
 use Rattle.dspec_word.specs.SpecId.{Speculation}
@@ -23,7 +22,8 @@ use Rattle.dspec_cpu.specs.Serving.{Serves}
 use Rattle.dspec_cpu.specs.Switching.{buffers_of}
 use Rattle.dspec_cpu.specs.declared.cpu.Cpu.{Cpu}
 use Rattle.dspec_cpu.specs.declared.shared.Shared.{Shared}
-use Rattle.dspec_cpu.specs.Lists.{HasList, calls_of, config_of, number_in, schema_of, seat_of, worn_of}
+use Rattle.dspec_consumer.specs.Sessions.{Has}
+use Rattle.dspec_cpu.specs.Lists.{calls_of, config_of, number_in, schema_of, seat_of, worn_of}
 use Rattle.dspec_cpu.specs.Standing.{IsCallable, identity}
 
 -- EPID 1 and EPID 2, each with one field of four bytes
@@ -33,10 +33,6 @@ demonstrated = record { header = One; rows = (Four ∷ []) ∷ (Four ∷ []) ∷
 -- the record with one value
 abbrev pub valued : ℕ → ℕ → Record
 valued epid value = record { epid = epid; stamp = 0; values = value ∷ [] }
-
--- the CPU has the list
-abbrev pub Has : Cpu EnabledRows → List Deed → Type 0
-Has cpu = HasList (table_shape cpu.schema.header (enabled cpu.schema.rows)) (table_accepts cpu.schema.header (enabled cpu.schema.rows)) (table_text cpu.schema.header (enabled cpu.schema.rows)) cpu
 
 -- the CPU can make so many calls more, of what is demonstrated
 pub record CanWork (shared : Shared) (n : ℕ) (cpu : Cpu EnabledRows) : Type 0 where

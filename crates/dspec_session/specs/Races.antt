@@ -6,15 +6,15 @@ use Rattle.dspec_deeds.specs.Own.{offers}
 use Rattle.dspec_cpu.specs.declared.cpu.Cpu.{Cpu}
 use Rattle.dspec_cpu.specs.Lists.{calls_of, config_of, words_of}
 use Rattle.dspec_cpu.specs.Standing.{identity}
-use Rattle.dspec_session.specs.declared.session.Session.{Session}
-use Rattle.dspec_session.specs.Sessions.{IsCpuOf, IsFresh, IsSession}
+use Rattle.dspec_consumer.specs.declared.session.Session.{Session}
+use Rattle.dspec_consumer.specs.Sessions.{Has, IsCpuOf, IsFresh, IsSession}
 use Rattle.dspec_cpu.specs.declared.shared.Shared.{Shared}
 use Rattle.dspec_ring.specs.Known.{Pair}
-use Rattle.dspec_session.specs.declared.left.Left.{Left}
+use Rattle.dspec_consumer.specs.declared.left.Left.{Left}
 use Rattle.dspec_deeds.specs.Reports.{records_of_report}
 use Rattle.dspec_session.specs.declared.demonstration.four.Four.{Four}
 use Rattle.dspec_session.specs.declared.demonstration.lines.DemoLine.{DemoLine}
-use Rattle.dspec_session.specs.Demonstrated.{CpuRounds, demonstrated, Has}
+use Rattle.dspec_session.specs.Demonstrated.{CpuRounds, demonstrated}
 
 -- the parts of one start, with the schema of the demonstration
 abbrev pub IsDemonstrated : Session EnabledRows → Type 0

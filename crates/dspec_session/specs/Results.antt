@@ -5,19 +5,19 @@ use Rattle.dspec_record.specs.Schemas.{enabled, table_shape, table_accepts, tabl
 use Rattle.dspec_table.specs.Seats.{set_up}
 use Rattle.dspec_cpu.specs.declared.cpu.Cpu.{Cpu}
 use Rattle.dspec_cpu.specs.Lists.{words_of}
-use Rattle.dspec_session.specs.declared.left.Left.{Left}
-use Rattle.dspec_session.specs.declared.session.Session.{Session}
+use Rattle.dspec_consumer.specs.declared.left.Left.{Left}
+use Rattle.dspec_consumer.specs.declared.session.Session.{Session}
 use Rattle.dspec_session.specs.declared.demonstration.four.Four.{Four}
 use Rattle.dspec_session.specs.declared.demonstration.lines.DemoLine.{DemoLine}
 use Rattle.dspec_session.specs.declared.demonstration.order.Order.{Order}
 use Rattle.dspec_session.specs.declared.demonstration.showing.Demonstration.{Demonstration}
-use Rattle.dspec_session.specs.Closing.{IsClosedBy}
-use Rattle.dspec_session.specs.Consumers.{Consuming, view_of}
-use Rattle.dspec_session.specs.Demonstrated.{CpuRounds, demonstrated, Has}
+use Rattle.dspec_consumer.specs.Closing.{IsClosedBy}
+use Rattle.dspec_consumer.specs.Consumers.{Consuming, view_of}
+use Rattle.dspec_consumer.specs.Sessions.{Has, HasAt, IsFresh, taken_at, worn_at}
+use Rattle.dspec_session.specs.Demonstrated.{CpuRounds, demonstrated}
 use Rattle.dspec_session.specs.Races.{HaveOffered, IsDemonstrated}
 use Rattle.dspec_session.specs.Rising.{FollowsLeft}
-use Rattle.dspec_session.specs.Sessions.{HasAt, IsFresh, taken_at, worn_at}
-use Rattle.dspec_session.specs.Stopping.{Stopped}
+use Rattle.dspec_consumer.specs.Stopping.{Stopped}
 use Rattle.dspec_session.specs.Visits.{ConsumerRounds, none_taken}
 
 -- the consumer made a thousand rounds, in which it followed what it took, and then stopped the session

@@ -4,7 +4,7 @@ use Rattle.dspec_record.specs.Record.{Record}
 use Rattle.dspec_record.specs.declared.field.Shape.{Shape}
 use Rattle.dspec_buffer.specs.BufferText.{BufferText}
 use Rattle.dspec_ring.specs.declared.batch.Batch.{Batch}
-use Rattle.dspec_session.specs.declared.left.Left.{Left}
+use Rattle.dspec_consumer.specs.declared.left.Left.{Left}
 use Rattle.dspec_session.specs.declared.demonstration.order.Order.{Order}
 
 abbrev pub is_above : Option ℕ → ℕ → Bool

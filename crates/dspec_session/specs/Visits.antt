@@ -3,10 +3,10 @@ use Rattle.std.specs.Prelude.{ℕ, ◌≡◌, ◌<◌, ◌+◌, ◌⊎◌, true,
 use Rattle.dspec_record.specs.EnablingRows.{EnabledRows}
 use Rattle.dspec_record.specs.Schemas.{enabled, table_shape, table_accepts, table_text}
 use Rattle.dspec_ring.specs.declared.batch.Batch.{Batch}
-use Rattle.dspec_session.specs.Asking.{Asked}
-use Rattle.dspec_session.specs.Batches.{FoundNone, GaveBack, IsNotTakenBack, Took}
-use Rattle.dspec_session.specs.Cleaning.{Cleaned}
-use Rattle.dspec_session.specs.Consumers.{Consuming, set_up_of, view_of}
+use Rattle.dspec_consumer.specs.Asking.{Asked}
+use Rattle.dspec_consumer.specs.Batches.{FoundNone, GaveBack, IsNotTakenBack, Took}
+use Rattle.dspec_consumer.specs.Cleaning.{Cleaned}
+use Rattle.dspec_consumer.specs.Consumers.{Consuming, set_up_of, view_of}
 use Rattle.dspec_session.specs.declared.demonstration.four.Four.{Four}
 use Rattle.dspec_session.specs.declared.demonstration.order.Order.{Order}
 use Rattle.dspec_session.specs.Rising.{FollowsText}

@@ -1,36 +1,14 @@
-//! A session: its CPUs, on whatever threads, and its consumer, which asks the CPUs for batches, takes them, gives their buffers
-//! back, cleans slots, meets CPUs and stops the session.
+//! Sessions, and their demonstration in threads: `demo` runs a session of four CPUs, each in a thread of its own, and tells of
+//! each what its report says.
 //!
-//! A session stays one while its parts are called (`specs/Sessions.antt`). Contracts see the consumer as its seat at the words and
-//! its ends of the rings (`specs/Consumers.antt`), and each call says which steps the seat made and what went through which end;
-//! nothing else changes. `finish` promises, for whichever lists the CPUs have, one legal list of all deeds that closes them
-//! (`specs/Closing.antt`). No call but `demo`, which runs a session in four threads, waits, and none but `demo`, `start` and
-//! `make` takes memory. Stands on `dspec_cpu`, `dspec_table` and
-//! `dspec_ring`.
+//! Users `use` this crate alone: it gives what `dspec_consumer` has, a session with its start, its consumer and its close. What the
+//! demonstration promises stands in `specs/Races.antt` and `specs/Results.antt`. No call but `demo` and `demonstrate` waits, and
+//! none but these, `start` and `make` takes memory.
 #![tactic(auto)]
 
-mod asking;
-mod batches;
-mod cleaning;
-mod closed;
-mod consumer;
-mod counted;
 mod demonstration;
-mod finishing;
 mod gate;
-mod laws;
-mod left;
-mod looking;
-mod making;
-mod meeting;
-mod parting;
-mod session;
-mod starting;
-mod stopping;
 
-pub use closed::Closed;
-pub use consumer::Consumer;
 pub use demonstration::{DemoFault, DemoLine, Demonstration, demo, demonstrate};
+pub use dspec_consumer::{Closed, Consumer, Session, close_of_lists, one_batch_left};
 pub use gate::{Free, Gate, RoundGate};
-pub use laws::{close_of_lists, one_batch_left};
-pub use session::Session;

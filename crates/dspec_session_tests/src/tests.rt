@@ -3,7 +3,7 @@ ghost use Rattle.std.specs.Prelude.{◌≡◌, IfOk, []};
 ghost use Rattle.dspec_ring.specs.Known.{IsUnusedCpu};
 ghost use Rattle.dspec_table.specs.Seats.{known, IsAt, set_up, cpu_of};
 ghost use Rattle.dspec_cpu.specs.Lists.{words_of};
-ghost use Rattle.dspec_session.specs.Consumers.{IsConsumerOf};
+ghost use Rattle.dspec_consumer.specs.Consumers.{IsConsumerOf};
 
 use dspec_cpu::Shared;
 use dspec_ring::{CpuEnd, pair};

@@ -1,6 +1,6 @@
 ghost use Rattle.std.specs.Prelude.{IfOk};
 ghost use Rattle.dspec_cpu.specs.Lists.{words_of};
-ghost use Rattle.dspec_session.specs.Consumers.{IsConsumerOf, Stays};
+ghost use Rattle.dspec_consumer.specs.Consumers.{IsConsumerOf, Stays};
 
 use crate::planning::{Plan, dice_of};
 use crate::sharing::Board;
@@ -8,7 +8,7 @@ use crate::taken::Basket;
 use dspec_cpu::Shared;
 use dspec_deeds::ConsumerOp;
 use dspec_dice::Dice;
-use dspec_session::Consumer;
+use dspec_consumer::Consumer;
 use std::alloc::{AllocError, Global};
 use std::thread;
 

@@ -2,7 +2,7 @@ ghost use Rattle.std.specs.Prelude.{◌≡◌, ◌<◌, IfOk};
 ghost use denote.Param.Send.{IsSync};
 ghost use Rattle.dspec_cpu.specs.Lists.{words_of};
 ghost use Rattle.dspec_cpu.specs.Standing.{identity};
-ghost use Rattle.dspec_session.specs.Sessions.{IsSession};
+ghost use Rattle.dspec_consumer.specs.Sessions.{IsSession};
 ghost use Rattle.torture.specs.Lent.{AllCanBeCalled, AllWereCalled, CanBeCalled};
 
 use crate::consuming::consume;
@@ -12,7 +12,7 @@ use crate::taken::Basket;
 use crate::working::work;
 use dspec_cpu::{Cpu, Shared};
 use dspec_record::Enablings;
-use dspec_session::Session;
+use dspec_consumer::Session;
 use std::alloc::{AllocError, Global};
 use std::thread;
 use std::thread::Threads;

@@ -1,5 +1,5 @@
 ghost use Rattle.std.specs.Prelude.{◌≡◌, ◌<◌, IfOk, length};
-ghost use Rattle.dspec_session.specs.Sessions.{IsSession};
+ghost use Rattle.dspec_consumer.specs.Sessions.{IsSession};
 
 use crate::planning::Plan;
 use crate::racing::race;
@@ -8,7 +8,7 @@ use crate::taken::Basket;
 use anyhow::Result;
 use dspec_logs::{Log, Story, enable};
 use dspec_record::Enablings;
-use dspec_session::Session;
+use dspec_consumer::Session;
 use std::alloc::{AllocError, Global};
 use std::thread::Threads;
 

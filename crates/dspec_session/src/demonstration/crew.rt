@@ -1,6 +1,6 @@
 ghost use Rattle.std.specs.Prelude.{◌≡◌, IfSome, IsSome};
 ghost use Rattle.dspec_cpu.specs.Lists.{words_of};
-ghost use Rattle.dspec_session.specs.Consumers.{IsConsumerOf, Stays};
+ghost use Rattle.dspec_consumer.specs.Consumers.{IsConsumerOf, Stays};
 ghost use Rattle.dspec_session.specs.Crews.{AllCanWork, AllWorked};
 ghost use Rattle.dspec_session.specs.Demonstrated.{CameBack, CanWork};
 ghost use Rattle.dspec_session.specs.Visits.{ConsumerRounds, none_taken};
@@ -9,7 +9,7 @@ use super::four::Four;
 use super::order::Order;
 use super::rounds::serve;
 use super::working::work;
-use crate::consumer::Consumer;
+use dspec_consumer::Consumer;
 use crate::gate::{Gate, RoundGate};
 use dspec_cpu::{Cpu, Shared};
 use dspec_record::Enablings;

@@ -1,13 +1,13 @@
 ghost use Rattle.std.specs.Prelude.{◌≡◌, length};
-ghost use Rattle.dspec_session.specs.Stopping.{Stopped};
+ghost use Rattle.dspec_consumer.specs.Stopping.{Stopped};
 ghost use Rattle.dspec_session.specs.Results.{AllFollow, IsEndOf};
 ghost use Rattle.dspec_session.specs.Races.{AllBalanced, AllTold, HaveOffered, IsDemonstrated};
 
 use super::four::Four;
 use super::lines::{DemoLine, line_of};
 use super::order::Order;
-use crate::closed::Closed;
-use crate::session::Session;
+use dspec_consumer::Closed;
+use dspec_consumer::Session;
 use dspec_record::Enablings;
 
 /// Stops the session.

@@ -1,10 +1,10 @@
 ghost use Rattle.std.specs.Prelude.{◌≡◌, ◌<◌, ◌==◌, length, slice_get, Some};
 ghost use Rattle.dspec_deeds.specs.Reports.{records_of_report};
-ghost use Rattle.dspec_session.specs.declared.left.Left.{Left};
+ghost use Rattle.dspec_consumer.specs.declared.left.Left.{Left};
 ghost use Rattle.dspec_session.specs.Rising.{FollowsLeft};
 
 use super::order::Order;
-use crate::closed::Closed;
+use dspec_consumer::Closed;
 use dspec_deeds::Report;
 use dspec_record::Schema;
 

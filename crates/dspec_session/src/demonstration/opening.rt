@@ -3,7 +3,7 @@ ghost use Rattle.dspec_deeds.specs.declared.config.Policy.TheVariants.{Switch};
 ghost use Rattle.dspec_session.specs.Demonstrated.{demonstrated};
 ghost use Rattle.dspec_session.specs.Races.{AreFresh, HaveOffered, HaveRoom, IsDemonstrated};
 
-use crate::session::Session;
+use dspec_consumer::Session;
 use dspec_deeds::{Config, Policy, StartFault};
 use dspec_record::Enablings;
 use std::alloc::Global;

@@ -7,7 +7,7 @@ use super::four::Four;
 use super::order::Order;
 use super::team::{put_all, take_all};
 use crate::gate::RoundGate;
-use crate::session::Session;
+use dspec_consumer::Session;
 use dspec_record::Enablings;
 use std::sync::Wait;
 use std::thread::Threads;

@@ -1,10 +1,10 @@
-ghost use Rattle.dspec_session.specs.Consumers.{IsConsumerOf, Stays};
+ghost use Rattle.dspec_consumer.specs.Consumers.{IsConsumerOf, Stays};
 ghost use Rattle.dspec_cpu.specs.Lists.{words_of};
 ghost use Rattle.dspec_session.specs.Visits.{ConsumerRounds, Visited, VisitedAll, none_taken};
 
 use super::four::Four;
 use super::order::Order;
-use crate::consumer::Consumer;
+use dspec_consumer::Consumer;
 use crate::gate::RoundGate;
 use dspec_cpu::Shared;
 use dspec_record::Enablings;

@@ -1,5 +1,5 @@
 ghost use Rattle.std.specs.Prelude.{◌≡◌};
-ghost use Rattle.dspec_session.specs.Consumers.{taken_from};
+ghost use Rattle.dspec_consumer.specs.Consumers.{taken_from};
 ghost use Rattle.dspec_session.specs.Demonstrated.{demonstrated};
 ghost use Rattle.dspec_session.specs.Races.{AllBalanced};
 ghost use Rattle.dspec_session.specs.Results.{AllFollow, IsDone};
@@ -8,7 +8,7 @@ use super::ending::tell;
 use super::four::Four;
 use super::lines::DemoLine;
 use super::order::Order;
-use crate::session::Session;
+use dspec_consumer::Session;
 use dspec_record::Enablings;
 
 /// What a run of the demonstration leaves: its session, which was stopped and isn't finished yet, and what was seen of the
@@ -27,10 +27,7 @@ impl Demonstration {
     pub fn taken(&self, cpu: u32) -> u64
         ensures { result ≡ taken_from cpu self.now.session.consumer }
     {
-        match self.session.consumer.ends.get(cpu as usize) {
-            Some(end) => end.taken(),
-            None => 0,
-        }
+        self.session.consumer.taken(cpu)
     }
 
     /// Finishes the session, and tells of each CPU.

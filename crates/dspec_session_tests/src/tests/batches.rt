@@ -1,7 +1,7 @@
 //! Batches that are taken, and given back or refused.
 ghost use Rattle.std.specs.Prelude.{◌≡◌, ◌<◌, ◌≤◌, ◌+◌, ◌%◌, ◌^◌, length};
 ghost use Rattle.dspec_cpu.specs.Lists.{words_of};
-ghost use Rattle.dspec_session.specs.Consumers.{IsConsumerOf, IsSameConsumer};
+ghost use Rattle.dspec_consumer.specs.Consumers.{IsConsumerOf, IsSameConsumer};
 
 use super::*;
 use dspec_buffer::{ByteBuffer, TraceBuffer};
@@ -56,6 +56,7 @@ fn taken_in_order(rt: HostRuntime) -> Result<(), Fail> {
     let first = consumer.take(&shared, 0).expect(&rt, "the first");
     let second = consumer.take(&shared, 0).expect(&rt, "the second");
     assert!(rt; first.drops == 1 && second.drops == 2 && consumer.take(&shared, 0).is_none());
+    assert!(rt; consumer.taken(0) == 2 && consumer.taken(1) == 0 && consumer.taken(2) == 0);
     assert!(rt; consumer.give_back(&shared, first).is_ok());
     let spare = end.spare().expect(&rt, "a spare");
     assert!(rt; spare.drops == 1 && end.spare().is_none());

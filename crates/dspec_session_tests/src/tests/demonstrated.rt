@@ -1,7 +1,7 @@
 //! What the demonstration did: its CPUs and its consumer in step, so that batches come whatever the schedule, and nobody held back.
 ghost use Rattle.std.specs.Prelude.{◌≡◌, length};
 ghost use Rattle.dspec_session.specs.Results.{IsDone};
-ghost use Rattle.dspec_session.specs.Sessions.{IsSession};
+ghost use Rattle.dspec_consumer.specs.Sessions.{IsSession};
 
 use super::calls::valued;
 use dspec_cpu::{Cpu, Listed};

@@ -5,10 +5,10 @@ use Rattle.dspec_deeds.specs.declared.config.Config.{Config}
 use Rattle.dspec_cpu.specs.declared.shared.Shared.{Shared}
 use Rattle.dspec_table.specs.Seats.{set_up}
 use Rattle.dspec_cpu.specs.Lists.{words_of}
-use Rattle.dspec_session.specs.Closing.{IsClosedBy}
-use Rattle.dspec_session.specs.Consumers.{view_of}
-use Rattle.dspec_session.specs.Leaving.{Has}
-use Rattle.dspec_session.specs.Sessions.{HasAt, taken_at, worn_at}
+use Rattle.dspec_consumer.specs.Closing.{IsClosedBy}
+use Rattle.dspec_consumer.specs.Consumers.{view_of}
+use Rattle.dspec_consumer.specs.Leaving.{Has}
+use Rattle.dspec_consumer.specs.Sessions.{HasAt, taken_at, worn_at}
 use Rattle.dspec.proofs.Tracing.{traced}
 use Rattle.dspec.proofs.running.trace.Goals as goal
 

@@ -1,6 +1,6 @@
 use Rattle.std.proofs.Common.{◌≡◌, ℕ, ◌<◌, ◌≤◌, rules}
 use Rattle.dspec_cpu.specs.Lists.{words_of}
-use Rattle.dspec_session.specs.Consumers.{set_up_of}
+use Rattle.dspec_consumer.specs.Consumers.{set_up_of}
 use Rattle.dspec.specs.Passed.{PassesOn}
 use Rattle.dspec.proofs.Passing.{ask_ends, back_taken, ends_taken, none_taken, passes_both, passes_none, passes_one}
 use Rattle.dspec.proofs.running.visit.Goals as goal

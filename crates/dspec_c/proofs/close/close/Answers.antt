@@ -1,6 +1,6 @@
 use Rattle.std.proofs.Common.{refl}
 use Rattle.std.specs.Arc.{arc_value}
-use Rattle.dspec_session.specs.Consumers.{pairs_of}
+use Rattle.dspec_consumer.specs.Consumers.{pairs_of}
 use Rattle.dspec_c.proofs.Ending.{session_is}
 use Rattle.dspec_c.proofs.close.close.Goals as goal
 

@@ -3,7 +3,8 @@ use Rattle.std.proofs.Common.{List, ◌++◌, sym, subst}
 use Rattle.dspec_deeds.specs.declared.deed.Deed.{Deed}
 use Rattle.dspec_cpu.specs.Calls.{decided_deeds}
 use Rattle.dspec_cpu.specs.Lists.{number_in}
-use Rattle.dspec_session.specs.Demonstrated.{Has, decision_of}
+use Rattle.dspec_consumer.specs.Sessions.{Has}
+use Rattle.dspec_session.specs.Demonstrated.{decision_of}
 use Rattle.dspec_session.proofs.demonstration.calling.decide.Goals as goal
 
 pub returns-then-commits-clause-decides : goal.returns-then-commits-clause-decides

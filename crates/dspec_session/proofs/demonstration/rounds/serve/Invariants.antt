@@ -1,5 +1,5 @@
 use Rattle.dspec_cpu.specs.Lists.{words_of}
-use Rattle.dspec_session.specs.Consumers.{Stays}
+use Rattle.dspec_consumer.specs.Consumers.{Stays}
 use Rattle.dspec_session.specs.Visits.{ConsumerRounds, none_taken}
 use Rattle.dspec_session.proofs.demonstration.rounds.serve.Given as goal
 

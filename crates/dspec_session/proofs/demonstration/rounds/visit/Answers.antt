@@ -1,7 +1,7 @@
 use Rattle.std.proofs.Common.{◌≡◌, ℕ, List, inl, inr, refl, subst}
 use Rattle.dspec_record.specs.Schemas.{enabled, table_shape, table_accepts, table_text}
-use Rattle.dspec_session.specs.Asking.{Asked}
-use Rattle.dspec_session.specs.Consumers.{set_up_of}
+use Rattle.dspec_consumer.specs.Asking.{Asked}
+use Rattle.dspec_consumer.specs.Consumers.{set_up_of}
 use Rattle.dspec_session.specs.Rising.{FollowsText}
 use Rattle.dspec_session.proofs.Visited.{asked_there, back_or_refused}
 use Rattle.dspec_session.proofs.demonstration.rounds.visit.Goals as goal

@@ -1,5 +1,5 @@
 use Rattle.std.proofs.Common.{refl}
-use Rattle.dspec_session.proofs.Callings.{consumer_called}
+use Rattle.dspec_consumer.proofs.Callings.{consumer_called}
 use Rattle.dspec_session_tests.proofs.tests.staging.Stage.refuses.Goals as goal
 
 pub returns : goal.returns

@@ -1,0 +1,39 @@
+use Rattle.std.proofs.Common.{◌≤◌, ◌∙◌, length, sym, ap, subst}
+use Rattle.std.proofs.lemmas.List.{length-reverse}
+use Rattle.dspec_deeds.proofs.SetUp.{most_cpus}
+use Rattle.dspec_table.specs.Seats.{set_up}
+use Rattle.dspec_cpu.specs.Lists.{words_of}
+use Rattle.dspec_consumer.proofs.Ends.{none_in}
+use Rattle.dspec_consumer.proofs.Ending.{some_lists, begins_parting, finished}
+use Rattle.dspec_consumer.proofs.session.Session.finish.Goals as goal
+
+pub part_all-last-requires-clause-parting : goal.part_all-last-requires-clause-parting
+part_all-last-requires-clause-parting g c =
+    let s = c.requires.session in
+    let consumer = c.consumer.inside in
+    let lists = some_lists g.S.Schema.shape_of g.S.Schema.accepted g.S.Schema.text s.0 c.args.self s.1 c.all_stand.ensures in
+    let none = none_in consumer.seats.items consumer.seats.len consumer.seats.ok.0 c.consumer.invariant.seats.0 in (
+      s.0,
+      lists.0,
+      begins_parting g.S.Schema.shape_of g.S.Schema.accepted g.S.Schema.text s.0 c.args.self s.1 c.all_stand.ensures c.into_words.result consumer.seats.items record
+          { seat = consumer.seat; ends = consumer.ends.items } consumer.config
+          c.into_words.ensures none c.consumer.view_is c.consumer.invariant.all c.consumer.invariant.config lists.0 lists.1,
+    )
+
+pub returns-clause-closed : goal.returns-clause-closed
+returns-clause-closed g c = λ schema is.
+    let consumer = c.consumer.inside in
+    let none = none_in consumer.seats.items consumer.seats.len consumer.seats.ok.0 c.consumer.invariant.seats.0 in
+    let last = c.part_all-last in
+    finished g.S.Schema.shape_of g.S.Schema.accepted g.S.Schema.text schema c.args.self is c.all_stand.ensures c.into_words.result consumer.seats.items record
+    { seat = consumer.seat; ends = consumer.ends.items } consumer.config
+    c.into_words.ensures none c.consumer.view_is c.consumer.invariant.all c.consumer.invariant.config _ last.result.1.items c.reverse.new.self.items last.ensures.ended
+    (sym last.result.1.ok.0 ∙ (last.ensures.count ∙ c.args.self.cpus.ok.0)) last.ensures.left c.reverse.ensures.items
+
+pub invariant_of-result : goal.invariant_of-result
+invariant_of-result g c =
+    let session = c.requires.session.1 in
+    let last = c.part_all-last in
+    let count = sym last.result.1.ok.0 ∙ (last.ensures.count ∙ c.args.self.cpus.ok.0) in
+    let all = ap length c.reverse.ensures.items ∙ (length-reverse last.result.1.items ∙ (count ∙ session.all)) in
+    (subst (λ n. n ≤ 64) (sym all) (most_cpus (set_up (words_of c.args.self.shared)) session.checked), tt)

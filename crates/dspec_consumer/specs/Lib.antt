@@ -1,0 +1,10 @@
+pub mod Counting
+pub mod Consumers
+pub mod ConsumerFields
+pub mod Asking
+pub mod Batches
+pub mod Cleaning
+pub mod Stopping
+pub mod Sessions
+pub mod Closing
+pub mod Leaving
