@@ -3,9 +3,9 @@ ghost use Rattle.dspec_consumer.specs.declared.left.Left.{Left};
 ghost use Rattle.dspec.specs.ClosedCpus.{cpus_left, lefts_from};
 
 use crate::each_closed::ClosedCpus;
+use dspec_consumer::Closed;
 use dspec_deeds::Report;
 use dspec_ring::Batch;
-use dspec_consumer::Closed;
 
 /// What is left of one CPU of a closed session.
 #[derive(Debug, Clone, Copy)]

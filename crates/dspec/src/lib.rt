@@ -19,13 +19,13 @@ mod work;
 pub use both::Both;
 pub use closing::{ClosedCpu, closed_cpu, closed_cpus};
 pub use dspec_buffer::{ReadFault, Reading, Records, read_all, read_prefix};
+pub use dspec_consumer::{Closed, Consumer, Session};
 pub use dspec_cpu::{Cpu, Shared};
 pub use dspec_deeds::{
     Config, Decided, Opening, Policy, Report, Served, Spoken, StartFault, Traced,
 };
 pub use dspec_record::{Enablings, Field, Header, Rec, Schema, SchemaFault};
 pub use dspec_ring::Batch;
-pub use dspec_consumer::{Closed, Consumer, Session};
 pub use dspec_word::SpecId;
 pub use each_closed::ClosedCpus;
 pub use kept::{Kept, KeptFault};

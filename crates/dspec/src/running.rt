@@ -11,10 +11,10 @@ ghost use Rattle.dspec.specs.Passed.{GotAll, IsTraced, PassesOn, rests_passed};
 
 use crate::lane::Lane;
 use crate::work::{Sink, Work};
+use dspec_consumer::{Closed, Consumer, Session};
 use dspec_cpu::{Cpu, Shared};
 use dspec_deeds::{Config, StartFault};
 use dspec_record::{Enablings, Schema};
-use dspec_consumer::{Closed, Consumer, Session};
 use std::alloc::Global;
 use std::sync::atomic::{AtomicU64, Ordering};
 use std::thread;

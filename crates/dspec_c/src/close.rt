@@ -7,9 +7,9 @@ ghost use Rattle.dspec_c.specs.Whole.{IsEnding};
 
 use crate::gather::gather;
 use crate::place::Place;
+use dspec_consumer::{Closed, Consumer, Session};
 use dspec_cpu::{Cpu, Shared};
 use dspec_record::Enablings;
-use dspec_consumer::{Closed, Consumer, Session};
 use std::alloc::Global;
 use std::sync::Arc;
 

@@ -1,6 +1,6 @@
+use dspec_consumer::Consumer;
 use dspec_cpu::Shared;
 use dspec_ring::Batch;
-use dspec_consumer::Consumer;
 use rtrb::Protocol;
 use std::alloc::Global;
 use std::marker::Model;

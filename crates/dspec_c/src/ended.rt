@@ -1,8 +1,8 @@
 ghost use Rattle.std.specs.Prelude.{◌≡◌, length};
 
+use dspec_consumer::Closed;
 use dspec_deeds::Report;
 use dspec_ring::Batch;
-use dspec_consumer::Closed;
 
 /// What is left of a session, and of how many CPUs.
 #[derive(Drop)]

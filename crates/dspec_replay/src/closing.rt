@@ -5,11 +5,11 @@ ghost use Rattle.dspec_replay.specs.Replayed.{IsSudden};
 use crate::playing::Playing;
 use crate::session_fault::SessionFault;
 use crate::taken::Basket;
+use dspec_consumer::Closed;
 use dspec_cpu::{Cpu, Listed};
 use dspec_deeds::Report;
 use dspec_play::{Close, Outcome, Series};
 use dspec_record::Schema;
-use dspec_consumer::Closed;
 use std::alloc::Global;
 
 /// What is left of a CPU is read behind what was taken of it, and its report is put down.

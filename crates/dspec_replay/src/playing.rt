@@ -8,11 +8,11 @@ use crate::calls::call_consumer;
 use crate::session_fault::SessionFault;
 use crate::taken::Basket;
 use crate::whole_calls::{Uncalled, meet_all, run_cpu};
+use dspec_consumer::Session;
 use dspec_cpu::{Cpu, Listed};
 use dspec_deeds::{Actor, Answer, Config, ConsumerOp, CpuOp, Op, StartFault, Turn};
 use dspec_play::{PlayFault, Series};
 use dspec_record::Schema;
-use dspec_consumer::Session;
 use std::alloc::Global;
 
 /// A schedule that is played on a session from one thread: the session, its schema, what was taken, and the calls that have

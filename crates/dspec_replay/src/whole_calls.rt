@@ -5,10 +5,10 @@ ghost use Rattle.dspec_cpu.specs.Standing.{Belongs, identity};
 ghost use Rattle.dspec_consumer.specs.Sessions.{IsSession};
 ghost use Rattle.dspec_replay.specs.Called.{Calls, IsCalled, uncalled};
 
+use dspec_consumer::Session;
 use dspec_cpu::{Cpu, Listed, Shared};
 use dspec_deeds::{Answer, CpuOp};
 use dspec_record::Schema;
-use dspec_consumer::Session;
 
 /// Why a call of a CPU isn't made. Nothing has changed then.
 #[derive(Clone, Copy, Debug, PartialEq, Eq)]

@@ -5,10 +5,10 @@ ghost use Rattle.dspec_consumer.specs.Consumers.{IsConsumerOf, Stays};
 use crate::planning::{Plan, dice_of};
 use crate::sharing::Board;
 use crate::taken::Basket;
+use dspec_consumer::Consumer;
 use dspec_cpu::Shared;
 use dspec_deeds::ConsumerOp;
 use dspec_dice::Dice;
-use dspec_consumer::Consumer;
 use std::alloc::{AllocError, Global};
 use std::thread;
 

@@ -6,9 +6,9 @@ use crate::racing::race;
 use crate::sharing::Board;
 use crate::taken::Basket;
 use anyhow::Result;
+use dspec_consumer::Session;
 use dspec_logs::{Log, Story, enable};
 use dspec_record::Enablings;
-use dspec_consumer::Session;
 use std::alloc::{AllocError, Global};
 use std::thread::Threads;
 

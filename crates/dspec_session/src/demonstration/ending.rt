@@ -6,8 +6,7 @@ ghost use Rattle.dspec_session.specs.Races.{AllBalanced, AllTold, HaveOffered, I
 use super::four::Four;
 use super::lines::{DemoLine, line_of};
 use super::order::Order;
-use dspec_consumer::Closed;
-use dspec_consumer::Session;
+use dspec_consumer::{Closed, Session};
 use dspec_record::Enablings;
 
 /// Stops the session.

@@ -4,8 +4,8 @@ ghost use Rattle.dspec_session.specs.Visits.{ConsumerRounds, Visited, VisitedAll
 
 use super::four::Four;
 use super::order::Order;
-use dspec_consumer::Consumer;
 use crate::gate::RoundGate;
+use dspec_consumer::Consumer;
 use dspec_cpu::Shared;
 use dspec_record::Enablings;
 
