@@ -1,5 +1,5 @@
 -- What a call that counts keeps, by how it ended.
-use Rattle.std.proofs.Common.{◌≡◌, ℕ, ◌+◌, ◌<◌, ◌≤◌, Bool, true, false, if◌then◌else◌, refl, sym, ap, ◌∙◌, subst, arith, true≢false}
+use Rattle.std.proofs.Common.{◌≡◌, ℕ, ◌+◌, ◌*◌, ◌<◌, ◌≤◌, Bool, true, false, if◌then◌else◌, refl, sym, ap, ◌∙◌, subst, arith, true≢false}
 use Rattle.dspec_buffer.specs.Stored.{Stored}
 use Rattle.dspec_word.specs.SpecId.{Speculation}
 use Rattle.dspec_word.specs.Word.{SlotState}
@@ -7,14 +7,15 @@ use Rattle.dspec_word.specs.declared.code.Code.TheVariants.{Committing}
 use Rattle.dspec_word.specs.declared.act.Act.TheVariants.{Attempt}
 use Rattle.dspec_deeds.specs.declared.config.Config.{Config}
 use Rattle.dspec_deeds.specs.declared.calls.Decided.{Decided}
+use Rattle.dspec_deeds.specs.declared.calls.Opening.{Opening}
 use Rattle.dspec_table.specs.declared.rule.View.{View}
 use Rattle.dspec_table.specs.declared.doing.Doing.{Doing}
 use Rattle.dspec_table.specs.declared.seats.CpuSeat.{CpuSeat}
 use Rattle.dspec_table.specs.Seats.{known}
-use Rattle.dspec_table.specs.Steps.{ReleasedWord}
+use Rattle.dspec_table.specs.Steps.{LoadedActivity, ReleasedWord}
 use Rattle.dspec_side.specs.declared.counts.Counts.{Counts}
 use Rattle.dspec_side.specs.declared.side.Side.{Side}
-use Rattle.dspec_side.specs.Counting.{one_more_worn}
+use Rattle.dspec_side.specs.Counting.{one_more_worn, is_stopped_opening}
 use Rattle.dspec_cpu.specs.declared.parts.CpuParts.{CpuParts as Cpu}
 use Rattle.dspec_cpu.specs.declared.reaching.Reach.{Reach}
 use Rattle.dspec_cpu.specs.declared.reaching.Reach.TheVariants as reach
@@ -22,9 +23,10 @@ use Rattle.dspec_cpu.specs.Calls.{is_worn_decided}
 use Rattle.dspec_cpu.specs.Keeping.{CallKeeps}
 use Rattle.dspec_cpu.specs.Reached.{Reached}
 use Rattle.dspec_cpu.specs.Reaching.{is_committing, releases_next, turns}
+use Rattle.dspec_cpu.specs.Scans.{Scanned, is_worn_opening}
 use Rattle.dspec_cpu.specs.Stops.{StopsWhereMet, is_stopped_decided, is_stopped_reach}
 use Rattle.dspec_cpu.proofs.Decisions.{block_answer}
-use Rattle.dspec_cpu.proofs.Stopping.{worn_out, heeded}
+use Rattle.dspec_cpu.proofs.Stopping.{worn_out, shown_stop, shown_running, heeded}
 
 -- it was worn
 pub worn_keeps : {S : Type 0} (cpu : Cpu S) (most : ℕ) (counts : Counts) → cpu.config.max_calls ≤ cpu.side.calls
@@ -51,6 +53,25 @@ module _ {S : Type 0} (cpu : Cpu S) (fewer : cpu.side.calls < cpu.config.max_cal
     bounded = bounded;
     stops = stops;
   }
+
+  -- it loaded activity alone
+  pub loaded_keeps : (doing : Doing) (stopped : Bool) → LoadedActivity doing (known cpu.seat) stopped (known seat)
+      → CallKeeps false stopped 1 cpu (record cpu { seat = seat; side = side })
+  loaded_keeps doing stopped step =
+      let one : (known seat).steps ≡ (known cpu.seat).steps + 1 = ap (λ (x : View). x.steps) step.3.view in
+      unworn_keeps stopped 1 (omega arith) (go stopped step)
+    where
+      go : (b : Bool) → LoadedActivity doing (known cpu.seat) b (known seat) → StopsWhereMet (known cpu.seat) false b (known seat)
+      go true shown = shown_stop doing (known cpu.seat) (known seat) shown
+      go false shown = shown_running doing (known cpu.seat) (known seat) (known seat) shown
+
+  -- its scan came to this answer
+  pub scanned_keeps : {k : Config} {c : ℕ} {busy : Bool} (a : Opening) (slots : ℕ) → Scanned k c (known cpu.seat) a busy (known seat) → k.nspec ≡ slots
+      → CallKeeps (is_worn_opening a) (is_stopped_opening a) (1 + 2 * slots) cpu (record cpu { seat = seat; side = side })
+  scanned_keeps a slots got same =
+      let le = got.bounded in
+      subst (λ b. CallKeeps b (is_stopped_opening a) (1 + 2 * slots) cpu (record cpu { seat = seat; side = side })) (sym got.unworn)
+      (unworn_keeps (is_stopped_opening a) (1 + 2 * slots) (omega arith) got.stops)
 
   -- on an identifier it came so far
   pub reached_keeps : {k : Config} {c : ℕ} {doing : Doing} {id : Speculation} (r : Reach) (most : ℕ) → Reached k c doing id (known cpu.seat) r (known seat) → most ≡ 1 + turns doing.op

@@ -83,7 +83,7 @@ impl CpuSeat {
         requires seat { IsAt words.now self.old }
         requires slot { (1 ≤ slot) × (slot ≤ (set_up words.now).nspec) }
         requires call { MayTry (set_up words.now) (known self.old) (cpu_of self.old) doing.now slot from (joined_word from) }
-        ensures { TriedExchange words.now doing.now slot from (joined_word from) self.old self.new result }
+        ensures tried { TriedExchange words.now doing.now slot from (joined_word from) self.old self.new result }
     {
         self.try_word(words, slot, from, with_caller(from), doing)
     }

@@ -12,4 +12,4 @@ returns-in-Speculate-clause-tried c =
     let doing = c.args.doing.now in
     let attempts = subst (Attempts doing from to) c.in-Speculate.is c.requires.call.1 in
     subst (λ (w : SlotState). TriedExchange c.args.words.now doing c.args.slot from w c.args.seat.now c.join_word.new.self c.join_word.result)
-    (sym (speculate_joins from to c.in-Speculate.field-0 doing.mine attempts)) c.join_word.ensures
+    (sym (speculate_joins from to c.in-Speculate.field-0 doing.mine attempts)) c.join_word.ensures.tried
