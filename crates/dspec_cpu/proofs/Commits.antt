@@ -1,5 +1,5 @@
--- A call of commit that decided: the list, the deeds and the steps behind it.
-use Rattle.std.proofs.Common.{◌≡◌, ◌≢◌, ℕ, ◌+◌, ◌≤◌, Bool, true, false, List, [], ◌∷◌, ◌++◌, length, Option, if◌then◌else◌, refl, sym, ap, ◌∙◌, subst, inl, arith, true≢false}
+-- A call of commit that decided: the list and the deeds behind it.
+use Rattle.std.proofs.Common.{◌≡◌, ◌≢◌, ℕ, Bool, true, false, List, [], ◌∷◌, ◌++◌, length, Option, refl, sym, ap, ◌∙◌, subst, inl, true≢false}
 use Rattle.dspec_record.specs.Record.{Record}
 use Rattle.dspec_record.specs.declared.field.Shape.{Shape}
 use Rattle.dspec_buffer.specs.Extent as extent
@@ -28,7 +28,7 @@ use Rattle.dspec_cpu.specs.declared.reaching.Reach.TheVariants as reach
 use Rattle.dspec_cpu.specs.Calls.{Goes, steps, Decides, decided_deeds}
 use Rattle.dspec_cpu.specs.Lists.{HasList, IsReady, IsShown}
 use Rattle.dspec_cpu.specs.Reached.{Reached, Stands}
-use Rattle.dspec_cpu.specs.Reaching.{OwnsCommit, is_committing, releases_next}
+use Rattle.dspec_cpu.specs.Reaching.{OwnsCommit}
 use Rattle.dspec_cpu.proofs.Decisions.{committing, block_answer, block_deeds, fate_commits, fate_copied, fate_count, IsCommitWord, left_by_commit, waits_many}
 use Rattle.dspec_cpu.proofs.Ready.{holder, set_up_is, stands_behind}
 use Rattle.dspec_cpu.proofs.Shown.{shows, shown_behind}
@@ -71,9 +71,6 @@ module _ (shape : ℕ → Option Shape) (accepted : Record → Bool) (text : Rec
         list = λ p was. subst (λ ds. has (ds ++ p)) deeds (list p was);
       }
 
-  pub open_bounded : w.steps ≤ v.steps + 5
-  open_bounded = let le = got.bounded in omega arith
-
   -- it released the slot
   module _ (u : View) (slot : ℕ) (there : slot ≡ id.slot) (released : ReleasedWord slot w u) where
     step : ReleasedWord id.slot w u
@@ -105,10 +102,3 @@ module _ (shape : ℕ → Option Shape) (accepted : Record → Bool) (text : Rec
       rests = last.rests;
       flight = last.flight;
     }
-
-    pub alone_bounded : to.code ≡ Committing → u.steps ≤ v.steps + 5
-    alone_bounded is =
-        let next : releases_next (Attempt to) ≡ 1 = ap (λ x. if is_committing x then 1 else 0) is in
-        let one : u.steps ≡ w.steps + 1 = ap (λ (x : View). x.steps) step.2.view in
-        let le = got.bounded in
-        omega arith

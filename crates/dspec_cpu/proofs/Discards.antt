@@ -1,5 +1,5 @@
--- A call of discard that decided: the list, the deeds and the steps behind it.
-use Rattle.std.proofs.Common.{◌≡◌, ℕ, ◌+◌, ◌==◌, ◌≤◌, Bool, true, false, List, ◌∷◌, ◌++◌, length, Option, None, refl, sym, ap, ◌∙◌, subst, arith, true≢false}
+-- A call of discard that decided: the list and the deeds behind it.
+use Rattle.std.proofs.Common.{◌≡◌, ℕ, ◌==◌, Bool, true, false, List, ◌∷◌, ◌++◌, length, Option, None, refl, sym, ap, ◌∙◌, subst, true≢false}
 use Rattle.dspec_record.specs.Record.{Record}
 use Rattle.dspec_record.specs.declared.field.Shape.{Shape}
 use Rattle.dspec_buffer.specs.Stored.{Stored, HasPieces}
@@ -127,6 +127,3 @@ module _ (shape : ℕ → Option Shape) (accepted : Record → Bool) (text : Rec
         waits = λ d e. waits_at cpu.config id w.seen to Discarding got.stands.sound got.stands.rests owns.0 (left.issue e) (left.code e) refl;
         list = list;
       }
-
-  pub thrown_bounded : w.steps ≤ v.steps + 5
-  thrown_bounded = let le = got.bounded in omega arith

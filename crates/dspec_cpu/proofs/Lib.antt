@@ -11,6 +11,7 @@ pub mod Stopping
 pub mod Reaches
 pub mod Speaks
 pub mod Decisions
+pub mod Keeps
 pub mod Commits
 pub mod Discards
 pub mod Slots

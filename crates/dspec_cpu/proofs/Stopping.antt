@@ -1,7 +1,5 @@
 -- A call heeds a stop that its seat was shown.
-use Rattle.std.proofs.Common.{◌≡◌, ℕ, Bool, true, false, ◌||◌, List, [], ◌∷◌, ◌++◌, if◌then◌else◌, refl, sym, ap, ◌∙◌, subst, true≢false}
-use Rattle.dspec_deeds.specs.declared.calls.Decided.{Decided}
-use Rattle.dspec_deeds.specs.declared.calls.Decided.TheVariants as decided
+use Rattle.std.proofs.Common.{◌≡◌, Bool, true, false, ◌||◌, List, [], ◌∷◌, ◌++◌, refl, sym, ap, ◌∙◌, true≢false}
 use Rattle.dspec_deeds.specs.declared.deed.Deed.{Deed}
 use Rattle.dspec_deeds.specs.History.{halted, is_halt}
 use Rattle.dspec_table.specs.declared.doing.Doing.{Doing}
@@ -10,8 +8,7 @@ use Rattle.dspec_table.specs.Acts.{at_activity}
 use Rattle.dspec_table.specs.Holders.{Holder, number_of}
 use Rattle.dspec_table.specs.Since.{Since, here, more}
 use Rattle.dspec_table.specs.Steps.{LoadedActivity}
-use Rattle.dspec_cpu.specs.Calls.{is_worn_decided}
-use Rattle.dspec_cpu.specs.Stops.{StopsWhereMet, is_stopped_decided}
+use Rattle.dspec_cpu.specs.Stops.{StopsWhereMet}
 
 or_yes : (a b : Bool) → b ≡ true → (a || b) ≡ true
 or_yes true b e = refl
@@ -46,12 +43,3 @@ worn_out v w = record { met = λ met unworn. absurd (true≢false unworn); only 
 -- one that wasn't answered so heeds as far as it came
 pub heeded : (v u w : View) → StopsWhereMet v false false u → StopsWhereMet v false false w
 heeded v u w s = record { met = s.met; only = λ t. absurd (true≢false (sym t)) }
-
--- a commit that copied or lost its block
-pub copied_stops : (v w : View) (a : Decided) (fit : Bool) (n : ℕ) → a ≡ (if fit then decided.Copied n else decided.Lost n) → StopsWhereMet v false false w
-    → StopsWhereMet v (is_worn_decided a) (is_stopped_decided a) w
-copied_stops v w a fit n is s = subst (λ x. StopsWhereMet v (is_worn_decided x) (is_stopped_decided x) w) (sym is) (go fit)
-  where
-    go : (b : Bool) → StopsWhereMet v (is_worn_decided (if b then decided.Copied n else decided.Lost n)) (is_stopped_decided (if b then decided.Copied n else decided.Lost n)) w
-    go true = s
-    go false = s

@@ -1,12 +1,10 @@
-ghost use Rattle.std.specs.Prelude.{◌≡◌, true, ◌≤◌, ◌+◌, ◌↔◌, if◌then◌else◌};
+ghost use Rattle.std.specs.Prelude.{◌≡◌, if◌then◌else◌};
 ghost use Rattle.dspec_deeds.specs.declared.deed.Deed.TheVariants.{Commit, Discard};
 ghost use Rattle.dspec_table.specs.Seats.{known};
 ghost use Rattle.dspec_cpu.specs.Calls.{Decides, is_worn_decided};
-ghost use Rattle.dspec_side.specs.Counting.{worn_after};
-ghost use Rattle.dspec_cpu.specs.Keeping.{WearsAlone};
-ghost use Rattle.dspec_cpu.specs.Stops.{StopsWhereMet, is_stopped_decided};
-ghost use Rattle.dspec_cpu.specs.Lists.{IsSameCpu, calls_of, config_of, number_in, seat_of, words_of, worn_of};
-ghost use Rattle.dspec_cpu.specs.Settled.{KeepsBatches};
+ghost use Rattle.dspec_cpu.specs.Keeping.{CallKeeps};
+ghost use Rattle.dspec_cpu.specs.Lists.{IsSameCpu, number_in, seat_of, words_of};
+ghost use Rattle.dspec_cpu.specs.Stops.{is_stopped_decided};
 
 use crate::callable::Callable;
 use crate::cpu::Cpu;
@@ -37,12 +35,7 @@ impl<S: Schema> CpuParts<S> {
         requires ready { ⟦<CpuParts<S> as Callable>⟧.is_ready (words_of shared.now) self.old }
         ensures ready { ⟦<CpuParts<S> as Callable>⟧.is_ready (words_of shared.now) self.new }
         ensures same { IsSameCpu self.old self.new }
-        ensures keeps { KeepsBatches self.old self.new }
-        ensures worn { (is_worn_decided result ≡ true) ↔ ((config_of self.old).max_calls ≤ calls_of self.old) }
-        ensures untouched { is_worn_decided result ≡ true → WearsAlone self.old self.new }
-        ensures wears { worn_of self.new ≡ worn_after (is_worn_decided result) (worn_of self.old) }
-        ensures bounded { (known (seat_of self.new)).steps ≤ (known (seat_of self.old)).steps + 5 }
-        ensures stops { StopsWhereMet (known (seat_of self.old)) (is_worn_decided result) (is_stopped_decided result) (known (seat_of self.new)) }
+        ensures keeps { CallKeeps (is_worn_decided result) (is_stopped_decided result) 5 self.old self.new }
         ensures decides { Decides (Commit (number_in self.old) id) id result (⟦<Cpu<S> as Listed>⟧.has_list self.old) (known (seat_of self.old)) (⟦<Cpu<S> as Listed>⟧.has_list self.new) (known (seat_of self.new)) }
     {
         if self.side.calls >= self.config.max_calls {
@@ -88,12 +81,7 @@ impl<S: Schema> CpuParts<S> {
         requires ready { ⟦<CpuParts<S> as Callable>⟧.is_ready (words_of shared.now) self.old }
         ensures ready { ⟦<CpuParts<S> as Callable>⟧.is_ready (words_of shared.now) self.new }
         ensures same { IsSameCpu self.old self.new }
-        ensures keeps { KeepsBatches self.old self.new }
-        ensures worn { (is_worn_decided result ≡ true) ↔ ((config_of self.old).max_calls ≤ calls_of self.old) }
-        ensures untouched { is_worn_decided result ≡ true → WearsAlone self.old self.new }
-        ensures wears { worn_of self.new ≡ worn_after (is_worn_decided result) (worn_of self.old) }
-        ensures bounded { (known (seat_of self.new)).steps ≤ (known (seat_of self.old)).steps + 5 }
-        ensures stops { StopsWhereMet (known (seat_of self.old)) (is_worn_decided result) (is_stopped_decided result) (known (seat_of self.new)) }
+        ensures keeps { CallKeeps (is_worn_decided result) (is_stopped_decided result) 5 self.old self.new }
         ensures decides { Decides (Discard (number_in self.old) id) id result (⟦<Cpu<S> as Listed>⟧.has_list self.old) (known (seat_of self.old)) (⟦<Cpu<S> as Listed>⟧.has_list self.new) (known (seat_of self.new)) }
     {
         if self.side.calls >= self.config.max_calls {

@@ -1,10 +1,10 @@
-ghost use Rattle.std.specs.Prelude.{◌≡◌, ◌≤◌, ◌<◌, ◌+◌, ◌==◌, true, false, MatchResult, IfOk, IfErr};
-ghost use Rattle.dspec_deeds.specs.History.{in_range, scan, word_at};
+ghost use Rattle.std.specs.Prelude.{◌≡◌, ◌≤◌, ◌+◌, ◌==◌, true, IfOk};
+ghost use Rattle.dspec_deeds.specs.History.{in_range, scan};
 ghost use Rattle.dspec_deeds.specs.Marks.{mark};
 ghost use Rattle.dspec_table.specs.Conditions.{MayTry, IsInFlight, IsOn, IfCommitting, OwnCommit};
-ghost use Rattle.dspec_table.specs.Steps.{TriedWord};
+ghost use Rattle.dspec_table.specs.Steps.{TriedExchange};
 ghost use Rattle.dspec_table.specs.Seats.{known, IsAt, set_up, cpu_of};
-ghost use Rattle.dspec_word.specs.Word.{word_number, CanBeReleased};
+ghost use Rattle.dspec_word.specs.Word.{CanBeReleased};
 ghost use Rattle.dspec_cpu.specs.Reached.{Reached};
 ghost use Rattle.dspec_cpu.specs.Reaching.{act_of, act_reached, EndsAtWord, OwnsCommit};
 
@@ -48,14 +48,8 @@ fn exchange(
     requires seat { IsAt words.now seat.old }
     requires slot { (1 ≤ slot) × (slot ≤ (set_up words.now).nspec) }
     requires call { MayTry (set_up words.now) (known seat.old) (cpu_of seat.old) doing.now slot from to }
-    ensures seat { IsAt words.now seat.new × (cpu_of seat.new ≡ cpu_of seat.old) }
-    ensures step { MatchResult result
-        (λ _. TriedWord doing.now slot (known seat.old) from true (known seat.new))
-        (λ shown. TriedWord doing.now slot (known seat.old) shown false (known seat.new)) }
-    ensures word { IfOk result (λ _. word_at slot (known seat.new).seen ≡ to) }
+    ensures tried { TriedExchange words.now doing.now slot from to seat.old seat.new result }
     ensures release { IfOk result (λ _. IfCommitting to.code (OwnCommit (set_up words.now) (known seat.new) (cpu_of seat.new) record { issue = to.issue; slot = slot })) }
-    ensures greater { IfErr result (λ shown. word_number from < word_number shown) }
-    ensures limit { IfErr result (λ shown. CanBeReleased shown) }
 {
     match doing.op {
         CpuOp::Speculate(_, _) => seat.join_word(words, slot, from, doing),

@@ -1,14 +1,12 @@
-ghost use Rattle.std.specs.Prelude.{◌≡◌, ◌<◌, ◌≤◌, ◌+◌, ◌-◌, ◌==◌, ◌↔◌, ◌++◌, true, false, List, IsTrue, Some, slice_get};
+ghost use Rattle.std.specs.Prelude.{◌≡◌, ◌<◌, ◌+◌, ◌-◌, ◌==◌, ◌++◌, true, List, IsTrue, Some, slice_get};
 ghost use Rattle.dspec_deeds.specs.declared.deed.Deed.{Deed};
 ghost use Rattle.dspec_deeds.specs.History.{in_range};
 ghost use Rattle.dspec_deeds.specs.Marks.{mark};
 ghost use Rattle.dspec_table.specs.Seats.{known};
 ghost use Rattle.dspec_cpu.specs.Calls.{Goes, spoken_deeds, is_worn_spoken};
-ghost use Rattle.dspec_side.specs.Counting.{worn_after};
-ghost use Rattle.dspec_cpu.specs.Keeping.{WearsAlone};
-ghost use Rattle.dspec_cpu.specs.Stops.{StopsWhereMet, is_stopped_spoken};
-ghost use Rattle.dspec_cpu.specs.Lists.{IsSameCpu, calls_of, config_of, number_in, schema_of, seat_of, words_of, worn_of};
-ghost use Rattle.dspec_cpu.specs.Settled.{KeepsBatches};
+ghost use Rattle.dspec_cpu.specs.Keeping.{CallKeeps};
+ghost use Rattle.dspec_cpu.specs.Lists.{IsSameCpu, number_in, schema_of, seat_of, words_of};
+ghost use Rattle.dspec_cpu.specs.Stops.{is_stopped_spoken};
 
 use crate::callable::Callable;
 use crate::cpu::Cpu;
@@ -28,13 +26,8 @@ impl<S: Schema> CpuParts<S> {
         requires accepted { IsTrue (S.accepted (schema_of self.old) rec.now) }
         ensures ready { ⟦<CpuParts<S> as Callable>⟧.is_ready (words_of shared.now) self.new }
         ensures same { IsSameCpu self.old self.new }
-        ensures keeps { KeepsBatches self.old self.new }
-        ensures worn { (is_worn_spoken result ≡ true) ↔ ((config_of self.old).max_calls ≤ calls_of self.old) }
-        ensures untouched { is_worn_spoken result ≡ true → WearsAlone self.old self.new }
-        ensures wears { worn_of self.new ≡ worn_after (is_worn_spoken result) (worn_of self.old) }
+        ensures keeps { CallKeeps (is_worn_spoken result) (is_stopped_spoken result) 4 self.old self.new }
         ensures did { Goes (known (seat_of self.old)) (spoken_deeds (number_in self.old) id rec.now result) (known (seat_of self.new)) }
-        ensures bounded { (known (seat_of self.new)).steps ≤ (known (seat_of self.old)).steps + 4 }
-        ensures stops { StopsWhereMet (known (seat_of self.old)) (is_worn_spoken result) (is_stopped_spoken result) (known (seat_of self.new)) }
         ensures list { (p : List Deed) → ⟦<Cpu<S> as Listed>⟧.has_list self.old p
             → ⟦<Cpu<S> as Listed>⟧.has_list self.new (spoken_deeds (number_in self.old) id rec.now result ++ p) }
     {
@@ -63,12 +56,8 @@ impl<S: Schema> CpuParts<S> {
         requires marked { mine ≡ true → slice_get self.old.side.marks.items (id.slot - 1) ≡ Some (id.issue + 1) }
         ensures ready { ⟦<CpuParts<S> as Callable>⟧.is_ready (words_of shared.now) self.new }
         ensures same { IsSameCpu self.old self.new }
-        ensures keeps { KeepsBatches self.old self.new }
-        ensures not_worn { is_worn_spoken result ≡ false }
-        ensures wears { worn_of self.new ≡ worn_of self.old }
+        ensures keeps { CallKeeps (is_worn_spoken result) (is_stopped_spoken result) 4 self.old self.new }
         ensures did { Goes (known (seat_of self.old)) (spoken_deeds (number_in self.old) id rec.now result) (known (seat_of self.new)) }
-        ensures bounded { (known (seat_of self.new)).steps ≤ (known (seat_of self.old)).steps + 4 }
-        ensures stops { StopsWhereMet (known (seat_of self.old)) false (is_stopped_spoken result) (known (seat_of self.new)) }
         ensures list { (p : List Deed) → ⟦<Cpu<S> as Listed>⟧.has_list self.old p
             → ⟦<Cpu<S> as Listed>⟧.has_list self.new (spoken_deeds (number_in self.old) id rec.now result ++ p) }
     {

@@ -1,12 +1,10 @@
-ghost use Rattle.std.specs.Prelude.{◌≡◌, true, ◌≤◌, ◌+◌, ◌↔◌, ◌++◌, List, IsTrue};
+ghost use Rattle.std.specs.Prelude.{◌++◌, List, IsTrue};
 ghost use Rattle.dspec_deeds.specs.declared.deed.Deed.{Deed};
 ghost use Rattle.dspec_table.specs.Seats.{known};
 ghost use Rattle.dspec_cpu.specs.Calls.{Goes, traced_deeds, is_worn_trace};
-ghost use Rattle.dspec_side.specs.Counting.{worn_after};
-ghost use Rattle.dspec_cpu.specs.Keeping.{WearsAlone};
-ghost use Rattle.dspec_cpu.specs.Stops.{StopsWhereMet, is_stopped_trace};
-ghost use Rattle.dspec_cpu.specs.Lists.{IsSameCpu, calls_of, config_of, number_in, schema_of, seat_of, words_of, worn_of};
-ghost use Rattle.dspec_cpu.specs.Settled.{KeepsBatches};
+ghost use Rattle.dspec_cpu.specs.Keeping.{CallKeeps};
+ghost use Rattle.dspec_cpu.specs.Lists.{IsSameCpu, number_in, schema_of, seat_of, words_of};
+ghost use Rattle.dspec_cpu.specs.Stops.{is_stopped_trace};
 
 use crate::callable::Callable;
 use crate::cpu::Cpu;
@@ -24,13 +22,8 @@ impl<S: Schema> CpuParts<S> {
         requires accepted { IsTrue (S.accepted (schema_of self.old) rec.now) }
         ensures ready { ⟦<CpuParts<S> as Callable>⟧.is_ready (words_of shared.now) self.new }
         ensures same { IsSameCpu self.old self.new }
-        ensures keeps { KeepsBatches self.old self.new }
-        ensures worn { (is_worn_trace result ≡ true) ↔ ((config_of self.old).max_calls ≤ calls_of self.old) }
-        ensures untouched { is_worn_trace result ≡ true → WearsAlone self.old self.new }
-        ensures wears { worn_of self.new ≡ worn_after (is_worn_trace result) (worn_of self.old) }
+        ensures keeps { CallKeeps (is_worn_trace result) (is_stopped_trace result) 1 self.old self.new }
         ensures did { Goes (known (seat_of self.old)) (traced_deeds (number_in self.old) rec.now result) (known (seat_of self.new)) }
-        ensures bounded { (known (seat_of self.new)).steps ≤ (known (seat_of self.old)).steps + 1 }
-        ensures stops { StopsWhereMet (known (seat_of self.old)) (is_worn_trace result) (is_stopped_trace result) (known (seat_of self.new)) }
         ensures list { (p : List Deed) → ⟦<Cpu<S> as Listed>⟧.has_list self.old p
             → ⟦<Cpu<S> as Listed>⟧.has_list self.new (traced_deeds (number_in self.old) rec.now result ++ p) }
     {

@@ -1,7 +1,7 @@
 -- What a step does to its seat's view: by what it showed, and the deeds that it entered.
-use Rattle.std.specs.Prelude.{ℕ, ◌≡◌, ◌⊎◌, ◌<◌, ◌≤◌, ◌+◌, Bool, true, List, [], ◌∷◌, ◌++◌, if◌then◌else◌}
+use Rattle.std.specs.Prelude.{ℕ, ◌≡◌, ◌⊎◌, ◌<◌, ◌≤◌, ◌+◌, Bool, true, false, List, [], ◌∷◌, ◌++◌, if◌then◌else◌, Result, MatchResult, IfOk, IfErr}
 use Rattle.dspec_word.specs.SpecId.{Speculation}
-use Rattle.dspec_word.specs.Word.{SlotState, word_number}
+use Rattle.dspec_word.specs.Word.{SlotState, word_number, CanBeReleased}
 use Rattle.dspec_word.specs.declared.code.Code.{Code}
 use Rattle.dspec_deeds.specs.declared.deed.Deed.{Deed}
 use Rattle.dspec_deeds.specs.declared.deed.Deed.TheVariants.{Settle, Release}
@@ -9,11 +9,14 @@ use Rattle.dspec_deeds.specs.History.{owed, halted, word_at, ack}
 use Rattle.dspec_deeds.specs.Legal.{IsSound}
 use Rattle.dspec_table.specs.declared.rule.View.{View}
 use Rattle.dspec_table.specs.declared.doing.Doing.{Doing}
+use Rattle.dspec_table.specs.declared.seats.CpuSeat.{CpuSeat}
+use Rattle.dspec_table.specs.declared.seats.Words.{Words}
 use Rattle.dspec_table.specs.Holders.{part_of, of_nobody, number_of}
 use Rattle.dspec_table.specs.Since.{Since}
 use Rattle.dspec_table.specs.Layout.{ack_place}
 use Rattle.dspec_table.specs.Flights.{AreOf, flight_after, calling}
 use Rattle.dspec_table.specs.Acts.{at_activity, at_word, at_open, at_exchange, fate_of_settlement, at_stop}
+use Rattle.dspec_table.specs.Seats.{known, IsAt, cpu_of}
 
 -- the view after deeds of its own behind the list that the step found, where it then knows these asks
 abbrev pub with_asks : View → List Deed → List Deed → List ℕ → View
@@ -95,6 +98,16 @@ TriedWord doing slot v shown hit w =
 abbrev pub TriedNumber : Doing → ℕ → View → ℕ → ℕ → Bool → View → Type 0
 TriedNumber doing slot v new n hit w =
     (shown : SlotState) × (n ≡ word_number shown) × TriedWord doing slot v shown hit w × (hit ≡ true → new ≡ word_number (word_at slot w.seen))
+
+-- What the seat's exchange of a slot's word from one to another came to, in a step of the call in flight. The seat stays that of
+-- its CPU at these words. Where it hit, it found the one, and the list shows the other now; where it missed, it found a greater word,
+-- from which the slot can be released.
+pub record TriedExchange {T : Type 0} (words : Words) (doing : Doing) (slot : ℕ) (from to : SlotState) (old new : CpuSeat) (found : Result T SlotState) : Type 0 where
+  pub seat : IsAt words new × (cpu_of new ≡ cpu_of old)
+  pub step : MatchResult found (λ _. TriedWord doing slot (known old) from true (known new)) (λ shown. TriedWord doing slot (known old) shown false (known new))
+  pub word : IfOk found (λ _. word_at slot (known new).seen ≡ to)
+  pub greater : IfErr found (λ shown. word_number from < word_number shown)
+  pub limit : IfErr found (λ shown. CanBeReleased shown)
 
 abbrev pub ReleasedWord : ℕ → View → View → Type 0
 ReleasedWord slot v w = (log : List Deed) × Found v log × Entered v log (Release slot ∷ []) w

@@ -1,9 +1,8 @@
-ghost use Rattle.std.specs.Prelude.{◌≡◌, ◌<◌, ◌≤◌, ◌==◌, true, false, MatchResult, IfOk, IfErr};
-ghost use Rattle.dspec_deeds.specs.History.{word_at};
+ghost use Rattle.std.specs.Prelude.{◌≡◌, ◌≤◌, ◌==◌, IfOk};
 ghost use Rattle.dspec_table.specs.Conditions.{MayTry, IsDeciding, OwnCommit, joined_word, IfCommitting};
-ghost use Rattle.dspec_table.specs.Steps.{TriedWord, TriedNumber};
+ghost use Rattle.dspec_table.specs.Steps.{TriedExchange, TriedNumber};
 ghost use Rattle.dspec_table.specs.Seats.{known, IsAt, set_up, cpu_of};
-ghost use Rattle.dspec_word.specs.Word.{word_number, CanBeReleased};
+ghost use Rattle.dspec_word.specs.Word.{word_number};
 
 use crate::doing::Doing;
 use crate::layout::slot_place;
@@ -62,13 +61,7 @@ impl CpuSeat {
         requires seat { IsAt words.now self.old }
         requires slot { (1 ≤ slot) × (slot ≤ (set_up words.now).nspec) }
         requires call { MayTry (set_up words.now) (known self.old) (cpu_of self.old) doing.now slot from to }
-        ensures seat { IsAt words.now self.new × (cpu_of self.new ≡ cpu_of self.old) }
-        ensures step { MatchResult result
-            (λ _. TriedWord doing.now slot (known self.old) from true (known self.new))
-            (λ shown. TriedWord doing.now slot (known self.old) shown false (known self.new)) }
-        ensures word { IfOk result (λ _. word_at slot (known self.new).seen ≡ to) }
-        ensures greater { IfErr result (λ shown. word_number from < word_number shown) }
-        ensures limit { IfErr result (λ shown. CanBeReleased shown) }
+        ensures { TriedExchange words.now doing.now slot from to self.old self.new result }
     {
         let found = self.try_word_as::<Brand>(words, slot, from, to, doing);
         if found == from.raw() {
@@ -90,13 +83,7 @@ impl CpuSeat {
         requires seat { IsAt words.now self.old }
         requires slot { (1 ≤ slot) × (slot ≤ (set_up words.now).nspec) }
         requires call { MayTry (set_up words.now) (known self.old) (cpu_of self.old) doing.now slot from (joined_word from) }
-        ensures seat { IsAt words.now self.new × (cpu_of self.new ≡ cpu_of self.old) }
-        ensures step { MatchResult result
-            (λ _. TriedWord doing.now slot (known self.old) from true (known self.new))
-            (λ shown. TriedWord doing.now slot (known self.old) shown false (known self.new)) }
-        ensures word { IfOk result (λ _. word_at slot (known self.new).seen ≡ joined_word from) }
-        ensures greater { IfErr result (λ shown. word_number from < word_number shown) }
-        ensures limit { IfErr result (λ shown. CanBeReleased shown) }
+        ensures tried { TriedExchange words.now doing.now slot from (joined_word from) self.old self.new result }
     {
         self.try_word(words, slot, from, with_caller(from), doing)
     }
@@ -115,14 +102,8 @@ impl CpuSeat {
         requires op { IsDeciding doing.now.op }
         requires slot { (1 ≤ slot) × (slot ≤ (set_up words.now).nspec) }
         requires call { MayTry (set_up words.now) (known self.old) (cpu_of self.old) doing.now slot from to }
-        ensures seat { IsAt words.now self.new × (cpu_of self.new ≡ cpu_of self.old) }
-        ensures step { MatchResult result
-            (λ _. TriedWord doing.now slot (known self.old) from true (known self.new))
-            (λ shown. TriedWord doing.now slot (known self.old) shown false (known self.new)) }
-        ensures word { IfOk result (λ _. word_at slot (known self.new).seen ≡ to) }
+        ensures tried { TriedExchange words.now doing.now slot from to self.old self.new result }
         ensures release { IfOk result (λ _. IfCommitting to.code (OwnCommit (set_up words.now) (known self.new) (cpu_of self.new) record { issue = to.issue; slot = slot })) }
-        ensures greater { IfErr result (λ shown. word_number from < word_number shown) }
-        ensures limit { IfErr result (λ shown. CanBeReleased shown) }
     {
         self.try_word(words, slot, from, to, doing)
     }

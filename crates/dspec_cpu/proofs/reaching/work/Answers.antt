@@ -61,7 +61,7 @@ exchange-requires-clause-call c =
     (known c.loop-to.seat) c.requires.on c.loop-to.invariant.shown e)
 
 pub returns-in-Ok-clause-seat : goal.returns-in-Ok-clause-seat
-returns-in-Ok-clause-seat c = (c.exchange.ensures.seat.0, c.exchange.ensures.seat.1 ∙ c.loop-to.invariant.seat.1)
+returns-in-Ok-clause-seat c = (c.exchange.ensures.tried.seat.0, c.exchange.ensures.tried.seat.1 ∙ c.loop-to.invariant.seat.1)
 
 pub returns-in-Ok-clause-ended : goal.returns-in-Ok-clause-ended
 returns-in-Ok-clause-ended c =
@@ -73,9 +73,9 @@ returns-in-Ok-clause-ended c =
       word = c.loop-to.word;
       acts = e;
       last = tried (set_up words) (cpu_of seat) doing c.args._id c.args.slot (known seat) c.requires.seat.1 seat.who_is c.loop-to.word c.in-Attempt.to
-          (known c.loop-to.seat) c.requires.on c.loop-to.invariant.shown e c.loop-to.word true (known c.exchange.new.seat) c.in-Ok.ensures.step;
+          (known c.loop-to.seat) c.requires.on c.loop-to.invariant.shown e c.loop-to.word true (known c.exchange.new.seat) c.in-Ok.ensures.tried.step;
       bounded = hit_steps (set_up words) (cpu_of seat) doing c.args._id c.args.slot (known seat) c.requires.seat.1 seat.who_is c.loop-to.word c.in-Attempt.to
-          (known c.loop-to.seat) c.requires.on c.loop-to.invariant.shown e (known c.exchange.new.seat) c.in-Ok.ensures.step c.loop-to.invariant.bounded;
+          (known c.loop-to.seat) c.requires.on c.loop-to.invariant.shown e (known c.exchange.new.seat) c.in-Ok.ensures.tried.step c.loop-to.invariant.bounded;
     }
 
 pub loop-to-smaller : goal.loop-to-smaller
@@ -85,7 +85,7 @@ loop-to-smaller c =
     let doing = c.args.doing.now in
     let e = sym c.act_at-act.ensures ∙ c.in-Attempt.is in
     let less = fewer_left (set_up words) (cpu_of seat) doing c.args._id c.args.slot (known seat) c.requires.seat.1 seat.who_is c.loop-to.word c.in-Attempt.to
-    (known c.loop-to.seat) c.requires.on c.loop-to.invariant.shown e c.in-Err.shown c.in-Err.ensures.greater in
+    (known c.loop-to.seat) c.requires.on c.loop-to.invariant.shown e c.in-Err.shown c.in-Err.ensures.tried.greater in
     omega arith
 
 pub loop-to-preserved : goal.loop-to-preserved
@@ -95,14 +95,14 @@ loop-to-preserved c =
     let doing = c.args.doing.now in
     let e = sym c.act_at-act.ensures ∙ c.in-Attempt.is in
     record {
-      seat = (c.exchange.ensures.seat.0, c.exchange.ensures.seat.1 ∙ c.loop-to.invariant.seat.1);
+      seat = (c.exchange.ensures.tried.seat.0, c.exchange.ensures.tried.seat.1 ∙ c.loop-to.invariant.seat.1);
       shown = tried (set_up words) (cpu_of seat) doing c.args._id c.args.slot (known seat) c.requires.seat.1 seat.who_is c.loop-to.word c.in-Attempt.to
-          (known c.loop-to.seat) c.requires.on c.loop-to.invariant.shown e c.in-Err.shown false (known c.exchange.new.seat) c.in-Err.ensures.step;
+          (known c.loop-to.seat) c.requires.on c.loop-to.invariant.shown e c.in-Err.shown false (known c.exchange.new.seat) c.in-Err.ensures.tried.step;
       bounded =
           let less = fewer_left (set_up words) (cpu_of seat) doing c.args._id c.args.slot (known seat) c.requires.seat.1 seat.who_is c.loop-to.word c.in-Attempt.to
-          (known c.loop-to.seat) c.requires.on c.loop-to.invariant.shown e c.in-Err.shown c.in-Err.ensures.greater in
-          let one = step_made doing c.args.slot (known c.loop-to.seat) c.in-Err.shown (known c.exchange.new.seat) c.in-Err.ensures.step in
+          (known c.loop-to.seat) c.requires.on c.loop-to.invariant.shown e c.in-Err.shown c.in-Err.ensures.tried.greater in
+          let one = step_made doing c.args.slot (known c.loop-to.seat) c.in-Err.shown (known c.exchange.new.seat) c.in-Err.ensures.tried.step in
           let le = c.loop-to.invariant.bounded in
           omega arith;
-      limit = c.in-Err.ensures.limit;
+      limit = c.in-Err.ensures.tried.limit;
     }

@@ -30,5 +30,5 @@ returns-clause-unused c done =
     let same = commits k (known seat) (known new) seat.cpu call c.args.id from to c.requires.op (sym c.commit_at.ensures ∙ c.in-Attempt.is)
     (λ to attempts. tries_again k (known seat) (known new) seat.cpu 1 call from to seat.who_is c.requires.may c.load_word-from.ensures.step attempts) in
     let decided = tried_rests k seat.cpu (known new) (known c.decide_word.new.self) call from true (subst IsDeciding (sym c.requires.op) tt)
-    (subst (Unused k seat.cpu) (sym same.1) c.requires.unused) c.in-Ok.ensures.step in
+    (subst (Unused k seat.cpu) (sym same.1) c.requires.unused) c.in-Ok.ensures.tried.step in
     subst (Unused k seat.cpu) (sym (ap (λ (v : View). v.own) c.release_word.ensures.step.2.view)) decided

@@ -21,8 +21,8 @@ use Rattle.dspec_cpu.proofs.Speaks.{caller_of, own_mark}
 use Rattle.dspec_side.specs.Sides.{committed_fate}
 use Rattle.dspec_deeds.specs.FateKinds.{count_of}
 use Rattle.dspec_cpu.proofs.Decisions.{committing, fate_count, commits_now, released_shown, worn_shown}
-use Rattle.dspec_cpu.proofs.Commits.{left, block_shown, decides_open, open_bounded, decides_alone, alone_stands}
-use Rattle.dspec_cpu.proofs.Stopping.{worn_out, heeded, copied_stops}
+use Rattle.dspec_cpu.proofs.Commits.{left, block_shown, decides_open, decides_alone, alone_stands}
+use Rattle.dspec_cpu.proofs.Keeps.{worn_keeps, reached_keeps, released_keeps, copied_keeps}
 use Rattle.dspec_cpu.proofs.parts.CpuParts.commit.Goals as goal
 
 pub returns-then-self-clause-decides : goal.returns-then-self-clause-decides
@@ -178,20 +178,6 @@ returns-in_default-clause-decides g c =
     c.go_on-reached.new.seat in
     record { own = ap (λ l. Commit cpu.cpu id (committed_fate fit n) ∷ l) had.own ∙ sym got.stands.own; shown = block })
 
-pub returns-in_default-clause-bounded : goal.returns-in_default-clause-bounded
-returns-in_default-clause-bounded g c =
-    let words = words_of c.args.shared.now in
-    let cpu = c.args.self.now in
-    let ready = c.requires.ready in
-    let id = c.args.id in
-    let fit = c.measure_slot-fits.result.0 in
-    let n = c.measure_slot-fits.result.1 in
-    let mine = c.is_mine-mine.result in
-    let w = known c.go_on-reached.new.seat in
-    let to = c.in-Done.to in
-    let got = subst (λ (x : Config × ℕ). Reached x.0 x.1 (committing id fit n mine) id (known cpu.seat) (reach.Done to) w) (λ i. (ready.config i, ready.steady.seat i)) c.in-Done.ensures.reached in
-    open_bounded _ _ _ words cpu ready id fit mine n to w got
-
 pub returns-in_default-clause-ready : goal.returns-in_default-clause-ready
 returns-in_default-clause-ready g c =
     let words = words_of c.args.shared.now in
@@ -270,21 +256,25 @@ returns-in-Committing-clause-ready g c =
           (record cpu { side = c.decide.new.self }) (Commit cpu.cpu id (committed_fate fit n) ∷ p) block id.slot refl c.release_word.new.self;
     })
 
-pub returns-then-self-clause-stops : goal.returns-then-self-clause-stops
-returns-then-self-clause-stops g c = worn_out (known c.args.self.now.seat) (known c.args.self.now.seat)
+pub returns-then-self-clause-keeps : goal.returns-then-self-clause-keeps
+returns-then-self-clause-keeps g c = worn_keeps c.args.self.now 5 c.wear.new.self c.if-self.true c.wear.ensures
 
-pub returns-in-Stopped-clause-stops : goal.returns-in-Stopped-clause-stops
-returns-in-Stopped-clause-stops g c = c.in-Stopped.ensures.reached.stops
+pub returns-in-Stopped-clause-keeps : goal.returns-in-Stopped-clause-keeps
+returns-in-Stopped-clause-keeps g c =
+    reached_keeps c.args.self.now c.if-self.false c.go_on-reached.new.seat c.leave_undecided.new.self _ c.leave_undecided.ensures.rest refl refl reach.Stopped 5 c.in-Stopped.ensures.reached refl
 
-pub returns-in-Void-clause-stops : goal.returns-in-Void-clause-stops
-returns-in-Void-clause-stops g c = c.in-Void.ensures.reached.stops
+pub returns-in-Void-clause-keeps : goal.returns-in-Void-clause-keeps
+returns-in-Void-clause-keeps g c =
+    reached_keeps c.args.self.now c.if-self.false c.go_on-reached.new.seat c.leave_undecided-in-Void.new.self _ c.leave_undecided-in-Void.ensures.rest refl refl reach.Void 5
+    c.in-Void.ensures.reached refl
 
-pub returns-in_default-clause-stops : goal.returns-in_default-clause-stops
-returns-in_default-clause-stops g c =
-    copied_stops (known c.args.self.now.seat) (known c.go_on-reached.new.seat) c.answer_of-answer.result c.measure_slot-fits.result.0 c.measure_slot-fits.result.1
-    c.answer_of-answer.ensures c.in-Done.ensures.reached.stops
+pub returns-in_default-clause-keeps : goal.returns-in_default-clause-keeps
+returns-in_default-clause-keeps g c =
+    copied_keeps c.answer_of-answer.result c.measure_slot-fits.result.0 c.measure_slot-fits.result.1 5 c.args.self.now _ c.answer_of-answer.ensures
+    (reached_keeps c.args.self.now c.if-self.false c.go_on-reached.new.seat c.decide.new.self _ c.decide.ensures.rest refl refl (reach.Done c.in-Done.to) 5 c.in-Done.ensures.reached refl)
 
-pub returns-in-Committing-clause-stops : goal.returns-in-Committing-clause-stops
-returns-in-Committing-clause-stops g c =
-    copied_stops (known c.args.self.now.seat) (known c.release_word.new.self) c.answer_of-answer.result c.measure_slot-fits.result.0 c.measure_slot-fits.result.1 c.answer_of-answer.ensures
-    (heeded (known c.args.self.now.seat) (known c.go_on-reached.new.seat) (known c.release_word.new.self) c.in-Done.ensures.reached.stops)
+pub returns-in-Committing-clause-keeps : goal.returns-in-Committing-clause-keeps
+returns-in-Committing-clause-keeps g c =
+    copied_keeps c.answer_of-answer.result c.measure_slot-fits.result.0 c.measure_slot-fits.result.1 5 c.args.self.now _ c.answer_of-answer.ensures
+    (released_keeps c.args.self.now c.if-self.false c.release_word.new.self c.decide.new.self _ c.decide.ensures.rest refl refl c.in-Done.to (known c.go_on-reached.new.seat) c.slot.result 5
+    c.in-Done.ensures.reached (sym c.code.ensures ∙ c.in-Committing.is) c.release_word.ensures.step refl)

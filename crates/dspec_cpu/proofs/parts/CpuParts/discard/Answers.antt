@@ -18,8 +18,8 @@ use Rattle.dspec_cpu.proofs.Ready.{few, roomy, few_drops, ready_after}
 use Rattle.dspec_cpu.proofs.Shown.{shows, shown_behind}
 use Rattle.dspec_cpu.proofs.Speaks.{caller_of, own_mark}
 use Rattle.dspec_cpu.proofs.Decisions.{worn_shown}
-use Rattle.dspec_cpu.proofs.Discards.{discarding, deeds, none_flies, still_idle, thrown_listed, throws, thrown_bounded}
-use Rattle.dspec_cpu.proofs.Stopping.{worn_out}
+use Rattle.dspec_cpu.proofs.Discards.{discarding, deeds, none_flies, still_idle, thrown_listed, throws}
+use Rattle.dspec_cpu.proofs.Keeps.{worn_keeps, reached_keeps}
 use Rattle.dspec_cpu.proofs.parts.CpuParts.discard.Goals as goal
 
 pub returns-then-self-clause-decides : goal.returns-then-self-clause-decides
@@ -171,29 +171,18 @@ returns-in-Done-clause-ready g c =
     thrown_listed _ _ _ words cpu ready id mine n to w got p had caller (c.measure_slot-count.ensures.count within p had.shown caller) c.decide.new.self
     (c.decide.ensures.discards cpu.schema cpu.config cpu.cpu p) c.go_on-reached.new.seat refl)
 
-pub returns-in-Done-clause-bounded : goal.returns-in-Done-clause-bounded
-returns-in-Done-clause-bounded g c =
-    let words = words_of c.args.shared.now in
-    let cpu = c.args.self.now in
-    let ready = c.requires.ready in
-    let id = c.args.id in
-    let n = c.measure_slot-count.result.1 in
-    let mine = c.is_mine-mine.result in
-    let w = known c.go_on-reached.new.seat in
-    let to = c.in-Done._to in
-    let got = subst (λ (x : Config × ℕ). Reached x.0 x.1 (discarding id n mine) id (known cpu.seat) (reach.Done to) w) (λ i. (ready.config i, ready.steady.seat i)) c.in-Done.ensures.reached in
-    let within = c.is_inside-inside.ensures ∙ (got.present refl).1 in
-    let owns = subst (λ (x : Config × ℕ). OwnsCommit x.0 x.1 id.slot w (Attempt to)) (λ i. (ready.config i, (c.go_on-reached.ensures.seat.1 ∙ ready.steady.seat) i)) c.in-Done.ensures.release in
-    thrown_bounded _ _ _ words cpu ready id mine n to w got
+pub returns-then-self-clause-keeps : goal.returns-then-self-clause-keeps
+returns-then-self-clause-keeps g c = worn_keeps c.args.self.now 5 c.wear.new.self c.if-self.true c.wear.ensures
 
-pub returns-then-self-clause-stops : goal.returns-then-self-clause-stops
-returns-then-self-clause-stops g c = worn_out (known c.args.self.now.seat) (known c.args.self.now.seat)
+pub returns-in-Stopped-clause-keeps : goal.returns-in-Stopped-clause-keeps
+returns-in-Stopped-clause-keeps g c =
+    reached_keeps c.args.self.now c.if-self.false c.go_on-reached.new.seat c.leave_undecided.new.self _ c.leave_undecided.ensures.rest refl refl reach.Stopped 5 c.in-Stopped.ensures.reached refl
 
-pub returns-in-Stopped-clause-stops : goal.returns-in-Stopped-clause-stops
-returns-in-Stopped-clause-stops g c = c.in-Stopped.ensures.reached.stops
+pub returns-in-Void-clause-keeps : goal.returns-in-Void-clause-keeps
+returns-in-Void-clause-keeps g c =
+    reached_keeps c.args.self.now c.if-self.false c.go_on-reached.new.seat c.leave_undecided-in-Void.new.self _ c.leave_undecided-in-Void.ensures.rest refl refl reach.Void 5
+    c.in-Void.ensures.reached refl
 
-pub returns-in-Void-clause-stops : goal.returns-in-Void-clause-stops
-returns-in-Void-clause-stops g c = c.in-Void.ensures.reached.stops
-
-pub returns-in-Done-clause-stops : goal.returns-in-Done-clause-stops
-returns-in-Done-clause-stops g c = c.in-Done.ensures.reached.stops
+pub returns-in-Done-clause-keeps : goal.returns-in-Done-clause-keeps
+returns-in-Done-clause-keeps g c =
+    reached_keeps c.args.self.now c.if-self.false c.go_on-reached.new.seat c.decide.new.self _ c.decide.ensures.rest refl refl (reach.Done c.in-Done._to) 5 c.in-Done.ensures.reached refl

@@ -14,7 +14,9 @@ use Rattle.dspec_cpu.proofs.Limits.{limits}
 use Rattle.dspec_cpu.proofs.Ready.{roomy, few, ready_after}
 use Rattle.dspec_cpu.proofs.Shown.{shows, shown_behind}
 use Rattle.dspec_cpu.proofs.Speaks.{asked, grants, grant_deeds, caller_of, own_mark, granted_shown}
-use Rattle.dspec_cpu.specs.Stops.{StopsWhereMet}
+use Rattle.dspec_cpu.specs.Keeping.{CallKeeps}
+use Rattle.dspec_cpu.proofs.Keeps.{reached_keeps}
+use Rattle.dspec_side.specs.declared.counts.Counts.{Counts}
 use Rattle.dspec_cpu.proofs.parts.CpuParts.offer.Goals as goal
 
 pub go_on-reached-requires-clause-mine : goal.go_on-reached-requires-clause-mine
@@ -280,20 +282,29 @@ returns-else-not-kept-clause-did g c =
     let deeds = grant_deeds cpu.cpu (asked id r fit mine) id r c.go_on-reached.result true grant fit_is in
     subst (λ ds. Goes (known cpu.seat) ds w) deeds got.goes
 
-pub returns-in-Stopped-clause-stops : goal.returns-in-Stopped-clause-stops
-returns-in-Stopped-clause-stops g c = c.in-Stopped.ensures.reached.stops
+pub returns-in-Stopped-clause-keeps : goal.returns-in-Stopped-clause-keeps
+returns-in-Stopped-clause-keeps g c =
+    reached_keeps c.args.self.now c.requires.calls c.go_on-reached.new.seat c.speak_nowhere.new.self _ c.speak_nowhere.ensures.rest refl refl reach.Stopped 4 c.in-Stopped.ensures.reached refl
 
-pub returns-in-Void-clause-stops : goal.returns-in-Void-clause-stops
-returns-in-Void-clause-stops g c = c.in-Void.ensures.reached.stops
+pub returns-in-Void-clause-keeps : goal.returns-in-Void-clause-keeps
+returns-in-Void-clause-keeps g c =
+    reached_keeps c.args.self.now c.requires.calls c.go_on-reached.new.seat c.speak_nowhere-in-Void.new.self _ c.speak_nowhere-in-Void.ensures.rest refl refl reach.Void 4
+    c.in-Void.ensures.reached refl
 
-pub returns-then-not-kept-clause-stops : goal.returns-then-not-kept-clause-stops
-returns-then-not-kept-clause-stops g c =
+pub returns-then-not-kept-clause-keeps : goal.returns-then-not-kept-clause-keeps
+returns-then-not-kept-clause-keeps g c =
+    let cpu = c.args.self.now in
     let r = c.go_on-reached.result in
-    let w = known c.go_on-reached.new.seat in
-    subst (λ b. StopsWhereMet (known c.args.self.now.seat) false b w) (unstopped r (is_running r (grants r c.in-Granted.is))) c.go_on-reached.ensures.reached.stops
+    let seat = c.go_on-reached.new.seat in
+    let side = c.grant-kept.new.self in
+    subst (λ b. CallKeeps false b 4 cpu (record cpu { seat = seat; side = side })) (unstopped r (is_running r (grants r c.in-Granted.is)))
+    (reached_keeps cpu c.requires.calls seat side _ c.grant-kept.ensures.rest refl (ap (λ (x : Counts). x.worn) c.grant-kept.ensures.counts) r 4 c.go_on-reached.ensures.reached refl)
 
-pub returns-else-not-kept-clause-stops : goal.returns-else-not-kept-clause-stops
-returns-else-not-kept-clause-stops g c =
+pub returns-else-not-kept-clause-keeps : goal.returns-else-not-kept-clause-keeps
+returns-else-not-kept-clause-keeps g c =
+    let cpu = c.args.self.now in
     let r = c.go_on-reached.result in
-    let w = known c.go_on-reached.new.seat in
-    subst (λ b. StopsWhereMet (known c.args.self.now.seat) false b w) (unstopped r (is_running r (grants r c.in-Granted.is))) c.go_on-reached.ensures.reached.stops
+    let seat = c.go_on-reached.new.seat in
+    let side = c.grant-kept.new.self in
+    subst (λ b. CallKeeps false b 4 cpu (record cpu { seat = seat; side = side })) (unstopped r (is_running r (grants r c.in-Granted.is)))
+    (reached_keeps cpu c.requires.calls seat side _ c.grant-kept.ensures.rest refl (ap (λ (x : Counts). x.worn) c.grant-kept.ensures.counts) r 4 c.go_on-reached.ensures.reached refl)

@@ -1,4 +1,4 @@
-use Rattle.std.proofs.Common.{◌++◌, ◌∙◌, ℕ, [], refl, sym, ap, subst}
+use Rattle.std.proofs.Common.{◌+◌, ◌++◌, ◌∙◌, ℕ, [], refl, sym, ap, subst}
 use Rattle.dspec_deeds.specs.declared.config.Config.{Config}
 use Rattle.dspec_table.specs.Seats.{known}
 use Rattle.dspec_cpu.specs.Calls.{rests}
@@ -9,9 +9,8 @@ use Rattle.dspec_cpu.proofs.Limits.{limits}
 use Rattle.dspec_cpu.proofs.Openings.{bare_opening, opening_shown}
 use Rattle.dspec_cpu.proofs.Ready.{roomy, ready_after}
 use Rattle.dspec_cpu.proofs.Scans.{idle_again, none_flies}
-use Rattle.dspec_cpu.specs.Stops.{StopsWhereMet}
-use Rattle.dspec_side.specs.Counting.{is_stopped_opening}
-use Rattle.dspec_cpu.proofs.Stopping.{worn_out}
+use Rattle.dspec_side.specs.declared.counts.Counts.{Counts}
+use Rattle.dspec_cpu.proofs.Keeps.{worn_keeps, scanned_keeps}
 use Rattle.dspec_cpu.proofs.parts.CpuParts.speculation.Goals as goal
 
 pub returns-then-self-clause-opens : goal.returns-then-self-clause-opens
@@ -56,10 +55,12 @@ returns-clause-ready g c =
     (none_flies cpu.config cpu.cpu (known cpu.seat).flight got.missed a some got.answer got.unworn) ready.steady.spare ready.steady.few
     (opening_deeds cpu.cpu got.missed a ++ ready.steady.list) ((returns-clause-opens g c).list ready.steady.list ready.steady.listed)
 
-pub returns-then-self-clause-stops : goal.returns-then-self-clause-stops
-returns-then-self-clause-stops g c = worn_out (known c.args.self.now.seat) (known c.args.self.now.seat)
+pub returns-then-self-clause-keeps : goal.returns-then-self-clause-keeps
+returns-then-self-clause-keeps g c = worn_keeps c.args.self.now _ c.wear.new.self c.if-self.true c.wear.ensures
 
-pub returns-clause-stops : goal.returns-clause-stops
-returns-clause-stops g c =
-    let got = c.scan_slots-answer.ensures.scanned in
-    subst (λ b. StopsWhereMet (known c.args.self.now.seat) b (is_stopped_opening c.scan_slots-answer.result.0) (known c.scan_slots-answer.new.seat)) (sym got.unworn) got.stops
+pub returns-clause-keeps : goal.returns-clause-keeps
+returns-clause-keeps g c =
+    let cpu = c.args.self.now in
+    let side = record cpu.side { calls = cpu.side.calls + 1; missed_busy = c.scan_slots-answer.result.1; counts = c.open.new.self } in
+    scanned_keeps cpu c.if-self.false c.scan_slots-answer.new.seat side side refl refl (ap (λ (x : Counts). x.worn) c.open.ensures) c.scan_slots-answer.result.0 cpu.config.nspec
+    c.scan_slots-answer.ensures.scanned (ap (λ (k : Config). k.nspec) c.requires.ready.config)

@@ -5,6 +5,7 @@ use Rattle.dspec_buffer.specs.Stored.{Stored, HasPieces}
 use Rattle.dspec_deeds.proofs.TestLemmas.{number_is_itself}
 use Rattle.dspec_table.specs.Steps.{LoadedActivity}
 use Rattle.dspec_table.specs.Seats.{known}
+use Rattle.dspec_side.specs.declared.counts.Counts.{Counts}
 use Rattle.dspec_side.specs.Sides.{ShowsList}
 use Rattle.dspec_cpu.specs.Calls.{rests}
 use Rattle.dspec_cpu.specs.Lists.{words_of, worn_of}
@@ -12,7 +13,7 @@ use Rattle.dspec_cpu.proofs.Limits.{limits}
 use Rattle.dspec_cpu.proofs.Ready.{roomy, few_drops, ready_after, set_up_is, holder}
 use Rattle.dspec_cpu.proofs.Shown.{shows, shown_behind}
 use Rattle.dspec_cpu.proofs.Traces.{traces, asked}
-use Rattle.dspec_cpu.proofs.Stopping.{worn_out, shown_stop, shown_running}
+use Rattle.dspec_cpu.proofs.Keeps.{worn_keeps, loaded_keeps}
 use Rattle.dspec_cpu.proofs.parts.CpuParts.trace.Goals as goal
 
 pub returns-then-self-clause-did : goal.returns-then-self-clause-did
@@ -180,26 +181,29 @@ returns-clause-ready g c =
     did.stands ready.steady.idle refl
     ready.steady.spare ready.steady.few (Trace cpu.cpu c.args.rec.now traced.Kept ∷ ready.steady.list) (returns-clause-list g c ready.steady.list ready.steady.listed)
 
-pub returns-then-self-clause-stops : goal.returns-then-self-clause-stops
-returns-then-self-clause-stops g c = worn_out (known c.args.self.now.seat) (known c.args.self.now.seat)
+pub returns-then-self-clause-keeps : goal.returns-then-self-clause-keeps
+returns-then-self-clause-keeps g c = worn_keeps c.args.self.now 1 c.wear.new.self c.if-self.true c.wear.ensures
 
-pub returns-then-not-runs-clause-stops : goal.returns-then-not-runs-clause-stops
-returns-then-not-runs-clause-stops g c =
+pub returns-then-not-runs-clause-keeps : goal.returns-then-not-runs-clause-keeps
+returns-then-not-runs-clause-keeps g c =
     let cpu = c.args.self.now in
-    let w = known c.load_activity-runs.new.self in
-    let step = subst (λ b. LoadedActivity (asked c.args.rec.now c.fits-fits.result) (known cpu.seat) (not b) w) c.if-not-runs.true c.load_activity-runs.ensures.step in
-    shown_stop (asked c.args.rec.now c.fits-fits.result) (known cpu.seat) w step
+    let doing = asked c.args.rec.now c.fits-fits.result in
+    let seat = c.load_activity-runs.new.self in
+    let step = subst (λ b. LoadedActivity doing (known cpu.seat) (not b) (known seat)) c.if-not-runs.true c.load_activity-runs.ensures.step in
+    loaded_keeps cpu c.if-self.false seat c.trace_stopped.new.self _ c.trace_stopped.ensures.rest refl refl doing true step
 
-pub returns-then-not-trace-clause-stops : goal.returns-then-not-trace-clause-stops
-returns-then-not-trace-clause-stops g c =
+pub returns-then-not-trace-clause-keeps : goal.returns-then-not-trace-clause-keeps
+returns-then-not-trace-clause-keeps g c =
     let cpu = c.args.self.now in
-    let w = known c.load_activity-runs.new.self in
-    let step = subst (λ b. LoadedActivity (asked c.args.rec.now c.fits-fits.result) (known cpu.seat) (not b) w) c.if-not-runs.false c.load_activity-runs.ensures.step in
-    shown_running (asked c.args.rec.now c.fits-fits.result) (known cpu.seat) w w step
+    let doing = asked c.args.rec.now c.fits-fits.result in
+    let seat = c.load_activity-runs.new.self in
+    let step = subst (λ b. LoadedActivity doing (known cpu.seat) (not b) (known seat)) c.if-not-runs.false c.load_activity-runs.ensures.step in
+    loaded_keeps cpu c.if-self.false seat c.trace.new.self _ c.trace.ensures.rest refl (ap (λ (x : Counts). x.worn) c.trace.ensures.counts) doing false step
 
-pub returns-clause-stops : goal.returns-clause-stops
-returns-clause-stops g c =
+pub returns-clause-keeps : goal.returns-clause-keeps
+returns-clause-keeps g c =
     let cpu = c.args.self.now in
-    let w = known c.load_activity-runs.new.self in
-    let step = subst (λ b. LoadedActivity (asked c.args.rec.now c.fits-fits.result) (known cpu.seat) (not b) w) c.if-not-runs.false c.load_activity-runs.ensures.step in
-    shown_running (asked c.args.rec.now c.fits-fits.result) (known cpu.seat) w w step
+    let doing = asked c.args.rec.now c.fits-fits.result in
+    let seat = c.load_activity-runs.new.self in
+    let step = subst (λ b. LoadedActivity doing (known cpu.seat) (not b) (known seat)) c.if-not-runs.false c.load_activity-runs.ensures.step in
+    loaded_keeps cpu c.if-self.false seat c.trace.new.self _ c.trace.ensures.rest refl (ap (λ (x : Counts). x.worn) c.trace.ensures.counts) doing false step

@@ -14,22 +14,29 @@ read_word-requires c =
     let few = subst (λ (k : Config). k.max_issues ≤ 2 ^ 57) (sym c.requires.seat.1) c.args.words.now.issues in
     finds_word (known c.args.self.now) step.2.0 c.args.slot c.try_word_as-found.result step.0 few step.2.1 step.1 step.2.2
 
-pub returns-then-found-raw-clause-step : goal.returns-then-found-raw-clause-step
-returns-then-found-raw-clause-step c = tried_hit c.args.doing.now c.args.slot (known c.args.self.now) (known c.try_word_as-found.new.self)
-    (word_number c.args.to) c.try_word_as-found.result c.args.from (c.if-found-raw.true ∙ c.raw.ensures) c.try_word_as-found.ensures.step
+pub returns-then-found-raw : goal.returns-then-found-raw
+returns-then-found-raw c =
+    let step = c.try_word_as-found.ensures.step in
+    let hit = c.if-found-raw.true ∙ c.raw.ensures in
+    record {
+      seat = c.try_word_as-found.ensures.seat;
+      step = tried_hit c.args.doing.now c.args.slot (known c.args.self.now) (known c.try_word_as-found.new.self) (word_number c.args.to) c.try_word_as-found.result c.args.from hit step;
+      word = left_word c.try_word_as-found.result c.args.from c.args.to _ hit step.3;
+      greater = tt;
+      limit = tt;
+    }
 
-pub returns-else-found-raw-clause-step : goal.returns-else-found-raw-clause-step
-returns-else-found-raw-clause-step c =
-    tried_miss c.args.doing.now c.args.slot (known c.args.self.now) (known c.try_word_as-found.new.self) (word_number c.args.to) c.try_word_as-found.result c.args.from c.read_word.result
-    (λ e. c.if-found-raw.false (e ∙ sym c.raw.ensures)) c.read_word.ensures.number c.try_word_as-found.ensures.step
-
-pub returns-else-found-raw-clause-greater : goal.returns-else-found-raw-clause-greater
-returns-else-found-raw-clause-greater c =
+pub returns-else-found-raw : goal.returns-else-found-raw
+returns-else-found-raw c =
     let step = c.try_word_as-found.ensures.step in
     let got = c.read_word.result in
     let same = one_word got step.0 (c.read_word.ensures.number ∙ step.1) in
-    shown_greater (known c.args.self.now) step.2.0 c.args.slot c.args.from got c.requires.call.2 step.2.1 (same ∙ step.2.2)
-    (λ e. c.if-found-raw.false (sym c.read_word.ensures.number ∙ (ap word_number e ∙ sym c.raw.ensures)))
-
-pub returns-then-found-raw-clause-word : goal.returns-then-found-raw-clause-word
-returns-then-found-raw-clause-word c = left_word c.try_word_as-found.result c.args.from c.args.to _ (c.if-found-raw.true ∙ c.raw.ensures) c.try_word_as-found.ensures.step.3
+    record {
+      seat = c.try_word_as-found.ensures.seat;
+      step = tried_miss c.args.doing.now c.args.slot (known c.args.self.now) (known c.try_word_as-found.new.self) (word_number c.args.to) c.try_word_as-found.result c.args.from got
+          (λ e. c.if-found-raw.false (e ∙ sym c.raw.ensures)) c.read_word.ensures.number step;
+      word = tt;
+      greater = shown_greater (known c.args.self.now) step.2.0 c.args.slot c.args.from got c.requires.call.2 step.2.1 (same ∙ step.2.2)
+          (λ e. c.if-found-raw.false (sym c.read_word.ensures.number ∙ (ap word_number e ∙ sym c.raw.ensures)));
+      limit = c.read_word.ensures.limit;
+    }

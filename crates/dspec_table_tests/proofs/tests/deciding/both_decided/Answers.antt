@@ -37,7 +37,7 @@ returns-clause-rests c =
     let theirs = discards k (known second) (known c.shown-theirs.new.seat) second.cpu c.args.discard.now c.args.id c.shown-theirs.result c.in-Attempt-discard_at.thrown
     c.requires.discard (sym c.discard_at.ensures ∙ c.in-Attempt-discard_at.is) c.shown-theirs.ensures.next in (
       tried_rests k first.cpu (known c.shown-ours.new.seat) (known c.decide_word-2.new.self) c.args.commit.now c.in-Err.word false (subst IsDeciding (sym c.requires.commit) tt)
-          (subst (Unused k first.cpu) (sym ours.1) c.requires.first.2) c.in-Err.ensures.step,
+          (subst (Unused k first.cpu) (sym ours.1) c.requires.first.2) c.in-Err.ensures.tried.step,
       tried_rests k second.cpu (known c.shown-theirs.new.seat) (known c.decide_word.new.self) c.args.discard.now c.shown-theirs.result true (subst IsDeciding (sym c.requires.discard) tt)
-          (subst (Unused k second.cpu) (sym theirs.1) c.requires.second.2) c.in-Ok.ensures.step,
+          (subst (Unused k second.cpu) (sym theirs.1) c.requires.second.2) c.in-Ok.ensures.tried.step,
     )

@@ -37,6 +37,6 @@ join_word-requires-3-clause-call c =
     let may = (joins k (known c.args.second.now) (known seat) c.args.second.now.cpu call c.args.id c.args.rec shown c.in-Attempt-speculate_at._theirs c.requires.op
     (sym c.speculate_at-2.ensures ∙ c.in-Attempt-speculate_at.is) c.shown-theirs.ensures.next).0.0 in
     let may = subst (λ (n : ℕ). MayLoad k (known seat) n call 1 call.op) (sym c.shown-theirs.ensures.seat.1) may in
-    subst (λ (n : ℕ). MayTry k (known new) n call 1 from (joined_word from)) (sym c.join_word-2.ensures.seat.1)
+    subst (λ (n : ℕ). MayTry k (known new) n call 1 from (joined_word from)) (sym c.join_word-2.ensures.tried.seat.1)
     (joins k (known seat) (known new) seat.cpu call c.args.id c.args.rec from c.in-Attempt-speculate_at-2._again c.requires.op (sym c.speculate_at-3.ensures ∙ c.in-Attempt-speculate_at-2.is)
-    (λ to attempts. tries_again k (known seat) (known new) seat.cpu 1 call from to seat.who_is may c.in-Err.ensures.step attempts)).0
+    (λ to attempts. tries_again k (known seat) (known new) seat.cpu 1 call from to seat.who_is may c.in-Err.ensures.tried.step attempts)).0
