@@ -8,6 +8,7 @@ pub mod CleanMakings
 pub mod TakenBatches
 pub mod OwnSlots
 pub mod DecidedCpus
+pub mod OwnBlocks
 pub mod DecisionMoves
 pub mod SoloDiscards
 pub mod Rooms
