@@ -6,13 +6,15 @@ use Rattle.dspec_buffer.specs.Extent.{Piece, one}
 use Rattle.dspec_word.specs.SpecId.{Speculation}
 use Rattle.dspec_deeds.specs.declared.deed.DecideFate.{DecideFate}
 use Rattle.dspec_deeds.specs.declared.deed.Deed.{Deed}
-use Rattle.dspec_deeds.specs.declared.deed.Deed.TheVariants.{Settle}
-use Rattle.dspec_deeds.specs.FateKinds.{is_copied}
+use Rattle.dspec_deeds.specs.declared.deed.Deed.TheVariants.{Settle, Speculate}
+use Rattle.dspec_deeds.specs.declared.deed.SpeculateFate.{SpeculateFate}
+use Rattle.dspec_deeds.specs.FateKinds.{is_copied, spoken_granted}
 use Rattle.dspec_deeds.specs.History.{is_open, issue}
 use Rattle.dspec_deeds.specs.Legal.{IsSound}
 use Rattle.dspec_deeds.specs.Own.{contents, held, seals_now, stream}
 use Rattle.dspec_deeds.specs.Ranges.{start_fault}
 use Rattle.dspec_deeds.proofs.PresentIds.{open_present}
+use Rattle.dspec_deeds.proofs.WordChanges.{granted_open}
 use Rattle.dspec_side.specs.declared.side.Side.{Side}
 use Rattle.dspec_side.specs.Sides.{ShowsList}
 use Rattle.dspec_play.specs.Coherent.{IsSlot}
@@ -42,10 +44,15 @@ module _ {S B : Type 0} (has : B → S → List Piece → Type 0) (capacity : B 
     pub streamed : mid ≡ record own { accepted = own.accepted ++ (if is_copied f then reverse (contents (held c id (history m))) else []) }
     pub shows : ShowsList (λ b. has b m.schema) capacity m.config c (history m) mid.side
 
+-- a record is granted for a speculation of a slot of the session
+pub granted_slot : {S B : Type 0} (m : Machine S B) → start_fault m.config ≡ None → (c : ℕ) (id : Speculation) (r : Record) (f : SpeculateFate) → spoken_granted f ≡ true
+    → IsSound m.config (Speculate c id r f ∷ history m) → IsSlot m.config id.slot
+granted_slot m fine c id r f granted sound = open_slot m.config (history m) id fine sound.0 (granted_open m.config c id r f (history m) sound granted)
+
 module _ {S B : Type 0} {has : B → S → List Piece → Type 0} {capacity : B → ℕ} {m : Machine S B} (shown : IsShownMachine has capacity m) (c : ℕ) (lt : c < m.config.cpus)
     {own : Cpu B} (is : own ≡ get_or m.cpus.items c own) (fine : start_fault m.config ≡ None) (id : Speculation) where
   -- the block of a speculation that is open
-  pub open_block : IsSound m.config (history m) → is_open id (history m) ≡ true → HasOwnBlock has capacity m c id own
+  open_block : IsSound m.config (history m) → is_open id (history m) ≡ true → HasOwnBlock has capacity m c id own
   open_block sound opens =
       let got = cpu_got has capacity m shown c own lt is in
       record {
@@ -56,6 +63,10 @@ module _ {S B : Type 0} {has : B → S → List Piece → Type 0} {capacity : B 
         sound = sound;
         now = (open_present m.config (history m) id sound opens).now;
       }
+
+  -- of one that a record is granted for next
+  pub granted_block : (r : Record) (f : SpeculateFate) → spoken_granted f ≡ true → IsSound m.config (Speculate c id r f ∷ history m) → HasOwnBlock has capacity m c id own
+  granted_block r f granted sound = open_block sound.0 (granted_open m.config c id r f (history m) sound granted)
 
   -- of one that is decided next
   pub decided_block : (f : DecideFate) (x : Decision) → decides x f ≡ true → IsSound m.config (deed_of x c id f ∷ history m) → HasOwnBlock has capacity m c id own

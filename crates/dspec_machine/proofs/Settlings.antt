@@ -1,7 +1,6 @@
 -- What the close makes of a machine, slot by slot.
-use Rattle.std.proofs.Common.{◌≡◌, ◌≢◌, ℕ, ◌+◌, ◌-◌, ◌<◌, List, [], ◌∷◌, get_or, Option, Some, if◌then◌else◌, refl, sym, ap, ◌∙◌, subst, add-one, arith}
-use Rattle.std.specs.Prelude.{Result, Ok, Err, OnOk, slice_get}
-use Rattle.std.proofs.lemmas.Option.{slice_get_read}
+use Rattle.std.proofs.Common.{◌≡◌, ◌≢◌, ℕ, ◌+◌, ◌-◌, ◌<◌, List, [], ◌∷◌, get_or, Option, if◌then◌else◌, refl, sym, ap, ◌∙◌, subst, add-one}
+use Rattle.std.specs.Prelude.{Result, Ok, Err, OnOk}
 use Rattle.dspec_record.specs.declared.field.Shape.{Shape}
 use Rattle.dspec_buffer.specs.Extent.{Piece}
 use Rattle.dspec_word.specs.declared.act.Act.{Act}
@@ -24,7 +23,7 @@ use Rattle.dspec_machine.specs.Machines.{IsShownMachine, Adds, history, state_of
 use Rattle.dspec_deeds.specs.Settling.{settle_fate}
 use Rattle.dspec_deeds.specs.Ranges.{start_fault}
 use Rattle.dspec_play.proofs.Closing.{slot_settles}
-use Rattle.dspec_machine.proofs.MachineReads.{cpu_read}
+use Rattle.dspec_machine.proofs.MachineReads.{ack_read}
 use Rattle.dspec_machine.proofs.OneMore.{word_there}
 
 -- a settlement is entered where the table grants it
@@ -97,15 +96,10 @@ module _ {S B : Type 0} {has : B → S → List Piece → Type 0} {capacity : B 
     -- what is read of the slot
     pub slot_read : {own : Cpu B} {w : SlotState} {a : ℕ} → own ≡ get_or m.cpus.items c own → w ≡ get_or m.words.items (s - 1) w → a ≡ get_or own.side.acks.items (s - 1) a
         → ShowsSlot c s (history m) w a
-    slot_read {own = own} {w = w} {a = a} is worded acked =
-        let shows = (cpu_read has capacity m can.shown c own lt is).side.parts in
-        let least = slot.0 in
-        let most = slot.1 in
-        let within : s - 1 < m.config.nspec = omega (arith, least, most) in
-        let read = slice_get_read own.side.acks.items m.config.nspec (s - 1) a (sym shows.ack_count) within acked in
-        let there : slice_get own.side.acks.items (s - 1) ≡ Some (ack c s (history m)) = shows.acks s least most in
-        let same : a ≡ ack c s (history m) = cc in
-        record { word = word_there m.config (history m) m.words.items s w least most can.shown.words worded; acked = same }
+    slot_read {own = own} {w = w} {a = a} is worded acked = record {
+      word = word_there m.config (history m) m.words.items s w slot.0 slot.1 can.shown.words worded;
+      acked = ack_read has capacity m can.shown c s own a lt slot is acked;
+    }
 
     pub closes_still : CanClose (shape_of m.schema) m.config closed
     closes_still = (slot_settles (shape_of m.schema) m.config can.fine c s (history m) can.can_close lt slot).0.rest
