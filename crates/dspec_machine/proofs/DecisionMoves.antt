@@ -61,10 +61,10 @@ granted : (b : Bool) → not b ≡ true → b ≡ false
 granted true e = cc (e)
 granted false e = refl
 
-expected : (now w from : SlotState) (test : Bool) → w ≡ now → test ≡ not (word_number w == word_number from) → test ≡ false → same_word now from ≡ true
+pub expected : (now w from : SlotState) (test : Bool) → w ≡ now → test ≡ not (word_number w == word_number from) → test ≡ false → same_word now from ≡ true
 expected now w from test is tests e = ap (λ x. same_word x from) (sym is) ∙ denied (same_word w from) (ap not (sym (words_test w from)) ∙ (sym tests ∙ e))
 
-another : (now w from : SlotState) (test : Bool) → w ≡ now → test ≡ not (word_number w == word_number from) → test ≡ true → same_word now from ≡ false
+pub another : (now w from : SlotState) (test : Bool) → w ≡ now → test ≡ not (word_number w == word_number from) → test ≡ true → same_word now from ≡ false
 another now w from test is tests e = ap (λ x. same_word x from) (sym is) ∙ granted (same_word w from) (ap not (sym (words_test w from)) ∙ (sym tests ∙ e))
 
 -- what the table was asked is what it says of the list
