@@ -3,6 +3,7 @@ pub mod Batches
 pub mod KeptCpus
 pub mod MachineReads
 pub mod OneMore
+pub mod SlotReads
 pub mod Makings
 pub mod CleanMakings
 pub mod TakenBatches

@@ -1,5 +1,5 @@
 -- What the close makes of a machine, slot by slot.
-use Rattle.std.proofs.Common.{◌≡◌, ◌≢◌, ℕ, ◌+◌, ◌-◌, ◌<◌, List, [], ◌∷◌, get_or, Option, if◌then◌else◌, refl, sym, ap, ◌∙◌, subst, add-one}
+use Rattle.std.proofs.Common.{◌≡◌, ◌≢◌, ℕ, ◌+◌, ◌<◌, List, [], ◌∷◌, Option, if◌then◌else◌, refl, sym, ap, ◌∙◌, subst, add-one}
 use Rattle.std.specs.Prelude.{Result, Ok, Err, OnOk}
 use Rattle.dspec_record.specs.declared.field.Shape.{Shape}
 use Rattle.dspec_buffer.specs.Extent.{Piece}
@@ -14,7 +14,6 @@ use Rattle.dspec_deeds.specs.declared.deed.DecideFate.{DecideFate}
 use Rattle.dspec_deeds.specs.declared.deed.Deed.{Deed}
 use Rattle.dspec_deeds.specs.declared.deed.Deed.TheVariants.{Settle}
 use Rattle.dspec_machine.specs.declared.machine.Machine.{Machine}
-use Rattle.dspec_machine.specs.declared.cpu.Cpu.{Cpu}
 use Rattle.dspec_deeds.specs.History.{present, word_at, ack}
 use Rattle.dspec_play.specs.Coherent.{IsSlot, PlayState}
 use Rattle.dspec_deeds.specs.Closes.{CanClose, is_granted, closed_slot, closed_slots, closed_cpus}
@@ -23,8 +22,7 @@ use Rattle.dspec_machine.specs.Machines.{IsShownMachine, Adds, history, state_of
 use Rattle.dspec_deeds.specs.Settling.{settle_fate}
 use Rattle.dspec_deeds.specs.Ranges.{start_fault}
 use Rattle.dspec_play.proofs.Closing.{slot_settles}
-use Rattle.dspec_machine.proofs.MachineReads.{ack_read}
-use Rattle.dspec_machine.proofs.OneMore.{word_there}
+use Rattle.dspec_machine.proofs.SlotReads.{ShowsSlot, row_read}
 
 -- a settlement is entered where the table grants it
 unless_granted : (act : Act) (xs ys : List Deed) → act ≢ Granted → (if is_granted act then xs else ys) ≡ ys
@@ -32,11 +30,6 @@ unless_granted Void xs ys bare = refl
 unless_granted Granted xs ys bare = absurd (bare refl)
 unless_granted (Attempt to) xs ys bare = refl
 unless_granted Idle xs ys bare = refl
-
--- what a list shows a CPU of a slot: the word, and what the CPU has acknowledged
-pub record ShowsSlot (c s : ℕ) (h : List Deed) (w : SlotState) (a : ℕ) : Type 0 where
-  pub word : w ≡ word_at s h
-  pub acked : a ≡ ack c s h
 
 module _ {c s : ℕ} {h : List Deed} {w : SlotState} {a : ℕ} (shows : ShowsSlot c s h w a) where
   -- the identifier that the word names
@@ -52,9 +45,7 @@ module _ {c s : ℕ} {h : List Deed} {w : SlotState} {a : ℕ} (shows : ShowsSlo
 
     -- what the close makes of the list, by the row of the table
     by_row : closed_slot shape k c s h ≡ (if is_granted act then due else h)
-    by_row =
-        let row : act ≡ settle_at (word_at s h) (ack c s h) = acts ∙ (λ i. settle_at (shows.word i) (shows.acked i)) in
-        ap (λ (x : Act). if is_granted x then due else h) (sym row)
+    by_row = ap (λ (x : Act). if is_granted x then due else h) (sym (row_read shows acts))
 
     pub none_due : act ≢ Granted → closed_slot shape k c s h ≡ h
     none_due bare = by_row ∙ unless_granted act due h bare
@@ -92,14 +83,6 @@ module _ {S B : Type 0} {has : B → S → List Piece → Type 0} {capacity : B 
     -- the list once the slot is closed
     abbrev closed : List Deed
     closed = closed_slot (shape_of m.schema) m.config c s (history m)
-
-    -- what is read of the slot
-    pub slot_read : {own : Cpu B} {w : SlotState} {a : ℕ} → own ≡ get_or m.cpus.items c own → w ≡ get_or m.words.items (s - 1) w → a ≡ get_or own.side.acks.items (s - 1) a
-        → ShowsSlot c s (history m) w a
-    slot_read {own = own} {w = w} {a = a} is worded acked = record {
-      word = word_there m.config (history m) m.words.items s w slot.0 slot.1 can.shown.words worded;
-      acked = ack_read has capacity m can.shown c s own a lt slot is acked;
-    }
 
     pub closes_still : CanClose (shape_of m.schema) m.config closed
     closes_still = (slot_settles (shape_of m.schema) m.config can.fine c s (history m) can.can_close lt slot).0.rest

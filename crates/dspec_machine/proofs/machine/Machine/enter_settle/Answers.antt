@@ -1,5 +1,5 @@
 -- A settlement ends the CPU's block, and leaves the words.
-use Rattle.std.proofs.Common.{◌≤◌, ◌∷◌, refl, sym, ap, ◌∙◌, subst, rules}
+use Rattle.std.proofs.Common.{◌≤◌, refl, sym, ap, ◌∙◌, subst, rules}
 use Rattle.std.specs.Vec.{with_item}
 use Rattle.dspec_deeds.specs.declared.deed.Deed.TheVariants.{Settle}
 use Rattle.dspec_deeds.proofs.Items.{kept_item}
