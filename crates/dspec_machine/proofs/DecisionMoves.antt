@@ -1,7 +1,6 @@
 -- What the steps of a call that decides make, for commit and discard alike.
 use Rattle.std.proofs.Common.{◌≡◌, ◌≢◌, ℕ, ◌+◌, ◌<◌, ◌==◌, Bool, true, false, not, List, [], ◌∷◌, ◌++◌, Option, Some, None, if◌then◌else◌, refl, sym, ap, ◌∙◌, subst}
 use Rattle.dspec_record.specs.declared.field.Shape.{Shape}
-use Rattle.dspec_buffer.specs.Extent.{Piece}
 use Rattle.dspec_word.specs.declared.act.Act.TheVariants.{Attempt}
 use Rattle.dspec_word.specs.SpecId.{Speculation}
 use Rattle.dspec_word.specs.Word.{SlotState, word_number}
@@ -31,7 +30,7 @@ use Rattle.dspec_play.proofs.StepReads.{flight_stands, step_legal}
 use Rattle.dspec_play.proofs.StepsWords.{same_word_tells}
 use Rattle.dspec_play.proofs.TableReads.{commit_reads, discard_reads}
 use Rattle.dspec_play.proofs.StepsWords.{words_test}
-use Rattle.dspec_machine.proofs.WordsShown.{words_set, words_stay}
+use Rattle.dspec_machine.proofs.WordsShown.{words_stay}
 
 -- what is void or stopped decides nothing
 pub void_decides_not : (d : Decision) → decides d decided.Void ≡ false

@@ -14,7 +14,7 @@ use Rattle.dspec_deeds.specs.declared.deed.DecideFate.{DecideFate}
 use Rattle.dspec_deeds.specs.declared.deed.Deed.{Deed}
 use Rattle.dspec_deeds.specs.declared.deed.Deed.TheVariants.{Settle}
 use Rattle.dspec_machine.specs.declared.machine.Machine.{Machine}
-use Rattle.dspec_deeds.specs.History.{present, word_at, ack}
+use Rattle.dspec_deeds.specs.History.{present, word_at}
 use Rattle.dspec_play.specs.Coherent.{IsSlot, PlayState}
 use Rattle.dspec_deeds.specs.Closes.{CanClose, is_granted, closed_slot, closed_slots, closed_cpus}
 use Rattle.dspec_machine.specs.Closings.{IsClosable, ClosesTo}

@@ -1,8 +1,6 @@
 -- A traced record is on its CPU's side and, kept, in the stream; the words stay.
-use Rattle.std.proofs.Common.{◌≡◌, true, ◌∷◌, [], reverse, if◌then◌else◌, refl, sym, ap, ◌∙◌, subst, true≢false, rules}
+use Rattle.std.proofs.Common.{◌≡◌, ◌∷◌, refl, sym, ap, ◌∙◌, subst, true≢false, rules}
 use Rattle.std.specs.Vec.{with_item}
-use Rattle.dspec_record.specs.Record.{Record}
-use Rattle.dspec_deeds.specs.declared.deed.Deed.{Deed}
 use Rattle.dspec_deeds.specs.declared.deed.Deed.TheVariants as deed
 use Rattle.dspec_deeds.specs.declared.deed.TraceFate.TheVariants as traced
 use Rattle.dspec_deeds.proofs.Items.{kept_item}
