@@ -128,13 +128,13 @@ module _ (shape : ℕ → Option Shape) (k : Config) (c : ℕ) (h : List Deed) (
       rw same (ap (discarded_by shape k c h me id) expected)
 
 -- an exchange that is tried, in a coherent state, and the word that it is shown
-module _ (shape : ℕ → Option Shape) (st : PlayState) (coherent : IsCoherent shape st) (c : ℕ) (lt : c < st.config.cpus) (d : Decision) (id : Speculation) (from : SlotState)
+module _ {shape : ℕ → Option Shape} {st : PlayState} (coherent : IsCoherent shape st) (c : ℕ) (lt : c < st.config.cpus) (d : Decision) (id : Speculation) (from : SlotState)
     (flies : (progress_of st.progresses c).flight ≡ Some (try_of d id from)) where
   -- it is about a slot of the session
   pub tried_slot : in_range st.config id ≡ true
   tried_slot = (try_stands shape st.config c st.deeds (progress_of st.progresses c) id d from (flight_stands shape st coherent c lt (try_of d id from) flies)).0.in_range
 
-  module _ (w : SlotState) (test : Bool) (is : w ≡ word_at id.slot st.deeds) (tests : test ≡ not (word_number w == word_number from)) where
+  module _ {w : SlotState} {test : Bool} (is : w ≡ word_at id.slot st.deeds) (tests : test ≡ not (word_number w == word_number from)) where
     -- where the word is another one
     pub fails : test ≡ true → cpu_step shape st.config c st.deeds (progress_of st.progresses c) (try_of d id from) ≡ shown_by shape st.config c st.deeds (progress_of st.progresses c) d id
     fails e = try_shows shape st.config c st.deeds (progress_of st.progresses c) id d from (another (word_at id.slot st.deeds) w from test is tests e)
