@@ -1,5 +1,5 @@
 -- How an atomic step of the consumer is put together that changes what is kept of one CPU, and then its own side.
-use Rattle.std.proofs.Common.{◌≡◌, ℕ, List, [], set, Option, Some, None, ap, ◌∙◌}
+use Rattle.std.proofs.Common.{◌≡◌, ℕ, List, [], set, Option, None, ap, ◌∙◌}
 use Rattle.dspec_buffer.specs.Extent.{Piece}
 use Rattle.dspec_deeds.specs.declared.calls.Answer.{Answer}
 use Rattle.dspec_play.specs.declared.flight.CpuProgress.{CpuProgress}

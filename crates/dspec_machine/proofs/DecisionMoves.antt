@@ -1,7 +1,6 @@
 -- What the steps of a call that decides make, for commit and discard alike.
 use Rattle.std.proofs.Common.{◌≡◌, ◌≢◌, ℕ, ◌+◌, ◌<◌, ◌==◌, Bool, true, false, not, List, [], ◌∷◌, ◌++◌, Option, Some, None, if◌then◌else◌, refl, sym, ap, ◌∙◌, subst}
 use Rattle.dspec_record.specs.declared.field.Shape.{Shape}
-use Rattle.dspec_buffer.specs.Extent.{Piece}
 use Rattle.dspec_word.specs.declared.act.Act.TheVariants.{Attempt}
 use Rattle.dspec_word.specs.SpecId.{Speculation}
 use Rattle.dspec_word.specs.Word.{SlotState, word_number}
@@ -31,7 +30,7 @@ use Rattle.dspec_play.proofs.StepReads.{flight_stands, step_legal}
 use Rattle.dspec_play.proofs.StepsWords.{same_word_tells}
 use Rattle.dspec_play.proofs.TableReads.{commit_reads, discard_reads}
 use Rattle.dspec_play.proofs.StepsWords.{words_test}
-use Rattle.dspec_machine.proofs.WordsShown.{words_set, words_stay}
+use Rattle.dspec_machine.proofs.WordsShown.{words_stay}
 
 -- what is void or stopped decides nothing
 pub void_decides_not : (d : Decision) → decides d decided.Void ≡ false
@@ -61,10 +60,10 @@ granted : (b : Bool) → not b ≡ true → b ≡ false
 granted true e = cc (e)
 granted false e = refl
 
-expected : (now w from : SlotState) (test : Bool) → w ≡ now → test ≡ not (word_number w == word_number from) → test ≡ false → same_word now from ≡ true
+pub expected : (now w from : SlotState) (test : Bool) → w ≡ now → test ≡ not (word_number w == word_number from) → test ≡ false → same_word now from ≡ true
 expected now w from test is tests e = ap (λ x. same_word x from) (sym is) ∙ denied (same_word w from) (ap not (sym (words_test w from)) ∙ (sym tests ∙ e))
 
-another : (now w from : SlotState) (test : Bool) → w ≡ now → test ≡ not (word_number w == word_number from) → test ≡ true → same_word now from ≡ false
+pub another : (now w from : SlotState) (test : Bool) → w ≡ now → test ≡ not (word_number w == word_number from) → test ≡ true → same_word now from ≡ false
 another now w from test is tests e = ap (λ x. same_word x from) (sym is) ∙ granted (same_word w from) (ap not (sym (words_test w from)) ∙ (sym tests ∙ e))
 
 -- what the table was asked is what it says of the list
@@ -129,13 +128,13 @@ module _ (shape : ℕ → Option Shape) (k : Config) (c : ℕ) (h : List Deed) (
       rw same (ap (discarded_by shape k c h me id) expected)
 
 -- an exchange that is tried, in a coherent state, and the word that it is shown
-module _ (shape : ℕ → Option Shape) (st : PlayState) (coherent : IsCoherent shape st) (c : ℕ) (lt : c < st.config.cpus) (d : Decision) (id : Speculation) (from : SlotState)
+module _ {shape : ℕ → Option Shape} {st : PlayState} (coherent : IsCoherent shape st) (c : ℕ) (lt : c < st.config.cpus) (d : Decision) (id : Speculation) (from : SlotState)
     (flies : (progress_of st.progresses c).flight ≡ Some (try_of d id from)) where
   -- it is about a slot of the session
   pub tried_slot : in_range st.config id ≡ true
   tried_slot = (try_stands shape st.config c st.deeds (progress_of st.progresses c) id d from (flight_stands shape st coherent c lt (try_of d id from) flies)).0.in_range
 
-  module _ (w : SlotState) (test : Bool) (is : w ≡ word_at id.slot st.deeds) (tests : test ≡ not (word_number w == word_number from)) where
+  module _ {w : SlotState} {test : Bool} (is : w ≡ word_at id.slot st.deeds) (tests : test ≡ not (word_number w == word_number from)) where
     -- where the word is another one
     pub fails : test ≡ true → cpu_step shape st.config c st.deeds (progress_of st.progresses c) (try_of d id from) ≡ shown_by shape st.config c st.deeds (progress_of st.progresses c) d id
     fails e = try_shows shape st.config c st.deeds (progress_of st.progresses c) id d from (another (word_at id.slot st.deeds) w from test is tests e)

@@ -1,5 +1,5 @@
 -- What is kept of a CPU shows the list after a deed: the CPU's own, another's, or a release by whomever.
-use Rattle.std.proofs.Common.{◌≡◌, ℕ, ◌+◌, ◌<◌, ◌≤◌, ◌^◌, true, false, ◌==◌, ⊎_elim, List, [], ◌∷◌, length, reverse, take, refl, sym, ap, ◌∙◌, subst, arith, add-zero}
+use Rattle.std.proofs.Common.{◌≡◌, ℕ, ◌+◌, ◌<◌, ◌≤◌, ◌^◌, true, false, ⊎_elim, List, [], ◌∷◌, length, reverse, take, refl, sym, ap, ◌∙◌, subst, arith, add-zero}
 use Rattle.std.specs.Prelude.{nat_lt}
 use Rattle.std.proofs.lemmas.Bool.Decides.{nat_tests}
 use Rattle.std.proofs.lemmas.List.{reverse-append, length-reverse, take-append-le}
@@ -15,7 +15,6 @@ use Rattle.dspec_deeds.specs.History.{author, part, same_actor}
 use Rattle.dspec_deeds.specs.Own.{active, batches, batch_records, contents, growing, seals, seals_now, stream}
 use Rattle.dspec_deeds.specs.OwnShown.{OwnSide, ShowsOwnSide, own_side}
 use Rattle.dspec_deeds.specs.Owning.{ReadsApart}
-use Rattle.dspec_deeds.specs.Reports.{report}
 use Rattle.dspec_deeds.proofs.OwnReads.{apart_other, reads}
 use Rattle.dspec_deeds.proofs.OwnSides.{side_part}
 use Rattle.dspec_deeds.proofs.StayingOwn.{accepted_other, batches_other}

@@ -3,11 +3,13 @@ pub mod Batches
 pub mod KeptCpus
 pub mod MachineReads
 pub mod OneMore
+pub mod SlotReads
 pub mod Makings
 pub mod CleanMakings
 pub mod TakenBatches
 pub mod OwnSlots
 pub mod DecidedCpus
+pub mod OwnBlocks
 pub mod DecisionMoves
 pub mod SoloDiscards
 pub mod Rooms

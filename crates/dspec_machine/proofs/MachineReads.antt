@@ -1,5 +1,5 @@
 -- What a read of a machine's parts shows.
-use Rattle.std.proofs.Common.{ℕ, suc, ◌≡◌, ◌-◌, ◌<◌, ◌≤◌, true, List, [], ◌∷◌, length, get_or, Option, Some, refl, sym, arith}
+use Rattle.std.proofs.Common.{ℕ, ◌≡◌, ◌-◌, ◌<◌, ◌≤◌, true, List, [], ◌∷◌, length, get_or, Some, refl, sym, arith}
 use Rattle.std.specs.Prelude.{slice_get}
 use Rattle.std.proofs.lemmas.Option.{slice_get_read}
 use Rattle.std.proofs.lemmas.Bool.Decides.{nat_tests}
@@ -8,9 +8,10 @@ use Rattle.dspec_word.specs.SpecId.{Speculation}
 use Rattle.dspec_deeds.specs.declared.config.Config.{Config}
 use Rattle.dspec_machine.specs.declared.machine.Machine.{Machine}
 use Rattle.dspec_machine.specs.declared.cpu.Cpu.{Cpu}
-use Rattle.dspec_deeds.specs.History.{in_range}
+use Rattle.dspec_deeds.specs.History.{ack, in_range}
 use Rattle.dspec_deeds.specs.Own.{Offer, contents}
 use Rattle.dspec_play.specs.Coherent.{IsSlot}
+use Rattle.dspec_play.proofs.CleanReads.{number_there}
 use Rattle.dspec_machine.specs.Shown.{ShowsCpu}
 use Rattle.dspec_machine.specs.Machines.{IsShownMachine, history}
 
@@ -33,3 +34,10 @@ module _ {S B : Type 0} (has : B → S → List Piece → Type 0) (capacity : B 
   -- and what it shows
   pub cpu_read : (c : ℕ) (own : Cpu B) → c < m.config.cpus → own ≡ get_or m.cpus.items c own → ShowsCpu has capacity m.schema m.config c (history m) own
   cpu_read c own lt e = shown.cpus c own (cpu_got c own lt e)
+
+  -- the acknowledgement that an index reads
+  pub ack_read : (c s : ℕ) (own : Cpu B) (a : ℕ) → c < m.config.cpus → IsSlot m.config s → own ≡ get_or m.cpus.items c own → a ≡ get_or own.side.acks.items (s - 1) a → a ≡ ack c s (history m)
+  ack_read c s own a lt slot is e =
+      let shows = (cpu_read c own lt is).side.parts in
+      number_there own.side.acks.items m.config.nspec (s - 1) a (ack c s (history m)) shows.ack_count (place_within s s m.config.nspec m.config.nspec refl slot.0 slot.1 refl) e
+      (shows.acks s slot.0 slot.1)

@@ -17,7 +17,7 @@ use Rattle.dspec_deeds.specs.declared.deed.TraceFate.TheVariants as traced
 use Rattle.dspec_deeds.specs.declared.deed.Deed.{Deed}
 use Rattle.dspec_deeds.specs.declared.deed.Deed.TheVariants.{Trace, Speculate, Commit, Discard, Settle}
 use Rattle.dspec_deeds.specs.FateKinds.{decided_stopped, is_commit, is_copied, is_discard, spoken_granted, trace_kept}
-use Rattle.dspec_deeds.specs.History.{Verdict, undecided, committed, discarded, verdict, is_undecided, is_open, issue, present}
+use Rattle.dspec_deeds.specs.History.{Verdict, undecided, committed, discarded, verdict, is_undecided, is_open, issue}
 use Rattle.dspec_deeds.specs.Legal.{IsSound, OwnAllows, SettlesAs, fits_principal, fits_speculative}
 use Rattle.dspec_deeds.specs.Marks.{mark}
 use Rattle.dspec_deeds.specs.Own.{accepted, contents, held, stream}
@@ -29,7 +29,7 @@ use Rattle.dspec_deeds.proofs.SetUp.{set_up}
 use Rattle.dspec_deeds.proofs.SoundLists.{opened_in_range}
 use Rattle.dspec_deeds.proofs.TestLemmas.{number_is_itself}
 use Rattle.dspec_side.specs.declared.side.Side.{Side}
-use Rattle.dspec_side.specs.Sides.{IsCaller, IsFilledWith, ShowsList}
+use Rattle.dspec_side.specs.Sides.{IsCaller, ShowsList}
 use Rattle.dspec_play.specs.Coherent.{IsSlot}
 use Rattle.dspec_machine.proofs.Batches.{stream_more}
 

@@ -10,7 +10,7 @@ use Rattle.dspec_deeds.specs.declared.deed.Deed.{Deed}
 use Rattle.dspec_deeds.specs.declared.report.Report.{Report}
 use Rattle.dspec_deeds.specs.FateKinds.{is_lost}
 use Rattle.dspec_deeds.specs.Legal.{IsAllowed}
-use Rattle.dspec_deeds.specs.Own.{calls, is_drop, offers}
+use Rattle.dspec_deeds.specs.Own.{calls, is_drop}
 use Rattle.dspec_deeds.specs.Ranges.{start_fault}
 use Rattle.dspec_deeds.specs.Reports.{one_if, report, speculative, total}
 use Rattle.dspec_deeds.proofs.Balance.{balance}

@@ -1,25 +1,28 @@
 -- What the close makes of a machine, slot by slot.
-use Rattle.std.proofs.Common.{◌≡◌, ◌≢◌, ℕ, ◌+◌, ◌-◌, ◌<◌, List, [], ◌∷◌, get_or, Option, Some, None, if◌then◌else◌, refl, sym, ap, ◌∙◌, subst, add-one, arith}
-use Rattle.std.specs.Prelude.{slice_get}
-use Rattle.std.proofs.lemmas.Option.{slice_get_read}
+use Rattle.std.proofs.Common.{◌≡◌, ◌≢◌, ℕ, ◌+◌, ◌<◌, List, [], ◌∷◌, Option, if◌then◌else◌, refl, sym, ap, ◌∙◌, subst, add-one}
+use Rattle.std.specs.Prelude.{Result, Ok, Err, OnOk}
 use Rattle.dspec_record.specs.declared.field.Shape.{Shape}
 use Rattle.dspec_buffer.specs.Extent.{Piece}
 use Rattle.dspec_word.specs.declared.act.Act.{Act}
 use Rattle.dspec_word.specs.declared.act.Act.TheVariants.{Void, Granted, Attempt, Idle}
+use Rattle.dspec_word.specs.declared.code.Code.{Code}
+use Rattle.dspec_word.specs.SpecId.{Speculation}
 use Rattle.dspec_word.specs.Tables.{settle_at}
+use Rattle.dspec_word.specs.Word.{SlotState}
 use Rattle.dspec_deeds.specs.declared.config.Config.{Config}
+use Rattle.dspec_deeds.specs.declared.deed.DecideFate.{DecideFate}
 use Rattle.dspec_deeds.specs.declared.deed.Deed.{Deed}
 use Rattle.dspec_deeds.specs.declared.deed.Deed.TheVariants.{Settle}
 use Rattle.dspec_machine.specs.declared.machine.Machine.{Machine}
-use Rattle.dspec_machine.specs.declared.cpu.Cpu.{Cpu}
-use Rattle.dspec_deeds.specs.History.{present, word_at, ack}
+use Rattle.dspec_deeds.specs.History.{present, word_at}
 use Rattle.dspec_play.specs.Coherent.{IsSlot, PlayState}
 use Rattle.dspec_deeds.specs.Closes.{CanClose, is_granted, closed_slot, closed_slots, closed_cpus}
+use Rattle.dspec_machine.specs.Closings.{IsClosable, ClosesTo}
 use Rattle.dspec_machine.specs.Machines.{IsShownMachine, Adds, history, state_of}
 use Rattle.dspec_deeds.specs.Settling.{settle_fate}
 use Rattle.dspec_deeds.specs.Ranges.{start_fault}
 use Rattle.dspec_play.proofs.Closing.{slot_settles}
-use Rattle.dspec_machine.proofs.MachineReads.{cpu_read}
+use Rattle.dspec_machine.proofs.SlotReads.{ShowsSlot, row_read}
 
 -- a settlement is entered where the table grants it
 unless_granted : (act : Act) (xs ys : List Deed) → act ≢ Granted → (if is_granted act then xs else ys) ≡ ys
@@ -28,62 +31,79 @@ unless_granted Granted xs ys bare = absurd (bare refl)
 unless_granted (Attempt to) xs ys bare = refl
 unless_granted Idle xs ys bare = refl
 
-module _ (shape : ℕ → Option Shape) (k : Config) (c s : ℕ) (h : List Deed) where
-  -- what the close enters for a slot that waits
-  abbrev pub due : List Deed
-  due = Settle c (present s h) (settle_fate shape k c h (present s h) (word_at s h).code) ∷ h
+module _ {c s : ℕ} {h : List Deed} {w : SlotState} {a : ℕ} (shows : ShowsSlot c s h w a) where
+  -- the identifier that the word names
+  pub named_present : {n : ℕ} {id : Speculation} → id ≡ record { issue = n; slot = s } → n ≡ w.issue → id ≡ present s h
+  named_present made issued =
+      let named : ℕ → Speculation = λ n. record { issue = n; slot = s } in
+      made ∙ ap named (issued ∙ ap (λ (x : SlotState). x.issue) shows.word)
 
-  pub none_due : (act : Act) → act ≡ settle_at (word_at s h) (ack c s h) → act ≢ Granted → closed_slot shape k c s h ≡ h
-  none_due act e bare = ap (λ (a : Act). if is_granted a then due else h) (sym e) ∙ unless_granted act due h bare
+  module _ (shape : ℕ → Option Shape) (k : Config) {act : Act} (acts : act ≡ settle_at w a) where
+    -- what the close enters for a slot that waits
+    abbrev due : List Deed
+    due = Settle c (present s h) (settle_fate shape k c h (present s h) (word_at s h).code) ∷ h
 
-  pub one_due : (act : Act) → act ≡ settle_at (word_at s h) (ack c s h) → act ≡ Granted → closed_slot shape k c s h ≡ due
-  one_due act e granted = ap (λ (a : Act). if is_granted a then due else h) (sym e ∙ granted)
+    -- what the close makes of the list, by the row of the table
+    by_row : closed_slot shape k c s h ≡ (if is_granted act then due else h)
+    by_row = ap (λ (x : Act). if is_granted x then due else h) (sym (row_read shows acts))
 
-  -- the list still closes
-  pub closes_on : start_fault k ≡ None → CanClose shape k h → c < k.cpus → IsSlot k s → CanClose shape k (closed_slot shape k c s h)
-  closes_on fine rest lt slot = (slot_settles shape k fine c s h rest lt slot).0.rest
+    pub none_due : act ≢ Granted → closed_slot shape k c s h ≡ h
+    none_due bare = by_row ∙ unless_granted act due h bare
 
+    pub one_due : {n : ℕ} {id : Speculation} {code : Code} {fate : DecideFate} → act ≡ Granted → id ≡ record { issue = n; slot = s } → n ≡ w.issue → code ≡ w.code
+        → fate ≡ settle_fate shape k c h id code → Settle c id fate ∷ h ≡ closed_slot shape k c s h
+    one_due {fate = fate} granted made issued coded fated =
+        let is_id = named_present made issued in
+        let is_code = coded ∙ ap (λ (x : SlotState). x.code) shows.word in
+        let is_fate : fate ≡ settle_fate shape k c h (present s h) (word_at s h).code = fated ∙ (λ i. settle_fate shape k c h (is_id i) (is_code i)) in
+        (λ i. Settle c (is_id i) (is_fate i) ∷ h) ∙ sym (by_row ∙ ap (λ (x : Act). if is_granted x then due else h) granted)
+
+module _ (shape : ℕ → Option Shape) (k : Config) (c : ℕ) (h : List Deed) where
   -- a slot more
-  pub slots_more : closed_slots shape k c (s + 1) h ≡ closed_slot shape k c (s + 1) (closed_slots shape k c s h)
-  slots_more = ap (λ n. closed_slots shape k c n h) (add-one s) ∙ ap (λ n. closed_slot shape k c n (closed_slots shape k c s h)) (sym (add-one s))
+  pub slots_more : (s : ℕ) → closed_slots shape k c (s + 1) h ≡ closed_slot shape k c (s + 1) (closed_slots shape k c s h)
+  slots_more s = ap (λ n. closed_slots shape k c n h) (add-one s) ∙ ap (λ n. closed_slot shape k c n (closed_slots shape k c s h)) (sym (add-one s))
 
--- a CPU more
-pub cpus_more : (shape : ℕ → Option Shape) (k : Config) (c : ℕ) (h : List Deed) → closed_cpus shape k (c + 1) h ≡ closed_slots shape k c k.nspec (closed_cpus shape k c h)
-cpus_more shape k c h = ap (λ n. closed_cpus shape k n h) (add-one c)
+  -- a CPU more
+  pub cpus_more : closed_cpus shape k (c + 1) h ≡ closed_slots shape k c k.nspec (closed_cpus shape k c h)
+  cpus_more = ap (λ n. closed_cpus shape k n h) (add-one c)
 
-module _ {S B : Type 0} where
-  -- the close has brought a machine to that list
-  pub record Settles (m n : Machine S B) (g : List Deed) : Type 0 where
-    pub state : state_of n ≡ record (state_of m) { deeds = g }
-    pub schema : n.schema ≡ m.schema
-
-  -- the list that a machine shows can close where it was brought there
-  pub can_close_there : (shape_of : S → ℕ → Option Shape) (m n : Machine S B) (g : List Deed) → Settles m n g → CanClose (shape_of m.schema) m.config g
-      → CanClose (shape_of n.schema) n.config (history n)
-  can_close_there shape_of m n g is closes =
-      subst (λ (x : S). CanClose (shape_of x) n.config (history n)) (sym is.schema)
-      (subst (λ (st : PlayState). CanClose (shape_of m.schema) st.config st.deeds) (sym is.state) closes)
-
+module _ {S B : Type 0} {has : B → S → List Piece → Type 0} {capacity : B → ℕ} {shape_of : S → ℕ → Option Shape} {m : Machine S B} where
   -- a stretch of the close more
-  pub settles_on : (shape_of : S → ℕ → Option Shape) (step : (ℕ → Option Shape) → Config → List Deed → List Deed) (m n left : Machine S B) (g : List Deed) → Settles m n g
-      → state_of left ≡ record (state_of n) { deeds = step (shape_of n.schema) n.config (history n) } → left.schema ≡ n.schema → Settles m left (step (shape_of m.schema) m.config g)
-  settles_on shape_of step m n left g is state schema =
-      let Left : S → PlayState → PlayState = λ x st. record st { deeds = step (shape_of x) st.config st.deeds } in
-      record { state = state ∙ (λ i. Left (is.schema i) (is.state i)); schema = schema ∙ is.schema }
+  pub closes_further : (step : (ℕ → Option Shape) → Config → List Deed → List Deed) {n left : Machine S B} {g f : List Deed} → ClosesTo has capacity shape_of m n g
+      → ClosesTo has capacity shape_of n left (step (shape_of n.schema) n.config (history n)) → f ≡ step (shape_of m.schema) m.config g → ClosesTo has capacity shape_of m left f
+  closes_further step is more e =
+      let with_step : S → PlayState → PlayState = λ x st. record st { deeds = step (shape_of x) st.config st.deeds } in
+      record {
+        closable = more.closable;
+        settled = more.settled ∙ ((λ i. with_step (is.schema i) (is.settled i)) ∙ ap (λ ds. record (state_of m) { deeds = ds }) (sym e));
+        schema = more.schema ∙ is.schema;
+      }
 
-  -- one settlement more
-  pub settles_one : (m n : Machine S B) (d : Deed) (g : List Deed) → d ∷ history m ≡ g → Adds (d ∷ []) m n → Settles m n g
-  settles_one m n d g e adds = record { state = adds.state ∙ ap (λ ds. record (state_of m) { deeds = ds }) e; schema = adds.schema }
+  module _ (can : IsClosable has capacity shape_of m) (c s : ℕ) (lt : c < m.config.cpus) (slot : IsSlot m.config s) where
+    -- the list once the slot is closed
+    abbrev closed : List Deed
+    closed = closed_slot (shape_of m.schema) m.config c s (history m)
 
-  module _ (has : B → S → List Piece → Type 0) (capacity : B → ℕ) (m : Machine S B) (shown : IsShownMachine has capacity m) (c s : ℕ) (lt : c < m.config.cpus)
-      (slot : IsSlot m.config s) (own : Cpu B) (is : own ≡ get_or m.cpus.items c own) where
-    -- the acknowledgement that an index reads
-    pub ack_read : (a : ℕ) → a ≡ get_or own.side.acks.items (s - 1) a → a ≡ ack c s (history m)
-    ack_read a e =
-        let shows = (cpu_read has capacity m shown c own lt is).side.parts in
-        let least = slot.0 in
-        let most = slot.1 in
-        let within : s - 1 < m.config.nspec = omega (arith, least, most) in
-        let read = slice_get_read own.side.acks.items m.config.nspec (s - 1) a (sym shows.ack_count) within e in
-        let there : slice_get own.side.acks.items (s - 1) ≡ Some (ack c s (history m)) = shows.acks s least most in
-        cc
+    pub closes_still : CanClose (shape_of m.schema) m.config closed
+    closes_still = (slot_settles (shape_of m.schema) m.config can.fine c s (history m) can.can_close lt slot).0.rest
+
+    -- nothing is settled
+    pub closes_bare : closed ≡ history m → ClosesTo has capacity shape_of m m closed
+    closes_bare e = record { closable = can; settled = ap (λ ds. record (state_of m) { deeds = ds }) (sym e); schema = refl }
+
+    -- the settlement that is due is entered
+    pub closes_settled : {T E : Type 0} (r : Result T E) (n : Machine S B) {d : Deed} → d ∷ history m ≡ closed → OnOk r (IsShownMachine has capacity n) → OnOk r (Adds (d ∷ []) m n)
+        → OnOk r (ClosesTo has capacity shape_of m n closed)
+    closes_settled (Ok x) n e shown adds =
+        let state : state_of n ≡ record (state_of m) { deeds = closed } = adds.state ∙ ap (λ ds. record (state_of m) { deeds = ds }) e in
+        record {
+          closable = record {
+            shown = shown;
+            fine = ap (λ (st : PlayState). start_fault st.config) state ∙ can.fine;
+            can_close = subst (λ (x : S). CanClose (shape_of x) n.config (history n)) (sym adds.schema)
+                (subst (λ (st : PlayState). CanClose (shape_of m.schema) st.config st.deeds) (sym state) closes_still);
+          };
+          settled = state;
+          schema = adds.schema;
+        }
+    closes_settled (Err x) n e shown adds = shown

@@ -1,14 +1,12 @@
 -- A step leaves each CPU within the most calls that it may make.
-use Rattle.std.proofs.Common.{◌≡◌, ℕ, ◌+◌, ◌<◌, ◌≤◌, Bool, true, false, ◌==◌, ◌&&◌, not, List, [], ◌∷◌, ◌++◌, length, set, if◌then◌else◌, Option, Some, None, refl, sym, ap, ◌∙◌, subst, ⊎_elim, arith}
+use Rattle.std.proofs.Common.{◌≡◌, ℕ, ◌+◌, ◌<◌, ◌≤◌, Bool, true, false, ◌&&◌, List, [], ◌∷◌, ◌++◌, set, if◌then◌else◌, Option, Some, None, refl, sym, ap, ◌∙◌, subst, ⊎_elim, arith}
 use Rattle.std.specs.Prelude.{nat_le}
 use Rattle.std.proofs.lemmas.Bool.Decides.{nat_tests}
-use Rattle.std.proofs.lemmas.List.{get_or-set_same, get_or-set_other}
 use Rattle.dspec_record.specs.declared.field.Shape.{Shape}
 use Rattle.dspec_deeds.specs.declared.calls.Actor.{Actor}
 use Rattle.dspec_deeds.specs.declared.calls.Actor.TheVariants as actor
 use Rattle.dspec_deeds.specs.declared.calls.Answer.{Answer}
 use Rattle.dspec_deeds.specs.declared.calls.CpuOp.{CpuOp}
-use Rattle.dspec_deeds.specs.declared.calls.CpuOp.TheVariants as cpu_op
 use Rattle.dspec_deeds.specs.declared.calls.Op.TheVariants as op
 use Rattle.dspec_deeds.specs.declared.config.Config.{Config}
 use Rattle.dspec_deeds.specs.declared.deed.Deed.{Deed}
@@ -16,13 +14,13 @@ use Rattle.dspec_deeds.specs.History.{author, same_actor}
 use Rattle.dspec_deeds.specs.Own.{calls}
 use Rattle.dspec_deeds.proofs.Going.{AllBy}
 use Rattle.dspec_deeds.proofs.StayingOwn.{calls_other}
-use Rattle.dspec_deeds.proofs.TestLemmas.{either_way, same_number, numbers_differ, same_actor_tells}
+use Rattle.dspec_deeds.proofs.TestLemmas.{either_way, same_actor_tells}
 use Rattle.dspec_play.specs.declared.flight.CpuProgress.{CpuProgress}
 use Rattle.dspec_play.specs.declared.flight.CpuFlight.{CpuFlight}
 use Rattle.dspec_play.specs.declared.flight.CpuFlight.TheVariants as cpu
 use Rattle.dspec_play.specs.declared.flight.ConsumerFlight.{ConsumerFlight}
 use Rattle.dspec_play.specs.Calls.{op_of}
-use Rattle.dspec_play.specs.Coherent.{IsCoherent, PlayState, StandsSide, progress_of, idle_progress}
+use Rattle.dspec_play.specs.Coherent.{IsCoherent, PlayState, StandsSide, progress_of}
 use Rattle.dspec_play.specs.Play.{Moved, ConsumerStep, cpu_step, consumer_step}
 use Rattle.dspec_play.specs.Wearing.{is_counted, is_first, is_told_worn, enters_call}
 use Rattle.dspec_play.proofs.ConsumerSteps.{consumer_keeps}
@@ -31,7 +29,7 @@ use Rattle.dspec_play.proofs.FlightsStay.{flights_stay}
 use Rattle.dspec_play.proofs.KeptCalls.{step_passes}
 use Rattle.dspec_play.proofs.OwnAnswersPlay.{put}
 use Rattle.dspec_play.proofs.StepEnds.{HasEnded, HasGoneOn, cpu_advances}
-use Rattle.dspec_play.proofs.WornSteps.{Wears, ahead, enters, cpu_step_wears}
+use Rattle.dspec_play.proofs.WornSteps.{ahead, enters, cpu_step_wears}
 use Rattle.dspec_machine.specs.Worlds.{is_due, IsWithin}
 
 -- a deed that counts was entered by the call in flight, or is to come, or neither

@@ -1,5 +1,6 @@
 pub mod Shown
 pub mod Machines
+pub mod Closings
 pub mod Decisions
 pub mod Standing
 pub mod Steps

@@ -1,8 +1,8 @@
-ghost use Rattle.std.specs.Prelude.{◌≡◌, ◌<◌, None, IfOk, OnOk, reverse};
-ghost use Rattle.dspec_deeds.specs.Closes.{CanClose, reports, streams, closed_slot, closed_slots, closing};
+ghost use Rattle.std.specs.Prelude.{◌≡◌, ◌<◌, IfOk, OnOk, reverse};
+ghost use Rattle.dspec_deeds.specs.Closes.{reports, streams, closed_slot, closed_slots, closing};
 ghost use Rattle.dspec_play.specs.Coherent.{IsSlot, progress_of};
-ghost use Rattle.dspec_machine.specs.Machines.{IsShownMachine, history, state_of};
-ghost use Rattle.dspec_deeds.specs.Ranges.{start_fault};
+ghost use Rattle.dspec_machine.specs.Closings.{IsClosable, ClosesTo};
+ghost use Rattle.dspec_machine.specs.Machines.{history, state_of};
 
 use crate::machine::Machine;
 use dspec_buffer::TraceBuffer;
@@ -14,15 +14,10 @@ use std::alloc::{AllocError, Global};
 impl<S: Schema, B: TraceBuffer<S>> Machine<S, B> {
     // Settles what a slot's speculation still waits for of the CPU, if it waits for it.
     fn close_slot(&mut self, cpu: u32, slot: u32) -> Result<(), AllocError>
-        requires shown { IsShownMachine B.has B.capacity self.old }
-        requires fine { start_fault self.old.config ≡ None }
-        requires can_close { CanClose (S.shape_of self.old.schema) self.old.config (history self.old) }
+        requires closable { IsClosable B.has B.capacity S.shape_of self.old }
         requires cpu { cpu < self.old.config.cpus }
         requires slot { IsSlot self.old.config slot }
-        ensures shown { OnOk result (IsShownMachine B.has B.capacity self.new) }
-        ensures can_close { OnOk result (CanClose (S.shape_of self.new.schema) self.new.config (history self.new)) }
-        ensures settled { OnOk result (state_of self.new ≡ record (state_of self.old) { deeds = closed_slot (S.shape_of self.old.schema) self.old.config cpu slot (history self.old) }) }
-        ensures schema { OnOk result (self.new.schema ≡ self.old.schema) }
+        ensures { OnOk result (ClosesTo B.has B.capacity S.shape_of self.old self.new (closed_slot (S.shape_of self.old.schema) self.old.config cpu slot (history self.old))) }
     {
         let place = (slot - 1) as usize;
         let word = self.words[place];
@@ -36,14 +31,9 @@ impl<S: Schema, B: TraceBuffer<S>> Machine<S, B> {
 
     // Settles what is still waited for of the CPU, slot by slot upwards.
     fn close_cpu(&mut self, cpu: u32) -> Result<(), AllocError>
-        requires shown { IsShownMachine B.has B.capacity self.old }
-        requires fine { start_fault self.old.config ≡ None }
-        requires can_close { CanClose (S.shape_of self.old.schema) self.old.config (history self.old) }
+        requires closable { IsClosable B.has B.capacity S.shape_of self.old }
         requires cpu { cpu < self.old.config.cpus }
-        ensures shown { OnOk result (IsShownMachine B.has B.capacity self.new) }
-        ensures can_close { OnOk result (CanClose (S.shape_of self.new.schema) self.new.config (history self.new)) }
-        ensures settled { OnOk result (state_of self.new ≡ record (state_of self.old) { deeds = closed_slots (S.shape_of self.old.schema) self.old.config cpu self.old.config.nspec (history self.old) }) }
-        ensures schema { OnOk result (self.new.schema ≡ self.old.schema) }
+        ensures { OnOk result (ClosesTo B.has B.capacity S.shape_of self.old self.new (closed_slots (S.shape_of self.old.schema) self.old.config cpu self.old.config.nspec (history self.old))) }
     {
         for slot in 0..self.config.nspec {
             self.close_slot(cpu, slot + 1)?;
@@ -53,13 +43,8 @@ impl<S: Schema, B: TraceBuffer<S>> Machine<S, B> {
 
     // Settles all that is decided and not acknowledged, CPU by CPU.
     fn close(&mut self) -> Result<(), AllocError>
-        requires shown { IsShownMachine B.has B.capacity self.old }
-        requires fine { start_fault self.old.config ≡ None }
-        requires can_close { CanClose (S.shape_of self.old.schema) self.old.config (history self.old) }
-        ensures shown { OnOk result (IsShownMachine B.has B.capacity self.new) }
-        ensures can_close { OnOk result (CanClose (S.shape_of self.new.schema) self.new.config (history self.new)) }
-        ensures settled { OnOk result (state_of self.new ≡ record (state_of self.old) { deeds = closing (S.shape_of self.old.schema) self.old.config (history self.old) }) }
-        ensures schema { OnOk result (self.new.schema ≡ self.old.schema) }
+        requires closable { IsClosable B.has B.capacity S.shape_of self.old }
+        ensures { OnOk result (ClosesTo B.has B.capacity S.shape_of self.old self.new (closing (S.shape_of self.old.schema) self.old.config (history self.old))) }
     {
         for cpu in 0..self.config.cpus {
             self.close_cpu(cpu)?;
@@ -70,9 +55,7 @@ impl<S: Schema, B: TraceBuffer<S>> Machine<S, B> {
     /// Settles, CPU by CPU and slot by slot upwards, what is decided and not acknowledged, and hands out the deeds, the
     /// accepted records and the reports.
     pub fn finish(mut self, alloc: Global) -> Result<Close, AllocError>
-        requires shown { IsShownMachine B.has B.capacity self }
-        requires fine { start_fault self.config ≡ None }
-        requires can_close { CanClose (S.shape_of self.schema) self.config (history self) }
+        requires closable { IsClosable B.has B.capacity S.shape_of self }
         ensures deeds { IfOk result (λ close. close.deeds ≡ reverse (closing (S.shape_of self.schema) self.config (history self))) }
         ensures accepted { IfOk result (λ close. close.accepted ≡ streams self.config (closing (S.shape_of self.schema) self.config (history self))) }
         ensures reports { IfOk result (λ close. close.reports ≡ reports self.config (λ c. (progress_of (state_of self).progresses c).worn) (closing (S.shape_of self.schema) self.config (history self))) }

@@ -14,12 +14,13 @@ use Rattle.dspec_deeds.proofs.Headlines.{headline}
 use Rattle.dspec_play.proofs.SessionCloses.{closes_legally, idle_closes, told_in_order}
 use Rattle.dspec_core.proofs.world.World.finish.Goals as goal
 
-pub finish-requires-clause-can_close : goal.finish-requires-clause-can_close
-finish-requires-clause-can_close g c =
+pub finish-requires : goal.finish-requires
+finish-requires g c =
     let m = c.self.inside.machine in
     let same : state_of m ≡ c.args.self.state = λ i. (c.self.view_is i).state in
-    idle_closes (g.S.Schema.shape_of m.schema) (state_of m) c.self.invariant.coherent
-    (subst (λ (st : PlayState). (a : Actor) → is_actor st.config a ≡ true → is_idle a st ≡ true) (sym same) c.requires.idle)
+    let can_close = idle_closes (g.S.Schema.shape_of m.schema) (state_of m) c.self.invariant.coherent
+    (subst (λ (st : PlayState). (a : Actor) → is_actor st.config a ≡ true → is_idle a st ≡ true) (sym same) c.requires.idle) in
+    record { closable = record { shown = c.self.invariant.shown; fine = c.self.invariant.coherent.ranges; can_close = can_close } }
 
 pub returns-clause-deeds : goal.returns-clause-deeds
 returns-clause-deeds g c =

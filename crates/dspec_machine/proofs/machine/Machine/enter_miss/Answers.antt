@@ -1,12 +1,12 @@
 -- A missed slot is on its CPU's side, and leaves the words.
-use Rattle.std.proofs.Common.{◌∷◌, refl, ap, rules}
+use Rattle.std.proofs.Common.{refl, ap, rules}
 use Rattle.dspec_side.specs.declared.side.Side.{Side}
 use Rattle.dspec_deeds.specs.declared.deed.Deed.TheVariants as deed
 use Rattle.dspec_machine.specs.Machines.{history}
 use Rattle.dspec_machine.proofs.KeptCpus.{own_deed}
 use Rattle.dspec_machine.proofs.MachineReads.{cpu_got}
 use Rattle.dspec_machine.proofs.OneMore.{adds_own, enters, latest_first}
-use Rattle.dspec_machine.proofs.Rooms.{call_fits, counts_fit}
+use Rattle.dspec_machine.proofs.Rooms.{counts_fit}
 use Rattle.dspec_machine.proofs.WordsShown.{words_stay}
 use Rattle.dspec_machine.proofs.machine.Machine.enter_miss.Goals as goal
 

@@ -1,5 +1,5 @@
 -- A slot given out has the word of its present speculation, and the sides stay.
-use Rattle.std.proofs.Common.{◌≡◌, ℕ, ◌∷◌, ◌-◌, ◌≤◌, ◌∙◌, slice_set, refl, sym, ap, subst, arith}
+use Rattle.std.proofs.Common.{◌≡◌, ℕ, ◌∷◌, ◌-◌, ◌≤◌, ◌∙◌, slice_set, sym, ap, subst, arith}
 use Rattle.dspec_word.specs.declared.code.Code.TheVariants.{Active}
 use Rattle.dspec_deeds.specs.declared.deed.Deed.TheVariants as deed
 use Rattle.dspec_deeds.specs.History.{issue, word_at}

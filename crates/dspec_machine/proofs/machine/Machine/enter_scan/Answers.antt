@@ -1,5 +1,5 @@
 -- A scan is on its CPU's side, and leaves the words.
-use Rattle.std.proofs.Common.{◌∷◌, refl, ap, rules}
+use Rattle.std.proofs.Common.{refl, ap, rules}
 use Rattle.dspec_side.specs.declared.side.Side.{Side}
 use Rattle.dspec_deeds.specs.declared.deed.Deed.TheVariants as deed
 use Rattle.dspec_machine.specs.Machines.{history}

@@ -1,5 +1,5 @@
 -- A sealed batch is the second buffer; the words stay.
-use Rattle.std.proofs.Common.{◌≤◌, ◌∷◌, [], refl, ap, ◌∙◌, subst, rules}
+use Rattle.std.proofs.Common.{◌≤◌, [], refl, ap, ◌∙◌, subst, rules}
 use Rattle.dspec_deeds.specs.declared.deed.Deed.TheVariants as deed
 use Rattle.dspec_deeds.specs.Own.{seals}
 use Rattle.dspec_play.specs.declared.flight.CpuProgress.{CpuProgress}

@@ -14,7 +14,7 @@ loop-cpu-preserved g c =
     let n = c.close.new.self in
     let a = c.loop-cpu.cpu in
     let h = history n in
-    let own = cpu_read g.B.TraceBuffer.has g.B.TraceBuffer.capacity n c.in_ok-close.ensures.shown a c.index.result.now c.loop-cpu-test.true c.index.ensures in (
+    let own = cpu_read g.B.TraceBuffer.has g.B.TraceBuffer.capacity n c.in_ok-close.ensures.closable.shown a c.index.result.now c.loop-cpu-test.true c.index.ensures in (
       one_more_cpu (λ b. stream b h) a c.loop-cpu.accepted c.push.new.self _ c.loop-cpu.invariant.0 c.in_ok-push.ensures.ok (c.in_ok-copied.ensures ∙ (c.as_slice.ensures ∙ own.accepted)),
       one_more_cpu (λ b. report n.config b (progress_of (state_of n).progresses b).worn h) a c.loop-cpu.reports c.push-in-loop-cpu.new.self _ c.loop-cpu.invariant.1
           c.in_ok-push-2.ensures.ok c.report.ensures,

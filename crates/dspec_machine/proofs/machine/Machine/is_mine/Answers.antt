@@ -1,5 +1,5 @@
-use Rattle.std.proofs.Common.{◌≡◌, ◌+◌, ◌-◌, ◌==◌, ◌≤◌, Some, sym, ap, ◌∙◌}
-use Rattle.dspec_deeds.specs.History.{callers, is_among, issue}
+use Rattle.std.proofs.Common.{◌+◌, ◌==◌, sym, ap, ◌∙◌}
+use Rattle.dspec_deeds.specs.History.{callers, is_among}
 use Rattle.dspec_deeds.specs.Marks.{mark}
 use Rattle.dspec_deeds.proofs.Marks.{mark_tells}
 use Rattle.dspec_deeds.proofs.PresentIds.{present_is}

@@ -1,9 +1,6 @@
 -- The table's act at the word and the acknowledgement that the list shows.
-use Rattle.std.proofs.Common.{◌≡◌, ◌<◌, ◌+◌, ◌-◌, [], Some, refl, sym, ap, ◌∙◌, subst, arith}
-use Rattle.std.specs.Prelude.{slice_get}
-use Rattle.std.proofs.lemmas.Option.{slice_get_read}
-use Rattle.dspec_word.specs.declared.act.Act.TheVariants.{Granted}
-use Rattle.dspec_word.specs.Word.{SlotState, CanBeReleased}
+use Rattle.std.proofs.Common.{◌+◌, [], Some, sym, ap, ◌∙◌, subst, arith}
+use Rattle.dspec_word.specs.Word.{CanBeReleased}
 use Rattle.dspec_word.specs.Tables.{settle_at}
 use Rattle.dspec_play.specs.declared.flight.CpuProgress.{CpuProgress}
 use Rattle.dspec_play.specs.declared.flight.CpuFlight.TheVariants as flight
@@ -11,9 +8,9 @@ use Rattle.dspec_deeds.specs.History.{ack, word_at}
 use Rattle.dspec_play.specs.Coherent.{progress_of}
 use Rattle.dspec_machine.specs.Machines.{Makes, history, state_of}
 use Rattle.dspec_play.specs.Play.{Moved, served}
-use Rattle.dspec_machine.proofs.MachineReads.{cpu_read, place_within}
+use Rattle.dspec_machine.proofs.MachineReads.{cpu_read}
 use Rattle.dspec_machine.proofs.Makings.{adds_none, step_made}
-use Rattle.dspec_machine.proofs.OneMore.{word_there}
+use Rattle.dspec_machine.proofs.SlotReads.{row_read, slot_read}
 use Rattle.dspec_play.proofs.ServiceMoves.{served_deeds, store_next, passed_by}
 use Rattle.dspec_play.proofs.StepReads.{can_be_released}
 use Rattle.dspec_machine.proofs.machine.Machine.load_service.Goals as goal
@@ -32,32 +29,23 @@ pub settle_at-requires : goal.settle_at-requires
 settle_at-requires g c =
     let m = c.args.self.now in
     let s = c.args.slot in
-    let h = history m in
-    let word = word_there m.config h m.words.items s c.index-word.result.now c.requires.slot.0 c.requires.slot.1 c.requires.shown.words c.index-word.ensures in
-    subst CanBeReleased (sym word) (can_be_released m.config s h c.requires.coherent.ranges c.requires.coherent.legal.0)
+    let reads = slot_read c.requires.shown c.args.cpu s c.requires.cpu c.requires.slot c.index.ensures c.index-word.ensures c.index-acked.ensures in
+    subst CanBeReleased (sym reads.word) (can_be_released m.config s (history m) c.requires.coherent.ranges c.requires.coherent.legal.0)
 
 pub returns-in-Granted : goal.returns-in-Granted
 returns-in-Granted g c =
     let m = c.args.self.now in
-    let k = m.config in
     let a = c.args.cpu in
     let s = c.args.slot in
     let h = history m in
-    let shape = g.S.Schema.shape_of m.schema in
-    let me = progress_of (state_of m).progresses a in
     let w = c.index-word.result.now in
-    let word = word_there k h m.words.items s w c.requires.slot.0 c.requires.slot.1 c.requires.shown.words c.index-word.ensures in
-    let parts = (cpu_read g.B.TraceBuffer.has g.B.TraceBuffer.capacity m c.requires.shown a c.index.result.now c.requires.cpu c.index.ensures).side.parts in
-    let lt = place_within s s k.nspec k.nspec refl c.requires.slot.0 c.requires.slot.1 refl in
-    let read = slice_get_read c.index.result.now.side.acks.items k.nspec (s - 1) c.index-acked.result.now (sym parts.ack_count) lt c.index-acked.ensures in
-    let shows : slice_get c.index.result.now.side.acks.items (s - 1) ≡ Some (ack a s h) = parts.acks s c.requires.slot.0 c.requires.slot.1 in
-    let acked : c.index-acked.result.now ≡ ack a s h = cc in
-    let act : settle_at (word_at s h) (ack a s h) ≡ Granted = sym (ap (λ (x : SlotState). settle_at x c.index-acked.result.now) word ∙ ap (settle_at (word_at s h)) acked)
-    ∙ (sym c.settle_at.ensures ∙ c.in-Granted.is) in
+    let reads = slot_read c.requires.shown a s c.requires.cpu c.requires.slot c.index.ensures c.index-word.ensures c.index-acked.ensures in
+    let act = sym (row_read reads c.settle_at.ensures) ∙ c.in-Granted.is in
     step_made g.B.TraceBuffer.has g.B.TraceBuffer.capacity m m c.go_on.new.self a []
     (λ (x : CpuProgress). record x { flight = Some (flight.ServiceStore s w c.args.sum); steps = x.steps + 1 }) _ c.go_on.result
     (adds_none m) c.go_on.ensures.shown c.go_on.ensures.state c.go_on.ensures.schema
-    (store_next shape k a h me s c.args.sum w (word_at s h) (settle_at (word_at s h) (ack a s h)) c.go_on.result word act c.go_on.ensures.answer)
+    (store_next (g.S.Schema.shape_of m.schema) m.config a h (progress_of (state_of m).progresses a) s c.args.sum w (word_at s h) (settle_at (word_at s h) (ack a s h)) c.go_on.result reads.word act
+    c.go_on.ensures.answer)
 
 pub returns-in_default : goal.returns-in_default
 returns-in_default g c =
@@ -70,16 +58,8 @@ returns-in_default g c =
     let h = history m in
     let shape = g.S.Schema.shape_of m.schema in
     let me = progress_of (state_of m).progresses a in
-    let w = c.index-word.result.now in
-    let word = word_there k h m.words.items s w c.requires.slot.0 c.requires.slot.1 c.requires.shown.words c.index-word.ensures in
-    let parts = (cpu_read has capacity m c.requires.shown a c.index.result.now c.requires.cpu c.index.ensures).side.parts in
-    let lt = place_within s s k.nspec k.nspec refl c.requires.slot.0 c.requires.slot.1 refl in
-    let read = slice_get_read c.index.result.now.side.acks.items k.nspec (s - 1) c.index-acked.result.now (sym parts.ack_count) lt c.index-acked.ensures in
-    let shows : slice_get c.index.result.now.side.acks.items (s - 1) ≡ Some (ack a s h) = parts.acks s c.requires.slot.0 c.requires.slot.1 in
-    let acked : c.index-acked.result.now ≡ ack a s h = cc in
-    let act : c.settle_at.result ≡ settle_at (word_at s h) (ack a s h) =
-    c.settle_at.ensures ∙ (ap (λ (x : SlotState). settle_at x c.index-acked.result.now) word ∙ ap (settle_at (word_at s h)) acked) in
-    let is = passed_by shape k a h me s c.args.sum (word_at s h) (settle_at (word_at s h) (ack a s h)) (λ e. c.in_default.not-Granted (act ∙ e)) in
+    let reads = slot_read c.requires.shown a s c.requires.cpu c.requires.slot c.index.ensures c.index-word.ensures c.index-acked.ensures in
+    let is = passed_by shape k a h me s c.args.sum (word_at s h) (settle_at (word_at s h) (ack a s h)) (λ e. c.in_default.not-Granted (row_read reads c.settle_at.ensures ∙ e)) in
     let moved = served shape k a h me s [] c.args.sum in
     let made : Makes has capacity m c.serve_next.new.self a moved c.serve_next.result = record {
       shown = c.serve_next.ensures.shown;

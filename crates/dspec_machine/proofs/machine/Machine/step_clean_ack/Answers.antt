@@ -1,12 +1,12 @@
 -- The acknowledgement that was read is the CPU's.
-use Rattle.std.proofs.Common.{◌≡◌, ℕ, ◌+◌, ◌-◌, ◌<◌, ◌≤◌, ◌∙◌, true, false, refl, arith}
+use Rattle.std.proofs.Common.{◌≡◌, ℕ, ◌+◌, ◌<◌, ◌≤◌, ◌∙◌, true, false, refl, arith}
 use Rattle.std.specs.Prelude.{nat_lt}
 use Rattle.std.proofs.lemmas.Bool.{eq-eqb, le-ltb, lt-ltb}
 use Rattle.dspec_deeds.proofs.TestLemmas.{other_number}
 use Rattle.dspec_deeds.specs.History.{ack}
 use Rattle.dspec_machine.specs.Machines.{history, state_of}
-use Rattle.dspec_play.proofs.CleanReads.{clean_stands, clean_steps_fit, number_there}
-use Rattle.dspec_machine.proofs.MachineReads.{cpu_read, place_within}
+use Rattle.dspec_play.proofs.CleanReads.{clean_stands, clean_steps_fit}
+use Rattle.dspec_machine.proofs.MachineReads.{ack_read, cpu_read, place_within}
 use Rattle.dspec_machine.proofs.machine.Machine.step_clean_ack.Goals as goal
 
 -- an acknowledgement of the issue or of a later one, and one that is still to come
@@ -37,11 +37,7 @@ pub returns-then-index-issue : goal.returns-then-index-issue
 returns-then-index-issue g c =
     let m = c.args.self.now in
     let at = clean_stands (g.S.Schema.shape_of m.schema) (state_of m) c.requires.stands.coherent _ c.requires.stands.flight in
-    let shows = cpu_read g.B.TraceBuffer.has g.B.TraceBuffer.capacity m c.requires.stands.shown c.args.cpu c.index.result.now at.2 c.index.ensures in
-    let low = at.0.0 in
-    let high = at.0.1 in
-    let acked = number_there c.index.result.now.side.acks.items m.config.nspec (c.args.slot - 1) c.index-2.result.now (ack c.args.cpu c.args.slot (history m)) shows.side.parts.ack_count
-    (place_within c.args.slot c.args.slot m.config.nspec m.config.nspec refl low high refl) c.index-2.ensures (shows.side.parts.acks c.args.slot low high) in
+    let acked = ack_read _ _ m c.requires.stands.shown c.args.cpu c.args.slot c.index.result.now c.index-2.result.now at.2 at.0 c.index.ensures c.index-2.ensures in
     let is = acknowledged c.index-2.result.now c.issue.result c.args.word.issue (ack c.args.cpu c.args.slot (history m)) acked c.issue.ensures.value c.if-index-issue.true in
     rw is c.clean_next.ensures
 
@@ -49,11 +45,7 @@ pub returns-then-cpu-self : goal.returns-then-cpu-self
 returns-then-cpu-self g c =
     let m = c.args.self.now in
     let at = clean_stands (g.S.Schema.shape_of m.schema) (state_of m) c.requires.stands.coherent _ c.requires.stands.flight in
-    let shows = cpu_read g.B.TraceBuffer.has g.B.TraceBuffer.capacity m c.requires.stands.shown c.args.cpu c.index.result.now at.2 c.index.ensures in
-    let low = at.0.0 in
-    let high = at.0.1 in
-    let acked = number_there c.index.result.now.side.acks.items m.config.nspec (c.args.slot - 1) c.index-2.result.now (ack c.args.cpu c.args.slot (history m)) shows.side.parts.ack_count
-    (place_within c.args.slot c.args.slot m.config.nspec m.config.nspec refl low high refl) c.index-2.ensures (shows.side.parts.acks c.args.slot low high) in
+    let acked = ack_read _ _ m c.requires.stands.shown c.args.cpu c.args.slot c.index.result.now c.index-2.result.now at.2 at.0 c.index.ensures c.index-2.ensures in
     let is = waited_for c.index-2.result.now c.issue.result c.args.word.issue (ack c.args.cpu c.args.slot (history m)) acked c.issue.ensures.value c.if-index-issue.false in
     let last = eq-eqb (c.args.cpu + 1) m.config.cpus c.if-cpu-self.true in
     rw (is, last) c.keep_on.ensures
@@ -62,11 +54,7 @@ pub returns : goal.returns
 returns g c =
     let m = c.args.self.now in
     let at = clean_stands (g.S.Schema.shape_of m.schema) (state_of m) c.requires.stands.coherent _ c.requires.stands.flight in
-    let shows = cpu_read g.B.TraceBuffer.has g.B.TraceBuffer.capacity m c.requires.stands.shown c.args.cpu c.index.result.now at.2 c.index.ensures in
-    let low = at.0.0 in
-    let high = at.0.1 in
-    let acked = number_there c.index.result.now.side.acks.items m.config.nspec (c.args.slot - 1) c.index-2.result.now (ack c.args.cpu c.args.slot (history m)) shows.side.parts.ack_count
-    (place_within c.args.slot c.args.slot m.config.nspec m.config.nspec refl low high refl) c.index-2.ensures (shows.side.parts.acks c.args.slot low high) in
+    let acked = ack_read _ _ m c.requires.stands.shown c.args.cpu c.args.slot c.index.result.now c.index-2.result.now at.2 at.0 c.index.ensures c.index-2.ensures in
     let is = waited_for c.index-2.result.now c.issue.result c.args.word.issue (ack c.args.cpu c.args.slot (history m)) acked c.issue.ensures.value c.if-index-issue.false in
     let last = other_number (c.args.cpu + 1) m.config.cpus c.if-cpu-self.false in
     rw (is, last) c.keep_on-2.ensures

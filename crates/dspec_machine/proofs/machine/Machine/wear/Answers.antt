@@ -1,14 +1,12 @@
 -- A call more was worn, by the CPU's counts and by its progress.
-use Rattle.std.proofs.Common.{◌≡◌, ◌+◌, ◌-◌, ◌^◌, ◌<◌, ℕ, Bool, true, false, None, min, if◌then◌else◌, refl, sym, ap, ◌∙◌, subst, arith, ⊎_elim}
+use Rattle.std.proofs.Common.{◌≡◌, ◌+◌, ◌-◌, ◌^◌, ◌<◌, ℕ, true, false, None, min, refl, sym, ap, ◌∙◌, subst, arith, ⊎_elim}
 use Rattle.std.specs.Prelude.{nat_lt}
 use Rattle.std.proofs.lemmas.Bool.Decides.{nat_tests}
 use Rattle.dspec_deeds.proofs.TestLemmas.{either_way}
 use Rattle.dspec_play.specs.declared.flight.CpuProgress.{CpuProgress}
 use Rattle.dspec_side.specs.declared.counts.Counts.{Counts}
 use Rattle.dspec_side.specs.Counting.{one_more_worn}
-use Rattle.dspec_machine.specs.declared.cpu.Cpu.{Cpu}
-use Rattle.dspec_machine.specs.Machines.{IsShownMachine, history, state_of}
-use Rattle.std.specs.Vec.{with_item}
+use Rattle.dspec_machine.specs.Machines.{history}
 use Rattle.dspec_machine.proofs.KeptCpus.{wearing}
 use Rattle.dspec_machine.proofs.MachineReads.{cpu_got}
 use Rattle.dspec_machine.proofs.Makings.{cpu_puts, state_moves}
