@@ -1,7 +1,7 @@
 use crate::TraceBuffer;
 use crate::reader::next_of_text;
 use crate::reserving::{pad, place_for, put_behind};
-use dspec_record::{Rec, Schema, Shape};
+use dspec_record::{Rec, Recorded, Schema, Shape};
 use std::alloc::{AllocError, Global};
 use std::fmt;
 use std::marker::Model;
@@ -121,7 +121,7 @@ impl<S: Schema> TraceBuffer<S> for ByteBuffer {
     }
 
     #[inline(always)]
-    fn push(&mut self, schema: &S, rec: &Rec) -> bool {
+    fn push<R: Recorded>(&mut self, schema: &S, rec: R) -> bool {
         let Some(Shape { size, align }) = schema.shape(rec.epid()) else {
             unreachable!()
         };

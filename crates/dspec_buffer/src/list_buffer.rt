@@ -1,6 +1,6 @@
 use crate::TraceBuffer;
 use crate::reserving::place_for;
-use dspec_record::{Rec, Schema};
+use dspec_record::{Rec, Recorded, Schema};
 use std::alloc::{AllocError, Global};
 use std::fmt;
 use std::marker::Model;
@@ -71,7 +71,7 @@ impl<S: Schema> TraceBuffer<S> for ListBuffer {
         size == 0 || place_for(self.offset, self.size, align, size).is_some()
     }
 
-    fn push(&mut self, schema: &S, rec: &Rec) -> bool {
+    fn push<R: Recorded>(&mut self, schema: &S, rec: R) -> bool {
         let shape = schema.shape(rec.epid()).unwrap();
         let Some(place) = place_for(self.offset, self.size, shape.align, shape.size) else {
             return false;

@@ -1,7 +1,7 @@
 ghost use Rattle.std.specs.Prelude.{◌≡◌, ◌≤◌, ◌<◌, ◌+◌, ◌-◌, ◌%◌, ◌^◌, ◌⊎◌, ◌++◌, length, take, replicate, IsTrue, MatchOption};
 ghost use Rattle.dspec_record.specs.Layout.{rounded_up, after};
 
-use dspec_record::{Rec, Schema};
+use dspec_record::{Recorded, Schema};
 
 /// The bytes of a padding word.
 const PADDING: [u8; 4] = [0; 4];
@@ -36,19 +36,19 @@ pub(crate) fn pad(bytes: &mut [u8], from: usize, to: usize)
 
 // Writes a padding word and an accepted record behind it.
 #[inline(never)]
-fn put_padded<S: Schema>(
+fn put_padded<S: Schema, R: Recorded>(
     schema: &S,
-    rec: &Rec,
+    rec: R,
     bytes: &mut [u8],
     from: usize,
     place: usize,
     end: usize,
 )
-    requires accepted { IsTrue (S.accepted schema.now rec.now) }
+    requires accepted { IsTrue (S.accepted schema.now (R.as_record rec)) }
     requires gap { place ≡ from + 4 }
-    requires end { end ≡ place + length (S.text schema.now rec.now) }
+    requires end { end ≡ place + length (S.text schema.now (R.as_record rec)) }
     requires within { end ≤ length bytes.old }
-    ensures { take end bytes.new ≡ take from bytes.old ++ (replicate (place - from) 0 ++ S.text schema.now rec.now) }
+    ensures { take end bytes.new ≡ take from bytes.old ++ (replicate (place - from) 0 ++ S.text schema.now (R.as_record rec)) }
 {
     pad(bytes, from, place);
     schema.put(rec, &mut bytes[place..end]);
@@ -58,22 +58,24 @@ fn put_padded<S: Schema>(
 /// its own: where there is no padding, nothing is stored between the question of the record's shape and its bytes, so that its
 /// row is looked up once.
 #[inline(always)]
-pub(crate) fn put_behind<S: Schema>(
+pub(crate) fn put_behind<S: Schema, R: Recorded>(
     schema: &S,
-    rec: &Rec,
+    rec: R,
     bytes: &mut [u8],
     from: usize,
     place: usize,
     end: usize,
 )
-    requires accepted { IsTrue (S.accepted schema.now rec.now) }
+    requires accepted { IsTrue (S.accepted schema.now (R.as_record rec)) }
     requires gap { (place ≡ from) ⊎ (place ≡ from + 4) }
-    requires end { end ≡ place + length (S.text schema.now rec.now) }
+    requires end { end ≡ place + length (S.text schema.now (R.as_record rec)) }
     requires within { end ≤ length bytes.old }
-    ensures { take end bytes.new ≡ take from bytes.old ++ (replicate (place - from) 0 ++ S.text schema.now rec.now) }
+    ensures { take end bytes.new ≡ take from bytes.old ++ (replicate (place - from) 0 ++ S.text schema.now (R.as_record rec)) }
 {
     if from < place {
-        put_padded(schema, rec, bytes, from, place, end);
+        // a copy for that call, so that a borrowed record needs no place in memory where there is no padding
+        let copied = rec;
+        put_padded(schema, copied, bytes, from, place, end);
     } else {
         schema.put(rec, &mut bytes[place..end]);
     }

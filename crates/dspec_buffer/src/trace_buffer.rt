@@ -4,7 +4,7 @@ ghost use Rattle.dspec_record.specs.Record.{Record};
 ghost use Rattle.dspec_buffer.specs.Extent.{Piece, one, block, records, reserved, extent, piece_fits};
 ghost use Rattle.dspec_buffer.specs.Walking.{Steps};
 
-use dspec_record::{Rec, Schema};
+use dspec_record::{Rec, Recorded, Schema};
 use std::alloc::{AllocError, Global};
 
 /// A buffer of fixed size that keeps records alone or in blocks (the Solaris Dynamic Tracing Guide, "Buffers and
@@ -34,13 +34,13 @@ pub trait TraceBuffer<S: Schema>: Drop {
             → result ≡ nat_le (reserved (extent (S.shape_of s) ps) align size) (capacity self.now) };
 
     /// Keeps an accepted record, or answers false and changes nothing where it doesn't fit. Takes no memory.
-    fn push(&mut self, schema: &S, rec: &Rec) -> bool
-        requires { IsTrue (S.accepted schema.now rec.now) }
+    fn push<R: Recorded>(&mut self, schema: &S, rec: R) -> bool
+        requires { IsTrue (S.accepted schema.now (R.as_record rec)) }
         ensures size { capacity self.new ≡ capacity self.old }
         ensures answer { (ps : List Piece) → has self.old schema.now ps
-            → result ≡ piece_fits (S.shape_of schema.now) ps (one rec.now) (capacity self.old) }
+            → result ≡ piece_fits (S.shape_of schema.now) ps (one (R.as_record rec)) (capacity self.old) }
         ensures kept { OnTrue result ((ps : List Piece) → has self.old schema.now ps
-            → has self.new schema.now (one rec.now ∷ ps)) }
+            → has self.new schema.now (one (R.as_record rec) ∷ ps)) }
         ensures refused { OnFalse result (self.new ≡ self.old) };
 
     /// Keeps the whole text of another buffer, which has records alone, as one piece of alignment 8, or answers false

@@ -10,7 +10,7 @@ ghost use Rattle.dspec_side.specs.Sides.{IsCaller};
 use crate::cpu::Cpu;
 use crate::listed::Listed;
 use crate::parts::CpuParts;
-use dspec_record::{Rec, Schema};
+use dspec_record::{Recorded, Schema};
 use dspec_word::SpecId;
 
 impl<S: Schema> CpuParts<S> {
@@ -36,12 +36,18 @@ impl<S: Schema> CpuParts<S> {
 
     /// Whether the CPU's buffer of the speculation would take a record; it is empty where the CPU is no caller. False outside
     /// the slots.
-    pub(crate) fn fits_slot(&self, id: SpecId, rec: &Rec, mine: bool, inside: bool) -> bool
+    pub(crate) fn fits_slot<R: Recorded>(
+        &self,
+        id: SpecId,
+        rec: R,
+        mine: bool,
+        inside: bool,
+    ) -> bool
         requires inside { inside ≡ in_range self.now.config id }
         requires some { (p : List Deed) × ⟦<Cpu<S> as Listed>⟧.is_shown self.now p }
-        requires accepted { IsTrue (S.accepted self.now.schema rec.now) }
+        requires accepted { IsTrue (S.accepted self.now.schema (R.as_record rec)) }
         ensures { inside ≡ true → (p : List Deed) → ⟦<Cpu<S> as Listed>⟧.is_shown self.now p → IsCaller self.now.cpu id mine p
-            → result ≡ fits_speculative (S.shape_of self.now.schema) self.now.config self.now.cpu id rec.now p }
+            → result ≡ fits_speculative (S.shape_of self.now.schema) self.now.config self.now.cpu id (R.as_record rec) p }
     {
         if !inside {
             return false;

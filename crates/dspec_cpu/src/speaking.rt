@@ -15,21 +15,21 @@ use crate::parts::CpuParts;
 use crate::reaching::{Reach, go_on};
 use crate::shared::Shared;
 use dspec_deeds::{CpuOp, SpeculateFate, Spoken};
-use dspec_record::{Rec, Schema};
+use dspec_record::{Recorded, Schema};
 use dspec_table::Doing;
 use dspec_word::SpecId;
 
 impl<S: Schema> CpuParts<S> {
     // As `Cpu::speculate`.
-    pub(crate) fn speculate(&mut self, shared: &Shared, id: SpecId, rec: &Rec) -> Spoken
+    pub(crate) fn speculate<R: Recorded>(&mut self, shared: &Shared, id: SpecId, rec: R) -> Spoken
         requires ready { ⟦<CpuParts<S> as Callable>⟧.is_ready (words_of shared.now) self.old }
-        requires accepted { IsTrue (S.accepted (schema_of self.old) rec.now) }
+        requires accepted { IsTrue (S.accepted (schema_of self.old) (R.as_record rec)) }
         ensures ready { ⟦<CpuParts<S> as Callable>⟧.is_ready (words_of shared.now) self.new }
         ensures same { IsSameCpu self.old self.new }
         ensures keeps { CallKeeps (is_worn_spoken result) (is_stopped_spoken result) 4 self.old self.new }
-        ensures did { Goes (known (seat_of self.old)) (spoken_deeds (number_in self.old) id rec.now result) (known (seat_of self.new)) }
+        ensures did { Goes (known (seat_of self.old)) (spoken_deeds (number_in self.old) id (R.as_record rec) result) (known (seat_of self.new)) }
         ensures list { (p : List Deed) → ⟦<Cpu<S> as Listed>⟧.has_list self.old p
-            → ⟦<Cpu<S> as Listed>⟧.has_list self.new (spoken_deeds (number_in self.old) id rec.now result ++ p) }
+            → ⟦<Cpu<S> as Listed>⟧.has_list self.new (spoken_deeds (number_in self.old) id (R.as_record rec) result ++ p) }
     {
         if self.side.calls >= self.config.max_calls {
             self.side.counts.wear();
@@ -47,24 +47,32 @@ impl<S: Schema> CpuParts<S> {
 
     // A call that isn't worn, of a CPU of which it is known whether it is a caller.
     #[inline(always)]
-    fn offer(&mut self, shared: &Shared, id: SpecId, rec: &Rec, inside: bool, mine: bool) -> Spoken
+    fn offer<R: Recorded>(
+        &mut self,
+        shared: &Shared,
+        id: SpecId,
+        rec: R,
+        inside: bool,
+        mine: bool,
+    ) -> Spoken
         requires ready { ⟦<CpuParts<S> as Callable>⟧.is_ready (words_of shared.now) self.old }
         requires calls { self.old.side.calls < self.old.config.max_calls }
-        requires accepted { IsTrue (S.accepted self.old.schema rec.now) }
+        requires accepted { IsTrue (S.accepted self.old.schema (R.as_record rec)) }
         requires inside { inside ≡ in_range self.old.config id }
         requires mine { inside ≡ true → (p : List Deed) → ⟦<Cpu<S> as Listed>⟧.is_shown self.old p → mine ≡ (mark self.old.cpu id.slot p == id.issue + 1) }
         requires marked { mine ≡ true → slice_get self.old.side.marks.items (id.slot - 1) ≡ Some (id.issue + 1) }
         ensures ready { ⟦<CpuParts<S> as Callable>⟧.is_ready (words_of shared.now) self.new }
         ensures same { IsSameCpu self.old self.new }
         ensures keeps { CallKeeps (is_worn_spoken result) (is_stopped_spoken result) 4 self.old self.new }
-        ensures did { Goes (known (seat_of self.old)) (spoken_deeds (number_in self.old) id rec.now result) (known (seat_of self.new)) }
+        ensures did { Goes (known (seat_of self.old)) (spoken_deeds (number_in self.old) id (R.as_record rec) result) (known (seat_of self.new)) }
         ensures list { (p : List Deed) → ⟦<Cpu<S> as Listed>⟧.has_list self.old p
-            → ⟦<Cpu<S> as Listed>⟧.has_list self.new (spoken_deeds (number_in self.old) id rec.now result ++ p) }
+            → ⟦<Cpu<S> as Listed>⟧.has_list self.new (spoken_deeds (number_in self.old) id (R.as_record rec) result ++ p) }
     {
         let fits = self.fits_slot(id, rec, mine, inside);
+        let copied = rec.to_rec();
         let doing = Doing {
             mine,
-            op: CpuOp::Speculate(id, *rec),
+            op: CpuOp::Speculate(id, copied),
             fits,
             count: 0,
         };

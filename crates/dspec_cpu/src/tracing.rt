@@ -12,28 +12,29 @@ use crate::listed::Listed;
 use crate::parts::CpuParts;
 use crate::shared::Shared;
 use dspec_deeds::{CpuOp, Traced};
-use dspec_record::{Rec, Schema};
+use dspec_record::{Recorded, Schema};
 use dspec_table::Doing;
 
 impl<S: Schema> CpuParts<S> {
     // As `Cpu::trace`.
-    pub(crate) fn trace(&mut self, shared: &Shared, rec: &Rec) -> Traced
+    pub(crate) fn trace<R: Recorded>(&mut self, shared: &Shared, rec: R) -> Traced
         requires ready { ⟦<CpuParts<S> as Callable>⟧.is_ready (words_of shared.now) self.old }
-        requires accepted { IsTrue (S.accepted (schema_of self.old) rec.now) }
+        requires accepted { IsTrue (S.accepted (schema_of self.old) (R.as_record rec)) }
         ensures ready { ⟦<CpuParts<S> as Callable>⟧.is_ready (words_of shared.now) self.new }
         ensures same { IsSameCpu self.old self.new }
         ensures keeps { CallKeeps (is_worn_trace result) (is_stopped_trace result) 1 self.old self.new }
-        ensures did { Goes (known (seat_of self.old)) (traced_deeds (number_in self.old) rec.now result) (known (seat_of self.new)) }
+        ensures did { Goes (known (seat_of self.old)) (traced_deeds (number_in self.old) (R.as_record rec) result) (known (seat_of self.new)) }
         ensures list { (p : List Deed) → ⟦<Cpu<S> as Listed>⟧.has_list self.old p
-            → ⟦<Cpu<S> as Listed>⟧.has_list self.new (traced_deeds (number_in self.old) rec.now result ++ p) }
+            → ⟦<Cpu<S> as Listed>⟧.has_list self.new (traced_deeds (number_in self.old) (R.as_record rec) result ++ p) }
     {
         if self.side.calls >= self.config.max_calls {
             self.side.counts.wear();
             return Traced::Worn;
         }
         let fits = self.side.fits(&self.config, &self.schema, rec);
+        let copied = rec.to_rec();
         let doing = Doing {
-            op: CpuOp::Trace(*rec),
+            op: CpuOp::Trace(copied),
             fits,
             count: 0,
             mine: false,

@@ -10,7 +10,7 @@ use crate::cpu::Cpu;
 use crate::listed::Listed;
 use crate::shared::Shared;
 use dspec_deeds::{Spoken, Traced};
-use dspec_record::{Rec, Schema};
+use dspec_record::{BorrowedRec, Recorded, Schema};
 use dspec_word::SpecId;
 
 impl<S: Schema> Cpu<S> {
@@ -31,11 +31,11 @@ impl<S: Schema> Cpu<S> {
         ensures does { IfSome result (λ a. Does (traced_deeds (number_in self.old) (record { epid = epid; stamp = stamp; values = values.now }) a)
             (⟦<Cpu<S> as Listed>⟧.has_list self.old) (known (seat_of self.old)) (⟦<Cpu<S> as Listed>⟧.has_list self.new) (known (seat_of self.new))) }
     {
-        let rec = Rec::stamped(epid, stamp, values)?;
-        if !self.schema().accepts(&rec) {
+        let rec = BorrowedRec::of(epid, stamp, values)?;
+        if !self.schema().accepts(rec) {
             return None;
         }
-        Some(self.trace(shared, &rec))
+        Some(self.trace_recorded(shared, rec))
     }
 
     /// Offers the record with these values, and this stamp, 0 where records have none, to a speculation. None: there are more than
@@ -56,10 +56,36 @@ impl<S: Schema> Cpu<S> {
         ensures does { IfSome result (λ a. Does (spoken_deeds (number_in self.old) id (record { epid = epid; stamp = stamp; values = values.now }) a)
             (⟦<Cpu<S> as Listed>⟧.has_list self.old) (known (seat_of self.old)) (⟦<Cpu<S> as Listed>⟧.has_list self.new) (known (seat_of self.new))) }
     {
-        let rec = Rec::stamped(epid, stamp, values)?;
-        if !self.schema().accepts(&rec) {
+        let rec = BorrowedRec::of(epid, stamp, values)?;
+        if !self.schema().accepts(rec) {
             return None;
         }
-        Some(self.speculate(shared, id, &rec))
+        Some(self.speculate_recorded(shared, id, rec))
+    }
+
+    // As `trace`, of a record that holds its values or whose values stand elsewhere.
+    #[inline(always)]
+    fn trace_recorded<R: Recorded>(&mut self, shared: &Shared, rec: R) -> Traced
+        requires of { Belongs (words_of shared.now) (identity self.old) }
+        requires accepted { IsTrue (S.accepted (schema_of self.old) (R.as_record rec)) }
+        ensures same { identity self.new ≡ identity self.old }
+        ensures keeps { CallKeeps (is_worn_trace result) (is_stopped_trace result) 1 self.old self.new }
+        ensures does { Does (traced_deeds (number_in self.old) (R.as_record rec) result)
+            (⟦<Cpu<S> as Listed>⟧.has_list self.old) (known (seat_of self.old)) (⟦<Cpu<S> as Listed>⟧.has_list self.new) (known (seat_of self.new)) }
+    {
+        self.parts.trace(shared, rec)
+    }
+
+    // As `speculate`, of such a record.
+    #[inline(always)]
+    fn speculate_recorded<R: Recorded>(&mut self, shared: &Shared, id: SpecId, rec: R) -> Spoken
+        requires of { Belongs (words_of shared.now) (identity self.old) }
+        requires accepted { IsTrue (S.accepted (schema_of self.old) (R.as_record rec)) }
+        ensures same { identity self.new ≡ identity self.old }
+        ensures keeps { CallKeeps (is_worn_spoken result) (is_stopped_spoken result) 4 self.old self.new }
+        ensures does { Does (spoken_deeds (number_in self.old) id (R.as_record rec) result)
+            (⟦<Cpu<S> as Listed>⟧.has_list self.old) (known (seat_of self.old)) (⟦<Cpu<S> as Listed>⟧.has_list self.new) (known (seat_of self.new)) }
+    {
+        self.parts.speculate(shared, id, rec)
     }
 }

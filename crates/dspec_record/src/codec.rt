@@ -5,7 +5,7 @@ ghost use Rattle.dspec_record.specs.Reading.{front_epid};
 ghost use Rattle.dspec_record.specs.RecordText.{little_endian, gap, stamp_text, header_text, record_text, stamp_fits, fits, IsRead};
 ghost use Rattle.dspec_record.specs.Writing.{IsClearBehind, IsWrittenWide};
 
-use crate::{Field, Header, ReadKind, Rec};
+use crate::{Field, Header, ReadKind, Rec, Recorded};
 
 /// How many bytes an EPID has.
 const EPID_SIZE: usize = 4;
@@ -44,12 +44,18 @@ pub(crate) fn fits_fields(fields: &[Field], limits: &[u64], values: &[u64]) -> b
 /// Writes the record's text: its header, its values at the places of these fields, and zero between them. The places are
 /// those without a stamp.
 #[inline(always)]
-pub(crate) fn put_record(header: Header, fields: &[Field], places: &[u8], rec: &Rec, out: &mut [u8])
+pub(crate) fn put_record<R: Recorded>(
+    header: Header,
+    fields: &[Field],
+    places: &[u8],
+    rec: R,
+    out: &mut [u8],
+)
     requires few { length fields.now ≤ 8 }
     requires places { places.now ≡ field_places 4 fields.now }
-    requires fit { IsTrue (fits fields.now rec.now.values) }
+    requires fit { IsTrue (fits fields.now (R.as_record rec).values) }
     requires exact { length out.old ≡ (layout header fields.now).size }
-    ensures { out.new ≡ record_text header fields.now rec.now }
+    ensures { out.new ≡ record_text header fields.now (R.as_record rec) }
 {
     let values = rec.values();
     let mut end = put_header(header, rec, out);
@@ -63,11 +69,11 @@ pub(crate) fn put_record(header: Header, fields: &[Field], places: &[u8], rec: &
 
 /// Writes what stands before the fields; answers where they begin.
 #[inline(always)]
-fn put_header(header: Header, rec: &Rec, out: &mut [u8]) -> usize
+fn put_header<R: Recorded>(header: Header, rec: R, out: &mut [u8]) -> usize
     requires whole_words { length out.old % 4 ≡ 0 }
     requires room { fields_start header ≤ length out.old }
     ensures end { result ≡ fields_start header }
-    ensures put { take (fields_start header) out.new ≡ header_text header rec.now }
+    ensures put { take (fields_start header) out.new ≡ header_text header (R.as_record rec) }
     ensures clear { IsClearBehind (fields_start header) out.new }
 {
     let end = put_field(Field::Four, u64::from(rec.epid()), 0, 0, out);

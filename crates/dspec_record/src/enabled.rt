@@ -1,5 +1,5 @@
 use crate::codec::{fits_fields, fits_header, put_record, read_epid, read_record};
-use crate::{Enablings, Header, ReadKind, Rec, Schema, Shape};
+use crate::{Enablings, Header, ReadKind, Rec, Recorded, Schema, Shape};
 
 impl Schema for Enablings {
     ghost use Rattle.dspec_record.specs.Schemas.{enabled, table_shape, table_accepts, table_text};
@@ -27,7 +27,7 @@ impl Schema for Enablings {
         }
     }
 
-    fn accepts(&self, rec: &Rec) -> bool {
+    fn accepts<R: Recorded>(&self, rec: R) -> bool {
         match self.enabling(rec.epid()) {
             Some(enabling) => fits_header(self.header(), rec.stamp())
                 && fits_fields(enabling.fields(), enabling.limits(), rec.values()),
@@ -36,7 +36,7 @@ impl Schema for Enablings {
     }
 
     #[inline(always)]
-    fn put(&self, rec: &Rec, out: &mut [u8]) {
+    fn put<R: Recorded>(&self, rec: R, out: &mut [u8]) {
         let Some(enabling) = self.enabling(rec.epid()) else {
             unreachable!()
         };

@@ -9,6 +9,7 @@
 //! crate stands on std alone, and no call of it takes memory.
 #![tactic(auto)]
 
+mod borrowed;
 mod codec;
 mod default_action;
 mod enabled;
@@ -19,14 +20,17 @@ pub mod laws;
 mod layout;
 pub mod reading;
 mod record;
+mod recorded;
 pub mod schema;
 mod stamped_action;
 
+pub use borrowed::BorrowedRec;
 pub use default_action::DefaultAction;
 pub use enabling::{Enablings, SchemaFault};
 pub use field::{Field, Shape};
 pub use header::Header;
 pub use reading::ReadKind;
 pub use record::Rec;
+pub use recorded::Recorded;
 pub use schema::Schema;
 pub use stamped_action::StampedAction;

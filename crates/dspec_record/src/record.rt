@@ -2,7 +2,7 @@ use std::fmt;
 use std::marker::Model;
 
 /// The most values that a record has.
-const MAX_VALUES: usize = 8;
+pub(crate) const MAX_VALUES: usize = 8;
 
 /// A record as it is traced: an EPID (the enabled probe identifier of the USENIX 2004 paper by Cantrill,
 /// Shapiro and Leventhal), a stamp, which is any number of the caller's and 0 where none was given, and at most

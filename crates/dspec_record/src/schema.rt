@@ -3,7 +3,7 @@ ghost use Rattle.dspec_record.specs.Record.{Record};
 ghost use Rattle.dspec_record.specs.Reading.{IsShape, IsTextOf, Answers};
 ghost use Rattle.dspec_record.specs.declared.field.Shape.{Shape};
 
-use crate::{ReadKind, Rec, Shape};
+use crate::{ReadKind, Rec, Recorded, Shape};
 
 /// Which records there are, and how they stand in a buffer. A buffer knows no more of a schema than
 /// these clauses and the laws below them say.
@@ -22,14 +22,14 @@ pub trait Schema: Copy {
         ensures { result ≡ shape_of self.now epid };
 
     /// Whether the EPID has a shape, there is a value for each of its fields, and each fits its width.
-    fn accepts(&self, rec: &Rec) -> bool
-        ensures { result ≡ accepted self.now rec.now };
+    fn accepts<R: Recorded>(&self, rec: R) -> bool
+        ensures { result ≡ accepted self.now (R.as_record rec) };
 
     /// Writes an accepted record into a slice of exactly its size.
-    fn put(&self, rec: &Rec, out: &mut [u8])
-        requires accepted { IsTrue (accepted self.now rec.now) }
-        requires exact { length out.old ≡ length (text self.now rec.now) }
-        ensures { out.new ≡ text self.now rec.now };
+    fn put<R: Recorded>(&self, rec: R, out: &mut [u8])
+        requires accepted { IsTrue (accepted self.now (R.as_record rec)) }
+        requires exact { length out.old ≡ length (text self.now (R.as_record rec)) }
+        ensures { out.new ≡ text self.now (R.as_record rec) };
 
     /// The record at the front and its size in bytes, or the first fault in this order: Truncated for fewer
     /// bytes than an EPID, Padding for EPID 0, UnknownEpid, Truncated for fewer bytes than the shape's size,

@@ -9,14 +9,14 @@ ghost use Rattle.dspec_side.specs.Sides.{IsCaller, ShowsList};
 use crate::side::Side;
 use dspec_buffer::TraceBuffer;
 use dspec_deeds::Config;
-use dspec_record::{Rec, Schema};
+use dspec_record::{Recorded, Schema};
 use dspec_word::SpecId;
 
 // Whether a record would fit.
 #[inline]
-fn would_fit<S: Schema, B: TraceBuffer<S>>(buffer: &B, schema: &S, rec: &Rec) -> bool
-    requires accepted { IsTrue (S.accepted schema.now rec.now) }
-    ensures { (ps : List Piece) → B.has buffer.now schema.now ps → result ≡ piece_fits (S.shape_of schema.now) ps (one rec.now) (B.capacity buffer.now) }
+fn would_fit<S: Schema, B: TraceBuffer<S>, R: Recorded>(buffer: &B, schema: &S, rec: R) -> bool
+    requires accepted { IsTrue (S.accepted schema.now (R.as_record rec)) }
+    ensures { (ps : List Piece) → B.has buffer.now schema.now ps → result ≡ piece_fits (S.shape_of schema.now) ps (one (R.as_record rec)) (B.capacity buffer.now) }
 {
     // An accepted record has a shape. Told so, where nobody asks for the answer no running code is left of the question.
     let Some(shape) = schema.shape(rec.epid()) else {
@@ -26,9 +26,9 @@ fn would_fit<S: Schema, B: TraceBuffer<S>>(buffer: &B, schema: &S, rec: &Rec) ->
 }
 
 // Whether a record would fit an empty buffer of this size.
-fn would_fit_empty<S: Schema>(schema: &S, rec: &Rec, size: u32) -> bool
-    requires accepted { IsTrue (S.accepted schema.now rec.now) }
-    ensures { result ≡ piece_fits (S.shape_of schema.now) [] (one rec.now) size }
+fn would_fit_empty<S: Schema, R: Recorded>(schema: &S, rec: R, size: u32) -> bool
+    requires accepted { IsTrue (S.accepted schema.now (R.as_record rec)) }
+    ensures { result ≡ piece_fits (S.shape_of schema.now) [] (one (R.as_record rec)) size }
 {
     let Some(shape) = schema.shape(rec.epid()) else {
         return false;
@@ -39,18 +39,18 @@ fn would_fit_empty<S: Schema>(schema: &S, rec: &Rec, size: u32) -> bool
 /// Keeps a record in a buffer, which is emptied before where what it has isn't of the same speculation. False where it doesn't
 /// fit.
 #[inline(always)]
-pub(crate) fn keep_in<S: Schema, B: TraceBuffer<S>>(
+pub(crate) fn keep_in<S: Schema, B: TraceBuffer<S>, R: Recorded>(
     buffer: &mut B,
     schema: &S,
-    rec: &Rec,
+    rec: R,
     mine: bool,
 ) -> bool
-    requires accepted { IsTrue (S.accepted schema.now rec.now) }
+    requires accepted { IsTrue (S.accepted schema.now (R.as_record rec)) }
     ensures size { B.capacity buffer.new ≡ B.capacity buffer.old }
     ensures answer { (ps : List Piece) → B.has buffer.old schema.now ps
-        → result ≡ piece_fits (S.shape_of schema.now) (if mine then ps else []) (one rec.now) (B.capacity buffer.old) }
+        → result ≡ piece_fits (S.shape_of schema.now) (if mine then ps else []) (one (R.as_record rec)) (B.capacity buffer.old) }
     ensures has { (ps : List Piece) → B.has buffer.old schema.now ps
-        → B.has buffer.new schema.now (if result then one rec.now ∷ (if mine then ps else []) else (if mine then ps else [])) }
+        → B.has buffer.new schema.now (if result then one (R.as_record rec) ∷ (if mine then ps else []) else (if mine then ps else [])) }
 {
     if !mine {
         buffer.clear();
@@ -60,17 +60,17 @@ pub(crate) fn keep_in<S: Schema, B: TraceBuffer<S>>(
 
 /// Keeps a record in a principal buffer, where that isn't closed and the record fits.
 #[inline]
-pub(crate) fn keep_open<S: Schema, B: TraceBuffer<S>>(
+pub(crate) fn keep_open<S: Schema, B: TraceBuffer<S>, R: Recorded>(
     active: &mut B,
     schema: &S,
-    rec: &Rec,
+    rec: R,
     closed: bool,
 ) -> bool
-    requires accepted { IsTrue (S.accepted schema.now rec.now) }
+    requires accepted { IsTrue (S.accepted schema.now (R.as_record rec)) }
     ensures size { B.capacity active.new ≡ B.capacity active.old }
     ensures answer { (ps : List Piece) → B.has active.old schema.now ps
-        → result ≡ (piece_fits (S.shape_of schema.now) ps (one rec.now) (B.capacity active.old) && not closed) }
-    ensures kept { OnTrue result ((ps : List Piece) → B.has active.old schema.now ps → B.has active.new schema.now (one rec.now ∷ ps)) }
+        → result ≡ (piece_fits (S.shape_of schema.now) ps (one (R.as_record rec)) (B.capacity active.old) && not closed) }
+    ensures kept { OnTrue result ((ps : List Piece) → B.has active.old schema.now ps → B.has active.new schema.now (one (R.as_record rec) ∷ ps)) }
     ensures refused { OnFalse result (active.new ≡ active.old) }
 {
     if closed {
@@ -90,32 +90,32 @@ impl<B> Side<B> {
 
     /// Whether the active principal buffer would take a record.
     #[inline]
-    pub fn fits<S: Schema>(&self, config: &Config, schema: &S, rec: &Rec) -> bool
+    pub fn fits<S: Schema, R: Recorded>(&self, config: &Config, schema: &S, rec: R) -> bool
     where
         B: TraceBuffer<S>,
-        requires accepted { IsTrue (S.accepted schema.now rec.now) }
+        requires accepted { IsTrue (S.accepted schema.now (R.as_record rec)) }
         ensures { (c : ℕ) (p : List Deed) → ShowsList (λ b. B.has b schema.now) B.capacity config.now c p self.now
-            → result ≡ fits_principal (S.shape_of schema.now) config.now c (one rec.now) p }
+            → result ≡ fits_principal (S.shape_of schema.now) config.now c (one (R.as_record rec)) p }
     {
         would_fit(&self.active, schema, rec) && !self.is_closed(config)
     }
 
     /// Whether the CPU's buffer of the speculation would take a record; it is empty where the CPU is no caller.
     #[inline]
-    pub fn fits_slot<S: Schema>(
+    pub fn fits_slot<S: Schema, R: Recorded>(
         &self,
         config: &Config,
         schema: &S,
         id: SpecId,
-        rec: &Rec,
+        rec: R,
         mine: bool,
     ) -> bool
     where
         B: TraceBuffer<S>,
         requires slot { (1 ≤ id.slot) × (id.slot ≤ length self.now.speculative.items) }
-        requires accepted { IsTrue (S.accepted schema.now rec.now) }
+        requires accepted { IsTrue (S.accepted schema.now (R.as_record rec)) }
         ensures { (c : ℕ) (p : List Deed) → ShowsList (λ b. B.has b schema.now) B.capacity config.now c p self.now → IsCaller c id mine p
-            → result ≡ fits_speculative (S.shape_of schema.now) config.now c id rec.now p }
+            → result ≡ fits_speculative (S.shape_of schema.now) config.now c id (R.as_record rec) p }
     {
         if mine {
             would_fit(&self.speculative[id.slot() as usize - 1], schema, rec)

@@ -15,31 +15,31 @@ use crate::fitting::keep_in;
 use crate::side::Side;
 use dspec_buffer::TraceBuffer;
 use dspec_deeds::SpeculateFate;
-use dspec_record::{Rec, Schema};
+use dspec_record::{Recorded, Schema};
 use dspec_word::SpecId;
 
 // Marks the speculation as granted and keeps the record, where it fits, in its buffer. What that has and has dropped of an older
 // speculation is forgotten before. False where it doesn't fit.
 #[inline(always)]
-fn mark_and_keep<S: Schema, B: TraceBuffer<S>>(
+fn mark_and_keep<S: Schema, B: TraceBuffer<S>, R: Recorded>(
     marks: &mut Vec<u64>,
     specdrops: &mut Vec<u64>,
     buffers: &mut Vec<B>,
     schema: &S,
     id: SpecId,
-    rec: &Rec,
+    rec: R,
     mine: bool,
 ) -> bool
     requires slot { (1 ≤ id.slot) × (id.slot ≤ length buffers.old.items) × (id.slot ≤ length marks.old.items) × (id.slot ≤ length specdrops.old.items) }
     requires marked { mine ≡ true → slice_get marks.old.items (id.slot - 1) ≡ Some (id.issue + 1) }
-    requires accepted { IsTrue (S.accepted schema.now rec.now) }
+    requires accepted { IsTrue (S.accepted schema.now (R.as_record rec)) }
     ensures marks { marks.new.items ≡ slice_set marks.old.items (id.slot - 1) (id.issue + 1) }
     ensures specdrops { specdrops.new.items ≡ (if mine then specdrops.old.items else slice_set specdrops.old.items (id.slot - 1) 0) }
     ensures buffer { (b : B) → slice_get buffers.old.items (id.slot - 1) ≡ Some b
         → (n : B) × (B.capacity n ≡ B.capacity b) × (buffers.new.items ≡ slice_set buffers.old.items (id.slot - 1) n)
         × ((ps : List Piece) → B.has b schema.now ps
-        → (result ≡ piece_fits (S.shape_of schema.now) (if mine then ps else []) (one rec.now) (B.capacity b))
-        × B.has n schema.now (if result then one rec.now ∷ (if mine then ps else []) else (if mine then ps else []))) }
+        → (result ≡ piece_fits (S.shape_of schema.now) (if mine then ps else []) (one (R.as_record rec)) (B.capacity b))
+        × B.has n schema.now (if result then one (R.as_record rec) ∷ (if mine then ps else []) else (if mine then ps else []))) }
 {
     let place = id.slot() as usize - 1;
     if !mine {
@@ -88,18 +88,24 @@ impl<B> Side<B> {
     /// Offers a record to a speculation that was granted to the CPU, of which it was a caller before or not: marked as granted,
     /// it is kept, or dropped where it doesn't fit the rest of the CPU's buffer.
     #[inline(always)]
-    pub fn grant<S: Schema>(&mut self, schema: &S, id: SpecId, rec: &Rec, mine: bool) -> bool
+    pub fn grant<S: Schema, R: Recorded>(
+        &mut self,
+        schema: &S,
+        id: SpecId,
+        rec: R,
+        mine: bool,
+    ) -> bool
     where
         B: TraceBuffer<S>,
         requires slot { (1 ≤ id.slot) × (id.slot ≤ length self.old.speculative.items) × (id.slot ≤ length self.old.marks.items) × (id.slot ≤ length self.old.specdrops.items) }
         requires marked { mine ≡ true → slice_get self.old.marks.items (id.slot - 1) ≡ Some (id.issue + 1) }
-        requires accepted { IsTrue (S.accepted schema.now rec.now) }
+        requires accepted { IsTrue (S.accepted schema.now (R.as_record rec)) }
         requires calls { self.old.calls + 1 < 2 ^ 64 }
         requires counts { IsRoomy self.old.counts }
         ensures answer { (k : Config) (c : ℕ) (p : List Deed) → ShowsList (λ b. B.has b schema.now) B.capacity k c p self.old → IsCaller c id mine p
-            → result ≡ fits_speculative (S.shape_of schema.now) k c id rec.now p }
+            → result ≡ fits_speculative (S.shape_of schema.now) k c id (R.as_record rec) p }
         ensures shows { (k : Config) (c : ℕ) (p : List Deed) → ShowsList (λ b. B.has b schema.now) B.capacity k c p self.old → IsCaller c id mine p
-            → ShowsList (λ b. B.has b schema.now) B.capacity k c (Speculate c id rec.now (if result then SpeculateFate.Kept else SpeculateFate.Dropped) ∷ p) self.new }
+            → ShowsList (λ b. B.has b schema.now) B.capacity k c (Speculate c id (R.as_record rec) (if result then SpeculateFate.Kept else SpeculateFate.Dropped) ∷ p) self.new }
         ensures counts { self.new.counts ≡ with_spoken (if result then SpeculateFate.Kept else SpeculateFate.Dropped) self.old.counts }
         ensures rest { self.new ≡ record self.old { calls = self.old.calls + 1; marks = self.new.marks; specdrops = self.new.specdrops; speculative = self.new.speculative; counts = self.new.counts } }
     {

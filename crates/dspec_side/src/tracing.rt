@@ -12,22 +12,22 @@ use crate::fitting::keep_open;
 use crate::side::Side;
 use dspec_buffer::TraceBuffer;
 use dspec_deeds::TraceFate;
-use dspec_record::{Rec, Schema};
+use dspec_record::{Recorded, Schema};
 
 impl<B> Side<B> {
     /// Traces a record into the active principal buffer, which is closed or not; it is kept, or dropped where it doesn't fit.
     #[inline]
-    pub fn trace<S: Schema>(&mut self, schema: &S, rec: &Rec, closed: bool) -> bool
+    pub fn trace<S: Schema, R: Recorded>(&mut self, schema: &S, rec: R, closed: bool) -> bool
     where
         B: TraceBuffer<S>,
-        requires accepted { IsTrue (S.accepted schema.now rec.now) }
+        requires accepted { IsTrue (S.accepted schema.now (R.as_record rec)) }
         requires calls { self.old.calls + 1 < 2 ^ 64 }
         requires drops { self.old.drops + 1 < 2 ^ 64 }
         requires counts { IsRoomy self.old.counts }
         ensures answer { (k : Config) (c : ℕ) (p : List Deed) → ShowsList (λ b. B.has b schema.now) B.capacity k c p self.old → closed ≡ is_closed k c p
-            → result ≡ fits_principal (S.shape_of schema.now) k c (one rec.now) p }
+            → result ≡ fits_principal (S.shape_of schema.now) k c (one (R.as_record rec)) p }
         ensures shows { (k : Config) (c : ℕ) (p : List Deed) → ShowsList (λ b. B.has b schema.now) B.capacity k c p self.old
-            → ShowsList (λ b. B.has b schema.now) B.capacity k c (Trace c rec.now (if result then TraceFate.Kept else TraceFate.Dropped) ∷ p) self.new }
+            → ShowsList (λ b. B.has b schema.now) B.capacity k c (Trace c (R.as_record rec) (if result then TraceFate.Kept else TraceFate.Dropped) ∷ p) self.new }
         ensures counts { self.new.counts ≡ with_traced (if result then TraceFate.Kept else TraceFate.Dropped) self.old.counts }
         ensures rest { self.new ≡ record self.old { calls = self.old.calls + 1; active = self.new.active; drops = self.new.drops; counts = self.new.counts } }
     {

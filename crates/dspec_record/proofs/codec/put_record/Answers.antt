@@ -16,23 +16,23 @@ use Rattle.dspec_record.specs.declared.field.Field.TheVariants.{One}
 use Rattle.dspec_record.proofs.codec.put_record.Goals as goal
 
 pub put_header-end-requires-clause-whole_words : goal.put_header-end-requires-clause-whole_words
-put_header-end-requires-clause-whole_words c =
+put_header-end-requires-clause-whole_words g c =
     let shape : IsShape (layout c.args.header c.args.fields.now) = layout-IsShape c.args.header c.args.fields.now c.requires.few in
     omega (arith, c.requires.exact, shape.whole_words)
 
 pub put_header-end-requires-clause-room : goal.put_header-end-requires-clause-room
-put_header-end-requires-clause-room c =
+put_header-end-requires-clause-room g c =
     let shape : IsShape (layout c.args.header c.args.fields.now) = layout-IsShape c.args.header c.args.fields.now c.requires.few in
     omega (arith, c.requires.exact, header-within c.args.header c.args.fields.now)
 
 pub bounds-values-i : goal.bounds-values-i
-bounds-values-i c =
-    let same : length c.args.fields.now ≡ length c.args.rec.now.values =
-    fits-length c.args.fields.now c.args.rec.now.values c.requires.fit in
+bounds-values-i g c =
+    let same : length c.args.fields.now ≡ length (g.R.Recorded.as_record c.args.rec).values =
+    fits-length c.args.fields.now (g.R.Recorded.as_record c.args.rec).values c.requires.fit in
     omega (arith, same, ap length c.values-values.ensures.values)
 
 pub bounds-places-i : goal.bounds-places-i
-bounds-places-i c =
+bounds-places-i g c =
     omega (arith, ap length c.requires.places ∙ length-field_places 4 c.args.fields.now)
 
 -- the fields and values that are left begin with this one
@@ -44,29 +44,30 @@ here text end out i fs vs within same w =
     subst Values (drop_more vs i 0 (omega arith)) (subst Left (drop_more fs i One within) w)
 
 pub put_field-end-requires-clause-place : goal.put_field-end-requires-clause-place
-put_field-end-requires-clause-place c =
+put_field-end-requires-clause-place g c =
     let fs : List Field = c.args.fields.now in
     let within : c.loop-i.i < length fs = omega arith in
     IsPlaced-place c.stamp_size-moved.result c.loop-i.end c.loop-i.i fs c.args.places.now within
     (ap length c.requires.places ∙ length-field_places 4 fs) c.loop-i.invariant.1
 
 pub put_field-end-requires-clause-room : goal.put_field-end-requires-clause-room
-put_field-end-requires-clause-room c =
+put_field-end-requires-clause-room g c =
     let fs : List Field = c.args.fields.now in
+    let r : Record = g.R.Recorded.as_record c.args.rec in
     let i : ℕ = c.loop-i.i in
     let f : Field = get_or fs i One in
     let within : i < length fs = omega arith in
     let many : length fs ≡ length c.values-values.result.now =
-    fits-length fs c.args.rec.now.values c.requires.fit ∙ sym (ap length c.values-values.ensures.values) in
-    let w = here (record_text c.args.header fs c.args.rec.now) c.loop-i.end c.loop-i.out i fs c.values-values.result.now within many c.loop-i.invariant.0 in
+    fits-length fs r.values c.requires.fit ∙ sym (ap length c.values-values.ensures.values) in
+    let w = here (record_text c.args.header fs r) c.loop-i.end c.loop-i.out i fs c.values-values.result.now within many c.loop-i.invariant.0 in
     let Room : ℕ → Type 0 = λ p. p + width f ≤ length c.loop-i.out in
-    subst Room (sym (put_field-end-requires-clause-place c)) (IsWriting-room _ _ _ _ _ _ w)
+    subst Room (sym (put_field-end-requires-clause-place g c)) (IsWriting-room _ _ _ _ _ _ w)
 
 pub loop-i-init : goal.loop-i-init
-loop-i-init c =
+loop-i-init g c =
     let fs : List Field = c.args.fields.now in
     let h : Header = c.args.header in
-    let r : Record = c.args.rec.now in
+    let r : Record = g.R.Recorded.as_record c.args.rec in
     let out : List ℕ = c.put_header-end.new.out in
     let long : length out ≡ (layout h fs).size = c.put_header-end.auto.out ∙ c.requires.exact in
     let start : IsWriting (record_text h fs r) (fields_start h) out fs r.values =
@@ -78,17 +79,18 @@ loop-i-init c =
     )
 
 pub loop-i-preserved : goal.loop-i-preserved
-loop-i-preserved c =
+loop-i-preserved g c =
     let fs : List Field = c.args.fields.now in
+    let r : Record = g.R.Recorded.as_record c.args.rec in
     let vs : List ℕ = c.values-values.result.now in
     let i : ℕ = c.loop-i.i in
     let f : Field = get_or fs i One in
     let v : ℕ = get_or vs i 0 in
     let end : ℕ = c.loop-i.end in
     let out : List ℕ = c.put_field-end.new.out in
-    let text : List ℕ = record_text c.args.header fs c.args.rec.now in
+    let text : List ℕ = record_text c.args.header fs r in
     let within : i < length fs = omega arith in
-    let many : length fs ≡ length vs = fits-length fs c.args.rec.now.values c.requires.fit ∙ sym (ap length c.values-values.ensures.values) in
+    let many : length fs ≡ length vs = fits-length fs r.values c.requires.fit ∙ sym (ap length c.values-values.ensures.values) in
     let same : c.put_field-end.result ≡ after end (width f) (width f) = c.put_field-end.ensures.end in
     let Put : ℕ → Type 0 = λ e. take e out ≡ take end c.loop-i.out ++ (gap end (width f) ++ little_endian (width f) v) in
     let Clear : ℕ → Type 0 = λ e. IsClearBehind e out in
@@ -102,11 +104,12 @@ loop-i-preserved c =
     (subst Next (sym same) next, subst Placed (sym same) placed)
 
 pub returns : goal.returns
-returns c =
+returns g c =
     let fs : List Field = c.args.fields.now in
+    let r : Record = g.R.Recorded.as_record c.args.rec in
     let i : ℕ = c.loop-i.i in
     let past : length fs ≤ i = omega arith in
-    let Left : List Field → Type 0 = λ gs. IsWriting (record_text c.args.header fs c.args.rec.now) c.loop-i.end c.loop-i.out gs (drop i c.values-values.result.now) in
-    let done : IsWriting (record_text c.args.header fs c.args.rec.now) c.loop-i.end c.loop-i.out [] (drop i c.values-values.result.now) =
+    let Left : List Field → Type 0 = λ gs. IsWriting (record_text c.args.header fs r) c.loop-i.end c.loop-i.out gs (drop i c.values-values.result.now) in
+    let done : IsWriting (record_text c.args.header fs r) c.loop-i.end c.loop-i.out [] (drop i c.values-values.result.now) =
     subst Left (drop_all i fs past) c.loop-i.invariant.0 in
     IsWriting-end _ _ _ _ done

@@ -5,5 +5,5 @@ use Rattle.dspec_record.proofs.Places.{IsPlaced}
 use Rattle.dspec_record.proofs.codec.put_record.Given as goal
 
 abbrev pub invariant-loop-i : goal.invariant-loop-i
-invariant-loop-i l =
-    IsWriting (record_text l.fn.header l.fields l.rec) l.end l.out (drop l.i l.fields) (drop l.i l.values) × IsPlaced l.moved l.end (drop l.i l.fields) (drop l.i l.places)
+invariant-loop-i g l =
+    IsWriting (record_text l.fn.header l.fields (g.R.Recorded.as_record l.fn.rec)) l.end l.out (drop l.i l.fields) (drop l.i l.values) × IsPlaced l.moved l.end (drop l.i l.fields) (drop l.i l.places)

@@ -21,5 +21,5 @@ front_fits shape r h n is which = rw is (ap (λ m. nat_le m n) (sym (at_front h.
 pub returns : goal.returns
 returns g c =
     let is = sym c.shape.ensures ∙ c.in-Some.is in
-    front_fits (g.S.Schema.shape_of c.args.schema.now) c.args.rec.now c.in-Some.shape c.args.size (ap (g.S.Schema.shape_of c.args.schema.now) (sym c.epid.ensures) ∙ is)
+    front_fits (g.S.Schema.shape_of c.args.schema.now) (g.R.Recorded.as_record c.args.rec) c.in-Some.shape c.args.size (ap (g.S.Schema.shape_of c.args.schema.now) (sym c.epid.ensures) ∙ is)
     (g.met.S.Schema.shapes_fit c.args.schema.now c.epid.result c.in-Some.shape is).aligned

@@ -24,6 +24,7 @@ put_behind-requires-clause-gap g c =
 pub returns-in_default-place_for-clause-answer : goal.returns-in_default-place_for-clause-answer
 returns-in_default-place_for-clause-answer g c = λ ps h.
     let s = c.args.schema.now in
+    let r = g.R.Recorded.as_record c.args.rec in
     let shape : Shape = c.in-Some.field-0 in
     let laws : SchemaLaws (g.S.Schema.shape_of s) (g.S.Schema.accepted s) (g.S.Schema.text s) = record {
       zero_has_none = g.met.S.Schema.zero_has_none s;
@@ -35,11 +36,11 @@ returns-in_default-place_for-clause-answer g c = λ ps h.
     let long = c.self.inside.bytes.ok.0 in
     let at = offset_is (g.S.Schema.shape_of s) (g.S.Schema.accepted s) (g.S.Schema.text s) laws c.args.self.now c.self.inside.offset c.self.inside.bytes.items ps
     (ap (λ b. b.text) c.self.view_is) (omega arith) h in
-    let named : g.S.Schema.shape_of s c.args.rec.now.epid ≡ Some shape = ap (g.S.Schema.shape_of s) (sym c.epid.ensures) ∙ sym c.in-Some.ensures in
-    let says = shape_says (g.S.Schema.shape_of s) c.args.rec.now shape named in
-    let fit = g.met.S.Schema.shapes_fit s c.args.rec.now.epid shape named in
+    let named : g.S.Schema.shape_of s r.epid ≡ Some shape = ap (g.S.Schema.shape_of s) (sym c.epid.ensures) ∙ sym c.in-Some.ensures in
+    let says = shape_says (g.S.Schema.shape_of s) r shape named in
+    let fit = g.met.S.Schema.shapes_fit s r.epid shape named in
     let with_epid = fit.with_epid in
-    fits_says (g.S.Schema.shape_of s) (one c.args.rec.now) ps c.self.inside.offset shape.align shape.size c.size.result c.args.self.now.size
+    fits_says (g.S.Schema.shape_of s) (one r) ps c.self.inside.offset shape.align shape.size c.size.result c.args.self.now.size
     false at says.1 says.0 c.size.ensures
     (refuses c.self.inside.offset shape.align shape.size c.size.result (λ z. omega arith) c.in_default-place_for.ensures)
 
@@ -61,6 +62,7 @@ invariant_of-self g c =
 pub returns-clause-answer : goal.returns-clause-answer
 returns-clause-answer g c = λ ps h.
     let s = c.args.schema.now in
+    let r = g.R.Recorded.as_record c.args.rec in
     let shape : Shape = c.in-Some.field-0 in
     let laws : SchemaLaws (g.S.Schema.shape_of s) (g.S.Schema.accepted s) (g.S.Schema.text s) = record {
       zero_has_none = g.met.S.Schema.zero_has_none s;
@@ -72,17 +74,18 @@ returns-clause-answer g c = λ ps h.
     let long = c.self.inside.bytes.ok.0 in
     let at = offset_is (g.S.Schema.shape_of s) (g.S.Schema.accepted s) (g.S.Schema.text s) laws c.args.self.now c.self.inside.offset c.self.inside.bytes.items ps
     (ap (λ b. b.text) c.self.view_is) (omega arith) h in
-    let named : g.S.Schema.shape_of s c.args.rec.now.epid ≡ Some shape = ap (g.S.Schema.shape_of s) (sym c.epid.ensures) ∙ sym c.in-Some.ensures in
-    let says = shape_says (g.S.Schema.shape_of s) c.args.rec.now shape named in
-    let fit = g.met.S.Schema.shapes_fit s c.args.rec.now.epid shape named in
+    let named : g.S.Schema.shape_of s r.epid ≡ Some shape = ap (g.S.Schema.shape_of s) (sym c.epid.ensures) ∙ sym c.in-Some.ensures in
+    let says = shape_says (g.S.Schema.shape_of s) r shape named in
+    let fit = g.met.S.Schema.shapes_fit s r.epid shape named in
     let with_epid = fit.with_epid in
-    fits_says (g.S.Schema.shape_of s) (one c.args.rec.now) ps c.self.inside.offset shape.align shape.size c.size.result c.args.self.now.size
+    fits_says (g.S.Schema.shape_of s) (one r) ps c.self.inside.offset shape.align shape.size c.size.result c.args.self.now.size
     true at says.1 says.0 c.size.ensures
     (admits c.self.inside.offset shape.align shape.size c.size.result c.in-Some-place_for.place (λ z. omega arith) c.in-Some-place_for.ensures.0 c.in-Some-place_for.ensures.1)
 
 pub returns-clause-kept : goal.returns-clause-kept
 returns-clause-kept g c = λ ps h.
     let s = c.args.schema.now in
+    let r = g.R.Recorded.as_record c.args.rec in
     let shape : Shape = c.in-Some.field-0 in
     let laws : SchemaLaws (g.S.Schema.shape_of s) (g.S.Schema.accepted s) (g.S.Schema.text s) = record {
       zero_has_none = g.met.S.Schema.zero_has_none s;
@@ -94,24 +97,24 @@ returns-clause-kept g c = λ ps h.
     let long = c.self.inside.bytes.ok.0 in
     let at = offset_is (g.S.Schema.shape_of s) (g.S.Schema.accepted s) (g.S.Schema.text s) laws c.args.self.now c.self.inside.offset c.self.inside.bytes.items ps
     (ap (λ b. b.text) c.self.view_is) (omega arith) h in
-    let named : g.S.Schema.shape_of s c.args.rec.now.epid ≡ Some shape = ap (g.S.Schema.shape_of s) (sym c.epid.ensures) ∙ sym c.in-Some.ensures in
-    let says = shape_says (g.S.Schema.shape_of s) c.args.rec.now shape named in
-    let fit = g.met.S.Schema.shapes_fit s c.args.rec.now.epid shape named in
+    let named : g.S.Schema.shape_of s r.epid ≡ Some shape = ap (g.S.Schema.shape_of s) (sym c.epid.ensures) ∙ sym c.in-Some.ensures in
+    let says = shape_says (g.S.Schema.shape_of s) r shape named in
+    let fit = g.met.S.Schema.shapes_fit s r.epid shape named in
     let with_epid = fit.with_epid in
-    let t = text_facts (g.S.Schema.shape_of s) (g.S.Schema.accepted s) (g.S.Schema.text s) laws c.args.rec.now c.requires in
+    let t = text_facts (g.S.Schema.shape_of s) (g.S.Schema.accepted s) (g.S.Schema.text s) laws r c.requires in
     let size = ap (λ b. b.size) c.self.view_is in
     let limit = c.size.ensures in
     let fitting = c.in-Some-place_for.ensures.1 in
     let slice = c.as_mut_slice-bytes.ensures.len in
-    let written : length (g.S.Schema.text s c.args.rec.now) ≡ shape.size = t.size ∙ says.0 in
+    let written : length (g.S.Schema.text s r) ≡ shape.size = t.size ∙ says.0 in
     let back = laid_whole c.self.inside.offset shape.align c.in-Some-place_for.place shape.size c.self.inside.bytes.len c.self.inside.bytes.items
-    c.self.inside.bytes.items c.put_behind.new.bytes (g.S.Schema.text s c.args.rec.now) c.self.invariant.words fit.aligned c.in-Some-place_for.ensures.0 (λ z. omega arith) written
+    c.self.inside.bytes.items c.put_behind.new.bytes (g.S.Schema.text s r) c.self.invariant.words fit.aligned c.in-Some-place_for.ensures.0 (λ z. omega arith) written
     (omega arith) (omega arith)
     (c.put_behind.ensures
-    ∙ ap (λ z. take c.self.inside.offset z ++ (replicate (c.in-Some-place_for.place - c.self.inside.offset) 0 ++ g.S.Schema.text s c.args.rec.now)) c.as_mut_slice-bytes.ensures.value) in
-    kept (g.S.Schema.shape_of s) (g.S.Schema.accepted s) (g.S.Schema.text s) laws c.args.self.now _ (one c.args.rec.now) ps h
-    (accepted_alone (g.S.Schema.shape_of s) (g.S.Schema.accepted s) (g.S.Schema.text s) laws c.args.rec.now c.requires)
-    (back ∙ ap (λ z. z ++ padded c.self.inside.offset shape.align (g.S.Schema.text s c.args.rec.now)) (ap (λ b. b.text) c.self.view_is)
-    ∙ ap (λ z. c.args.self.now.text ++ padded z shape.align (g.S.Schema.text s c.args.rec.now)) at
-    ∙ ap (λ z. c.args.self.now.text ++ padded (extent (g.S.Schema.shape_of s) ps) z (g.S.Schema.text s c.args.rec.now)) (sym says.1))
+    ∙ ap (λ z. take c.self.inside.offset z ++ (replicate (c.in-Some-place_for.place - c.self.inside.offset) 0 ++ g.S.Schema.text s r)) c.as_mut_slice-bytes.ensures.value) in
+    kept (g.S.Schema.shape_of s) (g.S.Schema.accepted s) (g.S.Schema.text s) laws c.args.self.now _ (one r) ps h
+    (accepted_alone (g.S.Schema.shape_of s) (g.S.Schema.accepted s) (g.S.Schema.text s) laws r c.requires)
+    (back ∙ ap (λ z. z ++ padded c.self.inside.offset shape.align (g.S.Schema.text s r)) (ap (λ b. b.text) c.self.view_is)
+    ∙ ap (λ z. c.args.self.now.text ++ padded z shape.align (g.S.Schema.text s r)) at
+    ∙ ap (λ z. c.args.self.now.text ++ padded (extent (g.S.Schema.shape_of s) ps) z (g.S.Schema.text s r)) (sym says.1))
     (let count = ap (λ b. b.count) c.self.view_is in omega arith)

@@ -16,45 +16,49 @@ place_for-requires-clause-aligned g c =
 pub slice_bounds-room-end : goal.slice_bounds-room-end
 slice_bounds-room-end g c =
     let s = c.args.schema.now in
-    let named : g.S.Schema.shape_of s c.args.rec.now.epid ≡ Some c.unwrap-shape.result = ap (g.S.Schema.shape_of s) (sym c.epid.ensures) ∙ sym c.shape.ensures ∙ c.unwrap-shape.ensures in
-    let fit = g.met.S.Schema.shapes_fit s c.args.rec.now.epid c.unwrap-shape.result named in
+    let r = g.R.Recorded.as_record c.args.rec in
+    let named : g.S.Schema.shape_of s r.epid ≡ Some c.unwrap-shape.result = ap (g.S.Schema.shape_of s) (sym c.epid.ensures) ∙ sym c.shape.ensures ∙ c.unwrap-shape.ensures in
+    let fit = g.met.S.Schema.shapes_fit s r.epid c.unwrap-shape.result named in
     fit.bounded
 
 pub slice_bounds-text-end : goal.slice_bounds-text-end
 slice_bounds-text-end g c =
     let s = c.args.schema.now in
-    let named : g.S.Schema.shape_of s c.args.rec.now.epid ≡ Some c.unwrap-shape.result = ap (g.S.Schema.shape_of s) (sym c.epid.ensures) ∙ sym c.shape.ensures ∙ c.unwrap-shape.ensures in
-    let fit = g.met.S.Schema.shapes_fit s c.args.rec.now.epid c.unwrap-shape.result named in
+    let r = g.R.Recorded.as_record c.args.rec in
+    let named : g.S.Schema.shape_of s r.epid ≡ Some c.unwrap-shape.result = ap (g.S.Schema.shape_of s) (sym c.epid.ensures) ∙ sym c.shape.ensures ∙ c.unwrap-shape.ensures in
+    let fit = g.met.S.Schema.shapes_fit s r.epid c.unwrap-shape.result named in
     sym (length-take-le c.unwrap-shape.result.size _ fit.bounded)
 
 pub put-requires-clause-exact : goal.put-requires-clause-exact
 put-requires-clause-exact g c =
     let s = c.args.schema.now in
-    let named : g.S.Schema.shape_of s c.args.rec.now.epid ≡ Some c.unwrap-shape.result = ap (g.S.Schema.shape_of s) (sym c.epid.ensures) ∙ sym c.shape.ensures ∙ c.unwrap-shape.ensures in
-    let fit = g.met.S.Schema.shapes_fit s c.args.rec.now.epid c.unwrap-shape.result named in
+    let r = g.R.Recorded.as_record c.args.rec in
+    let named : g.S.Schema.shape_of s r.epid ≡ Some c.unwrap-shape.result = ap (g.S.Schema.shape_of s) (sym c.epid.ensures) ∙ sym c.shape.ensures ∙ c.unwrap-shape.ensures in
+    let fit = g.met.S.Schema.shapes_fit s r.epid c.unwrap-shape.result named in
     let laws : SchemaLaws (g.S.Schema.shape_of s) (g.S.Schema.accepted s) (g.S.Schema.text s) = record {
       zero_has_none = g.met.S.Schema.zero_has_none s;
       shapes_fit = g.met.S.Schema.shapes_fit s;
       texts_fit = g.met.S.Schema.texts_fit s;
       texts_differ = g.met.S.Schema.texts_differ s;
     } in
-    let says = shape_says (g.S.Schema.shape_of s) c.args.rec.now c.unwrap-shape.result named in
-    let t = text_facts (g.S.Schema.shape_of s) (g.S.Schema.accepted s) (g.S.Schema.text s) laws c.args.rec.now c.requires in
+    let says = shape_says (g.S.Schema.shape_of s) r c.unwrap-shape.result named in
+    let t = text_facts (g.S.Schema.shape_of s) (g.S.Schema.accepted s) (g.S.Schema.text s) laws r c.requires in
     length-take-le c.unwrap-shape.result.size _ fit.bounded ∙ sym (t.size ∙ says.0)
 
 pub unwrap-requires : goal.unwrap-requires
 unwrap-requires g c =
     let s = c.args.schema.now in
-    let named : g.S.Schema.shape_of s c.args.rec.now.epid ≡ Some c.unwrap-shape.result = ap (g.S.Schema.shape_of s) (sym c.epid.ensures) ∙ sym c.shape.ensures ∙ c.unwrap-shape.ensures in
-    let fit = g.met.S.Schema.shapes_fit s c.args.rec.now.epid c.unwrap-shape.result named in
+    let r = g.R.Recorded.as_record c.args.rec in
+    let named : g.S.Schema.shape_of s r.epid ≡ Some c.unwrap-shape.result = ap (g.S.Schema.shape_of s) (sym c.epid.ensures) ∙ sym c.shape.ensures ∙ c.unwrap-shape.ensures in
+    let fit = g.met.S.Schema.shapes_fit s r.epid c.unwrap-shape.result named in
     let laws : SchemaLaws (g.S.Schema.shape_of s) (g.S.Schema.accepted s) (g.S.Schema.text s) = record {
       zero_has_none = g.met.S.Schema.zero_has_none s;
       shapes_fit = g.met.S.Schema.shapes_fit s;
       texts_fit = g.met.S.Schema.texts_fit s;
       texts_differ = g.met.S.Schema.texts_differ s;
     } in
-    let says = shape_says (g.S.Schema.shape_of s) c.args.rec.now c.unwrap-shape.result named in
-    let t = text_facts (g.S.Schema.shape_of s) (g.S.Schema.accepted s) (g.S.Schema.text s) laws c.args.rec.now c.requires in
+    let says = shape_says (g.S.Schema.shape_of s) r c.unwrap-shape.result named in
+    let t = text_facts (g.S.Schema.shape_of s) (g.S.Schema.accepted s) (g.S.Schema.text s) laws r c.requires in
     let written : length c.put.new.out ≡ c.unwrap-shape.result.size = ap length c.put.ensures ∙ t.size ∙ says.0 in
     let with_epid = fit.with_epid in
     let p = placed c.self.inside.offset c.unwrap-shape.result.align c.unwrap-shape.result.size c.in-Some.place c.self.invariant.words fit.aligned fit.whole_words
@@ -68,16 +72,17 @@ unwrap-requires g c =
 pub invariant_of-self : goal.invariant_of-self
 invariant_of-self g c =
     let s = c.args.schema.now in
-    let named : g.S.Schema.shape_of s c.args.rec.now.epid ≡ Some c.unwrap-shape.result = ap (g.S.Schema.shape_of s) (sym c.epid.ensures) ∙ sym c.shape.ensures ∙ c.unwrap-shape.ensures in
-    let fit = g.met.S.Schema.shapes_fit s c.args.rec.now.epid c.unwrap-shape.result named in
+    let r = g.R.Recorded.as_record c.args.rec in
+    let named : g.S.Schema.shape_of s r.epid ≡ Some c.unwrap-shape.result = ap (g.S.Schema.shape_of s) (sym c.epid.ensures) ∙ sym c.shape.ensures ∙ c.unwrap-shape.ensures in
+    let fit = g.met.S.Schema.shapes_fit s r.epid c.unwrap-shape.result named in
     let laws : SchemaLaws (g.S.Schema.shape_of s) (g.S.Schema.accepted s) (g.S.Schema.text s) = record {
       zero_has_none = g.met.S.Schema.zero_has_none s;
       shapes_fit = g.met.S.Schema.shapes_fit s;
       texts_fit = g.met.S.Schema.texts_fit s;
       texts_differ = g.met.S.Schema.texts_differ s;
     } in
-    let says = shape_says (g.S.Schema.shape_of s) c.args.rec.now c.unwrap-shape.result named in
-    let t = text_facts (g.S.Schema.shape_of s) (g.S.Schema.accepted s) (g.S.Schema.text s) laws c.args.rec.now c.requires in
+    let says = shape_says (g.S.Schema.shape_of s) r c.unwrap-shape.result named in
+    let t = text_facts (g.S.Schema.shape_of s) (g.S.Schema.accepted s) (g.S.Schema.text s) laws r c.requires in
     let written : length c.put.new.out ≡ c.unwrap-shape.result.size = ap length c.put.ensures ∙ t.size ∙ says.0 in
     let with_epid = fit.with_epid in
     let p = placed c.self.inside.offset c.unwrap-shape.result.align c.unwrap-shape.result.size c.in-Some.place c.self.invariant.words fit.aligned fit.whole_words
@@ -94,45 +99,48 @@ invariant_of-self g c =
 pub returns-in_default-clause-answer : goal.returns-in_default-clause-answer
 returns-in_default-clause-answer g c = λ ps h.
     let s = c.args.schema.now in
-    let named : g.S.Schema.shape_of s c.args.rec.now.epid ≡ Some c.unwrap-shape.result = ap (g.S.Schema.shape_of s) (sym c.epid.ensures) ∙ sym c.shape.ensures ∙ c.unwrap-shape.ensures in
-    let says = shape_says (g.S.Schema.shape_of s) c.args.rec.now c.unwrap-shape.result named in
-    let fit = g.met.S.Schema.shapes_fit s c.args.rec.now.epid c.unwrap-shape.result named in
+    let r = g.R.Recorded.as_record c.args.rec in
+    let named : g.S.Schema.shape_of s r.epid ≡ Some c.unwrap-shape.result = ap (g.S.Schema.shape_of s) (sym c.epid.ensures) ∙ sym c.shape.ensures ∙ c.unwrap-shape.ensures in
+    let says = shape_says (g.S.Schema.shape_of s) r c.unwrap-shape.result named in
+    let fit = g.met.S.Schema.shapes_fit s r.epid c.unwrap-shape.result named in
     let with_epid = fit.with_epid in
     let at = ap (λ b. b.offset) c.self.view_is ∙ h.offset_is in
-    fits_says (g.S.Schema.shape_of s) (one c.args.rec.now) ps c.self.inside.offset c.unwrap-shape.result.align c.unwrap-shape.result.size c.self.inside.size
+    fits_says (g.S.Schema.shape_of s) (one r) ps c.self.inside.offset c.unwrap-shape.result.align c.unwrap-shape.result.size c.self.inside.size
     c.args.self.now.size false at says.1 says.0 (ap (λ b. b.size) c.self.view_is)
     (refuses c.self.inside.offset c.unwrap-shape.result.align c.unwrap-shape.result.size c.self.inside.size (λ z. omega arith) c.in_default.ensures)
 
 pub returns-clause-answer : goal.returns-clause-answer
 returns-clause-answer g c = λ ps h.
     let s = c.args.schema.now in
-    let named : g.S.Schema.shape_of s c.args.rec.now.epid ≡ Some c.unwrap-shape.result = ap (g.S.Schema.shape_of s) (sym c.epid.ensures) ∙ sym c.shape.ensures ∙ c.unwrap-shape.ensures in
-    let says = shape_says (g.S.Schema.shape_of s) c.args.rec.now c.unwrap-shape.result named in
-    let fit = g.met.S.Schema.shapes_fit s c.args.rec.now.epid c.unwrap-shape.result named in
+    let r = g.R.Recorded.as_record c.args.rec in
+    let named : g.S.Schema.shape_of s r.epid ≡ Some c.unwrap-shape.result = ap (g.S.Schema.shape_of s) (sym c.epid.ensures) ∙ sym c.shape.ensures ∙ c.unwrap-shape.ensures in
+    let says = shape_says (g.S.Schema.shape_of s) r c.unwrap-shape.result named in
+    let fit = g.met.S.Schema.shapes_fit s r.epid c.unwrap-shape.result named in
     let with_epid = fit.with_epid in
     let at = ap (λ b. b.offset) c.self.view_is ∙ h.offset_is in
-    fits_says (g.S.Schema.shape_of s) (one c.args.rec.now) ps c.self.inside.offset c.unwrap-shape.result.align c.unwrap-shape.result.size c.self.inside.size
+    fits_says (g.S.Schema.shape_of s) (one r) ps c.self.inside.offset c.unwrap-shape.result.align c.unwrap-shape.result.size c.self.inside.size
     c.args.self.now.size true at says.1 says.0 (ap (λ b. b.size) c.self.view_is)
     (admits c.self.inside.offset c.unwrap-shape.result.align c.unwrap-shape.result.size c.self.inside.size c.in-Some.place (λ z. omega arith) c.in-Some.ensures.0 c.in-Some.ensures.1)
 
 pub returns-clause-kept : goal.returns-clause-kept
 returns-clause-kept g c = λ ps h.
     let s = c.args.schema.now in
-    let named : g.S.Schema.shape_of s c.args.rec.now.epid ≡ Some c.unwrap-shape.result = ap (g.S.Schema.shape_of s) (sym c.epid.ensures) ∙ sym c.shape.ensures ∙ c.unwrap-shape.ensures in
-    let says = shape_says (g.S.Schema.shape_of s) c.args.rec.now c.unwrap-shape.result named in
-    let fit = g.met.S.Schema.shapes_fit s c.args.rec.now.epid c.unwrap-shape.result named in
+    let r = g.R.Recorded.as_record c.args.rec in
+    let named : g.S.Schema.shape_of s r.epid ≡ Some c.unwrap-shape.result = ap (g.S.Schema.shape_of s) (sym c.epid.ensures) ∙ sym c.shape.ensures ∙ c.unwrap-shape.ensures in
+    let says = shape_says (g.S.Schema.shape_of s) r c.unwrap-shape.result named in
+    let fit = g.met.S.Schema.shapes_fit s r.epid c.unwrap-shape.result named in
     let with_epid = fit.with_epid in
     let at = ap (λ b. b.offset) c.self.view_is ∙ h.offset_is in
     let p = placed c.self.inside.offset c.unwrap-shape.result.align c.unwrap-shape.result.size c.in-Some.place c.self.invariant.words fit.aligned fit.whole_words
     (λ z. omega arith) c.in-Some.ensures.0 in
     let items = rw c.unwrap.ensures at c.extend_from_slice.ensures.items in
     let count = ap (λ b. b.count) c.self.view_is in
-    listed (g.S.Schema.shape_of s) (g.S.Schema.accepted s) (g.S.Schema.text s) c.args.self.now _ (one c.args.rec.now) ps h (record {
-      all_accepted = one_accepted (g.S.Schema.shape_of s) (g.S.Schema.accepted s) (g.S.Schema.text s) c.args.rec.now c.requires;
+    listed (g.S.Schema.shape_of s) (g.S.Schema.accepted s) (g.S.Schema.text s) c.args.self.now _ (one r) ps h (record {
+      all_accepted = one_accepted (g.S.Schema.shape_of s) (g.S.Schema.accepted s) (g.S.Schema.text s) r c.requires;
       texts_are = items ∙ ap (λ b. b.texts ++ c.put.new.out) c.self.view_is ∙ ap (λ z. c.args.self.now.texts ++ z)
-          (c.put.ensures ∙ sym (one_text (g.S.Schema.shape_of s) (g.S.Schema.accepted s) (g.S.Schema.text s) c.args.rec.now));
+          (c.put.ensures ∙ sym (one_text (g.S.Schema.shape_of s) (g.S.Schema.accepted s) (g.S.Schema.text s) r));
       count_is = omega arith;
       offset_is = p.end_is ∙ ap (λ z. reserved z c.unwrap-shape.result.align c.unwrap-shape.result.size) at
           ∙ ap (λ z. reserved (extent (g.S.Schema.shape_of s) ps) z c.unwrap-shape.result.size) (sym says.1)
-          ∙ ap (λ z. reserved (extent (g.S.Schema.shape_of s) ps) (piece_align (g.S.Schema.shape_of s) (one c.args.rec.now)) z) (sym says.0);
+          ∙ ap (λ z. reserved (extent (g.S.Schema.shape_of s) ps) (piece_align (g.S.Schema.shape_of s) (one r)) z) (sym says.0);
     })

@@ -1,4 +1,5 @@
 use Rattle.std.proofs.Common.{◌≡◌, ◌+◌, ◌==◌, ◌≤◌, ◌∙◌, ℕ, true, false, [], ◌∷◌, arith, refl, sym, ap, subst}
+use Rattle.dspec_record.specs.Record.{Record}
 use Rattle.dspec_deeds.specs.declared.deed.SpeculateFate.TheVariants as spoken
 use Rattle.dspec_deeds.specs.declared.deed.Deed.TheVariants.{Speculate}
 use Rattle.dspec_deeds.specs.declared.config.Config.{Config}
@@ -44,8 +45,8 @@ grant-kept-requires-clause-slot g c =
     let cpu = c.args.self.now in
     let ready = c.requires.ready in
     let w = known c.go_on-reached.new.seat in
-    let got = subst (λ (x : Config × ℕ). Reached x.0 x.1 (asked c.args.id c.args.rec.now c.fits_slot-fits.result c.args.mine) c.args.id (known cpu.seat) c.go_on-reached.result w)
-    (λ i. (ready.config i, ready.steady.seat i)) c.go_on-reached.ensures.reached in
+    let got = subst (λ (x : Config × ℕ × Record). Reached x.0 x.1 (asked c.args.id x.2 c.fits_slot-fits.result c.args.mine) c.args.id (known cpu.seat) c.go_on-reached.result w)
+    (λ i. (ready.config i, ready.steady.seat i, c.to_rec-copied.ensures i)) c.go_on-reached.ensures.reached in
     let slot = slot_inside cpu.config c.args.id (got.present (grants c.go_on-reached.result c.in-Granted.is)).1 in
     let side = ready.steady.listed.shown.side in
     (slot.0, within slot.1 (sym side.buffer_count), within slot.1 (sym side.mark_count), within slot.1 (sym side.specdrop_count))
@@ -70,11 +71,12 @@ returns-in-Stopped-clause-list g c =
     let cpu = c.args.self.now in
     let ready = c.requires.ready in
     let id = c.args.id in
-    let r = c.args.rec.now in
+    let r = g.R.Recorded.as_record c.args.rec in
     let fit = c.fits_slot-fits.result in
     let mine = c.args.mine in
     let w = known c.go_on-reached.new.seat in
-    let got = subst (λ (x : Config × ℕ). Reached x.0 x.1 (asked id r fit mine) id (known cpu.seat) reach.Stopped w) (λ i. (ready.config i, ready.steady.seat i)) c.in-Stopped.ensures.reached in
+    let got = subst (λ (x : Config × ℕ × Record). Reached x.0 x.1 (asked id x.2 fit mine) id (known cpu.seat) reach.Stopped w)
+    (λ i. (ready.config i, ready.steady.seat i, c.to_rec-copied.ensures i)) c.in-Stopped.ensures.reached in
     λ p had. record {
       own = ap (λ l. Speculate cpu.cpu id r spoken.Stopped ∷ l) had.own ∙ sym got.stands.own;
       shown = shown_behind _ _ _ cpu.side p had.shown (Speculate cpu.cpu id r spoken.Stopped) refl (number_is_itself cpu.cpu) tt c.speak_nowhere.new.self
@@ -87,11 +89,12 @@ returns-in-Stopped-clause-ready g c =
     let cpu = c.args.self.now in
     let ready = c.requires.ready in
     let id = c.args.id in
-    let r = c.args.rec.now in
+    let r = g.R.Recorded.as_record c.args.rec in
     let fit = c.fits_slot-fits.result in
     let mine = c.args.mine in
     let w = known c.go_on-reached.new.seat in
-    let got = subst (λ (x : Config × ℕ). Reached x.0 x.1 (asked id r fit mine) id (known cpu.seat) reach.Stopped w) (λ i. (ready.config i, ready.steady.seat i)) c.in-Stopped.ensures.reached in
+    let got = subst (λ (x : Config × ℕ × Record). Reached x.0 x.1 (asked id x.2 fit mine) id (known cpu.seat) reach.Stopped w)
+    (λ i. (ready.config i, ready.steady.seat i, c.to_rec-copied.ensures i)) c.in-Stopped.ensures.reached in
     ready_after _ _ _ words cpu ready _ (Speculate cpu.cpu id r spoken.Stopped ∷ []) refl refl c.go_on-reached.ensures.seat.0 c.go_on-reached.ensures.seat.1 got.stands
     ready.steady.idle refl ready.steady.spare ready.steady.few (Speculate cpu.cpu id r spoken.Stopped ∷ ready.steady.list) (returns-in-Stopped-clause-list g c ready.steady.list ready.steady.listed)
 
@@ -101,11 +104,12 @@ returns-in-Void-clause-list g c =
     let cpu = c.args.self.now in
     let ready = c.requires.ready in
     let id = c.args.id in
-    let r = c.args.rec.now in
+    let r = g.R.Recorded.as_record c.args.rec in
     let fit = c.fits_slot-fits.result in
     let mine = c.args.mine in
     let w = known c.go_on-reached.new.seat in
-    let got = subst (λ (x : Config × ℕ). Reached x.0 x.1 (asked id r fit mine) id (known cpu.seat) reach.Void w) (λ i. (ready.config i, ready.steady.seat i)) c.in-Void.ensures.reached in
+    let got = subst (λ (x : Config × ℕ × Record). Reached x.0 x.1 (asked id x.2 fit mine) id (known cpu.seat) reach.Void w)
+    (λ i. (ready.config i, ready.steady.seat i, c.to_rec-copied.ensures i)) c.in-Void.ensures.reached in
     λ p had. record {
       own = ap (λ l. Speculate cpu.cpu id r spoken.Void ∷ l) had.own ∙ sym got.stands.own;
       shown = shown_behind _ _ _ cpu.side p had.shown (Speculate cpu.cpu id r spoken.Void) refl (number_is_itself cpu.cpu) tt c.speak_nowhere-in-Void.new.self
@@ -118,11 +122,12 @@ returns-in-Void-clause-ready g c =
     let cpu = c.args.self.now in
     let ready = c.requires.ready in
     let id = c.args.id in
-    let r = c.args.rec.now in
+    let r = g.R.Recorded.as_record c.args.rec in
     let fit = c.fits_slot-fits.result in
     let mine = c.args.mine in
     let w = known c.go_on-reached.new.seat in
-    let got = subst (λ (x : Config × ℕ). Reached x.0 x.1 (asked id r fit mine) id (known cpu.seat) reach.Void w) (λ i. (ready.config i, ready.steady.seat i)) c.in-Void.ensures.reached in
+    let got = subst (λ (x : Config × ℕ × Record). Reached x.0 x.1 (asked id x.2 fit mine) id (known cpu.seat) reach.Void w)
+    (λ i. (ready.config i, ready.steady.seat i, c.to_rec-copied.ensures i)) c.in-Void.ensures.reached in
     ready_after _ _ _ words cpu ready _ (Speculate cpu.cpu id r spoken.Void ∷ []) refl refl c.go_on-reached.ensures.seat.0 c.go_on-reached.ensures.seat.1 got.stands
     ready.steady.idle refl ready.steady.spare ready.steady.few (Speculate cpu.cpu id r spoken.Void ∷ ready.steady.list) (returns-in-Void-clause-list g c ready.steady.list ready.steady.listed)
 
@@ -132,12 +137,13 @@ returns-then-not-kept-clause-list g c =
     let cpu = c.args.self.now in
     let ready = c.requires.ready in
     let id = c.args.id in
-    let r = c.args.rec.now in
+    let r = g.R.Recorded.as_record c.args.rec in
     let fit = c.fits_slot-fits.result in
     let mine = c.args.mine in
     let w = known c.go_on-reached.new.seat in
     let grant = c.in-Granted.is in
-    let got = subst (λ (x : Config × ℕ). Reached x.0 x.1 (asked id r fit mine) id (known cpu.seat) c.go_on-reached.result w) (λ i. (ready.config i, ready.steady.seat i))
+    let got = subst (λ (x : Config × ℕ × Record). Reached x.0 x.1 (asked id x.2 fit mine) id (known cpu.seat) c.go_on-reached.result w)
+    (λ i. (ready.config i, ready.steady.seat i, c.to_rec-copied.ensures i))
     c.go_on-reached.ensures.reached in
     let present = got.present (grants c.go_on-reached.result grant) in
     let slot = slot_inside cpu.config id present.1 in
@@ -162,12 +168,13 @@ returns-then-not-kept-clause-ready g c =
     let cpu = c.args.self.now in
     let ready = c.requires.ready in
     let id = c.args.id in
-    let r = c.args.rec.now in
+    let r = g.R.Recorded.as_record c.args.rec in
     let fit = c.fits_slot-fits.result in
     let mine = c.args.mine in
     let w = known c.go_on-reached.new.seat in
     let grant = c.in-Granted.is in
-    let got = subst (λ (x : Config × ℕ). Reached x.0 x.1 (asked id r fit mine) id (known cpu.seat) c.go_on-reached.result w) (λ i. (ready.config i, ready.steady.seat i))
+    let got = subst (λ (x : Config × ℕ × Record). Reached x.0 x.1 (asked id x.2 fit mine) id (known cpu.seat) c.go_on-reached.result w)
+    (λ i. (ready.config i, ready.steady.seat i, c.to_rec-copied.ensures i))
     c.go_on-reached.ensures.reached in
     let present = got.present (grants c.go_on-reached.result grant) in
     let slot = slot_inside cpu.config id present.1 in
@@ -187,12 +194,13 @@ returns-else-not-kept-clause-list g c =
     let cpu = c.args.self.now in
     let ready = c.requires.ready in
     let id = c.args.id in
-    let r = c.args.rec.now in
+    let r = g.R.Recorded.as_record c.args.rec in
     let fit = c.fits_slot-fits.result in
     let mine = c.args.mine in
     let w = known c.go_on-reached.new.seat in
     let grant = c.in-Granted.is in
-    let got = subst (λ (x : Config × ℕ). Reached x.0 x.1 (asked id r fit mine) id (known cpu.seat) c.go_on-reached.result w) (λ i. (ready.config i, ready.steady.seat i))
+    let got = subst (λ (x : Config × ℕ × Record). Reached x.0 x.1 (asked id x.2 fit mine) id (known cpu.seat) c.go_on-reached.result w)
+    (λ i. (ready.config i, ready.steady.seat i, c.to_rec-copied.ensures i))
     c.go_on-reached.ensures.reached in
     let present = got.present (grants c.go_on-reached.result grant) in
     let slot = slot_inside cpu.config id present.1 in
@@ -217,12 +225,13 @@ returns-else-not-kept-clause-ready g c =
     let cpu = c.args.self.now in
     let ready = c.requires.ready in
     let id = c.args.id in
-    let r = c.args.rec.now in
+    let r = g.R.Recorded.as_record c.args.rec in
     let fit = c.fits_slot-fits.result in
     let mine = c.args.mine in
     let w = known c.go_on-reached.new.seat in
     let grant = c.in-Granted.is in
-    let got = subst (λ (x : Config × ℕ). Reached x.0 x.1 (asked id r fit mine) id (known cpu.seat) c.go_on-reached.result w) (λ i. (ready.config i, ready.steady.seat i))
+    let got = subst (λ (x : Config × ℕ × Record). Reached x.0 x.1 (asked id x.2 fit mine) id (known cpu.seat) c.go_on-reached.result w)
+    (λ i. (ready.config i, ready.steady.seat i, c.to_rec-copied.ensures i))
     c.go_on-reached.ensures.reached in
     let present = got.present (grants c.go_on-reached.result grant) in
     let slot = slot_inside cpu.config id present.1 in
@@ -242,12 +251,13 @@ returns-then-not-kept-clause-did g c =
     let cpu = c.args.self.now in
     let ready = c.requires.ready in
     let id = c.args.id in
-    let r = c.args.rec.now in
+    let r = g.R.Recorded.as_record c.args.rec in
     let fit = c.fits_slot-fits.result in
     let mine = c.args.mine in
     let w = known c.go_on-reached.new.seat in
     let grant = c.in-Granted.is in
-    let got = subst (λ (x : Config × ℕ). Reached x.0 x.1 (asked id r fit mine) id (known cpu.seat) c.go_on-reached.result w) (λ i. (ready.config i, ready.steady.seat i))
+    let got = subst (λ (x : Config × ℕ × Record). Reached x.0 x.1 (asked id x.2 fit mine) id (known cpu.seat) c.go_on-reached.result w)
+    (λ i. (ready.config i, ready.steady.seat i, c.to_rec-copied.ensures i))
     c.go_on-reached.ensures.reached in
     let present = got.present (grants c.go_on-reached.result grant) in
     let slot = slot_inside cpu.config id present.1 in
@@ -265,12 +275,13 @@ returns-else-not-kept-clause-did g c =
     let cpu = c.args.self.now in
     let ready = c.requires.ready in
     let id = c.args.id in
-    let r = c.args.rec.now in
+    let r = g.R.Recorded.as_record c.args.rec in
     let fit = c.fits_slot-fits.result in
     let mine = c.args.mine in
     let w = known c.go_on-reached.new.seat in
     let grant = c.in-Granted.is in
-    let got = subst (λ (x : Config × ℕ). Reached x.0 x.1 (asked id r fit mine) id (known cpu.seat) c.go_on-reached.result w) (λ i. (ready.config i, ready.steady.seat i))
+    let got = subst (λ (x : Config × ℕ × Record). Reached x.0 x.1 (asked id x.2 fit mine) id (known cpu.seat) c.go_on-reached.result w)
+    (λ i. (ready.config i, ready.steady.seat i, c.to_rec-copied.ensures i))
     c.go_on-reached.ensures.reached in
     let present = got.present (grants c.go_on-reached.result grant) in
     let slot = slot_inside cpu.config id present.1 in

@@ -1,6 +1,7 @@
-use Rattle.std.proofs.Common.{◌≡◌, ◌∙◌, true, false, not, [], ◌∷◌, if◌then◌else◌, arith, refl, sym, ap, subst}
+use Rattle.std.proofs.Common.{◌≡◌, ◌∙◌, Bool, true, false, not, [], ◌∷◌, if◌then◌else◌, arith, refl, sym, ap, subst}
 use Rattle.dspec_deeds.specs.declared.deed.TraceFate.TheVariants as traced
 use Rattle.dspec_deeds.specs.declared.deed.Deed.TheVariants.{Trace}
+use Rattle.dspec_record.specs.Record.{Record}
 use Rattle.dspec_buffer.specs.Stored.{Stored, HasPieces}
 use Rattle.dspec_deeds.proofs.TestLemmas.{number_is_itself}
 use Rattle.dspec_table.specs.Steps.{LoadedActivity}
@@ -39,8 +40,9 @@ returns-then-not-runs-clause-did g c =
     let ready = c.requires.ready in
     let fit = c.fits-fits.result in
     let w = known c.load_activity-runs.new.self in
-    let step = subst (λ b. LoadedActivity (asked c.args.rec.now fit) (known cpu.seat) (not b) w) c.if-not-runs.true c.load_activity-runs.ensures.step in
-    let did = traces cpu.config cpu.cpu (known cpu.seat) w c.args.rec.now fit true traced.Stopped (set_up_is _ _ _ words cpu ready) (holder _ _ _ words cpu ready) step refl in
+    let step = subst (λ (x : Record × Bool). LoadedActivity (asked x.0 fit) (known cpu.seat) (not x.1) w)
+    (λ i. (c.to_rec-copied.ensures i, c.if-not-runs.true i)) c.load_activity-runs.ensures.step in
+    let did = traces cpu.config cpu.cpu (known cpu.seat) w (g.R.Recorded.as_record c.args.rec) fit true traced.Stopped (set_up_is _ _ _ words cpu ready) (holder _ _ _ words cpu ready) step refl in
     did.goes
 
 pub returns-then-not-runs-clause-list : goal.returns-then-not-runs-clause-list
@@ -50,12 +52,13 @@ returns-then-not-runs-clause-list g c =
     let ready = c.requires.ready in
     let fit = c.fits-fits.result in
     let w = known c.load_activity-runs.new.self in
-    let step = subst (λ b. LoadedActivity (asked c.args.rec.now fit) (known cpu.seat) (not b) w) c.if-not-runs.true c.load_activity-runs.ensures.step in
-    let did = traces cpu.config cpu.cpu (known cpu.seat) w c.args.rec.now fit true traced.Stopped (set_up_is _ _ _ words cpu ready) (holder _ _ _ words cpu ready) step refl in
+    let step = subst (λ (x : Record × Bool). LoadedActivity (asked x.0 fit) (known cpu.seat) (not x.1) w)
+    (λ i. (c.to_rec-copied.ensures i, c.if-not-runs.true i)) c.load_activity-runs.ensures.step in
+    let did = traces cpu.config cpu.cpu (known cpu.seat) w (g.R.Recorded.as_record c.args.rec) fit true traced.Stopped (set_up_is _ _ _ words cpu ready) (holder _ _ _ words cpu ready) step refl in
     λ p had. record {
-      own = ap (λ l. Trace cpu.cpu c.args.rec.now traced.Stopped ∷ l) had.own ∙ sym did.stands.own;
-      shown = shown_behind _ _ _ cpu.side p had.shown (Trace cpu.cpu c.args.rec.now traced.Stopped) refl (number_is_itself cpu.cpu) tt
-          c.trace_stopped.new.self (c.trace_stopped.ensures.shows cpu.schema cpu.config cpu.cpu p c.args.rec.now (shows _ _ _ cpu.side p had.shown));
+      own = ap (λ l. Trace cpu.cpu (g.R.Recorded.as_record c.args.rec) traced.Stopped ∷ l) had.own ∙ sym did.stands.own;
+      shown = shown_behind _ _ _ cpu.side p had.shown (Trace cpu.cpu (g.R.Recorded.as_record c.args.rec) traced.Stopped) refl (number_is_itself cpu.cpu) tt
+          c.trace_stopped.new.self (c.trace_stopped.ensures.shows cpu.schema cpu.config cpu.cpu p (g.R.Recorded.as_record c.args.rec) (shows _ _ _ cpu.side p had.shown));
     }
 
 pub returns-then-not-runs-clause-ready : goal.returns-then-not-runs-clause-ready
@@ -65,11 +68,12 @@ returns-then-not-runs-clause-ready g c =
     let ready = c.requires.ready in
     let fit = c.fits-fits.result in
     let w = known c.load_activity-runs.new.self in
-    let step = subst (λ b. LoadedActivity (asked c.args.rec.now fit) (known cpu.seat) (not b) w) c.if-not-runs.true c.load_activity-runs.ensures.step in
-    let did = traces cpu.config cpu.cpu (known cpu.seat) w c.args.rec.now fit true traced.Stopped (set_up_is _ _ _ words cpu ready) (holder _ _ _ words cpu ready) step refl in
-    ready_after _ _ _ words cpu ready _ (Trace cpu.cpu c.args.rec.now traced.Stopped ∷ []) refl refl c.load_activity-runs.ensures.seat.0 c.load_activity-runs.ensures.seat.1
+    let step = subst (λ (x : Record × Bool). LoadedActivity (asked x.0 fit) (known cpu.seat) (not x.1) w)
+    (λ i. (c.to_rec-copied.ensures i, c.if-not-runs.true i)) c.load_activity-runs.ensures.step in
+    let did = traces cpu.config cpu.cpu (known cpu.seat) w (g.R.Recorded.as_record c.args.rec) fit true traced.Stopped (set_up_is _ _ _ words cpu ready) (holder _ _ _ words cpu ready) step refl in
+    ready_after _ _ _ words cpu ready _ (Trace cpu.cpu (g.R.Recorded.as_record c.args.rec) traced.Stopped ∷ []) refl refl c.load_activity-runs.ensures.seat.0 c.load_activity-runs.ensures.seat.1
     did.stands ready.steady.idle refl ready.steady.spare ready.steady.few
-    (Trace cpu.cpu c.args.rec.now traced.Stopped ∷ ready.steady.list) (returns-then-not-runs-clause-list g c ready.steady.list ready.steady.listed)
+    (Trace cpu.cpu (g.R.Recorded.as_record c.args.rec) traced.Stopped ∷ ready.steady.list) (returns-then-not-runs-clause-list g c ready.steady.list ready.steady.listed)
 
 pub returns-then-not-trace-clause-did : goal.returns-then-not-trace-clause-did
 returns-then-not-trace-clause-did g c =
@@ -81,8 +85,9 @@ returns-then-not-trace-clause-did g c =
     ∙ (sym (c.trace.ensures.answer cpu.config cpu.cpu ready.steady.list (shows _ _ _ cpu.side ready.steady.list ready.steady.listed.shown)
     (c.is_closed-closed.ensures cpu.cpu (worn_of cpu) ready.steady.list ready.steady.listed.shown.counted)) ∙ c.if-not-trace.true) in
     let w = known c.load_activity-runs.new.self in
-    let step = subst (λ b. LoadedActivity (asked c.args.rec.now fit) (known cpu.seat) (not b) w) c.if-not-runs.false c.load_activity-runs.ensures.step in
-    let did = traces cpu.config cpu.cpu (known cpu.seat) w c.args.rec.now fit false traced.Dropped (set_up_is _ _ _ words cpu ready) (holder _ _ _ words cpu ready) step
+    let step = subst (λ (x : Record × Bool). LoadedActivity (asked x.0 fit) (known cpu.seat) (not x.1) w)
+    (λ i. (c.to_rec-copied.ensures i, c.if-not-runs.false i)) c.load_activity-runs.ensures.step in
+    let did = traces cpu.config cpu.cpu (known cpu.seat) w (g.R.Recorded.as_record c.args.rec) fit false traced.Dropped (set_up_is _ _ _ words cpu ready) (holder _ _ _ words cpu ready) step
     (ap (λ b. if b then traced.Kept else traced.Dropped) fit_no) in
     did.goes
 
@@ -96,16 +101,17 @@ returns-then-not-trace-clause-list g c =
     ∙ (sym (c.trace.ensures.answer cpu.config cpu.cpu ready.steady.list (shows _ _ _ cpu.side ready.steady.list ready.steady.listed.shown)
     (c.is_closed-closed.ensures cpu.cpu (worn_of cpu) ready.steady.list ready.steady.listed.shown.counted)) ∙ c.if-not-trace.true) in
     let w = known c.load_activity-runs.new.self in
-    let step = subst (λ b. LoadedActivity (asked c.args.rec.now fit) (known cpu.seat) (not b) w) c.if-not-runs.false c.load_activity-runs.ensures.step in
-    let did = traces cpu.config cpu.cpu (known cpu.seat) w c.args.rec.now fit false traced.Dropped (set_up_is _ _ _ words cpu ready) (holder _ _ _ words cpu ready) step
+    let step = subst (λ (x : Record × Bool). LoadedActivity (asked x.0 fit) (known cpu.seat) (not x.1) w)
+    (λ i. (c.to_rec-copied.ensures i, c.if-not-runs.false i)) c.load_activity-runs.ensures.step in
+    let did = traces cpu.config cpu.cpu (known cpu.seat) w (g.R.Recorded.as_record c.args.rec) fit false traced.Dropped (set_up_is _ _ _ words cpu ready) (holder _ _ _ words cpu ready) step
     (ap (λ b. if b then traced.Kept else traced.Dropped) fit_no) in
     λ p had. record {
-      own = ap (λ l. Trace cpu.cpu c.args.rec.now traced.Dropped ∷ l) had.own ∙ sym did.stands.own;
-      shown = shown_behind _ _ _ cpu.side p had.shown (Trace cpu.cpu c.args.rec.now traced.Dropped) refl (number_is_itself cpu.cpu)
+      own = ap (λ l. Trace cpu.cpu (g.R.Recorded.as_record c.args.rec) traced.Dropped ∷ l) had.own ∙ sym did.stands.own;
+      shown = shown_behind _ _ _ cpu.side p had.shown (Trace cpu.cpu (g.R.Recorded.as_record c.args.rec) traced.Dropped) refl (number_is_itself cpu.cpu)
           (sym (sym (c.fits-fits.ensures cpu.cpu p (shows _ _ _ cpu.side p had.shown)) ∙ fit_no))
           c.trace.new.self
           (subst (λ b. ShowsList (λ x. HasPieces (g.S.Schema.shape_of cpu.schema) (g.S.Schema.accepted cpu.schema) (g.S.Schema.text cpu.schema) x)
-          (λ (x : Stored). x.size) cpu.config cpu.cpu (Trace cpu.cpu c.args.rec.now (if b then traced.Kept else traced.Dropped) ∷ p) c.trace.new.self) c.if-not-trace.true
+          (λ (x : Stored). x.size) cpu.config cpu.cpu (Trace cpu.cpu (g.R.Recorded.as_record c.args.rec) (if b then traced.Kept else traced.Dropped) ∷ p) c.trace.new.self) c.if-not-trace.true
           (c.trace.ensures.shows cpu.config cpu.cpu p (shows _ _ _ cpu.side p had.shown)));
     }
 
@@ -119,12 +125,13 @@ returns-then-not-trace-clause-ready g c =
     ∙ (sym (c.trace.ensures.answer cpu.config cpu.cpu ready.steady.list (shows _ _ _ cpu.side ready.steady.list ready.steady.listed.shown)
     (c.is_closed-closed.ensures cpu.cpu (worn_of cpu) ready.steady.list ready.steady.listed.shown.counted)) ∙ c.if-not-trace.true) in
     let w = known c.load_activity-runs.new.self in
-    let step = subst (λ b. LoadedActivity (asked c.args.rec.now fit) (known cpu.seat) (not b) w) c.if-not-runs.false c.load_activity-runs.ensures.step in
-    let did = traces cpu.config cpu.cpu (known cpu.seat) w c.args.rec.now fit false traced.Dropped (set_up_is _ _ _ words cpu ready) (holder _ _ _ words cpu ready) step
+    let step = subst (λ (x : Record × Bool). LoadedActivity (asked x.0 fit) (known cpu.seat) (not x.1) w)
+    (λ i. (c.to_rec-copied.ensures i, c.if-not-runs.false i)) c.load_activity-runs.ensures.step in
+    let did = traces cpu.config cpu.cpu (known cpu.seat) w (g.R.Recorded.as_record c.args.rec) fit false traced.Dropped (set_up_is _ _ _ words cpu ready) (holder _ _ _ words cpu ready) step
     (ap (λ b. if b then traced.Kept else traced.Dropped) fit_no) in
-    ready_after _ _ _ words cpu ready _ (Trace cpu.cpu c.args.rec.now traced.Dropped ∷ []) refl refl c.load_activity-runs.ensures.seat.0 c.load_activity-runs.ensures.seat.1
+    ready_after _ _ _ words cpu ready _ (Trace cpu.cpu (g.R.Recorded.as_record c.args.rec) traced.Dropped ∷ []) refl refl c.load_activity-runs.ensures.seat.0 c.load_activity-runs.ensures.seat.1
     did.stands ready.steady.idle refl ready.steady.spare ready.steady.few
-    (Trace cpu.cpu c.args.rec.now traced.Dropped ∷ ready.steady.list) (returns-then-not-trace-clause-list g c ready.steady.list ready.steady.listed)
+    (Trace cpu.cpu (g.R.Recorded.as_record c.args.rec) traced.Dropped ∷ ready.steady.list) (returns-then-not-trace-clause-list g c ready.steady.list ready.steady.listed)
 
 pub returns-clause-did : goal.returns-clause-did
 returns-clause-did g c =
@@ -136,8 +143,9 @@ returns-clause-did g c =
     ∙ (sym (c.trace.ensures.answer cpu.config cpu.cpu ready.steady.list (shows _ _ _ cpu.side ready.steady.list ready.steady.listed.shown)
     (c.is_closed-closed.ensures cpu.cpu (worn_of cpu) ready.steady.list ready.steady.listed.shown.counted)) ∙ c.if-not-trace.false) in
     let w = known c.load_activity-runs.new.self in
-    let step = subst (λ b. LoadedActivity (asked c.args.rec.now fit) (known cpu.seat) (not b) w) c.if-not-runs.false c.load_activity-runs.ensures.step in
-    let did = traces cpu.config cpu.cpu (known cpu.seat) w c.args.rec.now fit false traced.Kept (set_up_is _ _ _ words cpu ready) (holder _ _ _ words cpu ready) step
+    let step = subst (λ (x : Record × Bool). LoadedActivity (asked x.0 fit) (known cpu.seat) (not x.1) w)
+    (λ i. (c.to_rec-copied.ensures i, c.if-not-runs.false i)) c.load_activity-runs.ensures.step in
+    let did = traces cpu.config cpu.cpu (known cpu.seat) w (g.R.Recorded.as_record c.args.rec) fit false traced.Kept (set_up_is _ _ _ words cpu ready) (holder _ _ _ words cpu ready) step
     (ap (λ b. if b then traced.Kept else traced.Dropped) fit_yes) in
     did.goes
 
@@ -151,16 +159,17 @@ returns-clause-list g c =
     ∙ (sym (c.trace.ensures.answer cpu.config cpu.cpu ready.steady.list (shows _ _ _ cpu.side ready.steady.list ready.steady.listed.shown)
     (c.is_closed-closed.ensures cpu.cpu (worn_of cpu) ready.steady.list ready.steady.listed.shown.counted)) ∙ c.if-not-trace.false) in
     let w = known c.load_activity-runs.new.self in
-    let step = subst (λ b. LoadedActivity (asked c.args.rec.now fit) (known cpu.seat) (not b) w) c.if-not-runs.false c.load_activity-runs.ensures.step in
-    let did = traces cpu.config cpu.cpu (known cpu.seat) w c.args.rec.now fit false traced.Kept (set_up_is _ _ _ words cpu ready) (holder _ _ _ words cpu ready) step
+    let step = subst (λ (x : Record × Bool). LoadedActivity (asked x.0 fit) (known cpu.seat) (not x.1) w)
+    (λ i. (c.to_rec-copied.ensures i, c.if-not-runs.false i)) c.load_activity-runs.ensures.step in
+    let did = traces cpu.config cpu.cpu (known cpu.seat) w (g.R.Recorded.as_record c.args.rec) fit false traced.Kept (set_up_is _ _ _ words cpu ready) (holder _ _ _ words cpu ready) step
     (ap (λ b. if b then traced.Kept else traced.Dropped) fit_yes) in
     λ p had. record {
-      own = ap (λ l. Trace cpu.cpu c.args.rec.now traced.Kept ∷ l) had.own ∙ sym did.stands.own;
-      shown = shown_behind _ _ _ cpu.side p had.shown (Trace cpu.cpu c.args.rec.now traced.Kept) refl (number_is_itself cpu.cpu)
+      own = ap (λ l. Trace cpu.cpu (g.R.Recorded.as_record c.args.rec) traced.Kept ∷ l) had.own ∙ sym did.stands.own;
+      shown = shown_behind _ _ _ cpu.side p had.shown (Trace cpu.cpu (g.R.Recorded.as_record c.args.rec) traced.Kept) refl (number_is_itself cpu.cpu)
           (sym (sym (c.fits-fits.ensures cpu.cpu p (shows _ _ _ cpu.side p had.shown)) ∙ fit_yes))
           c.trace.new.self
           (subst (λ b. ShowsList (λ x. HasPieces (g.S.Schema.shape_of cpu.schema) (g.S.Schema.accepted cpu.schema) (g.S.Schema.text cpu.schema) x)
-          (λ (x : Stored). x.size) cpu.config cpu.cpu (Trace cpu.cpu c.args.rec.now (if b then traced.Kept else traced.Dropped) ∷ p) c.trace.new.self) c.if-not-trace.false
+          (λ (x : Stored). x.size) cpu.config cpu.cpu (Trace cpu.cpu (g.R.Recorded.as_record c.args.rec) (if b then traced.Kept else traced.Dropped) ∷ p) c.trace.new.self) c.if-not-trace.false
           (c.trace.ensures.shows cpu.config cpu.cpu p (shows _ _ _ cpu.side p had.shown)));
     }
 
@@ -174,12 +183,13 @@ returns-clause-ready g c =
     ∙ (sym (c.trace.ensures.answer cpu.config cpu.cpu ready.steady.list (shows _ _ _ cpu.side ready.steady.list ready.steady.listed.shown)
     (c.is_closed-closed.ensures cpu.cpu (worn_of cpu) ready.steady.list ready.steady.listed.shown.counted)) ∙ c.if-not-trace.false) in
     let w = known c.load_activity-runs.new.self in
-    let step = subst (λ b. LoadedActivity (asked c.args.rec.now fit) (known cpu.seat) (not b) w) c.if-not-runs.false c.load_activity-runs.ensures.step in
-    let did = traces cpu.config cpu.cpu (known cpu.seat) w c.args.rec.now fit false traced.Kept (set_up_is _ _ _ words cpu ready) (holder _ _ _ words cpu ready) step
+    let step = subst (λ (x : Record × Bool). LoadedActivity (asked x.0 fit) (known cpu.seat) (not x.1) w)
+    (λ i. (c.to_rec-copied.ensures i, c.if-not-runs.false i)) c.load_activity-runs.ensures.step in
+    let did = traces cpu.config cpu.cpu (known cpu.seat) w (g.R.Recorded.as_record c.args.rec) fit false traced.Kept (set_up_is _ _ _ words cpu ready) (holder _ _ _ words cpu ready) step
     (ap (λ b. if b then traced.Kept else traced.Dropped) fit_yes) in
-    ready_after _ _ _ words cpu ready _ (Trace cpu.cpu c.args.rec.now traced.Kept ∷ []) refl refl c.load_activity-runs.ensures.seat.0 c.load_activity-runs.ensures.seat.1
+    ready_after _ _ _ words cpu ready _ (Trace cpu.cpu (g.R.Recorded.as_record c.args.rec) traced.Kept ∷ []) refl refl c.load_activity-runs.ensures.seat.0 c.load_activity-runs.ensures.seat.1
     did.stands ready.steady.idle refl
-    ready.steady.spare ready.steady.few (Trace cpu.cpu c.args.rec.now traced.Kept ∷ ready.steady.list) (returns-clause-list g c ready.steady.list ready.steady.listed)
+    ready.steady.spare ready.steady.few (Trace cpu.cpu (g.R.Recorded.as_record c.args.rec) traced.Kept ∷ ready.steady.list) (returns-clause-list g c ready.steady.list ready.steady.listed)
 
 pub returns-then-self-clause-keeps : goal.returns-then-self-clause-keeps
 returns-then-self-clause-keeps g c = worn_keeps c.args.self.now 1 c.wear.new.self c.if-self.true c.wear.ensures
@@ -187,23 +197,26 @@ returns-then-self-clause-keeps g c = worn_keeps c.args.self.now 1 c.wear.new.sel
 pub returns-then-not-runs-clause-keeps : goal.returns-then-not-runs-clause-keeps
 returns-then-not-runs-clause-keeps g c =
     let cpu = c.args.self.now in
-    let doing = asked c.args.rec.now c.fits-fits.result in
+    let doing = asked (g.R.Recorded.as_record c.args.rec) c.fits-fits.result in
     let seat = c.load_activity-runs.new.self in
-    let step = subst (λ b. LoadedActivity doing (known cpu.seat) (not b) (known seat)) c.if-not-runs.true c.load_activity-runs.ensures.step in
+    let step = subst (λ (x : Record × Bool). LoadedActivity (asked x.0 c.fits-fits.result) (known cpu.seat) (not x.1) (known seat))
+    (λ i. (c.to_rec-copied.ensures i, c.if-not-runs.true i)) c.load_activity-runs.ensures.step in
     loaded_keeps cpu c.if-self.false seat c.trace_stopped.new.self _ c.trace_stopped.ensures.rest refl refl doing true step
 
 pub returns-then-not-trace-clause-keeps : goal.returns-then-not-trace-clause-keeps
 returns-then-not-trace-clause-keeps g c =
     let cpu = c.args.self.now in
-    let doing = asked c.args.rec.now c.fits-fits.result in
+    let doing = asked (g.R.Recorded.as_record c.args.rec) c.fits-fits.result in
     let seat = c.load_activity-runs.new.self in
-    let step = subst (λ b. LoadedActivity doing (known cpu.seat) (not b) (known seat)) c.if-not-runs.false c.load_activity-runs.ensures.step in
+    let step = subst (λ (x : Record × Bool). LoadedActivity (asked x.0 c.fits-fits.result) (known cpu.seat) (not x.1) (known seat))
+    (λ i. (c.to_rec-copied.ensures i, c.if-not-runs.false i)) c.load_activity-runs.ensures.step in
     loaded_keeps cpu c.if-self.false seat c.trace.new.self _ c.trace.ensures.rest refl (ap (λ (x : Counts). x.worn) c.trace.ensures.counts) doing false step
 
 pub returns-clause-keeps : goal.returns-clause-keeps
 returns-clause-keeps g c =
     let cpu = c.args.self.now in
-    let doing = asked c.args.rec.now c.fits-fits.result in
+    let doing = asked (g.R.Recorded.as_record c.args.rec) c.fits-fits.result in
     let seat = c.load_activity-runs.new.self in
-    let step = subst (λ b. LoadedActivity doing (known cpu.seat) (not b) (known seat)) c.if-not-runs.false c.load_activity-runs.ensures.step in
+    let step = subst (λ (x : Record × Bool). LoadedActivity (asked x.0 c.fits-fits.result) (known cpu.seat) (not x.1) (known seat))
+    (λ i. (c.to_rec-copied.ensures i, c.if-not-runs.false i)) c.load_activity-runs.ensures.step in
     loaded_keeps cpu c.if-self.false seat c.trace.new.self _ c.trace.ensures.rest refl (ap (λ (x : Counts). x.worn) c.trace.ensures.counts) doing false step

@@ -16,11 +16,11 @@ exact e r out found fs h is row same few accepted long =
     ∙ ap (λ d. (layout d fs).size) is
 
 pub put_record-requires-clause-exact : goal.put_record-requires-clause-exact
-put_record-requires-clause-exact c =
-    exact c.args.self.now c.args.rec.now c.args.out.now c.in-Some.enabling.now c.fields.result.now _ (sym c.header.ensures ∙ c.in-One.is)
+put_record-requires-clause-exact g c =
+    exact c.args.self.now (g.R.Recorded.as_record c.args.rec) c.args.out.now c.in-Some.enabling.now c.fields.result.now _ (sym c.header.ensures ∙ c.in-One.is)
     (c.in-Some.ensures ∙ ap (enabling_of c.args.self.now.rows) c.epid.ensures) c.fields.ensures.fields c.fields.ensures.few c.requires.accepted c.requires.exact
 
 pub put_record-requires-in-Two-clause-exact : goal.put_record-requires-in-Two-clause-exact
-put_record-requires-in-Two-clause-exact c =
-    exact c.args.self.now c.args.rec.now c.args.out.now c.in-Some.enabling.now c.fields-in-Two.result.now _ (sym c.header.ensures ∙ c.in-Two.is)
+put_record-requires-in-Two-clause-exact g c =
+    exact c.args.self.now (g.R.Recorded.as_record c.args.rec) c.args.out.now c.in-Some.enabling.now c.fields-in-Two.result.now _ (sym c.header.ensures ∙ c.in-Two.is)
     (c.in-Some.ensures ∙ ap (enabling_of c.args.self.now.rows) c.epid.ensures) c.fields-in-Two.ensures.fields c.fields-in-Two.ensures.few c.requires.accepted c.requires.exact

@@ -17,5 +17,5 @@ returns-then-mine g c = λ cpu p shown caller.
     let rs = contents (held cpu (last_called cpu id.slot p) p) in
     let all : rs ≡ contents (held cpu id p) = sym (ap (λ m. if m then rs else []) c.if-mine.true) ∙ block_is _ _ shape p shown id c.args.mine c.requires.slot.0 c.requires.slot.1 caller in
     c.would_fit.ensures (map one rs) has.has
-    ∙ (ap (piece_fits shape (map one rs) (one c.args.rec.now)) has.sized
-    ∙ ap (λ (l : List Record). piece_fits shape (map one l) (one c.args.rec.now) c.args.config.now.specsize) all)
+    ∙ (ap (piece_fits shape (map one rs) (one (g.R.Recorded.as_record c.args.rec))) has.sized
+    ∙ ap (λ (l : List Record). piece_fits shape (map one l) (one (g.R.Recorded.as_record c.args.rec)) c.args.config.now.specsize) all)
