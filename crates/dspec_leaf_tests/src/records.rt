@@ -1,13 +1,13 @@
 //! Records, their bytes, and what reading them answers.
 use crate::same::same;
 use dspec_record::{
-    DefaultAction, Enablings, Field, ReadKind, Rec, Schema, SchemaFault, Shape, laws,
+    DefaultAction, Enablings, Field, ReadKind, Rec, Recorded, Schema, SchemaFault, Shape, laws,
 };
 use dspec_samples::four_enablings;
 use std::test::Fail;
 
 /// Writes the record into a slice that fits it; whether it did.
-pub fn put_whole<S: Schema>(schema: &S, rec: &Rec, out: &mut [u8]) -> bool {
+pub fn put_whole<S: Schema, R: Recorded>(schema: &S, rec: R, out: &mut [u8]) -> bool {
     if !schema.accepts(rec) {
         return false;
     }

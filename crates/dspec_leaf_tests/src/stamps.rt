@@ -4,7 +4,8 @@ use crate::records::{put_whole, read};
 use crate::same::same;
 use dspec_buffer::{ByteBuffer, ListBuffer, ReadFault, TraceBuffer, UpgradeFault, upgrade};
 use dspec_record::{
-    DefaultAction, Enablings, Field, Header, ReadKind, Rec, Schema, Shape, StampedAction, laws,
+    BorrowedRec, DefaultAction, Enablings, Field, Header, ReadKind, Rec, Recorded, Schema, Shape,
+    StampedAction, laws,
 };
 use dspec_samples::{PADDED_TEXT, fault_of, four_enablings, is_read};
 use std::process::Abort;
@@ -60,6 +61,27 @@ fn stamped_bytes(rt: HostRuntime) -> Result<(), Fail> {
     assert!(rt; put_whole(&StampedAction, &bare, &mut out));
     same(&rt, out, [10, 11, 12, 13, 8, 7, 6, 5, 4, 3, 2, 1]);
     same(&rt, read(&StampedAction, &out), Ok((bare, 12)));
+    Ok(())
+}
+
+/// A record whose values stand elsewhere has the bytes of the one that holds them.
+#[test]
+fn borrowed_bytes(rt: HostRuntime) -> Result<(), Fail> {
+    let enablings = four_enablings()?.stamped();
+    let values = [171, 4660];
+    let rec = BorrowedRec::of(3, LONG, &values).ok_or("two values")?;
+    same(&rt, (rec.epid(), rec.stamp()), (3, LONG));
+    same(&rt, rec.values(), values.as_slice());
+    same(&rt, rec.to_rec(), stamped(&rt, 3, LONG, &[171, 4660]));
+    let mut out = [0xFF; 16];
+    assert!(rt; put_whole(&enablings, rec, &mut out));
+    same(
+        &rt,
+        out,
+        [3, 0, 0, 0, 8, 7, 6, 5, 4, 3, 2, 1, 0xAB, 0, 0x34, 0x12],
+    );
+    assert!(rt; BorrowedRec::of(3, LONG, &[1; 8]).is_some());
+    assert!(rt; BorrowedRec::of(3, LONG, &[1; 9]).is_none());
     Ok(())
 }
 

@@ -88,14 +88,10 @@ impl<B> Side<B> {
     /// Offers a record to a speculation that was granted to the CPU, of which it was a caller before or not: marked as granted,
     /// it is kept, or dropped where it doesn't fit the rest of the CPU's buffer.
     #[inline(always)]
-    pub fn grant<S: Schema, R: Recorded>(
-        &mut self,
-        schema: &S,
-        id: SpecId,
-        rec: R,
-        mine: bool,
-    ) -> bool
+    pub fn grant<S, R>(&mut self, schema: &S, id: SpecId, rec: R, mine: bool) -> bool
     where
+        S: Schema,
+        R: Recorded,
         B: TraceBuffer<S>,
         requires slot { (1 ≤ id.slot) × (id.slot ≤ length self.old.speculative.items) × (id.slot ≤ length self.old.marks.items) × (id.slot ≤ length self.old.specdrops.items) }
         requires marked { mine ≡ true → slice_get self.old.marks.items (id.slot - 1) ≡ Some (id.issue + 1) }
