@@ -121,7 +121,12 @@ impl<S: Schema> TraceBuffer<S> for ByteBuffer {
     }
 
     #[inline(always)]
-    fn push<R: Recorded>(&mut self, schema: &S, rec: R) -> bool {
+    fn push(&mut self, schema: &S, rec: &Rec) -> bool {
+        self.push_recorded(schema, rec)
+    }
+
+    #[inline(always)]
+    fn push_recorded<R: Recorded>(&mut self, schema: &S, rec: R) -> bool {
         let Some(Shape { size, align }) = schema.shape(rec.epid()) else {
             unreachable!()
         };
@@ -129,11 +134,12 @@ impl<S: Schema> TraceBuffer<S> for ByteBuffer {
             return false;
         };
         let end = place + size;
-        let bytes = self.bytes.as_mut_slice();
         let from = self.offset as usize;
-        put_behind(schema, rec, bytes, from, place as usize, end as usize);
+        // counted before the bytes are written, so that no register holds what the counting needs meanwhile
         self.offset = end;
         self.count += 1;
+        let bytes = self.bytes.as_mut_slice();
+        put_behind(schema, rec, bytes, from, place as usize, end as usize);
         true
     }
 

@@ -71,14 +71,19 @@ impl<S: Schema> TraceBuffer<S> for ListBuffer {
         size == 0 || place_for(self.offset, self.size, align, size).is_some()
     }
 
-    fn push<R: Recorded>(&mut self, schema: &S, rec: R) -> bool {
+    #[inline(always)]
+    fn push(&mut self, schema: &S, rec: &Rec) -> bool {
+        self.push_recorded(schema, rec)
+    }
+
+    fn push_recorded<R: Recorded>(&mut self, schema: &S, rec: R) -> bool {
         let shape = schema.shape(rec.epid()).unwrap();
         let Some(place) = place_for(self.offset, self.size, shape.align, shape.size) else {
             return false;
         };
         let mut room = [0; LONGEST];
         let text = &mut room[..shape.size as usize];
-        schema.put(rec, text);
+        schema.put_recorded(rec, text);
         self.texts.extend_from_slice(text).unwrap();
         self.count += 1;
         self.offset = place + shape.size;

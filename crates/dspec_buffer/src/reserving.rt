@@ -51,7 +51,7 @@ fn put_padded<S: Schema, R: Recorded>(
     ensures { take end bytes.new ≡ take from bytes.old ++ (replicate (place - from) 0 ++ S.text schema.now (R.as_record rec)) }
 {
     pad(bytes, from, place);
-    schema.put(rec, &mut bytes[place..end]);
+    schema.put_recorded(rec, &mut bytes[place..end]);
 }
 
 /// Writes an accepted record, and the padding word before it if there is room for one. A padded one is written by a call of
@@ -77,6 +77,6 @@ pub(crate) fn put_behind<S: Schema, R: Recorded>(
         let copied = rec;
         put_padded(schema, copied, bytes, from, place, end);
     } else {
-        schema.put(rec, &mut bytes[place..end]);
+        schema.put_recorded(rec, &mut bytes[place..end]);
     }
 }

@@ -34,14 +34,27 @@ pub trait TraceBuffer<S: Schema>: Drop {
             → result ≡ nat_le (reserved (extent (S.shape_of s) ps) align size) (capacity self.now) };
 
     /// Keeps an accepted record, or answers false and changes nothing where it doesn't fit. Takes no memory.
-    fn push<R: Recorded>(&mut self, schema: &S, rec: R) -> bool
+    fn push(&mut self, schema: &S, rec: &Rec) -> bool
+        requires { IsTrue (S.accepted schema.now rec.now) }
+        ensures size { capacity self.new ≡ capacity self.old }
+        ensures answer { (ps : List Piece) → has self.old schema.now ps
+            → result ≡ piece_fits (S.shape_of schema.now) ps (one rec.now) (capacity self.old) }
+        ensures kept { OnTrue result ((ps : List Piece) → has self.old schema.now ps
+            → has self.new schema.now (one rec.now ∷ ps)) }
+        ensures refused { OnFalse result (self.new ≡ self.old) };
+
+    /// As `push`, of what can be traced as a record. A buffer that says nothing of it has the record copied.
+    fn push_recorded<R: Recorded>(&mut self, schema: &S, rec: R) -> bool
         requires { IsTrue (S.accepted schema.now (R.as_record rec)) }
         ensures size { capacity self.new ≡ capacity self.old }
         ensures answer { (ps : List Piece) → has self.old schema.now ps
             → result ≡ piece_fits (S.shape_of schema.now) ps (one (R.as_record rec)) (capacity self.old) }
         ensures kept { OnTrue result ((ps : List Piece) → has self.old schema.now ps
             → has self.new schema.now (one (R.as_record rec) ∷ ps)) }
-        ensures refused { OnFalse result (self.new ≡ self.old) };
+        ensures refused { OnFalse result (self.new ≡ self.old) }
+    {
+        self.push(schema, &rec.to_rec())
+    }
 
     /// Keeps the whole text of another buffer, which has records alone, as one piece of alignment 8, or answers false
     /// and changes nothing where it doesn't fit. An empty block always fits and writes nothing. Takes no memory.

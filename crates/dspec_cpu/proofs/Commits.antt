@@ -1,5 +1,5 @@
 -- A call of commit that decided: the list and the deeds behind it.
-use Rattle.std.proofs.Common.{◌≡◌, ◌≢◌, ℕ, Bool, true, false, List, [], ◌∷◌, ◌++◌, length, Option, refl, sym, ap, ◌∙◌, subst, inl, true≢false}
+use Rattle.std.proofs.Common.{◌≡◌, ◌≢◌, ℕ, ◌+◌, ◌==◌, Bool, true, false, List, [], ◌∷◌, ◌++◌, length, Option, refl, sym, ap, ◌∙◌, subst, inl, true≢false}
 use Rattle.dspec_record.specs.Record.{Record}
 use Rattle.dspec_record.specs.declared.field.Shape.{Shape}
 use Rattle.dspec_buffer.specs.Extent as extent
@@ -14,91 +14,114 @@ use Rattle.dspec_deeds.specs.declared.deed.Deed.{Deed}
 use Rattle.dspec_deeds.specs.declared.deed.Deed.TheVariants.{Commit, Release}
 use Rattle.dspec_deeds.specs.FateKinds.{is_commit}
 use Rattle.dspec_deeds.specs.Legal.{OwnAllows, fits_principal}
+use Rattle.dspec_deeds.specs.Marks.{mark}
 use Rattle.dspec_deeds.specs.Own.{contents, held}
 use Rattle.dspec_deeds.proofs.TestLemmas.{number_is_itself}
 use Rattle.dspec_table.specs.declared.rule.View.{View}
 use Rattle.dspec_table.specs.declared.seats.Words.{Words}
 use Rattle.dspec_table.specs.declared.seats.CpuSeat.{CpuSeat}
-use Rattle.dspec_table.specs.Seats.{known}
+use Rattle.dspec_table.specs.Seats.{known, set_up, IsAt, cpu_of}
 use Rattle.dspec_table.specs.Steps.{ReleasedWord}
 use Rattle.dspec_side.specs.declared.side.Side.{Side}
 use Rattle.dspec_side.specs.Sides.{IsCaller, ShowsList, committed_fate}
 use Rattle.dspec_cpu.specs.declared.parts.CpuParts.{CpuParts as Cpu}
 use Rattle.dspec_cpu.specs.declared.reaching.Reach.TheVariants as reach
-use Rattle.dspec_cpu.specs.Calls.{Goes, steps, Decides, decided_deeds}
+use Rattle.dspec_cpu.specs.Calls.{Goes, steps, decided_deeds}
 use Rattle.dspec_cpu.specs.Lists.{HasList, IsReady, IsShown}
 use Rattle.dspec_cpu.specs.Reached.{Reached, Stands}
 use Rattle.dspec_cpu.specs.Reaching.{OwnsCommit}
-use Rattle.dspec_cpu.proofs.Decisions.{committing, block_answer, block_deeds, fate_commits, fate_copied, fate_count, IsCommitWord, left_by_commit, waits_many}
-use Rattle.dspec_cpu.proofs.Ready.{holder, set_up_is, stands_behind}
+use Rattle.dspec_cpu.proofs.Decisions.{block_answer, block_deeds, fate_commits, fate_copied, fate_count, IsCommitWord, left_by_commit, released_shown, waits_many}
+use Rattle.dspec_cpu.proofs.Decided.{Ended, deciding, deed_of}
+use Rattle.dspec_cpu.proofs.Ready.{few, holder, ready_after, set_up_is, stands_behind}
 use Rattle.dspec_cpu.proofs.Shown.{shows, shown_behind}
+use Rattle.dspec_cpu.proofs.Speaks.{caller_of}
 
 module _ (shape : ℕ → Option Shape) (accepted : Record → Bool) (text : Record → List ℕ) {S : Type 0} (words : Words) (cpu : Cpu S)
-    (ready : IsReady shape accepted text words cpu) (id : Speculation) (fit mine : Bool) (n : ℕ) (to : SlotState) (w : View)
-    (got : Reached cpu.config cpu.cpu (committing id fit n mine) id (known cpu.seat) (reach.Done to) w) where
+    (ready : IsReady shape accepted text words cpu) (id : Speculation) (fit mine : Bool) (n : ℕ) (to : SlotState) (seat : CpuSeat) (commits : Bool) (is : commits ≡ true)
+    (got : Reached cpu.config cpu.cpu (deciding true id fit n mine) id (known cpu.seat) (reach.Done to) (known seat)) where
   abbrev v : View
   v = known cpu.seat
 
+  abbrev w : View
+  w = known seat
+
   abbrev f : DecideFate
   f = committed_fate fit n
+
+  abbrev d : Deed
+  d = Commit cpu.cpu id f
 
   pub left : IsCommitWord id.issue to
   left = let a = got.acts refl in left_by_commit id mine a.0 to a.1
 
   -- the block was copied or lost, as the call measured it
-  pub block_shown : (p : List Deed) → HasList shape accepted text cpu p → IsCaller cpu.cpu id mine p
-      → fit ≡ fits_principal shape cpu.config cpu.cpu (extent.block (contents (held cpu.cpu id p))) p → n ≡ length (held cpu.cpu id p) → (fate : DecideFate) → fate ≡ f → (now : Side Stored)
-      → (ShowsList (HasPieces shape accepted text) (λ b. b.size) cpu.config cpu.cpu p cpu.side → IsCaller cpu.cpu id mine p → is_commit fate ≡ true
-      → OwnAllows shape cpu.config p (Commit cpu.cpu id fate) → ShowsList (HasPieces shape accepted text) (λ b. b.size) cpu.config cpu.cpu (Commit cpu.cpu id fate ∷ p) now)
-      → (seat : CpuSeat) → IsShown shape accepted text (record cpu { seat = seat; side = now }) (Commit cpu.cpu id f ∷ p)
-  block_shown p had caller fitting counting fate is now shown seat =
-      let allows : OwnAllows shape cpu.config p (Commit cpu.cpu id f) = rw (fate_commits fit n) (fate_count fit n ∙ counting, fate_copied fit n ∙ fitting) in
-      let was = shown (shows shape accepted text cpu.side p had.shown) caller (ap is_commit is ∙ fate_commits fit n)
-      (subst (λ x. OwnAllows shape cpu.config p (Commit cpu.cpu id x)) (sym is) allows) in
-      shown_behind shape accepted text cpu.side p had.shown (Commit cpu.cpu id f) refl (number_is_itself cpu.cpu) allows now
-      (subst (λ x. ShowsList (HasPieces shape accepted text) (λ b. b.size) cpu.config cpu.cpu (Commit cpu.cpu id x ∷ p) now) is was)
+  module _ (at : IsAt words seat × (cpu_of seat ≡ cpu_of cpu.seat)) (now : Side Stored) (a : Decided) (answers : a ≡ block_answer fit n)
+      (marked : (p : List Deed) → IsShown shape accepted text cpu p → mine ≡ (mark cpu.cpu id.slot p == id.issue + 1))
+      (fitting : (p : List Deed) → IsShown shape accepted text cpu p → IsCaller cpu.cpu id mine p
+      → fit ≡ fits_principal shape cpu.config cpu.cpu (extent.block (contents (held cpu.cpu id p))) p)
+      (counting : (p : List Deed) → IsShown shape accepted text cpu p → IsCaller cpu.cpu id mine p → n ≡ length (held cpu.cpu id p)) (fate : DecideFate) (its : fate ≡ f)
+      (shown : (p : List Deed) → ShowsList (HasPieces shape accepted text) (λ b. b.size) cpu.config cpu.cpu p cpu.side → IsCaller cpu.cpu id mine p → is_commit fate ≡ true
+      → OwnAllows shape cpu.config p (Commit cpu.cpu id fate) → ShowsList (HasPieces shape accepted text) (λ b. b.size) cpu.config cpu.cpu (Commit cpu.cpu id fate ∷ p) now) where
+    abbrev new : Cpu S
+    new = record cpu { seat = seat; side = now }
 
-  -- it released nothing
-  pub decides_open : (a : Decided) → a ≡ block_answer fit n → (had has : List Deed → Type 0) → OwnsCommit cpu.config cpu.cpu id.slot w (Attempt to) → to.code ≢ Committing
-      → ((p : List Deed) → had p → has (Commit cpu.cpu id f ∷ p)) → Decides (Commit cpu.cpu id) id a had v has w
-  decides_open a is had has owns several list =
-      let deeds : Commit cpu.cpu id f ∷ [] ≡ decided_deeds (Commit cpu.cpu id) id.slot false a =
-      sym (ap (decided_deeds (Commit cpu.cpu id) id.slot false) is ∙ block_deeds (Commit cpu.cpu id) id.slot false fit n) in
-      record {
-        alone = false;
-        did = subst (λ ds. Goes v ds w) deeds got.goes;
-        waits = λ d e. waits_many cpu.config id w.seen to got.stands.sound got.stands.rests owns.0 left several;
-        list = λ p was. subst (λ ds. has (ds ++ p)) deeds (list p was);
-      }
+    block_shown : (p : List Deed) → HasList shape accepted text cpu p → IsShown shape accepted text new (d ∷ p)
+    block_shown p had =
+        let caller = caller_of cpu.config cpu.cpu id v.own mine (few shape accepted text words cpu ready) (got.present refl).0 p had.own (marked p had.shown) in
+        let allows : OwnAllows shape cpu.config p d = rw (fate_commits fit n) (fate_count fit n ∙ counting p had.shown caller, fate_copied fit n ∙ fitting p had.shown caller) in
+        let was = shown p (shows shape accepted text cpu.side p had.shown) caller (ap is_commit its ∙ fate_commits fit n)
+        (subst (λ x. OwnAllows shape cpu.config p (Commit cpu.cpu id x)) (sym its) allows) in
+        shown_behind shape accepted text cpu.side p had.shown d refl (number_is_itself cpu.cpu) allows now
+        (subst (λ x. ShowsList (HasPieces shape accepted text) (λ b. b.size) cpu.config cpu.cpu (Commit cpu.cpu id x ∷ p) now) its was)
 
-  -- it released the slot
-  module _ (u : View) (slot : ℕ) (there : slot ≡ id.slot) (released : ReleasedWord slot w u) where
-    step : ReleasedWord id.slot w u
-    step = subst (λ s. ReleasedWord s w u) there released
-
-    pub decides_alone : (a : Decided) → a ≡ block_answer fit n → (had has : List Deed → Type 0)
-        → ((p : List Deed) → had p → has (Release id.slot ∷ Commit cpu.cpu id f ∷ p)) → Decides (Commit cpu.cpu id) id a had v has u
-    decides_alone a is had has list =
-        let deeds : Release id.slot ∷ Commit cpu.cpu id f ∷ [] ≡ decided_deeds (Commit cpu.cpu id) id.slot true a =
-        sym (ap (decided_deeds (Commit cpu.cpu id) id.slot true) is ∙ block_deeds (Commit cpu.cpu id) id.slot true fit n) in
-        record {
-          alone = true;
-          did = subst (λ ds. Goes v ds u) deeds (steps u (Release id.slot ∷ []) _ step.0 got.goes step.1 (inl step.2) refl);
-          waits = λ d e. absurd (true≢false e);
-          list = λ p was. subst (λ ds. has (ds ++ p)) deeds (list p was);
+    -- it released nothing
+    pub left_open : OwnsCommit (set_up words) (cpu_of seat) id.slot w (Attempt to) → to.code ≢ Committing → Ended shape accepted text words cpu (deed_of commits cpu.cpu id) id a new
+    left_open owns several =
+        let deeds : d ∷ [] ≡ decided_deeds (Commit cpu.cpu id) id.slot false a =
+        sym (ap (decided_deeds (Commit cpu.cpu id) id.slot false) answers ∙ block_deeds (Commit cpu.cpu id) id.slot false fit n) in
+        let list : (p : List Deed) → HasList shape accepted text cpu p → HasList shape accepted text new (d ∷ p) =
+        λ p had. record { own = ap (λ l. d ∷ l) had.own ∙ sym got.stands.own; shown = block_shown p had } in
+        subst (λ b. Ended shape accepted text words cpu (deed_of b cpu.cpu id) id a new) (sym is) record {
+          ready = ready_after shape accepted text words cpu ready new (d ∷ []) refl refl at.0 at.1 got.stands ready.steady.idle refl ready.steady.spare ready.steady.few
+              (d ∷ ready.steady.list) (list ready.steady.list ready.steady.listed);
+          decides = record {
+            alone = false;
+            did = subst (λ ds. Goes v ds w) deeds got.goes;
+            waits = λ d e. waits_many cpu.config id w.seen to got.stands.sound got.stands.rests owns.0 left several;
+            list = λ p had. subst (λ ds. HasList shape accepted text new (ds ++ p)) deeds (list p had);
+          };
         }
 
-    last : Stands cpu.config cpu.cpu w (Release id.slot ∷ []) u
-    last = stands_behind cpu.config cpu.cpu w u step.0 (Release id.slot ∷ []) (got.stands.config ∙ set_up_is shape accepted text words cpu ready)
-        (got.stands.who ∙ holder shape accepted text words cpu ready) step.2
-
-    pub alone_stands : Stands cpu.config cpu.cpu v (Release id.slot ∷ Commit cpu.cpu id f ∷ []) u
-    alone_stands = record {
-      sound = last.sound;
-      part_is = last.part_is;
-      own = last.own ∙ ap (λ l. Release id.slot ∷ l) got.stands.own;
-      config = last.config ∙ got.stands.config;
-      who = last.who ∙ got.stands.who;
-      rests = last.rests;
-      flight = last.flight;
-    }
+    -- it released the slot
+    pub released : (after : CpuSeat) (slot : ℕ) → slot ≡ id.slot → ReleasedWord slot w (known after) → IsAt words after × (cpu_of after ≡ cpu_of seat)
+        → Ended shape accepted text words cpu (deed_of commits cpu.cpu id) id a (record cpu { seat = after; side = now })
+    released after slot there step at_last =
+        let u = known after in
+        let step : ReleasedWord id.slot w u = subst (λ s. ReleasedWord s w u) there step in
+        let last = stands_behind cpu.config cpu.cpu w u step.0 (Release id.slot ∷ []) (got.stands.config ∙ set_up_is shape accepted text words cpu ready)
+        (got.stands.who ∙ holder shape accepted text words cpu ready) step.2 in
+        let deeds : Release id.slot ∷ d ∷ [] ≡ decided_deeds (Commit cpu.cpu id) id.slot true a =
+        sym (ap (decided_deeds (Commit cpu.cpu id) id.slot true) answers ∙ block_deeds (Commit cpu.cpu id) id.slot true fit n) in
+        let stands : Stands cpu.config cpu.cpu v (Release id.slot ∷ d ∷ []) u = record {
+          sound = last.sound;
+          part_is = last.part_is;
+          own = last.own ∙ ap (λ l. Release id.slot ∷ l) got.stands.own;
+          config = last.config ∙ got.stands.config;
+          who = last.who ∙ got.stands.who;
+          rests = last.rests;
+          flight = last.flight;
+        } in
+        let list : (p : List Deed) → HasList shape accepted text cpu p → HasList shape accepted text (record cpu { seat = after; side = now }) (Release id.slot ∷ d ∷ p) = λ p had. record {
+          own = ap (λ l. Release id.slot ∷ d ∷ l) had.own ∙ sym stands.own;
+          shown = released_shown shape accepted text new (d ∷ p) (block_shown p had) id.slot refl after;
+        } in
+        subst (λ b. Ended shape accepted text words cpu (deed_of b cpu.cpu id) id a (record cpu { seat = after; side = now })) (sym is) record {
+          ready = ready_after shape accepted text words cpu ready _ (Release id.slot ∷ d ∷ []) refl refl at_last.0 (at_last.1 ∙ at.1) stands ready.steady.idle refl ready.steady.spare
+              ready.steady.few (Release id.slot ∷ d ∷ ready.steady.list) (list ready.steady.list ready.steady.listed);
+          decides = record {
+            alone = true;
+            did = subst (λ ds. Goes v ds u) deeds (steps u (Release id.slot ∷ []) _ step.0 got.goes step.1 (inl step.2) refl);
+            waits = λ d e. absurd (true≢false e);
+            list = λ p had. subst (λ ds. HasList shape accepted text (record cpu { seat = after; side = now }) (ds ++ p)) deeds (list p had);
+          };
+        }

@@ -23,7 +23,6 @@ use Rattle.dspec_deeds.proofs.Awaiting.{awaiting}
 use Rattle.dspec_deeds.proofs.PresentIds.{present_is}
 use Rattle.dspec_deeds.proofs.TestLemmas.{same_number}
 use Rattle.dspec_table.specs.declared.rule.View.{View}
-use Rattle.dspec_table.specs.declared.doing.Doing.{Doing}
 use Rattle.dspec_table.specs.declared.seats.CpuSeat.{CpuSeat}
 use Rattle.dspec_table.specs.Conditions.{CommitsNow, IfCommitting, OwnCommit}
 use Rattle.dspec_cpu.specs.declared.parts.CpuParts.{CpuParts as Cpu}
@@ -36,9 +35,6 @@ use Rattle.dspec_cpu.specs.Reaching.{OwnsCommit}
 use Rattle.dspec_side.proofs.Tallies.{released_counts}
 use Rattle.dspec_cpu.proofs.Quiet.{quiet_shown}
 use Rattle.dspec_cpu.proofs.Retries.{here_or_void, attempt_is}
-
-abbrev pub committing : Speculation → Bool → ℕ → Bool → Doing
-committing id fit n mine = record { op = op.Commit id; fits = fit; count = n; mine = mine }
 
 -- the answer that tells what becomes of a block
 abbrev pub block_answer : Bool → ℕ → Decided

@@ -1,5 +1,5 @@
 -- A call of discard that decided: the list and the deeds behind it.
-use Rattle.std.proofs.Common.{◌≡◌, ℕ, ◌==◌, Bool, true, false, List, ◌∷◌, ◌++◌, length, Option, None, refl, sym, ap, ◌∙◌, subst, true≢false}
+use Rattle.std.proofs.Common.{◌≡◌, ℕ, ◌+◌, ◌==◌, Bool, true, false, List, ◌∷◌, ◌++◌, length, Option, None, refl, sym, ap, ◌∙◌, subst, true≢false}
 use Rattle.dspec_record.specs.Record.{Record}
 use Rattle.dspec_record.specs.declared.field.Shape.{Shape}
 use Rattle.dspec_buffer.specs.Stored.{Stored, HasPieces}
@@ -10,7 +10,6 @@ use Rattle.dspec_word.specs.declared.code.Code.{Code}
 use Rattle.dspec_word.specs.declared.code.Code.TheVariants.{Inactive, Active, ActiveOne, ActiveMany, Committing, CommittingMany, Discarding}
 use Rattle.dspec_word.specs.declared.act.Act.TheVariants.{Attempt}
 use Rattle.dspec_word.specs.Tables.{discard_act, discard_at}
-use Rattle.dspec_deeds.specs.declared.calls.CpuOp.TheVariants as op
 use Rattle.dspec_deeds.specs.declared.calls.Decided.TheVariants as decided
 use Rattle.dspec_deeds.specs.declared.deed.DecideFate.TheVariants as fated
 use Rattle.dspec_deeds.specs.declared.deed.Deed.{Deed}
@@ -18,29 +17,29 @@ use Rattle.dspec_deeds.specs.declared.deed.Deed.TheVariants.{Discard}
 use Rattle.dspec_deeds.specs.History.{scan}
 use Rattle.dspec_deeds.specs.FateKinds.{is_discard}
 use Rattle.dspec_deeds.specs.Legal.{OwnAllows}
+use Rattle.dspec_deeds.specs.Marks.{mark}
 use Rattle.dspec_deeds.specs.Own.{held}
 use Rattle.dspec_deeds.specs.Weaving.{bare}
 use Rattle.dspec_deeds.proofs.TestLemmas.{number_is_itself, same_number}
 use Rattle.dspec_table.specs.declared.rule.View.{View}
 use Rattle.dspec_table.specs.Flights.{flight_after}
-use Rattle.dspec_table.specs.declared.doing.Doing.{Doing}
 use Rattle.dspec_table.specs.declared.seats.Words.{Words}
 use Rattle.dspec_table.specs.declared.seats.CpuSeat.{CpuSeat}
-use Rattle.dspec_table.specs.Seats.{known}
+use Rattle.dspec_table.specs.Seats.{known, set_up, IsAt, cpu_of}
 use Rattle.dspec_cpu.specs.declared.parts.CpuParts.{CpuParts as Cpu}
 use Rattle.dspec_side.specs.declared.side.Side.{Side}
 use Rattle.dspec_cpu.specs.declared.reaching.Reach.TheVariants as reach
-use Rattle.dspec_cpu.specs.Calls.{Decides, decision}
+use Rattle.dspec_cpu.specs.Calls.{decision}
 use Rattle.dspec_side.specs.Sides.{IsCaller, ShowsList}
 use Rattle.dspec_cpu.specs.Lists.{HasList, IsReady, IsShown}
 use Rattle.dspec_cpu.specs.Reached.{Reached}
 use Rattle.dspec_cpu.specs.Reaching.{OwnsCommit}
+use Rattle.dspec_cpu.proofs.Decided.{Ended, deciding, deed_of}
 use Rattle.dspec_cpu.proofs.Decisions.{waits_at, released_shown}
 use Rattle.dspec_cpu.proofs.Retries.{here_or_void, attempt_is}
+use Rattle.dspec_cpu.proofs.Ready.{few, ready_after}
 use Rattle.dspec_cpu.proofs.Shown.{shows, shown_behind}
-
-abbrev pub discarding : Speculation → ℕ → Bool → Doing
-discarding id n mine = record { op = op.Discard id; fits = false; count = n; mine = mine }
+use Rattle.dspec_cpu.proofs.Speaks.{caller_of}
 
 -- an exchange of discard releases the slot, or leaves the issue and a discard that waits
 pub record IsDiscardWord (i : ℕ) (to : SlotState) : Type 0 where
@@ -69,61 +68,61 @@ left_by_discard id mine word to e =
     subst (λ n. IsDiscardWord n to) (same_number word.issue id.issue both.0) (discard_leaves word.issue mine word.code to both.1)
 
 module _ (shape : ℕ → Option Shape) (accepted : Record → Bool) (text : Record → List ℕ) {S : Type 0} (words : Words) (cpu : Cpu S)
-    (ready : IsReady shape accepted text words cpu) (id : Speculation) (mine : Bool) (n : ℕ) (to : SlotState) (w : View)
-    (got : Reached cpu.config cpu.cpu (discarding id n mine) id (known cpu.seat) (reach.Done to) w) where
+    (ready : IsReady shape accepted text words cpu) (id : Speculation) (fit mine : Bool) (n : ℕ) (to : SlotState) (seat : CpuSeat)
+    (got : Reached cpu.config cpu.cpu (deciding false id fit n mine) id (known cpu.seat) (reach.Done to) (known seat)) where
   abbrev v : View
   v = known cpu.seat
 
-  abbrev deed : Deed
-  deed = Discard cpu.cpu id (fated.Thrown n)
+  abbrev d : Deed
+  d = Discard cpu.cpu id (fated.Thrown n)
 
   -- the deeds: the release among them where the exchange left the slot inactive
-  abbrev pub deeds : List Deed
-  deeds = decision (is_inactive to.code) id.slot deed
+  abbrev deeds : List Deed
+  deeds = decision (is_inactive to.code) id.slot d
 
-  released_too : (new : Cpu S) (p : List Deed) (b : Bool) → IsShown shape accepted text new (deed ∷ p) → IsShown shape accepted text new (decision b id.slot deed ++ p)
-  released_too new p true shown = released_shown shape accepted text new (deed ∷ p) shown id.slot refl new.seat
+  released_too : (new : Cpu S) (p : List Deed) (b : Bool) → IsShown shape accepted text new (d ∷ p) → IsShown shape accepted text new (decision b id.slot d ++ p)
+  released_too new p true shown = released_shown shape accepted text new (d ∷ p) shown id.slot refl new.seat
   released_too new p false shown = shown
 
-  bare_too : (p : List Deed) (b : Bool) → bare (decision b id.slot deed ++ p) ≡ decision b id.slot deed ++ bare p
+  bare_too : (p : List Deed) (b : Bool) → bare (decision b id.slot d ++ p) ≡ decision b id.slot d ++ bare p
   bare_too p true = refl
   bare_too p false = refl
 
-  pub still_idle : scan cpu.config cpu.cpu (deeds ++ v.own) ≡ 0
-  still_idle = go (is_inactive to.code)
-    where
-      go : (b : Bool) → scan cpu.config cpu.cpu (decision b id.slot deed ++ v.own) ≡ 0
-      go true = ready.steady.idle
-      go false = ready.steady.idle
+  -- no scan is under way behind them, nor is a call in flight
+  still_idle : (b : Bool) → scan cpu.config cpu.cpu (decision b id.slot d ++ v.own) ≡ 0
+  still_idle true = ready.steady.idle
+  still_idle false = ready.steady.idle
 
-  -- nor is one in flight
-  pub none_flies : flight_after cpu.config v.flight deeds ≡ None
-  none_flies = go (is_inactive to.code)
-    where
-      go : (b : Bool) → flight_after cpu.config v.flight (decision b id.slot deed) ≡ None
-      go true = refl
-      go false = refl
+  none_flies : (b : Bool) → flight_after cpu.config v.flight (decision b id.slot d) ≡ None
+  none_flies true = refl
+  none_flies false = refl
 
   -- the block was thrown away, as the call measured it
-  pub thrown_listed : (p : List Deed) → HasList shape accepted text cpu p → IsCaller cpu.cpu id mine p → n ≡ length (held cpu.cpu id p) → (now : Side Stored)
-      → (ShowsList (HasPieces shape accepted text) (λ b. b.size) cpu.config cpu.cpu p cpu.side → IsCaller cpu.cpu id mine p → is_discard (fated.Thrown n) ≡ true
-      → OwnAllows shape cpu.config p deed → ShowsList (HasPieces shape accepted text) (λ b. b.size) cpu.config cpu.cpu (deed ∷ p) now)
-      → (seat : CpuSeat) → known seat ≡ w → HasList shape accepted text (record cpu { seat = seat; side = now }) (deeds ++ p)
-  thrown_listed p had caller counting now shown seat here = record {
-    own = bare_too p (is_inactive to.code) ∙ (ap (λ l. deeds ++ l) had.own ∙ (sym got.stands.own ∙ sym (ap (λ (x : View). x.own) here)));
-    shown = released_too (record cpu { seat = seat; side = now }) p (is_inactive to.code)
-        (shown_behind shape accepted text cpu.side p had.shown deed refl (number_is_itself cpu.cpu) counting now
-        (shown (shows shape accepted text cpu.side p had.shown) caller refl counting));
-  }
-
-  pub throws : (had has : List Deed → Type 0) → OwnsCommit cpu.config cpu.cpu id.slot w (Attempt to) → ((p : List Deed) → had p → has (deeds ++ p))
-      → Decides (Discard cpu.cpu id) id (decided.Thrown n) had v has w
-  throws had has owns list =
+  pub thrown : IsAt words seat × (cpu_of seat ≡ cpu_of cpu.seat) → OwnsCommit (set_up words) (cpu_of seat) id.slot (known seat) (Attempt to)
+      → ((p : List Deed) → IsShown shape accepted text cpu p → mine ≡ (mark cpu.cpu id.slot p == id.issue + 1))
+      → ((p : List Deed) → IsShown shape accepted text cpu p → IsCaller cpu.cpu id mine p → n ≡ length (held cpu.cpu id p)) → (now : Side Stored)
+      → ((p : List Deed) → ShowsList (HasPieces shape accepted text) (λ b. b.size) cpu.config cpu.cpu p cpu.side → IsCaller cpu.cpu id mine p → is_discard (fated.Thrown n) ≡ true
+      → OwnAllows shape cpu.config p d → ShowsList (HasPieces shape accepted text) (λ b. b.size) cpu.config cpu.cpu (d ∷ p) now)
+      → (commits : Bool) → commits ≡ false
+      → Ended shape accepted text words cpu (deed_of commits cpu.cpu id) id (decided.Thrown n) (record cpu { seat = seat; side = now })
+  thrown at owns marked counting now shown commits is =
+      let new = record cpu { seat = seat; side = now } in
       let a = got.acts refl in
       let left = left_by_discard id mine a.0 to a.1 in
-      record {
-        alone = is_inactive to.code;
-        did = got.goes;
-        waits = λ d e. waits_at cpu.config id w.seen to Discarding got.stands.sound got.stands.rests owns.0 (left.issue e) (left.code e) refl;
-        list = list;
+      let list : (p : List Deed) → HasList shape accepted text cpu p → HasList shape accepted text new (deeds ++ p) = λ p had.
+      let caller = caller_of cpu.config cpu.cpu id v.own mine (few shape accepted text words cpu ready) (got.present refl).0 p had.own (marked p had.shown) in
+      let count = counting p had.shown caller in record {
+        own = bare_too p (is_inactive to.code) ∙ (ap (λ l. deeds ++ l) had.own ∙ sym got.stands.own);
+        shown = released_too new p (is_inactive to.code) (shown_behind shape accepted text cpu.side p had.shown d refl (number_is_itself cpu.cpu) count now
+            (shown p (shows shape accepted text cpu.side p had.shown) caller refl count));
+      } in
+      subst (λ b. Ended shape accepted text words cpu (deed_of b cpu.cpu id) id (decided.Thrown n) new) (sym is) record {
+        ready = ready_after shape accepted text words cpu ready new deeds refl refl at.0 at.1 got.stands (still_idle (is_inactive to.code)) (none_flies (is_inactive to.code))
+            ready.steady.spare ready.steady.few (deeds ++ ready.steady.list) (list ready.steady.list ready.steady.listed);
+        decides = record {
+          alone = is_inactive to.code;
+          did = got.goes;
+          waits = λ d e. waits_at cpu.config id (known seat).seen to Discarding got.stands.sound got.stands.rests owns.0 (left.issue e) (left.code e) refl;
+          list = list;
+        };
       }

@@ -12,6 +12,7 @@ pub mod Reaches
 pub mod Speaks
 pub mod Decisions
 pub mod Keeps
+pub mod Decided
 pub mod Commits
 pub mod Discards
 pub mod Slots

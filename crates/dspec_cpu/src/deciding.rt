@@ -1,4 +1,5 @@
 ghost use Rattle.std.specs.Prelude.{◌≡◌, if◌then◌else◌};
+ghost use Rattle.dspec_deeds.specs.declared.calls.CpuOp.TheVariants as op;
 ghost use Rattle.dspec_deeds.specs.declared.deed.Deed.TheVariants.{Commit, Discard};
 ghost use Rattle.dspec_table.specs.Seats.{known};
 ghost use Rattle.dspec_cpu.specs.Calls.{Decides, is_worn_decided};
@@ -29,6 +30,18 @@ fn answer_of(fits: bool, count: u32) -> Decided
     }
 }
 
+// The call that decides, a commit or a discard.
+#[inline(always)]
+fn op_of(commits: bool, id: SpecId) -> CpuOp
+    ensures { result ≡ (if commits then op.Commit id else op.Discard id) }
+{
+    if commits {
+        CpuOp::Commit(id)
+    } else {
+        CpuOp::Discard(id)
+    }
+}
+
 impl<S: Schema> CpuParts<S> {
     // As `Cpu::commit`.
     pub(crate) fn commit(&mut self, shared: &Shared, id: SpecId) -> Decided
@@ -38,6 +51,29 @@ impl<S: Schema> CpuParts<S> {
         ensures keeps { CallKeeps (is_worn_decided result) (is_stopped_decided result) 5 self.old self.new }
         ensures decides { Decides (Commit (number_in self.old) id) id result (⟦<Cpu<S> as Listed>⟧.has_list self.old) (known (seat_of self.old)) (⟦<Cpu<S> as Listed>⟧.has_list self.new) (known (seat_of self.new)) }
     {
+        self.decide(shared, id, true)
+    }
+
+    // As `Cpu::discard`.
+    pub(crate) fn discard(&mut self, shared: &Shared, id: SpecId) -> Decided
+        requires ready { ⟦<CpuParts<S> as Callable>⟧.is_ready (words_of shared.now) self.old }
+        ensures ready { ⟦<CpuParts<S> as Callable>⟧.is_ready (words_of shared.now) self.new }
+        ensures same { IsSameCpu self.old self.new }
+        ensures keeps { CallKeeps (is_worn_decided result) (is_stopped_decided result) 5 self.old self.new }
+        ensures decides { Decides (Discard (number_in self.old) id) id result (⟦<Cpu<S> as Listed>⟧.has_list self.old) (known (seat_of self.old)) (⟦<Cpu<S> as Listed>⟧.has_list self.new) (known (seat_of self.new)) }
+    {
+        self.decide(shared, id, false)
+    }
+
+    // A commit or a discard.
+    #[inline(always)]
+    fn decide(&mut self, shared: &Shared, id: SpecId, commits: bool) -> Decided
+        requires ready { ⟦<CpuParts<S> as Callable>⟧.is_ready (words_of shared.now) self.old }
+        ensures ready { ⟦<CpuParts<S> as Callable>⟧.is_ready (words_of shared.now) self.new }
+        ensures same { IsSameCpu self.old self.new }
+        ensures keeps { CallKeeps (is_worn_decided result) (is_stopped_decided result) 5 self.old self.new }
+        ensures decides { Decides (if commits then Commit (number_in self.old) id else Discard (number_in self.old) id) id result (⟦<Cpu<S> as Listed>⟧.has_list self.old) (known (seat_of self.old)) (⟦<Cpu<S> as Listed>⟧.has_list self.new) (known (seat_of self.new)) }
+    {
         if self.side.calls >= self.config.max_calls {
             self.side.counts.wear();
             return Decided::Worn;
@@ -45,8 +81,9 @@ impl<S: Schema> CpuParts<S> {
         let inside = self.is_inside(id);
         let mine = self.is_mine(id, inside);
         let (fits, count) = self.measure_slot(id, mine, inside);
+        let op = op_of(commits, id);
         let doing = Doing {
-            op: CpuOp::Commit(id),
+            op,
             fits,
             count,
             mine,
@@ -63,6 +100,10 @@ impl<S: Schema> CpuParts<S> {
             }
             Reach::Granted => unreachable!(),
             Reach::Done(to) => {
+                if !commits {
+                    self.side.decide::<S>(id, mine, DecideFate::Thrown(count));
+                    return Decided::Thrown(count);
+                }
                 self.side.decide::<S>(id, mine, committed_as(fits, count));
                 let answer = answer_of(fits, count);
                 match to.code() {
@@ -72,45 +113,6 @@ impl<S: Schema> CpuParts<S> {
                     }
                     _ => answer,
                 }
-            }
-        }
-    }
-
-    // As `Cpu::discard`.
-    pub(crate) fn discard(&mut self, shared: &Shared, id: SpecId) -> Decided
-        requires ready { ⟦<CpuParts<S> as Callable>⟧.is_ready (words_of shared.now) self.old }
-        ensures ready { ⟦<CpuParts<S> as Callable>⟧.is_ready (words_of shared.now) self.new }
-        ensures same { IsSameCpu self.old self.new }
-        ensures keeps { CallKeeps (is_worn_decided result) (is_stopped_decided result) 5 self.old self.new }
-        ensures decides { Decides (Discard (number_in self.old) id) id result (⟦<Cpu<S> as Listed>⟧.has_list self.old) (known (seat_of self.old)) (⟦<Cpu<S> as Listed>⟧.has_list self.new) (known (seat_of self.new)) }
-    {
-        if self.side.calls >= self.config.max_calls {
-            self.side.counts.wear();
-            return Decided::Worn;
-        }
-        let inside = self.is_inside(id);
-        let mine = self.is_mine(id, inside);
-        let (_, count) = self.measure_slot(id, mine, inside);
-        let doing = Doing {
-            op: CpuOp::Discard(id),
-            fits: false,
-            count,
-            mine,
-        };
-        let reached = go_on(&mut self.seat, &shared.words, id, inside, &doing);
-        match reached {
-            Reach::Stopped => {
-                self.side.leave_undecided::<S>(DecideFate::Stopped);
-                Decided::Stopped
-            }
-            Reach::Void => {
-                self.side.leave_undecided::<S>(DecideFate::Void);
-                Decided::Void
-            }
-            Reach::Granted => unreachable!(),
-            Reach::Done(_to) => {
-                self.side.decide::<S>(id, mine, DecideFate::Thrown(count));
-                Decided::Thrown(count)
             }
         }
     }

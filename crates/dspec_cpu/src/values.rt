@@ -32,7 +32,7 @@ impl<S: Schema> Cpu<S> {
             (⟦<Cpu<S> as Listed>⟧.has_list self.old) (known (seat_of self.old)) (⟦<Cpu<S> as Listed>⟧.has_list self.new) (known (seat_of self.new))) }
     {
         let rec = BorrowedRec::of(epid, stamp, values)?;
-        if !self.schema().accepts(rec) {
+        if !self.schema().accepts_recorded(rec) {
             return None;
         }
         Some(self.trace_recorded(shared, rec))
@@ -57,7 +57,7 @@ impl<S: Schema> Cpu<S> {
             (⟦<Cpu<S> as Listed>⟧.has_list self.old) (known (seat_of self.old)) (⟦<Cpu<S> as Listed>⟧.has_list self.new) (known (seat_of self.new))) }
     {
         let rec = BorrowedRec::of(epid, stamp, values)?;
-        if !self.schema().accepts(rec) {
+        if !self.schema().accepts_recorded(rec) {
             return None;
         }
         Some(self.speculate_recorded(shared, id, rec))

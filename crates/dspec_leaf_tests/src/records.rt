@@ -8,12 +8,12 @@ use std::test::Fail;
 
 /// Writes the record into a slice that fits it; whether it did.
 pub fn put_whole<S: Schema, R: Recorded>(schema: &S, rec: R, out: &mut [u8]) -> bool {
-    if !schema.accepts(rec) {
+    if !schema.accepts_recorded(rec) {
         return false;
     }
     match schema.shape(rec.epid()) {
         Some(shape) if shape.size as usize == out.len() => {
-            schema.put(rec, out);
+            schema.put_recorded(rec, out);
             true
         }
         _ => false,

@@ -29,13 +29,15 @@ IsLaidOut-copied fs few =
       limits = ap padded_limits (sym back);
     }
 
-pub IsFilled-push : (h : Header) (rows : List (List Field)) (count : ℕ) (fs : List Field) → IsFilled (record { header = h; rows = rows; count = count }) → count < 64
-    → IsFilled (record { header = h; rows = set rows count fs; count = count + 1 })
-IsFilled-push h rows count fs is room =
+pub IsFilled-push : (h : Header) (stamp : ℕ) (rows : List (List Field)) (count : ℕ) (fs : List Field)
+    → IsFilled (record { header = h; stamp = stamp; rows = rows; count = count }) → count < 64
+    → IsFilled (record { header = h; stamp = stamp; rows = set rows count fs; count = count + 1 })
+IsFilled-push h stamp rows count fs is room =
     let none : List Field = [] in
     let past : count < count + 1 = omega arith in
     let left : 64 - count - 1 ≡ 64 - (count + 1) = omega arith in
     record {
+      stamp = is.stamp;
       places = length-set rows count fs ∙ is.places;
       few = omega arith;
       rest = drop-set-lt (count + 1) rows count fs past ∙ sym (drop-drop 1 count rows) ∙ ap (drop 1) is.rest

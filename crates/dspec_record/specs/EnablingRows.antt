@@ -1,5 +1,6 @@
 -- Enablings as contracts see them, and how `Enablings` holds them.
-use Rattle.std.specs.Prelude.{◌≡◌, ◌≤◌, ◌-◌, ◌++◌, List, [], length, take, drop, replicate}
+use Rattle.std.specs.Prelude.{◌≡◌, ◌≤◌, ◌+◌, ◌-◌, ◌++◌, List, [], length, take, drop, replicate}
+use Rattle.dspec_record.specs.Layout.{fields_start}
 use Rattle.dspec_record.specs.declared.field.Field.{Field}
 use Rattle.dspec_record.specs.declared.header.Header.{Header}
 use Rattle.dspec_record.specs.declared.enabling.Enablings.TheInside.{Inside}
@@ -12,8 +13,9 @@ pub record EnabledRows : Type 0 where
 abbrev pub rows_of : Inside → EnabledRows
 rows_of a = record { header = a.header; rows = take a.count a.rows }
 
--- there are 64 places, and those behind the enablings have no fields
+-- there are 64 places, and those behind the enablings have no fields; the stamp is what moves the fields from where they begin without
 pub record IsFilled (a : Inside) : Type 0 where
+  pub stamp : 4 + a.stamp ≡ fields_start a.header
   pub places : length a.rows ≡ 64
   pub few : a.count ≤ 64
   pub rest : drop a.count a.rows ≡ replicate (64 - a.count) []
@@ -21,6 +23,7 @@ pub record IsFilled (a : Inside) : Type 0 where
 abbrev pub inside_of : EnabledRows → Inside
 inside_of e = record {
   header = e.header;
+  stamp = fields_start e.header - 4;
   rows = e.rows ++ replicate (64 - length e.rows) [];
   count = length e.rows;
 }

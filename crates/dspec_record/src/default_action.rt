@@ -1,5 +1,5 @@
 use crate::codec::read_epid;
-use crate::{ReadKind, Rec, Recorded, Schema, Shape};
+use crate::{ReadKind, Rec, Schema, Shape};
 
 /// The default action (Solaris Dynamic Tracing Guide, "Speculative Tracing"): every EPID but zero, alone,
 /// in 4 bytes.
@@ -33,11 +33,12 @@ impl Schema for DefaultAction {
         }
     }
 
-    fn accepts<R: Recorded>(&self, rec: R) -> bool {
+    fn accepts(&self, rec: &Rec) -> bool {
         rec.epid() != 0 && rec.stamp() == 0 && rec.values().is_empty()
     }
 
-    fn put<R: Recorded>(&self, rec: R, out: &mut [u8]) {
+    #[inline(always)]
+    fn put(&self, rec: &Rec, out: &mut [u8]) {
         out.copy_from_slice(&rec.epid().to_le_bytes());
     }
 

@@ -22,12 +22,22 @@ impl Schema for Enablings {
 
     fn shape(&self, epid: u32) -> Option<Shape> {
         match self.enabling(epid) {
-            Some(enabling) => Some(enabling.shape(self.header())),
+            Some(enabling) => Some(enabling.shape(self.header(), self.stamp_size())),
             None => None,
         }
     }
 
-    fn accepts<R: Recorded>(&self, rec: R) -> bool {
+    #[inline(always)]
+    fn accepts(&self, rec: &Rec) -> bool {
+        self.accepts_recorded(rec)
+    }
+
+    #[inline(always)]
+    fn put(&self, rec: &Rec, out: &mut [u8]) {
+        self.put_recorded(rec, out);
+    }
+
+    fn accepts_recorded<R: Recorded>(&self, rec: R) -> bool {
         match self.enabling(rec.epid()) {
             Some(enabling) => fits_header(self.header(), rec.stamp())
                 && fits_fields(enabling.fields(), enabling.limits(), rec.values()),
@@ -36,7 +46,7 @@ impl Schema for Enablings {
     }
 
     #[inline(always)]
-    fn put<R: Recorded>(&self, rec: R, out: &mut [u8]) {
+    fn put_recorded<R: Recorded>(&self, rec: R, out: &mut [u8]) {
         let Some(enabling) = self.enabling(rec.epid()) else {
             unreachable!()
         };
@@ -54,7 +64,7 @@ impl Schema for Enablings {
         let Some(enabling) = self.enabling(epid) else {
             return Err(ReadKind::UnknownEpid);
         };
-        let size = enabling.shape(header).size as usize;
+        let size = enabling.shape(header, self.stamp_size()).size as usize;
         if bytes.len() < size {
             return Err(ReadKind::Truncated);
         }

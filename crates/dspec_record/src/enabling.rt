@@ -60,8 +60,8 @@ impl Model for Enabling {
 }
 
 impl Enabling {
-    ghost use Rattle.std.specs.Prelude.{◌≡◌, ◌≤◌, length, map};
-    ghost use Rattle.dspec_record.specs.Layout.{limit, field_places, layout};
+    ghost use Rattle.std.specs.Prelude.{◌≡◌, ◌≤◌, ◌+◌, length, map};
+    ghost use Rattle.dspec_record.specs.Layout.{limit, field_places, fields_start, layout};
 
     fn of(fields: &[Field]) -> Enabling
         requires { length fields.now ≤ 8 }
@@ -101,24 +101,27 @@ impl Enabling {
         &self.limits[..self.len as usize]
     }
 
-    /// The layout behind this header: a stamp moves each field by its own eight bytes, and no gap changes.
+    /// The layout behind this header, whose stamp has so many bytes: it moves each field by them, and no gap changes.
     #[inline(always)]
-    pub(crate) fn shape(&self, header: Header) -> Shape
-        ensures layout { result ≡ layout header self.now }
+    pub(crate) fn shape(&self, _header: Header, stamp: u32) -> Shape
+        requires moves { 4 + stamp ≡ fields_start _header }
+        requires little { stamp ≤ 8 }
+        ensures layout { result ≡ layout _header self.now }
         ensures few { length self.now ≤ 8 }
     {
         Shape {
-            size: self.shape.size + header.stamp_size() as u32,
+            size: self.shape.size + stamp,
             align: self.shape.align,
         }
     }
 }
 
 /// Enabled probes: which fields the records of an EPID have, and the header of them all. EPIDs are 1, 2, .. in the
-/// order of `enable`; there are at most 64 enablings of at most eight fields.
+/// order of `enable`; there are at most 64 enablings of at most eight fields. How many bytes the header's stamp has is kept.
 #[derive(Debug, Clone, Copy, PartialEq, Eq)]
 pub struct Enablings {
     header: Header,
+    stamp: u32,
     rows: [Enabling; MAX_ENABLINGS],
     count: u32,
 }
@@ -142,6 +145,7 @@ impl Model for Enablings {
 
 impl Enablings {
     ghost use Rattle.std.specs.Prelude.{◌≡◌, ◌≤◌, ◌<◌, ◌+◌, ◌-◌, ◌++◌, ◌∷◌, ◌↔◌, [], length, option_copied, IfOk, OnErr};
+    ghost use Rattle.dspec_record.specs.Layout.{fields_start};
     ghost use Rattle.dspec_record.specs.Schemas.{enabling_of};
 
     /// No enabling; records have no stamp.
@@ -150,6 +154,7 @@ impl Enablings {
     {
         Enablings {
             header: Header::One,
+            stamp: 0,
             rows: [Enabling::of(&[]); MAX_ENABLINGS],
             count: 0,
         }
@@ -182,6 +187,7 @@ impl Enablings {
     {
         Enablings {
             header: Header::Two,
+            stamp: 8,
             ..*self
         }
     }
@@ -191,6 +197,15 @@ impl Enablings {
         ensures { result ≡ self.now.header }
     {
         self.header
+    }
+
+    /// How many bytes the stamp of a record has.
+    #[inline(always)]
+    pub(crate) fn stamp_size(&self) -> u32
+        ensures moves { 4 + result ≡ fields_start self.now.header }
+        ensures little { result ≤ 8 }
+    {
+        self.stamp
     }
 
     /// How many enablings there are. Their EPIDs are 1, 2, .. up to this number.

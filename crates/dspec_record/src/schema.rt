@@ -22,14 +22,30 @@ pub trait Schema: Copy {
         ensures { result ≡ shape_of self.now epid };
 
     /// Whether the EPID has a shape, there is a value for each of its fields, and each fits its width.
-    fn accepts<R: Recorded>(&self, rec: R) -> bool
-        ensures { result ≡ accepted self.now (R.as_record rec) };
+    fn accepts(&self, rec: &Rec) -> bool
+        ensures { result ≡ accepted self.now rec.now };
 
     /// Writes an accepted record into a slice of exactly its size.
-    fn put<R: Recorded>(&self, rec: R, out: &mut [u8])
+    fn put(&self, rec: &Rec, out: &mut [u8])
+        requires accepted { IsTrue (accepted self.now rec.now) }
+        requires exact { length out.old ≡ length (text self.now rec.now) }
+        ensures { out.new ≡ text self.now rec.now };
+
+    /// As `accepts`, of what can be traced as a record. A schema that says nothing of it has the record copied.
+    fn accepts_recorded<R: Recorded>(&self, rec: R) -> bool
+        ensures { result ≡ accepted self.now (R.as_record rec) }
+    {
+        self.accepts(&rec.to_rec())
+    }
+
+    /// As `put`, of what can be traced as a record. A schema that says nothing of it has the record copied.
+    fn put_recorded<R: Recorded>(&self, rec: R, out: &mut [u8])
         requires accepted { IsTrue (accepted self.now (R.as_record rec)) }
         requires exact { length out.old ≡ length (text self.now (R.as_record rec)) }
-        ensures { out.new ≡ text self.now (R.as_record rec) };
+        ensures { out.new ≡ text self.now (R.as_record rec) }
+    {
+        self.put(&rec.to_rec(), out);
+    }
 
     /// The record at the front and its size in bytes, or the first fault in this order: Truncated for fewer
     /// bytes than an EPID, Padding for EPID 0, UnknownEpid, Truncated for fewer bytes than the shape's size,

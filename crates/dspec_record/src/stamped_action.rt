@@ -1,5 +1,5 @@
 use crate::codec::{fits_header, put_record, read_epid, read_record};
-use crate::{Header, ReadKind, Rec, Recorded, Schema, Shape};
+use crate::{Header, ReadKind, Rec, Schema, Shape};
 
 /// How many bytes a record has: its EPID and its stamp.
 const SIZE: usize = 12;
@@ -35,11 +35,12 @@ impl Schema for StampedAction {
         }
     }
 
-    fn accepts<R: Recorded>(&self, rec: R) -> bool {
+    fn accepts(&self, rec: &Rec) -> bool {
         rec.epid() != 0 && fits_header(Header::Two, rec.stamp()) && rec.values().is_empty()
     }
 
-    fn put<R: Recorded>(&self, rec: R, out: &mut [u8]) {
+    #[inline(always)]
+    fn put(&self, rec: &Rec, out: &mut [u8]) {
         put_record(Header::Two, &[], &[], rec, out);
     }
 

@@ -55,7 +55,7 @@ pub(crate) fn keep_in<S: Schema, B: TraceBuffer<S>, R: Recorded>(
     if !mine {
         buffer.clear();
     }
-    buffer.push(schema, rec)
+    buffer.push_recorded(schema, rec)
 }
 
 /// Keeps a record in a principal buffer, where that isn't closed and the record fits.
@@ -76,7 +76,7 @@ pub(crate) fn keep_open<S: Schema, B: TraceBuffer<S>, R: Recorded>(
     if closed {
         return false;
     }
-    active.push(schema, rec)
+    active.push_recorded(schema, rec)
 }
 
 impl<B> Side<B> {

@@ -6,6 +6,7 @@ use Rattle.dspec_record.specs.EnablingFields as laid
 use Rattle.dspec_record.specs.EnablingRows.{rows_of, IsFilled}
 use Rattle.dspec_record.specs.EnablingRows as filled
 use Rattle.dspec_record.specs.Laws.Padding.{padded_list}
+use Rattle.dspec_record.specs.Layout.{fields_start}
 use Rattle.dspec_record.specs.declared.field.Field.{Field}
 use Rattle.dspec_record.specs.declared.field.Field.TheVariants.{One}
 use Rattle.dspec_record.specs.declared.enabling.Enabling.TheInside as one
@@ -26,4 +27,5 @@ inside_of-rows_of a p =
     let none : List Field = [] in
     let rows : take a.count a.rows ++ replicate (64 - length (take a.count a.rows)) none ≡ a.rows =
     padded_list a.rows a.count 64 none p.places p.few p.rest in
-    λ i. record { header = a.header; rows = rows i; count = len i }
+    let stamp : fields_start a.header - 4 ≡ a.stamp = omega (arith, p.stamp) in
+    λ i. record { header = a.header; stamp = stamp i; rows = rows i; count = len i }

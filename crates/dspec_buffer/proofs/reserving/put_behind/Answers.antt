@@ -8,8 +8,8 @@ returns-else-from-place g c =
     let place = c.args.place in
     let here : place ≡ from = omega (arith, c.requires.gap) in
     let nothing : 0 ≡ place - from = omega (arith, here) in
-    let long : c.args.end ≡ place + length c.put.new.out = c.requires.end ∙ ap (λ z. place + length z) (sym c.put.ensures) in
-    take-put_mid place (c.args.end - place) c.args.bytes.now c.put.new.out c.args.end long (omega arith)
-    ∙ ap (λ z. take z c.args.bytes.now ++ c.put.new.out) here
-    ∙ ap (λ z. take from c.args.bytes.now ++ (replicate z 0 ++ c.put.new.out)) nothing
-    ∙ ap (λ z. take from c.args.bytes.now ++ (replicate (place - from) 0 ++ z)) c.put.ensures
+    let long : c.args.end ≡ place + length c.put_recorded.new.out = c.requires.end ∙ ap (λ z. place + length z) (sym c.put_recorded.ensures) in
+    take-put_mid place (c.args.end - place) c.args.bytes.now c.put_recorded.new.out c.args.end long (omega arith)
+    ∙ ap (λ z. take z c.args.bytes.now ++ c.put_recorded.new.out) here
+    ∙ ap (λ z. take from c.args.bytes.now ++ (replicate z 0 ++ c.put_recorded.new.out)) nothing
+    ∙ ap (λ z. take from c.args.bytes.now ++ (replicate (place - from) 0 ++ z)) c.put_recorded.ensures

@@ -6,8 +6,8 @@ pub returns : goal.returns
 returns g c =
     let from = c.args.from in
     let place = c.args.place in
-    let long : c.args.end ≡ place + length c.put.new.out = c.requires.end ∙ ap (λ z. place + length z) (sym c.put.ensures) in
-    take-put_mid place (c.args.end - place) c.pad.new.bytes c.put.new.out c.args.end long (omega arith)
-    ∙ ap (λ z. z ++ c.put.new.out) c.pad.ensures
-    ∙ append_assoc (take from c.args.bytes.now) (replicate (place - from) 0) c.put.new.out
-    ∙ ap (λ z. take from c.args.bytes.now ++ (replicate (place - from) 0 ++ z)) c.put.ensures
+    let long : c.args.end ≡ place + length c.put_recorded.new.out = c.requires.end ∙ ap (λ z. place + length z) (sym c.put_recorded.ensures) in
+    take-put_mid place (c.args.end - place) c.pad.new.bytes c.put_recorded.new.out c.args.end long (omega arith)
+    ∙ ap (λ z. z ++ c.put_recorded.new.out) c.pad.ensures
+    ∙ append_assoc (take from c.args.bytes.now) (replicate (place - from) 0) c.put_recorded.new.out
+    ∙ ap (λ z. take from c.args.bytes.now ++ (replicate (place - from) 0 ++ z)) c.put_recorded.ensures

@@ -5,7 +5,7 @@ use Rattle.dspec_buffer.proofs.SchemaLaws.{SchemaLaws}
 use Rattle.dspec_buffer.proofs.Texts.{text_facts}
 use Rattle.dspec_buffer.proofs.Fitting.{refuses, admits, placed, laid_whole}
 use Rattle.dspec_buffer.proofs.Keeping.{offset_is, fits_says, shape_says, kept, accepted_alone}
-use Rattle.dspec_buffer.proofs.byte_buffer.ByteBufferTraceBuffer.push.Goals as goal
+use Rattle.dspec_buffer.proofs.byte_buffer.ByteBufferTraceBuffer.push_recorded.Goals as goal
 
 pub place_for-requires-clause-aligned : goal.place_for-requires-clause-aligned
 place_for-requires-clause-aligned g c =

@@ -7,7 +7,7 @@ use Rattle.dspec_record.specs.Schemas.{table_accepts, table_text, enabling_of, e
 use Rattle.dspec_record.specs.declared.field.Field.{Field}
 use Rattle.dspec_record.specs.declared.header.Header.{Header}
 use Rattle.dspec_record.proofs.Gets.{enabled-row, length-accepted}
-use Rattle.dspec_record.proofs.enabled.EnablingsSchema.put.Goals as goal
+use Rattle.dspec_record.proofs.enabled.EnablingsSchema.put_recorded.Goals as goal
 
 exact : (e : EnabledRows) (r : Record) (out : List ℕ) (found fs : List Field) (h : Header) → e.header ≡ h → Some found ≡ enabling_of e.rows r.epid → fs ≡ found
     → length fs ≤ 8 → IsTrue (table_accepts e.header (enabled e.rows) r) → length out ≡ length (table_text e.header (enabled e.rows) r) → length out ≡ (layout h fs).size

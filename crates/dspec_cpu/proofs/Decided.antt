@@ -1,0 +1,107 @@
+-- What a call of commit or discard left, and a call of either that decided nothing.
+use Rattle.std.proofs.Common.{◌≡◌, ℕ, ◌+◌, Bool, true, false, List, [], ◌∷◌, Option, None, if◌then◌else◌, refl, sym, ap, ◌∙◌, subst, true≢false}
+use Rattle.dspec_record.specs.Record.{Record}
+use Rattle.dspec_record.specs.declared.field.Shape.{Shape}
+use Rattle.dspec_buffer.specs.Stored.{Stored, HasPieces}
+use Rattle.dspec_word.specs.SpecId.{Speculation}
+use Rattle.dspec_deeds.specs.declared.config.Config.{Config}
+use Rattle.dspec_deeds.specs.declared.calls.CpuOp.{CpuOp}
+use Rattle.dspec_deeds.specs.declared.calls.CpuOp.TheVariants as op
+use Rattle.dspec_deeds.specs.declared.calls.Decided.{Decided}
+use Rattle.dspec_deeds.specs.declared.calls.Decided.TheVariants as decided
+use Rattle.dspec_deeds.specs.declared.deed.DecideFate.{DecideFate}
+use Rattle.dspec_deeds.specs.declared.deed.DecideFate.TheVariants as fated
+use Rattle.dspec_deeds.specs.declared.deed.Deed.{Deed}
+use Rattle.dspec_deeds.specs.declared.deed.Deed.TheVariants.{Commit, Discard}
+use Rattle.dspec_deeds.specs.History.{scan}
+use Rattle.dspec_deeds.specs.Legal.{is_seal}
+use Rattle.dspec_deeds.specs.Owning.{OwnRow, is_of}
+use Rattle.dspec_deeds.specs.Weaving.{bare}
+use Rattle.dspec_deeds.proofs.TestLemmas.{number_is_itself}
+use Rattle.dspec_table.specs.declared.doing.Doing.{Doing}
+use Rattle.dspec_table.specs.declared.rule.View.{View}
+use Rattle.dspec_table.specs.declared.seats.Words.{Words}
+use Rattle.dspec_table.specs.declared.seats.CpuSeat.{CpuSeat}
+use Rattle.dspec_table.specs.Flights.{flight_after}
+use Rattle.dspec_table.specs.Seats.{known, set_up, IsAt, cpu_of}
+use Rattle.dspec_side.specs.declared.side.Side.{Side}
+use Rattle.dspec_side.specs.Sides.{ShowsList}
+use Rattle.dspec_cpu.specs.declared.parts.CpuParts.{CpuParts as Cpu}
+use Rattle.dspec_cpu.specs.declared.reaching.Reach.{Reach}
+use Rattle.dspec_cpu.specs.declared.reaching.Reach.TheVariants as reach
+use Rattle.dspec_cpu.specs.Calls.{Decides}
+use Rattle.dspec_cpu.specs.Lists.{HasList, IsReady}
+use Rattle.dspec_cpu.specs.Reached.{Reached, Stands}
+use Rattle.dspec_cpu.specs.Reaching.{turns}
+use Rattle.dspec_cpu.proofs.Ready.{ready_after}
+use Rattle.dspec_cpu.proofs.Shown.{shows, shown_behind}
+
+-- the deed of the call, and the call, by whether it commits
+abbrev pub deed_of : Bool → ℕ → Speculation → DecideFate → Deed
+deed_of commits c id = if commits then Commit c id else Discard c id
+
+abbrev pub deciding : Bool → Speculation → Bool → ℕ → Bool → Doing
+deciding commits id fit n mine = record { op = if commits then op.Commit id else op.Discard id; fits = fit; count = n; mine = mine }
+
+pub five_steps : (commits : Bool) (id : Speculation) → 5 ≡ 1 + turns (if commits then op.Commit id else op.Discard id)
+five_steps true id = refl
+five_steps false id = refl
+
+-- the fate of a speculation that the call didn't decide
+abbrev pub fate_left : Bool → DecideFate
+fate_left stopped = if stopped then fated.Stopped else fated.Void
+
+module _ (shape : ℕ → Option Shape) (accepted : Record → Bool) (text : Record → List ℕ) {S : Type 0} (words : Words) (cpu : Cpu S) where
+  -- the CPU can be called again, and did the deeds of its answer
+  pub record Ended (of : DecideFate → Deed) (id : Speculation) (a : Decided) (new : Cpu S) : Type 0 where
+    pub ready : IsReady shape accepted text words new
+    pub decides : Decides of id a (HasList shape accepted text cpu) (known cpu.seat) (HasList shape accepted text new) (known new.seat)
+
+  -- so far it came, as the session's words and the seat have it
+  pub reached_here : IsReady shape accepted text words cpu → (id : Speculation) (fit mine : Bool) (n : ℕ) {o p : CpuOp} → o ≡ p → {r : Reach} {w : View}
+      → Reached (set_up words) (cpu_of cpu.seat) record { op = o; fits = fit; count = n; mine = mine } id (known cpu.seat) r w
+      → Reached cpu.config cpu.cpu record { op = p; fits = fit; count = n; mine = mine } id (known cpu.seat) r w
+  reached_here ready id fit mine n is {r} {w} got =
+      subst (λ (x : Config × ℕ × CpuOp). Reached x.0 x.1 record { op = x.2; fits = fit; count = n; mine = mine } id (known cpu.seat) r w) (λ i. (ready.config i, ready.steady.seat i, is i)) got
+
+  module _ (ready : IsReady shape accepted text words cpu) (id : Speculation) (fit mine : Bool) (n : ℕ) (seat : CpuSeat) (now : Side Stored)
+      (at : IsAt words seat × (cpu_of seat ≡ cpu_of cpu.seat)) where
+    abbrev Shows : List Deed → Side Stored → Type 0
+    Shows p side = ShowsList (HasPieces shape accepted text) (λ b. b.size) cpu.config cpu.cpu p side
+
+    abbrev new : Cpu S
+    new = record cpu { seat = seat; side = now }
+
+    -- behind one deed that has no part in a block
+    behind : (d : Deed) → Stands cpu.config cpu.cpu (known cpu.seat) (d ∷ []) (known seat) → ((p : List Deed) → Shows p cpu.side → Shows (d ∷ p) now)
+        → is_seal d ≡ false → is_of cpu.cpu d ≡ true → ((p : List Deed) → OwnRow shape cpu.config p d) → ((p : List Deed) → bare (d ∷ p) ≡ d ∷ bare p)
+        → scan cpu.config cpu.cpu (d ∷ (known cpu.seat).own) ≡ 0 → flight_after cpu.config (known cpu.seat).flight (d ∷ []) ≡ None
+        → IsReady shape accepted text words new × ((p : List Deed) → HasList shape accepted text cpu p → HasList shape accepted text new (d ∷ p))
+    behind d stands side unsealed its row bared idle over =
+        let list : (p : List Deed) → HasList shape accepted text cpu p → HasList shape accepted text new (d ∷ p) = λ p had. record {
+          own = bared p ∙ (ap (λ l. d ∷ l) had.own ∙ sym stands.own);
+          shown = shown_behind shape accepted text cpu.side p had.shown d unsealed its (row p) now (side p (shows shape accepted text cpu.side p had.shown));
+        } in (
+          ready_after shape accepted text words cpu ready new (d ∷ []) refl refl at.0 at.1 stands idle over ready.steady.spare ready.steady.few (d ∷ ready.steady.list)
+              (list ready.steady.list ready.steady.listed),
+          list,
+        )
+
+    -- the session was stopped, or the identifier wasn't open
+    pub undecided : (commits stopped : Bool)
+        → Reached cpu.config cpu.cpu (deciding commits id fit n mine) id (known cpu.seat) (if stopped then reach.Stopped else reach.Void) (known seat)
+        → ((p : List Deed) → Shows p cpu.side → Shows (Commit cpu.cpu id (fate_left stopped) ∷ p) now)
+        → ((p : List Deed) → Shows p cpu.side → Shows (Discard cpu.cpu id (fate_left stopped) ∷ p) now)
+        → Ended (deed_of commits cpu.cpu id) id (if stopped then decided.Stopped else decided.Void) new
+    undecided true true got side other =
+        let l = behind _ got.stands side refl (number_is_itself cpu.cpu) (λ p. tt) (λ p. refl) ready.steady.idle refl in
+        record { ready = l.0; decides = record { alone = false; did = got.goes; waits = λ d e. absurd (true≢false (sym d)); list = l.1 } }
+    undecided true false got side other =
+        let l = behind _ got.stands side refl (number_is_itself cpu.cpu) (λ p. tt) (λ p. refl) ready.steady.idle refl in
+        record { ready = l.0; decides = record { alone = false; did = got.goes; waits = λ d e. absurd (true≢false (sym d)); list = l.1 } }
+    undecided false true got other side =
+        let l = behind _ got.stands side refl (number_is_itself cpu.cpu) (λ p. tt) (λ p. refl) ready.steady.idle refl in
+        record { ready = l.0; decides = record { alone = false; did = got.goes; waits = λ d e. absurd (true≢false (sym d)); list = l.1 } }
+    undecided false false got other side =
+        let l = behind _ got.stands side refl (number_is_itself cpu.cpu) (λ p. tt) (λ p. refl) ready.steady.idle refl in
+        record { ready = l.0; decides = record { alone = false; did = got.goes; waits = λ d e. absurd (true≢false (sym d)); list = l.1 } }

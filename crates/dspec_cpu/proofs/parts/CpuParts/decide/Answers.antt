@@ -1,0 +1,223 @@
+use Rattle.std.proofs.Common.{◌≢◌, ◌+◌, ◌==◌, ◌<◌, ◌^◌, ◌∙◌, true, false, if◌then◌else◌, arith, refl, sym, ap, subst, true≢false}
+use Rattle.dspec_word.specs.declared.code.Code.TheVariants.{Committing}
+use Rattle.dspec_deeds.specs.declared.config.Config.{Config}
+use Rattle.dspec_deeds.specs.declared.calls.CpuOp.{CpuOp}
+use Rattle.dspec_deeds.specs.declared.calls.CpuOp.TheVariants as op
+use Rattle.dspec_deeds.specs.FateKinds.{count_of}
+use Rattle.dspec_deeds.specs.History.{in_range}
+use Rattle.dspec_deeds.specs.Marks.{mark}
+use Rattle.dspec_table.specs.Conditions.{CommitsNow}
+use Rattle.dspec_table.specs.Seats.{known, set_up, cpu_of}
+use Rattle.dspec_cpu.specs.Calls.{rests}
+use Rattle.dspec_cpu.specs.declared.reaching.Reach.TheVariants as reach
+use Rattle.dspec_cpu.specs.Lists.{words_of}
+use Rattle.dspec_cpu.proofs.Limits.{has_room, limits}
+use Rattle.dspec_cpu.proofs.Reaches.{slot_inside}
+use Rattle.dspec_cpu.proofs.Ready.{roomy, few_drops}
+use Rattle.dspec_cpu.proofs.Speaks.{own_mark}
+use Rattle.dspec_cpu.proofs.Decisions.{commits_now, fate_count, worn_shown}
+use Rattle.dspec_cpu.proofs.Decided.{five_steps, reached_here, undecided}
+use Rattle.dspec_cpu.proofs.Commits.{left, left_open, released}
+use Rattle.dspec_cpu.proofs.Discards.{thrown}
+use Rattle.dspec_cpu.proofs.Keeps.{worn_keeps, reached_keeps, released_keeps, copied_keeps}
+use Rattle.dspec_cpu.proofs.parts.CpuParts.decide.Goals as goal
+
+pub returns-then-self-clause-decides : goal.returns-then-self-clause-decides
+returns-then-self-clause-decides g c = record {
+  alone = false;
+  did = rests;
+  waits = λ d e. absurd (true≢false (sym d));
+  list = λ p had. record
+      { own = had.own; shown = worn_shown _ _ _ c.args.self.now p had.shown _ c.wear.new.self c.wear.ensures };
+}
+
+pub returns-then-self-clause-keeps : goal.returns-then-self-clause-keeps
+returns-then-self-clause-keeps g c = worn_keeps c.args.self.now 5 c.wear.new.self c.if-self.true c.wear.ensures
+
+pub go_on-reached-requires-clause-mine : goal.go_on-reached-requires-clause-mine
+go_on-reached-requires-clause-mine g c = λ within.
+    let cpu = c.args.self.now in
+    let ready = c.requires.ready in
+    c.is_mine-mine.ensures.is within ready.steady.list ready.steady.listed.shown
+    ∙ (ap (λ m. m == c.args.id.issue + 1) (own_mark cpu.cpu c.args.id.slot (known cpu.seat).own ready.steady.list cpu.config ready.steady.listed.own)
+    ∙ ap (λ n. mark n c.args.id.slot (known cpu.seat).own == c.args.id.issue + 1) (sym ready.steady.seat))
+
+pub leave_undecided-requires : goal.leave_undecided-requires
+leave_undecided-requires g c =
+    let most = (limits c.args.self.now.config c.requires.ready.steady.checked).calls in
+    let lt = c.if-self.false in
+    record { nothing = refl; calls = omega arith; counts = roomy _ _ _ (words_of c.args.shared.now) c.args.self.now c.requires.ready c.if-self.false }
+
+pub leave_undecided-requires-in-Void : goal.leave_undecided-requires-in-Void
+leave_undecided-requires-in-Void g c =
+    let most = (limits c.args.self.now.config c.requires.ready.steady.checked).calls in
+    let lt = c.if-self.false in
+    record { nothing = refl; calls = omega arith; counts = roomy _ _ _ (words_of c.args.shared.now) c.args.self.now c.requires.ready c.if-self.false }
+
+pub returns-in-Stopped : goal.returns-in-Stopped
+returns-in-Stopped g c =
+    let words = words_of c.args.shared.now in
+    let cpu = c.args.self.now in
+    let ready = c.requires.ready in
+    let id = c.args.id in
+    let fit = c.measure_slot-fits.result.0 in
+    let n = c.measure_slot-fits.result.1 in
+    let mine = c.is_mine-mine.result in
+    let seat = c.go_on-reached.new.seat in
+    let side = c.leave_undecided in
+    let got = reached_here _ _ _ words cpu ready id fit mine n c.op_of-op.ensures c.in-Stopped.ensures.reached in
+    let ended = undecided _ _ _ words cpu ready id fit mine n seat side.new.self c.go_on-reached.ensures.seat c.args.commits true got
+    (λ p. side.ensures.commits cpu.schema cpu.config cpu.cpu p id) (λ p. side.ensures.discards cpu.schema cpu.config cpu.cpu p id) in
+    record {
+      ready = ended.ready;
+      same = record { schema = refl; config = refl; number = refl; pair = refl };
+      keeps = reached_keeps cpu c.if-self.false seat side.new.self _ side.ensures.rest refl refl reach.Stopped 5 got (five_steps c.args.commits id);
+      decides = ended.decides;
+    }
+
+pub returns-in-Void : goal.returns-in-Void
+returns-in-Void g c =
+    let words = words_of c.args.shared.now in
+    let cpu = c.args.self.now in
+    let ready = c.requires.ready in
+    let id = c.args.id in
+    let fit = c.measure_slot-fits.result.0 in
+    let n = c.measure_slot-fits.result.1 in
+    let mine = c.is_mine-mine.result in
+    let seat = c.go_on-reached.new.seat in
+    let side = c.leave_undecided-in-Void in
+    let got = reached_here _ _ _ words cpu ready id fit mine n c.op_of-op.ensures c.in-Void.ensures.reached in
+    let ended = undecided _ _ _ words cpu ready id fit mine n seat side.new.self c.go_on-reached.ensures.seat c.args.commits false got
+    (λ p. side.ensures.commits cpu.schema cpu.config cpu.cpu p id) (λ p. side.ensures.discards cpu.schema cpu.config cpu.cpu p id) in
+    record {
+      ready = ended.ready;
+      same = record { schema = refl; config = refl; number = refl; pair = refl };
+      keeps = reached_keeps cpu c.if-self.false seat side.new.self _ side.ensures.rest refl refl reach.Void 5 got (five_steps c.args.commits id);
+      decides = ended.decides;
+    }
+
+pub decide-requires : goal.decide-requires
+decide-requires g c =
+    let words = words_of c.args.shared.now in
+    let cpu = c.args.self.now in
+    let ready = c.requires.ready in
+    let few = few_drops _ _ _ words cpu ready c.if-self.false in
+    let most = (limits cpu.config ready.steady.checked).calls in
+    let lt = c.if-self.false in
+    let inside = slot_inside cpu.config c.args.id (ap (λ (k : Config). in_range k c.args.id) (sym ready.config) ∙ (c.in-Done.ensures.reached.present refl).1) in
+    let count = ready.steady.listed.shown.side.buffer_count in
+    let small : c.measure_slot-fits.result.1 < 2 ^ 32 = omega arith in
+    record { slot = (inside.0, omega arith); calls = omega arith; drops = omega arith; room = has_room _ _ (roomy _ _ _ words cpu ready c.if-self.false) small }
+
+pub decide-requires-in-Done : goal.decide-requires-in-Done
+decide-requires-in-Done g c =
+    let words = words_of c.args.shared.now in
+    let cpu = c.args.self.now in
+    let ready = c.requires.ready in
+    let few = few_drops _ _ _ words cpu ready c.if-self.false in
+    let most = (limits cpu.config ready.steady.checked).calls in
+    let lt = c.if-self.false in
+    let inside = slot_inside cpu.config c.args.id (ap (λ (k : Config). in_range k c.args.id) (sym ready.config) ∙ (c.in-Done.ensures.reached.present refl).1) in
+    let count = ready.steady.listed.shown.side.buffer_count in
+    let n = c.measure_slot-fits.result.1 in
+    let small : n < 2 ^ 32 = omega arith in
+    let records : count_of c.committed_as.result < 2 ^ 32 = subst (λ m. m < 2 ^ 32) (sym (ap count_of c.committed_as.ensures ∙ fate_count c.measure_slot-fits.result.0 n)) small in
+    record { slot = (inside.0, omega arith); calls = omega arith; drops = omega arith; room = has_room _ _ (roomy _ _ _ words cpu ready c.if-self.false) records }
+
+pub returns-then-not-commits : goal.returns-then-not-commits
+returns-then-not-commits g c =
+    let words = words_of c.args.shared.now in
+    let cpu = c.args.self.now in
+    let ready = c.requires.ready in
+    let id = c.args.id in
+    let fit = c.measure_slot-fits.result.0 in
+    let n = c.measure_slot-fits.result.1 in
+    let mine = c.is_mine-mine.result in
+    let seat = c.go_on-reached.new.seat in
+    let to = c.in-Done.to in
+    let side = c.decide in
+    let op_is = c.op_of-op.ensures ∙ ap (λ b. if b then op.Commit id else op.Discard id) c.if-not-commits.true in
+    let got = reached_here _ _ _ words cpu ready id fit mine n op_is c.in-Done.ensures.reached in
+    let within = c.is_inside-inside.ensures ∙ (got.present refl).1 in
+    let ended = thrown _ _ _ words cpu ready id fit mine n to seat got c.go_on-reached.ensures.seat c.in-Done.ensures.release (c.is_mine-mine.ensures.is within)
+    (c.measure_slot-fits.ensures.count within) side.new.self (side.ensures.discards cpu.schema cpu.config cpu.cpu) c.args.commits c.if-not-commits.true in
+    record {
+      ready = ended.ready;
+      same = record { schema = refl; config = refl; number = refl; pair = refl };
+      keeps = reached_keeps cpu c.if-self.false seat side.new.self _ side.ensures.rest refl refl (reach.Done to) 5 got refl;
+      decides = ended.decides;
+    }
+
+pub release_word-requires-clause-call : goal.release_word-requires-clause-call
+release_word-requires-clause-call g c =
+    let words = words_of c.args.shared.now in
+    let cpu = c.args.self.now in
+    let ready = c.requires.ready in
+    let id = c.args.id in
+    let fit = c.measure_slot-fits.result.0 in
+    let n = c.measure_slot-fits.result.1 in
+    let mine = c.is_mine-mine.result in
+    let seat = c.go_on-reached.new.seat in
+    let to = c.in-Done.to in
+    let op_is = c.op_of-op.ensures ∙ ap (λ b. if b then op.Commit id else op.Discard id) c.if-not-commits.false in
+    let got = reached_here _ _ _ words cpu ready id fit mine n op_is c.in-Done.ensures.reached in
+    subst (λ (o : CpuOp). CommitsNow (set_up words) (known seat) (cpu_of seat) c.slot.result o) (sym op_is)
+    (commits_now (set_up words) (cpu_of seat) c.slot.result id (known seat) to c.slot.ensures.value
+    (left _ _ _ words cpu ready id fit mine n to seat c.args.commits c.if-not-commits.false got) (sym c.code.ensures ∙ c.in-Committing.is) c.in-Done.ensures.release)
+
+pub returns-in_default : goal.returns-in_default
+returns-in_default g c =
+    let words = words_of c.args.shared.now in
+    let cpu = c.args.self.now in
+    let ready = c.requires.ready in
+    let id = c.args.id in
+    let fit = c.measure_slot-fits.result.0 in
+    let n = c.measure_slot-fits.result.1 in
+    let mine = c.is_mine-mine.result in
+    let seat = c.go_on-reached.new.seat in
+    let to = c.in-Done.to in
+    let side = c.decide-in-Done in
+    let answer = c.answer_of-answer in
+    let op_is = c.op_of-op.ensures ∙ ap (λ b. if b then op.Commit id else op.Discard id) c.if-not-commits.false in
+    let got = reached_here _ _ _ words cpu ready id fit mine n op_is c.in-Done.ensures.reached in
+    let within = c.is_inside-inside.ensures ∙ (got.present refl).1 in
+    let several : to.code ≢ Committing = λ e. absurd (c.in_default.not-Committing (c.code.ensures ∙ e)) in
+    let ended = left_open _ _ _ words cpu ready id fit mine n to seat c.args.commits c.if-not-commits.false got c.go_on-reached.ensures.seat side.new.self
+    answer.result answer.ensures (c.is_mine-mine.ensures.is within) (c.measure_slot-fits.ensures.fits within) (c.measure_slot-fits.ensures.count within)
+    c.committed_as.result c.committed_as.ensures (side.ensures.commits cpu.schema cpu.config cpu.cpu) c.in-Done.ensures.release several in
+    record {
+      ready = ended.ready;
+      same = record { schema = refl; config = refl; number = refl; pair = refl };
+      keeps = copied_keeps answer.result fit n 5 cpu _ answer.ensures
+          (reached_keeps cpu c.if-self.false seat side.new.self _ side.ensures.rest refl refl (reach.Done to) 5 got refl);
+      decides = ended.decides;
+    }
+
+pub returns-in-Committing : goal.returns-in-Committing
+returns-in-Committing g c =
+    let words = words_of c.args.shared.now in
+    let cpu = c.args.self.now in
+    let ready = c.requires.ready in
+    let id = c.args.id in
+    let fit = c.measure_slot-fits.result.0 in
+    let n = c.measure_slot-fits.result.1 in
+    let mine = c.is_mine-mine.result in
+    let seat = c.go_on-reached.new.seat in
+    let to = c.in-Done.to in
+    let side = c.decide-in-Done in
+    let answer = c.answer_of-answer in
+    let op_is = c.op_of-op.ensures ∙ ap (λ b. if b then op.Commit id else op.Discard id) c.if-not-commits.false in
+    let got = reached_here _ _ _ words cpu ready id fit mine n op_is c.in-Done.ensures.reached in
+    let within = c.is_inside-inside.ensures ∙ (got.present refl).1 in
+    let ended = released _ _ _ words cpu ready id fit mine n to seat c.args.commits c.if-not-commits.false got c.go_on-reached.ensures.seat side.new.self
+    answer.result answer.ensures (c.is_mine-mine.ensures.is within) (c.measure_slot-fits.ensures.fits within) (c.measure_slot-fits.ensures.count within)
+    c.committed_as.result c.committed_as.ensures (side.ensures.commits cpu.schema cpu.config cpu.cpu) c.release_word.new.self c.slot.result c.slot.ensures.value
+    c.release_word.ensures.step c.release_word.ensures.seat in
+    record {
+      ready = ended.ready;
+      same = record { schema = refl; config = refl; number = refl; pair = refl };
+      keeps = copied_keeps answer.result fit n 5 cpu _ answer.ensures
+          (released_keeps cpu c.if-self.false c.release_word.new.self side.new.self _ side.ensures.rest refl refl to (known seat) c.slot.result 5 got
+          (sym c.code.ensures ∙ c.in-Committing.is) c.release_word.ensures.step refl);
+      decides = ended.decides;
+    }
