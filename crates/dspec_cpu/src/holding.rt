@@ -18,7 +18,7 @@ impl<S: Schema> CpuParts<S> {
     pub(crate) fn is_inside(&self, id: SpecId) -> bool
         ensures { result ≡ in_range self.now.config id }
     {
-        id.slot().wrapping_sub(1) < self.config.nspec
+        (id.slot() as usize).wrapping_sub(1) < self.config.nspec as usize
     }
 
     /// Whether the CPU is a caller of the speculation, by the slot's mark; false outside the slots.

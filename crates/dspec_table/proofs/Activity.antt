@@ -99,11 +99,11 @@ stopped_is log m e = ap (λ (x : ℕ). x == 1) e ∙ shown (halted log)
     shown false = refl
 
 pub loads_activity : (k : Config) (slots id c : ℕ) (me : Me ℕ View) (doing : Doing) → 1 ≤ k.nspec → me.0.who ≡ of_cpu c → me.0.also ≡ [] → scan k c me.0.own ≡ 0
-    → Allows (Kept k) slots id me (activity_place k) (λ n. n) (λ n w. LoadedActivity doing me.0 (n == 1) w.0 × (w.1 ≡ me.1))
+    → Allows (Kept k) slots id me activity_place (λ n. n) (λ n w. LoadedActivity doing me.0 (n == 1) w.0 × (w.1 ≡ me.1))
 loads_activity k slots id c me doing nspec who alone idle st kept homes at bound =
     let v = me.0 in
     let log = kept.log in
-    let m = slice_index st.words (activity_place k) in
+    let m = slice_index st.words activity_place in
     let mine = kept.knows id v at in
     let owe : Owes k v.who log (at_activity v.config (number_of v.who) doing doing.op (m == 1)) =
     subst (λ (p : Config × Holder). Owes k p.1 log (at_activity p.0 (number_of p.1) doing doing.op (m == 1))) (λ i. (sym (its_config k log v (is_cpu v c who) mine) i, sym who i))
@@ -119,6 +119,6 @@ loads_activity k slots id c me doing nspec who alone idle st kept homes at bound
       acted (calling doing.op v) log (at_activity v.config (number_of v.who) doing doing.op (m == 1)),
       keeps,
       tt,
-      acts_owed k st kept id v me.1 at alone (is_cpu v c who) ds (activity_place k) (flight_after v.config (Some doing.op) ds) owe,
+      acts_owed k st kept id v me.1 at alone (is_cpu v c who) ds activity_place (flight_after v.config (Some doing.op) ds) owe,
       ((log, finds k st kept id v at (is_cpu v c who), stopped_is log m kept.shows.active, called), refl),
     )

@@ -19,7 +19,7 @@ use Rattle.dspec_table.specs.Holders.{number_of}
 use Rattle.dspec_table.proofs.Quiet.{same_words}
 use Rattle.dspec_table.proofs.Pasts.{each_map}
 use Rattle.dspec_table.proofs.Keeps.{acts_asking, finds, is_cpu, its_config}
-use Rattle.dspec_table.proofs.Places.{after_activity, ask_within, one_ask, no_ask}
+use Rattle.dspec_table.proofs.Places.{before_groups, ask_within, one_ask, no_ask}
 
 pub with_ask_same : (xs : List ℕ) (c n : ℕ) → slice_index (with_ask xs c n) c ≡ n
 with_ask_same [] zero n = refl
@@ -47,10 +47,10 @@ at_ask P c here there d = ⊎_elim
 -- an ask is no other word
 ask_shows : (k : Config) (words : List ℕ) (c n : ℕ) (log : List Deed) → Shows k words log → Shows k (slice_set words (ask_place k c) n) log
 ask_shows k words c n log sh =
-    let after = after_activity k c in
+    let after = before_groups k c in
     record {
       count = length-set words (ask_place k c) n ∙ sh.count;
-      active = (let apart : activity_place k ≢ ask_place k c = (λ e. omega arith) in get_or-set_other words (ask_place k c) (activity_place k) n 0 apart) ∙ sh.active;
+      active = (let apart : activity_place ≢ ask_place k c = (λ e. omega arith) in get_or-set_other words (ask_place k c) activity_place n 0 apart) ∙ sh.active;
       slots = λ t a b. let apart : slot_place t ≢ ask_place k c = (λ e. omega arith) in get_or-set_other words (ask_place k c) (slot_place t) n 0 apart ∙ sh.slots t a b;
       acks = λ d t x a b. get_or-set_other words (ask_place k c) (ack_place k d t) n 0 (no_ask k d c t a b) ∙ sh.acks d t x a b;
     }

@@ -75,7 +75,7 @@ starts k ws is = record {
   rests = refl;
   shows = record {
     count = ap length is ∙ length-replicate (word_count k) 0;
-    active = ap (λ l. slice_index l (activity_place k)) is ∙ zeros_at (word_count k) (activity_place k);
+    active = ap (λ l. slice_index l activity_place) is ∙ zeros_at (word_count k) activity_place;
     slots = λ s a b. ap (λ l. slice_index l (slot_place s)) is ∙ zeros_at (word_count k) (slot_place s);
     acks = λ c s x a b. ap (λ l. slice_index l (ack_place k c s)) is ∙ zeros_at (word_count k) (ack_place k c s);
   };

@@ -32,7 +32,7 @@ pub change_shows : (k : Config) (words : List ℕ) (s n : ℕ) (log new : List D
     → Shows k (slice_set words (slot_place s) n) new
 change_shows k words s n log new one most is ch sh = record {
   count = length-set words (slot_place s) n ∙ sh.count;
-  active = (let apart : activity_place k ≢ slot_place s = (λ e. omega arith) in get_or-set_other words (slot_place s) (activity_place k) n 0 apart) ∙ (sh.active ∙ sym ch.active);
+  active = (let apart : activity_place ≢ slot_place s = (λ e. omega arith) in get_or-set_other words (slot_place s) activity_place n 0 apart) ∙ (sh.active ∙ sym ch.active);
   slots = λ t a b. ⊎_elim
       (λ (e : (t == s) ≡ true).
       let same = same_number t s e in
@@ -42,7 +42,7 @@ change_shows k words s n log new one most is ch sh = record {
       get_or-set_other words (slot_place s) (slot_place t) n 0 far ∙ (sh.slots t a b ∙ sym (ch.others t apart)))
       (either_way (t == s));
   acks = λ c t x a b.
-      let apart : ack_place k c t ≢ slot_place s = (λ e. let x : ℕ = c * group_width k in let e' : k.nspec * 8 + 16 + x + t ≡ s * 8 = e in let most' : s ≤ k.nspec = most in omega arith) in
+      let apart : ack_place k c t ≢ slot_place s = (λ e. let x : ℕ = c * group_width k in let e' : k.nspec * 8 + 8 + x + t ≡ s * 8 = e in let most' : s ≤ k.nspec = most in omega arith) in
       get_or-set_other words (slot_place s) (ack_place k c t) n 0 apart ∙ (sh.acks c t x a b ∙ sym (ch.acks c t));
 }
 

@@ -12,7 +12,7 @@ use Rattle.dspec_table.specs.declared.rule.View.{View}
 use Rattle.dspec_table.specs.Rule.{Kept}
 use Rattle.dspec_table.specs.Showing.{Shows}
 use Rattle.dspec_table.specs.Layout.{slot_place, activity_place, ack_place}
-use Rattle.dspec_table.proofs.Places.{after_activity}
+use Rattle.dspec_table.proofs.Places.{before_groups}
 use Rattle.dspec_table.specs.Steps.{acted, StoredActivity}
 use Rattle.dspec_deeds.specs.declared.calls.CpuOp.{CpuOp}
 use Rattle.dspec_table.specs.Acts.{at_stop}
@@ -20,15 +20,15 @@ use Rattle.dspec_table.specs.Flights.{AreOf}
 use Rattle.dspec_table.proofs.Keeps.{Adds, acts, enters, finds}
 use Rattle.dspec_table.proofs.Changes.{leaves_asks}
 
-stop_shows : (k : Config) (words : List ℕ) (log : List Deed) (b : Bool) → halted log ≡ b → Shows k words log → Shows k (slice_set words (activity_place k) 1) (at_stop b ++ log)
+stop_shows : (k : Config) (words : List ℕ) (log : List Deed) (b : Bool) → halted log ≡ b → Shows k words log → Shows k (slice_set words activity_place 1) (at_stop b ++ log)
 stop_shows k words log b is sh = record {
-  count = length-set words (activity_place k) 1 ∙ sh.count;
-  active = get_or-set_same words (activity_place k) 1 0 (let count = sh.count in omega arith) ∙ stopped b is;
-  slots = λ s a m. let apart : slot_place s ≢ activity_place k = (λ e. omega arith) in get_or-set_other words (activity_place k) (slot_place s) 1 0 apart ∙ (sh.slots s a m ∙ same_word b s);
+  count = length-set words activity_place 1 ∙ sh.count;
+  active = get_or-set_same words activity_place 1 0 (let count = sh.count in omega arith) ∙ stopped b is;
+  slots = λ s a m. let apart : slot_place s ≢ activity_place = (λ e. omega arith) in get_or-set_other words activity_place (slot_place s) 1 0 apart ∙ (sh.slots s a m ∙ same_word b s);
   acks = λ c s x a m.
-      let after = after_activity k c in
-      let apart : ack_place k c s ≢ activity_place k = (λ e. omega arith) in
-      get_or-set_other words (activity_place k) (ack_place k c s) 1 0 apart ∙ (sh.acks c s x a m ∙ same_ack b c s);
+      let after = before_groups k c in
+      let apart : ack_place k c s ≢ activity_place = (λ e. omega arith) in
+      get_or-set_other words activity_place (ack_place k c s) 1 0 apart ∙ (sh.acks c s x a m ∙ same_ack b c s);
 }
   where
     stopped : (b : Bool) → halted log ≡ b → 1 ≡ Rattle.dspec_table.specs.Showing.activity (at_stop b ++ log)
@@ -52,7 +52,7 @@ stop_of flight true = tt
 stop_of flight false = (tt, tt)
 
 pub stops : (k : Config) (slots id : ℕ) (me : Me ℕ View) → me.0.who ≡ of_consumer → me.0.also ≡ []
-    → Allows (Kept k) slots id me (activity_place k) (λ _. 1) (λ _ w. StoredActivity me.0 w.0 × (w.1 ≡ me.1))
+    → Allows (Kept k) slots id me activity_place (λ _. 1) (λ _ w. StoredActivity me.0 w.0 × (w.1 ≡ me.1))
 stops k slots id me who alone st kept homes at bound =
     let v = me.0 in
     let log = kept.log in
@@ -62,7 +62,7 @@ stops k slots id me who alone st kept homes at bound =
       acted v log (at_stop (halted log)),
       keeps,
       tt,
-      acts k st kept id v me.1 at alone is_me (at_stop (halted log)) (activity_place k) 1 adds owe.1 (stop_shows k st.words log (halted log) refl kept.shows)
-          (leaves_asks k st.words (activity_place k) 1 (omega arith)),
+      acts k st kept id v me.1 at alone is_me (at_stop (halted log)) activity_place 1 adds owe.1 (stop_shows k st.words log (halted log) refl kept.shows)
+          (leaves_asks k st.words activity_place 1 (omega arith)),
       ((log, finds k st kept id v at is_me, enters k st kept id v at is_me (at_stop (halted log)) adds owe.1 (stop_of v.flight (halted log))), refl),
     )

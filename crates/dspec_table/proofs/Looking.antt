@@ -21,8 +21,8 @@ looks k slots id i me T who alone step st kept homes at bound =
     (acted me.0 kept.log [], keeps, tt, acts_owed k st kept id me.0 me.1 at alone who [] i me.0.flight (none_owed k me.0.who kept.log kept.rests), (step st kept at, refl))
 
 module _ (k : Config) (slots id : ℕ) (me : Me ℕ View) (who : same_holder me.0.who me.0.who ≡ true) (alone : me.0.also ≡ []) where
-  pub looks_up : Allows (Kept k) slots id me (activity_place k) (λ n. n) (λ n w. Looked me.0 w.0 × (w.1 ≡ me.1))
-  looks_up = looks k slots id (activity_place k) me (λ n w. Looked me.0 w) who alone (λ st kept at. (kept.log, finds k st kept id me.0 at who, refl))
+  pub looks_up : Allows (Kept k) slots id me activity_place (λ n. n) (λ n w. Looked me.0 w.0 × (w.1 ≡ me.1))
+  looks_up = looks k slots id activity_place me (λ n w. Looked me.0 w) who alone (λ st kept at. (kept.log, finds k st kept id me.0 at who, refl))
 
   pub looks_word : (slot : ℕ) → 1 ≤ slot → slot ≤ k.nspec → Allows (Kept k) slots id me (slot_place slot) (λ n. n) (λ n w. LookedNumber slot me.0 n w.0 × (w.1 ≡ me.1))
   looks_word slot one most = looks k slots id (slot_place slot) me (LookedNumber slot me.0) who alone

@@ -3,7 +3,7 @@ use Rattle.std.proofs.Common.{◌≡◌, ◌≢◌, ℕ, suc, ◌+◌, ◌*◌, 
 use Rattle.std.proofs.Math.Nat.{mul-div_cancel}
 use native.Mathlib.Decide.{dec_lt}
 use Rattle.dspec_deeds.specs.declared.config.Config.{Config}
-use Rattle.dspec_table.specs.Layout.{slot_place, slot_at, activity_place, group_width, group_place, ask_place, ack_place, word_count}
+use Rattle.dspec_table.specs.Layout.{slot_place, slot_at, group_width, group_place, ask_place, ack_place, word_count}
 
 -- a group ends before the next begins
 groups_follow : (c d w : ℕ) → c < d → c * w + w ≤ d * w
@@ -15,8 +15,9 @@ groups_follow c d w lt =
     let goal : x + w ≤ y = omega (arith, r) in
     goal
 
-pub after_activity : (k : Config) (c : ℕ) → activity_place k + 8 ≤ group_place k c
-after_activity k c = let x : ℕ = c * group_width k in let goal : k.nspec * 8 + 8 + 8 ≤ k.nspec * 8 + 16 + x = omega arith in goal
+-- activity and the slots' words lie before the groups
+pub before_groups : (k : Config) (c : ℕ) → k.nspec * 8 + 8 ≤ group_place k c
+before_groups k c = let x : ℕ = c * group_width k in let goal : k.nspec * 8 + 8 ≤ k.nspec * 8 + 8 + x = omega arith in goal
 
 pub ack_within : (k : Config) (c s : ℕ) → c < k.cpus → s ≤ k.nspec → ack_place k c s < word_count k
 ack_within k c s lt most =
@@ -25,7 +26,7 @@ ack_within k c s lt most =
     let y : ℕ = k.cpus * group_width k in
     let m' : x + (k.nspec + 8) ≤ y = m in
     let most' : s ≤ k.nspec = most in
-    let goal : k.nspec * 8 + 16 + x + s < k.nspec * 8 + 16 + y = omega arith in
+    let goal : k.nspec * 8 + 8 + x + s < k.nspec * 8 + 8 + y = omega arith in
     goal
 
 pub ask_within : (k : Config) (c : ℕ) → c < k.cpus → ask_place k c < word_count k
@@ -34,7 +35,7 @@ ask_within k c lt =
     let x : ℕ = c * group_width k in
     let y : ℕ = k.cpus * group_width k in
     let m' : x + (k.nspec + 8) ≤ y = m in
-    let goal : k.nspec * 8 + 16 + x < k.nspec * 8 + 16 + y = omega arith in
+    let goal : k.nspec * 8 + 8 + x < k.nspec * 8 + 8 + y = omega arith in
     goal
 
 -- what lies in the group of one CPU lies in no other's
@@ -45,7 +46,7 @@ apart k c d s t lt most e =
     let y : ℕ = d * group_width k in
     let m' : x + (k.nspec + 8) ≤ y = m in
     let most' : s ≤ k.nspec = most in
-    let e' : k.nspec * 8 + 16 + x + s ≡ k.nspec * 8 + 16 + y + t = e in
+    let e' : k.nspec * 8 + 8 + x + s ≡ k.nspec * 8 + 8 + y + t = e in
     absurd (omega arith)
 
 pub one_group : (k : Config) (c d s t : ℕ) → s ≤ k.nspec → t ≤ k.nspec → group_place k c + s ≡ group_place k d + t → c ≡ d
@@ -78,7 +79,7 @@ far_apart k c d s t lt most =
     let y : ℕ = d * group_width k in
     let m' : x + (k.nspec + 8) ≤ y = m in
     let most' : s ≤ k.nspec = most in
-    let goal : k.nspec * 8 + 16 + x + s + 8 ≤ k.nspec * 8 + 16 + y + t = omega arith in
+    let goal : k.nspec * 8 + 8 + x + s + 8 ≤ k.nspec * 8 + 8 + y + t = omega arith in
     goal
 
 -- the slot of a slot's place
@@ -89,5 +90,5 @@ pub slot_within : (k : Config) (s : ℕ) → s ≤ k.nspec → slot_place s < wo
 slot_within k s most =
     let x : ℕ = k.cpus * group_width k in
     let most' : s ≤ k.nspec = most in
-    let goal : s * 8 < k.nspec * 8 + 16 + x = omega arith in
+    let goal : s * 8 < k.nspec * 8 + 8 + x = omega arith in
     goal

@@ -20,7 +20,7 @@ use Rattle.dspec_deeds.specs.Legal.{IsSound, SettlesAs}
 use Rattle.dspec_deeds.proofs.TestLemmas.{either_way, and_tells, same_number, number_is_itself}
 use Rattle.dspec_deeds.proofs.Acked.{ack_tells}
 use Rattle.dspec_deeds.proofs.StayingOwn.{settled_other, ack_other}
-use Rattle.dspec_table.proofs.Places.{after_activity, ack_within, one_group, no_ask}
+use Rattle.dspec_table.proofs.Places.{before_groups, ack_within, one_group, no_ask}
 use Rattle.dspec_deeds.specs.declared.calls.Actor.TheVariants.{Cpu}
 use Rattle.dspec_word.specs.Tables.{settle_at}
 use Rattle.dspec_word.specs.declared.act.Act.TheVariants.{Granted, Idle}
@@ -50,12 +50,12 @@ record IsAck (c s n : ℕ) (log new : List Deed) : Type 0 where
 ack_shows : (k : Config) (words : List ℕ) (c s n : ℕ) (log new : List Deed) → c < k.cpus → 1 ≤ s → s ≤ k.nspec → IsAck c s n log new → Shows k words log
     → Shows k (slice_set words (ack_place k c s) n) new
 ack_shows k words c s n log new lt one most ch sh =
-    let after = after_activity k c in
+    let after = before_groups k c in
     let place : ℕ = ack_place k c s in
     record {
       count = length-set words place n ∙ sh.count;
-      active = (let apart : activity_place k ≢ place = (λ e. let e' : activity_place k ≡ group_place k c + s = e in omega arith) in get_or-set_other words place
-          (activity_place k) n 0 apart) ∙ (sh.active ∙ sym ch.active);
+      active = (let apart : activity_place ≢ place = (λ e. let e' : activity_place ≡ group_place k c + s = e in omega arith) in get_or-set_other words place
+          activity_place n 0 apart) ∙ (sh.active ∙ sym ch.active);
       slots = λ t a b. let apart : slot_place t ≢ place = (λ e. let e' : slot_place t ≡ group_place k c + s = e in omega arith) in
           get_or-set_other words place (slot_place t) n 0 apart ∙ (sh.slots t a b ∙ sym (ch.slots t));
       acks = λ d t x a b. ⊎_elim

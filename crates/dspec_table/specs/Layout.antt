@@ -2,6 +2,10 @@
 use Rattle.std.specs.Prelude.{ℕ, ◌≤◌, ◌+◌, ◌*◌, ◌/◌}
 use Rattle.dspec_deeds.specs.declared.config.Config.{Config}
 
+-- activity has the first line, so that its place is the same in every session
+abbrev pub activity_place : ℕ
+activity_place = 0
+
 -- each slot's word has a line of its own: eight places a slot; behind each group seven places are left free, so that no line
 -- that has a word of one group has one of another
 abbrev pub slot_place : ℕ → ℕ
@@ -11,15 +15,12 @@ slot_place s = s * 8
 abbrev pub slot_at : ℕ → ℕ
 slot_at p = p / 8
 
-abbrev pub activity_place : Config → ℕ
-activity_place k = k.nspec * 8 + 8
-
 -- a CPU's group: its ask, and its acknowledgements of the slots
 abbrev pub group_width : Config → ℕ
 group_width k = k.nspec + 8
 
 abbrev pub group_place : Config → ℕ → ℕ
-group_place k c = k.nspec * 8 + 16 + c * group_width k
+group_place k c = k.nspec * 8 + 8 + c * group_width k
 
 abbrev pub ask_place : Config → ℕ → ℕ
 ask_place k c = group_place k c

@@ -14,7 +14,7 @@ word s log = word_number (word_at s log)
 
 pub record Shows (k : Config) (words : List ℕ) (log : List Deed) : Type 0 where
   pub count : length words ≡ word_count k
-  pub active : slice_index words (activity_place k) ≡ activity log
+  pub active : slice_index words activity_place ≡ activity log
   pub slots : (s : ℕ) → 1 ≤ s → s ≤ k.nspec → slice_index words (slot_place s) ≡ word s log
   pub acks : (c s : ℕ) → c < k.cpus → 1 ≤ s → s ≤ k.nspec → slice_index words (ack_place k c s) ≡ ack c s log
 

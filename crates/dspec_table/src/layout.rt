@@ -4,6 +4,9 @@ ghost use Rattle.dspec_deeds.specs.declared.config.Config.{Config};
 
 use dspec_deeds::Config;
 
+/// Where activity lies: before the slots, so that its place is the same in every session.
+pub(crate) const ACTIVITY_PLACE: usize = 0;
+
 /// Where a slot's word lies.
 #[inline(always)]
 pub(crate) fn slot_place(slot: u32) -> usize
@@ -11,13 +14,6 @@ pub(crate) fn slot_place(slot: u32) -> usize
     ensures slot { slot_at result ≡ slot }
 {
     slot as usize * 8
-}
-
-/// Where activity lies.
-pub(crate) fn activity_place(config: &Config) -> usize
-    ensures { result ≡ activity_place config.now }
-{
-    config.nspec as usize * 8 + 8
 }
 
 /// Where a CPU's ask lies.
@@ -29,7 +25,7 @@ pub(crate) fn ask_place(config: &Config, cpu: u32) -> usize
     let cpu = cpu as usize;
     let width = config.nspec as usize + 8;
     prove!(cpu * width <= 4544);
-    config.nspec as usize * 8 + 16 + cpu * width
+    config.nspec as usize * 8 + 8 + cpu * width
 }
 
 /// Where a CPU's acknowledgement of a slot lies.
@@ -43,12 +39,13 @@ pub(crate) fn ack_place(config: &Config, cpu: u32, slot: u32) -> usize
 }
 
 /// Law of the places, of eight words a line: eight places or more lie between the words of two slots, between activity and every
-/// other word, and between what lies in the group of one CPU, its ask and its acknowledgements, and in another's. So no line has
-/// words of both.
+/// other word, between a slot's word and what lies in the group of a CPU, its ask and its acknowledgements, and between what lies
+/// in the groups of two. So no line has words of both.
 pub fn words_lie_apart()
     ensures slots { (s t : ℕ) → s < t → slot_place s + 8 ≤ slot_place t }
-    ensures last { (k : Config) (s : ℕ) → s ≤ k.nspec → slot_place s + 8 ≤ activity_place k }
-    ensures activity { (k : Config) (c s : ℕ) → activity_place k + 8 ≤ group_place k c + s }
+    ensures first { (s : ℕ) → 1 ≤ s → activity_place + 8 ≤ slot_place s }
+    ensures last { (k : Config) (c s t : ℕ) → s ≤ k.nspec → slot_place s + 8 ≤ group_place k c + t }
+    ensures activity { (k : Config) (c s : ℕ) → activity_place + 8 ≤ group_place k c + s }
     ensures asks { (k : Config) (c : ℕ) → ask_place k c ≡ group_place k c }
     ensures acks { (k : Config) (c s : ℕ) → ack_place k c s ≡ group_place k c + s }
     ensures groups { (k : Config) (c d s t : ℕ) → c < d → s ≤ k.nspec → group_place k c + s + 8 ≤ group_place k d + t }

@@ -6,7 +6,7 @@ ghost use Rattle.dspec_table.specs.Seats.{known, IsAt, set_up, cpu_of};
 ghost use Rattle.dspec_word.specs.Word.{CanBeReleased};
 
 use crate::doing::Doing;
-use crate::layout::{activity_place, slot_place};
+use crate::layout::{ACTIVITY_PLACE, slot_place};
 use crate::plays::{HasDoing, LoadsActivity, LoadsWord};
 use crate::reading::read_word;
 use crate::seats::{CpuSeat, Words};
@@ -24,7 +24,7 @@ impl CpuSeat {
         words
             .board
             .shared
-            .load::<LoadsActivity<J>>(&mut self.seat, activity_place(&words.config))
+            .load::<LoadsActivity<J>>(&mut self.seat, ACTIVITY_PLACE)
             == 1
     }
 

@@ -5,7 +5,7 @@ ghost use Rattle.dspec_table.specs.Meeting.{Met};
 ghost use Rattle.dspec_table.specs.Notes.{answered, heard, note};
 ghost use Rattle.dspec_table.specs.Seats.{known, known_there, IsAt, IsConsumerAt, cpu_of};
 
-use crate::layout::activity_place;
+use crate::layout::ACTIVITY_PLACE;
 use crate::plays::{Answer, Looks, Note};
 use crate::rule::AnySeat;
 use crate::seats::{ConsumerSeat, CpuSeat, Words};
@@ -17,9 +17,7 @@ impl Words {
         ensures seat { (seat.new.table_id ≡ seat.old.table_id) × (seat.new.me.1 ≡ seat.old.me.1) }
         ensures step { Looked seat.old.me.0 seat.new.me.0 }
     {
-        self.board
-            .shared
-            .load::<Looks>(seat, activity_place(&self.config));
+        self.board.shared.load::<Looks>(seat, ACTIVITY_PLACE);
     }
 
     // A note of what the seat has seen, and of the asks that it knows.

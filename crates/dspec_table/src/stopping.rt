@@ -1,7 +1,7 @@
 ghost use Rattle.dspec_table.specs.Steps.{StoredActivity};
 ghost use Rattle.dspec_table.specs.Seats.{known_there, IsConsumerAt};
 
-use crate::layout::activity_place;
+use crate::layout::ACTIVITY_PLACE;
 use crate::plays::StoresActivity;
 use crate::seats::{ConsumerSeat, Words};
 
@@ -15,6 +15,6 @@ impl ConsumerSeat {
         words
             .board
             .shared
-            .store::<StoresActivity>(&mut self.seat, activity_place(&words.config), 1);
+            .store::<StoresActivity>(&mut self.seat, ACTIVITY_PLACE, 1);
     }
 }

@@ -6,11 +6,18 @@ use Rattle.dspec_table.proofs.layout.words_lie_apart.Goals as goal
 pub returns-clause-slots : goal.returns-clause-slots
 returns-clause-slots u s t lt = omega arith
 
+pub returns-clause-first : goal.returns-clause-first
+returns-clause-first u s one = omega arith
+
 pub returns-clause-last : goal.returns-clause-last
-returns-clause-last u k s most = omega arith
+returns-clause-last u k c s t most =
+    let x : ℕ = c * group_width k in
+    let most' : s ≤ k.nspec = most in
+    let goal : s * 8 + 8 ≤ k.nspec * 8 + 8 + x + t = omega arith in
+    goal
 
 pub returns-clause-activity : goal.returns-clause-activity
-returns-clause-activity u k c s = let x : ℕ = c * group_width k in let goal : k.nspec * 8 + 8 + 8 ≤ k.nspec * 8 + 16 + x + s = omega arith in goal
+returns-clause-activity u k c s = let x : ℕ = c * group_width k in let goal : 0 + 8 ≤ k.nspec * 8 + 8 + x + s = omega arith in goal
 
 pub returns-clause-groups : goal.returns-clause-groups
 returns-clause-groups u = far_apart

@@ -7,6 +7,6 @@ store-requires c =
     let words = c.args.words.now in
     let seat = c.args.self.now in (
       c.requires.seat.0,
-      rw (c.activity_place.ensures) (let count = words.words_is in omega arith),
-      rw (c.activity_place.ensures, words.key_is) (stops words.config words.board.shared.table_id.slots seat.seat.id seat.seat.me seat.who_is seat.joins_none),
+      let count = words.words_is in omega arith,
+      rw (words.key_is) (stops words.config words.board.shared.table_id.slots seat.seat.id seat.seat.me seat.who_is seat.joins_none),
     )

@@ -7,7 +7,7 @@ load-requires g c =
     let words = c.args.words.now in
     let seat = c.args.self.now in (
       c.requires.seat.0,
-      rw (c.activity_place.ensures) (let count = words.words_is in omega arith),
-      rw (c.activity_place.ensures, words.key_is)
+      let count = words.words_is in omega arith,
+      rw (words.key_is)
           (loads_activity words.config words.board.shared.table_id.slots seat.seat.id seat.cpu seat.seat.me g.J.HasDoing.doing words.some_slot seat.who_is seat.joins_none c.requires.idle),
     )

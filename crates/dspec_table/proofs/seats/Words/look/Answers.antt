@@ -7,6 +7,6 @@ load-requires c =
     let words = c.args.self.now in
     let seat = c.args.seat.now in (
       c.requires.seat.0,
-      rw (c.activity_place.ensures) (let count = words.words_is in omega arith),
-      rw (c.activity_place.ensures, words.key_is) (looks_up words.config words.board.shared.table_id.slots seat.id seat.me c.requires.seat.1 c.requires.seat.2),
+      let count = words.words_is in omega arith,
+      rw (words.key_is) (looks_up words.config words.board.shared.table_id.slots seat.id seat.me c.requires.seat.1 c.requires.seat.2),
     )
