@@ -42,7 +42,7 @@ change_shows k words s n log new one most is ch sh = record {
       get_or-set_other words (slot_place s) (slot_place t) n 0 far ∙ (sh.slots t a b ∙ sym (ch.others t apart)))
       (either_way (t == s));
   acks = λ c t x a b.
-      let apart : ack_place k c t ≢ slot_place s = (λ e. let x : ℕ = c * group_width k in let e' : k.nspec * 8 + 8 + x + t ≡ s * 8 = e in let most' : s ≤ k.nspec = most in omega arith) in
+      let apart : ack_place k c t ≢ slot_place s = (λ e. let x : ℕ = c * group_width k in let e' : k.nspec * 8 + 16 + x + t ≡ (s + 1) * 8 = e in let most' : s ≤ k.nspec = most in omega arith) in
       get_or-set_other words (slot_place s) (ack_place k c t) n 0 apart ∙ (sh.acks c t x a b ∙ sym (ch.acks c t));
 }
 

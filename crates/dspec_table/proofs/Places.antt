@@ -1,5 +1,5 @@
 -- No two words lie at one place.
-use Rattle.std.proofs.Common.{◌≡◌, ◌≢◌, ℕ, suc, ◌+◌, ◌*◌, ◌≤◌, ◌<◌, sym, mul-le-mul_right, suc-mul, arith}
+use Rattle.std.proofs.Common.{◌≡◌, ◌≢◌, ℕ, suc, ◌+◌, ◌*◌, ◌/◌, ◌-◌, ◌≤◌, ◌<◌, sym, mul-le-mul_right, suc-mul, arith}
 use Rattle.std.proofs.Math.Nat.{mul-div_cancel}
 use native.Mathlib.Decide.{dec_lt}
 use Rattle.dspec_deeds.specs.declared.config.Config.{Config}
@@ -16,8 +16,8 @@ groups_follow c d w lt =
     goal
 
 -- activity and the slots' words lie before the groups
-pub before_groups : (k : Config) (c : ℕ) → k.nspec * 8 + 8 ≤ group_place k c
-before_groups k c = let x : ℕ = c * group_width k in let goal : k.nspec * 8 + 8 ≤ k.nspec * 8 + 8 + x = omega arith in goal
+pub before_groups : (k : Config) (c : ℕ) → k.nspec * 8 + 16 ≤ group_place k c
+before_groups k c = let x : ℕ = c * group_width k in let goal : k.nspec * 8 + 16 ≤ k.nspec * 8 + 16 + x = omega arith in goal
 
 pub ack_within : (k : Config) (c s : ℕ) → c < k.cpus → s ≤ k.nspec → ack_place k c s < word_count k
 ack_within k c s lt most =
@@ -26,7 +26,7 @@ ack_within k c s lt most =
     let y : ℕ = k.cpus * group_width k in
     let m' : x + (k.nspec + 8) ≤ y = m in
     let most' : s ≤ k.nspec = most in
-    let goal : k.nspec * 8 + 8 + x + s < k.nspec * 8 + 8 + y = omega arith in
+    let goal : k.nspec * 8 + 16 + x + s < k.nspec * 8 + 16 + y = omega arith in
     goal
 
 pub ask_within : (k : Config) (c : ℕ) → c < k.cpus → ask_place k c < word_count k
@@ -35,7 +35,7 @@ ask_within k c lt =
     let x : ℕ = c * group_width k in
     let y : ℕ = k.cpus * group_width k in
     let m' : x + (k.nspec + 8) ≤ y = m in
-    let goal : k.nspec * 8 + 8 + x < k.nspec * 8 + 8 + y = omega arith in
+    let goal : k.nspec * 8 + 16 + x < k.nspec * 8 + 16 + y = omega arith in
     goal
 
 -- what lies in the group of one CPU lies in no other's
@@ -46,7 +46,7 @@ apart k c d s t lt most e =
     let y : ℕ = d * group_width k in
     let m' : x + (k.nspec + 8) ≤ y = m in
     let most' : s ≤ k.nspec = most in
-    let e' : k.nspec * 8 + 8 + x + s ≡ k.nspec * 8 + 8 + y + t = e in
+    let e' : k.nspec * 8 + 16 + x + s ≡ k.nspec * 8 + 16 + y + t = e in
     absurd (omega arith)
 
 pub one_group : (k : Config) (c d s t : ℕ) → s ≤ k.nspec → t ≤ k.nspec → group_place k c + s ≡ group_place k d + t → c ≡ d
@@ -79,16 +79,20 @@ far_apart k c d s t lt most =
     let y : ℕ = d * group_width k in
     let m' : x + (k.nspec + 8) ≤ y = m in
     let most' : s ≤ k.nspec = most in
-    let goal : k.nspec * 8 + 8 + x + s + 8 ≤ k.nspec * 8 + 8 + y + t = omega arith in
+    let goal : k.nspec * 8 + 16 + x + s + 8 ≤ k.nspec * 8 + 16 + y + t = omega arith in
     goal
 
 -- the slot of a slot's place
 pub slot_there : (s : ℕ) → slot_at (slot_place s) ≡ s
-slot_there s = mul-div_cancel s (omega arith)
+slot_there s =
+    let times : (s + 1) * 8 / 8 ≡ s + 1 = mul-div_cancel (s + 1) (omega arith) in
+    let x : ℕ = (s + 1) * 8 / 8 in
+    let goal : x - 1 ≡ s = omega (arith, times) in
+    goal
 
 pub slot_within : (k : Config) (s : ℕ) → s ≤ k.nspec → slot_place s < word_count k
 slot_within k s most =
     let x : ℕ = k.cpus * group_width k in
     let most' : s ≤ k.nspec = most in
-    let goal : s * 8 < k.nspec * 8 + 8 + x = omega arith in
+    let goal : (s + 1) * 8 < k.nspec * 8 + 16 + x = omega arith in
     goal

@@ -5,7 +5,7 @@ ghost use Rattle.dspec_deeds.specs.declared.config.Config.{Config};
 use dspec_deeds::Config;
 
 /// Where activity lies: before the slots, so that its place is the same in every session.
-pub(crate) const ACTIVITY_PLACE: usize = 0;
+pub(crate) const ACTIVITY_PLACE: usize = 8;
 
 /// Where a slot's word lies.
 #[inline(always)]
@@ -13,7 +13,7 @@ pub(crate) fn slot_place(slot: u32) -> usize
     ensures place { result ≡ slot_place slot }
     ensures slot { slot_at result ≡ slot }
 {
-    slot as usize * 8
+    (slot as usize + 1) * 8
 }
 
 /// Where a CPU's ask lies.
@@ -25,7 +25,7 @@ pub(crate) fn ask_place(config: &Config, cpu: u32) -> usize
     let cpu = cpu as usize;
     let width = config.nspec as usize + 8;
     prove!(cpu * width <= 4544);
-    config.nspec as usize * 8 + 8 + cpu * width
+    config.nspec as usize * 8 + 16 + cpu * width
 }
 
 /// Where a CPU's acknowledgement of a slot lies.

@@ -18,7 +18,7 @@ fn zeros(alloc: Global, config: &Config) -> Result<Vec<u64>, AllocError>
     let cpus = config.cpus as usize;
     let width = config.nspec as usize + 8;
     prove!(cpus * width <= 4544);
-    vec![in alloc; 0; config.nspec as usize * 8 + 8 + cpus * width]
+    vec![in alloc; 0; config.nspec as usize * 8 + 16 + cpus * width]
 }
 
 fn deal(

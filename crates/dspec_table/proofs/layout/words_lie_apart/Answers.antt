@@ -13,11 +13,11 @@ pub returns-clause-last : goal.returns-clause-last
 returns-clause-last u k c s t most =
     let x : ℕ = c * group_width k in
     let most' : s ≤ k.nspec = most in
-    let goal : s * 8 + 8 ≤ k.nspec * 8 + 8 + x + t = omega arith in
+    let goal : (s + 1) * 8 + 8 ≤ k.nspec * 8 + 16 + x + t = omega arith in
     goal
 
 pub returns-clause-activity : goal.returns-clause-activity
-returns-clause-activity u k c s = let x : ℕ = c * group_width k in let goal : 0 + 8 ≤ k.nspec * 8 + 8 + x + s = omega arith in goal
+returns-clause-activity u k c s = let x : ℕ = c * group_width k in let goal : 8 + 8 ≤ k.nspec * 8 + 16 + x + s = omega arith in goal
 
 pub returns-clause-groups : goal.returns-clause-groups
 returns-clause-groups u = far_apart
