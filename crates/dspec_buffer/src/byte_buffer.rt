@@ -127,9 +127,7 @@ impl<S: Schema> TraceBuffer<S> for ByteBuffer {
 
     #[inline(always)]
     fn push_recorded<R: Recorded>(&mut self, schema: &S, rec: R) -> bool {
-        let Some(Shape { size, align }) = schema.shape(rec.epid()) else {
-            unreachable!()
-        };
+        let Shape { size, align } = schema.shape_recorded(rec);
         let Some(place) = place_for(self.offset, self.size(), align, size) else {
             return false;
         };

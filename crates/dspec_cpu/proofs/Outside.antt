@@ -17,7 +17,7 @@ use Rattle.dspec_deeds.proofs.SoundLists.{opened_in_range, unseen}
 use Rattle.dspec_deeds.proofs.TestLemmas.{either_way, same_number}
 use Rattle.dspec_cpu.proofs.Mine.{marked_among}
 
-inside_of : (k : Config) (id : Speculation) → 1 ≤ id.slot → id.slot ≤ k.nspec → in_range k id ≡ true
+pub inside_of : (k : Config) (id : Speculation) → 1 ≤ id.slot → id.slot ≤ k.nspec → in_range k id ≡ true
 inside_of k id low high = let a : nat_le 1 id.slot ≡ true = grind (arith, nat_tests) in let b : nat_le id.slot k.nspec ≡ true = grind (arith, nat_tests) in
     ap (λ x. x && nat_le id.slot k.nspec) a ∙ b
 

@@ -75,18 +75,18 @@ ends false n CommittingMany = refl
 module _ (shape : ℕ → Option Shape) (accepted : Record → Bool) (text : Record → List ℕ) {k : Config} {c : ℕ} {side : Side Stored} {batches : List Batch} {id : Speculation} {code : Code}
     (p : List Deed) (can : CanSettle shape accepted text k c side batches id code p) (j : Speculation) (named : j ≡ id) where
   -- the slot is one of the session's, and so of the CPU's
-  pub there : (1 ≤ j.slot) × (j.slot ≤ length side.marks.items) × (j.slot ≤ length side.speculative.items) × (j.slot ≤ length side.acks.items)
+  pub there : (1 ≤ j.slot) × (j.slot ≤ length side.marks) × (j.slot ≤ length side.speculative.items) × (j.slot ≤ length side.acks.items)
   there =
       let at = ap (λ (x : Speculation). x.slot) named in
       let low = can.low in let high = can.high in
       let marks = can.shown.side.mark_count in let buffers = can.shown.side.buffer_count in let acks = can.shown.side.ack_count in
       (omega arith, omega arith, omega arith, omega arith)
 
-  module _ (mine : Bool) (tells : (m : ℕ) → slice_get side.marks.items (j.slot - 1) ≡ Some m → mine ≡ (m == j.issue + 1)) where
+  module _ (mine : Bool) (tells : (m : ℕ) → slice_get side.marks (j.slot - 1) ≡ Some m → mine ≡ (m == j.issue + 1)) where
     -- whether the CPU is a caller
     pub caller : IsCaller c j mine p
     caller =
-        let told = subst (λ (x : Speculation). (m : ℕ) → slice_get side.marks.items (x.slot - 1) ≡ Some m → mine ≡ (m == x.issue + 1)) named tells in
+        let told = subst (λ (x : Speculation). (m : ℕ) → slice_get side.marks (x.slot - 1) ≡ Some m → mine ≡ (m == x.issue + 1)) named tells in
         let marked = told (mark c id.slot p) (can.shown.side.marks id.slot can.low can.high) in
         subst (λ x. IsCaller c x mine p) (sym named) (record { marked = marked; empty = λ none. can.unmarked (sym marked ∙ none) })
 

@@ -79,7 +79,7 @@ impl<S: Schema> CpuParts<S> {
             return Decided::Worn;
         }
         let inside = self.is_inside(id);
-        let mine = self.is_mine(id, inside);
+        let mine = self.is_mine(id);
         let (fits, count) = self.measure_slot(id, mine, inside);
         let op = op_of(commits, id);
         let doing = Doing {

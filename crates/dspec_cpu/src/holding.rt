@@ -21,17 +21,15 @@ impl<S: Schema> CpuParts<S> {
         (id.slot() as usize).wrapping_sub(1) < self.config.nspec as usize
     }
 
-    /// Whether the CPU is a caller of the speculation, by the slot's mark; false outside the slots.
-    pub(crate) fn is_mine(&self, id: SpecId, inside: bool) -> bool
-        requires inside { inside ≡ in_range self.now.config id }
+    /// Whether the CPU is a caller of the speculation, by the slot's mark; false outside the slots, of which none needs to ask first.
+    #[inline(always)]
+    pub(crate) fn is_mine(&self, id: SpecId) -> bool
         requires some { (p : List Deed) × ⟦<Cpu<S> as Listed>⟧.is_shown self.now p }
-        ensures is { inside ≡ true → (p : List Deed) → ⟦<Cpu<S> as Listed>⟧.is_shown self.now p → result ≡ (mark self.now.cpu id.slot p == id.issue + 1) }
-        ensures marked { result ≡ true → slice_get self.now.side.marks.items (id.slot - 1) ≡ Some (id.issue + 1) }
+        ensures inside { result ≡ true → in_range self.now.config id ≡ true }
+        ensures is { in_range self.now.config id ≡ true → (p : List Deed) → ⟦<Cpu<S> as Listed>⟧.is_shown self.now p → result ≡ (mark self.now.cpu id.slot p == id.issue + 1) }
+        ensures marked { result ≡ true → slice_get self.now.side.marks (id.slot - 1) ≡ Some (id.issue + 1) }
     {
-        if !inside {
-            return false;
-        }
-        self.side.is_mine(id)
+        self.side.is_marked(id)
     }
 
     /// Whether the CPU's buffer of the speculation would take a record; it is empty where the CPU is no caller. False outside

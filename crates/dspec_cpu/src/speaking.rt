@@ -35,12 +35,12 @@ impl<S: Schema> CpuParts<S> {
             self.side.counts.wear();
             return Spoken::Worn;
         }
-        let inside = self.is_inside(id);
-        let mine = self.is_mine(id, inside);
-        // the call once for a caller and once for another CPU, so that neither asks which it is
+        let mine = self.is_mine(id);
+        // the call once for a caller and once for another CPU, so that neither asks which it is; a caller's slot is one of the session's
         if mine {
-            self.offer(shared, id, rec, inside, true)
+            self.offer(shared, id, rec, true, true)
         } else {
+            let inside = self.is_inside(id);
             self.offer(shared, id, rec, inside, false)
         }
     }
@@ -60,7 +60,7 @@ impl<S: Schema> CpuParts<S> {
         requires accepted { IsTrue (S.accepted self.old.schema (R.as_record rec)) }
         requires inside { inside ≡ in_range self.old.config id }
         requires mine { inside ≡ true → (p : List Deed) → ⟦<Cpu<S> as Listed>⟧.is_shown self.old p → mine ≡ (mark self.old.cpu id.slot p == id.issue + 1) }
-        requires marked { mine ≡ true → slice_get self.old.side.marks.items (id.slot - 1) ≡ Some (id.issue + 1) }
+        requires marked { mine ≡ true → slice_get self.old.side.marks (id.slot - 1) ≡ Some (id.issue + 1) }
         ensures ready { ⟦<CpuParts<S> as Callable>⟧.is_ready (words_of shared.now) self.new }
         ensures same { IsSameCpu self.old self.new }
         ensures keeps { CallKeeps (is_worn_spoken result) (is_stopped_spoken result) 4 self.old self.new }

@@ -10,7 +10,7 @@ use crate::cpu::Cpu;
 use crate::listed::Listed;
 use crate::shared::Shared;
 use dspec_deeds::{Spoken, Traced};
-use dspec_record::{BorrowedRec, Recorded, Schema};
+use dspec_record::{Recorded, Schema};
 use dspec_word::SpecId;
 
 impl<S: Schema> Cpu<S> {
@@ -31,10 +31,7 @@ impl<S: Schema> Cpu<S> {
         ensures does { IfSome result (λ a. Does (traced_deeds (number_in self.old) (record { epid = epid; stamp = stamp; values = values.now }) a)
             (⟦<Cpu<S> as Listed>⟧.has_list self.old) (known (seat_of self.old)) (⟦<Cpu<S> as Listed>⟧.has_list self.new) (known (seat_of self.new))) }
     {
-        let rec = BorrowedRec::of(epid, stamp, values)?;
-        if !self.schema().accepts_recorded(rec) {
-            return None;
-        }
+        let rec = self.schema().borrowed(epid, stamp, values)?;
         Some(self.trace_recorded(shared, rec))
     }
 
@@ -56,10 +53,7 @@ impl<S: Schema> Cpu<S> {
         ensures does { IfSome result (λ a. Does (spoken_deeds (number_in self.old) id (record { epid = epid; stamp = stamp; values = values.now }) a)
             (⟦<Cpu<S> as Listed>⟧.has_list self.old) (known (seat_of self.old)) (⟦<Cpu<S> as Listed>⟧.has_list self.new) (known (seat_of self.new))) }
     {
-        let rec = BorrowedRec::of(epid, stamp, values)?;
-        if !self.schema().accepts_recorded(rec) {
-            return None;
-        }
+        let rec = self.schema().borrowed(epid, stamp, values)?;
         Some(self.speculate_recorded(shared, id, rec))
     }
 

@@ -11,13 +11,11 @@ pub fn put_whole<S: Schema, R: Recorded>(schema: &S, rec: R, out: &mut [u8]) -> 
     if !schema.accepts_recorded(rec) {
         return false;
     }
-    match schema.shape(rec.epid()) {
-        Some(shape) if shape.size as usize == out.len() => {
-            schema.put_recorded(rec, out);
-            true
-        }
-        _ => false,
+    if schema.shape_recorded(rec).size as usize != out.len() {
+        return false;
     }
+    schema.put_recorded(rec, out);
+    true
 }
 
 #[test]

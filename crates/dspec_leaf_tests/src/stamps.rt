@@ -80,6 +80,19 @@ fn borrowed_bytes(rt: HostRuntime) -> Result<(), Fail> {
         out,
         [3, 0, 0, 0, 8, 7, 6, 5, 4, 3, 2, 1, 0xAB, 0, 0x34, 0x12],
     );
+    // a schema that says nothing of such records has them copied
+    let bare = BorrowedRec::of(3, LONG, &[]).ok_or("no value")?;
+    let mut short = [0xFF; 12];
+    assert!(rt; put_whole(&StampedAction, bare, &mut short));
+    same(&rt, short, [3, 0, 0, 0, 8, 7, 6, 5, 4, 3, 2, 1]);
+    assert!(rt; !DefaultAction.accepts_recorded(bare));
+    // by its values, a record is one of the schema's or is none
+    let known = enablings.borrowed(3, LONG, &values).ok_or("a known one")?;
+    same(&rt, known.to_rec(), stamped(&rt, 3, LONG, &[171, 4660]));
+    assert!(rt; enablings.borrowed(3, LONG, &[256, 4660]).is_none());
+    assert!(rt; enablings.borrowed(3, LONG, &[171]).is_none());
+    assert!(rt; StampedAction.borrowed(3, LONG, &[]).is_some());
+    assert!(rt; StampedAction.borrowed(3, LONG, &[1]).is_none());
     assert!(rt; BorrowedRec::of(3, LONG, &[1; 8]).is_some());
     assert!(rt; BorrowedRec::of(3, LONG, &[1; 9]).is_none());
     Ok(())

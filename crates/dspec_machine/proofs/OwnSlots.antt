@@ -127,7 +127,7 @@ module _ {B : Type 0} (keeps : B → List Piece → Type 0) (capacity : B → �
   pub place_there : (1 ≤ id.slot) × (id.slot ≤ length side.speculative.items)
   place_there = let count = was.parts.buffer_count in let low = slot.0 in let high = slot.1 in (low, omega arith)
 
-  pub mark_there : (1 ≤ id.slot) × (id.slot ≤ length side.marks.items)
+  pub mark_there : (1 ≤ id.slot) × (id.slot ≤ length side.marks)
   mark_there = let count = was.parts.mark_count in let low = slot.0 in let high = slot.1 in (low, omega arith)
 
   pub specdrop_there : (1 ≤ id.slot) × (id.slot ≤ length side.specdrops.items)
@@ -139,7 +139,7 @@ module _ {B : Type 0} (keeps : B → List Piece → Type 0) (capacity : B → �
 module _ {B : Type 0} (keeps : B → List Piece → Type 0) (capacity : B → ℕ) (k : Config) (c : ℕ) (h : List Deed) (side : Side B) (was : ShowsList keeps capacity k c h side)
     (id : Speculation) (slot : IsSlot k id.slot) (lt : c < k.cpus) (sound : IsSound k h) (now : issue id.slot h ≡ id.issue) where
   -- the mark tells whether the CPU is a caller
-  pub caller_is : (mine : Bool) → ((m : ℕ) → slice_get side.marks.items (id.slot - 1) ≡ Some m → mine ≡ (m == id.issue + 1)) → IsCaller c id mine h
+  pub caller_is : (mine : Bool) → ((m : ℕ) → slice_get side.marks (id.slot - 1) ≡ Some m → mine ≡ (m == id.issue + 1)) → IsCaller c id mine h
   caller_is mine tells =
       let marked = tells (mark c id.slot h) (was.parts.marks id.slot slot.0 slot.1) in
       record {

@@ -8,3 +8,4 @@ pub mod ReadBack
 pub mod Fronts
 pub mod ReadsBack
 pub mod Gets
+pub mod WideFronts

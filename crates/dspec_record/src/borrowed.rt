@@ -25,11 +25,20 @@ impl<'a> BorrowedRec<'a> {
         if values.len() > MAX_VALUES {
             return None;
         }
-        Some(BorrowedRec {
+        Some(BorrowedRec::few(epid, stamp, values))
+    }
+
+    // The record with these values, which are eight at most.
+    #[inline(always)]
+    pub(crate) fn few(epid: u32, stamp: u64, values: &'a [u64]) -> BorrowedRec<'a>
+        requires few { length values.now ≤ 8 }
+        ensures { borrowed_record result ≡ record { epid = epid; stamp = stamp; values = values.now } }
+    {
+        BorrowedRec {
             epid,
             stamp,
             values,
-        })
+        }
     }
 }
 
@@ -50,18 +59,11 @@ impl<'a> Recorded for BorrowedRec<'a> {
 
     #[inline(always)]
     fn values(&self) -> &[u64] {
-        // never so; told of it, the compiler knows how often a loop over the values goes at most
-        if self.values.len() > MAX_VALUES {
-            unreachable!()
-        }
         self.values
     }
 
     #[inline(always)]
     fn to_rec(&self) -> Rec {
-        let Some(rec) = Rec::stamped(self.epid, self.stamp, self.values) else {
-            unreachable!()
-        };
-        rec
+        Rec::few(self.epid, self.stamp, self.values)
     }
 }

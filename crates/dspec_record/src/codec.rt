@@ -58,25 +58,38 @@ pub(crate) fn put_record<R: Recorded>(
     ensures { out.new ≡ record_text header fields.now (R.as_record rec) }
 {
     let values = rec.values();
-    let mut end = put_header(header, rec, out);
+    let wide = has_wide_front(header, values);
+    let mut end = put_header(header, rec, wide, out);
     let moved = header.stamp_size();
     // each place is known: no running code is left of the ends
-    for (i, field) in fields.iter().enumerate() {
+    for (i, value) in values.iter().enumerate() {
         let place = places[i] as usize + moved;
-        end = put_field(*field, values[i], end, place, out);
+        end = put_field(fields[i], *value, end, place, out);
     }
 }
 
-/// Writes what stands before the fields; answers where they begin.
+/// Whether a record with this header and so many values has room for eight bytes at its front: each but one that is its EPID alone.
 #[inline(always)]
-fn put_header<R: Recorded>(header: Header, rec: R, out: &mut [u8]) -> usize
+fn has_wide_front(header: Header, values: &[u64]) -> bool
+    ensures { (fs : List Field) → length fs ≡ length values.now → result ≡ nat_le 8 (layout header fs).size }
+{
+    match header {
+        Header::One => !values.is_empty(),
+        Header::Two => true,
+    }
+}
+
+/// Writes what stands before the fields; answers where they begin. Whether there is room for eight bytes the caller tells.
+#[inline(always)]
+fn put_header<R: Recorded>(header: Header, rec: R, wide: bool, out: &mut [u8]) -> usize
+    requires wide { wide ≡ nat_le 8 (length out.old) }
     requires whole_words { length out.old % 4 ≡ 0 }
     requires room { fields_start header ≤ length out.old }
     ensures end { result ≡ fields_start header }
     ensures put { take (fields_start header) out.new ≡ header_text header (R.as_record rec) }
     ensures clear { IsClearBehind (fields_start header) out.new }
 {
-    let end = put_field(Field::Four, u64::from(rec.epid()), 0, 0, out);
+    let end = put_in_room(Field::Four, u64::from(rec.epid()), 0, 0, wide, out);
     match header {
         Header::One => end,
         Header::Two => {
@@ -101,6 +114,30 @@ fn put_field(field: Field, value: u64, end: usize, place: usize, out: &mut [u8])
     ensures clear { IsClearBehind result out.new }
 {
     let wide = place + 8 <= out.len();
+    put_in_room(field, value, end, place, wide, out)
+}
+
+/// As `put_field`, where the caller tells whether there is room for eight bytes.
+#[inline(always)]
+fn put_in_room(
+    field: Field,
+    value: u64,
+    _end: usize,
+    place: usize,
+    wide: bool,
+    out: &mut [u8],
+) -> usize
+    requires wide { wide ≡ nat_le (place + 8) (length out.old) }
+    requires holds { value < 256 ^ width field }
+    requires whole_words { length out.old % 4 ≡ 0 }
+    requires place { place ≡ rounded_up _end (width field) }
+    requires room { place + width field ≤ length out.old }
+    requires clear { IsClearBehind _end out.old }
+    ensures end { result ≡ after _end (width field) (width field) }
+    ensures put { take result out.new
+        ≡ take _end out.old ++ (gap _end (width field) ++ little_endian (width field) value) }
+    ensures clear { IsClearBehind result out.new }
+{
     write_wide(value, wide, &mut out[place..]);
     place + field.width()
 }

@@ -1,5 +1,5 @@
 use crate::codec::{fits_fields, fits_header, put_record, read_epid, read_record};
-use crate::{Enablings, Header, ReadKind, Rec, Recorded, Schema, Shape};
+use crate::{BorrowedRec, Enablings, Header, ReadKind, Rec, Recorded, Schema, Shape};
 
 impl Schema for Enablings {
     ghost use Rattle.dspec_record.specs.Schemas.{enabled, table_shape, table_accepts, table_text};
@@ -38,23 +38,36 @@ impl Schema for Enablings {
     }
 
     fn accepts_recorded<R: Recorded>(&self, rec: R) -> bool {
-        match self.enabling(rec.epid()) {
-            Some(enabling) => fits_header(self.header(), rec.stamp())
-                && fits_fields(enabling.fields(), enabling.limits(), rec.values()),
-            None => false,
-        }
+        self.borrowed(rec.epid(), rec.stamp(), rec.values())
+            .is_some()
     }
 
     #[inline(always)]
     fn put_recorded<R: Recorded>(&self, rec: R, out: &mut [u8]) {
-        let Some(enabling) = self.enabling(rec.epid()) else {
-            unreachable!()
-        };
+        let enabling = self.row(rec.epid());
         // the writing once for each header, so that none of it asks which one it is
         match self.header() {
             Header::One => put_record(Header::One, enabling.fields(), enabling.places(), rec, out),
             Header::Two => put_record(Header::Two, enabling.fields(), enabling.places(), rec, out),
         }
+    }
+
+    #[inline(always)]
+    fn shape_recorded<R: Recorded>(&self, rec: R) -> Shape {
+        self.row(rec.epid()).shape(self.header(), self.stamp_size())
+    }
+
+    #[inline(always)]
+    fn borrowed<'a>(&self, epid: u32, stamp: u64, values: &'a [u64]) -> Option<BorrowedRec<'a>> {
+        let enabling = self.enabling(epid)?;
+        if !fits_header(self.header(), stamp) {
+            return None;
+        }
+        // as many values as the enabling has fields, which are eight at most
+        if !fits_fields(enabling.fields(), enabling.limits(), values) {
+            return None;
+        }
+        Some(BorrowedRec::few(epid, stamp, values))
     }
 
     #[inline(always)]

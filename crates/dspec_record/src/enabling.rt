@@ -144,7 +144,7 @@ impl Model for Enablings {
 }
 
 impl Enablings {
-    ghost use Rattle.std.specs.Prelude.{◌≡◌, ◌≤◌, ◌<◌, ◌+◌, ◌-◌, ◌++◌, ◌∷◌, ◌↔◌, [], length, option_copied, IfOk, OnErr};
+    ghost use Rattle.std.specs.Prelude.{◌≡◌, ◌≤◌, ◌<◌, ◌+◌, ◌-◌, ◌++◌, ◌∷◌, ◌↔◌, [], length, Some, IsSome, option_copied, IfOk, OnErr};
     ghost use Rattle.dspec_record.specs.Layout.{fields_start};
     ghost use Rattle.dspec_record.specs.Schemas.{enabling_of};
 
@@ -234,7 +234,16 @@ impl Enablings {
         if epid.wrapping_sub(1) >= self.count {
             return None;
         }
-        Some(&self.rows[epid as usize - 1])
+        Some(self.row(epid))
+    }
+
+    /// The enabling with this EPID, which is one of them.
+    #[inline(always)]
+    pub(crate) fn row(&self, epid: u32) -> &Enabling
+        requires { IsSome (enabling_of self.now.rows epid) }
+        ensures { Some result.now ≡ enabling_of self.now.rows epid }
+    {
+        &self.rows[epid as usize - 1]
     }
 }
 

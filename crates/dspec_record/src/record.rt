@@ -85,6 +85,17 @@ impl Rec {
         }
     }
 
+    /// The record with this stamp and these values, which are eight at most.
+    #[inline(always)]
+    pub(crate) fn few(epid: u32, stamp: u64, values: &[u64]) -> Rec
+        requires few { length values.now ≤ 8 }
+        ensures { result ≡ record { epid = epid; stamp = stamp; values = values.now } }
+    {
+        let mut held = [0; MAX_VALUES];
+        held[..values.len()].copy_from_slice(values);
+        Rec::of(epid, stamp, values.len() as u32, held)
+    }
+
     /// The record with no value.
     #[inline]
     pub(crate) fn bare(epid: u32, stamp: u64) -> Rec

@@ -1,9 +1,10 @@
-ghost use Rattle.std.specs.Prelude.{◌≡◌, ℕ, Bool, IsTrue, List, length, Option, Some, None, ◌++◌};
+ghost use Rattle.std.specs.Prelude.{◌≡◌, ◌↔◌, ◌&&◌, ℕ, Bool, IsTrue, IfSome, IsSome, List, length, nat_le, Option, Some, None, ◌++◌};
+ghost use Rattle.dspec_record.specs.Borrowed.{borrowed_record};
 ghost use Rattle.dspec_record.specs.Record.{Record};
 ghost use Rattle.dspec_record.specs.Reading.{IsShape, IsTextOf, Answers};
 ghost use Rattle.dspec_record.specs.declared.field.Shape.{Shape};
 
-use crate::{ReadKind, Rec, Recorded, Shape};
+use crate::{BorrowedRec, ReadKind, Rec, Recorded, Shape};
 
 /// Which records there are, and how they stand in a buffer. A buffer knows no more of a schema than
 /// these clauses and the laws below them say.
@@ -45,6 +46,31 @@ pub trait Schema: Copy {
         ensures { out.new ≡ text self.now (R.as_record rec) }
     {
         self.put(&rec.to_rec(), out);
+    }
+
+    /// The shape of an accepted record.
+    fn shape_recorded<R: Recorded>(&self, rec: R) -> Shape
+        requires { IsTrue (accepted self.now (R.as_record rec)) }
+        ensures { Some result ≡ shape_of self.now (R.as_record rec).epid }
+    {
+        let Some(shape) = self.shape(rec.epid()) else {
+            unreachable!()
+        };
+        shape
+    }
+
+    /// The record with this stamp and these values, which stand where they are; None where there are more than eight values, or the
+    /// record isn't one of the schema's.
+    fn borrowed<'a>(&self, epid: u32, stamp: u64, values: &'a [u64]) -> Option<BorrowedRec<'a>>
+        ensures due { IsSome result ↔ IsTrue (nat_le (length values.now) 8
+            && accepted self.now (record { epid = epid; stamp = stamp; values = values.now })) }
+        ensures holds { IfSome result (λ r. borrowed_record r ≡ record { epid = epid; stamp = stamp; values = values.now }) }
+    {
+        let rec = BorrowedRec::of(epid, stamp, values)?;
+        if !self.accepts_recorded(rec) {
+            return None;
+        }
+        Some(rec)
     }
 
     /// The record at the front and its size in bytes, or the first fault in this order: Truncated for fewer

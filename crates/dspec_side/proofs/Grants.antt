@@ -140,33 +140,33 @@ module _ {B : Type 0} (keeps : B → List Piece → Type 0) (capacity : B → �
         mapped true = refl
         mapped false = refl
 
-    granted_marks : (new : List ℕ) → new ≡ slice_set side.marks.items (id.slot - 1) (id.issue + 1)
+    granted_marks : (new : List ℕ) → new ≡ slice_set side.marks (id.slot - 1) (id.issue + 1)
         → (length new ≡ k.nspec) × ((s : ℕ) → 1 ≤ s → s ≤ k.nspec → slice_get new (s - 1) ≡ Some (mark c s (deed ∷ p)))
     granted_marks new is =
         let count = was.parts.mark_count in
         let most = inside in (
-          ap length is ∙ (length-set side.marks.items (id.slot - 1) (id.issue + 1) ∙ count),
+          ap length is ∙ (length-set side.marks (id.slot - 1) (id.issue + 1) ∙ count),
           λ s one_low one_high. ⊎_elim
               (λ (y : (s == id.slot) ≡ true).
               let same = same_number s id.slot y in
-              let set_is = got_set side.marks.items (id.slot - 1) (id.issue + 1) (omega arith) in
-              ap (λ l. slice_get l (s - 1)) is ∙ (ap (λ x. slice_get (slice_set side.marks.items (id.slot - 1) (id.issue + 1)) (x - 1)) same ∙ (set_is
+              let set_is = got_set side.marks (id.slot - 1) (id.issue + 1) (omega arith) in
+              ap (λ l. slice_get l (s - 1)) is ∙ (ap (λ x. slice_get (slice_set side.marks (id.slot - 1) (id.issue + 1)) (x - 1)) same ∙ (set_is
               ∙ ap Some (sym (mark_now s ∙ ap (λ q. if q then id.issue + 1 else mark c s p) y)))))
               (λ (n : (s == id.slot) ≡ false).
               let apart : s ≢ id.slot = grind (arith, nat_tests) in
-              ap (λ l. slice_get l (s - 1)) is ∙ (got_other side.marks.items (id.slot - 1) (s - 1) (id.issue + 1) (omega arith) ∙ (was.parts.marks s one_low one_high
+              ap (λ l. slice_get l (s - 1)) is ∙ (got_other side.marks (id.slot - 1) (s - 1) (id.issue + 1) (omega arith) ∙ (was.parts.marks s one_low one_high
               ∙ ap Some (sym (mark_now s ∙ ap (λ q. if q then id.issue + 1 else mark c s p) n)))))
               (either_way (s == id.slot)),
         )
 
     -- the side shows the list with the record in front
-    pub granted_shown : (buffers : Vec B) → IsGranted kept buffers → (marks : Vec ℕ) → marks.items ≡ slice_set side.marks.items (id.slot - 1) (id.issue + 1)
+    pub granted_shown : (buffers : Vec B) → IsGranted kept buffers → (marks : List ℕ) → marks ≡ slice_set side.marks (id.slot - 1) (id.issue + 1)
         → (specdrops : Vec ℕ) → AreDropped k c specdrops.items (deed ∷ p)
         → (counts : Counts) → counts ≡ with_spoken f side.counts
         → ShowsList keeps capacity k c (deed ∷ p) (record side { calls = side.calls + 1; marks = marks; specdrops = specdrops; speculative = buffers; counts = counts })
     granted_shown buffers told marks is specdrops dropped counts plus =
         let b = granted_buffers buffers told in
-        let m = granted_marks marks.items is in
+        let m = granted_marks marks is in
         let worn : counts.worn ≡ side.counts.worn = ap (λ (n : Counts). n.worn) plus in
         record {
           parts = record {

@@ -1,5 +1,5 @@
 -- Lists that are made element by element, and lists of zeros.
-use Rattle.std.proofs.Common.{◌≡◌, ℕ, zero, suc, ◌+◌, ◌<◌, List, [], ◌∷◌, ◌++◌, length, replicate, Some, refl, sym, ap, ◌∙◌, subst, arith}
+use Rattle.std.proofs.Common.{◌≡◌, ℕ, zero, suc, ◌+◌, ◌<◌, List, [], ◌∷◌, ◌++◌, length, get_or, replicate, Some, refl, sym, ap, ◌∙◌, subst, arith}
 use Rattle.std.specs.Prelude.{slice_get}
 use Rattle.std.proofs.lemmas.List.{length-replicate, get_or-replicate}
 use Rattle.std.proofs.lemmas.Option.{slice_get-get_or}
@@ -35,3 +35,9 @@ zero_there n i xs e lt =
 
 pub zero_count : (n : ℕ) (xs : List ℕ) → xs ≡ replicate n 0 → length xs ≡ n
 zero_count n xs e = ap length e ∙ length-replicate n 0
+
+-- at each place of a list of zeros stands 0, and behind it too
+pub zero_everywhere : (n s : ℕ) → get_or (replicate {A = ℕ} n 0) s 0 ≡ 0
+zero_everywhere zero s = refl
+zero_everywhere (suc n) zero = refl
+zero_everywhere (suc n) (suc s) = zero_everywhere n s

@@ -23,7 +23,7 @@ parts_of_side side = record {
   missed_busy = side.missed_busy;
   active = side.active;
   speculative = side.speculative.items;
-  marks = side.marks.items;
+  marks = side.marks;
   specdrops = side.specdrops.items;
   acks = side.acks.items;
 }

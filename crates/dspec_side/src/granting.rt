@@ -12,6 +12,7 @@ ghost use Rattle.dspec_side.specs.Counting.{IsRoomy, with_spoken};
 ghost use Rattle.dspec_side.specs.Sides.{IsCaller, ShowsList};
 
 use crate::fitting::keep_in;
+use crate::marks::Marks;
 use crate::side::Side;
 use dspec_buffer::TraceBuffer;
 use dspec_deeds::SpeculateFate;
@@ -22,7 +23,7 @@ use dspec_word::SpecId;
 // speculation is forgotten before. False where it doesn't fit.
 #[inline(always)]
 fn mark_and_keep<S: Schema, B: TraceBuffer<S>, R: Recorded>(
-    marks: &mut Vec<u64>,
+    marks: &mut Marks,
     specdrops: &mut Vec<u64>,
     buffers: &mut Vec<B>,
     schema: &S,
@@ -30,10 +31,10 @@ fn mark_and_keep<S: Schema, B: TraceBuffer<S>, R: Recorded>(
     rec: R,
     mine: bool,
 ) -> bool
-    requires slot { (1 ≤ id.slot) × (id.slot ≤ length buffers.old.items) × (id.slot ≤ length marks.old.items) × (id.slot ≤ length specdrops.old.items) }
-    requires marked { mine ≡ true → slice_get marks.old.items (id.slot - 1) ≡ Some (id.issue + 1) }
+    requires slot { (1 ≤ id.slot) × (id.slot ≤ length buffers.old.items) × (id.slot ≤ length marks.old) × (id.slot ≤ length specdrops.old.items) }
+    requires marked { mine ≡ true → slice_get marks.old (id.slot - 1) ≡ Some (id.issue + 1) }
     requires accepted { IsTrue (S.accepted schema.now (R.as_record rec)) }
-    ensures marks { marks.new.items ≡ slice_set marks.old.items (id.slot - 1) (id.issue + 1) }
+    ensures marks { marks.new ≡ slice_set marks.old (id.slot - 1) (id.issue + 1) }
     ensures specdrops { specdrops.new.items ≡ (if mine then specdrops.old.items else slice_set specdrops.old.items (id.slot - 1) 0) }
     ensures buffer { (b : B) → slice_get buffers.old.items (id.slot - 1) ≡ Some b
         → (n : B) × (B.capacity n ≡ B.capacity b) × (buffers.new.items ≡ slice_set buffers.old.items (id.slot - 1) n)
@@ -43,7 +44,7 @@ fn mark_and_keep<S: Schema, B: TraceBuffer<S>, R: Recorded>(
 {
     let place = id.slot() as usize - 1;
     if !mine {
-        marks[place] = id.issue() + 1;
+        marks.mark(id);
         specdrops[place] = 0;
     }
     keep_in(&mut buffers[place], schema, rec, mine)
@@ -60,14 +61,23 @@ fn count_specdrop(specdrops: &mut Vec<u64>, id: SpecId)
 }
 
 impl<B> Side<B> {
+    /// Whether the slot's mark is that of the speculation; false where the slot is none of the session's.
+    #[inline(always)]
+    pub fn is_marked(&self, id: SpecId) -> bool
+        ensures tells { (m : ℕ) → 1 ≤ id.slot → slice_get self.now.marks (id.slot - 1) ≡ Some m → result ≡ (m == id.issue + 1) }
+        ensures marked { result ≡ true → (1 ≤ id.slot) × (slice_get self.now.marks (id.slot - 1) ≡ Some (id.issue + 1)) }
+    {
+        self.marks.has(id)
+    }
+
     /// Whether the CPU is a caller of the speculation, by the slot's mark.
     #[inline]
     pub fn is_mine(&self, id: SpecId) -> bool
-        requires slot { (1 ≤ id.slot) × (id.slot ≤ length self.now.marks.items) }
-        ensures tells { (m : ℕ) → slice_get self.now.marks.items (id.slot - 1) ≡ Some m → result ≡ (m == id.issue + 1) }
-        ensures marked { result ≡ true → slice_get self.now.marks.items (id.slot - 1) ≡ Some (id.issue + 1) }
+        requires slot { (1 ≤ id.slot) × (id.slot ≤ length self.now.marks) }
+        ensures tells { (m : ℕ) → slice_get self.now.marks (id.slot - 1) ≡ Some m → result ≡ (m == id.issue + 1) }
+        ensures marked { result ≡ true → slice_get self.now.marks (id.slot - 1) ≡ Some (id.issue + 1) }
     {
-        self.marks[id.slot() as usize - 1] == id.issue() + 1
+        self.is_marked(id)
     }
 
     /// How many records were dropped from the CPU's buffer of the speculation since the CPU became a caller of it; 0 where it is
@@ -76,7 +86,7 @@ impl<B> Side<B> {
     pub fn dropped_in<S: Schema>(&self, id: SpecId) -> u64
     where
         B: TraceBuffer<S>,
-        requires slot { (1 ≤ id.slot) × (id.slot ≤ length self.now.marks.items) × (id.slot ≤ length self.now.specdrops.items) }
+        requires slot { (1 ≤ id.slot) × (id.slot ≤ length self.now.marks) × (id.slot ≤ length self.now.specdrops.items) }
         ensures { (s : S) (k : Config) (c : ℕ) (p : List Deed) → ShowsList (λ b. B.has b s) B.capacity k c p self.now → result ≡ dropped_in c id p }
     {
         if !self.is_mine(id) {
@@ -93,8 +103,8 @@ impl<B> Side<B> {
         S: Schema,
         R: Recorded,
         B: TraceBuffer<S>,
-        requires slot { (1 ≤ id.slot) × (id.slot ≤ length self.old.speculative.items) × (id.slot ≤ length self.old.marks.items) × (id.slot ≤ length self.old.specdrops.items) }
-        requires marked { mine ≡ true → slice_get self.old.marks.items (id.slot - 1) ≡ Some (id.issue + 1) }
+        requires slot { (1 ≤ id.slot) × (id.slot ≤ length self.old.speculative.items) × (id.slot ≤ length self.old.marks) × (id.slot ≤ length self.old.specdrops.items) }
+        requires marked { mine ≡ true → slice_get self.old.marks (id.slot - 1) ≡ Some (id.issue + 1) }
         requires accepted { IsTrue (S.accepted schema.now (R.as_record rec)) }
         requires calls { self.old.calls + 1 < 2 ^ 64 }
         requires counts { IsRoomy self.old.counts }

@@ -9,6 +9,7 @@ mod blocks;
 mod counts;
 mod fitting;
 mod granting;
+mod marks;
 mod scanning;
 mod sealing;
 mod side;
@@ -16,4 +17,5 @@ mod tracing;
 
 pub use blocks::{committed_as, settled_as};
 pub use counts::Counts;
+pub use marks::Marks;
 pub use side::Side;

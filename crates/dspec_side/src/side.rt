@@ -3,6 +3,7 @@ ghost use Rattle.dspec_deeds.specs.Ranges.{start_fault};
 ghost use Rattle.dspec_side.specs.Sides.{ShowsList};
 
 use crate::counts::Counts;
+use crate::marks::Marks;
 use dspec_buffer::TraceBuffer;
 use dspec_deeds::Config;
 use dspec_record::Schema;
@@ -21,7 +22,7 @@ pub struct Side<B> {
     /// For each slot one more than the issue that was settled last; 0 where none was.
     pub acks: Vec<u64>,
     /// For each slot one more than the issue last granted to the CPU, or 0.
-    pub marks: Vec<u64>,
+    pub marks: Marks,
     /// For each slot how many records were dropped from its buffer since that issue was granted first.
     pub specdrops: Vec<u64>,
     /// A speculative buffer for each slot.
@@ -48,7 +49,6 @@ impl<B> Side<B> {
             speculative.push(B::make(alloc, config.specsize)?)?;
         }
         let acks = vec![in alloc; 0; config.nspec as usize]?;
-        let marks = vec![in alloc; 0; config.nspec as usize]?;
         let specdrops = vec![in alloc; 0; config.nspec as usize]?;
         Ok(Side {
             calls: 0,
@@ -58,7 +58,7 @@ impl<B> Side<B> {
             missed_busy: false,
             active: B::make(alloc, config.bufsize)?,
             speculative,
-            marks,
+            marks: Marks::none(config.nspec),
             specdrops,
             acks,
         })

@@ -1,5 +1,5 @@
 -- The header is written first; then each field finds the room that the layout left for it.
-use Rattle.std.proofs.Common.{◌≡◌, ◌≤◌, ◌<◌, ◌+◌, ◌++◌, ℕ, List, length, take, drop, get_or, arith, sym, ◌∙◌, ap, subst, [], ◌∷◌}
+use Rattle.std.proofs.Common.{◌≡◌, ◌≤◌, ◌<◌, ◌+◌, ◌++◌, ℕ, nat_le, List, length, take, drop, get_or, arith, sym, ◌∙◌, ap, subst, [], ◌∷◌}
 use Rattle.std.proofs.lemmas.List.{drop_more, drop_all}
 use Rattle.dspec_record.specs.Layout.{width, after, fields_start, layout}
 use Rattle.dspec_record.specs.Record.{Record}
@@ -15,6 +15,12 @@ use Rattle.dspec_record.specs.declared.header.Header.{Header}
 use Rattle.dspec_record.specs.declared.field.Field.TheVariants.{One}
 use Rattle.dspec_record.proofs.codec.put_record.Goals as goal
 
+pub put_header-end-requires-clause-wide : goal.put_header-end-requires-clause-wide
+put_header-end-requires-clause-wide g c =
+    let same : length c.args.fields.now ≡ length c.values-values.result.now =
+    fits-length c.args.fields.now (g.R.Recorded.as_record c.args.rec).values c.requires.fit ∙ sym (ap length c.values-values.ensures.values) in
+    c.has_wide_front-wide.ensures c.args.fields.now same ∙ ap (nat_le 8) (sym c.requires.exact)
+
 pub put_header-end-requires-clause-whole_words : goal.put_header-end-requires-clause-whole_words
 put_header-end-requires-clause-whole_words g c =
     let shape : IsShape (layout c.args.header c.args.fields.now) = layout-IsShape c.args.header c.args.fields.now c.requires.few in
@@ -25,15 +31,17 @@ put_header-end-requires-clause-room g c =
     let shape : IsShape (layout c.args.header c.args.fields.now) = layout-IsShape c.args.header c.args.fields.now c.requires.few in
     omega (arith, c.requires.exact, header-within c.args.header c.args.fields.now)
 
-pub bounds-values-i : goal.bounds-values-i
-bounds-values-i g c =
+pub bounds-fields-i : goal.bounds-fields-i
+bounds-fields-i g c =
     let same : length c.args.fields.now ≡ length (g.R.Recorded.as_record c.args.rec).values =
     fits-length c.args.fields.now (g.R.Recorded.as_record c.args.rec).values c.requires.fit in
     omega (arith, same, ap length c.values-values.ensures.values)
 
 pub bounds-places-i : goal.bounds-places-i
 bounds-places-i g c =
-    omega (arith, ap length c.requires.places ∙ length-field_places 4 c.args.fields.now)
+    let same : length c.args.fields.now ≡ length (g.R.Recorded.as_record c.args.rec).values =
+    fits-length c.args.fields.now (g.R.Recorded.as_record c.args.rec).values c.requires.fit in
+    omega (arith, same, ap length c.values-values.ensures.values, ap length c.requires.places ∙ length-field_places 4 c.args.fields.now)
 
 -- the fields and values that are left begin with this one
 here : (text : List ℕ) (end : ℕ) (out : List ℕ) (i : ℕ) (fs : List Field) (vs : List ℕ) → i < length fs → length fs ≡ length vs → IsWriting text end out (drop i fs) (drop i vs)
@@ -46,7 +54,9 @@ here text end out i fs vs within same w =
 pub put_field-end-requires-clause-place : goal.put_field-end-requires-clause-place
 put_field-end-requires-clause-place g c =
     let fs : List Field = c.args.fields.now in
-    let within : c.loop-i.i < length fs = omega arith in
+    let r : Record = g.R.Recorded.as_record c.args.rec in
+    let many : length fs ≡ length c.values-values.result.now = fits-length fs r.values c.requires.fit ∙ sym (ap length c.values-values.ensures.values) in
+    let within : c.loop-i.i < length fs = omega (arith, many) in
     IsPlaced-place c.stamp_size-moved.result c.loop-i.end c.loop-i.i fs c.args.places.now within
     (ap length c.requires.places ∙ length-field_places 4 fs) c.loop-i.invariant.1
 
@@ -56,9 +66,9 @@ put_field-end-requires-clause-room g c =
     let r : Record = g.R.Recorded.as_record c.args.rec in
     let i : ℕ = c.loop-i.i in
     let f : Field = get_or fs i One in
-    let within : i < length fs = omega arith in
     let many : length fs ≡ length c.values-values.result.now =
     fits-length fs r.values c.requires.fit ∙ sym (ap length c.values-values.ensures.values) in
+    let within : i < length fs = omega (arith, many) in
     let w = here (record_text c.args.header fs r) c.loop-i.end c.loop-i.out i fs c.values-values.result.now within many c.loop-i.invariant.0 in
     let Room : ℕ → Type 0 = λ p. p + width f ≤ length c.loop-i.out in
     subst Room (sym (put_field-end-requires-clause-place g c)) (IsWriting-room _ _ _ _ _ _ w)
@@ -89,8 +99,8 @@ loop-i-preserved g c =
     let end : ℕ = c.loop-i.end in
     let out : List ℕ = c.put_field-end.new.out in
     let text : List ℕ = record_text c.args.header fs r in
-    let within : i < length fs = omega arith in
     let many : length fs ≡ length vs = fits-length fs r.values c.requires.fit ∙ sym (ap length c.values-values.ensures.values) in
+    let within : i < length fs = omega (arith, many) in
     let same : c.put_field-end.result ≡ after end (width f) (width f) = c.put_field-end.ensures.end in
     let Put : ℕ → Type 0 = λ e. take e out ≡ take end c.loop-i.out ++ (gap end (width f) ++ little_endian (width f) v) in
     let Clear : ℕ → Type 0 = λ e. IsClearBehind e out in
@@ -108,7 +118,8 @@ returns g c =
     let fs : List Field = c.args.fields.now in
     let r : Record = g.R.Recorded.as_record c.args.rec in
     let i : ℕ = c.loop-i.i in
-    let past : length fs ≤ i = omega arith in
+    let many : length fs ≡ length c.values-values.result.now = fits-length fs r.values c.requires.fit ∙ sym (ap length c.values-values.ensures.values) in
+    let past : length fs ≤ i = omega (arith, many) in
     let Left : List Field → Type 0 = λ gs. IsWriting (record_text c.args.header fs r) c.loop-i.end c.loop-i.out gs (drop i c.values-values.result.now) in
     let done : IsWriting (record_text c.args.header fs r) c.loop-i.end c.loop-i.out [] (drop i c.values-values.result.now) =
     subst Left (drop_all i fs past) c.loop-i.invariant.0 in

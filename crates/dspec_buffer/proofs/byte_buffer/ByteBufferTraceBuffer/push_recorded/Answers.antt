@@ -10,22 +10,22 @@ use Rattle.dspec_buffer.proofs.byte_buffer.ByteBufferTraceBuffer.push_recorded.G
 pub place_for-requires-clause-aligned : goal.place_for-requires-clause-aligned
 place_for-requires-clause-aligned g c =
     let s = c.args.schema.now in
-    let shape : Shape = c.in-Some.field-0 in
-    (g.met.S.Schema.shapes_fit s c.epid.result shape (sym c.in-Some.ensures)).aligned
+    let shape : Shape = c.shape_recorded-size.result in
+    (g.met.S.Schema.shapes_fit s (g.R.Recorded.as_record c.args.rec).epid shape (sym c.shape_recorded-size.ensures)).aligned
 
 pub put_behind-requires-clause-gap : goal.put_behind-requires-clause-gap
 put_behind-requires-clause-gap g c =
     let s = c.args.schema.now in
-    let shape : Shape = c.in-Some.field-0 in
-    let fit = g.met.S.Schema.shapes_fit s c.epid.result shape (sym c.in-Some.ensures) in
+    let shape : Shape = c.shape_recorded-size.result in
+    let fit = g.met.S.Schema.shapes_fit s (g.R.Recorded.as_record c.args.rec).epid shape (sym c.shape_recorded-size.ensures) in
     let with_epid = fit.with_epid in
-    (placed c.self.inside.offset shape.align shape.size c.in-Some-place_for.place c.self.invariant.words fit.aligned fit.whole_words (λ z. omega arith) c.in-Some-place_for.ensures.0).step
+    (placed c.self.inside.offset shape.align shape.size c.in-Some.place c.self.invariant.words fit.aligned fit.whole_words (λ z. omega arith) c.in-Some.ensures.0).step
 
-pub returns-in_default-place_for-clause-answer : goal.returns-in_default-place_for-clause-answer
-returns-in_default-place_for-clause-answer g c = λ ps h.
+pub returns-in_default-clause-answer : goal.returns-in_default-clause-answer
+returns-in_default-clause-answer g c = λ ps h.
     let s = c.args.schema.now in
     let r = g.R.Recorded.as_record c.args.rec in
-    let shape : Shape = c.in-Some.field-0 in
+    let shape : Shape = c.shape_recorded-size.result in
     let laws : SchemaLaws (g.S.Schema.shape_of s) (g.S.Schema.accepted s) (g.S.Schema.text s) = record {
       zero_has_none = g.met.S.Schema.zero_has_none s;
       shapes_fit = g.met.S.Schema.shapes_fit s;
@@ -36,26 +36,26 @@ returns-in_default-place_for-clause-answer g c = λ ps h.
     let long = c.self.inside.bytes.ok.0 in
     let at = offset_is (g.S.Schema.shape_of s) (g.S.Schema.accepted s) (g.S.Schema.text s) laws c.args.self.now c.self.inside.offset c.self.inside.bytes.items ps
     (ap (λ b. b.text) c.self.view_is) (omega arith) h in
-    let named : g.S.Schema.shape_of s r.epid ≡ Some shape = ap (g.S.Schema.shape_of s) (sym c.epid.ensures) ∙ sym c.in-Some.ensures in
+    let named : g.S.Schema.shape_of s r.epid ≡ Some shape = sym c.shape_recorded-size.ensures in
     let says = shape_says (g.S.Schema.shape_of s) r shape named in
     let fit = g.met.S.Schema.shapes_fit s r.epid shape named in
     let with_epid = fit.with_epid in
     fits_says (g.S.Schema.shape_of s) (one r) ps c.self.inside.offset shape.align shape.size c.size.result c.args.self.now.size
     false at says.1 says.0 c.size.ensures
-    (refuses c.self.inside.offset shape.align shape.size c.size.result (λ z. omega arith) c.in_default-place_for.ensures)
+    (refuses c.self.inside.offset shape.align shape.size c.size.result (λ z. omega arith) c.in_default.ensures)
 
 pub invariant_of-self : goal.invariant_of-self
 invariant_of-self g c =
     let s = c.args.schema.now in
-    let shape : Shape = c.in-Some.field-0 in
-    let fit = g.met.S.Schema.shapes_fit s c.epid.result shape (sym c.in-Some.ensures) in
+    let shape : Shape = c.shape_recorded-size.result in
+    let fit = g.met.S.Schema.shapes_fit s (g.R.Recorded.as_record c.args.rec).epid shape (sym c.shape_recorded-size.ensures) in
     let with_epid = fit.with_epid in
-    let p = placed c.self.inside.offset shape.align shape.size c.in-Some-place_for.place c.self.invariant.words fit.aligned fit.whole_words
-    (λ z. omega arith) c.in-Some-place_for.ensures.0 in
+    let p = placed c.self.inside.offset shape.align shape.size c.in-Some.place c.self.invariant.words fit.aligned fit.whole_words
+    (λ z. omega arith) c.in-Some.ensures.0 in
     let above = p.above in
     let limit : c.size.result ≡ c.args.self.now.size = c.size.ensures in
     let size = ap (λ b. b.size) c.self.view_is in
-    let within = c.in-Some-place_for.ensures.1 in
+    let within = c.in-Some.ensures.1 in
     let counted = c.self.invariant.counted in
     record { within = omega arith; words = p.words; bounded = c.self.invariant.bounded; counted = omega arith }
 
@@ -63,7 +63,7 @@ pub returns-clause-answer : goal.returns-clause-answer
 returns-clause-answer g c = λ ps h.
     let s = c.args.schema.now in
     let r = g.R.Recorded.as_record c.args.rec in
-    let shape : Shape = c.in-Some.field-0 in
+    let shape : Shape = c.shape_recorded-size.result in
     let laws : SchemaLaws (g.S.Schema.shape_of s) (g.S.Schema.accepted s) (g.S.Schema.text s) = record {
       zero_has_none = g.met.S.Schema.zero_has_none s;
       shapes_fit = g.met.S.Schema.shapes_fit s;
@@ -74,19 +74,19 @@ returns-clause-answer g c = λ ps h.
     let long = c.self.inside.bytes.ok.0 in
     let at = offset_is (g.S.Schema.shape_of s) (g.S.Schema.accepted s) (g.S.Schema.text s) laws c.args.self.now c.self.inside.offset c.self.inside.bytes.items ps
     (ap (λ b. b.text) c.self.view_is) (omega arith) h in
-    let named : g.S.Schema.shape_of s r.epid ≡ Some shape = ap (g.S.Schema.shape_of s) (sym c.epid.ensures) ∙ sym c.in-Some.ensures in
+    let named : g.S.Schema.shape_of s r.epid ≡ Some shape = sym c.shape_recorded-size.ensures in
     let says = shape_says (g.S.Schema.shape_of s) r shape named in
     let fit = g.met.S.Schema.shapes_fit s r.epid shape named in
     let with_epid = fit.with_epid in
     fits_says (g.S.Schema.shape_of s) (one r) ps c.self.inside.offset shape.align shape.size c.size.result c.args.self.now.size
     true at says.1 says.0 c.size.ensures
-    (admits c.self.inside.offset shape.align shape.size c.size.result c.in-Some-place_for.place (λ z. omega arith) c.in-Some-place_for.ensures.0 c.in-Some-place_for.ensures.1)
+    (admits c.self.inside.offset shape.align shape.size c.size.result c.in-Some.place (λ z. omega arith) c.in-Some.ensures.0 c.in-Some.ensures.1)
 
 pub returns-clause-kept : goal.returns-clause-kept
 returns-clause-kept g c = λ ps h.
     let s = c.args.schema.now in
     let r = g.R.Recorded.as_record c.args.rec in
-    let shape : Shape = c.in-Some.field-0 in
+    let shape : Shape = c.shape_recorded-size.result in
     let laws : SchemaLaws (g.S.Schema.shape_of s) (g.S.Schema.accepted s) (g.S.Schema.text s) = record {
       zero_has_none = g.met.S.Schema.zero_has_none s;
       shapes_fit = g.met.S.Schema.shapes_fit s;
@@ -97,21 +97,21 @@ returns-clause-kept g c = λ ps h.
     let long = c.self.inside.bytes.ok.0 in
     let at = offset_is (g.S.Schema.shape_of s) (g.S.Schema.accepted s) (g.S.Schema.text s) laws c.args.self.now c.self.inside.offset c.self.inside.bytes.items ps
     (ap (λ b. b.text) c.self.view_is) (omega arith) h in
-    let named : g.S.Schema.shape_of s r.epid ≡ Some shape = ap (g.S.Schema.shape_of s) (sym c.epid.ensures) ∙ sym c.in-Some.ensures in
+    let named : g.S.Schema.shape_of s r.epid ≡ Some shape = sym c.shape_recorded-size.ensures in
     let says = shape_says (g.S.Schema.shape_of s) r shape named in
     let fit = g.met.S.Schema.shapes_fit s r.epid shape named in
     let with_epid = fit.with_epid in
     let t = text_facts (g.S.Schema.shape_of s) (g.S.Schema.accepted s) (g.S.Schema.text s) laws r c.requires in
     let size = ap (λ b. b.size) c.self.view_is in
     let limit = c.size.ensures in
-    let fitting = c.in-Some-place_for.ensures.1 in
+    let fitting = c.in-Some.ensures.1 in
     let slice = c.as_mut_slice-bytes.ensures.len in
     let written : length (g.S.Schema.text s r) ≡ shape.size = t.size ∙ says.0 in
-    let back = laid_whole c.self.inside.offset shape.align c.in-Some-place_for.place shape.size c.self.inside.bytes.len c.self.inside.bytes.items
-    c.self.inside.bytes.items c.put_behind.new.bytes (g.S.Schema.text s r) c.self.invariant.words fit.aligned c.in-Some-place_for.ensures.0 (λ z. omega arith) written
+    let back = laid_whole c.self.inside.offset shape.align c.in-Some.place shape.size c.self.inside.bytes.len c.self.inside.bytes.items
+    c.self.inside.bytes.items c.put_behind.new.bytes (g.S.Schema.text s r) c.self.invariant.words fit.aligned c.in-Some.ensures.0 (λ z. omega arith) written
     (omega arith) (omega arith)
     (c.put_behind.ensures
-    ∙ ap (λ z. take c.self.inside.offset z ++ (replicate (c.in-Some-place_for.place - c.self.inside.offset) 0 ++ g.S.Schema.text s r)) c.as_mut_slice-bytes.ensures.value) in
+    ∙ ap (λ z. take c.self.inside.offset z ++ (replicate (c.in-Some.place - c.self.inside.offset) 0 ++ g.S.Schema.text s r)) c.as_mut_slice-bytes.ensures.value) in
     kept (g.S.Schema.shape_of s) (g.S.Schema.accepted s) (g.S.Schema.text s) laws c.args.self.now _ (one r) ps h
     (accepted_alone (g.S.Schema.shape_of s) (g.S.Schema.accepted s) (g.S.Schema.text s) laws r c.requires)
     (back ∙ ap (λ z. z ++ padded c.self.inside.offset shape.align (g.S.Schema.text s r)) (ap (λ b. b.text) c.self.view_is)

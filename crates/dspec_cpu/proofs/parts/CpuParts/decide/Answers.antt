@@ -38,7 +38,7 @@ pub go_on-reached-requires-clause-mine : goal.go_on-reached-requires-clause-mine
 go_on-reached-requires-clause-mine g c = λ within.
     let cpu = c.args.self.now in
     let ready = c.requires.ready in
-    c.is_mine-mine.ensures.is within ready.steady.list ready.steady.listed.shown
+    c.is_mine-mine.ensures.is (sym c.is_inside-inside.ensures ∙ within) ready.steady.list ready.steady.listed.shown
     ∙ (ap (λ m. m == c.args.id.issue + 1) (own_mark cpu.cpu c.args.id.slot (known cpu.seat).own ready.steady.list cpu.config ready.steady.listed.own)
     ∙ ap (λ n. mark n c.args.id.slot (known cpu.seat).own == c.args.id.issue + 1) (sym ready.steady.seat))
 
@@ -139,7 +139,7 @@ returns-then-not-commits g c =
     let op_is = c.op_of-op.ensures ∙ ap (λ b. if b then op.Commit id else op.Discard id) c.if-not-commits.true in
     let got = reached_here _ _ _ words cpu ready id fit mine n op_is c.in-Done.ensures.reached in
     let within = c.is_inside-inside.ensures ∙ (got.present refl).1 in
-    let ended = thrown _ _ _ words cpu ready id fit mine n to seat got c.go_on-reached.ensures.seat c.in-Done.ensures.release (c.is_mine-mine.ensures.is within)
+    let ended = thrown _ _ _ words cpu ready id fit mine n to seat got c.go_on-reached.ensures.seat c.in-Done.ensures.release (c.is_mine-mine.ensures.is (sym c.is_inside-inside.ensures ∙ within))
     (c.measure_slot-fits.ensures.count within) side.new.self (side.ensures.discards cpu.schema cpu.config cpu.cpu) c.args.commits c.if-not-commits.true in
     record {
       ready = ended.ready;
@@ -183,7 +183,7 @@ returns-in_default g c =
     let within = c.is_inside-inside.ensures ∙ (got.present refl).1 in
     let several : to.code ≢ Committing = λ e. absurd (c.in_default.not-Committing (c.code.ensures ∙ e)) in
     let ended = left_open _ _ _ words cpu ready id fit mine n to seat c.args.commits c.if-not-commits.false got c.go_on-reached.ensures.seat side.new.self
-    answer.result answer.ensures (c.is_mine-mine.ensures.is within) (c.measure_slot-fits.ensures.fits within) (c.measure_slot-fits.ensures.count within)
+    answer.result answer.ensures (c.is_mine-mine.ensures.is (sym c.is_inside-inside.ensures ∙ within)) (c.measure_slot-fits.ensures.fits within) (c.measure_slot-fits.ensures.count within)
     c.committed_as.result c.committed_as.ensures (side.ensures.commits cpu.schema cpu.config cpu.cpu) c.in-Done.ensures.release several in
     record {
       ready = ended.ready;
@@ -210,7 +210,7 @@ returns-in-Committing g c =
     let got = reached_here _ _ _ words cpu ready id fit mine n op_is c.in-Done.ensures.reached in
     let within = c.is_inside-inside.ensures ∙ (got.present refl).1 in
     let ended = released _ _ _ words cpu ready id fit mine n to seat c.args.commits c.if-not-commits.false got c.go_on-reached.ensures.seat side.new.self
-    answer.result answer.ensures (c.is_mine-mine.ensures.is within) (c.measure_slot-fits.ensures.fits within) (c.measure_slot-fits.ensures.count within)
+    answer.result answer.ensures (c.is_mine-mine.ensures.is (sym c.is_inside-inside.ensures ∙ within)) (c.measure_slot-fits.ensures.fits within) (c.measure_slot-fits.ensures.count within)
     c.committed_as.result c.committed_as.ensures (side.ensures.commits cpu.schema cpu.config cpu.cpu) c.release_word.new.self c.slot.result c.slot.ensures.value
     c.release_word.ensures.step c.release_word.ensures.seat in
     record {

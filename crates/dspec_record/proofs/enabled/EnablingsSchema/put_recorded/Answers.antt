@@ -17,10 +17,10 @@ exact e r out found fs h is row same few accepted long =
 
 pub put_record-requires-clause-exact : goal.put_record-requires-clause-exact
 put_record-requires-clause-exact g c =
-    exact c.args.self.now (g.R.Recorded.as_record c.args.rec) c.args.out.now c.in-Some.enabling.now c.fields.result.now _ (sym c.header.ensures ∙ c.in-One.is)
-    (c.in-Some.ensures ∙ ap (enabling_of c.args.self.now.rows) c.epid.ensures) c.fields.ensures.fields c.fields.ensures.few c.requires.accepted c.requires.exact
+    exact c.args.self.now (g.R.Recorded.as_record c.args.rec) c.args.out.now c.row-enabling.result.now c.fields.result.now _ (sym c.header.ensures ∙ c.in-One.is)
+    (c.row-enabling.ensures ∙ ap (enabling_of c.args.self.now.rows) c.epid.ensures) c.fields.ensures.fields c.fields.ensures.few c.requires.accepted c.requires.exact
 
 pub put_record-requires-in-Two-clause-exact : goal.put_record-requires-in-Two-clause-exact
 put_record-requires-in-Two-clause-exact g c =
-    exact c.args.self.now (g.R.Recorded.as_record c.args.rec) c.args.out.now c.in-Some.enabling.now c.fields-in-Two.result.now _ (sym c.header.ensures ∙ c.in-Two.is)
-    (c.in-Some.ensures ∙ ap (enabling_of c.args.self.now.rows) c.epid.ensures) c.fields-in-Two.ensures.fields c.fields-in-Two.ensures.few c.requires.accepted c.requires.exact
+    exact c.args.self.now (g.R.Recorded.as_record c.args.rec) c.args.out.now c.row-enabling.result.now c.fields-in-Two.result.now _ (sym c.header.ensures ∙ c.in-Two.is)
+    (c.row-enabling.ensures ∙ ap (enabling_of c.args.self.now.rows) c.epid.ensures) c.fields-in-Two.ensures.fields c.fields-in-Two.ensures.few c.requires.accepted c.requires.exact

@@ -13,7 +13,7 @@ pub returns-clause-shows : goal.returns-clause-shows
 returns-clause-shows g c =
     let k = c.args.config.now in
     let acks : c.in_ok-acks.acks.items ≡ replicate k.nspec 0 = c.in_ok-acks.ensures.items_if_clones_equal (λ y e. e) in
-    let marks : c.in_ok-marks.marks.items ≡ replicate k.nspec 0 = c.in_ok-marks.ensures.items_if_clones_equal (λ y e. e) in
+    let marks : c.none.result ≡ replicate k.nspec 0 = c.none.ensures in
     let specdrops : c.in_ok-specdrops.specdrops.items ≡ replicate k.nspec 0 = c.in_ok-specdrops.ensures.items_if_clones_equal (λ y e. e) in
     λ schema cpu. record {
       parts = record {

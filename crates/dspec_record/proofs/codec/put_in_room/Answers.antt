@@ -4,12 +4,12 @@ use Rattle.std.proofs.lemmas.List.{take_rest}
 use Rattle.dspec_record.specs.Layout.{width}
 use Rattle.dspec_record.specs.Writing.{IsClearBehind, IsWrittenWide}
 use Rattle.dspec_record.proofs.Clearing.{written-put, written-clear, post-none}
-use Rattle.dspec_record.proofs.codec.put_field.Goals as goal
+use Rattle.dspec_record.proofs.codec.put_in_room.Goals as goal
 
 pub returns-clause-put : goal.returns-clause-put
 returns-clause-put c =
     let place : ℕ = c.args.place in
-    let end : ℕ = c.args.end in
+    let end : ℕ = c.args._end in
     let out : List ℕ = c.args.out.now in
     let rest : take (length out - place) (drop place out) ≡ drop place out = take_rest out place in
     let Wide : List ℕ → Type 0 = λ old. IsWrittenWide c.args.value old c.write_wide.new.out in
@@ -22,7 +22,7 @@ returns-clause-put c =
 pub returns-clause-clear : goal.returns-clause-clear
 returns-clause-clear c =
     let place : ℕ = c.args.place in
-    let end : ℕ = c.args.end in
+    let end : ℕ = c.args._end in
     let out : List ℕ = c.args.out.now in
     let new : List ℕ = c.write_wide.new.out in
     let rest : take (length out - place) (drop place out) ≡ drop place out = take_rest out place in
