@@ -81,7 +81,7 @@ fn has_wide_front(header: Header, values: &[u64]) -> bool
 
 /// Writes what stands before the fields; answers where they begin. Whether there is room for eight bytes the caller tells.
 #[inline(always)]
-fn put_header<R: Recorded>(header: Header, rec: R, wide: bool, out: &mut [u8]) -> usize
+pub(crate) fn put_header<R: Recorded>(header: Header, rec: R, wide: bool, out: &mut [u8]) -> usize
     requires wide { wide ≡ nat_le 8 (length out.old) }
     requires whole_words { length out.old % 4 ≡ 0 }
     requires room { fields_start header ≤ length out.old }

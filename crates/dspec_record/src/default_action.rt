@@ -1,5 +1,5 @@
 use crate::codec::read_epid;
-use crate::{ReadKind, Rec, Schema, Shape};
+use crate::{ReadKind, Rec, Recorded, Schema, Shape};
 
 /// The default action (Solaris Dynamic Tracing Guide, "Speculative Tracing"): every EPID but zero, alone,
 /// in 4 bytes.
@@ -40,6 +40,11 @@ impl Schema for DefaultAction {
     #[inline(always)]
     fn put(&self, rec: &Rec, out: &mut [u8]) {
         out.copy_from_slice(&rec.epid().to_le_bytes());
+    }
+
+    #[inline(always)]
+    fn shape_recorded<R: Recorded>(&self, _rec: R) -> Shape {
+        Shape { size: 4, align: 4 }
     }
 
     #[inline(always)]

@@ -1,5 +1,5 @@
-use crate::codec::{fits_header, put_record, read_epid, read_record};
-use crate::{Header, ReadKind, Rec, Schema, Shape};
+use crate::codec::{fits_header, put_header, read_epid, read_record};
+use crate::{Header, ReadKind, Rec, Recorded, Schema, Shape};
 
 /// How many bytes a record has: its EPID and its stamp.
 const SIZE: usize = 12;
@@ -41,7 +41,13 @@ impl Schema for StampedAction {
 
     #[inline(always)]
     fn put(&self, rec: &Rec, out: &mut [u8]) {
-        put_record(Header::Two, &[], &[], rec, out);
+        // no field is written, whatever the compiler knows of the values
+        put_header(Header::Two, rec, true, out);
+    }
+
+    #[inline(always)]
+    fn shape_recorded<R: Recorded>(&self, _rec: R) -> Shape {
+        Shape { size: 12, align: 4 }
     }
 
     #[inline(always)]
