@@ -63,11 +63,12 @@ mutants:
 rows:
 	@sh .ci/rows
 
-# What runs in threads, so many times each, as in make soak COUNT=5000; the gate runs it 50, 20 and 20 times.
+# What runs in threads, so many times each, as in make soak COUNT=5000; the gate runs it 50, 20, 20 and 20 times.
 soak: COUNT = 1000
 soak:
 	@sh .ci/threads "$(COUNT)" "$(COUNT)"
 	@sh .ci/torture "$(COUNT)" "$(SEED)"
+	@sh .ci/c race "$(COUNT)" "$(SEED)"
 
 # Random schedules of whole calls, by the player and on a session; the gate plays 2,000.
 fuzz:

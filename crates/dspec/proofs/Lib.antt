@@ -3,3 +3,5 @@ mod Passing
 mod Returning
 mod Standing
 mod Tracing
+mod Visiting
+pub mod Works

@@ -14,6 +14,7 @@ use Rattle.dspec_consumer.specs.Batches.{Took, FoundNone, GaveBack, IsNotTakenBa
 use Rattle.dspec_consumer.specs.Asking.{Asked}
 use Rattle.dspec_consumer.specs.Consumers.{Consuming, IsConsumerOf, IsSameConsumer, Stays}
 use Rattle.dspec_consumer.specs.Sessions.{taken_at}
+use Rattle.dspec_consumer.proofs.PromisedBy.{there_is}
 use Rattle.dspec.specs.Passed.{Passed, passed_from, each_from, left_batches, rests_passed, GotAll, PassesOn}
 
 -- a batch more stands before the others of its CPU
@@ -162,12 +163,6 @@ rests_more n (x ∷ ls) (suc i) l at =
     ap (λ t. each_from n (left_batches x) ++ t) (rests_more (n + 1) ls i l at)
     ∙ (sym (append_assoc (each_from n (left_batches x)) (rests_passed (n + 1) (take i ls)) (rests_passed ((n + 1) + i) (l ∷ [])))
     ∙ ap (λ k. rests_passed n (take (suc i) (x ∷ ls)) ++ rests_passed k (l ∷ [])) (sym on))
-
--- there is one at each place
-pub there_is : {A : Type 0} (xs : List A) (i : ℕ) → i < length xs → (x : A) × (slice_get xs i ≡ Some x)
-there_is [] i lt = absurd (omega arith)
-there_is (x ∷ xs) zero lt = (x, refl)
-there_is (x ∷ xs) (suc i) lt = there_is xs i (omega arith)
 
 -- so is what is passed of a CPU more
 pub got_more : {K : Type 0} (gets : K → Batch → K → Type 0) (ls : List Left) (i : ℕ) (k m l : K) → i < length ls → GotAll gets k (rests_passed 0 (take i ls)) m

@@ -1,4 +1,4 @@
--- A session that closed: what the sink got is what its CPUs accepted.
+-- A session that closed: what the sink got is what its CPUs accepted, and what each is promised.
 use Rattle.std.proofs.Common.{◌≡◌, ℕ, zero, suc, ◌<◌, Bool, List, [], ◌∷◌, ◌++◌, length, All, refl, sym, ap, ◌∙◌, subst, arith}
 use Rattle.std.specs.Prelude.{slice_get, Option, Some}
 use Rattle.std.specs.Option.{option_map_or}
@@ -13,13 +13,19 @@ use Rattle.dspec_table.specs.declared.seats.Words.{Words}
 use Rattle.dspec_ring.specs.declared.batch.Batch.{Batch}
 use Rattle.dspec_ring.specs.Known.{ConsumerKnows, IsUnusedConsumer}
 use Rattle.dspec_cpu.specs.declared.cpu.Cpu.{Cpu}
+use Rattle.dspec_cpu.specs.Called.{CallsMade, called, no_calls}
+use Rattle.dspec_cpu.specs.Lists.{number_in}
 use Rattle.dspec_cpu.specs.Sealed.{waiting}
 use Rattle.dspec_consumer.specs.declared.left.Left.{Left}
 use Rattle.dspec_consumer.specs.Closing.{HoldInOrder, IsClosedBy}
 use Rattle.dspec_consumer.specs.Consumers.{Consuming}
 use Rattle.dspec_consumer.specs.Leaving.{AllSteady, Has}
-use Rattle.dspec_consumer.specs.Sessions.{HasAt, taken_at}
-use Rattle.dspec.specs.Passed.{Passed, passed_from, left_batches, rests_passed, GotAll, PassesOn, IsTraced}
+use Rattle.dspec_consumer.specs.Promised.{IsPromised, IsPromisedBy, called_at}
+use Rattle.dspec_consumer.specs.Sessions.{HasAt, IsFresh, taken_at}
+use Rattle.dspec_consumer.proofs.PromisedBy.{there_is, called_there, had_tells}
+use Rattle.dspec_promise.specs.Deeds.{all_did}
+use Rattle.dspec.specs.Passed.{passed_from, left_batches, rests_passed, GotAll, PassesOn, HasLists}
+use Rattle.dspec.specs.Traced.{IsTraced}
 use Rattle.dspec.proofs.Passing.{from_both, got_both, rest_there}
 
 -- nothing was taken yet
@@ -47,21 +53,34 @@ module _ {S : Type 0} (shape_of : S → ℕ → Option Shape) (accepted : S → 
       let more = lists_had cpus (λ c x at. all (suc c) x at) in
       (lists steady.list more.0, next_has cpu cpus steady.list more.0 steady.listed more.1)
 
-  module _ {K : Type 0} (gets : K → Batch → K → Type 0) (schema : S) where
-    pub traced : (k : Config) (words : Words) (cpus : List (Cpu S)) (worn : ℕ → ℕ) (deeds : List Deed) (x y : Consuming) (old mid new : K) (left : List Left)
-        → AllSteady shape_of accepted text cpus → All IsUnusedConsumer x.ends → PassesOn gets words x old y mid
-        → IsClosedBy (shape_of schema) (accepted schema) (text schema) k (HasAt (Has shape_of accepted text) cpus) worn (taken_at y) deeds left
-        → GotAll gets mid (rests_passed 0 left) new → IsTraced gets (shape_of schema) (accepted schema) (text schema) k old left new
-    traced k words cpus worn deeds x y old mid new left steady fresh passes closed rests =
-        let had = lists_had cpus steady in
-        let made = closed had.0 (λ c lt. had.1 c) in
-        let whole : (c : ℕ) (l : Left) → slice_get left c ≡ Some l → passed_from c (passes.passed ++ rests_passed 0 left) ≡ taken_at y c ++ left_batches l = λ c l at.
+  -- a CPU that has the empty list made no calls
+  pub fresh_none : (cpu : Cpu S) → IsFresh (Has shape_of accepted text) cpu → no_calls ≡ called cpu
+  fresh_none cpu fresh =
+      let done = had_tells shape_of accepted text (number_in cpu) cpu [] refl fresh.list in
+      let worn = sym fresh.worn in
+      λ i. record { done = done i; worn = worn i }
+
+  module _ {K : Type 0} (gets : K → Batch → K → Type 0) (schema : S) (words : Words) (x y : Consuming) (old mid new : K) (left : List Left)
+      (fresh : All IsUnusedConsumer x.ends) (passes : PassesOn gets words x old y mid) (rests : GotAll gets mid (rests_passed 0 left) new) where
+    -- the sink got of each CPU what was taken, then what was left
+    whole : (c : ℕ) (l : Left) → slice_get left c ≡ Some l → passed_from c (passes.passed ++ rests_passed 0 left) ≡ taken_at y c ++ left_batches l
+    whole c l at =
         from_both c passes.passed (rests_passed 0 left)
         ∙ (ap (λ t. passed_from c passes.passed ++ t) (rest_there 0 c c left l (omega arith) at)
-        ∙ ap (λ t. t ++ left_batches l) (sym (passes.taken c ∙ ap (λ t. t ++ passed_from c passes.passed) (unused x.ends c fresh)))) in
+        ∙ ap (λ t. t ++ left_batches l) (sym (passes.taken c ∙ ap (λ t. t ++ passed_from c passes.passed) (unused x.ends c fresh))))
+
+    all_got : GotAll gets old (passes.passed ++ rests_passed 0 left) new
+    all_got = got_both gets passes.passed (rests_passed 0 left) old mid new passes.got rests
+
+    pub listed : (k : Config) (cpus : List (Cpu S)) (worn : ℕ → ℕ) (deeds : List Deed) → AllSteady shape_of accepted text cpus
+        → IsClosedBy (shape_of schema) (accepted schema) (text schema) k (HasAt (Has shape_of accepted text) cpus) worn (taken_at y) deeds left
+        → HasLists gets (shape_of schema) (accepted schema) (text schema) k old left new
+    listed k cpus worn deeds steady closed =
+        let had = lists_had cpus steady in
+        let made = closed had.0 (λ c lt. had.1 c) in
         record {
           passed = passes.passed ++ rests_passed 0 left;
-          got = got_both gets passes.passed (rests_passed 0 left) old mid new passes.got rests;
+          got = all_got;
           worn = worn;
           taken = taken_at y;
           consumer = deeds;
@@ -73,3 +92,22 @@ module _ {S : Type 0} (shape_of : S → ℕ → Option Shape) (accepted : S → 
               subst (λ bs. HoldInOrder (shape_of schema) (accepted schema) (text schema) bs (stream c made.0))
               (append_assoc (taken_at y c) (waiting l.rest) (l.last ∷ []) ∙ sym (whole c l at)) (made.1.each c l at).kept;
         }
+
+    pub traced : (does : ℕ → CallsMade → CallsMade → Type 0) (k : Config) (cpus : List (Cpu S)) → length cpus ≡ k.cpus
+        → ((c : ℕ) (cpu : Cpu S) → slice_get cpus c ≡ Some cpu → does c no_calls (called cpu))
+        → IsPromisedBy (shape_of schema) (accepted schema) (text schema) k (called_at cpus) (taken_at y) left
+        → IsTraced gets does (shape_of schema) (accepted schema) (text schema) k old left new
+    traced does k cpus count worked promised = record {
+      passed = passes.passed ++ rests_passed 0 left;
+      got = all_got;
+      calls = called_at cpus;
+      worked = λ c lt.
+          let (cpu, at) = there_is cpus c (subst (λ n. c < n) (sym count) lt) in
+          subst (does c no_calls) (sym (called_there cpus c cpu at)) (worked c cpu at);
+      deeds = promised.deeds;
+      reasons = promised.reasons;
+      once = promised.once;
+      each = λ c l at.
+          subst (λ bs. IsPromised (shape_of schema) (accepted schema) (text schema) k.cpus (all_did promised.deeds) c (called_at cpus c) bs l.report)
+          (append_assoc (taken_at y c) (waiting l.rest) (l.last ∷ []) ∙ sym (whole c l at)) (promised.each c l at);
+    }

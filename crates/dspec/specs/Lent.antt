@@ -2,13 +2,20 @@
 use Rattle.std.specs.Prelude.{ℕ, ◌≡◌, List, length, slice_get, Some}
 use Rattle.dspec_cpu.specs.declared.cpu.Cpu.{Cpu}
 use Rattle.dspec_cpu.specs.declared.shared.Shared.{Shared}
+use Rattle.dspec_cpu.specs.Called.{CallsMade, called}
+use Rattle.dspec_cpu.specs.Lists.{number_in, schema_of}
 use Rattle.dspec_cpu.specs.Standing.{IsCallable, identity}
 
 -- each CPU can be called by those who share this
 abbrev pub AllCallable : {S : Type 0} → Shared → List (Cpu S) → Type 0
 AllCallable {S} shared cpus = (c : ℕ) (cpu : Cpu S) → slice_get cpus c ≡ Some cpu → IsCallable shared cpu
 
--- each is the one that it was
-pub record AllReturned {S : Type 0} (old new : List (Cpu S)) : Type 0 where
+-- it is the one that it was, and the work did this on it
+pub record Returned {S : Type 0} (does : S → ℕ → CallsMade → CallsMade → Type 0) (old new : Cpu S) : Type 0 where
+  pub same : identity new ≡ identity old
+  pub did : does (schema_of old) (number_in old) (called old) (called new)
+
+-- so is each
+pub record AllReturned {S : Type 0} (does : S → ℕ → CallsMade → CallsMade → Type 0) (old new : List (Cpu S)) : Type 0 where
   pub all : length new ≡ length old
-  pub each : (c : ℕ) (cpu : Cpu S) → slice_get new c ≡ Some cpu → (was : Cpu S) × (slice_get old c ≡ Some was) × (identity cpu ≡ identity was)
+  pub each : (c : ℕ) (cpu : Cpu S) → slice_get new c ≡ Some cpu → (was : Cpu S) × (slice_get old c ≡ Some was) × Returned does was cpu

@@ -60,7 +60,7 @@ module _ {K : Type 0} (gets : K → Batch → K → Type 0) where
 module _ {K : Type 0} (gets : K → Batch → K → Type 0) (shape : ℕ → Option Shape) (accepted : Record → Bool) (text : Record → List ℕ) where
   -- A session ran and closed, and this was left of its CPUs. One list of all deeds closes it, and what the sink got of each CPU,
   -- in its order, is all that this CPU accepted: the batches that were taken, then the one that it had sealed, then its last buffer.
-  pub record IsTraced (k : Config) (old : K) (left : List Left) (new : K) : Type 0 where
+  pub record HasLists (k : Config) (old : K) (left : List Left) (new : K) : Type 0 where
     pub passed : List Passed
     pub got : GotAll gets old passed new
     pub worn : ℕ → ℕ

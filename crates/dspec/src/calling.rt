@@ -1,18 +1,11 @@
-ghost use Rattle.std.specs.Prelude.{◌≡◌, ◌+◌, ◌*◌, ◌≤◌, ◌&&◌, ◌↔◌, nat_le, length, List, IsTrue, IsSome, IfSome, IfNone};
+ghost use Rattle.std.specs.Prelude.{◌≡◌, List, IsTrue};
 ghost use Rattle.dspec_deeds.specs.declared.deed.Deed.{Deed};
-ghost use Rattle.dspec_deeds.specs.declared.deed.Deed.TheVariants.{Commit, Discard};
 ghost use Rattle.dspec_deeds.specs.Own.{dropped_in};
 ghost use Rattle.dspec_deeds.specs.Reports.{report};
-ghost use Rattle.dspec_side.specs.Counting.{is_stopped_opening};
-ghost use Rattle.dspec_table.specs.Seats.{known};
-ghost use Rattle.dspec_cpu.specs.Calls.{Decides, Does, spoken_deeds, traced_deeds, is_worn_decided, is_worn_spoken, is_worn_trace};
+ghost use Rattle.dspec_promise.specs.Promise.{commit, discard};
 ghost use Rattle.dspec_cpu.specs.Dropped.{drops_told};
-ghost use Rattle.dspec_cpu.specs.Keeping.{CallKeeps};
-ghost use Rattle.dspec_cpu.specs.Lists.{config_of, end_of, held_back_of, number_in, schema_of, seat_of, worn_of};
-ghost use Rattle.dspec_cpu.specs.Scans.{Opens, is_worn_opening};
-ghost use Rattle.dspec_cpu.specs.Serving.{Serves};
-ghost use Rattle.dspec_cpu.specs.Stops.{is_stopped_decided, is_stopped_spoken, is_stopped_trace};
-ghost use Rattle.dspec_cpu.specs.Switching.{buffers_of, most_moves};
+ghost use Rattle.dspec_cpu.specs.Lists.{config_of, number_in, schema_of, worn_of};
+ghost use Rattle.dspec_cpu.specs.OneCall.{TracesOne, SpeculatesOne, OpensOne, DecidesOne, ServesOnce, RecordsValues, OffersValues};
 ghost use Rattle.dspec.specs.Lanes.{place_of};
 
 use crate::lane::Lane;
@@ -43,8 +36,7 @@ impl<'a, S: Schema> Lane<'a, S> {
     pub fn trace(&mut self, rec: &Rec) -> Traced
         requires accepted { IsTrue (S.accepted (schema_of self.old.cpu.now) rec.now) }
         ensures same { place_of self.new ≡ place_of self.old }
-        ensures keeps { CallKeeps (is_worn_trace result) (is_stopped_trace result) 1 self.old.cpu.now self.new.cpu.now }
-        ensures does { Does (traced_deeds (number_in self.old.cpu.now) rec.now result) (⟦<Cpu<S> as Listed>⟧.has_list self.old.cpu.now) (known (seat_of self.old.cpu.now)) (⟦<Cpu<S> as Listed>⟧.has_list self.new.cpu.now) (known (seat_of self.new.cpu.now)) }
+        ensures does { TracesOne ⟦<Cpu<S> as Listed>⟧.has_list rec.now result self.old.cpu.now self.new.cpu.now }
     {
         self.cpu.trace(self.shared, rec)
     }
@@ -53,11 +45,7 @@ impl<'a, S: Schema> Lane<'a, S> {
     #[inline]
     pub fn record(&mut self, epid: u32, stamp: u64, values: &[u64]) -> Option<Traced>
         ensures same { place_of self.new ≡ place_of self.old }
-        ensures due { IsSome result ↔ IsTrue (nat_le (length values.now) 8 && S.accepted (schema_of self.old.cpu.now) (record { epid = epid; stamp = stamp; values = values.now })) }
-        ensures refused { IfNone result (self.new.cpu.now ≡ self.old.cpu.now) }
-        ensures keeps { IfSome result (λ a. CallKeeps (is_worn_trace a) (is_stopped_trace a) 1 self.old.cpu.now self.new.cpu.now) }
-        ensures does { IfSome result (λ a. Does (traced_deeds (number_in self.old.cpu.now) (record { epid = epid; stamp = stamp; values = values.now }) a)
-            (⟦<Cpu<S> as Listed>⟧.has_list self.old.cpu.now) (known (seat_of self.old.cpu.now)) (⟦<Cpu<S> as Listed>⟧.has_list self.new.cpu.now) (known (seat_of self.new.cpu.now))) }
+        ensures does { RecordsValues ⟦<Cpu<S> as Listed>⟧.has_list S.accepted epid stamp values.now result self.old.cpu.now self.new.cpu.now }
     {
         self.cpu.record(self.shared, epid, stamp, values)
     }
@@ -66,8 +54,7 @@ impl<'a, S: Schema> Lane<'a, S> {
     #[inline]
     pub fn speculation(&mut self) -> Opening
         ensures same { place_of self.new ≡ place_of self.old }
-        ensures keeps { CallKeeps (is_worn_opening result) (is_stopped_opening result) (1 + 2 * (config_of self.old.cpu.now).nspec) self.old.cpu.now self.new.cpu.now }
-        ensures opens { Opens (config_of self.old.cpu.now) (number_in self.old.cpu.now) result (⟦<Cpu<S> as Listed>⟧.has_list self.old.cpu.now) (known (seat_of self.old.cpu.now)) (⟦<Cpu<S> as Listed>⟧.has_list self.new.cpu.now) (known (seat_of self.new.cpu.now)) }
+        ensures does { OpensOne ⟦<Cpu<S> as Listed>⟧.has_list result self.old.cpu.now self.new.cpu.now }
     {
         self.cpu.speculation(self.shared)
     }
@@ -76,8 +63,7 @@ impl<'a, S: Schema> Lane<'a, S> {
     #[inline]
     pub fn commit(&mut self, id: SpecId) -> Decided
         ensures same { place_of self.new ≡ place_of self.old }
-        ensures keeps { CallKeeps (is_worn_decided result) (is_stopped_decided result) 5 self.old.cpu.now self.new.cpu.now }
-        ensures decides { Decides (Commit (number_in self.old.cpu.now) id) id result (⟦<Cpu<S> as Listed>⟧.has_list self.old.cpu.now) (known (seat_of self.old.cpu.now)) (⟦<Cpu<S> as Listed>⟧.has_list self.new.cpu.now) (known (seat_of self.new.cpu.now)) }
+        ensures does { DecidesOne ⟦<Cpu<S> as Listed>⟧.has_list commit id result self.old.cpu.now self.new.cpu.now }
     {
         self.cpu.commit(self.shared, id)
     }
@@ -86,8 +72,7 @@ impl<'a, S: Schema> Lane<'a, S> {
     #[inline]
     pub fn discard(&mut self, id: SpecId) -> Decided
         ensures same { place_of self.new ≡ place_of self.old }
-        ensures keeps { CallKeeps (is_worn_decided result) (is_stopped_decided result) 5 self.old.cpu.now self.new.cpu.now }
-        ensures decides { Decides (Discard (number_in self.old.cpu.now) id) id result (⟦<Cpu<S> as Listed>⟧.has_list self.old.cpu.now) (known (seat_of self.old.cpu.now)) (⟦<Cpu<S> as Listed>⟧.has_list self.new.cpu.now) (known (seat_of self.new.cpu.now)) }
+        ensures does { DecidesOne ⟦<Cpu<S> as Listed>⟧.has_list discard id result self.old.cpu.now self.new.cpu.now }
     {
         self.cpu.discard(self.shared, id)
     }
@@ -97,8 +82,7 @@ impl<'a, S: Schema> Lane<'a, S> {
     pub fn speculate(&mut self, id: SpecId, rec: &Rec) -> Spoken
         requires accepted { IsTrue (S.accepted (schema_of self.old.cpu.now) rec.now) }
         ensures same { place_of self.new ≡ place_of self.old }
-        ensures keeps { CallKeeps (is_worn_spoken result) (is_stopped_spoken result) 4 self.old.cpu.now self.new.cpu.now }
-        ensures does { Does (spoken_deeds (number_in self.old.cpu.now) id rec.now result) (⟦<Cpu<S> as Listed>⟧.has_list self.old.cpu.now) (known (seat_of self.old.cpu.now)) (⟦<Cpu<S> as Listed>⟧.has_list self.new.cpu.now) (known (seat_of self.new.cpu.now)) }
+        ensures does { SpeculatesOne ⟦<Cpu<S> as Listed>⟧.has_list id rec.now result self.old.cpu.now self.new.cpu.now }
     {
         self.cpu.speculate(self.shared, id, rec)
     }
@@ -108,11 +92,7 @@ impl<'a, S: Schema> Lane<'a, S> {
     #[inline]
     pub fn offer(&mut self, id: SpecId, epid: u32, stamp: u64, values: &[u64]) -> Option<Spoken>
         ensures same { place_of self.new ≡ place_of self.old }
-        ensures due { IsSome result ↔ IsTrue (nat_le (length values.now) 8 && S.accepted (schema_of self.old.cpu.now) (record { epid = epid; stamp = stamp; values = values.now })) }
-        ensures refused { IfNone result (self.new.cpu.now ≡ self.old.cpu.now) }
-        ensures keeps { IfSome result (λ a. CallKeeps (is_worn_spoken a) (is_stopped_spoken a) 4 self.old.cpu.now self.new.cpu.now) }
-        ensures does { IfSome result (λ a. Does (spoken_deeds (number_in self.old.cpu.now) id (record { epid = epid; stamp = stamp; values = values.now }) a)
-            (⟦<Cpu<S> as Listed>⟧.has_list self.old.cpu.now) (known (seat_of self.old.cpu.now)) (⟦<Cpu<S> as Listed>⟧.has_list self.new.cpu.now) (known (seat_of self.new.cpu.now))) }
+        ensures does { OffersValues ⟦<Cpu<S> as Listed>⟧.has_list S.accepted id epid stamp values.now result self.old.cpu.now self.new.cpu.now }
     {
         self.cpu.offer(self.shared, id, epid, stamp, values)
     }
@@ -131,10 +111,7 @@ impl<'a, S: Schema> Lane<'a, S> {
     #[inline]
     pub fn service(&mut self) -> Served
         ensures same { place_of self.new ≡ place_of self.old }
-        ensures wears { worn_of self.new.cpu.now ≡ worn_of self.old.cpu.now }
-        ensures bounded { (known (seat_of self.new.cpu.now)).steps ≤ (known (seat_of self.old.cpu.now)).steps + 1 + 2 * (config_of self.old.cpu.now).nspec }
-        ensures moves { (end_of self.new.cpu.now).moves ≤ (end_of self.old.cpu.now).moves + most_moves (held_back_of self.old.cpu.now) }
-        ensures serves { Serves (config_of self.old.cpu.now) (number_in self.old.cpu.now) result (⟦<Cpu<S> as Listed>⟧.has_list self.old.cpu.now) (known (seat_of self.old.cpu.now)) (buffers_of self.old.cpu.now) (⟦<Cpu<S> as Listed>⟧.has_list self.new.cpu.now) (known (seat_of self.new.cpu.now)) (buffers_of self.new.cpu.now) }
+        ensures does { ServesOnce ⟦<Cpu<S> as Listed>⟧.has_list result self.old.cpu.now self.new.cpu.now }
     {
         self.cpu.service(self.shared)
     }

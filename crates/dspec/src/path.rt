@@ -1,16 +1,11 @@
-ghost use Rattle.std.specs.Prelude.{◌≡◌, ◌+◌, ◌*◌, ◌&&◌, ◌↔◌, nat_le, List, length, IsSome, IsTrue, IfNone, IfSome};
+ghost use Rattle.std.specs.Prelude.{◌≡◌, List};
 ghost use Rattle.dspec_deeds.specs.declared.deed.Deed.{Deed};
-ghost use Rattle.dspec_deeds.specs.declared.deed.Deed.TheVariants.{Commit, Discard};
 ghost use Rattle.dspec_deeds.specs.Own.{dropped_in};
 ghost use Rattle.dspec_deeds.specs.Told.{id_told};
-ghost use Rattle.dspec_side.specs.Counting.{is_stopped_opening};
-ghost use Rattle.dspec_table.specs.Seats.{known};
-ghost use Rattle.dspec_cpu.specs.Calls.{Decides, Does, spoken_deeds, is_worn_decided, is_worn_spoken};
+ghost use Rattle.dspec_promise.specs.Promise.{commit, discard};
 ghost use Rattle.dspec_cpu.specs.Dropped.{drops_told};
-ghost use Rattle.dspec_cpu.specs.Keeping.{CallKeeps};
-ghost use Rattle.dspec_cpu.specs.Lists.{config_of, number_in, schema_of, seat_of};
-ghost use Rattle.dspec_cpu.specs.Scans.{Opens, is_worn_opening};
-ghost use Rattle.dspec_cpu.specs.Stops.{is_stopped_decided, is_stopped_spoken};
+ghost use Rattle.dspec_cpu.specs.Lists.{number_in};
+ghost use Rattle.dspec_cpu.specs.OneCall.{OpensOne, DecidesOne, OffersValues};
 ghost use Rattle.dspec.specs.Lanes.{place_of};
 
 use crate::lane::Lane;
@@ -45,11 +40,7 @@ impl Path {
         values: &[u64],
     ) -> Option<Spoken>
         ensures same { place_of lane.new ≡ place_of lane.old }
-        ensures due { IsSome result ↔ IsTrue (nat_le (length values.now) 8 && S.accepted (schema_of lane.old.cpu.now) (record { epid = epid; stamp = stamp; values = values.now })) }
-        ensures refused { IfNone result (lane.new.cpu.now ≡ lane.old.cpu.now) }
-        ensures keeps { IfSome result (λ a. CallKeeps (is_worn_spoken a) (is_stopped_spoken a) 4 lane.old.cpu.now lane.new.cpu.now) }
-        ensures does { IfSome result (λ a. Does (spoken_deeds (number_in lane.old.cpu.now) (id_told self.now.opening) (record { epid = epid; stamp = stamp; values = values.now }) a)
-            (⟦<Cpu<S> as Listed>⟧.has_list lane.old.cpu.now) (known (seat_of lane.old.cpu.now)) (⟦<Cpu<S> as Listed>⟧.has_list lane.new.cpu.now) (known (seat_of lane.new.cpu.now))) }
+        ensures does { OffersValues ⟦<Cpu<S> as Listed>⟧.has_list S.accepted (id_told self.now.opening) epid stamp values.now result lane.old.cpu.now lane.new.cpu.now }
     {
         lane.offer(self.opening.id(), epid, stamp, values)
     }
@@ -68,8 +59,7 @@ impl Path {
     #[inline]
     pub fn keep<S: Schema>(self, lane: &mut Lane<'_, S>) -> Decided
         ensures same { place_of lane.new ≡ place_of lane.old }
-        ensures keeps { CallKeeps (is_worn_decided result) (is_stopped_decided result) 5 lane.old.cpu.now lane.new.cpu.now }
-        ensures decides { Decides (Commit (number_in lane.old.cpu.now) (id_told self.opening)) (id_told self.opening) result (⟦<Cpu<S> as Listed>⟧.has_list lane.old.cpu.now) (known (seat_of lane.old.cpu.now)) (⟦<Cpu<S> as Listed>⟧.has_list lane.new.cpu.now) (known (seat_of lane.new.cpu.now)) }
+        ensures does { DecidesOne ⟦<Cpu<S> as Listed>⟧.has_list commit (id_told self.opening) result lane.old.cpu.now lane.new.cpu.now }
     {
         let Path { opening } = self;
         lane.commit(opening.id())
@@ -79,8 +69,7 @@ impl Path {
     #[inline]
     pub fn throw<S: Schema>(self, lane: &mut Lane<'_, S>) -> Decided
         ensures same { place_of lane.new ≡ place_of lane.old }
-        ensures keeps { CallKeeps (is_worn_decided result) (is_stopped_decided result) 5 lane.old.cpu.now lane.new.cpu.now }
-        ensures decides { Decides (Discard (number_in lane.old.cpu.now) (id_told self.opening)) (id_told self.opening) result (⟦<Cpu<S> as Listed>⟧.has_list lane.old.cpu.now) (known (seat_of lane.old.cpu.now)) (⟦<Cpu<S> as Listed>⟧.has_list lane.new.cpu.now) (known (seat_of lane.new.cpu.now)) }
+        ensures does { DecidesOne ⟦<Cpu<S> as Listed>⟧.has_list discard (id_told self.opening) result lane.old.cpu.now lane.new.cpu.now }
     {
         let Path { opening } = self;
         lane.discard(opening.id())
@@ -92,8 +81,7 @@ impl<'a, S: Schema> Lane<'a, S> {
     #[inline]
     pub fn path(&mut self) -> Path
         ensures same { place_of self.new ≡ place_of self.old }
-        ensures keeps { CallKeeps (is_worn_opening result.opening) (is_stopped_opening result.opening) (1 + 2 * (config_of self.old.cpu.now).nspec) self.old.cpu.now self.new.cpu.now }
-        ensures opens { Opens (config_of self.old.cpu.now) (number_in self.old.cpu.now) result.opening (⟦<Cpu<S> as Listed>⟧.has_list self.old.cpu.now) (known (seat_of self.old.cpu.now)) (⟦<Cpu<S> as Listed>⟧.has_list self.new.cpu.now) (known (seat_of self.new.cpu.now)) }
+        ensures does { OpensOne ⟦<Cpu<S> as Listed>⟧.has_list result.opening self.old.cpu.now self.new.cpu.now }
     {
         Path {
             opening: self.speculation(),

@@ -1,13 +1,16 @@
 ghost use Rattle.std.specs.Prelude.{◌≡◌, ◌<◌, ℕ, [], ◌∷◌, IfOk, length, slice_get, Some};
 ghost use denote.Param.Send.{IsSync};
-ghost use Rattle.dspec_cpu.specs.Lists.{words_of};
+ghost use Rattle.dspec_cpu.specs.Called.{called};
+ghost use Rattle.dspec_cpu.specs.Lists.{number_in, schema_of, words_of};
 ghost use Rattle.dspec_cpu.specs.Standing.{IsCallable, identity};
 ghost use Rattle.dspec_consumer.specs.Consumers.{IsConsumerOf};
 ghost use Rattle.dspec_consumer.specs.declared.left.Left.{Left};
 ghost use Rattle.dspec_consumer.specs.Leaving.{AllSteady};
 ghost use Rattle.dspec_consumer.specs.Sessions.{IsSession};
 ghost use Rattle.dspec.specs.Lent.{AllCallable, AllReturned};
-ghost use Rattle.dspec.specs.Passed.{GotAll, IsTraced, PassesOn, rests_passed};
+ghost use Rattle.dspec.specs.Passed.{GotAll, HasLists, PassesOn, rests_passed};
+ghost use Rattle.dspec.specs.Traced.{IsTraced};
+ghost use Rattle.dspec.specs.Visits.{MakesRound, VisitsOne};
 
 use crate::lane::Lane;
 use crate::work::{Sink, Work};
@@ -32,12 +35,13 @@ fn work_all<R: Threads + Sync, W: Work<Enablings>>(
     over: &AtomicU64,
 ) -> Vec<Cpu<Enablings>>
     requires { AllCallable shared.now cpus.items }
-    ensures { AllReturned cpus.items result.items }
+    ensures { AllReturned (λ s. W.does s work.now) cpus.items result.items }
 {
     let mut cpus = cpus;
     let part = move |_number: usize, cpu: &mut Cpu<Enablings>|
         requires { IsCallable shared.now cpu.now }
-        ensures { identity cpu.exit.now ≡ identity cpu.entry.now }
+        ensures same { identity cpu.exit.now ≡ identity cpu.entry.now }
+        ensures did { W.does (schema_of cpu.entry.now) work.entry.now (number_in cpu.entry.now) (called cpu.entry.now) (called cpu.exit.now) }
     {
         let mut lane = Lane::of(shared, cpu);
         work.work(&mut lane);
@@ -56,7 +60,8 @@ fn visit<K: Sink<Enablings>>(
     sink: &mut K,
 )
     requires { IsConsumerOf (words_of shared.now) consumer.old }
-    ensures { PassesOn (K.gets schema.now) (words_of shared.now) consumer.old sink.old consumer.new sink.new }
+    ensures passes { PassesOn (K.gets schema.now) (words_of shared.now) consumer.old sink.old consumer.new sink.new }
+    ensures visited { VisitsOne (K.gets schema.now) cpu consumer.old sink.old consumer.new sink.new }
 {
     consumer.ask(shared, cpu);
     let Some(batch) = consumer.take(shared, cpu) else {
@@ -75,7 +80,8 @@ fn visit_all<K: Sink<Enablings>>(
     sink: &mut K,
 )
     requires { IsConsumerOf (words_of shared.now) consumer.old }
-    ensures { PassesOn (K.gets schema.now) (words_of shared.now) consumer.old sink.old consumer.new sink.new }
+    ensures passes { PassesOn (K.gets schema.now) (words_of shared.now) consumer.old sink.old consumer.new sink.new }
+    ensures round { MakesRound (K.gets schema.now) count consumer.old sink.old consumer.new sink.new }
 {
     for cpu in 0..count {
         visit(consumer, shared, schema, cpu, sink);
@@ -118,6 +124,7 @@ fn run<R: Threads + Sync, W: Work<Enablings>, K: Sink<Enablings>>(
     requires { IsSession schema.now session }
     ensures lent { IsSession schema.now result.0 }
     ensures words { result.0.shared ≡ session.shared }
+    ensures returned { AllReturned (λ s. W.does s work.now) session.cpus.items result.0.cpus.items }
     ensures passes { PassesOn (K.gets schema.now) (words_of session.shared) session.consumer sink result.0.consumer result.1 }
 {
     let over = AtomicU64::new(0);
@@ -136,7 +143,7 @@ fn run<R: Threads + Sync, W: Work<Enablings>, K: Sink<Enablings>>(
         { drain(consumer, words, schema, count, sink, flag) },
         move || -> Vec<Cpu<Enablings>>
             requires { IsSync R.row × AllCallable words.now cpus.items }
-            ensures { AllReturned cpus.items result.items }
+            ensures { AllReturned (λ s. W.does s work.entry.now) cpus.items result.items }
         { work_all(rt, cpus, words, work, flag) },
     );
     let (consumer, sink) = drained;
@@ -182,7 +189,8 @@ fn pass_rests<K: Sink<Enablings>>(closed: &Closed, schema: &Enablings, count: u3
 }
 
 /// A whole session: its CPUs work in threads of their own while a further one hands their batches to the sink; then it is closed, and
-/// what nobody had taken goes to the sink too, CPU by CPU: the batch that was sealed, and the last buffer.
+/// what nobody had taken goes to the sink too, CPU by CPU: the batch that was sealed, and the last buffer. Each CPU is promised, of what
+/// its work did and of what the sink got of it, what `dspec_promise` has on its page.
 pub fn trace<R: Threads + Sync, W: Work<Enablings>, K: Sink<Enablings>>(
     rt: &R,
     alloc: Global,
@@ -192,8 +200,10 @@ pub fn trace<R: Threads + Sync, W: Work<Enablings>, K: Sink<Enablings>>(
     sink: K,
 ) -> Result<(Closed, K), StartFault>
     ensures all { IfOk result (λ r. length r.0 ≡ config.now.cpus) }
-    ensures traced { IfOk result (λ r. IsTraced (K.gets schema) (⟦<Enablings as Schema>⟧.shape_of schema) (⟦<Enablings as Schema>⟧.accepted schema) (⟦<Enablings as Schema>⟧.text schema)
-        config.now sink r.0 r.1) }
+    ensures traced { IfOk result (λ r. IsTraced (K.gets schema) (W.does schema work.now) (⟦<Enablings as Schema>⟧.shape_of schema)
+        (⟦<Enablings as Schema>⟧.accepted schema) (⟦<Enablings as Schema>⟧.text schema) config.now sink r.0 r.1) }
+    ensures listed { IfOk result (λ r. HasLists (K.gets schema) (⟦<Enablings as Schema>⟧.shape_of schema) (⟦<Enablings as Schema>⟧.accepted schema)
+        (⟦<Enablings as Schema>⟧.text schema) config.now sink r.0 r.1) }
 {
     let session = Session::start(alloc, config, schema)?;
     let (session, mut sink) = run(rt, session, &schema, config.cpus, work, sink);

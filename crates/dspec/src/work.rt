@@ -1,4 +1,6 @@
 ghost use Rattle.std.specs.Prelude.{◌≡◌};
+ghost use Rattle.dspec_cpu.specs.Called.{called};
+ghost use Rattle.dspec_cpu.specs.Lists.{number_in, schema_of};
 ghost use Rattle.dspec.specs.Lanes.{place_of};
 
 use crate::lane::Lane;
@@ -8,9 +10,17 @@ use std::thread;
 
 /// What a CPU's thread does.
 pub trait Work<S: Schema>: Sync {
+    ghost use Rattle.std.specs.Prelude.{ℕ};
+    ghost use Rattle.dspec_cpu.specs.Called.{CallsMade};
+
+    // What the work does on the CPU with this number, whose records are of this schema: what its calls did before, and what they have
+    // done behind it. Whoever promises nothing of it leaves it out.
+    ghost does: { S → Self → ℕ → CallsMade → CallsMade → Type 0 } = { λ _ _ _ _ _. Unit {0} };
+
     /// Calls the lane as often as it likes, and leaves it the one that it was.
     fn work(&self, lane: &mut Lane<'_, S>)
-        ensures { place_of lane.new ≡ place_of lane.old };
+        ensures same { place_of lane.new ≡ place_of lane.old }
+        ensures did { does (schema_of lane.old.cpu.now) self.now (number_in lane.old.cpu.now) (called lane.old.cpu.now) (called lane.new.cpu.now) };
 }
 
 /// Who gets the batches of a session: while it runs, and behind its close what nobody had taken.

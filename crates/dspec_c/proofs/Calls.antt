@@ -4,6 +4,7 @@ use Rattle.std.specs.Prelude.{Result, Ok, Err, IfErr, IfNone, IfSome, MatchOptio
 use Rattle.dspec_ring.specs.declared.batch.Batch.{Batch}
 use Rattle.dspec_record.specs.EnablingRows.{EnabledRows}
 use Rattle.dspec_cpu.specs.declared.cpu.Cpu.{Cpu}
+use Rattle.dspec_cpu.specs.declared.shared.Shared.{Shared}
 use Rattle.dspec_consumer.specs.Batches.{FoundNone, GaveBack, IsNotTakenBack, Took}
 use Rattle.dspec_consumer.specs.Consumers.{Consuming}
 use Rattle.dspec_c.specs.ConsumerCalls.{OnConsumer, OnTheirs}
@@ -16,6 +17,11 @@ use Rattle.dspec_c.specs.declared.held.Held.TheVariants as held
 
 pub on_side : (did : Cpu EnabledRows → Cpu EnabledRows → Type 0) (old was new : Side) → was ≡ old → new.shared ≡ was.shared → did was.cpu new.cpu → OnSide did old new
 on_side did old was new e shared done = subst (λ (s : Side). OnSide did s new) e (record { shared = shared; cpu = done })
+
+-- where the CPU is in a box
+pub on_boxed : (did : Cpu EnabledRows → Cpu EnabledRows → Type 0) (old : Side) (shared : Shared) (was cpu : Cpu EnabledRows) (new : Side) → record { shared = shared; cpu = cpu } ≡ old → was ≡ cpu
+    → new.shared ≡ shared → did was new.cpu → OnSide did old new
+on_boxed did old shared was cpu new e f same done = on_side did old (record { shared = shared; cpu = cpu }) new e same (subst (λ (x : Cpu EnabledRows). did x new.cpu) f done)
 
 pub on_cpu : (did : Side → Side → Type 0) (stays : Type 0) (was : Held) (status : ℕ) (now : Held) (old new : Side) → was ≡ held.Cpu old → now ≡ held.Cpu new → did old new
     → OnCpu did stays was status now

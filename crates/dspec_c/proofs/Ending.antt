@@ -5,17 +5,17 @@ use Rattle.std.proofs.lemmas.List.{length-map, length-set}
 use Rattle.dspec_deeds.specs.declared.config.Config.{Config}
 use Rattle.dspec_deeds.specs.Ranges.{start_fault}
 use Rattle.dspec_record.specs.EnablingRows.{EnabledRows}
-use Rattle.dspec_table.specs.Seats.{set_up}
+use Rattle.dspec_table.specs.Seats.{last_seat, set_up}
 use Rattle.dspec_cpu.specs.declared.cpu.Cpu.{Cpu}
 use Rattle.dspec_cpu.specs.declared.shared.Shared.{Shared}
-use Rattle.dspec_cpu.specs.Lists.{words_of}
-use Rattle.dspec_consumer.specs.Consumers.{Consuming, IsConsumerOf, pairs_of, set_up_of}
-use Rattle.dspec_consumer.specs.Sessions.{IsCpuOf, IsSession}
+use Rattle.dspec_cpu.specs.Lists.{schema_of, words_of}
+use Rattle.dspec_consumer.specs.Consumers.{Consuming, IsConsumerOf, pairs_of, set_up_of, view_of}
+use Rattle.dspec_consumer.specs.Sessions.{Has, IsCpuOf, IsFresh, IsSession}
 use Rattle.dspec_consumer.specs.declared.session.Session.{Session}
 use Rattle.dspec_cpu.specs.Standing.{identity}
 use Rattle.dspec_c.specs.ConsumerHomes.{IsSameTheirs, Theirs}
 use Rattle.dspec_c.specs.Homes.{Side}
-use Rattle.dspec_c.specs.Whole.{AllCalled, AllIn, AllWait, EachFrom, Going, IsJustStarted, IsCpuAt, IsEnding, IsPlaceOf, IsStarted, IsWaiting, IsWhole, waiting_so}
+use Rattle.dspec_c.specs.Whole.{AllCalled, AllWait, EachFrom, Going, IsFreshIn, IsJustStarted, IsCpuAt, IsEnding, IsPlaceOf, IsStarted, IsWaiting, IsWhole, waiting_so}
 use Rattle.dspec_c.proofs.Each.{each_waits, each_without}
 
 abbrev if_some : {X : Type 0} → Option X → Type 0
@@ -107,9 +107,10 @@ all_wait shared clone n cpus consumer waiting home is e f g = record {
   consumer = (ap (λ (t : Theirs). t.shared) f ∙ g, ap (λ (t : Theirs). (set_up_of t.consumer).cpus) f ∙ ap (λ (k : Config). k.cpus) is.theirs.1 ∙ sym is.count);
 }
 
-all_some : (shared : Shared) (cpus : List (Cpu EnabledRows)) → AllIn (map (waiting_so shared) cpus)
-all_some shared [] = tt
-all_some shared (cpu ∷ cpus) = (refl, all_some shared cpus)
+all_fresh : (shared : Shared) (schema : EnabledRows) (n : ℕ) (cpus : List (Cpu EnabledRows))
+    → ((c : ℕ) (cpu : Cpu EnabledRows) → slice_get cpus c ≡ Some cpu → (schema_of cpu ≡ schema) × IsFresh Has cpu) → EachFrom (IsFreshIn schema) n (map (waiting_so shared) cpus)
+all_fresh shared schema n [] is = tt
+all_fresh shared schema n (cpu ∷ cpus) is = (is 0 cpu refl, all_fresh shared schema (suc n) cpus (λ c x at. is (suc c) x at))
 
 -- what doesn't wait any more is of no matter
 pub one_goes : (shared : Shared) (n c : ℕ) (waiting now : List (Option Side)) (theirs : Option Theirs) → AllWait shared n waiting theirs → now ≡ slice_set waiting c None → AllWait shared n now theirs
@@ -125,12 +126,20 @@ pub waits_there : (shared : Shared) (n c : ℕ) (waiting : List (Option Side)) (
 waits_there shared n c waiting None theirs is at = tt
 waits_there shared n c waiting (Some side) theirs is at = subst (λ k. IsWaiting shared k (Some side)) (omega arith) (each_at (IsWaiting shared) 0 waiting c (Some side) is.each at)
 
+unasked_there : (k : Config) (consumer : Consuming) (o : Option Theirs) → view_of consumer ≡ last_seat k → IfSome o (λ (t : Theirs). t.consumer ≡ consumer)
+    → IfSome o (λ (t : Theirs). view_of t.consumer ≡ last_seat k)
+unasked_there k consumer None e is = tt
+unasked_there k consumer (Some t) e is = ap (λ (x : Consuming). view_of x) is ∙ e
+
 -- so it is begun
-pub begun : (k : Config) (shared common : Shared) (cpus : List (Cpu EnabledRows)) (n : ℕ) (w : Going) → set_up (words_of shared) ≡ k → common ≡ shared → n ≡ k.cpus → w.shared ≡ common → w.cpus ≡ n
-    → w.waiting ≡ map (waiting_so common) cpus → IsSome w.consumer → IsJustStarted k w
-begun k shared common cpus n w is e f g h i some = record {
+pub begun : (k : Config) (schema : EnabledRows) (shared common : Shared) (cpus : List (Cpu EnabledRows)) (consumer : Consuming) (n : ℕ) (w : Going)
+    → ((c : ℕ) (cpu : Cpu EnabledRows) → slice_get cpus c ≡ Some cpu → (schema_of cpu ≡ schema) × IsFresh Has cpu) → view_of consumer ≡ last_seat k
+    → set_up (words_of shared) ≡ k → common ≡ shared → n ≡ k.cpus → w.shared ≡ common → w.cpus ≡ n
+    → w.waiting ≡ map (waiting_so common) cpus → IsSome w.consumer × IfSome w.consumer (λ (t : Theirs). t.consumer ≡ consumer) → IsJustStarted k schema w
+begun k schema shared common cpus consumer n w fresh unasked is e f g h i some = record {
   config = ap (λ (s : Shared). set_up (words_of s)) (g ∙ e) ∙ is;
   cpus = h ∙ f;
-  all = subst AllIn (sym i) (all_some common cpus);
-  consumer = some;
+  all = subst (EachFrom (IsFreshIn schema) 0) (sym i) (all_fresh common schema 0 cpus fresh);
+  consumer = some.0;
+  theirs = unasked_there k consumer w.consumer unasked some.1;
 }

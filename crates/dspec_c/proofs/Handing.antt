@@ -1,11 +1,12 @@
 -- Whether a CPU or the consumer is handed out.
-use Rattle.std.proofs.Common.{◌≡◌, ℕ, Bool, true, false, Option, Some, None, refl, sym, ap, ◌∙◌, subst, inl, inr}
+use Rattle.std.proofs.Common.{◌≡◌, ℕ, Bool, true, false, Option, Some, None, sym, ap, ◌∙◌, subst, inl, inr}
 use Rattle.std.specs.Prelude.{is_some, nat_lt, if◌then◌else◌}
 use Rattle.dspec_deeds.specs.declared.config.Config.{Config}
 use Rattle.dspec_deeds.specs.Ranges.{start_fault}
-use Rattle.dspec_c.specs.SessionCalls.{Begins, HandsOut, StartsSo, consumer_due, cpu_due}
+use Rattle.dspec_record.specs.EnablingRows.{EnabledRows}
+use Rattle.dspec_c.specs.SessionCalls.{HandsOut, KeptSo, StartsSo, consumer_due, cpu_due}
 use Rattle.dspec_c.specs.Statuses.{already_out, no_memory, no_such_cpu}
-use Rattle.dspec_c.specs.Whole.{Going, waits_in}
+use Rattle.dspec_c.specs.Whole.{Going, IsJustStarted, waits_in}
 use Rattle.dspec_c.specs.declared.handle.Handle.{Handle}
 
 pub due_unknown : (c : ℕ) (old : Going) → nat_lt c old.cpus ≡ false → cpu_due c old ≡ Some no_such_cpu
@@ -36,5 +37,8 @@ module _ (gives : Going → Going → Handle → Type 0) (due : Option ℕ) (old
   given e is done = subst (λ (o : Option ℕ). HandsOut gives o old status new was now) (sym e) (inl (is, done))
 
 -- a session that was asked for and begun
-pub starts : (o : Option Config) (k : Config) (was now : Handle) → Some k ≡ o → start_fault k ≡ None → Begins k now → StartsSo o 0 was now
-starts o k was now e fine begun = subst (λ (p : Option Config). StartsSo p 0 was now) e (inl (fine, inl (refl, begun)))
+pub starts : (o : Option Config) (k : Config) (schema : EnabledRows) (whole : Going) (status : ℕ) (was now : Handle) → Some k ≡ o → start_fault k ≡ None → IsJustStarted k schema whole
+    → KeptSo whole status was now → StartsSo o schema status was now
+starts o k schema whole status was now e fine begun (inl is) = subst (λ (p : Option Config). StartsSo p schema status was now) e
+    (inl (fine, inl (is.0, record { full = is.1; whole = whole; holds = is.2; begun = begun })))
+starts o k schema whole status was now e fine begun (inr is) = subst (λ (p : Option Config). StartsSo p schema status was now) e (inl (fine, inr is))

@@ -22,6 +22,10 @@ pub record IsOutTheirs (sent : List Theirs) (side : Theirs) : Type 0 where
   pub was : sent ≡ first ∷ []
   pub same : IsSameTheirs first side
 
+pub record HasGoneTheirs (side : Theirs) (sent : List Theirs) : Type 0 where
+  pub first : Theirs
+  pub went : sent ≡ first ∷ side ∷ []
+
 pub record IsDeskTheirs (first : Theirs) (received : List Theirs) (home : Option Theirs) : Type 0 where
   pub out : IfNone home (received ≡ first ∷ [])
   pub same : IfSome home (λ x. IsSameTheirs first x)

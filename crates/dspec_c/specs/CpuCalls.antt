@@ -1,5 +1,5 @@
 -- The calls on a CPU's handle: each did what the library's call says of its answer.
-use Rattle.std.specs.Prelude.{ℕ, ◌≡◌, ◌<◌, ◌≤◌, ◌+◌, ◌*◌, ◌&&◌, ◌↔◌, nat_le, Bool, List, length, Option, IsSome, IfSome, IfNone, IsTrue, ⊤}
+use Rattle.std.specs.Prelude.{ℕ, ◌≡◌, ◌<◌, Bool, List, Option, ⊤}
 use Rattle.dspec_word.specs.SpecId.{Speculation, id_number}
 use Rattle.dspec_record.specs.Record.{Record}
 use Rattle.dspec_record.specs.EnablingRows.{EnabledRows}
@@ -9,22 +9,14 @@ use Rattle.dspec_deeds.specs.declared.calls.Opening.{Opening}
 use Rattle.dspec_deeds.specs.declared.calls.Served.{Served}
 use Rattle.dspec_deeds.specs.declared.calls.Spoken.{Spoken}
 use Rattle.dspec_deeds.specs.declared.calls.Traced.{Traced}
-use Rattle.dspec_deeds.specs.declared.deed.DecideFate.{DecideFate}
 use Rattle.dspec_deeds.specs.declared.deed.Deed.{Deed}
-use Rattle.dspec_deeds.specs.declared.deed.Deed.TheVariants.{Commit, Discard}
 use Rattle.dspec_deeds.specs.declared.report.Report.{Report}
 use Rattle.dspec_deeds.specs.Reports.{report}
-use Rattle.dspec_table.specs.Seats.{known}
-use Rattle.dspec_side.specs.Counting.{is_stopped_opening}
+use Rattle.dspec_promise.specs.Promise.{By, commit, discard}
 use Rattle.dspec_cpu.specs.declared.cpu.Cpu.{Cpu}
-use Rattle.dspec_cpu.specs.Calls.{Decides, Does, is_worn_decided, is_worn_spoken, is_worn_trace, spoken_deeds, traced_deeds}
-use Rattle.dspec_cpu.specs.Keeping.{CallKeeps}
-use Rattle.dspec_cpu.specs.Lists.{config_of, end_of, held_back_of, number_in, schema_of, seat_of, worn_of}
-use Rattle.dspec_cpu.specs.Scans.{Opens, is_worn_opening}
-use Rattle.dspec_cpu.specs.Serving.{Serves}
+use Rattle.dspec_cpu.specs.Lists.{config_of, number_in, worn_of}
+use Rattle.dspec_cpu.specs.OneCall.{OpensOne, DecidesOne, ServesOnce, RecordsValues, OffersValues}
 use Rattle.dspec_cpu.specs.Standing.{identity}
-use Rattle.dspec_cpu.specs.Stops.{is_stopped_decided, is_stopped_spoken, is_stopped_trace}
-use Rattle.dspec_cpu.specs.Switching.{buffers_of, most_moves}
 use Rattle.dspec_consumer.specs.Sessions.{Has}
 use Rattle.dspec_c.specs.Answered.{Answered, AnsweredWith}
 use Rattle.dspec_c.specs.Homes.{Side}
@@ -34,50 +26,34 @@ use Rattle.dspec_c.specs.declared.held.Held.{Held}
 use Rattle.dspec_c.specs.declared.held.Held.TheVariants as held
 use Rattle.dspec_c.specs.declared.reports.CReport.{CReport}
 
--- what is offered: the record with these values
-abbrev pub offered : ℕ → ℕ → List ℕ → Record
-offered epid stamp values = record { epid = epid; stamp = stamp; values = values }
-
--- there are no more than eight values, and the CPU's schema accepts the record with them
-abbrev pub passes : Cpu EnabledRows → ℕ → ℕ → List ℕ → Bool
-passes cpu epid stamp values =
-    nat_le (length values) 8 && table_accepts (schema_of cpu).header (enabled (schema_of cpu).rows) (offered epid stamp values)
+-- which records a CPU's schema accepts
+abbrev pub accepts_at : EnabledRows → Record → Bool
+accepts_at e = table_accepts e.header (enabled e.rows)
 
 -- `Cpu::record`
 pub record Recorded (epid stamp : ℕ) (values : List ℕ) (a : Option Traced) (old new : Cpu EnabledRows) : Type 0 where
   pub same : identity new ≡ identity old
-  pub due : IsSome a ↔ IsTrue (passes old epid stamp values)
-  pub refused : IfNone a (new ≡ old)
-  pub keeps : IfSome a (λ t. CallKeeps (is_worn_trace t) (is_stopped_trace t) 1 old new)
-  pub does : IfSome a (λ t. Does (traced_deeds (number_in old) (offered epid stamp values) t) (Has old) (known (seat_of old)) (Has new) (known (seat_of new)))
+  pub does : RecordsValues Has accepts_at epid stamp values a old new
 
 -- `Cpu::offer`
 pub record Offered (id : Speculation) (epid stamp : ℕ) (values : List ℕ) (a : Option Spoken) (old new : Cpu EnabledRows) : Type 0 where
   pub same : identity new ≡ identity old
-  pub due : IsSome a ↔ IsTrue (passes old epid stamp values)
-  pub refused : IfNone a (new ≡ old)
-  pub keeps : IfSome a (λ s. CallKeeps (is_worn_spoken s) (is_stopped_spoken s) 4 old new)
-  pub does : IfSome a (λ s. Does (spoken_deeds (number_in old) id (offered epid stamp values) s) (Has old) (known (seat_of old)) (Has new) (known (seat_of new)))
+  pub does : OffersValues Has accepts_at id epid stamp values a old new
 
 -- `Cpu::speculation`
 pub record Opened (a : Opening) (old new : Cpu EnabledRows) : Type 0 where
   pub same : identity new ≡ identity old
-  pub keeps : CallKeeps (is_worn_opening a) (is_stopped_opening a) (1 + 2 * (config_of old).nspec) old new
-  pub opens : Opens (config_of old) (number_in old) a (Has old) (known (seat_of old)) (Has new) (known (seat_of new))
+  pub does : OpensOne Has a old new
 
--- `Cpu::commit` and `Cpu::discard`, by the deed of which a fate is
-pub record DecidedAs (deed : ℕ → Speculation → DecideFate → Deed) (id : Speculation) (a : Decided) (old new : Cpu EnabledRows) : Type 0 where
+-- `Cpu::commit` and `Cpu::discard`
+pub record DecidedAs (b : By) (id : Speculation) (a : Decided) (old new : Cpu EnabledRows) : Type 0 where
   pub same : identity new ≡ identity old
-  pub keeps : CallKeeps (is_worn_decided a) (is_stopped_decided a) 5 old new
-  pub decides : Decides (deed (number_in old) id) id a (Has old) (known (seat_of old)) (Has new) (known (seat_of new))
+  pub does : DecidesOne Has b id a old new
 
 -- `Cpu::service`
 pub record ServicedSo (a : Served) (old new : Cpu EnabledRows) : Type 0 where
   pub same : identity new ≡ identity old
-  pub wears : worn_of new ≡ worn_of old
-  pub bounded : (known (seat_of new)).steps ≤ (known (seat_of old)).steps + 1 + 2 * (config_of old).nspec
-  pub moves : (end_of new).moves ≤ (end_of old).moves + most_moves (held_back_of old)
-  pub serves : Serves (config_of old) (number_in old) a (Has old) (known (seat_of old)) (buffers_of old) (Has new) (known (seat_of new)) (buffers_of new)
+  pub does : ServesOnce Has a old new
 
 -- `Cpu::report`: it counts whichever list the CPU has
 abbrev pub Reports : Cpu EnabledRows → Report → Type 0
@@ -111,16 +87,16 @@ abbrev pub SpeculateAnswers : ℕ → ℕ → ℕ → List ℕ → Held → ℕ 
 SpeculateAnswers number epid stamp values was status now =
     OnCpu (λ old new. (id : Speculation) × Names number id × Answered spoken_status (λ a. OnSide (Offered id epid stamp values a) old new) status) ⊤ was status now
 
-abbrev pub DecideAnswers : (ℕ → Speculation → DecideFate → Deed) → ℕ → Held → ℕ → ℕ → ℕ → Held → Type 0
-DecideAnswers deed number was status before count now =
-    OnCpu (λ old new. (id : Speculation) × Names number id × AnsweredWith decided_status decided_number (λ a. OnSide (DecidedAs deed id a) old new) status before count)
+abbrev pub DecideAnswers : By → ℕ → Held → ℕ → ℕ → ℕ → Held → Type 0
+DecideAnswers b number was status before count now =
+    OnCpu (λ old new. (id : Speculation) × Names number id × AnsweredWith decided_status decided_number (λ a. OnSide (DecidedAs b id a) old new) status before count)
     (count ≡ before) was status now
 
 abbrev pub CommitAnswers : ℕ → Held → ℕ → ℕ → ℕ → Held → Type 0
-CommitAnswers = DecideAnswers Commit
+CommitAnswers = DecideAnswers commit
 
 abbrev pub DiscardAnswers : ℕ → Held → ℕ → ℕ → ℕ → Held → Type 0
-DiscardAnswers = DecideAnswers Discard
+DiscardAnswers = DecideAnswers discard
 
 abbrev pub ServiceAnswers : Held → ℕ → Served → Served → Held → Type 0
 ServiceAnswers was status before told now = OnCpu (λ old new. (status ≡ 0) × OnSide (ServicedSo told) old new) (told ≡ before) was status now

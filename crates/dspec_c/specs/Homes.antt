@@ -26,6 +26,11 @@ pub record IsOut (sent : List Side) (side : Side) : Type 0 where
   pub was : sent ≡ first ∷ []
   pub same : IsSameSide first side
 
+-- The CPU has gone home: it went through its ring as it was held, behind what went through when it was made.
+pub record HasGone (side : Side) (sent : List Side) : Type 0 where
+  pub first : Side
+  pub went : sent ≡ first ∷ side ∷ []
+
 -- What is at home is the same CPU as the first; while nothing is, the ring has given that one alone.
 pub record IsDesk (first : Side) (received : List Side) (home : Option Side) : Type 0 where
   pub out : IfNone home (received ≡ first ∷ [])

@@ -25,24 +25,28 @@ abbrev pub StampAnswers : Held → ℕ → Held → Type 0
 StampAnswers (held.Schema e) status now = (status ≡ 0) × (now ≡ held.Schema (record { header = Two; rows = e.rows }))
 StampAnswers was status now = (status ≡ bad_handle) × (now ≡ was)
 
--- a session was started with this, and the handle has it
-pub record Begins (k : Config) (now : Handle) : Type 0 where
+-- a session was started with this, over this schema, and the handle has it
+pub record Begins (k : Config) (schema : EnabledRows) (now : Handle) : Type 0 where
   pub full : is_full now ≡ true
   pub whole : Going
   pub holds : held_in now ≡ held.Session whole
-  pub begun : IsJustStarted k whole
+  pub begun : IsJustStarted k schema whole
+
+-- a session is in the handle; or memory was refused, and that stays as it was
+abbrev pub KeptSo : Going → ℕ → Handle → Handle → Type 0
+KeptSo whole status was now = ((status ≡ 0) × (is_full now ≡ true) × (held_in now ≡ held.Session whole)) ⊎ ((status ≡ no_memory) × (now ≡ was))
 
 -- Whether a session starts with what was asked for, which has no policy where that isn't one; where it doesn't, the handle for it
 -- stays as it was.
-abbrev pub StartsSo : Option Config → ℕ → Handle → Handle → Type 0
-StartsSo None status was now = (status ≡ bad_policy) × (now ≡ was)
-StartsSo (Some k) status was now =
-    ((start_fault k ≡ None) × (((status ≡ 0) × Begins k now) ⊎ ((status ≡ no_memory) × (now ≡ was))))
+abbrev pub StartsSo : Option Config → EnabledRows → ℕ → Handle → Handle → Type 0
+StartsSo None schema status was now = (status ≡ bad_policy) × (now ≡ was)
+StartsSo (Some k) schema status was now =
+    ((start_fault k ≡ None) × (((status ≡ 0) × Begins k schema now) ⊎ ((status ≡ no_memory) × (now ≡ was))))
     ⊎ ((fault : StartFault) × (start_fault k ≡ Some fault) × (status ≡ start_status fault) × (now ≡ was))
 
 -- a schema is looked at, and stays as it was
 abbrev pub StartAnswers : Option Config → Held → ℕ → Held → Handle → Handle → Type 0
-StartAnswers k (held.Schema e) status left was now = (left ≡ held.Schema e) × StartsSo k status was now
+StartAnswers k (held.Schema e) status left was now = (left ≡ held.Schema e) × StartsSo k e status was now
 StartAnswers k schema status left was now = (left ≡ schema) × (status ≡ bad_handle) × (now ≡ was)
 
 abbrev pub is_cpu_in : Held → Bool

@@ -1,17 +1,17 @@
 -- What a session between its start and its end keeps of its parts.
-use Rattle.std.specs.Prelude.{ℕ, ◌≡◌, Bool, false, List, [], ◌∷◌, Option, Some, None, IfSome, IsSome, is_some, ⊤, suc, length, slice_get}
+use Rattle.std.specs.Prelude.{ℕ, ◌≡◌, Bool, false, List, [], ◌∷◌, Option, Some, None, IfSome, IsSome, is_some, ⊤, suc, length, map, slice_get}
 use Rattle.std.specs.Option.{option_map_or}
 use Rattle.dspec_deeds.specs.declared.config.Config.{Config}
 use Rattle.dspec_deeds.specs.Ranges.{start_fault}
 use Rattle.dspec_record.specs.EnablingRows.{EnabledRows}
 use Rattle.dspec_ring.specs.Known.{Pair}
-use Rattle.dspec_table.specs.Seats.{set_up}
+use Rattle.dspec_table.specs.Seats.{last_seat, set_up}
 use Rattle.dspec_cpu.specs.declared.cpu.Cpu.{Cpu}
 use Rattle.dspec_cpu.specs.declared.shared.Shared.{Shared}
-use Rattle.dspec_cpu.specs.Lists.{number_in, words_of}
+use Rattle.dspec_cpu.specs.Lists.{number_in, schema_of, words_of}
 use Rattle.dspec_cpu.specs.Standing.{IsCallable, identity}
-use Rattle.dspec_consumer.specs.Consumers.{Consuming, IsConsumerOf, pairs_of, set_up_of}
-use Rattle.dspec_consumer.specs.Sessions.{IsCpuOf}
+use Rattle.dspec_consumer.specs.Consumers.{Consuming, IsConsumerOf, pairs_of, set_up_of, view_of}
+use Rattle.dspec_consumer.specs.Sessions.{Has, IsCpuOf, IsFresh}
 use Rattle.dspec_c.specs.ConsumerHomes.{Theirs}
 use Rattle.dspec_c.specs.Homes.{Side}
 
@@ -73,17 +73,23 @@ pub record Going : Type 0 where
   pub waiting : List (Option Side)
   pub consumer : Option Theirs
 
--- each waits
-abbrev pub AllIn : List (Option Side) → Type 0
-AllIn [] = ⊤
-AllIn (x ∷ xs) = IsSome x × AllIn xs
+-- all of what was started waits to be handed out: these CPUs, so many, and this consumer
+abbrev pub HasAll : Shared → List (Cpu EnabledRows) → Consuming → ℕ → Going → Type 0
+HasAll shared cpus consumer count w =
+    (w.shared ≡ shared) × (w.cpus ≡ count) × (w.waiting ≡ map (waiting_so shared) cpus) × IsSome w.consumer × IfSome w.consumer (λ (t : Theirs). t.consumer ≡ consumer)
 
--- it was started with this, and all of it waits to be handed out
-pub record IsJustStarted (k : Config) (w : Going) : Type 0 where
+-- a CPU waits whose records are of this schema, and of which nothing was asked yet
+abbrev pub IsFreshIn : EnabledRows → ℕ → Option Side → Type 0
+IsFreshIn schema c None = ⊥
+IsFreshIn schema c (Some side) = (schema_of side.cpu ≡ schema) × IsFresh Has side.cpu
+
+-- it was started with this, over this schema, all of it waits to be handed out, and nothing was asked of it yet
+pub record IsJustStarted (k : Config) (schema : EnabledRows) (w : Going) : Type 0 where
   pub config : set_up (words_of w.shared) ≡ k
   pub cpus : w.cpus ≡ k.cpus
-  pub all : AllIn w.waiting
+  pub all : EachFrom (IsFreshIn schema) 0 w.waiting
   pub consumer : IsSome w.consumer
+  pub theirs : IfSome w.consumer (λ (t : Theirs). view_of t.consumer ≡ last_seat k)
 
 -- whether the CPU of this number waits
 abbrev pub waits_in : ℕ → List (Option Side) → Bool

@@ -2,8 +2,10 @@ ghost use Rattle.std.specs.Prelude.{◌≡◌, length, replicate, IfOk, None};
 ghost use Rattle.dspec_consumer.specs.Consumers.{set_up_of};
 
 use crate::batches::CBatch;
+use crate::consumer_homing::{ConsumerHoming, ConsumerRule};
 use crate::out_consumer::OutConsumer;
 use dspec_ring::Batch;
+use rtrb::Producer;
 use std::alloc::{AllocError, Global};
 
 /// What a take found.
@@ -43,7 +45,9 @@ pub struct ConsumerSide {
 impl ConsumerSide {
     ghost use Rattle.std.specs.Prelude.{◌≡◌, length};
     ghost use Rattle.dspec_consumer.specs.Consumers.{set_up_of};
+    ghost use Rattle.rtrb.specs.Ring.{sent};
     ghost use Rattle.dspec_consumer.specs.Stopping.{Stopped};
+    ghost use Rattle.dspec_c.specs.ConsumerHomes.{HasGoneTheirs};
     ghost use Rattle.dspec_c.specs.ConsumerCalls.{Asks, CleansSo, Finds, OnOut, Returns};
 
     pub fn new(out: OutConsumer, taken: Vec<Option<Batch>>) -> ConsumerSide
@@ -111,10 +115,12 @@ impl ConsumerSide {
         }
     }
 
-    /// Sends the consumer home; the batches that are out are let go.
-    pub fn go_home(self) {
+    /// Sends the consumer home, by the way that it gives back; the batches that are out are let go.
+    pub fn go_home(self) -> Producer<ConsumerHoming, Global, ConsumerRule>
+        ensures { HasGoneTheirs self.out (sent result) }
+    {
         let ConsumerSide { out, taken: _ } = self;
-        out.go_home();
+        out.go_home()
     }
 }
 

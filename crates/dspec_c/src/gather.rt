@@ -1,13 +1,18 @@
-ghost use Rattle.std.specs.Prelude.{◌≡◌, ◌<◌, ◌∷◌, ℕ, List, length, IfSome, IfNone, Some, None, false, slice_get, slice_set};
+ghost use Rattle.std.specs.Prelude.{◌≡◌, ◌<◌, ◌∷◌, ℕ, List, length, IfSome, IfNone, IsSomeAnd, Some, None, false, slice_get, slice_set};
 ghost use Rattle.dspec_cpu.specs.declared.shared.Shared.{Shared};
 ghost use Rattle.dspec_record.specs.EnablingRows.{EnabledRows};
 ghost use Rattle.dspec_ring.specs.Known.{Pair};
+ghost use Rattle.rtrb.specs.Ring.{sent};
+ghost use Rattle.dspec_c.specs.Homes.{HasGone};
 ghost use Rattle.dspec_c.specs.Whole.{EachFrom, IsCpuAt, IsPlaceOf, waits_in};
 
+use crate::homing::{HomeRule, Homing};
 use crate::out_cpu::OutCpu;
 use crate::place::Place;
 use dspec_cpu::Cpu;
 use dspec_record::Enablings;
+use rtrb::Producer;
+use std::alloc::Global;
 
 /// Whether such a CPU waits to be handed out.
 pub fn waits(outs: &[Option<OutCpu>], cpu: usize) -> bool
@@ -51,9 +56,13 @@ pub fn all_home(places: &mut Vec<Place>, outs: &[Option<OutCpu>]) -> bool
     true
 }
 
-fn send_one_home(out: Option<OutCpu>) {
-    if let Some(cpu) = out {
-        cpu.go_home();
+// Sends home a CPU that was never handed out, by the way that this gives back.
+fn send_one_home(out: Option<OutCpu>) -> Option<Producer<Homing, Global, HomeRule>>
+    ensures { IfSome out (λ side. IsSomeAnd result (λ way. HasGone side (sent way))) }
+{
+    match out {
+        Some(cpu) => Some(cpu.go_home()),
+        None => None,
     }
 }
 
@@ -61,7 +70,7 @@ fn send_one_home(out: Option<OutCpu>) {
 pub fn send_home(outs: Vec<Option<OutCpu>>) {
     let mut outs = outs;
     for cpu in 0..outs.len() {
-        send_one_home(take_out(&mut outs, cpu));
+        let _way = send_one_home(take_out(&mut outs, cpu));
     }
 }
 
@@ -84,6 +93,7 @@ fn cpu_of(place: Place) -> Option<Cpu<Enablings>>
 }
 
 /// All CPUs, in order, where all are home; `all_home` has looked.
+#[inline(never)]
 pub fn gather(places: Vec<Place>, room: Vec<Cpu<Enablings>>) -> Option<Vec<Cpu<Enablings>>>
     requires empty { length room.items ≡ 0 }
     ensures home { IfSome result (λ cpus. (shared : Shared) (schema : EnabledRows) (pairs : List Pair) → EachFrom (IsPlaceOf shared schema pairs) 0 places.items → EachFrom (IsCpuAt shared schema pairs) 0 cpus.items) }

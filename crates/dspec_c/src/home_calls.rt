@@ -1,12 +1,20 @@
 //! The exports that bring a CPU and the consumer home, and that let go what a handle holds.
 
-ghost use Rattle.std.specs.Prelude.{◌≡◌, false};
+ghost use Rattle.std.specs.Prelude.{◌≡◌, false, IsSomeAnd};
+ghost use Rattle.rtrb.specs.Ring.{sent};
+ghost use Rattle.dspec_c.specs.ConsumerHomes.{HasGoneTheirs};
 ghost use Rattle.dspec_c.specs.Handles.{held_in, is_full};
+ghost use Rattle.dspec_c.specs.Homes.{HasGone, Side};
 ghost use Rattle.dspec_c.specs.SessionCalls.{HomeAnswers, is_consumer_in, is_cpu_in};
+ghost use Rattle.dspec_c.specs.declared.consumer_side.ConsumerSide.{ConsumerSide};
+ghost use Rattle.dspec_c.specs.declared.held.Held.TheVariants as held_as;
 
+use crate::consumer_homing::{ConsumerHoming, ConsumerRule};
 use crate::handle::Handle;
 use crate::held::Held;
+use crate::homing::{HomeRule, Homing};
 use crate::statuses::{BAD_HANDLE, OK};
+use rtrb::Producer;
 use std::alloc::Global;
 
 fn is_cpu(held: &Held) -> bool
@@ -21,11 +29,23 @@ fn is_consumer(held: &Held) -> bool
     matches!(held, Held::Consumer(_))
 }
 
-fn send_home(held: Held) {
+// Sends the CPU that is held home, by the way that this gives back.
+fn send_cpu_home(held: Held) -> Option<Producer<Homing, Global, HomeRule>>
+    ensures { (side : Side) → held ≡ held_as.Cpu side → IsSomeAnd result (λ way. HasGone side (sent way)) }
+{
     match held {
-        Held::Cpu(out) => out.go_home(),
-        Held::Consumer(side) => side.go_home(),
-        _ => {}
+        Held::Cpu(out) => Some(out.go_home()),
+        _ => None,
+    }
+}
+
+// Sends the consumer that is held home, by the way that this gives back.
+fn send_consumer_home(held: Held) -> Option<Producer<ConsumerHoming, Global, ConsumerRule>>
+    ensures { (side : ConsumerSide) → held ≡ held_as.Consumer side → IsSomeAnd result (λ way. HasGoneTheirs side.out (sent way)) }
+{
+    match held {
+        Held::Consumer(side) => Some(side.go_home()),
+        _ => None,
     }
 }
 
@@ -41,7 +61,7 @@ pub extern "C" fn dspec_cpu_home(alloc: Global, cpu: &mut Handle) -> u32
         cpu.put(held);
         return BAD_HANDLE;
     }
-    send_home(Box::into_inner(held));
+    let _way = send_cpu_home(Box::into_inner(held));
     OK
 }
 
@@ -57,7 +77,7 @@ pub extern "C" fn dspec_consumer_home(alloc: Global, consumer: &mut Handle) -> u
         consumer.put(held);
         return BAD_HANDLE;
     }
-    send_home(Box::into_inner(held));
+    let _way = send_consumer_home(Box::into_inner(held));
     OK
 }
 

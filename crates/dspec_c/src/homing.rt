@@ -7,11 +7,11 @@ use std::alloc::Global;
 use std::marker::Model;
 use std::sync::Arc;
 
-/// One CPU, with what it shares.
+/// One CPU, with what it shares. The CPU stays where it is in memory, wherever this goes.
 #[derive(Drop)]
 pub struct Homing {
     shared: Arc<Shared, Global>,
-    cpu: Cpu<Enablings>,
+    cpu: Box<Cpu<Enablings>>,
 }
 
 impl Model for Homing {
@@ -21,9 +21,9 @@ impl Model for Homing {
 
     ghost Value = { Side };
 
-    ghost view = { λ s. record { shared = arc_value s.shared; cpu = s.cpu } };
+    ghost view = { λ s. record { shared = arc_value s.shared; cpu = s.cpu.value } };
 
-    ghost invariant = { λ s. IsCallable (arc_value s.shared) s.cpu };
+    ghost invariant = { λ s. IsCallable (arc_value s.shared) s.cpu.value };
 }
 
 /// What comes through a ring is the same CPU of the same session as what came before.
@@ -40,13 +40,13 @@ impl Homing {
     ghost use Rattle.std.specs.Prelude.{◌≡◌};
     ghost use Rattle.std.specs.Arc.{arc_value};
     ghost use Rattle.dspec_cpu.specs.Standing.{IsCallable};
-    ghost use Rattle.dspec_deeds.specs.declared.deed.Deed.TheVariants.{Commit, Discard};
+    ghost use Rattle.dspec_promise.specs.Promise.{commit, discard};
     ghost use Rattle.dspec_c.specs.Homes.{IsSameSide};
     ghost use Rattle.dspec_c.specs.CpuCalls.{DecidedAs, Offered, OnSide, Opened, Recorded, Reports, ServicedSo};
 
-    pub fn of(shared: Arc<Shared, Global>, cpu: Cpu<Enablings>) -> Homing
-        requires { IsCallable (arc_value shared) cpu }
-        ensures { result ≡ record { shared = arc_value shared; cpu = cpu } }
+    pub fn of(shared: Arc<Shared, Global>, cpu: Box<Cpu<Enablings>>) -> Homing
+        requires { IsCallable (arc_value shared) cpu.value }
+        ensures { result ≡ record { shared = arc_value shared; cpu = cpu.value } }
     {
         Homing { shared, cpu }
     }
@@ -83,14 +83,14 @@ impl Homing {
 
     pub fn commit(&mut self, id: SpecId) -> Decided
         ensures same { IsSameSide self.old self.new }
-        ensures did { OnSide (DecidedAs Commit id result) self.old self.new }
+        ensures did { OnSide (DecidedAs commit id result) self.old self.new }
     {
         self.cpu.commit(&self.shared, id)
     }
 
     pub fn discard(&mut self, id: SpecId) -> Decided
         ensures same { IsSameSide self.old self.new }
-        ensures did { OnSide (DecidedAs Discard id result) self.old self.new }
+        ensures did { OnSide (DecidedAs discard id result) self.old self.new }
     {
         self.cpu.discard(&self.shared, id)
     }
@@ -105,6 +105,6 @@ impl Homing {
         ensures { result ≡ self.cpu }
     {
         let Homing { shared: _, cpu } = self;
-        cpu
+        Box::into_inner(cpu)
     }
 }

@@ -26,7 +26,7 @@ impl Model for OutConsumer {
 impl OutConsumer {
     ghost use Rattle.std.specs.Prelude.{◌≡◌, ◌<◌, MatchOption, MatchResult};
     ghost use Rattle.rtrb.specs.Ring.{known_free, sent};
-    ghost use Rattle.dspec_c.specs.ConsumerHomes.{IsOutTheirs, IsSameTheirs};
+    ghost use Rattle.dspec_c.specs.ConsumerHomes.{HasGoneTheirs, IsOutTheirs, IsSameTheirs};
     ghost use Rattle.dspec_consumer.specs.Batches.{FoundNone, GaveBack, IsNotTakenBack, Took};
     ghost use Rattle.dspec_consumer.specs.Stopping.{Stopped};
     ghost use Rattle.dspec_c.specs.ConsumerCalls.{Asks, CleansSo, OnTheirs};
@@ -77,10 +77,13 @@ impl OutConsumer {
         self.homing.give_back(batch)
     }
 
-    /// Sends the consumer home.
-    pub fn go_home(self) {
+    /// Sends the consumer home, by the way that it gives back.
+    pub fn go_home(self) -> Producer<ConsumerHoming, Global, ConsumerRule>
+        ensures { HasGoneTheirs self (sent result) }
+    {
         let OutConsumer { way, homing } = self;
         let mut way = way;
         way.push_reserved(homing);
+        way
     }
 }

@@ -27,8 +27,8 @@ impl Model for OutCpu {
 impl OutCpu {
     ghost use Rattle.std.specs.Prelude.{◌≡◌, ◌<◌};
     ghost use Rattle.rtrb.specs.Ring.{known_free, sent};
-    ghost use Rattle.dspec_deeds.specs.declared.deed.Deed.TheVariants.{Commit, Discard};
-    ghost use Rattle.dspec_c.specs.Homes.{IsOut};
+    ghost use Rattle.dspec_promise.specs.Promise.{commit, discard};
+    ghost use Rattle.dspec_c.specs.Homes.{HasGone, IsOut};
     ghost use Rattle.dspec_c.specs.CpuCalls.{DecidedAs, Offered, OnSide, Opened, Recorded, Reports, ServicedSo};
 
     pub fn of(way: Producer<Homing, Global, HomeRule>, homing: Homing) -> OutCpu
@@ -66,13 +66,13 @@ impl OutCpu {
     }
 
     pub fn commit(&mut self, id: SpecId) -> Decided
-        ensures did { OnSide (DecidedAs Commit id result) self.old self.new }
+        ensures did { OnSide (DecidedAs commit id result) self.old self.new }
     {
         self.homing.commit(id)
     }
 
     pub fn discard(&mut self, id: SpecId) -> Decided
-        ensures did { OnSide (DecidedAs Discard id result) self.old self.new }
+        ensures did { OnSide (DecidedAs discard id result) self.old self.new }
     {
         self.homing.discard(id)
     }
@@ -83,10 +83,13 @@ impl OutCpu {
         self.homing.report()
     }
 
-    /// Sends the CPU home.
-    pub fn go_home(self) {
+    /// Sends the CPU home, by the way that it gives back.
+    pub fn go_home(self) -> Producer<Homing, Global, HomeRule>
+        ensures { HasGone self (sent result) }
+    {
         let OutCpu { way, homing } = self;
         let mut way = way;
         way.push_reserved(homing);
+        way
     }
 }

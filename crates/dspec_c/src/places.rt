@@ -13,20 +13,28 @@ use dspec_record::Enablings;
 use std::alloc::{AllocError, Global};
 use std::sync::Arc;
 
-fn next_cpu(cpus: &mut Vec<Cpu<Enablings>>) -> Cpu<Enablings>
+// The first CPU, in a box.
+#[inline(never)]
+fn next_cpu(
+    alloc: Global,
+    cpus: &mut Vec<Cpu<Enablings>>,
+) -> Result<Box<Cpu<Enablings>>, AllocError>
     requires { 0 < length cpus.old.items }
-    ensures cons { cpus.old.items ≡ result ∷ cpus.new.items }
+    ensures cons { IfOk result (λ cpu. cpus.old.items ≡ cpu.value ∷ cpus.new.items) }
 {
-    cpus.remove(0)
+    let Ok(cpu) = Box::new(alloc, cpus.remove(0)) else {
+        return Err(AllocError);
+    };
+    Ok(cpu)
 }
 
 fn place(
     alloc: Global,
     shared: &Arc<Shared, Global>,
-    cpu: Cpu<Enablings>,
+    cpu: Box<Cpu<Enablings>>,
 ) -> Result<(Place, OutCpu), AllocError>
-    requires { IsCallable (arc_value shared.now) cpu }
-    ensures { IfOk result (λ r. (r.0 ≡ waiting_so (arc_value shared.now) cpu) × (Some r.1 ≡ waiting_so (arc_value shared.now) cpu)) }
+    requires { IsCallable (arc_value shared.now) cpu.value }
+    ensures { IfOk result (λ r. (r.0 ≡ waiting_so (arc_value shared.now) cpu.value) × (Some r.1 ≡ waiting_so (arc_value shared.now) cpu.value)) }
 {
     let shared = Arc::try_clone(shared)?;
     Place::make(alloc, Homing::of(shared, cpu))
@@ -47,7 +55,7 @@ pub fn places(
     let mut places = Vec::with_capacity(alloc, rest.len())?;
     let mut outs = Vec::with_capacity(alloc, rest.len())?;
     while !rest.is_empty() {
-        let cpu = next_cpu(&mut rest);
+        let cpu = next_cpu(alloc, &mut rest)?;
         let (place, out) = place(alloc, shared, cpu)?;
         outs.push(Some(out))?;
         places.push(place)?;

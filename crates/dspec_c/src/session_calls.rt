@@ -3,7 +3,7 @@
 ghost use Rattle.std.specs.Prelude.{◌≡◌, true, false, IfErr, IfOk, IfSome, length};
 ghost use Rattle.dspec_c.specs.Configs.{asked_for};
 ghost use Rattle.dspec_c.specs.Handles.{held_in, is_full};
-ghost use Rattle.dspec_c.specs.SessionCalls.{ConsumerOfAnswers, CpuOfAnswers, FinishAnswers, GivesConsumer, GivesCpu, HandsOut, NotEnding, StartAnswers, StartsSo, consumer_due, cpu_due};
+ghost use Rattle.dspec_c.specs.SessionCalls.{ConsumerOfAnswers, CpuOfAnswers, FinishAnswers, GivesConsumer, GivesCpu, HandsOut, KeptSo, NotEnding, StartAnswers, StartsSo, consumer_due, cpu_due};
 ghost use Rattle.dspec_c.specs.Whole.{Going};
 ghost use Rattle.dspec_c.specs.declared.held.Held.TheVariants as held_as;
 
@@ -20,8 +20,20 @@ use dspec_record::Enablings;
 use std::alloc::Global;
 use std::mem;
 
-fn start(alloc: Global, config: &CConfig, schema: Enablings, session: &mut Handle) -> u32
-    ensures { StartsSo (asked_for config.now) result session.old session.new }
+// Puts a session into its handle. It is a call of its own so that what lets the session go, where memory is refused, takes stack only here.
+#[inline(never)]
+fn keep(alloc: Global, whole: UnderWay, session: &mut Handle) -> u32
+    ensures { KeptSo whole result session.old session.new }
+{
+    let Ok(held) = Box::new(alloc, Held::Session(whole)) else {
+        return NO_MEMORY;
+    };
+    session.put(held);
+    OK
+}
+
+fn start(alloc: Global, config: &CConfig, schema: &Enablings, session: &mut Handle) -> u32
+    ensures { StartsSo (asked_for config.now) schema.now result session.old session.new }
 {
     let Some(config) = config.read() else {
         return BAD_POLICY;
@@ -30,18 +42,14 @@ fn start(alloc: Global, config: &CConfig, schema: Enablings, session: &mut Handl
         Ok(whole) => whole,
         Err(fault) => return of_start(fault),
     };
-    let Ok(held) = Box::new(alloc, Held::Session(whole)) else {
-        return NO_MEMORY;
-    };
-    session.put(held);
-    OK
+    keep(alloc, whole, session)
 }
 
 fn held_start(alloc: Global, config: &CConfig, schema: &mut Held, session: &mut Handle) -> u32
     ensures { StartAnswers (asked_for config.now) schema.old result schema.new session.old session.new }
 {
     match schema {
-        Held::Schema(enablings) => start(alloc, config, *enablings, session),
+        Held::Schema(enablings) => start(alloc, config, &*enablings, session),
         _ => BAD_HANDLE,
     }
 }

@@ -1,5 +1,9 @@
+ghost use Rattle.std.specs.Prelude.{IfSome, IsSomeAnd};
+ghost use Rattle.rtrb.specs.Ring.{sent};
+ghost use Rattle.dspec_c.specs.ConsumerHomes.{HasGoneTheirs};
+
 use crate::close::close;
-use crate::consumer_homing::ConsumerHoming;
+use crate::consumer_homing::{ConsumerHoming, ConsumerRule};
 use crate::consumer_place::ConsumerPlace;
 use crate::ended::Ended;
 use crate::gather::{all_home, send_home, take_out, waits};
@@ -11,6 +15,7 @@ use dspec_consumer::{Consumer, Session};
 use dspec_cpu::{Cpu, Shared};
 use dspec_deeds::{Config, StartFault};
 use dspec_record::Enablings;
+use rtrb::Producer;
 use std::alloc::{AllocError, Global};
 use std::marker::Model;
 use std::sync::Arc;
@@ -41,12 +46,17 @@ impl Model for UnderWay {
 }
 
 impl UnderWay {
-    ghost use Rattle.std.specs.Prelude.{◌≡◌, ◌≢◌, nat_lt, IfErr, IfOk, IfSome, IfNone, Some, None, false, is_some, IsSome, length, map, slice_get, slice_set};
+    ghost use Rattle.std.specs.Prelude.{◌≡◌, ◌≢◌, ℕ, nat_lt, IfErr, IfOk, IfSome, IfNone, Some, None, false, is_some, IsSome, length, map, slice_get, slice_set};
     ghost use Rattle.dspec_deeds.specs.declared.config.StartFault.TheVariants as start;
     ghost use Rattle.dspec_deeds.specs.Ranges.{start_fault};
     ghost use Rattle.std.specs.Arc.{arc_value};
-    ghost use Rattle.dspec_c.specs.Whole.{AllCalled, IsJustStarted, IsStarted, IsWaiting, waiting_so, waits_in};
-    ghost use Rattle.dspec_consumer.specs.Consumers.{set_up_of};
+    ghost use Rattle.dspec_record.specs.EnablingRows.{EnabledRows};
+    ghost use Rattle.dspec_table.specs.Seats.{last_seat, set_up};
+    ghost use Rattle.dspec_cpu.specs.declared.cpu.Cpu.{Cpu};
+    ghost use Rattle.dspec_cpu.specs.Lists.{words_of};
+    ghost use Rattle.dspec_consumer.specs.Consumers.{set_up_of, view_of};
+    ghost use Rattle.dspec_consumer.specs.Sessions.{Has, IsFresh, IsSession};
+    ghost use Rattle.dspec_c.specs.Whole.{AllCalled, HasAll, IsJustStarted, IsStarted, IsWaiting, waits_in};
 
     fn of(
         alloc: Global,
@@ -57,7 +67,7 @@ impl UnderWay {
     ) -> Result<UnderWay, AllocError>
         requires called { AllCalled (arc_value common) cpus.items }
         requires started { IsStarted (arc_value common) count cpus.items consumer }
-        ensures { IfOk result (λ w. (w.shared ≡ arc_value common) × (w.cpus ≡ count) × (w.waiting ≡ map (waiting_so (arc_value common)) cpus.items) × IsSome w.consumer) }
+        ensures { IfOk result (HasAll (arc_value common) cpus.items consumer count) }
     {
         let room = Vec::with_capacity(alloc, cpus.len())?;
         let (places, outs) = places(alloc, &common, cpus)?;
@@ -74,23 +84,51 @@ impl UnderWay {
         })
     }
 
-    /// A session that has started. All its CPUs and its consumer wait to be handed out.
-    pub fn start(alloc: Global, config: &Config, schema: Enablings) -> Result<UnderWay, StartFault>
+    // A session of the library. It is a call of its own, so that the stack that this takes is free again when its parts are laid out.
+    #[inline(never)]
+    fn begin(
+        alloc: Global,
+        config: &Config,
+        schema: &Enablings,
+    ) -> Result<Session<Enablings>, StartFault>
         ensures started { IfOk result (λ _. start_fault config.now ≡ None) }
-        ensures whole { IfOk result (λ w. IsJustStarted config.now w) }
         ensures refused { IfErr result (λ fault. fault ≢ start.Memory → start_fault config.now ≡ Some fault) }
         ensures memory { IfErr result (λ fault. fault ≡ start.Memory → start_fault config.now ≡ None) }
+        ensures config { IfOk result (λ s. set_up (words_of s.shared) ≡ config.now) }
+        ensures session { IfOk result (λ s. IsSession schema.now s) }
+        ensures fresh { IfOk result (λ s. (c : ℕ) (cpu : Cpu EnabledRows) → slice_get s.cpus.items c ≡ Some cpu → IsFresh Has cpu) }
+        ensures consumer { IfOk result (λ s. view_of s.consumer ≡ last_seat config.now) }
     {
-        let session = Session::start(alloc, config, schema)?;
+        Session::start(alloc, config, *schema)
+    }
+
+    // Over a session that has started, with so many CPUs; what lets it go, where memory is refused, takes stack only here.
+    #[inline(never)]
+    fn over(alloc: Global, started: Session<Enablings>, count: u32) -> Result<UnderWay, AllocError>
+        requires session { (schema : EnabledRows) × IsSession schema started }
+        requires count { count ≡ (set_up (words_of started.shared)).cpus }
+        ensures { IfOk result (HasAll started.shared started.cpus.items started.consumer count) }
+    {
         let Session {
             shared,
             cpus,
             consumer,
-        } = session;
+        } = started;
         let Ok(common) = Arc::new(alloc, shared) else {
-            return Err(StartFault::Memory);
+            return Err(AllocError);
         };
-        let Ok(whole) = UnderWay::of(alloc, common, cpus, consumer, config.cpus) else {
+        UnderWay::of(alloc, common, cpus, consumer, count)
+    }
+
+    /// A session that has started. All its CPUs and its consumer wait to be handed out.
+    pub fn start(alloc: Global, config: &Config, schema: &Enablings) -> Result<UnderWay, StartFault>
+        ensures started { IfOk result (λ _. start_fault config.now ≡ None) }
+        ensures whole { IfOk result (λ w. IsJustStarted config.now schema.now w) }
+        ensures refused { IfErr result (λ fault. fault ≢ start.Memory → start_fault config.now ≡ Some fault) }
+        ensures memory { IfErr result (λ fault. fault ≡ start.Memory → start_fault config.now ≡ None) }
+    {
+        let session = UnderWay::begin(alloc, config, schema)?;
+        let Ok(whole) = UnderWay::over(alloc, session, config.cpus) else {
             return Err(StartFault::Memory);
         };
         Ok(whole)
@@ -166,7 +204,7 @@ impl UnderWay {
             out,
         } = self;
         send_home(outs);
-        send_consumer_home(out);
+        let _way = send_consumer_home(out);
         let mut place = place;
         place.is_home();
         let Some(homing) = place.into_home() else {
@@ -180,8 +218,14 @@ impl UnderWay {
     }
 }
 
-fn send_consumer_home(out: Option<OutConsumer>) {
-    if let Some(consumer) = out {
-        consumer.go_home();
+// Sends the consumer home that was never handed out, by the way that this gives back.
+fn send_consumer_home(
+    out: Option<OutConsumer>,
+) -> Option<Producer<ConsumerHoming, Global, ConsumerRule>>
+    ensures { IfSome out (λ side. IsSomeAnd result (λ way. HasGoneTheirs side (sent way))) }
+{
+    match out {
+        Some(consumer) => Some(consumer.go_home()),
+        None => None,
     }
 }

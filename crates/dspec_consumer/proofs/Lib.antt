@@ -14,3 +14,5 @@ pub mod Leavings
 pub mod Ending
 pub mod FirstParted
 mod Standing
+pub mod ClosedDeeds
+pub mod PromisedBy

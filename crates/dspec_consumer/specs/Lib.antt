@@ -7,4 +7,5 @@ pub mod Cleaning
 pub mod Stopping
 pub mod Sessions
 pub mod Closing
+pub mod Promised
 pub mod Leaving

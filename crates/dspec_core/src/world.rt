@@ -8,11 +8,14 @@ ghost use Rattle.dspec_play.specs.Calls.{begin_consumer_fault, begin_cpu_fault, 
 ghost use Rattle.dspec_deeds.specs.Closes.{reports, streams, closing};
 ghost use Rattle.dspec_play.specs.Coherent.{progress_of};
 ghost use Rattle.dspec_deeds.specs.Headline.{Headline};
+ghost use Rattle.dspec_deeds.specs.History.{halted};
 ghost use Rattle.dspec_deeds.specs.Legal.{IsLegal};
 ghost use Rattle.dspec_deeds.specs.Own.{stream, taken};
 ghost use Rattle.dspec_play.specs.Promised.{HasHeadline};
 ghost use Rattle.dspec_deeds.specs.Ranges.{start_fault};
 ghost use Rattle.dspec_deeds.specs.Reports.{report};
+ghost use Rattle.dspec_machine.specs.Shown.{ShowsWords};
+ghost use Rattle.dspec_side.specs.Sides.{ShowsList};
 ghost use Rattle.dspec_play.specs.Turns.{at_start, begin_consumer, begin_cpu, step};
 
 use crate::actor::is_actor;
@@ -21,6 +24,8 @@ use dspec_deeds::{Actor, Answer, Config, ConsumerOp, CpuOp, Deed, Op, Report, St
 use dspec_machine::Machine;
 use dspec_play::{BeginFault, Close, StepFault, Stepped};
 use dspec_record::{Rec, Schema};
+use dspec_side::Side;
+use dspec_word::Word;
 use std::alloc::{AllocError, Global};
 use std::fmt;
 use std::marker::Model;
@@ -235,6 +240,29 @@ impl<S: Schema, B: TraceBuffer<S>> World<S, B> {
         ensures promised { HasHeadline (S.shape_of self.now.schema) self.now.state }
     {
         self.machine.deeds.as_slice()
+    }
+
+    /// The word of each slot, slot 1's first. They show the list of deeds.
+    pub fn words(&self) -> &[Word]
+        ensures { ShowsWords self.now.state.config self.now.state.deeds result.now }
+    {
+        self.machine.words.as_slice()
+    }
+
+    /// Whether the session was stopped.
+    pub fn is_stopped(&self) -> bool
+        ensures { result ≡ halted self.now.state.deeds }
+    {
+        self.machine.halted
+    }
+
+    /// The CPU's side: its active buffer, its buffers of speculations, its marks and counts. They show the list of deeds. Condition:
+    /// the CPU exists.
+    pub fn side(&self, cpu: u32) -> &Side<B>
+        requires { cpu < self.now.state.config.cpus }
+        ensures { ShowsList (λ b. B.has b self.now.schema) B.capacity self.now.state.config cpu self.now.state.deeds result.now }
+    {
+        &self.machine.cpus[cpu as usize].side
     }
 
     /// What the CPU's principal buffers accepted so far, in order. Condition: the CPU exists.

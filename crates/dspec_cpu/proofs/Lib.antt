@@ -29,3 +29,5 @@ pub mod ServedSlots
 pub mod Closes
 pub mod Rests
 pub mod LegalParts
+pub mod Told
+pub mod Telling

@@ -12,3 +12,5 @@ pub mod Serving
 pub mod Rests
 pub mod Keeping
 pub mod Standing
+pub mod Called
+pub mod OneCall

@@ -1,15 +1,8 @@
-ghost use Rattle.std.specs.Prelude.{◌≡◌, ◌≤◌, ◌+◌, ◌*◌, IsTrue};
-ghost use Rattle.dspec_deeds.specs.declared.deed.Deed.TheVariants.{Commit, Discard};
-ghost use Rattle.dspec_table.specs.Seats.{known};
-ghost use Rattle.dspec_side.specs.Counting.{is_stopped_opening};
-ghost use Rattle.dspec_cpu.specs.Calls.{Decides, Does, spoken_deeds, traced_deeds, is_worn_decided, is_worn_spoken, is_worn_trace};
-ghost use Rattle.dspec_cpu.specs.Keeping.{CallKeeps};
-ghost use Rattle.dspec_cpu.specs.Lists.{config_of, end_of, held_back_of, number_in, schema_of, seat_of, words_of, worn_of};
-ghost use Rattle.dspec_cpu.specs.Scans.{Opens, is_worn_opening};
-ghost use Rattle.dspec_cpu.specs.Serving.{Serves};
+ghost use Rattle.std.specs.Prelude.{◌≡◌, IsTrue};
+ghost use Rattle.dspec_promise.specs.Promise.{commit, discard};
+ghost use Rattle.dspec_cpu.specs.Lists.{schema_of, words_of};
+ghost use Rattle.dspec_cpu.specs.OneCall.{TracesOne, SpeculatesOne, OpensOne, DecidesOne, ServesOnce};
 ghost use Rattle.dspec_cpu.specs.Standing.{Belongs, identity};
-ghost use Rattle.dspec_cpu.specs.Stops.{is_stopped_decided, is_stopped_spoken, is_stopped_trace};
-ghost use Rattle.dspec_cpu.specs.Switching.{buffers_of, most_moves};
 
 use crate::cpu::Cpu;
 use crate::listed::Listed;
@@ -26,8 +19,7 @@ impl<S: Schema> Cpu<S> {
         requires of { Belongs (words_of shared.now) (identity self.old) }
         requires accepted { IsTrue (S.accepted (schema_of self.old) rec.now) }
         ensures same { identity self.new ≡ identity self.old }
-        ensures keeps { CallKeeps (is_worn_trace result) (is_stopped_trace result) 1 self.old self.new }
-        ensures does { Does (traced_deeds (number_in self.old) rec.now result) (⟦<Cpu<S> as Listed>⟧.has_list self.old) (known (seat_of self.old)) (⟦<Cpu<S> as Listed>⟧.has_list self.new) (known (seat_of self.new)) }
+        ensures does { TracesOne ⟦<Cpu<S> as Listed>⟧.has_list rec.now result self.old self.new }
     {
         self.parts.trace(shared, rec)
     }
@@ -39,8 +31,7 @@ impl<S: Schema> Cpu<S> {
     pub fn speculation(&mut self, shared: &Shared) -> Opening
         requires of { Belongs (words_of shared.now) (identity self.old) }
         ensures same { identity self.new ≡ identity self.old }
-        ensures keeps { CallKeeps (is_worn_opening result) (is_stopped_opening result) (1 + 2 * (config_of self.old).nspec) self.old self.new }
-        ensures opens { Opens (config_of self.old) (number_in self.old) result (⟦<Cpu<S> as Listed>⟧.has_list self.old) (known (seat_of self.old)) (⟦<Cpu<S> as Listed>⟧.has_list self.new) (known (seat_of self.new)) }
+        ensures does { OpensOne ⟦<Cpu<S> as Listed>⟧.has_list result self.old self.new }
     {
         self.parts.speculation(shared)
     }
@@ -53,8 +44,7 @@ impl<S: Schema> Cpu<S> {
         requires of { Belongs (words_of shared.now) (identity self.old) }
         requires accepted { IsTrue (S.accepted (schema_of self.old) rec.now) }
         ensures same { identity self.new ≡ identity self.old }
-        ensures keeps { CallKeeps (is_worn_spoken result) (is_stopped_spoken result) 4 self.old self.new }
-        ensures does { Does (spoken_deeds (number_in self.old) id rec.now result) (⟦<Cpu<S> as Listed>⟧.has_list self.old) (known (seat_of self.old)) (⟦<Cpu<S> as Listed>⟧.has_list self.new) (known (seat_of self.new)) }
+        ensures does { SpeculatesOne ⟦<Cpu<S> as Listed>⟧.has_list id rec.now result self.old self.new }
     {
         self.parts.speculate(shared, id, rec)
     }
@@ -66,8 +56,7 @@ impl<S: Schema> Cpu<S> {
     pub fn commit(&mut self, shared: &Shared, id: SpecId) -> Decided
         requires of { Belongs (words_of shared.now) (identity self.old) }
         ensures same { identity self.new ≡ identity self.old }
-        ensures keeps { CallKeeps (is_worn_decided result) (is_stopped_decided result) 5 self.old self.new }
-        ensures decides { Decides (Commit (number_in self.old) id) id result (⟦<Cpu<S> as Listed>⟧.has_list self.old) (known (seat_of self.old)) (⟦<Cpu<S> as Listed>⟧.has_list self.new) (known (seat_of self.new)) }
+        ensures does { DecidesOne ⟦<Cpu<S> as Listed>⟧.has_list commit id result self.old self.new }
     {
         self.parts.commit(shared, id)
     }
@@ -79,8 +68,7 @@ impl<S: Schema> Cpu<S> {
     pub fn discard(&mut self, shared: &Shared, id: SpecId) -> Decided
         requires of { Belongs (words_of shared.now) (identity self.old) }
         ensures same { identity self.new ≡ identity self.old }
-        ensures keeps { CallKeeps (is_worn_decided result) (is_stopped_decided result) 5 self.old self.new }
-        ensures decides { Decides (Discard (number_in self.old) id) id result (⟦<Cpu<S> as Listed>⟧.has_list self.old) (known (seat_of self.old)) (⟦<Cpu<S> as Listed>⟧.has_list self.new) (known (seat_of self.new)) }
+        ensures does { DecidesOne ⟦<Cpu<S> as Listed>⟧.has_list discard id result self.old self.new }
     {
         self.parts.discard(shared, id)
     }
@@ -93,10 +81,7 @@ impl<S: Schema> Cpu<S> {
     pub fn service(&mut self, shared: &Shared) -> Served
         requires of { Belongs (words_of shared.now) (identity self.old) }
         ensures same { identity self.new ≡ identity self.old }
-        ensures wears { worn_of self.new ≡ worn_of self.old }
-        ensures bounded { (known (seat_of self.new)).steps ≤ (known (seat_of self.old)).steps + 1 + 2 * (config_of self.old).nspec }
-        ensures moves { (end_of self.new).moves ≤ (end_of self.old).moves + most_moves (held_back_of self.old) }
-        ensures serves { Serves (config_of self.old) (number_in self.old) result (⟦<Cpu<S> as Listed>⟧.has_list self.old) (known (seat_of self.old)) (buffers_of self.old) (⟦<Cpu<S> as Listed>⟧.has_list self.new) (known (seat_of self.new)) (buffers_of self.new) }
+        ensures does { ServesOnce ⟦<Cpu<S> as Listed>⟧.has_list result self.old self.new }
     {
         self.parts.service(shared)
     }

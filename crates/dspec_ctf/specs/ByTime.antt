@@ -84,11 +84,12 @@ module _ (e : EnabledRows) where
       × StopsAt (table_shape e.header (enabled e.rows)) (table_accepts e.header (enabled e.rows)) (table_text e.header (enabled e.rows)) text fault
   IsNoText number text Memory = Unit
 
-  -- Why texts have no packets by time: records have no stamp, or this text isn't one, and those before it are.
+  -- Why texts have no packets by time: records have no stamp, or they have one, this text isn't one, and those before it are.
   abbrev pub HasNoPackets : List (List ℕ) → TimeFault → Type 0
   HasNoPackets texts NoStamp = e.header ≡ header.One
   HasNoPackets texts (Text number fault) =
-      (number < length texts)
+      (e.header ≡ header.Two)
+      × ((number < length texts)
       × (((rs : List Record) × AreTexts (take number texts) rs)
-      × IsNoText number (slice_index_or texts number []) (Text number fault))
+      × IsNoText number (slice_index_or texts number []) (Text number fault)))
   HasNoPackets texts Memory = Unit

@@ -1,5 +1,5 @@
 -- Which packet is that of a batch, and why there is none.
-use Rattle.std.specs.Prelude.{◌≡◌, ◌≤◌, ◌+◌, ◌^◌, ℕ, IsTrue, false, All, List, Some, length, take, slice_get}
+use Rattle.std.specs.Prelude.{◌≡◌, ◌<◌, ◌≤◌, ◌+◌, ◌^◌, ℕ, IsTrue, false, All, List, Some, length, take, slice_get}
 use Rattle.dspec_record.specs.Record.{Record}
 use Rattle.dspec_record.specs.EnablingRows.{EnabledRows}
 use Rattle.dspec_record.specs.Schemas.{enabled, table_shape, table_accepts, table_text}
@@ -29,13 +29,14 @@ module _ (e : EnabledRows) where
     pub is_text : IsText text read
     pub bytes_are : bytes ≡ packet uuid e missed cpu read
 
-  -- Why a text has no packet, where so many events were missed before it and so many more with it. Its bytes aren't
-  -- a text, or a number of the packet goes past 64 bits.
+  -- Why a text has no packet, where so many events were missed before it and so many more with it. A number of the packet goes past 64
+  -- bits, or its bytes aren't a text. What was missed is told before what the text has.
   abbrev pub HasNoPacket : ℕ → ℕ → List ℕ → PacketFault → Type 0
   HasNoPacket missed drops text (Text fault) =
-      StopsAt (table_shape e.header (enabled e.rows)) (table_accepts e.header (enabled e.rows)) (table_text e.header (enabled e.rows)) text fault
+      (missed + drops < 2 ^ 64)
+      × StopsAt (table_shape e.header (enabled e.rows)) (table_accepts e.header (enabled e.rows)) (table_text e.header (enabled e.rows)) text fault
   HasNoPacket missed drops text Missed = 2 ^ 64 ≤ missed + drops
-  HasNoPacket missed drops text TooLong = (rs : List Record) × (IsText text rs × (2 ^ 60 ≤ length (events e rs)))
+  HasNoPacket missed drops text TooLong = (missed + drops < 2 ^ 64) × ((rs : List Record) × (IsText text rs × (2 ^ 60 ≤ length (events e rs))))
   HasNoPacket missed drops text Memory = Unit
 
   -- Why records have no packet, where so many events were missed before and so many more with them: a number of the packet goes past
@@ -43,7 +44,7 @@ module _ (e : EnabledRows) where
   abbrev pub HasNoRecordPacket : ℕ → ℕ → List Record → PacketFault → Type 0
   HasNoRecordPacket missed drops rs (Text fault) = ⊥
   HasNoRecordPacket missed drops rs Missed = 2 ^ 64 ≤ missed + drops
-  HasNoRecordPacket missed drops rs TooLong = 2 ^ 60 ≤ length (events e rs)
+  HasNoRecordPacket missed drops rs TooLong = (missed + drops < 2 ^ 64) × (2 ^ 60 ≤ length (events e rs))
   HasNoRecordPacket missed drops rs Memory = Unit
 
 -- why the bytes of events have no packet around them

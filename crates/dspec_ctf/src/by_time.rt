@@ -2,6 +2,7 @@ ghost use Rattle.std.specs.Prelude.{◌≡◌, ◌<◌, ◌≤◌, ◌*◌, ◌+
 ghost use Rattle.std.specs.Option.{option_map_or};
 ghost use Rattle.dspec_ctf.specs.ByTime.{IsByStamp, span_of, packet_count, part_at, packet_at, timed_packets, IsAdded, AreTexts, IsNoText, ArePacketsOf, HasNoPackets};
 ghost use Rattle.dspec_ctf.specs.declared.by_time.TimeFault.TheVariants.{Memory};
+ghost use Rattle.dspec_record.specs.declared.header.Header.TheVariants as header;
 
 use crate::Stream;
 use crate::packet::{put_around, put_events};
@@ -63,8 +64,9 @@ fn add_text(
     Ok(())
 }
 
-/// The records of all texts.
+/// The records of all texts, which have stamps.
 fn collect(alloc: Global, enablings: &Enablings, texts: &[&[u8]]) -> Result<Vec<Rec>, TimeFault>
+    requires stamped { enablings.now.header ≡ header.Two }
     ensures texts { IfOk result (λ recs. AreTexts enablings.now (map (λ text. text.now) texts.now) recs.items) }
     ensures fault { IfErr result (λ fault. HasNoPackets enablings.now (map (λ text. text.now) texts.now) fault) }
 {

@@ -118,6 +118,10 @@ fn refused_texts(rt: HostRuntime) -> Result<(), Fail> {
         .packets_by_time(rt.alloc(), &[])
         .err();
     same(&rt, found, Some(TimeFault::NoStamp));
+    let found = stream_of(&enablings, 0)
+        .packets_by_time(rt.alloc(), &[&SECOND[..23]])
+        .err();
+    same(&rt, found, Some(TimeFault::NoStamp));
     let stamped = enablings.stamped();
     let found = stream_of(&stamped, 0)
         .packets_by_time(rt.alloc(), &[&FIRST, &SECOND[..23]])

@@ -101,6 +101,11 @@ fn refused_packets(rt: HostRuntime) -> Result<(), Fail> {
         stream.packet(rt.alloc(), 1, &TEXT).err(),
         Some(PacketFault::Missed),
     );
+    same(
+        &rt,
+        stream.packet(rt.alloc(), 1, &TEXT[..31]).err(),
+        Some(PacketFault::Missed),
+    );
     let fault = ReadFault {
         kind: ReadKind::Truncated,
         at: 24,

@@ -61,3 +61,7 @@ abbrev pub AllFollow : EnabledRows → Session EnabledRows → Four Order → Li
 AllFollow s session orders lines =
     (lefts : List Left) × IsEndOf session lefts
     × ((c : ℕ) (line : DemoLine) → slice_get lines c ≡ Some line → LineFollows s lefts c (order_at orders c) line)
+
+-- these are the lines of a demonstration that was done
+abbrev pub AreLinesOf : List DemoLine → Type 0
+AreLinesOf lines = (d : Demonstration) × IsDone d × AllFollow demonstrated d.session d.orders lines

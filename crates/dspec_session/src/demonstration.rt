@@ -1,6 +1,6 @@
 ghost use Rattle.std.specs.Prelude.{IfOk};
 ghost use Rattle.dspec_session.specs.Races.{AllBalanced};
-ghost use Rattle.dspec_session.specs.Results.{IsDone};
+ghost use Rattle.dspec_session.specs.Results.{AreLinesOf, IsDone};
 
 mod calling;
 mod crew;
@@ -88,7 +88,8 @@ pub fn demo<G: Gate, R: Threads + Wait>(
     alloc: Global,
     gate: &G,
 ) -> Result<[DemoLine; 4], DemoFault>
-    ensures { IfOk result (λ lines. AllBalanced 200 lines) }
+    ensures balanced { IfOk result (λ lines. AllBalanced 200 lines) }
+    ensures shown { IfOk result (λ lines. AreLinesOf lines) }
 {
     let shown = demonstrate(rt, alloc, &PassedBy { gate })?;
     Ok(shown.lines())

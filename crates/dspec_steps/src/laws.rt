@@ -1,4 +1,4 @@
-//! The law, a function without a body.
+//! The laws, functions without a body.
 ghost use Rattle.std.specs.Prelude.{ℕ, ◌≡◌, ◌++◌, List, Option};
 ghost use Rattle.dspec_record.specs.declared.field.Shape.{Shape};
 ghost use Rattle.dspec_deeds.specs.declared.config.Config.{Config};
@@ -15,6 +15,9 @@ ghost use Rattle.dspec_table.specs.declared.rule.View.{View};
 ghost use Rattle.dspec_table.specs.Conditions.{IsInFlight};
 ghost use Rattle.dspec_word.specs.SpecId.{Speculation};
 ghost use Rattle.dspec_table.specs.Holders.{number_of};
+ghost use Rattle.dspec_table.specs.Rule.{Kept};
+ghost use Rattle.atomic_table.specs.Table.{State};
+ghost use Rattle.dspec_steps.specs.OneList.{ShowOneList};
 ghost use Rattle.dspec_table.specs.Steps.{Found};
 ghost use Rattle.dspec_steps.specs.SameSteps.{IsSameCall, IsMine, slot_of, seat_deeds, slot_there, seat_cleans, SeatStep, ConsumerSeatStep, IsStepOfPlay};
 
@@ -36,4 +39,10 @@ pub fn same_steps()
     ensures consumer_seat { (v w : View) (f : ConsumerFlight) → ConsumerSeatStep v f w
         → (log : List Deed) × Found v log × ((h : List Deed) (side : ConsumerProgress) (all : List CpuProgress) → bare h ≡ log
         → IsStepOfPlay (consumer_step v.config h side all f).deeds h v w) }
+{}
+
+/// Between any two steps at the shared words, by the rule that every step keeps, there is one list of deeds, which the words show and of
+/// which each seat has its own part.
+pub fn words_show_one_list()
+    ensures { (k : Config) (st : State ℕ View) → Kept k st → ShowOneList k st }
 {}

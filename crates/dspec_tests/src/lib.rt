@@ -2,8 +2,10 @@
 #![tactic(auto)]
 
 #[cfg(test)]
+mod disk;
+#[cfg(test)]
 mod folders;
 #[cfg(test)]
-mod pauses;
-#[cfg(test)]
 mod tests;
+#[cfg(test)]
+mod visits;

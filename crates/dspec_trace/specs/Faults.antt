@@ -1,10 +1,11 @@
 -- Why a place takes no bytes, and why no place is made.
 use Rattle.dspec_trace.specs.declared.fault.FolderFault.{FolderFault}
-use Rattle.dspec_trace.specs.declared.fault.FolderFault.TheVariants.{Cpu, Memory, Metadata, NotEmpty, Packet, Read, Write}
+use Rattle.dspec_trace.specs.declared.fault.FolderFault.TheVariants.{Cpu, Cut, Memory, Metadata, NotEmpty, Packet, Read, Write}
 
--- what a place that takes files answers where it took none: it can't be written, or memory was wanting
+-- what a place that takes files answers where it took a write not or not whole: it can't be written, or memory was wanting
 abbrev pub IsWriteFault : FolderFault → Type 0
 IsWriteFault Write = Unit {0}
+IsWriteFault Cut = Unit {0}
 IsWriteFault Memory = Unit {0}
 IsWriteFault NotEmpty = ⊥
 IsWriteFault (Metadata fault) = ⊥
@@ -21,6 +22,7 @@ IsLookFault (Metadata fault) = ⊥
 IsLookFault (Packet cpu fault) = ⊥
 IsLookFault (Cpu cpu) = ⊥
 IsLookFault Write = ⊥
+IsLookFault Cut = ⊥
 
 -- what is answered where a folder isn't taken for a trace: it has files in it, can't be looked into or can't be made
 abbrev pub IsFolderFault : FolderFault → Type 0
@@ -31,3 +33,4 @@ IsFolderFault Memory = Unit {0}
 IsFolderFault (Metadata fault) = ⊥
 IsFolderFault (Packet cpu fault) = ⊥
 IsFolderFault (Cpu cpu) = ⊥
+IsFolderFault Cut = ⊥

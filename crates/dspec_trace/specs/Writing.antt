@@ -10,7 +10,7 @@ use Rattle.dspec_ctf.specs.Streams.{HasNoPacket, IsPacketOf}
 use Rattle.dspec_ctf.specs.declared.fault.MetadataFault.TheVariants as metadata
 use Rattle.dspec_trace.specs.Writes.{FileWrite, Refuses, Takes}
 use Rattle.dspec_trace.specs.declared.fault.FolderFault.{FolderFault}
-use Rattle.dspec_trace.specs.declared.fault.FolderFault.TheVariants.{Cpu, Memory, Metadata, NotEmpty, Packet, Read, Write}
+use Rattle.dspec_trace.specs.declared.fault.FolderFault.TheVariants.{Cpu, Cut, Memory, Metadata, NotEmpty, Packet, Read, Write}
 
 -- a trace that is being written: its uuid, how many events each CPU missed so far, what the place was asked for, and why no more is
 pub record Tracing : Type 0 where
@@ -67,6 +67,7 @@ HasNone e old b (Cpu cpu) = (cpu ≡ b.cpu) × (slice_get old.missed cpu ≡ Non
 HasNone e old b (Packet cpu fault) = (cpu ≡ b.cpu) × ((before : ℕ) × ((slice_get old.missed b.cpu ≡ Some before) × HasNoPacket e before b.drops b.buffer.text fault))
 HasNone e old b Memory = Unit {0}
 HasNone e old b Write = ⊥
+HasNone e old b Cut = ⊥
 HasNone e old b Read = ⊥
 HasNone e old b NotEmpty = ⊥
 HasNone e old b (Metadata fault) = ⊥

@@ -1,6 +1,7 @@
-ghost use Rattle.std.specs.Prelude.{◌≡◌};
-ghost use Rattle.dspec_trace.specs.Faults.{IsLookFault, IsWriteFault};
-ghost use Rattle.dspec_trace.specs.declared.fault.FolderFault.TheVariants.{Memory};
+ghost use Rattle.std.specs.Prelude.{◌≡◌, ◌≢◌};
+ghost use Rattle.std.specs.IoError.{error_kind};
+ghost use Rattle.std.specs.declared.io.ErrorKind.TheVariants.{OutOfMemory};
+ghost use Rattle.dspec_trace.specs.declared.fault.FolderFault.TheVariants.{Memory, Read, Write};
 
 use dspec_ctf::{MetadataFault, PacketFault};
 use std::alloc::{AllocError, AllocFailed};
@@ -25,9 +26,12 @@ pub enum FolderFault {
     /// The folder can't be looked into.
     #[error("read fault")]
     Read,
-    /// The folder, or a file in it, can't be made or written.
+    /// The folder, or a file in it, can't be made or written. Nothing of a write that failed is left.
     #[error("write fault")]
     Write,
+    /// A write failed in its middle, and what it had written couldn't be cut off: the file ends with a broken packet.
+    #[error("write fault, and a file ends with a broken packet")]
+    Cut,
     /// A growth was refused.
     #[error("out of memory")]
     Memory,
@@ -51,20 +55,24 @@ impl<T: Drop> From<AllocFailed<T>> for FolderFault {
 
 /// What is told of a folder that can't be looked into.
 pub(crate) fn look_fault(fault: &io::Error) -> FolderFault
-    ensures { IsLookFault result }
+    ensures memory { error_kind fault.now ≡ OutOfMemory → result ≡ Memory }
+    ensures other { error_kind fault.now ≢ OutOfMemory → result ≡ Read }
 {
-    match fault.kind() {
-        io::ErrorKind::OutOfMemory => FolderFault::Memory,
-        _ => FolderFault::Read,
+    if fault.kind() == io::ErrorKind::OutOfMemory {
+        FolderFault::Memory
+    } else {
+        FolderFault::Read
     }
 }
 
 /// What is told of a folder, or of a file in it, that can't be made or written.
 pub(crate) fn write_fault(fault: &io::Error) -> FolderFault
-    ensures { IsWriteFault result }
+    ensures memory { error_kind fault.now ≡ OutOfMemory → result ≡ Memory }
+    ensures other { error_kind fault.now ≢ OutOfMemory → result ≡ Write }
 {
-    match fault.kind() {
-        io::ErrorKind::OutOfMemory => FolderFault::Memory,
-        _ => FolderFault::Write,
+    if fault.kind() == io::ErrorKind::OutOfMemory {
+        FolderFault::Memory
+    } else {
+        FolderFault::Write
     }
 }

@@ -8,8 +8,8 @@ use std::alloc::Global;
 pub trait Folder: Drop {
     ghost written: { Self → Option (List FileWrite) };
 
-    /// Writes bytes behind those of a file, which is made where there is none: one write. Of one that is refused, a beginning may be
-    /// there.
+    /// Writes bytes behind those of a file, which is made where there is none: one write. Of one that is refused nothing is there,
+    /// unless the fault is `Cut`.
     fn add(&mut self, alloc: Global, name: &str, bytes: &[u8]) -> Result<(), FolderFault>
         ensures taken { OnOk result (Takes (written self.old) name.now bytes.now (written self.new)) }
         ensures refused { IfErr result (Refuses (written self.old) name.now bytes.now (written self.new)) };

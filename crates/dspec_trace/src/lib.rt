@@ -7,6 +7,7 @@
 
 mod fault;
 mod folder;
+mod held;
 mod system;
 mod tracing;
 

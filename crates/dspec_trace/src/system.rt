@@ -1,41 +1,86 @@
-ghost use Rattle.std.specs.Prelude.{◌≡◌, IfErr, None, OnOk};
+ghost use Rattle.std.specs.Prelude.{◌≡◌, ◌≢◌, All, IfOk, IfErr, IfSome, None, OnOk, string_bytes, true};
+ghost use Rattle.std.specs.Fs.{new_options, with_append, with_create_new};
 ghost use Rattle.dspec_trace.specs.Faults.{IsFolderFault, IsWriteFault};
+ghost use Rattle.dspec_trace.specs.Held.{IsFileAt, path_in};
 
 use crate::fault::{FolderFault, look_fault, write_fault};
 use crate::folder::Folder;
-use std::alloc::Global;
-use std::fs::File;
-use std::io::Write;
+use crate::held::{Cuttable, HeldFile};
+use std::alloc::{AllocError, Global};
+use std::fs::{File, OpenOptions};
+use std::os::fd::{AsRawFd, RawFd};
 use std::{fs, io};
 
-/// A folder of the system.
-#[derive(Clone, Copy)]
+/// A folder of the system, and the files that were made in it, all held open: none is opened again by a path, so that what others put
+/// into the folder or in its place is never written to. It needs `/proc`.
+#[derive(Drop)]
 pub struct SystemFolder<'a> {
     host: &'a HostRuntime,
-    path: &'a str,
+    folder: File,
+    files: Vec<HeldFile<File>>,
 }
 
 impl<'a> SystemFolder<'a> {
     /// Makes the folder of that path. One that is there has to be empty.
-    pub fn new(rt: &'a HostRuntime, path: &'a str) -> Result<SystemFolder<'a>, FolderFault>
+    pub fn new(rt: &'a HostRuntime, path: &str) -> Result<SystemFolder<'a>, FolderFault>
         ensures { IfErr result IsFolderFault }
     {
         match fs::create_dir(rt, path) {
-            Ok(()) => Ok(SystemFolder { host: rt, path }),
-            Err(fault) if fault.kind() == io::ErrorKind::AlreadyExists => {
-                see_no_file(rt, path)?;
-                Ok(SystemFolder { host: rt, path })
+            Err(fault) if fault.kind() != io::ErrorKind::AlreadyExists => {
+                return Err(write_fault(&fault));
             }
-            Err(fault) => Err(write_fault(&fault)),
+            _ => {}
         }
+        let folder = open_folder(rt, path)?;
+        see_no_file(rt, &folder)?;
+        Ok(SystemFolder {
+            host: rt,
+            folder,
+            files: Vec::new(rt.alloc()),
+        })
+    }
+
+    /// The place of the file of that name, which is made where there is none.
+    fn place(&mut self, alloc: Global, name: &str) -> Result<usize, FolderFault>
+        ensures there { IfOk result (IsFileAt self.new.files.items name.now) }
+        ensures fault { IfErr result IsWriteFault }
+    {
+        if let Some(place) = place_of(&self.files, name) {
+            return Ok(place);
+        }
+        let path = path_in(alloc, self.folder.as_raw_fd(), name)?;
+        let name = String::from_str(alloc, name)?;
+        self.files.reserve(1)?;
+        let file = make_file(self.host, path.as_str())?;
+        self.files.push(HeldFile::new(name, file))?;
+        Ok(self.files.len() - 1)
     }
 }
 
-/// Sees that a folder has no file.
-fn see_no_file(rt: &HostRuntime, path: &str) -> Result<(), FolderFault>
+/// Opens a folder, to hold it. Of anything else, as a pipe, that is a fault, since behind a slash only a folder is opened.
+fn open_folder(rt: &HostRuntime, path: &str) -> Result<File, FolderFault>
     ensures { IfErr result IsFolderFault }
 {
-    let mut names = match fs::read_dir(rt, path) {
+    let path = format!(in rt.alloc(); "{path}/")?;
+    match File::open(rt, path.as_str()) {
+        Ok(folder) => Ok(folder),
+        Err(fault) => Err(look_fault(&fault)),
+    }
+}
+
+/// The path of a file in the folder that is open under this number, wherever that folder is by now.
+fn path_in(alloc: Global, number: RawFd, name: &str) -> Result<String, AllocError>
+    ensures { IfOk result (λ path. string_bytes path ≡ path_in number name.now) }
+{
+    format!(in alloc; "/proc/self/fd/{number}/{name}")
+}
+
+/// Sees that a folder has no file.
+fn see_no_file(rt: &HostRuntime, folder: &File) -> Result<(), FolderFault>
+    ensures { IfErr result IsFolderFault }
+{
+    let path = path_in(rt.alloc(), folder.as_raw_fd(), "")?;
+    let mut names = match fs::read_dir(rt, path.as_str()) {
         Ok(names) => names,
         Err(fault) => return Err(look_fault(&fault)),
     };
@@ -54,31 +99,38 @@ fn no_file_by<T: Drop>(first: Option<io::Result<T>>) -> Result<(), FolderFault>
     }
 }
 
-/// Opens a file to write behind its end, and makes it where there is none.
-fn append(rt: &HostRuntime, path: &str) -> io::Result<File> {
-    File::options().append(true).create(true).open(rt, path)
+/// How a file is made: to write behind its end, and never one that is there, nor where a link leads.
+fn new_file() -> OpenOptions
+    ensures { result ≡ with_create_new (with_append new_options true) true }
+{
+    let mut options = File::options();
+    options.append(true).create_new(true);
+    options
 }
 
-/// Writes bytes behind those of the file of that path.
-fn append_bytes(rt: &HostRuntime, path: &str, bytes: &[u8]) -> Result<(), FolderFault>
+/// Makes the file of that path.
+fn make_file(rt: &HostRuntime, path: &str) -> Result<File, FolderFault>
     ensures { IfErr result IsWriteFault }
 {
-    let mut file = match append(rt, path) {
-        Ok(file) => file,
-        Err(fault) => return Err(write_fault(&fault)),
-    };
-    let Err(fault) = file.write_all(bytes) else {
-        return Ok(());
-    };
-    Err(write_fault(&fault))
+    match new_file().open(rt, path) {
+        Ok(file) => Ok(file),
+        Err(fault) => Err(write_fault(&fault)),
+    }
+}
+
+/// Where the file of that name stands among these.
+fn place_of<W: Cuttable>(files: &[HeldFile<W>], name: &str) -> Option<usize>
+    ensures there { IfSome result (IsFileAt files.now name.now) }
+    ensures none { result ≡ None → All (λ file. file.name ≢ name.now) files.now }
+{
+    files.iter().position(|file| file.is_named(name))
 }
 
 impl<'a> Folder for SystemFolder<'a> {
     ghost written = { λ _. None };
 
     fn add(&mut self, alloc: Global, name: &str, bytes: &[u8]) -> Result<(), FolderFault> {
-        let folder = self.path;
-        let path = format!(in alloc; "{folder}/{name}")?;
-        append_bytes(self.host, path.as_str(), bytes)
+        let place = self.place(alloc, name)?;
+        self.files[place].add(bytes)
     }
 }

@@ -93,7 +93,7 @@ impl<F: Folder> TraceFolder<F> {
         Ok(())
     }
 
-    /// The first fault, if there was one: what was written before it is whole packets, and the last write may be cut.
+    /// The first fault, if there was one. The files have whole packets, those before the fault, unless it is `Cut`.
     pub fn finish(self) -> Result<(), FolderFault>
         ensures whole { OnOk result (self.fault ≡ None) }
         ensures fault { IfErr result (λ fault. self.fault ≡ Some fault) }

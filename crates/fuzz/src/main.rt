@@ -16,19 +16,16 @@ mod tally;
 mod writing;
 
 use comparing::{Verdict, both_told, verdict_of};
+use dspec_command::{CommandFault, ended, output_fault, print_text, words_of};
 use dspec_dice::Dice;
 use making::sample;
-use options::{Options, options_of};
+use options::{Ask, Options, ask_of};
 use sample::Sample;
 use shortening::shorten;
 use std::alloc::{AllocError, Global};
 use std::process::ExitCode;
-use std::{env, io};
 use tally::Tally;
 use writing::difference;
-
-/// The exit status where the arguments ask nothing that the program does.
-const USAGE_STATUS: u8 = 4;
 
 /// Plays random schedules until both players differ, and gives the counts and the schedule at which they do, shortened.
 fn play_all(alloc: Global, options: Options) -> Result<(Tally, Option<Sample>), AllocError> {
@@ -48,34 +45,35 @@ fn play_all(alloc: Global, options: Options) -> Result<(Tally, Option<Sample>), 
 }
 
 /// Plays, and prints the difference, where there is one, and the counts. Says whether there was none.
-fn run(rt: &HostRuntime, options: Options) -> io::Result<bool> {
+fn play_options<'a>(rt: &HostRuntime, options: Options) -> Result<bool, CommandFault<'a>> {
     let (tally, found) = play_all(rt.alloc(), options)?;
     if let Some(sample) = &found {
         let (player, session) = both_told(rt.alloc(), sample)?;
         let text = difference(rt.alloc(), sample, &player, &session)?;
-        print!(rt; "{text}")?;
+        print_text(rt, text.as_str())?;
     }
-    println!(rt; "{tally}")?;
-    Ok(found.is_none())
+    match println!(rt; "{tally}") {
+        Ok(()) => Ok(found.is_none()),
+        Err(reason) => Err(output_fault(reason)),
+    }
 }
 
-/// What the arguments ask, if it is something that the program does.
-fn read_options(rt: &HostRuntime) -> io::Result<Option<Options>> {
-    let mut words = Vec::new(rt.alloc());
-    for word in env::args(rt)? {
-        words.push(word)?;
-    }
-    Ok(options_of(words.as_slice()))
-}
-
-fn main(rt: HostRuntime) -> io::Result<ExitCode> {
-    let Some(options) = read_options(&rt)? else {
-        eprintln!(rt; "fuzz: usage: fuzz SEED COUNT")?;
-        return Ok(ExitCode::from(USAGE_STATUS));
+/// Does what the words ask for, and says whether there was no difference.
+fn run<'a>(rt: &HostRuntime, words: &'a [String]) -> Result<bool, CommandFault<'a>> {
+    let options = match ask_of(rt.alloc(), words)? {
+        Ask::Play(options) => options,
+        Ask::Text(text) => {
+            print_text(rt, text.as_str())?;
+            return Ok(true);
+        }
     };
-    if run(&rt, options)? {
-        Ok(ExitCode::SUCCESS)
-    } else {
-        Ok(ExitCode::FAILURE)
+    play_options(rt, options)
+}
+
+/// Compares by the words of the command line; a difference is status 1.
+fn main(rt: HostRuntime) -> ExitCode {
+    match words_of(&rt) {
+        Ok(words) => ended(&rt, "fuzz", run(&rt, words.as_slice())),
+        Err(fault) => ended(&rt, "fuzz", Err(fault)),
     }
 }

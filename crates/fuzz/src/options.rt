@@ -1,3 +1,12 @@
+//! What the command line asks for.
+
+use clap::{Arg, ArgMatches, Command};
+use dspec_command::{Asked, CommandFault, asked_of};
+use std::alloc::{AllocError, Global};
+
+/// How the program is called.
+const USAGE: &str = "fuzz SEED COUNT";
+
 /// What a run is asked for by its arguments.
 #[derive(Debug, Clone, Copy, PartialEq, Eq)]
 pub struct Options {
@@ -7,13 +16,50 @@ pub struct Options {
     pub count: u32,
 }
 
-/// What the arguments behind the program's name ask; None where it is nothing that the program does.
-pub fn options_of(words: &[String]) -> Option<Options> {
-    match words {
-        [_, seed, count] => Some(Options {
-            seed: seed.parse::<u64>().ok()?,
-            count: count.parse::<u32>().ok()?,
-        }),
-        _ => None,
+/// What there is to do.
+#[derive(Debug, Drop)]
+pub enum Ask {
+    /// To play random schedules.
+    Play(Options),
+    /// To print this text, which was asked for by `--help`.
+    Text(String),
+}
+
+/// The command line: a seed and a count.
+fn command<'a>(alloc: Global) -> Result<Command<'a>, AllocError> {
+    let seed = Arg::new(alloc, "seed")
+        .value_name("SEED")
+        .required(true)
+        .value_parser(clap::value_parser!(u64))
+        .help("what the random numbers begin with");
+    let count = Arg::new(alloc, "count")
+        .value_name("COUNT")
+        .required(true)
+        .value_parser(clap::value_parser!(u32))
+        .help("how many schedules are played");
+    Command::new(alloc, "fuzz")
+        .about(
+            "plays random schedules by the player and on a session, and compares what both print",
+        )
+        .arg(seed)?
+        .arg(count)
+}
+
+/// What was found in the words.
+fn options_in(found: &ArgMatches<'_>) -> Option<Options> {
+    Some(Options {
+        seed: found.get_one::<u64>("seed")?,
+        count: found.get_one::<u32>("count")?,
+    })
+}
+
+/// What these words ask for, the first of which is the program's name.
+pub fn ask_of<'a>(alloc: Global, words: &'a [String]) -> Result<Ask, CommandFault<'a>> {
+    match asked_of(alloc, command(alloc)?, USAGE, words)? {
+        Asked::Found(found) => match options_in(&found) {
+            Some(options) => Ok(Ask::Play(options)),
+            None => Err(CommandFault::Usage(USAGE)),
+        },
+        Asked::Text(text) => Ok(Ask::Text(text)),
     }
 }

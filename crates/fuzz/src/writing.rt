@@ -4,6 +4,7 @@ use crate::comparing::Told;
 use crate::sample::{Probe, Sample};
 use dspec_deeds::{Config, ConsumerOp, CpuOp, Policy, Turn};
 use dspec_record::{Field, Header, Rec};
+use dspec_replay::SessionFault;
 use std::alloc::{AllocError, Global};
 
 fn write_config(text: &mut String, config: &Config) -> Result<(), AllocError> {
@@ -109,11 +110,22 @@ fn write_schedule(text: &mut String, sample: &Sample) -> Result<(), AllocError> 
     Ok(())
 }
 
+fn write_halt(text: &mut String, fault: &SessionFault) -> Result<(), AllocError> {
+    match fault {
+        SessionFault::Play(fault) => writeln!(text, "{fault}"),
+        SessionFault::NoWholeCall(turn) => writeln!(text, "turn {turn} is no whole call"),
+        SessionFault::NoText(cpu) => writeln!(text, "cpu {cpu}: a buffer that is no text"),
+    }
+}
+
 fn write_told(text: &mut String, who: &str, told: &Told) -> Result<(), AllocError> {
     match told {
         Told::Printed(lines) => write!(text, "-- {who} prints:\n{lines}"),
         Told::Refused(fault) => writeln!(text, "-- {who} refuses it: {fault}"),
-        Told::CantGoOn(fault) => writeln!(text, "-- {who} can't go on: {fault:?}"),
+        Told::CantGoOn(fault) => {
+            write!(text, "-- {who} can't go on: ")?;
+            write_halt(text, fault)
+        }
     }
 }
 

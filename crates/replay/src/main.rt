@@ -1,22 +1,26 @@
-//! `replay` reads a schedule of whole calls from standard input, plays it on a session from one thread, where the consumer meets
-//! each CPU after each call, ends the session, and prints what the player prints: the answers, the reports and the streams,
+//! `replay [SCHEDULE]` reads a schedule of whole calls, of a file or of standard input, plays it on a session from one thread, where the
+//! consumer meets each CPU after each call, ends the session, and prints what the player prints: the answers, the reports and the streams,
 //! which it reads back from the texts of the batches taken and of what is left. So `examples/replay` shows that both answer alike.
 //!
 //! It promises that it ends, and that it makes each call under that call's conditions. A schedule that the player refuses it
 //! refuses with the player's line on standard error, and one with a line that is no whole call with a status of its own.
 #![tactic(auto)]
 
+mod arguments;
 mod fault;
 
+use arguments::{Ask, ask_of};
+use dspec_command::{Input, ended, open, print_text, words_of};
+use dspec_player::read_whole;
 use dspec_replay::replay_schedule;
 use dspec_schedule::{printed, read_schedule};
 use fault::{ReplayFault, told};
 use std::alloc::Global;
-use std::io::{Error, ErrorKind, Read};
+use std::io::Read;
 use std::process::ExitCode;
 
 /// What a text prints.
-fn replay_text(alloc: Global, text: &[u8]) -> Result<String, ReplayFault> {
+fn replay_text<'a>(alloc: Global, text: &[u8]) -> Result<String, ReplayFault<'a>> {
     let schedule = read_schedule(alloc, text)?;
     match replay_schedule(alloc, &schedule) {
         Ok(outcome) => Ok(printed(alloc, schedule.header(), &outcome)?),
@@ -24,33 +28,43 @@ fn replay_text(alloc: Global, text: &[u8]) -> Result<String, ReplayFault> {
     }
 }
 
-/// A failed read: want of memory for what it read, or a fault of the device.
-fn read_fault(fault: &Error) -> ReplayFault {
-    match fault.kind() {
-        ErrorKind::OutOfMemory => ReplayFault::Memory,
-        _ => ReplayFault::Device,
+/// The whole of an input.
+fn read_all<'a, R: Read + Drop>(
+    alloc: Global,
+    mut input: Input<'a, R>,
+) -> Result<Vec<u8>, ReplayFault<'a>> {
+    match read_whole(alloc, &mut input) {
+        Ok(text) => Ok(text),
+        Err(fault) => match input.fault() {
+            Some(told) => Err(ReplayFault::Command(told)),
+            None => Err(ReplayFault::from(fault)),
+        },
     }
 }
 
-/// Reads the whole input, and prints once the whole play has succeeded.
-fn run(rt: &HostRuntime) -> Result<(), ReplayFault> {
-    let mut text = Vec::new(rt.alloc());
-    if let Err(fault) = rt.stdin().read_to_end(&mut text) {
-        return Err(read_fault(&fault));
-    }
+/// Reads the whole schedule, and prints once the whole play has succeeded.
+fn replay<'a>(rt: &HostRuntime, schedule: Option<&'a str>) -> Result<(), ReplayFault<'a>> {
+    let text = match schedule {
+        Some(name) => read_all(rt.alloc(), open(rt, name)?)?,
+        None => read_all(rt.alloc(), Input::new("standard input", rt.stdin()))?,
+    };
     let printed = replay_text(rt.alloc(), text.as_slice())?;
-    if print!(rt; "{printed}").is_err() {
-        return Err(ReplayFault::Device);
-    }
-    Ok(())
+    Ok(print_text(rt, printed.as_str())?)
 }
 
+/// Replays a schedule, or prints the text that is asked for.
+fn run<'a>(rt: &HostRuntime, words: &'a [String]) -> Result<bool, ReplayFault<'a>> {
+    match ask_of(rt.alloc(), words)? {
+        Ask::Replay(schedule) => replay(rt, schedule)?,
+        Ask::Text(text) => print_text(rt, text.as_str())?,
+    }
+    Ok(true)
+}
+
+/// Replays by the words of the command line.
 fn main(rt: HostRuntime) -> ExitCode {
-    match run(&rt) {
-        Ok(()) => ExitCode::SUCCESS,
-        Err(fault) => {
-            let _ = eprintln!(rt; "replay: {fault}");
-            ExitCode::from(fault.status())
-        }
+    match words_of(&rt) {
+        Ok(words) => ended(&rt, "replay", run(&rt, words.as_slice())),
+        Err(fault) => ended(&rt, "replay", Err(fault)),
     }
 }

@@ -17,8 +17,10 @@ use Rattle.dspec_deeds.specs.Legal.{IsLegal}
 use Rattle.dspec_deeds.specs.Fates.{is_taken}
 use Rattle.dspec_deeds.proofs.DeedEffects.{next_offer, Effect, idle, offering, emptying, Accounts, legal_accounts}
 use Rattle.specview.specs.declared.fault.ViewFault.{ViewFault}
-use Rattle.specview.specs.declared.fault.ViewFault.TheVariants.{Line, NoStamp, NoFrequency, NoEvent, TooMuch, Memory, Read, Write, TooLong, NotEmpty, Usage}
+use Rattle.specview.specs.declared.fault.ViewFault.TheVariants.{Line, NoStamp, LateStamp, NoFrequency, GreatestFrequency, NoEvent, TooMuch, Memory, Read, Write, TooLong, NotEmpty}
 use Rattle.specview.specs.Batches.{TellsCounts}
+use Rattle.specview.specs.Clocks.{IsClockFault}
+use Rattle.dspec_ctf.specs.declared.form.Form.TheVariants.{AsTaken, ByTime}
 use Rattle.specview.specs.Traces.{AreFiles, AreStreams, IsFile, HasUnknown, IsFileFault, IsFormFault, IsPlayTraceFault}
 use Rattle.dspec_ctf.specs.Names.{metadata_fault as fault_of_metadata}
 use Rattle.dspec_ctf.specs.declared.names.Names.TheVariants.{Numbered}
@@ -64,7 +66,9 @@ pub no_trace : (form : Form) (e : EnabledRows) (rss : List (List Record)) (rs : 
     → IsFileFault form e rs fault → IsPlayTraceFault form e rss fault
 no_trace form e rss rs c (Line line kind) lt is why = why
 no_trace form e rss rs c NoStamp lt is why = why
+no_trace form e rss rs c LateStamp lt is why = absurd why
 no_trace form e rss rs c NoFrequency lt is why = absurd why
+no_trace form e rss rs c GreatestFrequency lt is why = absurd why
 no_trace form e rss rs c (NoEvent epid) lt is why = (c, subst (HasUnknown e epid) (is ∙ get_or_default rss c rs [] lt) why)
 no_trace form e rss rs c TooMuch lt is why = why
 no_trace form e rss rs c Memory lt is why = why
@@ -72,7 +76,6 @@ no_trace form e rss rs c Read lt is why = why
 no_trace form e rss rs c Write lt is why = why
 no_trace form e rss rs c TooLong lt is why = why
 no_trace form e rss rs c NotEmpty lt is why = why
-no_trace form e rss rs c Usage lt is why = why
 
 -- a deed tells how many records it brought
 one_or_none : (b : Bool) (os : List Offer) → (if b then length os else 0) ≡ length (if b then os else [])
@@ -93,6 +96,22 @@ legal_told shape k c h legal = accounts_told c h (legal_accounts shape k c h leg
 
 pub reports_long : (k : Config) (worn : ℕ → ℕ) (h : List Deed) → length (reports k worn h) ≡ k.cpus
 reports_long k worn h = length-map (numbers_below k.cpus) (λ c. report k c (worn c) h) ∙ below_long k.cpus
+
+-- a clock that readers don't take
+pub clock_told : (form : Form) (e : EnabledRows) (rss : List (List Record)) (told : ViewFault) → IsClockFault form rss told → IsPlayTraceFault form e rss told
+clock_told AsTaken e rss told why = absurd why
+clock_told (ByTime hertz) e rss (Line line kind) why = absurd why
+clock_told (ByTime hertz) e rss NoStamp why = absurd why
+clock_told (ByTime hertz) e rss LateStamp why = why
+clock_told (ByTime hertz) e rss NoFrequency why = absurd why
+clock_told (ByTime hertz) e rss GreatestFrequency why = why
+clock_told (ByTime hertz) e rss (NoEvent epid) why = absurd why
+clock_told (ByTime hertz) e rss TooMuch why = absurd why
+clock_told (ByTime hertz) e rss Memory why = absurd why
+clock_told (ByTime hertz) e rss Read why = absurd why
+clock_told (ByTime hertz) e rss Write why = absurd why
+clock_told (ByTime hertz) e rss TooLong why = absurd why
+clock_told (ByTime hertz) e rss NotEmpty why = absurd why
 
 -- a fault of the metadata as it is told
 pub form_told : (form : Form) (e : EnabledRows) (rss : List (List Record)) (f : MetadataFault) (told : ViewFault) → (f ≡ metadata_fault.Memory) ⊎ (fault_of_metadata form e Numbered ≡ Some f)

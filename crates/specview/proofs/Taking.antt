@@ -10,7 +10,7 @@ use Rattle.dspec_schedule.specs.declared.fault.ScheduleFault.TheVariants as sche
 use Rattle.dspec_player.specs.PlayedTexts.{IsPlayedText, IsTextFault}
 use Rattle.specview.specs.declared.ending.RunFault.{RunFault}
 use Rattle.specview.specs.declared.ending.RunFault.TheVariants.{View, TooManyDeeds}
-use Rattle.specview.specs.declared.fault.ViewFault.TheVariants.{Line, NoStamp, NoFrequency, NoEvent, TooMuch, Memory, Read, Write, TooLong, NotEmpty, Usage}
+use Rattle.specview.specs.declared.fault.ViewFault.TheVariants.{Line, NoStamp, LateStamp, NoFrequency, GreatestFrequency, NoEvent, TooMuch, Memory, Read, Write, TooLong, NotEmpty}
 use Rattle.specview.specs.Faults.{view_of_schedule}
 use Rattle.specview.specs.Pictures.{IsPictureFault, IsPlayPictureFault, taken_batches, took_of}
 
@@ -48,5 +48,6 @@ play_fault_told text p outcome (View Read) played why = absurd why
 play_fault_told text p outcome (View Write) played why = absurd why
 play_fault_told text p outcome (View TooLong) played why = absurd why
 play_fault_told text p outcome (View NotEmpty) played why = absurd why
+play_fault_told text p outcome (View LateStamp) played why = absurd why
 play_fault_told text p outcome (View NoFrequency) played why = absurd why
-play_fault_told text p outcome (View Usage) played why = absurd why
+play_fault_told text p outcome (View GreatestFrequency) played why = absurd why

@@ -5,12 +5,13 @@ use Rattle.dspec_player.specs.declared.input.InputFault.TheVariants as input
 use Rattle.dspec_schedule.specs.declared.fault.ScheduleFault.{ScheduleFault}
 use Rattle.dspec_schedule.specs.declared.fault.ScheduleFault.TheVariants as schedule
 use Rattle.specview.specs.declared.fault.ViewFault.{ViewFault}
-use Rattle.specview.specs.declared.fault.ViewFault.TheVariants.{Line, NoStamp, NoFrequency, NoEvent, TooMuch, Memory, Read, Write, TooLong, NotEmpty, Usage}
+use Rattle.specview.specs.declared.fault.ViewFault.TheVariants.{Line, NoStamp, LateStamp, NoFrequency, GreatestFrequency, NoEvent, TooMuch, Memory, Read, Write, TooLong, NotEmpty}
 
 -- the exit status that tells of a fault
 abbrev pub status_of_view : ViewFault → ℕ
 status_of_view (Line line kind) = 1
 status_of_view NoStamp = 1
+status_of_view LateStamp = 1
 status_of_view (NoEvent epid) = 1
 status_of_view TooMuch = 1
 status_of_view Memory = 2
@@ -19,7 +20,7 @@ status_of_view Write = 3
 status_of_view TooLong = 3
 status_of_view NotEmpty = 3
 status_of_view NoFrequency = 4
-status_of_view Usage = 4
+status_of_view GreatestFrequency = 4
 
 abbrev pub view_of_schedule : ScheduleFault → ViewFault
 view_of_schedule (schedule.Line line kind) = Line line kind

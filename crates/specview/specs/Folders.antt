@@ -16,6 +16,11 @@ AddsFiles None new files = Unit {0}
 AddsFiles (Some xs) None files = ⊥
 AddsFiles (Some xs) (Some ys) files = ys ≡ xs ++ files
 
+-- where the files of a folder are known, there is none
+abbrev pub IsEmpty : Option (List NamedFile) → Type 0
+IsEmpty None = Unit {0}
+IsEmpty (Some xs) = xs ≡ []
+
 -- a CPU's file, where it has bytes
 abbrev pub written_files : ℕ → List ℕ → List NamedFile
 written_files cpu bytes = if length bytes == 0 then [] else named_file (codes "cpu_" ++ decimal cpu) bytes
@@ -25,6 +30,6 @@ abbrev pub cpu_files : ℕ → List (List ℕ) → List NamedFile
 cpu_files cpu [] = []
 cpu_files cpu (bytes ∷ files) = written_files cpu bytes ++ cpu_files (cpu + 1) files
 
--- the files of a trace, the metadata first
+-- the files of a trace, the metadata last
 abbrev pub trace_files : Trace → List NamedFile
-trace_files t = named_file (codes "metadata") (string_bytes t.metadata) ++ cpu_files 0 (map (λ f. f.items) t.files.items)
+trace_files t = cpu_files 0 (map (λ f. f.items) t.files.items) ++ named_file (codes "metadata") (string_bytes t.metadata)

@@ -28,9 +28,10 @@ use Rattle.uuid.specs.declared.Version.TheVariants.{Sha1}
 use Rattle.uuid.specs.Parts.{with_variant, with_version}
 use Rattle.uuid.specs.Uuid.{namespace_oid}
 use Rattle.specview.specs.declared.fault.ViewFault.{ViewFault}
-use Rattle.specview.specs.declared.fault.ViewFault.TheVariants.{Line, NoStamp, NoFrequency, NoEvent, TooMuch, Memory, Read, Write, TooLong, NotEmpty, Usage}
+use Rattle.specview.specs.declared.fault.ViewFault.TheVariants.{Line, NoStamp, LateStamp, NoFrequency, GreatestFrequency, NoEvent, TooMuch, Memory, Read, Write, TooLong, NotEmpty}
 use Rattle.specview.specs.declared.trace.Trace.{Trace}
 use Rattle.specview.specs.Batches.{ShareOf, last_share, shares}
+use Rattle.specview.specs.Clocks.{IsClockFault, IsTakenByReaders}
 
 -- the greatest EPID of records, 0 where there is none
 abbrev pub greatest_of : List Record → ℕ
@@ -73,6 +74,7 @@ AreStreams cpus deeds rss = rss ≡ map (λ c. stream c (reverse deeds)) (number
 
 -- the trace of a play, with this uuid
 pub record IsPlayTrace (uuid : List ℕ) (form : Form) (p : Plan) (outcome : Outcome) (t : Trace) : Type 0 where
+  pub clock : IsTakenByReaders form outcome.close.accepted
   pub metadata : string_bytes t.metadata ≡ metadata_text uuid form (event_rows p outcome.close.accepted) Numbered
   pub count : length t.files.items ≡ p.config.cpus
   pub files : AreFiles uuid (event_rows p outcome.close.accepted) form (reverse outcome.close.deeds) outcome.close.reports (map (λ f. f.items) t.files.items) p.config.cpus
@@ -101,6 +103,8 @@ IsUnknown e epid rss = (c : ℕ) × HasUnknown e epid (slice_index_or rss c [])
 abbrev pub IsPlayTraceFault : Form → EnabledRows → List (List Record) → ViewFault → Type 0
 IsPlayTraceFault form e rss NoStamp = fault_of_metadata form e Numbered ≡ Some metadata_fault.NoStamp
 IsPlayTraceFault form e rss NoFrequency = fault_of_metadata form e Numbered ≡ Some metadata_fault.NoFrequency
+IsPlayTraceFault form e rss GreatestFrequency = IsClockFault form rss GreatestFrequency
+IsPlayTraceFault form e rss LateStamp = IsClockFault form rss LateStamp
 IsPlayTraceFault form e rss (NoEvent epid) = IsUnknown e epid rss
 IsPlayTraceFault form e rss fault = IsSizeFault fault
 

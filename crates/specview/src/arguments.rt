@@ -1,13 +1,16 @@
 //! What the command line asks for.
 
-use crate::fault::ViewFault;
-use clap::error::ErrorKind;
-use clap::{Arg, ArgMatches, Command, Error};
+use clap::{Arg, ArgMatches, Command};
+use dspec_command::{Asked, CommandFault, asked_of};
 use dspec_ctf::Form;
 use std::alloc::{AllocError, Global};
 
 /// The program's version, which `--version` prints.
 const VERSION: &str = "0.1.0";
+
+/// How the program is called.
+const USAGE: &str =
+    "specview ctf --output FOLDER [--by-time HERTZ] [SCHEDULE], specview picture [--output FILE] [SCHEDULE], specview steps [SCHEDULE]";
 
 /// A trace to be written.
 #[derive(Debug, Clone, Copy)]
@@ -121,33 +124,21 @@ fn picture_ask<'a>(found: &ArgMatches<'a>) -> PictureAsk<'a> {
     }
 }
 
-/// What these words ask for, the first of which is the program's name.
-pub fn ask_of<'a>(alloc: Global, words: &'a [String]) -> Result<Ask<'a>, ViewFault> {
-    let found = match command(alloc)?.try_get_matches_from(words) {
-        Ok(found) => found,
-        Err(fault) => return told(alloc, fault),
-    };
+/// What is asked for by what was found in the words, if it is anything.
+fn ask_found<'a>(found: &ArgMatches<'a>) -> Option<Ask<'a>> {
     if let Some(found) = found.subcommand_matches("picture") {
-        return Ok(Ask::Picture(picture_ask(found)));
+        return Some(Ask::Picture(picture_ask(found)));
     }
     if let Some(found) = found.subcommand_matches("steps") {
-        return Ok(Ask::Steps(found.get_str("schedule")));
+        return Some(Ask::Steps(found.get_str("schedule")));
     }
-    let Some(found) = found.subcommand_matches("ctf") else {
-        return Err(ViewFault::Usage);
-    };
-    match trace_ask(found) {
-        Some(ask) => Ok(Ask::Trace(ask)),
-        None => Err(ViewFault::Usage),
-    }
+    Some(Ask::Trace(trace_ask(found.subcommand_matches("ctf")?)?))
 }
 
-/// A text that is asked for is told; everything else is a fault.
-fn told<'a>(alloc: Global, fault: Error) -> Result<Ask<'a>, ViewFault> {
-    match fault.kind() {
-        ErrorKind::DisplayHelp | ErrorKind::DisplayVersion => {
-            Ok(Ask::Text(format!(in alloc; "{fault}")?))
-        }
-        _ => Err(ViewFault::from(fault)),
+/// What these words ask for, the first of which is the program's name.
+pub fn ask_of<'a>(alloc: Global, words: &'a [String]) -> Result<Ask<'a>, CommandFault<'a>> {
+    match asked_of(alloc, command(alloc)?, USAGE, words)? {
+        Asked::Found(found) => ask_found(&found).ok_or(CommandFault::Usage(USAGE)),
+        Asked::Text(text) => Ok(Ask::Text(text)),
     }
 }

@@ -2,7 +2,6 @@ ghost use Rattle.std.specs.Prelude.{◌≡◌};
 ghost use Rattle.specview.specs.Faults.{IsReadFault, IsWritingFault};
 ghost use Rattle.specview.specs.declared.fault.ViewFault.TheVariants.{Memory};
 
-use clap::error::ErrorKind;
 use dspec_player::InputFault;
 use dspec_schedule::{LineKind, ScheduleFault};
 use std::alloc::{AllocError, AllocFailed};
@@ -16,6 +15,8 @@ pub enum ViewFault {
     Line { line: u64, kind: LineKind },
     #[error("by time, but the schedule has no stamps: it wants `header 2`")]
     NoStamp,
+    #[error("a stamp of 9223372036 seconds or more by the clock, which no reader takes")]
+    LateStamp,
     #[error("no event for EPID {0}: the schedule enables none")]
     NoEvent(u32),
     #[error("numbers of a packet that 64 bits don't hold")]
@@ -32,8 +33,8 @@ pub enum ViewFault {
     NotEmpty,
     #[error("a clock of frequency 0")]
     NoFrequency,
-    #[error("usage: specview ctf --output FOLDER [--by-time HERTZ] [SCHEDULE], specview picture [--output FILE] [SCHEDULE], specview steps [SCHEDULE]")]
-    Usage,
+    #[error("a clock of frequency 18446744073709551615, which no reader takes")]
+    GreatestFrequency,
 }
 
 impl ViewFault {
@@ -46,11 +47,12 @@ impl ViewFault {
         match self {
             ViewFault::Line { .. }
             | ViewFault::NoStamp
+            | ViewFault::LateStamp
             | ViewFault::NoEvent(_)
             | ViewFault::TooMuch => 1,
             ViewFault::Memory => 2,
             ViewFault::Read | ViewFault::Write | ViewFault::TooLong | ViewFault::NotEmpty => 3,
-            ViewFault::NoFrequency | ViewFault::Usage => 4,
+            ViewFault::NoFrequency | ViewFault::GreatestFrequency => 4,
         }
     }
 }
@@ -115,14 +117,5 @@ pub fn write_fault(fault: &io::Error) -> ViewFault
     match fault.kind() {
         io::ErrorKind::OutOfMemory => ViewFault::Memory,
         _ => ViewFault::Write,
-    }
-}
-
-impl From<clap::Error> for ViewFault {
-    fn from(fault: clap::Error) -> Self {
-        match fault.kind() {
-            ErrorKind::OutOfMemory => ViewFault::Memory,
-            _ => ViewFault::Usage,
-        }
     }
 }

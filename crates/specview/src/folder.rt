@@ -1,11 +1,13 @@
 //! The folder of a trace.
 
-ghost use Rattle.std.specs.Prelude.{◌≡◌, IfErr, IsErrAnd, None, OnOk, Option, List};
+ghost use Rattle.std.specs.Prelude.{◌≡◌, IfErr, IsErrAnd, None, OnErr, OnOk, Option, List};
 ghost use Rattle.specview.specs.Faults.{IsWritingFault};
-ghost use Rattle.specview.specs.Folders.{AddsFiles, NamedFile, named_file, trace_files, written_files};
+ghost use Rattle.specview.specs.Folders.{AddsFiles, IsEmpty, NamedFile, named_file, trace_files, written_files};
 
 use crate::fault::{ViewFault, read_fault, write_fault};
+use crate::program::ProgramFault;
 use crate::trace::Trace;
+use dspec_command::{CommandFault, device_fault};
 use std::alloc::Global;
 use std::fs::File;
 use std::io::Write;
@@ -15,37 +17,71 @@ use std::{fs, io};
 pub trait Folder {
     ghost files: { Self → Option (List NamedFile) };
 
-    /// Adds a file, which there isn't yet.
+    /// Adds a file, which there isn't yet. Where that fails, a beginning of it may be there.
     fn put(&mut self, alloc: Global, name: &str, bytes: &[u8]) -> Result<(), ViewFault>
         ensures put { OnOk result (AddsFiles (files self.old) (files self.new) (named_file name.now bytes.now)) }
         ensures fault { IfErr result IsWritingFault };
+
+    /// Takes away all files that were put, or begun.
+    fn clear(&mut self)
+        ensures { IsEmpty (files self.new) };
 }
 
 /// A folder of the system, by its path.
-#[derive(Clone, Copy)]
+#[derive(Drop)]
 pub struct SystemFolder<'a> {
     rt: &'a HostRuntime,
     path: &'a str,
+    /// Whether the folder was made for the trace.
+    made: bool,
+    /// The paths of the files that were begun in it.
+    begun: Vec<String>,
+    /// Why the last file wasn't written, where one wasn't.
+    reason: Option<io::Error>,
 }
 
 impl<'a> SystemFolder<'a> {
     /// Makes the folder, or sees that it is empty.
-    pub fn new(rt: &'a HostRuntime, path: &'a str) -> Result<SystemFolder<'a>, ViewFault> {
-        if let Err(fault) = fs::create_dir(rt, path) {
-            if fault.kind() != io::ErrorKind::AlreadyExists {
-                return Err(write_fault(&fault));
+    pub fn new(rt: &'a HostRuntime, path: &'a str) -> Result<SystemFolder<'a>, ProgramFault<'a>> {
+        let made = match fs::create_dir(rt, path) {
+            Ok(()) => true,
+            Err(fault) if fault.kind() == io::ErrorKind::AlreadyExists => {
+                see_empty(rt, path)?;
+                false
             }
-            see_empty(rt, path)?;
+            Err(reason) => return Err(ProgramFault::Command(device_fault(path, reason))),
+        };
+        Ok(SystemFolder {
+            rt,
+            path,
+            made,
+            begun: Vec::new(rt.alloc()),
+            reason: None,
+        })
+    }
+
+    /// What is told of the last file that wasn't written, if the system said why.
+    pub fn fault(&self) -> Option<CommandFault<'a>> {
+        match self.reason {
+            Some(reason) => Some(device_fault(self.path, reason)),
+            None => None,
         }
-        Ok(SystemFolder { rt, path })
+    }
+
+    /// Writes a file that isn't there yet.
+    fn write_new(&mut self, path: String, bytes: &[u8]) -> io::Result<()> {
+        self.begun.reserve(1)?;
+        let mut file = File::create_new(self.rt, path.as_str())?;
+        self.begun.push(path)?;
+        file.write_all(bytes)
     }
 }
 
 /// Sees that a folder is empty.
-fn see_empty(rt: &HostRuntime, path: &str) -> Result<(), ViewFault> {
+fn see_empty<'a>(rt: &HostRuntime, path: &'a str) -> Result<(), ProgramFault<'a>> {
     match fs::read_dir(rt, path) {
-        Ok(mut names) => empty_by(names.next()),
-        Err(fault) => Err(read_fault(&fault)),
+        Ok(mut names) => Ok(empty_by(names.next())?),
+        Err(reason) => Err(ProgramFault::Command(device_fault(path, reason))),
     }
 }
 
@@ -66,13 +102,21 @@ impl<'a> Folder for SystemFolder<'a> {
     fn put(&mut self, alloc: Global, name: &str, bytes: &[u8]) -> Result<(), ViewFault> {
         let folder = self.path;
         let path = format!(in alloc; "{folder}/{name}")?;
-        let mut file = match File::create_new(self.rt, path.as_str()) {
-            Ok(file) => file,
-            Err(fault) => return Err(write_fault(&fault)),
-        };
-        match file.write_all(bytes) {
+        match self.write_new(path, bytes) {
             Ok(()) => Ok(()),
-            Err(fault) => Err(write_fault(&fault)),
+            Err(reason) => {
+                self.reason = Some(reason);
+                Err(write_fault(&reason))
+            }
+        }
+    }
+
+    fn clear(&mut self) {
+        for path in &self.begun {
+            let _ = fs::remove_file(self.rt, path.as_str());
+        }
+        if self.made {
+            let _ = fs::remove_dir(self.rt, self.path);
         }
     }
 }
@@ -94,14 +138,26 @@ fn put_file<F: Folder>(
     folder.put(alloc, name.as_str(), bytes)
 }
 
-/// Writes a trace: the metadata, then the file of each CPU that has one, upwards.
-pub fn write_trace<F: Folder>(alloc: Global, folder: &mut F, trace: &Trace) -> Result<(), ViewFault>
+/// Writes the file of each CPU that has one, upwards, then the metadata.
+fn put_trace<F: Folder>(alloc: Global, folder: &mut F, trace: &Trace) -> Result<(), ViewFault>
     ensures written { OnOk result (AddsFiles (F.files folder.old) (F.files folder.new) (trace_files trace.now)) }
     ensures fault { IfErr result IsWritingFault }
 {
-    folder.put(alloc, "metadata", trace.metadata.as_str().as_bytes())?;
     for (cpu, file) in trace.files.iter().enumerate() {
         put_file(alloc, folder, cpu, file.as_slice())?;
     }
-    Ok(())
+    folder.put(alloc, "metadata", trace.metadata.as_str().as_bytes())
+}
+
+/// Writes a trace, the metadata last, since a folder without it is no trace; behind a fault nothing is left of it.
+pub fn write_trace<F: Folder>(alloc: Global, folder: &mut F, trace: &Trace) -> Result<(), ViewFault>
+    ensures written { OnOk result (AddsFiles (F.files folder.old) (F.files folder.new) (trace_files trace.now)) }
+    ensures nothing { OnErr result (IsEmpty (F.files folder.new)) }
+    ensures fault { IfErr result IsWritingFault }
+{
+    let Err(fault) = put_trace(alloc, folder, trace) else {
+        return Ok(());
+    };
+    folder.clear();
+    Err(fault)
 }

@@ -10,6 +10,7 @@ ghost use Rattle.specview.specs.Batches.{TellsCounts, last_share, shares, shown_
 ghost use Rattle.specview.specs.Traces.{AreFiles, AreStreams, IsFile, IsFileFault, IsFormFault, IsPlayTrace, IsPlayTraceFault, IsSizeFault, IsTraceFault, IsTraceOf, event_rows, file_as_taken, packets_behind};
 
 use crate::batches::{Share, shares_of, with_last};
+use crate::clock::see_clock;
 use crate::events::events_of;
 use crate::fault::ViewFault;
 use dspec_core::{Close, Deed, Outcome, Report};
@@ -227,6 +228,9 @@ fn trace_of_play(
         Ok(text) => text,
         Err(fault) => return Err(form_fault(fault)),
     };
+    if let Err(fault) = see_clock(form, outcome.close.accepted.as_slice()) {
+        return Err(fault);
+    }
     let files = files_of(
         alloc,
         uuid,

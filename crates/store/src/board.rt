@@ -1,4 +1,4 @@
-use anyhow::Result;
+use std::io;
 use std::sync::atomic::{AtomicU64, Ordering};
 
 /// How many accounts a worker has: worker W has those from 4 W on, so that no other changes them.
@@ -38,7 +38,7 @@ impl Board {
 
 impl Board {
     /// Prints all balances.
-    pub fn tell<R: Print>(&self, rt: &R) -> Result<()> {
+    pub fn tell<R: Print>(&self, rt: &R) -> io::Result<()> {
         print!(rt; "board")?;
         for balance in &self.balances {
             print!(rt; " {}", balance.load(Ordering::SeqCst))?;

@@ -1,10 +1,9 @@
+use crate::fault::TraceFault;
 use crate::probes::PROBES;
-use crate::serving::WORKERS;
 use crate::telling::is_of;
-use anyhow::{Result, ensure};
-use dspec::{Enablings, Rec, Report};
+use dspec::{Closed, Enablings, Rec, Report, closed_cpus};
 use dspec_trace::{Folder, Form, Names, Stream, first_refused, metadata};
-use std::alloc::Global;
+use std::alloc::{AllocError, Global};
 
 /// The uuid of each trace that this program writes.
 const UUID: [u8; 16] = *b"store-of-account";
@@ -20,7 +19,7 @@ fn missed_of(report: &Report) -> u64 {
 }
 
 /// The records of a worker's transfers, in their order.
-fn own_records(alloc: Global, worker: u32, records: &[Rec]) -> Result<Vec<Rec>> {
+fn own_records(alloc: Global, worker: u32, records: &[Rec]) -> Result<Vec<Rec>, AllocError> {
     let mut own = Vec::new(alloc);
     for rec in records {
         if is_of(rec, worker) {
@@ -31,7 +30,11 @@ fn own_records(alloc: Global, worker: u32, records: &[Rec]) -> Result<Vec<Rec>> 
 }
 
 /// Writes the metadata of a trace by time.
-pub fn write_metadata<F: Folder>(alloc: Global, folder: &mut F, schema: &Enablings) -> Result<()> {
+fn write_metadata<F: Folder>(
+    alloc: Global,
+    folder: &mut F,
+    schema: &Enablings,
+) -> Result<(), TraceFault> {
     let names = Names::Given(&PROBES);
     let text = metadata(alloc, &UUID, Form::ByTime(HERTZ), schema, &names)?;
     folder.add(alloc, "metadata", text.as_str().as_bytes())?;
@@ -39,19 +42,18 @@ pub fn write_metadata<F: Folder>(alloc: Global, folder: &mut F, schema: &Enablin
 }
 
 /// Writes what was kept of a worker's records as packets by time; no file where there is nothing to tell.
-pub fn write_worker<F: Folder>(
+fn write_worker<F: Folder>(
     alloc: Global,
     folder: &mut F,
     schema: &Enablings,
     worker: u32,
     report: &Report,
     records: &[Rec],
-) -> Result<()> {
+) -> Result<(), TraceFault> {
     let own = own_records(alloc, worker, records)?;
-    ensure!(
-        first_refused(schema, &own).is_none(),
-        "a record that isn't one of the schema's"
-    );
+    if first_refused(schema, &own).is_some() {
+        return Err(TraceFault::Record);
+    }
     let stream = Stream {
         uuid: UUID,
         enablings: schema,
@@ -65,4 +67,18 @@ pub fn write_worker<F: Folder>(
     let name = format!(in alloc; "cpu_{worker}")?;
     folder.add(alloc, name.as_str(), bytes.as_slice())?;
     Ok(())
+}
+
+/// Writes what was kept of all workers, and the metadata last, since a folder without it is no trace.
+pub fn write_trace<F: Folder>(
+    alloc: Global,
+    mut folder: F,
+    schema: &Enablings,
+    closed: &Closed,
+    records: &[Rec],
+) -> Result<(), TraceFault> {
+    for cpu in closed_cpus(closed) {
+        write_worker(alloc, &mut folder, schema, cpu.number, cpu.report, records)?;
+    }
+    write_metadata(alloc, &mut folder, schema)
 }

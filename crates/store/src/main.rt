@@ -1,76 +1,105 @@
 //! `store [--ctf FOLDER]` is a store of accounts in miniature. Three workers, each on a lane of its own, make transfers between their
 //! accounts; the steps of each are recorded speculatively, with stamps, and kept of those transfers alone that are aborted or slow. At
 //! the end their paths are printed in order of time, and the board of all balances. With `--ctf` what was kept is written to a folder
-//! too, as a trace by time.
+//! too, as a trace by time, before anything is printed.
 //!
-//! The stamps are of a clock that each worker counts for itself, so that the same is printed however the threads run.
+//! The stamps are of a clock that each worker counts for itself, so that the same is printed however the threads run. Its status is 0; 2
+//! for want of memory, 3 for a fault of input or output, and 4 for words that it doesn't know.
 #![tactic(auto)]
 
+mod arguments;
 mod board;
+mod fault;
 mod folder;
 mod probes;
 mod serving;
 mod telling;
 
-use anyhow::{Context, Result, ensure};
+use arguments::{Ask, ask_of};
 use board::Board;
-use dspec::{Closed, Config, Enablings, Kept, Rec, closed_cpus, trace};
-use dspec_trace::{Folder, SystemFolder};
-use folder::{write_metadata, write_worker};
+use dspec::{Closed, Config, Kept, Rec, closed_cpus, trace};
+use dspec_command::{ended, output_fault, print_text, words_of};
+use dspec_trace::SystemFolder;
+use fault::{StoreFault, TraceFault};
+use folder::write_trace;
 use probes::enable;
 use serving::{Server, WORKERS};
-use std::alloc::Global;
-use std::env;
+use std::io;
+use std::process::ExitCode;
+use std::thread::Threads;
 use telling::{tell_paths, tell_report};
 
-/// The folder that the command line names, if it names one.
-fn folder_of(rt: &HostRuntime) -> Result<Option<String>> {
-    let mut words = env::args(rt)?;
-    let _program = words.next();
-    let Some(word) = words.next() else {
+/// The folder of that name, if one is named.
+fn folder_asked<'a>(
+    rt: &'a HostRuntime,
+    name: Option<&'a str>,
+) -> Result<Option<SystemFolder<'a>>, StoreFault<'a>> {
+    let Some(name) = name else {
         return Ok(None);
     };
-    ensure!(word.as_str() == "--ctf", "usage: store [--ctf FOLDER]");
-    Ok(Some(words.next().context("--ctf wants a folder")?))
+    match SystemFolder::new(rt, name) {
+        Ok(folder) => Ok(Some(folder)),
+        Err(fault) => Err(StoreFault::Trace {
+            name,
+            fault: TraceFault::Folder(fault),
+        }),
+    }
 }
 
-/// Writes what was kept of all workers.
-fn write_trace<F: Folder>(
-    alloc: Global,
-    mut folder: F,
-    schema: &Enablings,
-    closed: &Closed,
-    records: &[Rec],
-) -> Result<()> {
-    write_metadata(alloc, &mut folder, schema)?;
+/// Prints the paths of the records, which are in order of time, the board, and what the CPUs report.
+fn tell_all<R: Print>(rt: &R, records: &[Rec], board: &Board, closed: &Closed) -> io::Result<()> {
+    tell_paths(rt, records)?;
+    board.tell(rt)?;
     for cpu in closed_cpus(closed) {
-        write_worker(alloc, &mut folder, schema, cpu.number, cpu.report, records)?;
+        tell_report(rt, cpu.number, cpu.report)?;
     }
     Ok(())
 }
 
-fn main(rt: HostRuntime) -> Result<()> {
-    let path = folder_of(&rt)?;
-    let folder = match &path {
-        Some(path) => Some(SystemFolder::new(&rt, path.as_str())?),
-        None => None,
-    };
+/// Makes the transfers, writes the trace where a folder is named, and tells what was kept.
+fn transfers<'a, R: Threads + Sync>(
+    rt: &'a HostRuntime,
+    threads: &R,
+    name: Option<&'a str>,
+) -> Result<(), StoreFault<'a>> {
+    let folder = folder_asked(rt, name)?;
     let schema = enable()?;
     let server = Server {
         board: Board::new(),
     };
     let kept = Kept::new(rt.alloc());
     let config = Config::of(WORKERS, 16, 16384, 512);
-    let (closed, kept) = trace(&rt, rt.alloc(), &config, schema, &server, kept)?;
+    let (closed, kept) = trace(threads, rt.alloc(), &config, schema, &server, kept)?;
     let mut records = kept.records()?;
     records.sort_by_key(|rec: &Rec| rec.stamp())?;
-    tell_paths(&rt, &records)?;
-    server.board.tell(&rt)?;
-    for cpu in closed_cpus(&closed) {
-        tell_report(&rt, cpu.number, cpu.report)?;
+    if let (Some(name), Some(folder)) = (name, folder) {
+        if let Err(fault) = write_trace(rt.alloc(), folder, &schema, &closed, &records) {
+            return Err(StoreFault::Trace { name, fault });
+        }
     }
-    if let Some(folder) = folder {
-        write_trace(rt.alloc(), folder, &schema, &closed, &records)?;
+    match tell_all(rt, &records, &server.board, &closed) {
+        Ok(()) => Ok(()),
+        Err(reason) => Err(StoreFault::Command(output_fault(reason))),
     }
-    Ok(())
+}
+
+/// Makes the transfers, or prints the text that is asked for.
+fn run<'a, R: Threads + Sync>(
+    rt: &'a HostRuntime,
+    threads: &R,
+    words: &'a [String],
+) -> Result<bool, StoreFault<'a>> {
+    match ask_of(rt.alloc(), words)? {
+        Ask::Transfers(folder) => transfers(rt, threads, folder)?,
+        Ask::Text(text) => print_text(rt, text.as_str())?,
+    }
+    Ok(true)
+}
+
+/// Makes the transfers by the words of the command line.
+fn main(rt: HostRuntime) -> ExitCode {
+    match words_of(&rt) {
+        Ok(words) => ended(&rt, "store", run(&rt, &rt, words.as_slice())),
+        Err(fault) => ended(&rt, "store", Err(fault)),
+    }
 }

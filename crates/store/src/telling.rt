@@ -1,7 +1,7 @@
 use crate::probes::{ABORTED, BEGIN, END, PROBES};
 use crate::serving::WORKERS;
-use anyhow::Result;
 use dspec::{Rec, Report};
+use std::io;
 
 /// A value of a record; 0 where there is none.
 fn value(rec: &Rec, place: usize) -> u64 {
@@ -14,7 +14,7 @@ pub fn is_of(rec: &Rec, worker: u32) -> bool {
 }
 
 /// Prints a step of a transfer that began at that stamp.
-fn tell_step<R: Print>(rt: &R, began: u64, rec: &Rec) -> Result<()> {
+fn tell_step<R: Print>(rt: &R, began: u64, rec: &Rec) -> io::Result<()> {
     let micros = rec.stamp().saturating_sub(began);
     if rec.epid() == END {
         let outcome = if value(rec, 1) == ABORTED {
@@ -37,7 +37,7 @@ fn tell_step<R: Print>(rt: &R, began: u64, rec: &Rec) -> Result<()> {
 }
 
 /// Prints the path of the transfer that begins with this record.
-fn tell_path<R: Print>(rt: &R, records: &[Rec], begin: &Rec) -> Result<()> {
+fn tell_path<R: Print>(rt: &R, records: &[Rec], begin: &Rec) -> io::Result<()> {
     let (number, worker) = (value(begin, 0), value(begin, 1));
     print!(rt;
         "{} us: transfer {number} of worker {worker}:",
@@ -52,7 +52,7 @@ fn tell_path<R: Print>(rt: &R, records: &[Rec], begin: &Rec) -> Result<()> {
 }
 
 /// Prints all paths in the order in which they began. The records are in order of time.
-pub fn tell_paths<R: Print>(rt: &R, records: &[Rec]) -> Result<()> {
+pub fn tell_paths<R: Print>(rt: &R, records: &[Rec]) -> io::Result<()> {
     for rec in records {
         if rec.epid() == BEGIN {
             tell_path(rt, records, rec)?;
@@ -62,7 +62,7 @@ pub fn tell_paths<R: Print>(rt: &R, records: &[Rec]) -> Result<()> {
 }
 
 /// Prints what a worker's CPU reports.
-pub fn tell_report<R: Print>(rt: &R, worker: u32, report: &Report) -> Result<()> {
+pub fn tell_report<R: Print>(rt: &R, worker: u32, report: &Report) -> io::Result<()> {
     let (offered, accepted, discarded) = (report.offered, report.accepted, report.discarded);
     println!(rt; "cpu {worker} offered {offered} accepted {accepted} discarded {discarded}")?;
     Ok(())

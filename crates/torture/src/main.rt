@@ -7,8 +7,10 @@
 //! the calls answered, what was recorded and what is reported agree isn't promised here: the program compares it.
 #![tactic(auto)]
 
+mod arguments;
 mod choosing;
 mod consuming;
+mod fault;
 mod planning;
 mod racing;
 mod running;
@@ -17,14 +19,16 @@ mod taken;
 mod telling;
 mod working;
 
-use anyhow::{Context, Result};
+use arguments::{Ask, ask_of};
+use dspec_command::{ended, print_text, words_of};
 use dspec_logs::{CheckFault, DAMAGES, Sums, check, found};
+use fault::TortureFault;
 use planning::Plan;
 use running::run;
-use std::alloc::Global;
+use std::alloc::{AllocError, Global};
+use std::fs;
 use std::process::ExitCode;
 use std::thread::Threads;
-use std::{env, fs};
 use telling::{tell, tell_sums};
 
 /// Whether standard error is a terminal.
@@ -36,12 +40,12 @@ fn has_terminal(rt: &HostRuntime) -> bool {
 }
 
 /// Runs one seed, and tells of its contradiction where there is one; whether there is none.
-fn try_seed<R: Threads + Print + Sync>(
+fn try_seed<'a, R: Threads + Print + Sync>(
     rt: &R,
     alloc: Global,
     seed: u64,
     sums: &mut Sums,
-) -> Result<bool> {
+) -> Result<bool, TortureFault<'a>> {
     let plan = Plan::new(seed);
     let story = run(rt, alloc, &plan)?;
     match check(alloc, &story, sums) {
@@ -50,18 +54,18 @@ fn try_seed<R: Threads + Print + Sync>(
             tell(rt, seed, &story, &flaw)?;
             Ok(false)
         }
-        Err(CheckFault::Memory) => anyhow::bail!("out of memory"),
+        Err(CheckFault::Memory) => Err(TortureFault::Memory(AllocError)),
     }
 }
 
 /// Runs so many seeds, from the first on; how many passed.
-fn try_seeds<R: Threads + Print + Eprint + Sync>(
+fn try_seeds<'a, R: Threads + Print + Eprint + Sync>(
     rt: &R,
     alloc: Global,
     shows: bool,
     first: u64,
     count: u64,
-) -> Result<u64> {
+) -> Result<u64, TortureFault<'a>> {
     let mut sums = Sums::default();
     let mut passed = 0u64;
     for round in 0..count {
@@ -82,7 +86,7 @@ fn try_seeds<R: Threads + Print + Eprint + Sync>(
 }
 
 /// Compares the made-up session, whole and with each damage.
-fn try_made<R: Print>(rt: &R, alloc: Global) -> Result<()> {
+fn try_made<'a, R: Print>(rt: &R, alloc: Global) -> Result<(), TortureFault<'a>> {
     for damage in DAMAGES {
         match found(alloc, damage)? {
             Some(flaw) => println!(rt; "{damage:?}: {flaw}")?,
@@ -92,37 +96,40 @@ fn try_made<R: Print>(rt: &R, alloc: Global) -> Result<()> {
     Ok(())
 }
 
-/// Runs the seeds that the words ask for, and gives the status.
-fn run_seeds<R: Threads + Print + Eprint + Sync>(
+/// Does what the words ask for, and says whether nothing was contradicted.
+fn torture<'a, R: Threads + Print + Eprint + Sync>(
     rt: &R,
     alloc: Global,
     shows: bool,
-    first: &str,
-    count: &str,
-) -> Result<ExitCode> {
-    let first = first.parse::<u64>().context("a seed is a number")?;
-    let count = count.parse::<u64>().context("a count is a number")?;
-    let passed = try_seeds(rt, alloc, shows, first, count)?;
-    if passed < count {
-        return Ok(ExitCode::FAILURE);
+    words: &'a [String],
+) -> Result<bool, TortureFault<'a>> {
+    match ask_of(alloc, words)? {
+        Ask::Made => {
+            try_made(rt, alloc)?;
+            Ok(true)
+        }
+        Ask::Seeds { first, count } => {
+            let passed = try_seeds(rt, alloc, shows, first, count)?;
+            Ok(passed == count)
+        }
+        Ask::Text(text) => {
+            print_text(rt, text.as_str())?;
+            Ok(true)
+        }
     }
-    Ok(ExitCode::SUCCESS)
 }
 
-fn main(rt: HostRuntime) -> Result<ExitCode> {
-    let mut words = Vec::new(rt.alloc());
-    for word in env::args(&rt)? {
-        words.push(word)?;
-    }
-    match words.as_slice() {
-        [_, word] if word.as_str() == "made" => {
-            try_made(&rt, rt.alloc())?;
-            Ok(ExitCode::SUCCESS)
-        }
-        [_, first, count] => {
+/// Tortures by the words of the command line; a contradiction is status 1.
+fn main(rt: HostRuntime) -> ExitCode {
+    match words_of(&rt) {
+        Ok(words) => {
             let shows = has_terminal(&rt);
-            run_seeds(&rt, rt.alloc(), shows, first.as_str(), count.as_str())
+            ended(
+                &rt,
+                "torture",
+                torture(&rt, rt.alloc(), shows, words.as_slice()),
+            )
         }
-        _ => anyhow::bail!("usage: torture made, or torture FIRST COUNT"),
+        Err(fault) => ended(&rt, "torture", Err(fault)),
     }
 }

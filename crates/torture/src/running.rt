@@ -1,11 +1,11 @@
 ghost use Rattle.std.specs.Prelude.{◌≡◌, ◌<◌, IfOk, length};
 ghost use Rattle.dspec_consumer.specs.Sessions.{IsSession};
 
+use crate::fault::TortureFault;
 use crate::planning::Plan;
 use crate::racing::race;
 use crate::sharing::Board;
 use crate::taken::Basket;
-use anyhow::Result;
 use dspec_consumer::Session;
 use dspec_logs::{Log, Story, enable};
 use dspec_record::Enablings;
@@ -48,7 +48,11 @@ fn read_left(
 }
 
 /// Runs the session of a plan in threads, and gives all that is known of it once it has ended.
-pub fn run<R: Threads + Sync>(rt: &R, alloc: Global, plan: &Plan) -> Result<Story> {
+pub fn run<'a, R: Threads + Sync>(
+    rt: &R,
+    alloc: Global,
+    plan: &Plan,
+) -> Result<Story, TortureFault<'a>> {
     let board = Board::new(alloc, &plan.config, enable()?, plan.places)?;
     let session = Session::start(alloc, &plan.config, board.schema)?;
     let basket = Basket::new(alloc, plan.config.cpus)?;

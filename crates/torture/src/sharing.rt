@@ -100,6 +100,11 @@ impl Board {
         self.come.load(Ordering::SeqCst) >= workers
     }
 
+    /// Nobody waits any more until so many workers have come.
+    pub fn give_up(&self, workers: u64) {
+        self.come.store(workers, Ordering::SeqCst);
+    }
+
     /// A worker has made a call.
     pub fn count(&self) {
         self.made.fetch_add(1, Ordering::SeqCst);

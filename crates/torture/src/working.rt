@@ -14,9 +14,10 @@ use std::hint::spin_loop;
 use std::thread;
 
 /// How often a worker looks whether the others have come: threads that come late don't keep it for ever.
-const LOOKS: u32 = 1_000_000;
+const LOOKS: u32 = 100_000;
 
-/// Waits until all workers have come, so that their calls meet.
+/// Waits until all workers have come, so that their calls meet. Where they don't, since threads are refused and workers run one after
+/// another, the first alone waits in vain.
 fn gather(board: &Board, workers: u64) {
     board.come();
     for _ in 0..LOOKS {
@@ -25,6 +26,7 @@ fn gather(board: &Board, workers: u64) {
         }
         thread::yield_now();
     }
+    board.give_up(workers);
 }
 
 /// Does nothing for a while, as a rule for none.

@@ -13,6 +13,10 @@ struct Requests {
 }
 
 impl Work<Enablings> for Requests {
+    ghost use Rattle.tour.specs.Requests.{DoesRequests};
+
+    ghost does = { λ schema work _ before after. DoesRequests schema work before after };
+
     /// One request fails and one doesn't, and three plain records are traced, of which the last has no room.
     fn work(&self, lane: &mut Lane<'_, Enablings>) {
         let failed = lane.path();

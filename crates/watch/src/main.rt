@@ -4,78 +4,116 @@
 //! what the generator knows: a failed request's path is there whole, or its steps are counted as lost, and of a request that succeeded
 //! no step is there. With `--ctf` what is kept is written to a folder too, as it is taken, while the workers run.
 //!
-//! That what was recorded is what the generator made isn't promised: the program compares it, and ends with status 1 where it isn't.
+//! That what was recorded is what the generator made isn't promised: the program compares it, and ends with status 1 where it isn't. With
+//! 2 it ends for want of memory, with 3 for a fault of input or output, and with 4 for words that it doesn't know.
 #![tactic(auto)]
 
+mod arguments;
+mod fault;
 mod paths;
 mod requests;
 mod serving;
 
-use anyhow::{Context, Result};
+use arguments::{Ask, WatchAsk, ask_of};
 use dspec::{Both, Config, Enablings, Kept, closed_cpus, trace};
+use dspec_command::{ended, output_fault, print_text, words_of};
 use dspec_trace::{EventNames, Names, SystemFolder, TraceFolder};
+use fault::WatchFault;
 use paths::{compare, tell};
 use requests::{PROBES, WORKERS, enable};
 use serving::Server;
-use std::env;
-
-/// What the command line asks for.
-struct CommandLine {
-    seed: u64,
-    folder: Option<String>,
-}
-
-/// The seed that the command line names, or 1, and the folder, if it names one.
-fn read_words(rt: &HostRuntime) -> Result<CommandLine> {
-    let mut words = env::args(rt)?;
-    let _program = words.next();
-    let mut word = words.next();
-    let mut folder = None;
-    if word.as_deref() == Some("--ctf") {
-        folder = Some(words.next().context("--ctf wants a folder")?);
-        word = words.next();
-    }
-    let seed = match word {
-        Some(word) => word.as_str().parse::<u64>().context("a seed is a number")?,
-        None => 1,
-    };
-    Ok(CommandLine { seed, folder })
-}
+use std::process::ExitCode;
+use std::thread::Threads;
 
 /// Begins a trace in the folder of that path, with the names of the probes in its metadata.
 fn begin_trace<'a>(
     rt: &'a HostRuntime,
-    path: &'a str,
+    name: &'a str,
     schema: &Enablings,
-) -> Result<TraceFolder<SystemFolder<'a>>> {
+) -> Result<TraceFolder<SystemFolder<'a>>, WatchFault<'a>> {
     let names = PROBES.map(|event| EventNames {
         event,
         fields: &["request", "micros"],
     });
-    let folder = SystemFolder::new(rt, path)?;
+    let folder = match SystemFolder::new(rt, name) {
+        Ok(folder) => folder,
+        Err(fault) => return Err(WatchFault::Folder { name, fault }),
+    };
     let uuid = *b"watch-of-failure";
-    Ok(TraceFolder::new(rt.alloc(), folder, uuid, schema, &Names::Given(&names))?)
+    match TraceFolder::new(rt.alloc(), folder, uuid, schema, &Names::Given(&names)) {
+        Ok(begun) => Ok(begun),
+        Err(fault) => Err(WatchFault::Folder { name, fault }),
+    }
 }
 
-fn main(rt: HostRuntime) -> Result<()> {
-    let CommandLine { seed, folder } = read_words(&rt)?;
-    let schema = enable()?;
-    let second = match &folder {
-        Some(path) => Some(begin_trace(&rt, path.as_str(), &schema)?),
-        None => None,
+/// The trace in the folder that is asked for, if one is.
+fn trace_asked<'a>(
+    rt: &'a HostRuntime,
+    folder: Option<&'a str>,
+    schema: &Enablings,
+) -> Result<Option<TraceFolder<SystemFolder<'a>>>, WatchFault<'a>> {
+    match folder {
+        Some(name) => Ok(Some(begin_trace(rt, name, schema)?)),
+        None => Ok(None),
+    }
+}
+
+/// Ends a trace.
+fn finish<'a>(
+    folder: Option<&'a str>,
+    begun: Option<TraceFolder<SystemFolder<'a>>>,
+) -> Result<(), WatchFault<'a>> {
+    let (Some(name), Some(begun)) = (folder, begun) else {
+        return Ok(());
     };
+    match begun.finish() {
+        Ok(()) => Ok(()),
+        Err(fault) => Err(WatchFault::Folder { name, fault }),
+    }
+}
+
+/// Handles the requests of a seed, tells those that failed, and compares what was recorded of them.
+fn watch<'a, R: Threads + Sync>(
+    rt: &'a HostRuntime,
+    threads: &R,
+    ask: WatchAsk<'a>,
+) -> Result<(), WatchFault<'a>> {
+    let seed = ask.seed;
+    let schema = enable()?;
+    let second = trace_asked(rt, ask.folder, &schema)?;
     let first = Kept::new(rt.alloc());
     let sink = Both { first, second };
     let config = Config::of(WORKERS, 16, 8192, 128);
-    let (closed, sink) = trace(&rt, rt.alloc(), &config, schema, &Server { seed }, sink)?;
+    let (closed, sink) = trace(threads, rt.alloc(), &config, schema, &Server { seed }, sink)?;
     let Both { first, second } = sink;
+    finish(ask.folder, second)?;
     let seen = first.records()?;
     for cpu in closed_cpus(&closed) {
-        tell(&rt, seed, cpu.number, seen.as_slice(), cpu.report)?;
+        if let Err(reason) = tell(rt, seed, cpu.number, seen.as_slice(), cpu.report) {
+            return Err(WatchFault::Command(output_fault(reason)));
+        }
         compare(seed, cpu.number, seen.as_slice(), cpu.report)?;
     }
-    if let Some(folder) = second {
-        folder.finish()?;
-    }
     Ok(())
+}
+
+/// Watches requests, or prints the text that is asked for.
+fn run<'a, R: Threads + Sync>(
+    rt: &'a HostRuntime,
+    threads: &R,
+    words: &'a [String],
+) -> Result<bool, WatchFault<'a>> {
+    match ask_of(rt.alloc(), words)? {
+        Ask::Watch(ask) => watch(rt, threads, ask)?,
+        Ask::Text(text) => print_text(rt, text.as_str())?,
+    }
+    Ok(true)
+}
+
+/// Watches by the words of the command line.
+fn main(rt: HostRuntime) -> ExitCode {
+    match words_of(&rt) {
+        Ok(words) => ended(&rt, "watch", run(&rt, &rt, words.as_slice())),
+        Err(fault) => ended(&rt, "watch", Err(fault)),
+    }
 }

@@ -1,6 +1,7 @@
 use crate::requests::{PROBES, ROUNDS, Request};
 use anyhow::{Result, ensure};
 use dspec::{Rec, Report};
+use std::io;
 
 /// How many steps of a request were recorded: all that is there of it has to be its first steps, in order.
 fn steps_of(seen: &[Rec], request: Request) -> Result<u64> {
@@ -44,7 +45,7 @@ pub fn compare(seed: u64, worker: u32, seen: &[Rec], report: &Report) -> Result<
 }
 
 /// Prints what was recorded of a request.
-fn tell_path<R: Print>(rt: &R, seen: &[Rec], number: u64) -> Result<()> {
+fn tell_path<R: Print>(rt: &R, seen: &[Rec], number: u64) -> io::Result<()> {
     print!(rt; "request {number} failed")?;
     let mut before = ":";
     for rec in seen {
@@ -57,12 +58,17 @@ fn tell_path<R: Print>(rt: &R, seen: &[Rec], number: u64) -> Result<()> {
             before = ",";
         }
     }
-    println!(rt; "")?;
-    Ok(())
+    println!(rt; "")
 }
 
 /// Prints the paths of a worker's failed requests, and what its CPU reports.
-pub fn tell<R: Print>(rt: &R, seed: u64, worker: u32, seen: &[Rec], report: &Report) -> Result<()> {
+pub fn tell<R: Print>(
+    rt: &R,
+    seed: u64,
+    worker: u32,
+    seen: &[Rec],
+    report: &Report,
+) -> io::Result<()> {
     for round in 0..ROUNDS {
         let request = Request::make(seed, u64::from(worker), round);
         if request.fails {
@@ -73,6 +79,5 @@ pub fn tell<R: Print>(rt: &R, seed: u64, worker: u32, seen: &[Rec], report: &Rep
     let (lost, void) = (report.lost, report.void);
     println!(rt;
         "cpu {worker} offered {offered} accepted {accepted} discarded {discarded} lost {lost} void {void}"
-    )?;
-    Ok(())
+    )
 }

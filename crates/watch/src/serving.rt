@@ -1,12 +1,15 @@
 ghost use Rattle.std.specs.Prelude.{◌≡◌};
+ghost use Rattle.dspec_cpu.specs.Called.{called};
 ghost use Rattle.dspec.specs.Lanes.{place_of};
+ghost use Rattle.watch.specs.Serving.{HandlesRequest};
 
 use crate::requests::{ROUNDS, Request};
 use dspec::{Enablings, Lane, Work};
 
 /// The steps of a request go to a path, which is kept where the request fails, and thrown away where it doesn't.
 fn handle(lane: &mut Lane<'_, Enablings>, request: Request)
-    ensures { place_of lane.new ≡ place_of lane.old }
+    ensures same { place_of lane.new ≡ place_of lane.old }
+    ensures handled { HandlesRequest request.fails (called lane.old.cpu.now) (called lane.new.cpu.now) }
 {
     let path = lane.path();
     for place in 0..request.steps() {
@@ -27,6 +30,10 @@ pub struct Server {
 }
 
 impl Work<Enablings> for Server {
+    ghost use Rattle.watch.specs.Serving.{ServesRequests};
+
+    ghost does = { λ _ _ _ before after. ServesRequests before 100 after };
+
     fn work(&self, lane: &mut Lane<'_, Enablings>) {
         let worker = u64::from(lane.number());
         for round in 0..ROUNDS {

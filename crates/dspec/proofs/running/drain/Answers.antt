@@ -7,4 +7,4 @@ loop-init g c = passes_nothing (g.K.Sink.gets c.args.schema.now) (words_of c.arg
 
 pub loop-preserved : goal.loop-preserved
 loop-preserved g c = passes_both (g.K.Sink.gets c.args.schema.now) (words_of c.args.shared.now) c.args.consumer c.loop.consumer c.visit_all.new.consumer
-    c.args.sink c.loop.sink c.visit_all.new.sink c.loop.invariant c.visit_all.ensures
+    c.args.sink c.loop.sink c.visit_all.new.sink c.loop.invariant c.visit_all.ensures.passes

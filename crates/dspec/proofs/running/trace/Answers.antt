@@ -1,4 +1,4 @@
-use Rattle.std.proofs.Common.{◌≡◌, ap, ◌∙◌, subst}
+use Rattle.std.proofs.Common.{ap, ◌∙◌, subst}
 use Rattle.dspec_record.specs.EnablingRows.{EnabledRows}
 use Rattle.dspec_record.specs.Schemas.{enabled, table_shape, table_accepts, table_text}
 use Rattle.dspec_deeds.specs.declared.config.Config.{Config}
@@ -8,8 +8,10 @@ use Rattle.dspec_cpu.specs.Lists.{words_of}
 use Rattle.dspec_consumer.specs.Closing.{IsClosedBy}
 use Rattle.dspec_consumer.specs.Consumers.{view_of}
 use Rattle.dspec_consumer.specs.Leaving.{Has}
+use Rattle.dspec_consumer.specs.Promised.{IsPromisedBy, called_at}
 use Rattle.dspec_consumer.specs.Sessions.{HasAt, taken_at, worn_at}
-use Rattle.dspec.proofs.Tracing.{traced}
+use Rattle.dspec.proofs.Returning.{worked}
+use Rattle.dspec.proofs.Tracing.{fresh_none, listed, traced}
 use Rattle.dspec.proofs.running.trace.Goals as goal
 
 pub returns-clause-traced : goal.returns-clause-traced
@@ -22,9 +24,27 @@ returns-clause-traced g c =
     let accepts : EnabledRows → _ = λ e. table_accepts e.header (enabled e.rows) in
     let text : EnabledRows → _ = λ e. table_text e.header (enabled e.rows) in
     let same = ap (λ (w : Shared). set_up (words_of w)) c.run-session.ensures.words ∙ started.config in
-    traced shape accepts text (g.K.Sink.gets schema) schema c.args.config.now (words_of s.shared) back.cpus.items (worn_at back.cpus.items) (view_of back.consumer).own
-    s.consumer back.consumer c.args.sink c.run-session.result.1 c.pass_rests.new.sink c.finish-closed.result c.all_stand.ensures started.consumer.1
-    c.run-session.ensures.passes
+    let does = λ (x : EnabledRows). g.W.Work.does x c.args.work.now in
+    let lent = c.run-session.ensures.lent in
+    traced shape accepts text (g.K.Sink.gets schema) schema (words_of s.shared) s.consumer back.consumer c.args.sink c.run-session.result.1 c.pass_rests.new.sink
+    c.finish-closed.result started.consumer.1 c.run-session.ensures.passes c.pass_rests.ensures (does schema) c.args.config.now back.cpus.items
+    (lent.all ∙ ap (λ (k : Config). k.cpus) same)
+    (worked (Has shape accepts text) (fresh_none shape accepts text) does schema s back started.session started.fresh c.run-session.ensures.returned)
+    (subst (λ (k : Config). IsPromisedBy (shape schema) (accepts schema) (text schema) k (called_at back.cpus.items) (taken_at back.consumer) c.finish-closed.result) same
+    (c.finish-closed.ensures.promised schema lent))
+
+pub returns-clause-listed : goal.returns-clause-listed
+returns-clause-listed g c =
+    let started = c.in_ok-session.ensures in
+    let s = c.in_ok-session.session in
+    let back = c.run-session.result.0 in
+    let schema = c.args.schema in
+    let shape : EnabledRows → _ = λ e. table_shape e.header (enabled e.rows) in
+    let accepts : EnabledRows → _ = λ e. table_accepts e.header (enabled e.rows) in
+    let text : EnabledRows → _ = λ e. table_text e.header (enabled e.rows) in
+    let same = ap (λ (w : Shared). set_up (words_of w)) c.run-session.ensures.words ∙ started.config in
+    listed shape accepts text (g.K.Sink.gets schema) schema (words_of s.shared) s.consumer back.consumer c.args.sink c.run-session.result.1 c.pass_rests.new.sink
+    c.finish-closed.result started.consumer.1 c.run-session.ensures.passes c.pass_rests.ensures c.args.config.now back.cpus.items (worn_at back.cpus.items)
+    (view_of back.consumer).own c.all_stand.ensures
     (subst (λ (k : Config). IsClosedBy (shape schema) (accepts schema) (text schema) k (HasAt (Has shape accepts text) back.cpus.items) (worn_at back.cpus.items)
     (taken_at back.consumer) (view_of back.consumer).own c.finish-closed.result) same (c.finish-closed.ensures.closed schema c.run-session.ensures.lent))
-    c.pass_rests.ensures

@@ -1,12 +1,14 @@
-use Rattle.std.proofs.Common.{◌≡◌, ℕ, ◌<◌, ◌≤◌, rules}
+use Rattle.std.proofs.Common.{◌≡◌, ℕ, ◌<◌, ◌≤◌, inl, inr, refl, rules}
 use Rattle.dspec_cpu.specs.Lists.{words_of}
+use Rattle.dspec_consumer.specs.Asking.{Asked}
 use Rattle.dspec_consumer.specs.Consumers.{set_up_of}
 use Rattle.dspec.specs.Passed.{PassesOn}
 use Rattle.dspec.proofs.Passing.{ask_ends, back_taken, ends_taken, none_taken, passes_both, passes_none, passes_one}
+use Rattle.dspec.proofs.Visiting.{was_asked, went_back}
 use Rattle.dspec.proofs.running.visit.Goals as goal
 
-pub returns-in_default : goal.returns-in_default
-returns-in_default g c =
+pub returns-in_default-clause-passes : goal.returns-in_default-clause-passes
+returns-in_default-clause-passes g c =
     let gets = g.K.Sink.gets c.args.schema.now in
     let words = words_of c.args.shared.now in
     let x = c.args.consumer.now in
@@ -17,8 +19,8 @@ returns-in_default g c =
     (passes_none gets words c.ask.new.self c.take.new.self k (record { session = c.take.ensures.session; same = c.take.ensures.same })
     (λ d. none_taken c.args.cpu c.ask.new.self c.take.new.self d c.in_default.ensures.none))
 
-pub returns : goal.returns
-returns g c =
+pub returns-clause-passes : goal.returns-clause-passes
+returns-clause-passes g c =
     let gets = g.K.Sink.gets c.args.schema.now in
     let words = words_of c.args.shared.now in
     let x = c.args.consumer.now in
@@ -31,3 +33,27 @@ returns g c =
     let back = passes_none gets words c.take.new.self c.give_back.new.self l (record { session = c.give_back.ensures.session; same = c.give_back.ensures.same })
     (λ d. back_taken c.give_back.result c.in-Some.batch c.take.new.self c.give_back.new.self d c.give_back.ensures.given c.give_back.ensures.why) in
     passes_both gets words x c.take.new.self c.give_back.new.self k l l (passes_both gets words x c.ask.new.self c.take.new.self k k l asked took) back
+
+pub returns-in_default-clause-visited : goal.returns-in_default-clause-visited
+returns-in_default-clause-visited g c =
+    let x = c.args.consumer.now in
+    record {
+      asked = c.ask.new.self;
+      asks = was_asked (Asked c.args.cpu x c.ask.new.self) (c.ask.new.self ≡ x) c.ask.result (set_up_of x).cpus c.args.cpu c.ask.ensures.asked;
+      fetches = inl (c.in_default.ensures.none, refl);
+    }
+
+pub returns-clause-visited : goal.returns-clause-visited
+returns-clause-visited g c =
+    let x = c.args.consumer.now in
+    record {
+      asked = c.ask.new.self;
+      asks = was_asked (Asked c.args.cpu x c.ask.new.self) (c.ask.new.self ≡ x) c.ask.result (set_up_of x).cpus c.args.cpu c.ask.ensures.asked;
+      fetches = inr (
+        c.in-Some.batch,
+        c.take.new.self,
+        c.in-Some.ensures.took,
+        c.batch.ensures,
+        went_back c.give_back.result c.in-Some.batch c.take.new.self c.give_back.new.self c.give_back.ensures.given c.give_back.ensures.why,
+      );
+    }

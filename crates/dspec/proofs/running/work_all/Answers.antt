@@ -3,7 +3,9 @@ use Rattle.std.proofs.lemmas.Option.{slice_get-get_or, slice_get_within, get_or_
 use Rattle.dspec_record.specs.EnablingRows.{EnabledRows}
 use Rattle.dspec_cpu.specs.declared.cpu.Cpu.{Cpu}
 use Rattle.dspec_cpu.specs.Standing.{identity}
-use Rattle.dspec.specs.Lent.{AllReturned}
+use Rattle.dspec_cpu.specs.Called.{called}
+use Rattle.dspec_cpu.specs.Lists.{number_in, schema_of}
+use Rattle.dspec.specs.Lent.{AllReturned, Returned}
 use Rattle.dspec.proofs.Returning.{there, all_returned}
 use Rattle.dspec.proofs.running.work_all.Goals as goal
 
@@ -14,17 +16,20 @@ for_each_mut-requires-clause-accepts g c κs within = λ i p lt at.
 
 pub returns : goal.returns
 returns g c =
+    let does = λ (schema : EnabledRows). g.W.Work.does schema c.args.work.now in
     let old = c.as_mut_slice.result.now in
     let new = c.for_each_mut.new.s in
     let same : length new ≡ length old = search rules in
     let size : c.args.cpus.len ≡ length new = search rules in
-    let returned : AllReturned old new = record {
+    let returned : AllReturned does old new = record {
       all = same;
       each = λ i cpu at.
           let lt = subst (λ n. i < n) same (slice_get_within new i cpu at) in
           let made = (c.for_each_mut.ensures i cpu lt).1 in
           let left : made.after_call.now ≡ cpu = made.left ∙ get_or_from_slice_get new i cpu cpu at in
-          let done : identity made.after_call.now ≡ identity made.argument.now = search rules in
-          (made.argument.now, slice_get-get_or old i cpu lt ∙ ap Some (sym made.argument_is), subst (λ (x : Cpu EnabledRows). identity x ≡ identity made.argument.now) left done);
+          let kept : identity made.after_call.now ≡ identity made.argument.now = search rules in
+          let worked : does (schema_of made.argument.now) (number_in made.argument.now) (called made.argument.now) (called made.after_call.now) = search rules in
+          let done : Returned does made.argument.now made.after_call.now = record { same = kept; did = worked } in
+          (made.argument.now, slice_get-get_or old i cpu lt ∙ ap Some (sym made.argument_is), subst (λ (x : Cpu EnabledRows). Returned does made.argument.now x) left done);
     } in
-    all_returned c.args.cpus.len old new c.args.cpus.items returned c.as_mut_slice.ensures.value size
+    all_returned does c.args.cpus.len old new c.args.cpus.items returned c.as_mut_slice.ensures.value size

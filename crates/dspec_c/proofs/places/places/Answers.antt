@@ -3,13 +3,13 @@ use Rattle.dspec_c.proofs.Each.{first_called, one_placed, one_waits, placed_coun
 use Rattle.dspec_c.proofs.places.places.Goals as goal
 
 pub place-requires : goal.place-requires
-place-requires c = first_called _ _ _ _ c.next_cpu-cpu.ensures.cons c.loop-alloc.invariant.called
+place-requires c = first_called _ _ _ _ c.in_ok-cpu.ensures.cons c.loop-alloc.invariant.called
 
 pub loop-alloc-preserved : goal.loop-alloc-preserved
 loop-alloc-preserved c = record {
-  called = rest_called _ _ _ _ c.next_cpu-cpu.ensures.cons c.loop-alloc.invariant.called;
-  placed = λ schema pairs all. one_placed (arc_value c.args.shared.now) schema pairs _ _ _ _ _ _ c.next_cpu-cpu.ensures.cons c.in_ok-push-2.ensures.items c.in_ok-place.ensures.0
+  called = rest_called _ _ _ _ c.in_ok-cpu.ensures.cons c.loop-alloc.invariant.called;
+  placed = λ schema pairs all. one_placed (arc_value c.args.shared.now) schema pairs _ _ _ _ _ _ c.in_ok-cpu.ensures.cons c.in_ok-push-2.ensures.items c.in_ok-place.ensures.0
       (c.loop-alloc.invariant.placed schema pairs all);
-  waiting = one_waits (arc_value c.args.shared.now) _ _ _ _ _ _ _ c.next_cpu-cpu.ensures.cons c.in_ok-push.ensures.items c.in_ok-place.ensures.1 c.loop-alloc.invariant.waiting;
-  all = placed_counts _ _ _ _ _ _ _ c.next_cpu-cpu.ensures.cons c.in_ok-push-2.ensures.items c.loop-alloc.invariant.all;
+  waiting = one_waits (arc_value c.args.shared.now) _ _ _ _ _ _ _ c.in_ok-cpu.ensures.cons c.in_ok-push.ensures.items c.in_ok-place.ensures.1 c.loop-alloc.invariant.waiting;
+  all = placed_counts _ _ _ _ _ _ _ c.in_ok-cpu.ensures.cons c.in_ok-push-2.ensures.items c.loop-alloc.invariant.all;
 }

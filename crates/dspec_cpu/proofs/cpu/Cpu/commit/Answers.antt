@@ -1,14 +1,17 @@
-use Rattle.std.proofs.Common.{subst}
-use Rattle.dspec_deeds.specs.declared.deed.Deed.TheVariants.{Commit}
-use Rattle.dspec_table.specs.Seats.{known}
+use Rattle.std.proofs.Common.{List, subst}
+use Rattle.dspec_deeds.specs.declared.deed.Deed.{Deed}
+use Rattle.dspec_promise.specs.Promise.{commit}
 use Rattle.dspec_cpu.specs.declared.parts.CpuParts.{CpuParts as Cpu}
-use Rattle.dspec_cpu.specs.Calls.{Decides}
 use Rattle.dspec_cpu.specs.Lists.{HasList}
+use Rattle.dspec_cpu.specs.OneCall.{DecidesOne}
+use Rattle.dspec_cpu.proofs.Telling.{commits_one}
 use Rattle.dspec_cpu.proofs.cpu.Cpu.commit.Goals as goal
 
-pub returns-clause-decides : goal.returns-clause-decides
-returns-clause-decides g c =
+pub returns-clause-does : goal.returns-clause-does
+returns-clause-does g c =
+    let has : Cpu g.row.S.Denot → List Deed → Type 0 = λ x p. HasList (g.S.Schema.shape_of x.schema) (g.S.Schema.accepted x.schema) (g.S.Schema.text x.schema) x p in
+    let before = c.self.inside.parts in
     let after = c.commit.new.self in
-    subst (λ (x : Cpu g.row.S.Denot). Decides (Commit x.cpu c.args.id) c.args.id c.commit.result
-    (λ p. HasList (g.S.Schema.shape_of x.schema) (g.S.Schema.accepted x.schema) (g.S.Schema.text x.schema) x p) (known x.seat)
-    (λ p. HasList (g.S.Schema.shape_of after.schema) (g.S.Schema.accepted after.schema) (g.S.Schema.text after.schema) after p) (known after.seat)) c.self.view_is c.commit.ensures.decides
+    let done = c.commit.ensures in
+    subst (λ (x : Cpu g.row.S.Denot). DecidesOne has commit c.args.id c.commit.result x after) c.self.view_is
+    (commits_one has before after done.same.number c.args.id c.commit.result done.keeps done.decides)

@@ -9,7 +9,7 @@ use Rattle.dspec_session.proofs.demonstration.calling.decide.Goals as goal
 
 pub returns-then-commits-clause-decides : goal.returns-then-commits-clause-decides
 returns-then-commits-clause-decides c =
-    let d = c.commit.ensures.decides in
+    let d = c.commit.ensures.does.decides in
     let old = c.args.cpu.now in
     let id = c.args.id in (
       d.alone,
@@ -19,7 +19,7 @@ returns-then-commits-clause-decides c =
 
 pub returns-else-commits-clause-decides : goal.returns-else-commits-clause-decides
 returns-else-commits-clause-decides c =
-    let d = c.discard.ensures.decides in
+    let d = c.discard.ensures.does.decides in
     let old = c.args.cpu.now in
     let id = c.args.id in (
       d.alone,

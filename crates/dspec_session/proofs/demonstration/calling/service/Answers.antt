@@ -8,7 +8,7 @@ use Rattle.dspec_session.proofs.demonstration.calling.service.Goals as goal
 
 pub returns-clause-served : goal.returns-clause-served
 returns-clause-served c =
-    let s = c.service.ensures.serves in
+    let s = c.service.ensures.does.serves in
     let number = c.args.cpu.now.cpu in
     let sealed = c.service.result.sealed in
     let was = c.stands.ensures.steady.listed in
@@ -23,4 +23,4 @@ returns-clause-served c =
     }
 
 pub returns-clause-services : goal.returns-clause-services
-returns-clause-services c = (c.service.result, c.service.ensures.serves)
+returns-clause-services c = (c.service.result, c.service.ensures.does.serves)

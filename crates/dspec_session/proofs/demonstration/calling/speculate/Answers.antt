@@ -9,5 +9,5 @@ pub returns-clause-speaks : goal.returns-clause-speaks
 returns-clause-speaks c = (
   c.speculate.result,
   subst (λ (r : Record). WorkerAdds (spoken_deeds (number_in c.args.cpu.now) c.args.id r c.speculate.result) c.args.cpu.now c.speculate.new.self)
-      c.valued_record.ensures.value c.speculate.ensures.does.list,
+      c.valued_record.ensures.value c.speculate.ensures.does.does.list,
 )

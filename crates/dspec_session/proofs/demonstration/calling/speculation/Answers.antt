@@ -9,14 +9,14 @@ use Rattle.dspec_session.proofs.demonstration.calling.speculation.Goals as goal
 
 pub returns-clause-called : goal.returns-clause-called
 returns-clause-called c =
-    let o = c.speculation.ensures.opens in
+    let o = c.speculation.ensures.does.opens in
     let a = c.speculation.result in
     let p = c.stands.ensures.steady.list in
     let was = c.stands.ensures.steady.listed in
     let now = o.list p was in
     let room = c.requires.unworn in
     let few : calls_of c.args.cpu.now < (config_of c.args.cpu.now).max_calls = omega arith in
-    let worn = not_worn a (config_of c.args.cpu.now).max_calls (calls_of c.args.cpu.now) c.speculation.ensures.keeps.worn few in
+    let worn = not_worn a (config_of c.args.cpu.now).max_calls (calls_of c.args.cpu.now) c.speculation.ensures.does.keeps.worn few in
     record {
       back = search rules;
       called = now.shown.side.called
@@ -27,4 +27,4 @@ returns-clause-called c =
     }
 
 pub returns-clause-opens : goal.returns-clause-opens
-returns-clause-opens c = let o = c.speculation.ensures.opens in (o.missed, c.speculation.result, c.id.ensures, o.list)
+returns-clause-opens c = let o = c.speculation.ensures.does.opens in (o.missed, c.speculation.result, c.id.ensures, o.list)

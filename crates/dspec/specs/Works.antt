@@ -1,0 +1,26 @@
+-- What one call does to what a CPU's calls did, for a work that says what it does.
+use Rattle.std.specs.Prelude.{ℕ, ◌≡◌, ◌&&◌, ◌↔◌, nat_le, Bool, List, length, Option, IsSome, IfSome, IfNone, IsTrue}
+use Rattle.dspec_record.specs.Record.{Record}
+use Rattle.dspec_word.specs.SpecId.{Speculation}
+use Rattle.dspec_deeds.specs.declared.calls.Spoken.{Spoken}
+use Rattle.dspec_deeds.specs.declared.calls.Traced.{Traced}
+use Rattle.dspec_cpu.specs.Called.{CallsMade, with_speculate, with_trace}
+
+-- a record by its values: there are eight at the most, and the schema accepts the record with them
+abbrev pub is_taken_by : (Record → Bool) → Record → Bool
+is_taken_by accepted r = nat_le (length r.values) 8 && accepted r
+
+module _ (accepted : Record → Bool) where
+  -- the record was traced, and the answer tells how; where the schema doesn't accept it, nothing was done
+  pub record DidRecord (r : Record) (x y : CallsMade) : Type 0 where
+    pub answer : Option Traced
+    pub due : IsSome answer ↔ IsTrue (is_taken_by accepted r)
+    pub refused : IfNone answer (y ≡ x)
+    pub told : IfSome answer (λ a. y ≡ with_trace r a x)
+
+  -- the record was offered to the speculation, likewise
+  pub record DidStep (id : Speculation) (r : Record) (x y : CallsMade) : Type 0 where
+    pub answer : Option Spoken
+    pub due : IsSome answer ↔ IsTrue (is_taken_by accepted r)
+    pub refused : IfNone answer (y ≡ x)
+    pub told : IfSome answer (λ a. y ≡ with_speculate id r a x)

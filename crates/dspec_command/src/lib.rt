@@ -1,0 +1,11 @@
+//! What the programs' command lines have in common: the words, what is found in them, the inputs that they name, and how a fault is
+//! told: one line of standard error, behind the program's name, and a status by its kind.
+#![tactic(auto)]
+
+mod asking;
+mod fault;
+mod input;
+
+pub use asking::{Asked, asked_of, folder_arg, words_of};
+pub use fault::{CommandFault, Ending, device_fault, ended, output_fault, print_text};
+pub use input::{Input, open};

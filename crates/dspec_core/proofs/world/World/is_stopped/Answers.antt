@@ -1,0 +1,12 @@
+-- Activity shows the list, by what a world keeps.
+use Rattle.std.proofs.Common.{◌≡◌, ◌∙◌, ap}
+use Rattle.dspec_deeds.specs.History.{halted}
+use Rattle.dspec_play.specs.Coherent.{PlayState}
+use Rattle.dspec_machine.specs.Machines.{state_of}
+use Rattle.dspec_core.proofs.world.World.is_stopped.Goals as goal
+
+pub returns : goal.returns
+returns g c =
+    let m = c.self.inside.machine in
+    let same : state_of m ≡ c.args.self.now.state = λ i. (c.self.view_is i).state in
+    c.self.invariant.shown.active ∙ ap (λ (st : PlayState). halted st.deeds) same

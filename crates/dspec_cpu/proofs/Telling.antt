@@ -1,0 +1,117 @@
+-- What a call tells by its answer comes in front of what its CPU's calls told before.
+use Rattle.std.proofs.Common.{◌≡◌, ◌+◌, ◌*◌, ℕ, zero, suc, Bool, true, false, List, [], ◌∷◌, ◌++◌, length, refl, sym, ap, ◌∙◌, ⊎_elim, append_assoc, arith}
+use Rattle.dspec_record.specs.Record.{Record}
+use Rattle.dspec_word.specs.SpecId.{Speculation}
+use Rattle.dspec_word.specs.Word.{SlotState}
+use Rattle.dspec_deeds.specs.declared.calls.Decided.{Decided}
+use Rattle.dspec_deeds.specs.declared.calls.Opening.{Opening}
+use Rattle.dspec_deeds.specs.declared.calls.Served.{Served}
+use Rattle.dspec_deeds.specs.declared.calls.Spoken.{Spoken}
+use Rattle.dspec_deeds.specs.declared.calls.Traced.{Traced}
+use Rattle.dspec_deeds.specs.declared.config.Config.{Config}
+use Rattle.dspec_deeds.specs.declared.deed.DecideFate.{DecideFate}
+use Rattle.dspec_deeds.specs.declared.deed.Deed.{Deed}
+use Rattle.dspec_deeds.specs.declared.deed.Deed.TheVariants.{Settle}
+use Rattle.dspec_promise.specs.Deeds.{did}
+use Rattle.dspec_promise.specs.Promise.{commit, discard, Did}
+use Rattle.dspec_side.specs.Counting.{is_stopped_opening}
+use Rattle.dspec_table.specs.declared.rule.View.{View}
+use Rattle.dspec_table.specs.Acts.{fate_of_settlement}
+use Rattle.dspec_table.specs.Flights.{calling}
+use Rattle.dspec_table.specs.Seats.{known}
+use Rattle.dspec_table.specs.Steps.{Entered, EnteredIn}
+use Rattle.dspec_cpu.specs.declared.parts.CpuParts.{CpuParts as Cpu}
+use Rattle.dspec_cpu.specs.Called.{called, settled_did, WithService}
+use Rattle.dspec_cpu.specs.Calls.{Decides, Goes, rests, steps, spoken_deeds, traced_deeds, is_worn_decided, is_worn_spoken, is_worn_trace}
+use Rattle.dspec_cpu.specs.Keeping.{CallKeeps}
+use Rattle.dspec_cpu.specs.Lists.{config_of, number_in, seat_of, worn_of}
+use Rattle.dspec_cpu.specs.OneCall.{decision_deed, TracesOne, SpeculatesOne, OpensOne, DecidesOne}
+use Rattle.dspec_cpu.specs.Scans.{Opens, is_worn_opening}
+use Rattle.dspec_cpu.specs.Serving.{Serves}
+use Rattle.dspec_cpu.specs.Settled.{SettledBehind, SettledSlots, shown_at}
+use Rattle.dspec_cpu.specs.Stops.{is_stopped_decided, is_stopped_spoken, is_stopped_trace}
+use Rattle.dspec_cpu.specs.Switching.{Buffers, Switches, never, looked}
+use Rattle.dspec_cpu.proofs.Told.{trace_told, speculate_told, commit_told, discard_told, opening_told, settles, settles_told}
+
+-- steps of a seat put their deeds in front of its list
+entered_own : (v w : View) (log ds : List Deed) → Entered v log ds w → w.own ≡ ds ++ v.own
+entered_own v w log ds e = ap (λ (x : View). x.own) e.view
+
+step_own : (v w : View) (log ds : List Deed) → EnteredIn v log ds w → w.own ≡ ds ++ v.own
+step_own v w log ds e = ⊎_elim (λ h. entered_own v w log ds h) (λ h. entered_own (calling h.0.op v) w log ds h.2) e
+
+pub goes_own : {v w : View} {ds : List Deed} → Goes v ds w → w.own ≡ ds ++ v.own
+goes_own rests = refl
+goes_own {v = v} (steps {u = u} {ds = es} w new all log h f e q) =
+    step_own u w log new e ∙ (ap (λ l. new ++ l) (goes_own h) ∙ (sym (append_assoc new es v.own) ∙ ap (λ l. l ++ v.own) (sym q)))
+
+module _ {S : Type 0} (has : Cpu S → List Deed → Type 0) (old new : Cpu S) (same : number_in new ≡ number_in old) where
+  -- a call with these deeds did this, and was worn or wasn't
+  tells : (new_done : List Did) (worn : ℕ) (ds : List Deed) → (known (seat_of new)).own ≡ ds ++ (known (seat_of old)).own → worn_of new ≡ worn
+      → ((p : List Deed) → did (number_in old) (ds ++ p) ≡ new_done ++ did (number_in old) p) → called new ≡ record { done = new_done ++ (called old).done; worn = worn }
+  tells new_done worn ds own w is =
+      let done : (called new).done ≡ new_done ++ (called old).done =
+      ap (λ n. did n (known (seat_of new)).own) same ∙ (ap (did (number_in old)) own ∙ is (known (seat_of old)).own) in
+      λ i. record { done = done i; worn = w i }
+
+  pub traces_one : (r : Record) (a : Traced) → CallKeeps (is_worn_trace a) (is_stopped_trace a) 1 old new
+      → Goes (known (seat_of old)) (traced_deeds (number_in old) r a) (known (seat_of new)) → ((p : List Deed) → has old p → has new (traced_deeds (number_in old) r a ++ p))
+      → TracesOne has r a old new
+  traces_one r a k g l = record { tells = tells _ _ _ (goes_own g) k.wears (trace_told (number_in old) r a); keeps = k; does = record { did = g; list = l } }
+
+  pub speculates_one : (id : Speculation) (r : Record) (a : Spoken) → CallKeeps (is_worn_spoken a) (is_stopped_spoken a) 4 old new
+      → Goes (known (seat_of old)) (spoken_deeds (number_in old) id r a) (known (seat_of new)) → ((p : List Deed) → has old p → has new (spoken_deeds (number_in old) id r a ++ p))
+      → SpeculatesOne has id r a old new
+  speculates_one id r a k g l = record { tells = tells _ _ _ (goes_own g) k.wears (speculate_told (number_in old) id r a); keeps = k; does = record { did = g; list = l } }
+
+  pub opens_one : (a : Opening) → CallKeeps (is_worn_opening a) (is_stopped_opening a) (1 + 2 * (config_of old).nspec) old new
+      → Opens (config_of old) (number_in old) a (has old) (known (seat_of old)) (has new) (known (seat_of new)) → OpensOne has a old new
+  opens_one a k o = record { tells = tells [] _ _ (goes_own o.did) k.wears (opening_told (number_in old) o.missed a); keeps = k; opens = o }
+
+  pub commits_one : (id : Speculation) (a : Decided) → CallKeeps (is_worn_decided a) (is_stopped_decided a) 5 old new
+      → Decides (decision_deed commit (number_in old) id) id a (has old) (known (seat_of old)) (has new) (known (seat_of new)) → DecidesOne has commit id a old new
+  commits_one id a k d = record { tells = tells _ _ _ (goes_own d.did) k.wears (commit_told (number_in old) id d.alone a); keeps = k; decides = d }
+
+  pub discards_one : (id : Speculation) (a : Decided) → CallKeeps (is_worn_decided a) (is_stopped_decided a) 5 old new
+      → Decides (decision_deed discard (number_in old) id) id a (has old) (known (seat_of old)) (has new) (known (seat_of new)) → DecidesOne has discard id a old new
+  discards_one id a k d = record { tells = tells _ _ _ (goes_own d.did) k.wears (discard_told (number_in old) id d.alone a); keeps = k; decides = d }
+
+-- settlements, one behind the other
+settles_append : (c : ℕ) (ss ts : List (Speculation × DecideFate)) → settles c (ss ++ ts) ≡ settles c ss ++ settles c ts
+settles_append c [] ts = refl
+settles_append c (s ∷ ss) ts = ap (λ ds. Settle c s.0 s.1 ∷ ds) (settles_append c ss ts)
+
+settles_length : (c : ℕ) (ss : List (Speculation × DecideFate)) → length (settles c ss) ≡ length ss
+settles_length c [] = refl
+settles_length c (s ∷ ss) = omega (arith, settles_length c ss)
+
+settled_behind : (hit : Bool) (c slot : ℕ) (shown : SlotState) (v w : View) (ds : List Deed) → SettledBehind hit c slot shown v ds w
+    → (ss : List (Speculation × DecideFate)) × (ds ≡ settles c ss)
+settled_behind true c slot shown v w ds s = ((shown_at slot shown, fate_of_settlement s.0 shown.code) ∷ [], s.2)
+settled_behind false c slot shown v w ds s = ([], s.0)
+
+settled_slots : (c : ℕ) (v w : View) (n : ℕ) (ds : List Deed) → SettledSlots c v n ds w → (ss : List (Speculation × DecideFate)) × (ds ≡ settles c ss)
+settled_slots c v w zero ds s = ([], s.0)
+settled_slots c v w (suc n) ds s =
+    let here = settled_behind s.2 c (suc n) s.5.shown s.5.loaded w s.3 s.5.behind in
+    let before = settled_slots c v s.1 n s.0 s.4 in
+    (here.0 ++ before.0, s.6 ∙ ((λ i. here.1 i ++ before.1 i) ∙ sym (settles_append c here.0 before.0)))
+
+-- a switch enters no deed
+switch_own : (k : Config) (c : ℕ) (v : View) (x : Buffers) (b : Bool) (w : View) (y : Buffers) → Switches k c v x b w y → w.own ≡ v.own
+switch_own k c v x b w y (never f) = refl
+switch_own k c v x b w y (looked f e left h ask z l s u g) = ap (λ (a : View). a.own) l.3
+
+pub service_tells : {S : Type 0} (has : Cpu S → List Deed → Type 0) (old new : Cpu S) (k : Config) (had has_now : List Deed → Type 0) (x y : Buffers) (a : Served)
+    → number_in new ≡ number_in old → Serves k (number_in old) a had (known (seat_of old)) x has_now (known (seat_of new)) y → worn_of new ≡ worn_of old
+    → WithService a (called old) (called new)
+service_tells has old new k had has_now x y a same s w =
+    let c = number_in old in
+    let is = settled_slots c s.between (known (seat_of new)) k.nspec s.settles s.slots in
+    let own : (known (seat_of new)).own ≡ s.settles ++ (known (seat_of old)).own =
+    goes_own s.goes ∙ ap (λ l. s.settles ++ l) (switch_own k c (known (seat_of old)) x a.sealed s.between s.passed s.switches) in
+    record {
+      settled = is.0;
+      number = s.number ∙ (ap length is.1 ∙ settles_length c is.0);
+      after = tells has old new same (settled_did is.0) (worn_of old) s.settles own w (λ p. ap (λ ds. did c (ds ++ p)) is.1 ∙ settles_told c is.0 p);
+    }

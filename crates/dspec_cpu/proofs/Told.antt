@@ -1,0 +1,68 @@
+-- The deeds of a call, as the page tells them by its answer.
+use Rattle.std.proofs.Common.{◌≡◌, ℕ, Bool, true, false, List, [], ◌∷◌, ◌++◌, map, refl, ap, ◌∙◌, append_assoc}
+use Rattle.dspec_record.specs.Record.{Record}
+use Rattle.dspec_word.specs.SpecId.{Speculation}
+use Rattle.dspec_deeds.specs.declared.calls.Traced.{Traced}
+use Rattle.dspec_deeds.specs.declared.calls.Traced.TheVariants as answer
+use Rattle.dspec_deeds.specs.declared.calls.Spoken.{Spoken}
+use Rattle.dspec_deeds.specs.declared.calls.Spoken.TheVariants as spoken
+use Rattle.dspec_deeds.specs.declared.calls.Decided.{Decided}
+use Rattle.dspec_deeds.specs.declared.calls.Decided.TheVariants as decided
+use Rattle.dspec_deeds.specs.declared.deed.Deed.{Deed}
+use Rattle.dspec_deeds.specs.declared.deed.DecideFate.{DecideFate}
+use Rattle.dspec_deeds.specs.declared.calls.Opening.{Opening}
+use Rattle.dspec_deeds.specs.declared.calls.Opening.TheVariants as opening
+use Rattle.dspec_deeds.specs.declared.deed.Deed.TheVariants.{Scan, Commit, Discard, Settle}
+use Rattle.dspec_deeds.proofs.TestLemmas.{number_is_itself}
+use Rattle.dspec_promise.specs.Deeds.{did}
+use Rattle.dspec_promise.specs.Promise.{commit, discard}
+use Rattle.dspec_cpu.specs.Called.{trace_did, speculate_did, decision_did, settled_did}
+use Rattle.dspec_cpu.specs.Calls.{traced_deeds, spoken_deeds, decided_deeds}
+use Rattle.dspec_cpu.specs.Scans.{misses, opening_deeds}
+
+pub trace_told : (c : ℕ) (r : Record) (a : Traced) (p : List Deed) → did c (traced_deeds c r a ++ p) ≡ trace_did r a ++ did c p
+trace_told c r answer.Worn p = refl
+trace_told c r a p = rw (number_is_itself c) refl
+
+pub speculate_told : (c : ℕ) (id : Speculation) (r : Record) (a : Spoken) (p : List Deed) → did c (spoken_deeds c id r a ++ p) ≡ speculate_did id r a ++ did c p
+speculate_told c id r spoken.Worn p = refl
+speculate_told c id r a p = rw (number_is_itself c) refl
+
+pub commit_told : (c : ℕ) (id : Speculation) (alone : Bool) (a : Decided) (p : List Deed)
+    → did c (decided_deeds (Commit c id) id.slot alone a ++ p) ≡ decision_did commit id a ++ did c p
+commit_told c id alone decided.Worn p = refl
+commit_told c id alone decided.Void p = rw (number_is_itself c) refl
+commit_told c id alone decided.Stopped p = rw (number_is_itself c) refl
+commit_told c id true a p = rw (number_is_itself c) refl
+commit_told c id false a p = rw (number_is_itself c) refl
+
+pub discard_told : (c : ℕ) (id : Speculation) (alone : Bool) (a : Decided) (p : List Deed)
+    → did c (decided_deeds (Discard c id) id.slot alone a ++ p) ≡ decision_did discard id a ++ did c p
+discard_told c id alone decided.Worn p = refl
+discard_told c id alone decided.Void p = rw (number_is_itself c) refl
+discard_told c id alone decided.Stopped p = rw (number_is_itself c) refl
+discard_told c id true a p = rw (number_is_itself c) refl
+discard_told c id false a p = rw (number_is_itself c) refl
+
+-- a call of speculation touches no record
+misses_told : (c : ℕ) (bs : List Bool) (p : List Deed) → did c (misses c bs ++ p) ≡ did c p
+misses_told c [] p = refl
+misses_told c (b ∷ bs) p = misses_told c bs p
+
+scan_told : (c : ℕ) (bs : List Bool) (p : List Deed) → did c ((misses c bs ++ Scan c true ∷ []) ++ p) ≡ did c p
+scan_told c bs p = ap (did c) (append_assoc (misses c bs) (Scan c true ∷ []) p) ∙ misses_told c bs (Scan c true ∷ p)
+
+pub opening_told : (c : ℕ) (bs : List Bool) (a : Opening) (p : List Deed) → did c (opening_deeds c bs a ++ p) ≡ did c p
+opening_told c bs opening.Worn p = refl
+opening_told c bs opening.Stopped p = refl
+opening_told c bs (opening.Id id) p = scan_told c bs p
+opening_told c bs opening.Unavailable p = scan_told c bs p
+opening_told c bs opening.Busy p = scan_told c bs p
+
+-- the deeds of these settlements, by CPU c, are told as a service's
+abbrev pub settles : ℕ → List (Speculation × DecideFate) → List Deed
+settles c ss = map (λ (s : Speculation × DecideFate). Settle c s.0 s.1) ss
+
+pub settles_told : (c : ℕ) (ss : List (Speculation × DecideFate)) (p : List Deed) → did c (settles c ss ++ p) ≡ settled_did ss ++ did c p
+settles_told c [] p = refl
+settles_told c (x ∷ ss) p = rw (number_is_itself c, settles_told c ss p) refl

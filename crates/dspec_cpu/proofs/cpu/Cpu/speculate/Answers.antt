@@ -1,0 +1,16 @@
+use Rattle.std.proofs.Common.{List, subst}
+use Rattle.dspec_deeds.specs.declared.deed.Deed.{Deed}
+use Rattle.dspec_cpu.specs.declared.parts.CpuParts.{CpuParts as Cpu}
+use Rattle.dspec_cpu.specs.Lists.{HasList}
+use Rattle.dspec_cpu.specs.OneCall.{SpeculatesOne}
+use Rattle.dspec_cpu.proofs.Telling.{speculates_one}
+use Rattle.dspec_cpu.proofs.cpu.Cpu.speculate.Goals as goal
+
+pub returns-clause-does : goal.returns-clause-does
+returns-clause-does g c =
+    let has : Cpu g.row.S.Denot → List Deed → Type 0 = λ x p. HasList (g.S.Schema.shape_of x.schema) (g.S.Schema.accepted x.schema) (g.S.Schema.text x.schema) x p in
+    let before = c.self.inside.parts in
+    let after = c.speculate.new.self in
+    let done = c.speculate.ensures in
+    subst (λ (x : Cpu g.row.S.Denot). SpeculatesOne has c.args.id c.args.rec.now c.speculate.result x after) c.self.view_is
+    (speculates_one has before after done.same.number c.args.id c.args.rec.now c.speculate.result done.keeps done.did done.list)

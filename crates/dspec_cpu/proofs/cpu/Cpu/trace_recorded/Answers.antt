@@ -1,0 +1,16 @@
+use Rattle.std.proofs.Common.{List, subst}
+use Rattle.dspec_deeds.specs.declared.deed.Deed.{Deed}
+use Rattle.dspec_cpu.specs.declared.parts.CpuParts.{CpuParts as Cpu}
+use Rattle.dspec_cpu.specs.Lists.{HasList}
+use Rattle.dspec_cpu.specs.OneCall.{TracesOne}
+use Rattle.dspec_cpu.proofs.Telling.{traces_one}
+use Rattle.dspec_cpu.proofs.cpu.Cpu.trace_recorded.Goals as goal
+
+pub returns-clause-does : goal.returns-clause-does
+returns-clause-does g c =
+    let has : Cpu g.row.S.Denot → List Deed → Type 0 = λ x p. HasList (g.S.Schema.shape_of x.schema) (g.S.Schema.accepted x.schema) (g.S.Schema.text x.schema) x p in
+    let before = c.self.inside.parts in
+    let after = c.trace.new.self in
+    let done = c.trace.ensures in
+    subst (λ (x : Cpu g.row.S.Denot). TracesOne has (g.R.Recorded.as_record c.args.rec) c.trace.result x after) c.self.view_is
+    (traces_one has before after done.same.number _ c.trace.result done.keeps done.did done.list)

@@ -1,0 +1,53 @@
+-- Files that are held open while they are written.
+use Rattle.std.specs.Prelude.{ℕ, ℤ, ◌≡◌, Bool, true, false, List, Option, Some, None, ⊤, length, slice_get, take, codes, ◌++◌}
+use Rattle.std.specs.Fmt.{signed_decimal}
+use Rattle.std.specs.Io.KnownBytes.{Keeps}
+use Rattle.dspec_trace.specs.declared.fault.FolderFault.{FolderFault}
+use Rattle.dspec_trace.specs.declared.fault.FolderFault.TheVariants.{Cpu, Cut, Memory, Metadata, NotEmpty, Packet, Read, Write}
+
+-- a file that is held: its name, the bytes that it has, where they are known, and whether it ends with a broken write
+pub record Held : Type 0 where
+  pub name : List ℕ
+  pub bytes : Option (List ℕ)
+  pub broken : Bool
+
+-- known bytes are so many
+abbrev pub IsLong : Option (List ℕ) → ℕ → Type 0
+IsLong None n = ⊤
+IsLong (Some xs) n = length xs ≡ n
+
+-- of known bytes the first so many are left
+abbrev pub IsCut : Option (List ℕ) → Option (List ℕ) → ℕ → Type 0
+IsCut None new n = ⊤
+IsCut (Some xs) None n = ⊥
+IsCut (Some xs) (Some ys) n = ys ≡ take n xs
+
+-- what a refused write leaves of the bytes that a file had: all and no more, unless what it had written couldn't be cut off
+abbrev pub LeavesBytes : Option (List ℕ) → Option (List ℕ) → FolderFault → Type 0
+LeavesBytes old new Write = Keeps old new
+LeavesBytes old new Memory = Keeps old new
+LeavesBytes old new Cut = ⊤
+LeavesBytes old new Read = ⊥
+LeavesBytes old new NotEmpty = ⊥
+LeavesBytes old new (Metadata fault) = ⊥
+LeavesBytes old new (Packet cpu fault) = ⊥
+LeavesBytes old new (Cpu cpu) = ⊥
+
+-- and of the file: only where that couldn't be cut off it takes no more
+abbrev pub LeavesFile : Held → Held → FolderFault → Type 0
+LeavesFile old new Write = Keeps old.bytes new.bytes × (new.broken ≡ false)
+LeavesFile old new Memory = Keeps old.bytes new.bytes × (new.broken ≡ false)
+LeavesFile old new Cut = new.broken ≡ true
+LeavesFile old new Read = ⊥
+LeavesFile old new NotEmpty = ⊥
+LeavesFile old new (Metadata fault) = ⊥
+LeavesFile old new (Packet cpu fault) = ⊥
+LeavesFile old new (Cpu cpu) = ⊥
+
+-- the file of that name stands at this place
+abbrev pub IsFileAt : List Held → List ℕ → ℕ → Type 0
+IsFileAt files name place = (file : Held) × ((slice_get files place ≡ Some file) × (file.name ≡ name))
+
+-- the path of a file in the folder that is open under this number
+abbrev pub path_in : ℤ → List ℕ → List ℕ
+path_in number name = codes "/proc/self/fd/" ++ (signed_decimal number ++ (codes "/" ++ name))

@@ -1,0 +1,33 @@
+use crate::ending::RunFault;
+use crate::fault::ViewFault;
+use dspec_command::{CommandFault, Ending};
+use thiserror::Error;
+
+/// Why the program doesn't end with status 0.
+#[derive(Clone, Copy, Debug, Error)]
+pub enum ProgramFault<'a> {
+    #[error("{0}")]
+    Run(#[from] RunFault),
+    #[error("{0}")]
+    Command(#[from] CommandFault<'a>),
+    /// The picture would take the place of its own schedule.
+    #[error("{0}: the schedule's own file")]
+    OwnSchedule(&'a str),
+}
+
+impl<'a> Ending for ProgramFault<'a> {
+    /// The exit status that tells of the fault.
+    fn exit_status(&self) -> u8 {
+        match self {
+            ProgramFault::Run(fault) => fault.status(),
+            ProgramFault::Command(fault) => fault.status(),
+            ProgramFault::OwnSchedule(_) => 4,
+        }
+    }
+}
+
+impl<'a> From<ViewFault> for ProgramFault<'a> {
+    fn from(fault: ViewFault) -> Self {
+        ProgramFault::Run(RunFault::View(fault))
+    }
+}

@@ -1,0 +1,25 @@
+-- A step of a path offers a record to it, and nothing else is done.
+use Rattle.std.proofs.Common.{◌≡◌, ◌∙◌, Bool, refl, subst, sym, ap}
+use Rattle.std.specs.Prelude.{Option, Some, None, IfSome, IfNone, List, ℕ, if◌then◌else◌}
+use Rattle.dspec_word.specs.SpecId.{Speculation}
+use Rattle.dspec_deeds.specs.declared.calls.Spoken.{Spoken}
+use Rattle.dspec_deeds.specs.Told.{id_told}
+use Rattle.dspec_cpu.specs.Called.{CallsMade, called, with_decision, with_speculation}
+use Rattle.dspec_promise.specs.Promise.{By, commit, discard}
+use Rattle.dspec_consumer.specs.Sessions.{Has}
+use Rattle.dspec.specs.Works.{DidStep}
+use Rattle.dspec.proofs.Works.{did_step}
+use Rattle.dspec_record.specs.Schemas.{enabled, table_accepts}
+use Rattle.watch.specs.Serving.{OffersAlone, nothing, one_step, HandlesRequest}
+use Rattle.watch.proofs.serving.handle.Goals as goal
+
+pub loop-place-init : goal.loop-place-init
+loop-place-init c = (
+  c.path-path.ensures.same,
+  subst (λ (x : CallsMade). OffersAlone (id_told c.path-path.result.opening) x (called c.path-path.new.self.cpu.now)) c.path-path.ensures.does.tells nothing,
+)
+
+pub loop-place-preserved : goal.loop-place-preserved
+loop-place-preserved c =
+    let did = did_step Has (λ e. table_accepts e.header (enabled e.rows)) _ _ _ _ _ _ refl _ c.step.result c.step.ensures.does in
+    (c.step.ensures.same ∙ c.loop-place.invariant.0, one_step _ did.answer _ c.loop-place.invariant.1 did.refused did.told)

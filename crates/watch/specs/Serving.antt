@@ -1,0 +1,32 @@
+-- What a worker of the server does on its CPU.
+use Rattle.std.specs.Prelude.{ℕ, ◌≡◌, ◌+◌, Bool, Option, IfSome, IfNone, if◌then◌else◌}
+use Rattle.dspec_record.specs.Record.{Record}
+use Rattle.dspec_word.specs.SpecId.{Speculation}
+use Rattle.dspec_deeds.specs.declared.calls.Decided.{Decided}
+use Rattle.dspec_deeds.specs.declared.calls.Opening.{Opening}
+use Rattle.dspec_deeds.specs.declared.calls.Served.{Served}
+use Rattle.dspec_deeds.specs.declared.calls.Spoken.{Spoken}
+use Rattle.dspec_deeds.specs.Told.{id_told}
+use Rattle.dspec_promise.specs.Promise.{commit, discard}
+use Rattle.dspec_cpu.specs.Called.{CallsMade, WithService, with_decision, with_speculate, with_speculation}
+use Rattle.watch.specs.declared.requests.Request.{Request}
+
+-- records were offered to the speculation, and nothing else was done
+pub data OffersAlone (id : Speculation) (x : CallsMade) : CallsMade → Type 0 where
+  nothing : OffersAlone id x x
+  one_step : {y : CallsMade} (r : Record) (o : Option Spoken) (z : CallsMade) → OffersAlone id x y
+      → IfNone o (z ≡ y) → IfSome o (λ a. z ≡ with_speculate id r a y) → OffersAlone id x z
+
+-- a path was opened, the request's steps were offered to it, and it was kept where the request fails, and else thrown away
+pub record HandlesRequest (fails : Bool) (x y : CallsMade) : Type 0 where
+  pub opening : Opening
+  pub stepped : CallsMade
+  pub steps : OffersAlone (id_told opening) (with_speculation opening x) stepped
+  pub answer : Decided
+  pub decided : y ≡ with_decision (if fails then commit else discard) (id_told opening) answer stepped
+
+-- so many requests were handled since these calls, and the consumer was served after each
+pub data ServesRequests (x : CallsMade) : ℕ → CallsMade → Type 0 where
+  none_yet : ServesRequests x 0 x
+  one_more : {n : ℕ} {y : CallsMade} (m : ℕ) (request : Request) (z w : CallsMade) (a : Served) → ServesRequests x n y
+      → HandlesRequest request.fails y z → WithService a z w → m ≡ n + 1 → ServesRequests x m w

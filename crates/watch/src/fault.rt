@@ -1,0 +1,47 @@
+use dspec::{KeptFault, SchemaFault, StartFault};
+use dspec_command::{CommandFault, Ending};
+use dspec_ctf::{MetadataFault, PacketFault};
+use dspec_trace::FolderFault;
+use thiserror::Error;
+
+/// Why the program doesn't end with status 0.
+#[derive(Debug, Drop, Error)]
+pub enum WatchFault<'a> {
+    #[error("{0}")]
+    Command(#[from] CommandFault<'a>),
+    #[error("{name}: {fault}")]
+    Folder { name: &'a str, fault: FolderFault },
+    #[error("{0}")]
+    Start(#[from] StartFault),
+    #[error("{0}")]
+    Schema(#[from] SchemaFault),
+    #[error("{0}")]
+    Kept(#[from] KeptFault),
+    /// What was recorded isn't what the generator made.
+    #[error("{0}")]
+    Differs(#[from] anyhow::Error),
+}
+
+impl<'a> Ending for WatchFault<'a> {
+    /// The exit status that tells of the fault: 1 where what was recorded differs, 2 for memory, 3 for input and output, 4 for words.
+    fn exit_status(&self) -> u8 {
+        match self {
+            WatchFault::Command(fault) => fault.status(),
+            WatchFault::Folder { fault, .. } => folder_status(fault),
+            WatchFault::Start(StartFault::Memory) | WatchFault::Kept(KeptFault::Memory) => 2,
+            _ => 1,
+        }
+    }
+}
+
+/// The exit status that tells of a trace folder's fault: 2 for memory, wherever it was wanting, else 3.
+fn folder_status(fault: &FolderFault) -> u8 {
+    match fault {
+        FolderFault::Memory | FolderFault::Metadata(MetadataFault::Memory) => 2,
+        FolderFault::Packet {
+            fault: PacketFault::Memory,
+            ..
+        } => 2,
+        _ => 3,
+    }
+}
