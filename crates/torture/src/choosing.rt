@@ -42,7 +42,11 @@ impl Player {
     /// The record of the next call.
     fn record(&mut self) -> Rec {
         let kind = self.dice.roll(KINDS);
-        record_of(self.cpu, self.log.calls.len(), kind)
+        let rec = record_of(self.cpu, self.log.calls.len(), kind);
+        if !self.plan.stamped {
+            return rec;
+        }
+        Rec::stamped(rec.epid(), self.dice.word(), rec.values()).unwrap_or(rec)
     }
 
     /// A place of the board.
@@ -71,7 +75,7 @@ impl Player {
     /// Something said to a speculation of the board: to the one that was spoken to last, as a rule. A trace, where the board has
     /// none.
     fn speak(&mut self, board: &Board) -> CpuOp {
-        if self.dice.chance(2) {
+        if self.dice.chance(self.plan.stale) {
             let id = self.closed();
             return CpuOp::Speculate(id, self.record());
         }
@@ -89,7 +93,7 @@ impl Player {
 
     /// A decision of a speculation of the board. Most take it off the board before, so that only one of them decides.
     fn decide(&mut self, board: &Board) -> CpuOp {
-        if self.dice.chance(2) {
+        if self.dice.chance(self.plan.stale) {
             let id = self.closed();
             return self.decision(id);
         }

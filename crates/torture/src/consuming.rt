@@ -2,7 +2,7 @@ ghost use Rattle.std.specs.Prelude.{IfOk};
 ghost use Rattle.dspec_cpu.specs.Lists.{words_of};
 ghost use Rattle.dspec_consumer.specs.Consumers.{IsConsumerOf, Stays};
 
-use crate::planning::{Plan, dice_of};
+use crate::planning::{CONSUMER_DICE, Plan, dice_of};
 use crate::sharing::Board;
 use crate::taken::Basket;
 use dspec_consumer::Consumer;
@@ -121,7 +121,7 @@ pub fn consume(
     let (mut consumer, mut basket) = (consumer, basket);
     let mut chooser = Chooser {
         plan: *plan,
-        dice: dice_of(plan.seed, 62),
+        dice: dice_of(plan.seed, CONSUMER_DICE),
         asked: 0,
         stopped: false,
     };

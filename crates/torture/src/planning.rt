@@ -28,12 +28,20 @@ pub struct Plan {
     pub places: u32,
     /// Behind how many of a thousand calls a worker makes way for others.
     pub yields: u32,
+    /// How many of a hundred identifiers are of speculations that are over, or never were.
+    pub stale: u32,
+    /// Whether records have stamps.
+    pub stamped: bool,
 }
 
 /// The sizes and bounds of a session. Few have so few calls or issues that they are used up.
 fn config_of(dice: &mut Dice) -> Config {
     let config = Config {
-        cpus: dice.between(2, 8),
+        cpus: if dice.chance(10) {
+            dice.between(9, 64)
+        } else {
+            dice.between(2, 8)
+        },
         nspec: dice.between(1, 16),
         bufsize: 8 * dice.between(32, 1024),
         specsize: 8 * dice.between(4, 32),
@@ -57,18 +65,27 @@ fn mix_of(dice: &mut Dice) -> Mix {
     }
 }
 
-/// The dice of this number, below 64, among those of a seed.
+/// The dice of the consumer; those of a CPU have its number.
+pub const CONSUMER_DICE: u64 = 64;
+/// The dice of a plan.
+const PLAN_DICE: u64 = 65;
+
+/// The dice of this number, below 128, among those of a seed.
 pub fn dice_of(seed: u64, number: u64) -> Dice {
-    Dice::new(seed.wrapping_mul(64).wrapping_add(number))
+    Dice::new(seed.wrapping_mul(128).wrapping_add(number))
 }
 
 impl Plan {
     /// The plan of a seed.
     pub fn new(seed: u64) -> Plan {
-        let mut dice = dice_of(seed, 63);
+        let mut dice = dice_of(seed, PLAN_DICE);
         let config = config_of(&mut dice);
         let mix = mix_of(&mut dice);
-        let calls = dice.between(500, 2000);
+        let calls = if config.cpus > 8 {
+            dice.between(100, 400)
+        } else {
+            dice.between(500, 2000)
+        };
         let all = u64::from(calls).saturating_mul(u64::from(config.cpus));
         Plan {
             seed,
@@ -80,6 +97,8 @@ impl Plan {
             returns: dice.between(30, 100),
             places: dice.between(1, config.nspec.clamp(1, 16)),
             yields: dice.between(1, 10),
+            stale: dice.between(2, 40),
+            stamped: dice.chance(40),
         }
     }
 }

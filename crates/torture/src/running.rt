@@ -53,7 +53,13 @@ pub fn run<'a, R: Threads + Sync>(
     alloc: Global,
     plan: &Plan,
 ) -> Result<Story, TortureFault<'a>> {
-    let board = Board::new(alloc, &plan.config, enable()?, plan.places)?;
+    let schema = enable()?;
+    let schema = if plan.stamped {
+        schema.stamped()
+    } else {
+        schema
+    };
+    let board = Board::new(alloc, &plan.config, schema, plan.places)?;
     let session = Session::start(alloc, &plan.config, board.schema)?;
     let basket = Basket::new(alloc, plan.config.cpus)?;
     let (session, basket) = race(rt, session, &board, plan, alloc, basket)?;
