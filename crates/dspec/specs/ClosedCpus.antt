@@ -1,4 +1,4 @@
--- What is left of the CPUs of a closed session, with their numbers.
+-- Cited by calls. What is left of the CPUs of a closed session, with their numbers.
 use Rattle.std.specs.Prelude.{ℕ, ◌+◌, ◌∷◌, [], List, drop, option_copied}
 use Rattle.dspec_consumer.specs.declared.left.Left.{Left}
 use Rattle.dspec.specs.declared.closing.ClosedCpu.{ClosedCpu}

@@ -1,4 +1,4 @@
--- What a sink keeps of the batches that it gets.
+-- Cited by calls. What a sink keeps of the batches that it gets.
 use Rattle.std.specs.Prelude.{ℕ, ◌≡◌, List, [], ◌++◌, Option, Some, None}
 use Rattle.dspec_record.specs.Record.{Record}
 use Rattle.dspec_record.specs.EnablingRows.{EnabledRows}

@@ -1,4 +1,4 @@
--- Which lane of which session a lane is.
+-- Cited by calls. Which lane of which session a lane is.
 use Rattle.std.specs.Prelude.{◌≡◌}
 use Rattle.std.specs.Borrow.{GName}
 use Rattle.dspec_record.specs.declared.schema.Schema.{Ghosts}

@@ -1,4 +1,4 @@
--- What the threads of a session are lent, and give back.
+-- Serves proofs. What the threads of a session are lent, and give back.
 use Rattle.std.specs.Prelude.{ℕ, ◌≡◌, List, length, slice_get, Some}
 use Rattle.dspec_cpu.specs.declared.cpu.Cpu.{Cpu}
 use Rattle.dspec_cpu.specs.declared.shared.Shared.{Shared}

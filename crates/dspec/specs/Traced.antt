@@ -1,4 +1,4 @@
--- What a session that was traced whole promises, in the words of the page.
+-- Believed. What a session that was traced whole promises, in the words of the page.
 use Rattle.std.specs.Prelude.{ℕ, ◌≡◌, ◌<◌, Bool, List, slice_get, Option, Some}
 use Rattle.dspec_record.specs.Record.{Record}
 use Rattle.dspec_record.specs.declared.field.Shape.{Shape}

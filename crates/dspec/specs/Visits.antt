@@ -1,4 +1,4 @@
--- What the consumer does in one of its rounds while a session is traced.
+-- Serves proofs. What the consumer does in one of its rounds while a session is traced.
 use Rattle.std.specs.Prelude.{ℕ, ◌≡◌, ◌<◌, ◌+◌, ◌⊎◌}
 use Rattle.dspec_ring.specs.declared.batch.Batch.{Batch}
 use Rattle.dspec_consumer.specs.Asking.{Asked}

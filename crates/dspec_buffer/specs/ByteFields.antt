@@ -1,4 +1,4 @@
--- How a `ByteBuffer` holds what contracts see of it.
+-- Cited by calls. How a `ByteBuffer` holds what contracts see of it.
 use Rattle.std.specs.Prelude.{◌≡◌, ◌≤◌, ◌*◌, ◌%◌, ◌^◌, take, vec_len}
 use Rattle.dspec_buffer.specs.Stored.{Stored}
 use Rattle.dspec_buffer.specs.declared.byte_buffer.ByteBuffer.TheInside.{Inside}

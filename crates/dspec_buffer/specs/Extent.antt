@@ -1,4 +1,4 @@
--- The pieces of a buffer, how far they reach, whether one more fits, and the bytes that they make.
+-- Believed. The pieces of a buffer, how far they reach, whether one more fits, and the bytes that they make.
 -- A list of pieces has the latest piece at its head, and so has the list of records in a block.
 use Rattle.std.specs.Prelude.{ℕ, ◌%◌, ◌==◌, nat_le, Bool, List, [], ◌∷◌, ◌++◌, Option, if◌then◌else◌}
 use Rattle.std.specs.Option.{option_map_or}

@@ -1,4 +1,4 @@
--- Why bytes are the text of no records: what stands before the fault is a text, and no record can begin there.
+-- Cited by calls. Why bytes are the text of no records: what stands before the fault is a text, and no record can begin there.
 use Rattle.std.specs.Prelude.{◌≡◌, ◌≢◌, ◌<◌, ◌≤◌, ◌+◌, ◌%◌, ◌⊎◌, ℕ, Bool, List, ◌++◌, length, Option, None}
 use Rattle.dspec_record.specs.Record.{Record}
 use Rattle.dspec_record.specs.Reading.{front_epid, NamesShape, HasNoText}

@@ -1,4 +1,4 @@
--- How a `ListBuffer` holds what contracts see of it.
+-- Cited by calls. How a `ListBuffer` holds what contracts see of it.
 use Rattle.std.specs.Prelude.{◌≡◌, ◌≤◌, ◌*◌, ◌%◌, ◌^◌, vec_len, vec_capacity}
 use Rattle.dspec_buffer.specs.Listed.{Listed}
 use Rattle.dspec_buffer.specs.declared.list_buffer.ListBuffer.TheInside.{Inside}

@@ -1,4 +1,4 @@
--- A buffer of texts without padding as contracts see it, and the pieces that it has.
+-- Cited by calls. A buffer of texts without padding as contracts see it, and the pieces that it has.
 use Rattle.std.specs.Prelude.{◌≡◌, ◌≤◌, ℕ, Bool, IsTrue, All, List, length, drop, reverse, Option}
 use Rattle.std.specs.List.{flat_map}
 use Rattle.dspec_record.specs.Record.{Record}

@@ -1,4 +1,4 @@
--- One step of reading: past a padding word, and over one record; and how far a reader has come.
+-- Serves proofs. One step of reading: past a padding word, and over one record; and how far a reader has come.
 use Rattle.std.specs.Prelude.{◌≡◌, ◌≢◌, ◌<◌, ◌≤◌, ◌+◌, ◌%◌, ◌⊎◌, ℕ, Bool, IsTrue, List, ◌++◌, length, take, drop, Option, Some, None, Result, Ok, Err}
 use Rattle.dspec_record.specs.Record.{Record}
 use Rattle.dspec_record.specs.Reading.{front_epid}

@@ -1,4 +1,4 @@
--- What a reader of a checked text still has before it.
+-- Cited by calls. What a reader of a checked text still has before it.
 use Rattle.std.specs.Prelude.{◌≡◌, ℕ, Bool, List, Option}
 use Rattle.dspec_record.specs.Record.{Record}
 use Rattle.dspec_record.specs.declared.field.Shape.{Shape}

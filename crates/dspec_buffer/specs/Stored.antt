@@ -1,4 +1,4 @@
--- A buffer of bytes as contracts see it, and the pieces that it has.
+-- Believed. A buffer of bytes as contracts see it, and the pieces that it has.
 use Rattle.std.specs.Prelude.{◌≡◌, ◌≤◌, ℕ, Bool, IsTrue, All, List, length, drop, Option}
 use Rattle.dspec_record.specs.Record.{Record}
 use Rattle.dspec_record.specs.declared.field.Shape.{Shape}

@@ -1,4 +1,4 @@
--- Upgrading a text of records without a stamp: each record, with a stamp, in the order in which it stands.
+-- Cited by calls. Upgrading a text of records without a stamp: each record, with a stamp, in the order in which it stands.
 use Rattle.std.specs.Prelude.{◌≡◌, ◌≤◌, ◌<◌, ◌++◌, ℕ, List, ◌∷◌, length, map, reverse}
 use Rattle.dspec_record.specs.Record.{Record}
 use Rattle.dspec_record.specs.EnablingRows.{EnabledRows}

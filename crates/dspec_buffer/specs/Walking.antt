@@ -1,4 +1,4 @@
--- A walk over the records of a buffer.
+-- Cited by calls. A walk over the records of a buffer.
 use Rattle.std.specs.Prelude.{◌≡◌, ◌⊎◌, ℕ, List, [], ◌∷◌, reverse, Option, Some, None}
 use Rattle.dspec_record.specs.Record.{Record}
 use Rattle.dspec_buffer.specs.Extent.{Piece, records}

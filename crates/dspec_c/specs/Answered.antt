@@ -1,4 +1,4 @@
--- What a call's status tells of the answer that it stands for, and what an out parameter does.
+-- Cited by calls. What a call's status tells of the answer that it stands for, and what an out parameter does.
 use Rattle.std.specs.Prelude.{ℕ, ◌≡◌}
 
 -- the call was answered so: its status is the answer's number, and it did what that answer tells

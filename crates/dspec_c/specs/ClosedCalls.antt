@@ -1,4 +1,4 @@
--- The calls on what is left of a session.
+-- Cited by calls. The calls on what is left of a session.
 use Rattle.std.specs.Prelude.{ℕ, ◌≡◌, Bool, Option, Some, None, slice_get, if◌then◌else◌}
 use Rattle.dspec_ring.specs.declared.batch.Batch.{Batch}
 use Rattle.dspec_consumer.specs.declared.left.Left.{Left}

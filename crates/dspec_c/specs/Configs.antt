@@ -1,4 +1,4 @@
--- What a configuration in C's memory asks for.
+-- Cited by calls. What a configuration in C's memory asks for.
 use Rattle.std.specs.Prelude.{ℕ, ◌==◌, Option, Some, None, if◌then◌else◌}
 use Rattle.std.specs.Option.{option_map}
 use Rattle.dspec_deeds.specs.declared.config.Config.{Config}

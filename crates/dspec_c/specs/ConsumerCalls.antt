@@ -1,4 +1,4 @@
--- The calls on the consumer's handle: each did what the library's call says of its answer.
+-- Cited by calls. The calls on the consumer's handle: each did what the library's call says of its answer.
 use Rattle.std.specs.Prelude.{ℕ, ◌≡◌, ◌<◌, ◌≤◌, Bool, Some, None, MatchBool, slice_get, slice_set, ⊤}
 use Rattle.dspec_ring.specs.declared.batch.Batch.{Batch}
 use Rattle.dspec_consumer.specs.Asking.{Asked}

@@ -1,4 +1,4 @@
--- How the consumer comes home, as a CPU does.
+-- Cited by calls. How the consumer comes home, as a CPU does.
 use Rattle.std.specs.Prelude.{◌≡◌, List, [], ◌∷◌, Option, IfSome, IfNone, ⊤}
 use Rattle.dspec_cpu.specs.declared.shared.Shared.{Shared}
 use Rattle.dspec_consumer.specs.Consumers.{Consuming, IsSameConsumer}

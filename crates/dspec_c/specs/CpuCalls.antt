@@ -1,4 +1,4 @@
--- The calls on a CPU's handle: each did what the library's call says of its answer.
+-- Cited by calls. The calls on a CPU's handle: each did what the library's call says of its answer.
 use Rattle.std.specs.Prelude.{ℕ, ◌≡◌, ◌<◌, Bool, List, Option, ⊤}
 use Rattle.dspec_word.specs.SpecId.{Speculation, id_number}
 use Rattle.dspec_record.specs.Record.{Record}

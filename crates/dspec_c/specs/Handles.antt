@@ -1,4 +1,4 @@
--- What contracts see of a handle in C's memory.
+-- Cited by calls. What contracts see of a handle in C's memory.
 use Rattle.std.specs.Prelude.{Bool, if◌then◌else◌}
 use Rattle.dspec_c.specs.declared.handle.Handle.{Handle}
 use Rattle.dspec_c.specs.declared.held.Held.{Held}

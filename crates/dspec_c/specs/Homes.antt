@@ -1,4 +1,4 @@
--- How a CPU comes home: by a ring of its own, through which it went when the session started.
+-- Cited by calls. How a CPU comes home: by a ring of its own, through which it went when the session started.
 use Rattle.std.specs.Prelude.{◌≡◌, List, [], ◌∷◌, Option, IfSome, IfNone, ⊤}
 use Rattle.dspec_record.specs.EnablingRows.{EnabledRows}
 use Rattle.dspec_cpu.specs.declared.cpu.Cpu.{Cpu}

@@ -1,4 +1,4 @@
--- What lending keeps: a handle is lent for a call, and has what the call left.
+-- Cited by calls. What lending keeps: a handle is lent for a call, and has what the call left.
 use Rattle.std.specs.Borrow.{Lends, MutBor, Fml}
 use Rattle.dspec_c.specs.declared.handle.Handle.{Handle}
 use Rattle.dspec_c.specs.declared.held.Held.{Held}

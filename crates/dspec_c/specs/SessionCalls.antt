@@ -1,4 +1,4 @@
--- The calls on schemas and sessions, and those that bring a CPU or the consumer home.
+-- Cited by calls. The calls on schemas and sessions, and those that bring a CPU or the consumer home.
 use Rattle.std.specs.Prelude.{ℕ, ◌≡◌, Bool, true, false, nat_lt, [], length, replicate, Option, Some, None, is_some, ◌⊎◌, slice_get, slice_set, if◌then◌else◌}
 use Rattle.dspec_record.specs.EnablingRows.{EnabledRows}
 use Rattle.dspec_record.specs.declared.header.Header.TheVariants.{One, Two}

@@ -1,4 +1,4 @@
--- What C reads of reports and batches.
+-- Cited by calls. What C reads of reports and batches.
 use Rattle.std.specs.Prelude.{◌≡◌, length}
 use Rattle.dspec_deeds.specs.declared.report.Report.{Report}
 use Rattle.dspec_ring.specs.declared.batch.Batch.{Batch}

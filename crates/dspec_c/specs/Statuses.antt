@@ -1,4 +1,4 @@
--- The numbers of the statuses, by what the library answered, and what goes out beside them.
+-- Cited by calls. The numbers of the statuses, by what the library answered, and what goes out beside them.
 use Rattle.std.specs.Prelude.{ℕ, Bool, true, false, Option, Some, None}
 use Rattle.dspec_deeds.specs.declared.calls.Decided.{Decided}
 use Rattle.dspec_deeds.specs.declared.calls.Decided.TheVariants as decided
@@ -27,9 +27,6 @@ bad_policy = 8
 
 abbrev pub bad_handle : ℕ
 bad_handle = 17
-
-abbrev pub full_handle : ℕ
-full_handle = 18
 
 abbrev pub no_such_cpu : ℕ
 no_such_cpu = 19

@@ -1,4 +1,4 @@
--- What a session between its start and its end keeps of its parts.
+-- Cited by calls. What a session between its start and its end keeps of its parts.
 use Rattle.std.specs.Prelude.{ℕ, ◌≡◌, Bool, false, List, [], ◌∷◌, Option, Some, None, IfSome, IsSome, is_some, ⊤, suc, length, map, slice_get}
 use Rattle.std.specs.Option.{option_map_or}
 use Rattle.dspec_deeds.specs.declared.config.Config.{Config}

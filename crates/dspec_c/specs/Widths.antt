@@ -1,4 +1,4 @@
--- Enabling records by the widths of their fields.
+-- Cited by calls. Enabling records by the widths of their fields.
 use Rattle.std.specs.Prelude.{ℕ, ◌≡◌, ◌==◌, ◌+◌, ◌++◌, nat_le, nat_lt, List, [], ◌∷◌, length, Option, Some, None, option_and_then, if◌then◌else◌}
 use Rattle.std.specs.Option.{option_map, option_map_or}
 use Rattle.dspec_record.specs.EnablingRows.{EnabledRows}

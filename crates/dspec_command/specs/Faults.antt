@@ -1,4 +1,4 @@
--- What is told of a program's faults, and by which exit status.
+-- Serves proofs. What is told of a program's faults, and by which exit status.
 use Rattle.std.specs.Prelude.{◌≡◌, ◌≢◌, ℕ, List, codes}
 use Rattle.std.specs.IoError.{error_kind}
 use Rattle.std.specs.declared.io.Error.{Error}

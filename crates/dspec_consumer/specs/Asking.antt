@@ -1,4 +1,4 @@
--- What an ask does.
+-- Cited by calls. What an ask does.
 use Rattle.std.specs.Prelude.{ℕ, ◌≡◌, ◌==◌, ◌+◌, slice_index, if◌then◌else◌}
 use Rattle.dspec_table.specs.Asks.{StoredAsk}
 use Rattle.dspec_consumer.specs.Consumers.{Consuming, view_of, taken_from}

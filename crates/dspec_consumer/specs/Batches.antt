@@ -1,4 +1,4 @@
--- What taking a batch and giving one back do.
+-- Cited by calls. What taking a batch and giving one back do.
 use Rattle.std.specs.Prelude.{ℕ, ◌≡◌, ◌≢◌, ◌<◌, ◌≤◌, ◌⊎◌, ◌+◌, [], ◌∷◌, ◌++◌, length, slice_get, slice_set, Some}
 use mathlib.Core.List.{IsPrefix}
 use Rattle.dspec_ring.specs.declared.batch.Batch.{Batch}

@@ -1,4 +1,4 @@
--- What a clean does: which steps the consumer's seat makes, and which slots it releases.
+-- Cited by calls. What a clean does: which steps the consumer's seat makes, and which slots it releases.
 use Rattle.std.specs.Prelude.{ℕ, zero, suc, ◌≡◌, ◌<◌, ◌≤◌, ◌+◌, ◌*◌, Bool, true, false, List, [], ◌∷◌, ◌++◌, length, map, if◌then◌else◌}
 use Rattle.dspec_word.specs.Word.{SlotState}
 use Rattle.dspec_word.specs.Code.{awaits}

@@ -1,4 +1,4 @@
--- How a consumer's fields say what contracts see, and what holds of them.
+-- Cited by calls. How a consumer's fields say what contracts see, and what holds of them.
 use Rattle.std.specs.Prelude.{ℕ, ◌≡◌, ◌≤◌, ◌+◌, length, slice_get, slice_index, vec_len, vec_capacity, Some}
 use Rattle.dspec_ring.specs.Known.{ConsumerKnows}
 use Rattle.dspec_table.specs.Seats.{known_there}

@@ -1,4 +1,4 @@
--- What contracts see of a session's consumer.
+-- Believed. What contracts see of a session's consumer.
 use Rattle.std.specs.Prelude.{ℕ, ◌≡◌, List, length, map, slice_get}
 use Rattle.std.specs.Option.{option_map_or}
 use Rattle.dspec_deeds.specs.declared.config.Config.{Config}

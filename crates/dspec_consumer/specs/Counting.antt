@@ -1,4 +1,4 @@
--- The consumer's end of one CPU's rings, counted.
+-- Cited by calls. The consumer's end of one CPU's rings, counted.
 use Rattle.std.specs.Prelude.{◌≡◌, ◌≤◌, ◌^◌, length}
 use Rattle.dspec_ring.specs.Known.{ConsumerKnows}
 use Rattle.dspec_consumer.specs.declared.counted.CountedEnd.TheInside.{Inside}

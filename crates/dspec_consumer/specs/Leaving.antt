@@ -1,4 +1,4 @@
--- How a session ends, CPU by CPU.
+-- Serves proofs. How a session ends, CPU by CPU.
 use Rattle.std.specs.Prelude.{ℕ, ◌≡◌, ◌+◌, Bool, List, length, map, slice_get, Option, Some}
 use Rattle.dspec_record.specs.Record.{Record}
 use Rattle.dspec_record.specs.declared.field.Shape.{Shape}

@@ -1,4 +1,4 @@
--- What the close of a session promises of each CPU, in the words of the page.
+-- Believed. What the close of a session promises of each CPU, in the words of the page.
 use Rattle.std.specs.Prelude.{ℕ, ◌≡◌, Bool, List, [], ◌∷◌, ◌++◌, slice_get, Option, Some}
 use Rattle.std.specs.Option.{option_map_or}
 use Rattle.dspec_record.specs.Record.{Record}

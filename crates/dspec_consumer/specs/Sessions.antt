@@ -1,4 +1,4 @@
--- The parts of one session, and what it begins with.
+-- Believed. The parts of one session, and what it begins with.
 use Rattle.std.specs.Prelude.{ℕ, ◌≡◌, List, [], length, Option, Some, None, IsSome, slice_get}
 use Rattle.std.specs.Option.{option_map_or}
 use Rattle.dspec_record.specs.EnablingRows.{EnabledRows}

@@ -1,4 +1,4 @@
--- What a stop does.
+-- Cited by calls. What a stop does.
 use Rattle.std.specs.Prelude.{◌≡◌, ◌++◌}
 use Rattle.dspec_deeds.specs.History.{halted}
 use Rattle.dspec_table.specs.Acts.{at_stop}

@@ -21,7 +21,11 @@ use Rattle.dspec_table.specs.Conditions.{IsOn, IsInFlight, MayLoad, MayTry, Atte
 use Rattle.dspec_table.specs.Steps.{Entered, LoadedWord, TriedWord}
 use Rattle.dspec_table.proofs.Flights.{quiet_word, loads_next, tries_next}
 use Rattle.dspec_cpu.specs.Calls.{rests, steps}
-use Rattle.dspec_cpu.specs.Reaching.{act_of, turns, left, is_attempt, releases_next, OwnsCommit, Shown}
+use Rattle.dspec_cpu.specs.Reaching.{act_of, turns, is_attempt, releases_next, OwnsCommit, Shown}
+
+-- how many exchanges may come yet
+abbrev pub left : ℕ → Speculation → SlotState → ℕ
+left n id w = if (w.issue == id.issue) && nat_le 1 (code_number w.code) then n - code_number w.code else 0
 
 -- an exchange is attempted where a table's turns are left, and one more where a release is to come
 pub record IsTurn (n : ℕ) (code : Code) (to : SlotState) : Type 0 where

@@ -16,17 +16,29 @@ use Rattle.dspec_table.specs.Flights.{calling, flight_after}
 use Rattle.dspec_table.specs.Steps.{Entered, LoadedActivity}
 use Rattle.dspec_table.proofs.Flights.{activity_enters, flight_by_last}
 use Rattle.dspec_cpu.specs.declared.scanning.Look.TheVariants as look
-use Rattle.dspec_cpu.specs.Calls.{rests, steps}
-use Rattle.dspec_cpu.specs.Scans.{Came, LookedAtSlot, Scanned, misses, opening_deeds, IsOpening, is_worn_opening}
+use Rattle.dspec_cpu.specs.Calls.{Goes, rests, steps}
+use Rattle.dspec_cpu.specs.Reached.{Stands}
+use Rattle.dspec_cpu.specs.Stops.{StopsWhereMet}
+use Rattle.dspec_cpu.specs.Scans.{any_busy, LookedAtSlot, Scanned, misses, opening_deeds, IsOpening, is_worn_opening}
 use Rattle.dspec_cpu.proofs.Ready.{stands_behind, stands_called}
 use Rattle.dspec_cpu.proofs.Reaches.{goes_on}
 use Rattle.dspec_cpu.proofs.Stopping.{shown_stop, shown_running, heeded}
 use Rattle.dspec_cpu.proofs.Slots.{asked, stands_more}
 
+-- a scan came past so many slots, of which one was decided or none
+pub record Came (k : Config) (c : ℕ) (v : View) (n : ℕ) (busy : Bool) (w : View) : Type 0 where
+  pub missed : List Bool
+  pub count : length missed ≡ n
+  pub any : busy ≡ any_busy missed
+  pub goes : Goes v (misses c missed ++ Scan c true ∷ []) w
+  pub stands : Stands k c v (misses c missed ++ Scan c true ∷ []) w
+  pub runs : StopsWhereMet v false false w
+  pub bounded : w.steps ≤ v.steps + 1 + 2 * n
+
 module _ (k : Config) (c : ℕ) (v : View) where
   -- the load of activity
   pub first : (b : Bool) (w : View) → v.config ≡ k → v.who ≡ of_cpu c → LoadedActivity asked v b w → (r : Bool) → (if b then false else true) ≡ r
-      → (ds : List Deed) → ds ≡ Scan c r ∷ [] → Rattle.dspec_cpu.specs.Calls.Goes v ds w × Rattle.dspec_cpu.specs.Reached.Stands k c v ds w × (w.steps ≡ v.steps + 1)
+      → (ds : List Deed) → ds ≡ Scan c r ∷ [] → Goes v ds w × Stands k c v ds w × (w.steps ≡ v.steps + 1)
   first b w config who step r is ds e =
       let deeds : Scan (number_of v.who) (if b then false else true) ∷ [] ≡ ds = ap (λ n. Scan n (if b then false else true) ∷ []) (ap number_of who) ∙ (ap (λ x. Scan c x ∷ []) is ∙ sym e) in
       let entered : Entered (calling op.Speculation v) step.0 ds w = subst (λ x. Entered (calling op.Speculation v) step.0 x w) deeds step.3 in

@@ -1,4 +1,4 @@
--- What a CPU's calls did, in the words of the page, and what one call more adds to it by its answer.
+-- Believed. What a CPU's calls did, in the words of the page, and what one call more adds to it by its answer.
 use Rattle.std.specs.Prelude.{ℕ, ◌≡◌, List, [], ◌∷◌, ◌++◌, length, map}
 use Rattle.dspec_record.specs.Record.{Record}
 use Rattle.dspec_word.specs.SpecId.{Speculation}

@@ -1,4 +1,4 @@
--- What the calls of a CPU did at the words, and the deeds of each by its answer.
+-- Cited by calls. What the calls of a CPU did at the words, and the deeds of each by its answer.
 use Rattle.std.specs.Prelude.{ℕ, ◌≡◌, Bool, true, false, List, [], ◌∷◌, ◌++◌, if◌then◌else◌, None}
 use Rattle.dspec_record.specs.Record.{Record}
 use Rattle.dspec_deeds.specs.declared.calls.Traced.{Traced}

@@ -1,4 +1,4 @@
--- How many drops a CPU tells of.
+-- Cited by calls. How many drops a CPU tells of.
 use Rattle.std.specs.Prelude.{ℕ, ◌-◌, ◌^◌, nat_lt, if◌then◌else◌}
 
 -- as a number of 32 bits, the greatest where there are more

@@ -1,4 +1,4 @@
--- What stays of a CPU: what each of its calls keeps, all of it but its count of worn calls, or all of it but its seat.
+-- Cited by calls. What stays of a CPU: what each of its calls keeps, all of it but its count of worn calls, or all of it but its seat.
 use Rattle.std.specs.Prelude.{ℕ, ◌≡◌, ◌≤◌, ◌+◌, ◌↔◌, Bool, true}
 use Rattle.dspec_table.specs.Seats.{known}
 use Rattle.dspec_side.specs.Counting.{one_more_worn, worn_after}

@@ -1,4 +1,4 @@
--- Which lists of its own deeds a CPU has, the latest first, and what holds of it between two of its calls.
+-- Believed. Which lists of its own deeds a CPU has, the latest first, and what holds of it between two of its calls.
 use Rattle.std.specs.Prelude.{ℕ, ◌≡◌, ◌≤◌, ◌+◌, Bool, List, ◌++◌, length, reverse, Option, Some, None}
 use Rattle.dspec_record.specs.Record.{Record}
 use Rattle.dspec_record.specs.declared.field.Shape.{Shape}
@@ -68,9 +68,6 @@ spare_count (Some b) = 1
 -- the batch whose hand-over was refused, and how many batches it sealed
 abbrev pub held_back_of : {S : Type 0} → Cpu S → Option Batch
 held_back_of cpu = cpu.held_back
-
-abbrev pub seals_of : {S : Type 0} → Cpu S → ℕ
-seals_of cpu = cpu.side.seals
 
 -- how many calls count towards the most that it makes
 abbrev pub calls_of : {S : Type 0} → Cpu S → ℕ

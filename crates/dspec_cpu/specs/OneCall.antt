@@ -1,4 +1,4 @@
--- One call of a CPU: what it did, first in the words of the page, and what it kept.
+-- Cited by calls. One call of a CPU: what it did, first in the words of the page, and what it kept.
 use Rattle.std.specs.Prelude.{ℕ, ◌≡◌, ◌≤◌, ◌+◌, ◌*◌, ◌&&◌, ◌↔◌, nat_le, Bool, List, length, Option, IsSome, IfSome, IfNone, IsTrue}
 use Rattle.dspec_record.specs.Record.{Record}
 use Rattle.dspec_word.specs.SpecId.{Speculation}

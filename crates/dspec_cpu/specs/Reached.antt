@@ -1,4 +1,4 @@
--- What stands behind the steps of a call.
+-- Serves proofs. What stands behind the steps of a call.
 use Rattle.std.specs.Prelude.{ℕ, ◌≡◌, ◌≤◌, ◌+◌, true, false, List, ◌++◌}
 use Rattle.dspec_word.specs.SpecId.{Speculation}
 use Rattle.dspec_word.specs.Word.{SlotState}

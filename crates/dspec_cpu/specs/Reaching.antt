@@ -1,8 +1,8 @@
--- How far a call on an identifier comes: the steps on its slot's word, and the deeds by where it ended.
-use Rattle.std.specs.Prelude.{ℕ, ◌≡◌, ◌≤◌, ◌+◌, ◌-◌, ◌==◌, ◌&&◌, Bool, true, false, List, [], ◌∷◌, nat_le, if◌then◌else◌}
+-- Serves proofs. How far a call on an identifier comes: the steps on its slot's word, and the deeds by where it ended.
+use Rattle.std.specs.Prelude.{ℕ, ◌≡◌, ◌≤◌, ◌+◌, Bool, true, false, List, [], ◌∷◌, if◌then◌else◌}
 use Rattle.dspec_word.specs.SpecId.{Speculation}
 use Rattle.dspec_word.specs.Word.{SlotState}
-use Rattle.dspec_word.specs.Code.{code_number, is_inactive}
+use Rattle.dspec_word.specs.Code.{is_inactive}
 use Rattle.dspec_word.specs.declared.code.Code.{Code}
 use Rattle.dspec_word.specs.declared.code.Code.TheVariants.{Committing}
 use Rattle.dspec_word.specs.declared.act.Act.{Act}
@@ -38,10 +38,6 @@ act_of o w mine = Idle
 abbrev pub turns : CpuOp → ℕ
 turns (op.Speculate id r) = 3
 turns o = 4
-
--- how many exchanges may come yet
-abbrev pub left : ℕ → Speculation → SlotState → ℕ
-left n id w = if (w.issue == id.issue) && nat_le 1 (code_number w.code) then n - code_number w.code else 0
 
 abbrev pub is_attempt : Act → Bool
 is_attempt (Attempt w) = true

@@ -1,4 +1,4 @@
--- Which lists what is left of a CPU has, and how the close of a session settles them.
+-- Cited by calls. Which lists what is left of a CPU has, and how the close of a session settles them.
 use Rattle.std.specs.Prelude.{ℕ, ◌≡◌, ◌<◌, Bool, List, ◌++◌, reverse, Option}
 use Rattle.dspec_record.specs.Record.{Record}
 use Rattle.dspec_record.specs.declared.field.Shape.{Shape}

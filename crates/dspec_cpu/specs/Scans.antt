@@ -1,4 +1,4 @@
--- A call of speculation: the slots that it missed, in order, and its deeds by its answer.
+-- Cited by calls. A call of speculation: the slots that it missed, in order, and its deeds by its answer.
 use Rattle.std.specs.Prelude.{ℕ, ◌≡◌, ◌≤◌, ◌+◌, ◌*◌, Bool, true, false, ◌||◌, List, [], ◌∷◌, ◌++◌, length}
 use Rattle.dspec_deeds.specs.declared.config.Config.{Config}
 use Rattle.dspec_deeds.specs.declared.calls.Opening.{Opening}
@@ -66,16 +66,6 @@ pub record Opens (k : Config) (c : ℕ) (a : Opening) (had : List Deed → Type 
   pub answer : IsOpening k.nspec missed a
   pub did : Goes v (opening_deeds c missed a) w
   pub list : (p : List Deed) → had p → has (opening_deeds c missed a ++ p)
-
--- a scan came past so many slots, of which one was decided or none
-pub record Came (k : Config) (c : ℕ) (v : View) (n : ℕ) (busy : Bool) (w : View) : Type 0 where
-  pub missed : List Bool
-  pub count : length missed ≡ n
-  pub any : busy ≡ any_busy missed
-  pub goes : Goes v (misses c missed ++ Scan c true ∷ []) w
-  pub stands : Stands k c v (misses c missed ++ Scan c true ∷ []) w
-  pub runs : StopsWhereMet v false false w
-  pub bounded : w.steps ≤ v.steps + 1 + 2 * n
 
 -- a scan came to its answer, and one of the slots that it missed was decided or none
 pub record Scanned (k : Config) (c : ℕ) (v : View) (a : Opening) (busy : Bool) (w : View) : Type 0 where

@@ -1,4 +1,4 @@
--- The batches that a CPU's own list seals.
+-- Believed. The batches that a CPU's own list seals.
 use Rattle.std.specs.Prelude.{ℕ, ◌≡◌, Bool, List, [], ◌∷◌, Option, Some, None}
 use Rattle.dspec_record.specs.Record.{Record}
 use Rattle.dspec_record.specs.declared.field.Shape.{Shape}

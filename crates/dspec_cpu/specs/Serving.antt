@@ -1,4 +1,4 @@
--- What a call of service did.
+-- Cited by calls. What a call of service did.
 use Rattle.std.specs.Prelude.{ℕ, ◌≡◌, List, ◌++◌, length}
 use Rattle.dspec_deeds.specs.declared.config.Config.{Config}
 use Rattle.dspec_deeds.specs.declared.calls.Served.{Served}

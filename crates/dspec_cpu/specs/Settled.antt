@@ -1,4 +1,4 @@
--- What settlements do: which steps a CPU's seat makes, and what becomes of its own blocks.
+-- Cited by calls. What settlements do: which steps a CPU's seat makes, and what becomes of its own blocks.
 use Rattle.std.specs.Prelude.{ℕ, zero, suc, ◌≡◌, ◌<◌, ◌≤◌, ◌+◌, ◌*◌, ◌^◌, ◌==◌, Bool, true, false, List, [], ◌∷◌, ◌++◌, length, Option, if◌then◌else◌}
 use Rattle.dspec_record.specs.Record.{Record}
 use Rattle.dspec_record.specs.declared.field.Shape.{Shape}

@@ -1,4 +1,4 @@
--- Which CPU of which words a CPU is.
+-- Believed. Which CPU of which words a CPU is.
 use Rattle.std.specs.Prelude.{ℕ, ◌≡◌}
 use Rattle.atomic_table.specs.Seated.{TableId}
 use Rattle.dspec_deeds.specs.declared.config.Config.{Config}

@@ -1,4 +1,4 @@
--- That a call heeds a stop.
+-- Cited by calls. That a call heeds a stop.
 use Rattle.std.specs.Prelude.{◌≡◌, Bool, true, false}
 use Rattle.dspec_deeds.specs.declared.calls.Decided.{Decided}
 use Rattle.dspec_deeds.specs.declared.calls.Decided.TheVariants as decided

@@ -1,4 +1,4 @@
--- How a CPU's active buffer is switched for a spare one.
+-- Cited by calls. How a CPU's active buffer is switched for a spare one.
 use Rattle.std.specs.Prelude.{ℕ, ◌≡◌, ◌≢◌, ◌<◌, ◌≤◌, ◌+◌, ◌⊎◌, Bool, true, false, List, [], ◌∷◌, ◌++◌, length, Option, Some, None, if◌then◌else◌}
 use mathlib.Core.List.{IsPrefix}
 use Rattle.dspec_buffer.specs.Stored.{Stored}

@@ -1,4 +1,4 @@
--- The packets of a CPU by time: which records they have, in which order, and the bytes of them all.
+-- Cited by calls. The packets of a CPU by time: which records they have, in which order, and the bytes of them all.
 use Rattle.std.specs.Prelude.{◌≡◌, ℕ, ◌+◌, ◌-◌, ◌*◌, ◌/◌, ◌==◌, ◌<◌, List, [], ◌∷◌, ◌++◌, length, take, drop, slice_index_or, slice_get, Some, if◌then◌else◌}
 use Rattle.std.specs.Option.{option_map_or}
 use Rattle.std.specs.List.{flat_map, range_with_len}

@@ -1,4 +1,4 @@
--- The metadata of a trace: text in the format's language, which says how its packets and events are laid out.
+-- Cited by calls. The metadata of a trace: text in the format's language, which says how its packets and events are laid out.
 use Rattle.std.specs.Prelude.{ℕ, ◌+◌, ◌/◌, ◌%◌, false, List, [], ◌∷◌, ◌++◌, length, take, drop, slice_get, map, codes, decimal}
 use Rattle.std.specs.Fmt.{digit_glyph}
 use Rattle.std.specs.Option.{option_map_or}

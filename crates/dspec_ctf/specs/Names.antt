@@ -1,4 +1,4 @@
--- Which names events and fields may have, and which of them is the first that they may not.
+-- Cited by calls. Which names events and fields may have, and which of them is the first that they may not.
 use Rattle.std.specs.Prelude.{ℕ, ◌+◌, ◌==◌, not, nat_le, nat_lt, Bool, true, false, ◌&&◌, ◌||◌, List, []}
 use Rattle.std.specs.Prelude.{◌∷◌, length, map, take, slice_get, slice_index_or, codes, Option, Some, None, option_and_then, if◌then◌else◌}
 use Rattle.std.specs.Option.{option_map}

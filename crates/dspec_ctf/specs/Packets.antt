@@ -1,4 +1,4 @@
--- The bytes of packets of the Common Trace Format, version 1.8: little-endian, nothing between two parts.
+-- Cited by calls. The bytes of packets of the Common Trace Format, version 1.8: little-endian, nothing between two parts.
 use Rattle.std.specs.Prelude.{ℕ, ◌+◌, ◌*◌, List, [], ◌++◌, length, Option, Some, None, unwrap_or}
 use Rattle.std.specs.List.{flat_map, zip}
 use Rattle.dspec_record.specs.Record.{Record}

@@ -1,4 +1,4 @@
--- Which packet is that of a batch, and why there is none.
+-- Cited by calls. Which packet is that of a batch, and why there is none.
 use Rattle.std.specs.Prelude.{◌≡◌, ◌<◌, ◌≤◌, ◌+◌, ◌^◌, ℕ, IsTrue, false, All, List, Some, length, take, slice_get}
 use Rattle.dspec_record.specs.Record.{Record}
 use Rattle.dspec_record.specs.EnablingRows.{EnabledRows}

@@ -1,4 +1,4 @@
--- What a closed session leaves.
+-- Cited by calls. What a closed session leaves.
 use Prim.Native.Nat.{zero, suc}
 use Rattle.std.specs.Prelude.{ℕ, ◌≡◌, ◌<◌, List, [], ◌∷◌, ◌++◌, map, Bool, true, false, if◌then◌else◌, Option, Some}
 use Rattle.dspec_record.specs.declared.field.Shape.{Shape}

@@ -1,4 +1,4 @@
--- What the common part sees of deeds: all but whether a record or a block found room, and how many records there were.
+-- Serves proofs. What the common part sees of deeds: all but whether a record or a block found room, and how many records there were.
 use Rattle.std.specs.Prelude.{◌≡◌, List, [], ◌∷◌}
 use Rattle.dspec_deeds.specs.declared.deed.TraceFate.{TraceFate}
 use Rattle.dspec_deeds.specs.declared.deed.TraceFate.TheVariants as traced

@@ -1,4 +1,4 @@
--- Which kind a fate is of, and how many records a decision was about.
+-- Believed. Which kind a fate is of, and how many records a decision was about.
 use Rattle.std.specs.Prelude.{ℕ, Bool, true, false}
 use Rattle.dspec_deeds.specs.declared.deed.TraceFate.{TraceFate}
 use Rattle.dspec_deeds.specs.declared.deed.TraceFate.TheVariants as traced

@@ -1,4 +1,4 @@
--- The headline: three laws of every legal list of deeds.
+-- Cited by calls. The headline: three laws of every legal list of deeds.
 use Rattle.std.specs.Prelude.{ℕ, ◌≡◌, ◌+◌, ◌≤◌, ◌<◌, ◌++◌, true, IsSome, List, if◌then◌else◌, Some}
 use Rattle.std.specs.List.{AllByRecursion}
 use Rattle.dspec_record.specs.Record.{Record}

@@ -1,4 +1,4 @@
--- What is read off the list of deeds of all CPUs and the consumer. The latest deed is at the head.
+-- Believed. What is read off the list of deeds of all CPUs and the consumer. The latest deed is at the head.
 use Rattle.std.specs.Prelude.{ℕ, suc, ◌==◌, Bool, true, false, not, ◌&&◌, ◌||◌, nat_lt, nat_le, List, [], ◌∷◌, ◌+◌, if◌then◌else◌, Option, Some, None}
 use Rattle.dspec_word.specs.declared.code.Code.{Code}
 use Rattle.dspec_word.specs.declared.code.Code.TheVariants.{Inactive, Active, ActiveOne, ActiveMany, Committing, CommittingMany, Discarding}

@@ -1,4 +1,4 @@
--- Which deed may come next.
+-- Believed. Which deed may come next.
 use Rattle.std.specs.Prelude.{ℕ, ◌≡◌, ◌≢◌, ◌<◌, ◌≤◌, ◌⊎◌, ◌&&◌, ◌||◌, nat_lt, Bool, true, false, not, List, [], ◌∷◌, length, MatchBool, Option, None}
 use Rattle.dspec_record.specs.declared.field.Shape.{Shape}
 use Rattle.dspec_record.specs.Record.{Record}
@@ -83,9 +83,6 @@ MayComeBy k x Halt = x.halt ≡ false
 abbrev pub Pays : ℕ → Deed → Type 0
 Pays debt (Release s) = (debt ≡ 0) ⊎ (debt ≡ s)
 Pays debt d = debt ≡ 0
-
-abbrev pub MayCome : Config → List Deed → Deed → Type 0
-MayCome k h d = MayComeBy k (facts k h) d
 
 abbrev pub FollowsBy : Config → Facts → Deed → Type 0
 FollowsBy k x d = Pays x.debt d × MayComeBy k x d

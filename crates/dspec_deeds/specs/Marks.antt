@@ -1,4 +1,4 @@
--- Which speculation of a slot was granted to a CPU last.
+-- Cited by calls. Which speculation of a slot was granted to a CPU last.
 use Rattle.std.specs.Prelude.{ℕ, ◌+◌, ◌==◌, ◌&&◌, List, [], ◌∷◌, if◌then◌else◌}
 use Rattle.dspec_deeds.specs.declared.deed.Deed.{Deed}
 use Rattle.dspec_deeds.specs.declared.deed.Deed.TheVariants.{Speculate}

@@ -1,4 +1,4 @@
--- What a deed of another actor leaves a CPU: all that its own deeds tell, the word of a free slot, what waits for it.
+-- Serves proofs. What a deed of another actor leaves a CPU: all that its own deeds tell, the word of a free slot, what waits for it.
 use Rattle.std.specs.Prelude.{ℕ, ◌≡◌, ◌⊎◌, true, false, List, ◌∷◌, Some, None}
 use Rattle.dspec_word.specs.Code.{is_inactive}
 use Rattle.dspec_word.specs.Word.{SlotState}

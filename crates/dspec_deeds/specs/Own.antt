@@ -1,4 +1,4 @@
--- What is read off a CPU's own deeds: its offers, its buffers and its batches. The latest is at the head.
+-- Believed. What is read off a CPU's own deeds: its offers, its buffers and its batches. The latest is at the head.
 use Rattle.std.specs.Prelude.{ℕ, ◌+◌, ◌==◌, Bool, false, ◌&&◌, ◌||◌, List, [], ◌∷◌, ◌++◌, reverse, take, if◌then◌else◌, Option, Some, None}
 use Rattle.dspec_record.specs.Record.{Record}
 use Rattle.dspec_buffer.specs.Extent.{Piece, one, block}

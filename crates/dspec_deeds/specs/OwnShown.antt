@@ -1,4 +1,4 @@
--- What a CPU's side shows, read off the CPU's own deeds alone.
+-- Cited by calls. What a CPU's side shows, read off the CPU's own deeds alone.
 use Rattle.std.specs.Prelude.{ℕ, ◌≡◌, ◌≤◌, ◌<◌, ◌+◌, ◌-◌, ◌==◌, Bool, false, List, [], length, map, slice_get, Some}
 use Rattle.dspec_record.specs.Record.{Record}
 use Rattle.dspec_buffer.specs.Extent.{Piece, one}

@@ -1,4 +1,4 @@
--- The own part of what makes a list legal, stated over one CPU's list alone. The latest deed is at the head.
+-- Cited by calls. The own part of what makes a list legal, stated over one CPU's list alone. The latest deed is at the head.
 use Rattle.std.specs.Prelude.{ℕ, ◌≡◌, ◌==◌, Bool, true, false, List, [], ◌∷◌, Option}
 use Rattle.dspec_record.specs.declared.field.Shape.{Shape}
 use Rattle.dspec_word.specs.SpecId.{Speculation}

@@ -1,4 +1,4 @@
--- What becomes of a CPU's own buffer of a speculation once that is decided.
+-- Cited by calls. What becomes of a CPU's own buffer of a speculation once that is decided.
 use Rattle.std.specs.Prelude.{ℕ, List, length, if◌then◌else◌, Option}
 use Rattle.dspec_record.specs.declared.field.Shape.{Shape}
 use Rattle.dspec_buffer.specs.Extent.{block}

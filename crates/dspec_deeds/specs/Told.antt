@@ -1,4 +1,4 @@
--- What a fate is told as, and which identifier an answer gives.
+-- Cited by calls. What a fate is told as, and which identifier an answer gives.
 use Rattle.dspec_word.specs.SpecId.{Speculation, no_speculation}
 use Rattle.dspec_deeds.specs.declared.calls.Answer.{Answer}
 use Rattle.dspec_deeds.specs.declared.calls.Answer.TheVariants as any_answer

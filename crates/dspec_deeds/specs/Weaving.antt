@@ -1,4 +1,4 @@
--- Seals put into a list of deeds, so that each CPU's part of it is that CPU's own list.
+-- Cited by calls. Seals put into a list of deeds, so that each CPU's part of it is that CPU's own list.
 use Rattle.std.specs.Prelude.{ℕ, zero, suc, ◌≡◌, ◌<◌, ◌⊎◌, ◌==◌, List, [], ◌∷◌, ◌++◌, Option, if◌then◌else◌}
 use Rattle.dspec_word.specs.SpecId.{Speculation}
 use Rattle.dspec_record.specs.declared.field.Shape.{Shape}

@@ -1,4 +1,4 @@
--- Which word, which acknowledgement each deed changes, and to what.
+-- Serves proofs. Which word, which acknowledgement each deed changes, and to what.
 use Rattle.std.specs.Prelude.{ℕ, ◌+◌, ◌==◌, Bool, false, ◌&&◌, List, if◌then◌else◌, Some}
 use Rattle.dspec_word.specs.declared.code.Code.TheVariants.{Inactive, Active, Committing, CommittingMany, Discarding}
 use Rattle.dspec_word.specs.Word.{SlotState, released}

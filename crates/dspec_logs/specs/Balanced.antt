@@ -1,4 +1,4 @@
--- Each offered record has one fate.
+-- Serves proofs. Each offered record has one fate.
 use Rattle.std.specs.Prelude.{◌≡◌}
 use Rattle.dspec_deeds.specs.declared.report.Report.{Report}
 use Rattle.dspec_deeds.specs.Reports.{records_of_report}

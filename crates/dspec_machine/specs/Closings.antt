@@ -1,4 +1,4 @@
--- What can be closed, and what the close makes of it.
+-- Serves proofs. What can be closed, and what the close makes of it.
 use Rattle.std.specs.Prelude.{ℕ, ◌≡◌, List, Option, None}
 use Rattle.dspec_record.specs.declared.field.Shape.{Shape}
 use Rattle.dspec_buffer.specs.Extent.{Piece}

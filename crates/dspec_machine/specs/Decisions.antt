@@ -1,4 +1,4 @@
--- The two calls that decide a speculation, said as one.
+-- Serves proofs. The two calls that decide a speculation, said as one.
 use Rattle.std.specs.Prelude.{ℕ, Bool, List, Option}
 use Rattle.dspec_record.specs.declared.field.Shape.{Shape}
 use Rattle.dspec_word.specs.declared.act.Act.{Act}

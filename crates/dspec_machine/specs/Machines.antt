@@ -1,4 +1,4 @@
--- A machine shows its list of deeds.
+-- Cited by calls. A machine shows its list of deeds.
 use Rattle.std.specs.Prelude.{ℕ, ◌≡◌, ◌<◌, List, length, map, reverse, slice_get, Option, Some}
 use Rattle.dspec_buffer.specs.Extent.{Piece}
 use Rattle.dspec_deeds.specs.declared.calls.Answer.{Answer}

@@ -1,4 +1,4 @@
--- What a machine keeps of a CPU, and the words, show of the list of deeds.
+-- Cited by calls. What a machine keeps of a CPU, and the words, show of the list of deeds.
 use Rattle.std.specs.Prelude.{ℕ, ◌≡◌, ◌<◌, ◌-◌, ◌^◌, List, [], ◌∷◌, length, slice_get, Some}
 use Rattle.dspec_record.specs.Record.{Record}
 use Rattle.dspec_buffer.specs.Extent.{Piece, records}

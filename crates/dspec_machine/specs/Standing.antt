@@ -1,4 +1,4 @@
--- Where a call in flight stands: what each of its atomic steps takes for granted.
+-- Serves proofs. Where a call in flight stands: what each of its atomic steps takes for granted.
 use Rattle.std.specs.Prelude.{ℕ, ◌≡◌, ◌<◌, ◌≤◌, List, Option, Some}
 use Rattle.dspec_record.specs.declared.field.Shape.{Shape}
 use Rattle.dspec_buffer.specs.Extent.{Piece}

@@ -1,4 +1,4 @@
--- What each atomic step of a call in flight makes of a machine: the play's step, by what the machine shows.
+-- Serves proofs. What each atomic step of a call in flight makes of a machine: the play's step, by what the machine shows.
 use Rattle.std.specs.Prelude.{ℕ, ◌+◌, ◌-◌, ◌^◌, min, List, [], ◌∷◌, slice_set, Option, Some, None}
 use Rattle.dspec_record.specs.declared.field.Shape.{Shape}
 use Rattle.dspec_record.specs.Record.{Record}

@@ -1,4 +1,4 @@
--- What contracts see of a world: its schema, and what a play knows of it.
+-- Cited by calls. What contracts see of a world: its schema, and what a play knows of it.
 use Rattle.dspec_play.specs.Coherent.{PlayState}
 
 pub record WorldView (S : Type 0) : Type 0 where

@@ -1,4 +1,4 @@
--- What contracts see of a world, and what holds between two of its steps.
+-- Cited by calls. What contracts see of a world, and what holds between two of its steps.
 use Rattle.std.specs.Prelude.{ℕ, ◌≡◌, ◌<◌, ◌≤◌, ◌+◌, Bool, true, false, List, if◌then◌else◌, Option, Some}
 use Rattle.dspec_record.specs.declared.field.Shape.{Shape}
 use Rattle.dspec_record.specs.Record.{Record}

@@ -1,4 +1,4 @@
--- The bars of slots: a segment for each state of a slot's word.
+-- Cited by calls. The bars of slots: a segment for each state of a slot's word.
 use Prim.Native.Nat.{suc}
 use Rattle.std.specs.Prelude.{ℕ, ◌+◌, ◌-◌, ◌*◌, ◌==◌, nat_le, Bool, true, not, List, [], ◌∷◌, ◌++◌, take, length, reverse, map, if◌then◌else◌, Option, Some, None}
 use Rattle.std.specs.List.{flat_map}

@@ -1,4 +1,4 @@
--- The picture of a list of deeds.
+-- Cited by calls. The picture of a list of deeds.
 use Rattle.std.specs.Prelude.{ℕ, ◌+◌, ◌-◌, ◌*◌, ◌/◌, Bool, List, [], ◌∷◌, ◌++◌, length, map, if◌then◌else◌, slice_index_or}
 use Rattle.std.specs.List.{flat_map}
 use Rattle.dspec_record.specs.declared.header.Header.{Header}

@@ -1,4 +1,4 @@
--- Where things stand in a picture: columns, rows, bars of slots, bands of CPUs. All lengths are in units of the picture.
+-- Cited by calls. Where things stand in a picture: columns, rows, bars of slots, bands of CPUs. All lengths are in units of the picture.
 use Prim.Native.Nat.{zero, suc}
 use Rattle.std.specs.Prelude.{ℕ, ◌+◌, ◌-◌, ◌*◌, ◌/◌, ◌%◌, ◌==◌, Bool, false, ◌&&◌, ◌||◌, List, [], ◌∷◌, length, if◌then◌else◌, max, min}
 use Rattle.dspec_deeds.specs.declared.deed.Deed.{Deed}

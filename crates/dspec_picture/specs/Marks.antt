@@ -1,4 +1,4 @@
--- What the deeds of one CPU show in its band, each in its column.
+-- Cited by calls. What the deeds of one CPU show in its band, each in its column.
 use Rattle.std.specs.Prelude.{ℕ, ◌≡◌, ◌<◌, ◌+◌, ◌-◌, ◌*◌, ◌/◌, ◌^◌, ◌==◌, nat_le, Bool, true, false, List, [], ◌∷◌, ◌++◌, length, reverse, slice_index_or, if◌then◌else◌, Option, Some, None}
 use Rattle.dspec_record.specs.Record.{Record}
 use Rattle.dspec_word.specs.SpecId.{Speculation}

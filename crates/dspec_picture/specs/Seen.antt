@@ -1,4 +1,4 @@
--- What is kept of a speculation's verdict and of its callers: as much as its word tells.
+-- Serves proofs. What is kept of a speculation's verdict and of its callers: as much as its word tells.
 use Rattle.std.specs.Prelude.{ℕ, ◌==◌, List, [], ◌∷◌, if◌then◌else◌}
 use Rattle.dspec_word.specs.declared.code.Code.{Code}
 use Rattle.dspec_word.specs.declared.code.Code.TheVariants.{Active, ActiveOne, ActiveMany, Committing, CommittingMany}

@@ -1,4 +1,4 @@
--- What is read off a band's marks, for the laws that say what a picture shows.
+-- Cited by calls. What is read off a band's marks, for the laws that say what a picture shows.
 use Rattle.std.specs.Prelude.{Bool, ◌||◌, not, is_none, List, [], ◌∷◌, if◌then◌else◌, Option, Some}
 use Rattle.dspec_record.specs.Record.{Record}
 use Rattle.dspec_word.specs.Word.{SlotState}

@@ -16,7 +16,7 @@ use Rattle.dspec_play.specs.declared.flight.Spare.TheVariants as spare
 use Rattle.dspec_deeds.specs.Ranges.{start_fault}
 use Rattle.dspec_deeds.specs.History.{author, same_actor, owed, owing, scan, in_range, opened, is_undecided, verdict, is_open, releaser}
 use Rattle.dspec_deeds.specs.Own.{seals, seals_now}
-use Rattle.dspec_deeds.specs.Legal.{IsSound, IsAllowed, OwnAllows, MayCome, Pays}
+use Rattle.dspec_deeds.specs.Legal.{IsSound, IsAllowed, OwnAllows, MayComeBy, Pays, facts}
 use Rattle.dspec_play.specs.Play.{Moved, call_goes_on, ends, wears}
 use Rattle.dspec_play.specs.Coherent.{IsSlot, StandsCpu, SpareCounts, PushesNext, ProgressStands}
 use Rattle.dspec_deeds.proofs.TestLemmas.{either_way, off, and_tells, cpu_is_itself}
@@ -24,6 +24,10 @@ use Rattle.dspec_deeds.proofs.SoundLists.{opened_in_range}
 use Rattle.dspec_deeds.proofs.SetUp.{set_up}
 use Rattle.dspec_deeds.proofs.Going.{GoesOn}
 use Rattle.dspec_play.proofs.StepsAlone.{KeepsSoloRule, DecidesBeside, beside_rests, none_rules, one_rules}
+
+-- the deed may be next behind this list
+abbrev pub MayCome : Config → List Deed → Deed → Type 0
+MayCome k h d = MayComeBy k (facts k h) d
 
 -- a play at a CPU whose step isn't the push of a sealed batch
 pub record IsUnderWay (shape : ℕ → Option Shape) (k : Config) (c : ℕ) (h : List Deed) (me : CpuProgress) : Type 0 where

@@ -1,4 +1,4 @@
--- What holds between two steps of a play: the list is legal, and each call in flight stands where its deeds, and what it
+-- Cited by calls. What holds between two steps of a play: the list is legal, and each call in flight stands where its deeds, and what it
 -- was shown, have brought it.
 use Rattle.std.specs.Prelude.{ℕ, ◌≡◌, ◌⊎◌, ◌+◌, ◌*◌, ◌-◌, ◌<◌, ◌≤◌, true, false, List, length, slice_index_or, Option, Some, None}
 use Rattle.dspec_record.specs.declared.field.Shape.{Shape}

@@ -1,4 +1,4 @@
--- The settlements of the close, told of one CPU's own list and the words alone.
+-- Cited by calls. The settlements of the close, told of one CPU's own list and the words alone.
 use Rattle.std.specs.Prelude.{ℕ, zero, suc, ◌≡◌, ◌<◌, List, [], ◌∷◌, false, Option, if◌then◌else◌}
 use Rattle.dspec_record.specs.declared.field.Shape.{Shape}
 use Rattle.dspec_word.specs.SpecId.{Speculation}

@@ -1,4 +1,4 @@
--- A play: what each atomic step does, by the call in flight, what it was shown before, and the list of deeds so far.
+-- Cited by calls. A play: what each atomic step does, by the call in flight, what it was shown before, and the list of deeds so far.
 -- Every word, acknowledgement and activity that a step is shown is read off the list.
 use Rattle.std.specs.Prelude.{ℕ, ◌+◌, ◌-◌, ◌==◌, ◌^◌, nat_le, nat_lt, min, Bool, true, false, ◌&&◌, List, [], ◌∷◌, length, reverse, slice_index_or, slice_set, if◌then◌else◌, Option, Some, None}
 use Rattle.dspec_record.specs.declared.field.Shape.{Shape}

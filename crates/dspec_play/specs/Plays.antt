@@ -1,4 +1,4 @@
--- A whole play: its turns in order, the calls that are then still in flight run to their ends, and the close.
+-- Cited by calls. A whole play: its turns in order, the calls that are then still in flight run to their ends, and the close.
 use Prim.Native.Nat.{zero, suc}
 use Rattle.std.specs.Prelude.{ℕ, ◌≡◌, ◌+◌, ◌-◌, ◌^◌, ◌==◌, min, Bool, true, false, ◌&&◌, List, [], ◌∷◌, ◌++◌, map, reverse, if◌then◌else◌, Option, Some, None}
 use Rattle.dspec_record.specs.declared.field.Shape.{Shape}

@@ -1,4 +1,4 @@
--- What is promised of every state of a play.
+-- Cited by calls. What is promised of every state of a play.
 use Rattle.std.specs.Prelude.{ℕ, Option}
 use Rattle.dspec_record.specs.declared.field.Shape.{Shape}
 use Rattle.dspec_play.specs.Coherent.{PlayState, IsCoherent}

@@ -1,4 +1,4 @@
--- What a call answers, read off the deeds that it entered, the latest first, and for the calls that move batches off what
+-- Serves proofs. What a call answers, read off the deeds that it entered, the latest first, and for the calls that move batches off what
 -- its last step found.
 use Rattle.std.specs.Prelude.{ℕ, ◌+◌, nat_lt, Bool, true, false, ◌||◌, List, [], ◌∷◌, if◌then◌else◌}
 use Rattle.dspec_deeds.specs.declared.calls.Answer.{Answer}

@@ -1,4 +1,4 @@
--- What one CPU decides alone is released by its own call, at once or in its next step, which is the call's last; and only
+-- Serves proofs. What one CPU decides alone is released by its own call, at once or in its next step, which is the call's last; and only
 -- steps of CPUs decide.
 use Rattle.std.specs.Prelude.{ℕ, ◌≡◌, ◌⊎◌, List, ◌∷◌, Some, None}
 use Rattle.dspec_word.specs.SpecId.{Speculation}

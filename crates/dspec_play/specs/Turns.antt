@@ -1,4 +1,4 @@
--- The beginnings and steps of calls: what each makes of a play's state, and which answers end.
+-- Cited by calls. The beginnings and steps of calls: what each makes of a play's state, and which answers end.
 use Prim.Native.Nat.{zero, suc}
 use Rattle.std.specs.Prelude.{ℕ, List, [], ◌∷◌, ◌++◌, slice_set, Option, Some, None}
 use Rattle.dspec_record.specs.declared.field.Shape.{Shape}

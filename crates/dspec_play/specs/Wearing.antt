@@ -1,4 +1,4 @@
--- Which calls are answered Worn: those of a CPU that has entered as many calls as it may make.
+-- Serves proofs. Which calls are answered Worn: those of a CPU that has entered as many calls as it may make.
 use Rattle.std.specs.Prelude.{ℕ, ◌≡◌, ◌+◌, nat_le, Bool, true, false, not, ◌&&◌, List, [], ◌∷◌, if◌then◌else◌, Option, Some, None}
 use Rattle.dspec_deeds.specs.declared.config.Config.{Config}
 use Rattle.dspec_deeds.specs.declared.calls.Actor.{Actor}

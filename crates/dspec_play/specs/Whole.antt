@@ -1,4 +1,4 @@
--- Whole calls: what a call enters and answers where no other call overlaps it, said of the list that it finds.
+-- Cited by calls. Whole calls: what a call enters and answers where no other call overlaps it, said of the list that it finds.
 use Prim.Native.Nat.{zero, suc}
 use Rattle.std.specs.Prelude.{ℕ, ◌≡◌, ◌<◌, ◌⊎◌, ◌+◌, ◌-◌, ◌==◌, ◌^◌, nat_lt, min, Bool, true, false, not, ◌&&◌, ◌||◌, is_none, List, [], ◌∷◌, slice_set, if◌then◌else◌, Option, Some, None}
 use Rattle.dspec_record.specs.declared.field.Shape.{Shape}

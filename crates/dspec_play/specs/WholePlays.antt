@@ -1,4 +1,4 @@
--- A schedule of whole calls: its turns, and what it answers.
+-- Serves proofs. A schedule of whole calls: its turns, and what it answers.
 use Rattle.std.specs.Prelude.{◌≡◌, ℕ, Bool, true, List, [], ◌∷◌, Option}
 use Rattle.dspec_record.specs.declared.field.Shape.{Shape}
 use Rattle.dspec_record.specs.Record.{Record}

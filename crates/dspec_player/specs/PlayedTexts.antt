@@ -1,4 +1,4 @@
--- What the play of a schedule is, and what is told of a text that says none, or whose play is refused.
+-- Cited by calls. What the play of a schedule is, and what is told of a text that says none, or whose play is refused.
 use Rattle.std.specs.Prelude.{◌≡◌, ℕ, ◌⊎◌, Bool, List, reverse, Option, Some, None, Ok, Err}
 use Rattle.dspec_record.specs.Record.{Record}
 use Rattle.dspec_record.specs.EnablingRows.{EnabledRows}

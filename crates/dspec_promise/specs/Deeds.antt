@@ -1,4 +1,4 @@
--- What each CPU did, as a list of deeds tells it.
+-- Believed. What each CPU did, as a list of deeds tells it.
 use Rattle.std.specs.Prelude.{ℕ, ◌==◌, List, [], ◌∷◌, ◌++◌, if◌then◌else◌}
 use Rattle.dspec_deeds.specs.declared.deed.Deed.{Deed}
 use Rattle.dspec_deeds.specs.declared.deed.Deed.TheVariants.{Trace, Speculate, Commit, Discard, Settle}

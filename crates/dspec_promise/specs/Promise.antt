@@ -1,4 +1,4 @@
--- What a session promises of the records that its calls were handed: this page, and what it names of Record, Speculation, Report and the fates in
+-- Believed. What a session promises of the records that its calls were handed: this page, and what it names of Record, Speculation, Report and the fates in
 -- the answers. Of every list but `seen` the latest is at the head. `specs/Deeds.antt` and `specs/SameFates.antt` tie it to the list of deeds.
 use Rattle.std.specs.Prelude.{ℕ, ◌≡◌, ◌<◌, ◌+◌, ◌==◌, Bool, true, false, ◌&&◌, ◌||◌, List, [], ◌∷◌, ◌++◌, length, map, reverse, if◌then◌else◌, Option, Some, None}
 use Rattle.std.specs.List.{AllByRecursion}

@@ -1,4 +1,4 @@
--- The page's fates are those of the list of deeds, record by record.
+-- Serves proofs. The page's fates are those of the list of deeds, record by record.
 use Rattle.std.specs.Prelude.{ℕ, ◌≡◌, suc, List, [], ◌∷◌, Option, Some, None}
 use Rattle.dspec_word.specs.SpecId.{Speculation}
 use Rattle.dspec_deeds.specs.declared.deed.Deed.{Deed}

@@ -1,4 +1,4 @@
--- A borrowed record as contracts see it.
+-- Cited by calls. A borrowed record as contracts see it.
 use Rattle.dspec_record.specs.Record.{Record}
 use Rattle.dspec_record.specs.declared.borrowed.BorrowedRec.{BorrowedRec}
 

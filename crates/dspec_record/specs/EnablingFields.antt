@@ -1,4 +1,4 @@
--- How an `Enabling` holds a list of fields.
+-- Cited by calls. How an `Enabling` holds a list of fields.
 use Rattle.std.specs.Prelude.{◌≡◌, ◌≤◌, ◌-◌, ◌++◌, ℕ, List, length, map, take, drop, replicate}
 use Rattle.dspec_record.specs.Layout.{limit, field_places, layout}
 use Rattle.dspec_record.specs.declared.field.Field.{Field}

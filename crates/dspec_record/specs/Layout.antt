@@ -1,4 +1,4 @@
--- Where the fields of a record stand: every field at the first multiple of its width behind the field
+-- Believed. Where the fields of a record stand: every field at the first multiple of its width behind the field
 -- before it, counted from the record's start.
 use Rattle.std.specs.Prelude.{ℕ, ◌+◌, ◌-◌, ◌*◌, ◌/◌, ◌^◌, Bool, true, false, List, [], ◌∷◌, if◌then◌else◌}
 use Rattle.std.specs.List.{list_any}

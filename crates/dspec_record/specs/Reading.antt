@@ -1,4 +1,4 @@
--- What reading a record at the front of some bytes answers, for any schema. A schema is seen here by three
+-- Cited by calls. What reading a record at the front of some bytes answers, for any schema. A schema is seen here by three
 -- functions: the shape of an EPID, which records it accepts, and the text of a record.
 use Rattle.std.specs.Prelude.{◌≡◌, ◌≢◌, ◌≤◌, ◌<◌, ◌%◌, ◌^◌, ◌⊎◌, All, ℕ, Bool, IsTrue, List, length, take, Option, Some, None, Result, Ok, Err}
 use Rattle.std.specs.Int.{w32, from_le_bytes}

@@ -1,4 +1,4 @@
--- A record as contracts see it.
+-- Believed. A record as contracts see it.
 use Rattle.std.specs.Prelude.{ℕ, List}
 
 -- an enabled probe identifier, a stamp, and the values of its fields, in their order

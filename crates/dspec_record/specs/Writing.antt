@@ -1,4 +1,4 @@
--- Writing a value with the zeros behind it: no gap between two fields needs a write of its own.
+-- Serves proofs. Writing a value with the zeros behind it: no gap between two fields needs a write of its own.
 use Rattle.std.specs.Prelude.{◌≡◌, ◌<◌, ◌≤◌, ◌++◌, ◌⊎◌, ℕ, List, length, take, drop, slice_index_or}
 use Rattle.dspec_record.specs.Layout.{rounded_up}
 use Rattle.dspec_record.specs.RecordText.{little_endian}

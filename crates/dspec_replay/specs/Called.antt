@@ -1,4 +1,4 @@
--- A call of a CPU of a session by its kind: why none is made, what one answered and did, and what else of the session moved.
+-- Serves proofs. A call of a CPU of a session by its kind: why none is made, what one answered and did, and what else of the session moved.
 use Rattle.std.specs.Prelude.{ℕ, ◌≡◌, Bool, nat_lt, List, Option, Some, None, if◌then◌else◌, slice_get, slice_set}
 use Rattle.dspec_record.specs.Record.{Record}
 use Rattle.dspec_deeds.specs.declared.calls.Answer.{Answer}

@@ -1,4 +1,4 @@
--- Schedules of whole calls on a session: which call a turn is, and why a turn or a whole schedule isn't played.
+-- Cited by calls. Schedules of whole calls on a session: which call a turn is, and why a turn or a whole schedule isn't played.
 use Rattle.std.specs.Prelude.{ℕ, ◌≡◌, ◌+◌, Bool, nat_lt, true, List, [], ◌∷◌, length, Option, Some, None, if◌then◌else◌}
 use Rattle.dspec_record.specs.Record.{Record}
 use Rattle.dspec_deeds.specs.declared.calls.Actor.{Actor}

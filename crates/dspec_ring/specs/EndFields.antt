@@ -1,4 +1,4 @@
--- How an end's two parts say what it knows.
+-- Serves proofs. How an end's two parts say what it knows.
 use Rattle.rtrb.specs.Ring.{sent, known_free, received, known_items}
 use Rattle.dspec_ring.specs.Known.{Ring, CpuKnows, ConsumerKnows}
 use Rattle.rtrb.specs.declared.producer.Producer.{Producer}

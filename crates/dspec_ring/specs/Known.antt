@@ -1,4 +1,4 @@
--- What each end of a pair of rings knows. Lists of batches are in order of time, the oldest first.
+-- Believed. What each end of a pair of rings knows. Lists of batches are in order of time, the oldest first.
 use Rattle.std.specs.Prelude.{ℕ, ◌≡◌, ◌+◌, List, []}
 use denote.RawPtr.{Ptr}
 use Rattle.dspec_ring.specs.declared.batch.Batch.{Batch}

@@ -1,4 +1,4 @@
--- What the words of a turn say: a call of an actor, or one step of it.
+-- Cited by calls. What the words of a turn say: a call of an actor, or one step of it.
 use Rattle.std.specs.Prelude.{ℕ, ◌/◌, ◌%◌, ◌==◌, nat_le, nat_lt, ◌&&◌, Bool, List, [], ◌∷◌, length, if◌then◌else◌, bytes_eq, codes, Result, Ok, Err}
 use Rattle.std.specs.List.{position_or_len, before_first, after_first}
 use Rattle.dspec_record.specs.Record.{Record}

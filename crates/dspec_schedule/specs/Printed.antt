@@ -1,4 +1,4 @@
--- What a play prints: a line for each ended call, then a report and a stream for each CPU.
+-- Cited by calls. What a play prints: a line for each ended call, then a report and a stream for each CPU.
 use Rattle.std.specs.Prelude.{ℕ, Bool, true, false, List, [], ◌∷◌, ◌++◌, take, drop, slice_index_or, codes, decimal}
 use Rattle.std.specs.List.{flat_map, join_by, enumerate_from, zip}
 use Rattle.dspec_deeds.specs.declared.calls.Actor.{Actor}

@@ -1,4 +1,4 @@
--- What the text of a schedule says, or which of its lines has the first fault.
+-- Cited by calls. What the text of a schedule says, or which of its lines has the first fault.
 use Rattle.std.specs.Prelude.{◌≡◌, ℕ, ◌+◌, ◌==◌, ◌&&◌, Bool, true, false, not, List, [], ◌∷◌, ◌++◌}
 use Rattle.std.specs.Prelude.{length, if◌then◌else◌, bytes_eq, codes, Option, Some, None, unwrap_or, is_none, IfSome, Result, Ok, Err}
 use Rattle.std.specs.List.{slice_split, list_all}

@@ -1,4 +1,4 @@
--- What a schedule in memory holds, and how the faults of reading it and of its play are told.
+-- Cited by calls. What a schedule in memory holds, and how the faults of reading it and of its play are told.
 use Rattle.std.specs.Prelude.{◌≡◌, ℕ, List, slice_index_or, Result, Err}
 use Rattle.dspec_play.specs.declared.outcome.PlayFault.{PlayFault}
 use Rattle.dspec_play.specs.declared.outcome.PlayFault.TheVariants.{Setup as setup, NoSuchActor as no_such_actor, Busy as busy, IdleStep as idle_step, BadRecord as bad_record, Memory as play_memory}

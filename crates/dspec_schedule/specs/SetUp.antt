@@ -1,4 +1,4 @@
--- What the lines before the first turn say: the configuration, the header, the policy, and the enablings.
+-- Cited by calls. What the lines before the first turn say: the configuration, the header, the policy, and the enablings.
 use Rattle.std.specs.Prelude.{ℕ, ◌==◌, nat_le, nat_lt, ◌&&◌, Bool, List, [], ◌∷◌, ◌++◌, length, if◌then◌else◌, Option, Some, None, Result, Ok, Err, is_ok, not, bytes_eq, codes}
 use Rattle.dspec_record.specs.EnablingRows.{EnabledRows}
 use Rattle.dspec_record.specs.declared.field.Field.{Field}

@@ -1,4 +1,4 @@
--- How the bytes of a schedule's line are read as words and numbers.
+-- Cited by calls. How the bytes of a schedule's line are read as words and numbers.
 use Rattle.std.specs.Prelude.{ℕ, ◌==◌, ◌^◌, not, ◌&&◌, nat_le, nat_lt, Bool, false, List, [], ◌∷◌, length, filter, slice_index, if◌then◌else◌, Result, Ok, Err}
 use Rattle.std.specs.List.{slice_split}
 use Rattle.std.specs.Str.{all_ascii_digits}

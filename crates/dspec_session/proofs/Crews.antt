@@ -14,7 +14,7 @@ use Rattle.dspec_session.specs.declared.demonstration.four.Four.{Four}
 use Rattle.dspec_session.specs.Crews.{AllCanWork, AllWorked}
 use Rattle.dspec_consumer.specs.Sessions.{Has, IsCpuOf}
 use Rattle.dspec_session.specs.Demonstrated.{CanWork, CpuRounds, demonstrated, IsBack, Worked}
-use Rattle.dspec_session.specs.Races.{HaveMade, HaveOffered, HaveRoom, IsDemonstrated, IsAtPlace, all_finished}
+use Rattle.dspec_session.specs.Races.{HaveMade, HaveOffered, HaveRoom, IsDemonstrated, all_finished}
 use Rattle.dspec_session.proofs.Fours.{at_each}
 
 listed : Four (Cpu EnabledRows) → List (Cpu EnabledRows)
@@ -32,6 +32,10 @@ all_can_work session f is room e = record {
   third = can_work session is room 2 f.third (ap (λ l. slice_get l 2) e);
   fourth = can_work session is room 3 f.fourth (ap (λ l. slice_get l 3) e);
 }
+
+-- the CPU has its place in the session of those who share this
+abbrev pub IsAtPlace : Shared → Option Pair → ℕ → Cpu EnabledRows → Type 0
+IsAtPlace shared there c cpu = IsCpuOf demonstrated (words_of shared) c there (identity cpu)
 
 -- a CPU that is back has its place
 cpu_back : (shared : Shared) (c : ℕ) (was is : Option Pair) (x y : Cpu EnabledRows) → is ≡ was → IsBack x y → IsAtPlace shared was c x → IsAtPlace shared is c y

@@ -1,4 +1,4 @@
--- What four workers are given, and give back.
+-- Serves proofs. What four workers are given, and give back.
 use Rattle.std.specs.Prelude.{Bool}
 use Rattle.dspec_record.specs.EnablingRows.{EnabledRows}
 use Rattle.dspec_cpu.specs.declared.cpu.Cpu.{Cpu}

@@ -1,4 +1,4 @@
--- What the demonstration traces, and what its calls leave of a CPU.
+-- Cited by calls. What the demonstration traces, and what its calls leave of a CPU.
 use Rattle.std.specs.Prelude.{ℕ, ◌≡◌, ◌≤◌, ◌+◌, ◌%◌, ◌==◌, Bool, true, List, [], ◌∷◌, ◌++◌, if◌then◌else◌}
 use Rattle.dspec_record.specs.Record.{Record}
 use Rattle.dspec_record.specs.EnablingRows.{EnabledRows}

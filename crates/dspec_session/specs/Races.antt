@@ -1,15 +1,12 @@
--- What the four threads leave of a session.
-use Rattle.std.specs.Prelude.{ℕ, ◌≡◌, ◌≤◌, ◌+◌, Bool, true, ◌&&◌, List, slice_get, Option, Some}
+-- Cited by calls. What the four threads leave of a session.
+use Rattle.std.specs.Prelude.{ℕ, ◌≡◌, ◌≤◌, ◌+◌, Bool, true, ◌&&◌, List, slice_get, Some}
 use Rattle.dspec_record.specs.EnablingRows.{EnabledRows}
 use Rattle.dspec_deeds.specs.declared.deed.Deed.{Deed}
 use Rattle.dspec_deeds.specs.Own.{offers}
 use Rattle.dspec_cpu.specs.declared.cpu.Cpu.{Cpu}
-use Rattle.dspec_cpu.specs.Lists.{calls_of, config_of, words_of}
-use Rattle.dspec_cpu.specs.Standing.{identity}
+use Rattle.dspec_cpu.specs.Lists.{calls_of, config_of}
 use Rattle.dspec_consumer.specs.declared.session.Session.{Session}
-use Rattle.dspec_consumer.specs.Sessions.{Has, IsCpuOf, IsFresh, IsSession}
-use Rattle.dspec_cpu.specs.declared.shared.Shared.{Shared}
-use Rattle.dspec_ring.specs.Known.{Pair}
+use Rattle.dspec_consumer.specs.Sessions.{Has, IsFresh, IsSession}
 use Rattle.dspec_consumer.specs.declared.left.Left.{Left}
 use Rattle.dspec_deeds.specs.Reports.{records_of_report}
 use Rattle.dspec_session.specs.declared.demonstration.four.Four.{Four}
@@ -35,10 +32,6 @@ HaveMade olds news = (c : ℕ) (new : Cpu EnabledRows) → slice_get news c ≡ 
 -- each CPU can make all calls of the demonstration
 abbrev pub HaveRoom : List (Cpu EnabledRows) → Type 0
 HaveRoom cpus = (c : ℕ) (cpu : Cpu EnabledRows) → slice_get cpus c ≡ Some cpu → calls_of cpu + 400 ≤ (config_of cpu).max_calls
-
--- the CPU has its place in the session of those who share this
-abbrev pub IsAtPlace : Shared → Option Pair → ℕ → Cpu EnabledRows → Type 0
-IsAtPlace shared there c cpu = IsCpuOf demonstrated (words_of shared) c there (identity cpu)
 
 -- every worker finished
 abbrev pub all_finished : Four (Cpu EnabledRows × Bool) → Bool

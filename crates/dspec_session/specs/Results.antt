@@ -1,4 +1,4 @@
--- What a run of the demonstration leaves, and tells.
+-- Cited by calls. What a run of the demonstration leaves, and tells.
 use Rattle.std.specs.Prelude.{ℕ, zero, suc, ◌≡◌, true, List, length, slice_get, Some}
 use Rattle.dspec_record.specs.EnablingRows.{EnabledRows}
 use Rattle.dspec_record.specs.Schemas.{enabled, table_shape, table_accepts, table_text}

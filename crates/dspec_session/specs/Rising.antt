@@ -1,4 +1,4 @@
--- Whether the values of EPID 1 rise strictly, followed from record to record.
+-- Cited by calls. Whether the values of EPID 1 rise strictly, followed from record to record.
 use Rattle.std.specs.Prelude.{ℕ, ◌≡◌, ◌⊎◌, ◌==◌, Bool, true, false, ◌&&◌, nat_lt, List, [], ◌∷◌, Option, Some, None, if◌then◌else◌}
 use Rattle.dspec_record.specs.Record.{Record}
 use Rattle.dspec_record.specs.declared.field.Shape.{Shape}

@@ -1,4 +1,4 @@
--- What the demonstration's consumer does in its rounds, and what it follows of the batches.
+-- Cited by calls. What the demonstration's consumer does in its rounds, and what it follows of the batches.
 use Rattle.std.specs.Prelude.{ℕ, ◌≡◌, ◌<◌, ◌+◌, ◌⊎◌, true, None}
 use Rattle.dspec_record.specs.EnablingRows.{EnabledRows}
 use Rattle.dspec_record.specs.Schemas.{enabled, table_shape, table_accepts, table_text}

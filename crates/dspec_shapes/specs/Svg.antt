@@ -1,4 +1,4 @@
--- The text of a picture, in SVG. What varies in it are numbers and words of its own, so nothing has to be escaped.
+-- Cited by calls. The text of a picture, in SVG. What varies in it are numbers and words of its own, so nothing has to be escaped.
 use Rattle.std.specs.Prelude.{ℕ, nat_le, nat_lt, Bool, true, false, ◌&&◌, ◌||◌, List, [], ◌∷◌, ◌++◌, length, if◌then◌else◌, codes, decimal, Option, Some, None}
 use Rattle.std.specs.List.{flat_map}
 use Rattle.dspec_record.specs.Record.{Record}

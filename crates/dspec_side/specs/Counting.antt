@@ -1,4 +1,4 @@
--- The counts that a CPU keeps, read off its own list. The records held are what is left of those offered.
+-- Cited by calls. The counts that a CPU keeps, read off its own list. The records held are what is left of those offered.
 use Rattle.std.specs.Prelude.{ℕ, ◌+◌, ◌^◌, ◌<◌, Bool, true, false, not, ◌&&◌, nat_lt, List, if◌then◌else◌}
 use Rattle.dspec_deeds.specs.declared.config.Config.{Config}
 use Rattle.dspec_deeds.specs.declared.deed.TraceFate.{TraceFate}

@@ -1,4 +1,4 @@
--- Marks as contracts see them, and where `Marks` holds them.
+-- Serves proofs. Marks as contracts see them, and where `Marks` holds them.
 use Rattle.std.specs.Prelude.{◌≡◌, ◌≤◌, ◌<◌, ℕ, List, length, take, drop, get_or}
 use Rattle.dspec_side.specs.declared.marks.Marks.TheInside.{Inside}
 

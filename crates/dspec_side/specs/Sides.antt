@@ -1,4 +1,4 @@
--- What a CPU's side shows of a list of that CPU's own deeds.
+-- Cited by calls. What a CPU's side shows of a list of that CPU's own deeds.
 use Rattle.std.specs.Prelude.{ℕ, ◌≡◌, ◌+◌, ◌==◌, Bool, false, List, [], if◌then◌else◌}
 use Rattle.dspec_buffer.specs.Extent.{Piece}
 use Rattle.dspec_word.specs.declared.code.Code.{Code}

@@ -22,8 +22,8 @@ use Rattle.dspec_table.specs.declared.rule.View.{View}
 use Rattle.dspec_play.proofs.StepsWords.{word_is_itself}
 use Rattle.dspec_table.specs.Acts.{at_stop}
 use Rattle.dspec_table.specs.Steps.{Found, Entered, LookedWord}
-use Rattle.dspec_steps.specs.SameSteps.{slot_there, seat_cleans, ConsumerSeatStep, IsBehind, IsStepOfPlay}
-use Rattle.dspec_steps.proofs.SeatsDid.{bare_joined, did}
+use Rattle.dspec_steps.specs.SameSteps.{slot_there, seat_cleans, ConsumerSeatStep, IsStepOfPlay}
+use Rattle.dspec_steps.proofs.SeatsDid.{IsBehind, bare_joined, did}
 
 module _ (k : Config) (h : List Deed) (side : ConsumerProgress) (all : List CpuProgress) where
   next_deeds : (s : ℕ) (ds : List Deed) (n : ℕ) → (next_slot k h side all s ds n).deeds ≡ ds

@@ -27,8 +27,13 @@ use Rattle.dspec_deeds.specs.declared.deed.Deed.TheVariants.{Settle}
 use Rattle.dspec_table.specs.Holders.{number_of}
 use Rattle.dspec_table.specs.Flights.{calling}
 use Rattle.dspec_table.specs.Steps.{Found, Entered, LoadedWord, OpenedWord, TriedWord}
-use Rattle.dspec_steps.specs.SameSteps.{IsSameCall, slot_of, seat_deeds, IsMine, SeatStep, Exchanges, IsBehind, IsStepOfPlay}
+use Rattle.dspec_steps.specs.SameSteps.{IsSameCall, slot_of, seat_deeds, IsMine, SeatStep, Exchanges, IsStepOfPlay}
 use Rattle.dspec_steps.proofs.SameDeeds.{same_deeds}
+
+-- the deeds ds behind the seat's own list p, and behind the list that the step found
+pub record IsBehind (ds p log : List Deed) (w : View) : Type 0 where
+  pub own : w.own ≡ ds ++ p
+  pub seen : w.seen ≡ ds ++ log
 
 -- Seals are left out of each part alone
 pub bare_joined : (ds h : List Deed) → bare (ds ++ h) ≡ bare ds ++ bare h

@@ -1,4 +1,4 @@
--- What holds between any two steps at the shared words: there is one list of deeds.
+-- Serves proofs. What holds between any two steps at the shared words: there is one list of deeds.
 use Rattle.std.specs.Prelude.{ℕ, ◌≡◌, List}
 use mathlib.Core.Option.{some}
 use lib.ListN.{get_elem?}

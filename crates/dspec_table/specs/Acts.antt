@@ -1,4 +1,4 @@
--- The deeds that a step enters, by the call in flight and by what the step showed; the latest first.
+-- Cited by calls. The deeds that a step enters, by the call in flight and by what the step showed; the latest first.
 use Rattle.std.specs.Prelude.{ℕ, Bool, true, false, List, [], ◌∷◌, if◌then◌else◌}
 use Rattle.dspec_word.specs.SpecId.{Speculation}
 use Rattle.dspec_word.specs.Word.{SlotState}

@@ -1,4 +1,4 @@
--- What the steps on the asks do.
+-- Cited by calls. What the steps on the asks do.
 use Rattle.std.specs.Prelude.{ℕ, zero, suc, ◌≡◌, ◌≤◌, List, [], ◌∷◌, slice_index}
 use Rattle.dspec_deeds.specs.declared.deed.Deed.{Deed}
 use Rattle.dspec_table.specs.declared.rule.View.{View}

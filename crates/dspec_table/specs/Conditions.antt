@@ -1,4 +1,4 @@
--- What a call asks of its seat, by the seat's own list and by what it was shown.
+-- Serves proofs. What a call asks of its seat, by the seat's own list and by what it was shown.
 use Rattle.std.specs.Prelude.{ℕ, ◌≡◌, ◌<◌, ◌≤◌, ◌+◌, true, false, Some, IsTrue}
 use Rattle.dspec_word.specs.SpecId.{Speculation}
 use Rattle.dspec_word.specs.Word.{SlotState}

@@ -1,4 +1,4 @@
--- Which call of a seat is in flight: a load of activity showed it that the session runs, and it hasn't ended.
+-- Cited by calls. Which call of a seat is in flight: a load of activity showed it that the session runs, and it hasn't ended.
 use Rattle.std.specs.Prelude.{◌≡◌, ◌==◌, true, List, [], ◌∷◌, Option, Some, None, if◌then◌else◌}
 use Rattle.dspec_deeds.specs.declared.config.Config.{Config}
 use Rattle.dspec_deeds.specs.declared.calls.CpuOp.{CpuOp}

@@ -1,4 +1,4 @@
--- Whose a seat is: a CPU's, the consumer's, or nobody's, as a note is.
+-- Cited by calls. Whose a seat is: a CPU's, the consumer's, or nobody's, as a note is.
 use Rattle.std.specs.Prelude.{ℕ, Bool, false, List, [], Option, Some, None}
 use Rattle.dspec_deeds.specs.declared.calls.Actor.{Actor}
 use Rattle.dspec_deeds.specs.declared.calls.Actor.TheVariants.{Cpu, Consumer}

@@ -1,4 +1,4 @@
--- Where the words of a session lie. A line of the cache is 64 bytes, eight words.
+-- Cited by calls. Where the words of a session lie. A line of the cache is 64 bytes, eight words.
 use Rattle.std.specs.Prelude.{ℕ, ◌≤◌, ◌+◌, ◌*◌, ◌/◌, ◌-◌}
 use Rattle.dspec_deeds.specs.declared.config.Config.{Config}
 

@@ -1,4 +1,4 @@
--- What a meeting of a CPU and the consumer leaves.
+-- Cited by calls. What a meeting of a CPU and the consumer leaves.
 use Rattle.std.specs.Prelude.{◌≡◌, List, []}
 use Rattle.dspec_deeds.specs.declared.deed.Deed.{Deed}
 use Rattle.dspec_deeds.specs.History.{owed}

@@ -1,4 +1,4 @@
--- Seats that are cut off and joined: the seats of the CPUs, and notes.
+-- Cited by calls. Seats that are cut off and joined: the seats of the CPUs, and notes.
 use Rattle.std.specs.Prelude.{ℕ, List, [], ◌∷◌, ◌++◌, max, None}
 use Rattle.dspec_deeds.specs.declared.config.Config.{Config}
 use Rattle.dspec_deeds.specs.declared.config.Policy.TheVariants.{Switch}

@@ -1,4 +1,4 @@
--- Whose each deed of the list is.
+-- Serves proofs. Whose each deed of the list is.
 use Rattle.std.specs.Prelude.{ℕ, ◌≡◌, List, ◌∷◌, ◌++◌}
 use mathlib.Core.Option.{some}
 use lib.ListN.{get_elem?}

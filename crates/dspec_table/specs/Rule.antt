@@ -1,4 +1,4 @@
--- The rule of the words: one list of deeds, which the words show, and of which each seat knows its own part.
+-- Serves proofs. The rule of the words: one list of deeds, which the words show, and of which each seat knows its own part.
 use Rattle.std.specs.Prelude.{ℕ, zero, suc, ◌≡◌, ◌⊎◌, ◌<◌, ◌≤◌, ◌+◌, List, [], ◌∷◌, slice_index, if◌then◌else◌, None}
 use mathlib.Core.Option.{some}
 use lib.ListN.{get_elem?}

@@ -1,4 +1,4 @@
--- Seats at the words.
+-- Believed. Seats at the words.
 use Rattle.std.specs.Prelude.{ℕ, ◌≡◌, ◌-◌, List, [], slice_get, Some, None}
 use Rattle.atomic_table.specs.Seated.{TableId}
 use Rattle.dspec_deeds.specs.declared.config.Config.{Config}

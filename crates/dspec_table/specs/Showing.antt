@@ -1,4 +1,4 @@
--- Which words show a list of deeds.
+-- Cited by calls. Which words show a list of deeds.
 use Rattle.std.specs.Prelude.{ℕ, ◌≡◌, ◌<◌, ◌≤◌, ◌^◌, ◌%◌, List, length, slice_index, if◌then◌else◌}
 use Rattle.dspec_word.specs.Word.{word_number}
 use Rattle.dspec_deeds.specs.declared.config.Config.{Config}

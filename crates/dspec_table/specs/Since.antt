@@ -1,4 +1,4 @@
--- A list of deeds that goes on from another.
+-- Cited by calls. A list of deeds that goes on from another.
 use Rattle.std.specs.Prelude.{◌≡◌, false, List, ◌∷◌}
 use Rattle.dspec_deeds.specs.declared.deed.Deed.{Deed}
 use Rattle.dspec_table.specs.Holders.{Holder, same_holder, doer}

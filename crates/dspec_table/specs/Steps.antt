@@ -1,4 +1,4 @@
--- What a step does to its seat's view: by what it showed, and the deeds that it entered.
+-- Cited by calls. What a step does to its seat's view: by what it showed, and the deeds that it entered.
 use Rattle.std.specs.Prelude.{ℕ, ◌≡◌, ◌⊎◌, ◌<◌, ◌≤◌, ◌+◌, Bool, true, false, List, [], ◌∷◌, ◌++◌, if◌then◌else◌, Result, MatchResult, IfOk, IfErr}
 use Rattle.dspec_word.specs.SpecId.{Speculation}
 use Rattle.dspec_word.specs.Word.{SlotState, word_number, CanBeReleased}

@@ -1,4 +1,4 @@
--- What a CPU's own list tells before a call on the first slot.
+-- Cited by calls. What a CPU's own list tells before a call on the first slot.
 use Rattle.std.specs.Prelude.{ℕ, ◌≡◌, List, []}
 use Rattle.dspec_word.specs.SpecId.{Speculation}
 use Rattle.dspec_deeds.specs.declared.config.Config.{Config}

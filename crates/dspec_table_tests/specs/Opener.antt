@@ -1,4 +1,4 @@
--- One call of speculation on the first slot, by a CPU that had done nothing.
+-- Serves proofs. One call of speculation on the first slot, by a CPU that had done nothing.
 use Rattle.std.specs.Prelude.{ℕ, ◌≡◌, ◌⊎◌, Bool, true, false, List, [], ◌∷◌}
 use Rattle.dspec_word.specs.SpecId.{Speculation}
 use Rattle.dspec_word.specs.Word.{SlotState}

@@ -1,4 +1,4 @@
--- Which word an exchange attempts, by the tables of dspec_word and by the CPU's mark.
+-- Cited by calls. Which word an exchange attempts, by the tables of dspec_word and by the CPU's mark.
 use Rattle.std.specs.Prelude.{ℕ, ◌+◌, ◌==◌, Bool, List}
 use Rattle.dspec_word.specs.declared.act.Act.{Act}
 use Rattle.dspec_word.specs.declared.act.Act.TheVariants.{Attempt}

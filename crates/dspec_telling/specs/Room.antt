@@ -1,4 +1,4 @@
--- The room that a step finds, before it is made: the CPU's principal buffer, and what it holds of the speculation that the step is about.
+-- Cited by calls. The room that a step finds, before it is made: the CPU's principal buffer, and what it holds of the speculation that the step is about.
 use Rattle.std.specs.Prelude.{ℕ, false, List, if◌then◌else◌, Option, Some, None}
 use Rattle.dspec_record.specs.declared.field.Shape.{Shape}
 use Rattle.dspec_buffer.specs.Extent.{extent, extent_of_records}

@@ -1,4 +1,4 @@
--- The steps of a play, a line each.
+-- Cited by calls. The steps of a play, a line each.
 use Prim.Native.Nat.{zero, suc}
 use Rattle.std.specs.Prelude.{ℕ, ◌+◌, ◌==◌, List, [], ◌∷◌, ◌++◌, length, drop, reverse, if◌then◌else◌, codes, decimal, Option}
 use Rattle.std.specs.List.{flat_map}

@@ -1,4 +1,4 @@
--- What has to hold so that the next step of a call in flight can be told.
+-- Serves proofs. What has to hold so that the next step of a call in flight can be told.
 use Rattle.std.specs.Prelude.{ℕ, ◌≡◌, ◌<◌, ◌≤◌, true, List}
 use Rattle.dspec_buffer.specs.Extent.{Piece}
 use Rattle.dspec_word.specs.Word.{CanBeReleased}

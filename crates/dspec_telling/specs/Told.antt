@@ -1,4 +1,4 @@
--- What an atomic step of a call in flight does, in words: by the call, and by the list of deeds before it, the latest first.
+-- Cited by calls. What an atomic step of a call in flight does, in words: by the call, and by the list of deeds before it, the latest first.
 use Rattle.std.specs.Prelude.{ℕ, nat_lt, Bool, true, false, List, [], ◌++◌, if◌then◌else◌, codes, decimal, Option, Some, None}
 use Rattle.dspec_word.specs.declared.act.Act.{Act}
 use Rattle.dspec_word.specs.SpecId.{Speculation, id_number}

@@ -1,4 +1,4 @@
--- The words in which a step is told: words of slots, deeds, actors.
+-- Cited by calls. The words in which a step is told: words of slots, deeds, actors.
 use Rattle.std.specs.Prelude.{ℕ, ◌-◌, Bool, ◌==◌, List, [], ◌++◌, if◌then◌else◌, codes, decimal, Option}
 use Rattle.dspec_record.specs.Record.{Record}
 use Rattle.dspec_record.specs.declared.field.Shape.{Shape}

@@ -1,4 +1,4 @@
--- Why a place takes no bytes, and why no place is made.
+-- Cited by calls. Why a place takes no bytes, and why no place is made.
 use Rattle.dspec_trace.specs.declared.fault.FolderFault.{FolderFault}
 use Rattle.dspec_trace.specs.declared.fault.FolderFault.TheVariants.{Cpu, Cut, Memory, Metadata, NotEmpty, Packet, Read, Write}
 
@@ -12,17 +12,6 @@ IsWriteFault (Metadata fault) = ⊥
 IsWriteFault (Packet cpu fault) = ⊥
 IsWriteFault (Cpu cpu) = ⊥
 IsWriteFault Read = ⊥
-
--- what is answered where a folder can't be looked into
-abbrev pub IsLookFault : FolderFault → Type 0
-IsLookFault Read = Unit {0}
-IsLookFault Memory = Unit {0}
-IsLookFault NotEmpty = ⊥
-IsLookFault (Metadata fault) = ⊥
-IsLookFault (Packet cpu fault) = ⊥
-IsLookFault (Cpu cpu) = ⊥
-IsLookFault Write = ⊥
-IsLookFault Cut = ⊥
 
 -- what is answered where a folder isn't taken for a trace: it has files in it, can't be looked into or can't be made
 abbrev pub IsFolderFault : FolderFault → Type 0

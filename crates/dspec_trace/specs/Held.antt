@@ -1,4 +1,4 @@
--- Files that are held open while they are written.
+-- Cited by calls. Files that are held open while they are written.
 use Rattle.std.specs.Prelude.{ℕ, ℤ, ◌≡◌, Bool, true, false, List, Option, Some, None, ⊤, length, slice_get, take, codes, ◌++◌}
 use Rattle.std.specs.Fmt.{signed_decimal}
 use Rattle.std.specs.Io.KnownBytes.{Keeps}

@@ -1,4 +1,4 @@
--- What a place that takes files was asked for.
+-- Cited by calls. What a place that takes files was asked for.
 use Rattle.std.specs.Prelude.{ℕ, ◌≡◌, List, [], ◌∷◌, ◌++◌, Option, Some, None}
 use Rattle.dspec_trace.specs.Faults.{IsWriteFault}
 use Rattle.dspec_trace.specs.declared.fault.FolderFault.{FolderFault}

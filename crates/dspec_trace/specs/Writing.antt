@@ -1,4 +1,4 @@
--- What is written into a trace folder.
+-- Cited by calls. What is written into a trace folder.
 use Rattle.std.specs.Prelude.{ℕ, ◌≡◌, ◌+◌, List, [], ◌++◌, ◌⊎◌, Option, Some, None, codes, decimal, replicate, slice_get, slice_set}
 use Rattle.dspec_record.specs.EnablingRows.{EnabledRows}
 use Rattle.dspec_ring.specs.declared.batch.Batch.{Batch}

@@ -1,4 +1,4 @@
--- The codes as numbers, and the sets of codes that rules speak of.
+-- Cited by calls. The codes as numbers, and the sets of codes that rules speak of.
 use Rattle.std.specs.Prelude.{ℕ, zero, suc, Bool, true, false}
 use Rattle.dspec_word.specs.declared.code.Code.{Code}
 use Rattle.dspec_word.specs.declared.code.Code.TheVariants.{Inactive, Active, ActiveOne, ActiveMany, Committing, CommittingMany, Discarding}

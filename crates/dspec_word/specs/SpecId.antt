@@ -1,4 +1,4 @@
--- What an identifier names, and its number.
+-- Believed. What an identifier names, and its number.
 use Rattle.std.specs.Prelude.{ℕ, ◌+◌, ◌*◌}
 
 -- a slot, and how often it was released before

@@ -1,4 +1,4 @@
--- What each call does at the word that it was shown: one line a case.
+-- Cited by calls. What each call does at the word that it was shown: one line a case.
 use Rattle.std.specs.Prelude.{ℕ, ◌==◌, nat_lt, nat_le, Bool, true, false, ◌&&◌, if◌then◌else◌}
 use Rattle.dspec_word.specs.declared.act.Act.{Act}
 use Rattle.dspec_word.specs.declared.act.Act.TheVariants.{Void, Granted, Attempt, Idle}

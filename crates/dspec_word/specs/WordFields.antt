@@ -1,4 +1,4 @@
--- How a `Word` holds a slot's state: as its number.
+-- Serves proofs. How a `Word` holds a slot's state: as its number.
 use Rattle.std.specs.Prelude.{◌≤◌, ◌<◌, ◌/◌, ◌%◌, ◌^◌}
 use Rattle.dspec_word.specs.Code.{code_of}
 use Rattle.dspec_word.specs.Word.{SlotState, word_number}

@@ -1,4 +1,4 @@
--- How what the player and a session told of a schedule compares.
+-- Cited by calls. How what the player and a session told of a schedule compares.
 use Rattle.std.specs.Prelude.{◌≡◌, string_bytes}
 use Rattle.fuzz.specs.declared.comparing.Told.{Told}
 use Rattle.fuzz.specs.declared.comparing.Told.TheVariants.{Printed, Refused, CantGoOn}

@@ -1,4 +1,4 @@
--- What the demonstration prints: a line for each CPU.
+-- Cited by calls. What the demonstration prints: a line for each CPU.
 use Rattle.std.specs.Prelude.{ℕ, ◌≡◌, List, ◌++◌, length, Option, codes, decimal}
 use Rattle.std.specs.List.{flat_map}
 use Rattle.std.specs.Io.KnownBytes.{Appends}

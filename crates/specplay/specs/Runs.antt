@@ -1,4 +1,4 @@
--- What a run's faults say.
+-- Cited by calls. What a run's faults say.
 use Rattle.std.specs.Prelude.{ℕ}
 use Rattle.dspec_schedule.specs.declared.fault.ScheduleFault.{ScheduleFault}
 use Rattle.dspec_schedule.specs.declared.fault.ScheduleFault.TheVariants as schedule

@@ -1,4 +1,4 @@
--- What the play of a schedule is, and what a run prints or tells of a text.
+-- Cited by calls. What the play of a schedule is, and what a run prints or tells of a text.
 use Rattle.std.specs.Prelude.{◌≡◌, ℕ, List, Option, None, Ok}
 use Rattle.dspec_play.specs.declared.outcome.Outcome.{Outcome}
 use Rattle.dspec_player.specs.PlayedTexts.{IsPlayOf, IsTextFault, fault_of}

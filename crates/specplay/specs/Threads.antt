@@ -1,4 +1,4 @@
--- What a failed demonstration is told as.
+-- Cited by calls. What a failed demonstration is told as.
 use Rattle.std.specs.Prelude.{ℕ}
 use Rattle.dspec_session.specs.declared.demonstration.DemoFault.{DemoFault}
 use Rattle.dspec_session.specs.declared.demonstration.DemoFault.TheVariants as demo

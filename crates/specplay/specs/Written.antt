@@ -1,4 +1,4 @@
--- How far a text was written.
+-- Cited by calls. How far a text was written.
 use Rattle.std.specs.Prelude.{◌≡◌, ℕ, ◌++◌, List, Option}
 use Rattle.std.specs.Io.KnownBytes.{Appends}
 

@@ -1,4 +1,4 @@
--- The batches of a CPU, read off the deeds of a play: what was sealed, and what its buffer has at the end.
+-- Cited by calls. The batches of a CPU, read off the deeds of a play: what was sealed, and what its buffer has at the end.
 use Rattle.std.specs.Prelude.{ℕ, ◌≡◌, ◌==◌, ◌&&◌, List, [], ◌∷◌, ◌++◌, length, map, reverse, if◌then◌else◌}
 use Rattle.dspec_record.specs.Record.{Record}
 use Rattle.dspec_deeds.specs.declared.deed.Deed.{Deed}

@@ -1,4 +1,4 @@
--- What readers of a trace by time take: of a clock the frequency, and of a stamp the time that it tells.
+-- Cited by calls. What readers of a trace by time take: of a clock the frequency, and of a stamp the time that it tells.
 use Rattle.std.specs.Prelude.{◌≡◌, ℕ, ◌*◌, ◌<◌, Bool, true, false, nat_le, List}
 use Rattle.std.specs.List.{list_any}
 use Rattle.dspec_record.specs.Record.{Record}

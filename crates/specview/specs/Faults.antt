@@ -1,4 +1,4 @@
--- What the program tells of the faults of its parts, and its exit status.
+-- Cited by calls. What the program tells of the faults of its parts, and its exit status.
 use Rattle.std.specs.Prelude.{ℕ}
 use Rattle.dspec_player.specs.declared.input.InputFault.{InputFault}
 use Rattle.dspec_player.specs.declared.input.InputFault.TheVariants as input

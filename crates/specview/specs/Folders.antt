@@ -1,4 +1,4 @@
--- What is written into a folder.
+-- Cited by calls. What is written into a folder.
 use Rattle.std.specs.Prelude.{◌≡◌, ℕ, ◌+◌, ◌==◌, List, [], ◌∷◌, ◌++◌, length, map, Option, Some, None, codes, decimal, string_bytes, if◌then◌else◌}
 use Rattle.specview.specs.declared.trace.Trace.{Trace}
 

@@ -1,4 +1,4 @@
--- The picture of a play, and why there is none.
+-- Cited by calls. The picture of a play, and why there is none.
 use Rattle.std.specs.Prelude.{◌≡◌, ℕ, ◌+◌, ◌<◌, ◌≤◌, ◌==◌, Bool, false, List, [], ◌∷◌, length, map, reverse, if◌then◌else◌}
 use Rattle.dspec_deeds.specs.declared.calls.Actor.{Actor}
 use Rattle.dspec_deeds.specs.declared.calls.Answer.{Answer}

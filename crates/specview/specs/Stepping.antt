@@ -1,4 +1,4 @@
--- The steps of a text's play, a line each, and why there are none.
+-- Cited by calls. The steps of a text's play, a line each, and why there are none.
 use Rattle.std.specs.Prelude.{◌≡◌, ℕ, List, None, Ok}
 use Rattle.dspec_schedule.specs.Reading.{Plan, header_of, schedule_of}
 use Rattle.dspec_schedule.specs.declared.fault.ScheduleFault.TheVariants as schedule

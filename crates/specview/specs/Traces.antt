@@ -1,4 +1,4 @@
--- The trace of a play: its metadata, and the bytes of each CPU's file.
+-- Cited by calls. The trace of a play: its metadata, and the bytes of each CPU's file.
 use Rattle.std.specs.Prelude.{◌≡◌, ℕ, ◌+◌, ◌<◌, ◌==◌, ◌++◌, ◌⊎◌, List, [], ◌∷◌, length, map, reverse}
 use Rattle.std.specs.Prelude.{replicate, min, max, take, slice_get, slice_index_or, Some, unwrap_or, IfSome, Bool, true, false, if◌then◌else◌, string_bytes}
 use Rattle.dspec_record.specs.Record.{Record}

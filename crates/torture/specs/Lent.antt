@@ -1,4 +1,4 @@
--- What the threads are lent of a session, and give back.
+-- Cited by calls. What the threads are lent of a session, and give back.
 use Rattle.std.specs.Prelude.{ℕ, ◌≡◌, List, length, slice_get, Some}
 use Rattle.dspec_record.specs.EnablingRows.{EnabledRows}
 use Rattle.dspec_cpu.specs.declared.cpu.Cpu.{Cpu}

@@ -1,4 +1,4 @@
--- What the work of tour does, call by call.
+-- Cited by calls. What the work of tour does, call by call.
 use Rattle.std.specs.Prelude.{ℕ, ◌≡◌, List, [], ◌∷◌}
 use Rattle.dspec_record.specs.Record.{Record}
 use Rattle.dspec_record.specs.EnablingRows.{EnabledRows}

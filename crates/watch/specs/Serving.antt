@@ -1,4 +1,4 @@
--- What a worker of the server does on its CPU.
+-- Cited by calls. What a worker of the server does on its CPU.
 use Rattle.std.specs.Prelude.{ℕ, ◌≡◌, ◌+◌, Bool, Option, IfSome, IfNone, if◌then◌else◌}
 use Rattle.dspec_record.specs.Record.{Record}
 use Rattle.dspec_word.specs.SpecId.{Speculation}

@@ -1,4 +1,4 @@
--- An empty block in front makes no bytes.
+-- Serves proofs. An empty block in front makes no bytes.
 use Rattle.std.specs.Prelude.{ℕ, Bool, List, [], ◌∷◌, Option}
 use Rattle.std.proofs.Common.{sym, ◌∙◌}
 use Rattle.std.proofs.lemmas.List.{append-nil}

@@ -1,4 +1,4 @@
--- A walk that begins has the texts of all records of the pieces before it.
+-- Serves proofs. A walk that begins has the texts of all records of the pieces before it.
 use Rattle.std.specs.Prelude.{ℕ, Bool, IsTrue, List, reverse, Option}
 use Rattle.std.proofs.Common.{arith}
 use Rattle.std.proofs.lemmas.List.Sorted.{All-permutation, IsPermutation-reverse}

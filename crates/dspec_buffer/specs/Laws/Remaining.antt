@@ -1,4 +1,4 @@
--- A text that is read has one list of records before it: the ghost field of `Records` has one value at most.
+-- Serves proofs. A text that is read has one list of records before it: the ghost field of `Records` has one value at most.
 use Rattle.std.specs.Prelude.{ℕ, Bool, List, Option, refl}
 use Rattle.std.specs.Coded.{Coded, Coded-set, code_by, coded×, coded_ℕ, coded_list, ×_prop, Π_prop}
 use Rattle.std.proofs.Math.Logic.{∥∥₁_elim, ∥∥₁_prop}

@@ -1,4 +1,4 @@
--- The fields of an `Enabling` and of `Enablings` follow from the lists that they hold.
+-- Serves proofs. The fields of an `Enabling` and of `Enablings` follow from the lists that they hold.
 use Rattle.std.proofs.Common.{◌≡◌, ◌≤◌, ◌-◌, ◌++◌, List, [], length, take, replicate, sym, arith}
 use Rattle.std.proofs.lemmas.List.{length-take-le}
 use Rattle.dspec_record.specs.EnablingFields.{fields_of, IsLaidOut}

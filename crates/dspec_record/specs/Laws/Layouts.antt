@@ -1,4 +1,4 @@
--- Bounds on a layout: fields never end before they begin, nor more than eight bytes a field behind it.
+-- Serves proofs. Bounds on a layout: fields never end before they begin, nor more than eight bytes a field behind it.
 use Rattle.std.proofs.Common.{◌≡◌, ◌≤◌, ◌+◌, ◌*◌, ◌⊎◌, ℕ, Bool, true, false, cond, List, [], ◌∷◌, length, refl, inl, inr, ap, ◌∙◌, arith}
 use Rattle.std.specs.List.{list_any}
 use Rattle.dspec_record.specs.Layout.{width, rounded_up, after, fields_start, fields_end, is_eight, layout}

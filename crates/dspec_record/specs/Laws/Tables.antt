@@ -1,4 +1,4 @@
--- A schema that is a table of fields keeps the laws of a schema, where EPID 0 has none and no EPID has more
+-- Serves proofs. A schema that is a table of fields keeps the laws of a schema, where EPID 0 has none and no EPID has more
 -- than eight; the two tables of the crate are such.
 use Rattle.std.proofs.Common.{◌≡◌, ◌≤◌, ◌^◌, ◌&&◌, ℕ, zero, suc, Bool, true, false, cond, ltb, leb, IsTrue, List, [], ◌++◌, length, take, Option, Some, None, option_map, refl, ap, ◌∙◌, subst, arith}
 use Rattle.std.specs.Prelude.{unwrap_or, option_and_then}

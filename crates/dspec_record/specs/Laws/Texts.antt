@@ -1,4 +1,4 @@
--- Sizes and differences of texts.
+-- Serves proofs. Sizes and differences of texts.
 use Rattle.std.proofs.Common.{◌≡◌, ◌<◌, ◌+◌, ◌-◌, ◌^◌, ◌%◌, ◌/◌, ℕ, Bool, true, false, ◌&&◌, ltb, IsTrue, List, [], ◌∷◌, ◌++◌, length, refl, sym, ◌∙◌, ap, arith, All, zero, suc}
 use Rattle.std.proofs.lemmas.List.{length-append, length-replicate, append_assoc, append_cancel_left}
 use Rattle.std.proofs.lemmas.List.Elements.{All-append, All-nil, All-cons, All-replicate}

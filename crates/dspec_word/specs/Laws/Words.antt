@@ -1,4 +1,4 @@
--- The number that a `Word` holds follows from the state that it is.
+-- Serves proofs. The number that a `Word` holds follows from the state that it is.
 use Rattle.std.proofs.Common.{◌≡◌, ◌<◌, ◌%◌, ◌∙◌, ℕ, zero, suc, refl, sym, ap, arith}
 use Rattle.dspec_word.specs.Code.{code_number, code_of}
 use Rattle.dspec_word.specs.Word.{SlotState, word_number}
