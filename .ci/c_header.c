@@ -67,10 +67,14 @@ static void plain(void) {
     CHECK(DSPEC_TRACE(&cpu, 3, 1, 2, 3, 4, 5, 6, 7) == DSPEC_BAD_RECORD);
     CHECK(DSPEC_TRACE(&cpu, 3, 1, 2, 3, 4, 5, 6, 7, 8, 9) == DSPEC_BAD_RECORD);
     CHECK(DSPEC_TRACE_AT(&cpu, 1, 1) == DSPEC_BAD_RECORD);
+    CHECK(DSPEC_TRACE(&cpu, (UINT64_C(1) << 32) + 1) == DSPEC_BAD_RECORD);
+    CHECK(DSPEC_TRACE_AT(&cpu, (UINT64_C(1) << 32) + 1, 0) == DSPEC_BAD_RECORD);
     CHECK(dspec_speculation(&cpu, &id) == DSPEC_OK);
     CHECK(DSPEC_SPECULATE(&cpu, id, 1) == DSPEC_OK);
     CHECK(DSPEC_SPECULATE(&cpu, id, 2, 7) == DSPEC_OK);
     CHECK(DSPEC_SPECULATE(&cpu, id, 2, 256) == DSPEC_BAD_RECORD);
+    CHECK(DSPEC_SPECULATE(&cpu, id, (UINT64_C(1) << 32) + 1) == DSPEC_BAD_RECORD);
+    CHECK(DSPEC_SPECULATE_AT(&cpu, id, (UINT64_C(1) << 32) + 1, 0) == DSPEC_BAD_RECORD);
     CHECK(dspec_commit(&cpu, id, &count) == DSPEC_OK && count == 2);
     ends_with(&session, &cpu, due, sizeof due);
 }

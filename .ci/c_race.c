@@ -5,7 +5,7 @@
 #define _GNU_SOURCE
 #include "c_check.h"
 #include "c_race.h"
-#include "records.h"
+#include "dspec_reader.h"
 
 #include <inttypes.h>
 #include <sched.h>
@@ -18,7 +18,7 @@
 static _Atomic uint64_t board[RACE_SLOTS + 1];
 static atomic_int running;
 static atomic_bool has_begun;
-static layout known;
+static dspec_layout known;
 static _Thread_local dice interrupted;
 
 /* What a session stands on: the test ends where it is refused. */
@@ -146,12 +146,10 @@ static void *work(void *of) {
 }
 
 static void read_batch(race_worker *w, const dspec_batch *batch) {
-    record one;
-    for (size_t at = 0; at < batch->len;) {
-        if (!record_next(&known, batch, &at, &one)) {
-            race_flaw(w->race, w->number, "a batch that isn't records", at, batch->len);
-            break;
-        }
+    dspec_record one;
+    dspec_reading reading;
+    size_t at = 0;
+    while ((reading = dspec_read(&known, batch->bytes, batch->len, &at, &one)) == DSPEC_READ) {
         if (w->records == w->room) {
             w->room = w->room == 0 ? 1024 : 2 * w->room;
             w->came = realloc(w->came, w->room * sizeof *w->came);
@@ -159,6 +157,7 @@ static void read_batch(race_worker *w, const dspec_batch *batch) {
         }
         w->came[w->records++] = (race_record){ .serial = one.values[0], .id = one.values[1] };
     }
+    if (reading != DSPEC_READ_ALL) race_flaw(w->race, w->number, "a batch that isn't records", at, batch->len);
     w->drops += batch->drops;
 }
 
@@ -264,10 +263,10 @@ static void draw_race(race *r, dice *d) {
 static void start(race *r, dspec_session *session) {
     dspec_schema schema = DSPEC_EMPTY;
     uint32_t epid;
-    known = (layout){ .stamped = r->is_stamped };
+    known = (dspec_layout){ .stamped = r->is_stamped };
     HAS_TO(dspec_schema_new(&schema));
     if (r->is_stamped) HAS_TO(dspec_schema_stamp(&schema));
-    for (size_t n = 2; n <= 4; n++) HAS_TO(record_enable(&schema, &known, (const uint8_t[]){ 8, 8, 2, 1 }, n, &epid));
+    for (size_t n = 2; n <= 4; n++) HAS_TO(dspec_layout_enable(&known, &schema, (const uint8_t[]){ 8, 8, 2, 1 }, n, &epid));
     HAS_TO(dspec_start(&r->config, &schema, session));
     dspec_schema_drop(&schema);
 }

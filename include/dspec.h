@@ -53,8 +53,14 @@
 #define DSPEC_MAX_FIELDS 8u
 #define DSPEC_MAX_ENABLINGS 64u
 
+/* No call throws. In C++ an inline function is one for the whole program; in C each file has its own. */
 #ifdef __cplusplus
+#define DSPEC_NOEXCEPT noexcept
+#define DSPEC_INLINE inline
 extern "C" {
+#else
+#define DSPEC_NOEXCEPT
+#define DSPEC_INLINE static inline
 #endif
 
 typedef enum dspec_status {
@@ -149,21 +155,21 @@ typedef struct dspec_batch {
 } dspec_batch;
 
 /* The library's version, as DSPEC_VERSION has the header's. */
-uint32_t dspec_version(void);
+uint32_t dspec_version(void) DSPEC_NOEXCEPT;
 
 /* ---- Schemas: which records there are. One thread at a time. ---- */
 
 /* A schema without enablings, whose records have no stamp. Takes memory.
  * DSPEC_FULL_HANDLE, DSPEC_NO_MEMORY. */
-dspec_status dspec_schema_new(dspec_schema *schema);
+dspec_status dspec_schema_new(dspec_schema *schema) DSPEC_NOEXCEPT;
 
 /* Enables records of n fields, n at most 8, of these widths in bytes, each 1, 2, 4 or 8. The EPIDs are 1, 2, .. up to 64.
  * DSPEC_BAD_HANDLE, DSPEC_TOO_MANY_FIELDS, DSPEC_BAD_WIDTH, DSPEC_TOO_MANY_ENABLINGS. */
-dspec_status dspec_schema_enable(dspec_schema *schema, const uint8_t *widths, size_t n, uint32_t *epid);
+dspec_status dspec_schema_enable(dspec_schema *schema, const uint8_t *widths, size_t n, uint32_t *epid) DSPEC_NOEXCEPT;
 
 /* From now on records have a stamp: any 64 bits that the tracer hands in; the library reads no clock.
  * DSPEC_BAD_HANDLE. */
-dspec_status dspec_schema_stamp(dspec_schema *schema);
+dspec_status dspec_schema_stamp(dspec_schema *schema) DSPEC_NOEXCEPT;
 
 /* ---- A session. One thread at a time, beside its CPUs and its consumer on theirs. ---- */
 
@@ -171,85 +177,85 @@ dspec_status dspec_schema_stamp(dspec_schema *schema);
  * the session. It takes all memory that the calls of the CPUs and of the consumer need. Takes memory.
  * DSPEC_FULL_HANDLE, DSPEC_BAD_HANDLE (the schema), DSPEC_BAD_POLICY, DSPEC_BAD_CPUS, DSPEC_BAD_NSPEC, DSPEC_BAD_BUFSIZE,
  * DSPEC_BAD_SPECSIZE, DSPEC_BAD_MAX_ISSUES, DSPEC_BAD_MAX_CALLS, DSPEC_NO_MEMORY, looked at in this order. */
-dspec_status dspec_start(const dspec_config *config, dspec_schema *schema, dspec_session *session);
+dspec_status dspec_start(const dspec_config *config, dspec_schema *schema, dspec_session *session) DSPEC_NOEXCEPT;
 
 /* Hands out the CPU of this number, from 0 on, once. Takes memory.
  * DSPEC_FULL_HANDLE, DSPEC_BAD_HANDLE (the session), DSPEC_NO_SUCH_CPU, DSPEC_OUT, DSPEC_NO_MEMORY. */
-dspec_status dspec_cpu_of(dspec_session *session, uint32_t number, dspec_cpu *cpu);
+dspec_status dspec_cpu_of(dspec_session *session, uint32_t number, dspec_cpu *cpu) DSPEC_NOEXCEPT;
 
 /* Hands out the consumer, once. Takes memory.
  * DSPEC_FULL_HANDLE, DSPEC_BAD_HANDLE (the session), DSPEC_OUT, DSPEC_NO_MEMORY. */
-dspec_status dspec_consumer_of(dspec_session *session, dspec_consumer *consumer);
+dspec_status dspec_consumer_of(dspec_session *session, dspec_consumer *consumer) DSPEC_NOEXCEPT;
 
 /* ---- The calls of one CPU, on the thread that has its handle. ---- */
 
 /* Traces the record with these n values into the principal buffer. stamp is 0 where records have none.
  * DSPEC_OK: it was kept. DSPEC_DROPPED: no room; the record and the drop were counted. DSPEC_STOPPED: it was counted void.
  * DSPEC_WORN. DSPEC_BAD_RECORD, DSPEC_BAD_HANDLE: nothing was done. */
-dspec_status dspec_trace(dspec_cpu *cpu, uint32_t epid, uint64_t stamp, const uint64_t *values, size_t n);
+dspec_status dspec_trace(dspec_cpu *cpu, uint32_t epid, uint64_t stamp, const uint64_t *values, size_t n) DSPEC_NOEXCEPT;
 
 /* Opens a speculation; its identifier goes to any CPU of the session, as a number.
  * DSPEC_OK. DSPEC_UNAVAILABLE, DSPEC_BUSY (clean, then try again), DSPEC_STOPPED, DSPEC_WORN: counted, and none was given.
  * DSPEC_BAD_HANDLE. */
-dspec_status dspec_speculation(dspec_cpu *cpu, uint64_t *id);
+dspec_status dspec_speculation(dspec_cpu *cpu, uint64_t *id) DSPEC_NOEXCEPT;
 
 /* Offers the record to a speculation: it is kept in the CPU's speculative buffer until that is decided.
  * DSPEC_OK: it was kept there. DSPEC_DROPPED: no room there. DSPEC_VOID, DSPEC_STOPPED: it was counted void. DSPEC_WORN.
  * DSPEC_BAD_RECORD, DSPEC_BAD_HANDLE: nothing was done. */
-dspec_status dspec_speculate(dspec_cpu *cpu, uint64_t id, uint32_t epid, uint64_t stamp, const uint64_t *values, size_t n);
+dspec_status dspec_speculate(dspec_cpu *cpu, uint64_t id, uint32_t epid, uint64_t stamp, const uint64_t *values, size_t n) DSPEC_NOEXCEPT;
 
 /* Commits a speculation: this CPU's records of it go to its principal buffer, all or none; the other CPUs do the same with theirs
  * at their next service. count is the number of this CPU's records, and is written at DSPEC_OK and DSPEC_LOST.
  * DSPEC_OK: they were copied. DSPEC_LOST: no room; the drop was counted. DSPEC_VOID, DSPEC_STOPPED, DSPEC_WORN. DSPEC_BAD_HANDLE. */
-dspec_status dspec_commit(dspec_cpu *cpu, uint64_t id, uint32_t *count);
+dspec_status dspec_commit(dspec_cpu *cpu, uint64_t id, uint32_t *count) DSPEC_NOEXCEPT;
 
 /* Discards a speculation: this CPU's records of it are thrown away; the other CPUs do the same with theirs at their next service.
  * count is the number of this CPU's records, and is written at DSPEC_OK.
  * DSPEC_OK. DSPEC_VOID, DSPEC_STOPPED, DSPEC_WORN. DSPEC_BAD_HANDLE. */
-dspec_status dspec_discard(dspec_cpu *cpu, uint64_t id, uint32_t *count);
+dspec_status dspec_discard(dspec_cpu *cpu, uint64_t id, uint32_t *count) DSPEC_NOEXCEPT;
 
 /* To be called now and then between the CPU's other calls. Where the consumer asked for a batch and a spare buffer is there, the
  * principal buffer is switched and handed on; and what other CPUs have decided is settled. sealed: whether a batch was handed on;
  * settled: how many speculations were. It is never worn, and works behind a stop too.
  * DSPEC_OK. DSPEC_BAD_HANDLE. */
-dspec_status dspec_service(dspec_cpu *cpu, bool *sealed, uint32_t *settled);
+dspec_status dspec_service(dspec_cpu *cpu, bool *sealed, uint32_t *settled) DSPEC_NOEXCEPT;
 
 /* The CPU's counts so far.
  * DSPEC_OK. DSPEC_BAD_HANDLE. */
-dspec_status dspec_cpu_report(dspec_cpu *cpu, dspec_report *report);
+dspec_status dspec_cpu_report(dspec_cpu *cpu, dspec_report *report) DSPEC_NOEXCEPT;
 
 /* Gives the CPU back to its session, whichever that is; the handle is empty then.
  * DSPEC_OK. DSPEC_BAD_HANDLE. */
-dspec_status dspec_cpu_home(dspec_cpu *cpu);
+dspec_status dspec_cpu_home(dspec_cpu *cpu) DSPEC_NOEXCEPT;
 
 /* ---- The calls of the consumer, on the thread that has its handle. ---- */
 
 /* Asks a CPU for a batch more: its next service switches, where a spare buffer is there. Asking again before that batch was
  * taken asks for the same. Under DSPEC_POLICY_FILL no batch comes before the end.
  * DSPEC_OK. DSPEC_NO_SUCH_CPU. DSPEC_BAD_HANDLE. */
-dspec_status dspec_ask(dspec_consumer *consumer, uint32_t cpu);
+dspec_status dspec_ask(dspec_consumer *consumer, uint32_t cpu) DSPEC_NOEXCEPT;
 
 /* Takes the next batch of a CPU. One at a time a CPU is out.
  * DSPEC_OK: batch was written. DSPEC_NO_BATCH: none has come. DSPEC_OUT: the last one wasn't given back. DSPEC_NO_SUCH_CPU.
  * DSPEC_BAD_HANDLE. */
-dspec_status dspec_take(dspec_consumer *consumer, uint32_t cpu, dspec_batch *batch);
+dspec_status dspec_take(dspec_consumer *consumer, uint32_t cpu, dspec_batch *batch) DSPEC_NOEXCEPT;
 
 /* Gives the batch of a CPU that is out back, as that CPU's spare. Its bytes are gone then.
  * DSPEC_OK. DSPEC_NO_BATCH: none is out. DSPEC_BUSY: there is no room on the way back yet, and the batch stays out.
  * DSPEC_NO_SUCH_CPU. DSPEC_BAD_HANDLE. */
-dspec_status dspec_give_back(dspec_consumer *consumer, uint32_t cpu);
+dspec_status dspec_give_back(dspec_consumer *consumer, uint32_t cpu) DSPEC_NOEXCEPT;
 
 /* Frees the slots of speculations that are decided and that every CPU has settled; released: how many.
  * DSPEC_OK. DSPEC_BAD_HANDLE. */
-dspec_status dspec_clean(dspec_consumer *consumer, uint32_t *released);
+dspec_status dspec_clean(dspec_consumer *consumer, uint32_t *released) DSPEC_NOEXCEPT;
 
 /* Stops the session: from when a CPU is shown it, its calls answer DSPEC_STOPPED, but service. A second time changes nothing.
  * DSPEC_OK. DSPEC_BAD_HANDLE. */
-dspec_status dspec_stop(dspec_consumer *consumer);
+dspec_status dspec_stop(dspec_consumer *consumer) DSPEC_NOEXCEPT;
 
 /* Gives the consumer back to its session. The batches that are out are gone then, and so are their bytes; the handle is empty.
  * DSPEC_OK. DSPEC_BAD_HANDLE. */
-dspec_status dspec_consumer_home(dspec_consumer *consumer);
+dspec_status dspec_consumer_home(dspec_consumer *consumer) DSPEC_NOEXCEPT;
 
 /* ---- The end. ---- */
 
@@ -257,33 +263,33 @@ dspec_status dspec_consumer_home(dspec_consumer *consumer);
  * and what nobody took is handed out by closed. The session's handle is empty then.
  * DSPEC_FULL_HANDLE, DSPEC_BAD_HANDLE (the session; finished before, say). DSPEC_NOT_HOME: the session goes on as it was.
  * DSPEC_GONE: the session is lost; drop its handle. No way to this answer is known, but that there is none isn't proved. */
-dspec_status dspec_finish(dspec_session *session, dspec_closed *closed);
+dspec_status dspec_finish(dspec_session *session, dspec_closed *closed) DSPEC_NOEXCEPT;
 
 /* What was left of a CPU: with last false the batch that was handed on and never taken, with last true its principal buffer.
  * The batches of a CPU are those that were taken, in order, then these two.
  * DSPEC_OK: batch was written. DSPEC_NO_BATCH: none was left untaken. DSPEC_NO_SUCH_CPU. DSPEC_BAD_HANDLE. */
-dspec_status dspec_rest(dspec_closed *closed, uint32_t cpu, bool last, dspec_batch *batch);
+dspec_status dspec_rest(dspec_closed *closed, uint32_t cpu, bool last, dspec_batch *batch) DSPEC_NOEXCEPT;
 
 /* The counts of a CPU, to its end.
  * DSPEC_OK. DSPEC_NO_SUCH_CPU. DSPEC_BAD_HANDLE. */
-dspec_status dspec_closed_report(dspec_closed *closed, uint32_t cpu, dspec_report *report);
+dspec_status dspec_closed_report(dspec_closed *closed, uint32_t cpu, dspec_report *report) DSPEC_NOEXCEPT;
 
 /* Lets go what a handle of any kind holds, at any time; an empty one stays empty. What was handed out of a session lives on: a CPU
  * may trace after its session was dropped, and is dropped itself. A session whose CPU or consumer was dropped can't finish, and is
  * dropped too. The bytes of batches go with the consumer or the closed session that has them. */
-void dspec_drop(void *handle);
+void dspec_drop(void *handle) DSPEC_NOEXCEPT;
 
 /* The same, with the types checked. */
-static inline void dspec_schema_drop(dspec_schema *schema) { dspec_drop(schema); }
-static inline void dspec_session_drop(dspec_session *session) { dspec_drop(session); }
-static inline void dspec_cpu_drop(dspec_cpu *cpu) { dspec_drop(cpu); }
-static inline void dspec_consumer_drop(dspec_consumer *consumer) { dspec_drop(consumer); }
-static inline void dspec_closed_drop(dspec_closed *closed) { dspec_drop(closed); }
+DSPEC_INLINE void dspec_schema_drop(dspec_schema *schema) DSPEC_NOEXCEPT { dspec_drop(schema); }
+DSPEC_INLINE void dspec_session_drop(dspec_session *session) DSPEC_NOEXCEPT { dspec_drop(session); }
+DSPEC_INLINE void dspec_cpu_drop(dspec_cpu *cpu) DSPEC_NOEXCEPT { dspec_drop(cpu); }
+DSPEC_INLINE void dspec_consumer_drop(dspec_consumer *consumer) DSPEC_NOEXCEPT { dspec_drop(consumer); }
+DSPEC_INLINE void dspec_closed_drop(dspec_closed *closed) DSPEC_NOEXCEPT { dspec_drop(closed); }
 
 /* ---- Beside the library. ---- */
 
 /* A status in words, as a static text; of a number that is none, "unknown status". */
-static inline const char *dspec_status_text(dspec_status status) {
+DSPEC_INLINE const char *dspec_status_text(dspec_status status) DSPEC_NOEXCEPT {
     switch (status) {
     case DSPEC_OK: return "ok";
     case DSPEC_BAD_CPUS: return "cpus is not 1 to 64";
@@ -318,18 +324,21 @@ static inline const char *dspec_status_text(dspec_status status) {
 
 #ifndef __cplusplus
 
+/* The EPID of a row: one that 32 bits don't hold is no EPID, as 0 is none. */
+static inline uint32_t dspec_row_epid(const uint64_t *row) { return row[0] > UINT32_MAX ? 0 : (uint32_t)row[0]; }
+
 /* Of a row with the EPID, and the stamp where there is one, in front of the values. */
 static inline dspec_status dspec_trace_row(dspec_cpu *cpu, const uint64_t *row, size_t n) {
-    return dspec_trace(cpu, (uint32_t)row[0], 0, row + 1, n - 1);
+    return dspec_trace(cpu, dspec_row_epid(row), 0, row + 1, n - 1);
 }
 static inline dspec_status dspec_trace_stamped_row(dspec_cpu *cpu, const uint64_t *row, size_t n) {
-    return n < 2 ? DSPEC_BAD_RECORD : dspec_trace(cpu, (uint32_t)row[0], row[1], row + 2, n - 2);
+    return n < 2 ? DSPEC_BAD_RECORD : dspec_trace(cpu, dspec_row_epid(row), row[1], row + 2, n - 2);
 }
 static inline dspec_status dspec_speculate_row(dspec_cpu *cpu, uint64_t id, const uint64_t *row, size_t n) {
-    return dspec_speculate(cpu, id, (uint32_t)row[0], 0, row + 1, n - 1);
+    return dspec_speculate(cpu, id, dspec_row_epid(row), 0, row + 1, n - 1);
 }
 static inline dspec_status dspec_speculate_stamped_row(dspec_cpu *cpu, uint64_t id, const uint64_t *row, size_t n) {
-    return n < 2 ? DSPEC_BAD_RECORD : dspec_speculate(cpu, id, (uint32_t)row[0], row[1], row + 2, n - 2);
+    return n < 2 ? DSPEC_BAD_RECORD : dspec_speculate(cpu, id, dspec_row_epid(row), row[1], row + 2, n - 2);
 }
 
 /* A zero stands behind the row, so that its values never begin past its end. */
@@ -346,20 +355,23 @@ static inline dspec_status dspec_speculate_stamped_row(dspec_cpu *cpu, uint64_t 
 #ifdef __cplusplus
 } /* extern "C" */
 
-template <typename... Values> inline dspec_status dspec_trace_of(dspec_cpu *cpu, uint32_t epid, uint64_t stamp, Values... values) {
+/* An EPID that 32 bits don't hold is none, as 0 is. */
+constexpr uint32_t dspec_row_epid(uint64_t epid) noexcept { return epid > UINT32_MAX ? 0 : static_cast<uint32_t>(epid); }
+
+template <typename... Values> inline dspec_status dspec_trace_of(dspec_cpu *cpu, uint64_t epid, uint64_t stamp, Values... values) noexcept {
     const uint64_t row[] = {static_cast<uint64_t>(values)..., 0};
-    return dspec_trace(cpu, epid, stamp, row, sizeof...(values));
+    return dspec_trace(cpu, dspec_row_epid(epid), stamp, row, sizeof...(values));
 }
-template <typename... Values> inline dspec_status dspec_trace_unstamped(dspec_cpu *cpu, uint32_t epid, Values... values) {
+template <typename... Values> inline dspec_status dspec_trace_unstamped(dspec_cpu *cpu, uint64_t epid, Values... values) noexcept {
     return dspec_trace_of(cpu, epid, 0, values...);
 }
 template <typename... Values>
-inline dspec_status dspec_speculate_of(dspec_cpu *cpu, uint64_t id, uint32_t epid, uint64_t stamp, Values... values) {
+inline dspec_status dspec_speculate_of(dspec_cpu *cpu, uint64_t id, uint64_t epid, uint64_t stamp, Values... values) noexcept {
     const uint64_t row[] = {static_cast<uint64_t>(values)..., 0};
-    return dspec_speculate(cpu, id, epid, stamp, row, sizeof...(values));
+    return dspec_speculate(cpu, id, dspec_row_epid(epid), stamp, row, sizeof...(values));
 }
 template <typename... Values>
-inline dspec_status dspec_speculate_unstamped(dspec_cpu *cpu, uint64_t id, uint32_t epid, Values... values) {
+inline dspec_status dspec_speculate_unstamped(dspec_cpu *cpu, uint64_t id, uint64_t epid, Values... values) noexcept {
     return dspec_speculate_of(cpu, id, epid, 0, values...);
 }
 

@@ -1,7 +1,7 @@
 /* Four CPUs and a consumer in five threads. Each thread counts for itself what its calls answered; at the end the reports and the
  * records that were taken, or left, have to say the same. It prints one line where all adds up, else what doesn't, and fails. */
 #include "dspec.h"
-#include "records.h"
+#include "dspec_reader.h"
 
 #include <inttypes.h>
 #include <pthread.h>
@@ -12,7 +12,7 @@
 enum { CPUS = 4, ROUNDS = 20000 };
 
 /* The schema: a round's number; and the number of a round with the speculation it was offered to. */
-static layout known;
+static dspec_layout known;
 static uint32_t round_epid, path_epid;
 
 /* How many workers haven't ended: the consumer goes on until none is left. */
@@ -118,7 +118,7 @@ static void *work(void *arg) {
 }
 
 /* Rounds rise, and so do the steps of a path; a path of an even round was discarded. */
-static void read_record(reading *r, const record *one) {
+static void read_record(reading *r, const dspec_record *one) {
     if (one->epid == round_epid) {
         if (one->values[0] <= r->last_round) wrong("a round again, or out of order");
         r->last_round = one->values[0];
@@ -132,11 +132,11 @@ static void read_record(reading *r, const record *one) {
 }
 
 static void read_batch(reading *r, const dspec_batch *batch) {
-    record one;
-    for (size_t at = 0; at < batch->len;) {
-        if (!record_next(&known, batch, &at, &one)) wrong("a batch that isn't records");
-        read_record(r, &one);
-    }
+    dspec_record one;
+    dspec_reading reading;
+    size_t at = 0;
+    while ((reading = dspec_read(&known, batch->bytes, batch->len, &at, &one)) == DSPEC_READ) read_record(r, &one);
+    if (reading != DSPEC_READ_ALL) wrong("a batch that isn't records");
     r->drops += batch->drops;
 }
 
@@ -168,8 +168,8 @@ static void start(dspec_session *session) {
         .max_issues = DSPEC_MAX_ISSUES, .max_calls = DSPEC_MAX_CALLS, .policy = DSPEC_POLICY_SWITCH,
     };
     OK(dspec_schema_new(&schema));
-    OK(record_enable(&schema, &known, (const uint8_t[]){ 4 }, 1, &round_epid));
-    OK(record_enable(&schema, &known, (const uint8_t[]){ 8, 1 }, 2, &path_epid));
+    OK(dspec_layout_enable(&known, &schema, (const uint8_t[]){ 4 }, 1, &round_epid));
+    OK(dspec_layout_enable(&known, &schema, (const uint8_t[]){ 8, 1 }, 2, &path_epid));
     OK(dspec_start(&config, &schema, session));
     dspec_schema_drop(&schema);
 }

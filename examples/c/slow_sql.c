@@ -7,7 +7,7 @@
 #define _POSIX_C_SOURCE 200809L
 
 #include "dspec.h"
-#include "records.h"
+#include "dspec_reader.h"
 
 #include <inttypes.h>
 #include <pthread.h>
@@ -23,7 +23,7 @@ enum { CPUS = 2, STATEMENTS = 400, ROWS_A_STEP = 8192 };
 static const uint64_t SLOW = 1000000;
 
 /* The schema: a statement's first 8 letters; its first step; rows so far; rows in all; what SQLite returned. */
-static layout known;
+static dspec_layout known;
 static uint32_t asked_epid, begun_epid, rows_epid, ended_epid, returned_epid;
 
 /* How many lanes haven't ended. */
@@ -129,7 +129,7 @@ static void *work(void *arg) {
 }
 
 /* A step, with the microseconds since its statement was asked. */
-static void print_step(const record *one, uint64_t asked) {
+static void print_step(const dspec_record *one, uint64_t asked) {
     uint64_t micros = (one->stamp - asked) / 1000;
     if (one->epid == begun_epid) printf(", began %" PRIu64 " us", micros);
     else if (one->epid == rows_epid) printf(", %" PRIu64 " rows %" PRIu64 " us", one->values[0], micros);
@@ -141,8 +141,8 @@ static void print_step(const record *one, uint64_t asked) {
 static void print_batch(const dspec_batch *batch) {
     uint64_t asked = 0;
     char name[9];
-    record one;
-    for (size_t at = 0; record_next(&known, batch, &at, &one);) {
+    dspec_record one;
+    for (size_t at = 0; dspec_read(&known, batch->bytes, batch->len, &at, &one) == DSPEC_READ;) {
         if (one.epid == asked_epid) {
             if (asked != 0) putchar('\n');
             asked = one.stamp;
@@ -178,11 +178,11 @@ static void start(dspec_session *session) {
     OK(dspec_schema_new(&schema));
     OK(dspec_schema_stamp(&schema));
     known.stamped = true;
-    OK(record_enable(&schema, &known, (const uint8_t[]){ 8 }, 1, &asked_epid));
-    OK(record_enable(&schema, &known, (const uint8_t[]){ 0 }, 0, &begun_epid));
-    OK(record_enable(&schema, &known, (const uint8_t[]){ 8 }, 1, &rows_epid));
-    OK(record_enable(&schema, &known, (const uint8_t[]){ 8 }, 1, &ended_epid));
-    OK(record_enable(&schema, &known, (const uint8_t[]){ 4 }, 1, &returned_epid));
+    OK(dspec_layout_enable(&known, &schema, (const uint8_t[]){ 8 }, 1, &asked_epid));
+    OK(dspec_layout_enable(&known, &schema, (const uint8_t[]){ 0 }, 0, &begun_epid));
+    OK(dspec_layout_enable(&known, &schema, (const uint8_t[]){ 8 }, 1, &rows_epid));
+    OK(dspec_layout_enable(&known, &schema, (const uint8_t[]){ 8 }, 1, &ended_epid));
+    OK(dspec_layout_enable(&known, &schema, (const uint8_t[]){ 4 }, 1, &returned_epid));
     OK(dspec_start(&config, &schema, session));
     dspec_schema_drop(&schema);
 }

@@ -1,0 +1,175 @@
+/* What dspec.hpp has over dspec.h, in C++20: probes by their types, paths that end with their scope, handles that are moved, refusals. */
+#include "dspec.hpp"
+
+#include <cstdio>
+#include <cstring>
+#include <limits>
+#include <stdexcept>
+#include <vector>
+
+static int passed, failed;
+
+static void check(bool is_well, const char *what) {
+    if (is_well) {
+        passed++;
+    } else {
+        failed++;
+        std::puts(what);
+    }
+}
+
+#define CHECK(what) check((what), #what)
+
+namespace {
+
+enum class state : std::uint8_t { fine, broken };
+
+using mixed = dspec::probe<std::int8_t, bool, float, double, std::int32_t, state>;
+using number = dspec::probe<std::uint64_t>;
+
+constexpr dspec_config config{1, 1, 4096, 64, DSPEC_MAX_ISSUES, DSPEC_MAX_CALLS, DSPEC_POLICY_SWITCH};
+
+/* What a call that is refused throws. */
+template <typename Call> dspec_status thrown_by(Call call) {
+    try {
+        call();
+    } catch (const dspec::error &e) {
+        return std::strcmp(e.what(), dspec_status_text(e.status)) == 0 ? e.status : DSPEC_OK;
+    }
+    return DSPEC_OK;
+}
+
+struct world {
+    dspec::schema schema;
+    mixed of_all = schema.enable<std::int8_t, bool, float, double, std::int32_t, state>();
+    number of_one = schema.enable<std::uint64_t>();
+    dspec::probe<> bare = schema.enable<>();
+
+    /* The records that a CPU leaves. */
+    std::vector<dspec_record> left(dspec::session &session) {
+        dspec::closed closed = session.finish();
+        auto batch = closed.rest(0, true);
+        std::vector<dspec_record> out;
+        for (const dspec_record &one : dspec::records(schema.layout(), batch.value())) out.push_back(one);
+        return out;
+    }
+};
+
+/* Each kind of value comes back as it was, of its own probe alone. */
+void values() {
+    world w;
+    dspec::session session(config, w.schema);
+    {
+        dspec::cpu cpu = session.cpu_of(0);
+        CHECK(cpu.trace(w.of_all, -128, true, -0.5f, std::numeric_limits<double>::infinity(), -1, state::broken) == DSPEC_OK);
+        CHECK(cpu.trace(w.of_one, std::numeric_limits<std::uint64_t>::max()) == DSPEC_OK);
+        CHECK(cpu.trace(w.bare) == DSPEC_OK);
+        CHECK(cpu.trace_at(w.bare, 1) == DSPEC_BAD_RECORD);
+        CHECK(cpu.trace(number{}, 1) == DSPEC_BAD_RECORD);
+        CHECK(cpu.report().offered == 3);
+    }
+    auto records = w.left(session);
+    CHECK(records.size() == 3);
+    CHECK((w.of_all.read(records[0]) == std::tuple<std::int8_t, bool, float, double, std::int32_t, state>(
+        -128, true, -0.5f, std::numeric_limits<double>::infinity(), -1, state::broken)));
+    CHECK(std::get<0>(w.of_one.read(records[1]).value()) == std::numeric_limits<std::uint64_t>::max());
+    CHECK(w.bare.read(records[2]).has_value());
+    CHECK(!w.of_one.read(records[0]).has_value());
+}
+
+void fails_behind_a_step(dspec::cpu &cpu, number of) {
+    dspec::path path = cpu.open();
+    path.step(of, 1);
+    throw std::runtime_error("thrown");
+}
+
+/* A path is kept once, and thrown away where its scope ends by its end or by an exception; one that couldn't be opened says why. */
+void paths() {
+    world w;
+    dspec::session session(config, w.schema);
+    {
+        dspec::cpu cpu = session.cpu_of(0);
+        try {
+            fails_behind_a_step(cpu, w.of_one);
+        } catch (const std::runtime_error &) {
+            CHECK(cpu.report().discarded == 1);
+        }
+        {
+            dspec::path first = cpu.open();
+            CHECK(first.opened() == DSPEC_OK && first.id() != 0);
+            CHECK(cpu.open().opened() == DSPEC_UNAVAILABLE);
+            dspec::path moved = std::move(first);
+            CHECK(first.step(w.of_one, 2) == DSPEC_VOID);
+            CHECK(moved.step(w.of_one, 3) == DSPEC_OK);
+            CHECK(moved.step_at(w.of_one, 9, 3) == DSPEC_BAD_RECORD);
+            dspec::decided kept = moved.keep();
+            CHECK(kept.status == DSPEC_OK && kept.records == 1);
+            CHECK(moved.keep().status == DSPEC_VOID);
+            CHECK(moved.step(w.of_one, 4) == DSPEC_VOID);
+        }
+        {
+            dspec::path gone = cpu.open();
+            CHECK(cpu.speculate(gone.id(), w.of_one, 5) == DSPEC_OK);
+            dspec::decided told = gone.discard();
+            CHECK(told.status == DSPEC_OK && told.records == 1);
+        }
+        CHECK(cpu.report().accepted == 1 && cpu.report().discarded == 2 && cpu.report().unavailable == 1);
+    }
+    auto records = w.left(session);
+    CHECK(records.size() == 1 && w.of_one.read(records[0]) == std::tuple<std::uint64_t>(3));
+}
+
+/* A batch goes back behind whoever saw it; stamps come with records. */
+void batches() {
+    world w;
+    w.schema.stamp();
+    dspec::session session(config, w.schema);
+    {
+        dspec::cpu cpu = session.cpu_of(0);
+        dspec::consumer consumer = session.consumer_of();
+        std::uint64_t stamp = 0;
+        CHECK(cpu.trace_at(w.of_one, UINT64_C(1) << 63, 7) == DSPEC_OK);
+        CHECK(!consumer.take(0, [](const dspec_batch &) {}));
+        CHECK(cpu.service());
+        try {
+            consumer.take(0, [&](const dspec_batch &batch) {
+                for (const dspec_record &one : dspec::records(w.schema.layout(), batch)) stamp = one.stamp;
+                throw std::runtime_error("thrown");
+            });
+        } catch (const std::runtime_error &) {
+            CHECK(stamp == UINT64_C(1) << 63);
+        }
+        CHECK(dspec_give_back(consumer.get(), 0) == DSPEC_NO_BATCH);
+        CHECK(thrown_by([&] { consumer.take(1, [](const dspec_batch &) {}); }) == DSPEC_NO_SUCH_CPU);
+        CHECK(consumer.clean() == 0);
+        consumer.stop();
+        CHECK(thrown_by([&] { static_cast<void>(session.finish()); }) == DSPEC_NOT_HOME);
+        CHECK(thrown_by([&] { static_cast<void>(session.cpu_of(0)); }) == DSPEC_OUT);
+    }
+    dspec::closed closed = session.finish();
+    CHECK(closed.report(0).accepted == 1 && !closed.rest(0, false).has_value());
+    CHECK(thrown_by([&] { static_cast<void>(session.finish()); }) == DSPEC_BAD_HANDLE);
+}
+
+void refusals() {
+    dspec::schema schema;
+    for (int n = 0; n < 64; n++) static_cast<void>(schema.enable<>());
+    CHECK(thrown_by([&] { static_cast<void>(schema.enable<>()); }) == DSPEC_TOO_MANY_ENABLINGS);
+    dspec_config none = config;
+    none.cpus = 0;
+    CHECK(thrown_by([&] { dspec::session session(none, schema); }) == DSPEC_BAD_CPUS);
+    dspec::schema moved = std::move(schema);
+    CHECK(thrown_by([&] { schema.stamp(); }) == DSPEC_BAD_HANDLE);
+    CHECK(moved.layout().enablings == 64);
+}
+
+} /* namespace */
+
+int main() {
+    values();
+    paths();
+    batches();
+    refusals();
+    std::printf("%d passed, %d failed\n", passed, failed);
+    return failed > 0 || passed == 0;
+}

@@ -1,0 +1,320 @@
+/* dspec.hpp: dspec.h for C++20. Handles that let go what they hold, probes whose fields the compiler knows, paths that end with their scope,
+ * the records of a batch. Header only, and nothing is allocated here.
+ *
+ * Constructors and the calls that hand something out throw dspec::error, with the status, where they are refused; no call that traces throws.
+ * A handle of this header is in one call at a time, and goes to another thread as dspec.h says. Each can be moved and none copied.
+ */
+#ifndef DSPEC_HPP
+#define DSPEC_HPP
+
+#include <array>
+#include <bit>
+#include <concepts>
+#include <cstdint>
+#include <optional>
+#include <span>
+#include <stdexcept>
+#include <tuple>
+#include <type_traits>
+#include <utility>
+
+#include "dspec.h"
+#include "dspec_reader.h"
+
+namespace dspec {
+
+/* Why something was refused. */
+struct error : std::runtime_error {
+    dspec_status status;
+    explicit error(dspec_status why) : std::runtime_error(dspec_status_text(why)), status(why) {}
+};
+
+inline void check(dspec_status status) {
+    if (status != DSPEC_OK) throw error(status);
+}
+
+/* What a field can be: an integer, an enumeration, a bool or a floating point number of 1, 2, 4 or 8 bytes. */
+template <typename T>
+concept field = (std::integral<T> || std::is_enum_v<T> || std::floating_point<T>) &&
+                (sizeof(T) == 1 || sizeof(T) == 2 || sizeof(T) == 4 || sizeof(T) == 8);
+
+namespace detail {
+
+template <std::size_t bytes>
+using unsigned_of = std::conditional_t<bytes == 1, std::uint8_t,
+                                       std::conditional_t<bytes == 2, std::uint16_t, std::conditional_t<bytes == 4, std::uint32_t, std::uint64_t>>>;
+
+/* The bits of a value with zeros above them, so that a negative number fits its field, and a float keeps its bits. */
+template <field T> constexpr std::uint64_t bits(T value) noexcept { return std::bit_cast<unsigned_of<sizeof(T)>>(value); }
+
+/* The value of these bits. */
+template <field T> constexpr T value(std::uint64_t number) noexcept {
+    if constexpr (std::same_as<T, bool>) return number != 0;
+    else return std::bit_cast<T>(static_cast<unsigned_of<sizeof(T)>>(number));
+}
+
+/* What a handle holds is let go; a CPU and the consumer go home, and can't where the handle is empty. */
+template <typename Handle> void leave(Handle *handle) noexcept { dspec_drop(handle); }
+template <> inline void leave(dspec_cpu *handle) noexcept { dspec_cpu_home(handle); }
+template <> inline void leave(dspec_consumer *handle) noexcept { dspec_consumer_home(handle); }
+
+/* Owns a handle of one kind. */
+template <typename Handle> class owned {
+    Handle handle_ = DSPEC_EMPTY;
+
+public:
+    owned() = default;
+    owned(owned &&other) noexcept : handle_(std::exchange(other.handle_, Handle{})) {}
+    owned &operator=(owned &&other) noexcept {
+        if (this != &other) {
+            leave(&handle_);
+            handle_ = std::exchange(other.handle_, Handle{});
+        }
+        return *this;
+    }
+    ~owned() { leave(&handle_); }
+
+    /* The handle, for a call of dspec.h. */
+    Handle *get() noexcept { return &handle_; }
+};
+
+} /* namespace detail */
+
+/* An enabling with its fields in its type: what it is called with is converted as an argument of a function is. */
+template <field... Fields> struct probe {
+    static_assert(sizeof...(Fields) <= DSPEC_MAX_FIELDS, "a record has at most eight fields");
+    static constexpr std::size_t fields = sizeof...(Fields);
+
+    std::uint32_t epid = 0; /* 0 of a probe that wasn't enabled, whose records are DSPEC_BAD_RECORD */
+
+    /* The values of a record of this probe; none of another's. */
+    std::optional<std::tuple<Fields...>> read(const dspec_record &record) const noexcept {
+        if (record.epid != epid || record.fields != fields) return std::nullopt;
+        return read_all(record, std::index_sequence_for<Fields...>{});
+    }
+
+private:
+    template <std::size_t... places> static std::tuple<Fields...> read_all(const dspec_record &record, std::index_sequence<places...>) noexcept {
+        return {detail::value<Fields>(record.values[places])...};
+    }
+};
+
+/* Which records there are: probes are enabled one after another. */
+class schema : public detail::owned<dspec_schema> {
+    dspec_layout layout_{};
+
+public:
+    schema() { check(dspec_schema_new(get())); }
+
+    template <field... Fields> probe<Fields...> enable() {
+        static constexpr std::array<std::uint8_t, sizeof...(Fields) + 1> widths{sizeof(Fields)..., 0};
+        probe<Fields...> made;
+        check(dspec_layout_enable(&layout_, get(), widths.data(), sizeof...(Fields), &made.epid));
+        return made;
+    }
+
+    /* From now on records have a stamp. */
+    void stamp() {
+        check(dspec_schema_stamp(get()));
+        layout_.stamped = true;
+    }
+
+    const dspec_layout &layout() const noexcept { return layout_; }
+};
+
+/* Goes over the records of some bytes, to their end or to the first place where none of this layout begins. */
+class records {
+    const dspec_layout *layout_;
+    std::span<const std::uint8_t> bytes_;
+
+public:
+    class iterator {
+        const records *over_ = nullptr;
+        std::size_t at_ = 0;
+        dspec_record one_{};
+
+    public:
+        using value_type = dspec_record;
+        using difference_type = std::ptrdiff_t;
+        iterator() = default;
+        explicit iterator(const records &over) noexcept : over_(&over) { ++*this; }
+        const dspec_record &operator*() const noexcept { return one_; }
+        iterator &operator++() noexcept {
+            if (dspec_read(over_->layout_, over_->bytes_.data(), over_->bytes_.size(), &at_, &one_) != DSPEC_READ) over_ = nullptr;
+            return *this;
+        }
+        void operator++(int) noexcept { ++*this; }
+        bool operator==(std::default_sentinel_t) const noexcept { return over_ == nullptr; }
+    };
+
+    records(const dspec_layout &layout, const dspec_batch &batch) noexcept : layout_(&layout), bytes_(batch.bytes, batch.len) {}
+    iterator begin() const noexcept { return iterator(*this); }
+    std::default_sentinel_t end() const noexcept { return {}; }
+};
+
+class path;
+
+/* A decision, and how many records of this CPU it was of. */
+struct decided {
+    dspec_status status;
+    std::uint32_t records;
+};
+
+/* One CPU's calls. Where the value ends, the CPU goes home. */
+class cpu : public detail::owned<dspec_cpu> {
+    template <field... Fields> static std::array<std::uint64_t, sizeof...(Fields) + 1> row(Fields... values) noexcept {
+        return {detail::bits(values)..., 0};
+    }
+
+public:
+    template <field... Fields> dspec_status trace(probe<Fields...> of, std::type_identity_t<Fields>... values) noexcept {
+        return trace_at(of, 0, values...);
+    }
+    template <field... Fields> dspec_status trace_at(probe<Fields...> of, std::uint64_t stamp, std::type_identity_t<Fields>... values) noexcept {
+        return dspec_trace(get(), of.epid, stamp, row<Fields...>(values...).data(), sizeof...(Fields));
+    }
+    template <field... Fields> dspec_status speculate(std::uint64_t id, probe<Fields...> of, std::type_identity_t<Fields>... values) noexcept {
+        return speculate_at(id, of, 0, values...);
+    }
+    template <field... Fields>
+    dspec_status speculate_at(std::uint64_t id, probe<Fields...> of, std::uint64_t stamp, std::type_identity_t<Fields>... values) noexcept {
+        return dspec_speculate(get(), id, of.epid, stamp, row<Fields...>(values...).data(), sizeof...(Fields));
+    }
+    decided commit(std::uint64_t id) noexcept {
+        decided told{DSPEC_OK, 0};
+        told.status = dspec_commit(get(), id, &told.records);
+        return told;
+    }
+    decided discard(std::uint64_t id) noexcept {
+        decided told{DSPEC_OK, 0};
+        told.status = dspec_discard(get(), id, &told.records);
+        return told;
+    }
+
+    /* To be called now and then between the other calls; whether a batch was handed on. */
+    bool service() noexcept {
+        bool sealed = false;
+        std::uint32_t settled = 0;
+        dspec_service(get(), &sealed, &settled);
+        return sealed;
+    }
+    dspec_report report() {
+        dspec_report told;
+        check(dspec_cpu_report(get(), &told));
+        return told;
+    }
+
+    /* A path on this CPU, which has to outlive it. */
+    [[nodiscard]] path open() noexcept;
+};
+
+/* A speculation on the CPU that opened it, which is thrown away where its scope ends undecided: by an early return, or an exception. Where
+ * none could be opened, `opened` says why, and its steps are counted as void. */
+class path {
+    cpu *on_;
+    std::uint64_t id_ = 0;
+    dspec_status opened_;
+
+public:
+    explicit path(cpu &on) noexcept : on_(&on), opened_(dspec_speculation(on.get(), &id_)) {}
+    path(path &&other) noexcept : on_(std::exchange(other.on_, nullptr)), id_(other.id_), opened_(other.opened_) {}
+    path &operator=(path &&) = delete;
+    ~path() {
+        if (on_ && opened_ == DSPEC_OK) on_->discard(id_);
+    }
+
+    dspec_status opened() const noexcept { return opened_; }
+    /* For `speculate` on other CPUs. */
+    std::uint64_t id() const noexcept { return id_; }
+
+    template <field... Fields> dspec_status step(probe<Fields...> of, std::type_identity_t<Fields>... values) noexcept {
+        return step_at(of, 0, values...);
+    }
+    template <field... Fields> dspec_status step_at(probe<Fields...> of, std::uint64_t stamp, std::type_identity_t<Fields>... values) noexcept {
+        return on_ ? on_->speculate_at(id_, of, stamp, values...) : DSPEC_VOID;
+    }
+
+    /* Each decides once; behind it, and behind a move, the path takes no step and no decision: DSPEC_VOID. */
+    decided keep() noexcept {
+        cpu *on = std::exchange(on_, nullptr);
+        return on ? on->commit(id_) : decided{DSPEC_VOID, 0};
+    }
+    decided discard() noexcept {
+        cpu *on = std::exchange(on_, nullptr);
+        return on ? on->discard(id_) : decided{DSPEC_VOID, 0};
+    }
+};
+
+inline path cpu::open() noexcept { return path(*this); }
+
+/* The consumer's calls. Where the value ends, the consumer goes home. */
+class consumer : public detail::owned<dspec_consumer> {
+public:
+    /* Asks a CPU for a batch, and hands one that has come to `see`, behind which it goes back; whether one had come. */
+    template <std::invocable<const dspec_batch &> See> bool take(std::uint32_t number, See &&see) {
+        check(dspec_ask(get(), number));
+        dspec_batch batch;
+        dspec_status status = dspec_take(get(), number, &batch);
+        if (status == DSPEC_NO_BATCH) return false;
+        check(status);
+        struct giving_back {
+            consumer *by;
+            std::uint32_t number;
+            ~giving_back() { dspec_give_back(by->get(), number); }
+        } at_the_end{this, number};
+        see(std::as_const(batch));
+        return true;
+    }
+    /* How many slots it freed. */
+    std::uint32_t clean() noexcept {
+        std::uint32_t released = 0;
+        dspec_clean(get(), &released);
+        return released;
+    }
+    void stop() noexcept { dspec_stop(get()); }
+};
+
+/* What was left of a session that has ended. */
+class closed : public detail::owned<dspec_closed> {
+public:
+    dspec_report report(std::uint32_t number) {
+        dspec_report told;
+        check(dspec_closed_report(get(), number, &told));
+        return told;
+    }
+    /* The batch that was handed on and never taken, or with `last` the principal buffer. Its bytes are this value's. */
+    std::optional<dspec_batch> rest(std::uint32_t number, bool last) {
+        dspec_batch batch;
+        dspec_status status = dspec_rest(get(), number, last, &batch);
+        if (status == DSPEC_NO_BATCH) return std::nullopt;
+        check(status);
+        return batch;
+    }
+};
+
+/* A session from its start to its end. */
+class session : public detail::owned<dspec_session> {
+public:
+    session(const dspec_config &config, schema &of) { check(dspec_start(&config, of.get(), get())); }
+
+    /* Each CPU, and the consumer, is handed out once. */
+    [[nodiscard]] dspec::cpu cpu_of(std::uint32_t number) {
+        dspec::cpu made;
+        check(dspec_cpu_of(get(), number, made.get()));
+        return made;
+    }
+    [[nodiscard]] dspec::consumer consumer_of() {
+        dspec::consumer made;
+        check(dspec_consumer_of(get(), made.get()));
+        return made;
+    }
+    /* Once all that was handed out is home; else it throws DSPEC_NOT_HOME, and the session goes on. */
+    [[nodiscard]] closed finish() {
+        closed made;
+        check(dspec_finish(get(), made.get()));
+        return made;
+    }
+};
+
+} /* namespace dspec */
+#endif
