@@ -2,7 +2,7 @@
 
 use std::env;
 use std::fs;
-use std::process::Command;
+use std::process::{exit, Command};
 
 fn main() {
     println!("cargo:rerun-if-changed=build.rs");
@@ -10,8 +10,11 @@ fn main() {
     println!("cargo:rerun-if-env-changed=PKG_CONFIG_PATH");
     if let Ok(named) = env::var("DSPEC_LIB_DIR") {
         let Ok(folder) = fs::canonicalize(&named) else {
-            panic!("DSPEC_LIB_DIR names a folder that isn't there: {named}");
+            fail(&format!("DSPEC_LIB_DIR names a folder that isn't there: {named}"));
         };
+        if !folder.join("libdspec.a").exists() {
+            fail(&format!("there is no libdspec.a in the folder that DSPEC_LIB_DIR names: {named}"));
+        }
         let folder = folder.display();
         println!("cargo:rerun-if-changed={folder}/libdspec.a");
         println!("cargo:rustc-link-search=native={folder}");
@@ -25,8 +28,13 @@ fn main() {
             }
         }
     } else {
-        println!("cargo:warning=neither DSPEC_LIB_DIR nor pkg-config says where libdspec is: nothing can be linked");
+        fail("neither DSPEC_LIB_DIR nor pkg-config says where libdspec is: `make lib` leaves it in build/lib");
     }
+}
+
+fn fail(why: &str) -> ! {
+    eprintln!("dspec: {why}");
+    exit(1)
 }
 
 fn flags_of_pkg_config() -> Option<String> {

@@ -7,12 +7,32 @@ impl SpecId {
     pub const NONE: SpecId = SpecId(0);
 
     /// The identifier of a number.
+    #[must_use]
     pub fn from_raw(number: u64) -> SpecId {
         SpecId(number)
     }
 
     /// Its number, to be sent to another thread by an atomic, say.
+    #[must_use]
     pub fn raw(self) -> u64 {
+        self.0
+    }
+}
+
+/// Which enabling a record is of: 1, 2, .. in the order in which a schema enabled them.
+#[derive(Clone, Copy, Debug, PartialEq, Eq, PartialOrd, Ord, Hash)]
+pub struct Epid(u32);
+
+impl Epid {
+    /// The EPID of a number; one that no schema gave out is of no record.
+    #[must_use]
+    pub fn from_raw(number: u32) -> Epid {
+        Epid(number)
+    }
+
+    /// Its number, as it stands in a batch.
+    #[must_use]
+    pub fn raw(self) -> u32 {
         self.0
     }
 }
@@ -31,6 +51,7 @@ pub enum Traced {
 }
 
 /// What [`Cpu::speculation`](crate::Cpu::speculation) answers.
+#[must_use = "a speculation that nobody decides keeps its slot"]
 #[derive(Clone, Copy, Debug, PartialEq, Eq, Hash)]
 pub enum Opening {
     /// A speculation was opened.
@@ -47,6 +68,7 @@ pub enum Opening {
 
 impl Opening {
     /// The identifier, or [`SpecId::NONE`], for which records are void.
+    #[must_use]
     pub fn id(self) -> SpecId {
         match self {
             Opening::Id(id) => id,

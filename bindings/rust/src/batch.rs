@@ -1,50 +1,64 @@
 use crate::consumer::give_back;
 use crate::handle::Handle;
-use crate::raw;
 use crate::schema::Layouts;
+use crate::{raw, Epid};
 
 /// A principal buffer that was handed on. One that a [`Consumer`](crate::Consumer) took goes back when this is dropped.
+#[derive(Debug)]
 pub struct Batch<'a> {
-    batch: raw::Batch,
+    told: raw::Batch,
     layouts: &'a Layouts,
     consumer: Option<&'a Handle>,
 }
 
 impl<'a> Batch<'a> {
     pub(crate) fn of(batch: raw::Batch, layouts: &'a Layouts, consumer: Option<&'a Handle>) -> Batch<'a> {
-        Batch { batch, layouts, consumer }
+        Batch { told: batch, layouts, consumer }
     }
 
     /// Whose it is.
+    #[must_use]
     pub fn cpu(&self) -> u32 {
-        self.batch.cpu
+        self.told.cpu
     }
 
     /// How many reservations the principal buffer has refused since it was last switched.
+    #[must_use]
     pub fn drops(&self) -> u64 {
-        self.batch.drops
+        self.told.drops
     }
 
     /// Its records as they are stored; `dspec.h` says how.
+    #[must_use]
     pub fn bytes(&self) -> &[u8] {
-        if self.batch.len == 0 {
+        if self.told.len == 0 {
             return &[];
         }
         // SAFETY: the bytes stay where they are until the batch is given back, which is at its drop, or until the closed session that
         // it borrows is let go; nobody writes to them meanwhile.
-        unsafe { std::slice::from_raw_parts(self.batch.bytes, self.batch.len) }
+        unsafe { std::slice::from_raw_parts(self.told.bytes, self.told.len) }
     }
 
     /// Its records, in order.
+    #[must_use]
     pub fn records(&self) -> Records<'_> {
         Records { bytes: self.bytes(), at: 0, layouts: self.layouts }
+    }
+}
+
+impl<'a> IntoIterator for &'a Batch<'_> {
+    type Item = Record;
+    type IntoIter = Records<'a>;
+
+    fn into_iter(self) -> Records<'a> {
+        self.records()
     }
 }
 
 impl Drop for Batch<'_> {
     fn drop(&mut self) {
         if let Some(consumer) = self.consumer {
-            give_back(consumer, self.batch.cpu);
+            give_back(consumer, self.told.cpu);
         }
     }
 }
@@ -53,7 +67,7 @@ impl Drop for Batch<'_> {
 #[derive(Clone, Copy, Debug, PartialEq, Eq, Hash)]
 pub struct Record {
     /// Of which enabling it is.
-    pub epid: u32,
+    pub epid: Epid,
     /// Its stamp; 0 where records have none.
     pub stamp: u64,
     values: [u64; 8],
@@ -62,6 +76,7 @@ pub struct Record {
 
 impl Record {
     /// Its values, one a field.
+    #[must_use]
     pub fn values(&self) -> &[u64] {
         &self.values[..self.count]
     }
@@ -72,6 +87,7 @@ impl Record {
 /// # Panics
 ///
 /// Where the bytes aren't records of the session's schema, which the library's proofs rule out.
+#[derive(Clone, Debug)]
 pub struct Records<'a> {
     bytes: &'a [u8],
     at: usize,
@@ -98,9 +114,9 @@ impl Iterator for Records<'_> {
             if start == self.bytes.len() {
                 return None;
             }
-            epid = self.number(4) as u32;
+            epid = self.number(4).try_into().expect("four bytes");
         }
-        let mut record = Record { epid, stamp: 0, values: [0; 8], count: 0 };
+        let mut record = Record { epid: Epid::from_raw(epid), stamp: 0, values: [0; 8], count: 0 };
         if self.layouts.stamped {
             record.stamp = self.number(8);
         }

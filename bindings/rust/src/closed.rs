@@ -5,6 +5,7 @@ use crate::{raw, Batch, Error, Report};
 use std::sync::Arc;
 
 /// A session that has ended: what nobody took, and the last counts.
+#[derive(Debug)]
 pub struct Closed {
     handle: Handle,
     layouts: Arc<Layouts>,
@@ -12,6 +13,7 @@ pub struct Closed {
 }
 
 /// What was left of a CPU. Its stream is what was taken of it, in order, then these.
+#[derive(Debug)]
 pub struct Rest<'a> {
     /// The batch that was handed on and that nobody took, if there is one.
     pub untaken: Option<Batch<'a>>,
@@ -25,11 +27,16 @@ impl Closed {
     }
 
     /// How many CPUs the session had.
+    #[must_use]
     pub fn cpus(&self) -> u32 {
         self.cpus
     }
 
     /// What was left of a CPU.
+    ///
+    /// # Errors
+    ///
+    /// [`Error::NoSuchCpu`].
     pub fn rest(&self, cpu: u32) -> Result<Rest<'_>, Error> {
         let untaken = self.batch(cpu, false)?;
         let last = self.batch(cpu, true)?.ok_or(Error::Unknown(raw::NO_BATCH))?;
@@ -47,6 +54,10 @@ impl Closed {
     }
 
     /// The counts of a CPU, to its end.
+    ///
+    /// # Errors
+    ///
+    /// [`Error::NoSuchCpu`].
     pub fn report(&self, cpu: u32) -> Result<Report, Error> {
         let mut report = Report::default();
         // SAFETY: as above; `Report` has the fields of `dspec_report`.

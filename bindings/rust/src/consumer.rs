@@ -6,6 +6,7 @@ use std::sync::Arc;
 
 /// What takes the principal buffers, batch by batch, and frees the slots of speculations. When it is dropped it goes home to its
 /// session.
+#[derive(Debug)]
 pub struct Consumer {
     handle: Handle,
     layouts: Arc<Layouts>,
@@ -18,12 +19,20 @@ impl Consumer {
 
     /// Asks a CPU for a batch: its next service switches its principal buffers. Asking twice before that batch was taken is asking
     /// once.
+    ///
+    /// # Errors
+    ///
+    /// [`Error::NoSuchCpu`].
     pub fn ask(&mut self, cpu: u32) -> Result<(), Error> {
         // SAFETY: the handle is in no other call.
         answered(unsafe { raw::dspec_ask(self.handle.at(), cpu) })
     }
 
     /// The next batch of a CPU, if one has come. It goes back to that CPU when it is dropped.
+    ///
+    /// # Errors
+    ///
+    /// [`Error::NoSuchCpu`].
     pub fn take(&mut self, cpu: u32) -> Result<Option<Batch<'_>>, Error> {
         let mut batch = raw::Batch::NONE;
         let mut status = self.take_into(cpu, &mut batch);

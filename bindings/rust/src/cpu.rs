@@ -1,10 +1,11 @@
 use crate::error::never_refused;
 use crate::handle::Handle;
 use crate::raw::{self, Status};
-use crate::{Decided, Error, Opening, Report, Served, SpecId, Spoken, Traced};
+use crate::{Decided, Epid, Error, Opening, Path, Report, Served, SpecId, Spoken, Traced};
 
 /// A lane of the trace, which one thread at a time has. When it is dropped it goes home to its session, also where its thread panics.
 /// No call waits, and none takes memory.
+#[derive(Debug)]
 pub struct Cpu {
     handle: Handle,
 }
@@ -14,10 +15,14 @@ impl Cpu {
         Cpu { handle }
     }
 
-    /// Traces a record into the principal buffer. `stamp` is 0 where records have none. The one error is [`Error::BadRecord`].
-    pub fn trace(&mut self, epid: u32, stamp: u64, values: &[u64]) -> Result<Traced, Error> {
+    /// Traces a record into the principal buffer. `stamp` is 0 where records have none.
+    ///
+    /// # Errors
+    ///
+    /// [`Error::BadRecord`] alone: nothing was done, and nothing counted.
+    pub fn trace(&mut self, epid: Epid, stamp: u64, values: &[u64]) -> Result<Traced, Error> {
         // SAFETY: the pointer is to as many values as is told, and the handle is in no other call.
-        match unsafe { raw::dspec_trace(self.handle.at(), epid, stamp, values.as_ptr(), values.len()) } {
+        match unsafe { raw::dspec_trace(self.handle.at(), epid.raw(), stamp, values.as_ptr(), values.len()) } {
             raw::OK => Ok(Traced::Kept),
             raw::DROPPED => Ok(Traced::Dropped),
             raw::STOPPED => Ok(Traced::Stopped),
@@ -26,7 +31,12 @@ impl Cpu {
         }
     }
 
-    /// Opens a speculation.
+    /// Opens a speculation that is decided when it is dropped at the latest.
+    pub fn path(&mut self) -> Path<'_> {
+        Path::on(self)
+    }
+
+    /// Opens a speculation, which has to be decided: else its slot stays taken.
     pub fn speculation(&mut self) -> Opening {
         let mut id = 0;
         // SAFETY: the pointers are valid, and the handle is in no other call.
@@ -40,10 +50,14 @@ impl Cpu {
         }
     }
 
-    /// Offers a record to a speculation, of this CPU or of another. The one error is [`Error::BadRecord`].
-    pub fn speculate(&mut self, id: SpecId, epid: u32, stamp: u64, values: &[u64]) -> Result<Spoken, Error> {
+    /// Offers a record to a speculation, of this CPU or of another.
+    ///
+    /// # Errors
+    ///
+    /// [`Error::BadRecord`] alone: nothing was done, and nothing counted.
+    pub fn speculate(&mut self, id: SpecId, epid: Epid, stamp: u64, values: &[u64]) -> Result<Spoken, Error> {
         // SAFETY: as in `trace`.
-        match unsafe { raw::dspec_speculate(self.handle.at(), id.raw(), epid, stamp, values.as_ptr(), values.len()) } {
+        match unsafe { raw::dspec_speculate(self.handle.at(), id.raw(), epid.raw(), stamp, values.as_ptr(), values.len()) } {
             raw::OK => Ok(Spoken::Kept),
             raw::DROPPED => Ok(Spoken::Dropped),
             raw::VOID => Ok(Spoken::Void),

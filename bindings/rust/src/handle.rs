@@ -5,6 +5,7 @@ use std::cell::UnsafeCell;
 
 /// A handle, let go when it is dropped. The cell makes its owner not `Sync`, so that a handle is never in two calls at a time: a call
 /// returns before its thread can make the next.
+#[derive(Debug)]
 pub(crate) struct Handle(UnsafeCell<Words>);
 
 // SAFETY: a handle isn't bound to a thread. What the handles of one session share are atomics and rings inside the library, and a

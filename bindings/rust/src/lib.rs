@@ -4,27 +4,28 @@
 //! of which one thread at a time has, and one [`Consumer`]. A CPU traces records into its own principal buffer, or offers them to a
 //! speculation, which is committed or discarded later. The consumer takes the principal buffers, batch by batch. Nothing waits.
 //!
-//! What the header asks of C is kept by types here: a handle is in one call at a time (`&mut self`, and nothing is `Sync`), what was
-//! handed out is owned once, the bytes of a [`Batch`] are borrowed from where they stand, and what is dropped goes home.
+//! What the header asks of C is kept by types here: a handle is in one call at a time (`&mut self`), what was
+//! handed out is owned once, the bytes of a [`Batch`] are borrowed from where they stand, and what is dropped goes home. A [`Path`] that is
+//! dropped undecided is thrown away.
 //!
 //! ```
-//! use dspec::{Config, Schema, Session, Width};
+//! use dspec::{Config, Schema, Session};
 //!
 //! # fn main() -> Result<(), Box<dyn std::error::Error>> {
 //! let mut schema = Schema::new()?;
-//! let step = schema.enable(&[Width::Four, Width::Four])?;
+//! let step = schema.probe::<(u32, bool)>()?;
 //! let mut session = Session::start(&Config::of_cpus(1), &schema)?;
 //! let mut cpu = session.cpu(0)?;
 //!
 //! let worker = std::thread::spawn(move || -> Result<(), dspec::Error> {
 //!     for request in 0..10 {
-//!         let id = cpu.speculation().id();
-//!         cpu.speculate(id, step, 0, &[request, 0])?;
-//!         cpu.speculate(id, step, 0, &[request, 1])?;
+//!         let mut path = cpu.path();
+//!         step.step(&mut path, 0, (request, false))?;
+//!         step.step(&mut path, 0, (request, true))?;
 //!         if request == 7 {
-//!             cpu.commit(id);
+//!             path.keep();
 //!         } else {
-//!             cpu.discard(id);
+//!             path.throw();
 //!         }
 //!         cpu.service();
 //!     }
@@ -34,8 +35,8 @@
 //!
 //! let closed = session.finish()?;
 //! let rest = closed.rest(0)?;
-//! let kept: Vec<Vec<u64>> = rest.last.records().map(|record| record.values().to_vec()).collect();
-//! assert_eq!(kept, [[7, 0], [7, 1]]);
+//! let kept: Vec<_> = rest.last.records().filter_map(|record| step.read(&record)).collect();
+//! assert_eq!(kept, [(7, false), (7, true)]);
 //! assert_eq!(closed.report(0)?.discarded, 18);
 //! # Ok(())
 //! # }
@@ -46,6 +47,9 @@
 //! The package links `libdspec` from the folder that the environment variable `DSPEC_LIB_DIR` names, or else from where pkg-config
 //! has `dspec`.
 #![deny(missing_docs)]
+#![warn(clippy::pedantic)]
+// `&mut x` for a C pointer; a batch's records are gone over by `records`; a decision need not be looked at, since the report counts it.
+#![allow(clippy::borrow_as_ptr, clippy::into_iter_without_iter, clippy::must_use_candidate)]
 #![deny(unsafe_op_in_unsafe_fn)]
 
 mod answers;
@@ -55,20 +59,25 @@ mod consumer;
 mod cpu;
 mod error;
 mod handle;
+mod path;
+mod probe;
 mod raw;
 mod schema;
 mod session;
 
-pub use answers::{Decided, Opening, Report, Served, SpecId, Spoken, Traced};
+pub use answers::{Decided, Epid, Opening, Report, Served, SpecId, Spoken, Traced};
 pub use batch::{Batch, Record, Records};
 pub use closed::{Closed, Rest};
 pub use consumer::Consumer;
 pub use cpu::Cpu;
 pub use error::Error;
+pub use path::Path;
+pub use probe::{Field, Fields, Probe};
 pub use schema::{Schema, Width};
 pub use session::{Config, NotHome, Policy, Session};
 
 /// The library's version: major, minor and patch.
+#[must_use]
 pub fn library_version() -> (u32, u32, u32) {
     // SAFETY: it takes nothing.
     let version = unsafe { raw::dspec_version() };

@@ -47,6 +47,7 @@ pub(crate) struct Config {
 }
 
 #[repr(C)]
+#[derive(Debug)]
 pub(crate) struct Batch {
     pub(crate) bytes: *const u8,
     pub(crate) len: usize,

@@ -34,15 +34,24 @@ pub struct Config {
     pub policy: Policy,
 }
 
+impl Default for Config {
+    /// [`Config::of_cpus`] of one CPU.
+    fn default() -> Config {
+        Config::of_cpus(1)
+    }
+}
+
 impl Config {
     /// So many CPUs, 8 speculations at a time, principal buffers of 64 KiB, speculative ones of 4 KiB, the greatest bounds, and
     /// [`Policy::Switch`].
+    #[must_use]
     pub fn of_cpus(cpus: u32) -> Config {
         Config { cpus, nspec: 8, bufsize: 65536, specsize: 4096, max_issues: 1 << 57, max_calls: 1 << 62, policy: Policy::Switch }
     }
 }
 
 /// A session between its start and its end. Its CPUs and its consumer go to threads of their own, and come home when they are dropped.
+#[derive(Debug)]
 pub struct Session {
     handle: Handle,
     layouts: Arc<Layouts>,
@@ -51,6 +60,10 @@ pub struct Session {
 
 impl Session {
     /// Starts a session over the schema as it is now. It takes all memory that its CPUs and its consumer will need.
+    ///
+    /// # Errors
+    ///
+    /// The first field of `config` that is out of range, else [`Error::Memory`].
     pub fn start(config: &Config, schema: &Schema) -> Result<Session, Error> {
         let given = raw::Config {
             cpus: config.cpus,
@@ -71,6 +84,10 @@ impl Session {
     }
 
     /// Hands out the CPU of this number, from 0 on, once.
+    ///
+    /// # Errors
+    ///
+    /// [`Error::NoSuchCpu`], [`Error::Out`], [`Error::Memory`].
     pub fn cpu(&mut self, number: u32) -> Result<Cpu, Error> {
         let cpu = Handle::empty();
         // SAFETY: the handle to be filled is empty, and nobody else has this session's.
@@ -79,6 +96,10 @@ impl Session {
     }
 
     /// Hands out the consumer, once.
+    ///
+    /// # Errors
+    ///
+    /// [`Error::Out`], [`Error::Memory`].
     pub fn consumer(&mut self) -> Result<Consumer, Error> {
         let consumer = Handle::empty();
         // SAFETY: as above.
@@ -86,8 +107,15 @@ impl Session {
         Ok(Consumer::of(consumer, self.layouts.clone()))
     }
 
-    /// Ends the session, whose CPUs and consumer were dropped or never handed out. Where one of them is still somewhere, the session
-    /// comes back.
+    /// Ends the session, whose CPUs and consumer were dropped or never handed out.
+    ///
+    /// # Errors
+    ///
+    /// [`NotHome`], with the session, where one of them is still somewhere.
+    ///
+    /// # Panics
+    ///
+    /// Where the library lost the session, to which no way is known, or is of another version than this package.
     pub fn finish(self) -> Result<Closed, NotHome> {
         let closed = Handle::empty();
         // SAFETY: as above.
@@ -99,21 +127,20 @@ impl Session {
     }
 }
 
+// SAFETY: no method takes `&Session`, so that threads which share one can't make a call.
+unsafe impl Sync for Session {}
+
 /// A session that couldn't end, since a CPU or the consumer isn't home.
+#[derive(Debug)]
 pub struct NotHome {
     session: Session,
 }
 
 impl NotHome {
     /// The session, which goes on as it was.
+    #[must_use]
     pub fn into_session(self) -> Session {
         self.session
-    }
-}
-
-impl fmt::Debug for NotHome {
-    fn fmt(&self, f: &mut fmt::Formatter<'_>) -> fmt::Result {
-        f.write_str("NotHome")
     }
 }
 

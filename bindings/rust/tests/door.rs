@@ -1,11 +1,12 @@
 //! What the package's types make of the library's calls.
 
 use dspec::{
-    Closed, Config, Consumer, Cpu, Decided, Error, Opening, Policy, Report, Schema, Served, Session, SpecId, Spoken, Traced, Width,
+    Closed, Config, Consumer, Cpu, Decided, Epid, Error, NotHome, Opening, Policy, Report, Schema, Served, Session, SpecId, Spoken, Traced,
+    Width,
 };
 
 /// One CPU and its consumer, over records of one field of 4 bytes: principal buffers of 8 records, speculative ones of 3.
-fn small(max_calls: u64) -> (Session, Cpu, Consumer, u32) {
+fn small(max_calls: u64) -> (Session, Cpu, Consumer, Epid) {
     let mut schema = Schema::new().unwrap();
     let epid = schema.enable(&[Width::Four]).unwrap();
     let config = Config { nspec: 2, bufsize: 64, specsize: 24, max_calls, ..Config::of_cpus(2) };
@@ -145,18 +146,19 @@ fn what_is_out_comes_home() {
 fn refused_records_and_schemas() {
     let mut schema = Schema::new().unwrap();
     assert_eq!(schema.enable(&[Width::One; 9]), Err(Error::TooManyFields));
-    assert_eq!(schema.enable(&[Width::One]), Ok(1));
+    assert_eq!(schema.enable(&[Width::One]), Ok(Epid::from_raw(1)));
     for epid in 2..=64 {
-        assert_eq!(schema.enable(&[]), Ok(epid));
+        assert_eq!(schema.enable(&[]).map(Epid::raw), Ok(epid));
     }
     assert_eq!(schema.enable(&[]), Err(Error::TooManyEnablings));
     let mut session = Session::start(&Config::of_cpus(1), &schema).unwrap();
     let mut cpu = session.cpu(0).unwrap();
-    assert_eq!(cpu.trace(1, 0, &[255]), Ok(Traced::Kept));
-    assert_eq!(cpu.trace(2, 0, &[]), Ok(Traced::Kept));
+    assert_eq!(cpu.trace(Epid::from_raw(1), 0, &[255]), Ok(Traced::Kept));
+    assert_eq!(cpu.trace(Epid::from_raw(2), 0, &[]), Ok(Traced::Kept));
     for (epid, stamp, values) in
         [(1, 0, &[256][..]), (1, 0, &[]), (1, 0, &[1, 2]), (1, 1, &[1]), (0, 0, &[]), (65, 0, &[]), (2, 0, &[0; 9])]
     {
+        let epid = Epid::from_raw(epid);
         assert_eq!(cpu.trace(epid, stamp, values), Err(Error::BadRecord));
         assert_eq!(cpu.speculate(SpecId::from_raw(1), epid, stamp, values), Err(Error::BadRecord));
     }
@@ -199,6 +201,77 @@ fn records_with_stamps_gaps_and_padding() {
     let due = [(none, 7, vec![]), (wide, 7, wide_values.clone()), (none, u64::MAX, vec![]), (wide, u64::MAX, wide_values)];
     assert_eq!(told, due);
     assert_eq!(last.bytes().len(), 12 + 4 + 28 + 12 + 28);
+}
+
+fn leaves_early(cpu: &mut Cpu, epid: Epid) -> Result<(), Error> {
+    let mut path = cpu.path();
+    path.step(epid, 0, &[1])?;
+    path.step(epid, 0, &[1 << 32])?;
+    path.keep();
+    Ok(())
+}
+
+#[test]
+fn a_path_that_is_left_is_thrown_away() {
+    let (session, mut cpu, _, epid) = small(1 << 62);
+    for _ in 0..100 {
+        assert_eq!(leaves_early(&mut cpu, epid), Err(Error::BadRecord));
+    }
+    assert_eq!((cpu.report().discarded, cpu.report().unavailable), (100, 0));
+    let panicked = std::panic::catch_unwind(std::panic::AssertUnwindSafe(|| {
+        let mut path = cpu.path();
+        path.step(epid, 0, &[1]).unwrap();
+        panic!("behind a step");
+    }));
+    assert!(panicked.is_err());
+    assert_eq!(cpu.report().discarded, 101);
+    let mut kept = cpu.path();
+    assert_eq!(kept.step(epid, 0, &[7]), Ok(Spoken::Kept));
+    let id = kept.id();
+    assert_eq!(kept.cpu().speculate(id, epid, 0, &[8]), Ok(Spoken::Kept));
+    assert_eq!(kept.keep(), Decided::Copied(2));
+    assert_eq!(cpu.path().throw(), Decided::Thrown(0));
+    drop(cpu);
+    assert_eq!(values(&session.finish().unwrap(), 0), [7, 8]);
+}
+
+#[test]
+fn a_path_that_cannot_be_opened_says_why() {
+    let (_session, mut cpu, _, epid) = small(1 << 62);
+    let ids = [cpu.speculation(), cpu.speculation()].map(Opening::id);
+    let mut path = cpu.path();
+    assert_eq!(path.opening(), Opening::Unavailable);
+    assert_eq!(path.step(epid, 0, &[1]), Ok(Spoken::Void));
+    assert_eq!(path.keep(), Decided::Void);
+    drop(cpu.path());
+    assert_eq!(ids.map(|id| cpu.discard(id)), [Decided::Thrown(0); 2]);
+    assert_eq!((cpu.report().void, cpu.report().unavailable), (1, 2));
+}
+
+#[test]
+fn probes_keep_the_bits_of_their_values() {
+    let mut schema = Schema::new().unwrap();
+    let whole = schema.probe::<(i8, bool, f32, f64, i32, u16, i64, u64)>().unwrap();
+    let none = schema.probe::<()>().unwrap();
+    let mut session = Session::start(&Config::default(), &schema).unwrap();
+    let mut cpu = session.cpu(0).unwrap();
+    let values = (-128, true, -0.5, f64::INFINITY, -1, 0xffff, i64::MIN, u64::MAX);
+    assert_eq!(whole.trace(&mut cpu, 0, values), Ok(Traced::Kept));
+    assert_eq!(none.trace(&mut cpu, 0, ()), Ok(Traced::Kept));
+    assert_eq!(none.trace(&mut cpu, 1, ()), Err(Error::BadRecord));
+    let mut path = cpu.path();
+    assert_eq!(none.step(&mut path, 0, ()), Ok(Spoken::Kept));
+    let id = path.id();
+    assert_eq!(none.speculate(path.cpu(), id, 0, ()), Ok(Spoken::Kept));
+    assert_eq!(path.keep(), Decided::Copied(2));
+    drop(cpu);
+    let closed = session.finish().unwrap();
+    let last = closed.rest(0).unwrap().last;
+    let records: Vec<_> = (&last).into_iter().collect();
+    assert_eq!(records.len(), 4);
+    assert_eq!(records[0].values()[..3], [0x80, 1, 0xbf00_0000]);
+    assert_eq!(whole.read(&records[0]), Some(values));
+    assert_eq!((none.read(&records[0]), none.read(&records[1]), whole.read(&records[1])), (None, Some(()), None));
 }
 
 #[test]
@@ -259,6 +332,10 @@ fn what_may_go_to_other_threads() {
     is_send::<Cpu>();
     is_send::<Consumer>();
     is_send::<Closed>();
+    // As `anyhow` wants it of an error.
+    fn is_an_error<T: std::error::Error + Send + Sync + 'static>() {}
+    is_an_error::<NotHome>();
+    is_an_error::<Error>();
 }
 
 #[test]

@@ -1,0 +1,69 @@
+use crate::{Cpu, Decided, Epid, Error, Opening, SpecId, Spoken};
+
+/// A speculation on the CPU that opened it. One that is still undecided when it is dropped, by a return, a `?` or a panic, is thrown away, so
+/// that no slot stays taken. Where none could be opened, its steps are counted as void.
+#[derive(Debug)]
+#[must_use = "a path that is dropped is thrown away"]
+pub struct Path<'a> {
+    cpu: &'a mut Cpu,
+    opening: Opening,
+}
+
+impl<'a> Path<'a> {
+    pub(crate) fn on(cpu: &'a mut Cpu) -> Path<'a> {
+        let opening = cpu.speculation();
+        Path { cpu, opening }
+    }
+
+    /// Whether a speculation was opened, and if not why.
+    pub fn opening(&self) -> Opening {
+        self.opening
+    }
+
+    /// Its identifier, to be offered records by other CPUs; [`SpecId::NONE`] where none was opened.
+    #[must_use]
+    pub fn id(&self) -> SpecId {
+        self.opening.id()
+    }
+
+    /// Its CPU, for calls beside the path.
+    pub fn cpu(&mut self) -> &mut Cpu {
+        self.cpu
+    }
+
+    /// Offers a record to it. `stamp` is 0 where records have none.
+    ///
+    /// # Errors
+    ///
+    /// [`Error::BadRecord`] alone.
+    pub fn step(&mut self, epid: Epid, stamp: u64, values: &[u64]) -> Result<Spoken, Error> {
+        self.cpu.speculate(self.id(), epid, stamp, values)
+    }
+
+    /// Commits it: its records get into the principal buffers, each CPU's at once or not at all.
+    pub fn keep(mut self) -> Decided {
+        let id = self.leave();
+        self.cpu.commit(id)
+    }
+
+    /// Discards it, as dropping it does, and tells what became of it.
+    pub fn throw(mut self) -> Decided {
+        let id = self.leave();
+        self.cpu.discard(id)
+    }
+
+    /// Its identifier; when it is dropped then, nothing is decided.
+    fn leave(&mut self) -> SpecId {
+        let id = self.id();
+        self.opening = Opening::Unavailable;
+        id
+    }
+}
+
+impl Drop for Path<'_> {
+    fn drop(&mut self) {
+        if let Opening::Id(id) = self.opening {
+            self.cpu.discard(id);
+        }
+    }
+}

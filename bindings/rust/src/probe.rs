@@ -1,0 +1,149 @@
+use crate::{Cpu, Epid, Error, Path, Record, SpecId, Spoken, Traced, Width};
+use std::marker::PhantomData;
+
+/// What a field of a probe can be: an integer of 8 to 64 bits, a `bool`, an `f32` or an `f64`. A negative number and a float keep their bits.
+pub trait Field: Copy + private::Field {}
+
+/// What a probe records: a tuple of up to eight fields.
+pub trait Fields: Copy + private::Fields {}
+
+pub(crate) mod private {
+    use super::Width;
+
+    pub trait Field {
+        const WIDTH: Width;
+        fn bits(self) -> u64;
+        fn of_bits(bits: u64) -> Self;
+    }
+
+    pub trait Fields: Sized {
+        const WIDTHS: &'static [Width];
+        /// The numbers of the fields, with zeros behind them.
+        fn row(self) -> [u64; 8];
+        /// The fields of as many numbers as there are widths.
+        fn of_row(row: &[u64]) -> Self;
+    }
+}
+
+macro_rules! fields_by_number {
+    ($($type:ty as $bits:ty, $width:ident;)*) => {$(
+        impl Field for $type {}
+        impl private::Field for $type {
+            const WIDTH: Width = Width::$width;
+            fn bits(self) -> u64 {
+                u64::from(<$bits>::from_ne_bytes(self.to_ne_bytes()))
+            }
+            #[allow(clippy::cast_possible_truncation)] // the bits above are zeros, or of another record than was asked for
+            fn of_bits(bits: u64) -> $type {
+                <$type>::from_ne_bytes((bits as $bits).to_ne_bytes())
+            }
+        }
+    )*};
+}
+
+fields_by_number! {
+    u8 as u8, One; u16 as u16, Two; u32 as u32, Four; u64 as u64, Eight;
+    i8 as u8, One; i16 as u16, Two; i32 as u32, Four; i64 as u64, Eight;
+    f32 as u32, Four; f64 as u64, Eight;
+}
+
+impl Field for bool {}
+impl private::Field for bool {
+    const WIDTH: Width = Width::One;
+    fn bits(self) -> u64 {
+        u64::from(self)
+    }
+    fn of_bits(bits: u64) -> bool {
+        bits != 0
+    }
+}
+
+macro_rules! fields_of_tuple {
+    ($($name:ident $place:tt),*) => {
+        impl<$($name: Field),*> Fields for ($($name,)*) {}
+        impl<$($name: Field),*> private::Fields for ($($name,)*) {
+            const WIDTHS: &'static [Width] = &[$($name::WIDTH),*];
+            #[allow(unused_mut)] // of no fields
+            fn row(self) -> [u64; 8] {
+                let mut row = [0; 8];
+                $(row[$place] = self.$place.bits();)*
+                row
+            }
+            #[allow(unused_variables, clippy::unused_unit)] // of no fields
+            fn of_row(row: &[u64]) -> Self {
+                ($($name::of_bits(row[$place]),)*)
+            }
+        }
+    };
+}
+
+fields_of_tuple!();
+fields_of_tuple!(A 0);
+fields_of_tuple!(A 0, B 1);
+fields_of_tuple!(A 0, B 1, C 2);
+fields_of_tuple!(A 0, B 1, C 2, D 3);
+fields_of_tuple!(A 0, B 1, C 2, D 3, E 4);
+fields_of_tuple!(A 0, B 1, C 2, D 3, E 4, F 5);
+fields_of_tuple!(A 0, B 1, C 2, D 3, E 4, F 5, G 6);
+fields_of_tuple!(A 0, B 1, C 2, D 3, E 4, F 5, G 6, H 7);
+
+/// An enabling with its fields in its type, made by [`Schema::probe`](crate::Schema::probe). Its records are refused only by a session of
+/// another schema, or where a stamp is handed in and records have none.
+#[derive(Debug)]
+pub struct Probe<F> {
+    epid: Epid,
+    fields: PhantomData<F>,
+}
+
+impl<F> Clone for Probe<F> {
+    fn clone(&self) -> Self {
+        *self
+    }
+}
+
+impl<F> Copy for Probe<F> {}
+
+impl<F: Fields> Probe<F> {
+    pub(crate) fn of(epid: Epid) -> Probe<F> {
+        Probe { epid, fields: PhantomData }
+    }
+
+    /// Its EPID.
+    #[must_use]
+    pub fn epid(self) -> Epid {
+        self.epid
+    }
+
+    /// Traces a record of these values. `stamp` is 0 where records have none.
+    ///
+    /// # Errors
+    ///
+    /// [`Error::BadRecord`] alone.
+    pub fn trace(self, cpu: &mut Cpu, stamp: u64, values: F) -> Result<Traced, Error> {
+        cpu.trace(self.epid, stamp, &values.row()[..F::WIDTHS.len()])
+    }
+
+    /// Offers a record of these values to a speculation.
+    ///
+    /// # Errors
+    ///
+    /// [`Error::BadRecord`] alone.
+    pub fn speculate(self, cpu: &mut Cpu, id: SpecId, stamp: u64, values: F) -> Result<Spoken, Error> {
+        cpu.speculate(id, self.epid, stamp, &values.row()[..F::WIDTHS.len()])
+    }
+
+    /// Offers a record of these values to a path.
+    ///
+    /// # Errors
+    ///
+    /// [`Error::BadRecord`] alone.
+    pub fn step(self, path: &mut Path<'_>, stamp: u64, values: F) -> Result<Spoken, Error> {
+        path.step(self.epid, stamp, &values.row()[..F::WIDTHS.len()])
+    }
+
+    /// The values of a record of this probe; none of another's.
+    #[must_use]
+    pub fn read(self, record: &Record) -> Option<F> {
+        (record.epid == self.epid && record.values().len() == F::WIDTHS.len()).then(|| F::of_row(record.values()))
+    }
+}
