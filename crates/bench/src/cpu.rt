@@ -2,6 +2,7 @@
 //! committed, and a service of 32 slots with nothing to do. Stands on `dspec_cpu`.
 mod asking;
 mod checking;
+mod lane;
 mod starting;
 mod taking;
 mod way;

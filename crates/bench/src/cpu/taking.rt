@@ -1,7 +1,8 @@
 //! The ways of a record by its schema, and the buffers that it goes into.
 use crate::cpu::asking::Run;
+use crate::cpu::lane::{record_over, step_over, trace_over};
 use crate::cpu::starting::begin;
-use crate::cpu::way::{Way, commit_often, serve_often, single_often, trace_often, trace_over};
+use crate::cpu::way::{Way, commit_often, serve_often, single_often, trace_often};
 use dspec::Lane;
 use dspec_deeds::{Config, Policy};
 use dspec_record::{DefaultAction, Rec, Schema};
@@ -55,6 +56,10 @@ fn take_by<S: Schema>(alloc: Global, schema: S, rec: Rec, run: Run) -> Option<u3
             let mut lane = Lane::of(&shared, &mut cpu);
             Some(trace_over(&mut lane, &rec, run.number))
         }
+        Way::Recorded => {
+            let mut lane = Lane::of(&shared, &mut cpu);
+            Some(record_over(&mut lane, &rec, run.number))
+        }
         Way::Dropped => {
             // No record is smaller than 4 bytes.
             trace_often(&mut cpu, &shared, &rec, bufsize / 4);
@@ -63,6 +68,10 @@ fn take_by<S: Schema>(alloc: Global, schema: S, rec: Rec, run: Run) -> Option<u3
         }
         Way::Committed => Some(commit_often(&mut cpu, &shared, &rec, run.number)),
         Way::Single => Some(single_often(&mut cpu, &shared, &rec, run.number)),
+        Way::Stepped => {
+            let mut lane = Lane::of(&shared, &mut cpu);
+            Some(step_over(&mut lane, &rec, run.number))
+        }
         Way::Served => Some(serve_often(&mut cpu, &shared, run.number)),
     }
 }

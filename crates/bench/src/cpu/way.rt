@@ -2,16 +2,14 @@
 ghost use Rattle.std.specs.Prelude.{◌≡◌, IsTrue};
 ghost use Rattle.dspec_cpu.specs.Lists.{schema_of, words_of};
 ghost use Rattle.dspec_cpu.specs.Standing.{Belongs, identity};
-ghost use Rattle.dspec.specs.Lanes.{place_of};
 
-use dspec::Lane;
 use dspec_cpu::{Cpu, Shared};
 use dspec_deeds::{Decided, Opening, Spoken, Traced};
 use dspec_record::{Rec, Schema};
 use dspec_word::SpecId;
 
 /// How many records a speculation has.
-const BLOCK_RECORDS: u32 = 20;
+pub const BLOCK_RECORDS: u32 = 20;
 
 /// What becomes of a record.
 #[derive(Debug, Clone, Copy, PartialEq, Eq)]
@@ -20,23 +18,29 @@ pub enum Way {
     Kept,
     /// It is traced over a lane, and kept.
     Lane,
+    /// It is recorded over a lane by its values, as programs do, and kept.
+    Recorded,
     /// It is traced and dropped, since the buffer is full.
     Dropped,
     /// It is one of twenty of a speculation, which is opened, kept and committed.
     Committed,
     /// It is the one of a speculation, which is opened, kept and committed.
     Single,
+    /// It is one of twenty steps of a path of a lane, which is opened, stepped and kept.
+    Stepped,
     /// There is none: the CPU services, and nothing is owed.
     Served,
 }
 
 /// All of them, in the order in which they are told.
-pub const WAYS: [Way; 6] = [
+pub const WAYS: [Way; 8] = [
     Way::Kept,
     Way::Lane,
+    Way::Recorded,
     Way::Dropped,
     Way::Committed,
     Way::Single,
+    Way::Stepped,
     Way::Served,
 ];
 
@@ -45,9 +49,11 @@ impl Way {
         match self {
             Way::Kept => "kept",
             Way::Lane => "lane",
+            Way::Recorded => "recorded",
             Way::Dropped => "dropped",
             Way::Committed => "committed",
             Way::Single => "single",
+            Way::Stepped => "stepped",
             Way::Served => "served",
         }
     }
@@ -72,29 +78,6 @@ pub fn trace_often<S: Schema>(cpu: &mut Cpu<S>, shared: &Shared, rec: &Rec, numb
     let mut kept: u32 = 0;
     for _ in 0..number {
         if trace_one(cpu, shared, rec) {
-            kept = kept.wrapping_add(1);
-        }
-    }
-    kept
-}
-
-/// One call of trace over a lane, like `trace_one`.
-#[inline]
-fn trace_on<S: Schema>(lane: &mut Lane<'_, S>, rec: &Rec) -> bool
-    requires accepted { IsTrue (S.accepted (schema_of lane.old.cpu.now) rec.now) }
-    ensures same { place_of lane.new ≡ place_of lane.old }
-{
-    lane.trace(rec) == Traced::Kept
-}
-
-/// Traces the record so many times over a lane: how often it was kept.
-pub fn trace_over<S: Schema>(lane: &mut Lane<'_, S>, rec: &Rec, number: u32) -> u32
-    requires accepted { IsTrue (S.accepted (schema_of lane.old.cpu.now) rec.now) }
-    ensures same { place_of lane.new ≡ place_of lane.old }
-{
-    let mut kept: u32 = 0;
-    for _ in 0..number {
-        if trace_on(lane, rec) {
             kept = kept.wrapping_add(1);
         }
     }

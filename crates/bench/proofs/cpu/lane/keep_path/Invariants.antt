@@ -1,6 +1,6 @@
 use Rattle.std.proofs.Common.{◌≡◌}
 use Rattle.dspec.specs.Lanes.{place_of}
-use Rattle.bench.proofs.cpu.way.trace_over.Given as goal
+use Rattle.bench.proofs.cpu.lane.keep_path.Given as goal
 
 abbrev pub invariant-loop : goal.invariant-loop
 invariant-loop g l = place_of l.lane ≡ place_of l.fn.lane
