@@ -11,7 +11,7 @@ PREFIX = /usr/local
 
 JOBS =
 
-.PHONY: no_goal check quick play test examples ctf-check api edits mutants rows soak fuzz build bench bench-instructions bench-peers build-bench picture lib c-check install
+.PHONY: no_goal check quick play test examples ctf-check api edits mutants rows soak fuzz build bench bench-instructions bench-peers build-bench picture lib c-check install uninstall dist
 
 # Plays one schedule, or several (SCHEDULES="a b"), at once: with the proved program where it is built, else with the trial build of the
 # same sources.
@@ -112,3 +112,10 @@ c-check: lib
 # The archive, the header and a pkg-config file to PREFIX, behind DESTDIR; with SHARED=1 the shared object too.
 install: lib
 	@DESTDIR="$(DESTDIR)" SHARED="$(SHARED)" sh .ci/c_lib install build "$(PREFIX)"
+
+uninstall:
+	@DESTDIR="$(DESTDIR)" sh .ci/c_lib uninstall "$(PREFIX)"
+
+# build/dspec-VERSION.tar.gz, which needs nothing of the kit: archive, shared object, headers, pkg-config file, Rust package, documents.
+dist: lib
+	@sh .ci/c_lib dist build
