@@ -4,8 +4,13 @@
 # The text without spaces around it.
 function trimmed(text) { sub(/^[ \t]+/, "", text); sub(/[ \t]+$/, "", text); return text }
 
-# The first sentence: up to a full stop before a capital, or all.
+# The first sentence: up to a full stop before a capital, or all; of a crate that programs name (is_whole) always all.
 function sentence(text) {
+    if (!is_whole && match(text, /[^.]\. [A-Z`]/)) return substr(text, 1, RSTART + 1)
+    return text
+}
+
+function first_of(text) {
     if (match(text, /[^.]\. [A-Z`]/)) return substr(text, 1, RSTART + 1)
     return text
 }
@@ -201,19 +206,26 @@ state == "clauses" {
 }
 { if ($0 !~ /^ *$/ || doc != "") doc = "" }
 
+# With `of_types`, a list of names, nothing but these types is told.
+function put_type(i, has, j) {
+    has = parts[i] == "" ? "" : " Has " parts[i] "."
+    put("- ", "  ", "`" types[i] "` (" type_kind[i] "): " type_doc[i] has)
+    for (j = 1; j <= said_count[i]; j++) put("  - ", "    ", said[i, j])
+}
+
 END {
+    if (of_types != "") {
+        for (i = 1; i <= type_count; i++) if (index(" " of_types " ", " " types[i] " ")) put_type(i)
+        exit
+    }
     if (!giver_count && !type_count && !call_count) exit
     print ""
     print "## " crate
     print ""
-    put("", "", sentence(about) " Its files are in `crates/" crate "`.")
+    put("", "", first_of(about) " Its files are in `crates/" crate "`.")
     for (i = 1; i <= giver_count; i++) { print ""; put("", "", "It gives from `" givers[i] "`: " given[givers[i]] ".") }
     if (type_count) print ""
-    for (i = 1; i <= type_count; i++) {
-        has = parts[i] == "" ? "" : " Has " parts[i] "."
-        put("- ", "  ", "`" types[i] "` (" type_kind[i] "): " type_doc[i] has)
-        for (j = 1; j <= said_count[i]; j++) put("  - ", "    ", said[i, j])
-    }
+    for (i = 1; i <= type_count; i++) put_type(i)
     if (call_count) print ""
     for (i = 1; i <= call_count; i++) {
         print "- `" (calls[i] == "" ? "" : calls[i] "::") substr(call_signature[i], index(call_signature[i], "fn ") + 3) "`"
