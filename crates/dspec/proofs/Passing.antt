@@ -1,6 +1,6 @@
 -- What a sink gets, and what is taken meanwhile.
-use Rattle.std.proofs.Common.{◌≡◌, ℕ, zero, suc, ◌+◌, ◌<◌, ◌==◌, ◌⊎◌, inl, inr, ⊎_elim, Bool, true, false, if◌then◌else◌, List, [], ◌∷◌, ◌++◌, length, map, take, refl, sym, ap, ◌∙◌, subst, arith}
-use Rattle.std.specs.Prelude.{slice_get, slice_set, Option, Some, None, Result, Ok, Err, OnOk, OnErr, MatchBool}
+use Rattle.std.proofs.Common.{◌≡◌, ℕ, zero, suc, ◌+◌, ◌<◌, ◌==◌, ⊎_elim, Bool, true, false, if◌then◌else◌, List, [], ◌∷◌, ◌++◌, length, map, take, refl, sym, ap, ◌∙◌, subst, arith}
+use Rattle.std.specs.Prelude.{slice_get, slice_set, Some, None, Result, Ok, Err, OnOk, OnErr, MatchBool}
 use Rattle.std.specs.Option.{option_map_or}
 use Rattle.std.proofs.lemmas.Bool.Decides.{nat_tests}
 use Rattle.std.proofs.lemmas.List.{append-nil, append_assoc}
@@ -17,7 +17,7 @@ use Rattle.dspec_cpu.specs.Sealed.{waiting}
 use Rattle.dspec_consumer.specs.declared.left.Left.{Left}
 use Rattle.dspec_consumer.specs.Batches.{Took, FoundNone, GaveBack, IsNotTakenBack}
 use Rattle.dspec_consumer.specs.Asking.{Asked}
-use Rattle.dspec_consumer.specs.Consumers.{Consuming, IsConsumerOf, IsSameConsumer, Stays, view_of}
+use Rattle.dspec_consumer.specs.Consumers.{Consuming, IsConsumerOf, Stays, view_of}
 use Rattle.dspec_consumer.specs.Sessions.{taken_at}
 use Rattle.dspec_consumer.proofs.PromisedBy.{there_is}
 use Rattle.dspec.specs.Passed.{Passed, passed_from, each_from, left_batches, rests_passed, GotAll, PassesOn}
@@ -83,7 +83,7 @@ seat_kept : (x y : Consuming) → y.seat ≡ x.seat → (view_of y).own ≡ (vie
 seat_kept x y e = ap (λ (s : ConsumerSeat). (known_there s).own) e
 
 pub ask_own : (asks : Bool) (A B : Type 0) (c : ℕ) (x y : Consuming) → MatchBool asks (A × Asked c x y) (B × (y ≡ x)) → (view_of y).own ≡ (view_of x).own
-ask_own true A B c x y m = ap (λ (v : View). v.own) m.1.stored.2.1
+ask_own true A B c x y m = ap (λ (v : View). v.own) m.1.stored.2
 ask_own false A B c x y m = ap (λ (v : Consuming). (view_of v).own) m.1
 
 pub none_own : (c : ℕ) (x y : Consuming) → FoundNone c x y → (view_of y).own ≡ (view_of x).own
