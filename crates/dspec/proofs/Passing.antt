@@ -1,18 +1,23 @@
 -- What a sink gets, and what is taken meanwhile.
-use Rattle.std.proofs.Common.{◌≡◌, ℕ, zero, suc, ◌+◌, ◌<◌, ◌==◌, ◌⊎◌, inl, inr, ⊎_elim, Bool, true, false, if◌then◌else◌, List, [], ◌∷◌, ◌++◌, length, take, refl, sym, ap, ◌∙◌, subst, arith}
-use Rattle.std.specs.Prelude.{slice_get, slice_set, Option, Some, None, Result, Ok, Err, OnOk, OnErr, MatchBool}
+use Rattle.std.proofs.Common.{◌≡◌, ℕ, zero, suc, ◌+◌, ◌<◌, ◌==◌, ⊎_elim, Bool, true, false, if◌then◌else◌, List, [], ◌∷◌, ◌++◌, length, map, take, refl, sym, ap, ◌∙◌, subst, arith}
+use Rattle.std.specs.Prelude.{slice_get, slice_set, Some, None, Result, Ok, Err, OnOk, OnErr, MatchBool}
 use Rattle.std.specs.Option.{option_map_or}
 use Rattle.std.proofs.lemmas.Bool.Decides.{nat_tests}
 use Rattle.std.proofs.lemmas.List.{append-nil, append_assoc}
 use Rattle.std.proofs.lemmas.Option.{slice_get_within}
+use Rattle.dspec_deeds.specs.declared.deed.Deed.{Deed}
+use Rattle.dspec_deeds.specs.declared.deed.Deed.TheVariants.{Release}
+use Rattle.dspec_table.specs.declared.rule.View.{View}
+use Rattle.dspec_table.specs.declared.seats.ConsumerSeat.{ConsumerSeat}
 use Rattle.dspec_table.specs.declared.seats.Words.{Words}
+use Rattle.dspec_table.specs.Seats.{known_there}
 use Rattle.dspec_ring.specs.declared.batch.Batch.{Batch}
 use Rattle.dspec_ring.specs.Known.{ConsumerKnows, consumer_moved}
 use Rattle.dspec_cpu.specs.Sealed.{waiting}
 use Rattle.dspec_consumer.specs.declared.left.Left.{Left}
 use Rattle.dspec_consumer.specs.Batches.{Took, FoundNone, GaveBack, IsNotTakenBack}
 use Rattle.dspec_consumer.specs.Asking.{Asked}
-use Rattle.dspec_consumer.specs.Consumers.{Consuming, IsConsumerOf, IsSameConsumer, Stays}
+use Rattle.dspec_consumer.specs.Consumers.{Consuming, IsConsumerOf, Stays, view_of}
 use Rattle.dspec_consumer.specs.Sessions.{taken_at}
 use Rattle.dspec_consumer.proofs.PromisedBy.{there_is}
 use Rattle.dspec.specs.Passed.{Passed, passed_from, each_from, left_batches, rests_passed, GotAll, PassesOn}
@@ -73,6 +78,26 @@ back_taken (Err back) b x y d given why = ⊎_elim
     (λ h. let t = h.0 in ap (λ es. taken_in es d) t.ends ∙ end_kept x.ends b.cpu d t.before (consumer_moved t.before) t.there refl)
     why
 
+-- the seat enters nothing where it makes no step, or asks
+seat_kept : (x y : Consuming) → y.seat ≡ x.seat → (view_of y).own ≡ (view_of x).own
+seat_kept x y e = ap (λ (s : ConsumerSeat). (known_there s).own) e
+
+pub ask_own : (asks : Bool) (A B : Type 0) (c : ℕ) (x y : Consuming) → MatchBool asks (A × Asked c x y) (B × (y ≡ x)) → (view_of y).own ≡ (view_of x).own
+ask_own true A B c x y m = ap (λ (v : View). v.own) m.1.stored.2
+ask_own false A B c x y m = ap (λ (v : Consuming). (view_of v).own) m.1
+
+pub none_own : (c : ℕ) (x y : Consuming) → FoundNone c x y → (view_of y).own ≡ (view_of x).own
+none_own c x y found = ⊎_elim (λ h. ap (λ (v : Consuming). (view_of v).own) h.1) (λ h. let t = h.0 in seat_kept x y t.seat) found
+
+pub back_own : {T : Type 0} (r : Result T Batch) (b : Batch) (x y : Consuming) → OnOk r (GaveBack b x y) → OnErr r (IsNotTakenBack b x y) → (view_of y).own ≡ (view_of x).own
+back_own (Ok t) b x y given why = seat_kept x y given.seat
+back_own (Err back) b x y given why = ⊎_elim (λ h. ap (λ (v : Consuming). (view_of v).own) h.1) (λ h. let t = h.0 in seat_kept x y t.seat) why
+
+-- the Releases of more slots stand in front
+releases_both : (ss ts : List ℕ) (ds : List Deed) → map (λ s. Release s) ss ++ (map (λ s. Release s) ts ++ ds) ≡ map (λ s. Release s) (ss ++ ts) ++ ds
+releases_both [] ts ds = refl
+releases_both (s ∷ ss) ts ds = ap (λ hs. Release s ∷ hs) (releases_both ss ts ds)
+
 -- the consumer stays the same over two calls
 pub stays_both : (words : Words) (x y z : Consuming) → Stays words x y → Stays words y z → Stays words x z
 stays_both words x y z a b = record { session = b.session; same = record { config = b.same.config ∙ a.same.config; pairs = b.same.pairs ∙ a.same.pairs } }
@@ -91,9 +116,21 @@ module _ {K : Type 0} (gets : K → Batch → K → Type 0) where
       subst (λ o. GotAll gets k (each_from n (waiting o ++ l.last ∷ []) ++ []) m) (sym some) (j, first, (m, g, refl))
 
   module _ (words : Words) where
-    -- nothing was taken
-    pub passes_none : (x y : Consuming) (k : K) → Stays words x y → ((d : ℕ) → taken_at y d ≡ taken_at x d) → PassesOn gets words x k y k
-    passes_none x y k stays same = record { stays = stays; passed = []; got = refl; taken = λ d. same d ∙ sym (append-nil (taken_at x d)) }
+    -- nothing was taken, and these slots were released
+    pub passes_released : (x y : Consuming) (k : K) (slots : List ℕ) → Stays words x y → ((d : ℕ) → taken_at y d ≡ taken_at x d)
+        → (view_of y).own ≡ map (λ s. Release s) slots ++ (view_of x).own → PassesOn gets words x k y k
+    passes_released x y k slots stays same entered = record {
+      stays = stays;
+      passed = [];
+      got = refl;
+      taken = λ d. same d ∙ sym (append-nil (taken_at x d));
+      released = slots;
+      entered = entered;
+    }
+
+    -- nothing was taken, nor released
+    pub passes_none : (x y : Consuming) (k : K) → Stays words x y → ((d : ℕ) → taken_at y d ≡ taken_at x d) → (view_of y).own ≡ (view_of x).own → PassesOn gets words x k y k
+    passes_none x y k stays same entered = passes_released x y k [] stays same entered
 
     -- one batch was
     pub passes_one : (c : ℕ) (b : Batch) (x y : Consuming) (k l : K) → Stays words x y → Took c b x y → gets k b l → PassesOn gets words x k y l
@@ -102,10 +139,12 @@ module _ {K : Type 0} (gets : K → Batch → K → Type 0) where
       passed = record { from = c; batch = b } ∷ [];
       got = (l, g, refl);
       taken = λ d. ap (λ es. taken_in es d) took.ends ∙ end_set x.ends c d took.before took.after (b ∷ []) took.there took.took.taken;
+      released = [];
+      entered = ap (λ (s : ConsumerSeat). (known_there s).own) took.seat;
     }
 
     pub passes_nothing : (x : Consuming) (k : K) → IsConsumerOf words x → PassesOn gets words x k x k
-    passes_nothing x k is = passes_none x x k (record { session = is; same = record { config = refl; pairs = refl } }) (λ d. refl)
+    passes_nothing x k is = passes_none x x k (record { session = is; same = record { config = refl; pairs = refl } }) (λ d. refl) refl
 
     -- and then more
     pub passes_both : (x y z : Consuming) (k m l : K) → PassesOn gets words x k y m → PassesOn gets words y m z l → PassesOn gets words x k z l
@@ -115,6 +154,8 @@ module _ {K : Type 0} (gets : K → Batch → K → Type 0) where
       got = got_both a.passed b.passed k m l a.got b.got;
       taken = λ d. b.taken d ∙ (ap (λ t. t ++ passed_from d b.passed) (a.taken d)
           ∙ (append_assoc (taken_at x d) (passed_from d a.passed) (passed_from d b.passed) ∙ ap (λ t. taken_at x d ++ t) (sym (from_both d a.passed b.passed))));
+      released = b.released ++ a.released;
+      entered = b.entered ∙ (ap (λ ds. map (λ s. Release s) b.released ++ ds) a.entered ∙ releases_both b.released a.released (view_of x).own);
     }
 
 -- what is passed of one CPU alone

@@ -1,29 +1,31 @@
 -- A session that closed: what the sink got is what its CPUs accepted, and what each is promised.
-use Rattle.std.proofs.Common.{◌≡◌, ℕ, zero, suc, ◌<◌, Bool, List, [], ◌∷◌, ◌++◌, length, All, refl, sym, ap, ◌∙◌, subst, arith}
+use Rattle.std.proofs.Common.{◌≡◌, ℕ, zero, suc, ◌<◌, Bool, List, [], ◌∷◌, ◌++◌, length, map, All, refl, sym, ap, ◌∙◌, subst, arith}
 use Rattle.std.specs.Prelude.{slice_get, Option, Some}
 use Rattle.std.specs.Option.{option_map_or}
-use Rattle.std.proofs.lemmas.List.{append_assoc}
+use Rattle.std.proofs.lemmas.List.{append-nil, append_assoc}
 use Rattle.std.proofs.lemmas.List.Elements.{All-head, All-tail}
 use Rattle.dspec_record.specs.Record.{Record}
 use Rattle.dspec_record.specs.declared.field.Shape.{Shape}
 use Rattle.dspec_deeds.specs.declared.config.Config.{Config}
 use Rattle.dspec_deeds.specs.declared.deed.Deed.{Deed}
+use Rattle.dspec_deeds.specs.declared.deed.Deed.TheVariants.{Release}
 use Rattle.dspec_deeds.specs.Own.{stream}
 use Rattle.dspec_table.specs.declared.seats.Words.{Words}
+use Rattle.dspec_table.specs.Seats.{known}
 use Rattle.dspec_ring.specs.declared.batch.Batch.{Batch}
 use Rattle.dspec_ring.specs.Known.{ConsumerKnows, IsUnusedConsumer}
 use Rattle.dspec_cpu.specs.declared.cpu.Cpu.{Cpu}
 use Rattle.dspec_cpu.specs.Called.{CallsMade, called, no_calls}
-use Rattle.dspec_cpu.specs.Lists.{number_in}
+use Rattle.dspec_cpu.specs.Lists.{number_in, seat_of}
 use Rattle.dspec_cpu.specs.Sealed.{waiting}
 use Rattle.dspec_consumer.specs.declared.left.Left.{Left}
 use Rattle.dspec_consumer.specs.Closing.{HoldInOrder, IsClosedBy}
-use Rattle.dspec_consumer.specs.Consumers.{Consuming}
+use Rattle.dspec_consumer.specs.Consumers.{Consuming, view_of}
 use Rattle.dspec_consumer.specs.Leaving.{AllSteady, Has}
-use Rattle.dspec_consumer.specs.Promised.{IsPromised, IsPromisedBy, called_at}
+use Rattle.dspec_consumer.specs.Promised.{IsPromisedBy, called_at, entered_at}
 use Rattle.dspec_consumer.specs.Sessions.{HasAt, IsFresh, taken_at}
-use Rattle.dspec_consumer.proofs.PromisedBy.{there_is, called_there, had_tells}
-use Rattle.dspec_promise.specs.Deeds.{all_did}
+use Rattle.dspec_consumer.proofs.PromisedBy.{there_is, called_there, entered_there, had_tells}
+use Rattle.dspec_promise.specs.Deeds.{did}
 use Rattle.dspec.specs.Passed.{passed_from, left_batches, rests_passed, GotAll, PassesOn, HasLists}
 use Rattle.dspec.specs.Traced.{IsTraced}
 use Rattle.dspec.proofs.Passing.{from_both, got_both, rest_there}
@@ -93,21 +95,30 @@ module _ {S : Type 0} (shape_of : S → ℕ → Option Shape) (accepted : S → 
               (append_assoc (taken_at y c) (waiting l.rest) (l.last ∷ []) ∙ sym (whole c l at)) (made.1.each c l at).kept;
         }
 
-    pub traced : (does : ℕ → CallsMade → CallsMade → Type 0) (k : Config) (cpus : List (Cpu S)) → length cpus ≡ k.cpus
+    -- what the consumer's seat entered
+    entered_last : (view_of x).own ≡ [] → (view_of y).own ≡ map (λ s. Release s) passes.released
+    entered_last none =
+        passes.entered ∙ (ap (λ ds. map (λ s. Release s) passes.released ++ ds) none ∙ append-nil (map (λ s. Release s) passes.released))
+
+    pub traced : (does : ℕ → CallsMade → CallsMade → Type 0) (k : Config) (cpus : List (Cpu S)) → length cpus ≡ k.cpus → (view_of x).own ≡ []
+        → ((c : ℕ) (cpu : Cpu S) → slice_get cpus c ≡ Some cpu → number_in cpu ≡ c)
         → ((c : ℕ) (cpu : Cpu S) → slice_get cpus c ≡ Some cpu → does c no_calls (called cpu))
-        → IsPromisedBy (shape_of schema) (accepted schema) (text schema) k (called_at cpus) (taken_at y) left
+        → IsPromisedBy (shape_of schema) (accepted schema) (text schema) k (entered_at cpus) (view_of y).own (called_at cpus) (taken_at y) left
         → IsTraced gets does (shape_of schema) (accepted schema) (text schema) k old left new
-    traced does k cpus count worked promised = record {
+    traced does k cpus count none numbers worked promised = record {
       passed = passes.passed ++ rests_passed 0 left;
       got = all_got;
       calls = called_at cpus;
       worked = λ c lt.
           let (cpu, at) = there_is cpus c (subst (λ n. c < n) (sym count) lt) in
           subst (does c no_calls) (sym (called_there cpus c cpu at)) (worked c cpu at);
-      deeds = promised.deeds;
-      reasons = promised.reasons;
-      once = promised.once;
-      each = λ c l at.
-          subst (λ bs. IsPromised (shape_of schema) (accepted schema) (text schema) k.cpus (all_did promised.deeds) c (called_at cpus c) bs l.report)
-          (append_assoc (taken_at y c) (waiting l.rest) (l.last ∷ []) ∙ sym (whole c l at)) (promised.each c l at);
+      entered = entered_at cpus;
+      told = λ c lt.
+          let (cpu, at) = there_is cpus c (subst (λ n. c < n) (sym count) lt) in
+          ap (did c) (entered_there cpus c cpu at)
+          ∙ (ap (λ n. did n (known (seat_of cpu)).own) (sym (numbers c cpu at)) ∙ ap (λ (z : CallsMade). z.done) (sym (called_there cpus c cpu at)));
+      released = passes.released;
+      taken = taken_at y;
+      whole = whole;
+      promised = subst (λ ds. IsPromisedBy (shape_of schema) (accepted schema) (text schema) k (entered_at cpus) ds (called_at cpus) (taken_at y) left) (entered_last none) promised;
     }

@@ -1,16 +1,17 @@
 -- Believed. What a sink got of a session.
-use Rattle.std.specs.Prelude.{ℕ, ◌≡◌, ◌+◌, ◌==◌, Bool, List, [], ◌∷◌, ◌++◌, slice_get, Option, Some, None, if◌then◌else◌}
+use Rattle.std.specs.Prelude.{ℕ, ◌≡◌, ◌+◌, ◌==◌, Bool, List, [], ◌∷◌, ◌++◌, map, slice_get, Option, Some, None, if◌then◌else◌}
 use Rattle.dspec_record.specs.Record.{Record}
 use Rattle.dspec_record.specs.declared.field.Shape.{Shape}
 use Rattle.dspec_deeds.specs.declared.config.Config.{Config}
 use Rattle.dspec_deeds.specs.declared.deed.Deed.{Deed}
+use Rattle.dspec_deeds.specs.declared.deed.Deed.TheVariants.{Release}
 use Rattle.dspec_deeds.specs.Own.{stream}
 use Rattle.dspec_table.specs.declared.seats.Words.{Words}
 use Rattle.dspec_ring.specs.declared.batch.Batch.{Batch}
 use Rattle.dspec_cpu.specs.Sealed.{waiting}
 use Rattle.dspec_consumer.specs.declared.left.Left.{Left}
 use Rattle.dspec_consumer.specs.Closing.{ClosesAs, HoldInOrder}
-use Rattle.dspec_consumer.specs.Consumers.{Consuming, Stays}
+use Rattle.dspec_consumer.specs.Consumers.{Consuming, Stays, view_of}
 use Rattle.dspec_consumer.specs.Sessions.{taken_at}
 
 -- a batch, with the number of the CPU that it came from
@@ -50,12 +51,14 @@ module _ {K : Type 0} (gets : K → Batch → K → Type 0) where
   GotAll k [] l = k ≡ l
   GotAll k (x ∷ xs) l = (m : K) × gets k x.batch m × GotAll m xs l
 
-  -- the consumer took batches, and the sink got those that it took of each CPU, in their order
+  -- the consumer took batches, and the sink got those that it took of each CPU, in their order; of deeds its seat entered Releases alone
   pub record PassesOn (words : Words) (x : Consuming) (k : K) (y : Consuming) (l : K) : Type 0 where
     pub stays : Stays words x y
     pub passed : List Passed
     pub got : GotAll k passed l
     pub taken : (c : ℕ) → taken_at y c ≡ taken_at x c ++ passed_from c passed
+    pub released : List ℕ
+    pub entered : (view_of y).own ≡ map (λ s. Release s) released ++ (view_of x).own
 
 module _ {K : Type 0} (gets : K → Batch → K → Type 0) (shape : ℕ → Option Shape) (accepted : Record → Bool) (text : Record → List ℕ) where
   -- A session ran and closed, and this was left of its CPUs. One list of all deeds closes it, and what the sink got of each CPU,

@@ -15,4 +15,5 @@ pub mod Ending
 pub mod FirstParted
 mod Standing
 pub mod ClosedDeeds
+pub mod Mixes
 pub mod PromisedBy

@@ -1,33 +1,36 @@
 -- A list that closes the lists of the CPUs promises each of them what the page says of its calls.
 use Rattle.std.proofs.Common.{◌≡◌, ℕ, zero, suc, ◌<◌, Bool, List, [], ◌∷◌, ◌++◌, length, Option, Some, refl, sym, ap, ◌∙◌, subst, arith}
-use Rattle.std.specs.Prelude.{slice_get}
+use Rattle.std.specs.Prelude.{reverse, slice_get}
 use Rattle.std.specs.Option.{option_map_or}
 use Rattle.std.proofs.lemmas.Option.{slice_get_within}
 use Rattle.dspec_record.specs.Record.{Record}
 use Rattle.dspec_record.specs.declared.field.Shape.{Shape}
 use Rattle.dspec_deeds.specs.declared.config.Config.{Config}
+use Rattle.dspec_deeds.specs.declared.calls.Actor.TheVariants.{Cpu as CpuActor}
 use Rattle.dspec_deeds.specs.declared.deed.Deed.{Deed}
-use Rattle.dspec_deeds.specs.declared.deed.Deed.TheVariants.{Settle}
 use Rattle.dspec_deeds.specs.declared.report.Report.{Report}
-use Rattle.dspec_deeds.specs.History.{word_at}
+use Rattle.dspec_deeds.specs.History.{part, word_at}
 use Rattle.dspec_deeds.specs.Own.{stream}
+use Rattle.dspec_deeds.specs.Weaving.{bare}
+use Rattle.dspec_play.specs.OwnClose.{own_closed}
 use Rattle.dspec_promise.specs.Deeds.{did, all_did}
-use Rattle.dspec_promise.specs.Promise.{service, emptied, Promise}
+use Rattle.dspec_promise.specs.Promise.{Promise}
 use Rattle.dspec_promise.proofs.Kept.{promise}
-use Rattle.dspec_promise.proofs.OwnDid.{did_part, did_bare, did_own}
+use Rattle.dspec_promise.proofs.OwnDid.{did_part, did_bare}
 use Rattle.dspec_promise.proofs.Refused.{given_once, reasons}
 use Rattle.dspec_ring.specs.declared.batch.Batch.{Batch}
 use Rattle.dspec_table.specs.Seats.{known}
 use Rattle.dspec_cpu.specs.declared.cpu.Cpu.{Cpu}
 use Rattle.dspec_cpu.specs.Called.{CallsMade, called, no_calls, settled_did}
 use Rattle.dspec_cpu.specs.Lists.{number_in, seat_of, worn_of}
-use Rattle.dspec_cpu.specs.Sealed.{waiting}
+use Rattle.dspec_cpu.specs.Sealed.{AreSealed, waiting}
 use Rattle.dspec_consumer.specs.declared.left.Left.{Left}
 use Rattle.dspec_consumer.specs.Closing.{ClosesAs}
 use Rattle.dspec_consumer.specs.Leaving.{Has}
-use Rattle.dspec_consumer.specs.Promised.{IsPromised, IsPromisedBy, called_at}
+use Rattle.dspec_consumer.specs.Promised.{IsPromised, IsPromisedBy, called_at, entered_at}
 use Rattle.dspec_consumer.specs.Sessions.{worn_at}
-use Rattle.dspec_consumer.proofs.ClosedDeeds.{close_adds}
+use Rattle.dspec_consumer.proofs.ClosedDeeds.{AddsSettlements, close_adds, did_settlements, sealed_before, settlements}
+use Rattle.dspec_consumer.proofs.Mixes.{mix_of_all, with_seals}
 
 -- there is one at each place
 pub there_is : {X : Type 0} (xs : List X) (i : ℕ) → i < length xs → (x : X) × (slice_get xs i ≡ Some x)
@@ -46,6 +49,10 @@ module _ {S : Type 0} (cpus : List (Cpu S)) (c : ℕ) (cpu : Cpu S) (at : slice_
   pub same_worn : worn_at cpus c ≡ (called_at cpus c).worn
   same_worn = worn_there ∙ sym (ap (λ (x : CallsMade). x.worn) called_there)
 
+  -- the deeds that its seat entered
+  pub entered_there : entered_at cpus c ≡ (known (seat_of cpu)).own
+  entered_there = ap (λ (o : Option (Cpu S)). option_map_or (λ (x : Cpu S). (known (seat_of x)).own) o []) at
+
 module _ {S : Type 0} (shape_of : S → ℕ → Option Shape) (accepted : S → Record → Bool) (text : S → Record → List ℕ) where
   -- a list that the CPU has tells what its calls did
   pub had_tells : (c : ℕ) (cpu : Cpu S) (p : List Deed) → number_in cpu ≡ c → Has shape_of accepted text cpu p → did c p ≡ (called cpu).done
@@ -53,25 +60,40 @@ module _ {S : Type 0} (shape_of : S → ℕ → Option Shape) (accepted : S → 
 
 module _ (shape : ℕ → Option Shape) (accepted : Record → Bool) (text : Record → List ℕ) (k : Config) (worn : ℕ → ℕ) (taken : ℕ → List Batch) (consumer : List Deed)
     (left : List Left) (p : ℕ → List Deed) (g : List Deed) (closes : ClosesAs shape accepted text k worn taken consumer left p g) where
+  -- what the close settled for a CPU
+  added : (c : ℕ) → AddsSettlements c (p c) (own_closed shape k (λ s. word_at s g) c k.nspec (p c))
+  added c = close_adds shape k (λ s. word_at s g) c k.nspec (p c)
+
+  own_part : (c : ℕ) (l : Left) → slice_get left c ≡ Some l → part (CpuActor c) g ≡ settlements c (added c).0 ++ p c
+  own_part c l at = (closes.each c l at).own ∙ (added c).1
+
   each_promised : (c : ℕ) (l : Left) (calls : CallsMade) → slice_get left c ≡ Some l → did c (p c) ≡ calls.done → worn c ≡ calls.worn
-      → IsPromised shape accepted text k.cpus (all_did g) c calls (taken c ++ waiting l.rest ++ l.last ∷ []) l.report
+      → IsPromised shape accepted text k.cpus (all_did g) c calls (added c).0 (taken c ++ waiting l.rest ++ l.last ∷ []) l.report
   each_promised c l calls at done wears =
       let each = closes.each c l at in
       let lt : c < k.cpus = subst (λ n. c < n) closes.all (slice_get_within left c l at) in
-      let added = close_adds shape k (λ s. word_at s g) c (λ id f h. did_own c (Settle c id f) (emptied service id f) h refl) k.nspec (p c) in
       record {
-        closed = added.0;
-        answered = sym (did_part c g) ∙ (ap (did c) each.own ∙ (added.1 ∙ ap (λ ds. settled_did added.0 ++ ds) done));
+        answered = sym (did_part c g) ∙ (ap (did c) (own_part c l at) ∙ (did_settlements c (added c).0 (p c) ∙ ap (λ ds. settled_did (added c).0 ++ ds) done));
         worn = ap (λ (r : Report). r.worn) each.reported ∙ wears;
         seen = stream c g;
         hold = each.kept;
         promise = subst (Promise k.cpus (all_did g) c (stream c g)) (sym each.reported) (promise shape k c (worn c) g closes.legal closes.waits lt);
       }
 
-  pub promised_by : (calls : ℕ → CallsMade) → ((c : ℕ) → c < k.cpus → did c (p c) ≡ (calls c).done) → ((c : ℕ) → c < k.cpus → worn c ≡ (calls c).worn)
-      → IsPromisedBy shape accepted text k calls taken left
-  promised_by calls done wears = record {
+  pub promised_by : (entered : ℕ → List Deed) (calls : ℕ → CallsMade) → ((c : ℕ) → c < k.cpus → bare (p c) ≡ entered c)
+      → ((c : ℕ) → c < k.cpus → did c (p c) ≡ (calls c).done) → ((c : ℕ) → c < k.cpus → worn c ≡ (calls c).worn)
+      → IsPromisedBy shape accepted text k entered consumer calls taken left
+  promised_by entered calls bares done wears = record {
     deeds = g;
+    own = p;
+    closed = λ c. (added c).0;
+    nothing_else = mix_of_all k g p (λ c. (added c).0) consumer closes.legal.1
+        (λ c lt. let (l, at) = there_is left c (subst (λ n. c < n) (sym closes.all) lt) in own_part c l at) closes.consumer_is;
+    sealed = λ c l at.
+        let lt : c < k.cpus = subst (λ n. c < n) closes.all (slice_get_within left c l at) in
+        let bs = reverse (taken c ++ waiting l.rest) in
+        with_seals shape accepted text k c (entered c) bs (p c) (bares c lt) (sealed_before shape accepted text k c (added c).0 (p c) bs
+        (subst (λ q. AreSealed shape accepted text k c q bs) (own_part c l at) (closes.each c l at).sealed));
     reasons = reasons shape k g closes.legal.0;
     once = given_once k g closes.legal.0.0;
     each = λ c l at.

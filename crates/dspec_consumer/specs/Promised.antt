@@ -1,20 +1,25 @@
 -- Believed. What the close of a session promises of each CPU, in the words of the page.
-use Rattle.std.specs.Prelude.{ℕ, ◌≡◌, Bool, List, [], ◌∷◌, ◌++◌, slice_get, Option, Some}
+use Rattle.std.specs.Prelude.{ℕ, ◌≡◌, ◌≢◌, ◌<◌, nat_lt, Bool, List, [], ◌∷◌, ◌++◌, map, reverse, slice_get, Option, Some, if◌then◌else◌}
 use Rattle.std.specs.Option.{option_map_or}
 use Rattle.dspec_record.specs.Record.{Record}
 use Rattle.dspec_record.specs.declared.field.Shape.{Shape}
 use Rattle.dspec_word.specs.SpecId.{Speculation}
 use Rattle.dspec_deeds.specs.declared.config.Config.{Config}
+use Rattle.dspec_deeds.specs.declared.calls.Actor.{Actor}
+use Rattle.dspec_deeds.specs.declared.calls.Actor.TheVariants.{Cpu as CpuActor, Consumer}
 use Rattle.dspec_deeds.specs.declared.deed.DecideFate.{DecideFate}
 use Rattle.dspec_deeds.specs.declared.deed.Deed.{Deed}
+use Rattle.dspec_deeds.specs.declared.deed.Deed.TheVariants.{Seal, Settle}
 use Rattle.dspec_deeds.specs.declared.report.Report.{Report}
 use Rattle.dspec_promise.specs.Deeds.{all_did}
 use Rattle.dspec_promise.specs.Promise.{Did, Promise}
 use Rattle.dspec_promise.specs.Reasons.{GivenOnce, HaveReasons}
+use Rattle.dspec_table.specs.Seats.{known}
 use Rattle.dspec_ring.specs.declared.batch.Batch.{Batch}
 use Rattle.dspec_cpu.specs.declared.cpu.Cpu.{Cpu}
 use Rattle.dspec_cpu.specs.Called.{CallsMade, called, no_calls, settled_did}
-use Rattle.dspec_cpu.specs.Sealed.{waiting}
+use Rattle.dspec_cpu.specs.Lists.{seat_of}
+use Rattle.dspec_cpu.specs.Sealed.{IsSealed, waiting}
 use Rattle.dspec_consumer.specs.declared.left.Left.{Left}
 use Rattle.dspec_consumer.specs.Closing.{HoldInOrder}
 
@@ -22,22 +27,49 @@ use Rattle.dspec_consumer.specs.Closing.{HoldInOrder}
 abbrev pub called_at : {S : Type 0} → List (Cpu S) → ℕ → CallsMade
 called_at cpus c = option_map_or (λ cpu. called cpu) (slice_get cpus c) no_calls
 
+-- the deeds that its seat entered
+abbrev pub entered_at : {S : Type 0} → List (Cpu S) → ℕ → List Deed
+entered_at cpus c = option_map_or (λ cpu. (known (seat_of cpu)).own) (slice_get cpus c) []
+
+-- the list has the deeds of these lists, and no others, and keeps the order of each
+abbrev pub IsMixOf : (Actor → List Deed) → List Deed → Type 0
+IsMixOf lists [] = (w : Actor) → lists w ≡ []
+IsMixOf lists (d ∷ h) =
+    (w : Actor) × (rest : Actor → List Deed) × (lists w ≡ d ∷ rest w) × ((v : Actor) → v ≢ w → lists v ≡ rest v) × IsMixOf rest h
+
+-- the deeds of each in a session of so many CPUs: of a CPU its own, and then what the close settled for it; of the consumer its own
+abbrev pub deeds_by : ℕ → (ℕ → List Deed) → (ℕ → List (Speculation × DecideFate)) → List Deed → Actor → List Deed
+deeds_by cpus own closed consumer (CpuActor c) =
+    if nat_lt c cpus then map (λ (s : Speculation × DecideFate). Settle c s.0 s.1) (closed c) ++ own c else []
+deeds_by cpus own closed consumer Consumer = consumer
+
 module _ (shape : ℕ → Option Shape) (accepted : Record → Bool) (text : Record → List ℕ) where
+  -- the list is what the CPU's seat entered, with a Seal for each of its batches that was sealed, the latest first, where it was sealed
+  abbrev pub IsWithSeals : Config → ℕ → List Deed → List Batch → List Deed → Type 0
+  IsWithSeals k c entered bs [] = (entered ≡ []) × (bs ≡ [])
+  IsWithSeals k c entered bs (Seal a ∷ p) =
+      (b : Batch) × (rest : List Batch) × (bs ≡ b ∷ rest) × IsSealed shape accepted text k c p b × IsWithSeals k c entered rest p
+  IsWithSeals k c entered bs (d ∷ p) = (before : List Deed) × (entered ≡ d ∷ before) × IsWithSeals k c before bs p
+
   -- Of CPU c, whose calls did this: all that it did is that, and then what the close did of others' decisions; the records in its
   -- batches, in order, and its report keep the promise; and the report has the number of calls that were answered Worn.
-  pub record IsPromised (cpus : ℕ) (all : ℕ → List Did) (c : ℕ) (calls : CallsMade) (batches : List Batch) (report : Report) : Type 0 where
-    pub closed : List (Speculation × DecideFate)
+  pub record IsPromised (cpus : ℕ) (all : ℕ → List Did) (c : ℕ) (calls : CallsMade) (closed : List (Speculation × DecideFate)) (batches : List Batch) (report : Report) : Type 0 where
     pub answered : all c ≡ settled_did closed ++ calls.done
     pub worn : report.worn ≡ calls.worn
     pub seen : List Record
     pub hold : HoldInOrder shape accepted text batches seen
     pub promise : Promise cpus all c seen report
 
-  -- One list has all that was done: whatever it refused was refused for its reason, no identifier was given out twice, and by it each
-  -- CPU is promised this of its batches that were taken, and then those that are left.
-  pub record IsPromisedBy (k : Config) (calls : ℕ → CallsMade) (taken : ℕ → List Batch) (left : List Left) : Type 0 where
+  -- One list has all that was done, and nothing else: what each CPU's seat entered, with its Seals; what the close then settled for each
+  -- CPU; and what the consumer's seat entered. Whatever was refused was refused for its reason, no identifier was given out twice, and
+  -- by that list each CPU is promised this of its batches that were taken, and then those that are left.
+  pub record IsPromisedBy (k : Config) (entered : ℕ → List Deed) (consumer : List Deed) (calls : ℕ → CallsMade) (taken : ℕ → List Batch) (left : List Left) : Type 0 where
     pub deeds : List Deed
+    pub own : ℕ → List Deed
+    pub closed : ℕ → List (Speculation × DecideFate)
+    pub nothing_else : IsMixOf (deeds_by k.cpus own closed consumer) deeds
+    pub sealed : (c : ℕ) (l : Left) → slice_get left c ≡ Some l → IsWithSeals k c (entered c) (reverse (taken c ++ waiting l.rest)) (own c)
     pub reasons : HaveReasons shape k deeds
     pub once : GivenOnce deeds
     pub each : (c : ℕ) (l : Left) → slice_get left c ≡ Some l
-        → IsPromised k.cpus (all_did deeds) c (calls c) (taken c ++ waiting l.rest ++ l.last ∷ []) l.report
+        → IsPromised k.cpus (all_did deeds) c (calls c) (closed c) (taken c ++ waiting l.rest ++ l.last ∷ []) l.report

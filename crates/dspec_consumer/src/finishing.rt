@@ -3,7 +3,7 @@ ghost use Rattle.dspec_table.specs.Seats.{set_up};
 ghost use Rattle.dspec_cpu.specs.Lists.{words_of};
 ghost use Rattle.dspec_consumer.specs.Closing.{IsClosedBy};
 ghost use Rattle.dspec_consumer.specs.Consumers.{view_of};
-ghost use Rattle.dspec_consumer.specs.Promised.{IsPromisedBy, called_at};
+ghost use Rattle.dspec_consumer.specs.Promised.{IsPromisedBy, called_at, entered_at};
 ghost use Rattle.dspec_consumer.specs.Sessions.{HasAt, IsSession, taken_at, worn_at};
 
 use crate::closed::Closed;
@@ -24,7 +24,7 @@ impl<S: Schema> Session<S> {
             (HasAt ⟦<Cpu<S> as Listed>⟧.has_list self.cpus.items) (worn_at self.cpus.items) (taken_at self.consumer) (view_of self.consumer).own result }
         ensures promised { (schema : S) → IsSession schema self
             → IsPromisedBy (S.shape_of schema) (S.accepted schema) (S.text schema) (set_up (words_of self.shared))
-            (called_at self.cpus.items) (taken_at self.consumer) result }
+            (entered_at self.cpus.items) (view_of self.consumer).own (called_at self.cpus.items) (taken_at self.consumer) result }
     {
         let Session {
             shared,

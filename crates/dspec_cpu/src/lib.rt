@@ -10,6 +10,7 @@ mod calls;
 mod cpu;
 mod deciding;
 mod holding;
+mod kept_rest;
 mod listed;
 mod making;
 mod meeting;
@@ -31,6 +32,7 @@ mod tracing;
 mod values;
 
 pub use cpu::Cpu;
+pub use kept_rest::KeptRest;
 pub use listed::Listed;
 pub use rest::CpuRest;
 pub use rested::Rested;

@@ -9,7 +9,7 @@ use Rattle.dspec_deeds.specs.declared.calls.Spoken.{Spoken}
 use Rattle.dspec_deeds.specs.Told.{id_told}
 use Rattle.dspec_promise.specs.Promise.{commit, discard}
 use Rattle.dspec_cpu.specs.Called.{CallsMade, WithService, with_decision, with_speculate, with_speculation}
-use Rattle.watch.specs.declared.requests.Request.{Request}
+use Rattle.watch.specs.Requests.{fails_with, number_of}
 
 -- records were offered to the speculation, and nothing else was done
 pub data OffersAlone (id : Speculation) (x : CallsMade) : CallsMade → Type 0 where
@@ -25,8 +25,9 @@ pub record HandlesRequest (fails : Bool) (x y : CallsMade) : Type 0 where
   pub answer : Decided
   pub decided : y ≡ with_decision (if fails then commit else discard) (id_told opening) answer stepped
 
--- so many requests were handled since these calls, and the consumer was served after each
-pub data ServesRequests (x : CallsMade) : ℕ → CallsMade → Type 0 where
-  none_yet : ServesRequests x 0 x
-  one_more : {n : ℕ} {y : CallsMade} (m : ℕ) (request : Request) (z w : CallsMade) (a : Served) → ServesRequests x n y
-      → HandlesRequest request.fails y z → WithService a z w → m ≡ n + 1 → ServesRequests x m w
+-- The worker's requests of so many rounds were handled since these calls, one after another, and the consumer was served after each. The
+-- path of a request was kept where the request of that number fails, by the seed, and nowhere else.
+pub data ServesRequests (seed worker : ℕ) (x : CallsMade) : ℕ → CallsMade → Type 0 where
+  none_yet : ServesRequests seed worker x 0 x
+  one_more : {n : ℕ} {y : CallsMade} (m : ℕ) (z w : CallsMade) (a : Served) → ServesRequests seed worker x n y
+      → HandlesRequest (fails_with seed (number_of worker n)) y z → WithService a z w → m ≡ n + 1 → ServesRequests seed worker x m w

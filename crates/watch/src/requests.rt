@@ -1,3 +1,6 @@
+ghost use Rattle.std.specs.Prelude.{◌≡◌};
+ghost use Rattle.watch.specs.Requests.{fails_with, number_of, spread_bits};
+
 use dspec::{Enablings, Field, SchemaFault};
 
 /// How many workers there are. Worker W handles the requests W, W + 4, W + 8, ..
@@ -18,7 +21,9 @@ pub fn enable() -> Result<Enablings, SchemaFault> {
 }
 
 /// Spreads the bits of a number, as SplitMix64 does.
-fn spread(number: u64) -> u64 {
+fn spread(number: u64) -> u64
+    ensures { result ≡ spread_bits number }
+{
     let mixed = number.wrapping_add(0x9e37_79b9_7f4a_7c15);
     let mixed = (mixed ^ (mixed >> 30)).wrapping_mul(0xbf58_476d_1ce4_e5b9);
     let mixed = (mixed ^ (mixed >> 27)).wrapping_mul(0x94d0_49bb_1331_11eb);
@@ -36,7 +41,10 @@ pub struct Request {
 
 impl Request {
     /// The request of a worker in a round, which the seed decides.
-    pub fn make(seed: u64, worker: u64, round: u64) -> Request {
+    pub fn make(seed: u64, worker: u64, round: u64) -> Request
+        ensures number { result.number ≡ number_of worker round }
+        ensures fails { result.fails ≡ fails_with seed (number_of worker round) }
+    {
         let number = round.wrapping_mul(u64::from(WORKERS)).wrapping_add(worker);
         let noise = spread(spread(seed).wrapping_add(number));
         Request {

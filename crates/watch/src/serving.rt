@@ -32,7 +32,7 @@ pub struct Server {
 impl Work<Enablings> for Server {
     ghost use Rattle.watch.specs.Serving.{ServesRequests};
 
-    ghost does = { λ _ _ _ before after. ServesRequests before 100 after };
+    ghost does = { λ _ server number before after. ServesRequests server.seed number before 100 after };
 
     fn work(&self, lane: &mut Lane<'_, Enablings>) {
         let worker = u64::from(lane.number());

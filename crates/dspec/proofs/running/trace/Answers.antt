@@ -3,12 +3,13 @@ use Rattle.dspec_record.specs.EnablingRows.{EnabledRows}
 use Rattle.dspec_record.specs.Schemas.{enabled, table_shape, table_accepts, table_text}
 use Rattle.dspec_deeds.specs.declared.config.Config.{Config}
 use Rattle.dspec_cpu.specs.declared.shared.Shared.{Shared}
+use Rattle.dspec_table.specs.declared.rule.View.{View}
 use Rattle.dspec_table.specs.Seats.{set_up}
 use Rattle.dspec_cpu.specs.Lists.{words_of}
 use Rattle.dspec_consumer.specs.Closing.{IsClosedBy}
 use Rattle.dspec_consumer.specs.Consumers.{view_of}
 use Rattle.dspec_consumer.specs.Leaving.{Has}
-use Rattle.dspec_consumer.specs.Promised.{IsPromisedBy, called_at}
+use Rattle.dspec_consumer.specs.Promised.{IsPromisedBy, called_at, entered_at}
 use Rattle.dspec_consumer.specs.Sessions.{HasAt, taken_at, worn_at}
 use Rattle.dspec.proofs.Returning.{worked}
 use Rattle.dspec.proofs.Tracing.{fresh_none, listed, traced}
@@ -28,9 +29,10 @@ returns-clause-traced g c =
     let lent = c.run-session.ensures.lent in
     traced shape accepts text (g.K.Sink.gets schema) schema (words_of s.shared) s.consumer back.consumer c.args.sink c.run-session.result.1 c.pass_rests.new.sink
     c.finish-closed.result started.consumer.1 c.run-session.ensures.passes c.pass_rests.ensures (does schema) c.args.config.now back.cpus.items
-    (lent.all ∙ ap (λ (k : Config). k.cpus) same)
+    (lent.all ∙ ap (λ (k : Config). k.cpus) same) (ap (λ (v : View). v.own) started.consumer.0) (λ n cpu at. (lent.each n cpu at).number)
     (worked (Has shape accepts text) (fresh_none shape accepts text) does schema s back started.session started.fresh c.run-session.ensures.returned)
-    (subst (λ (k : Config). IsPromisedBy (shape schema) (accepts schema) (text schema) k (called_at back.cpus.items) (taken_at back.consumer) c.finish-closed.result) same
+    (subst (λ (k : Config). IsPromisedBy (shape schema) (accepts schema) (text schema) k (entered_at back.cpus.items) (view_of back.consumer).own
+    (called_at back.cpus.items) (taken_at back.consumer) c.finish-closed.result) same
     (c.finish-closed.ensures.promised schema lent))
 
 pub returns-clause-listed : goal.returns-clause-listed

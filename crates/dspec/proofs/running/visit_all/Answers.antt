@@ -1,7 +1,7 @@
 use Rattle.std.proofs.Common.{◌≡◌, ◌+◌, ℕ, refl, subst, arith}
 use Rattle.dspec_cpu.specs.Lists.{words_of}
 use Rattle.dspec.specs.Visits.{VisitsFirst, none_visited, one_more}
-use Rattle.dspec.proofs.Passing.{ends_taken, passes_both, passes_none, passes_nothing}
+use Rattle.dspec.proofs.Passing.{ends_taken, passes_both, passes_nothing, passes_released}
 use Rattle.dspec.proofs.running.visit_all.Goals as goal
 
 pub loop-cpu-init : goal.loop-cpu-init
@@ -21,8 +21,8 @@ pub returns-clause-passes : goal.returns-clause-passes
 returns-clause-passes g c =
     passes_both (g.K.Sink.gets c.args.schema.now) (words_of c.args.shared.now) c.args.consumer.now c.loop-cpu.consumer c.clean.new.self
     c.args.sink.now c.loop-cpu.sink c.loop-cpu.sink c.loop-cpu.invariant.0
-    (passes_none (g.K.Sink.gets c.args.schema.now) (words_of c.args.shared.now) c.loop-cpu.consumer c.clean.new.self c.loop-cpu.sink
-    (record { session = c.clean.ensures.session; same = c.clean.ensures.same }) (ends_taken c.loop-cpu.consumer c.clean.new.self c.clean.ensures.ends))
+    (passes_released (g.K.Sink.gets c.args.schema.now) (words_of c.args.shared.now) c.loop-cpu.consumer c.clean.new.self c.loop-cpu.sink c.clean.ensures.cleaned.slots
+    (record { session = c.clean.ensures.session; same = c.clean.ensures.same }) (ends_taken c.loop-cpu.consumer c.clean.new.self c.clean.ensures.ends) c.clean.ensures.cleaned.own)
 
 pub returns-clause-round : goal.returns-clause-round
 returns-clause-round g c =

@@ -7,9 +7,9 @@ use Rattle.dspec_consumer.proofs.Ends.{none_in}
 use Rattle.dspec_consumer.proofs.Ending.{some_lists, begins_parting, finished}
 use Rattle.dspec_cpu.specs.Called.{CallsMade}
 use Rattle.dspec_consumer.specs.Consumers.{view_of}
-use Rattle.dspec_consumer.specs.Promised.{called_at}
+use Rattle.dspec_consumer.specs.Promised.{called_at, entered_at}
 use Rattle.dspec_consumer.specs.Sessions.{taken_at, worn_at}
-use Rattle.dspec_consumer.proofs.PromisedBy.{there_is, called_there, same_worn, had_tells, promised_by}
+use Rattle.dspec_consumer.proofs.PromisedBy.{there_is, called_there, entered_there, same_worn, had_tells, promised_by}
 use Rattle.dspec_consumer.proofs.session.Session.finish.Goals as goal
 
 pub part_all-last-requires-clause-parting : goal.part_all-last-requires-clause-parting
@@ -45,7 +45,10 @@ returns-clause-promised g c = λ schema is.
     let lists = some_lists shape_of accepted text schema c.args.self is c.all_stand.ensures in
     let closed = returns-clause-closed g c schema is lists.0 (λ n lt cpu at. lists.1 n cpu at) in
     promised_by (shape_of schema) (accepted schema) (text schema) k (worn_at cpus) (taken_at c.args.self.consumer) (view_of c.args.self.consumer).own _ lists.0 closed.0 closed.1
-    (called_at cpus)
+    (entered_at cpus) (called_at cpus)
+    (λ n lt.
+    let (cpu, at) = there_is cpus n (subst (λ m. n < m) (sym is.all) lt) in
+    (lists.1 n cpu at).own ∙ sym (entered_there cpus n cpu at))
     (λ n lt.
     let (cpu, at) = there_is cpus n (subst (λ m. n < m) (sym is.all) lt) in
     had_tells shape_of accepted text n cpu (lists.0 n) (is.each n cpu at).number (lists.1 n cpu at) ∙ sym (ap (λ (x : CallsMade). x.done) (called_there cpus n cpu at)))
