@@ -10,6 +10,7 @@ pub mod Switching
 pub mod Settled
 pub mod Serving
 pub mod Rests
+pub mod Closing
 pub mod Keeping
 pub mod Standing
 pub mod Called

@@ -1,12 +1,11 @@
-ghost use Rattle.std.specs.Prelude.{◌≡◌, ◌<◌, ◌≤◌, ◌+◌, ◌*◌, ℕ, List};
+ghost use Rattle.std.specs.Prelude.{◌≡◌, ◌<◌, ◌≤◌, ℕ, List};
 ghost use Rattle.dspec_ring.specs.declared.batch.Batch.{Batch};
 ghost use Rattle.dspec_deeds.specs.declared.deed.Deed.{Deed};
-ghost use Rattle.dspec_deeds.specs.History.{word_at};
-ghost use Rattle.dspec_play.specs.OwnClose.{own_closed_slot};
 ghost use Rattle.dspec_table.specs.Last.{last_words};
 ghost use Rattle.dspec_table.specs.Seats.{known};
+ghost use Rattle.dspec_cpu.specs.Closing.{CanSettleSlot, SettlesSlot};
 ghost use Rattle.dspec_cpu.specs.Lists.{IsSameCpu, config_of, number_in, seat_of, worn_of};
-ghost use Rattle.dspec_cpu.specs.Rests.{AreItsWords, CanCloseBehind, IsSameRest, config_of_rest, number_of_rest, schema_of_rest};
+ghost use Rattle.dspec_cpu.specs.Rests.{AreItsWords, IsSameRest, config_of_rest, number_of_rest};
 ghost use Rattle.dspec_cpu.specs.Settled.{BlockSettled, CanSettle, DueSettled, IsDueAt, KeepsBatches, Settled, SlotDone, serving, shown_at};
 
 use crate::callable::Callable;
@@ -126,12 +125,9 @@ impl<S: Schema> CpuRest<S> {
     pub(crate) fn settle_slot(&mut self, last: &LastWords, slot: u32)
         requires words { AreItsWords last.now (config_of_rest self.old) (number_of_rest self.old) }
         requires slot { (1 ≤ slot) × (slot ≤ (config_of_rest self.old).nspec) }
-        requires some { (handed : List Batch) × (p : List Deed) × (log : List Deed) × (now : List Deed) × ⟦<CpuRest<S> as Rested>⟧.has_list self.old handed p
-            × CanCloseBehind (config_of_rest self.old) (number_of_rest self.old) slot (last_words last.now) log now p }
+        requires some { CanSettleSlot ⟦<CpuRest<S> as Rested>⟧.has_list S.shape_of slot (last_words last.now) self.old }
         ensures same { IsSameRest self.old self.new }
-        ensures list { (handed : List Batch) (p log now : List Deed) → ⟦<CpuRest<S> as Rested>⟧.has_list self.old handed p
-            → CanCloseBehind (config_of_rest self.old) (number_of_rest self.old) slot (last_words last.now) log now p
-            → ⟦<CpuRest<S> as Rested>⟧.has_list self.new handed (own_closed_slot (S.shape_of (schema_of_rest self.old)) (config_of_rest self.old) (λ s. word_at s log) (number_of_rest self.old) slot p) }
+        ensures list { SettlesSlot ⟦<CpuRest<S> as Rested>⟧.has_list S.shape_of slot (last_words last.now) self.old self.new }
     {
         // Read for its range: no count is above it.
         let _calls = self.side.calls;
