@@ -24,6 +24,7 @@ pub mod Heeding
 pub mod RingMoves
 pub mod OwnBlocks
 pub mod Settlements
+pub mod DueSettlements
 pub mod Services
 pub mod ServedSlots
 pub mod Closes

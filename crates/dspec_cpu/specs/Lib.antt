@@ -11,6 +11,7 @@ pub mod Settled
 pub mod Serving
 pub mod Rests
 pub mod KeptRests
+pub mod Closing
 pub mod Keeping
 pub mod Standing
 pub mod Called

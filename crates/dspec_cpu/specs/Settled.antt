@@ -4,6 +4,7 @@ use Rattle.dspec_record.specs.Record.{Record}
 use Rattle.dspec_record.specs.declared.field.Shape.{Shape}
 use Rattle.dspec_buffer.specs.Stored.{Stored}
 use Rattle.dspec_ring.specs.declared.batch.Batch.{Batch}
+use Rattle.dspec_word.specs.declared.act.Act.TheVariants.{Granted}
 use Rattle.dspec_word.specs.declared.code.Code.{Code}
 use Rattle.dspec_word.specs.Code.{awaits}
 use Rattle.dspec_word.specs.SpecId.{Speculation}
@@ -16,7 +17,7 @@ use Rattle.dspec_deeds.specs.declared.deed.Deed.{Deed}
 use Rattle.dspec_deeds.specs.declared.deed.Deed.TheVariants.{Settle}
 use Rattle.dspec_deeds.specs.Closes.{is_granted}
 use Rattle.dspec_deeds.specs.FateKinds.{is_lost}
-use Rattle.dspec_deeds.specs.History.{ack, owed, part, scan}
+use Rattle.dspec_deeds.specs.History.{ack, owed, part, scan, word_at}
 use Rattle.dspec_deeds.specs.Legal.{IsSound}
 use Rattle.dspec_deeds.specs.Marks.{mark}
 use Rattle.dspec_deeds.specs.Own.{held}
@@ -47,6 +48,21 @@ SettledBehind false c slot shown v ds w = (ds ≡ []) × (v ≡ w)
 SettledBehind true c slot shown v ds w =
     (doing : Doing) × (doing.op ≡ op.Service) × (ds ≡ Settle c (shown_at slot shown) (fate_of_settlement doing shown.code) ∷ [])
     × SettledWord doing (shown_at slot shown) shown.code v w
+
+-- behind the load of a slot's word, which can be released: no release is owed, and the table grants to the CPU's own
+-- acknowledgement that what the word shows is settled
+pub record IsDueAt (c slot : ℕ) (shown : SlotState) (v : View) : Type 0 where
+  pub rests : owed v.seen ≡ 0
+  pub here : word_at slot v.seen ≡ shown
+  pub limit : shown.issue < 2 ^ 57
+  pub granted : settle_at shown (ack c slot v.own) ≡ Granted
+
+-- what was due is settled: its Settle comes in front of every list that the CPU had
+pub record DueSettled (c slot : ℕ) (shown : SlotState) (had : List Deed → Type 0) (v : View) (has : List Deed → Type 0) (w : View) : Type 0 where
+  pub settles : List Deed
+  pub behind : SettledBehind true c slot shown v settles w
+  pub goes : Goes v settles w
+  pub list : (p : List Deed) → had p → has (settles ++ p)
 
 -- one slot of a service: its word is loaded, and settled exactly where the table grants it to the CPU's acknowledgement
 pub record SettledSlot (c slot : ℕ) (v : View) (hit : Bool) (ds : List Deed) (w : View) : Type 0 where

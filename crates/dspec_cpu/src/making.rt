@@ -19,7 +19,8 @@ use std::alloc::{AllocError, Global};
 
 impl<S: Schema> Cpu<S> {
     /// A CPU before its first call, on its seat and its end of the rings: all buffers are empty, and one spare is in hand. It
-    /// takes all memory that its calls will need.
+    /// takes all memory that its calls will need. Kept apart, so that its frame isn't one with that of a session's start.
+    #[inline(never)]
     pub fn make(
         alloc: Global,
         cpu: u32,

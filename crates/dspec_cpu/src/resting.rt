@@ -1,15 +1,10 @@
-ghost use Rattle.std.specs.Prelude.{◌≡◌, ◌≤◌, List, ◌++◌, reverse};
+ghost use Rattle.std.specs.Prelude.{◌≡◌, List};
 ghost use Rattle.dspec_deeds.specs.declared.deed.Deed.{Deed};
-ghost use Rattle.dspec_deeds.specs.History.{word_at};
-ghost use Rattle.dspec_deeds.specs.Reports.{report};
-ghost use Rattle.dspec_play.specs.OwnClose.{own_closed};
 ghost use Rattle.dspec_ring.specs.declared.batch.Batch.{Batch};
 ghost use Rattle.dspec_table.specs.Last.{last_words};
-ghost use Rattle.dspec_table.specs.Showing.{Shows};
+ghost use Rattle.dspec_cpu.specs.Closing.{CanSettleAll, GivesBatches, HasLegalList, ReportsLists, SettlesAll};
 ghost use Rattle.dspec_cpu.specs.Lists.{IsSteady, config_of, end_of, held_back_of, number_in, schema_of, seat_of, worn_of};
-ghost use Rattle.dspec_cpu.specs.Rests.{AreItsWords, IsLegalPart, IsSameRest, config_of_rest, held_back_of_rest, last_batch, number_of_rest, schema_of_rest, worn_of_rest};
-ghost use Rattle.dspec_cpu.specs.Sealed.{AreSealed, IsSealed, waiting};
-ghost use Rattle.dspec_cpu.specs.Settled.{IsPartOf};
+ghost use Rattle.dspec_cpu.specs.Rests.{AreItsWords, IsSameRest, config_of_rest, held_back_of_rest, last_batch, number_of_rest, schema_of_rest, worn_of_rest};
 
 use crate::cpu::Cpu;
 use crate::listed::Listed;
@@ -59,12 +54,9 @@ impl<S: Schema> CpuRest<S> {
     /// decided and waits for this CPU too, its block is copied whole to the active buffer, lost or thrown away.
     pub fn settle(&mut self, last: &LastWords)
         requires words { AreItsWords last.now (config_of_rest self.old) (number_of_rest self.old) }
-        requires some { (handed : List Batch) × (p : List Deed) × (log : List Deed) × ⟦<CpuRest<S> as Rested>⟧.has_list self.old handed p
-            × Shows (config_of_rest self.old) (last_words last.now) log × IsPartOf (config_of_rest self.old) (number_of_rest self.old) log p }
+        requires some { CanSettleAll ⟦<CpuRest<S> as Rested>⟧.has_list S.shape_of (last_words last.now) self.old }
         ensures same { IsSameRest self.old self.new }
-        ensures list { (handed : List Batch) (p log : List Deed) → ⟦<CpuRest<S> as Rested>⟧.has_list self.old handed p
-            → Shows (config_of_rest self.old) (last_words last.now) log → IsPartOf (config_of_rest self.old) (number_of_rest self.old) log p
-            → ⟦<CpuRest<S> as Rested>⟧.has_list self.new handed (own_closed (S.shape_of (schema_of_rest self.old)) (config_of_rest self.old) (λ s. word_at s log) (number_of_rest self.old) (config_of_rest self.old).nspec p) }
+        ensures list { SettlesAll ⟦<CpuRest<S> as Rested>⟧.has_list S.shape_of (last_words last.now) self.old self.new }
     {
         for below in 0..self.config.nspec {
             self.settle_slot(last, below + 1);
@@ -73,11 +65,8 @@ impl<S: Schema> CpuRest<S> {
 
     /// The counts of the CPU.
     pub fn report(&self) -> Report
-        requires { (handed : List Batch) × (p : List Deed) × (g : List Deed) × ⟦<CpuRest<S> as Rested>⟧.has_list self.now handed p
-            × IsLegalPart (S.shape_of (schema_of_rest self.now)) (config_of_rest self.now) (number_of_rest self.now) g p }
-        ensures { (handed : List Batch) (p g : List Deed) → ⟦<CpuRest<S> as Rested>⟧.has_list self.now handed p
-            → IsLegalPart (S.shape_of (schema_of_rest self.now)) (config_of_rest self.now) (number_of_rest self.now) g p
-            → result ≡ report (config_of_rest self.now) (number_of_rest self.now) (worn_of_rest self.now) p }
+        requires { HasLegalList ⟦<CpuRest<S> as Rested>⟧.has_list S.shape_of self.now }
+        ensures { ReportsLists ⟦<CpuRest<S> as Rested>⟧.has_list S.shape_of self.now result }
     {
         self.side.counts.report()
     }
@@ -86,9 +75,7 @@ impl<S: Schema> CpuRest<S> {
     pub fn batches(self) -> (Option<Batch>, Batch)
         ensures rest { result.0 ≡ held_back_of_rest self }
         ensures last { result.1 ≡ last_batch self }
-        ensures sealed { (handed : List Batch) (p : List Deed) → ⟦<CpuRest<S> as Rested>⟧.has_list self handed p
-            → AreSealed (S.shape_of (schema_of_rest self)) (S.accepted (schema_of_rest self)) (S.text (schema_of_rest self)) (config_of_rest self) (number_of_rest self) p (waiting result.0 ++ reverse handed)
-            × IsSealed (S.shape_of (schema_of_rest self)) (S.accepted (schema_of_rest self)) (S.text (schema_of_rest self)) (config_of_rest self) (number_of_rest self) p result.1 }
+        ensures sealed { GivesBatches ⟦<CpuRest<S> as Rested>⟧.has_list S.shape_of S.accepted S.text self result.0 result.1 }
     {
         let CpuRest {
             cpu,

@@ -1,13 +1,12 @@
-ghost use Rattle.std.specs.Prelude.{◌≡◌, ◌<◌, ◌≤◌, ◌+◌, ◌*◌, ℕ, List};
+ghost use Rattle.std.specs.Prelude.{◌≡◌, ◌<◌, ◌≤◌, ℕ, List};
 ghost use Rattle.dspec_ring.specs.declared.batch.Batch.{Batch};
 ghost use Rattle.dspec_deeds.specs.declared.deed.Deed.{Deed};
-ghost use Rattle.dspec_deeds.specs.History.{word_at};
-ghost use Rattle.dspec_play.specs.OwnClose.{own_closed_slot};
 ghost use Rattle.dspec_table.specs.Last.{last_words};
 ghost use Rattle.dspec_table.specs.Seats.{known};
+ghost use Rattle.dspec_cpu.specs.Closing.{CanSettleSlot, SettlesSlot};
 ghost use Rattle.dspec_cpu.specs.Lists.{IsSameCpu, config_of, number_in, seat_of, worn_of};
-ghost use Rattle.dspec_cpu.specs.Rests.{AreItsWords, CanCloseBehind, IsSameRest, config_of_rest, number_of_rest, schema_of_rest};
-ghost use Rattle.dspec_cpu.specs.Settled.{BlockSettled, CanSettle, KeepsBatches, Settled, SlotDone, serving, shown_at};
+ghost use Rattle.dspec_cpu.specs.Rests.{AreItsWords, IsSameRest, config_of_rest, number_of_rest};
+ghost use Rattle.dspec_cpu.specs.Settled.{BlockSettled, CanSettle, DueSettled, IsDueAt, KeepsBatches, Settled, SlotDone, serving, shown_at};
 
 use crate::callable::Callable;
 use crate::cpu::Cpu;
@@ -61,6 +60,24 @@ pub(crate) fn settle_block<S: Schema>(
 }
 
 impl<S: Schema> CpuParts<S> {
+    // Settles the speculation that a slot's word was shown to have, where that is due, and acknowledges its issue. It stands apart
+    // from the walk over the slots: what it puts on the stack would be cleared there for each slot, and few have a settlement due.
+    #[inline(never)]
+    fn settle_due(&mut self, words: &Words, slot: u32, word: Word)
+        requires ready { ⟦<CpuParts<S> as Callable>⟧.is_ready words.now self.old }
+        requires slot { (1 ≤ slot) × (slot ≤ (config_of self.old).nspec) }
+        requires due { IsDueAt (number_in self.old) slot word (known (seat_of self.old)) }
+        ensures ready { ⟦<CpuParts<S> as Callable>⟧.is_ready words.now self.new }
+        ensures same { IsSameCpu self.old self.new × (worn_of self.new ≡ worn_of self.old) }
+        ensures keeps { KeepsBatches self.old self.new }
+        ensures settled { DueSettled (number_in self.old) slot word (⟦<Cpu<S> as Listed>⟧.has_list self.old) (known (seat_of self.old)) (⟦<Cpu<S> as Listed>⟧.has_list self.new) (known (seat_of self.new)) }
+    {
+        // Read for its range: no count is above it.
+        let _calls = self.side.calls;
+        let doing = settle_block::<S>(&self.config, &mut self.side, word, slot);
+        self.seat.store_ack(words, slot, word.issue(), &doing);
+    }
+
     // One slot of a service: its word is loaded, and where it waits for this CPU too, its speculation is settled.
     fn settle_slot(&mut self, words: &Words, slot: u32) -> bool
         requires ready { ⟦<CpuParts<S> as Callable>⟧.is_ready words.now self.old }
@@ -70,8 +87,6 @@ impl<S: Schema> CpuParts<S> {
         ensures keeps { KeepsBatches self.old self.new }
         ensures settled { SlotDone (number_in self.old) slot result (⟦<Cpu<S> as Listed>⟧.has_list self.old) (known (seat_of self.old)) (⟦<Cpu<S> as Listed>⟧.has_list self.new) (known (seat_of self.new)) }
     {
-        // Read for its range: no count is above it.
-        let _calls = self.side.calls;
         let word = self.seat.load_word(words, slot, &serve(false, 0, false));
         // asked first by itself: where nobody waits, which is most often, the acknowledgement isn't looked at
         if !word.is_decided() {
@@ -79,8 +94,7 @@ impl<S: Schema> CpuParts<S> {
         }
         match settle_at(word, self.side.acks[slot as usize - 1]) {
             Act::Granted => {
-                let doing = settle_block::<S>(&self.config, &mut self.side, word, slot);
-                self.seat.store_ack(words, slot, word.issue(), &doing);
+                self.settle_due(words, slot, word);
                 true
             }
             _ => false,
@@ -111,12 +125,9 @@ impl<S: Schema> CpuRest<S> {
     pub(crate) fn settle_slot(&mut self, last: &LastWords, slot: u32)
         requires words { AreItsWords last.now (config_of_rest self.old) (number_of_rest self.old) }
         requires slot { (1 ≤ slot) × (slot ≤ (config_of_rest self.old).nspec) }
-        requires some { (handed : List Batch) × (p : List Deed) × (log : List Deed) × (now : List Deed) × ⟦<CpuRest<S> as Rested>⟧.has_list self.old handed p
-            × CanCloseBehind (config_of_rest self.old) (number_of_rest self.old) slot (last_words last.now) log now p }
+        requires some { CanSettleSlot ⟦<CpuRest<S> as Rested>⟧.has_list S.shape_of slot (last_words last.now) self.old }
         ensures same { IsSameRest self.old self.new }
-        ensures list { (handed : List Batch) (p log now : List Deed) → ⟦<CpuRest<S> as Rested>⟧.has_list self.old handed p
-            → CanCloseBehind (config_of_rest self.old) (number_of_rest self.old) slot (last_words last.now) log now p
-            → ⟦<CpuRest<S> as Rested>⟧.has_list self.new handed (own_closed_slot (S.shape_of (schema_of_rest self.old)) (config_of_rest self.old) (λ s. word_at s log) (number_of_rest self.old) slot p) }
+        ensures list { SettlesSlot ⟦<CpuRest<S> as Rested>⟧.has_list S.shape_of slot (last_words last.now) self.old self.new }
     {
         // Read for its range: no count is above it.
         let _calls = self.side.calls;
