@@ -102,7 +102,7 @@ fn add_record(
     text.records.push(*rec)
 }
 
-/// Adds the block of a speculation: all that the CPU kept of it, from a multiple of eight on. Of nothing there is no block.
+/// Adds the block of a speculation: all that the CPU kept of it, from a multiple of eight on.
 fn add_block(
     alloc: Global,
     sample: &Sample,
@@ -111,14 +111,10 @@ fn add_block(
     cpu: u32,
     id: SpecId,
 ) -> Result<(), AllocError> {
-    let mut is_begun = false;
+    pad(&mut text.bytes, 8)?;
     for deed in deeds {
         if let Deed::Speculate(by, of, rec, SpeculateFate::Kept) = deed {
             if *by == cpu && *of == id {
-                if !is_begun {
-                    pad(&mut text.bytes, 8)?;
-                    is_begun = true;
-                }
                 add_record(alloc, sample, text, rec)?;
             }
         }
@@ -126,30 +122,72 @@ fn add_block(
     Ok(())
 }
 
-/// Adds what a deed of the CPU adds to its principal buffer, or counts a reservation that was refused.
+/// What a decision makes of the CPU's block of a speculation: the block is added, or a reservation was refused. Behind its own decision
+/// the CPU has nothing left to settle, and copies no record.
+fn add_decision(
+    alloc: Global,
+    sample: &Sample,
+    text: &mut Text,
+    deeds: &[Deed],
+    cpu: u32,
+    id: SpecId,
+    fate: DecideFate,
+) -> Result<(), AllocError> {
+    match fate {
+        DecideFate::Copied(count) => {
+            if count > 0 {
+                add_block(alloc, sample, text, deeds, cpu, id)?;
+            }
+        }
+        DecideFate::Lost(_) => text.drops = text.drops.saturating_add(1),
+        DecideFate::Thrown(_) | DecideFate::Void | DecideFate::Stopped => {}
+    }
+    Ok(())
+}
+
+/// What becomes of a record that was traced: it is added, or a reservation was refused.
+fn add_traced(
+    alloc: Global,
+    sample: &Sample,
+    text: &mut Text,
+    rec: &Rec,
+    fate: TraceFate,
+) -> Result<(), AllocError> {
+    match fate {
+        TraceFate::Kept => add_record(alloc, sample, text, rec)?,
+        TraceFate::Dropped => text.drops = text.drops.saturating_add(1),
+        TraceFate::Stopped => {}
+    }
+    Ok(())
+}
+
+/// What a deed of the CPU makes of its principal buffer.
 fn add_deed(
     alloc: Global,
     sample: &Sample,
     text: &mut Text,
     deeds: &[Deed],
     cpu: u32,
-    deed: &Deed,
+    deed: Deed,
 ) -> Result<(), AllocError> {
-    let mut is_refused = false;
     match deed {
-        Deed::Trace(by, rec, fate) if *by == cpu => match fate {
-            TraceFate::Kept => add_record(alloc, sample, text, rec)?,
-            TraceFate::Dropped => is_refused = true,
-            TraceFate::Stopped => {}
-        },
-        Deed::Commit(by, id, fate) | Deed::Settle(by, id, fate) if *by == cpu => match fate {
-            DecideFate::Copied(_) => add_block(alloc, sample, text, deeds, cpu, *id)?,
-            DecideFate::Lost(_) => is_refused = true,
-            DecideFate::Thrown(_) | DecideFate::Void | DecideFate::Stopped => {}
-        },
+        Deed::Trace(by, rec, fate) => {
+            if by == cpu {
+                add_traced(alloc, sample, text, &rec, fate)?;
+            }
+        }
+        Deed::Commit(by, id, fate) => {
+            if by == cpu {
+                add_decision(alloc, sample, text, deeds, cpu, id, fate)?;
+            }
+        }
+        Deed::Settle(by, id, fate) => {
+            if by == cpu {
+                add_decision(alloc, sample, text, deeds, cpu, id, fate)?;
+            }
+        }
         _ => {}
     }
-    text.drops = text.drops.saturating_add(u64::from(is_refused));
     Ok(())
 }
 
@@ -196,7 +234,7 @@ fn texts_of(
             texts.push(text)?;
             text = empty(alloc, texts.len(), taken);
         } else {
-            add_deed(alloc, sample, &mut text, deeds, cpu, deed)?;
+            add_deed(alloc, sample, &mut text, deeds, cpu, *deed)?;
         }
     }
     texts.push(text)?;
