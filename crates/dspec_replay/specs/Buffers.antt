@@ -1,4 +1,4 @@
--- The buffers of a session that was played: what is read of a batch, and what is printed of it.
+-- Serves proofs. The buffers of a session that was played: what is read of a batch, and what is printed of it.
 use Rattle.std.specs.Prelude.{◌≡◌, ℕ, ◌/◌, ◌%◌, false, List, [], ◌∷◌, ◌++◌, length, codes, decimal}
 use Rattle.std.specs.Fmt.{digit_glyph}
 use Rattle.std.specs.List.{enumerate_from, flat_map}
