@@ -56,7 +56,7 @@ IsOfDevice name (Device named why) = named.now ≡ name
 IsOfDevice name fault = ⊥
 
 -- the status by which a program ends: 0 where all is well, 1 where something isn't, else one that tells of the fault
-abbrev pub IsEnding : {F : Type 0} → (F → ℕ → Type 0) → Result Bool F → ExitCode → Type 0
-IsEnding ends (Ok true) code = exit_status code ≡ 0
-IsEnding ends (Ok false) code = exit_status code ≡ 1
-IsEnding ends (Err fault) code = ends fault (exit_status code)
+abbrev pub EndsProgram : {F : Type 0} → (F → ℕ → Type 0) → Result Bool F → ExitCode → Type 0
+EndsProgram ends (Ok true) code = exit_status code ≡ 0
+EndsProgram ends (Ok false) code = exit_status code ≡ 1
+EndsProgram ends (Err fault) code = ends fault (exit_status code)

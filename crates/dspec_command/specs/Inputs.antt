@@ -16,5 +16,5 @@ IsToldReason name None None = Unit {0}
 IsToldReason name (Some reason) (Some fault) = IsDeviceFault name reason (error_kind reason) fault
 IsToldReason name reason fault = ⊥
 
-abbrev pub HasReason : {R : Type 0} → Input R → Option CommandFault → Type 0
-HasReason input told = IsToldReason input.name.now input.reason told
+abbrev pub IsToldOfInput : {R : Type 0} → Input R → Option CommandFault → Type 0
+IsToldOfInput input told = IsToldReason input.name.now input.reason told

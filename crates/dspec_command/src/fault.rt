@@ -1,6 +1,6 @@
 ghost use Rattle.std.specs.Prelude.{◌≡◌, IfErr, codes};
 ghost use Rattle.std.specs.IoError.{error_kind};
-ghost use Rattle.dspec_command.specs.Faults.{IsDeviceFault, IsEnding, IsOfDevice, words_fault};
+ghost use Rattle.dspec_command.specs.Faults.{IsDeviceFault, EndsProgram, IsOfDevice, words_fault};
 ghost use Rattle.dspec_command.specs.declared.fault.CommandFault.TheVariants.{Memory};
 
 use std::alloc::{AllocError, AllocFailed};
@@ -125,7 +125,7 @@ pub fn ended<R: Eprint, F: Ending + Display + Drop>(
     program: &str,
     outcome: Result<bool, F>,
 ) -> ExitCode
-    ensures { IsEnding F.ends outcome result }
+    ensures { EndsProgram F.ends outcome result }
 {
     match outcome {
         Ok(true) => ExitCode::SUCCESS,

@@ -1,6 +1,6 @@
 ghost use Rattle.std.specs.Prelude.{IfErr, IfOk};
 ghost use Rattle.dspec_command.specs.Faults.{IsOfDevice};
-ghost use Rattle.dspec_command.specs.Inputs.{HasReason, IsUnread};
+ghost use Rattle.dspec_command.specs.Inputs.{IsToldOfInput, IsUnread};
 
 use crate::fault::{CommandFault, device_fault};
 use std::fs::File;
@@ -29,7 +29,7 @@ impl<'a, R: Read + Drop> Input<'a, R> {
 
     /// What is told of the last read that failed, if one did.
     pub fn fault(&self) -> Option<CommandFault<'a>>
-        ensures { HasReason self.now result }
+        ensures { IsToldOfInput self.now result }
     {
         match self.reason {
             Some(reason) => Some(device_fault(self.name, reason)),

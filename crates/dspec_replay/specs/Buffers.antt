@@ -10,7 +10,7 @@ use Rattle.dspec_replay.specs.declared.texts.Origin.TheVariants as origin
 use Rattle.dspec_replay.specs.declared.texts.Text.{Text}
 
 -- the drops and the bytes of this batch, and no records yet
-pub record IsTextOf (o : Origin) (b : Batch) (t : Text) : Type 0 where
+pub record IsUnreadText (o : Origin) (b : Batch) (t : Text) : Type 0 where
   pub origin : t.origin ≡ o
   pub drops : t.drops ≡ b.drops
   pub bytes : t.bytes.items ≡ b.buffer.text

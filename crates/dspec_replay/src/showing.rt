@@ -2,7 +2,7 @@ ghost use Rattle.std.specs.Prelude.{◌≡◌, ◌<◌, ◌++◌, false, IfOk, O
 ghost use Rattle.std.specs.Fmt.{digit_glyph};
 ghost use Rattle.std.specs.List.{enumerate_from, flat_map};
 ghost use Rattle.dspec_schedule.specs.Printed.{printed_text, records_text};
-ghost use Rattle.dspec_replay.specs.Buffers.{all_buffers, buffer_lines, byte_digits, bytes_digits, cpu_buffers, origin_word};
+ghost use Rattle.dspec_replay.specs.Buffers.{all_buffers, buffer_lines, bytes_digits, cpu_buffers, origin_word};
 
 use crate::texts::{Origin, Replayed, Text};
 use dspec_play::Series;
@@ -81,23 +81,16 @@ fn print_records(text: &mut String, header: Header, recs: &[Rec]) -> Result<(), 
     Ok(())
 }
 
-/// Bytes, each behind a space.
+/// Bytes, each in two digits behind a space.
 fn print_bytes(text: &mut String, bytes: &[u8]) -> Result<(), AllocError>
     ensures { OnOk result (string_bytes text.new ≡ string_bytes text.old ++ bytes_digits bytes.now) }
 {
     for byte in bytes {
-        print_byte(text, *byte)?;
+        text.push(' ')?;
+        text.push(sixteenth(*byte / 16))?;
+        text.push(sixteenth(*byte % 16))?;
     }
     Ok(())
-}
-
-/// Two digits, behind a space.
-fn print_byte(text: &mut String, byte: u8) -> Result<(), AllocError>
-    ensures { OnOk result (string_bytes text.new ≡ string_bytes text.old ++ byte_digits byte) }
-{
-    text.push(' ')?;
-    text.push(sixteenth(byte / 16))?;
-    text.push(sixteenth(byte % 16))
 }
 
 /// A digit of base 16.

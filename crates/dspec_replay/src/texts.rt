@@ -1,5 +1,5 @@
 ghost use Rattle.std.specs.Prelude.{IfOk};
-ghost use Rattle.dspec_replay.specs.Buffers.{IsTextOf};
+ghost use Rattle.dspec_replay.specs.Buffers.{IsUnreadText};
 
 use dspec_play::{Outcome, Series};
 use dspec_record::Rec;
@@ -31,7 +31,7 @@ pub struct Text {
 impl Text {
     /// The drops and the bytes of a batch, whose records aren't read yet.
     pub fn of(alloc: Global, origin: Origin, batch: &Batch) -> Result<Text, AllocError>
-        ensures { IfOk result (IsTextOf origin batch.now) }
+        ensures { IfOk result (IsUnreadText origin batch.now) }
     {
         let mut bytes = Vec::new(alloc);
         bytes.extend_from_slice(batch.buffer.bytes())?;

@@ -16,10 +16,10 @@ fn width_of(field: Field) -> usize
     ensures { 0 < result }
 {
     match field {
-        Field::One => 1,
-        Field::Two => 2,
-        Field::Four => 4,
         Field::Eight => 8,
+        Field::Four => 4,
+        Field::Two => 2,
+        Field::One => 1,
     }
 }
 
