@@ -9,17 +9,28 @@ use Rattle.dspec_replay.specs.declared.texts.Origin.{Origin}
 use Rattle.dspec_replay.specs.declared.texts.Origin.TheVariants as origin
 use Rattle.dspec_replay.specs.declared.texts.Text.{Text}
 
--- the drops and the bytes of this batch, and no records yet
-pub record IsUnreadText (o : Origin) (b : Batch) (t : Text) : Type 0 where
+-- the drops and the bytes of this batch
+pub record IsTextOfBatch (o : Origin) (b : Batch) (t : Text) : Type 0 where
   pub origin : t.origin ≡ o
   pub drops : t.drops ≡ b.drops
   pub bytes : t.bytes.items ≡ b.buffer.text
-  pub unread : t.records ≡ []
 
--- what a buffer is called
-abbrev pub origin_word : Origin → List ℕ
-origin_word origin.Batch = codes "batch"
-origin_word origin.Rest = codes "rest"
+-- one of this batch stands behind those before
+pub record AddsText (o : Origin) (b : Batch) (old new : List Text) : Type 0 where
+  pub text : Text
+  pub is : IsTextOfBatch o b text
+  pub added : new ≡ old ++ text ∷ []
+
+-- what stands before a buffer's records: how it came, its CPU, its drops, and how many records it has
+abbrev pub buffer_numbers : ℕ → Text → List ℕ
+buffer_numbers c t = decimal c ++ codes " drops " ++ decimal t.drops ++ codes " records " ++ decimal (length t.records) ++ codes ":"
+
+abbrev pub buffer_named : Origin → ℕ → Text → List ℕ
+buffer_named origin.Batch c t = codes "batch cpu " ++ buffer_numbers c t
+buffer_named origin.Rest c t = codes "rest cpu " ++ buffer_numbers c t
+
+abbrev pub buffer_front : ℕ → Text → List ℕ
+buffer_front c t = buffer_named t.origin c t
 
 -- a byte in two digits of base 16, behind a space
 abbrev pub byte_digits : ℕ → List ℕ
@@ -28,11 +39,13 @@ byte_digits b = codes " " ++ digit_glyph false (b / 16) ∷ digit_glyph false (b
 abbrev pub bytes_digits : List ℕ → List ℕ
 bytes_digits bytes = flat_map byte_digits bytes
 
--- the line of a buffer's records, and that of its bytes
+-- what stands behind a buffer's records: its bytes, on a line of their own
+abbrev pub bytes_line : ℕ → List ℕ → List ℕ
+bytes_line c bytes = codes "\nbytes cpu " ++ decimal c ++ codes ":" ++ bytes_digits bytes ++ codes "\n"
+
+-- the two lines of a buffer
 abbrev pub buffer_lines : Header → ℕ → Text → List ℕ
-buffer_lines h c t = origin_word t.origin ++ codes " cpu " ++ decimal c ++ codes " drops " ++ decimal t.drops
-    ++ codes " records " ++ decimal (length t.records) ++ codes ":" ++ records_text h t.records
-    ++ codes "\nbytes cpu " ++ decimal c ++ codes ":" ++ bytes_digits t.bytes.items ++ codes "\n"
+buffer_lines h c t = buffer_front c t ++ records_text h t.records ++ bytes_line c t.bytes.items
 
 -- the buffers of a CPU
 abbrev pub cpu_buffers : Header → ℕ × List Text → List ℕ

@@ -1,5 +1,7 @@
 ghost use Rattle.std.specs.Prelude.{◌≡◌, None, map, IfErr, IfOk};
-ghost use Rattle.dspec_replay.specs.Replayed.{IsDue, call_that_ended, schedule_refusal, whole_call_of};
+ghost use Rattle.dspec_schedule.specs.Reading.{header_of};
+ghost use Rattle.dspec_schedule.specs.Schedules.{plan_of};
+ghost use Rattle.dspec_replay.specs.Replayed.{IsDue, accepted_in, call_that_ended, schedule_refusal, whole_call_of};
 
 use crate::playing::Playing;
 use crate::session_fault::SessionFault;
@@ -31,7 +33,11 @@ pub fn replay<S: Schema>(
 }
 
 /// The play of a schedule under its enablings, else under the default action of its header.
-pub fn replay_schedule(alloc: Global, schedule: &Schedule) -> Result<Replayed, SessionFault> {
+pub fn replay_schedule(alloc: Global, schedule: &Schedule) -> Result<Replayed, SessionFault>
+    ensures answered { IfOk result (λ replayed. map call_that_ended replayed.outcome.answers ≡ map whole_call_of schedule.now.turns.items) }
+    ensures allowed { IfOk result (λ _. schedule_refusal (accepted_in schedule.now.enablings (header_of (plan_of schedule.now))) schedule.now.config schedule.now.turns.items ≡ None) }
+    ensures refused { IfErr result (IsDue (schedule_refusal (accepted_in schedule.now.enablings (header_of (plan_of schedule.now))) schedule.now.config schedule.now.turns.items)) }
+{
     let turns = schedule.turns.as_slice();
     match (schedule.enablings, schedule.header()) {
         (Some(enablings), _) => replay(alloc, &schedule.config, enablings, turns),

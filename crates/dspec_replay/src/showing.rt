@@ -2,7 +2,7 @@ ghost use Rattle.std.specs.Prelude.{◌≡◌, ◌<◌, ◌++◌, false, IfOk, O
 ghost use Rattle.std.specs.Fmt.{digit_glyph};
 ghost use Rattle.std.specs.List.{enumerate_from, flat_map};
 ghost use Rattle.dspec_schedule.specs.Printed.{printed_text, records_text};
-ghost use Rattle.dspec_replay.specs.Buffers.{all_buffers, buffer_lines, bytes_digits, cpu_buffers, origin_word};
+ghost use Rattle.dspec_replay.specs.Buffers.{all_buffers, buffer_front, buffer_lines, bytes_digits, bytes_line, cpu_buffers};
 
 use crate::texts::{Origin, Replayed, Text};
 use dspec_play::Series;
@@ -20,10 +20,18 @@ pub fn printed_with_bytes(
     ensures { IfOk result (λ text. string_bytes text ≡ printed_text header replayed.now.outcome ++ all_buffers header replayed.now.texts) }
 {
     let mut text = printed(alloc, header, &replayed.outcome)?;
-    for (cpu, texts) in replayed.texts.iter().enumerate() {
-        print_buffers(&mut text, header, cpu, texts)?;
-    }
+    print_all(&mut text, header, replayed.texts.as_slice())?;
     Ok(text)
+}
+
+/// The buffers of all CPUs.
+fn print_all(text: &mut String, header: Header, all: &[Series<Text>]) -> Result<(), AllocError>
+    ensures { OnOk result (string_bytes text.new ≡ string_bytes text.old ++ all_buffers header all.now) }
+{
+    for (cpu, buffers) in all.iter().enumerate() {
+        print_buffers(text, header, cpu, buffers)?;
+    }
+    Ok(())
 }
 
 /// The buffers of a CPU.
@@ -50,24 +58,29 @@ fn print_buffer(
 ) -> Result<(), AllocError>
     ensures { OnOk result (string_bytes text.new ≡ string_bytes text.old ++ buffer_lines header cpu buffer.now) }
 {
-    let drops = buffer.drops;
-    let count = buffer.records.len();
-    text.push_str(word_of(buffer.origin))?;
-    write!(text, " cpu {cpu} drops {drops} records {count}:")?;
+    print_front(text, cpu, buffer)?;
     print_records(text, header, buffer.records.as_slice())?;
-    write!(text, "\nbytes cpu {cpu}:")?;
-    print_bytes(text, buffer.bytes.as_slice())?;
-    writeln!(text)
+    print_bytes_of(text, cpu, buffer.bytes.as_slice())
 }
 
-/// What a buffer is called.
-fn word_of(origin: Origin) -> &'static str
-    ensures { result.now ≡ origin_word origin }
+/// What stands before a buffer's records.
+fn print_front(text: &mut String, cpu: usize, buffer: &Text) -> Result<(), AllocError>
+    ensures { OnOk result (string_bytes text.new ≡ string_bytes text.old ++ buffer_front cpu buffer.now) }
 {
-    match origin {
-        Origin::Batch => "batch",
-        Origin::Rest => "rest",
+    let (drops, count) = (buffer.drops, buffer.records.len());
+    match buffer.origin {
+        Origin::Batch => write!(text, "batch cpu {cpu} drops {drops} records {count}:"),
+        Origin::Rest => write!(text, "rest cpu {cpu} drops {drops} records {count}:"),
     }
+}
+
+/// What stands behind them: the bytes, on a line of their own.
+fn print_bytes_of(text: &mut String, cpu: usize, bytes: &[u8]) -> Result<(), AllocError>
+    ensures { OnOk result (string_bytes text.new ≡ string_bytes text.old ++ bytes_line cpu bytes.now) }
+{
+    write!(text, "\nbytes cpu {cpu}:")?;
+    print_bytes(text, bytes)?;
+    writeln!(text)
 }
 
 /// Records, each behind a space.

@@ -1,4 +1,5 @@
-ghost use Rattle.std.specs.Prelude.{IfErr};
+ghost use Rattle.std.specs.Prelude.{IfErr, OnOk};
+ghost use Rattle.dspec_replay.specs.Buffers.{AddsText};
 ghost use Rattle.dspec_replay.specs.Replayed.{IsSudden};
 
 use crate::session_fault::SessionFault;
@@ -41,23 +42,24 @@ fn read_back<S: Schema>(
     schema: &S,
     origin: Origin,
     batch: &Batch,
-    cpu: u32,
-    taken: &mut Taken,
+    stream: &mut Series<Rec>,
+    texts: &mut Series<Text>,
 ) -> Result<Answer, SessionFault>
     ensures refused { IfErr result IsSudden }
+    ensures kept { OnOk result (AddsText origin batch.now texts.old texts.new) }
 {
     let Ok(records) = read_all(schema, batch.buffer.bytes()) else {
-        return Err(SessionFault::NoText(cpu));
+        return Err(SessionFault::NoText(batch.cpu));
     };
-    let from = taken.stream.len();
-    let mut text = Text::of(alloc, origin, batch)?;
+    let from = stream.len();
+    let mut own = Series::new(alloc);
     let mut count: u32 = 0;
     for rec in records {
-        taken.stream.push(rec)?;
-        text.records.push(rec)?;
+        stream.push(rec)?;
+        own.push(rec)?;
         count = count.saturating_add(1);
     }
-    taken.texts.push(text)?;
+    texts.push(Text::of(alloc, origin, batch, own)?)?;
     Ok(Answer::Took {
         drops: batch.drops,
         from,
@@ -91,8 +93,9 @@ impl Basket {
         let Some(taken) = self.taken.get_mut(cpu as usize) else {
             return Ok(Answer::TookNone);
         };
-        let answer = read_back(self.alloc, schema, Origin::Batch, &batch, cpu, taken)?;
-        taken.out.push(batch)?;
+        let Taken { out, stream, texts } = taken;
+        let answer = read_back(self.alloc, schema, Origin::Batch, &batch, stream, texts)?;
+        out.push(batch)?;
         Ok(answer)
     }
 
@@ -108,7 +111,8 @@ impl Basket {
         let Some(taken) = self.taken.get_mut(cpu as usize) else {
             return Ok(());
         };
-        read_back(self.alloc, schema, Origin::Rest, batch, cpu, taken)?;
+        let Taken { stream, texts, .. } = taken;
+        read_back(self.alloc, schema, Origin::Rest, batch, stream, texts)?;
         Ok(())
     }
 

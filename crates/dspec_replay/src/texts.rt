@@ -1,5 +1,5 @@
-ghost use Rattle.std.specs.Prelude.{IfOk};
-ghost use Rattle.dspec_replay.specs.Buffers.{IsUnreadText};
+ghost use Rattle.std.specs.Prelude.{◌≡◌, IfOk};
+ghost use Rattle.dspec_replay.specs.Buffers.{IsTextOfBatch};
 
 use dspec_play::{Outcome, Series};
 use dspec_record::Rec;
@@ -29,16 +29,22 @@ pub struct Text {
 }
 
 impl Text {
-    /// The drops and the bytes of a batch, whose records aren't read yet.
-    pub fn of(alloc: Global, origin: Origin, batch: &Batch) -> Result<Text, AllocError>
-        ensures { IfOk result (IsUnreadText origin batch.now) }
+    /// The drops and the bytes of a batch, which has these records.
+    pub fn of(
+        alloc: Global,
+        origin: Origin,
+        batch: &Batch,
+        records: Series<Rec>,
+    ) -> Result<Text, AllocError>
+        ensures text { IfOk result (IsTextOfBatch origin batch.now) }
+        ensures records { IfOk result (λ text. text.records ≡ records) }
     {
         let mut bytes = Vec::new(alloc);
         bytes.extend_from_slice(batch.buffer.bytes())?;
         Ok(Text {
             origin,
             drops: batch.drops,
-            records: Series::new(alloc),
+            records,
             bytes,
         })
     }
