@@ -1,7 +1,7 @@
 /* Loaded in front of a program's C library (LD_PRELOAD): refuses one growth of memory, or fails one read or one write, so that
    what a program then answers is seen without another build of it. REFUSE_KIND says what: `growth`, `growths` (that one and
-   all later ones), `read` or `write`. REFUSE_AT is its number, counted from 1. REFUSE_TOLD names a file that is made once
-   anything was refused; where it isn't made, there was none left to refuse. Where REFUSE_BYTES is set, each read gives one
+   all later ones), `read` or `write`; a `yield` is only told, since it can't be refused. REFUSE_AT is its number, counted from 1.
+   REFUSE_TOLD names a file that is made once anything was refused; where it isn't made, there was none left to refuse. Where REFUSE_BYTES is set, each read gives one
    byte and each write takes one. The toolchain's own compiler compiles it (`.ci/refuse`); that has no headers, so this file
    declares what it calls. */
 typedef unsigned long size;
@@ -10,6 +10,7 @@ extern void *__libc_malloc(size bytes);
 extern void *__libc_realloc(void *held, size bytes);
 extern long __read(int file, void *bytes, size count);
 extern long __write(int file, const void *bytes, size count);
+extern int __sched_yield(void);
 extern int *__errno_location(void);
 extern char *getenv(const char *name);
 extern int strcmp(const char *one, const char *other);
@@ -25,6 +26,7 @@ static int by_bytes;
 static unsigned long growths;
 static unsigned long reads;
 static unsigned long writes;
+static unsigned long yields;
 
 __attribute__((constructor)) static void begin(void) {
     const char *number = getenv("REFUSE_AT");
@@ -78,4 +80,10 @@ long write(int file, const void *bytes, size count) {
         return -1;
     }
     return __write(file, bytes, by_bytes && count > 1 ? 1 : count);
+}
+
+/* Threads yield at the same time. */
+int sched_yield(void) {
+    refuses("yield", __atomic_add_fetch(&yields, 1, __ATOMIC_SEQ_CST));
+    return __sched_yield();
 }

@@ -1,6 +1,7 @@
 -- Serves proofs. What is told of a program's faults, and by which exit status.
-use Rattle.std.specs.Prelude.{◌≡◌, ◌≢◌, ℕ, List, codes}
-use Rattle.std.specs.IoError.{error_kind}
+use Rattle.std.specs.Prelude.{◌≡◌, ◌≢◌, ℕ, Bool, true, false, List, Result, Ok, Err}
+use Rattle.std.specs.Process.{exit_status}
+use Rattle.std.specs.declared.process.ExitCode.{ExitCode}
 use Rattle.std.specs.declared.io.Error.{Error}
 use Rattle.std.specs.declared.io.ErrorKind.{ErrorKind}
 use Rattle.std.specs.declared.io.ErrorKind.TheVariants.{OutOfMemory}
@@ -47,3 +48,15 @@ abbrev pub IsDeviceFault : List ℕ → Error → ErrorKind → CommandFault →
 IsDeviceFault name reason OutOfMemory fault = fault ≡ Memory
 IsDeviceFault name reason kind (Device named why) = (named.now ≡ name) × (why ≡ reason)
 IsDeviceFault name reason kind fault = ⊥
+
+-- want of memory, or told by this name
+abbrev pub IsOfDevice : List ℕ → CommandFault → Type 0
+IsOfDevice name Memory = Unit {0}
+IsOfDevice name (Device named why) = named.now ≡ name
+IsOfDevice name fault = ⊥
+
+-- the status by which a program ends: 0 where all is well, 1 where something isn't, else one that tells of the fault
+abbrev pub EndsProgram : {F : Type 0} → (F → ℕ → Type 0) → Result Bool F → ExitCode → Type 0
+EndsProgram ends (Ok true) code = exit_status code ≡ 0
+EndsProgram ends (Ok false) code = exit_status code ≡ 1
+EndsProgram ends (Err fault) code = ends fault (exit_status code)

@@ -1,9 +1,11 @@
 ghost use Rattle.std.specs.Prelude.{◌≡◌, IfErr, IsErrAnd, map, string_bytes, true};
 ghost use Rattle.clap.specs.Simple.{app_of};
+ghost use Rattle.clap.specs.Faults.{fault_of, is_simple_and_free};
 ghost use Rattle.clap.specs.Takes.{takes};
 ghost use Rattle.clap.specs.Values.{kind_of};
 ghost use Rattle.clap.specs.declared.error.kind.ErrorKind.TheVariants.{OutOfMemory};
 ghost use Rattle.dspec_command.specs.Faults.{IsAskFault, IsMistake, IsUsage, IsWordsFault};
+ghost use Rattle.dspec_command.specs.Asking.{IsAnswerTo, IsToldAs};
 ghost use Rattle.dspec_command.specs.declared.fault.CommandFault.TheVariants.{Memory};
 
 use crate::fault::{CommandFault, words_fault};
@@ -53,6 +55,7 @@ pub fn asked_of<'a>(
 ) -> Result<Asked<'a>, CommandFault<'a>>
     ensures fault { IfErr result (IsAskFault usage.entry.now) }
     ensures taken { takes (app_of command.entry) (map string_bytes words.entry.now) ≡ true → IfErr result (λ fault. fault ≡ Memory) }
+    ensures refused { is_simple_and_free (app_of command.entry) ≡ true → IsAnswerTo usage.entry.now (fault_of (app_of command.entry) (map string_bytes words.entry.now)) result }
 {
     match command.try_get_matches_from(words) {
         Ok(found) => Ok(Asked::Found(found)),
@@ -65,6 +68,7 @@ fn told<'a>(alloc: Global, usage: &'a str, fault: Error) -> Result<Asked<'a>, Co
     ensures fault { IfErr result (IsAskFault usage.entry.now) }
     ensures memory { kind_of fault ≡ OutOfMemory → IsErrAnd result (λ told. told ≡ Memory) }
     ensures mistake { IsMistake (kind_of fault) → IsErrAnd result (IsUsage usage.entry.now) }
+    ensures kind { IsToldAs usage.entry.now (kind_of fault) result }
 {
     match fault.kind() {
         ErrorKind::DisplayHelp | ErrorKind::DisplayVersion => {

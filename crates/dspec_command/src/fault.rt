@@ -1,6 +1,6 @@
-ghost use Rattle.std.specs.Prelude.{◌≡◌, codes};
+ghost use Rattle.std.specs.Prelude.{◌≡◌, IfErr, codes};
 ghost use Rattle.std.specs.IoError.{error_kind};
-ghost use Rattle.dspec_command.specs.Faults.{IsDeviceFault, words_fault};
+ghost use Rattle.dspec_command.specs.Faults.{IsDeviceFault, EndsProgram, IsOfDevice, words_fault};
 ghost use Rattle.dspec_command.specs.declared.fault.CommandFault.TheVariants.{Memory};
 
 use std::alloc::{AllocError, AllocFailed};
@@ -69,7 +69,8 @@ pub(crate) fn words_fault<'a>(fault: &io::Error) -> CommandFault<'a>
 
 /// What is told of a file, a folder or a stream of that name, which the system refuses: its reason, or want of memory.
 pub fn device_fault<'a>(name: &'a str, reason: io::Error) -> CommandFault<'a>
-    ensures { IsDeviceFault name.entry.now reason (error_kind reason) result }
+    ensures kind { IsDeviceFault name.entry.now reason (error_kind reason) result }
+    ensures device { IsOfDevice name.entry.now result }
 {
     match reason.kind() {
         io::ErrorKind::OutOfMemory => CommandFault::Memory,
@@ -79,13 +80,16 @@ pub fn device_fault<'a>(name: &'a str, reason: io::Error) -> CommandFault<'a>
 
 /// What is told where something can't be printed.
 pub fn output_fault<'a>(reason: io::Error) -> CommandFault<'a>
-    ensures { IsDeviceFault (codes "standard output") reason (error_kind reason) result }
+    ensures kind { IsDeviceFault (codes "standard output") reason (error_kind reason) result }
+    ensures device { IsOfDevice (codes "standard output") result }
 {
     device_fault("standard output", reason)
 }
 
-/// Prints a text on standard output.
-pub fn print_text<'a, R: Print>(rt: &R, text: &str) -> Result<(), CommandFault<'a>> {
+/// Prints a text on standard output. What is printed no clause can say.
+pub fn print_text<'a, R: Print>(rt: &R, text: &str) -> Result<(), CommandFault<'a>>
+    ensures { IfErr result (IsOfDevice (codes "standard output")) }
+{
     match print!(rt; "{text}") {
         Ok(()) => Ok(()),
         Err(reason) => Err(output_fault(reason)),
@@ -94,23 +98,35 @@ pub fn print_text<'a, R: Print>(rt: &R, text: &str) -> Result<(), CommandFault<'
 
 /// A fault by which a program ends.
 pub trait Ending {
+    ghost use Rattle.std.specs.Prelude.{ℕ};
+
+    // Whether a fault is told by this status. Whoever promises nothing of it leaves it out.
+    ghost ends: { Self → ℕ → Type 0 } = { λ _ _. Unit {0} };
+
     /// The exit status that tells of it.
-    fn exit_status(&self) -> u8;
+    fn exit_status(&self) -> u8
+        ensures { ends self.now result };
 }
 
 impl<'a> Ending for CommandFault<'a> {
+    ghost use Rattle.dspec_command.specs.Faults.{status_of_command};
+
+    ghost ends = { λ fault status. status ≡ status_of_command fault };
+
     fn exit_status(&self) -> u8 {
         self.status()
     }
 }
 
 /// The status by which a program ends: 0 where all is well, 1 where something isn't, and that of a fault, of which one line of standard
-/// error tells behind the program's name. A line that can't be written changes nothing.
+/// error tells behind the program's name, which no clause can say. A line that can't be written changes nothing.
 pub fn ended<R: Eprint, F: Ending + Display + Drop>(
     rt: &R,
     program: &str,
     outcome: Result<bool, F>,
-) -> ExitCode {
+) -> ExitCode
+    ensures { EndsProgram F.ends outcome result }
+{
     match outcome {
         Ok(true) => ExitCode::SUCCESS,
         Ok(false) => ExitCode::FAILURE,

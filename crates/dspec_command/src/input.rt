@@ -1,3 +1,7 @@
+ghost use Rattle.std.specs.Prelude.{IfErr, IfOk};
+ghost use Rattle.dspec_command.specs.Faults.{IsOfDevice};
+ghost use Rattle.dspec_command.specs.Inputs.{IsToldOfInput, IsUnread};
+
 use crate::fault::{CommandFault, device_fault};
 use std::fs::File;
 use std::io;
@@ -13,7 +17,9 @@ pub struct Input<'a, R: Read + Drop> {
 
 impl<'a, R: Read + Drop> Input<'a, R> {
     /// An input of that name.
-    pub fn new(name: &'a str, input: R) -> Input<'a, R> {
+    pub fn new(name: &'a str, input: R) -> Input<'a, R>
+        ensures { IsUnread name.entry.now result }
+    {
         Input {
             name,
             input,
@@ -22,7 +28,9 @@ impl<'a, R: Read + Drop> Input<'a, R> {
     }
 
     /// What is told of the last read that failed, if one did.
-    pub fn fault(&self) -> Option<CommandFault<'a>> {
+    pub fn fault(&self) -> Option<CommandFault<'a>>
+        ensures { IsToldOfInput self.now result }
+    {
         match self.reason {
             Some(reason) => Some(device_fault(self.name, reason)),
             None => None,
@@ -42,8 +50,11 @@ impl<'a, R: Read + Drop> Read for Input<'a, R> {
     }
 }
 
-/// Opens the file of that name to be read.
-pub fn open<'a>(rt: &HostRuntime, name: &'a str) -> Result<Input<'a, File>, CommandFault<'a>> {
+/// Opens the file of that name to be read. Which file the system opens no clause can say.
+pub fn open<'a>(rt: &HostRuntime, name: &'a str) -> Result<Input<'a, File>, CommandFault<'a>>
+    ensures opened { IfOk result (IsUnread name.entry.now) }
+    ensures refused { IfErr result (IsOfDevice name.entry.now) }
+{
     match File::open(rt, name) {
         Ok(file) => Ok(Input::new(name, file)),
         Err(reason) => Err(device_fault(name, reason)),

@@ -15,6 +15,7 @@ use std::test::Fail;
 mod blocks;
 mod filled;
 mod large;
+mod looks;
 mod plays;
 mod texts;
 mod values;

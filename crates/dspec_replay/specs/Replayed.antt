@@ -1,15 +1,17 @@
 -- Cited by calls. Schedules of whole calls on a session: which call a turn is, and why a turn or a whole schedule isn't played.
 use Rattle.std.specs.Prelude.{ℕ, ◌≡◌, ◌+◌, Bool, nat_lt, true, List, [], ◌∷◌, length, Option, Some, None, if◌then◌else◌}
+use Rattle.dspec_record.specs.EnablingRows.{EnabledRows}
 use Rattle.dspec_record.specs.Record.{Record}
+use Rattle.dspec_record.specs.Schemas.{default_fields, enabled, table_accepts}
+use Rattle.dspec_record.specs.declared.header.Header.{Header}
 use Rattle.dspec_deeds.specs.declared.calls.Actor.{Actor}
 use Rattle.dspec_deeds.specs.declared.calls.Actor.TheVariants as actor
-use Rattle.dspec_deeds.specs.declared.calls.Answer.{Answer}
 use Rattle.dspec_deeds.specs.declared.calls.ConsumerOp.{ConsumerOp}
 use Rattle.dspec_deeds.specs.declared.calls.ConsumerOp.TheVariants as consumer_op
 use Rattle.dspec_deeds.specs.declared.calls.Op.{Op}
 use Rattle.dspec_deeds.specs.declared.calls.Op.TheVariants as op
 use Rattle.dspec_deeds.specs.declared.calls.Turn.{Turn}
-use Rattle.dspec_deeds.specs.declared.calls.Turn.TheVariants.{BeginCpu, BeginConsumer, Step, RunCpu, RunConsumer}
+use Rattle.dspec_deeds.specs.declared.calls.Turn.TheVariants.{RunCpu, RunConsumer}
 use Rattle.dspec_deeds.specs.declared.config.Config.{Config}
 use Rattle.dspec_deeds.specs.declared.config.StartFault.{StartFault}
 use Rattle.dspec_deeds.specs.Ranges.{start_fault}
@@ -61,6 +63,11 @@ setup_refusal (Some f) = Some (Play (play_fault.Setup f))
 -- why a schedule isn't played: its configuration, else its first turn that can't be
 abbrev pub schedule_refusal : (Record → Bool) → Config → List Turn → Option SessionFault
 schedule_refusal accepted k ts = first_of (setup_refusal (start_fault k)) (first_refusal accepted k.cpus 0 ts)
+
+-- which records a schedule may have: those of its enablings, else those of the default action of its header
+abbrev pub accepted_in : Option EnabledRows → Header → Record → Bool
+accepted_in (Some e) h = table_accepts e.header (enabled e.rows)
+accepted_in None h = table_accepts h default_fields
 
 -- a fault is the one that is due; want of memory, and a buffer that can't be read back, may come at any time
 abbrev pub IsDue : Option SessionFault → SessionFault → Type 0

@@ -5,6 +5,7 @@ ghost use Rattle.dspec_replay.specs.Replayed.{IsSudden};
 use crate::playing::Playing;
 use crate::session_fault::SessionFault;
 use crate::taken::Basket;
+use crate::texts::Replayed;
 use dspec_consumer::Closed;
 use dspec_cpu::{Cpu, Listed};
 use dspec_deeds::Report;
@@ -33,10 +34,11 @@ fn read_left<S: Schema>(
 }
 
 impl<S: Schema> Playing<S> {
-    /// Ends the session, and gives what a play leaves, but for the deeds: what is left of each CPU is read behind what was taken.
-    pub fn close(self, alloc: Global) -> Result<Outcome, SessionFault>
+    /// Ends the session, and gives what a play leaves, but for the deeds, and the texts: what is left of each CPU is read behind what
+    /// was taken.
+    pub fn close(self, alloc: Global) -> Result<Replayed, SessionFault>
         requires session { IsSession self.schema self.session }
-        ensures answers { IfOk result (λ outcome. outcome.answers ≡ self.answers) }
+        ensures answers { IfOk result (λ replayed. replayed.outcome.answers ≡ self.answers) }
         ensures refused { IfErr result IsSudden }
     {
         let mut basket = self.basket;
@@ -46,15 +48,19 @@ impl<S: Schema> Playing<S> {
         for cpu in 0..cpus {
             read_left(&closed, &self.schema, cpu, &mut basket, &mut reports)?;
         }
-        let accepted = basket.streams(alloc)?;
+        let contents = basket.contents()?;
         let deeds = Series::new(alloc);
-        Ok(Outcome {
+        let outcome = Outcome {
             close: Close {
                 deeds,
-                accepted,
+                accepted: contents.streams,
                 reports,
             },
             answers: self.answers,
+        };
+        Ok(Replayed {
+            outcome,
+            texts: contents.texts,
         })
     }
 }

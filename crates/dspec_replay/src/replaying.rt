@@ -1,10 +1,12 @@
 ghost use Rattle.std.specs.Prelude.{◌≡◌, None, map, IfErr, IfOk};
-ghost use Rattle.dspec_replay.specs.Replayed.{IsDue, call_that_ended, schedule_refusal, whole_call_of};
+ghost use Rattle.dspec_schedule.specs.Reading.{header_of};
+ghost use Rattle.dspec_schedule.specs.Schedules.{plan_of};
+ghost use Rattle.dspec_replay.specs.Replayed.{IsDue, accepted_in, call_that_ended, schedule_refusal, whole_call_of};
 
 use crate::playing::Playing;
 use crate::session_fault::SessionFault;
+use crate::texts::Replayed;
 use dspec_deeds::{Config, Turn};
-use dspec_play::Outcome;
 use dspec_record::{DefaultAction, Header, Schema, StampedAction};
 use dspec_schedule::Schedule;
 use std::alloc::Global;
@@ -18,8 +20,8 @@ pub fn replay<S: Schema>(
     config: &Config,
     schema: S,
     turns: &[Turn],
-) -> Result<Outcome, SessionFault>
-    ensures answered { IfOk result (λ outcome. map call_that_ended outcome.answers ≡ map whole_call_of turns.now) }
+) -> Result<Replayed, SessionFault>
+    ensures answered { IfOk result (λ replayed. map call_that_ended replayed.outcome.answers ≡ map whole_call_of turns.now) }
     ensures allowed { IfOk result (λ _. schedule_refusal (S.accepted schema) config.now turns.now ≡ None) }
     ensures refused { IfErr result (IsDue (schedule_refusal (S.accepted schema) config.now turns.now)) }
 {
@@ -31,7 +33,11 @@ pub fn replay<S: Schema>(
 }
 
 /// The play of a schedule under its enablings, else under the default action of its header.
-pub fn replay_schedule(alloc: Global, schedule: &Schedule) -> Result<Outcome, SessionFault> {
+pub fn replay_schedule(alloc: Global, schedule: &Schedule) -> Result<Replayed, SessionFault>
+    ensures answered { IfOk result (λ replayed. map call_that_ended replayed.outcome.answers ≡ map whole_call_of schedule.now.turns.items) }
+    ensures allowed { IfOk result (λ _. schedule_refusal (accepted_in schedule.now.enablings (header_of (plan_of schedule.now))) schedule.now.config schedule.now.turns.items ≡ None) }
+    ensures refused { IfErr result (IsDue (schedule_refusal (accepted_in schedule.now.enablings (header_of (plan_of schedule.now))) schedule.now.config schedule.now.turns.items)) }
+{
     let turns = schedule.turns.as_slice();
     match (schedule.enablings, schedule.header()) {
         (Some(enablings), _) => replay(alloc, &schedule.config, enablings, turns),

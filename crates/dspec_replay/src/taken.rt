@@ -1,7 +1,9 @@
-ghost use Rattle.std.specs.Prelude.{IfErr};
+ghost use Rattle.std.specs.Prelude.{IfErr, OnOk};
+ghost use Rattle.dspec_replay.specs.Buffers.{AddsText};
 ghost use Rattle.dspec_replay.specs.Replayed.{IsSudden};
 
 use crate::session_fault::SessionFault;
+use crate::texts::{Origin, Text};
 use dspec_buffer::read_all;
 use dspec_deeds::Answer;
 use dspec_play::Series;
@@ -16,32 +18,48 @@ struct Taken {
     out: Vec<Batch>,
     /// The records of all batches, read back from their texts.
     stream: Series<Rec>,
+    /// The texts.
+    texts: Series<Text>,
 }
 
 /// What the consumer took, CPU by CPU.
 #[derive(Drop)]
 pub struct Basket {
+    alloc: Global,
     taken: Vec<Taken>,
 }
 
-/// Reads the records of a batch back, behind those before, and answers what taking it does.
+/// The records and the buffers of each CPU.
+#[derive(Drop)]
+pub struct Contents {
+    pub streams: Series<Series<Rec>>,
+    pub texts: Series<Series<Text>>,
+}
+
+/// Reads the records of a batch back, behind those before, keeps its text, and answers what taking it does.
 fn read_back<S: Schema>(
+    alloc: Global,
     schema: &S,
+    origin: Origin,
     batch: &Batch,
-    cpu: u32,
     stream: &mut Series<Rec>,
+    texts: &mut Series<Text>,
 ) -> Result<Answer, SessionFault>
-    ensures { IfErr result IsSudden }
+    ensures refused { IfErr result IsSudden }
+    ensures kept { OnOk result (AddsText origin batch.now texts.old texts.new) }
 {
     let Ok(records) = read_all(schema, batch.buffer.bytes()) else {
-        return Err(SessionFault::NoText(cpu));
+        return Err(SessionFault::NoText(batch.cpu));
     };
     let from = stream.len();
+    let mut own = Series::new(alloc);
     let mut count: u32 = 0;
     for rec in records {
         stream.push(rec)?;
+        own.push(rec)?;
         count = count.saturating_add(1);
     }
+    texts.push(Text::of(alloc, origin, batch, own)?)?;
     Ok(Answer::Took {
         drops: batch.drops,
         from,
@@ -57,9 +75,10 @@ impl Basket {
             taken.push(Taken {
                 out: Vec::new(alloc),
                 stream: Series::new(alloc),
+                texts: Series::new(alloc),
             })?;
         }
-        Ok(Basket { taken })
+        Ok(Basket { alloc, taken })
     }
 
     /// A batch of the CPU is read, and is out from then on.
@@ -74,8 +93,9 @@ impl Basket {
         let Some(taken) = self.taken.get_mut(cpu as usize) else {
             return Ok(Answer::TookNone);
         };
-        let answer = read_back(schema, &batch, cpu, &mut taken.stream)?;
-        taken.out.push(batch)?;
+        let Taken { out, stream, texts } = taken;
+        let answer = read_back(self.alloc, schema, Origin::Batch, &batch, stream, texts)?;
+        out.push(batch)?;
         Ok(answer)
     }
 
@@ -91,7 +111,8 @@ impl Basket {
         let Some(taken) = self.taken.get_mut(cpu as usize) else {
             return Ok(());
         };
-        read_back(schema, batch, cpu, &mut taken.stream)?;
+        let Taken { stream, texts, .. } = taken;
+        read_back(self.alloc, schema, Origin::Rest, batch, stream, texts)?;
         Ok(())
     }
 
@@ -104,14 +125,16 @@ impl Basket {
         Some(taken.out.remove(0))
     }
 
-    /// The records of each CPU.
-    pub fn streams(self, alloc: Global) -> Result<Series<Series<Rec>>, SessionFault>
+    /// All that was read of each CPU.
+    pub fn contents(self) -> Result<Contents, SessionFault>
         ensures { IfErr result IsSudden }
     {
-        let mut streams = Series::new(alloc);
+        let mut streams = Series::new(self.alloc);
+        let mut texts = Series::new(self.alloc);
         for taken in self.taken {
             streams.push(taken.stream)?;
+            texts.push(taken.texts)?;
         }
-        Ok(streams)
+        Ok(Contents { streams, texts })
     }
 }

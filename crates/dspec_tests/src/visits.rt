@@ -107,74 +107,78 @@ impl<'a> Work<Enablings> for Opens<'a> {
     }
 }
 
-/// A session of so many CPUs whose work waits for a number; how many lanes got it.
-fn waited<'a, R: Threads + Sync>(
+/// A session of so many CPUs that do this work. Batches and pauses are counted.
+fn session<R: Threads + Sync, W: Work<Enablings>>(
     rt: &R,
     alloc: Global,
     cpus: u32,
-    count: &'a AtomicU64,
-    pauses: &'a AtomicU64,
-    wanted: u64,
-    is_of_pauses: bool,
-) -> Result<u64, Fail> {
+    work: &W,
+    count: &AtomicU64,
+    pauses: &AtomicU64,
+) -> Result<(), Fail> {
     let mut schema = Enablings::new();
     if schema.enable(&[Field::One]).is_err() {
         return Err("no enabling".into());
     }
-    let done = AtomicU64::new(0);
     let sink = Seen {
         cpus: [false; 64],
         count,
         pauses,
     };
-    let work = Waits {
-        count: if is_of_pauses { pauses } else { count },
-        wanted,
-        done: &done,
-    };
     let config = Config::of(cpus, 1, 64, 64);
-    if trace(rt, alloc, &config, schema, &work, sink).is_err() {
+    if trace(rt, alloc, &config, schema, work, sink).is_err() {
         return Err("no session".into());
     }
-    Ok(done.load(Ordering::SeqCst))
+    Ok(())
+}
+
+/// A session of one CPU, whose batches and pauses nobody asks for.
+fn session_of_one<R: Threads + Sync, W: Work<Enablings>>(
+    rt: &R,
+    alloc: Global,
+    work: &W,
+) -> Result<(), Fail> {
+    let (count, pauses) = (AtomicU64::new(0), AtomicU64::new(0));
+    session(rt, alloc, 1, work, &count, &pauses)
 }
 
 /// All CPUs work at once, each until a batch of every one of them came: 64 threads, CPU 0 and CPU 63 among those visited.
 #[test]
 fn every_cpu_is_visited(rt: HostRuntime) -> Result<(), Fail> {
-    let (count, pauses) = (AtomicU64::new(0), AtomicU64::new(0));
-    let done = waited(&rt, rt.alloc(), 64, &count, &pauses, 64, false)?;
-    assert!(rt; done == 64);
+    let (count, pauses, done) = (AtomicU64::new(0), AtomicU64::new(0), AtomicU64::new(0));
+    let work = Waits {
+        count: &count,
+        wanted: 64,
+        done: &done,
+    };
+    session(&rt, rt.alloc(), 64, &work, &count, &pauses)?;
+    assert!(rt; done.load(Ordering::SeqCst) == 64);
     Ok(())
 }
 
 /// The consumer makes more than a thousand rounds where the work goes on for so long.
 #[test]
 fn rounds_go_on(rt: HostRuntime) -> Result<(), Fail> {
-    let (count, pauses) = (AtomicU64::new(0), AtomicU64::new(0));
-    let done = waited(&rt, rt.alloc(), 1, &count, &pauses, 1500, true)?;
-    assert!(rt; done == 1);
+    let (count, pauses, done) = (AtomicU64::new(0), AtomicU64::new(0), AtomicU64::new(0));
+    let work = Waits {
+        count: &pauses,
+        wanted: 1500,
+        done: &done,
+    };
+    session(&rt, rt.alloc(), 1, &work, &count, &pauses)?;
+    assert!(rt; done.load(Ordering::SeqCst) == 1);
     Ok(())
 }
 
 /// A CPU has two principal buffers: it can seal a sixth batch only where others came back.
 #[test]
 fn buffers_come_back(rt: HostRuntime) -> Result<(), Fail> {
-    let mut schema = Enablings::new();
-    assert!(rt; schema.enable(&[Field::One]).is_ok());
-    let (count, pauses, done) = (AtomicU64::new(0), AtomicU64::new(0), AtomicU64::new(0));
-    let sink = Seen {
-        cpus: [false; 64],
-        count: &count,
-        pauses: &pauses,
-    };
+    let done = AtomicU64::new(0);
     let work = Switches {
         wanted: 6,
         done: &done,
     };
-    let config = Config::of(1, 1, 64, 64);
-    let ended = trace(&rt, rt.alloc(), &config, schema, &work, sink).is_ok();
-    assert!(rt; ended);
+    session_of_one(&rt, rt.alloc(), &work)?;
     assert!(rt; done.load(Ordering::SeqCst) == 1);
     Ok(())
 }
@@ -182,21 +186,12 @@ fn buffers_come_back(rt: HostRuntime) -> Result<(), Fail> {
 /// A slot whose speculation was discarded with no caller waits for every CPU, so that it is given out again only behind a clean.
 #[test]
 fn slots_are_cleaned(rt: HostRuntime) -> Result<(), Fail> {
-    let mut schema = Enablings::new();
-    assert!(rt; schema.enable(&[Field::One]).is_ok());
-    let (count, pauses, done) = (AtomicU64::new(0), AtomicU64::new(0), AtomicU64::new(0));
-    let sink = Seen {
-        cpus: [false; 64],
-        count: &count,
-        pauses: &pauses,
-    };
+    let done = AtomicU64::new(0);
     let work = Opens {
         wanted: 3,
         done: &done,
     };
-    let config = Config::of(1, 1, 64, 64);
-    let ended = trace(&rt, rt.alloc(), &config, schema, &work, sink).is_ok();
-    assert!(rt; ended);
+    session_of_one(&rt, rt.alloc(), &work)?;
     assert!(rt; done.load(Ordering::SeqCst) == 1);
     Ok(())
 }

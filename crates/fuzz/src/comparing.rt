@@ -3,13 +3,14 @@
 ghost use Rattle.std.specs.Prelude.{◌≡◌};
 ghost use Rattle.fuzz.specs.Comparing.{IsAlike, IsRefusedAlike};
 
+use crate::encoding::encoded;
 use crate::sample::Sample;
 use dspec_core::play;
 use dspec_deeds::{Config, Turn};
 use dspec_play::{Outcome, PlayFault};
 use dspec_record::{DefaultAction, Header, StampedAction};
-use dspec_replay::{SessionFault, replay_schedule};
-use dspec_schedule::{Schedule, printed};
+use dspec_replay::{SessionFault, printed_with_bytes, replay_schedule};
+use dspec_schedule::Schedule;
 use std::alloc::{AllocError, Global};
 
 /// What one of the two made of a schedule.
@@ -44,19 +45,27 @@ fn play_schedule(alloc: Global, schedule: &Schedule) -> Result<Outcome, PlayFaul
     }
 }
 
-/// What the player makes of a schedule.
-fn player_told(alloc: Global, schedule: &Schedule) -> Result<Told, AllocError> {
+/// What the player makes of a schedule, with the bytes that are due.
+fn player_told(alloc: Global, sample: &Sample) -> Result<Told, AllocError> {
+    let schedule = &sample.schedule;
     match play_schedule(alloc, schedule) {
-        Ok(outcome) => Ok(Told::Printed(printed(alloc, schedule.header(), &outcome)?)),
+        Ok(outcome) => {
+            let due = encoded(alloc, sample, outcome)?;
+            let text = printed_with_bytes(alloc, schedule.header(), &due)?;
+            Ok(Told::Printed(text))
+        }
         Err(PlayFault::Memory) => Err(AllocError),
         Err(fault) => Ok(Told::Refused(fault)),
     }
 }
 
-/// What a session makes of a schedule.
+/// What a session makes of a schedule, with the bytes of its batches.
 fn session_told(alloc: Global, schedule: &Schedule) -> Result<Told, AllocError> {
     match replay_schedule(alloc, schedule) {
-        Ok(outcome) => Ok(Told::Printed(printed(alloc, schedule.header(), &outcome)?)),
+        Ok(replayed) => {
+            let text = printed_with_bytes(alloc, schedule.header(), &replayed)?;
+            Ok(Told::Printed(text))
+        }
         Err(SessionFault::Play(PlayFault::Memory)) => Err(AllocError),
         Err(SessionFault::Play(fault)) => Ok(Told::Refused(fault)),
         Err(fault) => Ok(Told::CantGoOn(fault)),
@@ -65,7 +74,7 @@ fn session_told(alloc: Global, schedule: &Schedule) -> Result<Told, AllocError> 
 
 /// What each of the two makes of a schedule, the player's in front.
 pub fn both_told(alloc: Global, sample: &Sample) -> Result<(Told, Told), AllocError> {
-    let player = player_told(alloc, &sample.schedule)?;
+    let player = player_told(alloc, sample)?;
     let session = session_told(alloc, &sample.schedule)?;
     Ok((player, session))
 }

@@ -1,5 +1,6 @@
 //! `fuzz SEED COUNT` plays so many random schedules of whole calls, each by the player and on a session, and compares what both
-//! print, or how both refuse it. At the first difference it takes turns out of the schedule while the difference stays, prints
+//! print, or how both refuse it; what is printed has the bytes of each batch and of what is left, which an encoder of this program
+//! makes of the player's deeds (`encoding`). At the first difference it takes turns out of the schedule while the difference stays, prints
 //! what is left, with what each of the two made of it, and ends with status 1. The last line counts.
 //!
 //! It promises that it ends, that the turns are whole calls, and that a schedule passes only where both printed the same text or
@@ -7,6 +8,7 @@
 #![tactic(auto)]
 
 mod comparing;
+mod encoding;
 mod making;
 mod options;
 mod records;

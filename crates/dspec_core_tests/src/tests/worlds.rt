@@ -54,7 +54,7 @@ pub fn stepped<S: Schema, B: TraceBuffer<S>>(
 }
 
 /// Steps of a call that has begun, to its end: its answer, and how many there were.
-fn run_to_end<S: Schema, B: TraceBuffer<S>>(
+pub fn run_to_end<S: Schema, B: TraceBuffer<S>>(
     world: &mut World<S, B>,
     actor: Actor,
 ) -> Result<(Answer, u32), Fail>

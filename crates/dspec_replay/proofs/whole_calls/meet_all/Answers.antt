@@ -1,4 +1,4 @@
-use Rattle.std.proofs.Common.{◌<◌, ◌∙◌, length, length-set, refl, arith}
+use Rattle.std.proofs.Common.{◌∙◌, length-set, refl, arith}
 use Rattle.dspec_consumer.proofs.Callings.{cpu_there, met_there}
 use Rattle.dspec_replay.proofs.whole_calls.meet_all.Goals as goal
 
