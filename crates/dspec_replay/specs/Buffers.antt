@@ -16,7 +16,7 @@ pub record IsTextOfBatch (o : Origin) (b : Batch) (t : Text) : Type 0 where
   pub bytes : t.bytes.items ≡ b.buffer.text
 
 -- one of this batch stands behind those before
-pub record AddsText (o : Origin) (b : Batch) (old new : List Text) : Type 0 where
+pub record KeepsBufferText (o : Origin) (b : Batch) (old new : List Text) : Type 0 where
   pub text : Text
   pub is : IsTextOfBatch o b text
   pub added : new ≡ old ++ text ∷ []

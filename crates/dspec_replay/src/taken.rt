@@ -1,5 +1,5 @@
 ghost use Rattle.std.specs.Prelude.{IfErr, OnOk};
-ghost use Rattle.dspec_replay.specs.Buffers.{AddsText};
+ghost use Rattle.dspec_replay.specs.Buffers.{KeepsBufferText};
 ghost use Rattle.dspec_replay.specs.Replayed.{IsSudden};
 
 use crate::session_fault::SessionFault;
@@ -46,7 +46,7 @@ fn read_back<S: Schema>(
     texts: &mut Series<Text>,
 ) -> Result<Answer, SessionFault>
     ensures refused { IfErr result IsSudden }
-    ensures kept { OnOk result (AddsText origin batch.now texts.old texts.new) }
+    ensures kept { OnOk result (KeepsBufferText origin batch.now texts.old texts.new) }
 {
     let Ok(records) = read_all(schema, batch.buffer.bytes()) else {
         return Err(SessionFault::NoText(batch.cpu));
