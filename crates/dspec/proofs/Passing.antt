@@ -1,6 +1,6 @@
 -- What a sink gets, and what is taken meanwhile.
-use Rattle.std.proofs.Common.{◌≡◌, ℕ, zero, suc, ◌+◌, ◌<◌, ◌==◌, ◌⊎◌, inl, inr, ⊎_elim, Bool, true, false, if◌then◌else◌, List, [], ◌∷◌, ◌++◌, length, map, take, refl, sym, ap, ◌∙◌, subst, arith}
-use Rattle.std.specs.Prelude.{slice_get, slice_set, Option, Some, None, Result, Ok, Err, OnOk, OnErr, MatchBool}
+use Rattle.std.proofs.Common.{◌≡◌, ℕ, zero, suc, ◌+◌, ◌<◌, ◌==◌, ⊎_elim, Bool, true, false, if◌then◌else◌, List, [], ◌∷◌, ◌++◌, length, map, take, refl, sym, ap, ◌∙◌, subst, arith}
+use Rattle.std.specs.Prelude.{slice_get, slice_set, Some, None, Result, Ok, Err, OnOk, OnErr, MatchBool}
 use Rattle.std.specs.Option.{option_map_or}
 use Rattle.std.proofs.lemmas.Bool.Decides.{nat_tests}
 use Rattle.std.proofs.lemmas.List.{append-nil, append_assoc}
@@ -19,7 +19,7 @@ use Rattle.dspec_cpu.specs.Sealed.{waiting}
 use Rattle.dspec_consumer.specs.declared.left.Left.{Left}
 use Rattle.dspec_consumer.specs.Batches.{Took, FoundNone, GaveBack, IsNotTakenBack}
 use Rattle.dspec_consumer.specs.Asking.{Asked}
-use Rattle.dspec_consumer.specs.Consumers.{Consuming, IsConsumerOf, IsSameConsumer, Stays, set_up_of, view_of}
+use Rattle.dspec_consumer.specs.Consumers.{Consuming, IsConsumerOf, Stays, set_up_of, view_of}
 use Rattle.dspec_consumer.specs.Sessions.{taken_at}
 use Rattle.dspec_consumer.proofs.PromisedBy.{there_is}
 use Rattle.dspec.specs.Passed.{Passed, AreFrom, passed_from, each_from, left_batches, rests_passed, GotAll, PassesOn}

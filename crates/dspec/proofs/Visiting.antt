@@ -1,5 +1,5 @@
 -- What a visit of the consumer came to.
-use Rattle.std.proofs.Common.{◌≡◌, ℕ, ◌<◌, ◌≤◌, ◌⊎◌, inl, inr, Bool, true, false, Result, Ok, Err, OnErr, OnOk, MatchBool, arith}
+use Rattle.std.proofs.Common.{ℕ, ◌<◌, ◌≤◌, ◌⊎◌, inl, inr, Bool, true, false, Result, Ok, Err, OnErr, OnOk, MatchBool, arith}
 use Rattle.dspec_ring.specs.declared.batch.Batch.{Batch}
 use Rattle.dspec_consumer.specs.Batches.{GaveBack, IsNotTakenBack}
 use Rattle.dspec_consumer.specs.Consumers.{Consuming}

@@ -7,7 +7,7 @@ use Rattle.dspec_deeds.specs.declared.calls.Spoken.{Spoken}
 use Rattle.dspec_deeds.specs.declared.calls.Traced.{Traced}
 use Rattle.dspec_deeds.specs.declared.deed.Deed.{Deed}
 use Rattle.dspec_cpu.specs.declared.cpu.Cpu.{Cpu}
-use Rattle.dspec_cpu.specs.Called.{CallsMade, called, with_speculate, with_trace}
+use Rattle.dspec_cpu.specs.Called.{called, with_speculate, with_trace}
 use Rattle.dspec_cpu.specs.Lists.{schema_of}
 use Rattle.dspec_cpu.specs.OneCall.{TracesOne, SpeculatesOne, RecordsValues, OffersValues, with_values}
 use Rattle.dspec.specs.Works.{DidRecord, DidStep}

@@ -1,5 +1,4 @@
 -- Cited by calls. Which lane of which session a lane is.
-use Rattle.std.specs.Prelude.{◌≡◌}
 use Rattle.std.specs.Borrow.{GName}
 use Rattle.dspec_record.specs.declared.schema.Schema.{Ghosts}
 use Rattle.dspec_cpu.specs.declared.shared.Shared.{Shared}

@@ -1,5 +1,5 @@
 -- Cited by calls. What one call does to what a CPU's calls did, for a work that says what it does.
-use Rattle.std.specs.Prelude.{ℕ, ◌≡◌, ◌&&◌, ◌↔◌, nat_le, Bool, List, length, Option, IsSome, IfSome, IfNone, IsTrue}
+use Rattle.std.specs.Prelude.{◌≡◌, ◌&&◌, ◌↔◌, nat_le, Bool, length, Option, IsSome, IfSome, IfNone, IsTrue}
 use Rattle.dspec_record.specs.Record.{Record}
 use Rattle.dspec_word.specs.SpecId.{Speculation}
 use Rattle.dspec_deeds.specs.declared.calls.Spoken.{Spoken}

@@ -1,4 +1,4 @@
-use Rattle.std.proofs.Common.{◌≡◌, refl, sym, subst, take, length, arith}
+use Rattle.std.proofs.Common.{refl, subst, arith}
 use Rattle.std.proofs.lemmas.List.{take_all}
 use Rattle.dspec.specs.Passed.{GotAll, rests_passed}
 use Rattle.dspec.proofs.Passing.{got_more}
