@@ -1,3 +1,4 @@
+pub mod KeptAll
 mod LeftBehind
 mod Passing
 mod Returning

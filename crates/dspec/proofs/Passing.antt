@@ -4,7 +4,9 @@ use Rattle.std.specs.Prelude.{slice_get, slice_set, Some, None, Result, Ok, Err,
 use Rattle.std.specs.Option.{option_map_or}
 use Rattle.std.proofs.lemmas.Bool.Decides.{nat_tests}
 use Rattle.std.proofs.lemmas.List.{append-nil, append_assoc}
+use Rattle.std.proofs.lemmas.List.Elements.{All-append, All-cons, All-nil}
 use Rattle.std.proofs.lemmas.Option.{slice_get_within}
+use Rattle.dspec_deeds.specs.declared.config.Config.{Config}
 use Rattle.dspec_deeds.specs.declared.deed.Deed.{Deed}
 use Rattle.dspec_deeds.specs.declared.deed.Deed.TheVariants.{Release}
 use Rattle.dspec_table.specs.declared.rule.View.{View}
@@ -17,10 +19,10 @@ use Rattle.dspec_cpu.specs.Sealed.{waiting}
 use Rattle.dspec_consumer.specs.declared.left.Left.{Left}
 use Rattle.dspec_consumer.specs.Batches.{Took, FoundNone, GaveBack, IsNotTakenBack}
 use Rattle.dspec_consumer.specs.Asking.{Asked}
-use Rattle.dspec_consumer.specs.Consumers.{Consuming, IsConsumerOf, Stays, view_of}
+use Rattle.dspec_consumer.specs.Consumers.{Consuming, IsConsumerOf, Stays, set_up_of, view_of}
 use Rattle.dspec_consumer.specs.Sessions.{taken_at}
 use Rattle.dspec_consumer.proofs.PromisedBy.{there_is}
-use Rattle.dspec.specs.Passed.{Passed, passed_from, each_from, left_batches, rests_passed, GotAll, PassesOn}
+use Rattle.dspec.specs.Passed.{Passed, AreFrom, passed_from, each_from, left_batches, rests_passed, GotAll, PassesOn}
 
 -- a batch more stands before the others of its CPU
 more_in_front : (q : Bool) (b : Batch) (xs ys : List Batch) → (if q then b ∷ (xs ++ ys) else xs ++ ys) ≡ (if q then b ∷ xs else xs) ++ ys
@@ -122,6 +124,7 @@ module _ {K : Type 0} (gets : K → Batch → K → Type 0) where
     passes_released x y k slots stays same entered = record {
       stays = stays;
       passed = [];
+      from = All-nil (λ (p : Passed). p.from < (set_up_of x).cpus);
       got = refl;
       taken = λ d. same d ∙ sym (append-nil (taken_at x d));
       released = slots;
@@ -137,6 +140,7 @@ module _ {K : Type 0} (gets : K → Batch → K → Type 0) where
     passes_one c b x y k l stays took g = record {
       stays = stays;
       passed = record { from = c; batch = b } ∷ [];
+      from = let P : Passed → Type 0 = λ p. p.from < (set_up_of x).cpus in All-cons P (record { from = c; batch = b }) [] took.known (All-nil P);
       got = (l, g, refl);
       taken = λ d. ap (λ es. taken_in es d) took.ends ∙ end_set x.ends c d took.before took.after (b ∷ []) took.there took.took.taken;
       released = [];
@@ -151,6 +155,8 @@ module _ {K : Type 0} (gets : K → Batch → K → Type 0) where
     passes_both x y z k m l a b = record {
       stays = stays_both words x y z a.stays b.stays;
       passed = a.passed ++ b.passed;
+      from = All-append (λ (p : Passed). p.from < (set_up_of x).cpus) a.passed b.passed a.from
+          (subst (λ (s : Config). AreFrom s.cpus b.passed) a.stays.same.config b.from);
       got = got_both a.passed b.passed k m l a.got b.got;
       taken = λ d. b.taken d ∙ (ap (λ t. t ++ passed_from d b.passed) (a.taken d)
           ∙ (append_assoc (taken_at x d) (passed_from d a.passed) (passed_from d b.passed) ∙ ap (λ t. taken_at x d ++ t) (sym (from_both d a.passed b.passed))));
@@ -176,6 +182,18 @@ later n m [] lt = refl
 later n m (l ∷ ls) lt =
     from_both m (each_from n (left_batches l)) (rests_passed (n + 1) ls)
     ∙ (ap (λ t. t ++ passed_from m (rests_passed (n + 1) ls)) (other_above n m (left_batches l) lt) ∙ later (n + 1) m ls (omega arith))
+
+-- what was left came from CPUs that there are
+each_from_it : (m n : ℕ) (bs : List Batch) → n < m → AreFrom m (each_from n bs)
+each_from_it m n [] lt = All-nil (λ (p : Passed). p.from < m)
+each_from_it m n (b ∷ bs) lt = All-cons (λ (p : Passed). p.from < m) (record { from = n; batch = b }) (each_from n bs) lt (each_from_it m n bs lt)
+
+pub rests_from : (m n : ℕ) (ls : List Left) → m ≡ n + length ls → AreFrom m (rests_passed n ls)
+rests_from m n [] e = All-nil (λ (p : Passed). p.from < m)
+rests_from m n (l ∷ ls) e =
+    let at : n < m = omega arith in
+    let on : m ≡ (n + 1) + length ls = omega arith in
+    All-append (λ (p : Passed). p.from < m) (each_from n (left_batches l)) (rests_passed (n + 1) ls) (each_from_it m n (left_batches l) at) (rests_from m (n + 1) ls on)
 
 -- what is passed of a CPU is what was left of it
 pub rest_there : (n c m : ℕ) (ls : List Left) (l : Left) → m ≡ n + c → slice_get ls c ≡ Some l → passed_from m (rests_passed n ls) ≡ left_batches l

@@ -1,9 +1,9 @@
 -- A session that closed: what the sink got is what its CPUs accepted, and what each is promised.
-use Rattle.std.proofs.Common.{◌≡◌, ℕ, zero, suc, ◌<◌, Bool, List, [], ◌∷◌, ◌++◌, length, map, All, refl, sym, ap, ◌∙◌, subst, arith}
+use Rattle.std.proofs.Common.{◌≡◌, ℕ, zero, suc, ◌+◌, ◌<◌, Bool, List, [], ◌∷◌, ◌++◌, length, map, All, refl, sym, ap, ◌∙◌, subst, arith}
 use Rattle.std.specs.Prelude.{slice_get, Option, Some}
 use Rattle.std.specs.Option.{option_map_or}
 use Rattle.std.proofs.lemmas.List.{append-nil, append_assoc}
-use Rattle.std.proofs.lemmas.List.Elements.{All-head, All-tail}
+use Rattle.std.proofs.lemmas.List.Elements.{All-append, All-head, All-tail}
 use Rattle.dspec_record.specs.Record.{Record}
 use Rattle.dspec_record.specs.declared.field.Shape.{Shape}
 use Rattle.dspec_deeds.specs.declared.config.Config.{Config}
@@ -20,15 +20,15 @@ use Rattle.dspec_cpu.specs.Lists.{number_in, seat_of}
 use Rattle.dspec_cpu.specs.Sealed.{waiting}
 use Rattle.dspec_consumer.specs.declared.left.Left.{Left}
 use Rattle.dspec_consumer.specs.Closing.{HoldInOrder, IsClosedBy}
-use Rattle.dspec_consumer.specs.Consumers.{Consuming, view_of}
+use Rattle.dspec_consumer.specs.Consumers.{Consuming, set_up_of, view_of}
 use Rattle.dspec_consumer.specs.Leaving.{AllSteady, Has}
 use Rattle.dspec_consumer.specs.Promised.{IsPromisedBy, called_at, entered_at}
 use Rattle.dspec_consumer.specs.Sessions.{HasAt, IsFresh, taken_at}
 use Rattle.dspec_consumer.proofs.PromisedBy.{there_is, called_there, entered_there, had_tells}
 use Rattle.dspec_promise.specs.Deeds.{did}
-use Rattle.dspec.specs.Passed.{passed_from, left_batches, rests_passed, GotAll, PassesOn, HasLists}
+use Rattle.dspec.specs.Passed.{Passed, AreFrom, passed_from, left_batches, rests_passed, GotAll, PassesOn, HasLists}
 use Rattle.dspec.specs.Traced.{IsTraced}
-use Rattle.dspec.proofs.Passing.{from_both, got_both, rest_there}
+use Rattle.dspec.proofs.Passing.{from_both, got_both, rest_there, rests_from}
 
 -- nothing was taken yet
 unused : (es : List ConsumerKnows) (c : ℕ) → All IsUnusedConsumer es → option_map_or (λ (e : ConsumerKnows). e.taken) (slice_get es c) [] ≡ []
@@ -100,13 +100,22 @@ module _ {S : Type 0} (shape_of : S → ℕ → Option Shape) (accepted : S → 
     entered_last none =
         passes.entered ∙ (ap (λ ds. map (λ s. Release s) passes.released ++ ds) none ∙ append-nil (map (λ s. Release s) passes.released))
 
-    pub traced : (does : ℕ → CallsMade → CallsMade → Type 0) (k : Config) (cpus : List (Cpu S)) → length cpus ≡ k.cpus → (view_of x).own ≡ []
+    -- and of no other CPU
+    from_all : (k : Config) → set_up_of x ≡ k → length left ≡ k.cpus → AreFrom k.cpus (passes.passed ++ rests_passed 0 left)
+    from_all k is count =
+        let all : k.cpus ≡ 0 + length left = omega arith in
+        All-append (λ (p : Passed). p.from < k.cpus) passes.passed (rests_passed 0 left) (subst (λ (s : Config). AreFrom s.cpus passes.passed) is passes.from)
+        (rests_from k.cpus 0 left all)
+
+    pub traced : (does : ℕ → CallsMade → CallsMade → Type 0) (k : Config) (cpus : List (Cpu S)) → set_up_of x ≡ k → length left ≡ k.cpus
+        → length cpus ≡ k.cpus → (view_of x).own ≡ []
         → ((c : ℕ) (cpu : Cpu S) → slice_get cpus c ≡ Some cpu → number_in cpu ≡ c)
         → ((c : ℕ) (cpu : Cpu S) → slice_get cpus c ≡ Some cpu → does c no_calls (called cpu))
         → IsPromisedBy (shape_of schema) (accepted schema) (text schema) k (entered_at cpus) (view_of y).own (called_at cpus) (taken_at y) left
         → IsTraced gets does (shape_of schema) (accepted schema) (text schema) k old left new
-    traced does k cpus count none numbers worked promised = record {
+    traced does k cpus is lefts count none numbers worked promised = record {
       passed = passes.passed ++ rests_passed 0 left;
+      from = from_all k is lefts;
       got = all_got;
       calls = called_at cpus;
       worked = λ c lt.

@@ -1,5 +1,6 @@
 pub mod ClosedCpus
 pub mod KeptRecords
+pub mod LaneCalls
 pub mod Lanes
 pub mod Lent
 pub mod Passed

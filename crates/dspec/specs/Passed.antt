@@ -1,5 +1,6 @@
 -- Believed. What a sink got of a session.
-use Rattle.std.specs.Prelude.{ℕ, ◌≡◌, ◌+◌, ◌==◌, Bool, List, [], ◌∷◌, ◌++◌, map, slice_get, Option, Some, None, if◌then◌else◌}
+use Rattle.std.specs.Prelude.{ℕ, ◌≡◌, ◌+◌, ◌<◌, ◌==◌, Bool, List, [], ◌∷◌, ◌++◌, map, slice_get, Option, Some, None, if◌then◌else◌}
+use Rattle.std.specs.List.{All}
 use Rattle.dspec_record.specs.Record.{Record}
 use Rattle.dspec_record.specs.declared.field.Shape.{Shape}
 use Rattle.dspec_deeds.specs.declared.config.Config.{Config}
@@ -11,13 +12,17 @@ use Rattle.dspec_ring.specs.declared.batch.Batch.{Batch}
 use Rattle.dspec_cpu.specs.Sealed.{waiting}
 use Rattle.dspec_consumer.specs.declared.left.Left.{Left}
 use Rattle.dspec_consumer.specs.Closing.{ClosesAs, HoldInOrder}
-use Rattle.dspec_consumer.specs.Consumers.{Consuming, Stays, view_of}
+use Rattle.dspec_consumer.specs.Consumers.{Consuming, Stays, set_up_of, view_of}
 use Rattle.dspec_consumer.specs.Sessions.{taken_at}
 
 -- a batch, with the number of the CPU that it came from
 pub record Passed : Type 0 where
   pub from : ℕ
   pub batch : Batch
+
+-- each came from one of so many CPUs
+abbrev pub AreFrom : ℕ → List Passed → Type 0
+AreFrom n xs = All (λ (x : Passed). x.from < n) xs
 
 -- the batches of one CPU, in their order
 abbrev pub passed_from : ℕ → List Passed → List Batch
@@ -55,6 +60,7 @@ module _ {K : Type 0} (gets : K → Batch → K → Type 0) where
   pub record PassesOn (words : Words) (x : Consuming) (k : K) (y : Consuming) (l : K) : Type 0 where
     pub stays : Stays words x y
     pub passed : List Passed
+    pub from : AreFrom (set_up_of x).cpus passed
     pub got : GotAll k passed l
     pub taken : (c : ℕ) → taken_at y c ≡ taken_at x c ++ passed_from c passed
     pub released : List ℕ

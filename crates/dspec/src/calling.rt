@@ -1,11 +1,7 @@
-ghost use Rattle.std.specs.Prelude.{◌≡◌, List, IsTrue};
-ghost use Rattle.dspec_deeds.specs.declared.deed.Deed.{Deed};
-ghost use Rattle.dspec_deeds.specs.Own.{dropped_in};
-ghost use Rattle.dspec_deeds.specs.Reports.{report};
+ghost use Rattle.std.specs.Prelude.{◌≡◌, IsTrue};
 ghost use Rattle.dspec_promise.specs.Promise.{commit, discard};
-ghost use Rattle.dspec_cpu.specs.Dropped.{drops_told};
-ghost use Rattle.dspec_cpu.specs.Lists.{config_of, number_in, schema_of, worn_of};
-ghost use Rattle.dspec_cpu.specs.OneCall.{TracesOne, SpeculatesOne, OpensOne, DecidesOne, ServesOnce, RecordsValues, OffersValues};
+ghost use Rattle.dspec_cpu.specs.Lists.{number_in, schema_of};
+ghost use Rattle.dspec.specs.LaneCalls.{TraceOn, SpeculateOn, OpeningOn, DecisionOn, ServiceOn, RecordOn, OfferOn, DropsOn, ReportOn};
 ghost use Rattle.dspec.specs.Lanes.{place_of};
 
 use crate::lane::Lane;
@@ -36,7 +32,7 @@ impl<'a, S: Schema> Lane<'a, S> {
     pub fn trace(&mut self, rec: &Rec) -> Traced
         requires accepted { IsTrue (S.accepted (schema_of self.old.cpu.now) rec.now) }
         ensures same { place_of self.new ≡ place_of self.old }
-        ensures does { TracesOne ⟦<Cpu<S> as Listed>⟧.has_list rec.now result self.old.cpu.now self.new.cpu.now }
+        ensures does { TraceOn ⟦<Cpu<S> as Listed>⟧.has_list rec.now result self.old self.new }
     {
         self.cpu.trace(self.shared, rec)
     }
@@ -45,7 +41,7 @@ impl<'a, S: Schema> Lane<'a, S> {
     #[inline]
     pub fn record(&mut self, epid: u32, stamp: u64, values: &[u64]) -> Option<Traced>
         ensures same { place_of self.new ≡ place_of self.old }
-        ensures does { RecordsValues ⟦<Cpu<S> as Listed>⟧.has_list S.accepted epid stamp values.now result self.old.cpu.now self.new.cpu.now }
+        ensures does { RecordOn ⟦<Cpu<S> as Listed>⟧.has_list S.accepted epid stamp values.now result self.old self.new }
     {
         self.cpu.record(self.shared, epid, stamp, values)
     }
@@ -54,7 +50,7 @@ impl<'a, S: Schema> Lane<'a, S> {
     #[inline]
     pub fn speculation(&mut self) -> Opening
         ensures same { place_of self.new ≡ place_of self.old }
-        ensures does { OpensOne ⟦<Cpu<S> as Listed>⟧.has_list result self.old.cpu.now self.new.cpu.now }
+        ensures does { OpeningOn ⟦<Cpu<S> as Listed>⟧.has_list result self.old self.new }
     {
         self.cpu.speculation(self.shared)
     }
@@ -63,7 +59,7 @@ impl<'a, S: Schema> Lane<'a, S> {
     #[inline]
     pub fn commit(&mut self, id: SpecId) -> Decided
         ensures same { place_of self.new ≡ place_of self.old }
-        ensures does { DecidesOne ⟦<Cpu<S> as Listed>⟧.has_list commit id result self.old.cpu.now self.new.cpu.now }
+        ensures does { DecisionOn ⟦<Cpu<S> as Listed>⟧.has_list commit id result self.old self.new }
     {
         self.cpu.commit(self.shared, id)
     }
@@ -72,7 +68,7 @@ impl<'a, S: Schema> Lane<'a, S> {
     #[inline]
     pub fn discard(&mut self, id: SpecId) -> Decided
         ensures same { place_of self.new ≡ place_of self.old }
-        ensures does { DecidesOne ⟦<Cpu<S> as Listed>⟧.has_list discard id result self.old.cpu.now self.new.cpu.now }
+        ensures does { DecisionOn ⟦<Cpu<S> as Listed>⟧.has_list discard id result self.old self.new }
     {
         self.cpu.discard(self.shared, id)
     }
@@ -82,7 +78,7 @@ impl<'a, S: Schema> Lane<'a, S> {
     pub fn speculate(&mut self, id: SpecId, rec: &Rec) -> Spoken
         requires accepted { IsTrue (S.accepted (schema_of self.old.cpu.now) rec.now) }
         ensures same { place_of self.new ≡ place_of self.old }
-        ensures does { SpeculatesOne ⟦<Cpu<S> as Listed>⟧.has_list id rec.now result self.old.cpu.now self.new.cpu.now }
+        ensures does { SpeculateOn ⟦<Cpu<S> as Listed>⟧.has_list id rec.now result self.old self.new }
     {
         self.cpu.speculate(self.shared, id, rec)
     }
@@ -92,7 +88,7 @@ impl<'a, S: Schema> Lane<'a, S> {
     #[inline]
     pub fn offer(&mut self, id: SpecId, epid: u32, stamp: u64, values: &[u64]) -> Option<Spoken>
         ensures same { place_of self.new ≡ place_of self.old }
-        ensures does { OffersValues ⟦<Cpu<S> as Listed>⟧.has_list S.accepted id epid stamp values.now result self.old.cpu.now self.new.cpu.now }
+        ensures does { OfferOn ⟦<Cpu<S> as Listed>⟧.has_list S.accepted id epid stamp values.now result self.old self.new }
     {
         self.cpu.offer(self.shared, id, epid, stamp, values)
     }
@@ -102,7 +98,7 @@ impl<'a, S: Schema> Lane<'a, S> {
     /// `u32::MAX`.
     #[inline]
     pub fn dropped_in(&self, id: SpecId) -> u32
-        ensures { (p : List Deed) → ⟦<Cpu<S> as Listed>⟧.has_list self.now.cpu.now p → result ≡ drops_told (dropped_in (number_in self.now.cpu.now) id p) }
+        ensures { DropsOn ⟦<Cpu<S> as Listed>⟧.has_list id result self.now }
     {
         self.cpu.dropped_in(id)
     }
@@ -111,15 +107,14 @@ impl<'a, S: Schema> Lane<'a, S> {
     #[inline]
     pub fn service(&mut self) -> Served
         ensures same { place_of self.new ≡ place_of self.old }
-        ensures does { ServesOnce ⟦<Cpu<S> as Listed>⟧.has_list result self.old.cpu.now self.new.cpu.now }
+        ensures does { ServiceOn ⟦<Cpu<S> as Listed>⟧.has_list result self.old self.new }
     {
         self.cpu.service(self.shared)
     }
 
     /// The CPU's counts so far.
     pub fn report(&self) -> Report
-        ensures { (p : List Deed) → ⟦<Cpu<S> as Listed>⟧.has_list self.now.cpu.now p
-            → result ≡ report (config_of self.now.cpu.now) (number_in self.now.cpu.now) (worn_of self.now.cpu.now) p }
+        ensures { ReportOn ⟦<Cpu<S> as Listed>⟧.has_list result self.now }
     {
         self.cpu.report(self.shared)
     }

@@ -1,11 +1,6 @@
-ghost use Rattle.std.specs.Prelude.{◌≡◌, List};
-ghost use Rattle.dspec_deeds.specs.declared.deed.Deed.{Deed};
-ghost use Rattle.dspec_deeds.specs.Own.{dropped_in};
-ghost use Rattle.dspec_deeds.specs.Told.{id_told};
+ghost use Rattle.std.specs.Prelude.{◌≡◌};
 ghost use Rattle.dspec_promise.specs.Promise.{commit, discard};
-ghost use Rattle.dspec_cpu.specs.Dropped.{drops_told};
-ghost use Rattle.dspec_cpu.specs.Lists.{number_in};
-ghost use Rattle.dspec_cpu.specs.OneCall.{OpensOne, DecidesOne, OffersValues};
+ghost use Rattle.dspec.specs.LaneCalls.{EndOn, OpeningOn, PathDropsOn, StepOn};
 ghost use Rattle.dspec.specs.Lanes.{place_of};
 
 use crate::lane::Lane;
@@ -40,7 +35,7 @@ impl Path {
         values: &[u64],
     ) -> Option<Spoken>
         ensures same { place_of lane.new ≡ place_of lane.old }
-        ensures does { OffersValues ⟦<Cpu<S> as Listed>⟧.has_list S.accepted (id_told self.now.opening) epid stamp values.now result lane.old.cpu.now lane.new.cpu.now }
+        ensures does { StepOn ⟦<Cpu<S> as Listed>⟧.has_list S.accepted self.now epid stamp values.now result lane.old lane.new }
     {
         lane.offer(self.opening.id(), epid, stamp, values)
     }
@@ -49,8 +44,7 @@ impl Path {
     /// path is cut. As `Lane::dropped_in`.
     #[inline]
     pub fn dropped<S: Schema>(&self, lane: &Lane<'_, S>) -> u32
-        ensures { (p : List Deed) → ⟦<Cpu<S> as Listed>⟧.has_list lane.now.cpu.now p
-            → result ≡ drops_told (dropped_in (number_in lane.now.cpu.now) (id_told self.now.opening) p) }
+        ensures { PathDropsOn ⟦<Cpu<S> as Listed>⟧.has_list self.now result lane.now }
     {
         lane.dropped_in(self.opening.id())
     }
@@ -59,7 +53,7 @@ impl Path {
     #[inline]
     pub fn keep<S: Schema>(self, lane: &mut Lane<'_, S>) -> Decided
         ensures same { place_of lane.new ≡ place_of lane.old }
-        ensures does { DecidesOne ⟦<Cpu<S> as Listed>⟧.has_list commit (id_told self.opening) result lane.old.cpu.now lane.new.cpu.now }
+        ensures does { EndOn ⟦<Cpu<S> as Listed>⟧.has_list commit self result lane.old lane.new }
     {
         let Path { opening } = self;
         lane.commit(opening.id())
@@ -69,7 +63,7 @@ impl Path {
     #[inline]
     pub fn throw<S: Schema>(self, lane: &mut Lane<'_, S>) -> Decided
         ensures same { place_of lane.new ≡ place_of lane.old }
-        ensures does { DecidesOne ⟦<Cpu<S> as Listed>⟧.has_list discard (id_told self.opening) result lane.old.cpu.now lane.new.cpu.now }
+        ensures does { EndOn ⟦<Cpu<S> as Listed>⟧.has_list discard self result lane.old lane.new }
     {
         let Path { opening } = self;
         lane.discard(opening.id())
@@ -81,7 +75,7 @@ impl<'a, S: Schema> Lane<'a, S> {
     #[inline]
     pub fn path(&mut self) -> Path
         ensures same { place_of self.new ≡ place_of self.old }
-        ensures does { OpensOne ⟦<Cpu<S> as Listed>⟧.has_list result.opening self.old.cpu.now self.new.cpu.now }
+        ensures does { OpeningOn ⟦<Cpu<S> as Listed>⟧.has_list result.opening self.old self.new }
     {
         Path {
             opening: self.speculation(),

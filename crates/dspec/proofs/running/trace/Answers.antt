@@ -29,6 +29,7 @@ returns-clause-traced g c =
     let lent = c.run-session.ensures.lent in
     traced shape accepts text (g.K.Sink.gets schema) schema (words_of s.shared) s.consumer back.consumer c.args.sink c.run-session.result.1 c.pass_rests.new.sink
     c.finish-closed.result started.consumer.1 c.run-session.ensures.passes c.pass_rests.ensures (does schema) c.args.config.now back.cpus.items
+    (ap (λ (v : View). v.config) started.consumer.0) (c.finish-closed.ensures.all ∙ ap (λ (k : Config). k.cpus) same)
     (lent.all ∙ ap (λ (k : Config). k.cpus) same) (ap (λ (v : View). v.own) started.consumer.0) (λ n cpu at. (lent.each n cpu at).number)
     (worked (Has shape accepts text) (fresh_none shape accepts text) does schema s back started.session started.fresh c.run-session.ensures.returned)
     (subst (λ (k : Config). IsPromisedBy (shape schema) (accepts schema) (text schema) k (entered_at back.cpus.items) (view_of back.consumer).own

@@ -1,0 +1,66 @@
+-- Cited by calls. What a call on a lane, or of a path on a lane, did: what the call of the lane's CPU did.
+use Rattle.std.specs.Prelude.{ℕ, ◌≡◌, Bool, List, Option}
+use Rattle.dspec_record.specs.Record.{Record}
+use Rattle.dspec_record.specs.declared.schema.Schema.{Ghosts}
+use Rattle.dspec_word.specs.SpecId.{Speculation}
+use Rattle.dspec_deeds.specs.declared.calls.Decided.{Decided}
+use Rattle.dspec_deeds.specs.declared.calls.Opening.{Opening}
+use Rattle.dspec_deeds.specs.declared.calls.Served.{Served}
+use Rattle.dspec_deeds.specs.declared.calls.Spoken.{Spoken}
+use Rattle.dspec_deeds.specs.declared.calls.Traced.{Traced}
+use Rattle.dspec_deeds.specs.declared.deed.Deed.{Deed}
+use Rattle.dspec_deeds.specs.declared.report.Report.{Report}
+use Rattle.dspec_deeds.specs.Own.{dropped_in}
+use Rattle.dspec_deeds.specs.Reports.{report}
+use Rattle.dspec_deeds.specs.Told.{id_told}
+use Rattle.dspec_promise.specs.Promise.{By}
+use Rattle.dspec_cpu.specs.declared.cpu.Cpu.{Cpu}
+use Rattle.dspec_cpu.specs.Dropped.{drops_told}
+use Rattle.dspec_cpu.specs.Lists.{config_of, number_in, worn_of}
+use Rattle.dspec_cpu.specs.OneCall.{TracesOne, SpeculatesOne, OpensOne, DecidesOne, ServesOnce, RecordsValues, OffersValues}
+use Rattle.dspec.specs.declared.lane.Lane.{Lane}
+use Rattle.dspec.specs.declared.path.Path.{Path}
+
+module _ {S : Type 0} {g : Ghosts S} (has : Cpu S → List Deed → Type 0) where
+  abbrev pub TraceOn : Record → Traced → Lane S g → Lane S g → Type 0
+  TraceOn r a old new = TracesOne has r a old.cpu.now new.cpu.now
+
+  abbrev pub SpeculateOn : Speculation → Record → Spoken → Lane S g → Lane S g → Type 0
+  SpeculateOn id r a old new = SpeculatesOne has id r a old.cpu.now new.cpu.now
+
+  abbrev pub OpeningOn : Opening → Lane S g → Lane S g → Type 0
+  OpeningOn a old new = OpensOne has a old.cpu.now new.cpu.now
+
+  abbrev pub DecisionOn : By → Speculation → Decided → Lane S g → Lane S g → Type 0
+  DecisionOn b id a old new = DecidesOne has b id a old.cpu.now new.cpu.now
+
+  abbrev pub ServiceOn : Served → Lane S g → Lane S g → Type 0
+  ServiceOn a old new = ServesOnce has a old.cpu.now new.cpu.now
+
+  -- how many records the CPU dropped from its buffer of a speculation, by every list that it has
+  abbrev pub DropsOn : Speculation → ℕ → Lane S g → Type 0
+  DropsOn id n lane = (p : List Deed) → has lane.cpu.now p → n ≡ drops_told (dropped_in (number_in lane.cpu.now) id p)
+
+  -- its counts, by every list that it has
+  abbrev pub ReportOn : Report → Lane S g → Type 0
+  ReportOn r lane = (p : List Deed) → has lane.cpu.now p → r ≡ report (config_of lane.cpu.now) (number_in lane.cpu.now) (worn_of lane.cpu.now) p
+
+  -- the end of a path, kept or thrown away, and how many of the CPU's records of it were dropped
+  abbrev pub EndOn : By → Path → Decided → Lane S g → Lane S g → Type 0
+  EndOn b path a old new = DecisionOn b (id_told path.opening) a old new
+
+  abbrev pub PathDropsOn : Path → ℕ → Lane S g → Type 0
+  PathDropsOn path n lane = DropsOn (id_told path.opening) n lane
+
+  module _ (accepted : S → Record → Bool) where
+    -- a record by its values is traced
+    abbrev pub RecordOn : ℕ → ℕ → List ℕ → Option Traced → Lane S g → Lane S g → Type 0
+    RecordOn epid stamp values a old new = RecordsValues has accepted epid stamp values a old.cpu.now new.cpu.now
+
+    -- or offered to a speculation
+    abbrev pub OfferOn : Speculation → ℕ → ℕ → List ℕ → Option Spoken → Lane S g → Lane S g → Type 0
+    OfferOn id epid stamp values a old new = OffersValues has accepted id epid stamp values a old.cpu.now new.cpu.now
+
+    -- or to a path
+    abbrev pub StepOn : Path → ℕ → ℕ → List ℕ → Option Spoken → Lane S g → Lane S g → Type 0
+    StepOn path epid stamp values a old new = OfferOn (id_told path.opening) epid stamp values a old new
