@@ -11,8 +11,8 @@ spread_bits number =
     bit_xor last (last / 2 ^ 31)
 
 -- worker W handles the requests W, W + 4, W + 8, ..
-abbrev pub number_of : ℕ → ℕ → ℕ
-number_of worker round = ((round * 4) % 2 ^ 64 + worker) % 2 ^ 64
+abbrev pub request_number : ℕ → ℕ → ℕ
+request_number worker round = ((round * 4) % 2 ^ 64 + worker) % 2 ^ 64
 
 -- the request of that number fails: the seed decides, of about one in 32
 abbrev pub fails_with : ℕ → ℕ → Bool

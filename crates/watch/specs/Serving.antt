@@ -9,7 +9,7 @@ use Rattle.dspec_deeds.specs.declared.calls.Spoken.{Spoken}
 use Rattle.dspec_deeds.specs.Told.{id_told}
 use Rattle.dspec_promise.specs.Promise.{commit, discard}
 use Rattle.dspec_cpu.specs.Called.{CallsMade, WithService, with_decision, with_speculate, with_speculation}
-use Rattle.watch.specs.Requests.{fails_with, number_of}
+use Rattle.watch.specs.Requests.{fails_with, request_number}
 
 -- records were offered to the speculation, and nothing else was done
 pub data OffersAlone (id : Speculation) (x : CallsMade) : CallsMade → Type 0 where
@@ -30,4 +30,4 @@ pub record HandlesRequest (fails : Bool) (x y : CallsMade) : Type 0 where
 pub data ServesRequests (seed worker : ℕ) (x : CallsMade) : ℕ → CallsMade → Type 0 where
   none_yet : ServesRequests seed worker x 0 x
   one_more : {n : ℕ} {y : CallsMade} (m : ℕ) (z w : CallsMade) (a : Served) → ServesRequests seed worker x n y
-      → HandlesRequest (fails_with seed (number_of worker n)) y z → WithService a z w → m ≡ n + 1 → ServesRequests seed worker x m w
+      → HandlesRequest (fails_with seed (request_number worker n)) y z → WithService a z w → m ≡ n + 1 → ServesRequests seed worker x m w

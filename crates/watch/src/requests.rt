@@ -1,5 +1,5 @@
 ghost use Rattle.std.specs.Prelude.{◌≡◌};
-ghost use Rattle.watch.specs.Requests.{fails_with, number_of, spread_bits};
+ghost use Rattle.watch.specs.Requests.{fails_with, request_number, spread_bits};
 
 use dspec::{Enablings, Field, SchemaFault};
 
@@ -42,8 +42,8 @@ pub struct Request {
 impl Request {
     /// The request of a worker in a round, which the seed decides.
     pub fn make(seed: u64, worker: u64, round: u64) -> Request
-        ensures number { result.number ≡ number_of worker round }
-        ensures fails { result.fails ≡ fails_with seed (number_of worker round) }
+        ensures number { result.number ≡ request_number worker round }
+        ensures fails { result.fails ≡ fails_with seed (request_number worker round) }
     {
         let number = round.wrapping_mul(u64::from(WORKERS)).wrapping_add(worker);
         let noise = spread(spread(seed).wrapping_add(number));

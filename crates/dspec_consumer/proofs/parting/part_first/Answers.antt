@@ -1,8 +1,6 @@
-use Rattle.std.proofs.Common.{◌≡◌, ◌<◌, ◌∙◌, ◌∷◌, sym, ap, subst, arith}
+use Rattle.std.proofs.Common.{◌<◌, ◌∙◌, ◌∷◌, sym, ap, subst, arith}
 use Rattle.dspec_ring.specs.Known.{CpuKnows}
-use Rattle.dspec_cpu.specs.declared.rest.CpuRest.{CpuRest}
 use Rattle.dspec_cpu.specs.KeptRests.{rest_with}
-use Rattle.dspec_cpu.specs.Lists.{schema_of}
 use Rattle.dspec_cpu.specs.Rests.{RestHasList, schema_of_rest}
 use Rattle.dspec_consumer.specs.Leaving.{IsRestOf}
 use Rattle.dspec_consumer.proofs.Ends.{first_and_rest}
