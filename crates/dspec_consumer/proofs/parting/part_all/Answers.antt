@@ -226,8 +226,8 @@ loop-one-preserved g c =
     let less = c.in-Some.ensures.cases in
     let inv = c.loop-one.invariant in
     record {
-      so_far = left_more g.S.Schema.shape_of g.S.Schema.accepted g.S.Schema.text s.0 c.args.words s.1 c.args.seats.items c.args.cpus.items c.args.ends.items c.loop-one.ends.items es c.loop-one.parted.items xs one other
-          (last_words c.gather-last.result) left.items c.push-in-Some.new.self.items so next rest c.leave.result is lists c.leave.ensures more;
+      so_far = left_more g.S.Schema.shape_of g.S.Schema.accepted g.S.Schema.text s.0 c.args.words s.1 c.args.seats.items c.args.cpus.items c.args.ends.items
+          c.loop-one.ends.items es c.loop-one.parted.items xs one other (last_words c.gather-last.result) left.items c.push-in-Some.new.self.items so next rest c.leave.result is lists c.leave.ensures more;
       room = let m = c.push-in-Some.ensures.capacity in omega (arith, inv);
       count = omega (arith, inv);
     }
