@@ -1,6 +1,6 @@
 -- A session stays one where a CPU of it is called, or its consumer, or where both meet.
 use Rattle.std.proofs.Common.{◌≡◌, ℕ, zero, suc, ◌<◌, ◌⊎◌, inl, inr, ⊎_elim, List, [], ◌∷◌, length, length-set, refl, sym, ap, ◌∙◌, subst}
-use Rattle.std.specs.Prelude.{Some, None, slice_get, slice_set, slice_index_or}
+use Rattle.std.specs.Prelude.{Some, slice_get, slice_set, slice_index_or}
 use Rattle.std.proofs.lemmas.Option.{slice_get_read}
 use Rattle.dspec_deeds.specs.Ranges.{start_fault}
 use Rattle.dspec_table.specs.Seats.{set_up}

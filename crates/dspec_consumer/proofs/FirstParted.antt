@@ -20,26 +20,17 @@ use Rattle.dspec_cpu.specs.Lists.{config_of, end_of, number_in, seat_of, worn_of
 use Rattle.dspec_cpu.specs.Rests.{AreItsWords, RestHasList}
 use Rattle.dspec_cpu.specs.Sealed.{waiting}
 use Rattle.dspec_consumer.specs.declared.left.Left.{Left}
-use Rattle.dspec_consumer.specs.Leaving.{IsClosing, Has, Leaves, IsLeft, AreLeft, AreParting}
+use Rattle.dspec_consumer.specs.Leaving.{IsClosing, IsRestOf, Has, Leaves, IsLeft, AreLeft, AreParting}
 use Rattle.dspec_consumer.proofs.Leavings.{closing_same, leaves_same}
 use Rattle.dspec_consumer.proofs.Partings.{closings, one_parted, one_left_more}
 
 -- what a push that was unwrapped left
-pub pushed_is : {A T E : Type 0} (r : Result T E) (u : T) (new more old : List A) → r ≡ Ok u → new ≡ (if is_ok r then more else old) → new ≡ more
+pub pushed_is : {A T E : Type 0} (r : Result T E) (u : T) (new more old : A) → r ≡ Ok u → new ≡ (if is_ok r then more else old) → new ≡ more
 pushed_is r u new more old is e = e ∙ ap (λ x. if is_ok x then more else old) is
 
 -- the first stands at place 0
 pub stands_first : {A : Type 0} (xs rest : List A) (x : A) → x ∷ rest ≡ xs → slice_get xs 0 ≡ Some x
 stands_first xs rest x e = subst (λ ys. slice_get ys 0 ≡ Some x) e refl
-
--- what is left of a CPU is of the same, with the same end of the rings
-pub record IsRestOf {S : Type 0} (cpu : Cpu S) (end : CpuKnows) (rest : CpuRest S) : Type 0 where
-  pub end_is : end ≡ end_of cpu
-  pub schema : rest.schema ≡ cpu.schema
-  pub config : rest.config ≡ cpu.config
-  pub number : rest.cpu ≡ cpu.cpu
-  pub held_back : rest.held_back ≡ cpu.held_back
-  pub worn : rest.side.counts.worn ≡ worn_of cpu
 
 module _ {S : Type 0} (shape_of : S → ℕ → Option Shape) (accepted : S → Record → Bool) (text : S → Record → List ℕ)
     (schema : S) (words : Words) (p : ℕ → List Deed) (seats : List CpuSeat) (cpus : List (Cpu S)) (ends : List ConsumerKnows) (are : AreParting shape_of accepted text schema words p seats cpus ends)

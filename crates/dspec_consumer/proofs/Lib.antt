@@ -13,6 +13,7 @@ pub mod Partings
 pub mod Leavings
 pub mod Ending
 pub mod FirstParted
+pub mod AllParted
 mod Standing
 pub mod ClosedDeeds
 pub mod Mixes

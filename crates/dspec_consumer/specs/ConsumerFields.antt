@@ -15,4 +15,5 @@ pub record IsConsumer (i : Inside) : Type 0 where
   pub all : length i.ends.items ≡ i.config.cpus
   pub asked : (c : ℕ) (e : ConsumerKnows) → slice_get i.ends.items c ≡ Some e → slice_index (known_there i.seat).asks c ≤ length e.taken + 1
   pub seats : (vec_len i.seats ≡ 0) × (i.config.cpus ≤ vec_capacity i.seats)
+  pub parted : (vec_len i.parted ≡ 0) × (i.config.cpus ≤ vec_capacity i.parted)
   pub left : (vec_len i.left ≡ 0) × (i.config.cpus ≤ vec_capacity i.left)

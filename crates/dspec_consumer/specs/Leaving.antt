@@ -1,5 +1,5 @@
 -- Serves proofs. How a session ends, CPU by CPU.
-use Rattle.std.specs.Prelude.{ℕ, ◌≡◌, ◌+◌, Bool, List, length, map, slice_get, Option, Some}
+use Rattle.std.specs.Prelude.{ℕ, ◌≡◌, ◌+◌, Bool, List, [], ◌∷◌, length, map, slice_get, Option, Some}
 use Rattle.dspec_record.specs.Record.{Record}
 use Rattle.dspec_record.specs.declared.field.Shape.{Shape}
 use Rattle.dspec_deeds.specs.declared.config.Config.{Config}
@@ -14,11 +14,15 @@ use Rattle.dspec_table.specs.declared.seats.Words.{Words}
 use Rattle.dspec_table.specs.Seats.{known, cpu_of, set_up, IsAt}
 use Rattle.dspec_table.specs.Showing.{Shows}
 use Rattle.dspec_ring.specs.declared.batch.Batch.{Batch}
-use Rattle.dspec_ring.specs.Known.{ConsumerKnows}
+use Rattle.dspec_ring.specs.Known.{ConsumerKnows, CpuKnows}
 use Rattle.dspec_cpu.specs.declared.cpu.Cpu.{Cpu}
-use Rattle.dspec_cpu.specs.Lists.{HasList, IsSteady, worn_of}
+use Rattle.dspec_cpu.specs.declared.rest.CpuRest.{CpuRest}
+use Rattle.dspec_cpu.specs.KeptRests.{rest_with}
+use Rattle.dspec_cpu.specs.Lists.{HasList, IsSteady, config_of, end_of, held_back_of, number_in, schema_of, worn_of}
+use Rattle.dspec_cpu.specs.Rests.{RestHasList, config_of_rest, held_back_of_rest, number_of_rest, schema_of_rest, worn_of_rest}
 use Rattle.dspec_cpu.specs.Standing.{identity}
 use Rattle.dspec_consumer.specs.declared.left.Left.{Left}
+use Rattle.dspec_consumer.specs.declared.parted.Parted.{Parted}
 use Rattle.dspec_consumer.specs.Closing.{IsAtRest, LeftShows}
 use Rattle.dspec_consumer.specs.Sessions.{IsCpuOf}
 
@@ -39,6 +43,15 @@ pub record IsParted (shape : ℕ → Option Shape) (words : Words) (c : ℕ) (p 
   pub number : cpu_of s ≡ c
   pub rest : IsAtRest shape (set_up words) c (known s).own p
 
+-- what is left of a CPU is of the same, with the same end of the rings
+pub record IsRestOf {S : Type 0} (cpu : Cpu S) (end : CpuKnows) (rest : CpuRest S) : Type 0 where
+  pub end_is : end ≡ end_of cpu
+  pub schema : schema_of_rest rest ≡ schema_of cpu
+  pub config : config_of_rest rest ≡ config_of cpu
+  pub number : number_of_rest rest ≡ number_in cpu
+  pub held_back : held_back_of_rest rest ≡ held_back_of cpu
+  pub worn : worn_of_rest rest ≡ worn_of cpu
+
 module _ {S : Type 0} (shape_of : S → ℕ → Option Shape) (accepted : S → Record → Bool) (text : S → Record → List ℕ) where
   -- the lists that a CPU has, and that none of its calls is under way
   abbrev pub Has : Cpu S → List Deed → Type 0
@@ -50,6 +63,19 @@ module _ {S : Type 0} (shape_of : S → ℕ → Option Shape) (accepted : S → 
   -- of each of them
   abbrev pub AllSteady : List (Cpu S) → Type 0
   AllSteady cpus = (c : ℕ) (cpu : Cpu S) → slice_get cpus c ≡ Some cpu → Steady cpu
+
+  -- The CPU has parted from its seat: with its schema this is what is left of it, and that has each list that the CPU had.
+  pub record HasParted (cpu : Cpu S) (x : Parted) : Type 0 where
+    pub rest : IsRestOf cpu x.end (rest_with (schema_of cpu) x.rest)
+    pub lists : (q : List Deed) → Has cpu q
+        → RestHasList (shape_of (schema_of cpu)) (accepted (schema_of cpu)) (text (schema_of cpu)) (rest_with (schema_of cpu) x.rest) x.end.handed q
+
+  -- So has each of them, in order.
+  abbrev pub AllParted : List (Cpu S) → List Parted → Type 0
+  AllParted [] [] = Unit {0}
+  AllParted [] (x ∷ xs) = ⊥
+  AllParted (cpu ∷ cpus) [] = ⊥
+  AllParted (cpu ∷ cpus) (x ∷ xs) = HasParted cpu x × AllParted cpus xs
 
   -- Whichever of these lists a CPU has, of this schema, configuration and number, this is left of it, with what it has still to
   -- settle.

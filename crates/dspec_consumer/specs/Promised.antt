@@ -1,5 +1,5 @@
 -- Believed. What the close of a session promises of each CPU, in the words of the page.
-use Rattle.std.specs.Prelude.{ℕ, ◌≡◌, ◌≢◌, ◌<◌, nat_lt, Bool, List, [], ◌∷◌, ◌++◌, map, reverse, slice_get, Option, Some, if◌then◌else◌}
+use Rattle.std.specs.Prelude.{ℕ, ◌≡◌, ◌≢◌, nat_lt, Bool, List, [], ◌∷◌, ◌++◌, map, reverse, slice_get, Option, Some, if◌then◌else◌}
 use Rattle.std.specs.Option.{option_map_or}
 use Rattle.dspec_record.specs.Record.{Record}
 use Rattle.dspec_record.specs.declared.field.Shape.{Shape}

@@ -1,5 +1,6 @@
 use crate::counted::CountedEnd;
 use crate::left::Left;
+use crate::parted::Parted;
 use dspec_deeds::Config;
 use dspec_table::{ConsumerSeat, CpuSeat};
 use std::marker::Model;
@@ -13,6 +14,8 @@ pub struct Consumer {
     pub(crate) ends: Vec<CountedEnd>,
     /// Empty, with room for the seats of all CPUs.
     pub(crate) seats: Vec<CpuSeat>,
+    /// Empty, with room for what the CPUs part from their seats as.
+    pub(crate) parted: Vec<Parted>,
     /// Empty, with room for what is left of each CPU.
     pub(crate) left: Vec<Left>,
 }

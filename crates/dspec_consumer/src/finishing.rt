@@ -37,9 +37,18 @@ impl<S: Schema> Session<S> {
             seat,
             ends,
             seats,
+            parted,
             left,
         } = consumer;
-        let (_last, mut left) = part_all(shared.into_words(), cpus, ends, seats, seat, left);
+        let (_last, mut left) = part_all(
+            shared.into_words(),
+            cpus,
+            ends,
+            seats,
+            parted,
+            seat,
+            left,
+        );
         left.reverse();
         Closed { left }
     }

@@ -20,6 +20,7 @@ mod left;
 mod looking;
 mod making;
 mod meeting;
+mod parted;
 mod parting;
 mod session;
 mod starting;

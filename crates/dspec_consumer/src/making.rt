@@ -45,6 +45,7 @@ impl Consumer {
             seat,
             ends,
             seats: Vec::with_capacity(alloc, cpus)?,
+            parted: Vec::with_capacity(alloc, cpus)?,
             left: Vec::with_capacity(alloc, cpus)?,
         })
     }

@@ -1,4 +1,4 @@
-ghost use Rattle.std.specs.Prelude.{◌≡◌, ◌≤◌, ◌+◌, ◌++◌, ℕ, List, length, map, reverse, vec_len, vec_capacity};
+ghost use Rattle.std.specs.Prelude.{◌≡◌, ◌<◌, ◌≤◌, ◌+◌, ◌∷◌, ◌++◌, ℕ, List, length, map, reverse, vec_len, vec_capacity};
 ghost use Rattle.dspec_deeds.specs.declared.deed.Deed.{Deed};
 ghost use Rattle.dspec_table.specs.Last.{Ended, last_words, last_set_up};
 ghost use Rattle.dspec_table.specs.Seats.{IsConsumerAt, known_there, set_up};
@@ -6,16 +6,18 @@ ghost use Rattle.dspec_cpu.specs.declared.cpu.Cpu.{Cpu};
 ghost use Rattle.dspec_cpu.specs.Lists.{seat_of};
 ghost use Rattle.dspec_cpu.specs.Rests.{AreItsWords, config_of_rest, held_back_of_rest, number_of_rest, schema_of_rest, worn_of_rest};
 ghost use Rattle.dspec_cpu.specs.Sealed.{waiting};
-ghost use Rattle.dspec_consumer.specs.Leaving.{AllSteady, AreLeft, AreParting, IsClosing, Leaves};
+ghost use Rattle.dspec_consumer.specs.Leaving.{AllSteady, AreLeft, AreParting, HasParted, IsClosing, Leaves};
 
 use crate::counted::CountedEnd;
 use crate::left::Left;
+use crate::parted::Parted;
 use dspec_cpu::{Cpu, CpuRest, Rested};
 use dspec_record::Schema;
 use dspec_ring::{CpuEnd, drain_beside};
 use dspec_table::{ConsumerSeat, CpuSeat, LastWords, Words};
 
 // What is left of one CPU, once the words are closed.
+#[inline(never)]
 fn leave<S: Schema>(rest: CpuRest<S>, end: CpuEnd, other: CountedEnd, last: &LastWords) -> Left
     requires pair { other.pair ≡ end.pair }
     requires few { length (waiting (held_back_of_rest rest) ++ reverse end.handed) ≤ 1 + length end.spares }
@@ -47,6 +49,18 @@ pub(crate) fn all_stand<S: Schema>(cpus: &Vec<Cpu<S>>)
     }
 }
 
+// The first CPU parts from its seat.
+#[inline(never)]
+fn part_first<S: Schema>(cpus: &mut Vec<Cpu<S>>) -> (CpuSeat, Parted)
+    requires { 0 < vec_len cpus.old }
+    ensures parted { (cpu : Cpu S) × (cpu ∷ cpus.new.items ≡ cpus.old.items) × (result.0 ≡ seat_of cpu) × HasParted S.shape_of S.accepted S.text cpu result.1 }
+    ensures len { vec_len cpus.new + 1 ≡ vec_len cpus.old }
+{
+    let (seat, end, rest) = cpus.remove(0).part();
+    let rest = rest.without_schema();
+    (seat, Parted { end, rest })
+}
+
 /// Parts the CPUs from their seats, the first number first, closes the words once all seats are there, and tells what is left of
 /// each CPU, the last number first. All that it needs room for has room.
 pub(crate) fn part_all<S: Schema>(
@@ -54,28 +68,36 @@ pub(crate) fn part_all<S: Schema>(
     cpus: Vec<Cpu<S>>,
     ends: Vec<CountedEnd>,
     seats: Vec<CpuSeat>,
+    parted: Vec<Parted>,
     consumer: ConsumerSeat,
     left: Vec<Left>,
 ) -> (LastWords, Vec<Left>)
     requires consumer { IsConsumerAt words consumer }
     requires parting { (schema : S) × (p : ℕ → List Deed) × AreParting S.shape_of S.accepted S.text schema words p seats.items cpus.items ends.items }
     requires room { ((set_up words).cpus ≤ vec_capacity seats) × ((set_up words).cpus ≤ vec_capacity left) × (vec_len left ≡ 0) }
+    requires parted { (vec_len parted ≡ 0) × (vec_len cpus ≤ vec_capacity parted) }
     ensures config { last_set_up result.0 ≡ set_up words }
     ensures ended { Ended (set_up words) (last_words result.0) (seats.items ++ map (λ (cpu : Cpu S). seat_of cpu) cpus.items) (known_there consumer) }
     ensures left { AreLeft S.shape_of S.accepted S.text (set_up words) (last_words result.0) (length seats.items) cpus.items ends.items (reverse result.1.items) }
     ensures count { vec_len result.1 ≡ vec_len cpus }
-    ensures room { vec_capacity left ≤ vec_capacity result.1 }
 {
-    let mut cpus = cpus;
-    let mut ends = ends;
-    let mut seats = seats;
     if cpus.is_empty() {
         return (words.gather(seats, consumer), left);
     }
-    let (seat, end, rest) = cpus.remove(0).part();
-    let other = ends.remove(0);
-    seats.push(seat).unwrap();
-    let (last, mut left) = part_all(words, cpus, ends, seats, consumer, left);
-    left.push(leave(rest, end, other, &last)).unwrap();
+    let schema = *cpus[0].schema();
+    let (mut cpus, mut ends) = (cpus, ends);
+    let (mut seats, mut parted, mut left) = (seats, parted, left);
+    while !cpus.is_empty() {
+        let (seat, one) = part_first(&mut cpus);
+        seats.push(seat).unwrap();
+        parted.push(one).unwrap();
+    }
+    let last = words.gather(seats, consumer);
+    while let Some(one) = parted.pop() {
+        let other = ends.pop().unwrap();
+        let Parted { end, rest } = one;
+        let rest = rest.with_schema(schema);
+        left.push(leave(rest, end, other, &last)).unwrap();
+    }
     (last, left)
 }

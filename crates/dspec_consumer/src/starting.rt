@@ -22,7 +22,7 @@ impl<S: Schema> Session<S> {
     fn on_words(
         alloc: Global,
         config: &Config,
-        schema: S,
+        schema: &S,
         words: Words,
         seats: Vec<CpuSeat>,
         seat: ConsumerSeat,
@@ -32,7 +32,7 @@ impl<S: Schema> Session<S> {
         requires seats { (length seats.items ≡ config.now.cpus) × FreshSeats words seats.items }
         requires consumer { IsConsumerAt words seat × (known_there seat ≡ last_seat config.now) }
         ensures words { IfOk result (λ s. words_of s.shared ≡ words) }
-        ensures session { IfOk result (λ s. IsSession schema s) }
+        ensures session { IfOk result (λ s. IsSession schema.now s) }
         ensures fresh { IfOk result (λ s. (c : ℕ) (cpu : Cpu S) → slice_get s.cpus.items c ≡ Some cpu → IsFresh ⟦<Cpu<S> as Listed>⟧.has_list cpu) }
         ensures consumer { IfOk result (λ s. (view_of s.consumer ≡ last_seat config.now) × All IsUnusedConsumer s.consumer.ends) }
     {
@@ -41,7 +41,7 @@ impl<S: Schema> Session<S> {
         let mut ends = Vec::with_capacity(alloc, seats.len())?;
         for cpu in 0..config.cpus {
             let (end, other) = pair(alloc)?;
-            let made = Cpu::make(alloc, cpu, config, schema, seats.remove(0), end)?;
+            let made = Cpu::make(alloc, cpu, config, *schema, seats.remove(0), end)?;
             cpus.push(made)?;
             ends.push(other)?;
         }
@@ -65,7 +65,7 @@ impl<S: Schema> Session<S> {
         ensures consumer { IfOk result (λ s. (view_of s.consumer ≡ last_seat config.now) × All IsUnusedConsumer s.consumer.ends) }
     {
         let (words, seats, seat) = Words::start(alloc, config)?;
-        let Ok(session) = Session::on_words(alloc, config, schema, words, seats, seat) else {
+        let Ok(session) = Session::on_words(alloc, config, &schema, words, seats, seat) else {
             return Err(StartFault::Memory);
         };
         Ok(session)

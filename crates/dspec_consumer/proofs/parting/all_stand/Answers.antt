@@ -1,4 +1,4 @@
-use Rattle.std.proofs.Common.{◌≡◌, ◌<◌, List, Some, sym, subst, arith}
+use Rattle.std.proofs.Common.{◌≡◌, List, Some, sym, subst, arith}
 use Rattle.std.specs.Prelude.{slice_get}
 use Rattle.std.proofs.lemmas.Option.{slice_get_within}
 use Rattle.dspec_cpu.specs.declared.cpu.Cpu.{Cpu}

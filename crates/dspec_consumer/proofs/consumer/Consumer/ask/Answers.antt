@@ -19,6 +19,7 @@ invariant_of-self c =
       config = ap (λ (x : View). x.config) step.2 ∙ c.self.invariant.config;
       all = c.self.invariant.all;
       seats = c.self.invariant.seats;
+      parted = c.self.invariant.parted;
       left = c.self.invariant.left;
       asked = none_beyond v w c.args.cpu c.self.inside.ends.items end c.index.ensures stored c.self.invariant.asked;
     }
