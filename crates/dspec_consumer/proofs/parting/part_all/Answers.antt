@@ -34,7 +34,12 @@ loop-cpus-init g c =
     let none = none_in c.args.parted.items c.args.parted.len c.args.parted.ok.0 c.requires.parted.0 in
     let zero = c.requires.parted.0 in
     record {
-      so_far = record { done = []; split = refl; seats_are = sym (append-nil c.args.seats.items); parted = subst (λ xs. AllParted g.S.Schema.shape_of g.S.Schema.accepted g.S.Schema.text [] xs) (sym none) tt };
+      so_far = record {
+        done = [];
+        split = refl;
+        seats_are = sym (append-nil c.args.seats.items);
+        parted = subst (λ xs. AllParted g.S.Schema.shape_of g.S.Schema.accepted g.S.Schema.text [] xs) (sym none) tt;
+      };
       seats_room = omega arith;
       parted_room = omega arith;
       seats_count = refl;
@@ -142,7 +147,8 @@ leave-requires-clause-few g c =
     let some : 0 < length c.args.cpus.items = let ok = c.args.cpus.ok.0 in omega arith in
     let same = c.schema-schema.ensures ∙ (first_schema g.S.Schema.shape_of g.S.Schema.accepted g.S.Schema.text s.0 c.args.words s.1 c.args.seats.items c.args.cpus.items c.args.ends.items
     c.index.result.now s.2 some c.index.ensures ∙ sym (next.parting.each 0 next.cpu refl).0.one) in
-    let is = subst (λ r. IsRestOf next.cpu one.end r) (sym c.with_schema-rest.ensures) (is_rest g.S.Schema.shape_of g.S.Schema.accepted g.S.Schema.text next.cpu one c.schema-schema.result.now same next.has) in
+    let is = subst (λ r. IsRestOf next.cpu one.end r) (sym c.with_schema-rest.ensures)
+        (is_rest g.S.Schema.shape_of g.S.Schema.accepted g.S.Schema.text next.cpu one c.schema-schema.result.now same next.has) in
     next_few g.S.Schema.shape_of g.S.Schema.accepted g.S.Schema.text s.0 c.args.words s.1 old (next.cpu ∷ so.after) (other ∷ so.told) next.parting next.cpu so.after other so.told refl refl one.end rest is
 
 pub leave-requires-clause-words : goal.leave-requires-clause-words
@@ -162,7 +168,8 @@ leave-requires-clause-words g c =
     let some : 0 < length c.args.cpus.items = let ok = c.args.cpus.ok.0 in omega arith in
     let same = c.schema-schema.ensures ∙ (first_schema g.S.Schema.shape_of g.S.Schema.accepted g.S.Schema.text s.0 c.args.words s.1 c.args.seats.items c.args.cpus.items c.args.ends.items
     c.index.result.now s.2 some c.index.ensures ∙ sym (next.parting.each 0 next.cpu refl).0.one) in
-    let is = subst (λ r. IsRestOf next.cpu one.end r) (sym c.with_schema-rest.ensures) (is_rest g.S.Schema.shape_of g.S.Schema.accepted g.S.Schema.text next.cpu one c.schema-schema.result.now same next.has) in
+    let is = subst (λ r. IsRestOf next.cpu one.end r) (sym c.with_schema-rest.ensures)
+        (is_rest g.S.Schema.shape_of g.S.Schema.accepted g.S.Schema.text next.cpu one c.schema-schema.result.now same next.has) in
     next_words g.S.Schema.shape_of g.S.Schema.accepted g.S.Schema.text s.0 c.args.words s.1 old (next.cpu ∷ so.after) (other ∷ so.told) next.parting next.cpu so.after other so.told refl refl
     c.gather-last.result one.end rest is c.gather-last.ensures.config
 
@@ -183,7 +190,8 @@ leave-requires-clause-some g c =
     let some : 0 < length c.args.cpus.items = let ok = c.args.cpus.ok.0 in omega arith in
     let same = c.schema-schema.ensures ∙ (first_schema g.S.Schema.shape_of g.S.Schema.accepted g.S.Schema.text s.0 c.args.words s.1 c.args.seats.items c.args.cpus.items c.args.ends.items
     c.index.result.now s.2 some c.index.ensures ∙ sym (next.parting.each 0 next.cpu refl).0.one) in
-    let is = subst (λ r. IsRestOf next.cpu one.end r) (sym c.with_schema-rest.ensures) (is_rest g.S.Schema.shape_of g.S.Schema.accepted g.S.Schema.text next.cpu one c.schema-schema.result.now same next.has) in
+    let is = subst (λ r. IsRestOf next.cpu one.end r) (sym c.with_schema-rest.ensures)
+        (is_rest g.S.Schema.shape_of g.S.Schema.accepted g.S.Schema.text next.cpu one c.schema-schema.result.now same next.has) in
     let lists = subst (λ r. (q : List Deed) → Has g.S.Schema.shape_of g.S.Schema.accepted g.S.Schema.text next.cpu q
     → RestHasList (g.S.Schema.shape_of (schema_of_rest r)) (g.S.Schema.accepted (schema_of_rest r)) (g.S.Schema.text (schema_of_rest r)) r one.end.handed q)
     (sym c.with_schema-rest.ensures) (rest_lists g.S.Schema.shape_of g.S.Schema.accepted g.S.Schema.text next.cpu one c.schema-schema.result.now same next.has) in
@@ -215,7 +223,8 @@ loop-one-preserved g c =
     let some : 0 < length c.args.cpus.items = let ok = c.args.cpus.ok.0 in omega arith in
     let same = c.schema-schema.ensures ∙ (first_schema g.S.Schema.shape_of g.S.Schema.accepted g.S.Schema.text s.0 c.args.words s.1 c.args.seats.items c.args.cpus.items c.args.ends.items
     c.index.result.now s.2 some c.index.ensures ∙ sym (next.parting.each 0 next.cpu refl).0.one) in
-    let is = subst (λ r. IsRestOf next.cpu one.end r) (sym c.with_schema-rest.ensures) (is_rest g.S.Schema.shape_of g.S.Schema.accepted g.S.Schema.text next.cpu one c.schema-schema.result.now same next.has) in
+    let is = subst (λ r. IsRestOf next.cpu one.end r) (sym c.with_schema-rest.ensures)
+        (is_rest g.S.Schema.shape_of g.S.Schema.accepted g.S.Schema.text next.cpu one c.schema-schema.result.now same next.has) in
     let lists = subst (λ r. (q : List Deed) → Has g.S.Schema.shape_of g.S.Schema.accepted g.S.Schema.text next.cpu q
     → RestHasList (g.S.Schema.shape_of (schema_of_rest r)) (g.S.Schema.accepted (schema_of_rest r)) (g.S.Schema.text (schema_of_rest r)) r one.end.handed q)
     (sym c.with_schema-rest.ensures) (rest_lists g.S.Schema.shape_of g.S.Schema.accepted g.S.Schema.text next.cpu one c.schema-schema.result.now same next.has) in
@@ -227,7 +236,8 @@ loop-one-preserved g c =
     let inv = c.loop-one.invariant in
     record {
       so_far = left_more g.S.Schema.shape_of g.S.Schema.accepted g.S.Schema.text s.0 c.args.words s.1 c.args.seats.items c.args.cpus.items c.args.ends.items
-          c.loop-one.ends.items es c.loop-one.parted.items xs one other (last_words c.gather-last.result) left.items c.push-in-Some.new.self.items so next rest c.leave.result is lists c.leave.ensures more;
+          c.loop-one.ends.items es c.loop-one.parted.items xs one other (last_words c.gather-last.result) left.items c.push-in-Some.new.self.items
+          so next rest c.leave.result is lists c.leave.ensures more;
       room = let m = c.push-in-Some.ensures.capacity in omega (arith, inv);
       count = omega (arith, inv);
     }
