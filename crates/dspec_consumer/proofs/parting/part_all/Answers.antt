@@ -203,7 +203,8 @@ leave-requires-clause-some g c =
     c.gather-last.ensures.ended in
     let closing = next_closing g.S.Schema.shape_of g.S.Schema.accepted g.S.Schema.text s.0 c.args.words s.1 old (next.cpu ∷ so.after) (other ∷ so.told) next.parting next.cpu so.after other so.told refl refl
     (last_words c.gather-last.result) (known_there c.args.consumer) ended one.end rest is in
-    let has = next_has g.S.Schema.shape_of g.S.Schema.accepted g.S.Schema.text s.0 c.args.words s.1 old (next.cpu ∷ so.after) (other ∷ so.told) next.parting next.cpu so.after other so.told refl refl in
+    let has = next_has g.S.Schema.shape_of g.S.Schema.accepted g.S.Schema.text s.0 c.args.words s.1 old (next.cpu ∷ so.after) (other ∷ so.told)
+        next.parting next.cpu so.after other so.told refl refl in
     (s.1 (length old), ended.log, closing.0, lists (s.1 (length old)) has, closing.1)
 
 pub loop-one-preserved : goal.loop-one-preserved
