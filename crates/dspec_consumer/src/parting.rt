@@ -3,6 +3,7 @@ ghost use Rattle.dspec_deeds.specs.declared.deed.Deed.{Deed};
 ghost use Rattle.dspec_table.specs.Last.{Ended, last_words, last_set_up};
 ghost use Rattle.dspec_table.specs.Seats.{IsConsumerAt, known_there, set_up};
 ghost use Rattle.dspec_cpu.specs.declared.cpu.Cpu.{Cpu};
+ghost use Rattle.dspec_cpu.specs.KeptRests.{rest_with};
 ghost use Rattle.dspec_cpu.specs.Lists.{seat_of};
 ghost use Rattle.dspec_cpu.specs.Rests.{AreItsWords, config_of_rest, held_back_of_rest, number_of_rest, schema_of_rest, worn_of_rest};
 ghost use Rattle.dspec_cpu.specs.Sealed.{waiting};
@@ -11,13 +12,12 @@ ghost use Rattle.dspec_consumer.specs.Leaving.{AllSteady, AreLeft, AreParting, H
 use crate::counted::CountedEnd;
 use crate::left::Left;
 use crate::parted::Parted;
-use dspec_cpu::{Cpu, CpuRest, Rested};
+use dspec_cpu::{Cpu, CpuRest, KeptRest, Rested};
 use dspec_record::Schema;
 use dspec_ring::{CpuEnd, drain_beside};
 use dspec_table::{ConsumerSeat, CpuSeat, LastWords, Words};
 
 // What is left of one CPU, once the words are closed.
-#[inline(never)]
 fn leave<S: Schema>(rest: CpuRest<S>, end: CpuEnd, other: CountedEnd, last: &LastWords) -> Left
     requires pair { other.pair ≡ end.pair }
     requires few { length (waiting (held_back_of_rest rest) ++ reverse end.handed) ≤ 1 + length end.spares }
@@ -38,6 +38,26 @@ fn leave<S: Schema>(rest: CpuRest<S>, end: CpuEnd, other: CountedEnd, last: &Las
         last: active,
         report,
     }
+}
+
+// The same of a CPU whose schema this is. It is a call of its own, so that the room for the schema is free again between two CPUs.
+#[inline(never)]
+fn leave_kept<S: Schema>(
+    rest: KeptRest,
+    end: CpuEnd,
+    other: CountedEnd,
+    schema: &S,
+    last: &LastWords,
+) -> Left
+    requires pair { other.pair ≡ end.pair }
+    requires few { length (waiting (held_back_of_rest (rest_with schema.now rest)) ++ reverse end.handed) ≤ 1 + length end.spares }
+    requires words { AreItsWords last.now (config_of_rest (rest_with schema.now rest)) (number_of_rest (rest_with schema.now rest)) }
+    requires some { (p : List Deed) × (log : List Deed) × (g : List Deed) × ⟦<CpuRest<S> as Rested>⟧.has_list (rest_with schema.now rest) end.handed p
+        × IsClosing (S.shape_of schema.now) (config_of_rest (rest_with schema.now rest)) (last_words last.now) (number_of_rest (rest_with schema.now rest)) p log g }
+    ensures { Leaves S.shape_of S.accepted S.text (⟦<CpuRest<S> as Rested>⟧.has_list (rest_with schema.now rest) end.handed) (last_words last.now) other.taken result
+        schema.now (config_of_rest (rest_with schema.now rest)) (number_of_rest (rest_with schema.now rest)) (worn_of_rest (rest_with schema.now rest)) }
+{
+    leave(rest.with_schema(*schema), end, other, last)
 }
 
 /// Tells what holds of each CPU, as of every one between two of its calls.
@@ -96,8 +116,8 @@ pub(crate) fn part_all<S: Schema>(
     while let Some(one) = parted.pop() {
         let other = ends.pop().unwrap();
         let Parted { end, rest } = one;
-        let rest = rest.with_schema(schema);
-        left.push(leave(rest, end, other, &last)).unwrap();
+        let gone = leave_kept(rest, end, other, &schema, &last);
+        left.push(gone).unwrap();
     }
     (last, left)
 }

@@ -6,6 +6,7 @@ use Rattle.dspec_table.specs.declared.seats.CpuSeat.{CpuSeat}
 use Rattle.dspec_table.specs.Last.{Ended, last_words}
 use Rattle.dspec_table.specs.Seats.{known_there, set_up}
 use Rattle.dspec_ring.specs.Known.{CpuKnows}
+use Rattle.dspec_cpu.specs.KeptRests.{rest_with}
 use Rattle.dspec_cpu.specs.Lists.{seat_of}
 use Rattle.dspec_cpu.specs.Rests.{RestHasList, schema_of_rest}
 use Rattle.dspec_consumer.specs.Leaving.{AllParted, Has, IsRestOf}
@@ -60,8 +61,7 @@ loop-cpus-preserved g c =
     let three = at.ensures.len in
     let inv = was.invariant in
     record {
-      so_far = one_parts g.S.Schema.shape_of g.S.Schema.accepted g.S.Schema.text c.args.cpus.items was.cpus.items at.new.cpus.items c.args.seats.items
-          was.seats.items c.push.new.self.items
+      so_far = one_parts g.S.Schema.shape_of g.S.Schema.accepted g.S.Schema.text c.args.cpus.items was.cpus.items at.new.cpus.items c.args.seats.items was.seats.items c.push.new.self.items
           was.parted.items c.push-in-loop-cpus.new.self.items parted.0 at.result.0 at.result.1 inv.so_far parted.1 parted.2 parted.3 seats xs;
       seats_room = let more = c.push.ensures.capacity in omega (arith, inv);
       parted_room = let more = c.push-in-loop-cpus.ensures.capacity in omega (arith, inv);
@@ -73,11 +73,9 @@ pub gather-last-requires-clause-seats : goal.gather-last-requires-clause-seats
 gather-last-requires-clause-seats g c =
     let s = c.requires.parting in
     let so = c.loop-cpus.invariant.so_far in
-    let none = none_in c.loop-cpus.cpus.items c.loop-cpus.cpus.len c.loop-cpus.cpus.ok.0 (same_number c.loop-cpus.cpus.len 0 (sym
-        c.is_empty-in-loop-cpus.ensures ∙ c.loop-cpus-test.false)) in
+    let none = none_in c.loop-cpus.cpus.items c.loop-cpus.cpus.len c.loop-cpus.cpus.ok.0 (same_number c.loop-cpus.cpus.len 0 (sym c.is_empty-in-loop-cpus.ensures ∙ c.loop-cpus-test.false)) in
     all_seats g.S.Schema.shape_of g.S.Schema.accepted g.S.Schema.text s.0 c.args.words s.1 c.args.seats.items c.loop-cpus.seats.items c.args.cpus.items c.args.ends.items s.2
-    (seats_of_all g.S.Schema.shape_of g.S.Schema.accepted g.S.Schema.text c.args.cpus.items c.loop-cpus.cpus.items c.args.seats.items c.loop-cpus.seats.items
-        c.loop-cpus.parted.items so none)
+    (seats_of_all g.S.Schema.shape_of g.S.Schema.accepted g.S.Schema.text c.args.cpus.items c.loop-cpus.cpus.items c.args.seats.items c.loop-cpus.seats.items c.loop-cpus.parted.items so none)
 
 pub loop-one-init : goal.loop-one-init
 loop-one-init g c =
@@ -103,8 +101,7 @@ returns-clause-ended g c =
 
 pub returns-clause-left : goal.returns-clause-left
 returns-clause-left g c =
-    told_all g.S.Schema.shape_of g.S.Schema.accepted g.S.Schema.text (set_up c.args.words) (last_words c.gather-last.result) (length c.args.seats.items)
-        c.args.cpus.items c.args.ends.items
+    told_all g.S.Schema.shape_of g.S.Schema.accepted g.S.Schema.text (set_up c.args.words) (last_words c.gather-last.result) (length c.args.seats.items) c.args.cpus.items c.args.ends.items
     c.loop-one.ends.items c.loop-one.parted.items c.loop-one.left.items c.loop-one.invariant.so_far
     (none_in c.loop-one.parted.items c.loop-one.parted.len c.loop-one.parted.ok.0 c.in_default.ensures.cases.0)
 
@@ -119,8 +116,8 @@ unwrap-other-requires g c =
     let some = c.in-Some.ensures.cases in
     c.pop-in-Some.ensures.variant.1 (omega arith)
 
-pub leave-requires-clause-pair : goal.leave-requires-clause-pair
-leave-requires-clause-pair g c =
+pub leave_kept-gone-requires-clause-pair : goal.leave_kept-gone-requires-clause-pair
+leave_kept-gone-requires-clause-pair g c =
     let s = c.requires.parting in
     let so = c.loop-one.invariant.so_far in
     let one = c.in-Some.one in
@@ -131,12 +128,11 @@ leave-requires-clause-pair g c =
     let next = next_of_left g.S.Schema.shape_of g.S.Schema.accepted g.S.Schema.text s.0 c.args.words s.1 c.args.seats.items c.args.cpus.items c.args.ends.items s.2
     so.before so.after c.loop-one.ends.items so.told xs c.loop-one.parted.items one es other so.split so.split_ends so.same so.parted c.in-Some.ensures.items pulled in
     let old = c.args.seats.items ++ map (λ y. seat_of y) next.before in
-    next_pair g.S.Schema.shape_of g.S.Schema.accepted g.S.Schema.text s.0 c.args.words s.1 old (next.cpu ∷ so.after) (other ∷ so.told) next.parting next.cpu
-        so.after other so.told refl refl
+    next_pair g.S.Schema.shape_of g.S.Schema.accepted g.S.Schema.text s.0 c.args.words s.1 old (next.cpu ∷ so.after) (other ∷ so.told) next.parting next.cpu so.after other so.told refl refl
     ∙ sym (ap (λ (e : CpuKnows). e.pair) next.has.rest.end_is)
 
-pub leave-requires-clause-few : goal.leave-requires-clause-few
-leave-requires-clause-few g c =
+pub leave_kept-gone-requires-clause-few : goal.leave_kept-gone-requires-clause-few
+leave_kept-gone-requires-clause-few g c =
     let s = c.requires.parting in
     let so = c.loop-one.invariant.so_far in
     let one = c.in-Some.one in
@@ -147,19 +143,17 @@ leave-requires-clause-few g c =
     let next = next_of_left g.S.Schema.shape_of g.S.Schema.accepted g.S.Schema.text s.0 c.args.words s.1 c.args.seats.items c.args.cpus.items c.args.ends.items s.2
     so.before so.after c.loop-one.ends.items so.told xs c.loop-one.parted.items one es other so.split so.split_ends so.same so.parted c.in-Some.ensures.items pulled in
     let old = c.args.seats.items ++ map (λ y. seat_of y) next.before in
-    let rest = c.with_schema-rest.result in
+    let rest = rest_with c.schema.result.now one.rest in
     let apart = numbers_differ c.args.cpus.len 0 (sym c.is_empty.ensures ∙ c.if-is_empty.false) in
     let some : 0 < length c.args.cpus.items = let ok = c.args.cpus.ok.0 in omega arith in
-    let same = c.schema-schema.ensures ∙ (first_schema g.S.Schema.shape_of g.S.Schema.accepted g.S.Schema.text s.0 c.args.words s.1 c.args.seats.items
-        c.args.cpus.items c.args.ends.items
+    let same = c.schema.ensures ∙ (first_schema g.S.Schema.shape_of g.S.Schema.accepted g.S.Schema.text s.0 c.args.words s.1 c.args.seats.items c.args.cpus.items c.args.ends.items
     c.index.result.now s.2 some c.index.ensures ∙ sym (next.parting.each 0 next.cpu refl).0.one) in
-    let is = subst (λ r. IsRestOf next.cpu one.end r) (sym c.with_schema-rest.ensures)
-        (is_rest g.S.Schema.shape_of g.S.Schema.accepted g.S.Schema.text next.cpu one c.schema-schema.result.now same next.has) in
-    next_few g.S.Schema.shape_of g.S.Schema.accepted g.S.Schema.text s.0 c.args.words s.1 old (next.cpu ∷ so.after) (other ∷ so.told) next.parting next.cpu
-        so.after other so.told refl refl one.end rest is
+    let is = is_rest g.S.Schema.shape_of g.S.Schema.accepted g.S.Schema.text next.cpu one c.schema.result.now same next.has in
+    next_few g.S.Schema.shape_of g.S.Schema.accepted g.S.Schema.text s.0 c.args.words s.1 old (next.cpu ∷ so.after) (other ∷ so.told) next.parting next.cpu so.after other
+    so.told refl refl one.end rest is
 
-pub leave-requires-clause-words : goal.leave-requires-clause-words
-leave-requires-clause-words g c =
+pub leave_kept-gone-requires-clause-words : goal.leave_kept-gone-requires-clause-words
+leave_kept-gone-requires-clause-words g c =
     let s = c.requires.parting in
     let so = c.loop-one.invariant.so_far in
     let one = c.in-Some.one in
@@ -170,20 +164,17 @@ leave-requires-clause-words g c =
     let next = next_of_left g.S.Schema.shape_of g.S.Schema.accepted g.S.Schema.text s.0 c.args.words s.1 c.args.seats.items c.args.cpus.items c.args.ends.items s.2
     so.before so.after c.loop-one.ends.items so.told xs c.loop-one.parted.items one es other so.split so.split_ends so.same so.parted c.in-Some.ensures.items pulled in
     let old = c.args.seats.items ++ map (λ y. seat_of y) next.before in
-    let rest = c.with_schema-rest.result in
+    let rest = rest_with c.schema.result.now one.rest in
     let apart = numbers_differ c.args.cpus.len 0 (sym c.is_empty.ensures ∙ c.if-is_empty.false) in
     let some : 0 < length c.args.cpus.items = let ok = c.args.cpus.ok.0 in omega arith in
-    let same = c.schema-schema.ensures ∙ (first_schema g.S.Schema.shape_of g.S.Schema.accepted g.S.Schema.text s.0 c.args.words s.1 c.args.seats.items
-        c.args.cpus.items c.args.ends.items
+    let same = c.schema.ensures ∙ (first_schema g.S.Schema.shape_of g.S.Schema.accepted g.S.Schema.text s.0 c.args.words s.1 c.args.seats.items c.args.cpus.items c.args.ends.items
     c.index.result.now s.2 some c.index.ensures ∙ sym (next.parting.each 0 next.cpu refl).0.one) in
-    let is = subst (λ r. IsRestOf next.cpu one.end r) (sym c.with_schema-rest.ensures)
-        (is_rest g.S.Schema.shape_of g.S.Schema.accepted g.S.Schema.text next.cpu one c.schema-schema.result.now same next.has) in
-    next_words g.S.Schema.shape_of g.S.Schema.accepted g.S.Schema.text s.0 c.args.words s.1 old (next.cpu ∷ so.after) (other ∷ so.told) next.parting next.cpu
-        so.after other so.told refl refl
+    let is = is_rest g.S.Schema.shape_of g.S.Schema.accepted g.S.Schema.text next.cpu one c.schema.result.now same next.has in
+    next_words g.S.Schema.shape_of g.S.Schema.accepted g.S.Schema.text s.0 c.args.words s.1 old (next.cpu ∷ so.after) (other ∷ so.told) next.parting next.cpu so.after other so.told refl refl
     c.gather-last.result one.end rest is c.gather-last.ensures.config
 
-pub leave-requires-clause-some : goal.leave-requires-clause-some
-leave-requires-clause-some g c =
+pub leave_kept-gone-requires-clause-some : goal.leave_kept-gone-requires-clause-some
+leave_kept-gone-requires-clause-some g c =
     let s = c.requires.parting in
     let so = c.loop-one.invariant.so_far in
     let one = c.in-Some.one in
@@ -194,29 +185,24 @@ leave-requires-clause-some g c =
     let next = next_of_left g.S.Schema.shape_of g.S.Schema.accepted g.S.Schema.text s.0 c.args.words s.1 c.args.seats.items c.args.cpus.items c.args.ends.items s.2
     so.before so.after c.loop-one.ends.items so.told xs c.loop-one.parted.items one es other so.split so.split_ends so.same so.parted c.in-Some.ensures.items pulled in
     let old = c.args.seats.items ++ map (λ y. seat_of y) next.before in
-    let rest = c.with_schema-rest.result in
+    let rest = rest_with c.schema.result.now one.rest in
     let apart = numbers_differ c.args.cpus.len 0 (sym c.is_empty.ensures ∙ c.if-is_empty.false) in
     let some : 0 < length c.args.cpus.items = let ok = c.args.cpus.ok.0 in omega arith in
-    let same = c.schema-schema.ensures ∙ (first_schema g.S.Schema.shape_of g.S.Schema.accepted g.S.Schema.text s.0 c.args.words s.1 c.args.seats.items
-        c.args.cpus.items c.args.ends.items
+    let same = c.schema.ensures ∙ (first_schema g.S.Schema.shape_of g.S.Schema.accepted g.S.Schema.text s.0 c.args.words s.1 c.args.seats.items c.args.cpus.items c.args.ends.items
     c.index.result.now s.2 some c.index.ensures ∙ sym (next.parting.each 0 next.cpu refl).0.one) in
-    let is = subst (λ r. IsRestOf next.cpu one.end r) (sym c.with_schema-rest.ensures)
-        (is_rest g.S.Schema.shape_of g.S.Schema.accepted g.S.Schema.text next.cpu one c.schema-schema.result.now same next.has) in
-    let lists = subst (λ r. (q : List Deed) → Has g.S.Schema.shape_of g.S.Schema.accepted g.S.Schema.text next.cpu q
-    → RestHasList (g.S.Schema.shape_of (schema_of_rest r)) (g.S.Schema.accepted (schema_of_rest r)) (g.S.Schema.text (schema_of_rest r)) r one.end.handed q)
-    (sym c.with_schema-rest.ensures) (rest_lists g.S.Schema.shape_of g.S.Schema.accepted g.S.Schema.text next.cpu one c.schema-schema.result.now same next.has) in
+    let is = is_rest g.S.Schema.shape_of g.S.Schema.accepted g.S.Schema.text next.cpu one c.schema.result.now same next.has in
+    let lists = rest_lists g.S.Schema.shape_of g.S.Schema.accepted g.S.Schema.text next.cpu one c.schema.result.now same next.has in
     let zero = same_number c.loop-cpus.cpus.len 0 (sym c.is_empty-in-loop-cpus.ensures ∙ c.loop-cpus-test.false) in
     let none = none_in c.loop-cpus.cpus.items c.loop-cpus.cpus.len c.loop-cpus.cpus.ok.0 zero in
-    let seats = seats_of_all g.S.Schema.shape_of g.S.Schema.accepted g.S.Schema.text c.args.cpus.items c.loop-cpus.cpus.items c.args.seats.items
-        c.loop-cpus.seats.items c.loop-cpus.parted.items
+    let seats = seats_of_all g.S.Schema.shape_of g.S.Schema.accepted g.S.Schema.text c.args.cpus.items c.loop-cpus.cpus.items c.args.seats.items c.loop-cpus.seats.items c.loop-cpus.parted.items
     c.loop-cpus.invariant.so_far none in
     let ended = subst (λ (ss : List CpuSeat). Ended (set_up c.args.words) (last_words c.gather-last.result) ss (known_there c.args.consumer)) (seats ∙ sym next.seats_are)
     c.gather-last.ensures.ended in
-    let closing = next_closing g.S.Schema.shape_of g.S.Schema.accepted g.S.Schema.text s.0 c.args.words s.1 old (next.cpu ∷ so.after) (other ∷ so.told)
-        next.parting next.cpu so.after other so.told refl refl
+    let closing = next_closing g.S.Schema.shape_of g.S.Schema.accepted g.S.Schema.text s.0 c.args.words s.1 old (next.cpu ∷ so.after) (other ∷ so.told) next.parting next.cpu
+    so.after other so.told refl refl
     (last_words c.gather-last.result) (known_there c.args.consumer) ended one.end rest is in
-    let has = next_has g.S.Schema.shape_of g.S.Schema.accepted g.S.Schema.text s.0 c.args.words s.1 old (next.cpu ∷ so.after) (other ∷ so.told)
-        next.parting next.cpu so.after other so.told refl refl in
+    let has = next_has g.S.Schema.shape_of g.S.Schema.accepted g.S.Schema.text s.0 c.args.words s.1 old (next.cpu ∷ so.after) (other ∷ so.told) next.parting next.cpu so.after
+    other so.told refl refl in
     (s.1 (length old), ended.log, closing.0, lists (s.1 (length old)) has, closing.1)
 
 pub loop-one-preserved : goal.loop-one-preserved
@@ -231,28 +217,23 @@ loop-one-preserved g c =
     let next = next_of_left g.S.Schema.shape_of g.S.Schema.accepted g.S.Schema.text s.0 c.args.words s.1 c.args.seats.items c.args.cpus.items c.args.ends.items s.2
     so.before so.after c.loop-one.ends.items so.told xs c.loop-one.parted.items one es other so.split so.split_ends so.same so.parted c.in-Some.ensures.items pulled in
     let old = c.args.seats.items ++ map (λ y. seat_of y) next.before in
-    let rest = c.with_schema-rest.result in
+    let rest = rest_with c.schema.result.now one.rest in
     let apart = numbers_differ c.args.cpus.len 0 (sym c.is_empty.ensures ∙ c.if-is_empty.false) in
     let some : 0 < length c.args.cpus.items = let ok = c.args.cpus.ok.0 in omega arith in
-    let same = c.schema-schema.ensures ∙ (first_schema g.S.Schema.shape_of g.S.Schema.accepted g.S.Schema.text s.0 c.args.words s.1 c.args.seats.items
-        c.args.cpus.items c.args.ends.items
+    let same = c.schema.ensures ∙ (first_schema g.S.Schema.shape_of g.S.Schema.accepted g.S.Schema.text s.0 c.args.words s.1 c.args.seats.items c.args.cpus.items c.args.ends.items
     c.index.result.now s.2 some c.index.ensures ∙ sym (next.parting.each 0 next.cpu refl).0.one) in
-    let is = subst (λ r. IsRestOf next.cpu one.end r) (sym c.with_schema-rest.ensures)
-        (is_rest g.S.Schema.shape_of g.S.Schema.accepted g.S.Schema.text next.cpu one c.schema-schema.result.now same next.has) in
-    let lists = subst (λ r. (q : List Deed) → Has g.S.Schema.shape_of g.S.Schema.accepted g.S.Schema.text next.cpu q
-    → RestHasList (g.S.Schema.shape_of (schema_of_rest r)) (g.S.Schema.accepted (schema_of_rest r)) (g.S.Schema.text (schema_of_rest r)) r one.end.handed q)
-    (sym c.with_schema-rest.ensures) (rest_lists g.S.Schema.shape_of g.S.Schema.accepted g.S.Schema.text next.cpu one c.schema-schema.result.now same next.has) in
+    let is = is_rest g.S.Schema.shape_of g.S.Schema.accepted g.S.Schema.text next.cpu one c.schema.result.now same next.has in
+    let lists = rest_lists g.S.Schema.shape_of g.S.Schema.accepted g.S.Schema.text next.cpu one c.schema.result.now same next.has in
     let left = c.loop-one.left in
-    let more = pushed_is c.push-in-Some.result c.unwrap-in-Some.result c.push-in-Some.new.self.items (left.items ++ c.leave.result ∷ []) left.items
+    let more = pushed_is c.push-in-Some.result c.unwrap-in-Some.result c.push-in-Some.new.self.items (left.items ++ c.leave_kept-gone.result ∷ []) left.items
     c.unwrap-in-Some.ensures c.push-in-Some.ensures.items in
-    let size = pushed_is c.push-in-Some.result c.unwrap-in-Some.result (vec_len c.push-in-Some.new.self) (vec_len left + 1) (vec_len left)
-        c.unwrap-in-Some.ensures c.push-in-Some.ensures.len in
+    let size = pushed_is c.push-in-Some.result c.unwrap-in-Some.result (vec_len c.push-in-Some.new.self) (vec_len left + 1) (vec_len left) c.unwrap-in-Some.ensures c.push-in-Some.ensures.len in
     let less = c.in-Some.ensures.cases in
     let inv = c.loop-one.invariant in
     record {
       so_far = left_more g.S.Schema.shape_of g.S.Schema.accepted g.S.Schema.text s.0 c.args.words s.1 c.args.seats.items c.args.cpus.items c.args.ends.items
-          c.loop-one.ends.items es c.loop-one.parted.items xs one other (last_words c.gather-last.result) left.items c.push-in-Some.new.self.items
-          so next rest c.leave.result is lists c.leave.ensures more;
+          c.loop-one.ends.items es c.loop-one.parted.items xs one other (last_words c.gather-last.result) left.items c.push-in-Some.new.self.items so next rest
+          c.leave_kept-gone.result is lists c.leave_kept-gone.ensures more;
       room = let m = c.push-in-Some.ensures.capacity in omega (arith, inv);
       count = omega (arith, inv);
     }
