@@ -48,11 +48,11 @@ module _ (e : EnabledRows) where
       let first : x.from < 1 = All-head (λ (p : Passed). p.from < 1) x xs from in
       let same : (x.from == 0) ≡ true = grind (arith, nat_tests) in
       let (ps, more, has, is, holds) = subst (λ q. HoldInOrder (table_shape e.header (enabled e.rows)) (table_accepts e.header (enabled e.rows))
-          (table_text e.header (enabled e.rows)) (if q then x.batch ∷ passed_from 0 xs else passed_from 0 xs) seen) same hold in
+      (table_text e.header (enabled e.rows)) (if q then x.batch ∷ passed_from 0 xs else passed_from 0 xs) seen) same hold in
       let went = unfaulted m.fault xs m new refl none rest in
       let added = keeps.kept fine went in
       let one = one_reading (table_shape e.header (enabled e.rows)) (table_accepts e.header (enabled e.rows)) (table_text e.header (enabled e.rows)) laws
-          0 x.batch.buffer.text added.added (reverse (records ps)) added.is_text
-          (reads_back (table_shape e.header (enabled e.rows)) (table_accepts e.header (enabled e.rows)) (table_text e.header (enabled e.rows)) laws x.batch.buffer ps has) in
+      0 x.batch.buffer.text added.added (reverse (records ps)) added.is_text
+      (reads_back (table_shape e.header (enabled e.rows)) (table_accepts e.header (enabled e.rows)) (table_text e.header (enabled e.rows)) laws x.batch.buffer ps has) in
       kept_all xs m new more went none (All-tail (λ (p : Passed). p.from < 1) x xs from) rest holds
       ∙ (ap (λ rs. rs ++ more) added.behind ∙ (append_assoc old.records added.added more ∙ ap (λ rs. old.records ++ rs) (ap (λ a. a ++ more) one ∙ sym is)))
