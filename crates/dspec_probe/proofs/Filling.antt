@@ -1,5 +1,5 @@
 -- A `FieldList` that is made of a list of fields.
-use Rattle.std.proofs.Common.{◌≤◌, ◌++◌, List, length, take, drop, replicate, refl, ◌∙◌, arith}
+use Rattle.std.proofs.Common.{◌≤◌, ◌++◌, List, length, drop, replicate, refl, ◌∙◌, arith}
 use Rattle.std.proofs.lemmas.List.{length-append, length-drop, drop_at, drop-replicate, length-replicate}
 use Rattle.dspec_record.specs.declared.field.Field.{Field}
 use Rattle.dspec_record.specs.declared.field.Field.TheVariants.{One}

@@ -1,5 +1,5 @@
 -- A float's bits stand for it again.
-use Rattle.std.proofs.Common.{◌≡◌, ◌<◌, ◌^◌, ℕ, true, nat_lt, Option, Some, to_bits, ap, ◌∙◌, cond}
+use Rattle.std.proofs.Common.{◌≡◌, ℕ, true, nat_lt, Some, to_bits, ap}
 use Rattle.std.specs.Bool.{passes}
 use Rattle.std.specs.Float.Ieee.{Float, Format, fits}
 use lib.Ieee.Bits.{of_bits-to_bits}

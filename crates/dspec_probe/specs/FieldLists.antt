@@ -1,4 +1,4 @@
--- How a `FieldList` holds fields: those behind them hold one value.
+-- Cited by calls. How a `FieldList` holds fields: those behind them hold one value.
 use Rattle.std.specs.Prelude.{◌≡◌, ◌≤◌, ◌-◌, ◌++◌, List, length, take, drop, replicate}
 use Rattle.dspec_record.specs.declared.field.Field.{Field}
 use Rattle.dspec_record.specs.declared.field.Field.TheVariants.{One}

@@ -1,4 +1,4 @@
--- The places of a `FieldList` follow from the list that it holds.
+-- Serves proofs. The places of a `FieldList` follow from the list that it holds.
 use Rattle.std.proofs.Common.{◌≡◌, ◌≤◌, ◌-◌, ◌++◌, length, take, replicate, arith}
 use Rattle.std.proofs.lemmas.List.{length-take-le}
 use Rattle.dspec_record.specs.Laws.Padding.{padded_list}

@@ -2,3 +2,5 @@ pub mod Values
 pub mod Tuples
 pub mod FieldLists
 pub mod Laws
+pub mod Probes
+pub mod Declarations

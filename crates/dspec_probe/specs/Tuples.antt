@@ -1,4 +1,4 @@
--- What the numbers of a record stand for together: each for its value, and there are as many as values.
+-- Cited by calls. What the numbers of a record stand for together: each for its value, and there are as many as values.
 use Rattle.std.specs.Prelude.{ℕ, List, [], ◌∷◌, Option, Some, None}
 
 infixl 10 ◌>>=◌

@@ -1,4 +1,4 @@
--- Which values the numbers of a record stand for, by the type of their field.
+-- Cited by calls. Which values the numbers of a record stand for, by the type of their field.
 use Rattle.std.specs.Prelude.{ℕ, zero, suc, ◌^◌, Bool, true, false, ℤ, nat_lt, from_bits, Option, Some, None, if◌then◌else◌}
 use Rattle.std.specs.Int.{Width, cast_signed}
 use mir.Val.{bits}

@@ -1,5 +1,5 @@
 -- The number is the float's bits.
-use Rattle.std.proofs.Common.{rules}
+use Rattle.std.proofs.Common.{◌^◌, rules}
 use Rattle.std.specs.Float.Ieee.{binary64}
 use Rattle.dspec_probe.proofs.Floats.{float-to_bits}
 use Rattle.dspec_probe.proofs.value.F64Value.number.Goals as goal
