@@ -4,13 +4,13 @@ use Rattle.dspec_record.specs.declared.field.Field.{Field}
 use Rattle.dspec_record.specs.declared.field.Field.TheVariants.{One}
 use Rattle.dspec_probe.specs.declared.field_list.FieldList.TheInside.{Inside}
 
-abbrev pub fields_of : Inside → List Field
-fields_of a = take a.len a.held
+abbrev pub listed_fields : Inside → List Field
+listed_fields a = take a.len a.held
 
-pub record IsPadded (a : Inside) : Type 0 where
+pub record IsFieldList (a : Inside) : Type 0 where
   pub eight : length a.held ≡ 8
   pub few : a.len ≤ 8
   pub rest : drop a.len a.held ≡ replicate (8 - a.len) One
 
-abbrev pub inside_of : List Field → Inside
-inside_of fs = record { held = fs ++ replicate (8 - length fs) One; len = length fs }
+abbrev pub list_places : List Field → Inside
+list_places fs = record { held = fs ++ replicate (8 - length fs) One; len = length fs }

@@ -14,12 +14,12 @@ stamp_in header.One stamp = 0
 stamp_in header.Two stamp = stamp
 
 -- the record that a probe's values, by their numbers, stand for
-abbrev pub record_of : {F : Type 0} → Probe F → ℕ → List ℕ → Record
-record_of p stamp numbers = record { epid = p.epid; stamp = stamp_in p.header stamp; values = numbers }
+abbrev pub probed_record : {F : Type 0} → Probe F → ℕ → List ℕ → Record
+probed_record p stamp numbers = record { epid = p.epid; stamp = stamp_in p.header stamp; values = numbers }
 
 -- the values of a record of the probe
-abbrev pub read_of : {F : Type 0} → (List ℕ → Option F) → Probe F → Record → Option F
-read_of values p r = if nat_eq r.epid p.epid then values r.values else None
+abbrev pub read_values : {F : Type 0} → (List ℕ → Option F) → Probe F → Record → Option F
+read_values values p r = if nat_eq r.epid p.epid then values r.values else None
 
 -- the schema has a probe of this EPID: this header is that of all records, and the EPID has these fields
 pub record HasProbe (h : Header) (epid : ℕ) (fields : List Field) (schema : EnabledRows) : Type 0 where

@@ -17,16 +17,16 @@ impl Model for FieldList {
 
     ghost Value = { List Field };
 
-    ghost use Rattle.dspec_probe.specs.FieldLists.{fields_of, IsPadded, inside_of};
-    ghost use Rattle.dspec_probe.specs.Laws.{inside_of-fields_of};
+    ghost use Rattle.dspec_probe.specs.FieldLists.{listed_fields, IsFieldList, list_places};
+    ghost use Rattle.dspec_probe.specs.Laws.{list_places-listed_fields};
 
-    ghost view = { fields_of };
+    ghost view = { listed_fields };
 
-    ghost invariant = { IsPadded };
+    ghost invariant = { IsFieldList };
 
-    ghost inverse = { inside_of };
+    ghost inverse = { list_places };
 
-    ghost inverse_ok = { inside_of-fields_of };
+    ghost inverse_ok = { list_places-listed_fields };
 }
 
 impl FieldList {

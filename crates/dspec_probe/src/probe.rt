@@ -1,7 +1,7 @@
 ghost use Rattle.std.specs.Prelude.{◌≡◌, ◌↔◌, Some, IsTrue};
 ghost use Rattle.dspec_record.specs.EnablingRows.{EnabledRows};
 ghost use Rattle.dspec_record.specs.RecordText.{record_text};
-ghost use Rattle.dspec_probe.specs.Probes.{IsProbeOf, read_of, record_of};
+ghost use Rattle.dspec_probe.specs.Probes.{IsProbeOf, read_values, probed_record};
 
 use crate::Fields;
 use dspec_record::{Enablings, Field, Header, Rec, Schema};
@@ -36,11 +36,11 @@ impl<F: Fields> Probe<F> {
     /// and `read` gives the values back.
     #[inline(always)]
     pub fn rec(self, stamp: u64, values: F) -> Rec
-        ensures holds { result ≡ record_of self stamp (F.numbers_of values) }
+        ensures holds { result ≡ probed_record self stamp (F.numbers_of values) }
         ensures accepted { (schema : EnabledRows) → IsProbeOf F.fields_are self schema → IsTrue (⟦<Enablings as Schema>⟧.accepted schema result) }
         ensures text { (schema : EnabledRows) → IsProbeOf F.fields_are self schema
             → ⟦<Enablings as Schema>⟧.text schema result ≡ record_text self.header F.fields_are result }
-        ensures back { read_of F.values_of self result ≡ Some values }
+        ensures back { read_values F.values_of self result ≡ Some values }
     {
         let stamp = match self.header {
             Header::One => 0,
@@ -52,7 +52,7 @@ impl<F: Fields> Probe<F> {
     /// The values of a record of this probe; None where it is one of another probe, or has numbers that stand for no values.
     #[inline]
     pub fn read(self, rec: &Rec) -> Option<F>
-        ensures { result ≡ read_of F.values_of self rec.now }
+        ensures { result ≡ read_values F.values_of self rec.now }
     {
         if rec.epid() != self.epid {
             return None;
