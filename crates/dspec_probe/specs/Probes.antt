@@ -13,6 +13,13 @@ abbrev pub stamp_in : Header → ℕ → ℕ
 stamp_in header.One stamp = 0
 stamp_in header.Two stamp = stamp
 
+-- the EPID of a probe's records, and their header
+abbrev pub epid_of_probe : {F : Type 0} → Probe F → ℕ
+epid_of_probe p = p.epid
+
+abbrev pub header_of_probe : {F : Type 0} → Probe F → Header
+header_of_probe p = p.header
+
 -- the record that a probe's values, by their numbers, stand for
 abbrev pub probed_record : {F : Type 0} → Probe F → ℕ → List ℕ → Record
 probed_record p stamp numbers = record { epid = p.epid; stamp = stamp_in p.header stamp; values = numbers }

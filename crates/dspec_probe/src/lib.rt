@@ -1,4 +1,10 @@
-//! Probes by the types of their fields.
+//! Probes by the types of their fields: declared once, with names and types, by which a program's schema, the records of its values
+//! and the values of its records are known.
+//!
+//! Which number a record has of a value, and which value a number stands for, says the trait `Value` (`specs/Values.antt`); `Fields`
+//! are up to eight of them together (`specs/Tuples.antt`). A probe's record is one of each schema that has the probe, its text is
+//! `record_text` of its fields, and `read` gives back what was handed in (`specs/Probes.antt`). What a declaration adds stands in
+//! `specs/Declarations.antt`. Stands on `dspec_record`.
 #![tactic(auto)]
 
 pub mod fault;

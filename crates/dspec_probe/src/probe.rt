@@ -1,7 +1,7 @@
 ghost use Rattle.std.specs.Prelude.{◌≡◌, ◌↔◌, Some, IsTrue};
 ghost use Rattle.dspec_record.specs.EnablingRows.{EnabledRows};
 ghost use Rattle.dspec_record.specs.RecordText.{record_text};
-ghost use Rattle.dspec_probe.specs.Probes.{IsProbeOf, read_values, probed_record};
+ghost use Rattle.dspec_probe.specs.Probes.{IsProbeOf, epid_of_probe, header_of_probe, probed_record, read_values};
 
 use crate::Fields;
 use dspec_record::{Enablings, Field, Header, Rec, Schema};
@@ -27,7 +27,7 @@ impl<F: Fields> Probe<F> {
     /// The enabled probe identifier of its records.
     #[inline]
     pub fn epid(self) -> u32
-        ensures { result ≡ self.epid }
+        ensures { result ≡ epid_of_probe self }
     {
         self.epid
     }
@@ -39,7 +39,7 @@ impl<F: Fields> Probe<F> {
         ensures holds { result ≡ probed_record self stamp (F.numbers_of values) }
         ensures accepted { (schema : EnabledRows) → IsProbeOf F.fields_are self schema → IsTrue (⟦<Enablings as Schema>⟧.accepted schema result) }
         ensures text { (schema : EnabledRows) → IsProbeOf F.fields_are self schema
-            → ⟦<Enablings as Schema>⟧.text schema result ≡ record_text self.header F.fields_are result }
+            → ⟦<Enablings as Schema>⟧.text schema result ≡ record_text (header_of_probe self) F.fields_are result }
         ensures back { read_values F.values_of self result ≡ Some values }
     {
         let stamp = match self.header {

@@ -92,3 +92,17 @@ fn schemas_that_have_a_probe(rt: HostRuntime) -> Result<(), Fail> {
     assert!(rt; !first.is_of(&alike.stamped()));
     Ok(())
 }
+
+#[test]
+fn texts_of_faults(rt: HostRuntime) -> Result<(), Fail> {
+    let texts = [
+        (ProbeFault::FieldCount, "not a name for each field"),
+        (ProbeFault::TooMany, "too many probes"),
+        (ProbeFault::Memory, "out of memory"),
+    ];
+    for (fault, wanted) in texts {
+        let text = format!(in rt.alloc(); "{fault}")?;
+        same(&rt, text.as_str(), wanted);
+    }
+    Ok(())
+}

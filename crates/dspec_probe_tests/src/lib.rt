@@ -9,5 +9,3 @@ mod numbers;
 mod reading;
 #[cfg(test)]
 mod same;
-#[cfg(test)]
-mod texts;
