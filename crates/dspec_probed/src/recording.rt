@@ -3,7 +3,7 @@ ghost use Rattle.dspec_record.specs.EnablingRows.{EnabledRows};
 ghost use Rattle.dspec_record.specs.Record.{Record};
 ghost use Rattle.dspec_deeds.specs.Told.{id_told};
 ghost use Rattle.dspec_cpu.specs.Lists.{schema_of};
-ghost use Rattle.dspec_cpu.specs.OneCall.{TracesOne, SpeculatesOne};
+ghost use Rattle.dspec.specs.LaneCalls.{TraceOn, SpeculateOn};
 ghost use Rattle.dspec.specs.Lanes.{place_of};
 
 use crate::ForeignProbe;
@@ -31,20 +31,19 @@ pub trait Recording<F: Fields>: Copy {
     fn record(self, lane: &mut Lane<'_, Enablings>, stamp: u64, values: F) -> Traced
         requires of { is_of self (schema_of lane.old.cpu.now) }
         ensures same { place_of lane.new ≡ place_of lane.old }
-        ensures does { TracesOne ⟦<Cpu<Enablings> as Listed>⟧.has_list (record_is self stamp values) result lane.old.cpu.now lane.new.cpu.now };
+        ensures does { TraceOn ⟦<Cpu<Enablings> as Listed>⟧.has_list (record_is self stamp values) result lane.old lane.new };
 
     /// Offers a record of the probe to a path.
     fn step(self, lane: &mut Lane<'_, Enablings>, path: &Path, stamp: u64, values: F) -> Spoken
         requires of { is_of self (schema_of lane.old.cpu.now) }
         ensures same { place_of lane.new ≡ place_of lane.old }
-        ensures does { SpeculatesOne ⟦<Cpu<Enablings> as Listed>⟧.has_list (id_told path.now.opening) (record_is self stamp values) result
-            lane.old.cpu.now lane.new.cpu.now };
+        ensures does { SpeculateOn ⟦<Cpu<Enablings> as Listed>⟧.has_list (id_told path.now.opening) (record_is self stamp values) result lane.old lane.new };
 
     /// Offers a record of the probe to a speculation.
     fn offer(self, lane: &mut Lane<'_, Enablings>, id: SpecId, stamp: u64, values: F) -> Spoken
         requires of { is_of self (schema_of lane.old.cpu.now) }
         ensures same { place_of lane.new ≡ place_of lane.old }
-        ensures does { SpeculatesOne ⟦<Cpu<Enablings> as Listed>⟧.has_list id (record_is self stamp values) result lane.old.cpu.now lane.new.cpu.now };
+        ensures does { SpeculateOn ⟦<Cpu<Enablings> as Listed>⟧.has_list id (record_is self stamp values) result lane.old lane.new };
 }
 
 impl<F: Fields> Recording<F> for Probe<F> {
