@@ -1,0 +1,27 @@
+ghost use Rattle.std.specs.Prelude.{◌≡◌};
+ghost use Rattle.dspec_probe.specs.declared.fault.ProbeFault.TheVariants.{Memory};
+
+use std::alloc::AllocFailed;
+use thiserror::Error;
+
+/// Why a probe isn't declared.
+#[derive(Debug, Clone, Copy, PartialEq, Eq, Error)]
+pub enum ProbeFault {
+    /// There aren't as many names as fields.
+    #[error("not a name for each field")]
+    FieldCount,
+    /// There are 64 probes already.
+    #[error("too many probes")]
+    TooMany,
+    /// A growth was refused.
+    #[error("out of memory")]
+    Memory,
+}
+
+impl<T: Drop> From<AllocFailed<T>> for ProbeFault {
+    ghost from_gives = { λ _ fault. fault ≡ Memory };
+
+    fn from(_refused: AllocFailed<T>) -> Self {
+        ProbeFault::Memory
+    }
+}

@@ -1,0 +1,35 @@
+ghost use Rattle.std.specs.Prelude.{◌≡◌, ◌≤◌, ℕ, List, Option, Some, length, IsTrue};
+ghost use Rattle.dspec_record.specs.RecordText.{fits};
+ghost use Rattle.dspec_record.specs.declared.field.Field.{Field};
+
+use crate::FieldList;
+use dspec_record::Rec;
+
+/// The values of a record by the types of its fields: a tuple of one to eight.
+pub trait Fields: Copy {
+    /// The fields that they take.
+    ghost fields_are: { List Field };
+
+    /// The numbers that a record has of them.
+    ghost numbers_of: { Self → List ℕ };
+
+    /// What the numbers of a record stand for, if for anything.
+    ghost values_of: { List ℕ → Option Self };
+
+    /// The fields that they take.
+    fn fields() -> FieldList
+        ensures { result ≡ fields_are };
+
+    /// The record with this EPID, this stamp and these values: they fit their fields, and its numbers stand for nothing else.
+    fn rec(self, epid: u32, stamp: u64) -> Rec
+        ensures holds { result ≡ record { epid = epid; stamp = stamp; values = numbers_of self } }
+        ensures fits { IsTrue (fits fields_are (numbers_of self)) }
+        ensures back { values_of (numbers_of self) ≡ Some self };
+
+    /// What the numbers of a record stand for; None where no values have these numbers.
+    fn values(numbers: &[u64]) -> Option<Self>
+        ensures { result ≡ values_of numbers.now };
+
+    /// They are eight at the most.
+    ghost few: { length fields_are ≤ 8 };
+}

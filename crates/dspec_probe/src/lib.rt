@@ -1,0 +1,23 @@
+//! Probes by the types of their fields: declared once, with names and types, by which a program's schema, the records of its values
+//! and the values of its records are known.
+//!
+//! Which number a record has of a value, and which value a number stands for, says the trait `Value` (`specs/Values.antt`); `Fields`
+//! are up to eight of them together (`specs/Tuples.antt`). A probe's record is one of each schema that has the probe, its text is
+//! `record_text` of its fields, and `read` gives back what was handed in (`specs/Probes.antt`). What a declaration adds stands in
+//! `specs/Declarations.antt`. Stands on `dspec_record`.
+#![tactic(auto)]
+
+pub mod fault;
+pub mod field_list;
+pub mod fields;
+pub mod probe;
+pub mod probes;
+mod tuples;
+pub mod value;
+
+pub use fault::ProbeFault;
+pub use field_list::FieldList;
+pub use fields::Fields;
+pub use probe::Probe;
+pub use probes::{ProbeNames, Probes};
+pub use value::Value;

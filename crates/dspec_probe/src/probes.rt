@@ -1,0 +1,102 @@
+ghost use Rattle.std.specs.Prelude.{◌≡◌, ◌≢◌, ◌≤◌, ◌<◌, ◌++◌, ◌∷◌, ◌↔◌, [], length, IfOk, OnErr};
+ghost use Rattle.dspec_probe.specs.declared.fault.ProbeFault.{ProbeFault};
+ghost use Rattle.dspec_probe.specs.Declarations.{Declares};
+
+use crate::{Fields, Probe, ProbeFault};
+use dspec_record::{Enablings, Header};
+use std::alloc::Global;
+use std::marker::{Model, PhantomData};
+
+/// The most probes that there are.
+const MAX_PROBES: u32 = 64;
+
+/// The name of a probe, and those of its fields in their order.
+#[derive(Debug, Clone, Copy)]
+pub struct ProbeNames<'n> {
+    /// The probe's.
+    pub event: &'n str,
+    /// Of each field one.
+    pub fields: &'n [&'n str],
+}
+
+/// The probes of a program, as they are declared: what a session wants of them, and what a trace folder wants.
+#[derive(Drop)]
+pub struct Probes<'n> {
+    enablings: Enablings,
+    names: Vec<ProbeNames<'n>>,
+}
+
+impl<'n> Model for Probes<'n> {
+    ghost use Rattle.dspec_probe.specs.Declarations.{Declared, AreNamed};
+
+    ghost Value = { Declared };
+
+    ghost view = { λ i. record { schema = i.enablings; names = i.names.items } };
+
+    ghost invariant = { λ i. AreNamed i.enablings.rows i.names.items };
+}
+
+impl<'n> Probes<'n> {
+    ghost use Rattle.dspec_probe.specs.Declarations.{AreNamed};
+
+    /// None yet; each record has a stamp.
+    pub fn new(alloc: Global) -> Probes<'n>
+        ensures { result ≡ record { schema = record { header = Header.Two; rows = [] }; names = [] } }
+    {
+        Probes {
+            enablings: Enablings::new().stamped(),
+            names: Vec::new(alloc),
+        }
+    }
+
+    /// None yet; records have no stamp, and one that is handed in is left out.
+    pub fn unstamped(alloc: Global) -> Probes<'n>
+        ensures { result ≡ record { schema = record { header = Header.One; rows = [] }; names = [] } }
+    {
+        Probes {
+            enablings: Enablings::new(),
+            names: Vec::new(alloc),
+        }
+    }
+
+    /// Declares a probe: its name, those of its fields, and by its type what they are. An `Err` changes nothing.
+    pub fn probe<F: Fields>(
+        &mut self,
+        event: &'n str,
+        fields: &'n [&'n str],
+    ) -> Result<Probe<F>, ProbeFault>
+        ensures declared { IfOk result (λ p. Declares F.fields_are p (record { event = event.entry; fields = fields.entry }) self.old self.new) }
+        ensures refused { OnErr result (self.new ≡ self.old) }
+        ensures field_count { (result ≡ Err ProbeFault.FieldCount) ↔ (length fields.now ≢ length F.fields_are) }
+        ensures too_many { (result ≡ Err ProbeFault.TooMany) ↔ ((length fields.now ≡ length F.fields_are) × (64 ≤ length self.old.schema.rows)) }
+    {
+        if fields.len() != F::fields().as_slice().len() {
+            return Err(ProbeFault::FieldCount);
+        }
+        if self.enablings.count() == MAX_PROBES {
+            return Err(ProbeFault::TooMany);
+        }
+        self.names.push(ProbeNames { event, fields })?;
+        let epid = self.enablings.enable(F::fields().as_slice()).unwrap();
+        Ok(Probe {
+            epid,
+            header: self.enablings.header(),
+            fields: PhantomData,
+        })
+    }
+
+    /// Their fields: what a session wants.
+    pub fn enablings(&self) -> Enablings
+        ensures { result ≡ self.now.schema }
+    {
+        self.enablings
+    }
+
+    /// Their names, in the order in which they were declared: each has as many as it has fields.
+    pub fn names(&self) -> &[ProbeNames<'n>]
+        ensures names { result.now ≡ self.now.names }
+        ensures named { AreNamed self.now.schema.rows result.now }
+    {
+        self.names.as_slice()
+    }
+}
