@@ -2,8 +2,13 @@
 //! the request that failed, and thrown away of the one that didn't. The program prints what the sink kept and the report.
 #![tactic(auto)]
 
+ghost use Rattle.std.specs.Prelude.{IfOk};
+ghost use Rattle.tour.specs.Toured.{IsTour};
+
 use anyhow::Result;
-use dspec::{Config, Enablings, Field, Kept, Lane, Work, closed_cpu, trace};
+use dspec::{Config, Enablings, Field, Kept, Lane, Rec, Report, Work, closed_cpu, trace};
+use std::alloc::Global;
+use std::thread::Threads;
 
 /// What the CPU does, by the EPIDs of its two probes.
 #[derive(Drop)]
@@ -32,17 +37,25 @@ impl Work<Enablings> for Requests {
     }
 }
 
-fn main(rt: HostRuntime) -> Result<()> {
+/// The session of that work. It gives back the records that the sink kept, and the report of its CPU.
+fn tour<R: Threads + Sync>(rt: &R, alloc: Global) -> Result<(Vec<Rec>, Report)>
+    ensures { IfOk result (λ r. IsTour r.0.items r.1) }
+{
     let mut schema = Enablings::new();
     let request = schema.enable(&[Field::Four])?;
     let touch = schema.enable(&[Field::Eight, Field::One])?;
     let config = Config::of(1, 2, 64, 64);
     let work = Requests { request, touch };
-    let kept = Kept::new(rt.alloc());
-    let (closed, kept) = trace(&rt, rt.alloc(), &config, schema, &work, kept)?;
-    for rec in kept.records()? {
+    let (closed, kept) = trace(rt, alloc, &config, schema, &work, Kept::new(alloc))?;
+    let records = kept.records()?;
+    Ok((records, *closed_cpu(&closed, 0).report))
+}
+
+fn main(rt: HostRuntime) -> Result<()> {
+    let (records, report) = tour(&rt, rt.alloc())?;
+    for rec in &records {
         println!(rt; "taken {rec}")?;
     }
-    println!(rt; "report cpu 0 {}", closed_cpu(&closed, 0).report)?;
+    println!(rt; "report cpu 0 {report}")?;
     Ok(())
 }

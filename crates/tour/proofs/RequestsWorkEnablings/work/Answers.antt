@@ -1,5 +1,5 @@
 -- Each call tells what it did, over the schema that the lane had at first.
-use Rattle.std.proofs.Common.{◌≡◌, ℕ, Bool, List, [], ◌∷◌, ap, ◌∙◌, subst}
+use Rattle.std.proofs.Common.{Bool, [], ◌∷◌, ap, ◌∙◌, subst}
 use Rattle.dspec_record.specs.Record.{Record}
 use Rattle.dspec_record.specs.EnablingRows.{EnabledRows}
 use Rattle.dspec_record.specs.Schemas.{enabled, table_accepts}

@@ -1,0 +1,61 @@
+-- What tour's session gives back, by what `trace` says of it.
+use Rattle.std.proofs.Common.{◌≡◌, ◌<◌, List, [], ◌∷◌, ◌++◌, length, Some, None, sym, ap, ◌∙◌, subst, arith}
+use Rattle.std.specs.Prelude.{slice_get}
+use Rattle.std.proofs.lemmas.List.{append_assoc}
+use Rattle.dspec_record.specs.Record.{Record}
+use Rattle.dspec_record.specs.EnablingRows.{EnabledRows}
+use Rattle.dspec_record.specs.Schemas.{enabled, table_shape, table_accepts, table_text}
+use Rattle.dspec_record.specs.declared.field.Field.TheVariants.{One, Four, Eight}
+use Rattle.dspec_record.specs.declared.header.Header.TheVariants as header
+use Rattle.dspec_deeds.specs.declared.config.Config.{Config}
+use Rattle.dspec_deeds.specs.declared.report.Report.{Report}
+use Rattle.dspec_promise.specs.Deeds.{all_did}
+use Rattle.dspec_promise.specs.Promise.{Promise}
+use Rattle.dspec_cpu.specs.Called.{no_calls}
+use Rattle.dspec_cpu.specs.Sealed.{waiting}
+use Rattle.dspec_consumer.specs.declared.left.Left.{Left}
+use Rattle.dspec_consumer.specs.Closing.{HoldInOrder}
+use Rattle.dspec_consumer.proofs.PromisedBy.{there_is}
+use Rattle.dspec.specs.KeptRecords.{KeptRecords, KeepsBatch, no_records}
+use Rattle.dspec.specs.Passed.{AreFrom}
+use Rattle.dspec.specs.Traced.{IsTraced}
+use Rattle.dspec.proofs.KeptAll.{kept_all}
+use Rattle.tour.specs.declared.Requests.{Requests}
+use Rattle.tour.specs.Requests.{DoesRequests}
+use Rattle.tour.specs.Toured.{IsTour, probes}
+
+-- the schema has these two enablings
+pub schema_is : (e : EnabledRows) → e.header ≡ header.One → e.rows ≡ (Four ∷ []) ∷ (Eight ∷ One ∷ []) ∷ [] → e ≡ probes
+schema_is e h r = λ i. record { header = h i; rows = r i }
+
+-- and these are their numbers
+pub probes_are : (work : Requests) → work.request ≡ 1 → work.touch ≡ 2 → work ≡ record { request = 1; touch = 2 }
+probes_are work r t = λ i. record { request = r i; touch = t i }
+
+module _ (e : EnabledRows) (work : Requests) (k : Config) (old new : KeptRecords) (left : List Left) (report : Report) (records : List Record) where
+  pub toured : e ≡ probes → work ≡ record { request = 1; touch = 2 } → k.cpus ≡ 1 → old ≡ no_records → new.fault ≡ None → records ≡ new.records
+      → length left ≡ 1 → ((l : Left) → slice_get left 0 ≡ Some l → report ≡ l.report)
+      → IsTraced (KeepsBatch e) (λ c before after. DoesRequests e work before after) (table_shape e.header (enabled e.rows)) (table_accepts e.header (enabled e.rows))
+      (table_text e.header (enabled e.rows)) k old left new
+      → IsTour records report
+  toured probes_is work_is one begun fine kept count told traced =
+      let some : 0 < length left = omega arith in
+      let first : 0 < k.cpus = omega arith in
+      let (l, at) = there_is left 0 some in
+      let mine = traced.promised.each 0 l at in
+      let hold = subst (λ bs. HoldInOrder (table_shape e.header (enabled e.rows)) (table_accepts e.header (enabled e.rows)) (table_text e.header (enabled e.rows)) bs mine.seen)
+      (append_assoc (traced.taken 0) (waiting l.rest) (l.last ∷ []) ∙ sym (traced.whole 0 l at)) mine.hold in
+      let none = ap (λ (r : KeptRecords). r.fault) begun in
+      let all = kept_all e traced.passed old new mine.seen none fine (subst (λ n. AreFrom n traced.passed) one traced.from) traced.got hold in
+      let seen : mine.seen ≡ records = sym (kept ∙ (all ∙ ap (λ (r : KeptRecords). r.records ++ mine.seen) begun)) in
+      let deeds = traced.promised.deeds in
+      record {
+        calls = traced.calls 0;
+        worked = subst (λ (w : Requests). DoesRequests probes w no_calls (traced.calls 0)) work_is
+            (subst (λ (x : EnabledRows). DoesRequests x work no_calls (traced.calls 0)) probes_is (traced.worked 0 first));
+        closed = traced.promised.closed 0;
+        all = all_did deeds;
+        answered = mine.answered;
+        promise = subst (λ r. Promise 1 (all_did deeds) 0 records r) (sym (told l at))
+            (subst (λ rs. Promise 1 (all_did deeds) 0 rs l.report) seen (subst (λ n. Promise n (all_did deeds) 0 mine.seen l.report) one mine.promise));
+      }
