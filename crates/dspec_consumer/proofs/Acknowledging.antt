@@ -28,7 +28,7 @@ pub record Idled (n : ℕ) (v w : View) : Type 0 where
 idled_none : (v : View) → Idled 0 v v
 idled_none v = record { who = refl; config = refl; own = refl; asks = refl; steps = omega arith }
 
-idled_more : (n : ℕ) (v u w : View) (log : List Deed) → Idled n v u → w ≡ acted u log [] → Idled (suc n) v w
+idled_more : {place : ℕ} (n : ℕ) (v u w : View) (log : List Deed) → Idled n v u → w ≡ acted place u log [] → Idled (suc n) v w
 idled_more n v u w log i is = record {
   who = ap (λ (x : View). x.who) is ∙ i.who;
   config = ap (λ (x : View). x.config) is ∙ i.config;

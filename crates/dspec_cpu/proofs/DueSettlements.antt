@@ -20,6 +20,8 @@ use Rattle.dspec_table.specs.declared.seats.Words.{Words}
 use Rattle.dspec_table.specs.Acts.{fate_of_settlement}
 use Rattle.dspec_table.specs.Conditions.{MaySettle}
 use Rattle.dspec_table.specs.Seats.{known, IsAt, cpu_of}
+use Rattle.dspec_table.specs.Holders.{number_of}
+use Rattle.dspec_table.specs.Layout.{ack_place}
 use Rattle.dspec_table.specs.Steps.{Entered, SettledWord}
 use Rattle.dspec_table.proofs.OwnReading.{scan_part}
 use Rattle.dspec_side.specs.declared.side.Side.{Side}
@@ -82,8 +84,8 @@ module _ (shape : ℕ → Option Shape) (accepted : Record → Bool) (text : Rec
     stores : SettledWord own id word.code v w
     stores = subst (λ (x : ℕ × SlotState). SettledWord own record { issue = x.0; slot = slot } x.1.code v w) (λ j. (i_is j, due.here j)) stored
 
-    entered : Entered v stores.0 (deed ∷ []) w
-    entered = subst (λ n. Entered v stores.0 (Settle n id (fate_of_settlement own word.code) ∷ []) w) (number shape accepted text words cpu ready) stores.2
+    entered : Entered (ack_place v.config (number_of v.who) slot) v stores.0 (deed ∷ []) w
+    entered = subst (λ n. Entered (ack_place v.config (number_of v.who) slot) v stores.0 (Settle n id (fate_of_settlement own word.code) ∷ []) w) (number shape accepted text words cpu ready) stores.2
 
     stands : Stands cpu.config cpu.cpu v (deed ∷ []) w
     stands = stands_behind cpu.config cpu.cpu v w stores.0 (deed ∷ []) (set_up_is shape accepted text words cpu ready) (holder shape accepted text words cpu ready) entered

@@ -6,6 +6,7 @@ pub mod Ready
 pub mod Traces
 pub mod Mine
 pub mod Outside
+pub mod Touching
 pub mod Retries
 pub mod Stopping
 pub mod Reaches

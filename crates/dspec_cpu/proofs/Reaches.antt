@@ -1,5 +1,6 @@
 -- How far a call on an identifier comes.
-use Rattle.std.proofs.Common.{◌≡◌, ◌≢◌, ℕ, ◌+◌, ◌==◌, ◌≤◌, Bool, true, false, List, [], ◌∷◌, ◌++◌, if◌then◌else◌, Option, Some, None, refl, sym, ap, ◌∙◌, subst, inl, arith, true≢false, append_assoc}
+use Rattle.std.proofs.Common.{◌≡◌, ◌≢◌, ℕ, ◌+◌, ◌==◌, ◌≤◌, Bool, true, false, List, [], ◌∷◌, ◌++◌, if◌then◌else◌, Option, Some, None, refl, sym}
+use Rattle.std.proofs.Common.{ap, ◌∙◌, subst, inl, inr, arith, true≢false, append_assoc}
 use Rattle.std.specs.Prelude.{nat_le}
 use Rattle.std.proofs.lemmas.Bool.Decides.{nat_tests}
 use Rattle.dspec_word.specs.SpecId.{Speculation}
@@ -28,6 +29,7 @@ use Rattle.dspec_table.specs.Holders.{of_cpu, number_of, part_of}
 use Rattle.dspec_table.specs.Acts.{at_activity, at_word, at_hit, at_exchange, speaks, void_commit, void_discard, discard_hits}
 use Rattle.dspec_table.specs.Conditions.{IsOn, IsInFlight}
 use Rattle.dspec_table.specs.Flights.{calling, flight_after}
+use Rattle.dspec_table.specs.Layout.{activity_place, slot_place}
 use Rattle.dspec_table.specs.Steps.{Entered, LoadedActivity}
 use Rattle.dspec_table.proofs.Flights.{quiet_activity, in_flight, activity_enters}
 use Rattle.dspec_cpu.specs.declared.reaching.Reach.{Reach}
@@ -36,10 +38,12 @@ use Rattle.dspec_cpu.specs.Calls.{Goes, rests, steps}
 use Rattle.dspec_cpu.specs.Reaching.{act_of, act_reached, is_reached, is_attempt, reached_deeds, releases_next, EndsAtWord}
 use Rattle.dspec_cpu.specs.Reached.{Reached}
 use Rattle.dspec_cpu.specs.Stops.{StopsWhereMet, is_stopped_reach}
+use Rattle.dspec_cpu.specs.Touching.{Touches, at_slot, of_slot}
 use Rattle.dspec_cpu.proofs.Stopping.{shown_stop, shown_running}
 use Rattle.dspec_cpu.proofs.Mine.{own_mine_tells}
 use Rattle.dspec_cpu.proofs.Ready.{stands_behind, stands_called}
 use Rattle.dspec_cpu.proofs.Retries.{here_or_void, attempt_is}
+use Rattle.dspec_cpu.proofs.Touching.{touched_more, touched_on, touched_one, touched_wider}
 
 -- steps behind steps
 pub goes_on : {v u w : View} {ds es : List Deed} → Goes v ds u → Goes u es w → Goes v (es ++ ds) w
@@ -201,7 +205,7 @@ module _ (k : Config) (c : ℕ) (doing : Doing) (id : Speculation) (v : View) (c
       → at_activity v.config (number_of v.who) doing doing.op stopped ≡ reached_deeds c doing doing.op r → is_reached r ≡ false → act_reached r ≡ Void
       → is_stopped_reach r ≡ stopped → Reached k c doing id v r w
   at_once r w stopped step deeds none void answered =
-      let entered : Entered (calling doing.op v) step.0 (reached_deeds c doing doing.op r) w = subst (λ ds. Entered (calling doing.op v) step.0 ds w) deeds step.3 in
+      let entered : Entered activity_place (calling doing.op v) step.0 (reached_deeds c doing doing.op r) w = subst (λ ds. Entered activity_place (calling doing.op v) step.0 ds w) deeds step.3 in
       let no_grant : r ≡ reach.Granted → (word : SlotState) × (act_of doing.op word doing.mine ≡ Granted) = λ e. absurd (true≢false (sym (ap is_reached e) ∙ none)) in
       let one : w.steps ≡ v.steps + 1 = ap (λ (x : View). x.steps) entered.view in
       record {
@@ -210,6 +214,7 @@ module _ (k : Config) (c : ℕ) (doing : Doing) (id : Speculation) (v : View) (c
             (reached_ends k c doing id (Some doing.op) doing.op r on no_grant ∙ sym (reached_ends k c doing id v.flight doing.op r on no_grant));
         stops = subst (λ b. StopsWhereMet v false b w) (sym answered) (heeds stopped step);
         bounded = let no = ap releases_next void in omega arith;
+        touches = touched_one (of_slot k id) v w activity_place (ap (λ (x : View). x.touched) entered.view) (inl refl);
         acts = λ t. absurd (true≢false (sym t ∙ none));
         present = λ t. absurd (true≢false (sym t ∙ none));
       }
@@ -241,7 +246,7 @@ module _ (k : Config) (c : ℕ) (doing : Doing) (id : Speculation) (v : View) (c
   behind u inside step r w ended running =
       let quiet : at_activity v.config (number_of v.who) doing doing.op false ≡ [] =
       quiet_activity v.config (number_of v.who) doing id doing.op (ap (λ (x : Config). in_range x id) config ∙ inside) on in
-      let first : Entered (calling doing.op v) step.0 [] u = subst (λ ds. Entered (calling doing.op v) step.0 ds u) quiet step.3 in
+      let first : Entered activity_place (calling doing.op v) step.0 [] u = subst (λ ds. Entered activity_place (calling doing.op v) step.0 ds u) quiet step.3 in
       let granted : r ≡ reach.Granted → (word : SlotState) × (act_of doing.op word doing.mine ≡ Granted) = λ e. (ended.word, ended.acts ∙ ap act_reached e) in
       let shown = ended.last in
       let b = shown.before in
@@ -252,7 +257,9 @@ module _ (k : Config) (c : ℕ) (doing : Doing) (id : Speculation) (v : View) (c
       let deeds : at_exchange b.config (number_of b.who) doing id.slot ended.word (is_attempt (act_reached r)) ≡ reached_deeds c doing doing.op r =
       ap (λ n. at_exchange b.config n doing id.slot ended.word (is_attempt (act_reached r))) (ap number_of b_who)
       ∙ (exchange_is b.config c doing id.slot ended.word (is_attempt (act_reached r)) ∙ ended_deeds b.config c id.slot doing id ended.word doing.op r on ended.acts running) in
-      let entered : Entered b log (reached_deeds c doing doing.op r) w = subst (λ ds. Entered b log ds w) deeds shown.last.3 in
+      let entered : Entered (slot_place id.slot) b log (reached_deeds c doing doing.op r) w = subst (λ ds. Entered (slot_place id.slot) b log ds w) deeds shown.last.3 in
+      let loaded : Touches (of_slot k id) v u = touched_one (of_slot k id) v u activity_place (ap (λ (x : View). x.touched) first.view) (inl refl) in
+      let worked : Touches (of_slot k id) u b = touched_wider (at_slot id.slot) (of_slot k id) u b (λ p e. inr (inside, e)) shown.worked in
       let last = stands_behind k c b w log (reached_deeds c doing doing.op r) b_config b_who entered in
       let one : u.steps ≡ v.steps + 1 = ap (λ (x : View). x.steps) first.view in
       record {
@@ -271,6 +278,7 @@ module _ (k : Config) (c : ℕ) (doing : Doing) (id : Speculation) (v : View) (c
         };
         stops = subst (λ b. StopsWhereMet v false b w) (sym (unstopped r running)) (shown_running doing v u w step);
         bounded = let le = ended.bounded in omega arith;
+        touches = touched_more (of_slot k id) v b w (slot_place id.slot) (touched_on (of_slot k id) v u b loaded worked) (ap (λ (x : View). x.touched) entered.view) (inr (inside, refl));
         acts = λ t. (ended.word, ended.acts);
         present = λ t. (
           record {

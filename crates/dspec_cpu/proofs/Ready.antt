@@ -30,7 +30,7 @@ use Rattle.dspec_side.proofs.Tallies.{drops_since}
 use Rattle.dspec_cpu.proofs.Limits.{limits}
 
 -- behind the last of them
-pub stands_behind : (k : Config) (c : ℕ) (v w : View) (log ds : List Deed) → v.config ≡ k → v.who ≡ of_cpu c → Entered v log ds w → Stands k c v ds w
+pub stands_behind : {place : ℕ} (k : Config) (c : ℕ) (v w : View) (log ds : List Deed) → v.config ≡ k → v.who ≡ of_cpu c → Entered place v log ds w → Stands k c v ds w
 stands_behind k c v w log ds config who entered =
     let own : w.own ≡ ds ++ v.own = ap (λ (x : View). x.own) entered.view in
     let seen : w.seen ≡ ds ++ log = ap (λ (x : View). x.seen) entered.view in

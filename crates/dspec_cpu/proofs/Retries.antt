@@ -18,10 +18,13 @@ use Rattle.dspec_table.specs.declared.rule.View.{View}
 use Rattle.dspec_table.specs.declared.doing.Doing.{Doing}
 use Rattle.dspec_table.specs.Holders.{of_cpu, number_of}
 use Rattle.dspec_table.specs.Conditions.{IsOn, IsInFlight, MayLoad, MayTry, Attempts}
+use Rattle.dspec_table.specs.Layout.{slot_place}
 use Rattle.dspec_table.specs.Steps.{Entered, LoadedWord, TriedWord}
 use Rattle.dspec_table.proofs.Flights.{quiet_word, loads_next, tries_next}
 use Rattle.dspec_cpu.specs.Calls.{rests, steps}
 use Rattle.dspec_cpu.specs.Reaching.{act_of, turns, is_attempt, releases_next, OwnsCommit, Shown}
+use Rattle.dspec_cpu.specs.Touching.{at_slot}
+use Rattle.dspec_cpu.proofs.Touching.{none_touched, touched_more}
 
 -- how many exchanges may come yet
 abbrev pub left : ℕ → Speculation → SlotState → ℕ
@@ -158,7 +161,7 @@ flies k v c slot doing id op.Service e f = absurd e
 module _ (k : Config) (c : ℕ) (doing : Doing) (id : Speculation) (slot : ℕ) (v : View) (config : v.config ≡ k) (who : v.who ≡ of_cpu c) where
   -- the first load
   pub loaded : (shown : SlotState) (w : View) → IsInFlight k v c doing id slot → LoadedWord doing slot v shown w → Shown k c doing id slot v shown false w
-  loaded shown w flight step = record { before = v; waited = rests; stays = refl; who = refl; config = refl; flight = flight; last = step }
+  loaded shown w flight step = record { before = v; waited = rests; stays = refl; who = refl; config = refl; flight = flight; last = step; worked = none_touched (at_slot slot) v }
 
   pub loaded_steps : (shown : SlotState) (w : View) → LoadedWord doing slot v shown w → w.steps + left (turns doing.op) id shown ≤ v.steps + turns doing.op
   loaded_steps shown w step =
@@ -170,8 +173,8 @@ module _ (k : Config) (c : ℕ) (doing : Doing) (id : Speculation) (slot : ℕ) 
     pub may_try : MayTry k w c doing slot word to
     may_try = tries_next k shows.before w c slot doing id word to (shows.who ∙ who) on shows.flight shows.last (attempts doing id doing.op word to on e)
 
-    none_yet : Entered shows.before shows.last.0 [] w
-    none_yet = subst (λ ds. Entered shows.before shows.last.0 ds w)
+    none_yet : Entered (slot_place slot) shows.before shows.last.0 [] w
+    none_yet = subst (λ ds. Entered (slot_place slot) shows.before shows.last.0 ds w)
         (quiet_word shows.before.config (number_of shows.before.who) slot doing word to doing.op (attempts doing id doing.op word to on e)) shows.last.3
 
     -- an exchange
@@ -184,6 +187,7 @@ module _ (k : Config) (c : ℕ) (doing : Doing) (id : Speculation) (slot : ℕ) 
       config = ap (λ (x : View). x.config) none_yet.view ∙ shows.config;
       flight = flies k w c slot doing id doing.op on may_try.0;
       last = step;
+      worked = touched_more (at_slot slot) v shows.before w (slot_place slot) shows.worked (ap (λ (x : View). x.touched) none_yet.view) refl;
     }
 
     -- one that failed leaves fewer, and no more steps than were left

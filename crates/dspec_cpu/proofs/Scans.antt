@@ -1,5 +1,5 @@
 -- The steps of a call of speculation.
-use Rattle.std.proofs.Common.{◌≡◌, ℕ, ◌+◌, ◌*◌, ◌<◌, ◌≤◌, ◌==◌, Bool, true, false, ◌||◌, List, [], ◌∷◌, ◌++◌, length, if◌then◌else◌, Option, Some, None, refl, sym, ap, ◌∙◌, subst, ⊎_elim, arith}
+use Rattle.std.proofs.Common.{◌≡◌, ℕ, ◌+◌, ◌*◌, ◌<◌, ◌≤◌, ◌==◌, Bool, true, false, ◌||◌, List, [], ◌∷◌, ◌++◌, length, if◌then◌else◌, Option, Some, None, refl, sym, ap, ◌∙◌, subst, ⊎_elim, inl, arith}
 use Rattle.dspec_word.specs.SpecId.{Speculation}
 use Rattle.dspec_deeds.specs.declared.config.Config.{Config}
 use Rattle.dspec_deeds.specs.declared.calls.CpuOp.{CpuOp}
@@ -13,6 +13,7 @@ use Rattle.dspec_deeds.proofs.TestLemmas.{either_way, number_is_itself, other_nu
 use Rattle.dspec_table.specs.declared.rule.View.{View}
 use Rattle.dspec_table.specs.Holders.{of_cpu, number_of}
 use Rattle.dspec_table.specs.Flights.{calling, flight_after}
+use Rattle.dspec_table.specs.Layout.{activity_place}
 use Rattle.dspec_table.specs.Steps.{Entered, LoadedActivity}
 use Rattle.dspec_table.proofs.Flights.{activity_enters, flight_by_last}
 use Rattle.dspec_cpu.specs.declared.scanning.Look.TheVariants as look
@@ -20,10 +21,12 @@ use Rattle.dspec_cpu.specs.Calls.{Goes, rests, steps}
 use Rattle.dspec_cpu.specs.Reached.{Stands}
 use Rattle.dspec_cpu.specs.Stops.{StopsWhereMet}
 use Rattle.dspec_cpu.specs.Scans.{any_busy, LookedAtSlot, Scanned, misses, opening_deeds, IsOpening, is_worn_opening}
+use Rattle.dspec_cpu.specs.Touching.{Touches, of_slots}
 use Rattle.dspec_cpu.proofs.Ready.{stands_behind, stands_called}
 use Rattle.dspec_cpu.proofs.Reaches.{goes_on}
 use Rattle.dspec_cpu.proofs.Stopping.{shown_stop, shown_running, heeded}
 use Rattle.dspec_cpu.proofs.Slots.{asked, stands_more}
+use Rattle.dspec_cpu.proofs.Touching.{slot_touched, touched_one}
 
 -- a scan came past so many slots, of which one was decided or none
 pub record Came (k : Config) (c : ℕ) (v : View) (n : ℕ) (busy : Bool) (w : View) : Type 0 where
@@ -34,19 +37,21 @@ pub record Came (k : Config) (c : ℕ) (v : View) (n : ℕ) (busy : Bool) (w : V
   pub stands : Stands k c v (misses c missed ++ Scan c true ∷ []) w
   pub runs : StopsWhereMet v false false w
   pub bounded : w.steps ≤ v.steps + 1 + 2 * n
+  pub touches : Touches (of_slots n) v w
 
 module _ (k : Config) (c : ℕ) (v : View) where
   -- the load of activity
   pub first : (b : Bool) (w : View) → v.config ≡ k → v.who ≡ of_cpu c → LoadedActivity asked v b w → (r : Bool) → (if b then false else true) ≡ r
-      → (ds : List Deed) → ds ≡ Scan c r ∷ [] → Goes v ds w × Stands k c v ds w × (w.steps ≡ v.steps + 1)
+      → (ds : List Deed) → ds ≡ Scan c r ∷ [] → Goes v ds w × Stands k c v ds w × (w.steps ≡ v.steps + 1) × (w.touched ≡ activity_place ∷ v.touched)
   first b w config who step r is ds e =
       let deeds : Scan (number_of v.who) (if b then false else true) ∷ [] ≡ ds = ap (λ n. Scan n (if b then false else true) ∷ []) (ap number_of who) ∙ (ap (λ x. Scan c x ∷ []) is ∙ sym e) in
-      let entered : Entered (calling op.Speculation v) step.0 ds w = subst (λ x. Entered (calling op.Speculation v) step.0 x w) deeds step.3 in
+      let entered : Entered activity_place (calling op.Speculation v) step.0 ds w = subst (λ x. Entered activity_place (calling op.Speculation v) step.0 x w) deeds step.3 in
       let same : flight_after k (Some op.Speculation) ds ≡ flight_after k v.flight ds =
       ap (flight_after k (Some op.Speculation)) e ∙ (flight_by_last k (Some op.Speculation) v.flight (Scan c r) [] [] ∙ ap (flight_after k v.flight) (sym e)) in (
         steps w ds ds step.0 rests step.1 (activity_enters asked v b w ds step deeds) (append_none ds),
         stands_called k c op.Speculation v w ds (stands_behind k c (calling op.Speculation v) w step.0 ds config who entered) same,
         ap (λ (x : View). x.steps) entered.view,
+        ap (λ (x : View). x.touched) entered.view,
       )
     where
       append_none : (l : List Deed) → l ≡ l ++ []
@@ -57,13 +62,32 @@ module _ (k : Config) (c : ℕ) (v : View) where
   runs w config who step =
       let r = first false w config who step true refl (Scan c true ∷ []) refl in
       let one = r.2 in
-      record { missed = []; count = refl; any = refl; goes = r.0; stands = r.1; runs = shown_running asked v w w step; bounded = omega arith }
+      record {
+        missed = [];
+        count = refl;
+        any = refl;
+        goes = r.0;
+        stands = r.1;
+        runs = shown_running asked v w w step;
+        bounded = omega arith;
+        touches = touched_one (of_slots 0) v w activity_place r.3 (inl refl);
+      }
 
   pub stops : (w : View) → v.config ≡ k → v.who ≡ of_cpu c → LoadedActivity asked v true w → Scanned k c v opening.Stopped false w
   stops w config who step =
       let r = first true w config who step false refl (Scan c false ∷ []) refl in
       let one = r.2 in
-      record { missed = []; any = refl; answer = refl; unworn = refl; goes = r.0; stands = r.1; stops = shown_stop asked v w step; bounded = omega arith }
+      record {
+        missed = [];
+        any = refl;
+        answer = refl;
+        unworn = refl;
+        goes = r.0;
+        stands = r.1;
+        stops = shown_stop asked v w step;
+        bounded = omega arith;
+        touches = touched_one (of_slots 0) v w activity_place r.3 (inl refl);
+      }
 
   -- a slot was missed
   pub goes_by : (n : ℕ) (busy b : Bool) (u w : View) → Came k c v n busy u → LookedAtSlot k c (n + 1) u (look.Missed b) w → Came k c v (n + 1) (b || busy) w
@@ -80,6 +104,7 @@ module _ (k : Config) (c : ℕ) (v : View) where
         stands = stands_more k c v u w (Miss c (length bs + 1) b) (misses c bs ++ Scan c true ∷ []) came.stands here.stands;
         runs = heeded v u w came.runs;
         bounded = omega arith;
+        touches = slot_touched n v u w came.touches looked.touches;
       }
 
   -- a slot was given out
@@ -98,6 +123,7 @@ module _ (k : Config) (c : ℕ) (v : View) where
         stands = stands_more k c v u w (Opened c id) (misses c came.missed ++ Scan c true ∷ []) came.stands looked.stands;
         stops = heeded v u w came.runs;
         bounded = omega arith;
+        touches = subst (λ (m : ℕ). Touches (of_slots m) v w) (sym at) (slot_touched n v u w came.touches looked.touches);
       }
 
   -- all were missed
@@ -112,6 +138,7 @@ module _ (k : Config) (c : ℕ) (v : View) where
         stands = came.stands;
         stops = came.runs;
         bounded = omega arith;
+        touches = subst (λ (m : ℕ). Touches (of_slots m) v w) all came.touches;
       })
   ends n false w all came a e = subst (λ (x : Opening). Scanned k c v x false w) (sym e)
       (let le = came.bounded in record {
@@ -123,6 +150,7 @@ module _ (k : Config) (c : ℕ) (v : View) where
         stands = came.stands;
         stops = came.runs;
         bounded = omega arith;
+        touches = subst (λ (m : ℕ). Touches (of_slots m) v w) all came.touches;
       })
 
 -- the slot that the call has come to behind so many Misses

@@ -14,6 +14,7 @@ use Rattle.dspec_table.specs.declared.rule.View.{View}
 use Rattle.dspec_table.specs.declared.doing.Doing.{Doing}
 use Rattle.dspec_table.specs.Holders.{of_cpu, number_of}
 use Rattle.dspec_table.specs.Acts as acts
+use Rattle.dspec_table.specs.Layout.{slot_place}
 use Rattle.dspec_table.specs.Steps.{Entered, LoadedWord, OpenedWord}
 use Rattle.dspec_table.proofs.Flights.{flight_by_last}
 use Rattle.dspec_cpu.specs.declared.scanning.Look.{Look}
@@ -21,7 +22,9 @@ use Rattle.dspec_cpu.specs.declared.scanning.Look.TheVariants as look
 use Rattle.dspec_cpu.specs.Calls.{rests, steps}
 use Rattle.dspec_cpu.specs.Reached.{Stands}
 use Rattle.dspec_cpu.specs.Scans.{LookedAtSlot, IsGivenAt, look_deed}
+use Rattle.dspec_cpu.specs.Touching.{at_slot}
 use Rattle.dspec_cpu.proofs.Ready.{stands_behind}
+use Rattle.dspec_cpu.proofs.Touching.{touched_more, touched_one}
 
 abbrev pub asked : Doing
 asked = record { op = op.Speculation; fits = false; count = 0; mine = false }
@@ -54,12 +57,13 @@ module _ (k : Config) (c slot : ℕ) (v : View) (config : v.config ≡ k) (who :
       ap (λ (x : Config). acts.miss_at (number_of v.who) slot shown (open_at shown x.max_issues)) config
       ∙ (ap (acts.miss_at (number_of v.who) slot shown) void
       ∙ (ap (λ n. Miss n slot (is_decided shown.code) ∷ []) (ap number_of who) ∙ ap (λ x. Miss c slot x ∷ []) (sym is))) in
-      let entered : Entered v step.0 (Miss c slot b ∷ []) w = subst (λ ds. Entered v step.0 ds w) deeds step.3 in
+      let entered : Entered (slot_place slot) v step.0 (Miss c slot b ∷ []) w = subst (λ ds. Entered (slot_place slot) v step.0 ds w) deeds step.3 in
       let one : w.steps ≡ v.steps + 1 = ap (λ (x : View). x.steps) entered.view in
       record {
         goes = steps w (Miss c slot b ∷ []) (Miss c slot b ∷ []) step.0 rests step.1 (inl entered) refl;
         stands = stands_behind k c v w step.0 (Miss c slot b ∷ []) config who entered;
         bounded = omega arith;
+        touches = touched_one (at_slot slot) v w (slot_place slot) (ap (λ (x : View). x.touched) entered.view) refl;
         given = tt;
       }
 
@@ -69,10 +73,11 @@ module _ (k : Config) (c slot : ℕ) (v : View) (config : v.config ≡ k) (who :
   tried from to shown hit u w load free step x deed at =
       let none : acts.miss_at (number_of v.who) slot from (open_at from v.config.max_issues) ≡ [] =
       ap (λ (y : Config). acts.miss_at (number_of v.who) slot from (open_at from y.max_issues)) config ∙ ap (acts.miss_at (number_of v.who) slot from) free in
-      let first : Entered v load.0 [] u = subst (λ ds. Entered v load.0 ds u) none load.3 in
+      let first : Entered (slot_place slot) v load.0 [] u = subst (λ ds. Entered (slot_place slot) v load.0 ds u) none load.3 in
       let u_config : u.config ≡ k = ap (λ (y : View). y.config) first.view ∙ config in
       let u_who : u.who ≡ of_cpu c = ap (λ (y : View). y.who) first.view ∙ who in
-      let entered : Entered u step.0 (look_deed c slot x ∷ []) w = subst (λ ds. Entered u step.0 ds w) (ap (λ n. acts.at_open n slot shown hit) (ap number_of u_who) ∙ deed) step.3 in
+      let entered : Entered (slot_place slot) u step.0 (look_deed c slot x ∷ []) w = subst (λ ds. Entered (slot_place slot) u step.0 ds w)
+      (ap (λ n. acts.at_open n slot shown hit) (ap number_of u_who) ∙ deed) step.3 in
       let last = stands_behind k c u w step.0 (look_deed c slot x ∷ []) u_config u_who entered in
       let one : u.steps ≡ v.steps + 1 = ap (λ (y : View). y.steps) first.view in
       let two : w.steps ≡ u.steps + 1 = ap (λ (y : View). y.steps) entered.view in
@@ -89,5 +94,7 @@ module _ (k : Config) (c slot : ℕ) (v : View) (config : v.config ≡ k) (who :
           flight = last.flight ∙ flight_by_last k u.flight v.flight (look_deed c slot x) [] [];
         };
         bounded = omega arith;
+        touches = touched_more (at_slot slot) v u w (slot_place slot) (touched_one (at_slot slot) v u (slot_place slot) (ap (λ (y : View). y.touched) first.view) refl)
+            (ap (λ (y : View). y.touched) entered.view) refl;
         given = at;
       }

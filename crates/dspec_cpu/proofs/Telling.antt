@@ -31,13 +31,14 @@ use Rattle.dspec_cpu.specs.Serving.{Serves}
 use Rattle.dspec_cpu.specs.Settled.{SettledBehind, SettledSlots, shown_at}
 use Rattle.dspec_cpu.specs.Stops.{is_stopped_decided, is_stopped_spoken, is_stopped_trace}
 use Rattle.dspec_cpu.specs.Switching.{Buffers, Switches, never, looked}
+use Rattle.dspec_cpu.specs.Touching.{last_looked, of_activity, of_slot, of_slots}
 use Rattle.dspec_cpu.proofs.Told.{trace_told, speculate_told, commit_told, discard_told, opening_told, settles, settles_told}
 
 -- steps of a seat put their deeds in front of its list
-entered_own : (v w : View) (log ds : List Deed) → Entered v log ds w → w.own ≡ ds ++ v.own
+entered_own : {place : ℕ} (v w : View) (log ds : List Deed) → Entered place v log ds w → w.own ≡ ds ++ v.own
 entered_own v w log ds e = ap (λ (x : View). x.own) e.view
 
-step_own : (v w : View) (log ds : List Deed) → EnteredIn v log ds w → w.own ≡ ds ++ v.own
+step_own : {place : ℕ} (v w : View) (log ds : List Deed) → EnteredIn place v log ds w → w.own ≡ ds ++ v.own
 step_own v w log ds e = ⊎_elim (λ h. entered_own v w log ds h) (λ h. entered_own (calling h.0.op v) w log ds h.2) e
 
 pub goes_own : {v w : View} {ds : List Deed} → Goes v ds w → w.own ≡ ds ++ v.own
@@ -54,25 +55,25 @@ module _ {S : Type 0} (has : Cpu S → List Deed → Type 0) (old new : Cpu S) (
       ap (λ n. did n (known (seat_of new)).own) same ∙ (ap (did (number_in old)) own ∙ is (known (seat_of old)).own) in
       λ i. record { done = done i; worn = w i }
 
-  pub traces_one : (r : Record) (a : Traced) → CallKeeps (is_worn_trace a) (is_stopped_trace a) 1 old new
+  pub traces_one : (r : Record) (a : Traced) → CallKeeps (is_worn_trace a) (is_stopped_trace a) 1 of_activity old new
       → Goes (known (seat_of old)) (traced_deeds (number_in old) r a) (known (seat_of new)) → ((p : List Deed) → has old p → has new (traced_deeds (number_in old) r a ++ p))
       → TracesOne has r a old new
   traces_one r a k g l = record { tells = tells _ _ _ (goes_own g) k.wears (trace_told (number_in old) r a); keeps = k; does = record { did = g; list = l } }
 
-  pub speculates_one : (id : Speculation) (r : Record) (a : Spoken) → CallKeeps (is_worn_spoken a) (is_stopped_spoken a) 4 old new
+  pub speculates_one : (id : Speculation) (r : Record) (a : Spoken) → CallKeeps (is_worn_spoken a) (is_stopped_spoken a) 4 (of_slot (config_of old) id) old new
       → Goes (known (seat_of old)) (spoken_deeds (number_in old) id r a) (known (seat_of new)) → ((p : List Deed) → has old p → has new (spoken_deeds (number_in old) id r a ++ p))
       → SpeculatesOne has id r a old new
   speculates_one id r a k g l = record { tells = tells _ _ _ (goes_own g) k.wears (speculate_told (number_in old) id r a); keeps = k; does = record { did = g; list = l } }
 
-  pub opens_one : (a : Opening) → CallKeeps (is_worn_opening a) (is_stopped_opening a) (1 + 2 * (config_of old).nspec) old new
+  pub opens_one : (a : Opening) → CallKeeps (is_worn_opening a) (is_stopped_opening a) (1 + 2 * (config_of old).nspec) (of_slots (last_looked (config_of old).nspec a)) old new
       → Opens (config_of old) (number_in old) a (has old) (known (seat_of old)) (has new) (known (seat_of new)) → OpensOne has a old new
   opens_one a k o = record { tells = tells [] _ _ (goes_own o.did) k.wears (opening_told (number_in old) o.missed a); keeps = k; opens = o }
 
-  pub commits_one : (id : Speculation) (a : Decided) → CallKeeps (is_worn_decided a) (is_stopped_decided a) 5 old new
+  pub commits_one : (id : Speculation) (a : Decided) → CallKeeps (is_worn_decided a) (is_stopped_decided a) 5 (of_slot (config_of old) id) old new
       → Decides (decision_deed commit (number_in old) id) id a (has old) (known (seat_of old)) (has new) (known (seat_of new)) → DecidesOne has commit id a old new
   commits_one id a k d = record { tells = tells _ _ _ (goes_own d.did) k.wears (commit_told (number_in old) id d.alone a); keeps = k; decides = d }
 
-  pub discards_one : (id : Speculation) (a : Decided) → CallKeeps (is_worn_decided a) (is_stopped_decided a) 5 old new
+  pub discards_one : (id : Speculation) (a : Decided) → CallKeeps (is_worn_decided a) (is_stopped_decided a) 5 (of_slot (config_of old) id) old new
       → Decides (decision_deed discard (number_in old) id) id a (has old) (known (seat_of old)) (has new) (known (seat_of new)) → DecidesOne has discard id a old new
   discards_one id a k d = record { tells = tells _ _ _ (goes_own d.did) k.wears (discard_told (number_in old) id d.alone a); keeps = k; decides = d }
 

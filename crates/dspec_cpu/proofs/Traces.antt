@@ -10,6 +10,7 @@ use Rattle.dspec_table.specs.declared.rule.View.{View}
 use Rattle.dspec_table.specs.declared.doing.Doing.{Doing}
 use Rattle.dspec_table.specs.Holders.{of_cpu, number_of}
 use Rattle.dspec_table.specs.Flights.{calling}
+use Rattle.dspec_table.specs.Layout.{activity_place}
 use Rattle.dspec_table.specs.Steps.{LoadedActivity, Entered}
 use Rattle.dspec_table.proofs.Flights.{activity_enters}
 use Rattle.dspec_cpu.specs.Calls.{Goes, rests, steps}
@@ -32,7 +33,7 @@ pub traces : (k : Config) (c : ℕ) (v w : View) (r : Record) (fit b : Bool) (f 
 traces k c v w r fit b f config who step is =
     let named : number_of v.who ≡ c = ap number_of who in
     let deeds : Trace (number_of v.who) r (fate fit b) ∷ [] ≡ Trace c r f ∷ [] = λ i. Trace (named i) r (is i) ∷ [] in
-    let entered : Entered (calling (op.Trace r) v) step.0 (Trace c r f ∷ []) w = subst (λ ds. Entered (calling (op.Trace r) v) step.0 ds w) deeds step.3 in
+    let entered : Entered activity_place (calling (op.Trace r) v) step.0 (Trace c r f ∷ []) w = subst (λ ds. Entered activity_place (calling (op.Trace r) v) step.0 ds w) deeds step.3 in
     record {
       goes = steps w (Trace c r f ∷ []) (Trace c r f ∷ []) step.0 rests step.1 (activity_enters (asked r fit) v b w (Trace c r f ∷ []) step deeds) refl;
       stands = stands_called k c (op.Trace r) v w (Trace c r f ∷ []) (stands_behind k c (calling (op.Trace r) v) w step.0 (Trace c r f ∷ []) config who entered) refl;

@@ -23,7 +23,8 @@ use Rattle.dspec_table.specs.Steps.{Found, EnteredIn}
 -- very call that was running, or with it
 pub data Goes (v : View) : List Deed → View → Type 0 where
   rests : Goes v [] v
-  steps : {u : View} {ds : List Deed} (w : View) (new all log : List Deed) → Goes v ds u → Found u log → EnteredIn u log new w → all ≡ new ++ ds → Goes v all w
+  steps : {u : View} {ds : List Deed} {place : ℕ} (w : View) (new all log : List Deed) → Goes v ds u → Found u log → EnteredIn place u log new w → all ≡ new ++ ds
+      → Goes v all w
 
 -- these deeds were done, and come in front of every list that the CPU had
 pub record Does (ds : List Deed) (had : List Deed → Type 0) (v : View) (has : List Deed → Type 0) (w : View) : Type 0 where

@@ -6,6 +6,7 @@ use Rattle.dspec_cpu.specs.declared.parts.CpuParts.{CpuParts as Cpu}
 use Rattle.dspec_cpu.specs.Lists.{calls_of, config_of, seat_of, worn_of}
 use Rattle.dspec_cpu.specs.Settled.{KeepsBatches}
 use Rattle.dspec_cpu.specs.Stops.{StopsWhereMet}
+use Rattle.dspec_cpu.specs.Touching.{Touches}
 
 -- one call more was answered Worn, and nothing else came of it: no step was made, no ring moved, no buffer touched
 abbrev pub WearsAlone : {S : Type 0} → Cpu S → Cpu S → Type 0
@@ -13,13 +14,14 @@ WearsAlone old new = new ≡ record old { side = record old.side { counts = reco
 
 -- What every call that counts keeps, by whether its answer is Worn and whether it is Stopped. It leaves what goes through the
 -- rings alone. It is worn exactly where the CPU had made all its calls: that is counted, and nothing else comes of it. It makes
--- so many steps at the most, and heeds a stop that its seat was shown.
-pub record CallKeeps {S : Type 0} (is_worn is_stopped : Bool) (most : ℕ) (old new : Cpu S) : Type 0 where
+-- so many steps at the most, each on a word whose place is within, and heeds a stop that its seat was shown.
+pub record CallKeeps {S : Type 0} (is_worn is_stopped : Bool) (most : ℕ) (within : ℕ → Type 0) (old new : Cpu S) : Type 0 where
   pub batches : KeepsBatches old new
   pub worn : (is_worn ≡ true) ↔ ((config_of old).max_calls ≤ calls_of old)
   pub untouched : is_worn ≡ true → WearsAlone old new
   pub wears : worn_of new ≡ worn_after is_worn (worn_of old)
   pub bounded : (known (seat_of new)).steps ≤ (known (seat_of old)).steps + most
+  pub touches : Touches within (known (seat_of old)) (known (seat_of new))
   pub stops : StopsWhereMet (known (seat_of old)) is_worn is_stopped (known (seat_of new))
 
 -- it saw more, and is else as it was: its buffers, its rings, the batch held back and the spare in hand, and what it counted

@@ -3,6 +3,7 @@ pub mod Lists
 pub mod Calls
 pub mod Dropped
 pub mod Stops
+pub mod Touching
 pub mod Reaching
 pub mod Reached
 pub mod Scans

@@ -22,6 +22,7 @@ use Rattle.dspec_cpu.specs.Scans.{Opens, is_worn_opening}
 use Rattle.dspec_cpu.specs.Serving.{Serves}
 use Rattle.dspec_cpu.specs.Stops.{is_stopped_decided, is_stopped_spoken, is_stopped_trace}
 use Rattle.dspec_cpu.specs.Switching.{buffers_of, most_moves}
+use Rattle.dspec_cpu.specs.Touching.{Touches, last_looked, of_activity, of_service, of_slot, of_slots}
 
 -- the deed of a decision, by the call that made it
 abbrev pub decision_deed : By → ℕ → Speculation → DecideFate → Deed
@@ -38,25 +39,25 @@ module _ {S : Type 0} (has : Cpu S → List Deed → Type 0) where
   -- a record was traced
   pub record TracesOne (r : Record) (a : Traced) (old new : Cpu S) : Type 0 where
     pub tells : called new ≡ with_trace r a (called old)
-    pub keeps : CallKeeps (is_worn_trace a) (is_stopped_trace a) 1 old new
+    pub keeps : CallKeeps (is_worn_trace a) (is_stopped_trace a) 1 of_activity old new
     pub does : Does (traced_deeds (number_in old) r a) (has old) (known (seat_of old)) (has new) (known (seat_of new))
 
   -- a record was offered to a speculation
   pub record SpeculatesOne (id : Speculation) (r : Record) (a : Spoken) (old new : Cpu S) : Type 0 where
     pub tells : called new ≡ with_speculate id r a (called old)
-    pub keeps : CallKeeps (is_worn_spoken a) (is_stopped_spoken a) 4 old new
+    pub keeps : CallKeeps (is_worn_spoken a) (is_stopped_spoken a) 4 (of_slot (config_of old) id) old new
     pub does : Does (spoken_deeds (number_in old) id r a) (has old) (known (seat_of old)) (has new) (known (seat_of new))
 
   -- a speculation was asked for
   pub record OpensOne (a : Opening) (old new : Cpu S) : Type 0 where
     pub tells : called new ≡ with_speculation a (called old)
-    pub keeps : CallKeeps (is_worn_opening a) (is_stopped_opening a) (1 + 2 * (config_of old).nspec) old new
+    pub keeps : CallKeeps (is_worn_opening a) (is_stopped_opening a) (1 + 2 * (config_of old).nspec) (of_slots (last_looked (config_of old).nspec a)) old new
     pub opens : Opens (config_of old) (number_in old) a (has old) (known (seat_of old)) (has new) (known (seat_of new))
 
   -- a speculation was committed or discarded
   pub record DecidesOne (b : By) (id : Speculation) (a : Decided) (old new : Cpu S) : Type 0 where
     pub tells : called new ≡ with_decision b id a (called old)
-    pub keeps : CallKeeps (is_worn_decided a) (is_stopped_decided a) 5 old new
+    pub keeps : CallKeeps (is_worn_decided a) (is_stopped_decided a) 5 (of_slot (config_of old) id) old new
     pub decides : Decides (decision_deed b (number_in old) id) id a (has old) (known (seat_of old)) (has new) (known (seat_of new))
 
   -- the CPU did what it owed
@@ -64,6 +65,7 @@ module _ {S : Type 0} (has : Cpu S → List Deed → Type 0) where
     pub tells : WithService a (called old) (called new)
     pub wears : worn_of new ≡ worn_of old
     pub bounded : (known (seat_of new)).steps ≤ (known (seat_of old)).steps + 1 + 2 * (config_of old).nspec
+    pub touches : Touches (of_service (config_of old) (number_in old)) (known (seat_of old)) (known (seat_of new))
     pub moves : (end_of new).moves ≤ (end_of old).moves + most_moves (held_back_of old)
     pub serves : Serves (config_of old) (number_in old) a (has old) (known (seat_of old)) (buffers_of old) (has new) (known (seat_of new)) (buffers_of new)
 

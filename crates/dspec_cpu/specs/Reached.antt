@@ -13,6 +13,7 @@ use Rattle.dspec_table.specs.Flights.{flight_after}
 use Rattle.dspec_cpu.specs.declared.reaching.Reach.{Reach}
 use Rattle.dspec_cpu.specs.Calls.{Goes}
 use Rattle.dspec_cpu.specs.Stops.{StopsWhereMet, is_stopped_reach}
+use Rattle.dspec_cpu.specs.Touching.{Touches, of_slot}
 use Rattle.dspec_cpu.specs.Reaching.{IsPresentAt, act_of, act_reached, is_reached, reached_deeds, releases_next, turns}
 
 -- behind the steps of a call that entered these deeds: what the seat has seen is legal, its list is its part of that, and in
@@ -32,5 +33,6 @@ pub record Reached (k : Config) (c : ℕ) (doing : Doing) (id : Speculation) (v 
   pub stands : Stands k c v (reached_deeds c doing doing.op r) w
   pub stops : StopsWhereMet v false (is_stopped_reach r) w
   pub bounded : w.steps + releases_next (act_reached r) ≤ v.steps + 1 + turns doing.op
+  pub touches : Touches (of_slot k id) v w
   pub acts : is_reached r ≡ true → (word : SlotState) × (act_of doing.op word doing.mine ≡ act_reached r)
   pub present : is_reached r ≡ true → IsPresentAt k c id v.own × (in_range k id ≡ true)

@@ -26,6 +26,7 @@ use Rattle.dspec_table.specs.Steps.{TriedWord}
 use Rattle.dspec_cpu.specs.declared.reaching.Reach.{Reach}
 use Rattle.dspec_cpu.specs.declared.reaching.Reach.TheVariants as reach
 use Rattle.dspec_cpu.specs.Calls.{Goes}
+use Rattle.dspec_cpu.specs.Touching.{Touches, at_slot}
 
 -- what the call does at the word of its slot
 abbrev pub act_of : CpuOp → SlotState → Bool → Act
@@ -52,7 +53,7 @@ abbrev pub releases_next : Act → ℕ
 releases_next (Attempt w) = if is_committing w.code then 1 else 0
 releases_next a = 0
 
--- the last step, behind some that entered nothing: it found this word, and entered its deeds by it
+-- the last step, behind some on the same word that entered nothing: it found this word, and entered its deeds by it
 pub record Shown (k : Config) (c : ℕ) (doing : Doing) (id : Speculation) (slot : ℕ) (v : View) (word : SlotState) (hit : Bool) (w : View) : Type 0 where
   pub before : View
   pub waited : Goes v [] before
@@ -61,6 +62,7 @@ pub record Shown (k : Config) (c : ℕ) (doing : Doing) (id : Speculation) (slot
   pub config : before.config ≡ v.config
   pub flight : IsInFlight k before c doing id slot
   pub last : TriedWord doing slot before word hit w
+  pub worked : Touches (at_slot slot) v before
 
 -- the steps on the word ended so: at a word that the table doesn't attempt, or by an exchange that it attempts
 pub record EndsAtWord (k : Config) (c : ℕ) (doing : Doing) (id : Speculation) (slot : ℕ) (v : View) (act : Act) (w : View) : Type 0 where

@@ -11,6 +11,7 @@ use Rattle.dspec_cpu.specs.declared.scanning.Look.TheVariants as look
 use Rattle.dspec_cpu.specs.Calls.{Goes}
 use Rattle.dspec_cpu.specs.Reached.{Stands}
 use Rattle.dspec_cpu.specs.Stops.{StopsWhereMet}
+use Rattle.dspec_cpu.specs.Touching.{Touches, at_slot, last_looked, of_slots}
 use Rattle.dspec_side.specs.Counting.{is_stopped_opening}
 
 -- the deed of one slot
@@ -28,6 +29,7 @@ pub record LookedAtSlot (k : Config) (c slot : ℕ) (v : View) (x : Look) (w : V
   pub goes : Goes v (look_deed c slot x ∷ []) w
   pub stands : Stands k c v (look_deed c slot x ∷ []) w
   pub bounded : w.steps ≤ v.steps + 2
+  pub touches : Touches (at_slot slot) v w
   pub given : IsGivenAt slot x
 
 -- the Misses of the first slots, the latest first: of each, whether the slot was decided
@@ -77,3 +79,4 @@ pub record Scanned (k : Config) (c : ℕ) (v : View) (a : Opening) (busy : Bool)
   pub stands : Stands k c v (opening_deeds c missed a) w
   pub stops : StopsWhereMet v false (is_stopped_opening a) w
   pub bounded : w.steps ≤ v.steps + 1 + 2 * k.nspec
+  pub touches : Touches (of_slots (last_looked k.nspec a)) v w

@@ -13,7 +13,8 @@ use dspec_word::SpecId;
 
 impl<S: Schema> Cpu<S> {
     /// Traces an accepted record into the active principal buffer. Worn: the CPU had made all its calls, and the record wasn't
-    /// offered. Stopped: the session was stopped. Dropped: it didn't fit the rest of the buffer.
+    /// offered. Stopped: the session was stopped. Dropped: it didn't fit the rest of the buffer. The one shared word that it
+    /// touches is activity.
     #[inline]
     pub fn trace(&mut self, shared: &Shared, rec: &Rec) -> Traced
         requires of { Belongs (words_of shared.now) (identity self.old) }
@@ -26,7 +27,8 @@ impl<S: Schema> Cpu<S> {
 
     /// Opens a speculation, in the first slot that is shown free. Worn: the CPU had made all its calls. Stopped: the session was
     /// stopped. Busy: every slot was missed, and one of them was decided and isn't released yet. Unavailable: every slot was
-    /// missed, and none was. It takes at most one step, and two for each slot.
+    /// missed, and none was. It takes at most one step, and two for each slot, and touches the word of no slot behind the one that
+    /// it gives out.
     #[inline]
     pub fn speculation(&mut self, shared: &Shared) -> Opening
         requires of { Belongs (words_of shared.now) (identity self.old) }
@@ -38,7 +40,7 @@ impl<S: Schema> Cpu<S> {
 
     /// Traces an accepted record into the CPU's buffer of a speculation. Worn: the CPU had made all its calls, and the record
     /// wasn't offered. Stopped: the session was stopped. Void: the identifier isn't open. Dropped: it didn't fit the rest of
-    /// that buffer; the CPU is a caller all the same.
+    /// that buffer; the CPU is a caller all the same. It touches activity and the word of the identifier's slot.
     #[inline]
     pub fn speculate(&mut self, shared: &Shared, id: SpecId, rec: &Rec) -> Spoken
         requires of { Belongs (words_of shared.now) (identity self.old) }
@@ -51,7 +53,8 @@ impl<S: Schema> Cpu<S> {
 
     /// Commits a speculation: the CPU's own block of it is copied whole to the active principal buffer, or lost where it doesn't
     /// fit, with the number of its records. Worn: the CPU had made all its calls. Stopped: the session was stopped. Void: the
-    /// identifier isn't open. Where no other CPU is a caller, the call releases the slot.
+    /// identifier isn't open. Where no other CPU is a caller, the call releases the slot. It touches activity and the word of the
+    /// identifier's slot.
     #[inline]
     pub fn commit(&mut self, shared: &Shared, id: SpecId) -> Decided
         requires of { Belongs (words_of shared.now) (identity self.old) }
@@ -63,7 +66,7 @@ impl<S: Schema> Cpu<S> {
 
     /// Discards a speculation: the CPU's own block of it is thrown away, with the number of its records. Worn: the CPU had made
     /// all its calls. Stopped: the session was stopped. Void: the identifier isn't open. Where the CPU is the one caller, the
-    /// exchange releases the slot.
+    /// exchange releases the slot. It touches activity and the word of the identifier's slot.
     #[inline]
     pub fn discard(&mut self, shared: &Shared, id: SpecId) -> Decided
         requires of { Belongs (words_of shared.now) (identity self.old) }
@@ -76,7 +79,8 @@ impl<S: Schema> Cpu<S> {
     /// Does what the CPU owes the consumer and the other CPUs: where the consumer asked for it, the principal buffers are
     /// switched (the Guide's chapter on buffers), and what was decided elsewhere is settled in the CPU's own buffers (its chapter
     /// on speculative tracing: "some time later"). The answer tells whether a batch was sealed, and how many speculations were
-    /// settled. It is never Worn, counts towards no bound on calls, and goes on after a stop.
+    /// settled. It is never Worn, counts towards no bound on calls, and goes on after a stop. It touches the CPU's ask, the slots'
+    /// words and the CPU's own acknowledgements.
     #[inline]
     pub fn service(&mut self, shared: &Shared) -> Served
         requires of { Belongs (words_of shared.now) (identity self.old) }

@@ -4,8 +4,9 @@ ghost use Rattle.dspec_deeds.specs.declared.deed.Deed.TheVariants.{Commit, Disca
 ghost use Rattle.dspec_table.specs.Seats.{known};
 ghost use Rattle.dspec_cpu.specs.Calls.{Decides, is_worn_decided};
 ghost use Rattle.dspec_cpu.specs.Keeping.{CallKeeps};
-ghost use Rattle.dspec_cpu.specs.Lists.{IsSameCpu, number_in, seat_of, words_of};
+ghost use Rattle.dspec_cpu.specs.Lists.{IsSameCpu, config_of, number_in, seat_of, words_of};
 ghost use Rattle.dspec_cpu.specs.Stops.{is_stopped_decided};
+ghost use Rattle.dspec_cpu.specs.Touching.{of_slot};
 
 use crate::callable::Callable;
 use crate::cpu::Cpu;
@@ -48,7 +49,7 @@ impl<S: Schema> CpuParts<S> {
         requires ready { ⟦<CpuParts<S> as Callable>⟧.is_ready (words_of shared.now) self.old }
         ensures ready { ⟦<CpuParts<S> as Callable>⟧.is_ready (words_of shared.now) self.new }
         ensures same { IsSameCpu self.old self.new }
-        ensures keeps { CallKeeps (is_worn_decided result) (is_stopped_decided result) 5 self.old self.new }
+        ensures keeps { CallKeeps (is_worn_decided result) (is_stopped_decided result) 5 (of_slot (config_of self.old) id) self.old self.new }
         ensures decides { Decides (Commit (number_in self.old) id) id result (⟦<Cpu<S> as Listed>⟧.has_list self.old) (known (seat_of self.old)) (⟦<Cpu<S> as Listed>⟧.has_list self.new) (known (seat_of self.new)) }
     {
         self.decide(shared, id, true)
@@ -59,7 +60,7 @@ impl<S: Schema> CpuParts<S> {
         requires ready { ⟦<CpuParts<S> as Callable>⟧.is_ready (words_of shared.now) self.old }
         ensures ready { ⟦<CpuParts<S> as Callable>⟧.is_ready (words_of shared.now) self.new }
         ensures same { IsSameCpu self.old self.new }
-        ensures keeps { CallKeeps (is_worn_decided result) (is_stopped_decided result) 5 self.old self.new }
+        ensures keeps { CallKeeps (is_worn_decided result) (is_stopped_decided result) 5 (of_slot (config_of self.old) id) self.old self.new }
         ensures decides { Decides (Discard (number_in self.old) id) id result (⟦<Cpu<S> as Listed>⟧.has_list self.old) (known (seat_of self.old)) (⟦<Cpu<S> as Listed>⟧.has_list self.new) (known (seat_of self.new)) }
     {
         self.decide(shared, id, false)
@@ -71,7 +72,7 @@ impl<S: Schema> CpuParts<S> {
         requires ready { ⟦<CpuParts<S> as Callable>⟧.is_ready (words_of shared.now) self.old }
         ensures ready { ⟦<CpuParts<S> as Callable>⟧.is_ready (words_of shared.now) self.new }
         ensures same { IsSameCpu self.old self.new }
-        ensures keeps { CallKeeps (is_worn_decided result) (is_stopped_decided result) 5 self.old self.new }
+        ensures keeps { CallKeeps (is_worn_decided result) (is_stopped_decided result) 5 (of_slot (config_of self.old) id) self.old self.new }
         ensures decides { Decides (if commits then Commit (number_in self.old) id else Discard (number_in self.old) id) id result (⟦<Cpu<S> as Listed>⟧.has_list self.old) (known (seat_of self.old)) (⟦<Cpu<S> as Listed>⟧.has_list self.new) (known (seat_of self.new)) }
     {
         if self.side.calls >= self.config.max_calls {

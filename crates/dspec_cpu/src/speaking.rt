@@ -5,8 +5,9 @@ ghost use Rattle.dspec_deeds.specs.Marks.{mark};
 ghost use Rattle.dspec_table.specs.Seats.{known};
 ghost use Rattle.dspec_cpu.specs.Calls.{Goes, spoken_deeds, is_worn_spoken};
 ghost use Rattle.dspec_cpu.specs.Keeping.{CallKeeps};
-ghost use Rattle.dspec_cpu.specs.Lists.{IsSameCpu, number_in, schema_of, seat_of, words_of};
+ghost use Rattle.dspec_cpu.specs.Lists.{IsSameCpu, config_of, number_in, schema_of, seat_of, words_of};
 ghost use Rattle.dspec_cpu.specs.Stops.{is_stopped_spoken};
+ghost use Rattle.dspec_cpu.specs.Touching.{of_slot};
 
 use crate::callable::Callable;
 use crate::cpu::Cpu;
@@ -26,7 +27,7 @@ impl<S: Schema> CpuParts<S> {
         requires accepted { IsTrue (S.accepted (schema_of self.old) (R.as_record rec)) }
         ensures ready { ⟦<CpuParts<S> as Callable>⟧.is_ready (words_of shared.now) self.new }
         ensures same { IsSameCpu self.old self.new }
-        ensures keeps { CallKeeps (is_worn_spoken result) (is_stopped_spoken result) 4 self.old self.new }
+        ensures keeps { CallKeeps (is_worn_spoken result) (is_stopped_spoken result) 4 (of_slot (config_of self.old) id) self.old self.new }
         ensures did { Goes (known (seat_of self.old)) (spoken_deeds (number_in self.old) id (R.as_record rec) result) (known (seat_of self.new)) }
         ensures list { (p : List Deed) → ⟦<Cpu<S> as Listed>⟧.has_list self.old p
             → ⟦<Cpu<S> as Listed>⟧.has_list self.new (spoken_deeds (number_in self.old) id (R.as_record rec) result ++ p) }
@@ -63,7 +64,7 @@ impl<S: Schema> CpuParts<S> {
         requires marked { mine ≡ true → slice_get self.old.side.marks (id.slot - 1) ≡ Some (id.issue + 1) }
         ensures ready { ⟦<CpuParts<S> as Callable>⟧.is_ready (words_of shared.now) self.new }
         ensures same { IsSameCpu self.old self.new }
-        ensures keeps { CallKeeps (is_worn_spoken result) (is_stopped_spoken result) 4 self.old self.new }
+        ensures keeps { CallKeeps (is_worn_spoken result) (is_stopped_spoken result) 4 (of_slot (config_of self.old) id) self.old self.new }
         ensures did { Goes (known (seat_of self.old)) (spoken_deeds (number_in self.old) id (R.as_record rec) result) (known (seat_of self.new)) }
         ensures list { (p : List Deed) → ⟦<Cpu<S> as Listed>⟧.has_list self.old p
             → ⟦<Cpu<S> as Listed>⟧.has_list self.new (spoken_deeds (number_in self.old) id (R.as_record rec) result ++ p) }

@@ -21,6 +21,7 @@ use Rattle.dspec_play.specs.Play.{same_word, consumer_step, next_slot, loads_slo
 use Rattle.dspec_table.specs.declared.rule.View.{View}
 use Rattle.dspec_play.proofs.StepsWords.{word_is_itself}
 use Rattle.dspec_table.specs.Acts.{at_stop}
+use Rattle.dspec_table.specs.Layout.{slot_place}
 use Rattle.dspec_table.specs.Steps.{Found, Entered, LookedWord}
 use Rattle.dspec_steps.specs.SameSteps.{slot_there, seat_cleans, ConsumerSeatStep, IsStepOfPlay}
 use Rattle.dspec_steps.proofs.SeatsDid.{IsBehind, bare_joined, did}
@@ -121,7 +122,7 @@ consumer_did v w (consumer.CleanReap s from n) (log, found, is, entered) = (
   log,
   found,
   did (λ x. if same_word x from then Release s ∷ [] else []) from (word_at s log) v w log is
-      (subst (λ b. Entered v log (if b then Release s ∷ [] else []) w) (sym (word_is_itself from)) entered),
+      (subst (λ b. Entered (slot_place s) v log (if b then Release s ∷ [] else []) w) (sym (word_is_itself from)) entered),
 )
 
 pub consumer_plays : (v w : View) (f : ConsumerFlight) → ConsumerSeatStep v f w

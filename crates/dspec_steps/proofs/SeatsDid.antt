@@ -44,7 +44,7 @@ bare_joined (d ∷ ds) h = ⊎_elim
     (either_way (is_seal d))
 
 -- a step entered what a table says of the thing shown
-pub did : {A : Type 0} (F : A → List Deed) (shown is : A) (v w : View) (log : List Deed) → shown ≡ is → Entered v log (F shown) w → IsBehind (F is) v.own log w
+pub did : {A : Type 0} {place : ℕ} (F : A → List Deed) (shown is : A) (v w : View) (log : List Deed) → shown ≡ is → Entered place v log (F shown) w → IsBehind (F is) v.own log w
 did F shown is v w log e entered = record {
   own = ap (λ (x : View). x.own) entered.view ∙ ap (λ x. F x ++ v.own) e;
   seen = ap (λ (x : View). x.seen) entered.view ∙ ap (λ x. F x ++ log) e;

@@ -109,14 +109,14 @@ loads_activity k slots id c me doing nspec who alone idle st kept homes at bound
     subst (λ (p : Config × Holder). Owes k p.1 log (at_activity p.0 (number_of p.1) doing doing.op (m == 1))) (λ i. (sym (its_config k log v (is_cpu v c who) mine) i, sym who i))
     (owes k c log doing nspec kept.sound kept.rests (idle_log k st kept id v c at who idle) doing.op (m == 1) (stopped_is log m kept.shows.active)) in
     let ds : List Deed = at_activity v.config (number_of v.who) doing doing.op (m == 1) in
-    let called : Entered (calling doing.op v) log ds (acted (calling doing.op v) log ds) = record {
+    let called : Entered activity_place (calling doing.op v) log ds (acted activity_place (calling doing.op v) log ds) = record {
       sound = subst (λ (x : Config). IsSound x (ds ++ log)) (sym (its_config k log v (is_cpu v c who) mine)) (sound_adds k v.who log ds kept.sound owe.adds);
       rests = owe.rests;
       own = part_adds k v.who log ds (is_cpu v c who) owe.adds ∙ ap (λ l. ds ++ l) mine.parts.0;
       call = activity_of v.config (number_of v.who) doing doing.op (m == 1);
       view = refl;
     } in (
-      acted (calling doing.op v) log (at_activity v.config (number_of v.who) doing doing.op (m == 1)),
+      acted activity_place (calling doing.op v) log (at_activity v.config (number_of v.who) doing doing.op (m == 1)),
       keeps,
       tt,
       acts_owed k st kept id v me.1 at alone (is_cpu v c who) ds activity_place (flight_after v.config (Some doing.op) ds) owe,

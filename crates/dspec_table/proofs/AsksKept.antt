@@ -74,7 +74,7 @@ stores_ask k slots id c n me lt who alone rises st kept homes at bound =
     λ xs least. at_ask (λ d. d < k.cpus → slice_index xs d ≤ slice_index new (ask_place k d)) c
     (λ l. let a = least c l in let b = mine.exact who c l in omega arith)
     (λ d apart l. let b = kept_at d apart in let m = least d l in omega arith) in (
-      with_asks v log [] asks,
+      with_asks (ask_place k c) v log [] asks,
       keeps,
       tt,
       acts_asking k st kept id v me.1 at alone is_me [] (ask_place k c) n asks v.flight tt kept.rests (ask_shows k old c n log kept.shows)
@@ -109,12 +109,13 @@ loads_ask k slots id c me lt who alone st kept homes at bound =
     let asks = with_ask v.asks (number_of v.who) n in
     let same = same_words st.words (ask_place k c) in
     let mine = kept.asks id v at in
+    let its : ask_place k c ≡ ask_place v.config (number_of v.who) = λ i. ask_place (sym (its_config k log v is_me (kept.knows id v at)) i) (sym c' i) in
     let shown : slice_index v.asks (number_of v.who) ≤ n = subst (λ (x : ℕ). slice_index v.asks x ≤ n) (sym c') (mine.least c lt) in (
-      with_asks v log [] asks,
+      with_asks (ask_place k c) v log [] asks,
       keeps,
       tt,
       acts_asking k st kept id v me.1 at alone is_me [] (ask_place k c) n asks v.flight tt kept.rests (subst (λ ws. Shows k ws log) (sym same) kept.shows)
-          (subst (λ ws. KnowsAsks k ws (with_asks v log [] asks)) (sym same) (record {
+          (subst (λ ws. KnowsAsks k ws (with_asks (ask_place k c) v log [] asks)) (sym same) (record {
             past = mine.past;
             least = subst (λ (x : ℕ). (d : ℕ) → d < k.cpus → slice_index (with_ask v.asks x n) d ≤ slice_index st.words (ask_place k d)) (sym c')
                 (at_ask (λ d. d < k.cpus → slice_index (with_ask v.asks c n) d ≤ slice_index st.words (ask_place k d)) c
@@ -123,5 +124,5 @@ loads_ask k slots id c me lt who alone st kept homes at bound =
             exact = λ is. absurd (cc (sym who ∙ is));
           }))
           (λ u other theirs. subst (λ ws. KnowsAsks k ws u) (sym same) theirs),
-      ((log, finds k st kept id v at is_me, shown, refl), refl),
+      ((log, finds k st kept id v at is_me, shown, ap (λ (p : ℕ). with_asks p v log [] asks) its), refl),
     )

@@ -62,11 +62,12 @@ pub record Changes (k : Config) (w : Holder) (s n : ℕ) (log ds : List Deed) : 
 -- an exchange of a slot's word keeps the rule: where it hits, the deeds change that word, and else they change none
 pub exchanges : (k : Config) (slots id s old new : ℕ) (me : Me ℕ View) (T : ℕ → Bool → View → Type 0) → same_holder me.0.who me.0.who ≡ true → me.0.also ≡ [] → 1 ≤ s → s ≤ k.nspec
     → ((st : State ℕ View) (kept : Kept k st) → get_elem? st.views id ≡ some me.0 → slice_index st.words (slot_place s) ≡ old
-    → (ds : List Deed) × Changes k me.0.who s new kept.log ds × AreOf me.0.flight ds × (Entered me.0 kept.log ds (acted me.0 kept.log ds)
-    → T (slice_index st.words (slot_place s)) true (acted me.0 kept.log ds)))
+    → (ds : List Deed) × Changes k me.0.who s new kept.log ds × AreOf me.0.flight ds × (Entered (slot_place s) me.0 kept.log ds (acted (slot_place s) me.0 kept.log ds)
+    → T (slice_index st.words (slot_place s)) true (acted (slot_place s) me.0 kept.log ds)))
     → ((st : State ℕ View) (kept : Kept k st) → get_elem? st.views id ≡ some me.0 → slice_index st.words (slot_place s) ≢ old
     → (ds : List Deed) × Owes k me.0.who kept.log ds × AreOf me.0.flight ds
-    × (Entered me.0 kept.log ds (acted me.0 kept.log ds) → T (slice_index st.words (slot_place s)) false (acted me.0 kept.log ds)))
+    × (Entered (slot_place s) me.0 kept.log ds (acted (slot_place s) me.0 kept.log ds)
+    → T (slice_index st.words (slot_place s)) false (acted (slot_place s) me.0 kept.log ds)))
     → Allows (Kept k) slots id me (slot_place s) (λ n. either (n == old) new n) (λ n w. T n (n == old) w.0 × (w.1 ≡ me.1))
 exchanges k slots id s old new me T who alone one most hit miss st kept homes at bound =
     let n = slice_index st.words (slot_place s) in
@@ -77,24 +78,24 @@ exchanges k slots id s old new me T who alone one most hit miss st kept homes at
     let r = hit st kept at (same_number n old t) in
     let owe = r.1 in
     let done : Goal true = (
-      acted me.0 kept.log r.0,
+      acted (slot_place s) me.0 kept.log r.0,
       keeps,
       tt,
       acts k st kept id me.0 me.1 at alone who r.0 (slot_place s) new owe.adds owe.rests
           (change_shows k st.words s new kept.log (r.0 ++ kept.log) one most owe.now owe.change kept.shows)
           (leaves_asks k st.words (slot_place s) new (omega arith)),
-      (r.3 (enters k st kept id me.0 at who r.0 owe.adds owe.rests r.2), refl),
+      (r.3 (enters k st kept id me.0 at who r.0 (slot_place s) owe.adds owe.rests r.2), refl),
     ) in
     subst Goal (sym t) done)
     (λ (f : (n == old) ≡ false).
     let apart : n ≢ old = grind (arith, nat_tests) in
     let r = miss st kept at apart in
     let done : Goal false = (
-      acted me.0 kept.log r.0,
+      acted (slot_place s) me.0 kept.log r.0,
       keeps,
       tt,
       acts_owed k st kept id me.0 me.1 at alone who r.0 (slot_place s) (flight_after me.0.config me.0.flight r.0) r.1,
-      (r.3 (enters_owed k st kept id me.0 at who r.0 r.1 r.2), refl),
+      (r.3 (enters_owed k st kept id me.0 at who r.0 (slot_place s) r.1 r.2), refl),
     ) in
     subst Goal (sym f) done)
     (either_way (n == old))

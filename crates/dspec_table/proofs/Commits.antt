@@ -21,7 +21,8 @@ use Rattle.dspec_table.specs.declared.doing.Doing.{Doing}
 use Rattle.dspec_table.specs.Holders.{of_cpu, number_of}
 use Rattle.dspec_table.specs.Acts.{fate_of_commit, at_hit}
 use Rattle.dspec_table.specs.Conditions.{MayLoad, Attempts, IsDeciding, OwnCommit, IfCommitting}
-use Rattle.dspec_table.specs.Steps.{Entered}
+use Rattle.dspec_table.specs.Layout.{slot_place}
+use Rattle.dspec_table.specs.Steps.{acted, Entered}
 use Rattle.dspec_table.proofs.Limits.{issue_below}
 
 attempt_is : (a b : SlotState) → Attempt a ≡ Attempt b → a ≡ b
@@ -75,13 +76,13 @@ fate_commits doing = go doing.fits
     go false = refl
 
 module _ (k : Config) (c slot : ℕ) (v w : View) (doing : Doing) (from to : SlotState) (log : List Deed) (who : v.who ≡ of_cpu c) (same : v.config ≡ k) (shown : word_at slot w.seen ≡ to) where
-  own_commit : (id : Speculation) → Entered v log (Commit (number_of v.who) id (fate_of_commit doing) ∷ []) w → id.slot ≡ slot → scan k c v.own ≡ 0 → to.issue ≡ id.issue
+  own_commit : (id : Speculation) → Entered (slot_place slot) v log (Commit (number_of v.who) id (fate_of_commit doing) ∷ []) w → id.slot ≡ slot → scan k c v.own ≡ 0 → to.issue ≡ id.issue
       → to.code ≡ Committing → OwnCommit k w c record { issue = to.issue; slot = slot }
   own_commit id entered at idle issues is =
       let f = fate_of_commit doing in
       let d : Deed = Commit c id f in
       let me : number_of v.who ≡ c = ap number_of who in
-      let view : w ≡ Rattle.dspec_table.specs.Steps.acted v log (d ∷ []) = entered.view ∙ ap (λ (n : ℕ). Rattle.dspec_table.specs.Steps.acted v log (Commit n id f ∷ [])) me in
+      let view : w ≡ acted (slot_place slot) v log (d ∷ []) = entered.view ∙ ap (λ (n : ℕ). acted (slot_place slot) v log (Commit n id f ∷ [])) me in
       let seen : w.seen ≡ d ∷ log = ap (λ (x : View). x.seen) view in
       let tells = committing_tells slot w.seen (ap (λ (x : SlotState). x.code) shown ∙ is) in
       let now : present slot w.seen ≡ record { issue = to.issue; slot = slot } = λ i. record { issue = (shown i).issue; slot = slot } in
@@ -100,11 +101,11 @@ module _ (k : Config) (c slot : ℕ) (v w : View) (doing : Doing) (from to : Slo
         alone = subst (λ j. solo j w.seen ≡ Some c) now (tells.1.alone ∙ ap (λ x. Some x) mine);
       }
 
-  pub releases_next : (o : CpuOp) → Entered v log (at_hit (number_of v.who) doing from o) w → MayLoad k v c doing slot o → Attempts doing from to o → IsDeciding o
+  pub releases_next : (o : CpuOp) → Entered (slot_place slot) v log (at_hit (number_of v.who) doing from o) w → MayLoad k v c doing slot o → Attempts doing from to o → IsDeciding o
       → IfCommitting to.code (OwnCommit k w c record { issue = to.issue; slot = slot })
   releases_next o entered may attempts decides = go o entered may attempts decides to.code refl
     where
-      go : (o : CpuOp) → Entered v log (at_hit (number_of v.who) doing from o) w → MayLoad k v c doing slot o → Attempts doing from to o → IsDeciding o → (x : Code)
+      go : (o : CpuOp) → Entered (slot_place slot) v log (at_hit (number_of v.who) doing from o) w → MayLoad k v c doing slot o → Attempts doing from to o → IsDeciding o → (x : Code)
           → to.code ≡ x → IfCommitting x (OwnCommit k w c record { issue = to.issue; slot = slot })
       go (op.Commit id) entered may attempts decides Committing e = own_commit id entered may.0 may.1 (committed_issue from to id doing.mine attempts) e
       go (op.Discard id) entered may attempts decides Committing e = absurd (discards_apart from to id doing.mine attempts e)

@@ -21,7 +21,7 @@ pub dealt_one : (k : Config) (c : ℕ) → c < k.cpus → dealt (dealing k c) �
 dealt_one k c lt = ap (λ l. first_of_those k l) (more_cpus c k.cpus lt)
 
 pub dealt_rest : (k : Config) (c : ℕ) → c < k.cpus → without (dealing k c) ≡ dealing k (c + 1)
-dealt_rest k c lt = ap (λ l. record { config = k; who = (dealing k c).who; own = []; also = others l; seen = []; told = []; flight = None; steps = 0; asks = []; past = [] }) (more_cpus c k.cpus lt)
+dealt_rest k c lt = ap (λ l. record (dealing k c) { also = others l }) (more_cpus c k.cpus lt)
 
 pub deals_next : (key k : Config) (id c : ℕ) (v : View) → v ≡ dealing k c → c < k.cpus → Splits (Kept key) id v (without v) (dealt v)
 deals_next key k id c v is lt = subst (λ (x : View). Splits (Kept key) id x (without x) (dealt x)) (sym is)

@@ -21,6 +21,7 @@ use Rattle.dspec_table.specs.Since.{Since}
 use Rattle.dspec_table.specs.Acts.{at_activity, at_word, speaks, void_commit, void_discard}
 use Rattle.dspec_table.specs.Conditions.{IsOn, IsInFlight, MayLoad, MayTry, Attempts, more_callers, joined_word}
 use Rattle.dspec_table.specs.Flights.{calling, flight_after}
+use Rattle.dspec_table.specs.Layout.{activity_place, slot_place}
 use Rattle.dspec_table.specs.Steps.{acted, Entered, EnteredIn, LoadedActivity, LoadedWord}
 use Rattle.dspec_table.proofs.Keeps.{late_since}
 
@@ -41,8 +42,9 @@ flight_by_last k f g Halt ds es = refl
 
 -- a load of activity as a step of a chain
 pub activity_enters : (doing : Doing) (v : View) (stopped : Bool) (w : View) (ds : List Deed) (step : LoadedActivity doing v stopped w)
-    → at_activity v.config (number_of v.who) doing doing.op stopped ≡ ds → EnteredIn v step.0 ds w
-activity_enters doing v stopped w ds step e = inr (doing, sym e ∙ ap (at_activity v.config (number_of v.who) doing doing.op) step.2, subst (λ x. Entered (calling doing.op v) step.0 x w) e step.3)
+    → at_activity v.config (number_of v.who) doing doing.op stopped ≡ ds → EnteredIn activity_place v step.0 ds w
+activity_enters doing v stopped w ds step e =
+    inr (doing, sym e ∙ ap (at_activity v.config (number_of v.who) doing doing.op) step.2, subst (λ x. Entered activity_place (calling doing.op v) step.0 x w) e step.3)
 
 -- a load of activity that is running enters nothing
 pub quiet_activity : (k : Config) (c : ℕ) (doing : Doing) (id : Speculation) (o : CpuOp) → in_range k id ≡ true → IsOn id o → at_activity k c doing o false ≡ []
@@ -81,7 +83,7 @@ in_flight k v w c doing id config inside on idle mine step =
     let log = step.0 in
     let none : at_activity v.config (number_of v.who) doing doing.op false ≡ [] =
     quiet_activity v.config (number_of v.who) doing id doing.op (subst (λ (x : Config). in_range x id ≡ true) (sym config) inside) on in
-    let view : w ≡ acted (calling doing.op v) log [] = step.3.view ∙ ap (acted (calling doing.op v) log) none in
+    let view : w ≡ acted activity_place (calling doing.op v) log [] = step.3.view ∙ ap (acted activity_place (calling doing.op v) log) none in
     let own : w.own ≡ v.own = ap (λ (x : View). x.own) view in
     let seen : w.seen ≡ log = ap (λ (x : View). x.seen) view in (
       refl,
@@ -92,7 +94,7 @@ in_flight k v w c doing id config inside on idle mine step =
     )
 
 -- behind a load of the word, or an exchange that failed, that showed a word which the table attempts
-goes_on : (k : Config) (v w : View) (c slot : ℕ) (doing : Doing) (log : List Deed) (o : CpuOp) → (to shown : SlotState) → w ≡ acted v log [] → late c log ≡ late c v.seen
+goes_on : (k : Config) (v w : View) (c slot : ℕ) (doing : Doing) (log : List Deed) (o : CpuOp) → (to shown : SlotState) → w ≡ acted (slot_place slot) v log [] → late c log ≡ late c v.seen
     → MayLoad k v c doing slot o → Attempts doing shown to o → MayLoad k w c doing slot o
 goes_on k v w c slot doing log o to shown view early may attempts = go o may attempts
   where
@@ -129,7 +131,7 @@ pub tries_again : (k : Config) (v w : View) (c slot : ℕ) (doing : Doing) (show
 tries_again k v w c slot doing shown to who may step attempts =
     let log = step.0 in
     let none : at_word v.config (number_of v.who) doing slot shown doing.op ≡ [] = quiet_word v.config (number_of v.who) slot doing shown to doing.op attempts in
-    let view : w ≡ acted v log [] = step.3.view ∙ ap (acted v log) none in
+    let view : w ≡ acted (slot_place slot) v log [] = step.3.view ∙ ap (acted (slot_place slot) v log) none in
     let runs = on_time k v c slot doing doing.op to shown may attempts in
     let early : late c log ≡ false = late_since c v.seen log runs (subst (λ x. Since x v.seen log) who step.1.since) in (
       (goes_on k v w c slot doing log doing.op to shown view (early ∙ sym runs) may attempts, attempts, step.2 ∙ ap (λ (x : View). word_at slot x.seen) (sym view)),

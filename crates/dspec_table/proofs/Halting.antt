@@ -59,10 +59,10 @@ stops k slots id me who alone st kept homes at bound =
     let is_me : same_holder v.who v.who ≡ true = subst (λ x. same_holder x x ≡ true) (sym who) refl in
     let owe = stops_log k log (halted log) refl kept.rests in
     let adds : Adds k v.who log (at_stop (halted log)) = subst (λ x. Adds k x log (at_stop (halted log))) (sym who) owe.0 in (
-      acted v log (at_stop (halted log)),
+      acted activity_place v log (at_stop (halted log)),
       keeps,
       tt,
       acts k st kept id v me.1 at alone is_me (at_stop (halted log)) activity_place 1 adds owe.1 (stop_shows k st.words log (halted log) refl kept.shows)
           (leaves_asks k st.words activity_place 1 (omega arith)),
-      ((log, finds k st kept id v at is_me, enters k st kept id v at is_me (at_stop (halted log)) adds owe.1 (stop_of v.flight (halted log))), refl),
+      ((log, finds k st kept id v at is_me, enters k st kept id v at is_me (at_stop (halted log)) activity_place adds owe.1 (stop_of v.flight (halted log))), refl),
     )

@@ -204,7 +204,7 @@ loads_word k slots id c slot me doing one most who alone may = loads k slots id 
           log,
           finds k st kept id v at (is_cpu v c who),
           refl,
-          enters_owed k st kept id v at (is_cpu v c who) _ owe
+          enters_owed k st kept id v at (is_cpu v c who) _ (slot_place slot) owe
               (word_of k v c doing slot v.config (number_of v.who) shown doing.op refl may),
         ),
       ),

@@ -33,7 +33,7 @@ use Rattle.dspec_table.specs.Rule.{Kept}
 use Rattle.dspec_table.specs.Showing.{Shows}
 use Rattle.dspec_table.specs.Since.{Since, here, more}
 use Rattle.dspec_table.specs.Layout.{slot_place, activity_place, group_place, ack_place, ask_place}
-use Rattle.dspec_table.specs.Steps.{acted, SettledWord, StoredAck}
+use Rattle.dspec_table.specs.Steps.{acted, Found, Entered, StoredAck}
 use Rattle.dspec_table.specs.Holders.{number_of}
 use Rattle.dspec_table.specs.Acts.{fate_of_settlement}
 use Rattle.dspec_table.specs.Conditions.{MaySettle}
@@ -105,7 +105,8 @@ fate_is doing ActiveMany e = absurd (true≢false (sym e))
 fate_is doing Committing e = absurd (true≢false (sym e))
 
 pub settles_word : (k : Config) (slots id c : ℕ) (me : Me ℕ View) (doing : Doing) (spec : Speculation) → c < k.cpus → me.0.who ≡ of_cpu c → me.0.also ≡ [] → MaySettle k me.0 c spec
-    → Allows (Kept k) slots id me (ack_place k c spec.slot) (λ _. spec.issue + 1) (λ _ w. SettledWord doing spec (word_at spec.slot me.0.seen).code me.0 w.0 × (w.1 ≡ me.1))
+    → Allows (Kept k) slots id me (ack_place k c spec.slot) (λ _. spec.issue + 1) (λ _ w. ((log : List Deed) × Found me.0 log
+    × Entered (ack_place k c spec.slot) me.0 log (Settle (number_of me.0.who) spec (fate_of_settlement doing (word_at spec.slot me.0.seen).code) ∷ []) w.0) × (w.1 ≡ me.1))
 settles_word k slots id c me doing spec lt who alone may st kept homes at bound =
     let v = me.0 in
     let log = kept.log in
@@ -138,11 +139,11 @@ settles_word k slots id c me doing spec lt who alone may st kept homes at bound 
     (ack_shows k st.words c s (spec.issue + 1) log (Settle c spec f ∷ log) lt one most
     (record { active = refl; slots = λ t. refl; now = rw (number_is_itself c, number_is_itself s) refl; others = λ d t e. rw e refl })
     kept.shows) in (
-      acted v log ds,
+      acted (ack_place k c s) v log ds,
       keeps,
       tt,
       acts k st kept id v me.1 at alone (is_cpu v c who) ds (ack_place k c s) (spec.issue + 1) adds refl shows (leaves_all_asks k st.words c s (spec.issue + 1) one most),
-      ((log, finds k st kept id v at (is_cpu v c who), enters k st kept id v at (is_cpu v c who) ds adds refl (tt, tt)), refl),
+      ((log, finds k st kept id v at (is_cpu v c who), enters k st kept id v at (is_cpu v c who) ds (ack_place k c s) adds refl (tt, tt)), refl),
     )
   where
     not_yet : (b : Bool) → not b ≡ true → b ≡ false

@@ -14,14 +14,14 @@ with_ask (x ∷ xs) (suc c) n = x ∷ with_ask xs c n
 
 -- the consumer asks
 abbrev pub StoredAsk : ℕ → ℕ → View → View → Type 0
-StoredAsk c n v w = (log : List Deed) × Found v log × (w ≡ with_asks v log [] (with_ask v.asks c n))
+StoredAsk c n v w = (log : List Deed) × Found v log × (w ≡ with_asks (ask_place v.config c) v log [] (with_ask v.asks c n))
 
 -- the same, of whichever CPU the word is of
 abbrev pub StoredAskAt : ℕ → View → ℕ → View → Type 0
 StoredAskAt place v n w =
     (log : List Deed) × (asks : List ℕ) × Found v log × ((c : ℕ) → place ≡ ask_place v.config c → asks ≡ with_ask v.asks c n)
-    × (w ≡ with_asks v log [] asks)
+    × (w ≡ with_asks place v log [] asks)
 
 -- a CPU is shown an ask that is no less than any that it knew
 abbrev pub LoadedAsk : ℕ → View → ℕ → View → Type 0
-LoadedAsk c v n w = (log : List Deed) × Found v log × (slice_index v.asks c ≤ n) × (w ≡ with_asks v log [] (with_ask v.asks c n))
+LoadedAsk c v n w = (log : List Deed) × Found v log × (slice_index v.asks c ≤ n) × (w ≡ with_asks (ask_place v.config c) v log [] (with_ask v.asks c n))

@@ -6,6 +6,7 @@ use Rattle.dspec_deeds.specs.Legal.{IsSound}
 use Rattle.dspec_table.specs.declared.rule.View.{View}
 use Rattle.dspec_table.specs.Holders.{part_of, of_nobody}
 use Rattle.dspec_table.specs.Since.{Since}
+use Rattle.dspec_table.specs.Layout.{activity_place}
 use Rattle.dspec_table.specs.Notes.{greater}
 use Rattle.dspec_table.specs.Steps.{with_asks, acted}
 
@@ -24,5 +25,5 @@ pub record Met (cpu consumer cpu_after consumer_after : View) : Type 0 where
   pub consumer_before : Since of_nobody consumer.seen both
   pub consumer_since : Since consumer.who consumer.seen later
   pub both_before : Since of_nobody both later
-  pub cpu_is : cpu_after ≡ with_asks cpu both [] (greater cpu.asks consumer.asks)
-  pub consumer_is : consumer_after ≡ acted consumer later []
+  pub cpu_is : cpu_after ≡ with_asks activity_place cpu both [] (greater cpu.asks consumer.asks)
+  pub consumer_is : consumer_after ≡ acted activity_place consumer later []

@@ -81,4 +81,4 @@ cpus_from a zero = []
 cpus_from a (suc n) = (of_cpu a, []) ∷ cpus_from (suc a) n
 
 abbrev pub newcomer : Config → View
-newcomer k = record { config = k; who = of_consumer; own = []; also = cpus_from 0 k.cpus; seen = []; told = []; flight = None; steps = 0; asks = []; past = [] }
+newcomer k = record { config = k; who = of_consumer; own = []; also = cpus_from 0 k.cpus; seen = []; told = []; flight = None; steps = 0; touched = []; asks = []; past = [] }

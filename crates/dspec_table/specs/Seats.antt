@@ -34,13 +34,13 @@ IsConsumerAt words s = (s.seat.table_id ≡ words.board.shared.table_id) × ((kn
 
 -- a CPU's seat before its first step, and the consumer's when the CPUs' are dealt out
 abbrev pub fresh_seat : Config → ℕ → View
-fresh_seat k c = record { config = k; who = of_cpu c; own = []; also = []; seen = []; told = []; flight = None; steps = 0; asks = []; past = [] }
+fresh_seat k c = record { config = k; who = of_cpu c; own = []; also = []; seen = []; told = []; flight = None; steps = 0; touched = []; asks = []; past = [] }
 
 abbrev pub dealing : Config → ℕ → View
-dealing k c = record { config = k; who = of_consumer; own = []; also = cpus_from c (k.cpus - c); seen = []; told = []; flight = None; steps = 0; asks = []; past = [] }
+dealing k c = record { config = k; who = of_consumer; own = []; also = cpus_from c (k.cpus - c); seen = []; told = []; flight = None; steps = 0; touched = []; asks = []; past = [] }
 
 abbrev pub last_seat : Config → View
-last_seat k = record { config = k; who = of_consumer; own = []; also = []; seen = []; told = []; flight = None; steps = 0; asks = []; past = [] }
+last_seat k = record { config = k; who = of_consumer; own = []; also = []; seen = []; told = []; flight = None; steps = 0; touched = []; asks = []; past = [] }
 
 abbrev pub DealtSeats : TableId → Config → List CpuSeat → Type 0
 DealtSeats z k seats = (c : ℕ) (s : CpuSeat) → slice_get seats c ≡ Some s → (s.seat.table_id ≡ z) × (s.cpu ≡ c) × (known s ≡ fresh_seat k c)

@@ -13,14 +13,15 @@ use Rattle.dspec_table.specs.declared.seats.CpuSeat.{CpuSeat}
 use Rattle.dspec_table.specs.declared.seats.Words.{Words}
 use Rattle.dspec_table.specs.Holders.{part_of, of_nobody, number_of}
 use Rattle.dspec_table.specs.Since.{Since}
-use Rattle.dspec_table.specs.Layout.{ack_place}
+use Rattle.dspec_table.specs.Layout.{activity_place, slot_place, ack_place}
 use Rattle.dspec_table.specs.Flights.{AreOf, flight_after, calling}
 use Rattle.dspec_table.specs.Acts.{at_activity, at_word, at_open, at_exchange, fate_of_settlement, at_stop}
 use Rattle.dspec_table.specs.Seats.{known, IsAt, cpu_of}
 
--- the view after deeds of its own behind the list that the step found, where it then knows these asks
-abbrev pub with_asks : View → List Deed → List Deed → List ℕ → View
-with_asks v log ds asks = record {
+-- the view after a step on the word at that place, with deeds of its own behind the list that the step found, where it then knows
+-- these asks
+abbrev pub with_asks : ℕ → View → List Deed → List Deed → List ℕ → View
+with_asks place v log ds asks = record {
   config = v.config;
   who = v.who;
   own = ds ++ v.own;
@@ -29,13 +30,14 @@ with_asks v log ds asks = record {
   told = [];
   flight = flight_after v.config v.flight ds;
   steps = v.steps + 1;
+  touched = place ∷ v.touched;
   asks = asks;
   past = v.past;
 }
 
 -- the same with the asks that it knew
-abbrev pub acted : View → List Deed → List Deed → View
-acted v log ds = with_asks v log ds v.asks
+abbrev pub acted : ℕ → View → List Deed → List Deed → View
+acted place v log ds = with_asks place v log ds v.asks
 
 -- the list that the step found: it is legal, it goes on from what the seat had seen and from what a note had told it, by
 -- deeds of others, and the seat's part of it is the seat's list
@@ -48,32 +50,32 @@ pub record Found (v : View) (log : List Deed) : Type 0 where
   pub calm : owed v.seen ≡ 0
 
 -- the list that the step left is legal and owes nothing, the seat's part of it is the seat's list, the deeds of a call are of
--- the one in flight, and the view is the one behind its deeds
-pub record Entered (v : View) (log ds : List Deed) (w : View) : Type 0 where
+-- the one in flight, and the view is the one behind its deeds, with the place of the step
+pub record Entered (place : ℕ) (v : View) (log ds : List Deed) (w : View) : Type 0 where
   pub sound : IsSound v.config (ds ++ log)
   pub rests : owed (ds ++ log) ≡ 0
   pub own : part_of v.who (ds ++ log) ≡ ds ++ v.own
   pub call : AreOf v.flight ds
-  pub view : w ≡ acted v log ds
+  pub view : w ≡ acted place v log ds
 
 -- what a step of a chain enters: a load of activity enters its call's deeds with that call in flight, any other step what it
 -- enters with the one that was
-abbrev pub EnteredIn : View → List Deed → List Deed → View → Type 0
-EnteredIn v log ds w =
-    Entered v log ds w
-    ⊎ ((doing : Doing) × (ds ≡ at_activity v.config (number_of v.who) doing doing.op (halted log)) × Entered (calling doing.op v) log ds w)
+abbrev pub EnteredIn : ℕ → View → List Deed → List Deed → View → Type 0
+EnteredIn place v log ds w =
+    Entered place v log ds w
+    ⊎ ((doing : Doing) × (ds ≡ at_activity v.config (number_of v.who) doing doing.op (halted log)) × Entered place (calling doing.op v) log ds w)
 
 -- the steps of a CPU
 
 abbrev pub LoadedActivity : Doing → View → Bool → View → Type 0
 LoadedActivity doing v stopped w =
     (log : List Deed) × Found v log × (stopped ≡ halted log)
-    × Entered (calling doing.op v) log (at_activity v.config (number_of v.who) doing doing.op stopped) w
+    × Entered activity_place (calling doing.op v) log (at_activity v.config (number_of v.who) doing doing.op stopped) w
 
 abbrev pub LoadedWord : Doing → ℕ → View → SlotState → View → Type 0
 LoadedWord doing slot v shown w =
     (log : List Deed) × Found v log × (shown ≡ word_at slot log)
-    × Entered v log (at_word v.config (number_of v.who) doing slot shown doing.op) w
+    × Entered (slot_place slot) v log (at_word v.config (number_of v.who) doing slot shown doing.op) w
 
 -- the same, of the number that was found
 abbrev pub LoadedNumber : Doing → ℕ → View → ℕ → View → Type 0
@@ -83,7 +85,7 @@ LoadedNumber doing slot v n w = (shown : SlotState) × (n ≡ word_number shown)
 abbrev pub OpenedWord : ℕ → View → SlotState → Bool → View → Type 0
 OpenedWord slot v shown hit w =
     (log : List Deed) × Found v log × (shown ≡ word_at slot log)
-    × Entered v log (at_open (number_of v.who) slot shown hit) w
+    × Entered (slot_place slot) v log (at_open (number_of v.who) slot shown hit) w
 
 -- the same, of the number that was found; where the exchange for new hit, the list shows new now
 abbrev pub OpenedNumber : ℕ → View → ℕ → ℕ → Bool → View → Type 0
@@ -93,7 +95,7 @@ OpenedNumber slot v new n hit w =
 abbrev pub TriedWord : Doing → ℕ → View → SlotState → Bool → View → Type 0
 TriedWord doing slot v shown hit w =
     (log : List Deed) × Found v log × (shown ≡ word_at slot log)
-    × Entered v log (at_exchange v.config (number_of v.who) doing slot shown hit) w
+    × Entered (slot_place slot) v log (at_exchange v.config (number_of v.who) doing slot shown hit) w
 
 abbrev pub TriedNumber : Doing → ℕ → View → ℕ → ℕ → Bool → View → Type 0
 TriedNumber doing slot v new n hit w =
@@ -110,11 +112,12 @@ pub record TriedExchange {T : Type 0} (words : Words) (doing : Doing) (slot : �
   pub limit : IfErr found (λ shown. CanBeReleased shown)
 
 abbrev pub ReleasedWord : ℕ → View → View → Type 0
-ReleasedWord slot v w = (log : List Deed) × Found v log × Entered v log (Release slot ∷ []) w
+ReleasedWord slot v w = (log : List Deed) × Found v log × Entered (slot_place slot) v log (Release slot ∷ []) w
 
 abbrev pub SettledWord : Doing → Speculation → Code → View → View → Type 0
 SettledWord doing id code v w =
-    (log : List Deed) × Found v log × Entered v log (Settle (number_of v.who) id (fate_of_settlement doing code) ∷ []) w
+    (log : List Deed) × Found v log
+    × Entered (ack_place v.config (number_of v.who) id.slot) v log (Settle (number_of v.who) id (fate_of_settlement doing code) ∷ []) w
 
 -- the same, of whichever speculation the word and the number stored are of
 abbrev pub StoredAck : Doing → ℕ → View → ℕ → View → Type 0
@@ -122,36 +125,36 @@ StoredAck doing place v n w =
     (log : List Deed) × (d : Deed) × Found v log
     × ((id : Speculation) → place ≡ ack_place v.config (number_of v.who) id.slot → n ≡ id.issue + 1
     → d ≡ Settle (number_of v.who) id (fate_of_settlement doing (word_at id.slot v.seen).code))
-    × Entered v log (d ∷ []) w
+    × Entered place v log (d ∷ []) w
 
 -- the steps of the consumer
 
 abbrev pub StoredActivity : View → View → Type 0
-StoredActivity v w = (log : List Deed) × Found v log × Entered v log (at_stop (halted log)) w
+StoredActivity v w = (log : List Deed) × Found v log × Entered activity_place v log (at_stop (halted log)) w
 
--- a load that enters nothing
-abbrev pub Looked : View → View → Type 0
-Looked v w = (log : List Deed) × Found v log × (w ≡ acted v log [])
+-- a load of the word at that place that enters nothing
+abbrev pub Looked : ℕ → View → View → Type 0
+Looked place v w = (log : List Deed) × Found v log × (w ≡ acted place v log [])
 
 abbrev pub LookedWord : ℕ → View → SlotState → View → Type 0
-LookedWord slot v shown w = (log : List Deed) × Found v log × (shown ≡ word_at slot log) × (w ≡ acted v log [])
+LookedWord slot v shown w = (log : List Deed) × Found v log × (shown ≡ word_at slot log) × (w ≡ acted (slot_place slot) v log [])
 
 abbrev pub LookedNumber : ℕ → View → ℕ → View → Type 0
 LookedNumber slot v n w = (shown : SlotState) × (n ≡ word_number shown) × LookedWord slot v shown w
 
 abbrev pub LoadedAck : ℕ → ℕ → View → ℕ → View → Type 0
-LoadedAck c s v n w = (log : List Deed) × Found v log × (n ≡ ack c s log) × (w ≡ acted v log [])
+LoadedAck c s v n w = (log : List Deed) × Found v log × (n ≡ ack c s log) × (w ≡ acted (ack_place v.config c s) v log [])
 
 -- the same, of whichever CPU and slot the word is of
 abbrev pub LoadedAckAt : ℕ → View → ℕ → View → Type 0
 LoadedAckAt place v n w =
     (log : List Deed) × Found v log
     × ((c s : ℕ) → c < v.config.cpus → 1 ≤ s → s ≤ v.config.nspec → place ≡ ack_place v.config c s → n ≡ ack c s log)
-    × (w ≡ acted v log [])
+    × (w ≡ acted place v log [])
 
 abbrev pub ReapedWord : ℕ → View → SlotState → Bool → View → Type 0
 ReapedWord slot v shown hit w =
-    (log : List Deed) × Found v log × (shown ≡ word_at slot log) × Entered v log (if hit then Release slot ∷ [] else []) w
+    (log : List Deed) × Found v log × (shown ≡ word_at slot log) × Entered (slot_place slot) v log (if hit then Release slot ∷ [] else []) w
 
 abbrev pub ReapedNumber : ℕ → View → ℕ → Bool → View → Type 0
 ReapedNumber slot v n hit w = (shown : SlotState) × (n ≡ word_number shown) × ReapedWord slot v shown hit w

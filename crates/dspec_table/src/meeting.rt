@@ -1,5 +1,6 @@
 ghost use Rattle.std.specs.Prelude.{◌≡◌, [], true};
 ghost use Rattle.dspec_table.specs.Holders.{of_nobody, same_holder};
+ghost use Rattle.dspec_table.specs.Layout.{activity_place};
 ghost use Rattle.dspec_table.specs.Steps.{Looked};
 ghost use Rattle.dspec_table.specs.Meeting.{Met};
 ghost use Rattle.dspec_table.specs.Notes.{answered, heard, note};
@@ -15,7 +16,7 @@ impl Words {
     fn look(&self, seat: &mut AnySeat)
         requires seat { (seat.old.table_id ≡ self.now.board.shared.table_id) × (same_holder seat.old.me.0.who seat.old.me.0.who ≡ true) × (seat.old.me.0.also ≡ []) }
         ensures seat { (seat.new.table_id ≡ seat.old.table_id) × (seat.new.me.1 ≡ seat.old.me.1) }
-        ensures step { Looked seat.old.me.0 seat.new.me.0 }
+        ensures step { Looked activity_place seat.old.me.0 seat.new.me.0 }
     {
         self.board.shared.load::<Looks>(seat, ACTIVITY_PLACE);
     }

@@ -116,7 +116,7 @@ impl Play<u8, View> for Looks {
     ghost use Rattle.std.specs.Prelude.{◌≡◌};
     ghost use Rattle.dspec_table.specs.Steps.{Looked};
 
-    ghost then = { λ st v n w. Looked v.0 w.0 × (w.1 ≡ v.1) };
+    ghost then = { λ st v n w. Looked st.word v.0 w.0 × (w.1 ≡ v.1) };
 }
 
 pub struct LooksAtWord;

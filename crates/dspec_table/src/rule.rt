@@ -4,9 +4,9 @@ use std::alloc::Global;
 use std::collections::LinkedList;
 
 /// What a seat knows: whose it is (a note is nobody's), its own deeds, those of the seats that were joined into it, the deeds
-/// of all that it has seen, what a note told it since its last step, its call in flight, how many steps it made, and the asks of each CPU, which
-/// the consumer knows exactly, and any other seat as no more than they are; and what the seats joined into it knew then. No
-/// value of it is ever made.
+/// of all that it has seen, what a note told it since its last step, its call in flight, how many steps it made and on which
+/// words, and the asks of each CPU, which the consumer knows exactly, and any other seat as no more than they are; and what the
+/// seats joined into it knew then. No value of it is ever made.
 pub struct View {
     /// What the words were set up with.
     pub config: Config,
@@ -24,6 +24,8 @@ pub struct View {
     pub flight: Option<CpuOp>,
     /// How many steps it has made.
     pub steps: u64,
+    /// The places of the words that its steps were on, the latest first.
+    pub touched: LinkedList<u64>,
     /// The asks of the CPUs, in order.
     pub asks: LinkedList<u64>,
     /// What each seat joined into it knew.

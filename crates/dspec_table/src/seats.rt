@@ -19,7 +19,8 @@ pub struct Words {
     pub ghost words_is: { board.shared.table_id.words ≡ word_count config },
 }
 
-/// A CPU's seat at the words: what it has done and seen, and how many steps it made. It has no bytes but the CPU's number.
+/// A CPU's seat at the words: what it has done and seen, and how many steps it made on which words. It has no bytes but the
+/// CPU's number.
 #[derive(Drop)]
 pub struct CpuSeat {
     pub(crate) seat: AnySeat,

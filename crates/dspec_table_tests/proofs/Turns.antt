@@ -19,6 +19,7 @@ use Rattle.dspec_table.specs.Holders.{number_of}
 use Rattle.dspec_table.specs.Acts.{at_activity, at_word, at_hit, void_commit, void_discard, discard_hits}
 use Rattle.dspec_table.specs.Conditions.{IsOn, IsInFlight, MayLoad, MayTry, Attempts, IsDeciding, joined_word}
 use Rattle.dspec_table.specs.Flights.{calling}
+use Rattle.dspec_table.specs.Layout.{activity_place}
 use Rattle.dspec_table.specs.Steps.{acted, LoadedActivity, TriedWord, LoadedAck}
 use Rattle.dspec_table.proofs.Flights.{quiet_activity, loads_next, in_flight, speculate_joins}
 use Rattle.dspec_table.proofs.Reaping.{acked_since}
@@ -34,7 +35,7 @@ begins k v w c doing id config low is on unused mine step =
     let inside = first_in_range k id low is in
     let none : at_activity v.config (number_of v.who) doing doing.op false ≡ [] =
     quiet_activity v.config (number_of v.who) doing id doing.op (subst (λ (x : Config). in_range x id ≡ true) (sym config) inside) on in
-    let own : w.own ≡ v.own = ap (λ (x : View). x.own) (step.3.view ∙ ap (acted (calling doing.op v) step.0) none) in
+    let own : w.own ≡ v.own = ap (λ (x : View). x.own) (step.3.view ∙ ap (acted activity_place (calling doing.op v) step.0) none) in
     let no_caller : doing.mine ≡ is_among c (callers id v.own) = mine ∙ sym (ap (is_among c) (unused.1 id)) in
     let flight : IsInFlight k w c doing id id.slot = in_flight k v w c doing id config inside on unused.0 (λ recent. no_caller) step in
     (subst (λ (s : ℕ). MayLoad k w c doing s doing.op) is (loads_next k w c id.slot doing id on flight), subst (Unused k c) (sym own) unused)

@@ -17,6 +17,7 @@ returns-clause-does g c =
       tells = service_tells has before after _ _ _ _ _ c.service.result done.same.number done.serves done.wears;
       wears = done.wears;
       bounded = done.bounded;
+      touches = done.touches;
       moves = done.moves;
       serves = done.serves;
     })

@@ -71,7 +71,7 @@ returns-in-Stopped g c =
     record {
       ready = ended.ready;
       same = record { schema = refl; config = refl; number = refl; pair = refl };
-      keeps = reached_keeps cpu c.if-self.false seat side.new.self _ side.ensures.rest refl refl reach.Stopped 5 got (five_steps c.args.commits id);
+      keeps = reached_keeps cpu c.if-self.false seat side.new.self _ side.ensures.rest refl refl reach.Stopped 5 got (five_steps c.args.commits id) refl;
       decides = ended.decides;
     }
 
@@ -92,7 +92,7 @@ returns-in-Void g c =
     record {
       ready = ended.ready;
       same = record { schema = refl; config = refl; number = refl; pair = refl };
-      keeps = reached_keeps cpu c.if-self.false seat side.new.self _ side.ensures.rest refl refl reach.Void 5 got (five_steps c.args.commits id);
+      keeps = reached_keeps cpu c.if-self.false seat side.new.self _ side.ensures.rest refl refl reach.Void 5 got (five_steps c.args.commits id) refl;
       decides = ended.decides;
     }
 
@@ -144,7 +144,7 @@ returns-then-not-commits g c =
     record {
       ready = ended.ready;
       same = record { schema = refl; config = refl; number = refl; pair = refl };
-      keeps = reached_keeps cpu c.if-self.false seat side.new.self _ side.ensures.rest refl refl (reach.Done to) 5 got refl;
+      keeps = reached_keeps cpu c.if-self.false seat side.new.self _ side.ensures.rest refl refl (reach.Done to) 5 got refl refl;
       decides = ended.decides;
     }
 
@@ -189,7 +189,7 @@ returns-in_default g c =
       ready = ended.ready;
       same = record { schema = refl; config = refl; number = refl; pair = refl };
       keeps = copied_keeps answer.result fit n 5 cpu _ answer.ensures
-          (reached_keeps cpu c.if-self.false seat side.new.self _ side.ensures.rest refl refl (reach.Done to) 5 got refl);
+          (reached_keeps cpu c.if-self.false seat side.new.self _ side.ensures.rest refl refl (reach.Done to) 5 got refl refl);
       decides = ended.decides;
     }
 
@@ -218,6 +218,6 @@ returns-in-Committing g c =
       same = record { schema = refl; config = refl; number = refl; pair = refl };
       keeps = copied_keeps answer.result fit n 5 cpu _ answer.ensures
           (released_keeps cpu c.if-self.false c.release_word.new.self side.new.self _ side.ensures.rest refl refl to (known seat) c.slot.result 5 got
-          (sym c.code.ensures ∙ c.in-Committing.is) c.release_word.ensures.step refl);
+          (sym c.code.ensures ∙ c.in-Committing.is) c.release_word.ensures.step refl refl c.slot.ensures.value);
       decides = ended.decides;
     }

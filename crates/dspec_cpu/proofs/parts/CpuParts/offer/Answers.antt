@@ -16,6 +16,7 @@ use Rattle.dspec_cpu.proofs.Ready.{roomy, few, ready_after}
 use Rattle.dspec_cpu.proofs.Shown.{shows, shown_behind}
 use Rattle.dspec_cpu.proofs.Speaks.{asked, grants, grant_deeds, caller_of, own_mark, granted_shown}
 use Rattle.dspec_cpu.specs.Keeping.{CallKeeps}
+use Rattle.dspec_cpu.specs.Touching.{of_slot}
 use Rattle.dspec_cpu.proofs.Keeps.{reached_keeps}
 use Rattle.dspec_side.specs.declared.counts.Counts.{Counts}
 use Rattle.dspec_cpu.proofs.parts.CpuParts.offer.Goals as goal
@@ -296,11 +297,12 @@ returns-else-not-kept-clause-did g c =
 pub returns-in-Stopped-clause-keeps : goal.returns-in-Stopped-clause-keeps
 returns-in-Stopped-clause-keeps g c =
     reached_keeps c.args.self.now c.requires.calls c.go_on-reached.new.seat c.speak_nowhere.new.self _ c.speak_nowhere.ensures.rest refl refl reach.Stopped 4 c.in-Stopped.ensures.reached refl
+    c.requires.ready.config
 
 pub returns-in-Void-clause-keeps : goal.returns-in-Void-clause-keeps
 returns-in-Void-clause-keeps g c =
     reached_keeps c.args.self.now c.requires.calls c.go_on-reached.new.seat c.speak_nowhere-in-Void.new.self _ c.speak_nowhere-in-Void.ensures.rest refl refl reach.Void 4
-    c.in-Void.ensures.reached refl
+    c.in-Void.ensures.reached refl c.requires.ready.config
 
 pub returns-then-not-kept-clause-keeps : goal.returns-then-not-kept-clause-keeps
 returns-then-not-kept-clause-keeps g c =
@@ -308,8 +310,9 @@ returns-then-not-kept-clause-keeps g c =
     let r = c.go_on-reached.result in
     let seat = c.go_on-reached.new.seat in
     let side = c.grant-kept.new.self in
-    subst (λ b. CallKeeps false b 4 cpu (record cpu { seat = seat; side = side })) (unstopped r (is_running r (grants r c.in-Granted.is)))
-    (reached_keeps cpu c.requires.calls seat side _ c.grant-kept.ensures.rest refl (ap (λ (x : Counts). x.worn) c.grant-kept.ensures.counts) r 4 c.go_on-reached.ensures.reached refl)
+    subst (λ b. CallKeeps false b 4 (of_slot cpu.config c.args.id) cpu (record cpu { seat = seat; side = side })) (unstopped r (is_running r (grants r c.in-Granted.is)))
+    (reached_keeps cpu c.requires.calls seat side _ c.grant-kept.ensures.rest refl (ap (λ (x : Counts). x.worn) c.grant-kept.ensures.counts) r 4 c.go_on-reached.ensures.reached refl
+    c.requires.ready.config)
 
 pub returns-else-not-kept-clause-keeps : goal.returns-else-not-kept-clause-keeps
 returns-else-not-kept-clause-keeps g c =
@@ -317,5 +320,6 @@ returns-else-not-kept-clause-keeps g c =
     let r = c.go_on-reached.result in
     let seat = c.go_on-reached.new.seat in
     let side = c.grant-kept.new.self in
-    subst (λ b. CallKeeps false b 4 cpu (record cpu { seat = seat; side = side })) (unstopped r (is_running r (grants r c.in-Granted.is)))
-    (reached_keeps cpu c.requires.calls seat side _ c.grant-kept.ensures.rest refl (ap (λ (x : Counts). x.worn) c.grant-kept.ensures.counts) r 4 c.go_on-reached.ensures.reached refl)
+    subst (λ b. CallKeeps false b 4 (of_slot cpu.config c.args.id) cpu (record cpu { seat = seat; side = side })) (unstopped r (is_running r (grants r c.in-Granted.is)))
+    (reached_keeps cpu c.requires.calls seat side _ c.grant-kept.ensures.rest refl (ap (λ (x : Counts). x.worn) c.grant-kept.ensures.counts) r 4 c.go_on-reached.ensures.reached refl
+    c.requires.ready.config)

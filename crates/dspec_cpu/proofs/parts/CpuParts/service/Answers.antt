@@ -4,7 +4,10 @@ use Rattle.dspec_deeds.specs.declared.config.Config.{Config}
 use Rattle.dspec_table.specs.Seats.{known}
 use Rattle.dspec_cpu.specs.declared.parts.CpuParts.{CpuParts as Cpu}
 use Rattle.dspec_cpu.specs.Settled.{SettledSlots}
+use Rattle.dspec_cpu.specs.Lists.{words_of}
 use Rattle.dspec_cpu.specs.Switching.{buffers_of}
+use Rattle.dspec_cpu.proofs.Ready.{holder, set_up_is}
+use Rattle.dspec_cpu.proofs.Touching.{service_touches}
 use Rattle.dspec_cpu.proofs.parts.CpuParts.service.Goals as goal
 
 pub returns-clause-same : goal.returns-clause-same
@@ -47,3 +50,10 @@ returns-clause-serves g c =
       leaves = record { end = keeps.end; held_back = keeps.held_back; spare = keeps.spare; seals = keeps.seals };
       list = λ p had. settled.list _ (c.switch-sealed.ensures.list p had);
     }
+
+pub returns-clause-touches : goal.returns-clause-touches
+returns-clause-touches g c =
+    let cpu = c.args.self.now in
+    let ready = c.requires.ready in
+    service_touches cpu.config cpu.cpu _ _ (known cpu.seat) _ _ (known c.settle_slots-settled.new.self.seat) _ (set_up_is _ _ _ (words_of c.args.shared.now) cpu ready)
+    (holder _ _ _ (words_of c.args.shared.now) cpu ready) (returns-clause-serves g c)

@@ -1,6 +1,7 @@
-use Rattle.std.proofs.Common.{◌<◌, [], ◌∷◌, refl, sym, ◌∙◌, subst}
+use Rattle.std.proofs.Common.{ℕ, ◌<◌, [], ◌∷◌, refl, sym, ◌∙◌, subst}
 use Rattle.dspec_word.specs.SpecId.{Speculation}
 use Rattle.dspec_deeds.specs.declared.config.Config.{Config}
+use Rattle.dspec_deeds.specs.declared.deed.Deed.{Deed}
 use Rattle.dspec_table.specs.Layout.{ack_place}
 use Rattle.dspec_table.specs.Holders.{number_of}
 use Rattle.dspec_table.specs.Seats.{known}
@@ -28,4 +29,4 @@ returns-clause-step g c =
     let id : Speculation = record { issue = c.args.issue; slot = c.args.slot } in
     let step = c.store.ensures.2.0 in
     let place = c.ack_place-place.ensures ∙ (λ i. ack_place (sym c.requires.seat.1 i) (number_of (sym seat.who_is i)) c.args.slot) in
-    (step.0, step.2, subst (λ d. Entered (known seat) step.0 (d ∷ []) c.store.new.seat.me.0) (step.3 id place refl) step.4)
+    (step.0, step.2, subst (λ (x : ℕ × Deed). Entered x.0 (known seat) step.0 (x.1 ∷ []) c.store.new.seat.me.0) (λ i. (place i, step.3 id place refl i)) step.4)
