@@ -11,7 +11,7 @@ use Rattle.dspec_record.specs.declared.field.Field.{Field}
 use Rattle.dspec_ctf.specs.Packets.{event_fields}
 use Rattle.dspec_ctf.specs.declared.form.Form.{Form}
 use Rattle.dspec_ctf.specs.declared.form.Form.TheVariants.{AsTaken, ByTime}
-use Rattle.dspec_ctf.specs.declared.names.EventNames.{EventNames}
+use Rattle.dspec_probe.specs.declared.probes.ProbeNames.{ProbeNames}
 use Rattle.dspec_ctf.specs.declared.names.Names.{Names}
 use Rattle.dspec_ctf.specs.declared.names.Names.TheVariants.{Numbered, Given}
 use Rattle.dspec_ctf.specs.declared.fault.NameKind.{NameKind}
@@ -89,7 +89,7 @@ fields_fault stamped epid names fs =
     else Some (FieldCount epid)
 
 -- the same of the event at a place
-unfoldable pub fault_at : Bool → EnabledRows → List EventNames → ℕ → Option NameFault
+unfoldable pub fault_at : Bool → EnabledRows → List ProbeNames → ℕ → Option NameFault
 fault_at stamped e given place =
     option_and_then (λ n. fields_fault stamped (place + 1) (map (λ name. name.now) n.fields.now) (event_fields e (place + 1))) (slice_get given place)
 

@@ -4,7 +4,7 @@ ghost use Rattle.std.specs.Str.{bytes_eq};
 ghost use Rattle.dspec_ctf.specs.Names.{is_letter, is_word_byte, begins_well, is_identifier, reserved_words, unfit, bad_name, bad_at, first_bad, first_found, fields_fault, fault_at, events_fault, names_fault, has_stamp};
 
 use crate::printing::fields_at;
-use crate::{EventNames, Form, NameFault, NameKind, Names};
+use crate::{Form, NameFault, NameKind, Names, ProbeNames};
 use dspec_record::{Enablings, Field, Header};
 use std::alloc::{AllocError, Global};
 
@@ -177,7 +177,7 @@ fn fields_fault(stamped: bool, epid: u32, names: &[&str], fields: &[Field]) -> O
 fn fault_at(
     stamped: bool,
     enablings: &Enablings,
-    given: &[EventNames<'_>],
+    given: &[ProbeNames<'_>],
     place: u32,
 ) -> Option<NameFault>
     requires { place < 2 ^ 31 }
@@ -194,7 +194,7 @@ fn fault_at(
 fn all_fields_fault(
     stamped: bool,
     enablings: &Enablings,
-    given: &[EventNames<'_>],
+    given: &[ProbeNames<'_>],
 ) -> Option<NameFault>
     ensures { result ≡ first_found (fault_at stamped enablings.now given.now) (range_with_len 0 (length enablings.now.rows)) }
 {
@@ -223,7 +223,7 @@ fn events_fault(names: &[&str]) -> Option<NameFault>
 }
 
 /// The names of the events alone.
-fn event_names<'a>(alloc: Global, given: &[EventNames<'a>]) -> Result<Vec<&'a str>, AllocError>
+fn event_names<'a>(alloc: Global, given: &[ProbeNames<'a>]) -> Result<Vec<&'a str>, AllocError>
     ensures { IfOk result (λ names. map (λ name. name.now) names.items ≡ map (λ event. event.event.now) given.now) }
 {
     let mut names = Vec::new(alloc);

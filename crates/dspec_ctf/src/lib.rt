@@ -16,9 +16,10 @@ pub mod records;
 pub mod stream;
 
 pub use by_time::TimeFault;
+pub use dspec_probe::ProbeNames;
 pub use fault::{MetadataFault, NameFault, NameKind};
 pub use form::Form;
-pub use names::{EventNames, Names};
+pub use names::Names;
 pub use printing::metadata;
 pub use records::first_refused;
 pub use stream::{PacketFault, Stream};

@@ -1,6 +1,6 @@
 //! The metadata of traces, and names that can't be used.
 use crate::same::{UUID, same, three_enablings};
-use dspec_ctf::{EventNames, Form, MetadataFault, NameFault, NameKind, Names, metadata};
+use dspec_ctf::{Form, MetadataFault, NameFault, NameKind, Names, ProbeNames, metadata};
 use std::process::Abort;
 use std::test::Fail;
 
@@ -13,17 +13,17 @@ const NAMED: &str =
     "\nevent {\n\tid = 3;\n\tname = \"two\";\n\tstream_id = 0;\n\tfields := struct {\n\t\tuint64_t stamp;\n\t\tuint8_t small;\n\t\tuint16_t _large;\n\t};\n};\n";
 
 /// Names of the three.
-fn named<'a>(first: &'a str, fields: &'a [&'a str]) -> [EventNames<'a>; 3] {
+fn named<'a>(first: &'a str, fields: &'a [&'a str]) -> [ProbeNames<'a>; 3] {
     [
-        EventNames {
+        ProbeNames {
             event: first,
             fields: &[],
         },
-        EventNames {
+        ProbeNames {
             event: "one",
             fields: &["all"],
         },
-        EventNames {
+        ProbeNames {
             event: "two",
             fields,
         },
@@ -68,7 +68,7 @@ fn whole_texts(rt: HostRuntime) -> Result<(), Fail> {
 /// What is refused of these names, as taken with a stamp.
 fn refused(
     rt: &(impl Abort + AllocGlobal),
-    given: &[EventNames<'_>],
+    given: &[ProbeNames<'_>],
     wanted: NameFault,
 ) -> Result<(), Fail> {
     let enablings = three_enablings()?.stamped();

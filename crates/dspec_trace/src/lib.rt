@@ -11,7 +11,7 @@ mod held;
 mod system;
 mod tracing;
 
-pub use dspec_ctf::{EventNames, Form, Names, Stream, first_refused, metadata};
+pub use dspec_ctf::{Form, Names, ProbeNames, Stream, first_refused, metadata};
 pub use fault::FolderFault;
 pub use folder::Folder;
 pub use system::SystemFolder;

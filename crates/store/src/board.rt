@@ -21,7 +21,7 @@ impl Board {
     }
 
     /// The balance of an account; 0 where there is none.
-    pub fn read(&self, account: u64) -> u64 {
+    pub fn read(&self, account: u16) -> u64 {
         match self.balances.get(account as usize) {
             Some(balance) => balance.load(Ordering::SeqCst),
             None => 0,
@@ -29,7 +29,7 @@ impl Board {
     }
 
     /// Sets the balance of an account.
-    pub fn write(&self, account: u64, balance: u64) {
+    pub fn write(&self, account: u16, balance: u64) {
         if let Some(place) = self.balances.get(account as usize) {
             place.store(balance, Ordering::SeqCst);
         }

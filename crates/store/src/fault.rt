@@ -1,6 +1,7 @@
-use dspec::{KeptFault, SchemaFault, StartFault};
+use dspec::{KeptFault, StartFault};
 use dspec_command::{CommandFault, Ending};
 use dspec_ctf::{MetadataFault, TimeFault};
+use dspec_probed::ProbeFault;
 use dspec_trace::FolderFault;
 use std::alloc::AllocError;
 use thiserror::Error;
@@ -48,7 +49,7 @@ pub enum StoreFault<'a> {
     #[error("{0}")]
     Start(#[from] StartFault),
     #[error("{0}")]
-    Schema(#[from] SchemaFault),
+    Probe(#[from] ProbeFault),
 }
 
 impl<'a> Ending for StoreFault<'a> {
@@ -58,9 +59,10 @@ impl<'a> Ending for StoreFault<'a> {
             StoreFault::Command(fault) => fault.status(),
             StoreFault::Trace { fault, .. } => fault.status(),
             StoreFault::Memory(_)
+            | StoreFault::Probe(ProbeFault::Memory)
             | StoreFault::Start(StartFault::Memory)
             | StoreFault::Kept(KeptFault::Memory) => 2,
-            StoreFault::Start(_) | StoreFault::Schema(_) | StoreFault::Kept(_) => 1,
+            StoreFault::Start(_) | StoreFault::Probe(_) | StoreFault::Kept(_) => 1,
         }
     }
 }

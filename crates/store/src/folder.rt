@@ -1,7 +1,7 @@
 use crate::fault::TraceFault;
-use crate::probes::PROBES;
 use crate::telling::is_of;
 use dspec::{Closed, Enablings, Rec, Report, closed_cpus};
+use dspec_probed::Probes;
 use dspec_trace::{Folder, Form, Names, Stream, first_refused, metadata};
 use std::alloc::{AllocError, Global};
 
@@ -33,10 +33,16 @@ fn own_records(alloc: Global, worker: u32, records: &[Rec]) -> Result<Vec<Rec>, 
 fn write_metadata<F: Folder>(
     alloc: Global,
     folder: &mut F,
-    schema: &Enablings,
+    probes: &Probes<'_>,
 ) -> Result<(), TraceFault> {
-    let names = Names::Given(&PROBES);
-    let text = metadata(alloc, &UUID, Form::ByTime(HERTZ), schema, &names)?;
+    let names = Names::Given(probes.names());
+    let text = metadata(
+        alloc,
+        &UUID,
+        Form::ByTime(HERTZ),
+        &probes.enablings(),
+        &names,
+    )?;
     folder.add(alloc, "metadata", text.as_str().as_bytes())?;
     Ok(())
 }
@@ -73,12 +79,13 @@ fn write_worker<F: Folder>(
 pub fn write_trace<F: Folder>(
     alloc: Global,
     mut folder: F,
-    schema: &Enablings,
+    probes: &Probes<'_>,
     closed: &Closed,
     records: &[Rec],
 ) -> Result<(), TraceFault> {
+    let schema = probes.enablings();
     for cpu in closed_cpus(closed) {
-        write_worker(alloc, &mut folder, schema, cpu.number, cpu.report, records)?;
+        write_worker(alloc, &mut folder, &schema, cpu.number, cpu.report, records)?;
     }
-    write_metadata(alloc, &mut folder, schema)
+    write_metadata(alloc, &mut folder, probes)
 }

@@ -19,10 +19,11 @@ use arguments::{Ask, ask_of};
 use board::Board;
 use dspec::{Closed, Config, Kept, Rec, closed_cpus, trace};
 use dspec_command::{ended, output_fault, print_text, words_of};
+use dspec_probed::Probes;
 use dspec_trace::SystemFolder;
 use fault::{StoreFault, TraceFault};
 use folder::write_trace;
-use probes::enable;
+use probes::StoreProbes;
 use serving::{Server, WORKERS};
 use std::io;
 use std::process::ExitCode;
@@ -47,9 +48,9 @@ fn folder_asked<'a>(
 }
 
 /// Prints the paths of the records, which are in order of time, the board, and what the CPUs report.
-fn tell_all<R: Print>(rt: &R, records: &[Rec], board: &Board, closed: &Closed) -> io::Result<()> {
-    tell_paths(rt, records)?;
-    board.tell(rt)?;
+fn tell_all<R: Print>(rt: &R, records: &[Rec], server: &Server, closed: &Closed) -> io::Result<()> {
+    tell_paths(rt, &server.probes, records)?;
+    server.board.tell(rt)?;
     for cpu in closed_cpus(closed) {
         tell_report(rt, cpu.number, cpu.report)?;
     }
@@ -63,21 +64,23 @@ fn transfers<'a, R: Threads + Sync>(
     name: Option<&'a str>,
 ) -> Result<(), StoreFault<'a>> {
     let folder = folder_asked(rt, name)?;
-    let schema = enable()?;
+    let mut declared = Probes::new(rt.alloc());
     let server = Server {
         board: Board::new(),
+        probes: StoreProbes::declare(&mut declared)?,
     };
+    let schema = declared.enablings();
     let kept = Kept::new(rt.alloc());
     let config = Config::of(WORKERS, 16, 16384, 512);
     let (closed, kept) = trace(threads, rt.alloc(), &config, schema, &server, kept)?;
     let mut records = kept.records()?;
     records.sort_by_key(|rec: &Rec| rec.stamp())?;
     if let (Some(name), Some(folder)) = (name, folder) {
-        if let Err(fault) = write_trace(rt.alloc(), folder, &schema, &closed, &records) {
+        if let Err(fault) = write_trace(rt.alloc(), folder, &declared, &closed, &records) {
             return Err(StoreFault::Trace { name, fault });
         }
     }
-    match tell_all(rt, &records, &server.board, &closed) {
+    match tell_all(rt, &records, &server, &closed) {
         Ok(()) => Ok(()),
         Err(reason) => Err(StoreFault::Command(output_fault(reason))),
     }

@@ -1,56 +1,58 @@
-use dspec::{Enablings, Field, SchemaFault};
-use dspec_trace::EventNames;
+ghost use Rattle.dspec_cpu.specs.Lists.{schema_of};
+ghost use Rattle.std.specs.Prelude.{IsTrue};
+ghost use Rattle.store.specs.Probes.{AreOf};
 
-/// The names of the enabled probes and of what they record, in the order of their EPIDs, from 1. Each records a stamp in microseconds
-/// too. A transfer fires `begin`, then `read`, `wait` and `write` as its steps go, and `end`.
-pub const PROBES: [EventNames<'static>; 5] = [
-    EventNames {
-        event: "begin",
-        fields: &["transfer", "worker"],
-    },
-    EventNames {
-        event: "read",
-        fields: &["transfer", "account", "balance"],
-    },
-    EventNames {
-        event: "wait",
-        fields: &["transfer", "account"],
-    },
-    EventNames {
-        event: "write",
-        fields: &["transfer", "account", "balance"],
-    },
-    EventNames {
-        event: "end",
-        fields: &["transfer", "outcome"],
-    },
-];
+use dspec::{Enablings, Lane, Rec};
+use dspec_probed::{Probe, ProbeFault, Probes, Recording};
 
-/// Their EPIDs.
-pub const BEGIN: u32 = 1;
-
-pub const READ: u32 = 2;
-
-pub const WAIT: u32 = 3;
-
-pub const WRITE: u32 = 4;
-
-pub const END: u32 = 5;
+/// The probes of the store. Each records a stamp in microseconds too. A transfer fires `begin`, then `read`, `wait` and `write` as its
+/// steps go, and `end`.
+#[derive(Debug, Clone, Copy)]
+pub struct StoreProbes {
+    /// The transfer, and its worker.
+    pub begin: Probe<(u32, u8)>,
+    /// The transfer, an account, and the balance that was read.
+    pub read: Probe<(u32, u16, u64)>,
+    /// The transfer, and the account that it waits for.
+    pub wait: Probe<(u32, u16)>,
+    /// The transfer, an account, and the balance that was written.
+    pub write: Probe<(u32, u16, u64)>,
+    /// The transfer, and its outcome.
+    pub end: Probe<(u32, u8)>,
+}
 
 /// The outcomes: it went well, the balance didn't suffice, or it had to wait for long.
-pub const DONE: u64 = 0;
+pub const DONE: u8 = 0;
 
-pub const ABORTED: u64 = 1;
+pub const ABORTED: u8 = 1;
 
-pub const SLOW: u64 = 2;
+pub const SLOW: u8 = 2;
 
-/// Enables them.
-pub fn enable() -> Result<Enablings, SchemaFault> {
-    let mut schema = Enablings::new();
-    schema.enable(&[Field::Four, Field::One])?;
-    schema.enable(&[Field::Four, Field::Two, Field::Eight])?;
-    schema.enable(&[Field::Four, Field::Two])?;
-    schema.enable(&[Field::Four, Field::Two, Field::Eight])?;
-    schema.enable(&[Field::Four, Field::One])?;
-    Ok(schema.stamped())
+impl StoreProbes {
+    /// Declares them.
+    pub fn declare<'n>(probes: &mut Probes<'n>) -> Result<StoreProbes, ProbeFault> {
+        Ok(StoreProbes {
+            begin: probes.probe("begin", &["transfer", "worker"])?,
+            read: probes.probe("read", &["transfer", "account", "balance"])?,
+            wait: probes.probe("wait", &["transfer", "account"])?,
+            write: probes.probe("write", &["transfer", "account", "balance"])?,
+            end: probes.probe("end", &["transfer", "outcome"])?,
+        })
+    }
+
+    /// Whether the lane's schema has all of them.
+    pub fn are_on(&self, lane: &Lane<'_, Enablings>) -> bool
+        ensures { IsTrue result → AreOf self.now (schema_of lane.now.cpu.now) }
+    {
+        self.begin.on(lane).is_ok()
+            && self.read.on(lane).is_ok()
+            && self.wait.on(lane).is_ok()
+            && self.write.on(lane).is_ok()
+            && self.end.on(lane).is_ok()
+    }
+}
+
+/// The number of a record's transfer: each probe records it first.
+pub fn transfer_of(rec: &Rec) -> u64 {
+    *rec.values().first().unwrap_or(&0)
 }

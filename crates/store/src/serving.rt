@@ -1,9 +1,12 @@
 ghost use Rattle.std.specs.Prelude.{◌≡◌};
+ghost use Rattle.dspec_cpu.specs.Lists.{schema_of};
 ghost use Rattle.dspec.specs.Lanes.{place_of};
+ghost use Rattle.store.specs.Probes.{AreOf};
 
 use crate::board::{ACCOUNTS, Board};
-use crate::probes::{ABORTED, BEGIN, DONE, END, READ, SLOW, WAIT, WRITE};
+use crate::probes::{ABORTED, DONE, SLOW, StoreProbes};
 use dspec::{Enablings, Lane, Path, Work};
+use dspec_probed::Recording;
 
 /// How many workers there are. Worker W makes the transfers W, W + 3, W + 6, ..
 pub const WORKERS: u32 = 3;
@@ -21,10 +24,10 @@ fn noise_of(number: u64) -> u64 {
 /// A transfer that the generator makes up, of two accounts of its worker.
 #[derive(Clone, Copy)]
 struct Transfer {
-    number: u64,
-    worker: u64,
-    from: u64,
-    to: u64,
+    number: u32,
+    worker: u8,
+    from: u16,
+    to: u16,
     amount: u64,
     waits: u64,
 }
@@ -36,10 +39,10 @@ impl Transfer {
         let noise = noise_of(number);
         let first = worker.wrapping_mul(ACCOUNTS);
         Transfer {
-            number,
-            worker,
-            from: first.wrapping_add(noise % ACCOUNTS),
-            to: first.wrapping_add(noise / 64 % ACCOUNTS),
+            number: number as u32,
+            worker: worker as u8,
+            from: first.wrapping_add(noise % ACCOUNTS) as u16,
+            to: first.wrapping_add(noise / 64 % ACCOUNTS) as u16,
             amount: noise / 4096 % 80,
             waits: (noise / (1 << 20) % 8).wrapping_mul(noise / (1 << 24) % 2),
         }
@@ -50,6 +53,7 @@ impl Transfer {
 #[derive(Drop)]
 pub struct Server {
     pub board: Board,
+    pub probes: StoreProbes,
 }
 
 /// The stamp so many ticks later. A tick is as many microseconds as there are workers, so that no two have one stamp.
@@ -62,30 +66,47 @@ fn later(clock: &mut u64, ticks: u64) -> u64 {
 fn withdraw(
     lane: &mut Lane<'_, Enablings>,
     path: &Path,
-    board: &Board,
+    server: &Server,
     clock: &mut u64,
     made: Transfer,
 ) -> bool
+    requires of { AreOf server.now.probes (schema_of lane.old.cpu.now) }
     ensures { place_of lane.new ≡ place_of lane.old }
 {
     let Transfer { number, from, .. } = made;
+    let Server { board, probes } = server;
     let balance = board.read(from);
-    path.step(lane, READ, later(clock, 1), &[number, from, balance]);
+    probes
+        .read
+        .step(lane, path, later(clock, 1), (number, from, balance));
     if balance < made.amount {
         return false;
     }
     let left = balance - made.amount;
     board.write(from, left);
-    path.step(lane, WRITE, later(clock, 1), &[number, from, left]);
+    probes
+        .write
+        .step(lane, path, later(clock, 1), (number, from, left));
     true
 }
 
 /// Waits for the other account.
-fn wait(lane: &mut Lane<'_, Enablings>, path: &Path, clock: &mut u64, made: Transfer)
+fn wait(
+    lane: &mut Lane<'_, Enablings>,
+    path: &Path,
+    server: &Server,
+    clock: &mut u64,
+    made: Transfer,
+)
+    requires of { AreOf server.now.probes (schema_of lane.old.cpu.now) }
     ensures { place_of lane.new ≡ place_of lane.old }
 {
     for _ in 0..made.waits {
-        path.step(lane, WAIT, later(clock, 5), &[made.number, made.to]);
+        let stamp = later(clock, 5);
+        server
+            .probes
+            .wait
+            .step(lane, path, stamp, (made.number, made.to));
     }
 }
 
@@ -93,46 +114,62 @@ fn wait(lane: &mut Lane<'_, Enablings>, path: &Path, clock: &mut u64, made: Tran
 fn deposit(
     lane: &mut Lane<'_, Enablings>,
     path: &Path,
-    board: &Board,
+    server: &Server,
     clock: &mut u64,
     made: Transfer,
 )
+    requires of { AreOf server.now.probes (schema_of lane.old.cpu.now) }
     ensures { place_of lane.new ≡ place_of lane.old }
 {
     let Transfer { number, to, .. } = made;
+    let Server { board, probes } = server;
     let balance = board.read(to);
-    path.step(lane, READ, later(clock, 1), &[number, to, balance]);
+    probes
+        .read
+        .step(lane, path, later(clock, 1), (number, to, balance));
     let sum = balance.wrapping_add(made.amount);
     board.write(to, sum);
-    path.step(lane, WRITE, later(clock, 1), &[number, to, sum]);
+    probes
+        .write
+        .step(lane, path, later(clock, 1), (number, to, sum));
 }
 
 /// The steps of a transfer, and its outcome.
 fn make_transfer(
     lane: &mut Lane<'_, Enablings>,
     path: &Path,
-    board: &Board,
+    server: &Server,
     clock: &mut u64,
     made: Transfer,
-) -> u64
+) -> u8
+    requires of { AreOf server.now.probes (schema_of lane.old.cpu.now) }
     ensures { place_of lane.new ≡ place_of lane.old }
 {
-    path.step(lane, BEGIN, later(clock, 1), &[made.number, made.worker]);
-    if !withdraw(lane, path, board, clock, made) {
+    let stamp = later(clock, 1);
+    server
+        .probes
+        .begin
+        .step(lane, path, stamp, (made.number, made.worker));
+    if !withdraw(lane, path, server, clock, made) {
         return ABORTED;
     }
-    wait(lane, path, clock, made);
-    deposit(lane, path, board, clock, made);
+    wait(lane, path, server, clock, made);
+    deposit(lane, path, server, clock, made);
     if made.waits > FEW { SLOW } else { DONE }
 }
 
 /// A transfer on a path, which is kept where it was aborted or slow.
 fn transact(lane: &mut Lane<'_, Enablings>, server: &Server, clock: &mut u64, made: Transfer)
+    requires of { AreOf server.now.probes (schema_of lane.old.cpu.now) }
     ensures { place_of lane.new ≡ place_of lane.old }
 {
     let path = lane.path();
-    let outcome = make_transfer(lane, &path, &server.board, clock, made);
-    path.step(lane, END, later(clock, 1), &[made.number, outcome]);
+    let outcome = make_transfer(lane, &path, server, clock, made);
+    let stamp = later(clock, 1);
+    server
+        .probes
+        .end
+        .step(lane, &path, stamp, (made.number, outcome));
     if outcome == DONE {
         path.throw(lane);
     } else {
@@ -142,6 +179,9 @@ fn transact(lane: &mut Lane<'_, Enablings>, server: &Server, clock: &mut u64, ma
 
 impl Work<Enablings> for Server {
     fn work(&self, lane: &mut Lane<'_, Enablings>) {
+        if !self.probes.are_on(lane) {
+            return;
+        }
         let worker = u64::from(lane.number());
         let mut clock = worker;
         for round in 0..ROUNDS {

@@ -1,61 +1,48 @@
-use crate::probes::{ABORTED, BEGIN, END, PROBES};
+use crate::probes::{ABORTED, StoreProbes, transfer_of};
 use crate::serving::WORKERS;
 use dspec::{Rec, Report};
 use std::io;
 
-/// A value of a record; 0 where there is none.
-fn value(rec: &Rec, place: usize) -> u64 {
-    *rec.values().get(place).unwrap_or(&0)
-}
-
 /// Whether a record is of a transfer of that worker.
 pub fn is_of(rec: &Rec, worker: u32) -> bool {
-    value(rec, 0) % u64::from(WORKERS) == u64::from(worker)
+    transfer_of(rec) % u64::from(WORKERS) == u64::from(worker)
 }
 
 /// Prints a step of a transfer that began at that stamp.
-fn tell_step<R: Print>(rt: &R, began: u64, rec: &Rec) -> io::Result<()> {
-    let micros = rec.stamp().saturating_sub(began);
-    if rec.epid() == END {
-        let outcome = if value(rec, 1) == ABORTED {
+fn tell_step<R: Print>(rt: &R, probes: &StoreProbes, began: u64, rec: &Rec) -> io::Result<()> {
+    if let Some((_, account, balance)) = probes.read.read(rec) {
+        print!(rt; " read {account}: {balance},")?;
+    }
+    if let Some((_, account)) = probes.wait.read(rec) {
+        print!(rt; " wait {account},")?;
+    }
+    if let Some((_, account, balance)) = probes.write.read(rec) {
+        print!(rt; " write {account}: {balance},")?;
+    }
+    if let Some((_, outcome)) = probes.end.read(rec) {
+        let micros = rec.stamp().saturating_sub(began);
+        let word = if outcome == ABORTED {
             "aborted"
         } else {
             "slow"
         };
-        println!(rt; " {outcome} after {micros} us")?;
-        return Ok(());
-    }
-    let Some(names) = PROBES.get((rec.epid() as usize).wrapping_sub(1)) else {
-        return Ok(());
-    };
-    let (event, account) = (names.event, value(rec, 1));
-    match rec.values().get(2) {
-        Some(balance) => print!(rt; " {event} {account}: {balance},")?,
-        None => print!(rt; " {event} {account},")?,
-    }
-    Ok(())
-}
-
-/// Prints the path of the transfer that begins with this record.
-fn tell_path<R: Print>(rt: &R, records: &[Rec], begin: &Rec) -> io::Result<()> {
-    let (number, worker) = (value(begin, 0), value(begin, 1));
-    print!(rt;
-        "{} us: transfer {number} of worker {worker}:",
-        begin.stamp()
-    )?;
-    for rec in records {
-        if rec.epid() != BEGIN && value(rec, 0) == number {
-            tell_step(rt, begin.stamp(), rec)?;
-        }
+        println!(rt; " {word} after {micros} us")?;
     }
     Ok(())
 }
 
 /// Prints all paths in the order in which they began. The records are in order of time.
-pub fn tell_paths<R: Print>(rt: &R, records: &[Rec]) -> io::Result<()> {
-    for rec in records {
-        if rec.epid() == BEGIN {
-            tell_path(rt, records, rec)?;
+pub fn tell_paths<R: Print>(rt: &R, probes: &StoreProbes, records: &[Rec]) -> io::Result<()> {
+    for begin in records {
+        let Some((number, worker)) = probes.begin.read(begin) else {
+            continue;
+        };
+        let began = begin.stamp();
+        print!(rt; "{began} us: transfer {number} of worker {worker}:")?;
+        for rec in records {
+            if transfer_of(rec) == u64::from(number) {
+                tell_step(rt, probes, began, rec)?;
+            }
         }
     }
     Ok(())

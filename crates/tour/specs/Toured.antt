@@ -1,25 +1,18 @@
 -- Cited by calls. What tour's session gives back, in the words of the page.
-use Rattle.std.specs.Prelude.{ℕ, ◌≡◌, List, [], ◌∷◌, ◌++◌}
+use Rattle.std.specs.Prelude.{ℕ, ◌≡◌, List, ◌++◌}
 use Rattle.dspec_record.specs.Record.{Record}
-use Rattle.dspec_record.specs.EnablingRows.{EnabledRows}
-use Rattle.dspec_record.specs.declared.field.Field.TheVariants.{One, Four, Eight}
-use Rattle.dspec_record.specs.declared.header.Header.TheVariants as header
 use Rattle.dspec_word.specs.SpecId.{Speculation}
 use Rattle.dspec_deeds.specs.declared.deed.DecideFate.{DecideFate}
 use Rattle.dspec_deeds.specs.declared.report.Report.{Report}
 use Rattle.dspec_promise.specs.Promise.{Did, Promise}
 use Rattle.dspec_cpu.specs.Called.{CallsMade, no_calls, settled_did}
-use Rattle.tour.specs.Requests.{DoesRequests}
-
--- a request's number; an address, and what was done to it
-abbrev pub probes : EnabledRows
-probes = record { header = header.One; rows = (Four ∷ []) ∷ (Eight ∷ One ∷ []) ∷ [] }
+use Rattle.tour.specs.Requests.{MakesRequests}
 
 -- The work's calls were made on CPU 0 of a session of one CPU, with probes 1 and 2; these records came out of it, this is its report,
 -- and both keep the promise of what those calls did and of what the close settled.
 pub record IsTour (records : List Record) (report : Report) : Type 0 where
   pub calls : CallsMade
-  pub worked : DoesRequests probes (record { request = 1; touch = 2 }) no_calls calls
+  pub worked : MakesRequests 1 2 no_calls calls
   pub closed : List (Speculation × DecideFate)
   pub all : ℕ → List Did
   pub answered : all 0 ≡ settled_did closed ++ calls.done

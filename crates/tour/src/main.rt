@@ -6,15 +6,16 @@ ghost use Rattle.std.specs.Prelude.{IfOk};
 ghost use Rattle.tour.specs.Toured.{IsTour};
 
 use anyhow::Result;
-use dspec::{Config, Enablings, Field, Kept, Lane, Rec, Report, Work, closed_cpu, trace};
+use dspec::{Config, Enablings, Kept, Lane, Rec, Report, Work, closed_cpu, trace};
+use dspec_probed::{Probe, Probes, Recording};
 use std::alloc::Global;
 use std::thread::Threads;
 
-/// What the CPU does, by the EPIDs of its two probes.
+/// What the CPU does, by its two probes: a request has a number; a touch has an address, and what was done to it.
 #[derive(Drop)]
 struct Requests {
-    request: u32,
-    touch: u32,
+    request: Probe<(u32,)>,
+    touch: Probe<(u64, u8)>,
 }
 
 impl Work<Enablings> for Requests {
@@ -24,16 +25,19 @@ impl Work<Enablings> for Requests {
 
     /// One request fails and one doesn't, and three plain records are traced, of which the last has no room.
     fn work(&self, lane: &mut Lane<'_, Enablings>) {
+        let (Ok(request), Ok(touch)) = (self.request.on(lane), self.touch.on(lane)) else {
+            return;
+        };
         let failed = lane.path();
-        failed.step(lane, self.touch, 0, &[4096, 5]);
-        failed.step(lane, self.touch, 0, &[8192, 0]);
+        touch.step(lane, &failed, 0, (4096, 5));
+        touch.step(lane, &failed, 0, (8192, 0));
         failed.keep(lane);
         let fine = lane.path();
-        fine.step(lane, self.touch, 0, &[12288, 0]);
+        touch.step(lane, &fine, 0, (12288, 0));
         fine.throw(lane);
-        lane.record(self.request, 0, &[7]);
-        lane.record(self.request, 0, &[8]);
-        lane.record(self.request, 0, &[9]);
+        request.record(lane, 0, (7,));
+        request.record(lane, 0, (8,));
+        request.record(lane, 0, (9,));
     }
 }
 
@@ -41,12 +45,19 @@ impl Work<Enablings> for Requests {
 fn tour<R: Threads + Sync>(rt: &R, alloc: Global) -> Result<(Vec<Rec>, Report)>
     ensures { IfOk result (λ r. IsTour r.0.items r.1) }
 {
-    let mut schema = Enablings::new();
-    let request = schema.enable(&[Field::Four])?;
-    let touch = schema.enable(&[Field::Eight, Field::One])?;
-    let config = Config::of(1, 2, 64, 64);
+    let mut probes = Probes::unstamped(alloc);
+    let request = probes.probe("request", &["number"])?;
+    let touch = probes.probe("touch", &["address", "access"])?;
     let work = Requests { request, touch };
-    let (closed, kept) = trace(rt, alloc, &config, schema, &work, Kept::new(alloc))?;
+    let config = Config::of(1, 2, 64, 64);
+    let (closed, kept) = trace(
+        rt,
+        alloc,
+        &config,
+        probes.enablings(),
+        &work,
+        Kept::new(alloc),
+    )?;
     let records = kept.records()?;
     Ok((records, *closed_cpu(&closed, 0).report))
 }

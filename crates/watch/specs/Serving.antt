@@ -1,5 +1,5 @@
 -- Cited by calls. What a worker of the server does on its CPU.
-use Rattle.std.specs.Prelude.{ℕ, ◌≡◌, ◌+◌, Bool, Option, IfSome, IfNone, if◌then◌else◌}
+use Rattle.std.specs.Prelude.{ℕ, ◌≡◌, ◌+◌, Bool, if◌then◌else◌}
 use Rattle.dspec_record.specs.Record.{Record}
 use Rattle.dspec_word.specs.SpecId.{Speculation}
 use Rattle.dspec_deeds.specs.declared.calls.Decided.{Decided}
@@ -14,8 +14,7 @@ use Rattle.watch.specs.Requests.{fails_with, request_number}
 -- records were offered to the speculation, and nothing else was done
 pub data OffersAlone (id : Speculation) (x : CallsMade) : CallsMade → Type 0 where
   nothing : OffersAlone id x x
-  one_step : {y : CallsMade} (r : Record) (o : Option Spoken) (z : CallsMade) → OffersAlone id x y
-      → IfNone o (z ≡ y) → IfSome o (λ a. z ≡ with_speculate id r a y) → OffersAlone id x z
+  one_step : {y : CallsMade} (r : Record) (a : Spoken) (z : CallsMade) → OffersAlone id x y → z ≡ with_speculate id r a y → OffersAlone id x z
 
 -- a path was opened, the request's steps were offered to it, and it was kept where the request fails, and else thrown away
 pub record HandlesRequest (fails : Bool) (x y : CallsMade) : Type 0 where

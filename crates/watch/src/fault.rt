@@ -1,6 +1,7 @@
-use dspec::{KeptFault, SchemaFault, StartFault};
+use dspec::{KeptFault, StartFault};
 use dspec_command::{CommandFault, Ending};
 use dspec_ctf::{MetadataFault, PacketFault};
+use dspec_probed::ProbeFault;
 use dspec_trace::FolderFault;
 use thiserror::Error;
 
@@ -14,7 +15,7 @@ pub enum WatchFault<'a> {
     #[error("{0}")]
     Start(#[from] StartFault),
     #[error("{0}")]
-    Schema(#[from] SchemaFault),
+    Probe(#[from] ProbeFault),
     #[error("{0}")]
     Kept(#[from] KeptFault),
     /// What was recorded isn't what the generator made.
@@ -28,7 +29,9 @@ impl<'a> Ending for WatchFault<'a> {
         match self {
             WatchFault::Command(fault) => fault.status(),
             WatchFault::Folder { fault, .. } => folder_status(fault),
-            WatchFault::Start(StartFault::Memory) | WatchFault::Kept(KeptFault::Memory) => 2,
+            WatchFault::Probe(ProbeFault::Memory)
+            | WatchFault::Start(StartFault::Memory)
+            | WatchFault::Kept(KeptFault::Memory) => 2,
             _ => 1,
         }
     }

@@ -11,16 +11,19 @@
 mod arguments;
 mod fault;
 mod paths;
+mod probes;
 mod requests;
 mod serving;
 
 use arguments::{Ask, WatchAsk, ask_of};
-use dspec::{Both, Config, Enablings, Kept, closed_cpus, trace};
+use dspec::{Both, Config, Kept, closed_cpus, trace};
 use dspec_command::{ended, output_fault, print_text, words_of};
-use dspec_trace::{EventNames, Names, SystemFolder, TraceFolder};
+use dspec_probed::Probes;
+use dspec_trace::{Names, SystemFolder, TraceFolder};
 use fault::WatchFault;
 use paths::{compare, tell};
-use requests::{PROBES, WORKERS, enable};
+use probes::ServerProbes;
+use requests::WORKERS;
 use serving::Server;
 use std::process::ExitCode;
 use std::thread::Threads;
@@ -29,18 +32,15 @@ use std::thread::Threads;
 fn begin_trace<'a>(
     rt: &'a HostRuntime,
     name: &'a str,
-    schema: &Enablings,
+    probes: &Probes<'_>,
 ) -> Result<TraceFolder<SystemFolder<'a>>, WatchFault<'a>> {
-    let names = PROBES.map(|event| EventNames {
-        event,
-        fields: &["request", "micros"],
-    });
+    let names = Names::Given(probes.names());
     let folder = match SystemFolder::new(rt, name) {
         Ok(folder) => folder,
         Err(fault) => return Err(WatchFault::Folder { name, fault }),
     };
     let uuid = *b"watch-of-failure";
-    match TraceFolder::new(rt.alloc(), folder, uuid, schema, &Names::Given(&names)) {
+    match TraceFolder::new(rt.alloc(), folder, uuid, &probes.enablings(), &names) {
         Ok(begun) => Ok(begun),
         Err(fault) => Err(WatchFault::Folder { name, fault }),
     }
@@ -50,10 +50,10 @@ fn begin_trace<'a>(
 fn trace_asked<'a>(
     rt: &'a HostRuntime,
     folder: Option<&'a str>,
-    schema: &Enablings,
+    probes: &Probes<'_>,
 ) -> Result<Option<TraceFolder<SystemFolder<'a>>>, WatchFault<'a>> {
     match folder {
-        Some(name) => Ok(Some(begin_trace(rt, name, schema)?)),
+        Some(name) => Ok(Some(begin_trace(rt, name, probes)?)),
         None => Ok(None),
     }
 }
@@ -79,20 +79,23 @@ fn watch<'a, R: Threads + Sync>(
     ask: WatchAsk<'a>,
 ) -> Result<(), WatchFault<'a>> {
     let seed = ask.seed;
-    let schema = enable()?;
-    let second = trace_asked(rt, ask.folder, &schema)?;
+    let mut declared = Probes::unstamped(rt.alloc());
+    let probes = ServerProbes::declare(&mut declared)?;
+    let second = trace_asked(rt, ask.folder, &declared)?;
     let first = Kept::new(rt.alloc());
     let sink = Both { first, second };
     let config = Config::of(WORKERS, 16, 8192, 128);
-    let (closed, sink) = trace(threads, rt.alloc(), &config, schema, &Server { seed }, sink)?;
+    let server = Server { seed, probes };
+    let schema = declared.enablings();
+    let (closed, sink) = trace(threads, rt.alloc(), &config, schema, &server, sink)?;
     let Both { first, second } = sink;
     finish(ask.folder, second)?;
     let seen = first.records()?;
     for cpu in closed_cpus(&closed) {
-        if let Err(reason) = tell(rt, seed, cpu.number, seen.as_slice(), cpu.report) {
+        if let Err(reason) = tell(rt, &server, cpu.number, seen.as_slice(), cpu.report) {
             return Err(WatchFault::Command(output_fault(reason)));
         }
-        compare(seed, cpu.number, seen.as_slice(), cpu.report)?;
+        compare(&server, cpu.number, seen.as_slice(), cpu.report)?;
     }
     Ok(())
 }

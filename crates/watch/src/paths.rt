@@ -1,17 +1,19 @@
-use crate::requests::{PROBES, ROUNDS, Request};
-use anyhow::{Result, ensure};
+use crate::probes::ServerProbes;
+use crate::requests::{ROUNDS, Request};
+use crate::serving::Server;
+use anyhow::{Result, bail, ensure};
 use dspec::{Rec, Report};
 use std::io;
 
 /// How many steps of a request were recorded: all that is there of it has to be its first steps, in order.
-fn steps_of(seen: &[Rec], request: Request) -> Result<u64> {
+fn steps_of(probes: &ServerProbes, seen: &[Rec], request: Request) -> Result<u64> {
     let mut steps = 0u64;
     for rec in seen {
-        if rec.values().first() == Some(&request.number) {
-            let (epid, values) = request.step(steps);
-            let next = steps < request.steps()
-                && rec.epid() == epid
-                && rec.values() == values.as_slice();
+        let Some((action, (number, micros))) = probes.read(rec) else {
+            bail!("{rec} is of no probe");
+        };
+        if u64::from(number) == request.number {
+            let next = steps < request.steps() && request.step(steps) == (action, (number, micros));
             ensure!(next, "{rec} is no next step of its request");
             steps = steps.saturating_add(1);
         }
@@ -21,11 +23,11 @@ fn steps_of(seen: &[Rec], request: Request) -> Result<u64> {
 
 /// Compares what was recorded of a worker's requests with what the generator made: of a failed request all steps, or none where
 /// they are counted as lost or void, and of a request that succeeded none. The report has to tell of as many.
-pub fn compare(seed: u64, worker: u32, seen: &[Rec], report: &Report) -> Result<()> {
+pub fn compare(server: &Server, worker: u32, seen: &[Rec], report: &Report) -> Result<()> {
     let (mut offered, mut kept, mut missing) = (0u64, 0u64, 0u64);
     for round in 0..ROUNDS {
-        let request = Request::make(seed, u64::from(worker), round);
-        let (steps, recorded) = (request.steps(), steps_of(seen, request)?);
+        let request = Request::make(server.seed, u64::from(worker), round);
+        let (steps, recorded) = (request.steps(), steps_of(&server.probes, seen, request)?);
         let whole = recorded == 0 || (request.fails && recorded == steps);
         let number = request.number;
         ensure!(whole, "request {number} has {recorded} steps recorded");
@@ -45,17 +47,20 @@ pub fn compare(seed: u64, worker: u32, seen: &[Rec], report: &Report) -> Result<
 }
 
 /// Prints what was recorded of a request.
-fn tell_path<R: Print>(rt: &R, seen: &[Rec], number: u64) -> io::Result<()> {
-    print!(rt; "request {number} failed")?;
+fn tell_path<R: Print>(
+    rt: &R,
+    probes: &ServerProbes,
+    seen: &[Rec],
+    request: Request,
+) -> io::Result<()> {
+    print!(rt; "request {} failed", request.number)?;
     let mut before = ":";
     for rec in seen {
-        if rec.values().first() == Some(&number) {
-            let probe = PROBES
-                .get((rec.epid() as usize).wrapping_sub(1))
-                .unwrap_or(&"unknown");
-            let micros = rec.values().get(1).unwrap_or(&0);
-            print!(rt; "{before} {probe} {micros} us")?;
-            before = ",";
+        if let Some((action, (number, micros))) = probes.read(rec) {
+            if u64::from(number) == request.number {
+                print!(rt; "{before} {} {micros} us", action.name())?;
+                before = ",";
+            }
         }
     }
     println!(rt; "")
@@ -64,15 +69,15 @@ fn tell_path<R: Print>(rt: &R, seen: &[Rec], number: u64) -> io::Result<()> {
 /// Prints the paths of a worker's failed requests, and what its CPU reports.
 pub fn tell<R: Print>(
     rt: &R,
-    seed: u64,
+    server: &Server,
     worker: u32,
     seen: &[Rec],
     report: &Report,
 ) -> io::Result<()> {
     for round in 0..ROUNDS {
-        let request = Request::make(seed, u64::from(worker), round);
+        let request = Request::make(server.seed, u64::from(worker), round);
         if request.fails {
-            tell_path(rt, seen, request.number)?;
+            tell_path(rt, &server.probes, seen, request)?;
         }
     }
     let (offered, accepted, discarded) = (report.offered, report.accepted, report.discarded);

@@ -1,24 +1,12 @@
 ghost use Rattle.std.specs.Prelude.{◌≡◌};
 ghost use Rattle.watch.specs.Requests.{fails_with, request_number, spread_bits};
 
-use dspec::{Enablings, Field, SchemaFault};
+use crate::probes::Action;
 
 /// How many workers there are. Worker W handles the requests W, W + 4, W + 8, ..
 pub const WORKERS: u32 = 4;
 /// How many requests each handles.
 pub const ROUNDS: u64 = 100;
-
-/// The probes of the server, in the order of their EPIDs, from 1: each step of a request fires one.
-pub const PROBES: [&str; 4] = ["accept", "parse", "query", "answer"];
-
-/// What the probes record: the number of the request, and how many microseconds the step took.
-pub fn enable() -> Result<Enablings, SchemaFault> {
-    let mut enablings = Enablings::new();
-    for _probe in PROBES {
-        enablings.enable(&[Field::Four, Field::Four])?;
-    }
-    Ok(enablings)
-}
 
 /// Spreads the bits of a number, as SplitMix64 does.
 fn spread(number: u64) -> u64
@@ -61,15 +49,15 @@ impl Request {
         self.queries.saturating_add(2 + answers)
     }
 
-    /// The EPID of a step, and what it records.
-    pub fn step(&self, place: u64) -> (u32, [u64; 2]) {
-        let epid = match place {
-            0 => 1,
-            1 => 2,
-            _ if place.saturating_sub(2) < self.queries => 3,
-            _ => 4,
+    /// What a step does, and what is recorded of it: the number of the request, and the microseconds.
+    pub fn step(&self, place: u64) -> (Action, (u32, u32)) {
+        let action = match place {
+            0 => Action::Accept,
+            1 => Action::Parse,
+            _ if place.saturating_sub(2) < self.queries => Action::Query,
+            _ => Action::Answer,
         };
         let micros = spread(self.noise.wrapping_add(place)) % 1000;
-        (epid, [self.number, micros])
+        (action, (self.number as u32, micros as u32))
     }
 }

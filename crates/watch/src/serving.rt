@@ -1,20 +1,25 @@
 ghost use Rattle.std.specs.Prelude.{◌≡◌};
 ghost use Rattle.dspec_cpu.specs.Called.{called};
+ghost use Rattle.dspec_cpu.specs.Lists.{schema_of};
 ghost use Rattle.dspec.specs.Lanes.{place_of};
+ghost use Rattle.watch.specs.Probes.{AreOf};
 ghost use Rattle.watch.specs.Serving.{HandlesRequest};
 
+use crate::probes::ServerProbes;
 use crate::requests::{ROUNDS, Request};
 use dspec::{Enablings, Lane, Work};
+use dspec_probed::Recording;
 
 /// The steps of a request go to a path, which is kept where the request fails, and thrown away where it doesn't.
-fn handle(lane: &mut Lane<'_, Enablings>, request: Request)
+fn handle(lane: &mut Lane<'_, Enablings>, probes: &ServerProbes, request: Request)
+    requires of { AreOf probes.now (schema_of lane.old.cpu.now) }
     ensures same { place_of lane.new ≡ place_of lane.old }
     ensures handled { HandlesRequest request.fails (called lane.old.cpu.now) (called lane.new.cpu.now) }
 {
     let path = lane.path();
     for place in 0..request.steps() {
-        let (epid, values) = request.step(place);
-        path.step(lane, epid, 0, &values);
+        let (action, values) = request.step(place);
+        probes.of(action).step(lane, &path, 0, values);
     }
     if request.fails {
         path.keep(lane);
@@ -27,17 +32,22 @@ fn handle(lane: &mut Lane<'_, Enablings>, request: Request)
 #[derive(Drop)]
 pub struct Server {
     pub seed: u64,
+    pub probes: ServerProbes,
 }
 
 impl Work<Enablings> for Server {
+    ghost use Rattle.watch.specs.Probes.{AreOf};
     ghost use Rattle.watch.specs.Serving.{ServesRequests};
 
-    ghost does = { λ _ server number before after. ServesRequests server.seed number before 100 after };
+    ghost does = { λ schema server number before after. AreOf server.probes schema → ServesRequests server.seed number before 100 after };
 
     fn work(&self, lane: &mut Lane<'_, Enablings>) {
+        if !self.probes.are_on(lane) {
+            return;
+        }
         let worker = u64::from(lane.number());
         for round in 0..ROUNDS {
-            handle(lane, Request::make(self.seed, worker, round));
+            handle(lane, &self.probes, Request::make(self.seed, worker, round));
             lane.service();
         }
     }
