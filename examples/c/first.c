@@ -1,10 +1,10 @@
 /* One CPU and its consumer in one thread: a request that fails keeps its path, one that doesn't throws it away. */
 #include "dspec.h"
+#include "dspec_probe.h"
 
 #include <inttypes.h>
 #include <stdio.h>
 #include <stdlib.h>
-#include <string.h>
 
 #define OK(call)                                                                   \
     do {                                                                           \
@@ -15,24 +15,24 @@
         }                                                                          \
     } while (0)
 
+/* The one probe: a step of a request. */
+DSPEC_PROBE(step, uint32_t, request, uint32_t, number);
+
 /* A request's steps go to a speculation, which is committed or discarded behind the last of them. */
-static void serve(dspec_cpu *cpu, uint32_t step, uint32_t request, bool fails) {
+static void serve(dspec_cpu *cpu, const step_probe *step, uint32_t request, bool fails) {
     uint64_t id;
     uint32_t count;
     OK(dspec_speculation(cpu, &id));
-    for (uint32_t i = 0; i < 3; i++) OK(DSPEC_SPECULATE(cpu, id, step, request, i));
+    for (uint32_t i = 0; i < 3; i++) OK(step_speculate(step, cpu, id, 0, request, i));
     OK(fails ? dspec_commit(cpu, id, &count) : dspec_discard(cpu, id, &count));
     printf("request %" PRIu32 ": %" PRIu32 " records %s\n", request, count, fails ? "kept" : "thrown away");
 }
 
-/* The schema has one kind of record, of 12 bytes: the EPID and two values of 4. They stand in this machine's order of bytes where it
- * is little-endian. */
-static void print_batch(const dspec_batch *batch) {
-    for (size_t at = 0; at < batch->len; at += 12) {
-        uint32_t words[3];
-        memcpy(words, batch->bytes + at, sizeof words);
-        printf("cpu %" PRIu32 ": request %" PRIu32 ", step %" PRIu32 "\n", batch->cpu, words[1], words[2]);
-    }
+static void print_batch(const dspec_layout *layout, const step_probe *step, const dspec_batch *batch) {
+    dspec_record record;
+    step_values of;
+    for (size_t at = 0; dspec_read(layout, batch->bytes, batch->len, &at, &record) == DSPEC_READ;)
+        if (step_read(step, &record, &of)) printf("cpu %" PRIu32 ": request %" PRIu32 ", step %" PRIu32 "\n", batch->cpu, of.request, of.number);
 }
 
 int main(void) {
@@ -45,24 +45,26 @@ int main(void) {
         .cpus = 1, .nspec = 2, .bufsize = 4096, .specsize = 256,
         .max_issues = DSPEC_MAX_ISSUES, .max_calls = DSPEC_MAX_CALLS, .policy = DSPEC_POLICY_SWITCH,
     };
-    uint32_t step, settled;
+    dspec_layout layout = { .stamped = false };
+    step_probe step = { 0 };
+    uint32_t settled;
     bool sealed;
     dspec_batch batch;
     dspec_report report;
 
     OK(dspec_schema_new(&schema));
-    OK(dspec_schema_enable(&schema, (const uint8_t[]){ 4, 4 }, 2, &step));
+    OK(step_enable(&step, &layout, &schema));
     OK(dspec_start(&config, &schema, &session));
     OK(dspec_cpu_of(&session, 0, &cpu));
     OK(dspec_consumer_of(&session, &consumer));
 
-    serve(&cpu, step, 1, false);
-    serve(&cpu, step, 2, true);
+    serve(&cpu, &step, 1, false);
+    serve(&cpu, &step, 2, true);
 
     OK(dspec_ask(&consumer, 0));
     OK(dspec_service(&cpu, &sealed, &settled));
     OK(dspec_take(&consumer, 0, &batch));
-    print_batch(&batch);
+    print_batch(&layout, &step, &batch);
     OK(dspec_give_back(&consumer, 0));
 
     OK(dspec_cpu_home(&cpu));

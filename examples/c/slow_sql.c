@@ -7,7 +7,7 @@
 #define _POSIX_C_SOURCE 200809L
 
 #include "dspec.h"
-#include "dspec_reader.h"
+#include "dspec_probe.h"
 
 #include <inttypes.h>
 #include <pthread.h>
@@ -22,9 +22,17 @@ enum { CPUS = 2, STATEMENTS = 400, ROWS_A_STEP = 8192 };
 /* A statement that takes longer, in nanoseconds, is kept. SQLite's own profile counts in milliseconds, so the clock is ours. */
 static const uint64_t SLOW = 1000000;
 
-/* The schema: a statement's first 8 letters; its first step; rows so far; rows in all; what SQLite returned. */
+/* The schema: a statement's first 8 letters; how far it has come; what SQLite returned. */
+DSPEC_PROBE(asked, uint64_t, letters);
+DSPEC_PROBE(rows, uint64_t, count);
+DSPEC_PROBE(ended, uint64_t, count);
+DSPEC_PROBE(returned, int, result);
 static dspec_layout known;
-static uint32_t asked_epid, begun_epid, rows_epid, ended_epid, returned_epid;
+static asked_probe asked;
+static rows_probe rows;
+static ended_probe ended;
+static returned_probe returned;
+static uint32_t begun_epid; /* a record without fields */
 
 /* How many lanes haven't ended. */
 static atomic_int running = CPUS;
@@ -75,9 +83,9 @@ static int hook(unsigned what, void *context, void *statement, void *detail) {
         DSPEC_SPECULATE_AT(&l->cpu, l->id, begun_epid, now());
     } else if (what == SQLITE_TRACE_ROW) {
         l->rows++;
-        if (l->rows % ROWS_A_STEP == 0) DSPEC_SPECULATE_AT(&l->cpu, l->id, rows_epid, now(), l->rows);
+        if (l->rows % ROWS_A_STEP == 0) rows_speculate(&rows, &l->cpu, l->id, now(), l->rows);
     } else if (what == SQLITE_TRACE_PROFILE) {
-        DSPEC_SPECULATE_AT(&l->cpu, l->id, ended_epid, now(), l->rows);
+        ended_speculate(&ended, &l->cpu, l->id, now(), l->rows);
     }
     return 0;
 }
@@ -90,10 +98,10 @@ static void run(lane *l, const char *sql) {
     bool sealed;
     l->rows = 0;
     if (dspec_speculation(&l->cpu, &l->id) != DSPEC_OK) l->id = 0;
-    DSPEC_SPECULATE_AT(&l->cpu, l->id, asked_epid, begun, letters(sql));
+    asked_speculate(&asked, &l->cpu, l->id, begun, letters(sql));
     int result = sqlite3_exec(l->db, sql, NULL, NULL, NULL);
     uint64_t end = now();
-    DSPEC_SPECULATE_AT(&l->cpu, l->id, returned_epid, end, (unsigned)result);
+    returned_speculate(&returned, &l->cpu, l->id, end, result);
     if (result != SQLITE_OK || end - begun > SLOW) dspec_commit(&l->cpu, l->id, &count);
     else dspec_discard(&l->cpu, l->id, &count);
     OK(dspec_service(&l->cpu, &sealed, &settled));
@@ -129,30 +137,34 @@ static void *work(void *arg) {
 }
 
 /* A step, with the microseconds since its statement was asked. */
-static void print_step(const dspec_record *one, uint64_t asked) {
-    uint64_t micros = (one->stamp - asked) / 1000;
+static void print_step(const dspec_record *one, uint64_t began) {
+    uint64_t micros = (one->stamp - began) / 1000;
+    rows_values so_far;
+    ended_values all;
+    returned_values of;
     if (one->epid == begun_epid) printf(", began %" PRIu64 " us", micros);
-    else if (one->epid == rows_epid) printf(", %" PRIu64 " rows %" PRIu64 " us", one->values[0], micros);
-    else if (one->epid == ended_epid) printf(", ended with %" PRIu64 " rows %" PRIu64 " us", one->values[0], micros);
-    else printf(", returned %" PRIu64 " %" PRIu64 " us", one->values[0], micros);
+    else if (rows_read(&rows, one, &so_far)) printf(", %" PRIu64 " rows %" PRIu64 " us", so_far.count, micros);
+    else if (ended_read(&ended, one, &all)) printf(", ended with %" PRIu64 " rows %" PRIu64 " us", all.count, micros);
+    else if (returned_read(&returned, one, &of)) printf(", returned %d %" PRIu64 " us", of.result, micros);
 }
 
 /* A commit copies a path whole, so that it never goes on in the next batch. */
 static void print_batch(const dspec_batch *batch) {
-    uint64_t asked = 0;
+    uint64_t began = 0;
     char name[9];
     dspec_record one;
+    asked_values of;
     for (size_t at = 0; dspec_read(&known, batch->bytes, batch->len, &at, &one) == DSPEC_READ;) {
-        if (one.epid == asked_epid) {
-            if (asked != 0) putchar('\n');
-            asked = one.stamp;
-            spell(one.values[0], name);
+        if (asked_read(&asked, &one, &of)) {
+            if (began != 0) putchar('\n');
+            began = one.stamp;
+            spell(of.letters, name);
             printf("cpu %" PRIu32 ": %s", batch->cpu, name);
         } else {
-            print_step(&one, asked);
+            print_step(&one, began);
         }
     }
-    if (asked != 0) putchar('\n');
+    if (began != 0) putchar('\n');
 }
 
 /* A round of the consumer, while the lanes work. */
@@ -178,11 +190,11 @@ static void start(dspec_session *session) {
     OK(dspec_schema_new(&schema));
     OK(dspec_schema_stamp(&schema));
     known.stamped = true;
-    OK(dspec_layout_enable(&known, &schema, (const uint8_t[]){ 8 }, 1, &asked_epid));
+    OK(asked_enable(&asked, &known, &schema));
     OK(dspec_layout_enable(&known, &schema, (const uint8_t[]){ 0 }, 0, &begun_epid));
-    OK(dspec_layout_enable(&known, &schema, (const uint8_t[]){ 8 }, 1, &rows_epid));
-    OK(dspec_layout_enable(&known, &schema, (const uint8_t[]){ 8 }, 1, &ended_epid));
-    OK(dspec_layout_enable(&known, &schema, (const uint8_t[]){ 4 }, 1, &returned_epid));
+    OK(rows_enable(&rows, &known, &schema));
+    OK(ended_enable(&ended, &known, &schema));
+    OK(returned_enable(&returned, &known, &schema));
     OK(dspec_start(&config, &schema, session));
     dspec_schema_drop(&schema);
 }

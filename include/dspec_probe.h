@@ -1,0 +1,107 @@
+/* dspec_probe.h: probes with typed fields, for C11, beside dspec.h and dspec_reader.h. C++ has them in dspec.hpp.
+ *
+ *     DSPEC_PROBE(query, uint64_t, request, uint32_t, micros)
+ *
+ * at the top of a file declares a probe called query with two fields. It has one to eight fields, each an integer, a bool, a float or a
+ * double, of 1, 2, 4 or 8 bytes. What there is then:
+ *
+ *     query_probe q;                                              the probe; all zeros until it is enabled
+ *     query_enable(&q, &layout, &schema)                          answers as dspec_layout_enable
+ *     query_trace(&q, &cpu, stamp, request, micros)               answers as dspec_trace
+ *     query_speculate(&q, &cpu, id, stamp, request, micros)       answers as dspec_speculate
+ *     query_values v; query_read(&q, &record, &v)                 whether the record is one of q; its values are in v.request, v.micros
+ *
+ * The stamp is 0 where records have none. A value is converted to its field's type as an argument of a function is; a negative number
+ * and a float keep their bits. A record of a probe that wasn't enabled is DSPEC_BAD_RECORD.
+ */
+#ifndef DSPEC_PROBE_H
+#define DSPEC_PROBE_H
+
+#include "dspec.h"
+#include "dspec_reader.h"
+
+#include <assert.h>
+#include <string.h>
+
+/* The bits of a value of so many bytes, at most 8, with zeros above them. The machine is little-endian, as all are that the library is
+ * built for. */
+static inline uint64_t dspec_bits_of(const void *value, size_t width) {
+    uint64_t bits = 0;
+    memcpy(&bits, value, width);
+    return bits;
+}
+
+/* The value of such bits, and of those of a bool, of which any but 0 is true. */
+static inline void dspec_value_of(void *value, const uint64_t *bits, size_t width) { memcpy(value, bits, width); }
+
+static inline void dspec_bool_of(void *value, const uint64_t *bits, size_t width) {
+    (void)width;
+    *(bool *)value = *bits != 0;
+}
+
+/* Not each probe is used in each way. */
+#if defined(__GNUC__)
+#define DSPEC_PROBE_CALL_ __attribute__((unused)) static inline
+#else
+#define DSPEC_PROBE_CALL_ static inline
+#endif
+
+/* One step a field: DSPEC_PROBE_n_(STEP, type, name, ..) is STEP(0, type, name) STEP(1, ..) and so on. */
+#define DSPEC_PROBE_1_(S, T0, N0) S(0, T0, N0)
+#define DSPEC_PROBE_2_(S, T0, N0, T1, N1) DSPEC_PROBE_1_(S, T0, N0) S(1, T1, N1)
+#define DSPEC_PROBE_3_(S, T0, N0, T1, N1, T2, N2) DSPEC_PROBE_2_(S, T0, N0, T1, N1) S(2, T2, N2)
+#define DSPEC_PROBE_4_(S, T0, N0, T1, N1, T2, N2, T3, N3) DSPEC_PROBE_3_(S, T0, N0, T1, N1, T2, N2) S(3, T3, N3)
+#define DSPEC_PROBE_5_(S, T0, N0, T1, N1, T2, N2, T3, N3, T4, N4) DSPEC_PROBE_4_(S, T0, N0, T1, N1, T2, N2, T3, N3) S(4, T4, N4)
+#define DSPEC_PROBE_6_(S, T0, N0, T1, N1, T2, N2, T3, N3, T4, N4, T5, N5) \
+    DSPEC_PROBE_5_(S, T0, N0, T1, N1, T2, N2, T3, N3, T4, N4) S(5, T5, N5)
+#define DSPEC_PROBE_7_(S, T0, N0, T1, N1, T2, N2, T3, N3, T4, N4, T5, N5, T6, N6) \
+    DSPEC_PROBE_6_(S, T0, N0, T1, N1, T2, N2, T3, N3, T4, N4, T5, N5) S(6, T6, N6)
+#define DSPEC_PROBE_8_(S, T0, N0, T1, N1, T2, N2, T3, N3, T4, N4, T5, N5, T6, N6, T7, N7) \
+    DSPEC_PROBE_7_(S, T0, N0, T1, N1, T2, N2, T3, N3, T4, N4, T5, N5, T6, N6) S(7, T7, N7)
+
+/* The step for so many fields: two words each. */
+#define DSPEC_PROBE_PICK_(A1, B1, A2, B2, A3, B3, A4, B4, A5, B5, A6, B6, A7, B7, A8, B8, EACH, ...) EACH
+#define DSPEC_PROBE_EACH_(S, ...)                                                                                                              \
+    DSPEC_PROBE_PICK_(__VA_ARGS__, DSPEC_PROBE_8_, odd_, DSPEC_PROBE_7_, odd_, DSPEC_PROBE_6_, odd_, DSPEC_PROBE_5_, odd_, DSPEC_PROBE_4_, odd_, \
+                      DSPEC_PROBE_3_, odd_, DSPEC_PROBE_2_, odd_, DSPEC_PROBE_1_, odd_)                                                        \
+    (S, __VA_ARGS__)
+
+#define DSPEC_PROBE_FIELD_(AT, TYPE, NAME) TYPE NAME;
+#define DSPEC_PROBE_ARGUMENT_(AT, TYPE, NAME) , TYPE NAME
+#define DSPEC_PROBE_WIDTH_(AT, TYPE, NAME) sizeof(TYPE),
+#define DSPEC_PROBE_BITS_(AT, TYPE, NAME) dspec_bits_of(&NAME, sizeof NAME),
+#define DSPEC_PROBE_BACK_(AT, TYPE, NAME) \
+    _Generic(dspec_values_->NAME, bool: dspec_bool_of, default: dspec_value_of)(&dspec_values_->NAME, &dspec_record_->values[AT], sizeof(TYPE));
+#define DSPEC_PROBE_ASSERT_(AT, TYPE, NAME) \
+    static_assert(sizeof(TYPE) == 1 || sizeof(TYPE) == 2 || sizeof(TYPE) == 4 || sizeof(TYPE) == 8, "a field has 1, 2, 4 or 8 bytes");
+
+#define DSPEC_PROBE(PROBE, ...)                                                                                                                        \
+    typedef struct PROBE##_probe {                                                                                                                     \
+        uint32_t epid;                                                                                                                                 \
+    } PROBE##_probe;                                                                                                                                   \
+    typedef struct PROBE##_values {                                                                                                                    \
+        DSPEC_PROBE_EACH_(DSPEC_PROBE_FIELD_, __VA_ARGS__)                                                                                             \
+    } PROBE##_values;                                                                                                                                  \
+    DSPEC_PROBE_CALL_ dspec_status PROBE##_enable(PROBE##_probe *dspec_probe_, dspec_layout *dspec_layout_, dspec_schema *dspec_schema_) {             \
+        static const uint8_t dspec_widths_[] = { DSPEC_PROBE_EACH_(DSPEC_PROBE_WIDTH_, __VA_ARGS__) };                                                 \
+        DSPEC_PROBE_EACH_(DSPEC_PROBE_ASSERT_, __VA_ARGS__)                                                                                            \
+        return dspec_layout_enable(dspec_layout_, dspec_schema_, dspec_widths_, sizeof dspec_widths_, &dspec_probe_->epid);                            \
+    }                                                                                                                                                  \
+    DSPEC_PROBE_CALL_ dspec_status PROBE##_trace(const PROBE##_probe *dspec_probe_, dspec_cpu *dspec_cpu_,                                             \
+                                             uint64_t dspec_stamp_ DSPEC_PROBE_EACH_(DSPEC_PROBE_ARGUMENT_, __VA_ARGS__)) {                            \
+        const uint64_t dspec_bits_[] = { DSPEC_PROBE_EACH_(DSPEC_PROBE_BITS_, __VA_ARGS__) };                                                          \
+        return dspec_trace(dspec_cpu_, dspec_probe_->epid, dspec_stamp_, dspec_bits_, sizeof dspec_bits_ / sizeof dspec_bits_[0]);                     \
+    }                                                                                                                                                  \
+    DSPEC_PROBE_CALL_ dspec_status PROBE##_speculate(const PROBE##_probe *dspec_probe_, dspec_cpu *dspec_cpu_, uint64_t dspec_id_,                     \
+                                                 uint64_t dspec_stamp_ DSPEC_PROBE_EACH_(DSPEC_PROBE_ARGUMENT_, __VA_ARGS__)) {                        \
+        const uint64_t dspec_bits_[] = { DSPEC_PROBE_EACH_(DSPEC_PROBE_BITS_, __VA_ARGS__) };                                                          \
+        return dspec_speculate(dspec_cpu_, dspec_id_, dspec_probe_->epid, dspec_stamp_, dspec_bits_, sizeof dspec_bits_ / sizeof dspec_bits_[0]);      \
+    }                                                                                                                                                  \
+    DSPEC_PROBE_CALL_ bool PROBE##_read(const PROBE##_probe *dspec_probe_, const dspec_record *dspec_record_, PROBE##_values *dspec_values_) {         \
+        if (dspec_record_->epid != dspec_probe_->epid) return false;                                                                                   \
+        DSPEC_PROBE_EACH_(DSPEC_PROBE_BACK_, __VA_ARGS__)                                                                                              \
+        return true;                                                                                                                                   \
+    }                                                                                                                                                  \
+    static_assert(sizeof(PROBE##_probe) == 4, "a probe is its EPID")
+
+#endif
