@@ -46,9 +46,9 @@ static void end(lane *l, dspec_batch *batch) {
 
 /* The next record, read by each probe: which reads it, and what. */
 static void reads(lane *l, const dspec_batch *batch, size_t *at, dspec_record *one) {
-    narrow_values n;
-    wide_values w;
-    single_values s;
+    narrow_values n = { 0 };
+    wide_values w = { 0 };
+    single_values s = { 0 };
     CHECK(dspec_read(&l->layout, batch->bytes, batch->len, at, one) == DSPEC_READ);
     CHECK(narrow_read(&l->narrow, one, &n) == (one->epid == 1));
     CHECK(wide_read(&l->wide, one, &w) == (one->epid == 2));
@@ -59,9 +59,9 @@ static void values_come_back(bool stamped) {
     lane l;
     dspec_batch batch;
     dspec_record one;
-    narrow_values n;
-    wide_values w;
-    single_values s;
+    narrow_values n = { 0 };
+    wide_values w = { 0 };
+    single_values s = { 0 };
     uint64_t id, stamp = stamped ? 77 : 0;
     uint32_t count;
     size_t at = 0;
@@ -106,7 +106,7 @@ static void refusals(void) {
 /* What a bool reads of a number that isn't 0 or 1. */
 static void odd_bool(void) {
     narrow_probe probe = { 4 };
-    narrow_values n;
+    narrow_values n = { 0 };
     const dspec_record one = { .epid = 4, .values = { 0xff, 2, 3 }, .fields = 3 };
     CHECK(narrow_read(&probe, &one, &n) && n.a == -1 && n.b == true && n.c == 3);
 }

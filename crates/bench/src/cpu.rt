@@ -3,6 +3,7 @@
 mod asking;
 mod checking;
 mod lane;
+mod probed;
 mod starting;
 mod taking;
 mod way;

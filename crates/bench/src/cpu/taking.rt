@@ -1,11 +1,15 @@
 //! The ways of a record by its schema, and the buffers that it goes into.
+ghost use Rattle.std.specs.Prelude.{◌≡◌};
+
 use crate::cpu::asking::Run;
 use crate::cpu::lane::{record_over, step_over, trace_over};
+use crate::cpu::probed::{fire_over, walk_over};
 use crate::cpu::starting::begin;
 use crate::cpu::way::{Way, commit_often, serve_often, single_often, trace_often};
 use dspec::Lane;
 use dspec_deeds::{Config, Policy};
-use dspec_record::{DefaultAction, Rec, Schema};
+use dspec_probed::{Fields, Probe, Probes};
+use dspec_record::{DefaultAction, Enablings, Rec, Schema};
 use dspec_samples::{Subject, timed_enablings};
 use std::alloc::Global;
 
@@ -28,6 +32,9 @@ impl Size {
 
 /// Takes the way by so many records, or services so often: how many came out of it so; None for want of memory.
 pub fn take(alloc: Global, run: Run) -> Option<u32> {
+    if run.way.is_typed() {
+        return take_typed(alloc, run);
+    }
     let rec = run.subject.record()?;
     match run.subject {
         Subject::Default4 => take_by(alloc, DefaultAction, rec, run),
@@ -35,12 +42,12 @@ pub fn take(alloc: Global, run: Run) -> Option<u32> {
     }
 }
 
-fn take_by<S: Schema>(alloc: Global, schema: S, rec: Rec, run: Run) -> Option<u32> {
-    if !schema.accepts(&rec) {
-        return None;
-    }
-    let (bufsize, specsize) = run.size.bytes();
-    let config = Config {
+/// One CPU with 32 slots, and buffers of that size.
+fn config_of(size: Size) -> Config
+    ensures { result.cpus ≡ 1 }
+{
+    let (bufsize, specsize) = size.bytes();
+    Config {
         cpus: 1,
         nspec: 32,
         bufsize,
@@ -48,7 +55,47 @@ fn take_by<S: Schema>(alloc: Global, schema: S, rec: Rec, run: Run) -> Option<u3
         max_issues: 1 << 57,
         max_calls: 1 << 62,
         policy: Policy::Switch,
-    };
+    }
+}
+
+/// By a typed probe, of a subject that has fields.
+fn take_typed(alloc: Global, run: Run) -> Option<u32> {
+    let mut probes = Probes::unstamped(alloc);
+    let narrow: Probe<(u32,)> = probes.probe("narrow", &["value"]).ok()?;
+    let wide: Probe<(u8, u16, u32, u64)> = probes.probe("wide", &["a", "b", "c", "d"]).ok()?;
+    let schema = probes.enablings();
+    match run.subject {
+        Subject::Enabled8 => take_by_probe(alloc, schema, narrow, (4_000_000_000,), run),
+        Subject::Enabled24 => {
+            let values = (200, 60_000, 4_000_000_000, 9_000_000_000_000_000_000);
+            take_by_probe(alloc, schema, wide, values, run)
+        }
+        _ => None,
+    }
+}
+
+fn take_by_probe<F: Fields>(
+    alloc: Global,
+    schema: Enablings,
+    probe: Probe<F>,
+    values: F,
+    run: Run,
+) -> Option<u32> {
+    let config = config_of(run.size);
+    let (mut cpu, shared) = begin(alloc, &config, schema)?;
+    let mut lane = Lane::of(&shared, &mut cpu);
+    match run.way {
+        Way::Fired => Some(fire_over(&mut lane, probe, values, run.number)),
+        Way::Walked => Some(walk_over(&mut lane, probe, values, run.number)),
+        _ => None,
+    }
+}
+
+fn take_by<S: Schema>(alloc: Global, schema: S, rec: Rec, run: Run) -> Option<u32> {
+    if !schema.accepts(&rec) {
+        return None;
+    }
+    let config = config_of(run.size);
     let (mut cpu, shared) = begin(alloc, &config, schema)?;
     match run.way {
         Way::Kept => Some(trace_often(&mut cpu, &shared, &rec, run.number)),
@@ -62,7 +109,7 @@ fn take_by<S: Schema>(alloc: Global, schema: S, rec: Rec, run: Run) -> Option<u3
         }
         Way::Dropped => {
             // No record is smaller than 4 bytes.
-            trace_often(&mut cpu, &shared, &rec, bufsize / 4);
+            trace_often(&mut cpu, &shared, &rec, config.bufsize / 4);
             let kept = trace_often(&mut cpu, &shared, &rec, run.number);
             Some(run.number.saturating_sub(kept))
         }
@@ -73,5 +120,6 @@ fn take_by<S: Schema>(alloc: Global, schema: S, rec: Rec, run: Run) -> Option<u3
             Some(step_over(&mut lane, &rec, run.number))
         }
         Way::Served => Some(serve_often(&mut cpu, &shared, run.number)),
+        Way::Fired | Way::Walked => None,
     }
 }

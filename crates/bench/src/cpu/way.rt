@@ -28,12 +28,16 @@ pub enum Way {
     Single,
     /// It is one of twenty steps of a path of a lane, which is opened, stepped and kept.
     Stepped,
+    /// It is recorded over a lane by a typed probe, and kept.
+    Fired,
+    /// It is one of twenty steps of a path by a typed probe; the path is opened, stepped and kept.
+    Walked,
     /// There is none: the CPU services, and nothing is owed.
     Served,
 }
 
 /// All of them, in the order in which they are told.
-pub const WAYS: [Way; 8] = [
+pub const WAYS: [Way; 10] = [
     Way::Kept,
     Way::Lane,
     Way::Recorded,
@@ -41,10 +45,17 @@ pub const WAYS: [Way; 8] = [
     Way::Committed,
     Way::Single,
     Way::Stepped,
+    Way::Fired,
+    Way::Walked,
     Way::Served,
 ];
 
 impl Way {
+    /// Whether records are made by a typed probe, which has at least one field.
+    pub fn is_typed(self) -> bool {
+        matches!(self, Way::Fired | Way::Walked)
+    }
+
     pub fn name(self) -> &'static str {
         match self {
             Way::Kept => "kept",
@@ -54,6 +65,8 @@ impl Way {
             Way::Committed => "committed",
             Way::Single => "single",
             Way::Stepped => "stepped",
+            Way::Fired => "fired",
+            Way::Walked => "walked",
             Way::Served => "served",
         }
     }

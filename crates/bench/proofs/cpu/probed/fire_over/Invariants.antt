@@ -1,0 +1,6 @@
+use Rattle.std.proofs.Common.{◌≡◌}
+use Rattle.dspec.specs.Lanes.{place_of}
+use Rattle.bench.proofs.cpu.probed.fire_over.Given as goal
+
+abbrev pub invariant-loop : goal.invariant-loop
+invariant-loop g l = place_of l.lane ≡ place_of l.fn.lane
