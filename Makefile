@@ -100,18 +100,24 @@ build-bench:
 	@command -v rt > /dev/null || { echo "make bench needs rt, the toolchain's command" >&2; exit 1; }
 	@cd crates/bench && rt run > /dev/null
 
-# The C library, proved: build/lib has the archive, build/shared the shared object where one links, build/include the header.
+# The C library, proved: build/lib has the archive, build/shared the shared object where one links, build/include the header. With
+# TRY=1 in a minute or two, unproved: to look at and to write programs against.
 lib:
-	@cd crates/dspec_c && rt lib > /dev/null
-	@sh .ci/c_lib build build
+	@if [ "$(TRY)" = 1 ]; then \
+		.ci/c_try build/trial/libdspec_c.a && TRY=1 DSPEC_ARCHIVE=build/trial/libdspec_c.a sh .ci/c_lib build build; \
+	else \
+		sh .ci/c_lib prove && sh .ci/c_lib build build; \
+	fi
 
 # The C library's tests, and those of the Rust package: over the archive that make lib builds.
 c-check: lib
 	@sh .ci/c
 
-# The archive, the header and a pkg-config file to PREFIX, behind DESTDIR; with SHARED=1 the shared object too.
+# The archive, the headers, a pkg-config file and manual pages to PREFIX, behind DESTDIR; with SHARED=1 the shared object too, with
+# PROGRAMS=1 specplay and specview, proved; with TRY=1 an unproved archive.
 install: lib
-	@DESTDIR="$(DESTDIR)" SHARED="$(SHARED)" sh .ci/c_lib install build "$(PREFIX)"
+	@[ "$(PROGRAMS)" != 1 ] || for program in specplay specview; do (cd "crates/$$program" && rt run < /dev/null > /dev/null) || exit 1; done
+	@DESTDIR="$(DESTDIR)" SHARED="$(SHARED)" PROGRAMS="$(PROGRAMS)" sh .ci/c_lib install build "$(PREFIX)"
 
 uninstall:
 	@DESTDIR="$(DESTDIR)" sh .ci/c_lib uninstall "$(PREFIX)"

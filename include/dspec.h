@@ -288,6 +288,15 @@ DSPEC_INLINE void dspec_closed_drop(dspec_closed *closed) DSPEC_NOEXCEPT { dspec
 
 /* ---- Beside the library. ---- */
 
+/* The version in words, as a static text; that of a trial build says that nothing of it is proved. */
+DSPEC_INLINE const char *dspec_version_text(void) DSPEC_NOEXCEPT {
+#ifdef DSPEC_UNPROVED
+    return DSPEC_VERSION_STRING " (trial build, unproved)";
+#else
+    return DSPEC_VERSION_STRING;
+#endif
+}
+
 /* A status in words, as a static text; of a number that is none, "unknown status". */
 DSPEC_INLINE const char *dspec_status_text(dspec_status status) DSPEC_NOEXCEPT {
     switch (status) {
