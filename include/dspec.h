@@ -14,8 +14,9 @@
  *
  * THREADS. A handle is in one call at a time. Different handles may be in calls at the same time, on any threads: each CPU's
  * handle goes to the thread that traces for that CPU, the consumer's to another. Who passes a handle to another thread orders
- * that by a thread's start or join, by a lock, or by a sequentially consistent atomic. No call waits, locks or sleeps. No call is
- * made from a signal handler, nor in the forked child of a process with threads.
+ * that by a thread's start or join, by a lock, or by a sequentially consistent atomic. No call waits, locks or sleeps. A signal handler
+ * makes calls on a CPU of its own, whose handle nobody else uses: they take no lock and no memory. No call is made in the forked child of
+ * a process with threads.
  *
  * MEMORY. The calls marked "Takes memory" take it from malloc, and answer DSPEC_NO_MEMORY where it is refused; then nothing has
  * changed, and the call may be made again. No other call takes any. Each call may free.
