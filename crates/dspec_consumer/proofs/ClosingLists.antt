@@ -1,5 +1,5 @@
 -- The close of a session, from the lists of its CPUs.
-use Rattle.std.proofs.Common.{◌≡◌, ℕ, Bool, ◌<◌, [], ◌∷◌, ◌++◌, List, length, reverse, take, Option, Some, None, sym, ap, ◌∙◌, subst, inl, inr, ◌⊎◌, ◌≤◌, slice_get, get_or, arith}
+use Rattle.std.proofs.Common.{◌≡◌, ℕ, Bool, ◌<◌, [], ◌∷◌, ◌++◌, List, length, reverse, take, Option, Some, None, refl, sym, ap, ◌∙◌, subst, inl, inr, ◌⊎◌, ◌≤◌, slice_get, get_or, arith}
 use Rattle.std.proofs.lemmas.Option.{slice_get_within, slice_get_cases}
 use Rattle.dspec_record.specs.Record.{Record}
 use Rattle.dspec_record.specs.declared.field.Shape.{Shape}
@@ -12,6 +12,7 @@ use Rattle.dspec_deeds.specs.Closes.{closing}
 use Rattle.dspec_deeds.specs.Own.{batch_records, contents, stream, taken as accepted_first}
 use Rattle.dspec_deeds.specs.Ranges.{start_fault}
 use Rattle.dspec_deeds.specs.Weaving.{woven, HaveLists, IsWoven}
+use Rattle.dspec_deeds.proofs.BareReads.{scan_bare}
 use Rattle.dspec_deeds.proofs.Headlines.{headline}
 use Rattle.dspec_deeds.proofs.OwnParts.{own_of_fitting}
 use Rattle.dspec_deeds.proofs.OwnReads.{reads}
@@ -37,8 +38,11 @@ seat_there seats c n e lt = found (slice_get_cases seats c).1
     found (inl there) = (there.0, there.2)
     found (inr past) = let le = past.0 in absurd (omega arith)
 
--- The close of the list of all, of which the last words tell, and of the CPUs' lists; the words don't change.
+-- The close of the list of all, of which the last words tell, with the Seals of the CPUs' lists put in; the words don't change.
 pub record IsCloseAt (shape : ℕ → Option Shape) (k : Config) (h : List Deed) (p : ℕ → List Deed) (g : List Deed) : Type 0 where
+  pub before : List Deed
+  pub woven : IsWoven shape k p h before
+  pub is : g ≡ closing shape k before
   pub close : IsCloseOf shape k p h g
   pub words : (s : ℕ) → word_at s g ≡ word_at s h
 
@@ -63,6 +67,9 @@ module _ (shape : ℕ → Option Shape) (k : Config) (words : List ℕ) (seats :
       let is : IsWoven shape k p e.log w = weaves shape k e.log p e.sound e.rests e.authors lists_there in (
         closing shape k w,
         record {
+          before = w;
+          woven = is;
+          is = refl;
           close = closes shape k e.log p w checked none_scans is (λ c g legal. headline shape k c g legal.0);
           words = λ s. ap (λ (f : ℕ → SlotState). f s) (cpus_words shape k k.cpus w) ∙ is.shows.words s;
         },
@@ -102,9 +109,19 @@ module _ (shape : ℕ → Option Shape) (accepted : Record → Bool) (text : Rec
   pub closes_as : (g : List Deed) × ClosesAs shape accepted text k worn taken consumer.own left p g
   closes_as =
       let found = close_of_ended shape k words seats consumer is.checked is.seats_all is.ended p is.rests in
-      let close = found.1.close in (
+      let close = found.1.close in
+      let wove = found.1.woven in
+      let idle = none_scans shape k words seats consumer is.checked is.seats_all is.ended p is.rests in (
         found.0,
         record {
+          before = found.1.before;
+          all_before = record {
+            can_close = record { legal = wove.legal.0; rests = wove.rests; idle = λ c lt. scan_bare k c found.1.before ∙ (ap (scan k c) wove.rest ∙ idle c lt) };
+            authors = wove.legal.1;
+            own = wove.own;
+            consumer_is = wove.consumer ∙ is.ended.of_consumer;
+          };
+          closing_is = found.1.is;
           legal = close.legal;
           consumer_is = close.consumer ∙ is.ended.of_consumer;
           all = is.all;

@@ -16,5 +16,6 @@ pub mod FirstParted
 pub mod AllParted
 mod Standing
 pub mod ClosedDeeds
+pub mod ClosingSaid
 pub mod Mixes
 pub mod PromisedBy

@@ -1,14 +1,12 @@
 -- A list of deeds is made of the parts that its actors have in it, and a CPU's list of what its seat entered and its Seals.
-use Rattle.std.proofs.Common.{◌≡◌, ◌≢◌, ℕ, ◌<◌, ◌≤◌, true, false, if◌then◌else◌, List, [], ◌∷◌, ◌++◌, Option, refl, sym, ap, ◌∙◌, ⊎_elim, arith}
+use Rattle.std.proofs.Common.{◌≡◌, ◌≢◌, ℕ, ◌<◌, ◌≤◌, true, false, if◌then◌else◌, List, [], ◌∷◌, Option, refl, sym, ap, ◌∙◌, ⊎_elim, arith}
 use Rattle.std.specs.Prelude.{Bool, nat_lt}
 use Rattle.std.proofs.lemmas.Bool.Decides.{nat_tests}
 use Rattle.dspec_record.specs.Record.{Record}
 use Rattle.dspec_record.specs.declared.field.Shape.{Shape}
-use Rattle.dspec_word.specs.SpecId.{Speculation}
 use Rattle.dspec_deeds.specs.declared.config.Config.{Config}
 use Rattle.dspec_deeds.specs.declared.calls.Actor.{Actor}
 use Rattle.dspec_deeds.specs.declared.calls.Actor.TheVariants.{Cpu, Consumer}
-use Rattle.dspec_deeds.specs.declared.deed.DecideFate.{DecideFate}
 use Rattle.dspec_deeds.specs.declared.deed.Deed.{Deed}
 use Rattle.dspec_deeds.specs.declared.deed.Deed.TheVariants.{Seal}
 use Rattle.dspec_deeds.specs.History.{author, part, same_actor}
@@ -18,7 +16,6 @@ use Rattle.dspec_deeds.proofs.TestLemmas.{actor_is_itself, either_way, same_acto
 use Rattle.dspec_ring.specs.declared.batch.Batch.{Batch}
 use Rattle.dspec_cpu.specs.Sealed.{AreSealed}
 use Rattle.dspec_consumer.specs.Promised.{IsMixOf, IsWithSeals, deeds_by}
-use Rattle.dspec_consumer.proofs.ClosedDeeds.{settlements}
 
 -- a deed is in no other's part
 not_there : (v : Actor) (d : Deed) (h : List Deed) → v ≢ author d h → part v (d ∷ h) ≡ part v h
@@ -48,20 +45,20 @@ none_of k (d ∷ h) authors c past =
     let other : Cpu c ≢ author d h = λ by. let lt = authors.1 c (sym by) in omega arith in
     not_there (Cpu c) d h other ∙ none_of k h authors.0 c past
 
--- a list whose parts are those of the CPUs, with what the close settled, and the consumer's
-pub mix_of_all : (k : Config) (g : List Deed) (own : ℕ → List Deed) (closed : ℕ → List (Speculation × DecideFate)) (consumer : List Deed) → HasAuthors k g
-    → ((c : ℕ) → c < k.cpus → part (Cpu c) g ≡ settlements c (closed c) ++ own c) → part Consumer g ≡ consumer
-    → IsMixOf (deeds_by k.cpus own closed consumer) g
-mix_of_all k g own closed consumer authors each last = mix_of_parts g (deeds_by k.cpus own closed consumer) all
+-- a list whose parts are those of the CPUs and the consumer's
+pub mix_of_all : (k : Config) (g : List Deed) (own : ℕ → List Deed) (consumer : List Deed) → HasAuthors k g
+    → ((c : ℕ) → c < k.cpus → part (Cpu c) g ≡ own c) → part Consumer g ≡ consumer
+    → IsMixOf (deeds_by k.cpus own consumer) g
+mix_of_all k g own consumer authors each last = mix_of_parts g (deeds_by k.cpus own consumer) all
   where
-    all : (w : Actor) → part w g ≡ deeds_by k.cpus own closed consumer w
+    all : (w : Actor) → part w g ≡ deeds_by k.cpus own consumer w
     all (Cpu c) = ⊎_elim
         (λ (t : nat_lt c k.cpus ≡ true).
         let lt : c < k.cpus = grind (arith, nat_tests) in
-        each c lt ∙ sym (ap (λ b. if b then settlements c (closed c) ++ own c else []) t))
+        each c lt ∙ sym (ap (λ b. if b then own c else []) t))
         (λ (f : nat_lt c k.cpus ≡ false).
         let past : k.cpus ≤ c = grind (arith, nat_tests) in
-        none_of k g authors c past ∙ sym (ap (λ b. if b then settlements c (closed c) ++ own c else []) f))
+        none_of k g authors c past ∙ sym (ap (λ b. if b then own c else []) f))
         (either_way (nat_lt c k.cpus))
     all Consumer = last
 

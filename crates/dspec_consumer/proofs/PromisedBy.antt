@@ -1,5 +1,5 @@
 -- A list that closes the lists of the CPUs promises each of them what the page says of its calls.
-use Rattle.std.proofs.Common.{◌≡◌, ℕ, zero, suc, ◌<◌, Bool, List, [], ◌∷◌, ◌++◌, length, Option, Some, refl, sym, ap, ◌∙◌, subst, arith}
+use Rattle.std.proofs.Common.{◌≡◌, ℕ, zero, suc, ◌<◌, Bool, List, [], ◌∷◌, ◌++◌, length, Option, Some, None, refl, sym, ap, ◌∙◌, subst, arith}
 use Rattle.std.specs.Prelude.{reverse, slice_get}
 use Rattle.std.specs.Option.{option_map_or}
 use Rattle.std.proofs.lemmas.Option.{slice_get_within}
@@ -11,6 +11,7 @@ use Rattle.dspec_deeds.specs.declared.deed.Deed.{Deed}
 use Rattle.dspec_deeds.specs.declared.report.Report.{Report}
 use Rattle.dspec_deeds.specs.History.{part, word_at}
 use Rattle.dspec_deeds.specs.Own.{stream}
+use Rattle.dspec_deeds.specs.Ranges.{start_fault}
 use Rattle.dspec_deeds.specs.Weaving.{bare}
 use Rattle.dspec_play.specs.OwnClose.{own_closed}
 use Rattle.dspec_promise.specs.Deeds.{did, all_did}
@@ -27,9 +28,10 @@ use Rattle.dspec_cpu.specs.Sealed.{AreSealed, waiting}
 use Rattle.dspec_consumer.specs.declared.left.Left.{Left}
 use Rattle.dspec_consumer.specs.Closing.{ClosesAs}
 use Rattle.dspec_consumer.specs.Leaving.{Has}
-use Rattle.dspec_consumer.specs.Promised.{IsPromised, IsPromisedBy, called_at, entered_at}
+use Rattle.dspec_consumer.specs.Promised.{IsPromised, IsPromisedBy, called_at, closed_for, closed_up, entered_at, settle_deeds}
 use Rattle.dspec_consumer.specs.Sessions.{worn_at}
-use Rattle.dspec_consumer.proofs.ClosedDeeds.{AddsSettlements, close_adds, did_settlements, sealed_before, settlements}
+use Rattle.dspec_consumer.proofs.ClosedDeeds.{AddsSettlements, close_adds, sealed_before}
+use Rattle.dspec_consumer.proofs.ClosingSaid.{closing_said, did_closed}
 use Rattle.dspec_consumer.proofs.Mixes.{mix_of_all, with_seals}
 
 -- there is one at each place
@@ -59,21 +61,33 @@ module _ {S : Type 0} (shape_of : S → ℕ → Option Shape) (accepted : S → 
   had_tells c cpu p number has = sym (did_bare c p) ∙ (ap (did c) has.own ∙ ap (λ n. did n (known (seat_of cpu)).own) (sym number))
 
 module _ (shape : ℕ → Option Shape) (accepted : Record → Bool) (text : Record → List ℕ) (k : Config) (worn : ℕ → ℕ) (taken : ℕ → List Batch) (consumer : List Deed)
-    (left : List Left) (p : ℕ → List Deed) (g : List Deed) (closes : ClosesAs shape accepted text k worn taken consumer left p g) where
-  -- what the close settled for a CPU
+    (left : List Left) (p : ℕ → List Deed) (g : List Deed) (checked : start_fault k ≡ None)
+    (closes : ClosesAs shape accepted text k worn taken consumer left p g) where
+  -- the settlements of the close are those that the CPUs owe
+  closing_is : g ≡ closed_up shape k k.cpus closes.before
+  closing_is = closes.closing_is ∙ closing_said shape k checked closes.before closes.all_before.can_close
+
+  -- what a CPU did is what its list did, and what the close settled for it
+  answered : (c : ℕ) → c < k.cpus → did c g ≡ settled_did (closed_for shape k closes.before c) ++ did c (p c)
+  answered c lt =
+      ap (did c) closing_is
+      ∙ (did_closed shape k k.cpus c closes.before lt
+      ∙ ap (λ ds. settled_did (closed_for shape k closes.before c) ++ ds) (sym (did_part c closes.before) ∙ ap (did c) (closes.all_before.own c lt)))
+
+  -- a CPU's part has settlements in front of its list
   added : (c : ℕ) → AddsSettlements c (p c) (own_closed shape k (λ s. word_at s g) c k.nspec (p c))
   added c = close_adds shape k (λ s. word_at s g) c k.nspec (p c)
 
-  own_part : (c : ℕ) (l : Left) → slice_get left c ≡ Some l → part (CpuActor c) g ≡ settlements c (added c).0 ++ p c
+  own_part : (c : ℕ) (l : Left) → slice_get left c ≡ Some l → part (CpuActor c) g ≡ settle_deeds c (added c).0 ++ p c
   own_part c l at = (closes.each c l at).own ∙ (added c).1
 
   each_promised : (c : ℕ) (l : Left) (calls : CallsMade) → slice_get left c ≡ Some l → did c (p c) ≡ calls.done → worn c ≡ calls.worn
-      → IsPromised shape accepted text k.cpus (all_did g) c calls (added c).0 (taken c ++ waiting l.rest ++ l.last ∷ []) l.report
+      → IsPromised shape accepted text k.cpus (all_did g) c calls (closed_for shape k closes.before c) (taken c ++ waiting l.rest ++ l.last ∷ []) l.report
   each_promised c l calls at done wears =
       let each = closes.each c l at in
       let lt : c < k.cpus = subst (λ n. c < n) closes.all (slice_get_within left c l at) in
       record {
-        answered = sym (did_part c g) ∙ (ap (did c) (own_part c l at) ∙ (did_settlements c (added c).0 (p c) ∙ ap (λ ds. settled_did (added c).0 ++ ds) done));
+        answered = answered c lt ∙ ap (λ ds. settled_did (closed_for shape k closes.before c) ++ ds) done;
         worn = ap (λ (r : Report). r.worn) each.reported ∙ wears;
         seen = stream c g;
         hold = each.kept;
@@ -84,16 +98,16 @@ module _ (shape : ℕ → Option Shape) (accepted : Record → Bool) (text : Rec
       → ((c : ℕ) → c < k.cpus → did c (p c) ≡ (calls c).done) → ((c : ℕ) → c < k.cpus → worn c ≡ (calls c).worn)
       → IsPromisedBy shape accepted text k entered consumer calls taken left
   promised_by entered calls bares done wears = record {
-    deeds = g;
+    before = closes.before;
     own = p;
-    closed = λ c. (added c).0;
-    nothing_else = mix_of_all k g p (λ c. (added c).0) consumer closes.legal.1
-        (λ c lt. let (l, at) = there_is left c (subst (λ n. c < n) (sym closes.all) lt) in own_part c l at) closes.consumer_is;
+    nothing_else = mix_of_all k closes.before p consumer closes.all_before.authors closes.all_before.own closes.all_before.consumer_is;
     sealed = λ c l at.
         let lt : c < k.cpus = subst (λ n. c < n) closes.all (slice_get_within left c l at) in
         let bs = reverse (taken c ++ waiting l.rest) in
         with_seals shape accepted text k c (entered c) bs (p c) (bares c lt) (sealed_before shape accepted text k c (added c).0 (p c) bs
         (subst (λ q. AreSealed shape accepted text k c q bs) (own_part c l at) (closes.each c l at).sealed));
+    deeds = g;
+    closing = closing_is;
     reasons = reasons shape k g closes.legal.0;
     once = given_once k g closes.legal.0.0;
     each = λ c l at.

@@ -9,9 +9,9 @@ use Rattle.dspec_deeds.specs.declared.config.Config.{Config}
 use Rattle.dspec_deeds.specs.declared.calls.Actor.TheVariants.{Cpu, Consumer}
 use Rattle.dspec_deeds.specs.declared.deed.Deed.{Deed}
 use Rattle.dspec_deeds.specs.History.{part, scan, verdict, is_undecided, word_at}
-use Rattle.dspec_deeds.specs.Closes.{WaitsUndecided}
+use Rattle.dspec_deeds.specs.Closes.{CanClose, WaitsUndecided, closing}
 use Rattle.dspec_deeds.specs.Headline.{Headline}
-use Rattle.dspec_deeds.specs.Legal.{IsLegal}
+use Rattle.dspec_deeds.specs.Legal.{IsLegal, HasAuthors}
 use Rattle.dspec_deeds.specs.Own.{held, stream, taken as accepted_first}
 use Rattle.dspec_deeds.specs.Owning.{IsOwn}
 use Rattle.dspec_deeds.specs.Ranges.{start_fault}
@@ -30,6 +30,14 @@ use Rattle.dspec_consumer.specs.declared.left.Left.{Left}
 abbrev pub rest_of : Option Batch → List Batch → Option Batch
 rest_of held_back [] = held_back
 rest_of held_back (b ∷ drained) = Some b
+
+-- A list of all deeds before the close: it can close, each CPU's part of it is the CPU's list, the consumer's is the consumer's, and no
+-- other has a deed in it.
+pub record HasAllBefore (shape : ℕ → Option Shape) (k : Config) (consumer : List Deed) (p : ℕ → List Deed) (h : List Deed) : Type 0 where
+  pub can_close : CanClose shape k h
+  pub authors : HasAuthors k h
+  pub own : (c : ℕ) → c < k.cpus → part (Cpu c) h ≡ p c
+  pub consumer_is : part Consumer h ≡ consumer
 
 module _ (shape : ℕ → Option Shape) (accepted : Record → Bool) (text : Record → List ℕ) where
   -- the buffers of these batches, the oldest first, hold these records in order
@@ -59,9 +67,13 @@ module _ (shape : ℕ → Option Shape) (accepted : Record → Bool) (text : Rec
     -- after its own speculation's commit, and never after a discard; and every offered record has exactly one fate
     pub headline : Headline k c g
 
-  -- The list g of all deeds closes the lists of the CPUs and of the consumer: it is legal, the consumer's part of it is the
-  -- consumer's list, this is left of each CPU, and a record that is held waits for a speculation that is undecided.
+  -- The list g of all deeds closes the lists of the CPUs and of the consumer: it is a list of those alone and, in front of it, what the
+  -- CPUs then owed, CPU by CPU; it is legal, the consumer's part of it is the consumer's list, this is left of each CPU, and a record
+  -- that is held waits for a speculation that is undecided.
   pub record ClosesAs (k : Config) (worn : ℕ → ℕ) (taken : ℕ → List Batch) (consumer : List Deed) (left : List Left) (p : ℕ → List Deed) (g : List Deed) : Type 0 where
+    pub before : List Deed
+    pub all_before : HasAllBefore shape k consumer p before
+    pub closing_is : g ≡ closing shape k before
     pub legal : IsLegal shape k g
     pub consumer_is : part Consumer g ≡ consumer
     pub all : length left ≡ k.cpus

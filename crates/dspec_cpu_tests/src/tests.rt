@@ -6,6 +6,7 @@ mod ending;
 mod filling;
 mod growths;
 mod playing;
+mod resting;
 mod schedules;
 mod settling;
 mod sharing;

@@ -15,6 +15,7 @@ use Rattle.dspec_cpu.specs.Called.{no_calls}
 use Rattle.dspec_cpu.specs.Sealed.{waiting}
 use Rattle.dspec_consumer.specs.declared.left.Left.{Left}
 use Rattle.dspec_consumer.specs.Closing.{HoldInOrder}
+use Rattle.dspec_consumer.specs.Promised.{closed_for}
 use Rattle.dspec_consumer.proofs.PromisedBy.{there_is}
 use Rattle.dspec.specs.KeptRecords.{KeptRecords, KeepsBatch, no_records}
 use Rattle.dspec.specs.Passed.{AreFrom}
@@ -53,7 +54,7 @@ module _ (e : EnabledRows) (work : Requests) (k : Config) (old new : KeptRecords
         calls = traced.calls 0;
         worked = subst (λ (w : Requests). DoesRequests probes w no_calls (traced.calls 0)) work_is
             (subst (λ (x : EnabledRows). DoesRequests x work no_calls (traced.calls 0)) probes_is (traced.worked 0 first));
-        closed = traced.promised.closed 0;
+        closed = closed_for (table_shape e.header (enabled e.rows)) k traced.promised.before 0;
         all = all_did deeds;
         answered = mine.answered;
         promise = subst (λ r. Promise 1 (all_did deeds) 0 records r) (sym (told l at))

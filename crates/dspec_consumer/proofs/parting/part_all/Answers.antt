@@ -1,6 +1,5 @@
 use Rattle.std.proofs.Common.{◌+◌, ◌<◌, ◌++◌, ◌∙◌, List, [], ◌∷◌, length, map, vec_len, refl, sym, ap, subst, append-nil, arith}
 use Rattle.std.specs.Prelude.{option_to_list}
-use Rattle.dspec_deeds.specs.declared.deed.Deed.{Deed}
 use Rattle.dspec_deeds.proofs.TestLemmas.{numbers_differ, same_number}
 use Rattle.dspec_table.specs.declared.seats.CpuSeat.{CpuSeat}
 use Rattle.dspec_table.specs.Last.{Ended, last_words}
@@ -8,8 +7,7 @@ use Rattle.dspec_table.specs.Seats.{known_there, set_up}
 use Rattle.dspec_ring.specs.Known.{CpuKnows}
 use Rattle.dspec_cpu.specs.KeptRests.{rest_with}
 use Rattle.dspec_cpu.specs.Lists.{seat_of}
-use Rattle.dspec_cpu.specs.Rests.{RestHasList, schema_of_rest}
-use Rattle.dspec_consumer.specs.Leaving.{AllParted, Has, IsRestOf}
+use Rattle.dspec_consumer.specs.Leaving.{AllParted}
 use Rattle.dspec_consumer.proofs.AllParted.{all_seats, as_many, first_schema, is_rest, left_more, next_of_left, none_told, one_parts, rest_lists, seats_of_all, told_all}
 use Rattle.dspec_consumer.proofs.Ends.{none_in}
 use Rattle.dspec_consumer.proofs.FirstParted.{next_closing, next_few, next_has, next_pair, next_words, pushed_is}

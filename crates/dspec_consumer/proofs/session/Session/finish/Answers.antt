@@ -44,7 +44,8 @@ returns-clause-promised g c = λ schema is.
     let cpus = c.args.self.cpus.items in
     let lists = some_lists shape_of accepted text schema c.args.self is c.all_stand.ensures in
     let closed = returns-clause-closed g c schema is lists.0 (λ n lt cpu at. lists.1 n cpu at) in
-    promised_by (shape_of schema) (accepted schema) (text schema) k (worn_at cpus) (taken_at c.args.self.consumer) (view_of c.args.self.consumer).own _ lists.0 closed.0 closed.1
+    promised_by (shape_of schema) (accepted schema) (text schema) k (worn_at cpus) (taken_at c.args.self.consumer) (view_of c.args.self.consumer).own _ lists.0 closed.0 is.checked
+    closed.1
     (entered_at cpus) (called_at cpus)
     (λ n lt.
     let (cpu, at) = there_is cpus n (subst (λ m. n < m) (sym is.all) lt) in
