@@ -18,6 +18,7 @@ pub mod Got
 pub mod Left
 pub mod Insides
 pub mod Taken
+pub mod Laid
 pub mod Fitting
 pub mod Keeping
 pub mod Walks

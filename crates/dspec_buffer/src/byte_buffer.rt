@@ -1,4 +1,5 @@
 use crate::TraceBuffer;
+use crate::laying::shape_in;
 use crate::reader::next_of_text;
 use crate::reserving::{pad, place_for, put_behind};
 use dspec_record::{Rec, Recorded, Schema, Shape};
@@ -127,7 +128,7 @@ impl<S: Schema> TraceBuffer<S> for ByteBuffer {
 
     #[inline(always)]
     fn push_recorded<R: Recorded>(&mut self, schema: &S, rec: R) -> bool {
-        let Shape { size, align } = schema.shape_recorded(rec);
+        let Shape { size, align } = shape_in(schema, rec);
         let Some(place) = place_for(self.offset, self.size(), align, size) else {
             return false;
         };

@@ -11,6 +11,7 @@
 
 mod byte_buffer;
 pub mod laws;
+mod laying;
 mod list_buffer;
 mod prefix;
 mod read_fault;

@@ -1,6 +1,8 @@
 ghost use Rattle.std.specs.Prelude.{◌≡◌, ◌≤◌, ◌<◌, ◌+◌, ◌-◌, ◌%◌, ◌^◌, ◌⊎◌, ◌++◌, length, take, replicate, IsTrue, MatchOption};
+ghost use Rattle.dspec_record.specs.LaidOut.{IsLaidBy};
 ghost use Rattle.dspec_record.specs.Layout.{rounded_up, after};
 
+use crate::laying::put_in;
 use dspec_record::{Recorded, Schema};
 
 /// The bytes of a padding word.
@@ -67,11 +69,18 @@ pub(crate) fn put_behind<S: Schema, R: Recorded>(
     end: usize,
 )
     requires accepted { IsTrue (S.accepted schema.now (R.as_record rec)) }
+    requires laid { IsLaidBy (S.shape_of schema.now) (S.text schema.now) (R.as_record rec) (R.laid_as rec) }
     requires gap { (place ≡ from) ⊎ (place ≡ from + 4) }
     requires end { end ≡ place + length (S.text schema.now (R.as_record rec)) }
     requires within { end ≤ length bytes.old }
     ensures { take end bytes.new ≡ take from bytes.old ++ (replicate (place - from) 0 ++ S.text schema.now (R.as_record rec)) }
 {
+    // a record that knows its shape itself is written in few stores: it needs no call of its own
+    if rec.laid_shape().is_some() {
+        pad(bytes, from, place);
+        put_in(schema, rec, &mut bytes[place..end]);
+        return;
+    }
     if from < place {
         // a copy for that call, so that a borrowed record needs no place in memory where there is no padding
         let copied = rec;

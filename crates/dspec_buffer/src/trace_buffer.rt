@@ -1,5 +1,6 @@
 ghost use Rattle.std.specs.Prelude.{◌≡◌, ◌≤◌, ◌%◌, ◌^◌, ◌⊎◌, ◌↔◌, ℕ, IsTrue, IfOk, List, [], ◌∷◌, length, map, reverse, nat_le, Option};
 ghost use Rattle.std.specs.Bool.{OnTrue, OnFalse};
+ghost use Rattle.dspec_record.specs.LaidOut.{IsLaidBy};
 ghost use Rattle.dspec_record.specs.Record.{Record};
 ghost use Rattle.dspec_buffer.specs.Extent.{Piece, one, block, records, reserved, extent, piece_fits};
 ghost use Rattle.dspec_buffer.specs.Walking.{Steps};
@@ -45,7 +46,8 @@ pub trait TraceBuffer<S: Schema>: Drop {
 
     /// As `push`, of what can be traced as a record. A buffer that says nothing of it has the record copied.
     fn push_recorded<R: Recorded>(&mut self, schema: &S, rec: R) -> bool
-        requires { IsTrue (S.accepted schema.now (R.as_record rec)) }
+        requires accepted { IsTrue (S.accepted schema.now (R.as_record rec)) }
+        requires laid { IsLaidBy (S.shape_of schema.now) (S.text schema.now) (R.as_record rec) (R.laid_as rec) }
         ensures size { capacity self.new ≡ capacity self.old }
         ensures answer { (ps : List Piece) → has self.old schema.now ps
             → result ≡ piece_fits (S.shape_of schema.now) ps (one (R.as_record rec)) (capacity self.old) }

@@ -1,2 +1,4 @@
 mod Filling
 mod Floats
+mod Putting
+mod Firing

@@ -1,6 +1,7 @@
 ghost use Rattle.std.specs.Prelude.{◌≡◌, ◌≤◌, ℕ, List, Option, Some, length, IsTrue};
 ghost use Rattle.dspec_record.specs.RecordText.{fits};
 ghost use Rattle.dspec_record.specs.declared.field.Field.{Field};
+ghost use Rattle.dspec_probe.specs.Putting.{IsRoomFor, ArePut};
 
 use crate::FieldList;
 use dspec_record::Rec;
@@ -29,6 +30,11 @@ pub trait Fields: Copy {
     /// What the numbers of a record stand for; None where no values have these numbers.
     fn values(numbers: &[u64]) -> Option<Self>
         ensures { result ≡ values_of numbers.now };
+
+    /// Writes the values from `start` on, each at its place, into a slice that ends where their record ends.
+    fn put(self, start: usize, out: &mut [u8])
+        requires { IsRoomFor start fields_are out.old }
+        ensures { ArePut start fields_are (numbers_of self) out.old out.new };
 
     /// They are eight at the most.
     ghost few: { length fields_are ≤ 8 };

@@ -10,14 +10,19 @@
 pub mod fault;
 pub mod field_list;
 pub mod fields;
+pub mod fired;
+pub mod known_header;
 pub mod probe;
 pub mod probes;
+mod rows;
 mod tuples;
 pub mod value;
 
 pub use fault::ProbeFault;
 pub use field_list::FieldList;
 pub use fields::Fields;
+pub use fired::Fired;
+pub use known_header::{KnownHeader, Stamped, Unstamped};
 pub use probe::Probe;
 pub use probes::{ProbeNames, Probes};
 pub use value::Value;

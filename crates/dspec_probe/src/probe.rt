@@ -1,6 +1,6 @@
 ghost use Rattle.std.specs.Prelude.{◌≡◌, ◌↔◌, Some, IsTrue};
 ghost use Rattle.dspec_record.specs.EnablingRows.{EnabledRows};
-ghost use Rattle.dspec_record.specs.RecordText.{record_text};
+ghost use Rattle.dspec_record.specs.RecordText.{record_text, fits};
 ghost use Rattle.dspec_probe.specs.Probes.{IsProbeOf, epid_of_probe, header_of_probe, probed_record, read_values};
 
 use crate::Fields;
@@ -32,11 +32,20 @@ impl<F: Fields> Probe<F> {
         self.epid
     }
 
+    /// The header of its records.
+    #[inline(always)]
+    pub fn header(self) -> Header
+        ensures { result ≡ header_of_probe self }
+    {
+        self.header
+    }
+
     /// The record with these values; the stamp is left out where records have none. Each schema that has the probe accepts it,
     /// and `read` gives the values back.
     #[inline(always)]
     pub fn rec(self, stamp: u64, values: F) -> Rec
         ensures holds { result ≡ probed_record self stamp (F.numbers_of values) }
+        ensures fits { IsTrue (fits F.fields_are (F.numbers_of values)) }
         ensures accepted { (schema : EnabledRows) → IsProbeOf F.fields_are self schema → IsTrue (⟦<Enablings as Schema>⟧.accepted schema result) }
         ensures text { (schema : EnabledRows) → IsProbeOf F.fields_are self schema
             → ⟦<Enablings as Schema>⟧.text schema result ≡ record_text (header_of_probe self) F.fields_are result }

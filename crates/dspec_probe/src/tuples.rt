@@ -1,5 +1,6 @@
 ghost use Rattle.std.specs.Prelude.{◌∷◌, []};
 
+use crate::rows::Row;
 use crate::{FieldList, Fields, Value};
 use dspec_record::Rec;
 
@@ -24,6 +25,12 @@ impl<A: Value> Fields for (A,) {
     fn rec(self, epid: u32, stamp: u64) -> Rec {
         let (a,) = self;
         Rec::stamped(epid, stamp, &[a.number()]).unwrap()
+    }
+
+    #[inline(always)]
+    fn put(self, start: usize, out: &mut [u8]) {
+        let (a,) = self;
+        (a, ()).put_row(start, out);
     }
 
     #[inline(always)]
@@ -59,6 +66,12 @@ impl<A: Value, B: Value> Fields for (A, B) {
     }
 
     #[inline(always)]
+    fn put(self, start: usize, out: &mut [u8]) {
+        let (a, b) = self;
+        (a, (b, ())).put_row(start, out);
+    }
+
+    #[inline(always)]
     fn values(numbers: &[u64]) -> Option<Self> {
         match numbers {
             [a, b] => Some((A::value(*a)?, B::value(*b)?)),
@@ -88,6 +101,12 @@ impl<A: Value, B: Value, C: Value> Fields for (A, B, C) {
     fn rec(self, epid: u32, stamp: u64) -> Rec {
         let (a, b, c) = self;
         Rec::stamped(epid, stamp, &[a.number(), b.number(), c.number()]).unwrap()
+    }
+
+    #[inline(always)]
+    fn put(self, start: usize, out: &mut [u8]) {
+        let (a, b, c) = self;
+        (a, (b, (c, ()))).put_row(start, out);
     }
 
     #[inline(always)]
@@ -128,6 +147,12 @@ impl<A: Value, B: Value, C: Value, D: Value> Fields for (A, B, C, D) {
     }
 
     #[inline(always)]
+    fn put(self, start: usize, out: &mut [u8]) {
+        let (a, b, c, d) = self;
+        (a, (b, (c, (d, ())))).put_row(start, out);
+    }
+
+    #[inline(always)]
     fn values(numbers: &[u64]) -> Option<Self> {
         match numbers {
             [a, b, c, d] => Some((A::value(*a)?, B::value(*b)?, C::value(*c)?, D::value(*d)?)),
@@ -162,6 +187,12 @@ impl<A: Value, B: Value, C: Value, D: Value, E: Value> Fields for (A, B, C, D, E
             &[a.number(), b.number(), c.number(), d.number(), e.number()],
         )
         .unwrap()
+    }
+
+    #[inline(always)]
+    fn put(self, start: usize, out: &mut [u8]) {
+        let (a, b, c, d, e) = self;
+        (a, (b, (c, (d, (e, ()))))).put_row(start, out);
     }
 
     #[inline(always)]
@@ -219,6 +250,12 @@ impl<A: Value, B: Value, C: Value, D: Value, E: Value, F: Value> Fields for (A, 
             ],
         )
         .unwrap()
+    }
+
+    #[inline(always)]
+    fn put(self, start: usize, out: &mut [u8]) {
+        let (a, b, c, d, e, f) = self;
+        (a, (b, (c, (d, (e, (f, ())))))).put_row(start, out);
     }
 
     #[inline(always)]
@@ -283,6 +320,12 @@ impl<A: Value, B: Value, C: Value, D: Value, E: Value, F: Value, G: Value> Field
     }
 
     #[inline(always)]
+    fn put(self, start: usize, out: &mut [u8]) {
+        let (a, b, c, d, e, f, g) = self;
+        (a, (b, (c, (d, (e, (f, (g, ()))))))).put_row(start, out);
+    }
+
+    #[inline(always)]
     fn values(numbers: &[u64]) -> Option<Self> {
         match numbers {
             [a, b, c, d, e, f, g] => Some((
@@ -344,6 +387,12 @@ impl<A: Value, B: Value, C: Value, D: Value, E: Value, F: Value, G: Value, H: Va
             ],
         )
         .unwrap()
+    }
+
+    #[inline(always)]
+    fn put(self, start: usize, out: &mut [u8]) {
+        let (a, b, c, d, e, f, g, h) = self;
+        (a, (b, (c, (d, (e, (f, (g, (h, ())))))))).put_row(start, out);
     }
 
     #[inline(always)]

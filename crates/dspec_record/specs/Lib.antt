@@ -1,5 +1,6 @@
 pub mod Record
 pub mod RecordFields
+pub mod LaidOut
 pub mod Borrowed
 pub mod Layout
 pub mod RecordText

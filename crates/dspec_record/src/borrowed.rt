@@ -1,7 +1,7 @@
 ghost use Rattle.std.specs.Prelude.{◌≤◌, length};
 
 use crate::record::MAX_VALUES;
-use crate::{Rec, Recorded};
+use crate::{Rec, Recorded, Shape};
 
 /// A record whose values stand elsewhere, at most eight as in a `Rec`: to make it and to pass it on, none of them is copied.
 #[derive(Debug, Clone, Copy)]
@@ -43,9 +43,12 @@ impl<'a> BorrowedRec<'a> {
 }
 
 impl<'a> Recorded for BorrowedRec<'a> {
+    ghost use Rattle.std.specs.Prelude.{None};
     ghost use Rattle.dspec_record.specs.Borrowed.{borrowed_record};
 
     ghost as_record = { borrowed_record };
+
+    ghost laid_as = { λ _. None };
 
     #[inline(always)]
     fn epid(&self) -> u32 {
@@ -65,5 +68,15 @@ impl<'a> Recorded for BorrowedRec<'a> {
     #[inline(always)]
     fn to_rec(&self) -> Rec {
         Rec::few(self.epid, self.stamp, self.values)
+    }
+
+    #[inline(always)]
+    fn laid_shape(&self) -> Option<Shape> {
+        None
+    }
+
+    #[inline(always)]
+    fn put_laid(&self, _out: &mut [u8]) -> bool {
+        false
     }
 }

@@ -102,7 +102,7 @@ pub(crate) fn put_header<R: Recorded>(header: Header, rec: R, wide: bool, out: &
 /// Writes a value at the field's place behind `end`; answers where the field ends. What is between is zero already,
 /// and so is what is behind the field, up to the next multiple of eight: no gap is longer.
 #[inline(always)]
-fn put_field(field: Field, value: u64, end: usize, place: usize, out: &mut [u8]) -> usize
+pub(crate) fn put_field(field: Field, value: u64, end: usize, place: usize, out: &mut [u8]) -> usize
     requires holds { value < 256 ^ width field }
     requires whole_words { length out.old % 4 ≡ 0 }
     requires place { place ≡ rounded_up end (width field) }

@@ -17,6 +17,7 @@ pub enum Field {
 
 impl Field {
     /// In bytes.
+    #[inline(always)]
     pub fn width(self) -> usize
         ensures { result ≡ width self }
     {
@@ -29,6 +30,7 @@ impl Field {
     }
 
     /// The first place for the field at `end` or behind it, both in bytes from the record's start.
+    #[inline(always)]
     pub(crate) fn place(self, end: usize) -> usize
         requires { end < 2 ^ 32 }
         ensures { result ≡ rounded_up end (width self) }

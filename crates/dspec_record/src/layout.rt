@@ -8,6 +8,7 @@ use crate::{Field, Header, Shape};
 
 /// The layout of these fields behind this header: each at the first multiple of its width behind the field before it, and the
 /// size rounded up to a multiple of 4.
+#[inline(always)]
 pub(crate) fn layout_of(header: Header, fields: &[Field]) -> Shape
     requires { length fields.now ≤ 8 }
     ensures { result ≡ layout header fields.now }
@@ -49,6 +50,7 @@ pub(crate) fn limits_of(fields: &[Field]) -> [u64; MAX_FIELDS]
     limits
 }
 
+#[inline(always)]
 fn has_eight(fields: &[Field]) -> bool
     ensures { result ≡ list_any is_eight fields.now }
 {

@@ -16,6 +16,7 @@ mod enabled;
 mod enabling;
 pub mod field;
 pub mod header;
+pub mod laid_out;
 pub mod laws;
 mod layout;
 pub mod reading;

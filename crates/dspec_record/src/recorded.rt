@@ -1,13 +1,18 @@
-ghost use Rattle.std.specs.Prelude.{◌≡◌, ◌≤◌, length};
+ghost use Rattle.std.specs.Prelude.{◌≡◌, ◌≤◌, length, Option, is_some, IfSome};
+ghost use Rattle.std.specs.Option.{option_map};
 ghost use Rattle.dspec_record.specs.Record.{Record};
+ghost use Rattle.dspec_record.specs.LaidOut.{Laid, text_over};
 
-use crate::Rec;
+use crate::{Rec, Shape};
 
 /// What can be traced as a record: a reference to a `Rec`, or a record whose values stand elsewhere. What takes either is built
 /// once for each, so that neither pays for the other.
 pub trait Recorded: Copy {
     /// The record that it is.
     ghost as_record: { Self → Record };
+
+    /// What it says itself of its shape and its bytes, where its fields are known when a program is compiled.
+    ghost laid_as: { Self → Option Laid };
 
     /// The enabled probe identifier.
     fn epid(&self) -> u32
@@ -25,10 +30,24 @@ pub trait Recorded: Copy {
     /// A copy that holds its values.
     fn to_rec(&self) -> Rec
         ensures { result ≡ as_record self.now };
+
+    /// Its shape, where it knows that itself.
+    fn laid_shape(&self) -> Option<Shape>
+        ensures { result ≡ option_map (λ laid. laid.shape) (laid_as self.now) };
+
+    /// Writes its text into a slice of exactly its size, where it knows that itself; else answers false and writes nothing.
+    fn put_laid(&self, out: &mut [u8]) -> bool
+        requires exact { IfSome (laid_as self.now) (λ laid. length out.old ≡ length laid.text) }
+        ensures due { result ≡ is_some (laid_as self.now) }
+        ensures put { out.new ≡ text_over (laid_as self.now) out.old };
 }
 
 impl<'a> Recorded for &'a Rec {
+    ghost use Rattle.std.specs.Prelude.{None};
+
     ghost as_record = { λ r. r.now };
+
+    ghost laid_as = { λ _. None };
 
     #[inline(always)]
     fn epid(&self) -> u32 {
@@ -51,5 +70,15 @@ impl<'a> Recorded for &'a Rec {
     #[inline(always)]
     fn to_rec(&self) -> Rec {
         **self
+    }
+
+    #[inline(always)]
+    fn laid_shape(&self) -> Option<Shape> {
+        None
+    }
+
+    #[inline(always)]
+    fn put_laid(&self, _out: &mut [u8]) -> bool {
+        false
     }
 }

@@ -1,5 +1,6 @@
 ghost use Rattle.std.specs.Prelude.{◌≡◌, ◌≤◌, ◌&&◌, ◌<◌, not, true, ℕ, List, [], ◌∷◌, length, IsTrue, if◌then◌else◌};
 ghost use Rattle.std.specs.Bool.{OnTrue, OnFalse};
+ghost use Rattle.dspec_record.specs.LaidOut.{IsLaidBy};
 ghost use Rattle.dspec_buffer.specs.Extent.{Piece, one, piece_fits};
 ghost use Rattle.dspec_deeds.specs.declared.deed.Deed.{Deed};
 ghost use Rattle.dspec_deeds.specs.Legal.{fits_principal, fits_speculative, is_closed};
@@ -46,6 +47,7 @@ pub(crate) fn keep_in<S: Schema, B: TraceBuffer<S>, R: Recorded>(
     mine: bool,
 ) -> bool
     requires accepted { IsTrue (S.accepted schema.now (R.as_record rec)) }
+    requires laid { IsLaidBy (S.shape_of schema.now) (S.text schema.now) (R.as_record rec) (R.laid_as rec) }
     ensures size { B.capacity buffer.new ≡ B.capacity buffer.old }
     ensures answer { (ps : List Piece) → B.has buffer.old schema.now ps
         → result ≡ piece_fits (S.shape_of schema.now) (if mine then ps else []) (one (R.as_record rec)) (B.capacity buffer.old) }
@@ -59,7 +61,7 @@ pub(crate) fn keep_in<S: Schema, B: TraceBuffer<S>, R: Recorded>(
 }
 
 /// Keeps a record in a principal buffer, where that isn't closed and the record fits.
-#[inline]
+#[inline(always)]
 pub(crate) fn keep_open<S: Schema, B: TraceBuffer<S>, R: Recorded>(
     active: &mut B,
     schema: &S,
@@ -67,6 +69,7 @@ pub(crate) fn keep_open<S: Schema, B: TraceBuffer<S>, R: Recorded>(
     closed: bool,
 ) -> bool
     requires accepted { IsTrue (S.accepted schema.now (R.as_record rec)) }
+    requires laid { IsLaidBy (S.shape_of schema.now) (S.text schema.now) (R.as_record rec) (R.laid_as rec) }
     ensures size { B.capacity active.new ≡ B.capacity active.old }
     ensures answer { (ps : List Piece) → B.has active.old schema.now ps
         → result ≡ (piece_fits (S.shape_of schema.now) ps (one (R.as_record rec)) (B.capacity active.old) && not closed) }

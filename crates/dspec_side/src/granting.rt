@@ -1,4 +1,5 @@
 ghost use Rattle.std.specs.Prelude.{◌≡◌, ◌<◌, ◌≤◌, ◌+◌, ◌-◌, ◌^◌, ◌==◌, ◌∷◌, [], ℕ, true, false, List, length, slice_get, slice_set, Some, IsTrue, if◌then◌else◌};
+ghost use Rattle.dspec_record.specs.LaidOut.{IsLaidBy};
 ghost use Rattle.dspec_buffer.specs.Extent.{Piece, one, piece_fits};
 ghost use Rattle.dspec_record.specs.Record.{Record};
 ghost use Rattle.dspec_word.specs.SpecId.{Speculation};
@@ -34,6 +35,7 @@ fn mark_and_keep<S: Schema, B: TraceBuffer<S>, R: Recorded>(
     requires slot { (1 ≤ id.slot) × (id.slot ≤ length buffers.old.items) × (id.slot ≤ length marks.old) × (id.slot ≤ length specdrops.old.items) }
     requires marked { mine ≡ true → slice_get marks.old (id.slot - 1) ≡ Some (id.issue + 1) }
     requires accepted { IsTrue (S.accepted schema.now (R.as_record rec)) }
+    requires laid { IsLaidBy (S.shape_of schema.now) (S.text schema.now) (R.as_record rec) (R.laid_as rec) }
     ensures marks { marks.new ≡ slice_set marks.old (id.slot - 1) (id.issue + 1) }
     ensures specdrops { specdrops.new.items ≡ (if mine then specdrops.old.items else slice_set specdrops.old.items (id.slot - 1) 0) }
     ensures buffer { (b : B) → slice_get buffers.old.items (id.slot - 1) ≡ Some b
@@ -106,6 +108,7 @@ impl<B> Side<B> {
         requires slot { (1 ≤ id.slot) × (id.slot ≤ length self.old.speculative.items) × (id.slot ≤ length self.old.marks) × (id.slot ≤ length self.old.specdrops.items) }
         requires marked { mine ≡ true → slice_get self.old.marks (id.slot - 1) ≡ Some (id.issue + 1) }
         requires accepted { IsTrue (S.accepted schema.now (R.as_record rec)) }
+        requires laid { IsLaidBy (S.shape_of schema.now) (S.text schema.now) (R.as_record rec) (R.laid_as rec) }
         requires calls { self.old.calls + 1 < 2 ^ 64 }
         requires counts { IsRoomy self.old.counts }
         ensures answer { (k : Config) (c : ℕ) (p : List Deed) → ShowsList (λ b. B.has b schema.now) B.capacity k c p self.old → IsCaller c id mine p

@@ -1,4 +1,5 @@
 ghost use Rattle.std.specs.Prelude.{◌≡◌, ◌<◌, ◌+◌, ◌^◌, ◌∷◌, ℕ, List, IsTrue, if◌then◌else◌};
+ghost use Rattle.dspec_record.specs.LaidOut.{IsLaidBy};
 ghost use Rattle.dspec_buffer.specs.Extent.{one};
 ghost use Rattle.dspec_record.specs.Record.{Record};
 ghost use Rattle.dspec_deeds.specs.declared.config.Config.{Config};
@@ -16,11 +17,12 @@ use dspec_record::{Recorded, Schema};
 
 impl<B> Side<B> {
     /// Traces a record into the active principal buffer, which is closed or not; it is kept, or dropped where it doesn't fit.
-    #[inline]
+    #[inline(always)]
     pub fn trace<S: Schema, R: Recorded>(&mut self, schema: &S, rec: R, closed: bool) -> bool
     where
         B: TraceBuffer<S>,
         requires accepted { IsTrue (S.accepted schema.now (R.as_record rec)) }
+        requires laid { IsLaidBy (S.shape_of schema.now) (S.text schema.now) (R.as_record rec) (R.laid_as rec) }
         requires calls { self.old.calls + 1 < 2 ^ 64 }
         requires drops { self.old.drops + 1 < 2 ^ 64 }
         requires counts { IsRoomy self.old.counts }

@@ -10,14 +10,14 @@ use Rattle.dspec_buffer.proofs.byte_buffer.ByteBufferTraceBuffer.push_recorded.G
 pub place_for-requires-clause-aligned : goal.place_for-requires-clause-aligned
 place_for-requires-clause-aligned g c =
     let s = c.args.schema.now in
-    let shape : Shape = c.shape_recorded-size.result in
-    (g.met.S.Schema.shapes_fit s (g.R.Recorded.as_record c.args.rec).epid shape (sym c.shape_recorded-size.ensures)).aligned
+    let shape : Shape = c.shape_in-size.result in
+    (g.met.S.Schema.shapes_fit s (g.R.Recorded.as_record c.args.rec).epid shape (sym c.shape_in-size.ensures)).aligned
 
 pub put_behind-requires-clause-gap : goal.put_behind-requires-clause-gap
 put_behind-requires-clause-gap g c =
     let s = c.args.schema.now in
-    let shape : Shape = c.shape_recorded-size.result in
-    let fit = g.met.S.Schema.shapes_fit s (g.R.Recorded.as_record c.args.rec).epid shape (sym c.shape_recorded-size.ensures) in
+    let shape : Shape = c.shape_in-size.result in
+    let fit = g.met.S.Schema.shapes_fit s (g.R.Recorded.as_record c.args.rec).epid shape (sym c.shape_in-size.ensures) in
     let with_epid = fit.with_epid in
     (placed c.self.inside.offset shape.align shape.size c.in-Some.place c.self.invariant.words fit.aligned fit.whole_words (λ z. omega arith) c.in-Some.ensures.0).step
 
@@ -25,7 +25,7 @@ pub returns-in_default-clause-answer : goal.returns-in_default-clause-answer
 returns-in_default-clause-answer g c = λ ps h.
     let s = c.args.schema.now in
     let r = g.R.Recorded.as_record c.args.rec in
-    let shape : Shape = c.shape_recorded-size.result in
+    let shape : Shape = c.shape_in-size.result in
     let laws : SchemaLaws (g.S.Schema.shape_of s) (g.S.Schema.accepted s) (g.S.Schema.text s) = record {
       zero_has_none = g.met.S.Schema.zero_has_none s;
       shapes_fit = g.met.S.Schema.shapes_fit s;
@@ -36,7 +36,7 @@ returns-in_default-clause-answer g c = λ ps h.
     let long = c.self.inside.bytes.ok.0 in
     let at = offset_is (g.S.Schema.shape_of s) (g.S.Schema.accepted s) (g.S.Schema.text s) laws c.args.self.now c.self.inside.offset c.self.inside.bytes.items ps
     (ap (λ b. b.text) c.self.view_is) (omega arith) h in
-    let named : g.S.Schema.shape_of s r.epid ≡ Some shape = sym c.shape_recorded-size.ensures in
+    let named : g.S.Schema.shape_of s r.epid ≡ Some shape = sym c.shape_in-size.ensures in
     let says = shape_says (g.S.Schema.shape_of s) r shape named in
     let fit = g.met.S.Schema.shapes_fit s r.epid shape named in
     let with_epid = fit.with_epid in
@@ -47,8 +47,8 @@ returns-in_default-clause-answer g c = λ ps h.
 pub invariant_of-self : goal.invariant_of-self
 invariant_of-self g c =
     let s = c.args.schema.now in
-    let shape : Shape = c.shape_recorded-size.result in
-    let fit = g.met.S.Schema.shapes_fit s (g.R.Recorded.as_record c.args.rec).epid shape (sym c.shape_recorded-size.ensures) in
+    let shape : Shape = c.shape_in-size.result in
+    let fit = g.met.S.Schema.shapes_fit s (g.R.Recorded.as_record c.args.rec).epid shape (sym c.shape_in-size.ensures) in
     let with_epid = fit.with_epid in
     let p = placed c.self.inside.offset shape.align shape.size c.in-Some.place c.self.invariant.words fit.aligned fit.whole_words
     (λ z. omega arith) c.in-Some.ensures.0 in
@@ -63,7 +63,7 @@ pub returns-clause-answer : goal.returns-clause-answer
 returns-clause-answer g c = λ ps h.
     let s = c.args.schema.now in
     let r = g.R.Recorded.as_record c.args.rec in
-    let shape : Shape = c.shape_recorded-size.result in
+    let shape : Shape = c.shape_in-size.result in
     let laws : SchemaLaws (g.S.Schema.shape_of s) (g.S.Schema.accepted s) (g.S.Schema.text s) = record {
       zero_has_none = g.met.S.Schema.zero_has_none s;
       shapes_fit = g.met.S.Schema.shapes_fit s;
@@ -74,7 +74,7 @@ returns-clause-answer g c = λ ps h.
     let long = c.self.inside.bytes.ok.0 in
     let at = offset_is (g.S.Schema.shape_of s) (g.S.Schema.accepted s) (g.S.Schema.text s) laws c.args.self.now c.self.inside.offset c.self.inside.bytes.items ps
     (ap (λ b. b.text) c.self.view_is) (omega arith) h in
-    let named : g.S.Schema.shape_of s r.epid ≡ Some shape = sym c.shape_recorded-size.ensures in
+    let named : g.S.Schema.shape_of s r.epid ≡ Some shape = sym c.shape_in-size.ensures in
     let says = shape_says (g.S.Schema.shape_of s) r shape named in
     let fit = g.met.S.Schema.shapes_fit s r.epid shape named in
     let with_epid = fit.with_epid in
@@ -86,7 +86,7 @@ pub returns-clause-kept : goal.returns-clause-kept
 returns-clause-kept g c = λ ps h.
     let s = c.args.schema.now in
     let r = g.R.Recorded.as_record c.args.rec in
-    let shape : Shape = c.shape_recorded-size.result in
+    let shape : Shape = c.shape_in-size.result in
     let laws : SchemaLaws (g.S.Schema.shape_of s) (g.S.Schema.accepted s) (g.S.Schema.text s) = record {
       zero_has_none = g.met.S.Schema.zero_has_none s;
       shapes_fit = g.met.S.Schema.shapes_fit s;
@@ -97,11 +97,11 @@ returns-clause-kept g c = λ ps h.
     let long = c.self.inside.bytes.ok.0 in
     let at = offset_is (g.S.Schema.shape_of s) (g.S.Schema.accepted s) (g.S.Schema.text s) laws c.args.self.now c.self.inside.offset c.self.inside.bytes.items ps
     (ap (λ b. b.text) c.self.view_is) (omega arith) h in
-    let named : g.S.Schema.shape_of s r.epid ≡ Some shape = sym c.shape_recorded-size.ensures in
+    let named : g.S.Schema.shape_of s r.epid ≡ Some shape = sym c.shape_in-size.ensures in
     let says = shape_says (g.S.Schema.shape_of s) r shape named in
     let fit = g.met.S.Schema.shapes_fit s r.epid shape named in
     let with_epid = fit.with_epid in
-    let t = text_facts (g.S.Schema.shape_of s) (g.S.Schema.accepted s) (g.S.Schema.text s) laws r c.requires in
+    let t = text_facts (g.S.Schema.shape_of s) (g.S.Schema.accepted s) (g.S.Schema.text s) laws r c.requires.accepted in
     let size = ap (λ b. b.size) c.self.view_is in
     let limit = c.size.ensures in
     let fitting = c.in-Some.ensures.1 in
@@ -113,7 +113,7 @@ returns-clause-kept g c = λ ps h.
     (c.put_behind.ensures
     ∙ ap (λ z. take c.self.inside.offset z ++ (replicate (c.in-Some.place - c.self.inside.offset) 0 ++ g.S.Schema.text s r)) c.as_mut_slice-bytes.ensures.value) in
     kept (g.S.Schema.shape_of s) (g.S.Schema.accepted s) (g.S.Schema.text s) laws c.args.self.now _ (one r) ps h
-    (accepted_alone (g.S.Schema.shape_of s) (g.S.Schema.accepted s) (g.S.Schema.text s) laws r c.requires)
+    (accepted_alone (g.S.Schema.shape_of s) (g.S.Schema.accepted s) (g.S.Schema.text s) laws r c.requires.accepted)
     (back ∙ ap (λ z. z ++ padded c.self.inside.offset shape.align (g.S.Schema.text s r)) (ap (λ b. b.text) c.self.view_is)
     ∙ ap (λ z. c.args.self.now.text ++ padded z shape.align (g.S.Schema.text s r)) at
     ∙ ap (λ z. c.args.self.now.text ++ padded (extent (g.S.Schema.shape_of s) ps) z (g.S.Schema.text s r)) (sym says.1))

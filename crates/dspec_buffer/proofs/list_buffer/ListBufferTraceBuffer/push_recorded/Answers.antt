@@ -42,7 +42,7 @@ put_recorded-requires-clause-exact g c =
       texts_differ = g.met.S.Schema.texts_differ s;
     } in
     let says = shape_says (g.S.Schema.shape_of s) r c.unwrap-shape.result named in
-    let t = text_facts (g.S.Schema.shape_of s) (g.S.Schema.accepted s) (g.S.Schema.text s) laws r c.requires in
+    let t = text_facts (g.S.Schema.shape_of s) (g.S.Schema.accepted s) (g.S.Schema.text s) laws r c.requires.accepted in
     length-take-le c.unwrap-shape.result.size _ fit.bounded ∙ sym (t.size ∙ says.0)
 
 pub unwrap-requires : goal.unwrap-requires
@@ -58,7 +58,7 @@ unwrap-requires g c =
       texts_differ = g.met.S.Schema.texts_differ s;
     } in
     let says = shape_says (g.S.Schema.shape_of s) r c.unwrap-shape.result named in
-    let t = text_facts (g.S.Schema.shape_of s) (g.S.Schema.accepted s) (g.S.Schema.text s) laws r c.requires in
+    let t = text_facts (g.S.Schema.shape_of s) (g.S.Schema.accepted s) (g.S.Schema.text s) laws r c.requires.accepted in
     let written : length c.put_recorded.new.out ≡ c.unwrap-shape.result.size = ap length c.put_recorded.ensures ∙ t.size ∙ says.0 in
     let with_epid = fit.with_epid in
     let p = placed c.self.inside.offset c.unwrap-shape.result.align c.unwrap-shape.result.size c.in-Some.place c.self.invariant.words fit.aligned fit.whole_words
@@ -82,7 +82,7 @@ invariant_of-self g c =
       texts_differ = g.met.S.Schema.texts_differ s;
     } in
     let says = shape_says (g.S.Schema.shape_of s) r c.unwrap-shape.result named in
-    let t = text_facts (g.S.Schema.shape_of s) (g.S.Schema.accepted s) (g.S.Schema.text s) laws r c.requires in
+    let t = text_facts (g.S.Schema.shape_of s) (g.S.Schema.accepted s) (g.S.Schema.text s) laws r c.requires.accepted in
     let written : length c.put_recorded.new.out ≡ c.unwrap-shape.result.size = ap length c.put_recorded.ensures ∙ t.size ∙ says.0 in
     let with_epid = fit.with_epid in
     let p = placed c.self.inside.offset c.unwrap-shape.result.align c.unwrap-shape.result.size c.in-Some.place c.self.invariant.words fit.aligned fit.whole_words
@@ -136,7 +136,7 @@ returns-clause-kept g c = λ ps h.
     let items = rw c.unwrap.ensures at c.extend_from_slice.ensures.items in
     let count = ap (λ b. b.count) c.self.view_is in
     listed (g.S.Schema.shape_of s) (g.S.Schema.accepted s) (g.S.Schema.text s) c.args.self.now _ (one r) ps h (record {
-      all_accepted = one_accepted (g.S.Schema.shape_of s) (g.S.Schema.accepted s) (g.S.Schema.text s) r c.requires;
+      all_accepted = one_accepted (g.S.Schema.shape_of s) (g.S.Schema.accepted s) (g.S.Schema.text s) r c.requires.accepted;
       texts_are = items ∙ ap (λ b. b.texts ++ c.put_recorded.new.out) c.self.view_is ∙ ap (λ z. c.args.self.now.texts ++ z)
           (c.put_recorded.ensures ∙ sym (one_text (g.S.Schema.shape_of s) (g.S.Schema.accepted s) (g.S.Schema.text s) r));
       count_is = omega arith;

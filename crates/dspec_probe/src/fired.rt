@@ -1,0 +1,100 @@
+ghost use Rattle.std.specs.Prelude.{◌≡◌, IsTrue};
+ghost use Rattle.dspec_record.specs.RecordText.{fits};
+
+use crate::{Fields, KnownHeader};
+use dspec_record::laid_out::{laid_shape, put_front};
+use dspec_record::{Enablings, Rec, Recorded, Schema, Shape};
+use std::alloc::AllocError;
+use std::marker::PhantomData;
+
+/// A record of a probe whose header and whose fields are known when a program is compiled: its shape and its bytes are looked up
+/// nowhere.
+pub struct Fired<'a, F: Fields, H: KnownHeader> {
+    rec: &'a Rec,
+    values: F,
+    header: PhantomData<H>,
+    ghost tied: { rec.now.values ≡ F.numbers_of values },
+    ghost fit: { IsTrue (fits F.fields_are rec.now.values) },
+}
+
+impl<'a, F: Fields, H: KnownHeader> Copy for Fired<'a, F, H> {}
+
+impl<'a, F: Fields, H: KnownHeader> Clone for Fired<'a, F, H> {
+    fn clone(&self) -> Result<Fired<'a, F, H>, AllocError> {
+        Ok(Fired {
+            rec: self.rec,
+            values: self.values,
+            header: PhantomData,
+        })
+    }
+}
+
+impl<'a, F: Fields, H: KnownHeader> Fired<'a, F, H> {
+    ghost use Rattle.std.specs.Prelude.{◌≡◌, IsTrue};
+    ghost use Rattle.dspec_record.specs.EnablingRows.{EnabledRows};
+    ghost use Rattle.dspec_record.specs.LaidOut.{IsLaidBy};
+    ghost use Rattle.dspec_record.specs.RecordText.{fits};
+    ghost use Rattle.dspec_probe.specs.Probes.{HasProbe};
+
+    /// The record with these values.
+    #[inline(always)]
+    pub fn of(rec: &'a Rec, values: F) -> Fired<'a, F, H>
+        requires tied { rec.now.values ≡ F.numbers_of values }
+        requires fit { IsTrue (fits F.fields_are (F.numbers_of values)) }
+        ensures rec { ⟦<Fired<'a, F, H> as Recorded>⟧.as_record result ≡ rec.now }
+        ensures laid { (schema : EnabledRows) → HasProbe H.header_is rec.now.epid F.fields_are schema
+            → IsLaidBy (⟦<Enablings as Schema>⟧.shape_of schema) (⟦<Enablings as Schema>⟧.text schema) rec.now (⟦<Fired<'a, F, H> as Recorded>⟧.laid_as result) }
+    {
+        Fired {
+            rec,
+            values,
+            header: PhantomData,
+        }
+    }
+}
+
+impl<'a, F: Fields, H: KnownHeader> Recorded for Fired<'a, F, H> {
+    ghost use Rattle.std.specs.Prelude.{Some};
+    ghost use Rattle.dspec_record.specs.Layout.{layout};
+    ghost use Rattle.dspec_record.specs.RecordText.{record_text};
+
+    ghost as_record = { λ f. f.rec.now };
+
+    ghost laid_as = { λ f. Some (record { shape = layout H.header_is F.fields_are; text = record_text H.header_is F.fields_are f.rec.now }) };
+
+    #[inline(always)]
+    fn epid(&self) -> u32 {
+        self.rec.epid()
+    }
+
+    #[inline(always)]
+    fn stamp(&self) -> u64 {
+        self.rec.stamp()
+    }
+
+    #[inline(always)]
+    fn values(&self) -> &[u64] {
+        self.rec.values()
+    }
+
+    #[inline(always)]
+    fn to_rec(&self) -> Rec {
+        *self.rec
+    }
+
+    #[inline(always)]
+    fn laid_shape(&self) -> Option<Shape> {
+        Some(laid_shape(H::header(), F::fields().as_slice()))
+    }
+
+    #[inline(always)]
+    fn put_laid(&self, out: &mut [u8]) -> bool {
+        let header = H::header();
+        // told by the fields, so that no running code asks how long the slice is
+        let size = laid_shape(header, F::fields().as_slice()).size as usize;
+        let text = &mut out[..size];
+        let start = put_front(header, self.rec, text);
+        self.values.put(start, text);
+        true
+    }
+}
