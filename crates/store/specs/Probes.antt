@@ -6,7 +6,7 @@ use Rattle.dspec_record.specs.declared.field.Field.TheVariants.{One, Two, Four, 
 use Rattle.dspec_probe.specs.Probes.{IsProbeOf}
 use Rattle.store.specs.declared.probes.StoreProbes.{StoreProbes}
 
-pub record AreOf (p : StoreProbes) (schema : EnabledRows) : Type 0 where
+pub record AreStoreProbesOf (p : StoreProbes) (schema : EnabledRows) : Type 0 where
   pub begin : IsProbeOf (Four ∷ One ∷ []) p.begin schema
   pub read : IsProbeOf (Four ∷ Two ∷ Eight ∷ []) p.read schema
   pub wait : IsProbeOf (Four ∷ Two ∷ []) p.wait schema

@@ -1,7 +1,7 @@
 ghost use Rattle.std.specs.Prelude.{◌≡◌};
 ghost use Rattle.dspec_cpu.specs.Lists.{schema_of};
 ghost use Rattle.dspec.specs.Lanes.{place_of};
-ghost use Rattle.store.specs.Probes.{AreOf};
+ghost use Rattle.store.specs.Probes.{AreStoreProbesOf};
 
 use crate::board::{ACCOUNTS, Board};
 use crate::probes::{ABORTED, DONE, SLOW, StoreProbes};
@@ -70,7 +70,7 @@ fn withdraw(
     clock: &mut u64,
     made: Transfer,
 ) -> bool
-    requires of { AreOf server.now.probes (schema_of lane.old.cpu.now) }
+    requires of { AreStoreProbesOf server.now.probes (schema_of lane.old.cpu.now) }
     ensures { place_of lane.new ≡ place_of lane.old }
 {
     let Transfer { number, from, .. } = made;
@@ -98,7 +98,7 @@ fn wait(
     clock: &mut u64,
     made: Transfer,
 )
-    requires of { AreOf server.now.probes (schema_of lane.old.cpu.now) }
+    requires of { AreStoreProbesOf server.now.probes (schema_of lane.old.cpu.now) }
     ensures { place_of lane.new ≡ place_of lane.old }
 {
     for _ in 0..made.waits {
@@ -118,7 +118,7 @@ fn deposit(
     clock: &mut u64,
     made: Transfer,
 )
-    requires of { AreOf server.now.probes (schema_of lane.old.cpu.now) }
+    requires of { AreStoreProbesOf server.now.probes (schema_of lane.old.cpu.now) }
     ensures { place_of lane.new ≡ place_of lane.old }
 {
     let Transfer { number, to, .. } = made;
@@ -142,7 +142,7 @@ fn make_transfer(
     clock: &mut u64,
     made: Transfer,
 ) -> u8
-    requires of { AreOf server.now.probes (schema_of lane.old.cpu.now) }
+    requires of { AreStoreProbesOf server.now.probes (schema_of lane.old.cpu.now) }
     ensures { place_of lane.new ≡ place_of lane.old }
 {
     let stamp = later(clock, 1);
@@ -160,7 +160,7 @@ fn make_transfer(
 
 /// A transfer on a path, which is kept where it was aborted or slow.
 fn transact(lane: &mut Lane<'_, Enablings>, server: &Server, clock: &mut u64, made: Transfer)
-    requires of { AreOf server.now.probes (schema_of lane.old.cpu.now) }
+    requires of { AreStoreProbesOf server.now.probes (schema_of lane.old.cpu.now) }
     ensures { place_of lane.new ≡ place_of lane.old }
 {
     let path = lane.path();

@@ -10,7 +10,7 @@ use Rattle.watch.specs.declared.probes.ServerProbes.{ServerProbes}
 abbrev pub step_fields : List Field
 step_fields = Four ∷ Four ∷ []
 
-pub record AreOf (p : ServerProbes) (schema : EnabledRows) : Type 0 where
+pub record AreServerProbesOf (p : ServerProbes) (schema : EnabledRows) : Type 0 where
   pub accept : IsProbeOf step_fields p.accept schema
   pub parse : IsProbeOf step_fields p.parse schema
   pub query : IsProbeOf step_fields p.query schema

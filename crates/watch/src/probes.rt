@@ -2,7 +2,7 @@ ghost use Rattle.std.specs.Prelude.{◌↔◌, IfSome, IsSome};
 ghost use Rattle.dspec_record.specs.EnablingRows.{EnabledRows};
 ghost use Rattle.dspec_probe.specs.Probes.{IsProbeOf};
 ghost use Rattle.dspec_cpu.specs.Lists.{schema_of};
-ghost use Rattle.watch.specs.Probes.{AreOf, step_fields};
+ghost use Rattle.watch.specs.Probes.{AreServerProbesOf, step_fields};
 
 use dspec::{Enablings, Lane, Rec};
 use dspec_probed::{Probe, ProbeFault, Probes, Recording};
@@ -55,7 +55,7 @@ impl ServerProbes {
 
     /// Whether the lane's schema has all of them.
     pub fn are_on(&self, lane: &Lane<'_, Enablings>) -> bool
-        ensures { IsTrue result → AreOf self.now (schema_of lane.now.cpu.now) }
+        ensures { IsTrue result → AreServerProbesOf self.now (schema_of lane.now.cpu.now) }
     {
         self.accept.on(lane).is_ok()
             && self.parse.on(lane).is_ok()
@@ -65,7 +65,7 @@ impl ServerProbes {
 
     /// The probe of an action.
     pub fn of(&self, action: Action) -> Probe<(u32, u32)>
-        ensures { (schema : EnabledRows) → AreOf self.now schema → IsProbeOf step_fields result schema }
+        ensures { (schema : EnabledRows) → AreServerProbesOf self.now schema → IsProbeOf step_fields result schema }
     {
         match action {
             Action::Accept => self.accept,

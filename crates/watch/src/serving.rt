@@ -2,7 +2,7 @@ ghost use Rattle.std.specs.Prelude.{◌≡◌};
 ghost use Rattle.dspec_cpu.specs.Called.{called};
 ghost use Rattle.dspec_cpu.specs.Lists.{schema_of};
 ghost use Rattle.dspec.specs.Lanes.{place_of};
-ghost use Rattle.watch.specs.Probes.{AreOf};
+ghost use Rattle.watch.specs.Probes.{AreServerProbesOf};
 ghost use Rattle.watch.specs.Serving.{HandlesRequest};
 
 use crate::probes::ServerProbes;
@@ -12,7 +12,7 @@ use dspec_probed::Recording;
 
 /// The steps of a request go to a path, which is kept where the request fails, and thrown away where it doesn't.
 fn handle(lane: &mut Lane<'_, Enablings>, probes: &ServerProbes, request: Request)
-    requires of { AreOf probes.now (schema_of lane.old.cpu.now) }
+    requires of { AreServerProbesOf probes.now (schema_of lane.old.cpu.now) }
     ensures same { place_of lane.new ≡ place_of lane.old }
     ensures handled { HandlesRequest request.fails (called lane.old.cpu.now) (called lane.new.cpu.now) }
 {
@@ -36,10 +36,10 @@ pub struct Server {
 }
 
 impl Work<Enablings> for Server {
-    ghost use Rattle.watch.specs.Probes.{AreOf};
+    ghost use Rattle.watch.specs.Probes.{AreServerProbesOf};
     ghost use Rattle.watch.specs.Serving.{ServesRequests};
 
-    ghost does = { λ schema server number before after. AreOf server.probes schema → ServesRequests server.seed number before 100 after };
+    ghost does = { λ schema server number before after. AreServerProbesOf server.probes schema → ServesRequests server.seed number before 100 after };
 
     fn work(&self, lane: &mut Lane<'_, Enablings>) {
         if !self.probes.are_on(lane) {
