@@ -11,7 +11,7 @@ PREFIX = /usr/local
 
 JOBS =
 
-.PHONY: no_goal check quick play test examples ctf-check api edits mutants rows soak fuzz build bench bench-instructions bench-peers build-bench picture lib c-check install uninstall dist
+.PHONY: no_goal check crates-line quick play test examples ctf-check api edits mutants rows soak fuzz build bench bench-instructions bench-peers build-bench picture lib c-check install uninstall dist
 
 # Plays one schedule, or several (SCHEDULES="a b"), at once: with the proved program where it is built, else with the trial build of the
 # same sources.
@@ -30,6 +30,10 @@ picture:
 # Proves one crate, and what it stands on where that has changed, as in make check CRATE=dspec_ring.
 check:
 	@cd "crates/$(CRATE)" && rt check
+
+# The line of crates.txt for a program that uses these crates, as in make crates-line CRATE=app CRATES="dspec dspec_probed anyhow".
+crates-line:
+	@.ci/crates_line "$(CRATE)" $(CRATES)
 
 # All that runs, by trial builds: tests, programs, the corpus, sessions. Nothing is proved by it. Some minutes on four processors.
 quick:
