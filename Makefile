@@ -105,13 +105,14 @@ build-bench:
 	@cd crates/bench && rt run > /dev/null
 
 # The C library, proved: build/lib has the archive, build/shared the shared object where one links, build/include the header. With
-# TRY=1 in a minute or two, unproved: to look at and to write programs against.
+# TRY=1 in a minute or two, unproved: to look at and to write programs against. With BITCODE=1 the proved library's bitcode too, for -flto.
 lib:
 	@if [ "$(TRY)" = 1 ]; then \
-		.ci/c_try build/trial/libdspec_c.a && TRY=1 DSPEC_ARCHIVE=build/trial/libdspec_c.a sh .ci/c_lib build build; \
+		.ci/c_module trial build/trial/libdspec_c.a && TRY=1 DSPEC_ARCHIVE=build/trial/libdspec_c.a sh .ci/c_lib build build; \
 	else \
 		sh .ci/c_lib prove && sh .ci/c_lib build build; \
 	fi
+	@[ "$(BITCODE)" != 1 ] || .ci/c_module bitcode build/lib/libdspec.bc
 
 # The C library's tests, and those of the Rust package: over the archive that make lib builds.
 c-check: lib
