@@ -1,4 +1,5 @@
 ghost use Rattle.std.specs.Prelude.{◌≡◌, ◌<◌, ◌+◌, ◌-◌, ◌==◌, ◌++◌, true, List, IsTrue, Some, slice_get};
+ghost use Rattle.dspec_record.specs.LaidOut.{IsLaidBy};
 ghost use Rattle.dspec_deeds.specs.declared.deed.Deed.{Deed};
 ghost use Rattle.dspec_deeds.specs.History.{in_range};
 ghost use Rattle.dspec_deeds.specs.Marks.{mark};
@@ -22,9 +23,11 @@ use dspec_word::SpecId;
 
 impl<S: Schema> CpuParts<S> {
     // As `Cpu::speculate`.
+    #[inline(always)]
     pub(crate) fn speculate<R: Recorded>(&mut self, shared: &Shared, id: SpecId, rec: R) -> Spoken
         requires ready { ⟦<CpuParts<S> as Callable>⟧.is_ready (words_of shared.now) self.old }
         requires accepted { IsTrue (S.accepted (schema_of self.old) (R.as_record rec)) }
+        requires laid { IsLaidBy (S.shape_of (schema_of self.old)) (S.text (schema_of self.old)) (R.as_record rec) (R.laid_as rec) }
         ensures ready { ⟦<CpuParts<S> as Callable>⟧.is_ready (words_of shared.now) self.new }
         ensures same { IsSameCpu self.old self.new }
         ensures keeps { CallKeeps (is_worn_spoken result) (is_stopped_spoken result) 4 (of_slot (config_of self.old) id) self.old self.new }
@@ -59,6 +62,7 @@ impl<S: Schema> CpuParts<S> {
         requires ready { ⟦<CpuParts<S> as Callable>⟧.is_ready (words_of shared.now) self.old }
         requires calls { self.old.side.calls < self.old.config.max_calls }
         requires accepted { IsTrue (S.accepted self.old.schema (R.as_record rec)) }
+        requires laid { IsLaidBy (S.shape_of self.old.schema) (S.text self.old.schema) (R.as_record rec) (R.laid_as rec) }
         requires inside { inside ≡ in_range self.old.config id }
         requires mine { inside ≡ true → (p : List Deed) → ⟦<Cpu<S> as Listed>⟧.is_shown self.old p → mine ≡ (mark self.old.cpu id.slot p == id.issue + 1) }
         requires marked { mine ≡ true → slice_get self.old.side.marks (id.slot - 1) ≡ Some (id.issue + 1) }

@@ -1,4 +1,5 @@
 ghost use Rattle.std.specs.Prelude.{◌++◌, List, IsTrue};
+ghost use Rattle.dspec_record.specs.LaidOut.{IsLaidBy};
 ghost use Rattle.dspec_deeds.specs.declared.deed.Deed.{Deed};
 ghost use Rattle.dspec_table.specs.Seats.{known};
 ghost use Rattle.dspec_cpu.specs.Calls.{Goes, traced_deeds, is_worn_trace};
@@ -18,9 +19,11 @@ use dspec_table::Doing;
 
 impl<S: Schema> CpuParts<S> {
     // As `Cpu::trace`.
+    #[inline(always)]
     pub(crate) fn trace<R: Recorded>(&mut self, shared: &Shared, rec: R) -> Traced
         requires ready { ⟦<CpuParts<S> as Callable>⟧.is_ready (words_of shared.now) self.old }
         requires accepted { IsTrue (S.accepted (schema_of self.old) (R.as_record rec)) }
+        requires laid { IsLaidBy (S.shape_of (schema_of self.old)) (S.text (schema_of self.old)) (R.as_record rec) (R.laid_as rec) }
         ensures ready { ⟦<CpuParts<S> as Callable>⟧.is_ready (words_of shared.now) self.new }
         ensures same { IsSameCpu self.old self.new }
         ensures keeps { CallKeeps (is_worn_trace result) (is_stopped_trace result) 1 of_activity self.old self.new }

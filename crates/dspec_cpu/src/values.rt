@@ -1,4 +1,5 @@
 ghost use Rattle.std.specs.Prelude.{◌≡◌, IsTrue};
+ghost use Rattle.dspec_record.specs.LaidOut.{IsLaidBy};
 ghost use Rattle.dspec_cpu.specs.Lists.{schema_of, words_of};
 ghost use Rattle.dspec_cpu.specs.OneCall.{TracesOne, SpeculatesOne, RecordsValues, OffersValues};
 ghost use Rattle.dspec_cpu.specs.Standing.{Belongs, identity};
@@ -46,22 +47,24 @@ impl<S: Schema> Cpu<S> {
         Some(self.speculate_recorded(shared, id, rec))
     }
 
-    // As `trace`, of a record that holds its values or whose values stand elsewhere.
+    /// As `trace`, of what can be traced as a record.
     #[inline(always)]
-    fn trace_recorded<R: Recorded>(&mut self, shared: &Shared, rec: R) -> Traced
+    pub fn trace_recorded<R: Recorded>(&mut self, shared: &Shared, rec: R) -> Traced
         requires of { Belongs (words_of shared.now) (identity self.old) }
         requires accepted { IsTrue (S.accepted (schema_of self.old) (R.as_record rec)) }
+        requires laid { IsLaidBy (S.shape_of (schema_of self.old)) (S.text (schema_of self.old)) (R.as_record rec) (R.laid_as rec) }
         ensures same { identity self.new ≡ identity self.old }
         ensures does { TracesOne ⟦<Cpu<S> as Listed>⟧.has_list (R.as_record rec) result self.old self.new }
     {
         self.parts.trace(shared, rec)
     }
 
-    // As `speculate`, of such a record.
+    /// As `speculate`, of what can be traced as a record.
     #[inline(always)]
-    fn speculate_recorded<R: Recorded>(&mut self, shared: &Shared, id: SpecId, rec: R) -> Spoken
+    pub fn speculate_recorded<R: Recorded>(&mut self, shared: &Shared, id: SpecId, rec: R) -> Spoken
         requires of { Belongs (words_of shared.now) (identity self.old) }
         requires accepted { IsTrue (S.accepted (schema_of self.old) (R.as_record rec)) }
+        requires laid { IsLaidBy (S.shape_of (schema_of self.old)) (S.text (schema_of self.old)) (R.as_record rec) (R.laid_as rec) }
         ensures same { identity self.new ≡ identity self.old }
         ensures does { SpeculatesOne ⟦<Cpu<S> as Listed>⟧.has_list id (R.as_record rec) result self.old self.new }
     {
