@@ -18,6 +18,14 @@ pub struct Handed {
 }
 
 impl Handed {
+    /// Its identifier, or NONE where no speculation was given.
+    #[inline]
+    pub fn id(self) -> SpecId
+        ensures { result ≡ self.id }
+    {
+        self.id
+    }
+
     /// The number of its identifier, `issue * 64 + slot`. 0 where no speculation was given.
     #[inline]
     pub fn raw(self) -> u64
