@@ -1,4 +1,5 @@
 pub mod ClosedCpus
+pub mod Handing
 pub mod KeptRecords
 pub mod LaneCalls
 pub mod Lanes

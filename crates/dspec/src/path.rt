@@ -9,11 +9,11 @@ use dspec_deeds::{Decided, Opening, Spoken};
 use dspec_record::Schema;
 
 /// A speculation that isn't decided yet. It can't be let go: who has it keeps it or throws it away, so that none stays open by
-/// mistake. Any lane of the session may take its steps. Where none was given, what is offered to it is void, as with the
-/// identifier 0 of the Guide.
+/// mistake, or hands it on as a word (`hand`, `take`). Any lane of the session may take its steps. Where none was given, what is
+/// offered to it is void, as with the identifier 0 of the Guide.
 #[derive(Debug)]
 pub struct Path {
-    opening: Opening,
+    pub(crate) opening: Opening,
 }
 
 impl Path {
