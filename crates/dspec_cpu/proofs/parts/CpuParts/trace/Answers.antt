@@ -31,7 +31,8 @@ trace-requires g c =
     let few = few_drops _ _ _ (words_of c.args.shared.now) c.args.self.now c.requires.ready c.if-self.false in
     let most = (limits c.args.self.now.config c.requires.ready.steady.checked).calls in
     let lt = c.if-self.false in
-    record { accepted = c.requires.accepted; laid = c.requires.laid; calls = omega arith; drops = omega arith; counts = roomy _ _ _ (words_of c.args.shared.now) c.args.self.now c.requires.ready c.if-self.false }
+    let room = roomy _ _ _ (words_of c.args.shared.now) c.args.self.now c.requires.ready c.if-self.false in
+    record { accepted = c.requires.accepted; laid = c.requires.laid; calls = omega arith; drops = omega arith; counts = room }
 
 pub returns-then-not-runs-clause-did : goal.returns-then-not-runs-clause-did
 returns-then-not-runs-clause-did g c =
