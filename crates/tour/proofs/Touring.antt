@@ -5,8 +5,6 @@ use Rattle.std.proofs.lemmas.List.{append_assoc}
 use Rattle.dspec_record.specs.Record.{Record}
 use Rattle.dspec_record.specs.EnablingRows.{EnabledRows}
 use Rattle.dspec_record.specs.Schemas.{enabled, table_shape, table_accepts, table_text}
-use Rattle.dspec_record.specs.declared.field.Field.TheVariants.{One, Four, Eight}
-use Rattle.dspec_record.specs.declared.header.Header.TheVariants as header
 use Rattle.dspec_deeds.specs.declared.config.Config.{Config}
 use Rattle.dspec_deeds.specs.declared.report.Report.{Report}
 use Rattle.dspec_promise.specs.Deeds.{all_did}
@@ -22,24 +20,18 @@ use Rattle.dspec.specs.Passed.{AreFrom}
 use Rattle.dspec.specs.Traced.{IsTraced}
 use Rattle.dspec.proofs.KeptAll.{kept_all}
 use Rattle.tour.specs.declared.Requests.{Requests}
-use Rattle.tour.specs.Requests.{DoesRequests}
-use Rattle.tour.specs.Toured.{IsTour, probes}
-
--- the schema has these two enablings
-pub schema_is : (e : EnabledRows) → e.header ≡ header.One → e.rows ≡ (Four ∷ []) ∷ (Eight ∷ One ∷ []) ∷ [] → e ≡ probes
-schema_is e h r = λ i. record { header = h i; rows = r i }
-
--- and these are their numbers
-pub probes_are : (work : Requests) → work.request ≡ 1 → work.touch ≡ 2 → work ≡ record { request = 1; touch = 2 }
-probes_are work r t = λ i. record { request = r i; touch = t i }
+use Rattle.dspec_probe.specs.Probes.{IsProbeOf, epid_of_probe}
+use Rattle.tour.specs.Requests.{DoesRequests, MakesRequests, request_fields, touch_fields}
+use Rattle.tour.specs.Toured.{IsTour}
 
 module _ (e : EnabledRows) (work : Requests) (k : Config) (old new : KeptRecords) (left : List Left) (report : Report) (records : List Record) where
-  pub toured : e ≡ probes → work ≡ record { request = 1; touch = 2 } → k.cpus ≡ 1 → old ≡ no_records → new.fault ≡ None → records ≡ new.records
+  pub toured : IsProbeOf request_fields work.request e → IsProbeOf touch_fields work.touch e → epid_of_probe work.request ≡ 1 → epid_of_probe work.touch ≡ 2
+      → k.cpus ≡ 1 → old ≡ no_records → new.fault ≡ None → records ≡ new.records
       → length left ≡ 1 → ((l : Left) → slice_get left 0 ≡ Some l → report ≡ l.report)
       → IsTraced (KeepsBatch e) (λ c before after. DoesRequests e work before after) (table_shape e.header (enabled e.rows)) (table_accepts e.header (enabled e.rows))
       (table_text e.header (enabled e.rows)) k old left new
       → IsTour records report
-  toured probes_is work_is one begun fine kept count told traced =
+  toured request-has touch-has request-is touch-is one begun fine kept count told traced =
       let some : 0 < length left = omega arith in
       let first : 0 < k.cpus = omega arith in
       let (l, at) = there_is left 0 some in
@@ -52,8 +44,8 @@ module _ (e : EnabledRows) (work : Requests) (k : Config) (old new : KeptRecords
       let deeds = traced.promised.deeds in
       record {
         calls = traced.calls 0;
-        worked = subst (λ (w : Requests). DoesRequests probes w no_calls (traced.calls 0)) work_is
-            (subst (λ (x : EnabledRows). DoesRequests x work no_calls (traced.calls 0)) probes_is (traced.worked 0 first));
+        worked = subst (λ n. MakesRequests 1 n no_calls (traced.calls 0)) touch-is
+            (subst (λ n. MakesRequests n (epid_of_probe work.touch) no_calls (traced.calls 0)) request-is (traced.worked 0 first request-has touch-has));
         closed = closed_for (table_shape e.header (enabled e.rows)) k traced.promised.before 0;
         all = all_did deeds;
         answered = mine.answered;

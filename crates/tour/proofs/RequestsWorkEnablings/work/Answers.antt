@@ -1,54 +1,22 @@
 -- Each call tells what it did, over the schema that the lane had at first.
-use Rattle.std.proofs.Common.{Bool, [], ◌∷◌, ap, ◌∙◌, subst}
-use Rattle.dspec_record.specs.Record.{Record}
-use Rattle.dspec_record.specs.EnablingRows.{EnabledRows}
-use Rattle.dspec_record.specs.Schemas.{enabled, table_accepts}
-use Rattle.dspec_deeds.specs.Told.{id_told}
-use Rattle.dspec_cpu.specs.Called.{CallsMade, called, with_speculation}
-use Rattle.dspec_cpu.specs.Lists.{schema_of}
-use Rattle.dspec_consumer.specs.Sessions.{Has}
-use Rattle.dspec.specs.Lanes.{Place}
-use Rattle.dspec.proofs.Works.{did_record, did_step}
-use Rattle.tour.specs.Requests.{StepsOf, RecordsOf}
+use Rattle.std.proofs.Common.{[], ◌∷◌}
+use Rattle.dspec_cpu.specs.Called.{called}
+use Rattle.dspec_probe.specs.Probes.{epid_of_probe, probed_record}
+use Rattle.tour.proofs.Calling.{one_by_one, plain_record}
 use Rattle.tour.proofs.RequestsWorkEnablings.work.Goals as goal
 
--- which records a schema accepts
-abbrev accepts : EnabledRows → Record → Bool
-accepts e = table_accepts e.header (enabled e.rows)
-
 pub returns-clause-did : goal.returns-clause-did
-returns-clause-did c =
-    let e = schema_of c.args.lane.now.cpu.now in
-    let work = c.args.self.now in
-    let failed = c.path-failed.result.opening in
-    let fine = c.path-fine.result.opening in
-    let opened = c.path-failed.ensures.same in
-    let first = c.step.ensures.same ∙ opened in
-    let second = c.step-2.ensures.same ∙ first in
-    let kept = c.keep.ensures.same ∙ second in
-    let reopened = c.path-fine.ensures.same ∙ kept in
-    let third = c.step-3.ensures.same ∙ reopened in
-    let thrown = c.throw.ensures.same ∙ third in
-    let seventh = c.record.ensures.same ∙ thrown in
-    let eighth = c.record-2.ensures.same ∙ seventh in
-    record {
-      failed = failed;
-      first = called c.step.new.lane.cpu.now;
-      first_step = subst (λ (x : CallsMade). StepsOf e work failed (4096 ∷ 5 ∷ []) x (called c.step.new.lane.cpu.now)) c.path-failed.ensures.does.tells
-          (did_step Has accepts e work.touch 0 _ _ _ (ap (λ (p : Place EnabledRows). p.cpu.schema) opened) (id_told failed) c.step.result c.step.ensures.does);
-      second = called c.step-2.new.lane.cpu.now;
-      second_step = did_step Has accepts e work.touch 0 _ _ _ (ap (λ (p : Place EnabledRows). p.cpu.schema) first) (id_told failed) c.step-2.result c.step-2.ensures.does;
-      kept = c.keep.result;
-      fine = fine;
-      third = called c.step-3.new.lane.cpu.now;
-      third_step = subst (λ (x : CallsMade). StepsOf e work fine (12288 ∷ 0 ∷ []) x (called c.step-3.new.lane.cpu.now))
-          (c.path-fine.ensures.does.tells ∙ ap (λ (x : CallsMade). with_speculation fine x) c.keep.ensures.does.tells)
-          (did_step Has accepts e work.touch 0 _ _ _ (ap (λ (p : Place EnabledRows). p.cpu.schema) reopened) (id_told fine) c.step-3.result c.step-3.ensures.does);
-      thrown = c.throw.result;
-      seventh = called c.record.new.self.cpu.now;
-      seven = subst (λ (x : CallsMade). RecordsOf e work (7 ∷ []) x (called c.record.new.self.cpu.now)) c.throw.ensures.does.tells
-          (did_record Has accepts e work.request 0 _ _ _ (ap (λ (p : Place EnabledRows). p.cpu.schema) thrown) c.record.result c.record.ensures.does);
-      eighth = called c.record-2.new.self.cpu.now;
-      eight = did_record Has accepts e work.request 0 _ _ _ (ap (λ (p : Place EnabledRows). p.cpu.schema) seventh) c.record-2.result c.record-2.ensures.does;
-      nine = did_record Has accepts e work.request 0 _ _ _ (ap (λ (p : Place EnabledRows). p.cpu.schema) eighth) c.record-3.result c.record-3.ensures.does;
-    }
+returns-clause-did c request-has touch-has =
+    let r = c.in-Ok-Ok.request in
+    let t = c.in-Ok-Ok.touch in
+    let request = plain_record r c.args.self.now.request c.in-Ok-Ok.ensures.same in
+    let touch = plain_record t c.args.self.now.touch c.in-Ok-Ok.ensures'.same in
+    one_by_one (epid_of_probe c.args.self.now.request) (epid_of_probe c.args.self.now.touch) c.path-failed.result.opening c.path-fine.result.opening c.step.result
+    c.step-2.result c.step-3.result c.keep.result c.throw.result c.record.result c.record-2.result c.record-3.result (called c.args.lane.now.cpu.now)
+    (called c.path-failed.new.self.cpu.now) (called c.step.new.lane.cpu.now) (called c.step-2.new.lane.cpu.now) (called c.keep.new.lane.cpu.now)
+    (called c.path-fine.new.self.cpu.now) (called c.step-3.new.lane.cpu.now) (called c.throw.new.lane.cpu.now) (called c.record.new.lane.cpu.now)
+    (called c.record-2.new.lane.cpu.now) (called c.record-3.new.lane.cpu.now) (probed_record t 0 (4096 ∷ 5 ∷ [])) (probed_record t 0 (8192 ∷ 0 ∷ []))
+    (probed_record t 0 (12288 ∷ 0 ∷ [])) (probed_record r 0 (7 ∷ [])) (probed_record r 0 (8 ∷ [])) (probed_record r 0 (9 ∷ [])) (touch (4096 ∷ 5 ∷ []))
+    (touch (8192 ∷ 0 ∷ [])) (touch (12288 ∷ 0 ∷ [])) (request (7 ∷ [])) (request (8 ∷ [])) (request (9 ∷ [])) c.path-failed.ensures.does.tells
+    c.step.ensures.does.tells c.step-2.ensures.does.tells c.keep.ensures.does.tells c.path-fine.ensures.does.tells c.step-3.ensures.does.tells
+    c.throw.ensures.does.tells c.record.ensures.does.tells c.record-2.ensures.does.tells c.record-3.ensures.does.tells
