@@ -39,10 +39,10 @@ impl Transfer {
         let noise = noise_of(number);
         let first = worker.wrapping_mul(ACCOUNTS);
         Transfer {
-            number: number as u32,
-            worker: worker as u8,
-            from: first.wrapping_add(noise % ACCOUNTS) as u16,
-            to: first.wrapping_add(noise / 64 % ACCOUNTS) as u16,
+            number: (number % (1 << 32)) as u32,
+            worker: (worker % (1 << 8)) as u8,
+            from: (first.wrapping_add(noise % ACCOUNTS) % (1 << 16)) as u16,
+            to: (first.wrapping_add(noise / 64 % ACCOUNTS) % (1 << 16)) as u16,
             amount: noise / 4096 % 80,
             waits: (noise / (1 << 20) % 8).wrapping_mul(noise / (1 << 24) % 2),
         }

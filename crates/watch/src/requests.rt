@@ -58,6 +58,6 @@ impl Request {
             _ => Action::Answer,
         };
         let micros = spread(self.noise.wrapping_add(place)) % 1000;
-        (action, (self.number as u32, micros as u32))
+        (action, ((self.number % (1 << 32)) as u32, micros as u32))
     }
 }
