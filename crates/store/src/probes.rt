@@ -1,5 +1,5 @@
 ghost use Rattle.dspec_cpu.specs.Lists.{schema_of};
-ghost use Rattle.std.specs.Prelude.{IsTrue};
+ghost use Rattle.std.specs.Prelude.{◌↔◌, IsTrue};
 ghost use Rattle.store.specs.Probes.{AreStoreProbesOf};
 
 use dspec::{Enablings, Lane, Rec};
@@ -42,7 +42,7 @@ impl StoreProbes {
 
     /// Whether the lane's schema has all of them.
     pub fn are_on(&self, lane: &Lane<'_, Enablings>) -> bool
-        ensures { IsTrue result → AreStoreProbesOf self.now (schema_of lane.now.cpu.now) }
+        ensures { IsTrue result ↔ AreStoreProbesOf self.now (schema_of lane.now.cpu.now) }
     {
         self.begin.on(lane).is_ok()
             && self.read.on(lane).is_ok()

@@ -1,4 +1,4 @@
-ghost use Rattle.std.specs.Prelude.{◌↔◌, IfSome, IsSome};
+ghost use Rattle.std.specs.Prelude.{◌↔◌, IsTrue};
 ghost use Rattle.dspec_record.specs.EnablingRows.{EnabledRows};
 ghost use Rattle.dspec_probe.specs.Probes.{IsProbeOf};
 ghost use Rattle.dspec_cpu.specs.Lists.{schema_of};
@@ -55,7 +55,7 @@ impl ServerProbes {
 
     /// Whether the lane's schema has all of them.
     pub fn are_on(&self, lane: &Lane<'_, Enablings>) -> bool
-        ensures { IsTrue result → AreServerProbesOf self.now (schema_of lane.now.cpu.now) }
+        ensures { IsTrue result ↔ AreServerProbesOf self.now (schema_of lane.now.cpu.now) }
     {
         self.accept.on(lane).is_ok()
             && self.parse.on(lane).is_ok()

@@ -1,15 +1,11 @@
 -- A step of a path offers a record to it, and nothing else is done.
 use Rattle.std.proofs.Common.{◌≡◌, ◌∙◌, Bool, refl, subst, sym, ap}
-use Rattle.std.specs.Prelude.{Option, Some, None, IfSome, IfNone, List, ℕ, if◌then◌else◌}
+use Rattle.std.specs.Prelude.{List, ℕ, if◌then◌else◌}
 use Rattle.dspec_word.specs.SpecId.{Speculation}
 use Rattle.dspec_deeds.specs.declared.calls.Spoken.{Spoken}
 use Rattle.dspec_deeds.specs.Told.{id_told}
 use Rattle.dspec_cpu.specs.Called.{CallsMade, called, with_decision, with_speculation}
 use Rattle.dspec_promise.specs.Promise.{By, commit, discard}
-use Rattle.dspec_consumer.specs.Sessions.{Has}
-use Rattle.dspec.specs.Works.{DidStep}
-use Rattle.dspec.proofs.Works.{did_step}
-use Rattle.dspec_record.specs.Schemas.{enabled, table_accepts}
 use Rattle.watch.specs.Serving.{OffersAlone, nothing, one_step, HandlesRequest}
 use Rattle.watch.proofs.serving.handle.Goals as goal
 
@@ -20,6 +16,4 @@ loop-place-init c = (
 )
 
 pub loop-place-preserved : goal.loop-place-preserved
-loop-place-preserved c =
-    let did = did_step Has (λ e. table_accepts e.header (enabled e.rows)) _ _ _ _ _ _ refl _ c.step.result c.step.ensures.does in
-    (c.step.ensures.same ∙ c.loop-place.invariant.0, one_step _ did.answer _ c.loop-place.invariant.1 did.refused did.told)
+loop-place-preserved c = (c.step.ensures.same ∙ c.loop-place.invariant.0, one_step _ c.step.result _ c.loop-place.invariant.1 c.step.ensures.does.tells)

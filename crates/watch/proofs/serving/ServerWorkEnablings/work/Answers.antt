@@ -18,7 +18,7 @@ loop-round-preserved c =
     )
 
 pub returns-clause-did : goal.returns-clause-did
-returns-clause-did c =
+returns-clause-did c has =
     let over = c.loop-round-test.false in
     let end = c.loop-round.auto.round-end in
     let all : c.loop-round.round ≡ 100 = omega arith in
