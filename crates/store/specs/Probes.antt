@@ -1,7 +1,6 @@
 -- Cited by calls. Which schemas have the probes of the store.
-use Rattle.std.specs.Prelude.{List, [], ◌∷◌}
+use Rattle.std.specs.Prelude.{[], ◌∷◌}
 use Rattle.dspec_record.specs.EnablingRows.{EnabledRows}
-use Rattle.dspec_record.specs.declared.field.Field.{Field}
 use Rattle.dspec_record.specs.declared.field.Field.TheVariants.{One, Two, Four, Eight}
 use Rattle.dspec_probe.specs.Probes.{IsProbeOf}
 use Rattle.store.specs.declared.probes.StoreProbes.{StoreProbes}

@@ -1,12 +1,8 @@
 -- A step of a path offers a record to it, and nothing else is done.
-use Rattle.std.proofs.Common.{◌≡◌, ◌∙◌, Bool, refl, subst, sym, ap}
-use Rattle.std.specs.Prelude.{List, ℕ, if◌then◌else◌}
-use Rattle.dspec_word.specs.SpecId.{Speculation}
-use Rattle.dspec_deeds.specs.declared.calls.Spoken.{Spoken}
+use Rattle.std.proofs.Common.{◌∙◌, subst}
 use Rattle.dspec_deeds.specs.Told.{id_told}
-use Rattle.dspec_cpu.specs.Called.{CallsMade, called, with_decision, with_speculation}
-use Rattle.dspec_promise.specs.Promise.{By, commit, discard}
-use Rattle.watch.specs.Serving.{OffersAlone, nothing, one_step, HandlesRequest}
+use Rattle.dspec_cpu.specs.Called.{CallsMade, called}
+use Rattle.watch.specs.Serving.{OffersAlone, nothing, one_step}
 use Rattle.watch.proofs.serving.handle.Goals as goal
 
 pub loop-place-init : goal.loop-place-init
