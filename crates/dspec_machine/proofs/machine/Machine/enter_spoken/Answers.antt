@@ -45,6 +45,7 @@ grant-requires g c =
       slot = (place.0, place.1, marks.1, specdrops.1);
       marked = c.is_mine-mine.ensures.marked;
       accepted = c.requires.accepted;
+      laid = tt;
       calls = call_fits shape m.config a _ _ _ _ block.shows.side c.requires.ranges d c.requires.legal c.requires.few;
       counts = counts_fit shape m.config a _ _ _ _ block.shows.side c.requires.ranges d c.requires.legal c.requires.few;
     }

@@ -49,6 +49,7 @@ trace-requires g c =
     let mid = put_side _ _ _ _ _ _ _ shows c.enter_record.new.self _ c.in_ok-enter_record.ensures.streamed in
     record {
       accepted = c.requires.accepted;
+      laid = tt;
       calls = call_fits shape m.config a _ _ _ _ mid c.requires.ranges d c.requires.legal c.requires.few;
       drops = drop_fits shape m.config a _ _ _ _ mid c.requires.ranges d c.requires.legal c.requires.few;
       counts = counts_fit shape m.config a _ _ _ _ mid c.requires.ranges d c.requires.legal c.requires.few;
