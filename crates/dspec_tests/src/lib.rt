@@ -6,6 +6,8 @@ mod disk;
 #[cfg(test)]
 mod folders;
 #[cfg(test)]
+mod handing;
+#[cfg(test)]
 mod tests;
 #[cfg(test)]
 mod visits;
