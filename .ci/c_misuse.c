@@ -254,6 +254,33 @@ static void not_home(void) {
     check_let_go(&b);
 }
 
+/* Each of 64 CPUs is looked for, the last like the first. */
+static void many_homes(bool is_turned) {
+    static dspec_cpu cpus[DSPEC_MAX_CPUS];
+    check_all a;
+    outs o;
+    dspec_config many = check_config;
+    many.cpus = DSPEC_MAX_CPUS;
+    check_set_up(&a);
+    fill(&o);
+    MUST(dspec_start(&many, &a.schema, &o.session));
+    for (uint32_t i = 0; i < DSPEC_MAX_CPUS; i++) MUST(dspec_cpu_of(&o.session, i, &cpus[i]));
+    for (uint32_t i = 0; i < DSPEC_MAX_CPUS; i++) {
+        dspec_cpu *cpu = &cpus[is_turned ? DSPEC_MAX_CPUS - 1 - i : i];
+        ANSWERS(dspec_finish(&o.session, &o.closed), DSPEC_NOT_HOME);
+        CHECK(o.session.held && !o.closed.held);
+        MUST(DSPEC_TRACE(cpu, 1, i));
+        MUST(dspec_cpu_home(cpu));
+    }
+    MUST(dspec_finish(&o.session, &o.closed));
+    for (uint32_t i = 0; i < DSPEC_MAX_CPUS; i++) {
+        MUST(dspec_closed_report(&o.closed, i, &o.report));
+        CHECK(o.report.offered == 1 && o.report.accepted == 1);
+    }
+    dspec_closed_drop(&o.closed);
+    check_let_go(&a);
+}
+
 /* A CPU goes on where its session was dropped, and is dropped itself; the schema isn't the session's. */
 static void dropped(void) {
     check_all a;
@@ -280,6 +307,8 @@ int main(void) {
     full_handles();
     numbers();
     not_home();
+    many_homes(false);
+    many_homes(true);
     dropped();
     return check_end();
 }

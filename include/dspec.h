@@ -91,7 +91,6 @@ typedef enum dspec_status {
     DSPEC_NOT_HOME = 20,    /* a CPU or the consumer hasn't come home */
     DSPEC_NO_BATCH = 21,    /* no batch has come, none is out, or none is left */
     DSPEC_OUT = 22,         /* handed out already: the CPU, the consumer, or a batch that has to be given back first */
-    DSPEC_GONE = 23,        /* the session was lost while it ended: a fault of the library's own, to which no way is known */
 
     /* What became of a call, as its CPU's report counts it. */
     DSPEC_DROPPED = 32,     /* no room for the record */
@@ -262,8 +261,9 @@ dspec_status dspec_consumer_home(dspec_consumer *consumer) DSPEC_NOEXCEPT;
 
 /* Ends a session whose CPUs and consumer are all home, those that were never handed out among them. What was decided is settled,
  * and what nobody took is handed out by closed. The session's handle is empty then.
- * DSPEC_FULL_HANDLE, DSPEC_BAD_HANDLE (the session; finished before, say). DSPEC_NOT_HOME: the session goes on as it was.
- * DSPEC_GONE: the session is lost; drop its handle. No way to this answer is known, but that there is none isn't proved. */
+ * DSPEC_FULL_HANDLE, DSPEC_BAD_HANDLE (the session; finished before, say). DSPEC_NOT_HOME: a CPU or the consumer is out, and the
+ * session goes on as it was. DSPEC_BUSY: all are home, but what they share is still somebody else's, and the session goes on as it
+ * was; no way to this answer is known. */
 dspec_status dspec_finish(dspec_session *session, dspec_closed *closed) DSPEC_NOEXCEPT;
 
 /* What was left of a CPU: with last false the batch that was handed on and never taken, with last true its principal buffer.
@@ -320,7 +320,6 @@ DSPEC_INLINE const char *dspec_status_text(dspec_status status) DSPEC_NOEXCEPT {
     case DSPEC_NOT_HOME: return "a CPU or the consumer is not home";
     case DSPEC_NO_BATCH: return "no batch";
     case DSPEC_OUT: return "handed out already";
-    case DSPEC_GONE: return "the session was lost";
     case DSPEC_DROPPED: return "dropped";
     case DSPEC_STOPPED: return "stopped";
     case DSPEC_WORN: return "worn";

@@ -1,17 +1,15 @@
 -- Lists each element of which has something at its place.
-use Rattle.std.proofs.Common.{◌≡◌, ℕ, ◌+◌, ◌<◌, List, [], ◌∷◌, ◌++◌, length, length-append, append_assoc, Option, None, suc, zero, refl, sym, ap, ◌∙◌, subst, arith}
-use Rattle.std.specs.Prelude.{slice_get, slice_index_or, slice_set, map, remove, Some, IfNone, is_some, false}
-use Rattle.std.specs.Option.{option_map_or}
-use Rattle.std.proofs.lemmas.Option.{slice_get_read}
+use Rattle.std.proofs.Common.{◌≡◌, ℕ, ◌+◌, ◌<◌, List, [], ◌∷◌, ◌++◌, length, length-append, append_assoc, Option, suc, zero, refl, sym, ap, ◌∙◌, subst, arith}
+use Rattle.std.specs.Prelude.{slice_get, slice_index_or, slice_set, map, remove, Some, IsSome}
 use Rattle.dspec_ring.specs.Known.{Pair}
 use Rattle.dspec_record.specs.EnablingRows.{EnabledRows}
 use Rattle.dspec_cpu.specs.declared.cpu.Cpu.{Cpu}
 use Rattle.dspec_cpu.specs.declared.shared.Shared.{Shared}
 use Rattle.dspec_cpu.specs.Lists.{words_of}
-use Rattle.dspec_cpu.specs.Standing.{IsCallable, identity}
+use Rattle.dspec_cpu.specs.Standing.{Identity, IsCallable, identity}
 use Rattle.dspec_consumer.specs.Sessions.{IsCpuOf}
-use Rattle.dspec_c.specs.Homes.{IsSameSide, Side}
-use Rattle.dspec_c.specs.Whole.{AllCalled, EachFrom, IsCpuAt, IsPlaceOf, IsWaiting, waiting_so, waits_in}
+use Rattle.dspec_c.specs.Homes.{CpuStay, Side}
+use Rattle.dspec_c.specs.Whole.{AllCalled, AllInside, EachFrom, IsCpuAt, IsPlaceOf, firsts, insides, waiting_so}
 
 -- the first element, and what is left when it is removed
 pub first_and_rest : {A : Type 0} (xs : List A) (x : A) → 0 < length xs → x ≡ slice_index_or xs 0 x → x ∷ remove xs 0 ≡ xs
@@ -35,81 +33,53 @@ set_back [] c old new e at = refl
 set_back (y ∷ ys) zero old new e at = ap (λ z. z ∷ ys) (e ∙ at)
 set_back (y ∷ ys) (suc c) old new e at = ap (λ zs. y ∷ zs) (set_back ys c old new e at)
 
--- a CPU that came home is the one of its place
-pub cpu_home : (shared : Shared) (schema : EnabledRows) (pairs : List Pair) (c : ℕ) (place now : Option Side) (home : Side) (cpu : Cpu EnabledRows)
-    → now ≡ place → ((first : Side) → now ≡ Some first → IsSameSide first home) → cpu ≡ home.cpu → IsPlaceOf shared schema pairs c place → IsCpuAt shared schema pairs c cpu
-cpu_home shared schema pairs c place now home cpu e same f at =
-    let so : IsSameSide at.side home = same at.side (e ∙ at.is) in
-    subst (λ i. IsCpuOf schema (words_of shared) c (slice_get pairs c) i) (sym (ap (λ (y : Cpu EnabledRows). identity y) f ∙ so.cpu)) at.cpu
+-- a CPU that is at home is the one of its place
+pub cpu_at : (shared : Shared) (schema : EnabledRows) (pairs : List Pair) (c : ℕ) (place : Option Side) (home cpu : Cpu EnabledRows)
+    → ((first : Side) → place ≡ Some first → identity home ≡ identity first.cpu) → cpu ≡ home → IsPlaceOf shared schema pairs c place → IsCpuAt shared schema pairs c cpu
+cpu_at shared schema pairs c place home cpu same f at =
+    subst (λ (i : Identity EnabledRows). IsCpuOf schema (words_of shared) c (slice_get pairs c) i) (sym (ap (λ (y : Cpu EnabledRows). identity y) f ∙ same at.side at.is)) at.cpu
 
--- one more is home
-pub one_more : (shared : Shared) (schema : EnabledRows) (pairs : List Pair) (cpus : List (Cpu EnabledRows)) (places : List (Option Side)) (place : Option Side) (rest : List (Option Side))
-    (cpu : Cpu EnabledRows)
+-- one more is taken
+pub one_more : (shared : Shared) (schema : EnabledRows) (pairs : List Pair) (cpus : List (Cpu EnabledRows)) (places : List CpuStay) (place : CpuStay) (rest : List CpuStay) (cpu : Cpu EnabledRows)
     (now : List (Cpu EnabledRows))
-    → places ≡ place ∷ rest → now ≡ cpus ++ cpu ∷ [] → ((c : ℕ) → IsPlaceOf shared schema pairs c place → IsCpuAt shared schema pairs c cpu)
-    → EachFrom (IsCpuAt shared schema pairs) 0 cpus × EachFrom (IsPlaceOf shared schema pairs) (length cpus) places
-    → EachFrom (IsCpuAt shared schema pairs) 0 now × EachFrom (IsPlaceOf shared schema pairs) (length now) rest
+    → places ≡ place ∷ rest → now ≡ cpus ++ cpu ∷ [] → ((c : ℕ) → IsPlaceOf shared schema pairs c place.first → IsCpuAt shared schema pairs c cpu)
+    → EachFrom (IsCpuAt shared schema pairs) 0 cpus × EachFrom (IsPlaceOf shared schema pairs) (length cpus) (firsts places)
+    → EachFrom (IsCpuAt shared schema pairs) 0 now × EachFrom (IsPlaceOf shared schema pairs) (length now) (firsts rest)
 one_more shared schema pairs cpus places place rest cpu now cons is home all =
-    let left = subst (EachFrom (IsPlaceOf shared schema pairs) (length cpus)) cons all.1 in
+    let left = subst (λ (ps : List CpuStay). EachFrom (IsPlaceOf shared schema pairs) (length cpus) (firsts ps)) cons all.1 in
     let count : length (cpus ++ cpu ∷ []) ≡ suc (length cpus) = length-append cpus (cpu ∷ []) ∙ omega arith in (
       subst (EachFrom (IsCpuAt shared schema pairs) 0) (sym is)
           (each_push (IsCpuAt shared schema pairs) 0 cpus cpu all.0 (subst (λ n. IsCpuAt shared schema pairs n cpu) (omega arith) (home (length cpus) left.0))),
-      subst (λ n. EachFrom (IsPlaceOf shared schema pairs) n rest) (sym (ap length is ∙ count)) left.1,
+      subst (λ n. EachFrom (IsPlaceOf shared schema pairs) n (firsts rest)) (sym (ap length is ∙ count)) left.1,
     )
 
-pub counts : (cpus : List (Cpu EnabledRows)) (places : List (Option Side)) (place : Option Side) (rest : List (Option Side)) (cpu : Cpu EnabledRows) (now : List (Cpu EnabledRows)) (n : ℕ)
-    → places ≡ place ∷ rest → now ≡ cpus ++ cpu ∷ [] → length cpus + length places ≡ n → length now + length rest ≡ n
-counts cpus places place rest cpu now n cons is all =
-    let a : length now ≡ length cpus + 1 = ap length is ∙ length-append cpus (cpu ∷ []) in
-    let b : length places ≡ suc (length rest) = ap length cons in
-    omega (arith, a, b, all)
+next_inside : (cpus : List (Cpu EnabledRows)) (cpu : Cpu EnabledRows) (rest : List (Option (Cpu EnabledRows))) → map Some (cpus ++ cpu ∷ []) ++ rest ≡ map Some cpus ++ (Some cpu ∷ rest)
+next_inside [] cpu rest = refl
+next_inside (x ∷ xs) cpu rest = ap (λ (zs : List (Option (Cpu EnabledRows))). Some x ∷ zs) (next_inside xs cpu rest)
 
--- one more has its place
-pub one_placed : (shared : Shared) (schema : EnabledRows) (pairs : List Pair) (places : List (Option Side)) (rest : List (Cpu EnabledRows)) (cpu : Cpu EnabledRows)
-    (left : List (Cpu EnabledRows)) (place : Option Side)
-    (now : List (Option Side))
-    → rest ≡ cpu ∷ left → now ≡ places ++ place ∷ [] → place ≡ Some (record { shared = shared; cpu = cpu })
-    → EachFrom (IsPlaceOf shared schema pairs) 0 places × EachFrom (IsCpuAt shared schema pairs) (length places) rest
-    → EachFrom (IsPlaceOf shared schema pairs) 0 now × EachFrom (IsCpuAt shared schema pairs) (length now) left
-one_placed shared schema pairs places rest cpu left place now cons is made all =
-    let tail = subst (EachFrom (IsCpuAt shared schema pairs) (length places)) cons all.1 in
-    let count : length (places ++ place ∷ []) ≡ suc (length places) = length-append places (place ∷ []) ∙ omega arith in (
-      subst (EachFrom (IsPlaceOf shared schema pairs) 0) (sym is) (each_push (IsPlaceOf shared schema pairs) 0 places place all.0
-          (subst (λ n. IsPlaceOf shared schema pairs n place) (omega arith) (record { side = record { shared = shared; cpu = cpu }; is = made; shares = refl; cpu = tail.0 }))),
-      subst (λ n. EachFrom (IsCpuAt shared schema pairs) n left) (sym (ap length is ∙ count)) tail.1,
-    )
+pub one_inside : (cpus : List (Cpu EnabledRows)) (places : List CpuStay) (place : CpuStay) (rest : List CpuStay) (cpu : Cpu EnabledRows) (now : List (Cpu EnabledRows))
+    (all : List (Option (Cpu EnabledRows)))
+    → places ≡ place ∷ rest → now ≡ cpus ++ cpu ∷ [] → place.inside ≡ Some cpu → map Some cpus ++ insides places ≡ all → map Some now ++ insides rest ≡ all
+one_inside cpus places place rest cpu now all cons is inside was =
+    ap (λ (xs : List (Cpu EnabledRows)). map Some xs ++ insides rest) is ∙ next_inside cpus cpu (insides rest)
+    ∙ ap (λ (o : Option (Cpu EnabledRows)). map Some cpus ++ (o ∷ insides rest)) (sym inside) ∙ ap (λ (ps : List CpuStay). map Some cpus ++ insides ps) (sym cons) ∙ was
 
-pub placed_counts : (places : List (Option Side)) (rest : List (Cpu EnabledRows)) (cpu : Cpu EnabledRows) (left : List (Cpu EnabledRows)) (place : Option Side) (now : List (Option Side)) (n : ℕ)
-    → rest ≡ cpu ∷ left → now ≡ places ++ place ∷ [] → length places + length rest ≡ n → length now + length left ≡ n
-placed_counts places rest cpu left place now n cons is all =
-    let a : length now ≡ length places + 1 = ap length is ∙ length-append places (place ∷ []) in
-    let b : length rest ≡ suc (length left) = ap length cons in
-    omega (arith, a, b, all)
+pub first_inside : (places : List CpuStay) (place : CpuStay) (rest : List CpuStay) → places ≡ place ∷ rest → AllInside places → IsSome place.inside
+first_inside places place rest cons all = all 0 place (ap (λ xs. slice_get xs 0) cons)
+
+pub rest_inside : (places : List CpuStay) (place : CpuStay) (rest : List CpuStay) → places ≡ place ∷ rest → AllInside places → AllInside rest
+rest_inside places place rest cons all = λ c s at. all (suc c) s (ap (λ xs. slice_get xs (suc c)) cons ∙ at)
 
 -- one more waits
-pub one_waits : (shared : Shared) (waiting : List (Option Side)) (rest : List (Cpu EnabledRows)) (cpu : Cpu EnabledRows) (left : List (Cpu EnabledRows)) (side : Side) (now all : List (Option Side))
-    → rest ≡ cpu ∷ left → now ≡ waiting ++ Some side ∷ [] → Some side ≡ waiting_so shared cpu → waiting ++ map (waiting_so shared) rest ≡ all → now ++ map (waiting_so shared) left ≡ all
-one_waits shared waiting rest cpu left side now all cons is made was =
-    ap (λ xs. xs ++ map (waiting_so shared) left) is ∙ append_assoc waiting (Some side ∷ []) (map (waiting_so shared) left) ∙ ap (λ (o : Option Side). waiting ++ o ∷ map (waiting_so shared) left) made
-    ∙ sym (ap (λ xs. waiting ++ map (waiting_so shared) xs) cons) ∙ was
+pub one_waits : (shared : Shared) (waiting : List CpuStay) (rest : List (Cpu EnabledRows)) (cpu : Cpu EnabledRows) (left : List (Cpu EnabledRows)) (place : CpuStay) (now all : List CpuStay)
+    → rest ≡ cpu ∷ left → now ≡ waiting ++ place ∷ [] → place ≡ waiting_so shared cpu → waiting ++ map (waiting_so shared) rest ≡ all → now ++ map (waiting_so shared) left ≡ all
+one_waits shared waiting rest cpu left place now all cons is made was =
+    ap (λ xs. xs ++ map (waiting_so shared) left) is ∙ append_assoc waiting (place ∷ []) (map (waiting_so shared) left)
+    ∙ ap (λ (s : CpuStay). waiting ++ s ∷ map (waiting_so shared) left) made ∙ ap (λ (xs : List (Cpu EnabledRows)). waiting ++ map (waiting_so shared) xs) (sym cons) ∙ was
 
--- the CPUs of a session wait, each at its number
-pub each_waits : (shared : Shared) (schema : EnabledRows) (pairs : List Pair) (n : ℕ) (cpus : List (Cpu EnabledRows)) → EachFrom (IsCpuAt shared schema pairs) n cpus
-    → EachFrom (IsWaiting shared) n (map (waiting_so shared) cpus)
-each_waits shared schema pairs n [] all = tt
-each_waits shared schema pairs n (cpu ∷ cpus) all = ((refl, all.0.number), each_waits shared schema pairs (suc n) cpus all.1)
-
--- what doesn't wait any more is of no matter
-pub each_without : (shared : Shared) (n c : ℕ) (waiting : List (Option Side)) → EachFrom (IsWaiting shared) n waiting → EachFrom (IsWaiting shared) n (slice_set waiting c None)
-each_without shared n c [] all = tt
-each_without shared n zero (x ∷ xs) all = (tt, all.1)
-each_without shared n (suc c) (x ∷ xs) all = (all.0, each_without shared (suc n) c xs all.1)
-
--- where none was taken, none was there, and nothing changed
-pub none_there : (xs : List (Option Side)) (c : ℕ) (a x n : Option Side) → c < length xs → x ≡ slice_index_or xs c x → a ≡ x → n ≡ None
-    → IfNone a ((waits_in c xs ≡ false) × (slice_set xs c n ≡ xs))
-none_there xs c None x n small is e f = (
-  ap (λ (o : Option (Option Side)). option_map_or (λ (p : Option Side). is_some p) o false) (slice_get_read xs (length xs) c x refl small is) ∙ ap (λ (o : Option Side). is_some o) (sym e),
-  set_back xs c x n (f ∙ e) is,
-)
-none_there xs c (Some y) x n small is e f = tt
+-- the places of a session's CPUs
+pub each_placed : (shared : Shared) (schema : EnabledRows) (pairs : List Pair) (n : ℕ) (cpus : List (Cpu EnabledRows)) → EachFrom (IsCpuAt shared schema pairs) n cpus
+    → EachFrom (IsPlaceOf shared schema pairs) n (firsts (map (waiting_so shared) cpus))
+each_placed shared schema pairs n [] all = tt
+each_placed shared schema pairs n (cpu ∷ cpus) all =
+    (record { side = record { shared = shared; cpu = cpu }; is = refl; shares = refl; cpu = all.0 }, each_placed shared schema pairs (suc n) cpus all.1)

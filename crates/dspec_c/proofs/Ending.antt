@@ -1,6 +1,6 @@
 -- What is home makes the session that was started.
 use Rattle.std.proofs.Common.{◌≡◌, ℕ, ◌+◌, List, [], ◌∷◌, length, Option, Some, None, suc, zero, refl, sym, ap, ◌∙◌, subst, arith}
-use Rattle.std.specs.Prelude.{IfSome, IsSome, map, slice_get, slice_set}
+use Rattle.std.specs.Prelude.{IfNone, IfSome, IsSomeAnd, false, map, slice_get, slice_set}
 use Rattle.std.proofs.lemmas.List.{length-map, length-set}
 use Rattle.dspec_deeds.specs.declared.config.Config.{Config}
 use Rattle.dspec_deeds.specs.Ranges.{start_fault}
@@ -8,15 +8,17 @@ use Rattle.dspec_record.specs.EnablingRows.{EnabledRows}
 use Rattle.dspec_table.specs.Seats.{last_seat, set_up}
 use Rattle.dspec_cpu.specs.declared.cpu.Cpu.{Cpu}
 use Rattle.dspec_cpu.specs.declared.shared.Shared.{Shared}
-use Rattle.dspec_cpu.specs.Lists.{schema_of, words_of}
-use Rattle.dspec_consumer.specs.Consumers.{Consuming, IsConsumerOf, pairs_of, set_up_of, view_of}
+use Rattle.dspec_cpu.specs.Lists.{number_in, schema_of, words_of}
+use Rattle.dspec_consumer.specs.Consumers.{Consuming, IsConsumerOf, IsSameConsumer, pairs_of, view_of}
 use Rattle.dspec_consumer.specs.Sessions.{Has, IsCpuOf, IsFresh, IsSession}
 use Rattle.dspec_consumer.specs.declared.session.Session.{Session}
-use Rattle.dspec_cpu.specs.Standing.{identity}
-use Rattle.dspec_c.specs.ConsumerHomes.{IsSameTheirs, Theirs}
-use Rattle.dspec_c.specs.Homes.{Side}
-use Rattle.dspec_c.specs.Whole.{AllCalled, AllWait, EachFrom, Going, IsFreshIn, IsJustStarted, IsCpuAt, IsEnding, IsPlaceOf, IsStarted, IsWaiting, IsWhole, waiting_so}
-use Rattle.dspec_c.proofs.Each.{each_waits, each_without}
+use Rattle.dspec_cpu.specs.Standing.{Identity, IsCallable, identity}
+use Rattle.dspec_c.specs.ConsumerHomes.{IsTheirPlaceWith, LeaveTheirs, TheirStay, Theirs}
+use Rattle.dspec_c.specs.Homes.{Came, CpuStay, IsPlaceWith, Side, handed_out}
+use Rattle.dspec_c.specs.Whole.{AllCalled, AreCame, EachFrom, Going, GoesOut, IsFreshIn, IsJustStarted, IsCpuAt, IsEnding, IsPlaceOf, IsStarted, IsWhole, LeavesOne, LookedLater, TheyGoOut}
+use Rattle.dspec_c.specs.Whole.{firsts, insides, they_wait_so, waiting_so, waits_in}
+use Rattle.dspec_c.proofs.Each.{each_placed}
+use Rattle.dspec_c.proofs.Looking.{first_at, left_firsts, same_firsts}
 
 abbrev if_some : {X : Type 0} → Option X → Type 0
 if_some None = ⊥
@@ -50,16 +52,20 @@ session_is shared schema places consumer session is e f home count = record {
       (subst (λ (y : Consuming). IsCpuOf schema (words_of shared) c (slice_get (pairs_of y) c) (identity cpu)) (sym f) h);
 }
 
--- the consumer that came home ends what the first one would have ended
-pub ends_so : (shared : Shared) (cpus : ℕ) (places : List (Option Side)) (place : Option Theirs) (home : Theirs) (consumer : Consuming) → (is : IsWhole shared cpus places place)
-    → ((first : Theirs) → place ≡ Some first → IsSameTheirs first home) → consumer ≡ home.consumer → IsConsumerOf (words_of home.shared) consumer → IsEnding shared is.schema places consumer
-ends_so shared cpus places place home consumer is same e theirs =
+-- as many as the places that they were at
+pub as_many : (cpus : List (Cpu EnabledRows)) (places : List CpuStay) → map Some cpus ≡ insides places → length cpus ≡ length (firsts places)
+as_many cpus places e = sym (length-map cpus Some) ∙ ap length e ∙ length-map places (λ (s : CpuStay). s.inside) ∙ sym (length-map places (λ (s : CpuStay). s.first))
+
+-- the consumer that is home ends what the first one would have ended
+pub ends_so : (shared : Shared) (cpus : ℕ) (places : List (Option Side)) (place : Option Theirs) (consumer : Consuming) → (is : IsWhole shared cpus places place)
+    → ((first : Theirs) → place ≡ Some first → IsSameConsumer first.consumer consumer × IsConsumerOf (words_of first.shared) consumer) → IsEnding shared is.schema places consumer
+ends_so shared cpus places place consumer is same =
     let so = same is.first is.is in
     record {
       checked = is.ending.checked;
       all = is.ending.all;
-      each = subst (λ ps. EachFrom (IsPlaceOf shared is.schema ps) 0 places) (sym (ap (λ (y : Consuming). pairs_of y) e ∙ so.consumer.pairs)) is.ending.each;
-      theirs = subst (λ (m : Shared). IsConsumerOf (words_of m) consumer) (so.shared ∙ is.shares) theirs;
+      each = subst (λ ps. EachFrom (IsPlaceOf shared is.schema ps) 0 places) (sym so.0.pairs) is.ending.each;
+      theirs = subst (λ (m : Shared). IsConsumerOf (words_of m) consumer) is.shares so.1;
     }
 
 -- each CPU of a session can be called
@@ -79,67 +85,128 @@ started schema session shared n is e count = subst (λ (s : Shared). IsStarted s
   theirs = is.consumer;
 })
 
+all_firsts : (shared : Shared) (cpus : List (Cpu EnabledRows)) → length (firsts (map (waiting_so shared) cpus)) ≡ length cpus
+all_firsts shared [] = refl
+all_firsts shared (cpu ∷ cpus) = ap suc (all_firsts shared cpus)
+
 -- such a session under way
-pub whole_at_first : (shared clone : Shared) (n : ℕ) (cpus : List (Cpu EnabledRows)) (consumer : Consuming) (places : List (Option Side)) (place : Option Theirs) (home : Theirs)
-    → (is : IsStarted shared n cpus consumer) → place ≡ Some home → home ≡ record { shared = clone; consumer = consumer } → clone ≡ shared → length places ≡ length cpus
-    → EachFrom (IsPlaceOf shared is.schema (pairs_of consumer)) 0 places → IsWhole shared n places place
-whole_at_first shared clone n cpus consumer places place home is at e f count each = record {
+pub whole_at_first : (shared clone : Shared) (n : ℕ) (cpus : List (Cpu EnabledRows)) (consumer : Consuming) (places : List CpuStay) (place : TheirStay)
+    → (is : IsStarted shared n cpus consumer) → place ≡ they_wait_so clone consumer → clone ≡ shared → places ≡ map (waiting_so shared) cpus
+    → IsWhole shared n (firsts places) place.first
+whole_at_first shared clone n cpus consumer places place is at e waiting = record {
   schema = is.schema;
   first = record { shared = clone; consumer = consumer };
-  is = at ∙ ap Some e;
-  shares = f;
+  is = ap (λ (s : TheirStay). s.first) at;
+  shares = e;
   count = is.count;
-  ending = record { checked = is.checked; all = count ∙ is.all; each = each; theirs = is.theirs };
+  ending = record {
+    checked = is.checked;
+    all = ap (λ (ps : List CpuStay). length (firsts ps)) waiting ∙ all_firsts shared cpus ∙ is.all;
+    each = subst (λ (ps : List CpuStay). EachFrom (IsPlaceOf shared is.schema (pairs_of consumer)) 0 (firsts ps)) (sym waiting) (each_placed shared is.schema (pairs_of consumer) 0 cpus is.each);
+    theirs = is.theirs;
+  };
 }
+
+-- a look at a session as it was seen
+pub looked_so : (w old now : Going) → w ≡ old → now.shared ≡ w.shared → now.cpus ≡ w.cpus → AreCame w.places now.places → Came w.consumer now.consumer → LookedLater old now
+looked_so w old now seen e f came there = subst (λ (g : Going). LookedLater g now) seen (record { shared = e; cpus = f; places = came; consumer = there })
 
 -- looking for what is home changes nothing of it
-pub whole_kept : (shared : Shared) (n m : ℕ) (places now : List (Option Side)) (place there : Option Theirs) (waiting : List (Option Side)) (consumer : Option Theirs)
-    → IsWhole shared n places place × (m ≡ 0) × AllWait shared n waiting consumer → now ≡ places → there ≡ place
-    → IsWhole shared n now there × (m ≡ 0) × AllWait shared n waiting consumer
-whole_kept shared n m places now place there waiting consumer is e f = (subst (λ xs. IsWhole shared n xs there) (sym e) (subst (λ o. IsWhole shared n places o) (sym f) is.0), is.1, is.2)
-
--- all of a session that was started waits
-pub all_wait : (shared clone : Shared) (n : ℕ) (cpus : List (Cpu EnabledRows)) (consumer : Consuming) (waiting : List (Option Side)) (home : Theirs) → IsStarted shared n cpus consumer
-    → waiting ≡ map (waiting_so shared) cpus → home ≡ record { shared = clone; consumer = consumer } → clone ≡ shared → AllWait shared n waiting (Some home)
-all_wait shared clone n cpus consumer waiting home is e f g = record {
-  all = ap length e ∙ length-map cpus (waiting_so shared) ∙ is.all ∙ sym is.count;
-  each = subst (EachFrom (IsWaiting shared) 0) (sym e) (each_waits shared is.schema (pairs_of consumer) 0 cpus is.each);
-  consumer = (ap (λ (t : Theirs). t.shared) f ∙ g, ap (λ (t : Theirs). (set_up_of t.consumer).cpus) f ∙ ap (λ (k : Config). k.cpus) is.theirs.1 ∙ sym is.count);
-}
+pub whole_kept : (shared : Shared) (n : ℕ) (places now : List CpuStay) (place there : TheirStay) → IsWhole shared n (firsts places) place.first → AreCame places now → Came place there
+    → IsWhole shared n (firsts now) there.first
+whole_kept shared n places now place there is e f =
+    subst (λ (xs : List (Option Side)). IsWhole shared n xs there.first) (sym (same_firsts places now e)) (subst (λ (o : Option Theirs). IsWhole shared n (firsts places) o) (sym f.first) is)
 
 all_fresh : (shared : Shared) (schema : EnabledRows) (n : ℕ) (cpus : List (Cpu EnabledRows))
     → ((c : ℕ) (cpu : Cpu EnabledRows) → slice_get cpus c ≡ Some cpu → (schema_of cpu ≡ schema) × IsFresh Has cpu) → EachFrom (IsFreshIn schema) n (map (waiting_so shared) cpus)
 all_fresh shared schema n [] is = tt
-all_fresh shared schema n (cpu ∷ cpus) is = (is 0 cpu refl, all_fresh shared schema (suc n) cpus (λ c x at. is (suc c) x at))
+all_fresh shared schema n (cpu ∷ cpus) is = ((refl, is 0 cpu refl), all_fresh shared schema (suc n) cpus (λ c x at. is (suc c) x at))
 
--- what doesn't wait any more is of no matter
-pub one_goes : (shared : Shared) (n c : ℕ) (waiting now : List (Option Side)) (theirs : Option Theirs) → AllWait shared n waiting theirs → now ≡ slice_set waiting c None → AllWait shared n now theirs
-one_goes shared n c waiting now theirs is e = record {
-  all = ap length e ∙ length-set waiting c None ∙ is.all;
-  each = subst (EachFrom (IsWaiting shared) 0) (sym e) (each_without shared 0 c waiting is.each);
-  consumer = is.consumer;
+-- those can call the CPU at a place who share what the session does
+pub place_with : (shared given : Shared) (n : ℕ) (places : List CpuStay) (theirs : Option Theirs) (c : ℕ) (s : CpuStay) → IsWhole shared n (firsts places) theirs → given ≡ shared
+    → slice_get places c ≡ Some s → IsPlaceWith given s.first
+place_with shared given n places theirs c s is e at = λ first f.
+    let at_c = each_at (IsPlaceOf shared is.schema (pairs_of is.first.consumer)) 0 (firsts places) c s.first is.ending.each (first_at places c s at) in
+    let g : at_c.side ≡ first = ap (λ (o : Option Side). or_else first o) (sym at_c.is ∙ f) in (
+      e ∙ sym at_c.shares ∙ ap (λ (x : Side). x.shared) g,
+      subst (λ (x : Side). IsCallable given x.cpu) g (subst (λ (m : Shared). IsCallable m at_c.side.cpu) (sym e) at_c.cpu.belongs),
+    )
+
+-- a CPU that goes out is the one of its number
+pub number_out : (shared given : Shared) (n : ℕ) (places : List CpuStay) (theirs : Option Theirs) (c : ℕ) (side : Side) (now : List CpuStay) → IsWhole shared n (firsts places) theirs
+    → LeavesOne given c places side now → number_in side.cpu ≡ c
+number_out shared given n places theirs c side now is leaves =
+    let at_c = each_at (IsPlaceOf shared is.schema (pairs_of is.first.consumer)) 0 (firsts places) c leaves.stay.first is.ending.each (first_at places c leaves.stay leaves.there) in
+    ap (λ (i : Identity EnabledRows). i.number) (leaves.leaves.same at_c.side at_c.is) ∙ at_c.cpu.number ∙ omega arith
+
+-- the session once a CPU went out
+pub one_goes : (shared given : Shared) (n c : ℕ) (places now : List CpuStay) (theirs : Option Theirs) (side : Side) → IsWhole shared n (firsts places) theirs → LeavesOne given c places side now
+    → IsWhole shared n (firsts now) theirs
+one_goes shared given n c places now theirs side is leaves = subst (λ (xs : List (Option Side)). IsWhole shared n xs theirs)
+    (sym (ap (λ (ps : List CpuStay). firsts ps) leaves.gone ∙ left_firsts places c leaves.stay leaves.there)) is
+
+pub goes_so : (shared given : Shared) (n c : ℕ) (w : Going) (theirs : Option Theirs) (o : Option Side) (now : List CpuStay) → given ≡ w.shared → IsWhole shared n (firsts w.places) theirs
+    → IfSome o (λ side. LeavesOne given c w.places side now) → IfSome o (λ side. GoesOut c w side (record w { places = now }))
+goes_so shared given n c w theirs None now e is leaves = tt
+goes_so shared given n c w theirs (Some side) now e is leaves = record {
+  left = now;
+  leaves = subst (λ (m : Shared). LeavesOne m c w.places side now) e leaves;
+  number = number_out shared given n w.places theirs c side now is leaves;
+  gone = refl;
 }
 
--- a CPU that waited is the one of its number
-pub waits_there : (shared : Shared) (n c : ℕ) (waiting : List (Option Side)) (o : Option Side) (theirs : Option Theirs) → AllWait shared n waiting theirs
-    → IfSome o (λ side. slice_get waiting c ≡ Some (Some side)) → IfSome o (λ side. IsWaiting shared c (Some side))
-waits_there shared n c waiting None theirs is at = tt
-waits_there shared n c waiting (Some side) theirs is at = subst (λ k. IsWaiting shared k (Some side)) (omega arith) (each_at (IsWaiting shared) 0 waiting c (Some side) is.each at)
+-- so it is of a session as it was seen
+pub goes_from : (shared given : Shared) (n c : ℕ) (w old : Going) (theirs : Option Theirs) (o : Option Side) (now : List CpuStay) → w ≡ old → given ≡ w.shared
+    → IsWhole shared n (firsts w.places) theirs → IfSome o (λ side. LeavesOne given c w.places side now) → IfSome o (λ side. GoesOut c old side (record w { places = now }))
+goes_from shared given n c w old theirs o now seen e is leaves =
+    subst (λ (g : Going). IfSome o (λ side. GoesOut c g side (record w { places = now }))) seen (goes_so shared given n c w theirs o now e is leaves)
 
-unasked_there : (k : Config) (consumer : Consuming) (o : Option Theirs) → view_of consumer ≡ last_seat k → IfSome o (λ (t : Theirs). t.consumer ≡ consumer)
-    → IfSome o (λ (t : Theirs). view_of t.consumer ≡ last_seat k)
-unasked_there k consumer None e is = tt
-unasked_there k consumer (Some t) e is = ap (λ (x : Consuming). view_of x) is ∙ e
+-- the session after a CPU was asked for
+pub asked_for_one : (shared given : Shared) (n c : ℕ) (places now : List CpuStay) (theirs : Option Theirs) (o : Option Side) → IsWhole shared n (firsts places) theirs
+    → IfSome o (λ side. LeavesOne given c places side now) → IfNone o ((waits_in c places ≡ false) × (now ≡ places)) → IsWhole shared n (firsts now) theirs
+asked_for_one shared given n c places now theirs None is leaves none = subst (λ (ps : List CpuStay). IsWhole shared n (firsts ps) theirs) (sym none.1) is
+asked_for_one shared given n c places now theirs (Some side) is leaves none = one_goes shared given n c places now theirs side is leaves
+
+set_count : (xs : List CpuStay) (c : ℕ) (y : CpuStay) → length (slice_set xs c y) ≡ length xs
+set_count xs c y = length-set xs c y
+
+pub asked_count : (given : Shared) (c : ℕ) (places now : List CpuStay) (o : Option Side) → IfSome o (λ side. LeavesOne given c places side now)
+    → IfNone o ((waits_in c places ≡ false) × (now ≡ places)) → length now ≡ length places
+asked_count given c places now None leaves none = ap length none.1
+asked_count given c places now (Some side) leaves none = ap length leaves.gone ∙ set_count places c (handed_out leaves.stay)
+
+-- so does the consumer
+pub they_share : (shared given : Shared) (n : ℕ) (places : List (Option Side)) (theirs : Option Theirs) → IsWhole shared n places theirs → given ≡ shared → IsTheirPlaceWith given theirs
+they_share shared given n places theirs is e = λ first f. e ∙ sym is.shares ∙ ap (λ (o : Option Theirs). (or_else first o).shared) (sym is.is ∙ f)
+
+pub they_go : (shared given : Shared) (n : ℕ) (w : Going) (o : Option Theirs) (now : TheirStay) → w.shared ≡ shared → w.cpus ≡ n → given ≡ shared → IsWhole shared n (firsts w.places) w.consumer.first
+    → IfSome o (λ side. LeaveTheirs given w.consumer side now) → IfSome o (λ side. TheyGoOut w side (record w { consumer = now }))
+they_go shared given n w None now e f g is leave = tt
+they_go shared given n w (Some side) now e f g is leave = record {
+  leave = record { waits = leave.waits; inside = leave.inside; shares = leave.shares ∙ g ∙ sym e; same = leave.same; gone = refl };
+  cpus = ap (λ (k : Config). k.cpus) ((leave.same is.first is.is).config ∙ is.ending.theirs.1) ∙ sym is.count ∙ sym f;
+  gone = ap (λ (s : TheirStay). record w { consumer = s }) leave.gone;
+}
+
+pub they_go_from : (shared given : Shared) (n : ℕ) (w old : Going) (o : Option Theirs) (now : TheirStay) → w ≡ old → w.shared ≡ shared → w.cpus ≡ n → given ≡ shared
+    → IsWhole shared n (firsts w.places) w.consumer.first → IfSome o (λ side. LeaveTheirs given w.consumer side now) → IfSome o (λ side. TheyGoOut old side (record w { consumer = now }))
+they_go_from shared given n w old o now seen e f g is leave =
+    subst (λ (h : Going). IfSome o (λ side. TheyGoOut h side (record w { consumer = now }))) seen (they_go shared given n w o now e f g is leave)
+
+pub they_stay : (shared given : Shared) (n : ℕ) (places : List (Option Side)) (place now : TheirStay) (o : Option Theirs) → IsWhole shared n places place.first
+    → IfSome o (λ side. LeaveTheirs given place side now) → IfNone o ((place.waits ≡ false) × (now ≡ place)) → IsWhole shared n places now.first
+they_stay shared given n places place now None is leave none = subst (λ (s : TheirStay). IsWhole shared n places s.first) (sym none.1) is
+they_stay shared given n places place now (Some side) is leave none = subst (λ (s : TheirStay). IsWhole shared n places s.first) (sym leave.gone) is
 
 -- so it is begun
 pub begun : (k : Config) (schema : EnabledRows) (shared common : Shared) (cpus : List (Cpu EnabledRows)) (consumer : Consuming) (n : ℕ) (w : Going)
     → ((c : ℕ) (cpu : Cpu EnabledRows) → slice_get cpus c ≡ Some cpu → (schema_of cpu ≡ schema) × IsFresh Has cpu) → view_of consumer ≡ last_seat k
     → set_up (words_of shared) ≡ k → common ≡ shared → n ≡ k.cpus → w.shared ≡ common → w.cpus ≡ n
-    → w.waiting ≡ map (waiting_so common) cpus → IsSome w.consumer × IfSome w.consumer (λ (t : Theirs). t.consumer ≡ consumer) → IsJustStarted k schema w
-begun k schema shared common cpus consumer n w fresh unasked is e f g h i some = record {
+    → w.places ≡ map (waiting_so common) cpus → w.consumer ≡ they_wait_so common consumer → IsJustStarted k schema w
+begun k schema shared common cpus consumer n w fresh unasked is e f g h i j = record {
   config = ap (λ (s : Shared). set_up (words_of s)) (g ∙ e) ∙ is;
   cpus = h ∙ f;
   all = subst (EachFrom (IsFreshIn schema) 0) (sym i) (all_fresh common schema 0 cpus fresh);
-  consumer = some.0;
-  theirs = unasked_there k consumer w.consumer unasked some.1;
+  consumer = ap (λ (s : TheirStay). s.waits) j;
+  theirs = subst (λ (s : TheirStay). IsSomeAnd s.inside (λ (x : Consuming). view_of x ≡ last_seat k)) (sym j) unasked;
 }

@@ -1,6 +1,6 @@
 -- Whether a CPU or the consumer is handed out.
 use Rattle.std.proofs.Common.{◌≡◌, ℕ, Bool, true, false, Option, Some, None, sym, ap, ◌∙◌, subst, inl, inr}
-use Rattle.std.specs.Prelude.{is_some, nat_lt, if◌then◌else◌}
+use Rattle.std.specs.Prelude.{nat_lt, if◌then◌else◌}
 use Rattle.dspec_deeds.specs.declared.config.Config.{Config}
 use Rattle.dspec_deeds.specs.Ranges.{start_fault}
 use Rattle.dspec_record.specs.EnablingRows.{EnabledRows}
@@ -10,20 +10,20 @@ use Rattle.dspec_c.specs.Whole.{Going, IsJustStarted, waits_in}
 use Rattle.dspec_c.specs.declared.handle.Handle.{Handle}
 
 pub due_unknown : (c : ℕ) (old : Going) → nat_lt c old.cpus ≡ false → cpu_due c old ≡ Some no_such_cpu
-due_unknown c old e = ap (λ (b : Bool). if b then (if waits_in c old.waiting then None else Some already_out) else Some no_such_cpu) e
+due_unknown c old e = ap (λ (b : Bool). if b then (if waits_in c old.places then None else Some already_out) else Some no_such_cpu) e
 
-pub due_out : (c : ℕ) (old : Going) → nat_lt c old.cpus ≡ true → waits_in c old.waiting ≡ false → cpu_due c old ≡ Some already_out
-due_out c old e f = ap (λ (b : Bool). if b then (if waits_in c old.waiting then None else Some already_out) else Some no_such_cpu) e
+pub due_out : (c : ℕ) (old : Going) → nat_lt c old.cpus ≡ true → waits_in c old.places ≡ false → cpu_due c old ≡ Some already_out
+due_out c old e f = ap (λ (b : Bool). if b then (if waits_in c old.places then None else Some already_out) else Some no_such_cpu) e
     ∙ ap (λ (b : Bool). if b then None else Some already_out) f
 
-pub due_none : (c : ℕ) (old : Going) → nat_lt c old.cpus ≡ true → waits_in c old.waiting ≡ true → cpu_due c old ≡ None
-due_none c old e f = ap (λ (b : Bool). if b then (if waits_in c old.waiting then None else Some already_out) else Some no_such_cpu) e
+pub due_none : (c : ℕ) (old : Going) → nat_lt c old.cpus ≡ true → waits_in c old.places ≡ true → cpu_due c old ≡ None
+due_none c old e f = ap (λ (b : Bool). if b then (if waits_in c old.places then None else Some already_out) else Some no_such_cpu) e
     ∙ ap (λ (b : Bool). if b then None else Some already_out) f
 
-pub theirs_out : (old : Going) → is_some old.consumer ≡ false → consumer_due old ≡ Some already_out
+pub theirs_out : (old : Going) → old.consumer.waits ≡ false → consumer_due old ≡ Some already_out
 theirs_out old e = ap (λ (b : Bool). if b then None else Some already_out) e
 
-pub theirs_none : (old : Going) → is_some old.consumer ≡ true → consumer_due old ≡ None
+pub theirs_none : (old : Going) → old.consumer.waits ≡ true → consumer_due old ≡ None
 theirs_none old e = ap (λ (b : Bool). if b then None else Some already_out) e
 
 module _ (gives : Going → Going → Handle → Type 0) (due : Option ℕ) (old : Going) (status : ℕ) (new : Going) (was now : Handle) where

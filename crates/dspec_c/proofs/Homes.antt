@@ -1,8 +1,17 @@
--- A CPU that was handed out stays the one that went through its ring.
-use Rattle.std.proofs.Common.{◌≡◌, List, [], ◌∷◌, ◌++◌, Bool, true, false, Option, Some, None, refl, sym, ap, ◌∙◌, subst}
-use Rattle.std.specs.Prelude.{slice_get, ⊤}
+-- A CPU that was handed out stays the one that went through its ring, and so does the one that comes home.
+use Rattle.std.proofs.Common.{◌≡◌, ℕ, ◌<◌, Global, List, [], ◌∷◌, ◌++◌, Bool, true, false, Option, Some, None, refl, sym, ap, ◌∙◌, subst}
+use Rattle.std.specs.Prelude.{IfSome, slice_get}
 use Rattle.core.specs.Option.{is_some}
-use Rattle.dspec_c.specs.Homes.{IsDesk, IsOut, IsSameAsAll, IsSameSide, Side}
+use Rattle.rtrb.specs.Ring.{known_free, sent}
+use Rattle.rtrb.specs.declared.producer.Producer.{Producer}
+use Rattle.dspec_record.specs.EnablingRows.{EnabledRows}
+use Rattle.dspec_cpu.specs.declared.cpu.Cpu.{Cpu}
+use Rattle.dspec_cpu.specs.declared.shared.Shared.{Shared}
+use Rattle.dspec_cpu.specs.Lists.{words_of}
+use Rattle.dspec_cpu.specs.Standing.{Belongs, Identity, IsCallable, identity}
+use Rattle.dspec_c.specs.Homes.{CpuStay, IsDesk, IsOut, IsSameAsAll, IsSameSide, IsUnused, LeavesPlace, Side}
+use Rattle.dspec_c.specs.declared.homing.HomeRule.{HomeRule}
+use Rattle.dspec_c.proofs.Options.{if_none, or_this, the_none, unless}
 
 pub after : (a b c : Side) → IsSameSide a b → IsSameSide b c → IsSameSide a c
 after a b c was is = record { shared = is.shared ∙ was.shared; cpu = is.cpu ∙ was.cpu }
@@ -16,23 +25,100 @@ allowed sent a is = subst (λ xs. IsSameAsAll xs a) (sym is.was) (is.same, tt)
 itself : (a : Side) → IsSameSide a a
 itself a = record { shared = refl; cpu = refl }
 
-pub fresh : (sent : List Side) (a b : Side) → sent ≡ a ∷ [] → b ≡ a → IsOut sent b
-fresh sent a b was is = record { first = a; was = was; same = subst (IsSameSide a) (sym is) (itself a) }
+-- the way home of a CPU: what went it, and what there is room for
+abbrev pub Way : Type 0
+Way = Producer Side Global HomeRule
 
-abbrev unless : Bool → Type 0
-unless true = ⊥
-unless false = ⊤
+abbrev pub went_by : Way → List Side
+went_by w = sent w
 
-abbrev IsPlace : List Side → Option Side → Type 0
-IsPlace received home = (first : Side) × (slice_get received 0 ≡ Some first) × IsDesk first received home
+abbrev pub free_on : Way → ℕ
+free_on w = known_free w
 
-pub opened : (received : List Side) (a : Side) → received ≡ a ∷ [] → IsPlace received None
-opened received a is = (a, ap (λ xs. slice_get xs 0) is, record { out = is; same = tt })
+-- the place of a CPU, whatever its way out is
+module _ {X : Type 0} (went : X → List Side) (free : X → ℕ) where
+  abbrev pub IsPlace : List Side → Option X → Option (Cpu EnabledRows) → Type 0
+  IsPlace received way inside =
+      (first : Side) × (slice_get received 0 ≡ Some first) × IsDesk first received inside × IfSome way (λ w. IsUnused first received (went w) (free w) inside)
 
-pub came : (a : Side) (received new : List Side) (home : Option Side) → IsPlace received home → false ≡ is_some home → new ≡ received ++ a ∷ [] → IsSameAsAll received a → IsPlace new (Some a)
-came a received new None is none e all = let first = is.0 in let was = is.2.out in
-    (first, ap (λ xs. slice_get xs 0) e ∙ ap (λ xs. slice_get (xs ++ a ∷ []) 0) was, record { out = tt; same = (subst (λ xs. IsSameAsAll xs a) was all).0 })
-came a received new (Some x) is none e all = absurd (subst (λ y. unless y) none tt)
+  pub opened : (received : List Side) (w : X) (cpu : Side) (home : Cpu EnabledRows) → received ≡ cpu ∷ [] → went w ≡ cpu ∷ [] → 0 < free w → home ≡ cpu.cpu → IsPlace received (Some w) (Some home)
+  opened received w cpu home e f room is =
+      (cpu, ap (λ xs. slice_get xs 0) e, record { out = tt; same = ap (λ (x : Cpu EnabledRows). identity x) is }, record { came = e; went = f; room = room; is = refl })
 
-pub stayed : (received new : List Side) (home : Option Side) → IsPlace received home → new ≡ received → IsPlace new home
-stayed received new home is e = subst (λ xs. IsPlace xs home) (sym e) is
+  -- while nothing is inside, nothing waits
+  none_waits : (first : Side) (received : List Side) (way : Option X) (P : X → Type 0) → IfSome way (λ w. IsUnused first received (went w) (free w) (the_none (Cpu EnabledRows))) → IfSome way P
+  none_waits first received None P is = tt
+  none_waits first received (Some w) P is = absurd (subst (λ y. unless y) is.is tt)
+
+  pub came : (a : Side) (home : Cpu EnabledRows) (received new : List Side) (way : Option X) (inside : Option (Cpu EnabledRows)) → IsPlace received way inside → false ≡ is_some inside
+      → new ≡ received ++ a ∷ [] → IsSameAsAll received a → home ≡ a.cpu → IsPlace new way (Some home)
+  came a home received new way None is none e all f = let first = is.0 in let was = is.2.out in (
+    first,
+    ap (λ xs. slice_get xs 0) e ∙ ap (λ xs. slice_get (xs ++ a ∷ []) 0) was,
+    record { out = tt; same = ap (λ (x : Cpu EnabledRows). identity x) f ∙ (subst (λ xs. IsSameAsAll xs a) was all).0.cpu },
+    none_waits first received way _ is.3,
+  )
+  came a home received new way (Some x) is none e all f = absurd (subst (λ y. unless y) none tt)
+
+  pub stayed : (received new : List Side) (way : Option X) (inside : Option (Cpu EnabledRows)) → IsPlace received way inside → new ≡ received → IsPlace new way inside
+  stayed received new way inside is e = subst (λ xs. IsPlace xs way inside) (sym e) is
+
+  -- and once what waited is handed out
+  pub left_empty : (received : List Side) (way : Option X) (w : X) (inside : Option (Cpu EnabledRows)) → IsPlace received way inside → way ≡ Some w → IsPlace received None None
+  left_empty received None w inside is at = absurd (subst (λ (o : Option X). if_none o) at tt)
+  left_empty received (Some x) w inside is at = (is.0, is.1, record { out = is.3.came; same = tt }, tt)
+
+  pub left_so : (received : List Side) (way after : Option X) (w : X) (inside left : Option (Cpu EnabledRows)) → IsPlace received way inside → way ≡ Some w → after ≡ None → left ≡ None
+      → IsPlace received after left
+  left_so received way after w inside left is at e f =
+      subst (λ (o : Option X). IsPlace received o left) (sym e) (subst (λ (o : Option (Cpu EnabledRows)). IsPlace received None o) (sym f) (left_empty received way w inside is at))
+
+  -- where nothing waited
+  pub not_waiting : (received : List Side) (way after : Option X) (inside : Option (Cpu EnabledRows)) → IsPlace received way inside → after ≡ None → IsPlace received after inside
+  not_waiting received way after inside is e = subst (λ (o : Option X). IsPlace received o inside) (sym e) (is.0, is.1, is.2, tt)
+
+  -- what waits is inside, is the one that went through, and there is room on the way
+  pub is_unused : (received : List Side) (way : Option X) (w : X) (inside : Option (Cpu EnabledRows)) → (is : IsPlace received way inside) → way ≡ Some w
+      → IsUnused is.0 received (went w) (free w) inside
+  is_unused received None w inside is at = absurd (subst (λ (o : Option X). if_none o) at tt)
+  is_unused received (Some x) w inside is at = subst (λ (y : X). IsUnused is.0 received (went y) (free y) inside) (ap (λ (o : Option X). or_this x o) at) is.3
+
+-- the CPU inside is the first
+pub same_there : (first : Side) (received : List Side) (inside : Option (Cpu EnabledRows)) (x : Cpu EnabledRows) → IsDesk first received inside → inside ≡ Some x → identity x ≡ identity first.cpu
+same_there first received None x is at = absurd (subst (λ (o : Option (Cpu EnabledRows)). if_none o) at tt)
+same_there first received (Some y) x is at = ap (λ (o : Option (Cpu EnabledRows)). identity (or_this x o)) (sym at) ∙ is.same
+
+-- there is one first
+pub one_first : (received : List Side) (a b : Side) → slice_get received 0 ≡ Some a → slice_get received 0 ≡ Some b → a ≡ b
+one_first received a b e f = ap (λ (o : Option Side). or_this a o) (sym e ∙ f)
+
+-- those can call it who share what it went through with
+pub callable_so : (shared : Shared) (first : Side) (x : Cpu EnabledRows) → IsCallable shared first.cpu → identity x ≡ identity first.cpu → IsCallable shared x
+callable_so shared first x can same = subst (λ (i : Identity EnabledRows). Belongs (words_of shared) i) (sym same) can
+
+pub goes_out : (went : List Side) (first side : Side) → went ≡ first ∷ [] → side.shared ≡ first.shared → identity side.cpu ≡ identity first.cpu → IsOut went side
+goes_out went first side e f g = record { first = first; was = e; same = record { shared = f; cpu = g } }
+
+abbrev stay_of : Option Side → Option (Cpu EnabledRows) → Bool → CpuStay
+stay_of first inside waits = record { first = first; inside = inside; waits = waits }
+
+-- what waited leaves its place
+pub leaves_so : (shared : Shared) (received : List Side) (inside left : Option (Cpu EnabledRows)) (waits after : Bool) (first out : Side) (cpu : Cpu EnabledRows) → slice_get received 0 ≡ Some first
+    → IsDesk first received inside → inside ≡ Some cpu → waits ≡ true → left ≡ None → after ≡ false → out ≡ record { shared = shared; cpu = cpu }
+    → LeavesPlace shared (record { first = slice_get received 0; inside = inside; waits = waits }) out (record { first = slice_get received 0; inside = left; waits = after })
+leaves_so shared received inside left waits after first out cpu at desk is w e f o = record {
+  waits = w;
+  inside = is ∙ ap (λ (s : Side). Some s.cpu) (sym o);
+  shares = ap (λ (s : Side). s.shared) o;
+  same = λ one g. ap (λ (s : Side). identity s.cpu) o ∙ same_there first received inside cpu desk is ∙ ap (λ (s : Side). identity s.cpu) (one_first received first one at g);
+  gone = ap (λ (x : Option (Cpu EnabledRows)). stay_of (slice_get received 0) x after) e ∙ ap (λ (b : Bool). stay_of (slice_get received 0) None b) f;
+}
+
+-- so it is of a place as it was seen
+pub leaves_from : (shared : Shared) (old : CpuStay) (received : List Side) (inside left : Option (Cpu EnabledRows)) (waits after : Bool) (first out : Side) (cpu : Cpu EnabledRows)
+    → stay_of (slice_get received 0) inside waits ≡ old → slice_get received 0 ≡ Some first
+    → IsDesk first received inside → inside ≡ Some cpu → waits ≡ true → left ≡ None → after ≡ false → out ≡ record { shared = shared; cpu = cpu }
+    → LeavesPlace shared old out (record { first = slice_get received 0; inside = left; waits = after })
+leaves_from shared old received inside left waits after first out cpu seen at desk is w e f o =
+    subst (λ (s : CpuStay). LeavesPlace shared s out (record { first = slice_get received 0; inside = left; waits = after })) seen
+    (leaves_so shared received inside left waits after first out cpu at desk is w e f o)

@@ -3,8 +3,11 @@ pub mod Calls
 pub mod ConsumerHomes
 pub mod Each
 mod Ending
+pub mod Finishing
 pub mod Handing
 pub mod Homes
+pub mod Looking
+mod Options
 pub mod Taken
 mod Values
 pub mod Widths

@@ -1,7 +1,9 @@
 -- Cited by calls. How the consumer comes home, as a CPU does.
-use Rattle.std.specs.Prelude.{◌≡◌, List, [], ◌∷◌, Option, IfSome, IfNone, ⊤}
+use Rattle.std.specs.Prelude.{◌≡◌, true, List, [], ◌∷◌, Option, Some, IfSome, IfNone, ⊤}
 use Rattle.dspec_cpu.specs.declared.shared.Shared.{Shared}
-use Rattle.dspec_consumer.specs.Consumers.{Consuming, IsSameConsumer}
+use Rattle.dspec_cpu.specs.Lists.{words_of}
+use Rattle.dspec_consumer.specs.Consumers.{Consuming, IsConsumerOf, IsSameConsumer}
+use Rattle.dspec_c.specs.Homes.{Stay, handed_out}
 
 -- a consumer, and what it shares
 pub record Theirs : Type 0 where
@@ -26,6 +28,21 @@ pub record HasGoneTheirs (side : Theirs) (sent : List Theirs) : Type 0 where
   pub first : Theirs
   pub went : sent ≡ first ∷ side ∷ []
 
-pub record IsDeskTheirs (first : Theirs) (received : List Theirs) (home : Option Theirs) : Type 0 where
-  pub out : IfNone home (received ≡ first ∷ [])
-  pub same : IfSome home (λ x. IsSameTheirs first x)
+abbrev pub TheirStay : Type 0
+TheirStay = Stay Theirs Consuming
+
+pub record IsDeskTheirs (first : Theirs) (received : List Theirs) (inside : Option Consuming) : Type 0 where
+  pub out : IfNone inside (received ≡ first ∷ [])
+  pub same : IfSome inside (λ (x : Consuming). IsSameConsumer first.consumer x × IsConsumerOf (words_of first.shared) x)
+
+-- the consumer leaves its place with what it shares
+pub record LeaveTheirs (shared : Shared) (old : TheirStay) (side : Theirs) (new : TheirStay) : Type 0 where
+  pub waits : old.waits ≡ true
+  pub inside : old.inside ≡ Some side.consumer
+  pub shares : side.shared ≡ shared
+  pub same : (first : Theirs) → old.first ≡ Some first → IsSameConsumer first.consumer side.consumer
+  pub gone : new ≡ handed_out old
+
+-- the place is of the consumer of those words
+abbrev pub IsTheirPlaceWith : Shared → Option Theirs → Type 0
+IsTheirPlaceWith shared place = (first : Theirs) → place ≡ Some first → shared ≡ first.shared

@@ -1,9 +1,9 @@
 -- Cited by calls. How a CPU comes home: by a ring of its own, through which it went when the session started.
-use Rattle.std.specs.Prelude.{◌≡◌, List, [], ◌∷◌, Option, IfSome, IfNone, ⊤}
+use Rattle.std.specs.Prelude.{ℕ, ◌≡◌, ◌<◌, Bool, true, false, List, [], ◌∷◌, Option, Some, None, IfSome, IfNone, IsSome, ⊤}
 use Rattle.dspec_record.specs.EnablingRows.{EnabledRows}
 use Rattle.dspec_cpu.specs.declared.cpu.Cpu.{Cpu}
 use Rattle.dspec_cpu.specs.declared.shared.Shared.{Shared}
-use Rattle.dspec_cpu.specs.Standing.{identity}
+use Rattle.dspec_cpu.specs.Standing.{IsCallable, identity}
 
 -- a CPU, and what it shares
 pub record Side : Type 0 where
@@ -31,7 +31,46 @@ pub record HasGone (side : Side) (sent : List Side) : Type 0 where
   pub first : Side
   pub went : sent ≡ first ∷ side ∷ []
 
--- What is at home is the same CPU as the first; while nothing is, the ring has given that one alone.
-pub record IsDesk (first : Side) (received : List Side) (home : Option Side) : Type 0 where
-  pub out : IfNone home (received ≡ first ∷ [])
-  pub same : IfSome home (λ x. IsSameSide first x)
+-- What contracts see of a place where a CPU, or the consumer, is at home: whose place it is, what is inside, and whether that waits to
+-- be handed out, as nothing does that was.
+pub record Stay (A B : Type 0) : Type 0 where
+  pub first : Option A
+  pub inside : Option B
+  pub waits : Bool
+
+abbrev pub CpuStay : Type 0
+CpuStay = Stay Side (Cpu EnabledRows)
+
+-- the same place a look later: what was out may have come home, and nothing else changed
+pub record Came {A B : Type 0} (old new : Stay A B) : Type 0 where
+  pub first : new.first ≡ old.first
+  pub waits : new.waits ≡ old.waits
+  pub stays : IfSome old.inside (λ x. new.inside ≡ Some x)
+
+-- the same place once what waited was handed out
+abbrev pub handed_out : {A B : Type 0} → Stay A B → Stay A B
+handed_out s = record { first = s.first; inside = None; waits = false }
+
+-- what waits went through the ring when that was made, and nothing has gone through it since
+pub record IsUnused {A B : Type 0} (first : A) (received sent : List A) (free : ℕ) (inside : Option B) : Type 0 where
+  pub came : received ≡ first ∷ []
+  pub went : sent ≡ first ∷ []
+  pub room : 0 < free
+  pub is : IsSome inside
+
+-- The CPU that is inside is the same as the first; while none is, the ring has given that one alone.
+pub record IsDesk (first : Side) (received : List Side) (inside : Option (Cpu EnabledRows)) : Type 0 where
+  pub out : IfNone inside (received ≡ first ∷ [])
+  pub same : IfSome inside (λ (x : Cpu EnabledRows). identity x ≡ identity first.cpu)
+
+-- a CPU leaves its place with what it shares
+pub record LeavesPlace (shared : Shared) (old : CpuStay) (side : Side) (new : CpuStay) : Type 0 where
+  pub waits : old.waits ≡ true
+  pub inside : old.inside ≡ Some side.cpu
+  pub shares : side.shared ≡ shared
+  pub same : (first : Side) → old.first ≡ Some first → identity side.cpu ≡ identity first.cpu
+  pub gone : new ≡ handed_out old
+
+-- the place is of a CPU that those can call who share this, and that went through its ring with it
+abbrev pub IsPlaceWith : Shared → Option Side → Type 0
+IsPlaceWith shared place = (first : Side) → place ≡ Some first → (shared ≡ first.shared) × IsCallable shared first.cpu

@@ -1,17 +1,16 @@
 -- Cited by calls. The calls on schemas and sessions, and those that bring a CPU or the consumer home.
-use Rattle.std.specs.Prelude.{ℕ, ◌≡◌, Bool, true, false, nat_lt, [], length, replicate, Option, Some, None, is_some, ◌⊎◌, slice_get, slice_set, if◌then◌else◌}
+use Rattle.std.specs.Prelude.{ℕ, ◌≡◌, Bool, true, false, nat_lt, [], length, replicate, Option, Some, None, ◌⊎◌, MatchResult, Result, if◌then◌else◌}
 use Rattle.dspec_record.specs.EnablingRows.{EnabledRows}
 use Rattle.dspec_record.specs.declared.header.Header.TheVariants.{One, Two}
 use Rattle.dspec_deeds.specs.declared.config.Config.{Config}
 use Rattle.dspec_deeds.specs.declared.config.StartFault.{StartFault}
 use Rattle.dspec_deeds.specs.Ranges.{start_fault}
-use Rattle.dspec_cpu.specs.Lists.{number_in}
 use Rattle.dspec_c.specs.Homes.{Side}
-use Rattle.dspec_c.specs.Whole.{Going, IsJustStarted, waits_in}
+use Rattle.dspec_c.specs.Whole.{EndedBy, Going, GoesOut, IsAway, IsHome, IsJustStarted, LookedLater, TheyGoOut, waits_in}
 use Rattle.dspec_c.specs.declared.consumer_side.ConsumerSide.{ConsumerSide}
 use Rattle.dspec_c.specs.declared.ended.Ended.{Ended}
 use Rattle.dspec_c.specs.Handles.{held_in, is_full}
-use Rattle.dspec_c.specs.Statuses.{bad_handle, bad_policy, gone, already_out, no_memory, no_such_cpu, not_home, start_status}
+use Rattle.dspec_c.specs.Statuses.{already_out, bad_handle, bad_policy, busy, no_memory, no_such_cpu, not_home, start_status}
 use Rattle.dspec_c.specs.declared.handle.Handle.{Handle}
 use Rattle.dspec_c.specs.declared.held.Held.{Held}
 use Rattle.dspec_c.specs.declared.held.Held.TheVariants as held
@@ -59,29 +58,24 @@ is_consumer_in h = false
 
 -- why a CPU isn't handed out: there is none of the number, or it is out
 abbrev pub cpu_due : ℕ → Going → Option ℕ
-cpu_due c whole = if nat_lt c whole.cpus then (if waits_in c whole.waiting then None else Some already_out) else Some no_such_cpu
+cpu_due c whole = if nat_lt c whole.cpus then (if waits_in c whole.places then None else Some already_out) else Some no_such_cpu
 
 -- and why the consumer isn't
 abbrev pub consumer_due : Going → Option ℕ
-consumer_due whole = if is_some whole.consumer then None else Some already_out
+consumer_due whole = if whole.consumer.waits then None else Some already_out
 
--- the handle has the CPU of that number, of this session, which waits no more
+-- the handle has the CPU of that number, which waited in this session, and waits no more
 pub record GivesCpu (c : ℕ) (old new : Going) (now : Handle) : Type 0 where
   pub side : Side
-  pub there : slice_get old.waiting c ≡ Some (Some side)
-  pub shared : side.shared ≡ old.shared
-  pub number : number_in side.cpu ≡ c
-  pub gone : new ≡ record old { waiting = slice_set old.waiting c None }
+  pub goes : GoesOut c old side new
   pub full : is_full now ≡ true
   pub holds : held_in now ≡ held.Cpu side
 
 -- the handle has the consumer of this session, of which no batch is out
 pub record GivesConsumer (old new : Going) (now : Handle) : Type 0 where
   pub side : ConsumerSide
-  pub there : old.consumer ≡ Some side.out
-  pub shared : side.out.shared ≡ old.shared
+  pub go : TheyGoOut old side.out new
   pub none_out : side.taken.items ≡ replicate old.cpus None
-  pub gone : new ≡ record old { consumer = None }
   pub full : is_full now ≡ true
   pub holds : held_in now ≡ held.Consumer side
 
@@ -102,13 +96,20 @@ abbrev pub ConsumerOfAnswers : Held → ℕ → Held → Handle → Handle → T
 ConsumerOfAnswers (held.Session old) status left was now = (new : Going) × (left ≡ held.Session new) × HandsOut GivesConsumer (consumer_due old) old status new was now
 ConsumerOfAnswers session status left was now = (left ≡ session) × (status ≡ bad_handle) × (now ≡ was)
 
--- the session has ended: its handle is empty, and the other one has what is left of each of its CPUs
+-- The session has ended: its handle is empty, and the other one has what is left of each of its CPUs, with the page of what they did.
 pub record Ends (old : Going) (now left : Handle) : Type 0 where
   pub emptied : is_full now ≡ false
   pub full : is_full left ≡ true
   pub ended : Ended
   pub holds : held_in left ≡ held.Closed ended
   pub all : length ended.closed ≡ old.cpus
+  pub by : EndedBy old ended.closed
+
+-- the session goes on, and the other handle has what it had
+pub record GoesOn (old : Going) (now closed left : Handle) : Type 0 where
+  pub full : is_full now ≡ true
+  pub holds : held_in now ≡ held.Session old
+  pub other : left ≡ closed
 
 -- both handles have what they had
 pub record Keeps (was now closed left : Handle) : Type 0 where
@@ -116,15 +117,24 @@ pub record Keeps (was now closed left : Handle) : Type 0 where
   pub holds : held_in now ≡ held_in was
   pub other : left ≡ closed
 
--- why what is held isn't ended: a part isn't home, or it is no session
-abbrev pub NotEnding : Held → ℕ → Type 0
-NotEnding (held.Session old) why = why ≡ not_home
-NotEnding h why = why ≡ bad_handle
+-- a look at whether all of the session that is held is home, and why it doesn't end
+abbrev pub LooksHome : {U : Type 0} → Held → Result U ℕ → Held → Type 0
+LooksHome (held.Session old) r now =
+    (new : Going) × (now ≡ held.Session new) × LookedLater old new × MatchResult r (λ _. IsHome new) (λ why. (why ≡ not_home) × IsAway new)
+LooksHome h r now = (now ≡ h) × MatchResult r (λ _. ⊥) (λ why. why ≡ bad_handle)
 
--- A session ends; or a part isn't home, and it goes on as it was; or it is lost.
+-- What is held ends; or it can't, and is given back as it was.
+abbrev pub EndsSo : Held → Result Ended Held → Type 0
+EndsSo (held.Session old) r = MatchResult r (λ (ended : Ended). (length ended.closed ≡ old.cpus) × EndedBy old ended.closed) (λ back. back ≡ held.Session old)
+EndsSo h r = MatchResult r (λ _. ⊥) (λ back. back ≡ h)
+
+-- A look shows who has come home, and changes nothing else. A session of which all is home ends; or its memory is still shared, and
+-- it goes on. One of which something isn't home goes on.
 abbrev pub FinishAnswers : Held → Handle → Handle → ℕ → Handle → Handle → Type 0
-FinishAnswers (held.Session old) was closed status now left =
-    ((status ≡ 0) × Ends old now left) ⊎ ((status ≡ not_home) × Keeps was now closed left) ⊎ ((status ≡ gone) × (left ≡ closed))
+FinishAnswers (held.Session old) was closed status now left = (new : Going) × LookedLater old new × (
+    ((status ≡ 0) × IsHome new × Ends new now left)
+    ⊎ (((status ≡ busy) × IsHome new × GoesOn new now closed left)
+    ⊎ ((status ≡ not_home) × IsAway new × GoesOn new now closed left)))
 FinishAnswers h was closed status now left = (status ≡ bad_handle) × Keeps was now closed left
 
 -- it went home, and the handle is empty; else it wasn't one, and nothing changed

@@ -18,7 +18,7 @@ use Rattle.dspec_c.specs.declared.consumer_side.Returned.TheVariants as returned
 
 -- the numbers that aren't a library's answer's: memory was refused; there is no such policy; the handle is empty, or holds another
 -- kind; it is full; there is no such CPU; a part isn't home; there is no batch; it was
--- handed out already; the session was lost
+-- handed out already; what is asked for isn't free yet
 abbrev pub no_memory : ℕ
 no_memory = 7
 
@@ -40,8 +40,8 @@ no_batch = 21
 abbrev pub already_out : ℕ
 already_out = 22
 
-abbrev pub gone : ℕ
-gone = 23
+abbrev pub busy : ℕ
+busy = 37
 
 abbrev pub start_status : StartFault → ℕ
 start_status start.Cpus = 1

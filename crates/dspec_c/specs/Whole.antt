@@ -1,9 +1,10 @@
 -- Cited by calls. What a session between its start and its end keeps of its parts.
-use Rattle.std.specs.Prelude.{ℕ, ◌≡◌, Bool, false, List, [], ◌∷◌, Option, Some, None, IfSome, IsSome, is_some, ⊤, suc, length, map, slice_get}
+use Rattle.std.specs.Prelude.{ℕ, ◌≡◌, ◌⊎◌, Bool, true, false, List, [], ◌∷◌, Option, Some, None, IsSome, IsSomeAnd, ⊤, suc, length, map, slice_get, slice_set}
 use Rattle.std.specs.Option.{option_map_or}
 use Rattle.dspec_deeds.specs.declared.config.Config.{Config}
 use Rattle.dspec_deeds.specs.Ranges.{start_fault}
 use Rattle.dspec_record.specs.EnablingRows.{EnabledRows}
+use Rattle.dspec_record.specs.Schemas.{enabled, table_accepts, table_shape, table_text}
 use Rattle.dspec_ring.specs.Known.{Pair}
 use Rattle.dspec_table.specs.Seats.{last_seat, set_up}
 use Rattle.dspec_cpu.specs.declared.cpu.Cpu.{Cpu}
@@ -11,9 +12,12 @@ use Rattle.dspec_cpu.specs.declared.shared.Shared.{Shared}
 use Rattle.dspec_cpu.specs.Lists.{number_in, schema_of, words_of}
 use Rattle.dspec_cpu.specs.Standing.{IsCallable, identity}
 use Rattle.dspec_consumer.specs.Consumers.{Consuming, IsConsumerOf, pairs_of, set_up_of, view_of}
-use Rattle.dspec_consumer.specs.Sessions.{Has, IsCpuOf, IsFresh}
-use Rattle.dspec_c.specs.ConsumerHomes.{Theirs}
-use Rattle.dspec_c.specs.Homes.{Side}
+use Rattle.dspec_consumer.specs.Promised.{IsPromisedBy, called_at, entered_at}
+use Rattle.dspec_consumer.specs.Sessions.{Has, IsCpuOf, IsFresh, IsSession, taken_at}
+use Rattle.dspec_consumer.specs.declared.left.Left.{Left}
+use Rattle.dspec_consumer.specs.declared.session.Session.{Session}
+use Rattle.dspec_c.specs.ConsumerHomes.{LeaveTheirs, TheirStay, Theirs}
+use Rattle.dspec_c.specs.Homes.{Came, CpuStay, LeavesPlace, Side, handed_out}
 
 -- each CPU can be called by those who share this
 abbrev pub AllCalled : Shared → List (Cpu EnabledRows) → Type 0
@@ -51,49 +55,120 @@ pub record IsWhole (shared : Shared) (cpus : ℕ) (places : List (Option Side)) 
   pub count : cpus ≡ (set_up (words_of shared)).cpus
   pub ending : IsEnding shared schema places first.consumer
 
--- a CPU that waits to be handed out is the one of its number, of this session
-abbrev pub IsWaiting : Shared → ℕ → Option Side → Type 0
-IsWaiting shared c None = ⊤
-IsWaiting shared c (Some side) = (side.shared ≡ shared) × (number_in side.cpu ≡ c)
+-- how a CPU, and the consumer, begin: at their places, to be handed out
+abbrev pub waiting_so : Shared → Cpu EnabledRows → CpuStay
+waiting_so shared cpu = record { first = Some (record { shared = shared; cpu = cpu }); inside = Some cpu; waits = true }
 
--- how CPUs begin to wait
-abbrev pub waiting_so : Shared → Cpu EnabledRows → Option Side
-waiting_so shared cpu = Some (record { shared = shared; cpu = cpu })
+abbrev pub they_wait_so : Shared → Consuming → TheirStay
+they_wait_so shared consumer = record { first = Some (record { shared = shared; consumer = consumer }); inside = Some consumer; waits = true }
 
--- what waits to be handed out is of this session: its CPUs, each at its number, and its consumer
-pub record AllWait (shared : Shared) (cpus : ℕ) (waiting : List (Option Side)) (theirs : Option Theirs) : Type 0 where
-  pub all : length waiting ≡ cpus
-  pub each : EachFrom (IsWaiting shared) 0 waiting
-  pub consumer : IfSome theirs (λ (t : Theirs). (t.shared ≡ shared) × ((set_up_of t.consumer).cpus ≡ cpus))
+-- whose places these are, and what is inside
+abbrev pub firsts : List CpuStay → List (Option Side)
+firsts places = map (λ (s : CpuStay). s.first) places
 
--- what contracts see of a session under way: what its parts share, how many CPUs it has, and what of it waits to be handed out
+abbrev pub insides : List CpuStay → List (Option (Cpu EnabledRows))
+insides places = map (λ (s : CpuStay). s.inside) places
+
+-- what contracts see of a session under way: what its parts share, how many CPUs it has, and the places of its CPUs and of its consumer
 pub record Going : Type 0 where
   pub shared : Shared
   pub cpus : ℕ
-  pub waiting : List (Option Side)
-  pub consumer : Option Theirs
+  pub places : List CpuStay
+  pub consumer : TheirStay
 
 -- all of what was started waits to be handed out: these CPUs, so many, and this consumer
 abbrev pub HasAll : Shared → List (Cpu EnabledRows) → Consuming → ℕ → Going → Type 0
-HasAll shared cpus consumer count w =
-    (w.shared ≡ shared) × (w.cpus ≡ count) × (w.waiting ≡ map (waiting_so shared) cpus) × IsSome w.consumer × IfSome w.consumer (λ (t : Theirs). t.consumer ≡ consumer)
+HasAll shared cpus consumer count w = (w.shared ≡ shared) × (w.cpus ≡ count) × (w.places ≡ map (waiting_so shared) cpus) × (w.consumer ≡ they_wait_so shared consumer)
 
 -- a CPU waits whose records are of this schema, and of which nothing was asked yet
-abbrev pub IsFreshIn : EnabledRows → ℕ → Option Side → Type 0
-IsFreshIn schema c None = ⊥
-IsFreshIn schema c (Some side) = (schema_of side.cpu ≡ schema) × IsFresh Has side.cpu
+abbrev pub IsFreshIn : EnabledRows → ℕ → CpuStay → Type 0
+IsFreshIn schema c s = (s.waits ≡ true) × IsSomeAnd s.inside (λ (cpu : Cpu EnabledRows). (schema_of cpu ≡ schema) × IsFresh Has cpu)
 
 -- it was started with this, over this schema, all of it waits to be handed out, and nothing was asked of it yet
 pub record IsJustStarted (k : Config) (schema : EnabledRows) (w : Going) : Type 0 where
   pub config : set_up (words_of w.shared) ≡ k
   pub cpus : w.cpus ≡ k.cpus
-  pub all : EachFrom (IsFreshIn schema) 0 w.waiting
-  pub consumer : IsSome w.consumer
-  pub theirs : IfSome w.consumer (λ (t : Theirs). view_of t.consumer ≡ last_seat k)
+  pub all : EachFrom (IsFreshIn schema) 0 w.places
+  pub consumer : w.consumer.waits ≡ true
+  pub theirs : IsSomeAnd w.consumer.inside (λ (x : Consuming). view_of x ≡ last_seat k)
 
 -- whether the CPU of this number waits
-abbrev pub waits_in : ℕ → List (Option Side) → Bool
-waits_in c waiting = option_map_or (λ (o : Option Side). is_some o) (slice_get waiting c) false
+abbrev pub waits_in : ℕ → List CpuStay → Bool
+waits_in c places = option_map_or (λ (s : CpuStay). s.waits) (slice_get places c) false
+
+-- the CPU of this number leaves its place
+pub record LeavesOne (shared : Shared) (c : ℕ) (old : List CpuStay) (side : Side) (new : List CpuStay) : Type 0 where
+  pub stay : CpuStay
+  pub there : slice_get old c ≡ Some stay
+  pub leaves : LeavesPlace shared stay side (handed_out stay)
+  pub gone : new ≡ slice_set old c (handed_out stay)
+
+-- the CPU of this number goes out, with what the session shares
+pub record GoesOut (c : ℕ) (old : Going) (side : Side) (new : Going) : Type 0 where
+  pub left : List CpuStay
+  pub leaves : LeavesOne old.shared c old.places side left
+  pub number : number_in side.cpu ≡ c
+  pub gone : new ≡ record old { places = left }
+
+-- so does the consumer, of a session of so many CPUs
+pub record TheyGoOut (old : Going) (side : Theirs) (new : Going) : Type 0 where
+  pub leave : LeaveTheirs old.shared old.consumer side (handed_out old.consumer)
+  pub cpus : (set_up_of side.consumer).cpus ≡ old.cpus
+  pub gone : new ≡ record old { consumer = handed_out old.consumer }
+
+-- a look later at each place
+abbrev pub AreCame : List CpuStay → List CpuStay → Type 0
+AreCame [] [] = ⊤
+AreCame [] (t ∷ ts) = ⊥
+AreCame (s ∷ ss) [] = ⊥
+AreCame (s ∷ ss) (t ∷ ts) = Came s t × AreCame ss ts
+
+-- the CPU at this place is inside; each is; and one of them isn't
+abbrev pub IsInsideAt : ℕ → List CpuStay → Type 0
+IsInsideAt c places = (s : CpuStay) → slice_get places c ≡ Some s → IsSome s.inside
+
+abbrev pub AllInside : List CpuStay → Type 0
+AllInside places = (c : ℕ) → IsInsideAt c places
+
+abbrev pub OneOutside : List CpuStay → Type 0
+OneOutside places = (c : ℕ) × (s : CpuStay) × (slice_get places c ≡ Some s) × (s.inside ≡ None)
+
+-- the session a look later: what was out may have come home, and nothing else changed
+pub record LookedLater (old new : Going) : Type 0 where
+  pub shared : new.shared ≡ old.shared
+  pub cpus : new.cpus ≡ old.cpus
+  pub places : AreCame old.places new.places
+  pub consumer : Came old.consumer new.consumer
+
+-- its CPUs and its consumer are home; and one of them isn't
+pub record IsHome (w : Going) : Type 0 where
+  pub cpus : AllInside w.places
+  pub consumer : IsSome w.consumer.inside
+
+abbrev pub IsAway : Going → Type 0
+IsAway w = OneOutside w.places ⊎ (w.consumer.inside ≡ None)
+
+-- the page of what is left, by what this session's CPUs and its consumer did
+abbrev pub HasPromise : EnabledRows → Session EnabledRows → List Left → Type 0
+HasPromise schema s left =
+    IsPromisedBy (table_shape schema.header (enabled schema.rows)) (table_accepts schema.header (enabled schema.rows)) (table_text schema.header (enabled schema.rows))
+    (set_up (words_of s.shared)) (entered_at s.cpus.items) (view_of s.consumer).own (called_at s.cpus.items) (taken_at s.consumer) left
+
+-- This is what is left of these CPUs and this consumer: they are those of one session, each CPU at its number, and carry the page.
+pub record ClosedBy (shared : Shared) (cpus : List (Option (Cpu EnabledRows))) (consumer : Consuming) (left : List Left) : Type 0 where
+  pub schema : EnabledRows
+  pub session : Session EnabledRows
+  pub is : IsSession schema session
+  pub shares : session.shared ≡ shared
+  pub all : map Some session.cpus.items ≡ cpus
+  pub theirs : session.consumer ≡ consumer
+  pub promised : HasPromise schema session left
+
+-- what is left of a session is that of the CPUs and the consumer that were home
+pub record EndedBy (w : Going) (left : List Left) : Type 0 where
+  pub consumer : Consuming
+  pub home : w.consumer.inside ≡ Some consumer
+  pub closed : ClosedBy w.shared (insides w.places) consumer left
 
 -- what was started with so many CPUs, before anything is handed out
 pub record IsStarted (shared : Shared) (n : ℕ) (cpus : List (Cpu EnabledRows)) (consumer : Consuming) : Type 0 where

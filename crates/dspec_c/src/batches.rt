@@ -1,3 +1,5 @@
+ghost use Rattle.std.specs.Prelude.{◌≡◌};
+ghost use Rattle.core.specs.Ptr.{as_ptr};
 ghost use Rattle.dspec_c.specs.Shows.{TellsBatch};
 
 use dspec_ring::Batch;
@@ -16,16 +18,19 @@ pub struct CBatch {
     pub cpu: u32,
 }
 
-fn start_of(bytes: &[u8]) -> *const u8 {
+fn start_of(bytes: &[u8]) -> *const u8
+    ensures { result ≡ as_ptr bytes.entry }
+{
     bytes.as_ptr()
 }
 
 impl CBatch {
-    /// Where the batch is, and what it says of itself.
-    pub(crate) fn of(batch: &Batch) -> CBatch
-        ensures { TellsBatch result batch.now }
+    /// Where these bytes of the batch, which are all of its own, are, and what it says of itself.
+    pub(crate) fn of(batch: &Batch, bytes: &[u8]) -> CBatch
+        requires { bytes.now ≡ batch.now.buffer.text }
+        ensures told { TellsBatch result batch.now }
+        ensures start { result.bytes ≡ as_ptr bytes.entry }
     {
-        let bytes = batch.buffer.bytes();
         CBatch {
             bytes: start_of(bytes),
             len: bytes.len(),

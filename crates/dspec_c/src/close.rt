@@ -1,39 +1,34 @@
-ghost use Rattle.std.specs.Prelude.{◌≡◌, length, IfSome};
-ghost use Rattle.std.specs.Arc.{arc_value};
+ghost use Rattle.std.specs.Prelude.{◌≡◌, ◌≤◌, ◌+◌, [], length, vec_capacity, vec_len};
 ghost use Rattle.dspec_table.specs.Seats.{set_up};
 ghost use Rattle.dspec_cpu.specs.Lists.{words_of};
 ghost use Rattle.dspec_record.specs.EnablingRows.{EnabledRows};
-ghost use Rattle.dspec_c.specs.Whole.{IsEnding};
+ghost use Rattle.dspec_c.specs.Whole.{AllInside, ClosedBy, IsEnding, firsts, insides};
 
 use crate::gather::gather;
 use crate::place::Place;
 use dspec_consumer::{Closed, Consumer, Session};
 use dspec_cpu::{Cpu, Shared};
 use dspec_record::Enablings;
-use std::alloc::Global;
-use std::sync::Arc;
 
-/// Ends a session whose CPUs and consumer are home.
+/// Ends a session whose CPUs are at their places, and whose consumer is home.
 pub fn close(
-    common: Arc<Shared, Global>,
+    shared: Shared,
     places: Vec<Place>,
     room: Vec<Cpu<Enablings>>,
     consumer: Consumer,
-) -> Option<Closed>
-    requires ending { (schema : EnabledRows) × IsEnding (arc_value common) schema places.items consumer }
-    requires empty { length room.items ≡ 0 }
-    ensures { IfSome result (λ r. length r ≡ (set_up (words_of (arc_value common))).cpus) }
+) -> Closed
+    requires ending { (schema : EnabledRows) × IsEnding shared schema (firsts places.items) consumer }
+    requires inside { AllInside places.items }
+    requires empty { room.items ≡ [] }
+    requires room { length places.items + vec_len room ≤ vec_capacity room }
+    ensures all { length result ≡ (set_up (words_of shared)).cpus }
+    ensures closed { ClosedBy shared (insides places.items) consumer result }
 {
-    let Some(cpus) = gather(places, room) else {
-        return None;
-    };
-    let Some(shared) = Arc::into_inner(common) else {
-        return None;
-    };
-    Some(Session {
+    let cpus = gather(places, room);
+    Session {
         shared,
         cpus,
         consumer,
     }
-    .finish())
+    .finish()
 }

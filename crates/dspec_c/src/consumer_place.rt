@@ -1,77 +1,103 @@
 use crate::consumer_desk::open;
 use crate::consumer_homing::{ConsumerHoming, ConsumerRule};
 use crate::out_consumer::OutConsumer;
-use rtrb::Consumer;
+use dspec_cpu::Shared;
+use rtrb::Producer;
 use std::alloc::{AllocError, Global};
 use std::marker::Model;
+use std::sync::Arc;
 
-/// The place of the consumer at its session, where it comes home. The consumer has gone once through the ring that leads there, so
-/// whatever comes is that consumer of that session.
+/// The place of the consumer at its session, where it waits to be handed out, and where it comes home. The consumer has gone once
+/// through the ring that leads there, so whatever comes is that consumer of that session.
 #[derive(Drop)]
 pub struct ConsumerPlace {
-    desk: Consumer<ConsumerHoming, Global, ConsumerRule>,
-    back: Option<ConsumerHoming>,
+    desk: rtrb::Consumer<ConsumerHoming, Global, ConsumerRule>,
+    way: Option<Producer<ConsumerHoming, Global, ConsumerRule>>,
+    back: Option<dspec_consumer::Consumer>,
 }
 
 impl Model for ConsumerPlace {
-    ghost use Rattle.std.specs.Prelude.{◌≡◌, Option, slice_get, Some};
-    ghost use Rattle.rtrb.specs.Ring.{received};
-    ghost use Rattle.dspec_c.specs.ConsumerHomes.{IsDeskTheirs, Theirs};
+    ghost use Rattle.std.specs.Prelude.{◌≡◌, is_some, slice_get, IfSome, Some};
+    ghost use Rattle.rtrb.specs.Ring.{known_free, received, sent};
+    ghost use Rattle.dspec_c.specs.ConsumerHomes.{IsDeskTheirs, TheirStay, Theirs};
+    ghost use Rattle.dspec_c.specs.Homes.{IsUnused};
 
-    ghost Value = { Option Theirs };
+    ghost Value = { TheirStay };
 
-    ghost view = { λ d. slice_get (received d.desk) 0 };
+    ghost view = { λ d. record { first = slice_get (received d.desk) 0; inside = d.back; waits = is_some d.way } };
 
-    ghost invariant = { λ d. (first : Theirs) × (slice_get (received d.desk) 0 ≡ Some first) × IsDeskTheirs first (received d.desk) d.back };
+    ghost invariant = { λ d. (first : Theirs) × (slice_get (received d.desk) 0 ≡ Some first) × IsDeskTheirs first (received d.desk) d.back × IfSome d.way (λ w. IsUnused first (received d.desk) (sent w) (known_free w) d.back) };
 }
 
 impl ConsumerPlace {
-    ghost use Rattle.std.specs.Prelude.{◌≡◌, IfOk, IfSome, Some};
-    ghost use Rattle.dspec_c.specs.ConsumerHomes.{IsSameTheirs, Theirs};
+    ghost use Rattle.std.specs.Prelude.{◌≡◌, IfNone, IfOk, IfSome, IsSome, Some, false, is_some};
+    ghost use Rattle.std.specs.Arc.{arc_value};
+    ghost use Rattle.dspec_cpu.specs.Lists.{words_of};
+    ghost use Rattle.dspec_consumer.specs.Consumers.{IsConsumerOf, IsSameConsumer};
+    ghost use Rattle.dspec_c.specs.ConsumerHomes.{IsTheirPlaceWith, LeaveTheirs, Theirs};
+    ghost use Rattle.dspec_c.specs.Homes.{Came};
+    ghost use Rattle.dspec_c.specs.Whole.{they_wait_so};
 
-    /// The consumer's place, and the consumer itself, handed out.
-    pub fn make(
-        alloc: Global,
-        consumer: ConsumerHoming,
-    ) -> Result<(ConsumerPlace, OutConsumer), AllocError>
-        ensures { IfOk result (λ r. (r.0 ≡ Some consumer) × (r.1 ≡ consumer)) }
+    /// The consumer's place, with the consumer in it, which waits.
+    pub fn make(alloc: Global, consumer: ConsumerHoming) -> Result<ConsumerPlace, AllocError>
+        ensures { IfOk result (λ r. r ≡ they_wait_so consumer.shared consumer.consumer) }
     {
         let (way, desk, consumer) = open(alloc, consumer)?;
-        let out = OutConsumer::of(way, consumer);
-        Ok((ConsumerPlace { desk, back: None }, out))
+        Ok(ConsumerPlace {
+            desk,
+            way: Some(way),
+            back: Some(consumer.into_consumer()),
+        })
     }
 
-    /// Whether the consumer is home.
-    pub fn is_home(&mut self) -> bool
-        ensures { self.new ≡ self.old }
+    /// Whether the consumer is at its place.
+    pub fn is_in(&mut self) -> bool
+        ensures came { Came self.old self.new }
+        ensures looked { result ≡ is_some self.new.inside }
     {
         if self.back.is_some() {
             return true;
         }
         match self.desk.pop() {
             Ok(consumer) => {
-                self.back = Some(consumer);
+                self.back = Some(consumer.into_consumer());
                 true
             }
             Err(_) => false,
         }
     }
 
-    /// Whether the consumer is home, or waits to be handed out.
-    pub fn is_in(&mut self, out: &Option<OutConsumer>) -> bool
-        ensures { self.new ≡ self.old }
+    /// Whether the consumer waits to be handed out.
+    pub fn waits(&self) -> bool
+        ensures { result ≡ self.now.waits }
     {
-        if out.is_some() {
-            return true;
-        }
-        self.is_home()
+        self.way.is_some()
     }
 
-    /// The consumer that came home.
-    pub fn into_home(self) -> Option<ConsumerHoming>
-        ensures { IfSome result (λ consumer. (first : Theirs) → self ≡ Some first → IsSameTheirs first consumer) }
+    /// The consumer, with what it shares, where it waits.
+    pub fn hand_out(&mut self, shared: Arc<Shared, Global>) -> Option<OutConsumer>
+        requires { IsTheirPlaceWith (arc_value shared) self.old.first }
+        ensures leave { IfSome result (λ out. LeaveTheirs (arc_value shared) self.old out self.new) }
+        ensures none { IfNone result ((self.old.waits ≡ false) × (self.new ≡ self.old)) }
     {
-        let ConsumerPlace { desk: _, back } = self;
-        back
+        let Some(way) = self.way.take() else {
+            return None;
+        };
+        let consumer = self.back.take().unwrap();
+        Some(OutConsumer::of(way, ConsumerHoming::of(shared, consumer)))
+    }
+
+    /// The consumer that is inside.
+    pub fn into_home(self) -> dspec_consumer::Consumer
+        requires { IsSome self.inside }
+        ensures is { self.inside ≡ Some result }
+        ensures same { (first : Theirs) → self.first ≡ Some first → IsSameConsumer first.consumer result × IsConsumerOf (words_of first.shared) result }
+    {
+        let ConsumerPlace {
+            desk: _,
+            way: _,
+            back,
+        } = self;
+        back.unwrap()
     }
 }

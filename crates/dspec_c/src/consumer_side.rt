@@ -90,7 +90,7 @@ impl ConsumerSide {
         let Some(batch) = self.out.take(cpu) else {
             return Found::NoBatch;
         };
-        *told = CBatch::of(&batch);
+        *told = CBatch::of(&batch, batch.buffer.bytes());
         self.taken[place] = Some(batch);
         Found::Taken
     }

@@ -1,77 +1,57 @@
-ghost use Rattle.std.specs.Prelude.{◌≡◌, ◌<◌, ◌∷◌, ℕ, List, length, IfSome, IfNone, IsSomeAnd, Some, None, false, slice_get, slice_set};
+ghost use Rattle.std.specs.Prelude.{◌≡◌, ◌≤◌, ◌<◌, ◌+◌, ◌∷◌, [], ℕ, List, MatchBool, length, map, slice_get, vec_capacity, vec_len, IfSome, IfNone, IsSome, Some, false};
+ghost use Rattle.std.specs.Arc.{arc_value};
 ghost use Rattle.dspec_cpu.specs.declared.shared.Shared.{Shared};
 ghost use Rattle.dspec_record.specs.EnablingRows.{EnabledRows};
 ghost use Rattle.dspec_ring.specs.Known.{Pair};
-ghost use Rattle.rtrb.specs.Ring.{sent};
-ghost use Rattle.dspec_c.specs.Homes.{HasGone};
-ghost use Rattle.dspec_c.specs.Whole.{EachFrom, IsCpuAt, IsPlaceOf, waits_in};
+ghost use Rattle.dspec_c.specs.Homes.{CpuStay, IsPlaceWith};
+ghost use Rattle.dspec_c.specs.Whole.{AllInside, AreCame, EachFrom, IsCpuAt, IsInsideAt, IsPlaceOf, LeavesOne, OneOutside, firsts, insides, waits_in};
 
-use crate::homing::{HomeRule, Homing};
 use crate::out_cpu::OutCpu;
 use crate::place::Place;
-use dspec_cpu::Cpu;
+use dspec_cpu::{Cpu, Shared};
 use dspec_record::Enablings;
-use rtrb::Producer;
 use std::alloc::Global;
+use std::sync::Arc;
 
 /// Whether such a CPU waits to be handed out.
-pub fn waits(outs: &[Option<OutCpu>], cpu: usize) -> bool
-    ensures { result ≡ waits_in cpu outs.now }
+pub fn waits(places: &[Place], cpu: usize) -> bool
+    ensures { result ≡ waits_in cpu places.now }
 {
-    cpu < outs.len() && outs[cpu].is_some()
+    cpu < places.len() && places[cpu].waits()
 }
 
-/// The CPU, where it waits to be handed out.
-pub fn take_out(outs: &mut Vec<Option<OutCpu>>, cpu: usize) -> Option<OutCpu>
-    ensures there { IfSome result (λ out. slice_get outs.old.items cpu ≡ Some (Some out)) }
-    ensures gone { outs.new.items ≡ slice_set outs.old.items cpu None }
-    ensures none { IfNone result ((waits_in cpu outs.old.items ≡ false) × (outs.new.items ≡ outs.old.items)) }
+/// The CPU, with what it shares, where it waits to be handed out.
+pub fn hand_out(places: &mut Vec<Place>, cpu: usize, shared: Arc<Shared, Global>) -> Option<OutCpu>
+    requires { (s : CpuStay) → slice_get places.old.items cpu ≡ Some s → IsPlaceWith (arc_value shared) s.first }
+    ensures leaves { IfSome result (λ out. LeavesOne (arc_value shared) cpu places.old.items out places.new.items) }
+    ensures none { IfNone result ((waits_in cpu places.old.items ≡ false) × (places.new.items ≡ places.old.items)) }
 {
-    if cpu >= outs.len() {
+    if cpu >= places.len() {
         return None;
     }
-    outs[cpu].take()
+    places[cpu].hand_out(shared)
 }
 
-// Whether such a CPU is home, or was never handed out.
-#[tactic(auto, using(crate::proofs::Each::set_back))]
-fn is_in(places: &mut Vec<Place>, outs: &[Option<OutCpu>], cpu: usize) -> bool
-    ensures { places.new.items ≡ places.old.items }
+// Whether the CPU at this place is inside.
+fn is_in(places: &mut Vec<Place>, cpu: usize) -> bool
+    requires { cpu < length places.old.items }
+    ensures came { AreCame places.old.items places.new.items }
+    ensures looked { MatchBool result (IsInsideAt cpu places.new.items) (OneOutside places.new.items) }
 {
-    if waits(outs, cpu) || cpu >= places.len() {
-        return true;
-    }
-    places[cpu].is_home()
+    places[cpu].is_in()
 }
 
-/// Whether each CPU is home, or was never handed out.
-pub fn all_home(places: &mut Vec<Place>, outs: &[Option<OutCpu>]) -> bool
-    ensures { places.new.items ≡ places.old.items }
+/// Whether each CPU is at its place.
+pub fn all_home(places: &mut Vec<Place>) -> bool
+    ensures came { AreCame places.old.items places.new.items }
+    ensures home { MatchBool result (AllInside places.new.items) (OneOutside places.new.items) }
 {
     for cpu in 0..places.len() {
-        if !is_in(places, outs, cpu) {
+        if !is_in(places, cpu) {
             return false;
         }
     }
     true
-}
-
-// Sends home a CPU that was never handed out, by the way that this gives back.
-fn send_one_home(out: Option<OutCpu>) -> Option<Producer<Homing, Global, HomeRule>>
-    ensures { IfSome out (λ side. IsSomeAnd result (λ way. HasGone side (sent way))) }
-{
-    match out {
-        Some(cpu) => Some(cpu.go_home()),
-        None => None,
-    }
-}
-
-/// Sends home what was never handed out.
-pub fn send_home(outs: Vec<Option<OutCpu>>) {
-    let mut outs = outs;
-    for cpu in 0..outs.len() {
-        let _way = send_one_home(take_out(&mut outs, cpu));
-    }
 }
 
 fn next_place(places: &mut Vec<Place>) -> Place
@@ -81,31 +61,27 @@ fn next_place(places: &mut Vec<Place>) -> Place
     places.remove(0)
 }
 
-fn cpu_of(place: Place) -> Option<Cpu<Enablings>>
-    ensures { IfSome result (λ cpu. (shared : Shared) (schema : EnabledRows) (pairs : List Pair) (c : ℕ) → IsPlaceOf shared schema pairs c place → IsCpuAt shared schema pairs c cpu) }
+fn cpu_of(place: Place) -> Cpu<Enablings>
+    requires { IsSome place.inside }
+    ensures is { place.inside ≡ Some result }
+    ensures of { (shared : Shared) (schema : EnabledRows) (pairs : List Pair) (c : ℕ) → IsPlaceOf shared schema pairs c place.first → IsCpuAt shared schema pairs c result }
 {
-    let mut place = place;
-    place.is_home();
-    let Some(homing) = place.into_home() else {
-        return None;
-    };
-    Some(homing.into_cpu())
+    place.into_home().into_cpu()
 }
 
-/// All CPUs, in order, where all are home; `all_home` has looked.
+/// All CPUs, in order, which are at their places.
 #[inline(never)]
-pub fn gather(places: Vec<Place>, room: Vec<Cpu<Enablings>>) -> Option<Vec<Cpu<Enablings>>>
-    requires empty { length room.items ≡ 0 }
-    ensures home { IfSome result (λ cpus. (shared : Shared) (schema : EnabledRows) (pairs : List Pair) → EachFrom (IsPlaceOf shared schema pairs) 0 places.items → EachFrom (IsCpuAt shared schema pairs) 0 cpus.items) }
-    ensures all { IfSome result (λ cpus. length cpus.items ≡ length places.items) }
+pub fn gather(places: Vec<Place>, room: Vec<Cpu<Enablings>>) -> Vec<Cpu<Enablings>>
+    requires inside { AllInside places.items }
+    requires empty { room.items ≡ [] }
+    requires room { length places.items + vec_len room ≤ vec_capacity room }
+    ensures home { (shared : Shared) (schema : EnabledRows) (pairs : List Pair) → EachFrom (IsPlaceOf shared schema pairs) 0 (firsts places.items) → EachFrom (IsCpuAt shared schema pairs) 0 result.items }
+    ensures all { map Some result.items ≡ insides places.items }
 {
     let (mut places, mut cpus) = (places, room);
     while !places.is_empty() {
         let place = next_place(&mut places);
-        let Some(cpu) = cpu_of(place) else {
-            return None
-        };
-        let Ok(()) = cpus.push(cpu) else { return None };
+        cpus.push_reserved(cpu_of(place));
     }
-    Some(cpus)
+    cpus
 }

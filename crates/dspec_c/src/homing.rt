@@ -1,3 +1,4 @@
+use crate::home_cpu::HomeCpu;
 use dspec_cpu::{Cpu, Shared};
 use dspec_deeds::{Decided, Opening, Report, Served, Spoken, Traced};
 use dspec_record::Enablings;
@@ -101,10 +102,10 @@ impl Homing {
         self.cpu.report(&self.shared)
     }
 
-    pub fn into_cpu(self) -> Cpu<Enablings>
+    pub fn into_home(self) -> HomeCpu
         ensures { result ≡ self.cpu }
     {
         let Homing { shared: _, cpu } = self;
-        Box::into_inner(cpu)
+        HomeCpu::of(cpu)
     }
 }

@@ -19,6 +19,7 @@ mod held;
 mod held_calls;
 mod held_consumer_calls;
 mod home_calls;
+mod home_cpu;
 mod homing;
 mod out_consumer;
 mod out_cpu;

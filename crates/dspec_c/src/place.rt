@@ -1,64 +1,101 @@
 use crate::desk::open;
+use crate::home_cpu::HomeCpu;
 use crate::homing::{HomeRule, Homing};
 use crate::out_cpu::OutCpu;
-use rtrb::Consumer;
+use dspec_cpu::Shared;
+use rtrb::{Consumer, Producer};
 use std::alloc::{AllocError, Global};
 use std::marker::Model;
+use std::sync::Arc;
 
-/// The place of a CPU at its session, where it comes home. The CPU has gone once through the ring that leads there, so whatever
-/// comes is that CPU of that session.
+/// The place of a CPU at its session, where it waits to be handed out, and where it comes home. The CPU has gone once through the ring
+/// that leads there, so whatever comes is that CPU of that session. What is inside shares nothing with anybody.
 #[derive(Drop)]
 pub struct Place {
     desk: Consumer<Homing, Global, HomeRule>,
-    home: Option<Homing>,
+    way: Option<Producer<Homing, Global, HomeRule>>,
+    inside: Option<HomeCpu>,
 }
 
 impl Model for Place {
-    ghost use Rattle.std.specs.Prelude.{◌≡◌, Option, slice_get, Some};
-    ghost use Rattle.rtrb.specs.Ring.{received};
-    ghost use Rattle.dspec_c.specs.Homes.{IsDesk, Side};
+    ghost use Rattle.std.specs.Prelude.{◌≡◌, is_some, slice_get, IfSome, Some};
+    ghost use Rattle.rtrb.specs.Ring.{known_free, received, sent};
+    ghost use Rattle.dspec_c.specs.Homes.{CpuStay, IsDesk, IsUnused, Side};
 
-    ghost Value = { Option Side };
+    ghost Value = { CpuStay };
 
-    ghost view = { λ d. slice_get (received d.desk) 0 };
+    ghost view = { λ d. record { first = slice_get (received d.desk) 0; inside = d.inside; waits = is_some d.way } };
 
-    ghost invariant = { λ d. (first : Side) × (slice_get (received d.desk) 0 ≡ Some first) × IsDesk first (received d.desk) d.home };
+    ghost invariant = { λ d. (first : Side) × (slice_get (received d.desk) 0 ≡ Some first) × IsDesk first (received d.desk) d.inside × IfSome d.way (λ w. IsUnused first (received d.desk) (sent w) (known_free w) d.inside) };
 }
 
 impl Place {
-    ghost use Rattle.std.specs.Prelude.{◌≡◌, IfOk, IfSome, Some};
-    ghost use Rattle.dspec_c.specs.Homes.{IsSameSide, Side};
+    ghost use Rattle.std.specs.Prelude.{◌≡◌, IfNone, IfOk, IfSome, IsSome, Some, false, is_some};
+    ghost use Rattle.std.specs.Arc.{arc_value};
+    ghost use Rattle.dspec_cpu.specs.Standing.{identity};
+    ghost use Rattle.dspec_c.specs.Homes.{Came, IsPlaceWith, LeavesPlace, Side};
+    ghost use Rattle.dspec_c.specs.Whole.{waiting_so};
 
-    /// The CPU's place, and the CPU itself, handed out.
-    pub fn make(alloc: Global, cpu: Homing) -> Result<(Place, OutCpu), AllocError>
-        ensures { IfOk result (λ r. (r.0 ≡ Some cpu) × (r.1 ≡ cpu)) }
+    /// The CPU's place, with the CPU in it, which waits.
+    pub fn make(alloc: Global, cpu: Homing) -> Result<Place, AllocError>
+        ensures { IfOk result (λ r. r ≡ waiting_so cpu.shared cpu.cpu) }
     {
         let (way, desk, cpu) = open(alloc, cpu)?;
-        let out = OutCpu::of(way, cpu);
-        Ok((Place { desk, home: None }, out))
+        Ok(Place {
+            desk,
+            way: Some(way),
+            inside: Some(cpu.into_home()),
+        })
     }
 
-    /// Whether the CPU is home.
-    pub fn is_home(&mut self) -> bool
-        ensures { self.new ≡ self.old }
+    /// Whether the CPU is at its place.
+    pub fn is_in(&mut self) -> bool
+        ensures came { Came self.old self.new }
+        ensures looked { result ≡ is_some self.new.inside }
     {
-        if self.home.is_some() {
+        if self.inside.is_some() {
             return true;
         }
         match self.desk.pop() {
             Ok(cpu) => {
-                self.home = Some(cpu);
+                self.inside = Some(cpu.into_home());
                 true
             }
             Err(_) => false,
         }
     }
 
-    /// The CPU that came home.
-    pub fn into_home(self) -> Option<Homing>
-        ensures { IfSome result (λ cpu. (first : Side) → self ≡ Some first → IsSameSide first cpu) }
+    /// Whether the CPU waits to be handed out.
+    pub fn waits(&self) -> bool
+        ensures { result ≡ self.now.waits }
     {
-        let Place { desk: _, home } = self;
-        home
+        self.way.is_some()
+    }
+
+    /// The CPU, with what it shares, where it waits.
+    pub fn hand_out(&mut self, shared: Arc<Shared, Global>) -> Option<OutCpu>
+        requires { IsPlaceWith (arc_value shared) self.old.first }
+        ensures leaves { IfSome result (λ out. LeavesPlace (arc_value shared) self.old out self.new) }
+        ensures none { IfNone result ((self.old.waits ≡ false) × (self.new ≡ self.old)) }
+    {
+        let Some(way) = self.way.take() else {
+            return None;
+        };
+        let cpu = self.inside.take().unwrap();
+        Some(OutCpu::of(way, Homing::of(shared, cpu.into_box())))
+    }
+
+    /// The CPU that is inside.
+    pub fn into_home(self) -> HomeCpu
+        requires { IsSome self.inside }
+        ensures is { self.inside ≡ Some result }
+        ensures same { (first : Side) → self.first ≡ Some first → identity result ≡ identity first.cpu }
+    {
+        let Place {
+            desk: _,
+            way: _,
+            inside,
+        } = self;
+        inside.unwrap()
     }
 }

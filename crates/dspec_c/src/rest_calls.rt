@@ -20,7 +20,7 @@ fn rest(ended: &Ended, cpu: u32, last: bool, batch: &mut CBatch) -> u32
     let Some(left) = ended.rest(cpu, last) else {
         return NO_BATCH;
     };
-    *batch = CBatch::of(left);
+    *batch = CBatch::of(left, left.buffer.bytes());
     OK
 }
 

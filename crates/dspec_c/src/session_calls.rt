@@ -1,10 +1,10 @@
 //! The exports of a session: its start, what it hands out, and its end.
 
-ghost use Rattle.std.specs.Prelude.{◌≡◌, true, false, IfErr, IfOk, IfSome, length};
+ghost use Rattle.std.specs.Prelude.{◌≡◌, true, false};
 ghost use Rattle.dspec_c.specs.Configs.{asked_for};
 ghost use Rattle.dspec_c.specs.Handles.{held_in, is_full};
-ghost use Rattle.dspec_c.specs.SessionCalls.{ConsumerOfAnswers, CpuOfAnswers, FinishAnswers, GivesConsumer, GivesCpu, HandsOut, KeptSo, NotEnding, StartAnswers, StartsSo, consumer_due, cpu_due};
-ghost use Rattle.dspec_c.specs.Whole.{Going};
+ghost use Rattle.dspec_c.specs.SessionCalls.{ConsumerOfAnswers, CpuOfAnswers, EndsSo, FinishAnswers, GivesConsumer, GivesCpu, HandsOut, KeptSo, LooksHome, StartAnswers, StartsSo, consumer_due, cpu_due};
+ghost use Rattle.dspec_c.specs.Whole.{Going, IsHome};
 ghost use Rattle.dspec_c.specs.declared.held.Held.TheVariants as held_as;
 
 use crate::configs::CConfig;
@@ -13,7 +13,7 @@ use crate::ended::Ended;
 use crate::handle::Handle;
 use crate::held::Held;
 use crate::statuses::{
-    BAD_HANDLE, BAD_POLICY, FULL_HANDLE, GONE, NO_MEMORY, NO_SUCH_CPU, NOT_HOME, OK, OUT, of_start,
+    BAD_HANDLE, BAD_POLICY, BUSY, FULL_HANDLE, NO_MEMORY, NO_SUCH_CPU, NOT_HOME, OK, OUT, of_start,
 };
 use crate::under_way::UnderWay;
 use dspec_record::Enablings;
@@ -96,7 +96,10 @@ fn hand_out_cpu(alloc: Global, session: &mut UnderWay, number: u32, cpu: &mut Ha
     let Ok(held) = Box::new(alloc, Held::Nothing) else {
         return NO_MEMORY;
     };
-    let Some(out) = session.cpu(number) else {
+    let Ok(shared) = session.share() else {
+        return NO_MEMORY;
+    };
+    let Some(out) = session.cpu(shared, number) else {
         return OUT;
     };
     let filled = fill(held, Held::Cpu(out));
@@ -146,7 +149,10 @@ fn hand_out_consumer(alloc: Global, session: &mut UnderWay, consumer: &mut Handl
     let Ok(taken) = room(alloc, session.count()) else {
         return NO_MEMORY;
     };
-    let Some(out) = session.consumer() else {
+    let Ok(shared) = session.share() else {
+        return NO_MEMORY;
+    };
+    let Some(out) = session.consumer(shared) else {
         return OUT;
     };
     let filled = fill(held, Held::Consumer(ConsumerSide::new(out, taken)));
@@ -184,9 +190,7 @@ pub extern "C" fn dspec_consumer_of(
 }
 
 fn is_home(held: &mut Held) -> Result<(), u32>
-    ensures stays { held.new ≡ held.old }
-    ensures home { IfOk result (λ _. (old : Going) × (held.old ≡ held_as.Session old)) }
-    ensures why { IfErr result (λ why. NotEnding held.old why) }
+    ensures { LooksHome held.old result held.new }
 {
     match held {
         Held::Session(whole) => {
@@ -200,13 +204,17 @@ fn is_home(held: &mut Held) -> Result<(), u32>
     }
 }
 
-// What is left of the session. None, and it is gone: a part wasn't home. `is_home` has looked, so this doesn't come; no proof says so.
-fn end(held: Held) -> Option<Ended>
-    ensures { IfSome result (λ ended. (old : Going) → held ≡ held_as.Session old → length ended.closed ≡ old.cpus) }
+// What is left of the session whose parts are home; or what is held, as it was.
+fn end(held: Held) -> Result<Ended, Held>
+    requires { (whole : Going) → held ≡ held_as.Session whole → IsHome whole }
+    ensures { EndsSo held result }
 {
     match held {
-        Held::Session(whole) => whole.finish(),
-        _ => None,
+        Held::Session(whole) => match whole.finish() {
+            Ok(ended) => Ok(ended),
+            Err(whole) => Err(Held::Session(whole)),
+        },
+        other => Err(other),
     }
 }
 
@@ -226,11 +234,16 @@ pub extern "C" fn dspec_finish(alloc: Global, session: &mut Handle, closed: &mut
         session.put(held);
         return why;
     }
-    let Some(ended) = end(mem::replace(&mut *held, Held::Nothing)) else {
-        session.put(held);
-        return GONE;
-    };
-    let filled = fill(held, Held::Closed(ended));
-    closed.put(filled);
-    OK
+    match end(mem::replace(&mut *held, Held::Nothing)) {
+        Ok(ended) => {
+            let filled = fill(held, Held::Closed(ended));
+            closed.put(filled);
+            OK
+        }
+        Err(back) => {
+            let filled = fill(held, back);
+            session.put(filled);
+            BUSY
+        }
+    }
 }

@@ -32,8 +32,6 @@ pub const NO_BATCH: u32 = 21;
 
 pub const OUT: u32 = 22;
 
-pub const GONE: u32 = 23;
-
 pub const DROPPED: u32 = 32;
 
 pub const STOPPED: u32 = 33;

@@ -1,12 +1,8 @@
-ghost use Rattle.std.specs.Prelude.{IfSome, IsSomeAnd};
-ghost use Rattle.rtrb.specs.Ring.{sent};
-ghost use Rattle.dspec_c.specs.ConsumerHomes.{HasGoneTheirs};
-
 use crate::close::close;
-use crate::consumer_homing::{ConsumerHoming, ConsumerRule};
+use crate::consumer_homing::ConsumerHoming;
 use crate::consumer_place::ConsumerPlace;
 use crate::ended::Ended;
-use crate::gather::{all_home, send_home, take_out, waits};
+use crate::gather::{all_home, hand_out, waits};
 use crate::out_consumer::OutConsumer;
 use crate::out_cpu::OutCpu;
 use crate::place::Place;
@@ -15,12 +11,12 @@ use dspec_consumer::{Consumer, Session};
 use dspec_cpu::{Cpu, Shared};
 use dspec_deeds::{Config, StartFault};
 use dspec_record::Enablings;
-use rtrb::Producer;
 use std::alloc::{AllocError, Global};
 use std::marker::Model;
 use std::sync::Arc;
 
-/// A session between its start and its end: where its parts come home, and those that weren't handed out yet.
+/// A session between its start and its end: the places where its parts wait to be handed out, and where they come home. What is at a
+/// place shares nothing, so that once all are home nobody but the session has what they share.
 #[derive(Drop)]
 pub struct UnderWay {
     common: Arc<Shared, Global>,
@@ -29,24 +25,22 @@ pub struct UnderWay {
     place: ConsumerPlace,
     /// Empty, with room for all CPUs.
     room: Vec<Cpu<Enablings>>,
-    outs: Vec<Option<OutCpu>>,
-    out: Option<OutConsumer>,
 }
 
 impl Model for UnderWay {
-    ghost use Rattle.std.specs.Prelude.{◌≡◌, length};
+    ghost use Rattle.std.specs.Prelude.{◌≡◌, ◌≤◌, ◌+◌, [], length, vec_capacity, vec_len};
     ghost use Rattle.std.specs.Arc.{arc_value};
-    ghost use Rattle.dspec_c.specs.Whole.{AllWait, Going, IsWhole};
+    ghost use Rattle.dspec_c.specs.Whole.{Going, IsWhole, firsts};
 
     ghost Value = { Going };
 
-    ghost view = { λ s. record { shared = arc_value s.common; cpus = s.cpus; waiting = s.outs.items; consumer = s.out } };
+    ghost view = { λ s. record { shared = arc_value s.common; cpus = s.cpus; places = s.places.items; consumer = s.place } };
 
-    ghost invariant = { λ s. IsWhole (arc_value s.common) s.cpus s.places.items s.place × (length s.room.items ≡ 0) × AllWait (arc_value s.common) s.cpus s.outs.items s.out };
+    ghost invariant = { λ s. IsWhole (arc_value s.common) s.cpus (firsts s.places.items) s.place.first × (s.room.items ≡ []) × (length s.places.items + vec_len s.room ≤ vec_capacity s.room) };
 }
 
 impl UnderWay {
-    ghost use Rattle.std.specs.Prelude.{◌≡◌, ◌≢◌, ℕ, nat_lt, IfErr, IfOk, IfSome, IfNone, Some, None, false, is_some, IsSome, length, map, slice_get, slice_set};
+    ghost use Rattle.std.specs.Prelude.{◌≡◌, ◌≢◌, ℕ, MatchBool, nat_lt, IfErr, IfOk, IfSome, IfNone, Some, None, false, length, slice_get};
     ghost use Rattle.dspec_deeds.specs.declared.config.StartFault.TheVariants as start;
     ghost use Rattle.dspec_deeds.specs.Ranges.{start_fault};
     ghost use Rattle.std.specs.Arc.{arc_value};
@@ -54,9 +48,9 @@ impl UnderWay {
     ghost use Rattle.dspec_table.specs.Seats.{last_seat, set_up};
     ghost use Rattle.dspec_cpu.specs.declared.cpu.Cpu.{Cpu};
     ghost use Rattle.dspec_cpu.specs.Lists.{words_of};
-    ghost use Rattle.dspec_consumer.specs.Consumers.{set_up_of, view_of};
+    ghost use Rattle.dspec_consumer.specs.Consumers.{view_of};
     ghost use Rattle.dspec_consumer.specs.Sessions.{Has, IsFresh, IsSession};
-    ghost use Rattle.dspec_c.specs.Whole.{AllCalled, HasAll, IsJustStarted, IsStarted, IsWaiting, waits_in};
+    ghost use Rattle.dspec_c.specs.Whole.{AllCalled, EndedBy, GoesOut, HasAll, IsAway, IsHome, IsJustStarted, IsStarted, LookedLater, TheyGoOut, waits_in};
 
     fn of(
         alloc: Global,
@@ -70,17 +64,15 @@ impl UnderWay {
         ensures { IfOk result (HasAll (arc_value common) cpus.items consumer count) }
     {
         let room = Vec::with_capacity(alloc, cpus.len())?;
-        let (places, outs) = places(alloc, &common, cpus)?;
+        let places = places(alloc, &common, cpus)?;
         let shared = Arc::try_clone(&common)?;
-        let (place, out) = ConsumerPlace::make(alloc, ConsumerHoming::of(shared, consumer))?;
+        let place = ConsumerPlace::make(alloc, ConsumerHoming::of(shared, consumer))?;
         Ok(UnderWay {
             common,
             cpus: count,
             places,
             place,
             room,
-            outs,
-            out: Some(out),
         })
     }
 
@@ -150,49 +142,59 @@ impl UnderWay {
 
     /// Whether such a CPU waits to be handed out.
     pub fn has_cpu_in(&self, cpu: u32) -> bool
-        ensures { result ≡ waits_in cpu self.now.waiting }
+        ensures { result ≡ waits_in cpu self.now.places }
     {
-        waits(&self.outs, cpu as usize)
+        waits(&self.places, cpu as usize)
     }
 
-    /// The CPU, where it wasn't handed out yet.
-    pub fn cpu(&mut self, cpu: u32) -> Option<OutCpu>
-        ensures there { IfSome result (λ side. slice_get self.old.waiting cpu ≡ Some (Some side)) }
-        ensures is { IfSome result (λ side. IsWaiting self.old.shared cpu (Some side)) }
-        ensures gone { IfSome result (λ _. self.new ≡ record self.old { waiting = slice_set self.old.waiting cpu None }) }
-        ensures none { IfNone result ((waits_in cpu self.old.waiting ≡ false) × (self.new ≡ self.old)) }
+    /// What the parts of the session share.
+    pub fn share(&self) -> Result<Arc<Shared, Global>, AllocError>
+        ensures { IfOk result (λ shared. arc_value shared ≡ self.now.shared) }
     {
-        take_out(&mut self.outs, cpu as usize)
+        Arc::try_clone(&self.common)
+    }
+
+    /// The CPU, with what it shares, where it wasn't handed out yet.
+    pub fn cpu(&mut self, shared: Arc<Shared, Global>, cpu: u32) -> Option<OutCpu>
+        requires { arc_value shared ≡ self.old.shared }
+        ensures goes { IfSome result (λ side. GoesOut cpu self.old side self.new) }
+        ensures none { IfNone result ((waits_in cpu self.old.places ≡ false) × (self.new ≡ self.old)) }
+    {
+        hand_out(&mut self.places, cpu as usize, shared)
     }
 
     /// Whether the consumer waits to be handed out.
     pub fn has_consumer_in(&self) -> bool
-        ensures { result ≡ is_some self.now.consumer }
+        ensures { result ≡ self.now.consumer.waits }
     {
-        self.out.is_some()
+        self.place.waits()
     }
 
-    /// The consumer, where it wasn't handed out yet.
-    pub fn consumer(&mut self) -> Option<OutConsumer>
-        ensures there { result ≡ self.old.consumer }
-        ensures is { IfSome result (λ t. (t.shared ≡ self.old.shared) × ((set_up_of t.consumer).cpus ≡ self.old.cpus)) }
-        ensures gone { self.new ≡ record self.old { consumer = None } }
+    /// The consumer, with what it shares, where it wasn't handed out yet.
+    pub fn consumer(&mut self, shared: Arc<Shared, Global>) -> Option<OutConsumer>
+        requires { arc_value shared ≡ self.old.shared }
+        ensures go { IfSome result (λ side. TheyGoOut self.old side self.new) }
+        ensures none { IfNone result ((self.old.consumer.waits ≡ false) × (self.new ≡ self.old)) }
     {
-        self.out.take()
+        self.place.hand_out(shared)
     }
 
-    /// Whether the consumer and all CPUs are home, or were never handed out.
+    /// Whether the consumer and all CPUs are home. Those that were never handed out are.
     pub fn is_home(&mut self) -> bool
-        ensures { self.new ≡ self.old }
+        ensures looked { LookedLater self.old self.new }
+        ensures home { MatchBool result (IsHome self.new) (IsAway self.new) }
     {
-        let theirs = self.place.is_in(&self.out);
-        let ours = all_home(&mut self.places, &self.outs);
+        let theirs = self.place.is_in();
+        let ours = all_home(&mut self.places);
         theirs && ours
     }
 
-    /// Ends it. None, and it is gone: a CPU or the consumer isn't home. `is_home` has looked.
-    pub fn finish(self) -> Option<Ended>
-        ensures { IfSome result (λ ended. length ended.closed ≡ self.cpus) }
+    /// Ends it. It comes back as it was where what it shares is still somebody else's, of whom none is known once all are home.
+    pub fn finish(self) -> Result<Ended, UnderWay>
+        requires { IsHome self }
+        ensures all { IfOk result (λ ended. length ended.closed ≡ self.cpus) }
+        ensures ended { IfOk result (λ ended. EndedBy self ended.closed) }
+        ensures back { IfErr result (λ whole. whole ≡ self) }
     {
         let UnderWay {
             common,
@@ -200,32 +202,19 @@ impl UnderWay {
             places,
             place,
             room,
-            outs,
-            out,
         } = self;
-        send_home(outs);
-        let _way = send_consumer_home(out);
-        let mut place = place;
-        place.is_home();
-        let Some(homing) = place.into_home() else {
-            return None;
-        };
-        let consumer = homing.into_consumer();
-        let Some(closed) = close(common, places, room, consumer) else {
-            return None;
-        };
-        Some(Ended { closed, cpus })
-    }
-}
-
-// Sends the consumer home that was never handed out, by the way that this gives back.
-fn send_consumer_home(
-    out: Option<OutConsumer>,
-) -> Option<Producer<ConsumerHoming, Global, ConsumerRule>>
-    ensures { IfSome out (λ side. IsSomeAnd result (λ way. HasGoneTheirs side (sent way))) }
-{
-    match out {
-        Some(consumer) => Some(consumer.go_home()),
-        None => None,
+        match Arc::try_unwrap(common) {
+            Ok(shared) => {
+                let closed = close(shared, places, room, place.into_home());
+                Ok(Ended { closed, cpus })
+            }
+            Err(common) => Err(UnderWay {
+                common,
+                cpus,
+                places,
+                place,
+                room,
+            }),
+        }
     }
 }

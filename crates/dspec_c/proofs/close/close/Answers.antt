@@ -1,17 +1,34 @@
-use Rattle.std.proofs.Common.{refl}
-use Rattle.std.specs.Arc.{arc_value}
+use Rattle.std.proofs.Common.{refl, sym, ap, ◌∙◌}
+use Rattle.dspec_record.specs.EnablingRows.{EnabledRows}
 use Rattle.dspec_consumer.specs.Consumers.{pairs_of}
-use Rattle.dspec_c.proofs.Ending.{session_is}
+use Rattle.dspec_consumer.specs.Sessions.{IsSession}
+use Rattle.dspec_consumer.specs.declared.session.Session.{Session}
+use Rattle.dspec_c.proofs.Ending.{as_many, session_is}
 use Rattle.dspec_c.proofs.close.close.Goals as goal
 
 pub finish-requires : goal.finish-requires
 finish-requires c =
-    let shared = arc_value c.args.common in
     let schema = c.requires.ending.0 in
     record {
       session = (
         schema,
-        session_is shared schema c.args.places.items c.args.consumer (record { shared = c.in-Some-into_inner.shared; cpus = c.in-Some.cpus; consumer = c.args.consumer }) c.requires.ending.1
-            c.in-Some-into_inner.ensures refl (c.in-Some.ensures.home shared schema (pairs_of c.args.consumer) c.requires.ending.1.each) c.in-Some.ensures.all,
+        session_is c.args.shared schema _ c.args.consumer (record { shared = c.args.shared; cpus = c.gather-cpus.result; consumer = c.args.consumer }) c.requires.ending.1
+            refl refl (c.gather-cpus.ensures.home c.args.shared schema (pairs_of c.args.consumer) c.requires.ending.1.each) (as_many _ _ c.gather-cpus.ensures.all),
       );
+    }
+
+pub returns-clause-closed : goal.returns-clause-closed
+returns-clause-closed c =
+    let schema = c.requires.ending.0 in
+    let session : Session EnabledRows = record { shared = c.args.shared; cpus = c.gather-cpus.result; consumer = c.args.consumer } in
+    let is : IsSession schema session = session_is c.args.shared schema _ c.args.consumer session c.requires.ending.1
+    refl refl (c.gather-cpus.ensures.home c.args.shared schema (pairs_of c.args.consumer) c.requires.ending.1.each) (as_many _ _ c.gather-cpus.ensures.all) in
+    record {
+      schema = schema;
+      session = session;
+      is = is;
+      shares = refl;
+      all = c.gather-cpus.ensures.all;
+      theirs = refl;
+      promised = c.finish.ensures.promised schema is;
     }

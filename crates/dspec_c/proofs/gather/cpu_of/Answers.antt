@@ -1,5 +1,5 @@
-use Rattle.dspec_c.proofs.Each.{cpu_home}
+use Rattle.dspec_c.proofs.Each.{cpu_at}
 use Rattle.dspec_c.proofs.gather.cpu_of.Goals as goal
 
-pub returns : goal.returns
-returns c = λ shared schema pairs n at. cpu_home shared schema pairs n _ _ c.in-Some.homing _ c.is_home.ensures c.in-Some.ensures c.into_cpu.ensures at
+pub returns-clause-of : goal.returns-clause-of
+returns-clause-of c = λ shared schema pairs n stands. cpu_at shared schema pairs n _ _ _ c.into_home.ensures.same c.into_cpu.ensures stands

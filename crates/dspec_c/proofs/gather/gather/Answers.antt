@@ -1,9 +1,18 @@
-use Rattle.dspec_c.proofs.Each.{one_more, counts}
+use Rattle.std.proofs.Common.{ap, length, arith}
+use Rattle.dspec_c.proofs.Each.{first_inside, one_inside, one_more, rest_inside}
 use Rattle.dspec_c.proofs.gather.gather.Goals as goal
+
+pub cpu_of-requires : goal.cpu_of-requires
+cpu_of-requires c = first_inside _ _ _ c.next_place-place.ensures.cons c.loop-places.invariant.inside
+
+pub push_reserved-requires : goal.push_reserved-requires
+push_reserved-requires c = omega (arith, ap length c.next_place-place.ensures.cons, c.loop-places.invariant.room)
 
 pub loop-places-preserved : goal.loop-places-preserved
 loop-places-preserved c = record {
-  home = λ shared schema pairs all. one_more shared schema pairs _ _ _ _ c.in-Some.cpu _ c.next_place-place.ensures.cons c.in-Ok.ensures.items (c.in-Some.ensures shared schema pairs)
+  home = λ shared schema pairs all. one_more shared schema pairs _ _ _ _ c.cpu_of.result _ c.next_place-place.ensures.cons c.push_reserved.ensures.items (c.cpu_of.ensures.of shared schema pairs)
       (c.loop-places.invariant.home shared schema pairs all);
-  all = counts _ _ _ _ c.in-Some.cpu _ _ c.next_place-place.ensures.cons c.in-Ok.ensures.items c.loop-places.invariant.all;
+  all = one_inside _ _ _ _ c.cpu_of.result _ _ c.next_place-place.ensures.cons c.push_reserved.ensures.items c.cpu_of.ensures.is c.loop-places.invariant.all;
+  inside = rest_inside _ _ _ c.next_place-place.ensures.cons c.loop-places.invariant.inside;
+  room = omega (arith, ap length c.next_place-place.ensures.cons, c.loop-places.invariant.room, c.push_reserved.ensures.len, c.push_reserved.ensures.capacity);
 }

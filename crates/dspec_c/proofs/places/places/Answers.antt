@@ -1,5 +1,5 @@
 use Rattle.std.specs.Arc.{arc_value}
-use Rattle.dspec_c.proofs.Each.{first_called, one_placed, one_waits, placed_counts, rest_called}
+use Rattle.dspec_c.proofs.Each.{first_called, one_waits, rest_called}
 use Rattle.dspec_c.proofs.places.places.Goals as goal
 
 pub place-requires : goal.place-requires
@@ -8,8 +8,5 @@ place-requires c = first_called _ _ _ _ c.in_ok-cpu.ensures.cons c.loop-alloc.in
 pub loop-alloc-preserved : goal.loop-alloc-preserved
 loop-alloc-preserved c = record {
   called = rest_called _ _ _ _ c.in_ok-cpu.ensures.cons c.loop-alloc.invariant.called;
-  placed = λ schema pairs all. one_placed (arc_value c.args.shared.now) schema pairs _ _ _ _ _ _ c.in_ok-cpu.ensures.cons c.in_ok-push-2.ensures.items c.in_ok-place.ensures.0
-      (c.loop-alloc.invariant.placed schema pairs all);
-  waiting = one_waits (arc_value c.args.shared.now) _ _ _ _ _ _ _ c.in_ok-cpu.ensures.cons c.in_ok-push.ensures.items c.in_ok-place.ensures.1 c.loop-alloc.invariant.waiting;
-  all = placed_counts _ _ _ _ _ _ _ c.in_ok-cpu.ensures.cons c.in_ok-push-2.ensures.items c.loop-alloc.invariant.all;
+  waiting = one_waits (arc_value c.args.shared.now) _ _ _ _ _ _ _ c.in_ok-cpu.ensures.cons c.in_ok-push.ensures.items c.in_ok-place.ensures c.loop-alloc.invariant.waiting;
 }

@@ -1,4 +1,4 @@
-use Rattle.std.proofs.Common.{refl, ◌∙◌, rules, arith}
+use Rattle.std.proofs.Common.{refl, sym, ap, ◌∙◌, rules, arith, subst}
 use Rattle.dspec_c.specs.SessionCalls.{GivesCpu, cpu_due}
 use Rattle.dspec_c.proofs.Handing.{due_none, given}
 use Rattle.dspec_c.proofs.session_calls.hand_out_cpu.Goals as goal
@@ -8,10 +8,7 @@ returns c = given (GivesCpu c.args.number) (cpu_due c.args.number c.args.session
     (due_none c.args.number c.args.session.now (first_of (cc, search rules, grind arith)) (first_of (cc, search rules, grind arith))) refl
     (record {
       side = c.in-Some.out;
-      there = c.in-Some.ensures.there;
-      shared = c.in-Some.ensures.is.0;
-      number = c.in-Some.ensures.is.1;
-      gone = c.in-Some.ensures.gone;
+      goes = c.in-Some.ensures.goes;
       full = c.put.ensures.full;
       holds = c.put.ensures.holds ∙ c.fill-filled.ensures;
     })

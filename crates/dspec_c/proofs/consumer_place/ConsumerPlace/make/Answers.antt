@@ -1,8 +1,11 @@
-use Rattle.dspec_c.proofs.ConsumerHomes.{fresh, opened}
+use Rattle.std.proofs.Common.{ap, ◌∙◌, subst}
+use Rattle.dspec_cpu.specs.Lists.{words_of}
+use Rattle.dspec_consumer.specs.Consumers.{IsConsumerOf}
+use Rattle.dspec_c.specs.ConsumerHomes.{Theirs}
+use Rattle.dspec_c.proofs.ConsumerHomes.{free_on, opened, went_by}
 use Rattle.dspec_c.proofs.consumer_place.ConsumerPlace.make.Goals as goal
 
-pub of-out-requires-clause-out : goal.of-out-requires-clause-out
-of-out-requires-clause-out c = fresh _ c.args.consumer _ c.in_ok-way.ensures.same.0 c.in_ok-way.ensures.same.2
-
 pub invariant_of-result : goal.invariant_of-result
-invariant_of-result c = opened _ c.args.consumer c.in_ok-way.ensures.same.1
+invariant_of-result c = opened went_by free_on _ c.in_ok-way.way c.args.consumer _ c.in_ok-way.ensures.same.1 c.in_ok-way.ensures.same.0 c.in_ok-way.ensures.room
+    (c.into_consumer.ensures.consumer ∙ ap (λ (t : Theirs). t.consumer) c.in_ok-way.ensures.same.2)
+    (subst (λ (t : Theirs). IsConsumerOf (words_of t.shared) c.into_consumer.result) c.in_ok-way.ensures.same.2 c.into_consumer.ensures.theirs)

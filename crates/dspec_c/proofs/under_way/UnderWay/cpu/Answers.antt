@@ -1,13 +1,24 @@
-use Rattle.std.proofs.Common.{Some, subst}
-use Rattle.std.specs.Prelude.{IfSome}
+use Rattle.std.proofs.Common.{◌≤◌, ◌+◌, sym, ap, ◌∙◌, subst}
+use Rattle.std.specs.Prelude.{vec_capacity, vec_len}
 use Rattle.std.specs.Arc.{arc_value}
-use Rattle.dspec_c.specs.Whole.{Going, IsWaiting}
-use Rattle.dspec_c.proofs.Ending.{one_goes, waits_there}
+use Rattle.dspec_c.specs.Whole.{Going}
+use Rattle.dspec_c.proofs.Ending.{asked_count, asked_for_one, goes_from, place_with}
 use Rattle.dspec_c.proofs.under_way.UnderWay.cpu.Goals as goal
 
-pub invariant_of-self : goal.invariant_of-self
-invariant_of-self c = (c.self.invariant.0, c.self.invariant.1, one_goes (arc_value c.self.inside.common) _ c.args.cpu _ _ _ c.self.invariant.2 c.take_out.ensures.gone)
+pub hand_out-requires : goal.hand_out-requires
+hand_out-requires c = λ s there. place_with (arc_value c.self.inside.common) (arc_value c.args.shared) _ _ _ c.args.cpu s c.self.invariant.0
+    (c.requires ∙ ap (λ (g : Going). g.shared) (sym c.self.view_is)) there
 
-pub returns-clause-is : goal.returns-clause-is
-returns-clause-is c = subst (λ (g : Going). IfSome c.take_out.result (λ side. IsWaiting g.shared c.args.cpu (Some side))) c.self.view_is
-    (waits_there (arc_value c.self.inside.common) _ c.args.cpu _ c.take_out.result _ c.self.invariant.2 c.take_out.ensures.there)
+pub invariant_of-self : goal.invariant_of-self
+invariant_of-self c =
+    let count = sym (asked_count (arc_value c.args.shared) c.args.cpu _ _ c.hand_out.result c.hand_out.ensures.leaves c.hand_out.ensures.none) in (
+      asked_for_one (arc_value c.self.inside.common) (arc_value c.args.shared) _ c.args.cpu _ _ _ c.hand_out.result c.self.invariant.0 c.hand_out.ensures.leaves c.hand_out.ensures.none,
+      c.self.invariant.1,
+      subst (λ n. n + vec_len c.self.inside.room ≤ vec_capacity c.self.inside.room) count c.self.invariant.2,
+    )
+
+pub returns-clause-goes : goal.returns-clause-goes
+returns-clause-goes c =
+    goes_from (arc_value c.self.inside.common) (arc_value c.args.shared) _ c.args.cpu _ _ _ c.hand_out.result _ c.self.view_is
+    (c.requires ∙ ap (λ (g : Going). g.shared) (sym c.self.view_is)) c.self.invariant.0
+    c.hand_out.ensures.leaves

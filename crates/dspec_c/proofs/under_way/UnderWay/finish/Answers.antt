@@ -1,10 +1,24 @@
-use Rattle.std.proofs.Common.{◌∙◌}
+use Rattle.std.proofs.Common.{◌≡◌, sym, ap, ◌∙◌, subst}
+use Rattle.std.specs.Prelude.{IsSome}
+use Rattle.dspec_cpu.specs.declared.shared.Shared.{Shared}
+use Rattle.dspec_c.specs.Whole.{AllInside, Going, IsEnding, firsts, insides}
 use Rattle.dspec_c.proofs.Ending.{ends_so}
+use Rattle.dspec_c.proofs.Finishing.{left_of_home}
 use Rattle.dspec_c.proofs.under_way.UnderWay.finish.Goals as goal
 
-pub close-requires-clause-ending : goal.close-requires-clause-ending
-close-requires-clause-ending c = (
+pub into_home-requires : goal.into_home-requires
+into_home-requires c = subst (λ (g : Going). IsSome g.consumer.inside) (sym c.self.view_is) c.requires.consumer
+
+pub close-closed-requires-clause-ending : goal.close-closed-requires-clause-ending
+close-closed-requires-clause-ending c = (
   c.self.invariant.0.schema,
-  ends_so _ _ _ _ c.in-Some.homing _ c.self.invariant.0 (λ first at. c.in-Some.ensures first
-      (c.is_home.ensures ∙ at)) c.into_consumer-consumer.ensures.consumer c.into_consumer-consumer.ensures.theirs,
+  subst (λ (m : Shared). IsEnding m c.self.invariant.0.schema (firsts c.self.inside.places.items) c.into_home.result) (sym c.in-Ok.ensures.ok)
+      (ends_so _ _ _ _ c.into_home.result c.self.invariant.0 c.into_home.ensures.same),
 )
+
+pub close-closed-requires-clause-inside : goal.close-closed-requires-clause-inside
+close-closed-requires-clause-inside c = subst (λ (g : Going). AllInside g.places) (sym c.self.view_is) c.requires.cpus
+
+pub returns-in-Ok-clause-ended : goal.returns-in-Ok-clause-ended
+returns-in-Ok-clause-ended c = left_of_home _ _ _ c.into_home.result _ (c.in-Ok.ensures.ok ∙ ap (λ (g : Going). g.shared) c.self.view_is)
+    (ap (λ (g : Going). insides g.places) c.self.view_is) (ap (λ (g : Going). g.consumer.inside) (sym c.self.view_is) ∙ c.into_home.ensures.is) c.close-closed.ensures.closed

@@ -1,13 +1,16 @@
-use Rattle.std.proofs.Common.{ap, length, ◌∙◌}
+use Rattle.std.proofs.Common.{sym, ap, length, ◌∙◌, arith}
 use Rattle.std.specs.Arc.{arc_value}
-use Rattle.dspec_c.proofs.Ending.{all_wait, whole_at_first}
+use Rattle.std.proofs.lemmas.List.{length-map}
+use Rattle.dspec_c.specs.ConsumerHomes.{Theirs}
+use Rattle.dspec_c.specs.Whole.{they_wait_so, waiting_so}
+use Rattle.dspec_c.proofs.Ending.{whole_at_first}
 use Rattle.dspec_c.proofs.under_way.UnderWay.of.Goals as goal
 
 pub invariant_of-result : goal.invariant_of-result
-invariant_of-result c = (
-  whole_at_first (arc_value c.args.common) (arc_value c.in_ok-shared.shared) _ _ _ _ _ c.of.result c.requires.started c.in_ok-place.ensures.0 c.of.ensures c.in_ok-shared.ensures
-      c.in_ok-places.ensures.all
-      (c.in_ok-places.ensures.each c.requires.started.schema _ c.requires.started.each),
-  ap length c.in_ok-room.ensures.items,
-  all_wait (arc_value c.args.common) (arc_value c.in_ok-shared.shared) _ _ _ _ _ c.requires.started c.in_ok-places.ensures.waiting (c.in_ok-place.ensures.1 ∙ c.of.ensures) c.in_ok-shared.ensures,
-)
+invariant_of-result c =
+    let count = ap length c.in_ok-places.ensures ∙ length-map c.args.cpus.items (waiting_so (arc_value c.args.common)) ∙ sym c.args.cpus.ok.0 in (
+      whole_at_first (arc_value c.args.common) (arc_value c.in_ok-shared.shared) _ _ _ _ _ c.requires.started
+          (c.in_ok-place.ensures ∙ ap (λ (t : Theirs). they_wait_so t.shared t.consumer) c.of.ensures) c.in_ok-shared.ensures c.in_ok-places.ensures,
+      c.in_ok-room.ensures.items,
+      omega (arith, count, c.in_ok-room.ensures.len, c.in_ok-room.ensures.capacity, c.len.ensures),
+    )

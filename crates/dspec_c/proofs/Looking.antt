@@ -1,0 +1,142 @@
+-- Looking at places, one after another, and handing out what waits at one.
+use Rattle.std.proofs.Common.{◌≡◌, ℕ, ◌<◌, List, [], ◌∷◌, ◌++◌, length, Bool, true, false, Option, Some, None, suc, zero, refl, sym, ap, ◌∙◌, subst, inl, inr, arith}
+use Rattle.std.specs.Prelude.{◌⊎◌, IfNone, IfSome, IsSome, MatchBool, is_some, slice_get, slice_index_or, slice_set}
+use Rattle.std.specs.Option.{option_map_or}
+use Rattle.std.proofs.lemmas.Option.{slice_get_read, slice_get_within}
+use Rattle.dspec_cpu.specs.declared.shared.Shared.{Shared}
+use Rattle.dspec_c.specs.Homes.{Came, CpuStay, LeavesPlace, Side, Stay, handed_out}
+use Rattle.dspec_c.specs.Whole.{AllInside, AreCame, IsInsideAt, LeavesOne, OneOutside, firsts, waits_in}
+use Rattle.dspec_c.proofs.Each.{set_back}
+use Rattle.dspec_c.proofs.Options.{if_some, if_true, none_of, or_this}
+
+stays_so : {X : Type 0} (o : Option X) → IfSome o (λ x. o ≡ Some x)
+stays_so None = tt
+stays_so (Some x) = refl
+
+still : {X : Type 0} (a b c : Option X) → IfSome a (λ x. b ≡ Some x) → IfSome b (λ x. c ≡ Some x) → IfSome a (λ x. c ≡ Some x)
+still None b c is was = tt
+still (Some x) b c is was = subst (λ (o : Option _). IfSome o (λ y. c ≡ Some y)) is was
+
+some_still : {X : Type 0} (a b : Option X) → IfSome a (λ z. b ≡ Some z) → IsSome a → IsSome b
+some_still None b e some = absurd (subst (λ (t : Bool). if_true t) (sym some) tt)
+some_still (Some z) b e some = ap (λ o. is_some o) e
+
+pub itself : {A B : Type 0} (s : Stay A B) → Came s s
+itself s = record { first = refl; waits = refl; stays = stays_so s.inside }
+
+no_stay : {X : Type 0} (o : Option X) (P : X → Type 0) → false ≡ is_some o → IfSome o P
+no_stay None P e = tt
+no_stay (Some x) P e = absurd (subst (λ (t : Bool). if_true t) (sym e) tt)
+
+-- where nothing was inside, something may have come
+pub comes : {A B : Type 0} (old new : Stay A B) → false ≡ is_some old.inside → new.first ≡ old.first → new.waits ≡ old.waits → Came old new
+comes old new none e f = record { first = e; waits = f; stays = no_stay old.inside _ none }
+
+pub unchanged : {A B : Type 0} (old new : Stay A B) → new ≡ old → Came old new
+unchanged old new e = subst (λ (s : Stay _ _). Came old s) (sym e) (itself old)
+
+-- what comes is behind the first
+pub first_stays : {A : Type 0} (xs ys : List A) (x a : A) → slice_get xs 0 ≡ Some a → ys ≡ xs ++ x ∷ [] → slice_get ys 0 ≡ slice_get xs 0
+first_stays [] ys x a at e = absurd (subst (λ (o : Option _). if_some o) (sym at) tt)
+first_stays (z ∷ zs) ys x a at e = ap (λ (ws : List _). slice_get ws 0) e
+
+pub after : {A B : Type 0} (a b c : Stay A B) → Came a b → Came b c → Came a c
+after a b c is was = record { first = was.first ∙ is.first; waits = was.waits ∙ is.waits; stays = still a.inside b.inside c.inside is.stays was.stays }
+
+pub all_themselves : (xs : List CpuStay) → AreCame xs xs
+all_themselves [] = tt
+all_themselves (x ∷ xs) = (itself x, all_themselves xs)
+
+pub all_after : (xs ys zs : List CpuStay) → AreCame xs ys → AreCame ys zs → AreCame xs zs
+all_after [] [] [] is was = tt
+all_after [] [] (z ∷ zs) is was = absurd was
+all_after [] (y ∷ ys) zs is was = absurd is
+all_after (x ∷ xs) [] zs is was = absurd is
+all_after (x ∷ xs) (y ∷ ys) [] is was = absurd was
+all_after (x ∷ xs) (y ∷ ys) (z ∷ zs) is was = (after x y z is.0 was.0, all_after xs ys zs is.1 was.1)
+
+pub one_came : (xs : List CpuStay) (c : ℕ) (x y : CpuStay) → x ≡ slice_index_or xs c x → Came x y → AreCame xs (slice_set xs c y)
+one_came [] c x y at is = tt
+one_came (z ∷ zs) zero x y at is = (subst (λ (w : CpuStay). Came w y) at is, all_themselves zs)
+one_came (z ∷ zs) (suc c) x y at is = (itself z, one_came zs c x y at is)
+
+pub same_length : (xs ys : List CpuStay) → AreCame xs ys → length ys ≡ length xs
+same_length [] [] is = refl
+same_length [] (y ∷ ys) is = absurd is
+same_length (x ∷ xs) [] is = absurd is
+same_length (x ∷ xs) (y ∷ ys) is = ap suc (same_length xs ys is.1)
+
+pub same_firsts : (xs ys : List CpuStay) → AreCame xs ys → firsts ys ≡ firsts xs
+same_firsts [] [] is = refl
+same_firsts [] (y ∷ ys) is = absurd is
+same_firsts (x ∷ xs) [] is = absurd is
+same_firsts (x ∷ xs) (y ∷ ys) is = ap (λ (o : Option Side). o ∷ firsts ys) is.0.first ∙ ap (λ (os : List (Option Side)). x.first ∷ os) (same_firsts xs ys is.1)
+
+-- who is inside stays
+pub inside_still : (xs ys : List CpuStay) (k : ℕ) → AreCame xs ys → IsInsideAt k xs → IsInsideAt k ys
+inside_still [] [] k is all s at = absurd (subst (λ (o : Option CpuStay). if_some o) (sym at) tt)
+inside_still [] (y ∷ ys) k is all s at = absurd is
+inside_still (x ∷ xs) [] k is all s at = absurd is
+inside_still (x ∷ xs) (y ∷ ys) zero is all s at = subst (λ (t : CpuStay). IsSome t.inside) (ap (λ (o : Option CpuStay). or_this y o) at) (some_still x.inside y.inside is.0.stays (all x refl))
+inside_still (x ∷ xs) (y ∷ ys) (suc k) is all s at = inside_still xs ys k is.1 all s at
+
+set_there : (xs : List CpuStay) (c : ℕ) (y s : CpuStay) → slice_get (slice_set xs c y) c ≡ Some s → y ≡ s
+set_there [] c y s at = absurd (subst (λ (o : Option CpuStay). if_some o) (sym at) tt)
+set_there (z ∷ zs) zero y s at = ap (λ (o : Option CpuStay). or_this y o) at
+set_there (z ∷ zs) (suc c) y s at = set_there zs c y s at
+
+is_set : (xs : List CpuStay) (c : ℕ) (y : CpuStay) → c < length xs → slice_get (slice_set xs c y) c ≡ Some y
+is_set [] c y small = absurd (omega arith)
+is_set (z ∷ zs) zero y small = refl
+is_set (z ∷ zs) (suc c) y small = is_set zs c y (omega arith)
+
+-- what a look at one place says
+pub looked_at : (r : Bool) (xs : List CpuStay) (c : ℕ) (y : CpuStay) → c < length xs → r ≡ is_some y.inside
+    → MatchBool r (IsInsideAt c (slice_set xs c y)) (OneOutside (slice_set xs c y))
+looked_at true xs c y small e = λ s at. subst (λ (t : CpuStay). IsSome t.inside) (set_there xs c y s at) (sym e)
+looked_at false xs c y small e = (c, y, is_set xs c y small, none_of y.inside (sym e))
+
+-- what looks at all of them say
+pub all_looked : (xs : List CpuStay) (n : ℕ) → length xs ≡ n → ((k : ℕ) → k < n → IsInsideAt k xs) → AllInside xs
+all_looked xs n count all = λ c s at. all c (subst (λ m. c < m) count (slice_get_within xs c s at)) s at
+
+either : {P Q R : Type 0} → P ⊎ Q → (P → R) → (Q → R) → R
+either (inl p) f g = f p
+either (inr q) f g = g q
+
+below : (k n : ℕ) → k < suc n → (k < n) ⊎ (k ≡ n)
+below zero zero small = inr refl
+below zero (suc n) small = inl (omega arith)
+below (suc k) zero small = absurd (omega arith)
+below (suc k) (suc n) small = either (below k n (omega arith)) (λ s. inl (omega (arith, s))) (λ e. inr (ap suc e))
+
+-- one more was looked at
+pub one_looked : (xs ys : List CpuStay) (n : ℕ) → AreCame xs ys → ((k : ℕ) → k < n → IsInsideAt k xs) → IsInsideAt n ys → (k : ℕ) → k < suc n → IsInsideAt k ys
+one_looked xs ys n is all at k small = either (below k n small) (λ s. inside_still xs ys k is (all k s)) (λ e. subst (λ m. IsInsideAt m ys) (sym e) at)
+
+-- what waits at one place is handed out
+pub one_leaves : (shared : Shared) (c : ℕ) (xs : List CpuStay) (x y : CpuStay) (o : Option Side) → c < length xs → x ≡ slice_index_or xs c x → IfSome o (λ out. LeavesPlace shared x out y)
+    → IfSome o (λ out. LeavesOne shared c xs out (slice_set xs c y))
+one_leaves shared c xs x y None small at is = tt
+one_leaves shared c xs x y (Some out) small at is = record {
+  stay = x;
+  there = slice_get_read xs (length xs) c x refl small at;
+  leaves = record { waits = is.waits; inside = is.inside; shares = is.shares; same = is.same; gone = refl };
+  gone = ap (λ (s : CpuStay). slice_set xs c s) is.gone;
+}
+
+pub none_leaves : (c : ℕ) (xs : List CpuStay) (x y : CpuStay) (o : Option Side) → c < length xs → x ≡ slice_index_or xs c x → IfNone o ((x.waits ≡ false) × (y ≡ x))
+    → IfNone o ((waits_in c xs ≡ false) × (slice_set xs c y ≡ xs))
+none_leaves c xs x y None small at is =
+    (ap (λ (o : Option CpuStay). option_map_or (λ (s : CpuStay). s.waits) o false) (slice_get_read xs (length xs) c x refl small at) ∙ is.0, set_back xs c x y is.1 at)
+none_leaves c xs x y (Some out) small at is = tt
+
+pub left_firsts : (xs : List CpuStay) (c : ℕ) (s : CpuStay) → slice_get xs c ≡ Some s → firsts (slice_set xs c (handed_out s)) ≡ firsts xs
+left_firsts [] c s at = refl
+left_firsts (x ∷ xs) zero s at = ap (λ (t : CpuStay). t.first ∷ firsts xs) (sym (ap (λ (o : Option CpuStay). or_this x o) at))
+left_firsts (x ∷ xs) (suc c) s at = ap (λ (os : List (Option Side)). x.first ∷ os) (left_firsts xs c s at)
+
+pub first_at : (xs : List CpuStay) (c : ℕ) (s : CpuStay) → slice_get xs c ≡ Some s → slice_get (firsts xs) c ≡ Some s.first
+first_at [] c s at = absurd (subst (λ (o : Option CpuStay). if_some o) (sym at) tt)
+first_at (x ∷ xs) zero s at = ap (λ (o : Option CpuStay). Some (or_this x o).first) at
+first_at (x ∷ xs) (suc c) s at = first_at xs c s at

@@ -1,0 +1,11 @@
+use Rattle.std.proofs.Common.{sym, ap, ◌∙◌, subst}
+use Rattle.dspec_cpu.specs.Lists.{words_of}
+use Rattle.dspec_consumer.specs.Consumers.{IsConsumerOf, IsSameConsumer}
+use Rattle.dspec_c.specs.ConsumerHomes.{TheirStay, Theirs}
+use Rattle.dspec_c.proofs.ConsumerHomes.{one_first, same_there}
+use Rattle.dspec_c.proofs.consumer_place.ConsumerPlace.into_home.Goals as goal
+
+pub returns-clause-same : goal.returns-clause-same
+returns-clause-same c = λ first at. subst (λ (t : Theirs). IsSameConsumer t.consumer c.unwrap.result × IsConsumerOf (words_of t.shared) c.unwrap.result)
+    (one_first _ c.self.invariant.0 first c.self.invariant.1 (ap (λ (s : TheirStay). s.first) c.self.view_is ∙ at))
+    (same_there c.self.invariant.0 _ _ c.unwrap.result c.self.invariant.2 c.unwrap.ensures)
