@@ -7,6 +7,8 @@ mod buffers;
 #[cfg(test)]
 mod dice;
 #[cfg(test)]
+mod laying;
+#[cfg(test)]
 mod logs;
 #[cfg(test)]
 mod records;

@@ -42,8 +42,8 @@ impl<'a, F: Fields, H: KnownHeader> Fired<'a, F, H> {
         requires tied { rec.now.values ≡ F.numbers_of values }
         requires fit { IsTrue (fits F.fields_are (F.numbers_of values)) }
         ensures rec { ⟦<Fired<'a, F, H> as Recorded>⟧.as_record result ≡ rec.now }
-        ensures laid { (schema : EnabledRows) → HasProbe H.header_is rec.now.epid F.fields_are schema
-            → IsLaidBy (⟦<Enablings as Schema>⟧.shape_of schema) (⟦<Enablings as Schema>⟧.text schema) rec.now (⟦<Fired<'a, F, H> as Recorded>⟧.laid_as result) }
+        ensures laid { (schema : EnabledRows) → HasProbe H.header_is rec.now.epid F.fields_are schema → IsLaidBy (⟦<Enablings as Schema>⟧.shape_of schema)
+            (⟦<Enablings as Schema>⟧.text schema) (⟦<Fired<'a, F, H> as Recorded>⟧.as_record result) (⟦<Fired<'a, F, H> as Recorded>⟧.laid_as result) }
     {
         Fired {
             rec,

@@ -3,8 +3,9 @@
 //!
 //! Which number a record has of a value, and which value a number stands for, says the trait `Value` (`specs/Values.antt`); `Fields`
 //! are up to eight of them together (`specs/Tuples.antt`). A probe's record is one of each schema that has the probe, its text is
-//! `record_text` of its fields, and `read` gives back what was handed in (`specs/Probes.antt`). What a declaration adds stands in
-//! `specs/Declarations.antt`. Stands on `dspec_record`.
+//! `record_text` of its fields, and `read` gives back what was handed in (`specs/Probes.antt`). A `Fired` is such a record that knows
+//! its shape and its bytes by its type, so that no schema is asked for them: each schema that has the probe says the same. What a
+//! declaration adds stands in `specs/Declarations.antt`. Stands on `dspec_record`.
 #![tactic(auto)]
 
 pub mod fault;

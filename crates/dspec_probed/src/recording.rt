@@ -10,8 +10,8 @@ use crate::ForeignProbe;
 use dspec::{Lane, Path};
 use dspec_cpu::{Cpu, Listed};
 use dspec_deeds::{Spoken, Traced};
-use dspec_probe::{Fields, Probe};
-use dspec_record::Enablings;
+use dspec_probe::{Fields, Fired, Probe, Stamped, Unstamped};
+use dspec_record::{Enablings, Header};
 use dspec_word::SpecId;
 
 /// What a probe does on a lane. The lane's schema has to have the probe: `on` asks once, and no call of the lane changes it.
@@ -62,16 +62,25 @@ impl<F: Fields> Recording<F> for Probe<F> {
 
     #[inline(always)]
     fn record(self, lane: &mut Lane<'_, Enablings>, stamp: u64, values: F) -> Traced {
-        lane.trace(&self.rec(stamp, values))
+        let rec = self.rec(stamp, values);
+        // each way is compiled with its header's numbers
+        match self.header() {
+            Header::One => lane.trace_recorded(Fired::<F, Unstamped>::of(&rec, values)),
+            Header::Two => lane.trace_recorded(Fired::<F, Stamped>::of(&rec, values)),
+        }
     }
 
     #[inline(always)]
     fn step(self, lane: &mut Lane<'_, Enablings>, path: &Path, stamp: u64, values: F) -> Spoken {
-        lane.speculate(path.opening().id(), &self.rec(stamp, values))
+        self.offer(lane, path.opening().id(), stamp, values)
     }
 
     #[inline(always)]
     fn offer(self, lane: &mut Lane<'_, Enablings>, id: SpecId, stamp: u64, values: F) -> Spoken {
-        lane.speculate(id, &self.rec(stamp, values))
+        let rec = self.rec(stamp, values);
+        match self.header() {
+            Header::One => lane.speculate_recorded(id, Fired::<F, Unstamped>::of(&rec, values)),
+            Header::Two => lane.speculate_recorded(id, Fired::<F, Stamped>::of(&rec, values)),
+        }
     }
 }
