@@ -1,4 +1,5 @@
 ghost use Rattle.std.specs.Prelude.{◌≡◌, IsTrue};
+ghost use Rattle.dspec_record.specs.LaidOut.{IsLaidBy};
 ghost use Rattle.dspec_promise.specs.Promise.{commit, discard};
 ghost use Rattle.dspec_cpu.specs.Lists.{number_in, schema_of};
 ghost use Rattle.dspec.specs.LaneCalls.{TraceOn, SpeculateOn, OpeningOn, DecisionOn, ServiceOn, RecordOn, OfferOn, DropsOn, ReportOn};
@@ -7,7 +8,7 @@ ghost use Rattle.dspec.specs.Lanes.{place_of};
 use crate::lane::Lane;
 use dspec_cpu::{Cpu, Listed};
 use dspec_deeds::{Decided, Opening, Report, Served, Spoken, Traced};
-use dspec_record::{Rec, Schema};
+use dspec_record::{Rec, Recorded, Schema};
 use dspec_word::SpecId;
 
 impl<'a, S: Schema> Lane<'a, S> {
@@ -35,6 +36,17 @@ impl<'a, S: Schema> Lane<'a, S> {
         ensures does { TraceOn ⟦<Cpu<S> as Listed>⟧.has_list rec.now result self.old self.new }
     {
         self.cpu.trace(self.shared, rec)
+    }
+
+    /// As `trace`, of what can be traced as a record.
+    #[inline(always)]
+    pub fn trace_recorded<R: Recorded>(&mut self, rec: R) -> Traced
+        requires accepted { IsTrue (S.accepted (schema_of self.old.cpu.now) (R.as_record rec)) }
+        requires laid { IsLaidBy (S.shape_of (schema_of self.old.cpu.now)) (S.text (schema_of self.old.cpu.now)) (R.as_record rec) (R.laid_as rec) }
+        ensures same { place_of self.new ≡ place_of self.old }
+        ensures does { TraceOn ⟦<Cpu<S> as Listed>⟧.has_list (R.as_record rec) result self.old self.new }
+    {
+        self.cpu.trace_recorded(self.shared, rec)
     }
 
     /// Makes a record and traces it. None, and nothing was done: there are more than eight values, or the schema doesn't accept it.
@@ -81,6 +93,17 @@ impl<'a, S: Schema> Lane<'a, S> {
         ensures does { SpeculateOn ⟦<Cpu<S> as Listed>⟧.has_list id rec.now result self.old self.new }
     {
         self.cpu.speculate(self.shared, id, rec)
+    }
+
+    /// As `speculate`, of what can be traced as a record.
+    #[inline(always)]
+    pub fn speculate_recorded<R: Recorded>(&mut self, id: SpecId, rec: R) -> Spoken
+        requires accepted { IsTrue (S.accepted (schema_of self.old.cpu.now) (R.as_record rec)) }
+        requires laid { IsLaidBy (S.shape_of (schema_of self.old.cpu.now)) (S.text (schema_of self.old.cpu.now)) (R.as_record rec) (R.laid_as rec) }
+        ensures same { place_of self.new ≡ place_of self.old }
+        ensures does { SpeculateOn ⟦<Cpu<S> as Listed>⟧.has_list id (R.as_record rec) result self.old self.new }
+    {
+        self.cpu.speculate_recorded(self.shared, id, rec)
     }
 
     /// Makes a record and offers it to a speculation. None, and nothing was done: there are more than eight values, or the schema
