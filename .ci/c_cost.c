@@ -1,7 +1,8 @@
 /* One call many times, for a tool that counts instructions: `c_cost WAY BYTES NUMBER` takes a way by so many records of 4, 8 or 24
- * bytes. The ways: traced, dropped (no room is left), speculated, committed (paths of 20 records, each opened and committed), and, of no
- * record, service, report, ask, and refused (an empty handle). It prints how many calls were answered DSPEC_OK. */
-#include "dspec.h"
+ * bytes. The ways: traced, dropped (no room is left), speculated, committed (paths of 20 records, each opened and committed), fired (by a
+ * typed probe, of 8 and 24 bytes), walked (paths of 20 by a typed probe), and, of no record, service, report, ask, round (ask, service, take, give
+ * back), and refused (an empty handle). It prints how many calls were answered DSPEC_OK. */
+#include "dspec_probe.h"
 
 #include <stdio.h>
 #include <stdlib.h>
@@ -16,6 +17,9 @@ typedef struct lane {
     size_t n;
     uint64_t id;
 } lane;
+
+DSPEC_PROBE(narrow, uint32_t, a);
+DSPEC_PROBE(wide, uint8_t, a, uint16_t, b, uint32_t, c, uint64_t, d);
 
 static const uint64_t values[] = { 1, 2, 3, 4 };
 
@@ -69,6 +73,44 @@ static long committed(lane *l, long number) {
     return kept;
 }
 
+/* The probes have the EPID of the record that was enabled. */
+__attribute__((noinline)) static dspec_status fire_8(lane *l, uint32_t a) {
+    const narrow_probe probe = { l->epid };
+    return narrow_trace(&probe, &l->cpu, 0, a);
+}
+
+__attribute__((noinline)) static dspec_status fire_24(lane *l, uint8_t a, uint16_t b, uint32_t c, uint64_t d) {
+    const wide_probe probe = { l->epid };
+    return wide_trace(&probe, &l->cpu, 0, a, b, c, d);
+}
+
+static long fired(lane *l, long number) {
+    long kept = 0;
+    for (long i = 0; i < number; i++) kept += (l->n == 4 ? fire_24(l, 1, 2, 3, 4) : fire_8(l, 1)) == DSPEC_OK;
+    return kept;
+}
+
+__attribute__((noinline)) static dspec_status walk_8(lane *l, uint32_t a) {
+    const narrow_probe probe = { l->epid };
+    return narrow_speculate(&probe, &l->cpu, l->id, 0, a);
+}
+
+__attribute__((noinline)) static dspec_status walk_24(lane *l, uint8_t a, uint16_t b, uint32_t c, uint64_t d) {
+    const wide_probe probe = { l->epid };
+    return wide_speculate(&probe, &l->cpu, l->id, 0, a, b, c, d);
+}
+
+static long walked(lane *l, long number) {
+    uint32_t count;
+    long kept = 0;
+    for (long i = 0; i < number; i += PATH) {
+        must(dspec_speculation(&l->cpu, &l->id));
+        for (long k = 0; k < PATH; k++) kept += (l->n == 4 ? walk_24(l, 1, 2, 3, 4) : walk_8(l, 1)) == DSPEC_OK;
+        must(dspec_commit(&l->cpu, l->id, &count));
+    }
+    return kept;
+}
+
 static long served(lane *l, long number) {
     bool sealed;
     uint32_t settled;
@@ -90,6 +132,21 @@ static long asked(lane *l, long number) {
     return well;
 }
 
+/* A batch on its way to the consumer and back. */
+static long rounds(lane *l, long number) {
+    dspec_batch batch;
+    bool sealed;
+    uint32_t settled;
+    long well = 0;
+    for (long i = 0; i < number; i++) {
+        must(dspec_ask(&l->consumer, 0));
+        must(dspec_service(&l->cpu, &sealed, &settled));
+        well += dspec_take(&l->consumer, 0, &batch) == DSPEC_OK;
+        must(dspec_give_back(&l->consumer, 0));
+    }
+    return well;
+}
+
 static long refused(lane *l, long number) {
     lane none = { .epid = l->epid, .n = l->n };
     return traced(&none, number);
@@ -100,6 +157,7 @@ static const struct way {
     long (*take)(lane *l, long number);
 } ways[] = {
     { "traced", traced }, { "dropped", dropped }, { "speculated", speculated }, { "committed", committed },
+    { "fired", fired }, { "walked", walked }, { "round", rounds },
     { "service", served }, { "report", reported }, { "ask", asked }, { "refused", refused },
 };
 
