@@ -1,0 +1,224 @@
+//! The lanes: each has one CPU of every session, behind a lock that no traced thread waits for. A thread has a lane that it tries first;
+//! where somebody is in it, it takes the next one, since any CPU may record for a speculation. So there may be more threads than lanes, a thread
+//! may end at any time, and the consumer makes the services of threads that sleep.
+
+use crate::path_id::{PathId, SLOTS};
+use crate::sink::Why;
+use crate::values::Held;
+use dspec::{Cpu, Epid, Spoken, Traced};
+use std::cell::Cell;
+use std::sync::atomic::{AtomicU64, AtomicUsize, Ordering};
+use std::sync::{Arc, Mutex, MutexGuard, PoisonError, TryLockError};
+
+thread_local! {
+    static HOME: Cell<usize> = const { Cell::new(usize::MAX) };
+}
+
+static THREADS: AtomicUsize = AtomicUsize::new(0);
+
+/// How often the consumer tries a lane in one round.
+const TRIES: usize = 32;
+
+/// Of one path on one lane: the records that stood in its speculative buffer, and those that had no room there.
+#[derive(Clone, Copy, Debug, Default)]
+pub(crate) struct Tally {
+    pub(crate) path: PathId,
+    pub(crate) held: u64,
+    pub(crate) cut: u64,
+}
+
+/// A path that was committed, beside its records.
+#[derive(Debug)]
+pub(crate) struct Kept {
+    pub(crate) path: PathId,
+    pub(crate) callsite: u32,
+    pub(crate) begun: u64,
+    pub(crate) took: u64,
+    pub(crate) why: Why,
+    /// How many records stand behind the commit.
+    pub(crate) behind: u64,
+    /// What failed, where the principal buffer had no room for it.
+    pub(crate) held: Option<Box<Held>>,
+}
+
+/// A path that had no slot, and would have been kept.
+#[derive(Clone, Copy, Debug)]
+pub(crate) struct Wanted {
+    pub(crate) callsite: u32,
+    pub(crate) took: u64,
+    pub(crate) why: Why,
+}
+
+/// What the consumer fetches of a lane.
+#[derive(Debug, Default)]
+pub(crate) struct Told {
+    pub(crate) kept: Vec<Kept>,
+    pub(crate) wanted: Vec<Wanted>,
+    /// Of kept paths whose slot has another path now.
+    pub(crate) tallies: Vec<Tally>,
+}
+
+/// Of a slot, the last two paths that were kept. A third one opens only when the consumer has fetched what lanes know of the first.
+#[derive(Debug, Default)]
+pub(crate) struct LastKept {
+    last: AtomicU64,
+    before: AtomicU64,
+}
+
+impl LastKept {
+    pub(crate) fn add(&self, path: PathId) {
+        self.before.store(self.last.load(Ordering::Acquire), Ordering::Release);
+        self.last.store(path.raw(), Ordering::Release);
+    }
+
+    fn has(&self, path: PathId) -> bool {
+        self.last.load(Ordering::Acquire) == path.raw() || self.before.load(Ordering::Acquire) == path.raw()
+    }
+}
+
+#[derive(Debug)]
+pub(crate) struct Lane {
+    /// One of each session; none when the sessions have ended.
+    pub(crate) cpus: Vec<Cpu>,
+    /// By slot.
+    tallies: Box<[Tally]>,
+    last_kept: Arc<[LastKept]>,
+    /// How many records it has traced.
+    pub(crate) traced: u64,
+    pub(crate) told: Told,
+}
+
+impl Lane {
+    /// Traces a record to the stream of a session. False: it had no room.
+    pub(crate) fn trace(&mut self, session: usize, epid: u32, stamp: u64, values: &[u64]) -> bool {
+        let Some(cpu) = self.cpus.get_mut(session) else { return false };
+        let traced = cpu.trace(Epid::from_raw(epid), stamp, values).expect("a record of the layer's own schema");
+        self.traced += u64::from(traced == Traced::Kept);
+        traced == Traced::Kept
+    }
+
+    /// Offers a record to a path. False: it had no room, or the path isn't open.
+    pub(crate) fn speculate(&mut self, path: PathId, epid: u32, stamp: u64, values: &[u64]) -> bool {
+        let Some(cpu) = self.cpus.get_mut(path.session()) else { return false };
+        let spoken = cpu.speculate(path.speculation(), Epid::from_raw(epid), stamp, values).expect("a record of the layer's own schema");
+        if !matches!(spoken, Spoken::Kept | Spoken::Dropped) {
+            return false;
+        }
+        let tally = &mut self.tallies[path.place()];
+        if tally.path != path {
+            if tally.path != PathId::NONE && self.last_kept[path.place()].has(tally.path) {
+                self.told.tallies.push(*tally);
+            }
+            *tally = Tally { path, held: 0, cut: 0 };
+        }
+        if spoken == Spoken::Kept {
+            tally.held += 1;
+            true
+        } else {
+            tally.cut += 1;
+            false
+        }
+    }
+
+    /// Offers a record to a path, or traces it where there is none.
+    pub(crate) fn put(&mut self, path: PathId, epid: u32, stamp: u64, values: &[u64]) -> bool {
+        if path == PathId::NONE {
+            self.trace(0, epid, stamp, values)
+        } else {
+            self.speculate(path, epid, stamp, values)
+        }
+    }
+
+    /// Its CPUs go home. What it still has to tell.
+    pub(crate) fn end(&mut self) -> Told {
+        self.cpus.clear();
+        std::mem::take(&mut self.told)
+    }
+
+    /// The tally of a kept path, which is told once.
+    pub(crate) fn tally(&mut self, path: PathId) -> Option<Tally> {
+        let tally = &mut self.tallies[path.place()];
+        (tally.path == path).then(|| std::mem::take(tally))
+    }
+}
+
+/// On cache lines of its own.
+#[derive(Debug)]
+#[repr(align(128))]
+struct Place(Mutex<Lane>);
+
+#[derive(Debug)]
+pub(crate) struct Lanes {
+    places: Vec<Place>,
+    /// Calls that came when the sessions had ended.
+    pub(crate) late: AtomicU64,
+    /// How often a thread found its lane taken.
+    pub(crate) moved: AtomicU64,
+}
+
+impl Lanes {
+    /// Of each lane's CPUs, one of each session.
+    pub(crate) fn of(cpus: Vec<Vec<Cpu>>, last_kept: &Arc<[LastKept]>) -> Lanes {
+        let lane = |cpus: Vec<Cpu>| {
+            let tallies = vec![Tally::default(); SLOTS * cpus.len()].into();
+            Lane { cpus, tallies, last_kept: last_kept.clone(), traced: 0, told: Told::default() }
+        };
+        let places = cpus.into_iter().map(|cpus| Place(Mutex::new(lane(cpus)))).collect();
+        Lanes { places, late: AtomicU64::new(0), moved: AtomicU64::new(0) }
+    }
+
+    pub(crate) fn count(&self) -> usize {
+        self.places.len()
+    }
+
+    /// Does something on a lane that nobody is in. None: the sessions have ended.
+    #[inline]
+    pub(crate) fn on_one<R>(&self, work: impl FnOnce(&mut Lane) -> R) -> Option<R> {
+        let home = HOME.with(|home| {
+            if home.get() == usize::MAX {
+                home.set(THREADS.fetch_add(1, Ordering::Relaxed));
+            }
+            home.get()
+        });
+        let first = home % self.places.len();
+        let mut at = first;
+        loop {
+            if let Some(mut lane) = self.attempt(at) {
+                if lane.cpus.is_empty() {
+                    self.late.fetch_add(1, Ordering::Relaxed);
+                    return None;
+                }
+                return Some(work(&mut lane));
+            }
+            at = (at + 1) % self.places.len();
+            self.moved.fetch_add(1, Ordering::Relaxed);
+            if at == first {
+                std::thread::yield_now();
+            }
+        }
+    }
+
+    fn attempt(&self, number: usize) -> Option<MutexGuard<'_, Lane>> {
+        match self.places[number].0.try_lock() {
+            Ok(lane) => Some(lane),
+            Err(TryLockError::Poisoned(lane)) => Some(lane.into_inner()),
+            Err(TryLockError::WouldBlock) => None,
+        }
+    }
+
+    /// A lane, for the consumer's round; none where somebody stays in it.
+    pub(crate) fn tried(&self, number: usize) -> Option<MutexGuard<'_, Lane>> {
+        for _ in 0..TRIES {
+            if let Some(lane) = self.attempt(number) {
+                return Some(lane);
+            }
+            std::hint::spin_loop();
+        }
+        None
+    }
+
+    /// A lane, for the consumer, which waits for it.
+    pub(crate) fn awaited(&self, number: usize) -> MutexGuard<'_, Lane> {
+        self.places[number].0.lock().unwrap_or_else(PoisonError::into_inner)
+    }
+}
