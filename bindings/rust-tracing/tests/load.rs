@@ -199,7 +199,7 @@ fn panics_and_drops() -> String {
     });
     let (all, report) = finished(guard);
     let due = |request: u64| match request % 50 {
-        _ if request % 7 == 0 => "",
+        _ if request.is_multiple_of(7) => "",
         1 => "panicked",
         2 => "asked",
         _ if request == 3 => "slow",
