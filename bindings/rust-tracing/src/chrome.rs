@@ -1,4 +1,4 @@
-use crate::json::quoted;
+use crate::json::{last_of_each, quoted};
 use crate::sink::{Line, Path, Sink, Span, Value};
 use std::collections::HashMap;
 use std::io::{self, Write};
@@ -107,9 +107,8 @@ fn json(value: &Value) -> String {
 
 /// A JSON object; of members of one name the last.
 fn object(members: &[(&str, String)]) -> String {
-    let last = members.iter().enumerate().filter(|(at, member)| members[at + 1..].iter().all(|later| later.0 != member.0));
-    let members: Vec<_> = last.map(|(_, (name, value))| format!("{}:{value}", quoted(name))).collect();
-    format!("{{{}}}", members.join(","))
+    let shown = last_of_each(members).map(|(name, value)| format!("{}:{value}", quoted(name)));
+    format!("{{{}}}", shown.collect::<Vec<_>>().join(","))
 }
 
 impl<W: Write + Send> Sink for Chrome<W> {

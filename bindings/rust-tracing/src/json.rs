@@ -20,6 +20,12 @@ pub(crate) fn quoted(text: &str) -> String {
     out
 }
 
+/// The members whose name no later one has.
+pub(crate) fn last_of_each<'m, 'n>(members: &'m [(&'n str, String)]) -> impl Iterator<Item = &'m (&'n str, String)> {
+    let alone = |(at, member): &(usize, &(&str, String))| members[at + 1..].iter().all(|later| later.0 != member.0);
+    members.iter().enumerate().filter(alone).map(|(_, member)| member)
+}
+
 #[cfg(test)]
 mod tests {
     use super::quoted;

@@ -1,4 +1,4 @@
-use crate::json::quoted;
+use crate::json::{last_of_each, quoted};
 use crate::sink::{Line, Missed, Path, Sink, Span, Value};
 use std::io::{self, Write};
 use tracing_core::{Level, Metadata};
@@ -33,23 +33,22 @@ impl<W: Write + Send> Sink for Otlp<W> {
     fn path(&mut self, path: &Path) -> io::Result<()> {
         let trace = Trace::of(path);
         let spans: Vec<_> = path.spans().iter().map(|span| trace.span(path, span)).collect();
-        let resource = [
-            attribute("service.name", &text(&self.service)),
-            attribute("telemetry.sdk.language", &text("rust")),
-            attribute("telemetry.sdk.name", &text(env!("CARGO_PKG_NAME"))),
-            attribute("telemetry.sdk.version", &text(env!("CARGO_PKG_VERSION"))),
-        ];
+        let resource = attributes(&[
+            ("service.name", text(&self.service)),
+            ("telemetry.sdk.language", text("rust")),
+            ("telemetry.sdk.name", text(env!("CARGO_PKG_NAME"))),
+            ("telemetry.sdk.version", text(env!("CARGO_PKG_VERSION"))),
+        ]);
         let missed = std::mem::take(&mut self.missed);
         let scope = format!(
-            "{{\"name\":{},\"version\":{},\"attributes\":[{}]}}",
+            "{{\"name\":{},\"version\":{},\"attributes\":{}}}",
             quoted(env!("CARGO_PKG_NAME")),
             quoted(env!("CARGO_PKG_VERSION")),
-            attribute("dspec.missed", &integer(missed))
+            attributes(&[("dspec.missed", integer(missed))])
         );
         writeln!(
             self.out,
-            "{{\"resourceSpans\":[{{\"resource\":{{\"attributes\":[{}]}},\"scopeSpans\":[{{\"scope\":{scope},\"spans\":[{}]}}]}}]}}",
-            resource.join(","),
+            "{{\"resourceSpans\":[{{\"resource\":{{\"attributes\":{resource}}},\"scopeSpans\":[{{\"scope\":{scope},\"spans\":[{}]}}]}}]}}",
             spans.join(",")
         )
     }
@@ -94,21 +93,21 @@ impl Trace<'_> {
             (false, _) => self.id_of_span(span.parent),
         };
         let ended = span.ended.unwrap_or(path.begun + path.nanoseconds).max(span.begun);
-        let mut attributes = of_callsite(span.metadata);
+        let mut members = of_callsite(span.metadata);
         let mut kind = 1;
-        for (at, (name, value)) in span.values.iter().enumerate() {
+        for (name, value) in &span.values {
             if *name == "otel.kind" {
                 kind = kind_of(value);
-            } else if span.values[at + 1..].iter().all(|later| later.0 != *name) {
-                attributes.push(attribute(name, &of_value(value)));
+            } else {
+                members.push((name, of_value(value)));
             }
         }
         let mut dropped_events = 0;
         let mut status = String::from("{}");
         if own {
-            attributes.push(attribute("dspec.why", &text(&path.why.to_string())));
-            attributes.push(attribute("dspec.cut", &integer(path.cut)));
-            attributes.push(attribute("dspec.lost", &integer(path.lost)));
+            members.push(("dspec.why", text(&path.why.to_string())));
+            members.push(("dspec.cut", integer(path.cut)));
+            members.push(("dspec.lost", integer(path.lost)));
             dropped_events = path.cut + path.lost;
             if path.why.failed || path.why.panicked {
                 let failed = path.events().find(|line| line.metadata.is_some_and(|metadata| *metadata.level() == Level::ERROR));
@@ -119,7 +118,7 @@ impl Trace<'_> {
         let events: Vec<_> = span.events.iter().map(|line| event(path, line)).collect();
         format!(
             "{{\"traceId\":\"{}\",\"spanId\":\"{}\",\"parentSpanId\":\"{parent}\",\"flags\":{},\"name\":{},\"kind\":{kind},\
-             \"startTimeUnixNano\":\"{}\",\"endTimeUnixNano\":\"{}\",\"attributes\":[{}],\"droppedAttributesCount\":{},\
+             \"startTimeUnixNano\":\"{}\",\"endTimeUnixNano\":\"{}\",\"attributes\":{},\"droppedAttributesCount\":{},\
              \"events\":[{}],\"droppedEventsCount\":{},\"status\":{status}}}",
             self.id,
             self.id_of_span(span.number),
@@ -127,7 +126,7 @@ impl Trace<'_> {
             quoted(span.name),
             unix(path, span.begun),
             unix(path, ended),
-            attributes.join(","),
+            attributes(&members),
             left_out(span.metadata),
             events.join(","),
             u32::try_from(dropped_events).unwrap_or(u32::MAX),
@@ -136,17 +135,14 @@ impl Trace<'_> {
 }
 
 fn event(path: &Path, line: &Line) -> String {
-    let mut attributes = of_callsite(line.metadata);
-    for (name, value) in &line.values {
-        if *name != "message" {
-            attributes.push(attribute(name, &of_value(value)));
-        }
-    }
+    let mut members = of_callsite(line.metadata);
+    let fields = line.values.iter().filter(|field| field.0 != "message");
+    members.extend(fields.map(|(name, value)| (*name, of_value(value))));
     format!(
-        "{{\"timeUnixNano\":\"{}\",\"name\":{},\"attributes\":[{}],\"droppedAttributesCount\":{}}}",
+        "{{\"timeUnixNano\":\"{}\",\"name\":{},\"attributes\":{},\"droppedAttributesCount\":{}}}",
         unix(path, line.stamp),
         quoted(line.title()),
-        attributes.join(","),
+        attributes(&members),
         line.left_out()
     )
 }
@@ -182,18 +178,20 @@ fn kind_of(value: &Value) -> u32 {
     }
 }
 
-fn of_callsite(metadata: Option<&'static Metadata<'static>>) -> Vec<String> {
+fn of_callsite(metadata: Option<&'static Metadata<'static>>) -> Vec<(&'static str, String)> {
     let Some(metadata) = metadata else { return Vec::new() };
-    let mut attributes = vec![attribute("level", &text(metadata.level().as_str())), attribute("target", &text(metadata.target()))];
+    let mut members = vec![("level", text(metadata.level().as_str())), ("target", text(metadata.target()))];
     if let (Some(file), Some(line)) = (metadata.file(), metadata.line()) {
-        attributes.push(attribute("code.filepath", &text(file)));
-        attributes.push(attribute("code.lineno", &integer(line.into())));
+        members.push(("code.filepath", text(file)));
+        members.push(("code.lineno", integer(line.into())));
     }
-    attributes
+    members
 }
 
-fn attribute(key: &str, value: &str) -> String {
-    format!("{{\"key\":{},\"value\":{value}}}", quoted(key))
+/// Attributes by key; of one key the last.
+fn attributes(members: &[(&str, String)]) -> String {
+    let shown = last_of_each(members).map(|(key, value)| format!("{{\"key\":{},\"value\":{value}}}", quoted(key)));
+    format!("[{}]", shown.collect::<Vec<_>>().join(","))
 }
 
 fn text(text: &str) -> String {

@@ -3,10 +3,10 @@
 mod common;
 
 use serde_json::{Map, Value as Json};
-use std::collections::{BTreeMap, BTreeSet};
+use std::collections::{BTreeMap, BTreeSet, HashSet};
 use std::thread;
 use std::time::Duration;
-use tracing::{debug, debug_span, error, info, info_span};
+use tracing::{debug, debug_span, error, field, info, info_span};
 use tracing_dspec::{each, Builder, Chrome, Otlp, Report, Sink, Text, Value};
 use tracing_subscriber::prelude::*;
 
@@ -19,7 +19,7 @@ fn sunk<K: Sink + 'static>(builder: Builder, sink: K) -> (K, Report) {
     tracing::dispatcher::with_default(&dispatch, || {
         for request in 0..4u64 {
             let path =
-                info_span!("request", request, traceparent = tracing::field::Empty, otel.kind = "server", status = tracing::field::Empty);
+                info_span!("request", request, target = "/orders", traceparent = field::Empty, otel.kind = "server", status = field::Empty);
             if request == 1 {
                 path.record("traceparent", CALLER);
             }
@@ -57,7 +57,7 @@ fn text() {
         .take(9)
         .map(|line| line.get(13..).unwrap_or("").rsplit_once(" @").map_or(line, |line| line.0).to_owned())
         .collect();
-    assert_eq!(words[0], "request { request=0 otel.kind=server");
+    assert_eq!(words[0], "request { request=0 target=/orders otel.kind=server");
     assert_eq!(words[3], "  query { table=orders nan=NaN endless=-inf");
     assert_eq!(words[4], "    DEBUG sinks: scanned rows=3");
     assert_eq!(words[5], "  ERROR sinks: no such \"order\" code=500");
@@ -206,6 +206,11 @@ fn of_kind(json: &Json, kind: &str) {
         "Event" => message(json, EVENT),
         "Status" => message(json, STATUS),
         "KeyValue" => message(json, KEY_VALUE),
+        "[KeyValue" => {
+            let keys: Vec<_> = json.as_array().unwrap().iter().map(|one| one["key"].as_str()).collect();
+            assert_eq!(keys.iter().collect::<HashSet<_>>().len(), keys.len(), "{json}");
+            json.as_array().unwrap().iter().for_each(|one| message(one, KEY_VALUE));
+        }
         "AnyValue" => any_value(json.as_object().unwrap()),
         "text" => assert!(json.is_string(), "{json}"),
         "name" => assert!(json.as_str().is_some_and(|text| !text.is_empty()), "{json}"),
@@ -267,6 +272,8 @@ fn otlp() {
         ids.insert(own["traceId"].as_str().unwrap().to_owned());
         assert_eq!((&own["kind"], &query["kind"]), (&2.into(), &1.into()));
         assert_eq!(attribute(own, "request").unwrap(), &number.to_string());
+        // A field has its name before what is told of the callsite.
+        assert_eq!((attribute(own, "target").unwrap(), attribute(query, "target").unwrap()), (&"/orders".into(), &"sinks".into()));
         assert_eq!(attribute(own, "status").unwrap(), if number < 2 { "500" } else { "200" });
         assert_eq!(attribute(own, "dspec.why").unwrap(), if number < 2 { "failed" } else { "slow" });
         assert_eq!(
