@@ -208,6 +208,7 @@ impl<K: Sink> Paths<K> {
     fn round(&mut self, consumers: &mut [Consumer]) -> bool {
         let taken = self.report.taken;
         let mut busy = self.core.opened.swap(0, Ordering::Relaxed) > 0;
+        let mut whole = true;
         for number in 0..self.core.lanes.count() {
             let lane_number = u32::try_from(number).expect("64 lanes at most");
             for consumer in &mut *consumers {
@@ -215,7 +216,7 @@ impl<K: Sink> Paths<K> {
             }
             let core = self.core.clone();
             let Some(mut lane) = core.lanes.tried(number) else {
-                busy = true;
+                whole = false;
                 continue;
             };
             for cpu in &mut lane.cpus {
@@ -236,8 +237,11 @@ impl<K: Sink> Paths<K> {
                 }
             }
         }
-        for consumer in consumers {
-            busy |= consumer.clean() > 0;
+        // No slot has another path before each lane was visited.
+        if whole {
+            for consumer in consumers {
+                busy |= consumer.clean() > 0;
+            }
         }
         self.hand_on(false);
         if std::mem::take(&mut self.handed) {
@@ -245,7 +249,7 @@ impl<K: Sink> Paths<K> {
             self.answered(answer);
         }
         self.report.rounds += 1;
-        busy || !self.ended.is_empty() || self.report.taken > taken
+        busy || !whole || !self.ended.is_empty() || self.report.taken > taken
     }
 
     fn answered(&mut self, answer: io::Result<()>) {

@@ -16,8 +16,9 @@ thread_local! {
 
 static THREADS: AtomicUsize = AtomicUsize::new(0);
 
-/// How often the consumer tries a lane in one round.
+/// How often the consumer tries a lane in one round: so often at once, and so often behind a yield.
 const TRIES: usize = 32;
+const YIELDS: usize = 8;
 
 /// Of one path on one lane: the records that stood in its speculative buffer, and those that had no room there.
 #[derive(Clone, Copy, Debug, Default)]
@@ -58,21 +59,24 @@ pub(crate) struct Told {
     pub(crate) tallies: Vec<Tally>,
 }
 
-/// Of a slot, the last two paths that were kept. A third one opens only when the consumer has fetched what lanes know of the first.
+/// Of a slot, the last three paths that were kept, the latest first. The consumer visits every lane between two rounds of releases, and knows of a kept
+/// path at the second visit at the latest; so it has fetched what lanes know of it before a fourth path opens, and a lane that
+/// another path begins on finds here whether it has to tell of the one before.
 #[derive(Debug, Default)]
-pub(crate) struct LastKept {
-    last: AtomicU64,
-    before: AtomicU64,
-}
+pub(crate) struct LastKept([AtomicU64; 3]);
 
 impl LastKept {
+    /// Before the path is committed: a slot has one path at a time. Each is in its next place before it leaves the last, so that who reads
+    /// meanwhile, in the same order, misses none.
     pub(crate) fn add(&self, path: PathId) {
-        self.before.store(self.last.load(Ordering::Acquire), Ordering::Release);
-        self.last.store(path.raw(), Ordering::Release);
+        for at in [2, 1] {
+            self.0[at].store(self.0[at - 1].load(Ordering::SeqCst), Ordering::SeqCst);
+        }
+        self.0[0].store(path.raw(), Ordering::SeqCst);
     }
 
     fn has(&self, path: PathId) -> bool {
-        self.last.load(Ordering::Acquire) == path.raw() || self.before.load(Ordering::Acquire) == path.raw()
+        self.0.iter().any(|kept| kept.load(Ordering::SeqCst) == path.raw())
     }
 }
 
@@ -208,11 +212,14 @@ impl Lanes {
 
     /// A lane, for the consumer's round; none where somebody stays in it.
     pub(crate) fn tried(&self, number: usize) -> Option<MutexGuard<'_, Lane>> {
-        for _ in 0..TRIES {
-            if let Some(lane) = self.attempt(number) {
-                return Some(lane);
+        for _ in 0..YIELDS {
+            for _ in 0..TRIES {
+                if let Some(lane) = self.attempt(number) {
+                    return Some(lane);
+                }
+                std::hint::spin_loop();
             }
-            std::hint::spin_loop();
+            std::thread::yield_now();
         }
         None
     }
