@@ -1,7 +1,7 @@
 //! The consumer's thread: it makes the services of all lanes, takes their batches, and puts paths together.
 
 use crate::callsites::NO_CALLSITE;
-use crate::lanes::{Kept, Tally, Told};
+use crate::lanes::{Kept, Told};
 use crate::layer::Core;
 use crate::otlp::mixed;
 use crate::path_id::PathId;
@@ -28,7 +28,7 @@ pub struct Report {
     pub taken: u64,
     /// Paths that were handed to the sink.
     pub paths: u64,
-    /// Paths that went without a slot.
+    /// Paths that went without a slot, or, where they would have been kept, for which the consumer was too far behind.
     pub missed: u64,
     /// Those of them that would have been kept.
     pub wanted: u64,
@@ -107,17 +107,8 @@ pub(crate) fn start<K: Sink + 'static>(mut sessions: Vec<Session>, core: Arc<Cor
         // The thread is set once, as there is one consumer.
         let _ = core.consumer.set(thread::current());
         let seed = mixed(RandomState::new().hash_one(core.unix));
-        let paths = Paths {
-            core,
-            sink,
-            lines: HashMap::new(),
-            tallies: HashMap::new(),
-            ended: VecDeque::new(),
-            visits,
-            seed,
-            handed: false,
-            report: Report::default(),
-        };
+        let paths =
+            Paths { core, sink, lines: HashMap::new(), ended: VecDeque::new(), visits, seed, handed: false, report: Report::default() };
         // What a sink traces isn't traced.
         dispatcher::with_default(&Dispatch::none(), || paths.run(sessions, consumers, &told))
     };
@@ -143,8 +134,6 @@ struct Paths<K> {
     sink: K,
     /// Of paths that were committed and not handed on yet.
     lines: HashMap<PathId, Came>,
-    /// What lanes know of them.
-    tallies: HashMap<PathId, Tally>,
     ended: VecDeque<Ended>,
     /// How often each lane was visited.
     visits: Vec<u64>,
@@ -175,13 +164,6 @@ impl<K: Sink> Paths<K> {
         for told in told {
             self.told(told);
         }
-        for number in 0..lanes {
-            let mut lane = core.lanes.awaited(number);
-            let tallies: Vec<_> = self.ended.iter().filter_map(|ended| lane.tally(ended.kept.path)).collect();
-            for tally in tallies {
-                self.tally(tally);
-            }
-        }
         drop(consumers);
         let closed: Vec<_> = sessions.into_iter().map(|session| session.finish().unwrap_or_else(|fault| panic!("{fault}"))).collect();
         for closed in &closed {
@@ -198,6 +180,7 @@ impl<K: Sink> Paths<K> {
         let answer = self.sink.end();
         self.answered(answer);
         self.report.stray = self.lines.values().map(|came| came.records).sum();
+        self.report.wanted = self.core.wanted.load(Ordering::Relaxed);
         self.report.missed = self.core.missed.load(Ordering::Relaxed);
         self.report.late = self.core.lanes.late.load(Ordering::Relaxed);
         self.report.moved = self.core.lanes.moved.load(Ordering::Relaxed);
@@ -208,7 +191,6 @@ impl<K: Sink> Paths<K> {
     fn round(&mut self, consumers: &mut [Consumer]) -> bool {
         let taken = self.report.taken;
         let mut busy = self.core.opened.swap(0, Ordering::Relaxed) > 0;
-        let mut whole = true;
         for number in 0..self.core.lanes.count() {
             let lane_number = u32::try_from(number).expect("64 lanes at most");
             for consumer in &mut *consumers {
@@ -216,20 +198,15 @@ impl<K: Sink> Paths<K> {
             }
             let core = self.core.clone();
             let Some(mut lane) = core.lanes.tried(number) else {
-                whole = false;
+                busy = true;
                 continue;
             };
             for cpu in &mut lane.cpus {
                 cpu.service();
             }
             let told = std::mem::take(&mut lane.told);
-            let known = self.ended.iter().map(|ended| ended.kept.path).chain(told.kept.iter().map(|kept| kept.path));
-            let tallies: Vec<_> = known.filter_map(|path| lane.tally(path)).collect();
             drop(lane);
             self.told(told);
-            for tally in tallies {
-                self.tally(tally);
-            }
             self.visits[number] += 1;
             for consumer in &mut *consumers {
                 if let Some(batch) = consumer.take(lane_number).expect("a lane of the session") {
@@ -237,11 +214,8 @@ impl<K: Sink> Paths<K> {
                 }
             }
         }
-        // No slot has another path before each lane was visited.
-        if whole {
-            for consumer in consumers {
-                busy |= consumer.clean() > 0;
-            }
+        for consumer in consumers {
+            busy |= consumer.clean() > 0;
         }
         self.hand_on(false);
         if std::mem::take(&mut self.handed) {
@@ -249,7 +223,7 @@ impl<K: Sink> Paths<K> {
             self.answered(answer);
         }
         self.report.rounds += 1;
-        busy || !whole || !self.ended.is_empty() || self.report.taken > taken
+        busy || !self.ended.is_empty() || self.report.taken > taken
     }
 
     fn answered(&mut self, answer: io::Result<()>) {
@@ -261,24 +235,14 @@ impl<K: Sink> Paths<K> {
     }
 
     fn told(&mut self, told: Told) {
-        for tally in told.tallies {
-            self.tally(tally);
-        }
         for kept in told.kept {
             self.ended.push_back(Ended { kept, seen: self.visits.clone() });
         }
         for wanted in told.wanted {
-            self.report.wanted += 1;
             let missed = Missed { metadata: self.core.callsites.metadata(wanted.callsite), nanoseconds: wanted.took, why: wanted.why };
             let answer = self.sink.missed(&missed);
             self.answered(answer);
         }
-    }
-
-    fn tally(&mut self, tally: Tally) {
-        let sum = self.tallies.entry(tally.path).or_default();
-        sum.held += tally.held;
-        sum.cut += tally.cut;
     }
 
     /// Hands on the paths of which all lanes' parts have come, in the order in which they ended.
@@ -293,8 +257,7 @@ impl<K: Sink> Paths<K> {
 
     fn path(&mut self, kept: Kept) {
         let Came { mut lines, records } = self.lines.remove(&kept.path).unwrap_or_default();
-        let tally = self.tallies.remove(&kept.path).unwrap_or_default();
-        let lost = (tally.held + kept.behind).saturating_sub(records);
+        let lost = kept.records.saturating_sub(records);
         if let Some(held) = kept.held {
             // What of it had room in the stream stands there, and isn't whole.
             lines.retain(|line| {
@@ -304,7 +267,7 @@ impl<K: Sink> Paths<K> {
         }
         lines.sort_by_key(|line| line.stamp);
         self.report.paths += 1;
-        self.report.cut += tally.cut;
+        self.report.cut += kept.cut;
         self.report.lost += lost;
         let path = Path {
             id: kept.path.raw(),
@@ -313,7 +276,7 @@ impl<K: Sink> Paths<K> {
             begun_unix: self.core.unix.wrapping_add(kept.begun),
             nanoseconds: kept.took,
             why: kept.why,
-            cut: tally.cut,
+            cut: kept.cut,
             lost,
             lines,
             seed: self.seed,

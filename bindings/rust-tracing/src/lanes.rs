@@ -2,13 +2,13 @@
 //! where somebody is in it, it takes the next one, since any CPU may record for a speculation. So there may be more threads than lanes, a thread
 //! may end at any time, and the consumer makes the services of threads that sleep.
 
-use crate::path_id::{PathId, SLOTS};
+use crate::path_id::PathId;
 use crate::sink::Why;
 use crate::values::Held;
 use dspec::{Cpu, Epid, Spoken, Traced};
 use std::cell::Cell;
 use std::sync::atomic::{AtomicU64, AtomicUsize, Ordering};
-use std::sync::{Arc, Mutex, MutexGuard, PoisonError, TryLockError};
+use std::sync::{Mutex, MutexGuard, PoisonError, TryLockError};
 
 thread_local! {
     static HOME: Cell<usize> = const { Cell::new(usize::MAX) };
@@ -20,14 +20,6 @@ static THREADS: AtomicUsize = AtomicUsize::new(0);
 const TRIES: usize = 32;
 const YIELDS: usize = 8;
 
-/// Of one path on one lane: the records that stood in its speculative buffer, and those that had no room there.
-#[derive(Clone, Copy, Debug, Default)]
-pub(crate) struct Tally {
-    pub(crate) path: PathId,
-    pub(crate) held: u64,
-    pub(crate) cut: u64,
-}
-
 /// A path that was committed, beside its records.
 #[derive(Debug)]
 pub(crate) struct Kept {
@@ -36,13 +28,15 @@ pub(crate) struct Kept {
     pub(crate) begun: u64,
     pub(crate) took: u64,
     pub(crate) why: Why,
-    /// How many records stand behind the commit.
-    pub(crate) behind: u64,
+    /// Records that stood in speculative buffers, and those that stand in the stream behind the commit.
+    pub(crate) records: u64,
+    /// Records that had no room in speculative buffers.
+    pub(crate) cut: u64,
     /// What failed, where the principal buffer had no room for it.
     pub(crate) held: Option<Box<Held>>,
 }
 
-/// A path that had no slot, and would have been kept.
+/// A path that went missing, and would have been kept.
 #[derive(Clone, Copy, Debug)]
 pub(crate) struct Wanted {
     pub(crate) callsite: u32,
@@ -50,43 +44,20 @@ pub(crate) struct Wanted {
     pub(crate) why: Why,
 }
 
+/// How many kept paths, and how many missed ones, a lane notes for the consumer. Where that is so far behind, a path is missed.
+pub(crate) const NOTED: usize = 4096;
+
 /// What the consumer fetches of a lane.
 #[derive(Debug, Default)]
 pub(crate) struct Told {
     pub(crate) kept: Vec<Kept>,
     pub(crate) wanted: Vec<Wanted>,
-    /// Of kept paths whose slot has another path now.
-    pub(crate) tallies: Vec<Tally>,
-}
-
-/// Of a slot, the last three paths that were kept, the latest first. The consumer visits every lane between two rounds of releases, and knows of a kept
-/// path at the second visit at the latest; so it has fetched what lanes know of it before a fourth path opens, and a lane that
-/// another path begins on finds here whether it has to tell of the one before.
-#[derive(Debug, Default)]
-pub(crate) struct LastKept([AtomicU64; 3]);
-
-impl LastKept {
-    /// Before the path is committed: a slot has one path at a time. Each is in its next place before it leaves the last, so that who reads
-    /// meanwhile, in the same order, misses none.
-    pub(crate) fn add(&self, path: PathId) {
-        for at in [2, 1] {
-            self.0[at].store(self.0[at - 1].load(Ordering::SeqCst), Ordering::SeqCst);
-        }
-        self.0[0].store(path.raw(), Ordering::SeqCst);
-    }
-
-    fn has(&self, path: PathId) -> bool {
-        self.0.iter().any(|kept| kept.load(Ordering::SeqCst) == path.raw())
-    }
 }
 
 #[derive(Debug)]
 pub(crate) struct Lane {
     /// One of each session; none when the sessions have ended.
     pub(crate) cpus: Vec<Cpu>,
-    /// By slot.
-    tallies: Box<[Tally]>,
-    last_kept: Arc<[LastKept]>,
     /// How many records it has traced.
     pub(crate) traced: u64,
     pub(crate) told: Told,
@@ -101,48 +72,16 @@ impl Lane {
         traced == Traced::Kept
     }
 
-    /// Offers a record to a path. False: it had no room, or the path isn't open.
-    pub(crate) fn speculate(&mut self, path: PathId, epid: u32, stamp: u64, values: &[u64]) -> bool {
-        let Some(cpu) = self.cpus.get_mut(path.session()) else { return false };
-        let spoken = cpu.speculate(path.speculation(), Epid::from_raw(epid), stamp, values).expect("a record of the layer's own schema");
-        if !matches!(spoken, Spoken::Kept | Spoken::Dropped) {
-            return false;
-        }
-        let tally = &mut self.tallies[path.place()];
-        if tally.path != path {
-            if tally.path != PathId::NONE && self.last_kept[path.place()].has(tally.path) {
-                self.told.tallies.push(*tally);
-            }
-            *tally = Tally { path, held: 0, cut: 0 };
-        }
-        if spoken == Spoken::Kept {
-            tally.held += 1;
-            true
-        } else {
-            tally.cut += 1;
-            false
-        }
-    }
-
-    /// Offers a record to a path, or traces it where there is none.
-    pub(crate) fn put(&mut self, path: PathId, epid: u32, stamp: u64, values: &[u64]) -> bool {
-        if path == PathId::NONE {
-            self.trace(0, epid, stamp, values)
-        } else {
-            self.speculate(path, epid, stamp, values)
-        }
+    /// Offers a record to a path.
+    pub(crate) fn speculate(&mut self, path: PathId, epid: u32, stamp: u64, values: &[u64]) -> Spoken {
+        let Some(cpu) = self.cpus.get_mut(path.session()) else { return Spoken::Void };
+        cpu.speculate(path.speculation(), Epid::from_raw(epid), stamp, values).expect("a record of the layer's own schema")
     }
 
     /// Its CPUs go home. What it still has to tell.
     pub(crate) fn end(&mut self) -> Told {
         self.cpus.clear();
         std::mem::take(&mut self.told)
-    }
-
-    /// The tally of a kept path, which is told once.
-    pub(crate) fn tally(&mut self, path: PathId) -> Option<Tally> {
-        let tally = &mut self.tallies[path.place()];
-        (tally.path == path).then(|| std::mem::take(tally))
     }
 }
 
@@ -162,12 +101,9 @@ pub(crate) struct Lanes {
 
 impl Lanes {
     /// Of each lane's CPUs, one of each session.
-    pub(crate) fn of(cpus: Vec<Vec<Cpu>>, last_kept: &Arc<[LastKept]>) -> Lanes {
-        let lane = |cpus: Vec<Cpu>| {
-            let tallies = vec![Tally::default(); SLOTS * cpus.len()].into();
-            Lane { cpus, tallies, last_kept: last_kept.clone(), traced: 0, told: Told::default() }
-        };
-        let places = cpus.into_iter().map(|cpus| Place(Mutex::new(lane(cpus)))).collect();
+    pub(crate) fn of(cpus: Vec<Vec<Cpu>>) -> Lanes {
+        let lane = |cpus| Place(Mutex::new(Lane { cpus, traced: 0, told: Told::default() }));
+        let places = cpus.into_iter().map(lane).collect();
         Lanes { places, late: AtomicU64::new(0), moved: AtomicU64::new(0) }
     }
 

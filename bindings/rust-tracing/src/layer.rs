@@ -1,11 +1,11 @@
 use crate::builder::{Builder, Paths};
 use crate::callsites::Callsites;
-use crate::lanes::{Kept, Lanes, LastKept, Wanted};
+use crate::lanes::{Kept, Lane, Lanes, Wanted, NOTED};
 use crate::path_id::{PathId, SLOTS};
 use crate::schema::{CLOSE, ENTER, EVENT, EXIT, OPEN, SET};
 use crate::sink::Why;
 use crate::values::{Gathering, Held};
-use dspec::{Cpu, Opening};
+use dspec::{Cpu, Opening, Spoken};
 use std::cell::{Cell, RefCell};
 use std::collections::HashMap;
 use std::sync::atomic::{AtomicBool, AtomicU32, AtomicU64, Ordering};
@@ -60,7 +60,11 @@ struct State {
 #[repr(align(128))]
 struct Slot {
     state: Mutex<State>,
+    /// Of the open path: how many spans it has, how many records stand in speculative buffers, and how many had no room there. All that
+    /// happens in a path happens before its own span closes.
     spans: AtomicU32,
+    records: AtomicU64,
+    cut: AtomicU64,
 }
 
 /// Locks among which the paths without a slot are divided.
@@ -71,7 +75,11 @@ pub(crate) struct Core {
     pub(crate) lanes: Lanes,
     pub(crate) callsites: Callsites,
     pub(crate) options: Builder,
+    /// Paths without a slot, and those that the consumer was too far behind for; and those of both that would have been kept.
     pub(crate) missed: AtomicU64,
+    pub(crate) wanted: AtomicU64,
+    /// Numbers of paths without a slot.
+    slotless_paths: AtomicU64,
     /// How many paths were opened since the consumer's last round.
     pub(crate) opened: AtomicU32,
     /// Whether the consumer takes a long rest.
@@ -82,7 +90,6 @@ pub(crate) struct Core {
     pub(crate) unix: u64,
     layer: u32,
     slots: Vec<Slot>,
-    last_kept: Arc<[LastKept]>,
     slotless: [Mutex<HashMap<PathId, State>>; PARTS],
     /// Numbers of spans in no path, and in paths without a slot.
     spans: AtomicU32,
@@ -148,7 +155,8 @@ impl Core {
     }
 
     fn open_without_slot(&self) -> PathId {
-        let path = PathId::without_slot(self.missed.fetch_add(1, Ordering::Relaxed) + 1);
+        self.missed.fetch_add(1, Ordering::Relaxed);
+        let path = PathId::without_slot(self.slotless_paths.fetch_add(1, Ordering::Relaxed) + 1);
         locked(self.part(path)).insert(path, State { path, ..State::default() });
         path
     }
@@ -194,12 +202,14 @@ impl Core {
         if !path.has_slot() {
             return self.spans.fetch_add(1, Ordering::Relaxed).wrapping_add(1).max(1);
         }
-        let spans = &self.slots[path.place()].spans;
+        let slot = &self.slots[path.place()];
         if root {
-            spans.store(1, Ordering::Relaxed);
+            slot.spans.store(1, Ordering::Relaxed);
+            slot.records.store(0, Ordering::Relaxed);
+            slot.cut.store(0, Ordering::Relaxed);
             return 1;
         }
-        spans.fetch_add(1, Ordering::Relaxed) + 1
+        slot.spans.fetch_add(1, Ordering::Relaxed) + 1
     }
 
     /// What has a path, and of no path what is asked for.
@@ -207,15 +217,33 @@ impl Core {
         path != PathId::NONE || self.options.outside
     }
 
+    /// Offers a record to a path, or traces it where there is none. False: it had no room, or the path isn't open.
+    #[inline]
+    fn offer(&self, lane: &mut Lane, path: PathId, epid: u32, stamp: u64, values: &[u64]) -> bool {
+        if path == PathId::NONE {
+            return lane.trace(0, epid, stamp, values);
+        }
+        let spoken = lane.speculate(path, epid, stamp, values);
+        if path.has_slot() {
+            let slot = &self.slots[path.place()];
+            match spoken {
+                Spoken::Kept => slot.records.fetch_add(1, Ordering::Relaxed),
+                Spoken::Dropped => slot.cut.fetch_add(1, Ordering::Relaxed),
+                _ => 0,
+            };
+        }
+        spoken == Spoken::Kept
+    }
+
     fn put(&self, path: PathId, epid: u32, stamp: u64, span: u32) {
         if self.records(path) {
-            self.lanes.on_one(|lane| lane.put(path, epid, stamp, &[path.raw(), span.into()]));
+            self.lanes.on_one(|lane| self.offer(lane, path, epid, stamp, &[path.raw(), span.into()]));
         }
     }
 
     fn put_values(&self, values: &crate::values::Values, place: Place, epid: u32, stamp: u64, parent: Option<u32>) {
         let Place { path, span, .. } = place;
-        self.lanes.on_one(|lane| values.put(path, epid, span, parent, |epid, row| lane.put(path, epid, stamp, row)));
+        self.lanes.on_one(|lane| values.put(path, epid, span, parent, |epid, row| self.offer(lane, path, epid, stamp, row)));
         if path == PathId::NONE {
             self.wake_from_rest();
         }
@@ -229,19 +257,25 @@ impl Core {
         why.slow = self.options.slow.is_some_and(|slow| took > nanoseconds(slow));
         let kept = why != Why::default();
         self.lanes.on_one(|lane| {
-            lane.put(path, CLOSE, stamp, &[path.raw(), span.into()]);
-            if !path.has_slot() {
-                if kept {
+            self.offer(lane, path, CLOSE, stamp, &[path.raw(), span.into()]);
+            let behind = lane.told.kept.len() >= NOTED;
+            if kept && (!path.has_slot() || behind) {
+                self.wanted.fetch_add(1, Ordering::Relaxed);
+                if lane.told.wanted.len() < NOTED {
                     lane.told.wanted.push(Wanted { callsite: here.callsite, took, why });
                 }
+            }
+            if !path.has_slot() {
                 return;
             }
             let Some(cpu) = lane.cpus.get_mut(path.session()) else { return };
-            if !kept {
+            if !kept || behind {
                 cpu.discard(path.speculation());
+                self.missed.fetch_add(u64::from(kept), Ordering::Relaxed);
                 return;
             }
-            self.last_kept[path.place()].add(path);
+            let slot = &self.slots[path.place()];
+            let (records, cut) = (slot.records.load(Ordering::Relaxed), slot.cut.load(Ordering::Relaxed));
             cpu.commit(path.speculation());
             // What failed stands behind the commit, where nothing of the path can have taken its room; the consumer gets it beside the
             // stream where that is full.
@@ -250,8 +284,8 @@ impl Core {
                 let session = path.session();
                 !held.values.put(path, EVENT, held.span, None, |epid, row| lane.trace(session, epid, held.stamp, row))
             });
-            let behind = lane.traced - before;
-            lane.told.kept.push(Kept { path, callsite: here.callsite, begun: here.begun, took, why, behind, held });
+            let records = records + lane.traced - before;
+            lane.told.kept.push(Kept { path, callsite: here.callsite, begun: here.begun, took, why, records, cut, held });
         });
         if kept {
             self.wake_from_rest();
@@ -284,18 +318,18 @@ impl DspecLayer {
     /// Of the CPUs of each lane, one of each session.
     pub(crate) fn of(cpus: Vec<Vec<Cpu>>, options: Builder) -> DspecLayer {
         let sessions = cpus.first().map_or(0, Vec::len);
-        let last_kept: Arc<[LastKept]> = (0..SLOTS * sessions).map(|_| LastKept::default()).collect();
         let mut core = Core {
-            lanes: Lanes::of(cpus, &last_kept),
+            lanes: Lanes::of(cpus),
             callsites: Callsites::new(),
             missed: AtomicU64::new(0),
+            wanted: AtomicU64::new(0),
+            slotless_paths: AtomicU64::new(0),
             opened: AtomicU32::new(0),
             idle: AtomicBool::new(false),
             consumer: OnceLock::new(),
             unix: 0,
             layer: LAYERS.fetch_add(1, Ordering::Relaxed),
             slots: (0..SLOTS * sessions).map(|_| Slot::default()).collect(),
-            last_kept,
             slotless: Default::default(),
             spans: AtomicU32::new(0),
             session: AtomicU32::new(0),

@@ -4,10 +4,12 @@ mod common;
 
 use common::{finished, kept, made, request};
 use std::fmt;
+use std::io;
+use std::sync::mpsc::{channel, Receiver};
 use std::thread;
 use std::time::Duration;
 use tracing::{debug, debug_span, error, info, info_span, trace, Dispatch};
-use tracing_dspec::{each, keep, BuildError, Builder, Kind, Value};
+use tracing_dspec::{each, keep, BuildError, Builder, Kind, Missed, Path, Sink, Value};
 use tracing_subscriber::filter::{EnvFilter, LevelFilter};
 use tracing_subscriber::prelude::*;
 
@@ -134,7 +136,7 @@ fn enter_and_exit() {
 #[test]
 fn a_filter_a_layer() {
     let (layer, guard) = Builder::new().build(common::All::default()).unwrap();
-    let fmt = tracing_subscriber::fmt::layer().with_writer(std::io::sink).with_filter(LevelFilter::ERROR);
+    let fmt = tracing_subscriber::fmt::layer().with_writer(io::sink).with_filter(LevelFilter::ERROR);
     let subscriber = tracing_subscriber::registry().with(fmt).with(layer.with_filter(LevelFilter::DEBUG));
     tracing::subscriber::with_default(subscriber, || {
         let _path = info_span!("request", request = 1u64).entered();
@@ -258,13 +260,47 @@ fn a_sink_that_fails_is_told() {
 
 struct Full;
 
-impl std::io::Write for Full {
-    fn write(&mut self, _: &[u8]) -> std::io::Result<usize> {
-        Err(std::io::Error::other("no room"))
+impl io::Write for Full {
+    fn write(&mut self, _: &[u8]) -> io::Result<usize> {
+        Err(io::Error::other("no room"))
     }
-    fn flush(&mut self) -> std::io::Result<()> {
+    fn flush(&mut self) -> io::Result<()> {
         Ok(())
     }
+}
+
+/// Gets nothing done before its sender is dropped.
+struct Still {
+    go: Receiver<()>,
+    all: common::All,
+}
+
+impl Sink for Still {
+    fn path(&mut self, path: &Path) -> io::Result<()> {
+        // The sender sends nothing.
+        let _ = self.go.recv();
+        self.all.path(path)
+    }
+    fn missed(&mut self, missed: &Missed) -> io::Result<()> {
+        self.all.missed(missed)
+    }
+}
+
+/// Memory doesn't grow for a sink that stands still: the paths that it is too far behind for are missed, and told.
+#[test]
+fn a_sink_that_stands_still() {
+    const FAILED: usize = 6000;
+    let (send, go) = channel::<()>();
+    let (layer, guard) = Builder::new().lanes(1).build(Still { go, all: common::All::default() }).unwrap();
+    tracing::subscriber::with_default(tracing_subscriber::registry().with(layer), || {
+        (0..FAILED).for_each(|_| info_span!("request").in_scope(|| error!("bad")));
+    });
+    drop(send);
+    let (sink, report) = guard.finish();
+    assert!(report.balances(), "{report:?}");
+    let (kept, missed) = (sink.all.paths.len(), sink.all.missed.len());
+    assert_eq!((kept + missed, missed as u64), (FAILED, report.wanted));
+    assert!(missed > 0 && sink.all.paths.iter().all(|path| path.events().any(|line| line.title() == "bad")));
 }
 
 #[test]
