@@ -116,8 +116,8 @@ fn main() -> Result<(), Box<dyn Error>> {
     let words: Vec<String> = env::args().skip(1).collect();
     let way = words.first().ok_or("cost WAY [THREADS ROUNDS PATHS]")?.as_str();
     let threads: usize = words.get(1).map_or(Ok(1), |word| word.parse())?;
-    let rounds: usize = words.get(2).map_or(Ok(30), |word| word.parse())?;
-    let paths: u64 = words.get(3).map_or(Ok(2000), |word| word.parse())?;
+    let rounds: usize = words.get(2).map_or(Ok(8), |word| word.parse())?;
+    let paths: u64 = words.get(3).map_or(Ok(20_000), |word| word.parse())?;
     let (kind, noclock) = way.strip_suffix("-noclock").map_or((way, false), |kind| (kind, true));
     let fails: fn(u64) -> bool = match kind {
         "dspec-all" => |_| true,
