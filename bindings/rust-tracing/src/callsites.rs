@@ -1,0 +1,127 @@
+//! The callsites that were seen, by number, and the literals of each. Both only grow, up to a bound, and are read without a lock.
+//!
+//! A literal is a text that stands in the program itself: in a part of the process that is mapped from the file of a program or of a library
+//! and that nobody can write to. Only such a text gets into the table, so no text that a program made while it ran stays there.
+
+use std::fs;
+use std::ops::Range;
+use std::sync::OnceLock;
+use tracing_core::Metadata;
+
+/// How many callsites can be told apart; a power of two.
+const CALLSITES: usize = 4096;
+
+/// How many literals a callsite may have before they are written out.
+const LITERALS: usize = 8;
+
+/// The number of a callsite for which there was no room.
+pub(crate) const NO_CALLSITE: u32 = u32::MAX;
+
+/// A text of the program: where it stands there, and the same text.
+#[derive(Debug)]
+struct Literal {
+    at: usize,
+    text: Box<str>,
+}
+
+#[derive(Debug)]
+pub(crate) struct Callsite {
+    pub(crate) metadata: &'static Metadata<'static>,
+    literals: [OnceLock<Literal>; LITERALS],
+}
+
+#[derive(Debug)]
+pub(crate) struct Callsites {
+    callsites: Box<[OnceLock<Box<Callsite>>]>,
+    constants: Vec<Range<usize>>,
+}
+
+impl Callsites {
+    pub(crate) fn new() -> Callsites {
+        Callsites { callsites: (0..CALLSITES).map(|_| OnceLock::new()).collect(), constants: constants() }
+    }
+
+    /// The number of a callsite: its place in a table without removals.
+    pub(crate) fn number(&self, metadata: &'static Metadata<'static>) -> u32 {
+        let address = std::ptr::from_ref(metadata) as usize;
+        let mut at = (address >> 4).wrapping_mul(0x9e37_79b9_7f4a_7c15) >> 40;
+        for _ in 0..CALLSITES {
+            at &= CALLSITES - 1;
+            let found = self.callsites[at].get_or_init(|| Box::new(Callsite { metadata, literals: Default::default() }));
+            if std::ptr::eq(found.metadata, metadata) {
+                return u32::try_from(at).unwrap_or(NO_CALLSITE);
+            }
+            at += 1;
+        }
+        NO_CALLSITE
+    }
+
+    pub(crate) fn callsite(&self, number: u32) -> Option<&Callsite> {
+        self.callsites.get(number as usize)?.get().map(|callsite| &**callsite)
+    }
+
+    pub(crate) fn metadata(&self, number: u32) -> Option<&'static Metadata<'static>> {
+        self.callsite(number).map(|callsite| callsite.metadata)
+    }
+
+    /// The number of a literal among those of its callsite, which learns it where it has room; none of a text that the program made.
+    pub(crate) fn literal(&self, callsite: u32, text: &str) -> Option<u64> {
+        let at = text.as_ptr() as usize;
+        for (number, place) in (0..).zip(&self.callsite(callsite)?.literals) {
+            if place.get().is_none() && self.constants.iter().any(|part| part.start <= at && at + text.len() <= part.end) {
+                let _ = place.set(Literal { at, text: text.into() });
+            }
+            let known = place.get()?;
+            if known.at == at && known.text.len() == text.len() {
+                return Some(number);
+            }
+        }
+        None
+    }
+
+    pub(crate) fn literal_of(&self, callsite: u32, number: u64) -> Option<&str> {
+        let place = self.callsite(callsite)?.literals.get(usize::try_from(number).ok()?)?;
+        place.get().map(|known| &*known.text)
+    }
+
+    /// All texts that are in the table.
+    #[cfg(test)]
+    pub(crate) fn texts(&self) -> impl Iterator<Item = &str> {
+        let callsites = self.callsites.iter().filter_map(OnceLock::get);
+        callsites.flat_map(|callsite| &callsite.literals).filter_map(OnceLock::get).map(|known| &*known.text)
+    }
+}
+
+/// The parts of this process that are mapped from files of programs and libraries and that can't be written to. None where the system has
+/// no /proc.
+fn constants() -> Vec<Range<usize>> {
+    constants_of(&fs::read_to_string("/proc/self/maps").unwrap_or_default())
+}
+
+fn constants_of(maps: &str) -> Vec<Range<usize>> {
+    // A line: FROM-TO PERMISSIONS OFFSET DEVICE INODE FILE.
+    let lines = maps.lines().filter_map(|line| {
+        let mut words = line.split_whitespace();
+        let (from, to) = words.next()?.split_once('-')?;
+        let permissions = words.next()?;
+        let file = words.nth(3)?;
+        let part = usize::from_str_radix(from, 16).ok()?..usize::from_str_radix(to, 16).ok()?;
+        file.starts_with('/').then_some((part, permissions, file))
+    });
+    let lines: Vec<_> = lines.collect();
+    let runs = |file: &str| lines.iter().any(|line| line.2 == file && line.1.contains('x'));
+    let kept = lines.iter().filter(|line| line.1.starts_with('r') && !line.1.contains('w') && runs(line.2));
+    kept.map(|line| line.0.clone()).collect()
+}
+
+#[cfg(test)]
+mod tests {
+    use super::*;
+
+    #[test]
+    fn constants_are_of_programs_alone() {
+        let maps = "1000-2000 r--p 0 08:01 1 /bin/it\n2000-3000 r-xp 0 08:01 1 /bin/it\n3000-4000 rw-p 0 08:01 1 /bin/it\n\
+                    5000-6000 r--p 0 08:01 2 /var/data\n7000-8000 rw-p 0 00:00 0 [heap]\n9000-a000 r--p 0 00:00 0\n";
+        assert_eq!(constants_of(maps), [0x1000..0x2000, 0x2000..0x3000]);
+    }
+}

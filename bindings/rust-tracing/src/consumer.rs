@@ -1,0 +1,468 @@
+//! The consumer's thread: it makes the services of all lanes, takes their batches, and puts paths together.
+
+use crate::callsites::NO_CALLSITE;
+use crate::lanes::{Kept, Told};
+use crate::layer::Core;
+use crate::otlp::mixed;
+use crate::path_id::PathId;
+use crate::schema::{BOOL, CLOSE, ENTER, EVENT, F64, I64, LITERAL, MORE, OPEN, SET, TEXT, U64};
+use crate::sink::{Kind, Line, Missed, Path, Sink, Value};
+use crate::values::Held;
+use dspec::{Batch, Consumer, Record, Session};
+use std::collections::{HashMap, VecDeque};
+use std::hash::{BuildHasher, RandomState};
+use std::io;
+use std::sync::atomic::{AtomicBool, Ordering};
+use std::sync::Arc;
+use std::thread::{self, JoinHandle};
+use tracing_core::{dispatcher, Dispatch};
+
+/// The counts at the end.
+#[derive(Clone, Debug, Default)]
+pub struct Report {
+    /// Of all lanes and sessions together. Each record that was offered stands in exactly one of the seven counts behind `offered`.
+    pub sum: dspec::Report,
+    /// Of each lane, session by session.
+    pub lanes: Vec<dspec::Report>,
+    /// Records that the consumer got: those of kept paths and those of none. It is `sum.accepted`.
+    pub taken: u64,
+    /// Paths that were handed to the sink.
+    pub paths: u64,
+    /// Paths that went without a slot, or, where they would have been kept, for which the consumer was too far behind.
+    pub missed: u64,
+    /// Those of them that would have been kept.
+    pub wanted: u64,
+    /// Records of kept paths that had no room among their path's bytes.
+    pub cut: u64,
+    /// Records of kept paths that had no room in the stream. It is `sum.lost`.
+    pub lost: u64,
+    /// Records that came without their path: 0 but for a fault of the layer.
+    pub stray: u64,
+    /// Calls that came when the sessions had ended.
+    pub late: u64,
+    /// How often a thread found its lane taken, and went to another.
+    pub moved: u64,
+    /// How many rounds the consumer made.
+    pub rounds: u64,
+    /// Calls of the sink that failed, and why the first of them did.
+    pub failures: u64,
+    /// Why the first of them did.
+    pub failure: Option<String>,
+}
+
+impl Report {
+    /// Whether each record that was offered is accounted for: the seven counts make up `offered`, what was accepted came to the consumer, what was lost
+    /// was told with its path, and nothing came without its path.
+    #[must_use]
+    pub fn balances(&self) -> bool {
+        let sum = &self.sum;
+        let fates = sum.accepted + sum.dropped + sum.specdropped + sum.lost + sum.discarded + sum.void + sum.held;
+        sum.offered == fates && sum.accepted == self.taken && sum.lost == self.lost && self.stray == 0
+    }
+}
+
+/// Ends the layer when it is dropped, or by [`Guard::finish`]: what is recorded later is counted as late, and lost.
+#[derive(Debug)]
+#[must_use = "the layer ends where its guard is dropped"]
+pub struct Guard<K: Sink> {
+    stop: Arc<AtomicBool>,
+    thread: Option<JoinHandle<(K, Report)>>,
+}
+
+impl<K: Sink> Guard<K> {
+    /// Ends the layer, and gives back the sink, which has all that was kept. Paths that are open are thrown away.
+    ///
+    /// # Panics
+    ///
+    /// Where the sink panicked.
+    #[allow(clippy::must_use_candidate)] // what is ended need not be looked at
+    pub fn finish(mut self) -> (K, Report) {
+        self.end().expect("the thread is joined once")
+    }
+
+    fn end(&mut self) -> Option<(K, Report)> {
+        self.stop.store(true, Ordering::Release);
+        let thread = self.thread.take()?;
+        thread.thread().unpark();
+        match thread.join() {
+            Ok(told) => Some(told),
+            Err(_) if thread::panicking() => None,
+            Err(fault) => std::panic::resume_unwind(fault),
+        }
+    }
+}
+
+impl<K: Sink> Drop for Guard<K> {
+    fn drop(&mut self) {
+        self.end();
+    }
+}
+
+pub(crate) fn start<K: Sink + 'static>(mut sessions: Vec<Session>, core: Arc<Core>, sink: K) -> Result<Guard<K>, crate::BuildError> {
+    let consumers = sessions.iter_mut().map(Session::consumer).collect::<Result<_, _>>()?;
+    let stop = Arc::new(AtomicBool::new(false));
+    let told = stop.clone();
+    let run = move || {
+        let visits = vec![0; core.lanes.count()];
+        // The thread is set once, as there is one consumer.
+        let _ = core.consumer.set(thread::current());
+        let seed = mixed(RandomState::new().hash_one(core.unix));
+        let paths =
+            Paths { core, sink, lines: HashMap::new(), ended: VecDeque::new(), visits, seed, handed: false, report: Report::default() };
+        // What a sink traces isn't traced.
+        dispatcher::with_default(&Dispatch::none(), || paths.run(sessions, consumers, &told))
+    };
+    let thread = thread::Builder::new().name("dspec".to_owned()).spawn(run)?;
+    Ok(Guard { stop, thread: Some(thread) })
+}
+
+/// A path that was committed, and how often each lane had been visited when the consumer learnt of it.
+struct Ended {
+    kept: Kept,
+    seen: Vec<u64>,
+}
+
+/// What came of a path.
+#[derive(Default)]
+struct Came {
+    lines: Vec<Line>,
+    records: u64,
+}
+
+struct Paths<K> {
+    core: Arc<Core>,
+    sink: K,
+    /// Of paths that were committed and not handed on yet.
+    lines: HashMap<PathId, Came>,
+    ended: VecDeque<Ended>,
+    /// How often each lane was visited.
+    visits: Vec<u64>,
+    seed: u64,
+    /// Whether the sink got something since its last flush.
+    handed: bool,
+    report: Report,
+}
+
+/// A lane's part of a path is copied by the service behind the commit, and the buffer that it is copied to is sealed by the next: with
+/// the visit that the consumer may be in when it learns of the commit, a path is whole three visits behind.
+const VISITS: u64 = 3;
+
+impl<K: Sink> Paths<K> {
+    fn run(mut self, sessions: Vec<Session>, mut consumers: Vec<Consumer>, stop: &AtomicBool) -> (K, Report) {
+        let (shortest, longest) = (self.core.options.pause, self.core.options.longest_pause);
+        let mut rest = shortest;
+        while !stop.load(Ordering::Acquire) {
+            self.core.idle.store(false, Ordering::Release);
+            let busy = self.round(&mut consumers);
+            rest = if busy { shortest } else { (2 * rest).min(longest) };
+            self.core.idle.store(rest > shortest, Ordering::Release);
+            thread::park_timeout(rest);
+        }
+        let lanes = self.core.lanes.count();
+        let core = self.core.clone();
+        let told: Vec<_> = (0..lanes).map(|number| core.lanes.awaited(number).end()).collect();
+        for told in told {
+            self.told(told);
+        }
+        drop(consumers);
+        let closed: Vec<_> = sessions.into_iter().map(|session| session.finish().unwrap_or_else(|fault| panic!("{fault}"))).collect();
+        for closed in &closed {
+            for lane in 0..closed.cpus() {
+                let rest = closed.rest(lane).expect("a lane of the session");
+                rest.untaken.iter().for_each(|batch| self.batch(batch));
+                self.batch(&rest.last);
+                let report = closed.report(lane).expect("a lane of the session");
+                add(&mut self.report.sum, &report);
+                self.report.lanes.push(report);
+            }
+        }
+        self.hand_on(true);
+        let answer = self.sink.end();
+        self.answered(answer);
+        self.report.stray = self.lines.values().map(|came| came.records).sum();
+        self.report.wanted = self.core.wanted.load(Ordering::Relaxed);
+        self.report.missed = self.core.missed.load(Ordering::Relaxed);
+        self.report.late = self.core.lanes.late.load(Ordering::Relaxed);
+        self.report.moved = self.core.lanes.moved.load(Ordering::Relaxed);
+        (self.sink, self.report)
+    }
+
+    /// Whether there was something to do.
+    fn round(&mut self, consumers: &mut [Consumer]) -> bool {
+        let taken = self.report.taken;
+        let mut busy = self.core.opened.swap(0, Ordering::Relaxed) > 0;
+        for number in 0..self.core.lanes.count() {
+            let lane_number = u32::try_from(number).expect("64 lanes at most");
+            for consumer in &mut *consumers {
+                consumer.ask(lane_number).expect("a lane of the session");
+            }
+            let core = self.core.clone();
+            let Some(mut lane) = core.lanes.tried(number) else {
+                busy = true;
+                continue;
+            };
+            for cpu in &mut lane.cpus {
+                cpu.service();
+            }
+            let told = std::mem::take(&mut lane.told);
+            drop(lane);
+            self.told(told);
+            self.visits[number] += 1;
+            for consumer in &mut *consumers {
+                if let Some(batch) = consumer.take(lane_number).expect("a lane of the session") {
+                    self.batch(&batch);
+                }
+            }
+        }
+        for consumer in consumers {
+            busy |= consumer.clean() > 0;
+        }
+        self.hand_on(false);
+        if std::mem::take(&mut self.handed) {
+            let answer = self.sink.flush();
+            self.answered(answer);
+        }
+        self.report.rounds += 1;
+        busy || !self.ended.is_empty() || self.report.taken > taken
+    }
+
+    fn answered(&mut self, answer: io::Result<()>) {
+        self.handed = true;
+        if let Err(error) = answer {
+            self.report.failures += 1;
+            self.report.failure.get_or_insert_with(|| error.to_string());
+        }
+    }
+
+    fn told(&mut self, told: Told) {
+        for kept in told.kept {
+            self.ended.push_back(Ended { kept, seen: self.visits.clone() });
+        }
+        for wanted in told.wanted {
+            let missed = Missed { metadata: self.core.callsites.metadata(wanted.callsite), nanoseconds: wanted.took, why: wanted.why };
+            let answer = self.sink.missed(&missed);
+            self.answered(answer);
+        }
+    }
+
+    /// Hands on the paths of which all lanes' parts have come, in the order in which they ended.
+    fn hand_on(&mut self, all: bool) {
+        let whole = |ended: &Ended, visits: &[u64]| ended.seen.iter().zip(visits).all(|(seen, now)| *now >= seen + VISITS);
+        while self.ended.front().is_some_and(|ended| all || whole(ended, &self.visits)) {
+            if let Some(Ended { kept, .. }) = self.ended.pop_front() {
+                self.path(kept);
+            }
+        }
+    }
+
+    fn path(&mut self, kept: Kept) {
+        let Came { mut lines, records } = self.lines.remove(&kept.path).unwrap_or_default();
+        let lost = kept.records.saturating_sub(records);
+        if let Some(held) = kept.held {
+            // What of it had room in the stream stands there, and isn't whole.
+            lines.retain(|line| {
+                !(line.kind == Kind::Event && line.stamp == held.stamp && line.span == held.span && is_of(line, &held, &self.core))
+            });
+            lines.push(line_of_held(&self.core, &held));
+        }
+        lines.sort_by_key(|line| line.stamp);
+        self.report.paths += 1;
+        self.report.cut += kept.cut;
+        self.report.lost += lost;
+        let path = Path {
+            id: kept.path.raw(),
+            metadata: self.core.callsites.metadata(kept.callsite),
+            begun: kept.begun,
+            begun_unix: self.core.unix.wrapping_add(kept.begun),
+            nanoseconds: kept.took,
+            why: kept.why,
+            cut: kept.cut,
+            lost,
+            lines,
+            seed: self.seed,
+        };
+        let answer = self.sink.path(&path);
+        self.answered(answer);
+    }
+
+    fn batch(&mut self, batch: &Batch<'_>) {
+        let mut last: Option<Reading> = None;
+        for record in batch.records() {
+            self.report.taken += 1;
+            match record.epid.raw() {
+                MORE..TEXT => {
+                    if let Some(reading) = &mut last {
+                        reading.more(&self.core, record.values());
+                    }
+                }
+                TEXT.. => {
+                    if let Some(reading) = &mut last {
+                        reading.text(record.values());
+                    }
+                }
+                _ => {
+                    self.end_line(last.take());
+                    last = Some(Reading::of(&self.core, batch.cpu(), &record));
+                }
+            }
+        }
+        self.end_line(last);
+    }
+
+    fn end_line(&mut self, last: Option<Reading>) {
+        let Some(reading) = last else { return };
+        let (path, records) = (reading.path, reading.records);
+        let line = reading.end();
+        if path == PathId::NONE {
+            let answer = self.sink.outside(&line);
+            self.answered(answer);
+        } else {
+            let came = self.lines.entry(path).or_default();
+            came.lines.push(line);
+            came.records += records;
+        }
+    }
+}
+
+fn is_of(line: &Line, held: &Held, core: &Core) -> bool {
+    match (line.metadata, core.callsites.metadata(held.values.callsite)) {
+        (Some(one), Some(other)) => std::ptr::eq(one, other),
+        (one, other) => one.is_none() && other.is_none(),
+    }
+}
+
+fn line_of_held(core: &Core, held: &Held) -> Line {
+    let metadata = core.callsites.metadata(held.values.callsite);
+    let mut line = Line { kind: Kind::Event, stamp: held.stamp, lane: 0, span: held.span, parent: 0, metadata, values: Vec::new() };
+    for (at, kind, value) in held.values.each() {
+        if let Some(value) = value_of(core, held.values.callsite, kind, value) {
+            let value = match value {
+                Value::Text(_, length) if kind != LITERAL => Value::Text(whole_text(held.values.text(at)), length),
+                value => value,
+            };
+            line.values.push((name_of(&line, at), value));
+        }
+    }
+    line
+}
+
+/// A value of a type, whose text, if it stands behind, is still to come; none of a field without one.
+fn value_of(core: &Core, callsite: u32, kind: u64, value: u64) -> Option<Value> {
+    Some(match kind {
+        0 => return None,
+        U64 => Value::U64(value),
+        I64 => Value::I64(value.cast_signed()),
+        BOOL => Value::Bool(value != 0),
+        F64 => Value::F64(f64::from_bits(value)),
+        LITERAL => {
+            let text = core.callsites.literal_of(callsite, value).unwrap_or("?");
+            Value::Text(text.to_owned(), text.len())
+        }
+        _ => Value::Text(String::new(), usize::try_from(value).unwrap_or(usize::MAX)),
+    })
+}
+
+fn name_of(line: &Line, field: usize) -> &'static str {
+    line.metadata.and_then(|metadata| metadata.fields().iter().nth(field)).map_or("?", |field| field.name())
+}
+
+fn whole_text(bytes: &[u8]) -> String {
+    String::from_utf8_lossy(bytes).into_owned()
+}
+
+/// A line of which something may still come.
+struct Reading {
+    path: PathId,
+    line: Line,
+    callsite: u32,
+    /// Fields of which the values have come.
+    fields: usize,
+    /// Of texts behind: the field's number, where its value stands in the line, and what has come.
+    texts: Vec<(usize, usize, Vec<u8>)>,
+    /// How many records it is of.
+    records: u64,
+}
+
+impl Reading {
+    fn of(core: &Core, cpu: u32, record: &Record) -> Reading {
+        let values = record.values();
+        let (kind, front) = match record.epid.raw() {
+            EVENT..SET => (Kind::Event, 3),
+            SET..OPEN => (Kind::Set, 3),
+            OPEN..CLOSE => (Kind::Open, 4),
+            CLOSE => (Kind::Close, 2),
+            ENTER => (Kind::Enter, 2),
+            _ => (Kind::Exit, 2),
+        };
+        let number = |at: usize| u32::try_from(values[at] & 0xffff_ffff).unwrap_or(0);
+        let parent = if kind == Kind::Open { number(3) } else { 0 };
+        let span = if front == 2 { number(1) } else { number(2) };
+        let (path, callsite) = (PathId::from_raw(values[0]), if front == 2 { NO_CALLSITE } else { number(1) });
+        let metadata = core.callsites.metadata(callsite);
+        let line = Line { kind, stamp: record.stamp, lane: cpu, span, parent, metadata, values: Vec::new() };
+        let mut reading = Reading { path, line, callsite, fields: 0, texts: Vec::new(), records: 1 };
+        if front > 2 {
+            reading.values(core, &values[front..], values[1] >> 32);
+        }
+        reading
+    }
+
+    fn values(&mut self, core: &Core, values: &[u64], types: u64) {
+        for (at, &value) in values.iter().enumerate() {
+            let kind = types >> (4 * at) & 15;
+            let field = self.fields + at;
+            if let Some(known) = value_of(core, self.callsite, kind, value) {
+                if matches!(known, Value::Text(..)) && kind != LITERAL {
+                    self.texts.push((field, self.line.values.len(), Vec::new()));
+                }
+                self.line.values.push((name_of(&self.line, field), known));
+            }
+        }
+        self.fields += values.len();
+    }
+
+    fn more(&mut self, core: &Core, values: &[u64]) {
+        self.records += 1;
+        if let Some((types, values)) = values.split_last() {
+            self.values(core, values, *types);
+        }
+    }
+
+    fn text(&mut self, values: &[u64]) {
+        self.records += 1;
+        if let Some((_, _, bytes)) = self.texts.iter_mut().find(|text| text.0 as u64 == values[0]) {
+            values[1..].iter().for_each(|word| bytes.extend(word.to_le_bytes()));
+        }
+    }
+
+    /// The texts go to their places, without the zeros that fill up their last word.
+    fn end(mut self) -> Line {
+        for (_, at, mut bytes) in self.texts {
+            if let Value::Text(text, length) = &mut self.line.values[at].1 {
+                bytes.truncate(*length);
+                if bytes.len() < *length {
+                    let filled = bytes.iter().rev().take(7).take_while(|&&byte| byte == 0).count();
+                    bytes.truncate(bytes.len() - filled);
+                }
+                *text = whole_text(&bytes);
+            }
+        }
+        self.line
+    }
+}
+
+fn add(sum: &mut dspec::Report, one: &dspec::Report) {
+    sum.offered += one.offered;
+    sum.accepted += one.accepted;
+    sum.dropped += one.dropped;
+    sum.specdropped += one.specdropped;
+    sum.lost += one.lost;
+    sum.discarded += one.discarded;
+    sum.void += one.void;
+    sum.held += one.held;
+    sum.drops += one.drops;
+    sum.unavailable += one.unavailable;
+    sum.busy += one.busy;
+    sum.stopped += one.stopped;
+    sum.worn += one.worn;
+}

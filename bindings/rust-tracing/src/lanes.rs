@@ -1,0 +1,167 @@
+//! The lanes: each has one CPU of every session, behind a lock that no traced thread waits for. A thread has a lane that it tries first;
+//! where somebody is in it, it takes the next one, since any CPU may record for a speculation. So there may be more threads than lanes, a thread
+//! may end at any time, and the consumer makes the services of threads that sleep.
+
+use crate::path_id::PathId;
+use crate::sink::Why;
+use crate::values::Held;
+use dspec::{Cpu, Epid, Spoken, Traced};
+use std::cell::Cell;
+use std::sync::atomic::{AtomicU64, AtomicUsize, Ordering};
+use std::sync::{Mutex, MutexGuard, PoisonError, TryLockError};
+
+thread_local! {
+    static HOME: Cell<usize> = const { Cell::new(usize::MAX) };
+}
+
+static THREADS: AtomicUsize = AtomicUsize::new(0);
+
+/// How often the consumer tries a lane in one round: so often at once, and so often behind a yield.
+const TRIES: usize = 32;
+const YIELDS: usize = 8;
+
+/// A path that was committed, beside its records.
+#[derive(Debug)]
+pub(crate) struct Kept {
+    pub(crate) path: PathId,
+    pub(crate) callsite: u32,
+    pub(crate) begun: u64,
+    pub(crate) took: u64,
+    pub(crate) why: Why,
+    /// Records that stood in speculative buffers, and those that stand in the stream behind the commit.
+    pub(crate) records: u64,
+    /// Records that had no room in speculative buffers.
+    pub(crate) cut: u64,
+    /// What failed, where the principal buffer had no room for it.
+    pub(crate) held: Option<Box<Held>>,
+}
+
+/// A path that went missing, and would have been kept.
+#[derive(Clone, Copy, Debug)]
+pub(crate) struct Wanted {
+    pub(crate) callsite: u32,
+    pub(crate) took: u64,
+    pub(crate) why: Why,
+}
+
+/// How many kept paths, and how many missed ones, a lane notes for the consumer. Where that is so far behind, a path is missed.
+pub(crate) const NOTED: usize = 4096;
+
+/// What the consumer fetches of a lane.
+#[derive(Debug, Default)]
+pub(crate) struct Told {
+    pub(crate) kept: Vec<Kept>,
+    pub(crate) wanted: Vec<Wanted>,
+}
+
+#[derive(Debug)]
+pub(crate) struct Lane {
+    /// One of each session; none when the sessions have ended.
+    pub(crate) cpus: Vec<Cpu>,
+    /// How many records it has traced.
+    pub(crate) traced: u64,
+    pub(crate) told: Told,
+}
+
+impl Lane {
+    /// Traces a record to the stream of a session. False: it had no room.
+    pub(crate) fn trace(&mut self, session: usize, epid: u32, stamp: u64, values: &[u64]) -> bool {
+        let Some(cpu) = self.cpus.get_mut(session) else { return false };
+        let traced = cpu.trace(Epid::from_raw(epid), stamp, values).expect("a record of the layer's own schema");
+        self.traced += u64::from(traced == Traced::Kept);
+        traced == Traced::Kept
+    }
+
+    /// Offers a record to a path.
+    pub(crate) fn speculate(&mut self, path: PathId, epid: u32, stamp: u64, values: &[u64]) -> Spoken {
+        let Some(cpu) = self.cpus.get_mut(path.session()) else { return Spoken::Void };
+        cpu.speculate(path.speculation(), Epid::from_raw(epid), stamp, values).expect("a record of the layer's own schema")
+    }
+
+    /// Its CPUs go home. What it still has to tell.
+    pub(crate) fn end(&mut self) -> Told {
+        self.cpus.clear();
+        std::mem::take(&mut self.told)
+    }
+}
+
+/// On cache lines of its own.
+#[derive(Debug)]
+#[repr(align(128))]
+struct Place(Mutex<Lane>);
+
+#[derive(Debug)]
+pub(crate) struct Lanes {
+    places: Vec<Place>,
+    /// Calls that came when the sessions had ended.
+    pub(crate) late: AtomicU64,
+    /// How often a thread found its lane taken.
+    pub(crate) moved: AtomicU64,
+}
+
+impl Lanes {
+    /// Of each lane's CPUs, one of each session.
+    pub(crate) fn of(cpus: Vec<Vec<Cpu>>) -> Lanes {
+        let lane = |cpus| Place(Mutex::new(Lane { cpus, traced: 0, told: Told::default() }));
+        let places = cpus.into_iter().map(lane).collect();
+        Lanes { places, late: AtomicU64::new(0), moved: AtomicU64::new(0) }
+    }
+
+    pub(crate) fn count(&self) -> usize {
+        self.places.len()
+    }
+
+    /// Does something on a lane that nobody is in. None: the sessions have ended.
+    #[inline]
+    pub(crate) fn on_one<R>(&self, work: impl FnOnce(&mut Lane) -> R) -> Option<R> {
+        let home = HOME.with(|home| {
+            if home.get() == usize::MAX {
+                home.set(THREADS.fetch_add(1, Ordering::Relaxed));
+            }
+            home.get()
+        });
+        let first = home % self.places.len();
+        let mut at = first;
+        loop {
+            if let Some(mut lane) = self.attempt(at) {
+                if lane.cpus.is_empty() {
+                    self.late.fetch_add(1, Ordering::Relaxed);
+                    return None;
+                }
+                return Some(work(&mut lane));
+            }
+            at = (at + 1) % self.places.len();
+            self.moved.fetch_add(1, Ordering::Relaxed);
+            if at == first {
+                std::thread::yield_now();
+            }
+        }
+    }
+
+    fn attempt(&self, number: usize) -> Option<MutexGuard<'_, Lane>> {
+        match self.places[number].0.try_lock() {
+            Ok(lane) => Some(lane),
+            Err(TryLockError::Poisoned(lane)) => Some(lane.into_inner()),
+            Err(TryLockError::WouldBlock) => None,
+        }
+    }
+
+    /// A lane, for the consumer's round; none where somebody stays in it.
+    pub(crate) fn tried(&self, number: usize) -> Option<MutexGuard<'_, Lane>> {
+        for _ in 0..YIELDS {
+            for _ in 0..TRIES {
+                if let Some(lane) = self.attempt(number) {
+                    return Some(lane);
+                }
+                std::hint::spin_loop();
+            }
+            std::thread::yield_now();
+        }
+        None
+    }
+
+    /// A lane, for the consumer, which waits for it.
+    pub(crate) fn awaited(&self, number: usize) -> MutexGuard<'_, Lane> {
+        self.places[number].0.lock().unwrap_or_else(PoisonError::into_inner)
+    }
+}

@@ -1,0 +1,67 @@
+//! A layer for [`tracing`](https://docs.rs/tracing) that records every path, and keeps those that turned out to matter.
+//!
+//! A span that is a *path* (each root span, or each with a field `dspec.path`) is recorded with all that happens inside it, at every level and on any
+//! thread. When it closes it is kept if it failed (an event of level ERROR in it), was slow, panicked, or was asked for ([`keep`], or a field
+//! `dspec.keep = true`). Else it is thrown away, and no byte of it gets to a [`Sink`]. One thread, the consumer's, hands on what is kept. No traced
+//! thread waits for it, and each record is accounted for in the [`Report`].
+//!
+//! ```
+//! use tracing_dspec::{Builder, Text};
+//! use tracing_subscriber::prelude::*;
+//!
+//! let (layer, guard) = Builder::new().build(Text::new(Vec::new())).unwrap();
+//! let subscriber = tracing_subscriber::registry().with(layer);
+//! tracing::subscriber::with_default(subscriber, || {
+//!     for request in 0..3u64 {
+//!         let _path = tracing::info_span!("request", request).entered();
+//!         tracing::debug!(rows = 7u64, "queried");
+//!         if request == 1 {
+//!             tracing::error!("no such table");
+//!         }
+//!     }
+//! });
+//! let (sink, report) = guard.finish();
+//! let text = String::from_utf8(sink.into_inner()).unwrap();
+//! assert!(text.contains("request=1") && !text.contains("request=0"));
+//! assert!(report.balances());
+//! ```
+//!
+//! # What is kept of a path
+//!
+//! Its spans with their fields, its events with theirs, and the times of all, as far as its bytes go ([`Builder::bytes_a_path`]). The
+//! first ERROR is held back and stands behind the rest, so that it is there however long the path was. What had no room is counted
+//! in [`Path::cut`] and [`Path::lost`]. An event has up to 12 fields and 240 bytes of texts that the program made; a text that was cut says how long it was.
+//!
+//! # What stays of a path that isn't kept
+//!
+//! Its records stay in a buffer of the layer's until that is written again; nothing reads them. Literals of the program are known by number
+//! in a table that stays. No text that a program made while it ran gets there.
+//!
+//! # Building
+//!
+//! As the package [`dspec`]: the environment variable `DSPEC_LIB_DIR` names the folder of `libdspec`, or pkg-config has it.
+#![forbid(unsafe_code)]
+#![deny(missing_docs)]
+#![warn(clippy::pedantic)]
+
+mod builder;
+mod callsites;
+mod chrome;
+mod consumer;
+mod json;
+mod lanes;
+mod layer;
+mod otlp;
+mod path_id;
+mod schema;
+mod sink;
+mod text;
+mod values;
+
+pub use builder::{BuildError, Builder};
+pub use chrome::Chrome;
+pub use consumer::{Guard, Report};
+pub use layer::{keep, DspecLayer};
+pub use otlp::Otlp;
+pub use sink::{each, Each, Kind, Line, Missed, Path, Sink, Span, Value, Why};
+pub use text::Text;
