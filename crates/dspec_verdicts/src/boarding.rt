@@ -1,6 +1,6 @@
-ghost use Rattle.std.specs.Prelude.{◌≡◌};
+ghost use Rattle.std.specs.Prelude.{◌≡◌, [], IfOk, length, replicate};
 ghost use Rattle.dspec.specs.Lanes.{place_of};
-ghost use Rattle.dspec_verdicts.specs.Said.{SaysTo};
+ghost use Rattle.dspec_verdicts.specs.Said.{SaysTo, said_to_each};
 ghost use Rattle.dspec_verdicts.specs.Settled.{SettlesSome};
 
 use crate::judging::Judging;
@@ -30,7 +30,10 @@ pub fn board<J: Judging>(
     alloc: Global,
     lanes: u32,
     room: usize,
-) -> Result<(Judge<J>, Verdicts<J>), AllocError> {
+) -> Result<(Judge<J>, Verdicts<J>), AllocError>
+    ensures judge { IfOk result (λ r. said_to_each r.0.sayers.items ≡ replicate lanes []) }
+    ensures lanes { IfOk result (λ r. length r.1.settlers.items ≡ lanes) }
+{
     let (mut sayers, mut settlers) = (Vec::new(alloc), Vec::new(alloc));
     for _ in 0..lanes {
         let (sayer, settler) = pair(alloc, room)?;
