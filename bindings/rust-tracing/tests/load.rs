@@ -249,7 +249,9 @@ fn ends_early() -> String {
         ended
     });
     for path in &all.paths {
-        assert_eq!(request(path) / 3 % 10, 0);
+        // Of a path whose records had no room in the stream, what failed is there, and how much was lost.
+        assert!(path.lost > 0 || request(path) / 3 % 10 == 0, "{path:?}");
+        assert!(path.events().any(|line| line.title() == "failed"), "{path:?}");
         assert_eq!(path.lines.len() as u64 + path.lost, 4, "{path:?}");
     }
     counts(&all.paths, &report)
