@@ -23,9 +23,7 @@ struct Relay {
 impl Relay {
     /// Counts an answer that is due.
     fn count(&self, is_due: bool) {
-        if is_due {
-            self.due.fetch_add(1, Ordering::SeqCst);
-        }
+        self.due.fetch_add(u64::from(is_due), Ordering::SeqCst);
     }
 
     /// The word, once it was handed on.
@@ -102,9 +100,7 @@ struct NoneThere {
 
 impl NoneThere {
     fn count(&self, is_due: bool) {
-        if is_due {
-            self.due.fetch_add(1, Ordering::SeqCst);
-        }
+        self.due.fetch_add(u64::from(is_due), Ordering::SeqCst);
     }
 }
 
