@@ -250,7 +250,7 @@ fn ends_early() -> String {
     });
     for path in &all.paths {
         // Of a path whose records had no room in the stream, what failed is there, and how much was lost.
-        assert!(path.lost > 0 || request(path) / 3 % 10 == 0, "{path:?}");
+        assert!(path.lost > 0 || (request(path) / 3).is_multiple_of(10), "{path:?}");
         assert!(path.events().any(|line| line.title() == "failed"), "{path:?}");
         assert_eq!(path.lines.len() as u64 + path.lost, 4, "{path:?}");
     }
