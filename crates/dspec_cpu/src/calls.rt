@@ -22,7 +22,7 @@ impl<S: Schema> Cpu<S> {
         ensures same { identity self.new ≡ identity self.old }
         ensures does { TracesOne ⟦<Cpu<S> as Listed>⟧.has_list rec.now result self.old self.new }
     {
-        self.parts.trace(shared, rec)
+        self.parts.trace_rec(shared, rec)
     }
 
     /// Opens a speculation, in the first slot that is shown free. Worn: the CPU had made all its calls. Stopped: the session was

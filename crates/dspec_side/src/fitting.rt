@@ -61,7 +61,7 @@ pub(crate) fn keep_in<S: Schema, B: TraceBuffer<S>, R: Recorded>(
 }
 
 /// Keeps a record in a principal buffer, where that isn't closed and the record fits.
-#[inline(always)]
+#[inline]
 pub(crate) fn keep_open<S: Schema, B: TraceBuffer<S>, R: Recorded>(
     active: &mut B,
     schema: &S,

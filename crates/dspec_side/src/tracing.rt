@@ -17,7 +17,7 @@ use dspec_record::{Recorded, Schema};
 
 impl<B> Side<B> {
     /// Traces a record into the active principal buffer, which is closed or not; it is kept, or dropped where it doesn't fit.
-    #[inline(always)]
+    #[inline]
     pub fn trace<S: Schema, R: Recorded>(&mut self, schema: &S, rec: R, closed: bool) -> bool
     where
         B: TraceBuffer<S>,
