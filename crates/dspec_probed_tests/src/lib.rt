@@ -9,3 +9,5 @@ mod foreign;
 mod same;
 #[cfg(test)]
 mod sessions;
+#[cfg(test)]
+mod steps;

@@ -10,4 +10,6 @@ mod handing;
 #[cfg(test)]
 mod tests;
 #[cfg(test)]
+mod verdicts;
+#[cfg(test)]
 mod visits;
