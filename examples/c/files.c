@@ -247,13 +247,13 @@ static void closed(uint64_t path, bool keep, int result, uint64_t begun) {
 /* ---- What the program calls. ---- */
 
 /* The mode, where there is one behind the flags. */
-#define MODE(flags, mode)                               \
-    mode_t mode = 0;                                    \
-    if (((flags) & (O_CREAT | O_TMPFILE)) != 0) {       \
-        va_list rest;                                   \
-        va_start(rest, flags);                          \
-        mode = va_arg(rest, mode_t);                    \
-        va_end(rest);                                   \
+#define MODE(flags, mode)                                                   \
+    mode_t mode = 0;                                                        \
+    if (((flags) & O_CREAT) != 0 || ((flags) & O_TMPFILE) == O_TMPFILE) {   \
+        va_list rest;                                                       \
+        va_start(rest, flags);                                              \
+        mode = va_arg(rest, mode_t);                                        \
+        va_end(rest);                                                       \
     }
 
 int open(const char *name, int flags, ...) {
