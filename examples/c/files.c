@@ -66,7 +66,8 @@ static atomic_uint threads;
 /* Opens of which nothing was recorded: so many files were open, or the tracer itself was interrupted. */
 static atomic_ulong untraced;
 static _Thread_local unsigned home;
-static _Thread_local bool inside;
+/* Whether this thread is in the tracer; its signals' handlers look. */
+static _Thread_local volatile bool inside;
 
 static int (*real_open)(const char *, int, ...);
 static int (*real_openat)(int, const char *, int, ...);
@@ -91,7 +92,6 @@ static void find_all(void) {
     find(&real_close, "close");
     find(&real_closedir, "closedir");
 }
-
 
 static uint64_t now(void) {
     struct timespec t;
