@@ -80,8 +80,8 @@ impl Builder {
         self
     }
 
-    /// How many bytes one path may have, on each lane that records for it: up to 1 MiB, rounded up to a multiple of 8. An event takes 24 to
-    /// 72 and its texts. What has no room is cut, and told with the path; the first ERROR of a path isn't cut.
+    /// How many bytes one path may have, on each lane that records for it: up to 1 MiB, rounded up to a multiple of 8. An event takes
+    /// 28, 8 for each value that isn't a literal, and the texts that the program made. What has no room is cut, and told with the path; the first ERROR of a path isn't cut.
     pub fn bytes_a_path(mut self, bytes: u32) -> Builder {
         self.path_bytes = bytes;
         self

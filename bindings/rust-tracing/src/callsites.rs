@@ -3,8 +3,11 @@
 //! A literal is a text that stands in the program itself: in a part of the process that is mapped from the file of a program or of a library
 //! and that nobody can write to. Only such a text gets into the table, so no text that a program made while it ran stays there.
 
+use crate::values::{FIELDS, NO_SHAPE};
 use std::fs;
 use std::ops::Range;
+use std::ptr;
+use std::sync::atomic::{AtomicU64, Ordering};
 use std::sync::OnceLock;
 use tracing_core::Metadata;
 
@@ -14,8 +17,14 @@ const CALLSITES: usize = 4096;
 /// How many literals a callsite may have before they are written out.
 const LITERALS: usize = 8;
 
+/// How many shapes a callsite may have before the types of its fields are written out.
+const SHAPES: usize = NO_SHAPE as usize;
+
+/// A bit that the types of a shape have in the table, so that those of no fields aren't 0.
+const KNOWN: u64 = 1 << 63;
+
 /// The number of a callsite for which there was no room.
-pub(crate) const NO_CALLSITE: u32 = u32::MAX;
+pub(crate) const NO_CALLSITE: u32 = u32::MAX >> 4;
 
 /// A text of the program: where it stands there, and the same text.
 #[derive(Debug)]
@@ -27,7 +36,11 @@ struct Literal {
 #[derive(Debug)]
 pub(crate) struct Callsite {
     pub(crate) metadata: &'static Metadata<'static>,
+    /// The names of those fields that are recorded.
+    pub(crate) names: Box<[&'static str]>,
     literals: [OnceLock<Literal>; LITERALS],
+    /// The types that its fields have had, each the shape of its place; 0 where there is none yet.
+    shapes: [AtomicU64; SHAPES],
 }
 
 #[derive(Debug)]
@@ -41,19 +54,19 @@ impl Callsites {
         Callsites { callsites: (0..CALLSITES).map(|_| OnceLock::new()).collect(), constants: constants() }
     }
 
-    /// The number of a callsite: its place in a table without removals.
-    pub(crate) fn number(&self, metadata: &'static Metadata<'static>) -> u32 {
-        let address = std::ptr::from_ref(metadata) as usize;
-        let mut at = (address >> 4).wrapping_mul(0x9e37_79b9_7f4a_7c15) >> 40;
-        for _ in 0..CALLSITES {
-            at &= CALLSITES - 1;
-            let found = self.callsites[at].get_or_init(|| Box::new(Callsite { metadata, literals: Default::default() }));
-            if std::ptr::eq(found.metadata, metadata) {
-                return u32::try_from(at).unwrap_or(NO_CALLSITE);
+    /// A callsite and its number: its place in a table without removals.
+    #[inline]
+    pub(crate) fn of(&self, metadata: &'static Metadata<'static>) -> (u32, Option<&Callsite>) {
+        let address = ptr::from_ref(metadata) as usize;
+        let first = (address >> 4).wrapping_mul(0x9e37_79b9_7f4a_7c15) >> 40;
+        for further in 0..CALLSITES {
+            let at = (first + further) & (CALLSITES - 1);
+            let found = self.callsites[at].get_or_init(|| Callsite::new(metadata));
+            if ptr::eq(found.metadata, metadata) {
+                return (u32::try_from(at).unwrap_or(NO_CALLSITE), Some(found));
             }
-            at += 1;
         }
-        NO_CALLSITE
+        (NO_CALLSITE, None)
     }
 
     pub(crate) fn callsite(&self, number: u32) -> Option<&Callsite> {
@@ -64,24 +77,14 @@ impl Callsites {
         self.callsite(number).map(|callsite| callsite.metadata)
     }
 
-    /// The number of a literal among those of its callsite, which learns it where it has room; none of a text that the program made.
-    pub(crate) fn literal(&self, callsite: u32, text: &str) -> Option<u64> {
+    /// What stands at a literal's place when this text was there, if it is one.
+    #[cold]
+    fn learn<'p>(&self, place: &'p OnceLock<Literal>, text: &str) -> Option<&'p Literal> {
         let at = text.as_ptr() as usize;
-        for (number, place) in (0..).zip(&self.callsite(callsite)?.literals) {
-            if place.get().is_none() && self.constants.iter().any(|part| part.start <= at && at + text.len() <= part.end) {
-                let _ = place.set(Literal { at, text: text.into() });
-            }
-            let known = place.get()?;
-            if known.at == at && known.text.len() == text.len() {
-                return Some(number);
-            }
+        if self.constants.iter().any(|part| part.start <= at && at + text.len() <= part.end) {
+            let _ = place.set(Literal { at, text: text.into() });
         }
-        None
-    }
-
-    pub(crate) fn literal_of(&self, callsite: u32, number: u64) -> Option<&str> {
-        let place = self.callsite(callsite)?.literals.get(usize::try_from(number).ok()?)?;
-        place.get().map(|known| &*known.text)
+        place.get()
     }
 
     /// All texts that are in the table.
@@ -89,6 +92,72 @@ impl Callsites {
     pub(crate) fn texts(&self) -> impl Iterator<Item = &str> {
         let callsites = self.callsites.iter().filter_map(OnceLock::get);
         callsites.flat_map(|callsite| &callsite.literals).filter_map(OnceLock::get).map(|known| &*known.text)
+    }
+}
+
+impl Callsite {
+    #[cold]
+    fn new(metadata: &'static Metadata<'static>) -> Box<Callsite> {
+        let names = metadata.fields().iter().take(FIELDS).map(|field| field.name()).collect();
+        Box::new(Callsite { metadata, names, literals: Default::default(), shapes: Default::default() })
+    }
+
+    /// The number of a literal, which is learnt where there is room; none of a text that the program made.
+    #[inline]
+    pub(crate) fn literal(&self, text: &str, callsites: &Callsites) -> Option<u64> {
+        match self.literals[0].get() {
+            Some(first) if first.at == text.as_ptr() as usize && first.text.len() == text.len() => Some(0),
+            _ => self.literal_among(text, callsites),
+        }
+    }
+
+    fn literal_among(&self, text: &str, callsites: &Callsites) -> Option<u64> {
+        if text.is_empty() {
+            return None;
+        }
+        let at = text.as_ptr() as usize;
+        for (number, place) in (0..).zip(&self.literals) {
+            let known = match place.get() {
+                Some(known) => known,
+                None => callsites.learn(place, text)?,
+            };
+            if known.at == at && known.text.len() == text.len() {
+                return Some(number);
+            }
+        }
+        None
+    }
+
+    pub(crate) fn literal_of(&self, number: u64) -> Option<&str> {
+        let place = self.literals.get(usize::try_from(number).ok()?)?;
+        place.get().map(|known| &*known.text)
+    }
+
+    /// The number of the shape of these types, which is learnt where there is room; else [`NO_SHAPE`].
+    #[inline]
+    pub(crate) fn shape(&self, types: u64) -> u32 {
+        if self.shapes[0].load(Ordering::Relaxed) == types | KNOWN {
+            return 0;
+        }
+        self.shape_among(types)
+    }
+
+    fn shape_among(&self, types: u64) -> u32 {
+        let due = types | KNOWN;
+        for (number, place) in (0..).zip(&self.shapes) {
+            let mut known = place.load(Ordering::Relaxed);
+            if known == 0 {
+                known = place.compare_exchange(0, due, Ordering::Relaxed, Ordering::Relaxed).err().unwrap_or(due);
+            }
+            if known == due {
+                return number;
+            }
+        }
+        NO_SHAPE
+    }
+
+    pub(crate) fn types_of(&self, shape: u32) -> Option<u64> {
+        self.shapes.get(shape as usize).map(|place| place.load(Ordering::Relaxed) & !KNOWN)
     }
 }
 

@@ -78,6 +78,9 @@ impl<W: Write + Send> Chrome<W> {
     fn instant(&mut self, track: Track, line: &Line) -> io::Result<()> {
         let mut args = arguments_of_callsite(line.metadata);
         args.push(("lane", line.lane.to_string()));
+        if line.is_of_log() {
+            args.push(("target", quoted(line.target())));
+        }
         for (name, value) in &line.values {
             args.push((*name, json(value)));
         }

@@ -1,13 +1,12 @@
 //! The consumer's thread: it makes the services of all lanes, takes their batches, and puts paths together.
 
-use crate::callsites::NO_CALLSITE;
 use crate::lanes::{Kept, Told};
 use crate::layer::Core;
 use crate::otlp::mixed;
 use crate::path_id::PathId;
-use crate::schema::{BOOL, CLOSE, ENTER, EVENT, F64, I64, LITERAL, MORE, OPEN, SET, TEXT, U64};
-use crate::sink::{Kind, Line, Missed, Path, Sink, Value};
-use crate::values::Held;
+use crate::schema::{CLOSE, ENTER, EVENT, EXIT, HEAD, MORE, OPEN, SET};
+use crate::sink::{Kind, Line, Missed, Path, Sink};
+use crate::values::{read, Held};
 use dspec::{Batch, Consumer, Record, Session};
 use std::collections::{HashMap, VecDeque};
 use std::hash::{BuildHasher, RandomState};
@@ -15,7 +14,7 @@ use std::io;
 use std::sync::atomic::{AtomicBool, Ordering};
 use std::sync::Arc;
 use std::thread::{self, JoinHandle};
-use tracing_core::{dispatcher, Dispatch};
+use tracing_core::{dispatcher, Dispatch, Metadata};
 
 /// The counts at the end.
 #[derive(Clone, Debug, Default)]
@@ -289,20 +288,15 @@ impl<K: Sink> Paths<K> {
         let mut last: Option<Reading> = None;
         for record in batch.records() {
             self.report.taken += 1;
-            match record.epid.raw() {
-                MORE..TEXT => {
-                    if let Some(reading) = &mut last {
-                        reading.more(&self.core, record.values());
-                    }
-                }
-                TEXT.. => {
-                    if let Some(reading) = &mut last {
-                        reading.text(record.values());
-                    }
+            match (record.epid.raw(), &mut last) {
+                (MORE.., None) => {}
+                (MORE.., Some(reading)) => {
+                    reading.words.extend(record.values());
+                    reading.records += 1;
                 }
                 _ => {
                     self.end_line(last.take());
-                    last = Some(Reading::of(&self.core, batch.cpu(), &record));
+                    last = Some(Reading::of(batch.cpu(), &record));
                 }
             }
         }
@@ -312,7 +306,7 @@ impl<K: Sink> Paths<K> {
     fn end_line(&mut self, last: Option<Reading>) {
         let Some(reading) = last else { return };
         let (path, records) = (reading.path, reading.records);
-        let line = reading.end();
+        let line = reading.end(&self.core);
         if path == PathId::NONE {
             let answer = self.sink.outside(&line);
             self.answered(answer);
@@ -325,129 +319,69 @@ impl<K: Sink> Paths<K> {
 }
 
 fn is_of(line: &Line, held: &Held, core: &Core) -> bool {
-    match (line.metadata, core.callsites.metadata(held.values.callsite)) {
+    match (line.metadata, core.callsites.metadata(held.values.callsite())) {
         (Some(one), Some(other)) => std::ptr::eq(one, other),
         (one, other) => one.is_none() && other.is_none(),
     }
 }
 
 fn line_of_held(core: &Core, held: &Held) -> Line {
-    let metadata = core.callsites.metadata(held.values.callsite);
+    let metadata = core.callsites.metadata(held.values.callsite());
     let mut line = Line { kind: Kind::Event, stamp: held.stamp, lane: 0, span: held.span, parent: 0, metadata, values: Vec::new() };
-    for (at, kind, value) in held.values.each() {
-        if let Some(value) = value_of(core, held.values.callsite, kind, value) {
-            let value = match value {
-                Value::Text(_, length) if kind != LITERAL => Value::Text(whole_text(held.values.text(at)), length),
-                value => value,
-            };
-            line.values.push((name_of(&line, at), value));
-        }
-    }
+    held.values.each(&core.callsites, |field, value| line.values.push((name_of(metadata, field), value)));
     line
 }
 
-/// A value of a type, whose text, if it stands behind, is still to come; none of a field without one.
-fn value_of(core: &Core, callsite: u32, kind: u64, value: u64) -> Option<Value> {
-    Some(match kind {
-        0 => return None,
-        U64 => Value::U64(value),
-        I64 => Value::I64(value.cast_signed()),
-        BOOL => Value::Bool(value != 0),
-        F64 => Value::F64(f64::from_bits(value)),
-        LITERAL => {
-            let text = core.callsites.literal_of(callsite, value).unwrap_or("?");
-            Value::Text(text.to_owned(), text.len())
-        }
-        _ => Value::Text(String::new(), usize::try_from(value).unwrap_or(usize::MAX)),
-    })
-}
-
-fn name_of(line: &Line, field: usize) -> &'static str {
-    line.metadata.and_then(|metadata| metadata.fields().iter().nth(field)).map_or("?", |field| field.name())
-}
-
-fn whole_text(bytes: &[u8]) -> String {
-    String::from_utf8_lossy(bytes).into_owned()
+fn name_of(metadata: Option<&'static Metadata<'static>>, field: usize) -> &'static str {
+    metadata.and_then(|metadata| metadata.fields().iter().nth(field)).map_or("?", |field| field.name())
 }
 
 /// A line of which something may still come.
 struct Reading {
     path: PathId,
     line: Line,
-    callsite: u32,
-    /// Fields of which the values have come.
-    fields: usize,
-    /// Of texts behind: the field's number, where its value stands in the line, and what has come.
-    texts: Vec<(usize, usize, Vec<u8>)>,
+    shape: u32,
+    /// Those behind its path, its shape and its span.
+    words: Vec<u64>,
     /// How many records it is of.
     records: u64,
 }
 
+/// The upper half of a word, and the lower.
+fn halves(word: u64) -> (u32, u32) {
+    ((word >> 32) as u32, (word & 0xffff_ffff) as u32)
+}
+
 impl Reading {
-    fn of(core: &Core, cpu: u32, record: &Record) -> Reading {
-        let values = record.values();
-        let (kind, front) = match record.epid.raw() {
-            EVENT..SET => (Kind::Event, 3),
-            SET..OPEN => (Kind::Set, 3),
-            OPEN..CLOSE => (Kind::Open, 4),
-            CLOSE => (Kind::Close, 2),
-            ENTER => (Kind::Enter, 2),
-            _ => (Kind::Exit, 2),
+    fn of(cpu: u32, record: &Record) -> Reading {
+        let kind = match record.epid.raw() {
+            EVENT..SET => Kind::Event,
+            SET..OPEN => Kind::Set,
+            OPEN..CLOSE => Kind::Open,
+            CLOSE => Kind::Close,
+            ENTER => Kind::Enter,
+            EXIT.. => Kind::Exit,
+            0 => unreachable!("no EPID is 0"),
         };
-        let number = |at: usize| u32::try_from(values[at] & 0xffff_ffff).unwrap_or(0);
-        let parent = if kind == Kind::Open { number(3) } else { 0 };
-        let span = if front == 2 { number(1) } else { number(2) };
-        let (path, callsite) = (PathId::from_raw(values[0]), if front == 2 { NO_CALLSITE } else { number(1) });
-        let metadata = core.callsites.metadata(callsite);
-        let line = Line { kind, stamp: record.stamp, lane: cpu, span, parent, metadata, values: Vec::new() };
-        let mut reading = Reading { path, line, callsite, fields: 0, texts: Vec::new(), records: 1 };
-        if front > 2 {
-            reading.values(core, &values[front..], values[1] >> 32);
-        }
-        reading
+        let values = record.values();
+        let (shape, span) = halves(values[1]);
+        let line = Line { kind, stamp: record.stamp, lane: cpu, span, parent: 0, metadata: None, values: Vec::new() };
+        Reading { path: PathId::from_raw(values[0]), line, shape, words: values[HEAD..].to_vec(), records: 1 }
     }
 
-    fn values(&mut self, core: &Core, values: &[u64], types: u64) {
-        for (at, &value) in values.iter().enumerate() {
-            let kind = types >> (4 * at) & 15;
-            let field = self.fields + at;
-            if let Some(known) = value_of(core, self.callsite, kind, value) {
-                if matches!(known, Value::Text(..)) && kind != LITERAL {
-                    self.texts.push((field, self.line.values.len(), Vec::new()));
-                }
-                self.line.values.push((name_of(&self.line, field), known));
+    fn end(self, core: &Core) -> Line {
+        let Reading { mut line, shape, words, .. } = self;
+        let words = match line.kind {
+            Kind::Close | Kind::Enter | Kind::Exit => return line,
+            Kind::Open => {
+                line.parent = halves(words[0]).1;
+                &words[1..]
             }
-        }
-        self.fields += values.len();
-    }
-
-    fn more(&mut self, core: &Core, values: &[u64]) {
-        self.records += 1;
-        if let Some((types, values)) = values.split_last() {
-            self.values(core, values, *types);
-        }
-    }
-
-    fn text(&mut self, values: &[u64]) {
-        self.records += 1;
-        if let Some((_, _, bytes)) = self.texts.iter_mut().find(|text| text.0 as u64 == values[0]) {
-            values[1..].iter().for_each(|word| bytes.extend(word.to_le_bytes()));
-        }
-    }
-
-    /// The texts go to their places, without the zeros that fill up their last word.
-    fn end(mut self) -> Line {
-        for (_, at, mut bytes) in self.texts {
-            if let Value::Text(text, length) = &mut self.line.values[at].1 {
-                bytes.truncate(*length);
-                if bytes.len() < *length {
-                    let filled = bytes.iter().rev().take(7).take_while(|&&byte| byte == 0).count();
-                    bytes.truncate(bytes.len() - filled);
-                }
-                *text = whole_text(&bytes);
-            }
-        }
-        self.line
+            Kind::Event | Kind::Set => &words[..],
+        };
+        line.metadata = core.callsites.metadata(shape >> 4);
+        read(&core.callsites, shape, words, |field, value| line.values.push((name_of(line.metadata, field), value)));
+        line
     }
 }
 

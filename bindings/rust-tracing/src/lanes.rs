@@ -73,9 +73,22 @@ impl Lane {
     }
 
     /// Offers a record to a path.
+    #[inline]
     pub(crate) fn speculate(&mut self, path: PathId, epid: u32, stamp: u64, values: &[u64]) -> Spoken {
         let Some(cpu) = self.cpus.get_mut(path.session()) else { return Spoken::Void };
         cpu.speculate(path.speculation(), Epid::from_raw(epid), stamp, values).expect("a record of the layer's own schema")
+    }
+
+    pub(crate) fn commit(&mut self, path: PathId) {
+        if let Some(cpu) = self.cpus.get_mut(path.session()) {
+            cpu.commit(path.speculation());
+        }
+    }
+
+    pub(crate) fn discard(&mut self, path: PathId) {
+        if let Some(cpu) = self.cpus.get_mut(path.session()) {
+            cpu.discard(path.speculation());
+        }
     }
 
     /// Its CPUs go home. What it still has to tell.
@@ -114,30 +127,46 @@ impl Lanes {
     /// Does something on a lane that nobody is in. None: the sessions have ended.
     #[inline]
     pub(crate) fn on_one<R>(&self, work: impl FnOnce(&mut Lane) -> R) -> Option<R> {
-        let home = HOME.with(|home| {
-            if home.get() == usize::MAX {
-                home.set(THREADS.fetch_add(1, Ordering::Relaxed));
-            }
-            home.get()
-        });
-        let first = home % self.places.len();
+        let home = HOME.get();
+        let first = if home < self.places.len() { home } else { self.home(home) };
+        let mut lane = match self.attempt(first) {
+            Some(lane) => lane,
+            None => self.another(first),
+        };
+        if lane.cpus.is_empty() {
+            self.late.fetch_add(1, Ordering::Relaxed);
+            return None;
+        }
+        Some(work(&mut lane))
+    }
+
+    /// The lane of a thread that has none yet, or one of a layer with more lanes.
+    #[cold]
+    fn home(&self, mut home: usize) -> usize {
+        if home == usize::MAX {
+            home = THREADS.fetch_add(1, Ordering::Relaxed);
+            HOME.set(home);
+        }
+        home % self.places.len()
+    }
+
+    /// A lane that nobody is in, behind one where somebody was.
+    #[cold]
+    fn another(&self, first: usize) -> MutexGuard<'_, Lane> {
         let mut at = first;
         loop {
-            if let Some(mut lane) = self.attempt(at) {
-                if lane.cpus.is_empty() {
-                    self.late.fetch_add(1, Ordering::Relaxed);
-                    return None;
-                }
-                return Some(work(&mut lane));
-            }
             at = (at + 1) % self.places.len();
             self.moved.fetch_add(1, Ordering::Relaxed);
             if at == first {
                 std::thread::yield_now();
             }
+            if let Some(lane) = self.attempt(at) {
+                return lane;
+            }
         }
     }
 
+    #[inline]
     fn attempt(&self, number: usize) -> Option<MutexGuard<'_, Lane>> {
         match self.places[number].0.try_lock() {
             Ok(lane) => Some(lane),

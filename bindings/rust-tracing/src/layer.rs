@@ -4,7 +4,7 @@ use crate::lanes::{Kept, Lane, Lanes, Wanted, NOTED};
 use crate::path_id::{PathId, SLOTS};
 use crate::schema::{CLOSE, ENTER, EVENT, EXIT, OPEN, SET};
 use crate::sink::Why;
-use crate::values::{Gathering, Held};
+use crate::values::{Gathering, Held, Values};
 use dspec::{Cpu, Opening, Spoken};
 use std::cell::{Cell, RefCell};
 use std::collections::HashMap;
@@ -96,7 +96,8 @@ pub(crate) struct Core {
     /// The session in which a slot was free last.
     session: AtomicU32,
     sessions: u32,
-    begun: Instant,
+    /// When the layer's clock was 0.
+    begun: u64,
 }
 
 fn locked<T>(mutex: &Mutex<T>) -> MutexGuard<'_, T> {
@@ -108,7 +109,7 @@ impl Core {
     fn now(&self) -> u64 {
         match self.options.clock {
             Some(clock) => clock(),
-            None => nanoseconds(self.begun.elapsed()),
+            None => dspec::monotonic().wrapping_sub(self.begun),
         }
     }
 
@@ -218,7 +219,8 @@ impl Core {
     }
 
     /// Offers a record to a path, or traces it where there is none. False: it had no room, or the path isn't open.
-    #[inline]
+    #[allow(clippy::inline_always)] // each event makes this call once
+    #[inline(always)]
     fn offer(&self, lane: &mut Lane, path: PathId, epid: u32, stamp: u64, values: &[u64]) -> bool {
         if path == PathId::NONE {
             return lane.trace(0, epid, stamp, values);
@@ -241,9 +243,14 @@ impl Core {
         }
     }
 
-    fn put_values(&self, values: &crate::values::Values, place: Place, epid: u32, stamp: u64, parent: Option<u32>) {
+    #[inline]
+    fn put_values(&self, values: &mut Values, place: Place, epid: u32, stamp: u64, parent: u32) {
         let Place { path, span, .. } = place;
-        self.lanes.on_one(|lane| values.put(path, epid, span, parent, |epid, row| self.offer(lane, path, epid, stamp, row)));
+        values.head(path, span, parent);
+        self.lanes.on_one(|lane| match values.alone(epid) {
+            Some((epid, row)) => self.offer(lane, path, epid, stamp, row),
+            None => values.put(epid, &mut |epid, row| self.offer(lane, path, epid, stamp, row)),
+        });
         if path == PathId::NONE {
             self.wake_from_rest();
         }
@@ -257,7 +264,6 @@ impl Core {
         why.slow = self.options.slow.is_some_and(|slow| took > nanoseconds(slow));
         let kept = why != Why::default();
         self.lanes.on_one(|lane| {
-            self.offer(lane, path, CLOSE, stamp, &[path.raw(), span.into()]);
             let behind = lane.told.kept.len() >= NOTED;
             if kept && (!path.has_slot() || behind) {
                 self.wanted.fetch_add(1, Ordering::Relaxed);
@@ -268,21 +274,23 @@ impl Core {
             if !path.has_slot() {
                 return;
             }
-            let Some(cpu) = lane.cpus.get_mut(path.session()) else { return };
             if !kept || behind {
-                cpu.discard(path.speculation());
+                lane.discard(path);
                 self.missed.fetch_add(u64::from(kept), Ordering::Relaxed);
                 return;
             }
+            // Of a path that is thrown away nobody asks when it ended.
+            self.offer(lane, path, CLOSE, stamp, &[path.raw(), span.into()]);
             let slot = &self.slots[path.place()];
             let (records, cut) = (slot.records.load(Ordering::Relaxed), slot.cut.load(Ordering::Relaxed));
-            cpu.commit(path.speculation());
+            lane.commit(path);
             // What failed stands behind the commit, where nothing of the path can have taken its room; the consumer gets it beside the
             // stream where that is full.
             let before = lane.traced;
-            let held = held.filter(|held| {
-                let session = path.session();
-                !held.values.put(path, EVENT, held.span, None, |epid, row| lane.trace(session, epid, held.stamp, row))
+            let held = held.and_then(|mut held| {
+                held.values.head(path, held.span, 0);
+                let whole = held.values.put(EVENT, &mut |epid, row| lane.trace(path.session(), epid, held.stamp, row));
+                (!whole).then_some(held)
             });
             let records = records + lane.traced - before;
             lane.told.kept.push(Kept { path, callsite: here.callsite, begun: here.begun, took, why, records, cut, held });
@@ -334,7 +342,7 @@ impl DspecLayer {
             spans: AtomicU32::new(0),
             session: AtomicU32::new(0),
             sessions: u32::try_from(sessions).unwrap_or(u32::MAX),
-            begun: Instant::now(),
+            begun: dspec::monotonic(),
             options,
         };
         let since = SystemTime::now().duration_since(SystemTime::UNIX_EPOCH).unwrap_or_default();
@@ -357,18 +365,27 @@ impl DspecLayer {
     }
 
     /// The place that a new span or an event stands in.
+    #[inline]
     fn place<S>(&self, parent: Option<&Id>, contextual: bool, ctx: &Context<'_, S>) -> Place
+    where
+        S: Subscriber + for<'a> LookupSpan<'a>,
+    {
+        let now = NOW.get();
+        if contextual && (now.layer == self.core.layer || now.layer == 0) {
+            return now;
+        }
+        self.place_by_span(parent, contextual, ctx)
+    }
+
+    /// The same, where it is said, or where the thread stands in a span of another subscriber.
+    #[cold]
+    fn place_by_span<S>(&self, parent: Option<&Id>, contextual: bool, ctx: &Context<'_, S>) -> Place
     where
         S: Subscriber + for<'a> LookupSpan<'a>,
     {
         if !contextual {
             return parent.and_then(|id| self.here(id, ctx)).map_or(NOWHERE, |here| here.place);
         }
-        let now = NOW.with(Cell::get);
-        if now.layer == self.core.layer || now.layer == 0 {
-            return now;
-        }
-        // The thread stands in a span of another subscriber.
         ctx.lookup_current().and_then(|span| self.here(&span.id(), ctx)).map_or(NOWHERE, |here| here.place)
     }
 }
@@ -381,9 +398,9 @@ where
         let core = &*self.core;
         let metadata = attributes.metadata();
         let stamp = core.now();
-        let callsite = core.callsites.number(metadata);
-        let mut gathering = Gathering::new(&core.callsites, callsite, metadata.fields());
+        let mut gathering = Gathering::of_span(&core.callsites, metadata);
         attributes.record(&mut gathering);
+        gathering.end();
         let parent = self.place(attributes.parent(), attributes.is_contextual(), &ctx);
         let root = parent.path == PathId::NONE
             && match core.options.paths {
@@ -393,12 +410,13 @@ where
         let path = if root { core.open() } else { parent.path };
         let place = Place { path, span: core.span(path, root), layer: core.layer };
         if core.records(path) {
-            core.put_values(&gathering.values, place, OPEN, stamp, Some(if root { 0 } else { parent.span }));
+            core.put_values(&mut gathering.values, place, OPEN, stamp, if root { 0 } else { parent.span });
         }
         if gathering.keep && path != PathId::NONE {
             core.note(path, |state| state.why.asked = true);
         }
         if let Some(span) = ctx.span(id) {
+            let callsite = gathering.values.callsite();
             span.extensions_mut().replace(Here { place, root: root && path != PathId::NONE, begun: stamp, callsite });
         }
     }
@@ -411,12 +429,13 @@ where
         if !core.records(path) {
             return;
         }
-        let mut gathering = Gathering::new(&core.callsites, here.callsite, span.metadata().fields());
+        let mut gathering = Gathering::new(&core.callsites, span.metadata());
         record.record(&mut gathering);
+        gathering.end();
         if gathering.keep && path != PathId::NONE {
             core.note(path, |state| state.why.asked = true);
         }
-        core.put_values(&gathering.values, here.place, SET, core.now(), None);
+        core.put_values(&mut gathering.values, here.place, SET, core.now(), 0);
     }
 
     fn on_event(&self, event: &Event<'_>, ctx: Context<'_, S>) {
@@ -428,9 +447,9 @@ where
             return;
         }
         let stamp = core.now();
-        let callsite = core.callsites.number(metadata);
-        let mut gathering = Gathering::new(&core.callsites, callsite, metadata.fields());
+        let mut gathering = Gathering::new(&core.callsites, metadata);
         event.record(&mut gathering);
+        gathering.end();
         if *metadata.level() == Level::ERROR && path != PathId::NONE {
             let mut holds = false;
             core.note(path, |state| {
@@ -444,7 +463,7 @@ where
                 return;
             }
         }
-        core.put_values(&gathering.values, place, EVENT, stamp, None);
+        core.put_values(&mut gathering.values, place, EVENT, stamp, 0);
     }
 
     fn on_enter(&self, id: &Id, ctx: Context<'_, S>) {

@@ -136,6 +136,9 @@ impl Trace<'_> {
 
 fn event(path: &Path, line: &Line) -> String {
     let mut members = of_callsite(line.metadata);
+    if line.is_of_log() {
+        members.push(("target", text(line.target())));
+    }
     let fields = line.values.iter().filter(|field| field.0 != "message");
     members.extend(fields.map(|(name, value)| (*name, of_value(value))));
     format!(

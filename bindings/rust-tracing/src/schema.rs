@@ -1,68 +1,59 @@
 //! The kinds of records. Callsites come while a program runs, and a session's schema is fixed when it starts: so a record says its callsite
-//! by a number, and each kind has one enabling for each number of values.
+//! by a number, and each kind has one enabling for each number of words.
 //!
-//! - event, set: path 8, callsite and types 8, span 4, then up to 5 values of 8
-//! - open: path 8, callsite and types 8, span 4, parent 4, then up to 4 values of 8
+//! - event, set: path 8, span and shape 8, then up to 6 words of 8
+//! - open: likewise, and the first word is the number of the span that it stands in
 //! - close, enter, exit: path 8, span 4
-//! - more: up to 7 values of 8, then the types of them 4; of the record in front of it
-//! - text: which field 1, then up to 6 times 8 bytes of text; of the record in front of it
+//! - more: up to 8 words of 8, which go on with those of the record in front of it
+//!
+//! A shape is a callsite and the types of its fields. The words of a record are the types, where its callsite has no room for another shape; then
+//! the values, but for literals, which their type tells; then the bytes of all texts that the program made.
 
 use dspec::{Error, Schema, Width};
 
-/// Values that a record itself has room for.
-pub(crate) const EVENT_VALUES: usize = 5;
-pub(crate) const OPEN_VALUES: usize = 4;
-/// Values that one `more` has.
-pub(crate) const MORE_VALUES: usize = 7;
-/// Words of 8 bytes that one `text` has.
-pub(crate) const TEXT_WORDS: usize = 6;
+/// Words that one record has, those of an event in front of its values among them.
+pub(crate) const WORDS: usize = 8;
+/// Words in front of an event's own.
+pub(crate) const HEAD: usize = 2;
 
 // The first EPID of each kind, in the order in which `schema` enables them.
 pub(crate) const EVENT: u32 = 1;
-pub(crate) const SET: u32 = 7;
-pub(crate) const OPEN: u32 = 13;
-pub(crate) const CLOSE: u32 = 18;
-pub(crate) const ENTER: u32 = 19;
-pub(crate) const EXIT: u32 = 20;
-pub(crate) const MORE: u32 = 21;
-pub(crate) const TEXT: u32 = 28;
+pub(crate) const SET: u32 = 8;
+pub(crate) const OPEN: u32 = 15;
+pub(crate) const CLOSE: u32 = 22;
+pub(crate) const ENTER: u32 = 23;
+pub(crate) const EXIT: u32 = 24;
+pub(crate) const MORE: u32 = 25;
 
 /// Types of values, four bits each; 0 is of a field without a value.
 pub(crate) const U64: u64 = 1;
 pub(crate) const I64: u64 = 2;
 pub(crate) const BOOL: u64 = 3;
 pub(crate) const F64: u64 = 4;
-/// A literal of the program, by its number among those of the callsite.
-pub(crate) const LITERAL: u64 = 5;
-/// A text that stands in `text` records behind; the value is its length in bytes.
-pub(crate) const TEXT_BEHIND: u64 = 6;
+/// A text that the program made. The value is its length in bytes, above 16 bits of how many of them are there.
+pub(crate) const TEXT: u64 = 5;
+/// The first literal of the callsite; types from here on are those behind it. It has no value.
+pub(crate) const LITERAL: u64 = 8;
 
 pub(crate) fn schema() -> Result<Schema, Error> {
-    use Width::{Eight, Four, One};
+    use Width::{Eight, Four};
     let mut schema = Schema::new()?;
     schema.stamp();
-    let mut enable = |first: u32, behind: usize, fields: &[&[Width]]| {
-        let epid = schema.enable(&fields.concat())?;
-        assert_eq!(Ok(epid.raw() - first), u32::try_from(behind));
+    let mut enable = |due: u32, fields: &[Width]| {
+        assert_eq!(schema.enable(fields)?.raw(), due);
         Ok::<(), Error>(())
     };
-    let eights = [Eight; MORE_VALUES];
-    for first in [EVENT, SET] {
-        for values in 0..=EVENT_VALUES {
-            enable(first, values, &[&[Eight, Eight, Four], &eights[..values]])?;
+    let eights = [Eight; WORDS];
+    for first in [EVENT, SET, OPEN] {
+        for (epid, words) in (first..).zip(HEAD..=WORDS) {
+            enable(epid, &eights[..words])?;
         }
     }
-    for values in 0..=OPEN_VALUES {
-        enable(OPEN, values, &[&[Eight, Eight, Four, Four], &eights[..values]])?;
+    for epid in [CLOSE, ENTER, EXIT] {
+        enable(epid, &[Eight, Four])?;
     }
-    for first in [CLOSE, ENTER, EXIT] {
-        enable(first, 0, &[&[Eight, Four]])?;
-    }
-    for values in 1..=MORE_VALUES {
-        enable(MORE, values - 1, &[&eights[..values], &[Four]])?;
-    }
-    for words in 1..=TEXT_WORDS {
-        enable(TEXT, words - 1, &[&[One], &eights[..words]])?;
+    for (epid, words) in (MORE..).zip(1..=WORDS) {
+        enable(epid, &eights[..words])?;
     }
     Ok(schema)
 }

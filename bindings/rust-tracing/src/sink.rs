@@ -99,6 +99,18 @@ impl Line {
         message.or_else(|| self.metadata.map(Metadata::name)).unwrap_or("?")
     }
 
+    /// Where it was traced, as the program says; what a record of `log` said, where tracing-log made it an event.
+    #[must_use]
+    pub fn target(&self) -> &str {
+        let told = self.value("log.target").and_then(Value::text).filter(|_| self.is_of_log());
+        told.or_else(|| self.metadata.map(Metadata::target)).unwrap_or("?")
+    }
+
+    /// Whether tracing-log made it of a record of `log`. Such have a callsite for each level, and say in fields `log.` where they were made.
+    pub(crate) fn is_of_log(&self) -> bool {
+        self.metadata.is_some_and(|metadata| metadata.target() == "log" && metadata.name() == "log event")
+    }
+
     /// How many fields were left out, since a callsite has more than there is room for.
     #[must_use]
     pub fn left_out(&self) -> usize {

@@ -31,7 +31,7 @@ impl<W: Write + Send> Text<W> {
         let since = line.stamp.saturating_sub(begun);
         write!(self.out, "{:>8}.{:03} {:indent$}", since / 1000, since % 1000, "", indent = 2 * depth)?;
         match (line.kind, line.metadata) {
-            (Kind::Event, Some(metadata)) => write!(self.out, "{} {}:", metadata.level(), metadata.target())?,
+            (Kind::Event, Some(metadata)) => write!(self.out, "{} {}:", metadata.level(), line.target())?,
             (Kind::Open, Some(metadata)) => write!(self.out, "{} {{", metadata.name())?,
             (Kind::Close, _) => write!(self.out, "}}")?,
             (Kind::Set, _) => write!(self.out, "set")?,
@@ -41,6 +41,7 @@ impl<W: Write + Send> Text<W> {
         }
         for (name, value) in &line.values {
             match *name {
+                name if name.starts_with("log.") && line.is_of_log() => {}
                 "message" => write!(self.out, " {value}")?,
                 _ => write!(self.out, " {name}={value}")?,
             }

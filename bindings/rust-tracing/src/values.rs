@@ -1,14 +1,17 @@
-//! From the fields of an event or a span to records. Values are gathered on the stack before a lane is taken, since what formats them may
+//! From the fields of an event or a span to records, and back. Values are gathered on the stack before a lane is taken, since what formats them may
 //! itself trace.
 
-use crate::callsites::Callsites;
+use crate::callsites::{Callsite, Callsites};
 use crate::path_id::PathId;
-use crate::schema::{BOOL, EVENT_VALUES, F64, I64, LITERAL, MORE, MORE_VALUES, OPEN_VALUES, TEXT, TEXT_BEHIND, TEXT_WORDS, U64};
+use crate::schema::{BOOL, F64, HEAD, I64, LITERAL, MORE, TEXT, U64, WORDS};
+use crate::sink::Value;
 use std::fmt::{self, Write};
-use tracing_core::field::{Field, FieldSet, Iter, Visit};
+use std::ptr;
+use tracing_core::field::{Field, Visit};
+use tracing_core::Metadata;
 
 /// Fields of one callsite that are recorded; later ones are left out.
-pub(crate) const FIELDS: usize = EVENT_VALUES + MORE_VALUES;
+pub(crate) const FIELDS: usize = 12;
 
 /// Texts, and bytes of them, that one event can have; what is beyond is cut, and its length tells so.
 const TEXTS: usize = 6;
@@ -22,18 +25,29 @@ struct Text {
     length: u8,
 }
 
+#[derive(Clone, Debug)]
+struct Texts {
+    places: [Text; TEXTS],
+    count: usize,
+    bytes: [u8; BYTES],
+    used: usize,
+    /// Where the bytes behind the last text begin.
+    begun: usize,
+}
+
 /// What was gathered.
 #[derive(Clone, Debug)]
 pub(crate) struct Values {
-    pub(crate) callsite: u32,
-    count: usize,
-    row: [u64; FIELDS],
+    /// The number of the callsite, above four bits of its shape's that these have.
+    shape: u32,
     /// Four bits a field.
     types: u64,
-    texts: [Text; TEXTS],
-    texts_count: usize,
-    bytes: [u8; BYTES],
+    /// The words of a record, those in front of the values among them.
+    row: [u64; HEAD + 1 + FIELDS],
+    front: usize,
     used: usize,
+    /// Where there is a text that the program made.
+    texts: Option<Texts>,
 }
 
 /// An event that is kept beside its path until that is decided.
@@ -48,9 +62,10 @@ pub(crate) struct Held {
 #[derive(Debug)]
 pub(crate) struct Gathering<'a> {
     callsites: &'a Callsites,
-    /// The callsite's fields behind the one that came last, with the number of the next: a field doesn't tell its number.
-    fields: &'static FieldSet,
-    ahead: Iter,
+    callsite: Option<&'a Callsite>,
+    names: &'a [&'static str],
+    metadata: &'static Metadata<'static>,
+    /// The number of the field behind the one that came last.
     next: usize,
     /// Whether a field `dspec.keep` was true.
     pub(crate) keep: bool,
@@ -58,35 +73,53 @@ pub(crate) struct Gathering<'a> {
 }
 
 impl<'a> Gathering<'a> {
+    /// For an event, or for what a span is given later.
     #[inline]
-    pub(crate) fn new(callsites: &'a Callsites, callsite: u32, fields: &'static FieldSet) -> Gathering<'a> {
-        let values = Values {
-            callsite,
-            count: 0,
-            row: [0; FIELDS],
-            types: 0,
-            texts: [Text::default(); TEXTS],
-            texts_count: 0,
-            bytes: [0; BYTES],
-            used: 0,
-        };
-        Gathering { callsites, fields, ahead: fields.iter(), next: 0, keep: false, values }
+    pub(crate) fn new(callsites: &'a Callsites, metadata: &'static Metadata<'static>) -> Gathering<'a> {
+        Gathering::behind(HEAD, callsites, metadata)
     }
 
-    /// The number of a field. They come in order, but for what a caller does by hand.
+    /// For a span that begins.
+    #[inline]
+    pub(crate) fn of_span(callsites: &'a Callsites, metadata: &'static Metadata<'static>) -> Gathering<'a> {
+        Gathering::behind(HEAD + 1, callsites, metadata)
+    }
+
+    #[inline]
+    fn behind(front: usize, callsites: &'a Callsites, metadata: &'static Metadata<'static>) -> Gathering<'a> {
+        let (number, callsite) = callsites.of(metadata);
+        let names = callsite.map_or(&[][..], |callsite| &callsite.names);
+        let shape = number << 4 | NO_SHAPE;
+        let values = Values { shape, types: 0, row: [0; HEAD + 1 + FIELDS], front, used: front, texts: None };
+        Gathering { callsites, callsite, names, metadata, next: 0, keep: false, values }
+    }
+
+    /// Behind the last field.
+    #[inline]
+    pub(crate) fn end(&mut self) {
+        if let Some(callsite) = self.callsite {
+            self.values.shape = self.values.shape & !NO_SHAPE | callsite.shape(self.values.types);
+        }
+    }
+
+    /// The number of a field, which doesn't tell it. They come in order, but for what a caller does by hand.
     #[inline]
     fn number(&mut self, field: &Field) -> usize {
-        for _ in 0..2 {
-            for one in self.ahead.by_ref() {
+        match self.names.get(self.next) {
+            Some(one) if ptr::eq(*one, field.name()) => {
                 self.next += 1;
-                if one == *field {
-                    return self.next - 1;
-                }
+                self.next - 1
             }
-            self.ahead = self.fields.iter();
-            self.next = 0;
+            _ => self.number_of(field),
         }
-        FIELDS
+    }
+
+    /// The same, where a field without a value stands in front of it, or it doesn't stand behind the last.
+    #[cold]
+    fn number_of(&mut self, field: &Field) -> usize {
+        let found = self.metadata.fields().iter().position(|one| one == *field);
+        self.next = found.map_or(0, |at| at + 1);
+        found.unwrap_or(FIELDS)
     }
 
     #[inline]
@@ -95,98 +128,239 @@ impl<'a> Gathering<'a> {
         self.values.set(at, kind, value);
     }
 
-    fn text(&mut self, field: &Field, write: impl FnOnce(&mut Room<'_>) -> fmt::Result) {
+    #[inline]
+    fn text(&mut self, field: &Field, write: impl FnOnce(&mut Room<'_, 'a>) -> fmt::Result) {
         let at = self.number(field);
-        let mut room = Room { callsites: self.callsites, values: &mut self.values, literal: None, length: 0, cut: false };
-        let start = room.values.used;
+        let mut room = Room { gathering: self, literal: 0, length: 0 };
         // What a value's own `Debug` answers is no matter: what it wrote is there.
         let _ = write(&mut room);
         let Room { literal, length, .. } = room;
-        match literal {
-            Some(literal) => self.values.set(at, LITERAL, literal),
-            None => self.values.end_text(at, start, length),
+        if literal == 0 {
+            self.values.end_text(at, length);
+        } else {
+            self.values.set(at, literal, 0);
         }
     }
+}
+
+/// Of a record whose types stand among its words.
+pub(crate) const NO_SHAPE: u32 = 15;
+
+/// Whether a value of this type has a word.
+#[inline]
+fn has_word(kind: u64) -> bool {
+    kind != 0 && kind < LITERAL
 }
 
 impl Values {
     #[inline]
     fn set(&mut self, at: usize, kind: u64, value: u64) {
-        if at < FIELDS {
-            self.row[at] = value;
-            self.types = self.types & !(15 << (4 * at)) | kind << (4 * at);
-            self.count = self.count.max(at + 1);
+        if at >= FIELDS {
+            return;
+        }
+        if self.types >> (4 * at) != 0 {
+            self.set_again(at, kind, value);
+            return;
+        }
+        self.types |= kind << (4 * at);
+        if has_word(kind) {
+            self.row[self.used] = value;
+            self.used += 1;
         }
     }
 
-    /// The bytes from `start` on are a text of so many bytes, of which some may not have had room.
+    /// A field comes behind a later one, or once more.
+    #[cold]
+    fn set_again(&mut self, at: usize, kind: u64, value: u64) {
+        let mut all = [(0, 0); FIELDS];
+        let words = &self.row[self.front..self.used];
+        each(self.types, &mut words.iter().copied(), |field, kind, value| all[field] = (kind, value));
+        all[at] = (kind, value);
+        self.types = 0;
+        self.used = self.front;
+        for (field, (kind, value)) in all.into_iter().enumerate() {
+            self.set(field, kind, value);
+        }
+    }
+
+    /// The bytes behind the last text are one of so many bytes, of which some may not have had room.
     #[allow(clippy::cast_possible_truncation)] // there are fewer fields and bytes than 256
-    fn end_text(&mut self, at: usize, start: usize, length: usize) {
-        if self.texts_count < TEXTS && at < FIELDS {
-            self.texts[self.texts_count] = Text { field: at as u8, start: start as u8, length: (self.used - start) as u8 };
-            self.texts_count += 1;
-        } else {
-            self.used = start;
+    fn end_text(&mut self, at: usize, length: usize) {
+        let mut kept = 0;
+        if let Some(texts) = &mut self.texts {
+            let start = texts.begun;
+            if texts.count < TEXTS && at < FIELDS {
+                kept = texts.used - start;
+                texts.places[texts.count] = Text { field: at as u8, start: start as u8, length: kept as u8 };
+                texts.count += 1;
+                texts.begun = texts.used;
+            } else {
+                texts.used = start;
+            }
         }
-        self.set(at, TEXT_BEHIND, length as u64);
+        self.set(at, TEXT, (length as u64) << 16 | kept as u64);
     }
 
-    /// The values that there are, with the number and the type of each.
-    pub(crate) fn each(&self) -> impl Iterator<Item = (usize, u64, u64)> + '_ {
-        let each = self.row[..self.count].iter().enumerate();
-        each.map(|(at, &value)| (at, self.types >> (4 * at) & 15, value))
+    /// The words in front. `parent` is of a span that begins.
+    #[inline]
+    pub(crate) fn head(&mut self, path: PathId, span: u32, parent: u32) {
+        self.row[0] = path.raw();
+        self.row[1] = u64::from(self.shape) << 32 | u64::from(span);
+        if self.front > HEAD {
+            self.row[HEAD] = parent.into();
+        }
     }
 
+    /// The one record that these are, with its EPID; none where they are more than one, or their types have to be told.
+    #[inline]
+    pub(crate) fn alone(&self, first: u32) -> Option<(u32, &[u64])> {
+        let alone = self.texts.is_none() && self.used <= WORDS && self.shape & NO_SHAPE != NO_SHAPE;
+        alone.then(|| (nth(first, self.used - HEAD), &self.row[..self.used]))
+    }
+
+    /// Puts the record, and behind it on the same lane what belongs to it; where one of them has no room the next aren't offered. True: all
+    /// had. `put` answers whether one had, by its EPID and its words.
+    #[inline(never)]
+    pub(crate) fn put(&self, epid: u32, put: &mut dyn FnMut(u32, &[u64]) -> bool) -> bool {
+        let mut words = [0; HEAD + 2 + FIELDS + BYTES / 8];
+        let mut used = 0;
+        let types = [self.types];
+        let types = if self.shape & NO_SHAPE == NO_SHAPE { &types[..] } else { &[] };
+        for part in [&self.row[..self.front], types, &self.row[self.front..self.used]] {
+            words[used..used + part.len()].copy_from_slice(part);
+            used += part.len();
+        }
+        used += self.put_texts(&mut words[used..]);
+        let first = used.min(WORDS);
+        put(nth(epid, first - HEAD), &words[..first]) && words[first..used].chunks(WORDS).all(|part| put(nth(MORE, part.len() - 1), part))
+    }
+
+    /// The texts' bytes, one behind the other in the order of their fields. How many words they are.
+    fn put_texts(&self, words: &mut [u64]) -> usize {
+        let Some(texts) = &self.texts else { return 0 };
+        let mut bytes = 0;
+        for field in 0..FIELDS {
+            for &byte in texts.of(field) {
+                words[bytes / 8] |= u64::from(byte) << (8 * (bytes % 8));
+                bytes += 1;
+            }
+        }
+        bytes.div_ceil(8)
+    }
+
+    /// The number of their callsite.
+    pub(crate) fn callsite(&self) -> u32 {
+        self.shape >> 4
+    }
+
+    /// The values that there are, with the number of each field.
+    pub(crate) fn each(&self, callsites: &Callsites, mut with: impl FnMut(usize, Value)) {
+        let mut words = self.row[self.front..self.used].iter().copied();
+        each(self.types, &mut words, |field, kind, word| {
+            let text = self.texts.as_ref().map_or(&[][..], |texts| texts.of(field));
+            with(field, value_of(callsites.callsite(self.callsite()), kind, word, text));
+        });
+    }
+}
+
+impl Texts {
     /// What is here of the text of a field.
-    pub(crate) fn text(&self, at: usize) -> &[u8] {
-        let text = self.texts[..self.texts_count].iter().find(|text| usize::from(text.field) == at);
+    fn of(&self, field: usize) -> &[u8] {
+        let text = self.places[..self.count].iter().rfind(|text| usize::from(text.field) == field);
         text.map_or(&[], |text| &self.bytes[text.start.into()..][..text.length.into()])
+    }
+}
+
+/// The fields of these types, each with its type, and its word where it has one; as far as there are words.
+fn each(types: u64, words: &mut impl Iterator<Item = u64>, mut with: impl FnMut(usize, u64, u64)) {
+    for field in 0..FIELDS {
+        let kind = types >> (4 * field) & 15;
+        let word = if has_word(kind) { words.next() } else { Some(0) };
+        match word {
+            Some(_) if kind == 0 => {}
+            Some(word) => with(field, kind, word),
+            None => return,
+        }
+    }
+}
+
+/// A value of a type, not 0.
+fn value_of(callsite: Option<&Callsite>, kind: u64, word: u64, text: &[u8]) -> Value {
+    match kind {
+        U64 => Value::U64(word),
+        I64 => Value::I64(word.cast_signed()),
+        BOOL => Value::Bool(word != 0),
+        F64 => Value::F64(f64::from_bits(word)),
+        LITERAL.. => {
+            let text = callsite.and_then(|callsite| callsite.literal_of(kind - LITERAL)).unwrap_or("?");
+            Value::Text(text.to_owned(), text.len())
+        }
+        _ => Value::Text(String::from_utf8_lossy(text).into_owned(), usize::try_from(word >> 16).unwrap_or(usize::MAX)),
+    }
+}
+
+/// The values that words tell, with the number of each field; of a record of this shape, without the words in front. The words of some may not have had room.
+pub(crate) fn read(callsites: &Callsites, shape: u32, words: &[u64], mut with: impl FnMut(usize, Value)) {
+    let callsite = callsites.callsite(shape >> 4);
+    let mut words = words.iter().copied();
+    let types = match shape & 15 {
+        NO_SHAPE => words.next(),
+        known => callsite.and_then(|callsite| callsite.types_of(known)),
+    };
+    let mut fields = Vec::new();
+    each(types.unwrap_or(0), &mut words, |field, kind, word| fields.push((field, kind, word)));
+    let bytes: Vec<u8> = words.flat_map(u64::to_le_bytes).collect();
+    let mut rest = &bytes[..];
+    for (field, kind, word) in fields {
+        let length = if kind == TEXT { (word & 0xffff).min(rest.len() as u64) } else { 0 };
+        let (text, behind) = rest.split_at(usize::try_from(length).unwrap_or(0));
+        rest = behind;
+        with(field, value_of(callsite, kind, word, text));
     }
 }
 
 /// Writes what there is room for, and counts all. A single piece that is a literal of the callsite isn't written, but known by its number.
 #[derive(Debug)]
-struct Room<'b> {
-    callsites: &'b Callsites,
-    values: &'b mut Values,
-    literal: Option<u64>,
+struct Room<'g, 'a> {
+    gathering: &'g mut Gathering<'a>,
+    /// The type of the literal that is all so far; 0 for none.
+    literal: u64,
     length: usize,
-    /// Once a piece was cut, nothing stands behind it.
-    cut: bool,
 }
 
-impl Room<'_> {
-    #[inline]
+impl Room<'_, '_> {
+    /// A piece that isn't a literal alone.
     fn add(&mut self, text: &str) {
-        let used = self.values.used;
-        let mut count = if self.cut { 0 } else { text.len().min(BYTES - used) };
+        let literal = std::mem::take(&mut self.literal);
+        if literal != 0 {
+            self.length = 0;
+            let first = self.gathering.callsite.and_then(|callsite| callsite.literal_of(literal - LITERAL));
+            self.add(first.unwrap_or_default());
+        }
+        let none = || Texts { places: [Text::default(); TEXTS], count: 0, bytes: [0; BYTES], used: 0, begun: 0 };
+        let texts = self.gathering.values.texts.get_or_insert_with(none);
+        let used = texts.used;
+        // Once a piece was cut, nothing stands behind it.
+        let cut = self.length > used - texts.begun;
+        let mut count = if cut { 0 } else { text.len().min(BYTES - used) };
         while !text.is_char_boundary(count) {
             count -= 1;
         }
-        self.cut |= count < text.len();
-        self.values.bytes[used..used + count].copy_from_slice(&text.as_bytes()[..count]);
-        self.values.used += count;
+        texts.bytes[used..used + count].copy_from_slice(&text.as_bytes()[..count]);
+        texts.used += count;
         self.length += text.len();
     }
 }
 
-impl Write for Room<'_> {
+impl Write for Room<'_, '_> {
     #[inline]
     fn write_str(&mut self, text: &str) -> fmt::Result {
-        if text.is_empty() {
-            return Ok(());
-        }
         if self.length == 0 {
-            if let Some(literal) = self.callsites.literal(self.values.callsite, text) {
-                self.literal = Some(literal);
+            if let Some(literal) = self.gathering.callsite.and_then(|callsite| callsite.literal(text, self.gathering.callsites)) {
+                self.literal = LITERAL + literal;
                 self.length = text.len();
                 return Ok(());
             }
-        } else if let Some(literal) = self.literal.take() {
-            self.length = 0;
-            let callsites = self.callsites;
-            let first = callsites.literal_of(self.values.callsite, literal).unwrap_or_default();
-            self.add(first);
         }
         self.add(text);
         Ok(())
@@ -222,57 +396,110 @@ impl Visit for Gathering<'_> {
     }
 }
 
-impl Values {
-    /// Puts the record, and behind it on the same lane what belongs to it; where one of them has no room the next aren't offered. True: all
-    /// had. `put` answers whether one had, by its EPID and its values.
-    pub(crate) fn put(&self, path: PathId, epid: u32, span: u32, parent: Option<u32>, mut put: impl FnMut(u32, &[u64]) -> bool) -> bool {
-        let mut row = [0; 8];
-        row[0] = path.raw();
-        row[1] = u64::from(self.callsite) | (self.types & 0xffff_ffff) << 32;
-        row[2] = span.into();
-        let (front, room) = match parent {
-            Some(parent) => {
-                row[3] = parent.into();
-                (4, OPEN_VALUES)
-            }
-            None => (3, EVENT_VALUES),
-        };
-        let inside = self.count.min(room);
-        row[front..front + inside].copy_from_slice(&self.row[..inside]);
-        if !put(nth(epid, inside), &row[..front + inside]) {
-            return false;
-        }
-        let mut done = inside;
-        while done < self.count {
-            let rest = &self.row[done..self.count.min(done + MORE_VALUES)];
-            row[..rest.len()].copy_from_slice(rest);
-            row[rest.len()] = self.types >> (4 * done) & 0xffff_ffff;
-            if !put(nth(MORE, rest.len() - 1), &row[..=rest.len()]) {
-                return false;
-            }
-            done += rest.len();
-        }
-        self.texts[..self.texts_count].iter().all(|text| self.put_text(*text, &mut put))
-    }
-
-    fn put_text(&self, text: Text, put: &mut impl FnMut(u32, &[u64]) -> bool) -> bool {
-        let bytes = &self.bytes[text.start.into()..][..text.length.into()];
-        bytes.chunks(8 * TEXT_WORDS).all(|part| {
-            let mut row = [0; 1 + TEXT_WORDS];
-            row[0] = text.field.into();
-            let words = part.len().div_ceil(8);
-            for (word, bytes) in row[1..].iter_mut().zip(part.chunks(8)) {
-                let mut eight = [0; 8];
-                eight[..bytes.len()].copy_from_slice(bytes);
-                *word = u64::from_le_bytes(eight);
-            }
-            put(nth(TEXT, words - 1), &row[..=words])
-        })
-    }
-}
-
 /// The EPID that many behind the first of its kind.
+#[inline]
 #[allow(clippy::cast_possible_truncation)] // there are 64 at most
 fn nth(first: u32, behind: usize) -> u32 {
     first + behind as u32
+}
+
+#[cfg(test)]
+mod tests {
+    use super::{read, Gathering, Values, NO_SHAPE};
+    use crate::callsites::Callsites;
+    use crate::path_id::PathId;
+    use crate::schema::{EVENT, HEAD, MORE};
+    use crate::sink::Value;
+    use tracing::field::Empty;
+    use tracing_core::field::Visit;
+    use tracing_core::Metadata;
+
+    fn metadata() -> &'static Metadata<'static> {
+        let span = || tracing::info_span!("span", a = Empty, b = Empty, c = Empty, d = Empty).metadata();
+        tracing::subscriber::with_default(tracing_subscriber::registry(), span).unwrap()
+    }
+
+    /// What is read of the first so many records, and how many there are.
+    fn read_again(callsites: &Callsites, values: &mut Values, records: usize) -> (Vec<(usize, Value)>, usize) {
+        let (mut words, mut count) = (Vec::new(), 0);
+        values.head(PathId::NONE, 1, 0);
+        let mut put = |epid: u32, row: &[u64]| {
+            let first = if count == 0 { (EVENT, HEAD) } else { (MORE, 1) };
+            assert_eq!(epid as usize, first.0 as usize + row.len() - first.1);
+            count += 1;
+            if count <= records {
+                words.extend_from_slice(row);
+            }
+            true
+        };
+        match values.alone(EVENT) {
+            Some((epid, row)) => put(epid, row),
+            None => values.put(EVENT, &mut put),
+        };
+        let mut found = Vec::new();
+        read(callsites, u32::try_from(words[1] >> 32).unwrap(), &words[HEAD..], |field, value| found.push((field, value)));
+        (found, count)
+    }
+
+    fn text(text: &str, length: usize) -> Value {
+        Value::Text(text.to_owned(), length)
+    }
+
+    #[test]
+    fn fields_by_hand_in_any_order() {
+        let (callsites, metadata) = (Callsites::new(), metadata());
+        let field = |name| metadata.fields().field(name).unwrap();
+        let mut gathering = Gathering::new(&callsites, metadata);
+        gathering.record_str(&field("c"), &String::from("made last"));
+        gathering.record_u64(&field("a"), 1);
+        gathering.record_str(&field("b"), &String::from("made"));
+        gathering.record_u64(&field("a"), 2);
+        gathering.end();
+        let due = vec![(0, Value::U64(2)), (1, text("made", 4)), (2, text("made last", 9))];
+        assert_eq!(read_again(&callsites, &mut gathering.values, 9), (due.clone(), 1));
+        let mut held = Vec::new();
+        gathering.values.each(&callsites, |field, value| held.push((field, value)));
+        assert_eq!(held, due);
+    }
+
+    #[test]
+    fn a_text_whose_end_had_no_room() {
+        let (callsites, metadata) = (Callsites::new(), metadata());
+        let field = |name| metadata.fields().field(name).unwrap();
+        let mut gathering = Gathering::new(&callsites, metadata);
+        gathering.record_str(&field("a"), &"x".repeat(100));
+        gathering.record_i64(&field("b"), -1);
+        gathering.record_str(&field("d"), &"y".repeat(200));
+        gathering.end();
+        let due = |first: usize, second: usize| {
+            vec![(0, text(&"x".repeat(first), 100)), (1, Value::I64(-1)), (3, text(&"y".repeat(second), 200))]
+        };
+        // Three words are values, three of the first record and eight of each behind it texts.
+        assert_eq!(read_again(&callsites, &mut gathering.values, 9), (due(100, 140), 5));
+        assert_eq!(read_again(&callsites, &mut gathering.values, 2), (due(88, 0), 5));
+        assert_eq!(read_again(&callsites, &mut gathering.values, 1), (due(24, 0), 5));
+    }
+
+    #[test]
+    fn more_shapes_than_a_callsite_has_room_for() {
+        let (callsites, metadata) = (Callsites::new(), metadata());
+        let mut told = 0;
+        for combination in 0..81u64 {
+            let (mut gathering, mut due, mut rest) = (Gathering::new(&callsites, metadata), Vec::new(), combination);
+            for (at, field) in metadata.fields().iter().enumerate() {
+                if rest % 3 == 1 {
+                    gathering.record_bool(&field, true);
+                    due.push((at, Value::Bool(true)));
+                } else if rest % 3 == 2 {
+                    gathering.record_u64(&field, combination);
+                    due.push((at, Value::U64(combination)));
+                }
+                rest /= 3;
+            }
+            gathering.end();
+            told += u32::from(gathering.values.shape & NO_SHAPE == NO_SHAPE);
+            assert_eq!(read_again(&callsites, &mut gathering.values, 9), (due, 1));
+        }
+        assert_eq!(told, 81 - NO_SHAPE);
+    }
 }

@@ -20,14 +20,14 @@ impl Cpu {
     /// # Errors
     ///
     /// [`Error::BadRecord`] alone: nothing was done, and nothing counted.
+    #[inline]
     pub fn trace(&mut self, epid: Epid, stamp: u64, values: &[u64]) -> Result<Traced, Error> {
         // SAFETY: the pointer is to as many values as is told, and the handle is in no other call.
-        match unsafe { raw::dspec_trace(self.handle.at(), epid.raw(), stamp, values.as_ptr(), values.len()) } {
-            raw::OK => Ok(Traced::Kept),
-            raw::DROPPED => Ok(Traced::Dropped),
-            raw::STOPPED => Ok(Traced::Stopped),
-            raw::WORN => Ok(Traced::Worn),
-            other => Err(Error::of(other)),
+        let status = unsafe { raw::dspec_trace(self.handle.at(), epid.raw(), stamp, values.as_ptr(), values.len()) };
+        if status == raw::OK {
+            Ok(Traced::Kept)
+        } else {
+            not_traced(status)
         }
     }
 
@@ -55,15 +55,14 @@ impl Cpu {
     /// # Errors
     ///
     /// [`Error::BadRecord`] alone: nothing was done, and nothing counted.
+    #[inline]
     pub fn speculate(&mut self, id: SpecId, epid: Epid, stamp: u64, values: &[u64]) -> Result<Spoken, Error> {
         // SAFETY: as in `trace`.
-        match unsafe { raw::dspec_speculate(self.handle.at(), id.raw(), epid.raw(), stamp, values.as_ptr(), values.len()) } {
-            raw::OK => Ok(Spoken::Kept),
-            raw::DROPPED => Ok(Spoken::Dropped),
-            raw::VOID => Ok(Spoken::Void),
-            raw::STOPPED => Ok(Spoken::Stopped),
-            raw::WORN => Ok(Spoken::Worn),
-            other => Err(Error::of(other)),
+        let status = unsafe { raw::dspec_speculate(self.handle.at(), id.raw(), epid.raw(), stamp, values.as_ptr(), values.len()) };
+        if status == raw::OK {
+            Ok(Spoken::Kept)
+        } else {
+            not_spoken(status)
         }
     }
 
@@ -113,6 +112,29 @@ impl Drop for Cpu {
     fn drop(&mut self) {
         // SAFETY: the handle is in no other call. A refusal leaves it to its own drop.
         unsafe { raw::dspec_cpu_home(self.handle.at()) };
+    }
+}
+
+// What seldom comes stands apart, so that the call before it is short where it goes into its caller.
+
+#[cold]
+fn not_traced(status: Status) -> Result<Traced, Error> {
+    match status {
+        raw::DROPPED => Ok(Traced::Dropped),
+        raw::STOPPED => Ok(Traced::Stopped),
+        raw::WORN => Ok(Traced::Worn),
+        other => Err(Error::of(other)),
+    }
+}
+
+#[cold]
+fn not_spoken(status: Status) -> Result<Spoken, Error> {
+    match status {
+        raw::DROPPED => Ok(Spoken::Dropped),
+        raw::VOID => Ok(Spoken::Void),
+        raw::STOPPED => Ok(Spoken::Stopped),
+        raw::WORN => Ok(Spoken::Worn),
+        other => Err(Error::of(other)),
     }
 }
 

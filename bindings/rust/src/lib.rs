@@ -54,6 +54,7 @@
 
 mod answers;
 mod batch;
+mod clock;
 mod closed;
 mod consumer;
 mod cpu;
@@ -67,6 +68,7 @@ mod session;
 
 pub use answers::{Decided, Epid, Opening, Report, Served, SpecId, Spoken, Traced};
 pub use batch::{Batch, Record, Records};
+pub use clock::monotonic;
 pub use closed::{Closed, Rest};
 pub use consumer::Consumer;
 pub use cpu::Cpu;
