@@ -1,14 +1,21 @@
 -- Cited by calls. The metadata of a trace: text in the format's language, which says how its packets and events are laid out.
-use Rattle.std.specs.Prelude.{ℕ, ◌+◌, ◌/◌, ◌%◌, false, List, [], ◌∷◌, ◌++◌, length, take, drop, slice_get, map, codes, decimal}
+use Rattle.std.specs.Prelude.{ℕ, ◌+◌, ◌/◌, ◌%◌, false, List, [], ◌∷◌, ◌++◌, length, take, drop, slice_get, slice_index_or, codes, decimal, Option, None}
 use Rattle.std.specs.Fmt.{digit_glyph}
 use Rattle.std.specs.Option.{option_map_or}
-use Rattle.std.specs.List.{flat_map, zip, enumerate_from, range_with_len}
+use Rattle.std.specs.List.{flat_map, enumerate_from, range_with_len}
 use Rattle.dspec_record.specs.EnablingRows.{EnabledRows}
 use Rattle.dspec_record.specs.declared.field.Field.{Field}
 use Rattle.dspec_record.specs.declared.field.Field.TheVariants.{One, Two, Four, Eight}
 use Rattle.dspec_record.specs.declared.header.Header.{Header}
 use Rattle.dspec_record.specs.declared.header.Header.TheVariants as header
+use Rattle.dspec_probe.specs.declared.kind.Kind.{Kind}
+use Rattle.dspec_probe.specs.declared.kind.Kind.TheVariants.{Unsigned, Signed, Float}
+use Rattle.dspec_probe.specs.declared.probes.ProbeNames.{ProbeNames}
 use Rattle.dspec_ctf.specs.Packets.{event_fields}
+use Rattle.dspec_ctf.specs.Names.{labels_at}
+use Rattle.dspec_ctf.specs.declared.origin.Process.{Process}
+use Rattle.dspec_ctf.specs.declared.origin.ClockStart.{ClockStart}
+use Rattle.dspec_ctf.specs.declared.origin.Origin.{Origin}
 use Rattle.dspec_ctf.specs.declared.names.Names.{Names}
 use Rattle.dspec_ctf.specs.declared.names.Names.TheVariants.{Numbered, Given}
 use Rattle.dspec_ctf.specs.declared.form.Form.{Form}
@@ -44,16 +51,33 @@ trace_front = codes "\ntrace {\n\tmajor = 1;\n\tminor = 8;\n\tuuid = \""
 unfoldable pub trace_back : List ℕ
 trace_back =
     codes "\";\n\tbyte_order = le;\n\tpacket.header := struct {\n\t\tuint32_t magic;\n\t\tuint8_t uuid[16];\n\t\tuint32_t stream_id;\n\t};\n};\n\nenv {\n"
-    ++ codes "\ttracer_name = \"sidingyarrow\";\n};\n"
 
 abbrev pub trace_text : List ℕ → List ℕ
 trace_text u = trace_front ++ uuid_text u ++ trace_back
 
+-- a process, by the words that other tools know
+unfoldable pub process_text : Process → List ℕ
+process_text p = codes "\thostname = \"" ++ p.host.now ++ codes "\";\n\tprocname = \"" ++ p.name.now
+    ++ codes "\";\n\tvpid = " ++ decimal p.pid ++ codes ";\n"
+
+-- what surrounds the trace, in braces that are open already: the process, if it is told, and who wrote this
+abbrev pub environment_text : Option Process → List ℕ
+environment_text process = option_map_or process_text process [] ++ codes "\ttracer_name = \"sidingyarrow\";\n};\n"
+
+-- the uuid of a clock that several processes read
+abbrev pub clock_uuid : List ℕ → List ℕ
+clock_uuid u = codes "\tuuid = \"" ++ uuid_text u ++ codes "\";\n"
+
+-- where a clock began, from 1970 on
+unfoldable pub clock_start : ClockStart → List ℕ
+clock_start start = option_map_or clock_uuid start.clock [] ++ codes "\toffset_s = " ++ decimal start.seconds ++ codes ";\n"
+    ++ codes "\toffset = " ++ decimal start.ticks ++ codes ";\n\tabsolute = true;\n"
+
 -- the clock of a trace by time, whose ticks a second are known
-abbrev pub clock_text : Form → List ℕ
-clock_text AsTaken = []
-clock_text (ByTime frequency) = codes "\nclock {\n\tname = stamp;\n\tfreq = " ++ decimal frequency
-    ++ codes ";\n};\n\ntypealias integer { size = 64; align = 8; signed = false; map = clock.stamp.value; } := stamp_t;\n"
+abbrev pub clock_text : Option ClockStart → Form → List ℕ
+clock_text start AsTaken = []
+clock_text start (ByTime frequency) = codes "\nclock {\n\tname = stamp;\n\tfreq = " ++ decimal frequency ++ codes ";\n" ++ option_map_or clock_start start []
+    ++ codes "};\n\ntypealias integer { size = 64; align = 8; signed = false; map = clock.stamp.value; } := stamp_t;\n"
 
 -- the context of packets, and the header of events; by time both have stamps
 abbrev pub stream_text : Form → List ℕ
@@ -72,6 +96,30 @@ type_name Two = codes "uint16_t"
 type_name Four = codes "uint32_t"
 type_name Eight = codes "uint64_t"
 
+-- The type of a number by what it means. No value of one or two bytes is a float.
+abbrev pub kind_type : Kind → Field → List ℕ
+kind_type Unsigned f = type_name f
+kind_type Signed One = codes "integer { size = 8; align = 8; signed = true; }"
+kind_type Signed Two = codes "integer { size = 16; align = 8; signed = true; }"
+kind_type Signed Four = codes "integer { size = 32; align = 8; signed = true; }"
+kind_type Signed Eight = codes "integer { size = 64; align = 8; signed = true; }"
+kind_type Float Four = codes "floating_point { exp_dig = 8; mant_dig = 24; align = 8; }"
+kind_type Float Eight = codes "floating_point { exp_dig = 11; mant_dig = 53; align = 8; }"
+kind_type Float f = type_name f
+
+-- what a number is called
+abbrev pub label_item : ℕ × List ℕ → List ℕ
+label_item p = codes "\"" ++ p.1 ++ codes "\" = " ++ decimal p.0 ++ codes ", "
+
+unfoldable pub label_items : List (List ℕ) → List ℕ
+label_items labels = flat_map label_item (enumerate_from 0 labels)
+
+-- the type of numbers of which those from 0 on are called so: an enumeration, but of floats, and where there are no labels
+unfoldable pub labelled_type : Kind → List (List ℕ) → Field → List ℕ
+labelled_type Float labels f = kind_type Float f
+labelled_type kind [] f = kind_type kind f
+labelled_type kind (l ∷ ls) f = codes "enum : " ++ kind_type kind f ++ codes " { " ++ label_items (l ∷ ls) ++ codes "}"
+
 -- a field with its name
 abbrev pub field_line : List ℕ → Field → List ℕ
 field_line name f = codes "\t\t" ++ type_name f ++ codes " " ++ name ++ codes ";\n"
@@ -80,8 +128,14 @@ field_line name f = codes "\t\t" ++ type_name f ++ codes " " ++ name ++ codes ";
 abbrev pub numbered_lines : List Field → List ℕ
 numbered_lines fs = flat_map (λ p. field_line (codes "arg_" ++ decimal p.0) p.1) (enumerate_from 0 fs)
 
-abbrev pub given_lines : List (List ℕ) → List Field → List ℕ
-given_lines names fs = flat_map (λ p. field_line p.0 p.1) (zip names fs)
+-- a field that has a name, what it means and labels by its place
+unfoldable pub given_line : ProbeNames → ℕ → Field → List ℕ
+given_line n place f =
+    option_map_or (λ name. codes "\t\t" ++ labelled_type (slice_index_or n.kinds place Unsigned) (labels_at n place) f ++ codes " " ++ name.now ++ codes ";\n")
+    (slice_get n.fields.now place) []
+
+abbrev pub given_lines : ProbeNames → List Field → List ℕ
+given_lines n fs = flat_map (λ p. given_line n p.0 p.1) (enumerate_from 0 fs)
 
 -- the stamp as a field: as taken, where records have one
 abbrev pub stamp_line : Form → Header → List ℕ
@@ -97,7 +151,7 @@ event_name (Given names) place = option_map_or (λ n. n.event.now) (slice_get na
 unfoldable pub field_lines : Names → ℕ → List Field → List ℕ
 field_lines Numbered place fs = numbered_lines fs
 field_lines (Given names) place fs =
-    option_map_or (λ n. given_lines (map (λ name. name.now) n.fields.now) fs) (slice_get names.now place) []
+    option_map_or (λ n. given_lines n fs) (slice_get names.now place) []
 
 -- an event up to its name
 unfoldable pub event_number : ℕ → List ℕ
@@ -113,6 +167,10 @@ event_text form e names place = event_front names place ++ stamp_line form e.hea
     ++ field_lines names place (event_fields e (place + 1)) ++ codes "\t};\n};\n"
 
 -- the whole text
-unfoldable pub metadata_text : List ℕ → Form → EnabledRows → Names → List ℕ
-metadata_text uuid form e names = types_text ++ trace_text uuid ++ clock_text form ++ stream_text form
+unfoldable pub origin_text : Origin → Form → EnabledRows → Names → List ℕ
+origin_text origin form e names = types_text ++ trace_text origin.uuid ++ environment_text origin.process ++ clock_text origin.start form ++ stream_text form
     ++ flat_map (event_text form e names) (range_with_len 0 (length e.rows))
+
+-- where nothing is told but the uuid
+abbrev pub metadata_text : List ℕ → Form → EnabledRows → Names → List ℕ
+metadata_text uuid form e names = origin_text (record { uuid = uuid; process = None; start = None }) form e names

@@ -1,7 +1,7 @@
 -- Cited by calls. Which names events and fields may have, and which of them is the first that they may not.
 use Rattle.std.specs.Prelude.{ℕ, ◌+◌, ◌==◌, not, nat_le, nat_lt, Bool, true, false, ◌&&◌, ◌||◌, List, []}
 use Rattle.std.specs.Prelude.{◌∷◌, length, map, take, slice_get, slice_index_or, codes, Option, Some, None, option_and_then, if◌then◌else◌}
-use Rattle.std.specs.Option.{option_map}
+use Rattle.std.specs.Option.{option_map, option_map_or}
 use Rattle.std.specs.List.{list_any, list_all, range_with_len}
 use Rattle.std.specs.Str.{bytes_eq}
 use Rattle.dspec_record.specs.EnablingRows.{EnabledRows}
@@ -12,14 +12,16 @@ use Rattle.dspec_ctf.specs.Packets.{event_fields}
 use Rattle.dspec_ctf.specs.declared.form.Form.{Form}
 use Rattle.dspec_ctf.specs.declared.form.Form.TheVariants.{AsTaken, ByTime}
 use Rattle.dspec_probe.specs.declared.probes.ProbeNames.{ProbeNames}
+use Rattle.dspec_ctf.specs.declared.origin.Process.{Process}
+use Rattle.dspec_ctf.specs.declared.origin.Origin.{Origin}
 use Rattle.dspec_ctf.specs.declared.names.Names.{Names}
 use Rattle.dspec_ctf.specs.declared.names.Names.TheVariants.{Numbered, Given}
 use Rattle.dspec_ctf.specs.declared.fault.NameKind.{NameKind}
 use Rattle.dspec_ctf.specs.declared.fault.NameKind.TheVariants.{TooLong, NotAnIdentifier, Reserved, Repeated}
 use Rattle.dspec_ctf.specs.declared.fault.MetadataFault.{MetadataFault}
-use Rattle.dspec_ctf.specs.declared.fault.MetadataFault.TheVariants.{NoStamp, NoFrequency, Name}
+use Rattle.dspec_ctf.specs.declared.fault.MetadataFault.TheVariants.{NoStamp, NoFrequency, Name, HostName, ProcessName}
 use Rattle.dspec_ctf.specs.declared.fault.NameFault.{NameFault}
-use Rattle.dspec_ctf.specs.declared.fault.NameFault.TheVariants.{EventCount, Event, FieldCount, Field as FieldName}
+use Rattle.dspec_ctf.specs.declared.fault.NameFault.TheVariants.{EventCount, Event, FieldCount, Field as FieldName, Label}
 
 -- an English letter or the underscore
 unfoldable pub is_letter : ℕ → Bool
@@ -82,16 +84,42 @@ abbrev pub has_stamp : Form → Header → Bool
 has_stamp AsTaken header.Two = true
 has_stamp _ _ = false
 
+-- a text of one line in quotes: printable ASCII without quotes and backslashes, one byte at least
+unfoldable pub is_label_byte : ℕ → Bool
+is_label_byte b = (nat_le 32 b && nat_le b 126) && not (b == 34 || b == 92)
+
+unfoldable pub is_label : List ℕ → Bool
+is_label label = (nat_le 1 (length label) && nat_le (length label) 255) && list_all is_label_byte label
+
+-- what the values of the field at a place are called, 0 first
+abbrev pub labels_at : ProbeNames → ℕ → List (List ℕ)
+labels_at n place = option_map_or (λ all. option_map_or (λ ls. map (λ l. l.now) ls.now) (slice_get all.now place) []) n.labels []
+
+-- the first of them that can't be shown
+unfoldable pub bad_label_at : List (List ℕ) → ℕ → Option ℕ
+bad_label_at labels number = if is_label (slice_index_or labels number []) then None else Some number
+
+unfoldable pub first_bad_label : List (List ℕ) → Option ℕ
+first_bad_label labels = first_found (bad_label_at labels) (range_with_len 0 (length labels))
+
+-- the same of the labels of the field at a place of an event
+unfoldable pub label_fault_at : ℕ → ProbeNames → ℕ → Option NameFault
+label_fault_at epid n place = option_map (λ number. Label epid place number) (first_bad_label (labels_at n place))
+
+unfoldable pub labels_fault : ℕ → ProbeNames → Option NameFault
+labels_fault epid n = first_found (label_fault_at epid n) (range_with_len 0 (length n.fields.now))
+
 -- what is wrong with the names of the fields of an event
 unfoldable pub fields_fault : Bool → ℕ → List (List ℕ) → List Field → Option NameFault
 fields_fault stamped epid names fs =
     if length names == length fs then option_map (λ bad. FieldName epid bad.0 bad.1) (first_bad stamped names)
     else Some (FieldCount epid)
 
--- the same of the event at a place
+-- the same of the event at a place, and what is wrong with the labels of its fields
 unfoldable pub fault_at : Bool → EnabledRows → List ProbeNames → ℕ → Option NameFault
 fault_at stamped e given place =
-    option_and_then (λ n. fields_fault stamped (place + 1) (map (λ name. name.now) n.fields.now) (event_fields e (place + 1))) (slice_get given place)
+    option_and_then (λ n. earlier (fields_fault stamped (place + 1) (map (λ name. name.now) n.fields.now) (event_fields e (place + 1))) (labels_fault (place + 1) n))
+    (slice_get given place)
 
 -- what is wrong with the names of the events, one for each enabling
 unfoldable pub events_fault : List (List ℕ) → Option NameFault
@@ -115,3 +143,11 @@ form_fault (ByTime frequency) header.Two = if frequency == 0 then Some NoFrequen
 -- why a trace has no metadata
 unfoldable pub metadata_fault : Form → EnabledRows → Names → Option MetadataFault
 metadata_fault form e names = earlier (form_fault form e.header) (option_map (λ fault. Name fault) (names_fault form e names))
+
+-- a text of the process that can't be shown
+unfoldable pub process_fault : Process → Option MetadataFault
+process_fault p = if not (is_label p.host.now) then Some HostName else if not (is_label p.name.now) then Some ProcessName else None
+
+-- why a trace of this origin has no metadata
+unfoldable pub origin_fault : Origin → Form → EnabledRows → Names → Option MetadataFault
+origin_fault origin form e names = earlier (metadata_fault form e names) (option_and_then process_fault origin.process)

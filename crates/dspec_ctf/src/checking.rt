@@ -1,7 +1,7 @@
 ghost use Rattle.std.specs.Prelude.{◌≡◌, ◌<◌, ◌≤◌, ◌^◌, length, map, IfOk, IfSome};
 ghost use Rattle.std.specs.List.{list_all, list_any, range_with_len};
 ghost use Rattle.std.specs.Str.{bytes_eq};
-ghost use Rattle.dspec_ctf.specs.Names.{is_letter, is_word_byte, begins_well, is_identifier, reserved_words, unfit, bad_name, bad_at, first_bad, first_found, fields_fault, fault_at, events_fault, names_fault, has_stamp};
+ghost use Rattle.dspec_ctf.specs.Names.{is_letter, is_word_byte, begins_well, is_identifier, reserved_words, unfit, bad_name, bad_at, first_bad, first_found, is_label_byte, is_label, labels_at, bad_label_at, first_bad_label, label_fault_at, labels_fault, fields_fault, fault_at, events_fault, names_fault, has_stamp};
 
 use crate::printing::fields_at;
 use crate::{Form, NameFault, NameKind, Names, ProbeNames};
@@ -172,7 +172,94 @@ fn fields_fault(stamped: bool, epid: u32, names: &[&str], fields: &[Field]) -> O
     }
 }
 
-/// The same of the event at a place.
+/// Whether this byte can stand in a label.
+#[tactic(auto, unfolding(crate::specs::Names::is_label_byte))]
+fn is_label_byte(byte: u8) -> bool
+    ensures { result ≡ is_label_byte byte }
+{
+    (32..=126).contains(&byte) && !(byte == b'"' || byte == b'\\')
+}
+
+/// Whether these bytes can.
+fn are_label_bytes(label: &[u8]) -> bool
+    ensures { result ≡ list_all is_label_byte label.now }
+{
+    label.iter().all(|byte| is_label_byte(*byte))
+}
+
+/// Whether a label can be shown.
+#[tactic(auto, unfolding(crate::specs::Names::is_label))]
+pub(crate) fn is_label(label: &str) -> bool
+    ensures { result ≡ is_label label.now }
+{
+    (1 <= label.len() && label.len() <= MAX_NAME) && are_label_bytes(label.as_bytes())
+}
+
+/// What the values of the field at a place are called, 0 first.
+pub(crate) fn labels_at<'a>(event: &ProbeNames<'a>, place: usize) -> &'a [&'a str]
+    ensures { map (λ label. label.now) result.now ≡ labels_at event.now place }
+{
+    let Some(all) = event.labels else {
+        return &[];
+    };
+    match all.get(place) {
+        Some(labels) => labels,
+        None => &[],
+    }
+}
+
+/// The label with this number, if it can't be shown.
+#[tactic(auto, using(crate::proofs::Lines::now_at), unfolding(crate::specs::Names::bad_label_at))]
+fn bad_label_at(labels: &[&str], number: usize) -> Option<usize>
+    requires { number < length labels.now }
+    ensures { result ≡ bad_label_at (map (λ label. label.now) labels.now) number }
+{
+    if is_label(labels[number]) {
+        return None;
+    }
+    Some(number)
+}
+
+/// The first label that can't be shown.
+#[tactic(auto, unfolding(crate::specs::Names::first_bad_label))]
+fn first_bad_label(labels: &[&str]) -> Option<usize>
+    ensures { result ≡ first_bad_label (map (λ label. label.now) labels.now) }
+{
+    for number in 0..labels.len() {
+        let found = bad_label_at(labels, number);
+        if found.is_some() {
+            return found;
+        }
+    }
+    None
+}
+
+/// What is wrong with the labels of the field at a place.
+#[tactic(auto, unfolding(crate::specs::Names::label_fault_at))]
+fn label_fault_at(epid: u32, event: &ProbeNames<'_>, place: usize) -> Option<NameFault>
+    ensures { result ≡ label_fault_at epid event.now place }
+{
+    match first_bad_label(labels_at(event, place)) {
+        Some(value) => Some(NameFault::Label { epid, place, value }),
+        None => None,
+    }
+}
+
+/// What is wrong with the labels of an event's fields.
+#[tactic(auto, unfolding(crate::specs::Names::labels_fault))]
+fn labels_fault(epid: u32, event: &ProbeNames<'_>) -> Option<NameFault>
+    ensures { result ≡ labels_fault epid event.now }
+{
+    for place in 0..event.fields.len() {
+        let found = label_fault_at(epid, event, place);
+        if found.is_some() {
+            return found;
+        }
+    }
+    None
+}
+
+/// The same of names and labels of the event at a place.
 #[tactic(auto, unfolding(crate::specs::Names::fault_at))]
 fn fault_at(
     stamped: bool,
@@ -184,10 +271,14 @@ fn fault_at(
     ensures { result ≡ fault_at stamped enablings.now given.now place }
 {
     let epid = place + 1;
-    match given.get(place as usize) {
-        Some(event) => fields_fault(stamped, epid, event.fields, fields_at(enablings, epid)),
-        None => None,
+    let Some(event) = given.get(place as usize) else {
+        return None;
+    };
+    let fault = fields_fault(stamped, epid, event.fields, fields_at(enablings, epid));
+    if fault.is_some() {
+        return fault;
     }
+    labels_fault(epid, event)
 }
 
 /// The same of the first event of which there is something wrong.

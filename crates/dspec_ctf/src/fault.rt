@@ -39,6 +39,14 @@ pub enum NameFault {
     FieldCount {
         epid: u32,
     },
+    /// A label of a field's values, by its event's EPID, the field's place and the value, from 0 on: it is empty, has more than 255
+    /// bytes, or one that isn't printable ASCII, or a quote or a backslash.
+    #[error("event {epid}, field {place}: label {value} can't be shown")]
+    Label {
+        epid: u32,
+        place: usize,
+        value: usize,
+    },
     /// The name of a field, by its event's EPID and its place, from 0 on.
     #[error("event {epid}, field {place}: {kind}")]
     Field {
@@ -60,6 +68,12 @@ pub enum MetadataFault {
     /// A name can't be used.
     #[error("{0}")]
     Name(NameFault),
+    /// The machine's name is no text of one line, as `Process` wants it.
+    #[error("the host's name can't be shown")]
+    HostName,
+    /// The program's name is none.
+    #[error("the process's name can't be shown")]
+    ProcessName,
     /// A growth was refused.
     #[error("out of memory")]
     Memory,

@@ -1,112 +1,14 @@
-ghost use Rattle.std.specs.Prelude.{◌≡◌, ◌<◌, ◌+◌, ◌^◌, ◌++◌, false, ◌⊎◌, length, map, Some, None, IfOk, IfErr, OnOk, string_bytes};
-ghost use Rattle.std.specs.Fmt.{digit_glyph};
-ghost use Rattle.dspec_ctf.specs.Metadata.{hex_byte, hex, hyphened, uuid_text, types_text, trace_front, trace_back, trace_text, clock_text, stream_text, type_name, numbered_lines, given_lines, stamp_line, event_name, field_lines, event_number, event_front, event_text, metadata_text};
-ghost use Rattle.dspec_ctf.specs.Packets.{event_fields};
-ghost use Rattle.dspec_ctf.specs.Names.{form_fault, metadata_fault};
-ghost use Rattle.dspec_ctf.specs.declared.fault.MetadataFault.TheVariants.{Memory};
+ghost use Rattle.std.specs.Prelude.{◌≡◌, ◌<◌, ◌^◌, ◌++◌, length, map, slice_index_or, OnOk, string_bytes};
 ghost use Rattle.std.specs.List.{flat_map, range_with_len};
+ghost use Rattle.dspec_probe.specs.declared.kind.Kind.TheVariants.{Unsigned};
+ghost use Rattle.dspec_ctf.specs.Metadata.{type_name, kind_type, label_items, labelled_type, numbered_lines, given_line, given_lines, stamp_line, event_name, field_lines, event_number, event_front, event_text};
+ghost use Rattle.dspec_ctf.specs.Packets.{event_fields};
 
-use crate::checking::names_fault;
-use crate::{Form, MetadataFault, Names};
+use crate::checking::labels_at;
+use crate::{Form, Names, ProbeNames};
+use dspec_probe::Kind;
 use dspec_record::{Enablings, Field, Header};
-use std::alloc::{AllocError, Global};
-
-/// A digit of base 16.
-fn digit(value: u8) -> char
-    requires { value < 16 }
-    ensures glyph { result ≡ digit_glyph false value }
-    ensures ascii { result < 128 }
-{
-    if value < 10 {
-        char::from(b'0' + value)
-    } else {
-        char::from(b'a' - 10 + value)
-    }
-}
-
-/// Two digits of base 16.
-fn print_byte(text: &mut String, byte: u8) -> Result<(), AllocError>
-    ensures { OnOk result (string_bytes text.new ≡ string_bytes text.old ++ hex_byte byte) }
-{
-    text.push(digit(byte / 16))?;
-    text.push(digit(byte % 16))
-}
-
-/// Two digits for each byte.
-#[tactic(auto, unfolding(crate::specs::Metadata::hex))]
-fn print_hex(text: &mut String, bytes: &[u8]) -> Result<(), AllocError>
-    ensures { OnOk result (string_bytes text.new ≡ string_bytes text.old ++ hex bytes.now) }
-{
-    for byte in bytes {
-        print_byte(text, *byte)?;
-    }
-    Ok(())
-}
-
-/// The same behind a hyphen.
-#[tactic(auto, unfolding(crate::specs::Metadata::hyphened))]
-fn print_hyphened(text: &mut String, bytes: &[u8]) -> Result<(), AllocError>
-    ensures { OnOk result (string_bytes text.new ≡ string_bytes text.old ++ hyphened bytes.now) }
-{
-    text.push_str("-")?;
-    print_hex(text, bytes)
-}
-
-/// A uuid: 4, 2, 2, 2 and 6 bytes.
-#[tactic(auto, unfolding(crate::specs::Metadata::uuid_text))]
-fn print_uuid(text: &mut String, uuid: &[u8; 16]) -> Result<(), AllocError>
-    ensures { OnOk result (string_bytes text.new ≡ string_bytes text.old ++ uuid_text uuid.now) }
-{
-    print_hex(text, &uuid[..4])?;
-    print_hyphened(text, &uuid[4..6])?;
-    print_hyphened(text, &uuid[6..8])?;
-    print_hyphened(text, &uuid[8..10])?;
-    print_hyphened(text, &uuid[10..16])
-}
-
-/// The types of the integers.
-#[tactic(auto, unfolding(crate::specs::Metadata::types_text))]
-fn types_part() -> &'static str
-    ensures { result.now ≡ types_text }
-{
-    "/* CTF 1.8 */\n\ntypealias integer { size = 8; align = 8; signed = false; } := uint8_t;\ntypealias integer { size = 16; align = 8; signed = false; } := uint16_t;\ntypealias integer { size = 32; align = 8; signed = false; } := uint32_t;\ntypealias integer { size = 64; align = 8; signed = false; } := uint64_t;\n"
-}
-
-#[tactic(auto, unfolding(crate::specs::Metadata::trace_front))]
-fn trace_front_part() -> &'static str
-    ensures { result.now ≡ trace_front }
-{
-    "\ntrace {\n\tmajor = 1;\n\tminor = 8;\n\tuuid = \""
-}
-
-#[tactic(auto, unfolding(crate::specs::Metadata::trace_back))]
-fn trace_back_part() -> &'static str
-    ensures { result.now ≡ trace_back }
-{
-    "\";\n\tbyte_order = le;\n\tpacket.header := struct {\n\t\tuint32_t magic;\n\t\tuint8_t uuid[16];\n\t\tuint32_t stream_id;\n\t};\n};\n\nenv {\n\ttracer_name = \"sidingyarrow\";\n};\n"
-}
-
-/// The trace with its uuid, and the environment.
-fn print_trace(text: &mut String, uuid: &[u8; 16]) -> Result<(), AllocError>
-    ensures { OnOk result (string_bytes text.new ≡ string_bytes text.old ++ trace_text uuid.now) }
-{
-    text.push_str(trace_front_part())?;
-    print_uuid(text, uuid)?;
-    text.push_str(trace_back_part())
-}
-
-/// The clock, in a trace by time.
-fn print_clock(text: &mut String, form: Form) -> Result<(), AllocError>
-    ensures { OnOk result (string_bytes text.new ≡ string_bytes text.old ++ clock_text form) }
-{
-    match form {
-        Form::AsTaken => Ok(()),
-        Form::ByTime(frequency) => write!(
-            text,
-            "\nclock {{\n\tname = stamp;\n\tfreq = {frequency};\n}};\n\ntypealias integer {{ size = 64; align = 8; signed = false; map = clock.stamp.value; }} := stamp_t;\n"
-        ),
-    }
-}
+use std::alloc::AllocError;
 
 /// The types of a field's values.
 fn type_of(field: Field) -> &'static str
@@ -117,18 +19,6 @@ fn type_of(field: Field) -> &'static str
         Field::Two => "uint16_t",
         Field::Four => "uint32_t",
         Field::Eight => "uint64_t",
-    }
-}
-
-/// How packets and events begin.
-fn stream_part(form: Form) -> &'static str
-    ensures { result.now ≡ stream_text form }
-{
-    match form {
-        Form::AsTaken =>
-            "\nstream {\n\tid = 0;\n\tpacket.context := struct {\n\t\tuint64_t content_size;\n\t\tuint64_t packet_size;\n\t\tuint64_t events_discarded;\n\t\tuint32_t cpu_id;\n\t};\n\tevent.header := struct {\n\t\tuint32_t id;\n\t};\n};\n",
-        Form::ByTime(_) =>
-            "\nstream {\n\tid = 0;\n\tpacket.context := struct {\n\t\tstamp_t timestamp_begin;\n\t\tstamp_t timestamp_end;\n\t\tuint64_t content_size;\n\t\tuint64_t packet_size;\n\t\tuint64_t events_discarded;\n\t\tuint32_t cpu_id;\n\t};\n\tevent.header := struct {\n\t\tuint32_t id;\n\t\tstamp_t timestamp;\n\t};\n};\n",
     }
 }
 
@@ -143,13 +33,89 @@ fn print_numbered(text: &mut String, fields: &[Field]) -> Result<(), AllocError>
     Ok(())
 }
 
-/// The lines of fields that have these names.
-fn print_given(text: &mut String, names: &[&str], fields: &[Field]) -> Result<(), AllocError>
-    ensures { OnOk result (string_bytes text.new ≡ string_bytes text.old ++ given_lines (map (λ name. name.now) names.now) fields.now) }
+/// The type of numbers by what they mean.
+fn type_by_kind(kind: Kind, field: Field) -> &'static str
+    ensures { result.now ≡ kind_type kind field }
 {
-    for (name, field) in names.iter().zip(fields) {
-        let kind = type_of(*field);
-        writeln!(text, "\t\t{kind} {name};")?;
+    match (kind, field) {
+        (Kind::Signed, Field::One) => "integer { size = 8; align = 8; signed = true; }",
+        (Kind::Signed, Field::Two) => "integer { size = 16; align = 8; signed = true; }",
+        (Kind::Signed, Field::Four) => "integer { size = 32; align = 8; signed = true; }",
+        (Kind::Signed, Field::Eight) => "integer { size = 64; align = 8; signed = true; }",
+        (Kind::Float, Field::Four) => "floating_point { exp_dig = 8; mant_dig = 24; align = 8; }",
+        (Kind::Float, Field::Eight) => "floating_point { exp_dig = 11; mant_dig = 53; align = 8; }",
+        _ => type_of(field),
+    }
+}
+
+/// What the numbers from 0 on are called.
+#[tactic(auto, unfolding(crate::specs::Metadata::label_items))]
+fn print_labels(text: &mut String, labels: &[&str]) -> Result<(), AllocError>
+    ensures { OnOk result (string_bytes text.new ≡ string_bytes text.old ++ label_items (map (λ label. label.now) labels.now)) }
+{
+    for (number, label) in labels.iter().enumerate() {
+        write!(text, "\"{label}\" = {number}, ")?;
+    }
+    Ok(())
+}
+
+/// The type of numbers of which some are called so.
+#[tactic(auto, unfolding(crate::specs::Metadata::labelled_type))]
+fn print_type(
+    text: &mut String,
+    kind: Kind,
+    labels: &[&str],
+    field: Field,
+) -> Result<(), AllocError>
+    ensures { OnOk result (string_bytes text.new ≡ string_bytes text.old ++ labelled_type kind (map (λ label. label.now) labels.now) field) }
+{
+    let numbers = type_by_kind(kind, field);
+    if kind == Kind::Float || labels.is_empty() {
+        return text.push_str(numbers);
+    }
+    write!(text, "enum : {numbers} {{ ")?;
+    print_labels(text, labels)?;
+    text.push_str("}")
+}
+
+/// What the number of the field at a place means.
+fn kind_at(event: &ProbeNames<'_>, place: usize) -> Kind
+    ensures { result ≡ slice_index_or event.now.kinds place Unsigned }
+{
+    match event.kinds.get(place) {
+        Some(kind) => *kind,
+        None => Kind::Unsigned,
+    }
+}
+
+/// The line of a field that has a name by its place.
+#[tactic(auto, unfolding(crate::specs::Metadata::given_line))]
+fn print_given_line(
+    text: &mut String,
+    event: &ProbeNames<'_>,
+    place: usize,
+    field: Field,
+) -> Result<(), AllocError>
+    ensures { OnOk result (string_bytes text.new ≡ string_bytes text.old ++ given_line event.now place field) }
+{
+    let Some(name) = event.fields.get(place) else {
+        return Ok(());
+    };
+    text.push_str("\t\t")?;
+    print_type(text, kind_at(event, place), labels_at(event, place), field)?;
+    writeln!(text, " {name};")
+}
+
+/// The lines of an event's fields, with their names.
+fn print_given(
+    text: &mut String,
+    event: &ProbeNames<'_>,
+    fields: &[Field],
+) -> Result<(), AllocError>
+    ensures { OnOk result (string_bytes text.new ≡ string_bytes text.old ++ given_lines event.now fields.now) }
+{
+    for (place, field) in fields.iter().enumerate() {
+        print_given_line(text, event, place, *field)?;
     }
     Ok(())
 }
@@ -194,7 +160,7 @@ fn print_fields(
         return print_numbered(text, fields);
     };
     match given.get(place as usize) {
-        Some(event) => print_given(text, event.fields, fields),
+        Some(event) => print_given(text, event, fields),
         None => Ok(()),
     }
 }
@@ -247,7 +213,7 @@ fn print_event(
 }
 
 /// All events.
-fn print_events(
+pub(crate) fn print_events(
     text: &mut String,
     form: Form,
     enablings: &Enablings,
@@ -260,61 +226,4 @@ fn print_events(
         print_event(text, form, enablings, names, place)?;
     }
     Ok(())
-}
-
-/// The whole text.
-#[tactic(auto, unfolding(crate::specs::Metadata::metadata_text))]
-fn print_metadata(
-    text: &mut String,
-    uuid: &[u8; 16],
-    form: Form,
-    enablings: &Enablings,
-    names: &Names<'_>,
-) -> Result<(), AllocError>
-    ensures { OnOk result (string_bytes text.new ≡ string_bytes text.old ++ metadata_text uuid.now form enablings.now names.now) }
-{
-    text.push_str(types_part())?;
-    print_trace(text, uuid)?;
-    print_clock(text, form)?;
-    text.push_str(stream_part(form))?;
-    print_events(text, form, enablings, names)
-}
-
-/// What can't be in a trace of this form.
-#[tactic(auto, unfolding(crate::specs::Names::form_fault))]
-fn form_fault(form: Form, header: Header) -> Option<MetadataFault>
-    ensures { result ≡ form_fault form header }
-{
-    match (form, header) {
-        (Form::AsTaken, _) => None,
-        (Form::ByTime(_), Header::One) => Some(MetadataFault::NoStamp),
-        (Form::ByTime(0), Header::Two) => Some(MetadataFault::NoFrequency),
-        (Form::ByTime(_), Header::Two) => None,
-    }
-}
-
-/// The metadata of a trace in the Common Trace Format, version 1.8: the text of the file `metadata`, for streams with this uuid
-/// in their packets. Refused in this order: a form that the records don't fit, names of events, names of fields.
-#[tactic(auto, unfolding(crate::specs::Names::metadata_fault))]
-pub fn metadata(
-    alloc: Global,
-    uuid: &[u8; 16],
-    form: Form,
-    enablings: &Enablings,
-    names: &Names<'_>,
-) -> Result<String, MetadataFault>
-    ensures text { IfOk result (λ text. string_bytes text ≡ metadata_text uuid.now form enablings.now names.now) }
-    ensures allowed { OnOk result (metadata_fault form enablings.now names.now ≡ None) }
-    ensures fault { IfErr result
-        (λ fault. (fault ≡ Memory) ⊎ (metadata_fault form enablings.now names.now ≡ Some fault)) }
-{
-    if let Some(fault) = form_fault(form, enablings.header()) {
-        return Err(fault);
-    }
-    if let Some(fault) = names_fault(alloc, form, enablings, names)? {
-        return Err(MetadataFault::Name(fault));
-    }
-    let mut text = String::new(alloc);
-    print_metadata(&mut text, uuid, form, enablings, names)?;
-    Ok(text)
 }

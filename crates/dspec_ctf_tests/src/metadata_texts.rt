@@ -1,6 +1,7 @@
 //! The metadata of traces, and names that can't be used.
 use crate::same::{UUID, same, three_enablings};
-use dspec_ctf::{Form, MetadataFault, NameFault, NameKind, Names, ProbeNames, metadata};
+use dspec_ctf::{Form, Kind, MetadataFault, NameFault, NameKind, Names, ProbeNames, metadata};
+use dspec_record::{Enablings, Field};
 use std::process::Abort;
 use std::test::Fail;
 
@@ -15,18 +16,9 @@ const NAMED: &str =
 /// Names of the three.
 fn named<'a>(first: &'a str, fields: &'a [&'a str]) -> [ProbeNames<'a>; 3] {
     [
-        ProbeNames {
-            event: first,
-            fields: &[],
-        },
-        ProbeNames {
-            event: "one",
-            fields: &["all"],
-        },
-        ProbeNames {
-            event: "two",
-            fields,
-        },
+        ProbeNames::of(first, &[]),
+        ProbeNames::of("one", &["all"]),
+        ProbeNames::of("two", fields),
     ]
 }
 
@@ -170,4 +162,89 @@ fn refused_forms(rt: HostRuntime) -> Result<(), Fail> {
     )?;
     same(&rt, text.as_str().contains("\tfreq = 1000;\n"), true);
     Ok(())
+}
+
+/// One event of five fields, of which the first two have labels.
+fn of_each_kind(labels: &'static [&'static [&'static str]]) -> [ProbeNames<'static>; 1] {
+    [ProbeNames {
+        event: "each",
+        fields: &["status", "level", "delta", "load", "ratio"],
+        kinds: [
+            Kind::Unsigned,
+            Kind::Signed,
+            Kind::Signed,
+            Kind::Float,
+            Kind::Float,
+            Kind::Unsigned,
+            Kind::Unsigned,
+            Kind::Unsigned,
+        ],
+        labels: Some(labels),
+    }]
+}
+
+/// Its text.
+const OF_EACH_KIND: &str =
+    "\nevent {\n\tid = 1;\n\tname = \"each\";\n\tstream_id = 0;\n\tfields := struct {\n\t\tenum : uint8_t { \"ok\" = 0, \"it failed\" = 1, } status;\n\t\tenum : integer { size = 8; align = 8; signed = true; } { \"low\" = 0, } level;\n\t\tinteger { size = 16; align = 8; signed = true; } delta;\n\t\tfloating_point { exp_dig = 8; mant_dig = 24; align = 8; } load;\n\t\tfloating_point { exp_dig = 11; mant_dig = 53; align = 8; } ratio;\n\t};\n};\n";
+
+/// Metadata of that event, or what is refused.
+fn metadata_of_each_kind(
+    rt: &impl AllocGlobal,
+    labels: &'static [&'static [&'static str]],
+) -> Result<String, MetadataFault> {
+    let mut enablings = Enablings::new();
+    let fields = [
+        Field::One,
+        Field::One,
+        Field::Two,
+        Field::Four,
+        Field::Eight,
+    ];
+    if enablings.enable(&fields).is_err() {
+        return Err(MetadataFault::Memory);
+    }
+    let names = of_each_kind(labels);
+    metadata(
+        rt.alloc(),
+        &UUID,
+        Form::AsTaken,
+        &enablings,
+        &Names::Given(&names),
+    )
+}
+
+#[test]
+fn kinds_and_labels(rt: HostRuntime) -> Result<(), Fail> {
+    let labels: &[&[&str]] = &[&["ok", "it failed"], &["low"]];
+    let text = metadata_of_each_kind(&rt, labels)?;
+    same(&rt, text.as_str().ends_with(OF_EACH_KIND), true);
+    // a float has none
+    let labels: &[&[&str]] = &[&["ok", "it failed"], &["low"], &[], &["none"]];
+    let text = metadata_of_each_kind(&rt, labels)?;
+    same(&rt, text.as_str().ends_with(OF_EACH_KIND), true);
+    Ok(())
+}
+
+/// What is refused of these labels.
+fn refused_label(
+    rt: &(impl Abort + AllocGlobal),
+    labels: &'static [&'static [&'static str]],
+    place: usize,
+    value: usize,
+) {
+    let found = metadata_of_each_kind(rt, labels).err();
+    let wanted = NameFault::Label {
+        epid: 1,
+        place,
+        value,
+    };
+    same(rt, found, Some(MetadataFault::Name(wanted)));
+}
+
+#[test]
+fn refused_labels(rt: HostRuntime) {
+    refused_label(&rt, &[&["ok", "a \"quote\""]], 0, 1);
+    refused_label(&rt, &[&["ok"], &["back\\slash"]], 1, 0);
+    refused_label(&rt, &[&[], &[], &["ok", "", "\n"]], 2, 1);
+    refused_label(&rt, &[&["two\nlines"]], 0, 0);
 }

@@ -10,6 +10,9 @@ pub enum ProbeFault {
     /// There aren't as many names as fields.
     #[error("not a name for each field")]
     FieldCount,
+    /// There aren't as many lists of labels as fields.
+    #[error("not a list of labels for each field")]
+    LabelCount,
     /// There are 64 probes already.
     #[error("too many probes")]
     TooMany,

@@ -1,9 +1,10 @@
 ghost use Rattle.std.specs.Prelude.{◌≡◌, ◌≤◌, ℕ, List, Option, Some, length, IsTrue};
 ghost use Rattle.dspec_record.specs.RecordText.{fits};
 ghost use Rattle.dspec_record.specs.declared.field.Field.{Field};
+ghost use Rattle.dspec_probe.specs.declared.kind.Kind.{Kind};
 ghost use Rattle.dspec_probe.specs.Putting.{IsRoomFor, ArePut};
 
-use crate::FieldList;
+use crate::{FieldList, Kind};
 use dspec_record::Rec;
 
 /// The values of a record by the types of its fields: a tuple of one to eight.
@@ -17,9 +18,16 @@ pub trait Fields: Copy {
     /// What the numbers of a record stand for, if for anything.
     ghost values_of: { List ℕ → Option Self };
 
+    /// What each of these numbers means, and Unsigned behind the last: eight in all.
+    ghost kinds_are: { List Kind };
+
     /// The fields that they take.
     fn fields() -> FieldList
         ensures { result ≡ fields_are };
+
+    /// What the number of each field means, in their order; behind the last it is Unsigned.
+    fn kinds() -> [Kind; 8]
+        ensures { result ≡ kinds_are };
 
     /// The record with this EPID, this stamp and these values: they fit their fields, and its numbers stand for nothing else.
     fn rec(self, epid: u32, stamp: u64) -> Rec

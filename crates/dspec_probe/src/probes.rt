@@ -1,8 +1,8 @@
-ghost use Rattle.std.specs.Prelude.{◌≡◌, ◌≢◌, ◌≤◌, ◌<◌, ◌++◌, ◌∷◌, ◌↔◌, [], length, IfOk, OnErr};
+ghost use Rattle.std.specs.Prelude.{◌≡◌, ◌≢◌, ◌≤◌, ◌<◌, ◌++◌, ◌∷◌, ◌↔◌, [], length, Some, None, IfOk, OnErr};
 ghost use Rattle.dspec_probe.specs.declared.fault.ProbeFault.{ProbeFault};
 ghost use Rattle.dspec_probe.specs.Declarations.{Declares};
 
-use crate::{Fields, Probe, ProbeFault};
+use crate::{Fields, Kind, Probe, ProbeFault};
 use dspec_record::{Enablings, Header};
 use std::alloc::Global;
 use std::marker::{Model, PhantomData};
@@ -10,13 +10,34 @@ use std::marker::{Model, PhantomData};
 /// The most probes that there are.
 const MAX_PROBES: u32 = 64;
 
-/// The name of a probe, and those of its fields in their order.
+/// The name of a probe, those of its fields in their order, what their numbers mean, and what their values are called.
 #[derive(Debug, Clone, Copy)]
 pub struct ProbeNames<'n> {
     /// The probe's.
     pub event: &'n str,
     /// Of each field one.
     pub fields: &'n [&'n str],
+    /// Of each field what its number means; behind the last it is Unsigned.
+    pub kinds: [Kind; 8],
+    /// Of each field what its values 0, 1, .. are called, as far as they have labels; None where no field's have.
+    pub labels: Option<&'n [&'n [&'n str]]>,
+}
+
+impl<'n> ProbeNames<'n> {
+    ghost use Rattle.std.specs.Prelude.{replicate};
+    ghost use Rattle.dspec_probe.specs.declared.kind.Kind.TheVariants.{Unsigned};
+
+    /// These names, of numbers that mean themselves and have no labels.
+    pub fn of(event: &'n str, fields: &'n [&'n str]) -> ProbeNames<'n>
+        ensures { result ≡ record { event = event.entry; fields = fields.entry; kinds = replicate 8 Unsigned; labels = None } }
+    {
+        ProbeNames {
+            event,
+            fields,
+            kinds: [Kind::Unsigned; 8],
+            labels: None,
+        }
+    }
 }
 
 /// The probes of a program, as they are declared: what a session wants of them, and what a trace folder wants.
@@ -59,29 +80,75 @@ impl<'n> Probes<'n> {
         }
     }
 
+    // One probe more, if there is room.
+    fn declare<F: Fields>(&mut self, names: ProbeNames<'n>) -> Result<Probe<F>, ProbeFault>
+        requires { length names.fields.now ≡ length F.fields_are }
+        ensures declared { IfOk result (λ p. Declares F.fields_are p names.entry self.old self.new) }
+        ensures refused { OnErr result (self.new ≡ self.old) }
+        ensures counted { (result ≢ Err ProbeFault.FieldCount) × (result ≢ Err ProbeFault.LabelCount) }
+        ensures too_many { (result ≡ Err ProbeFault.TooMany) ↔ (64 ≤ length self.old.schema.rows) }
+    {
+        if self.enablings.count() == MAX_PROBES {
+            return Err(ProbeFault::TooMany);
+        }
+        self.names.push(names)?;
+        let epid = self.enablings.enable(F::fields().as_slice()).unwrap();
+        Ok(Probe {
+            epid,
+            header: self.enablings.header(),
+            fields: PhantomData,
+        })
+    }
+
     /// Declares a probe: its name, those of its fields, and by its type what they are. An `Err` changes nothing.
     pub fn probe<F: Fields>(
         &mut self,
         event: &'n str,
         fields: &'n [&'n str],
     ) -> Result<Probe<F>, ProbeFault>
-        ensures declared { IfOk result (λ p. Declares F.fields_are p (record { event = event.entry; fields = fields.entry }) self.old self.new) }
+        ensures declared { IfOk result (λ p. Declares F.fields_are p (record { event = event.entry; fields = fields.entry; kinds = F.kinds_are; labels = None }) self.old self.new) }
         ensures refused { OnErr result (self.new ≡ self.old) }
         ensures field_count { (result ≡ Err ProbeFault.FieldCount) ↔ (length fields.now ≢ length F.fields_are) }
+        ensures label_count { result ≢ Err ProbeFault.LabelCount }
         ensures too_many { (result ≡ Err ProbeFault.TooMany) ↔ ((length fields.now ≡ length F.fields_are) × (64 ≤ length self.old.schema.rows)) }
     {
         if fields.len() != F::fields().as_slice().len() {
             return Err(ProbeFault::FieldCount);
         }
-        if self.enablings.count() == MAX_PROBES {
-            return Err(ProbeFault::TooMany);
+        self.declare(ProbeNames {
+            event,
+            fields,
+            kinds: F::kinds(),
+            labels: None,
+        })
+    }
+
+    /// As `probe`, of fields whose values have labels: of each field what its values 0, 1, .. are called, an empty list where they
+    /// have none. A trace folder shows the label beside the number; of a float it shows none. An `Err` changes nothing.
+    pub fn probe_labelled<F: Fields>(
+        &mut self,
+        event: &'n str,
+        fields: &'n [&'n str],
+        labels: &'n [&'n [&'n str]],
+    ) -> Result<Probe<F>, ProbeFault>
+        ensures declared { IfOk result (λ p. Declares F.fields_are p (record { event = event.entry; fields = fields.entry; kinds = F.kinds_are; labels = Some labels.entry }) self.old self.new) }
+        ensures refused { OnErr result (self.new ≡ self.old) }
+        ensures field_count { (result ≡ Err ProbeFault.FieldCount) ↔ (length fields.now ≢ length F.fields_are) }
+        ensures label_count { (result ≡ Err ProbeFault.LabelCount) ↔ ((length fields.now ≡ length F.fields_are) × (length labels.now ≢ length F.fields_are)) }
+        ensures too_many { (result ≡ Err ProbeFault.TooMany)
+            ↔ ((length fields.now ≡ length F.fields_are) × (length labels.now ≡ length F.fields_are) × (64 ≤ length self.old.schema.rows)) }
+    {
+        if F::fields().as_slice().len() != fields.len() {
+            return Err(ProbeFault::FieldCount);
         }
-        self.names.push(ProbeNames { event, fields })?;
-        let epid = self.enablings.enable(F::fields().as_slice()).unwrap();
-        Ok(Probe {
-            epid,
-            header: self.enablings.header(),
-            fields: PhantomData,
+        if labels.len() != F::fields().as_slice().len() {
+            return Err(ProbeFault::LabelCount);
+        }
+        self.declare(ProbeNames {
+            event,
+            fields,
+            kinds: F::kinds(),
+            labels: Some(labels),
         })
     }
 

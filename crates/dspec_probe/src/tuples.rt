@@ -1,12 +1,13 @@
 ghost use Rattle.std.specs.Prelude.{◌∷◌, []};
 
 use crate::rows::Row;
-use crate::{FieldList, Fields, Value};
+use crate::{FieldList, Fields, Kind, Value};
 use dspec_record::Rec;
 
 impl<A: Value> Fields for (A,) {
     ghost use Rattle.std.proofs.Common.{lit≤};
     ghost use Rattle.dspec_probe.specs.Tuples.{one};
+    ghost use Rattle.dspec_probe.specs.declared.kind.Kind.TheVariants.{Unsigned};
 
     ghost fields_are = { A.field_is ∷ [] };
 
@@ -14,11 +15,27 @@ impl<A: Value> Fields for (A,) {
 
     ghost values_of = { one A.value_of };
 
+    ghost kinds_are = { A.kind_is ∷ Unsigned ∷ Unsigned ∷ Unsigned ∷ Unsigned ∷ Unsigned ∷ Unsigned ∷ Unsigned ∷ [] };
+
     ghost few = { lit≤ tt };
 
     #[inline(always)]
     fn fields() -> FieldList {
         FieldList::of(&[A::field()])
+    }
+
+    #[inline(always)]
+    fn kinds() -> [Kind; 8] {
+        [
+            A::kind(),
+            Kind::Unsigned,
+            Kind::Unsigned,
+            Kind::Unsigned,
+            Kind::Unsigned,
+            Kind::Unsigned,
+            Kind::Unsigned,
+            Kind::Unsigned,
+        ]
     }
 
     #[inline(always)]
@@ -45,6 +62,7 @@ impl<A: Value> Fields for (A,) {
 impl<A: Value, B: Value> Fields for (A, B) {
     ghost use Rattle.std.proofs.Common.{lit≤};
     ghost use Rattle.dspec_probe.specs.Tuples.{two};
+    ghost use Rattle.dspec_probe.specs.declared.kind.Kind.TheVariants.{Unsigned};
 
     ghost fields_are = { A.field_is ∷ B.field_is ∷ [] };
 
@@ -52,11 +70,27 @@ impl<A: Value, B: Value> Fields for (A, B) {
 
     ghost values_of = { two A.value_of B.value_of };
 
+    ghost kinds_are = { A.kind_is ∷ B.kind_is ∷ Unsigned ∷ Unsigned ∷ Unsigned ∷ Unsigned ∷ Unsigned ∷ Unsigned ∷ [] };
+
     ghost few = { lit≤ tt };
 
     #[inline(always)]
     fn fields() -> FieldList {
         FieldList::of(&[A::field(), B::field()])
+    }
+
+    #[inline(always)]
+    fn kinds() -> [Kind; 8] {
+        [
+            A::kind(),
+            B::kind(),
+            Kind::Unsigned,
+            Kind::Unsigned,
+            Kind::Unsigned,
+            Kind::Unsigned,
+            Kind::Unsigned,
+            Kind::Unsigned,
+        ]
     }
 
     #[inline(always)]
@@ -83,6 +117,7 @@ impl<A: Value, B: Value> Fields for (A, B) {
 impl<A: Value, B: Value, C: Value> Fields for (A, B, C) {
     ghost use Rattle.std.proofs.Common.{lit≤};
     ghost use Rattle.dspec_probe.specs.Tuples.{three};
+    ghost use Rattle.dspec_probe.specs.declared.kind.Kind.TheVariants.{Unsigned};
 
     ghost fields_are = { A.field_is ∷ B.field_is ∷ C.field_is ∷ [] };
 
@@ -90,11 +125,27 @@ impl<A: Value, B: Value, C: Value> Fields for (A, B, C) {
 
     ghost values_of = { three A.value_of B.value_of C.value_of };
 
+    ghost kinds_are = { A.kind_is ∷ B.kind_is ∷ C.kind_is ∷ Unsigned ∷ Unsigned ∷ Unsigned ∷ Unsigned ∷ Unsigned ∷ [] };
+
     ghost few = { lit≤ tt };
 
     #[inline(always)]
     fn fields() -> FieldList {
         FieldList::of(&[A::field(), B::field(), C::field()])
+    }
+
+    #[inline(always)]
+    fn kinds() -> [Kind; 8] {
+        [
+            A::kind(),
+            B::kind(),
+            C::kind(),
+            Kind::Unsigned,
+            Kind::Unsigned,
+            Kind::Unsigned,
+            Kind::Unsigned,
+            Kind::Unsigned,
+        ]
     }
 
     #[inline(always)]
@@ -121,6 +172,7 @@ impl<A: Value, B: Value, C: Value> Fields for (A, B, C) {
 impl<A: Value, B: Value, C: Value, D: Value> Fields for (A, B, C, D) {
     ghost use Rattle.std.proofs.Common.{lit≤};
     ghost use Rattle.dspec_probe.specs.Tuples.{four};
+    ghost use Rattle.dspec_probe.specs.declared.kind.Kind.TheVariants.{Unsigned};
 
     ghost fields_are = { A.field_is ∷ B.field_is ∷ C.field_is ∷ D.field_is ∷ [] };
 
@@ -128,11 +180,27 @@ impl<A: Value, B: Value, C: Value, D: Value> Fields for (A, B, C, D) {
 
     ghost values_of = { four A.value_of B.value_of C.value_of D.value_of };
 
+    ghost kinds_are = { A.kind_is ∷ B.kind_is ∷ C.kind_is ∷ D.kind_is ∷ Unsigned ∷ Unsigned ∷ Unsigned ∷ Unsigned ∷ [] };
+
     ghost few = { lit≤ tt };
 
     #[inline(always)]
     fn fields() -> FieldList {
         FieldList::of(&[A::field(), B::field(), C::field(), D::field()])
+    }
+
+    #[inline(always)]
+    fn kinds() -> [Kind; 8] {
+        [
+            A::kind(),
+            B::kind(),
+            C::kind(),
+            D::kind(),
+            Kind::Unsigned,
+            Kind::Unsigned,
+            Kind::Unsigned,
+            Kind::Unsigned,
+        ]
     }
 
     #[inline(always)]
@@ -164,6 +232,7 @@ impl<A: Value, B: Value, C: Value, D: Value> Fields for (A, B, C, D) {
 impl<A: Value, B: Value, C: Value, D: Value, E: Value> Fields for (A, B, C, D, E) {
     ghost use Rattle.std.proofs.Common.{lit≤};
     ghost use Rattle.dspec_probe.specs.Tuples.{five};
+    ghost use Rattle.dspec_probe.specs.declared.kind.Kind.TheVariants.{Unsigned};
 
     ghost fields_are = { A.field_is ∷ B.field_is ∷ C.field_is ∷ D.field_is ∷ E.field_is ∷ [] };
 
@@ -171,11 +240,27 @@ impl<A: Value, B: Value, C: Value, D: Value, E: Value> Fields for (A, B, C, D, E
 
     ghost values_of = { five A.value_of B.value_of C.value_of D.value_of E.value_of };
 
+    ghost kinds_are = { A.kind_is ∷ B.kind_is ∷ C.kind_is ∷ D.kind_is ∷ E.kind_is ∷ Unsigned ∷ Unsigned ∷ Unsigned ∷ [] };
+
     ghost few = { lit≤ tt };
 
     #[inline(always)]
     fn fields() -> FieldList {
         FieldList::of(&[A::field(), B::field(), C::field(), D::field(), E::field()])
+    }
+
+    #[inline(always)]
+    fn kinds() -> [Kind; 8] {
+        [
+            A::kind(),
+            B::kind(),
+            C::kind(),
+            D::kind(),
+            E::kind(),
+            Kind::Unsigned,
+            Kind::Unsigned,
+            Kind::Unsigned,
+        ]
     }
 
     #[inline(always)]
@@ -213,12 +298,15 @@ impl<A: Value, B: Value, C: Value, D: Value, E: Value> Fields for (A, B, C, D, E
 impl<A: Value, B: Value, C: Value, D: Value, E: Value, F: Value> Fields for (A, B, C, D, E, F) {
     ghost use Rattle.std.proofs.Common.{lit≤};
     ghost use Rattle.dspec_probe.specs.Tuples.{six};
+    ghost use Rattle.dspec_probe.specs.declared.kind.Kind.TheVariants.{Unsigned};
 
     ghost fields_are = { A.field_is ∷ B.field_is ∷ C.field_is ∷ D.field_is ∷ E.field_is ∷ F.field_is ∷ [] };
 
     ghost numbers_of = { λ v. A.number_of v.0 ∷ B.number_of v.1 ∷ C.number_of v.2 ∷ D.number_of v.3 ∷ E.number_of v.4 ∷ F.number_of v.5 ∷ [] };
 
     ghost values_of = { six A.value_of B.value_of C.value_of D.value_of E.value_of F.value_of };
+
+    ghost kinds_are = { A.kind_is ∷ B.kind_is ∷ C.kind_is ∷ D.kind_is ∷ E.kind_is ∷ F.kind_is ∷ Unsigned ∷ Unsigned ∷ [] };
 
     ghost few = { lit≤ tt };
 
@@ -232,6 +320,20 @@ impl<A: Value, B: Value, C: Value, D: Value, E: Value, F: Value> Fields for (A, 
             E::field(),
             F::field(),
         ])
+    }
+
+    #[inline(always)]
+    fn kinds() -> [Kind; 8] {
+        [
+            A::kind(),
+            B::kind(),
+            C::kind(),
+            D::kind(),
+            E::kind(),
+            F::kind(),
+            Kind::Unsigned,
+            Kind::Unsigned,
+        ]
     }
 
     #[inline(always)]
@@ -278,12 +380,15 @@ impl<A: Value, B: Value, C: Value, D: Value, E: Value, F: Value, G: Value> Field
     for (A, B, C, D, E, F, G) {
     ghost use Rattle.std.proofs.Common.{lit≤};
     ghost use Rattle.dspec_probe.specs.Tuples.{seven};
+    ghost use Rattle.dspec_probe.specs.declared.kind.Kind.TheVariants.{Unsigned};
 
     ghost fields_are = { A.field_is ∷ B.field_is ∷ C.field_is ∷ D.field_is ∷ E.field_is ∷ F.field_is ∷ G.field_is ∷ [] };
 
     ghost numbers_of = { λ v. A.number_of v.0 ∷ B.number_of v.1 ∷ C.number_of v.2 ∷ D.number_of v.3 ∷ E.number_of v.4 ∷ F.number_of v.5 ∷ G.number_of v.6 ∷ [] };
 
     ghost values_of = { seven A.value_of B.value_of C.value_of D.value_of E.value_of F.value_of G.value_of };
+
+    ghost kinds_are = { A.kind_is ∷ B.kind_is ∷ C.kind_is ∷ D.kind_is ∷ E.kind_is ∷ F.kind_is ∷ G.kind_is ∷ Unsigned ∷ [] };
 
     ghost few = { lit≤ tt };
 
@@ -298,6 +403,20 @@ impl<A: Value, B: Value, C: Value, D: Value, E: Value, F: Value, G: Value> Field
             F::field(),
             G::field(),
         ])
+    }
+
+    #[inline(always)]
+    fn kinds() -> [Kind; 8] {
+        [
+            A::kind(),
+            B::kind(),
+            C::kind(),
+            D::kind(),
+            E::kind(),
+            F::kind(),
+            G::kind(),
+            Kind::Unsigned,
+        ]
     }
 
     #[inline(always)]
@@ -353,6 +472,8 @@ impl<A: Value, B: Value, C: Value, D: Value, E: Value, F: Value, G: Value, H: Va
 
     ghost values_of = { eight A.value_of B.value_of C.value_of D.value_of E.value_of F.value_of G.value_of H.value_of };
 
+    ghost kinds_are = { A.kind_is ∷ B.kind_is ∷ C.kind_is ∷ D.kind_is ∷ E.kind_is ∷ F.kind_is ∷ G.kind_is ∷ H.kind_is ∷ [] };
+
     ghost few = { lit≤ tt };
 
     #[inline(always)]
@@ -367,6 +488,20 @@ impl<A: Value, B: Value, C: Value, D: Value, E: Value, F: Value, G: Value, H: Va
             G::field(),
             H::field(),
         ])
+    }
+
+    #[inline(always)]
+    fn kinds() -> [Kind; 8] {
+        [
+            A::kind(),
+            B::kind(),
+            C::kind(),
+            D::kind(),
+            E::kind(),
+            F::kind(),
+            G::kind(),
+            H::kind(),
+        ]
     }
 
     #[inline(always)]

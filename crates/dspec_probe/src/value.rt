@@ -1,7 +1,9 @@
 ghost use Rattle.std.specs.Prelude.{◌≡◌, ◌<◌, ◌^◌, ℕ, Option, Some};
 ghost use Rattle.dspec_record.specs.Layout.{width};
 ghost use Rattle.dspec_record.specs.declared.field.Field.{Field};
+ghost use Rattle.dspec_probe.specs.declared.kind.Kind.{Kind};
 
+use crate::Kind;
 use dspec_record::Field;
 use std::num::{
     f32_from_bits_with_nan, f32_to_bits_with_nan, f64_from_bits_with_nan, f64_to_bits_with_nan,
@@ -19,9 +21,16 @@ pub trait Value: Copy {
     /// What a number in a record stands for, if for anything.
     ghost value_of: { ℕ → Option Self };
 
+    /// What that number means.
+    ghost kind_is: { Kind };
+
     /// The field that it takes.
     fn field() -> Field
         ensures { result ≡ field_is };
+
+    /// What the number that a record has of it means.
+    fn kind() -> Kind
+        ensures { result ≡ kind_is };
 
     /// The number that a record has of it: it fits the field, and stands for nothing else.
     fn number(self) -> u64
@@ -37,6 +46,7 @@ pub trait Value: Copy {
 impl Value for u8 {
     ghost use Rattle.dspec_probe.specs.Values.{below};
     ghost use Rattle.dspec_record.specs.declared.field.Field.TheVariants.{One};
+    ghost use Rattle.dspec_probe.specs.declared.kind.Kind.TheVariants.{Unsigned};
 
     ghost field_is = { One };
 
@@ -44,9 +54,16 @@ impl Value for u8 {
 
     ghost value_of = { below (2 ^ 8) };
 
+    ghost kind_is = { Unsigned };
+
     #[inline(always)]
     fn field() -> Field {
         Field::One
+    }
+
+    #[inline(always)]
+    fn kind() -> Kind {
+        Kind::Unsigned
     }
 
     #[inline(always)]
@@ -66,6 +83,7 @@ impl Value for u8 {
 impl Value for u16 {
     ghost use Rattle.dspec_probe.specs.Values.{below};
     ghost use Rattle.dspec_record.specs.declared.field.Field.TheVariants.{Two};
+    ghost use Rattle.dspec_probe.specs.declared.kind.Kind.TheVariants.{Unsigned};
 
     ghost field_is = { Two };
 
@@ -73,9 +91,16 @@ impl Value for u16 {
 
     ghost value_of = { below (2 ^ 16) };
 
+    ghost kind_is = { Unsigned };
+
     #[inline(always)]
     fn field() -> Field {
         Field::Two
+    }
+
+    #[inline(always)]
+    fn kind() -> Kind {
+        Kind::Unsigned
     }
 
     #[inline(always)]
@@ -95,6 +120,7 @@ impl Value for u16 {
 impl Value for u32 {
     ghost use Rattle.dspec_probe.specs.Values.{below};
     ghost use Rattle.dspec_record.specs.declared.field.Field.TheVariants.{Four};
+    ghost use Rattle.dspec_probe.specs.declared.kind.Kind.TheVariants.{Unsigned};
 
     ghost field_is = { Four };
 
@@ -102,9 +128,16 @@ impl Value for u32 {
 
     ghost value_of = { below (2 ^ 32) };
 
+    ghost kind_is = { Unsigned };
+
     #[inline(always)]
     fn field() -> Field {
         Field::Four
+    }
+
+    #[inline(always)]
+    fn kind() -> Kind {
+        Kind::Unsigned
     }
 
     #[inline(always)]
@@ -124,6 +157,7 @@ impl Value for u32 {
 impl Value for u64 {
     ghost use Rattle.dspec_probe.specs.Values.{below};
     ghost use Rattle.dspec_record.specs.declared.field.Field.TheVariants.{Eight};
+    ghost use Rattle.dspec_probe.specs.declared.kind.Kind.TheVariants.{Unsigned};
 
     ghost field_is = { Eight };
 
@@ -131,9 +165,16 @@ impl Value for u64 {
 
     ghost value_of = { below (2 ^ 64) };
 
+    ghost kind_is = { Unsigned };
+
     #[inline(always)]
     fn field() -> Field {
         Field::Eight
+    }
+
+    #[inline(always)]
+    fn kind() -> Kind {
+        Kind::Unsigned
     }
 
     #[inline(always)]
@@ -151,6 +192,7 @@ impl Value for i8 {
     ghost use Rattle.std.specs.Int.{cast_unsigned, w8};
     ghost use Rattle.dspec_probe.specs.Values.{signed};
     ghost use Rattle.dspec_record.specs.declared.field.Field.TheVariants.{One};
+    ghost use Rattle.dspec_probe.specs.declared.kind.Kind.TheVariants.{Signed};
 
     ghost field_is = { One };
 
@@ -158,9 +200,16 @@ impl Value for i8 {
 
     ghost value_of = { signed w8 };
 
+    ghost kind_is = { Signed };
+
     #[inline(always)]
     fn field() -> Field {
         Field::One
+    }
+
+    #[inline(always)]
+    fn kind() -> Kind {
+        Kind::Signed
     }
 
     #[inline(always)]
@@ -179,6 +228,7 @@ impl Value for i16 {
     ghost use Rattle.std.specs.Int.{cast_unsigned, w16};
     ghost use Rattle.dspec_probe.specs.Values.{signed};
     ghost use Rattle.dspec_record.specs.declared.field.Field.TheVariants.{Two};
+    ghost use Rattle.dspec_probe.specs.declared.kind.Kind.TheVariants.{Signed};
 
     ghost field_is = { Two };
 
@@ -186,9 +236,16 @@ impl Value for i16 {
 
     ghost value_of = { signed w16 };
 
+    ghost kind_is = { Signed };
+
     #[inline(always)]
     fn field() -> Field {
         Field::Two
+    }
+
+    #[inline(always)]
+    fn kind() -> Kind {
+        Kind::Signed
     }
 
     #[inline(always)]
@@ -207,6 +264,7 @@ impl Value for i32 {
     ghost use Rattle.std.specs.Int.{cast_unsigned, w32};
     ghost use Rattle.dspec_probe.specs.Values.{signed};
     ghost use Rattle.dspec_record.specs.declared.field.Field.TheVariants.{Four};
+    ghost use Rattle.dspec_probe.specs.declared.kind.Kind.TheVariants.{Signed};
 
     ghost field_is = { Four };
 
@@ -214,9 +272,16 @@ impl Value for i32 {
 
     ghost value_of = { signed w32 };
 
+    ghost kind_is = { Signed };
+
     #[inline(always)]
     fn field() -> Field {
         Field::Four
+    }
+
+    #[inline(always)]
+    fn kind() -> Kind {
+        Kind::Signed
     }
 
     #[inline(always)]
@@ -235,6 +300,7 @@ impl Value for i64 {
     ghost use Rattle.std.specs.Int.{cast_unsigned, w64};
     ghost use Rattle.dspec_probe.specs.Values.{signed};
     ghost use Rattle.dspec_record.specs.declared.field.Field.TheVariants.{Eight};
+    ghost use Rattle.dspec_probe.specs.declared.kind.Kind.TheVariants.{Signed};
 
     ghost field_is = { Eight };
 
@@ -242,9 +308,16 @@ impl Value for i64 {
 
     ghost value_of = { signed w64 };
 
+    ghost kind_is = { Signed };
+
     #[inline(always)]
     fn field() -> Field {
         Field::Eight
+    }
+
+    #[inline(always)]
+    fn kind() -> Kind {
+        Kind::Signed
     }
 
     #[inline(always)]
@@ -261,6 +334,7 @@ impl Value for i64 {
 impl Value for bool {
     ghost use Rattle.dspec_probe.specs.Values.{flag, flag_of};
     ghost use Rattle.dspec_record.specs.declared.field.Field.TheVariants.{One};
+    ghost use Rattle.dspec_probe.specs.declared.kind.Kind.TheVariants.{Unsigned};
 
     ghost field_is = { One };
 
@@ -268,9 +342,16 @@ impl Value for bool {
 
     ghost value_of = { flag_of };
 
+    ghost kind_is = { Unsigned };
+
     #[inline(always)]
     fn field() -> Field {
         Field::One
+    }
+
+    #[inline(always)]
+    fn kind() -> Kind {
+        Kind::Unsigned
     }
 
     #[inline(always)]
@@ -293,6 +374,7 @@ impl Value for f32 {
     ghost use Rattle.std.specs.Float.Ieee.{binary32};
     ghost use Rattle.dspec_probe.specs.Values.{float};
     ghost use Rattle.dspec_record.specs.declared.field.Field.TheVariants.{Four};
+    ghost use Rattle.dspec_probe.specs.declared.kind.Kind.TheVariants.{Float};
 
     ghost field_is = { Four };
 
@@ -300,9 +382,16 @@ impl Value for f32 {
 
     ghost value_of = { float binary32 (2 ^ 32) };
 
+    ghost kind_is = { Float };
+
     #[inline(always)]
     fn field() -> Field {
         Field::Four
+    }
+
+    #[inline(always)]
+    fn kind() -> Kind {
+        Kind::Float
     }
 
     #[inline(always)]
@@ -322,6 +411,7 @@ impl Value for f64 {
     ghost use Rattle.std.specs.Float.Ieee.{binary64};
     ghost use Rattle.dspec_probe.specs.Values.{float};
     ghost use Rattle.dspec_record.specs.declared.field.Field.TheVariants.{Eight};
+    ghost use Rattle.dspec_probe.specs.declared.kind.Kind.TheVariants.{Float};
 
     ghost field_is = { Eight };
 
@@ -329,9 +419,16 @@ impl Value for f64 {
 
     ghost value_of = { float binary64 (2 ^ 64) };
 
+    ghost kind_is = { Float };
+
     #[inline(always)]
     fn field() -> Field {
         Field::Eight
+    }
+
+    #[inline(always)]
+    fn kind() -> Kind {
+        Kind::Float
     }
 
     #[inline(always)]

@@ -1,6 +1,6 @@
 //! Probes as they are declared: their schema, their names, and what is refused.
 use crate::same::same;
-use dspec_probe::{Fields, Probe, ProbeFault, Probes};
+use dspec_probe::{Fields, Kind, Probe, ProbeFault, Probes};
 use dspec_record::{Enablings, Field, Header};
 use std::test::Fail;
 
@@ -76,6 +76,42 @@ fn declarations_refused(rt: HostRuntime) -> Result<(), Fail> {
 }
 
 #[test]
+fn labels_of_fields(rt: HostRuntime) -> Result<(), Fail> {
+    let mut probes = Probes::new(rt.alloc());
+    let few = probes
+        .probe_labelled::<(u32, u8)>("end", &["transfer", "outcome"], &[&[]])
+        .err();
+    same(&rt, few, Some(ProbeFault::LabelCount));
+    same(&rt, probes.names().len(), 0);
+    let labels: &[&[&str]] = &[&[], &["done", "aborted"]];
+    let end: Probe<(u32, u8)> = probes.probe_labelled("end", &["transfer", "outcome"], labels)?;
+    same(&rt, end.epid(), 1);
+    let [names] = probes.names() else {
+        return Err(Fail::from("one name"));
+    };
+    same(&rt, names.labels, Some(labels));
+    Ok(())
+}
+
+/// What the numbers of each type mean.
+#[test]
+fn kinds_of_tuples(rt: HostRuntime) -> Result<(), Fail> {
+    let mut probes = Probes::new(rt.alloc());
+    let _: Probe<(i8, bool, f32)> = probes.probe("three", &["a", "b", "c"])?;
+    let [names] = probes.names() else {
+        return Err(Fail::from("one name"));
+    };
+    let [a, b, c, behind, ..] = names.kinds;
+    same(
+        &rt,
+        (a, b, c, behind),
+        (Kind::Signed, Kind::Unsigned, Kind::Float, Kind::Unsigned),
+    );
+    assert!(rt; names.labels.is_none());
+    Ok(())
+}
+
+#[test]
 fn schemas_that_have_a_probe(rt: HostRuntime) -> Result<(), Fail> {
     let mut probes = Probes::new(rt.alloc());
     let first: Probe<(u64, u32)> = probes.probe("first", &["a", "b"])?;
@@ -97,6 +133,10 @@ fn schemas_that_have_a_probe(rt: HostRuntime) -> Result<(), Fail> {
 fn texts_of_faults(rt: HostRuntime) -> Result<(), Fail> {
     let texts = [
         (ProbeFault::FieldCount, "not a name for each field"),
+        (
+            ProbeFault::LabelCount,
+            "not a list of labels for each field",
+        ),
         (ProbeFault::TooMany, "too many probes"),
         (ProbeFault::Memory, "out of memory"),
     ];

@@ -10,7 +10,7 @@ pub mod recording;
 pub mod steps;
 
 pub use clock::Clock;
-pub use dspec_probe::{Fields, Probe, ProbeFault, ProbeNames, Probes, Value};
+pub use dspec_probe::{Fields, Kind, Probe, ProbeFault, ProbeNames, Probes, Value};
 pub use fault::ForeignProbe;
 pub use recording::Recording;
 pub use steps::Steps;

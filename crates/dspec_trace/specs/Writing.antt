@@ -4,8 +4,9 @@ use Rattle.dspec_record.specs.EnablingRows.{EnabledRows}
 use Rattle.dspec_ring.specs.declared.batch.Batch.{Batch}
 use Rattle.dspec_ctf.specs.declared.form.Form.TheVariants.{AsTaken}
 use Rattle.dspec_ctf.specs.declared.names.Names.{Names}
-use Rattle.dspec_ctf.specs.Metadata.{metadata_text}
-use Rattle.dspec_ctf.specs.Names.{metadata_fault}
+use Rattle.dspec_ctf.specs.declared.origin.Origin.{Origin}
+use Rattle.dspec_ctf.specs.Metadata.{origin_text}
+use Rattle.dspec_ctf.specs.Names.{origin_fault}
 use Rattle.dspec_ctf.specs.Streams.{HasNoPacket, IsPacketOf}
 use Rattle.dspec_ctf.specs.declared.fault.MetadataFault.TheVariants as metadata
 use Rattle.dspec_trace.specs.Writes.{FileWrite, Refuses, Takes}
@@ -20,21 +21,21 @@ pub record Tracing : Type 0 where
   pub fault : Option FolderFault
 
 -- the metadata was written, and no packet yet
-pub record IsBegun (uuid : List ℕ) (e : EnabledRows) (names : Names) (before : Option (List FileWrite)) (new : Tracing) : Type 0 where
-  pub uuid_is : new.uuid ≡ uuid
+pub record IsBegun (origin : Origin) (e : EnabledRows) (names : Names) (before : Option (List FileWrite)) (new : Tracing) : Type 0 where
+  pub uuid_is : new.uuid ≡ origin.uuid
   pub missed : new.missed ≡ replicate 64 0
   pub fault : new.fault ≡ None
-  pub written : Takes before (codes "metadata") (metadata_text uuid AsTaken e names) new.written
+  pub written : Takes before (codes "metadata") (origin_text origin AsTaken e names) new.written
 
 -- a place of this kind, as it was, is one that refused the metadata for that
-pub record RefusesMetadata {F : Type 0} (written : F → Option (List FileWrite)) (uuid : List ℕ) (e : EnabledRows) (names : Names) (old : F) (fault : FolderFault) : Type 0 where
+pub record RefusesMetadata {F : Type 0} (written : F → Option (List FileWrite)) (origin : Origin) (e : EnabledRows) (names : Names) (old : F) (fault : FolderFault) : Type 0 where
   pub left : F
-  pub refused : Refuses (written old) (codes "metadata") (metadata_text uuid AsTaken e names) (written left) fault
+  pub refused : Refuses (written old) (codes "metadata") (origin_text origin AsTaken e names) (written left) fault
 
--- why no trace is begun: there is no metadata of these names, or the place refused it
-abbrev pub IsBeginFault : {F : Type 0} → (F → Option (List FileWrite)) → List ℕ → EnabledRows → Names → F → FolderFault → Type 0
-IsBeginFault written uuid e names old (Metadata fault) = (fault ≡ metadata.Memory) ⊎ (metadata_fault AsTaken e names ≡ Some fault)
-IsBeginFault written uuid e names old fault = RefusesMetadata written uuid e names old fault
+-- why no trace is begun: there is no metadata of these names and of this origin, or the place refused it
+abbrev pub IsBeginFault : {F : Type 0} → (F → Option (List FileWrite)) → Origin → EnabledRows → Names → F → FolderFault → Type 0
+IsBeginFault written origin e names old (Metadata fault) = (fault ≡ metadata.Memory) ⊎ (origin_fault origin AsTaken e names ≡ Some fault)
+IsBeginFault written origin e names old fault = RefusesMetadata written origin e names old fault
 
 abbrev pub cpu_name : ℕ → List ℕ
 cpu_name c = codes "cpu_" ++ decimal c

@@ -8,11 +8,16 @@
 mod fault;
 mod folder;
 mod held;
+mod identity;
 mod system;
 mod tracing;
 
-pub use dspec_ctf::{Form, Names, ProbeNames, Stream, first_refused, metadata};
+pub use dspec_ctf::{
+    ClockStart, Form, Kind, Names, Origin, ProbeNames, Process, Stream, first_refused, metadata,
+    metadata_from,
+};
 pub use fault::FolderFault;
 pub use folder::Folder;
+pub use identity::Identity;
 pub use system::SystemFolder;
 pub use tracing::TraceFolder;

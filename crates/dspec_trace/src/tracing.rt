@@ -4,7 +4,7 @@ ghost use Rattle.dspec_trace.specs.Writing.{AddsPacket, GetsPacket, IsBatchFault
 use crate::fault::FolderFault;
 use crate::folder::Folder;
 use dspec::{Batch, Enablings, Sink};
-use dspec_ctf::{Form, Names, Stream, metadata};
+use dspec_ctf::{Form, Names, Origin, Stream, metadata_from};
 use std::alloc::Global;
 use std::marker::Model;
 
@@ -32,7 +32,8 @@ impl<F: Folder> Model for TraceFolder<F> {
 }
 
 impl<F: Folder> TraceFolder<F> {
-    /// Writes the metadata, and no packet yet.
+    /// Writes the metadata, and no packet yet. The uuid is this trace's alone: tools take folders of one uuid for one trace, and lose
+    /// events of it in silence.
     pub fn new(
         alloc: Global,
         folder: F,
@@ -40,10 +41,24 @@ impl<F: Folder> TraceFolder<F> {
         enablings: &Enablings,
         names: &Names<'_>,
     ) -> Result<TraceFolder<F>, FolderFault>
-        ensures begun { IfOk result (IsBegun uuid enablings.now names.now (F.written folder)) }
-        ensures fault { IfErr result (IsBeginFault F.written uuid enablings.now names.now folder) }
+        ensures begun { IfOk result (IsBegun (record { uuid = uuid; process = None; start = None }) enablings.now names.now (F.written folder)) }
+        ensures fault { IfErr result (IsBeginFault F.written (record { uuid = uuid; process = None; start = None }) enablings.now names.now folder) }
     {
-        let text = match metadata(alloc, &uuid, Form::AsTaken, enablings, names) {
+        TraceFolder::of(alloc, folder, &Origin::of(uuid), enablings, names)
+    }
+
+    /// As `new`, of a trace whose process is told: tools show it beside each event.
+    pub fn of(
+        alloc: Global,
+        folder: F,
+        origin: &Origin<'_>,
+        enablings: &Enablings,
+        names: &Names<'_>,
+    ) -> Result<TraceFolder<F>, FolderFault>
+        ensures begun { IfOk result (IsBegun origin.now enablings.now names.now (F.written folder)) }
+        ensures fault { IfErr result (IsBeginFault F.written origin.now enablings.now names.now folder) }
+    {
+        let text = match metadata_from(alloc, origin, Form::AsTaken, enablings, names) {
             Ok(text) => text,
             Err(fault) => return Err(FolderFault::Metadata(fault)),
         };
@@ -54,7 +69,7 @@ impl<F: Folder> TraceFolder<F> {
         Ok(TraceFolder {
             alloc,
             folder,
-            uuid,
+            uuid: origin.uuid,
             missed: [0; MOST_CPUS],
             fault: None,
         })

@@ -2,11 +2,9 @@ use crate::fault::TraceFault;
 use crate::telling::is_of;
 use dspec::{Closed, Enablings, Rec, Report, closed_cpus};
 use dspec_probed::Probes;
-use dspec_trace::{Folder, Form, Names, Stream, first_refused, metadata};
+use dspec_trace::{Folder, Form, Names, Origin, Stream, first_refused, metadata_from};
 use std::alloc::{AllocError, Global};
 
-/// The uuid of each trace that this program writes.
-const UUID: [u8; 16] = *b"store-of-account";
 /// Stamps are in microseconds.
 const HERTZ: u64 = 1_000_000;
 
@@ -33,12 +31,13 @@ fn own_records(alloc: Global, worker: u32, records: &[Rec]) -> Result<Vec<Rec>, 
 fn write_metadata<F: Folder>(
     alloc: Global,
     folder: &mut F,
+    origin: &Origin<'_>,
     probes: &Probes<'_>,
 ) -> Result<(), TraceFault> {
     let names = Names::Given(probes.names());
-    let text = metadata(
+    let text = metadata_from(
         alloc,
-        &UUID,
+        origin,
         Form::ByTime(HERTZ),
         &probes.enablings(),
         &names,
@@ -51,6 +50,7 @@ fn write_metadata<F: Folder>(
 fn write_worker<F: Folder>(
     alloc: Global,
     folder: &mut F,
+    uuid: [u8; 16],
     schema: &Enablings,
     worker: u32,
     report: &Report,
@@ -61,7 +61,7 @@ fn write_worker<F: Folder>(
         return Err(TraceFault::Record);
     }
     let stream = Stream {
-        uuid: UUID,
+        uuid,
         enablings: schema,
         cpu: worker,
         missed: missed_of(report),
@@ -75,17 +75,26 @@ fn write_worker<F: Folder>(
     Ok(())
 }
 
-/// Writes what was kept of all workers, and the metadata last, since a folder without it is no trace.
+/// Writes what was kept of all workers as a trace of this origin, and the metadata last, since a folder without it is no trace.
 pub fn write_trace<F: Folder>(
     alloc: Global,
     mut folder: F,
+    origin: &Origin<'_>,
     probes: &Probes<'_>,
     closed: &Closed,
     records: &[Rec],
 ) -> Result<(), TraceFault> {
     let schema = probes.enablings();
     for cpu in closed_cpus(closed) {
-        write_worker(alloc, &mut folder, &schema, cpu.number, cpu.report, records)?;
+        write_worker(
+            alloc,
+            &mut folder,
+            origin.uuid,
+            &schema,
+            cpu.number,
+            cpu.report,
+            records,
+        )?;
     }
-    write_metadata(alloc, &mut folder, probes)
+    write_metadata(alloc, &mut folder, origin, probes)
 }

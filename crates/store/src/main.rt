@@ -20,7 +20,7 @@ use board::Board;
 use dspec::{Closed, Config, Kept, Rec, closed_cpus, trace};
 use dspec_command::{ended, output_fault, print_text, words_of};
 use dspec_probed::Probes;
-use dspec_trace::SystemFolder;
+use dspec_trace::{Identity, SystemFolder};
 use fault::{StoreFault, TraceFault};
 use folder::write_trace;
 use probes::StoreProbes;
@@ -57,6 +57,19 @@ fn tell_all<R: Print>(rt: &R, records: &[Rec], server: &Server, closed: &Closed)
     Ok(())
 }
 
+/// Writes what was kept of all workers as a trace of this process.
+fn write_own(
+    rt: &HostRuntime,
+    folder: SystemFolder<'_>,
+    probes: &Probes<'_>,
+    closed: &Closed,
+    records: &[Rec],
+) -> Result<(), TraceFault> {
+    let identity = Identity::of_system(rt)?;
+    let origin = identity.origin("store");
+    write_trace(rt.alloc(), folder, &origin, probes, closed, records)
+}
+
 /// Makes the transfers, writes the trace where a folder is named, and tells what was kept.
 fn transfers<'a, R: Threads + Sync>(
     rt: &'a HostRuntime,
@@ -76,7 +89,7 @@ fn transfers<'a, R: Threads + Sync>(
     let mut records = kept.records()?;
     records.sort_by_key(|rec: &Rec| rec.stamp())?;
     if let (Some(name), Some(folder)) = (name, folder) {
-        if let Err(fault) = write_trace(rt.alloc(), folder, &declared, &closed, &records) {
+        if let Err(fault) = write_own(rt, folder, &declared, &closed, &records) {
             return Err(StoreFault::Trace { name, fault });
         }
     }

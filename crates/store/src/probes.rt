@@ -36,7 +36,11 @@ impl StoreProbes {
             read: probes.probe("read", &["transfer", "account", "balance"])?,
             wait: probes.probe("wait", &["transfer", "account"])?,
             write: probes.probe("write", &["transfer", "account", "balance"])?,
-            end: probes.probe("end", &["transfer", "outcome"])?,
+            end: probes.probe_labelled(
+                "end",
+                &["transfer", "outcome"],
+                &[&[], &["done", "aborted", "slow"]],
+            )?,
         })
     }
 

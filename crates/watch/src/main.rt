@@ -19,7 +19,7 @@ use arguments::{Ask, WatchAsk, ask_of};
 use dspec::{Both, Config, Kept, closed_cpus, trace};
 use dspec_command::{ended, output_fault, print_text, words_of};
 use dspec_probed::Probes;
-use dspec_trace::{Names, SystemFolder, TraceFolder};
+use dspec_trace::{FolderFault, Identity, Names, SystemFolder, TraceFolder};
 use fault::WatchFault;
 use paths::{compare, tell};
 use probes::ServerProbes;
@@ -28,19 +28,26 @@ use serving::Server;
 use std::process::ExitCode;
 use std::thread::Threads;
 
-/// Begins a trace in the folder of that path, with the names of the probes in its metadata.
+/// Begins a trace of this process in the folder of that path, with the names of the probes in its metadata.
+fn begun_trace<'a>(
+    rt: &'a HostRuntime,
+    name: &str,
+    probes: &Probes<'_>,
+) -> Result<TraceFolder<SystemFolder<'a>>, FolderFault> {
+    let names = Names::Given(probes.names());
+    let folder = SystemFolder::new(rt, name)?;
+    let identity = Identity::of_system(rt)?;
+    let origin = identity.origin("watch");
+    TraceFolder::of(rt.alloc(), folder, &origin, &probes.enablings(), &names)
+}
+
+/// The same, by the program's fault.
 fn begin_trace<'a>(
     rt: &'a HostRuntime,
     name: &'a str,
     probes: &Probes<'_>,
 ) -> Result<TraceFolder<SystemFolder<'a>>, WatchFault<'a>> {
-    let names = Names::Given(probes.names());
-    let folder = match SystemFolder::new(rt, name) {
-        Ok(folder) => folder,
-        Err(fault) => return Err(WatchFault::Folder { name, fault }),
-    };
-    let uuid = *b"watch-of-failure";
-    match TraceFolder::new(rt.alloc(), folder, uuid, &probes.enablings(), &names) {
+    match begun_trace(rt, name, probes) {
         Ok(begun) => Ok(begun),
         Err(fault) => Err(WatchFault::Folder { name, fault }),
     }

@@ -1,8 +1,9 @@
-use Rattle.std.proofs.Common.{◌≡◌, ◌++◌, string_bytes}
-use Rattle.std.specs.List.{flat_map}
-use Rattle.dspec_ctf.specs.Metadata.{field_line}
+use Rattle.std.proofs.Common.{◌≡◌, ◌++◌, drop, string_bytes}
+use Rattle.std.specs.List.{flat_map, enumerate_from}
+use Rattle.dspec_ctf.specs.Metadata.{given_line, given_lines}
 use Rattle.dspec_ctf.proofs.printing.print_given.Given as goal
 
-abbrev pub invariant-loop-name : goal.invariant-loop-name
-invariant-loop-name l =
-    string_bytes l.text ≡ string_bytes l.initial.text ++ flat_map (λ p. field_line p.0.now.now p.1.now) l.yielded
+abbrev pub invariant-loop-place : goal.invariant-loop-place
+invariant-loop-place l =
+    string_bytes l.text ++ flat_map (λ p. given_line l.event p.0 p.1) (enumerate_from l.place-counter (drop l.place-counter l.fields))
+    ≡ string_bytes l.initial.text ++ given_lines l.event l.fields

@@ -1,6 +1,6 @@
 use Rattle.std.proofs.Common.{◌≡◌, ◌++◌, take, string_bytes}
 use Rattle.dspec_ctf.specs.Metadata.{hex}
-use Rattle.dspec_ctf.proofs.printing.print_hex.Given as goal
+use Rattle.dspec_ctf.proofs.heading.print_hex.Given as goal
 
 abbrev pub invariant-loop-byte : goal.invariant-loop-byte
 invariant-loop-byte l =
