@@ -56,9 +56,17 @@ abbrev pub trace_text : List ℕ → List ℕ
 trace_text u = trace_front ++ uuid_text u ++ trace_back
 
 -- a process, by the words that other tools know
+abbrev pub host_text : List ℕ → List ℕ
+host_text name = codes "\thostname = \"" ++ name ++ codes "\";\n"
+
+abbrev pub program_text : List ℕ → List ℕ
+program_text name = codes "\tprocname = \"" ++ name ++ codes "\";\n"
+
+abbrev pub pid_text : ℕ → List ℕ
+pid_text pid = codes "\tvpid = " ++ decimal pid ++ codes ";\n"
+
 unfoldable pub process_text : Process → List ℕ
-process_text p = codes "\thostname = \"" ++ p.host.now ++ codes "\";\n\tprocname = \"" ++ p.name.now
-    ++ codes "\";\n\tvpid = " ++ decimal p.pid ++ codes ";\n"
+process_text p = host_text p.host.now ++ program_text p.name.now ++ pid_text p.pid
 
 -- what surrounds the trace, in braces that are open already: the process, if it is told, and who wrote this
 abbrev pub environment_text : Option Process → List ℕ
@@ -69,9 +77,14 @@ abbrev pub clock_uuid : List ℕ → List ℕ
 clock_uuid u = codes "\tuuid = \"" ++ uuid_text u ++ codes "\";\n"
 
 -- where a clock began, from 1970 on
+abbrev pub seconds_text : ℕ → List ℕ
+seconds_text seconds = codes "\toffset_s = " ++ decimal seconds ++ codes ";\n"
+
+abbrev pub ticks_text : ℕ → List ℕ
+ticks_text ticks = codes "\toffset = " ++ decimal ticks ++ codes ";\n\tabsolute = true;\n"
+
 unfoldable pub clock_start : ClockStart → List ℕ
-clock_start start = option_map_or clock_uuid start.clock [] ++ codes "\toffset_s = " ++ decimal start.seconds ++ codes ";\n"
-    ++ codes "\toffset = " ++ decimal start.ticks ++ codes ";\n\tabsolute = true;\n"
+clock_start start = option_map_or clock_uuid start.clock [] ++ seconds_text start.seconds ++ ticks_text start.ticks
 
 -- the clock of a trace by time, whose ticks a second are known
 abbrev pub clock_text : Option ClockStart → Form → List ℕ
@@ -128,11 +141,14 @@ field_line name f = codes "\t\t" ++ type_name f ++ codes " " ++ name ++ codes ";
 abbrev pub numbered_lines : List Field → List ℕ
 numbered_lines fs = flat_map (λ p. field_line (codes "arg_" ++ decimal p.0) p.1) (enumerate_from 0 fs)
 
+-- a field of this type with its name
+abbrev pub typed_line : List ℕ → List ℕ → List ℕ
+typed_line type name = codes "\t\t" ++ type ++ codes " " ++ name ++ codes ";\n"
+
 -- a field that has a name, what it means and labels by its place
 unfoldable pub given_line : ProbeNames → ℕ → Field → List ℕ
 given_line n place f =
-    option_map_or (λ name. codes "\t\t" ++ labelled_type (slice_index_or n.kinds place Unsigned) (labels_at n place) f ++ codes " " ++ name.now ++ codes ";\n")
-    (slice_get n.fields.now place) []
+    option_map_or (λ name. typed_line (labelled_type (slice_index_or n.kinds place Unsigned) (labels_at n place) f) name.now) (slice_get n.fields.now place) []
 
 abbrev pub given_lines : ProbeNames → List Field → List ℕ
 given_lines n fs = flat_map (λ p. given_line n p.0 p.1) (enumerate_from 0 fs)

@@ -202,10 +202,10 @@ pub(crate) fn labels_at<'a>(event: &ProbeNames<'a>, place: usize) -> &'a [&'a st
     let Some(all) = event.labels else {
         return &[];
     };
-    match all.get(place) {
-        Some(labels) => labels,
-        None => &[],
-    }
+    let Some(labels) = all.get(place) else {
+        return &[];
+    };
+    labels
 }
 
 /// The label with this number, if it can't be shown.

@@ -1,6 +1,6 @@
 ghost use Rattle.std.specs.Prelude.{◌≡◌, ◌<◌, ◌++◌, false, OnOk, string_bytes};
 ghost use Rattle.std.specs.Fmt.{digit_glyph};
-ghost use Rattle.dspec_ctf.specs.Metadata.{hex_byte, hex, hyphened, uuid_text, types_text, trace_front, trace_back, trace_text, process_text, environment_text, clock_uuid, clock_start, clock_text, stream_text};
+ghost use Rattle.dspec_ctf.specs.Metadata.{hex_byte, hex, hyphened, uuid_text, types_text, trace_front, trace_back, trace_text, host_text, program_text, pid_text, process_text, environment_text, clock_uuid, seconds_text, ticks_text, clock_start, clock_text, stream_text};
 
 use crate::{ClockStart, Form, Process};
 use std::alloc::AllocError;
@@ -89,17 +89,35 @@ pub(crate) fn print_trace(text: &mut String, uuid: &[u8; 16]) -> Result<(), Allo
     text.push_str(trace_back_part())
 }
 
+/// The name of a machine.
+fn print_host(text: &mut String, name: &str) -> Result<(), AllocError>
+    ensures { OnOk result (string_bytes text.new ≡ string_bytes text.old ++ host_text name.now) }
+{
+    writeln!(text, "\thostname = \"{name}\";")
+}
+
+/// The name of a program.
+fn print_program(text: &mut String, name: &str) -> Result<(), AllocError>
+    ensures { OnOk result (string_bytes text.new ≡ string_bytes text.old ++ program_text name.now) }
+{
+    writeln!(text, "\tprocname = \"{name}\";")
+}
+
+/// The number of a process.
+fn print_pid(text: &mut String, pid: u32) -> Result<(), AllocError>
+    ensures { OnOk result (string_bytes text.new ≡ string_bytes text.old ++ pid_text pid) }
+{
+    writeln!(text, "\tvpid = {pid};")
+}
+
 /// A process.
 #[tactic(auto, unfolding(crate::specs::Metadata::process_text))]
 fn print_process(text: &mut String, process: &Process<'_>) -> Result<(), AllocError>
     ensures { OnOk result (string_bytes text.new ≡ string_bytes text.old ++ process_text process.now) }
 {
-    text.push_str("\thostname = \"")?;
-    text.push_str(process.host)?;
-    text.push_str("\";\n\tprocname = \"")?;
-    text.push_str(process.name)?;
-    let pid = process.pid;
-    write!(text, "\";\n\tvpid = {pid};\n")
+    print_host(text, process.host)?;
+    print_program(text, process.name)?;
+    print_pid(text, process.pid)
 }
 
 /// What surrounds the trace.
@@ -124,6 +142,20 @@ fn print_clock_uuid(text: &mut String, uuid: &[u8; 16]) -> Result<(), AllocError
     text.push_str("\";\n")
 }
 
+/// So many seconds after the beginning of 1970.
+fn print_seconds(text: &mut String, seconds: u64) -> Result<(), AllocError>
+    ensures { OnOk result (string_bytes text.new ≡ string_bytes text.old ++ seconds_text seconds) }
+{
+    writeln!(text, "\toffset_s = {seconds};")
+}
+
+/// And so many ticks.
+fn print_ticks(text: &mut String, ticks: u64) -> Result<(), AllocError>
+    ensures { OnOk result (string_bytes text.new ≡ string_bytes text.old ++ ticks_text ticks) }
+{
+    write!(text, "\toffset = {ticks};\n\tabsolute = true;\n")
+}
+
 /// Where a clock began.
 #[tactic(auto, unfolding(crate::specs::Metadata::clock_start))]
 fn print_clock_start(text: &mut String, start: &ClockStart) -> Result<(), AllocError>
@@ -132,10 +164,8 @@ fn print_clock_start(text: &mut String, start: &ClockStart) -> Result<(), AllocE
     if let Some(uuid) = start.clock {
         print_clock_uuid(text, &uuid)?;
     }
-    let seconds = start.seconds;
-    write!(text, "\toffset_s = {seconds};\n")?;
-    let ticks = start.ticks;
-    write!(text, "\toffset = {ticks};\n\tabsolute = true;\n")
+    print_seconds(text, start.seconds)?;
+    print_ticks(text, start.ticks)
 }
 
 /// The clock, in a trace by time.

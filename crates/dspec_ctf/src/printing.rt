@@ -1,7 +1,7 @@
 ghost use Rattle.std.specs.Prelude.{◌≡◌, ◌<◌, ◌^◌, ◌++◌, length, map, slice_index_or, OnOk, string_bytes};
 ghost use Rattle.std.specs.List.{flat_map, range_with_len};
 ghost use Rattle.dspec_probe.specs.declared.kind.Kind.TheVariants.{Unsigned};
-ghost use Rattle.dspec_ctf.specs.Metadata.{type_name, kind_type, label_items, labelled_type, numbered_lines, given_line, given_lines, stamp_line, event_name, field_lines, event_number, event_front, event_text};
+ghost use Rattle.dspec_ctf.specs.Metadata.{type_name, kind_type, label_items, labelled_type, numbered_lines, typed_line, given_line, given_lines, stamp_line, event_name, field_lines, event_number, event_front, event_text};
 ghost use Rattle.dspec_ctf.specs.Packets.{event_fields};
 
 use crate::checking::labels_at;
@@ -88,6 +88,21 @@ fn kind_at(event: &ProbeNames<'_>, place: usize) -> Kind
     }
 }
 
+/// The line of a field whose numbers mean this, and are called so.
+fn print_typed_line(
+    text: &mut String,
+    kind: Kind,
+    labels: &[&str],
+    field: Field,
+    name: &str,
+) -> Result<(), AllocError>
+    ensures { OnOk result (string_bytes text.new ≡ string_bytes text.old ++ typed_line (labelled_type kind (map (λ label. label.now) labels.now) field) name.now) }
+{
+    text.push_str("\t\t")?;
+    print_type(text, kind, labels, field)?;
+    writeln!(text, " {name};")
+}
+
 /// The line of a field that has a name by its place.
 #[tactic(auto, unfolding(crate::specs::Metadata::given_line))]
 fn print_given_line(
@@ -101,9 +116,13 @@ fn print_given_line(
     let Some(name) = event.fields.get(place) else {
         return Ok(());
     };
-    text.push_str("\t\t")?;
-    print_type(text, kind_at(event, place), labels_at(event, place), field)?;
-    writeln!(text, " {name};")
+    print_typed_line(
+        text,
+        kind_at(event, place),
+        labels_at(event, place),
+        field,
+        name,
+    )
 }
 
 /// The lines of an event's fields, with their names.
