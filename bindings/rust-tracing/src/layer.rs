@@ -4,6 +4,7 @@ use crate::lanes::{Kept, Lane, Lanes, Wanted, NOTED};
 use crate::path_id::{PathId, SLOTS};
 use crate::schema::{CLOSE, ENTER, EVENT, EXIT, OPEN, SET};
 use crate::sink::Why;
+use crate::spans::{Here, Place, Spans};
 use crate::values::{Gathering, Held, Values};
 use dspec::{Cpu, Opening, Spoken};
 use std::cell::{Cell, RefCell};
@@ -16,15 +17,6 @@ use tracing_core::span::{Attributes, Id, Record};
 use tracing_core::{dispatcher, Event, Level, Subscriber};
 use tracing_subscriber::layer::{Context, Layer};
 use tracing_subscriber::registry::LookupSpan;
-
-/// Where something stands: in which path, and in which span of it, 0 for none.
-#[derive(Clone, Copy, Debug)]
-struct Place {
-    path: PathId,
-    span: u32,
-    /// The number of the layer; 0 for none.
-    layer: u32,
-}
 
 const NOWHERE: Place = Place { path: PathId::NONE, span: 0, layer: 0 };
 
@@ -67,6 +59,9 @@ struct Slot {
     cut: AtomicU64,
 }
 
+/// How many open spans of a path the layer has room for beside the registry.
+const SPANS: usize = 16;
+
 /// Locks among which the paths without a slot are divided.
 const PARTS: usize = 16;
 
@@ -89,6 +84,7 @@ pub(crate) struct Core {
     /// Nanoseconds since 1970 began, where the layer's clock is 0.
     pub(crate) unix: u64,
     layer: u32,
+    open_spans: Spans,
     slots: Vec<Slot>,
     slotless: [Mutex<HashMap<PathId, State>>; PARTS],
     /// Numbers of spans in no path, and in paths without a slot.
@@ -307,15 +303,6 @@ fn nanoseconds(duration: Duration) -> u64 {
     duration.as_secs().saturating_mul(1_000_000_000).saturating_add(duration.subsec_nanos().into())
 }
 
-/// A span's place, and when it began, beside it in the registry.
-#[derive(Clone, Copy, Debug)]
-struct Here {
-    place: Place,
-    root: bool,
-    begun: u64,
-    callsite: u32,
-}
-
 /// The layer. It goes on a registry, once; made by [`Builder::build`].
 #[derive(Debug)]
 pub struct DspecLayer {
@@ -326,6 +313,8 @@ impl DspecLayer {
     /// Of the CPUs of each lane, one of each session.
     pub(crate) fn of(cpus: Vec<Vec<Cpu>>, options: Builder) -> DspecLayer {
         let sessions = cpus.first().map_or(0, Vec::len);
+        let layer = LAYERS.fetch_add(1, Ordering::Relaxed);
+        let spans = (SPANS * options.open() as usize).clamp(1 << 10, 1 << 16);
         let mut core = Core {
             lanes: Lanes::of(cpus),
             callsites: Callsites::new(),
@@ -336,7 +325,8 @@ impl DspecLayer {
             idle: AtomicBool::new(false),
             consumer: OnceLock::new(),
             unix: 0,
-            layer: LAYERS.fetch_add(1, Ordering::Relaxed),
+            layer,
+            open_spans: Spans::of(spans, layer),
             slots: (0..SLOTS * sessions).map(|_| Slot::default()).collect(),
             slotless: Default::default(),
             spans: AtomicU32::new(0),
@@ -357,6 +347,15 @@ impl DspecLayer {
 
     /// A span's own place.
     fn here<S>(&self, id: &Id, ctx: &Context<'_, S>) -> Option<Here>
+    where
+        S: Subscriber + for<'a> LookupSpan<'a>,
+    {
+        self.core.open_spans.get(id.into_u64()).or_else(|| self.here_in_registry(id, ctx))
+    }
+
+    /// That of a span for which there was no room.
+    #[cold]
+    fn here_in_registry<S>(&self, id: &Id, ctx: &Context<'_, S>) -> Option<Here>
     where
         S: Subscriber + for<'a> LookupSpan<'a>,
     {
@@ -415,9 +414,11 @@ where
         if gathering.keep && path != PathId::NONE {
             core.note(path, |state| state.why.asked = true);
         }
-        if let Some(span) = ctx.span(id) {
-            let callsite = gathering.values.callsite();
-            span.extensions_mut().replace(Here { place, root: root && path != PathId::NONE, begun: stamp, callsite });
+        let here = Here { place, root: root && path != PathId::NONE, begun: stamp, callsite: gathering.values.callsite() };
+        if !core.open_spans.put(id.into_u64(), &here) {
+            if let Some(span) = ctx.span(id) {
+                span.extensions_mut().replace(here);
+            }
         }
     }
 
@@ -502,7 +503,8 @@ where
     }
 
     fn on_close(&self, id: Id, ctx: Context<'_, S>) {
-        let Some(here) = self.here(&id, &ctx) else { return };
+        let taken = self.core.open_spans.take(id.into_u64());
+        let Some(here) = taken.or_else(|| self.here_in_registry(&id, &ctx)) else { return };
         let stamp = self.core.now();
         if here.root {
             self.core.decide(&here, stamp);

@@ -55,6 +55,7 @@ mod otlp;
 mod path_id;
 mod schema;
 mod sink;
+mod spans;
 mod text;
 mod values;
 

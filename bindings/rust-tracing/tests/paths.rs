@@ -213,6 +213,31 @@ fn one_subscriber_inside_another() {
     assert_eq!(of_other.outside.len(), 1);
 }
 
+/// More spans open at once than the layer has room for beside the registry.
+#[test]
+fn many_spans_at_once() {
+    const SPANS: u32 = 3000;
+    let (all, _) = kept(Builder::new().paths_at_once(1).lanes(1).bytes_a_path(1 << 20).bytes_a_lane(1 << 20), || {
+        let _path = info_span!("request", request = 1u64).entered();
+        let spans: Vec<_> = (0..SPANS).map(|number| info_span!("inner", number)).collect();
+        for (number, span) in spans.iter().enumerate() {
+            let _inner = span.enter();
+            info!(of = number, "in it");
+        }
+        drop(spans);
+        assert!(keep());
+    });
+    let path = &all.paths[0];
+    assert_eq!((all.paths.len(), path.cut, path.lost), (1, 0, 0));
+    let spans = path.spans();
+    assert_eq!(spans.len(), SPANS as usize + 1);
+    for (number, span) in spans[1..].iter().enumerate() {
+        let number = number as u64;
+        assert_eq!((span.value("number"), span.events[0].value("of")), (Some(&Value::U64(number)), Some(&Value::U64(number))));
+        assert!(span.events.len() == 1 && span.ended.is_some());
+    }
+}
+
 /// Spans that are left in another order than they were entered.
 #[test]
 fn spans_left_out_of_order() {
