@@ -11,3 +11,5 @@ mod handing;
 mod tests;
 #[cfg(test)]
 mod visits;
+#[cfg(test)]
+mod workers;
