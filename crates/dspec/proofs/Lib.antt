@@ -1,9 +1,10 @@
 pub mod KeptAll
 mod LeftBehind
-mod Passing
-mod Returning
+pub mod Passing
+pub mod Returning
 mod Standing
 mod TakenUp
-mod Tracing
+pub mod Tracing
 mod Visiting
+mod Working
 pub mod Works

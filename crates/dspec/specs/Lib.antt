@@ -8,3 +8,4 @@ pub mod Passed
 pub mod Visits
 pub mod Traced
 pub mod Works
+pub mod Workers

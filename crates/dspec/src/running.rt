@@ -24,7 +24,7 @@ use std::thread;
 use std::thread::Threads;
 
 /// The most threads at once: a CPU has one of its own.
-const MOST_CPUS: usize = 64;
+pub(crate) const MOST_CPUS: usize = 64;
 
 // Each CPU works in a thread of its own; then the last thing is told.
 fn work_all<R: Threads + Sync, W: Work<Enablings>>(
@@ -71,8 +71,8 @@ fn visit<K: Sink<Enablings>>(
     let _ = consumer.give_back(shared, batch);
 }
 
-// One round of the consumer's.
-fn visit_all<K: Sink<Enablings>>(
+/// One round of the consumer's: each of the first so many CPUs is asked, and what comes goes to the sink and back; then slots are cleaned.
+pub fn visit_all<K: Sink<Enablings>>(
     consumer: &mut Consumer,
     shared: &Shared,
     schema: &Enablings,
@@ -89,8 +89,8 @@ fn visit_all<K: Sink<Enablings>>(
     consumer.clean(shared);
 }
 
-// Rounds until the work is over.
-fn drain<K: Sink<Enablings>>(
+/// Rounds until the work is over.
+pub(crate) fn drain<K: Sink<Enablings>>(
     consumer: Consumer,
     shared: &Shared,
     schema: &Enablings,
@@ -155,8 +155,8 @@ fn run<R: Threads + Sync, W: Work<Enablings>, K: Sink<Enablings>>(
     (session, sink)
 }
 
-// Tells what holds of each CPU, as of every one between two of its calls.
-fn all_stand<S: Schema>(cpus: &Vec<Cpu<S>>)
+/// Tells what holds of each CPU, as of every one between two of its calls.
+pub(crate) fn all_stand<S: Schema>(cpus: &Vec<Cpu<S>>)
     ensures { AllSteady S.shape_of S.accepted S.text cpus.now.items }
 {
     for each in cpus {
@@ -178,8 +178,8 @@ fn pass_rest<K: Sink<Enablings>>(closed: &Closed, schema: &Enablings, cpu: u32, 
     sink.batch(schema, last);
 }
 
-// So does what nobody had taken of all of them.
-fn pass_rests<K: Sink<Enablings>>(closed: &Closed, schema: &Enablings, count: u32, sink: &mut K)
+/// What nobody had taken of a closed session goes to the sink, CPU by CPU: the batch that was sealed, then the last buffer.
+pub fn pass_rests<K: Sink<Enablings>>(closed: &Closed, schema: &Enablings, count: u32, sink: &mut K)
     requires { count ≡ length closed.now }
     ensures { GotAll (K.gets schema.now) sink.old (rests_passed 0 closed.now) sink.new }
 {

@@ -13,3 +13,5 @@ mod tests;
 mod verdicts;
 #[cfg(test)]
 mod visits;
+#[cfg(test)]
+mod workers;

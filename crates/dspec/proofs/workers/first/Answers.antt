@@ -1,0 +1,6 @@
+use Rattle.std.proofs.Common.{◌∷◌, sym, ap, ◌∙◌}
+use Rattle.dspec.proofs.Working.{first_and_rest}
+use Rattle.dspec.proofs.workers.first.Goals as goal
+
+pub returns-clause-cons : goal.returns-clause-cons
+returns-clause-cons g c = sym (ap (λ xs. c.remove.result ∷ xs) c.remove.ensures.items ∙ first_and_rest c.args.items.now.items c.remove.result c.requires c.remove.ensures.value)

@@ -1,0 +1,22 @@
+use Rattle.std.proofs.Common.{◌≡◌, ◌++◌, List, [], length, ap, ◌∙◌, append-nil, refl, sym, subst, arith}
+use Rattle.std.specs.Prelude.{vec_capacity}
+use Rattle.dspec.specs.Workers.{cpus_of, workers_of}
+use Rattle.dspec.specs.declared.workers.Working.{Working}
+use Rattle.dspec.proofs.Working.{moved_out}
+use Rattle.dspec.proofs.workers.part_again.Goals as goal
+
+pub loop-pairs-init : goal.loop-pairs-init
+loop-pairs-init g c = record {
+  cpus = ap (λ xs. xs ++ cpus_of c.args.pairs.items) c.requires.emptied.0;
+  workers = ap (λ xs. xs ++ workers_of c.args.pairs.items) c.requires.emptied.1;
+  cpus_room = omega (arith, ap length c.requires.emptied.0, c.requires.room.0);
+  workers_room = omega (arith, ap length c.requires.emptied.1, c.requires.room.1);
+}
+
+pub loop-pairs-preserved : goal.loop-pairs-preserved
+loop-pairs-preserved g c = record {
+  cpus = moved_out (λ (p : Working g.row.W.Denot). p.cpu) _ _ _ _ _ _ _ c.first-cpu.ensures.cons refl c.push_reserved.ensures.items c.loop-pairs.invariant.cpus;
+  workers = moved_out (λ (p : Working g.row.W.Denot). p.worker) _ _ _ _ _ _ _ c.first-cpu.ensures.cons refl c.push_reserved-in-loop-pairs.ensures.items c.loop-pairs.invariant.workers;
+  cpus_room = omega (arith, ap length c.first-cpu.ensures.cons, c.loop-pairs.invariant.cpus_room, c.push_reserved.ensures.len, c.push_reserved.ensures.capacity);
+  workers_room = omega (arith, ap length c.first-cpu.ensures.cons, c.loop-pairs.invariant.workers_room, c.push_reserved-in-loop-pairs.ensures.len, c.push_reserved-in-loop-pairs.ensures.capacity);
+}

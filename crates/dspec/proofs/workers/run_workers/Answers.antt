@@ -1,0 +1,23 @@
+use Rattle.std.proofs.Common.{rules}
+use Rattle.dspec_cpu.specs.Lists.{words_of}
+use Rattle.dspec.specs.Passed.{PassesOn}
+use Rattle.dspec.specs.Workers.{WorkedBy}
+use Rattle.dspec.proofs.Returning.{all_callable, session_again}
+use Rattle.dspec.proofs.Working.{all_numbered}
+use Rattle.dspec.proofs.workers.run_workers.Goals as goal
+
+pub join-drained-requires-after_bounds : goal.join-drained-requires-after_bounds
+join-drained-requires-after_bounds g c =
+    let mine = c.requires.session.consumer in
+    let all = all_callable c.args.schema.now c.args.session c.requires.session in
+    let numbered = all_numbered c.args.schema.now c.args.session c.requires.session in
+    search rules
+
+pub returns-clause-lent : goal.returns-clause-lent
+returns-clause-lent g c =
+    let passes : PassesOn (g.K.Sink.gets c.args.schema.now) (words_of c.args.session.shared) c.args.session.consumer c.args.sink c.join-drained.result.0.0 c.join-drained.result.0.1 = search rules in (
+      session_again (λ s. WorkedBy (g.W.Worker.does s) c.args.workers.items c.join-drained.result.1.1.items) c.args.schema.now c.args.session
+          (record { shared = c.args.session.shared; cpus = c.join-drained.result.1.0; consumer = c.join-drained.result.0.0 }) c.requires.session (search rules) passes.stays,
+      (search rules),
+      (search rules),
+    )

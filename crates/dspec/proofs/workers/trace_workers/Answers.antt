@@ -1,0 +1,59 @@
+use Rattle.std.proofs.Common.{◌≡◌, length, rules, ap, ◌∙◌, subst}
+use Rattle.dspec_record.specs.EnablingRows.{EnabledRows}
+use Rattle.dspec_record.specs.Schemas.{enabled, table_shape, table_accepts, table_text}
+use Rattle.dspec_deeds.specs.declared.config.Config.{Config}
+use Rattle.dspec_cpu.specs.declared.shared.Shared.{Shared}
+use Rattle.dspec_table.specs.declared.rule.View.{View}
+use Rattle.dspec_table.specs.Seats.{set_up}
+use Rattle.dspec_cpu.specs.Lists.{words_of}
+use Rattle.dspec_consumer.specs.Closing.{IsClosedBy}
+use Rattle.dspec_consumer.specs.Consumers.{view_of}
+use Rattle.dspec_consumer.specs.Leaving.{Has}
+use Rattle.dspec_consumer.specs.Promised.{IsPromisedBy, called_at, entered_at}
+use Rattle.dspec_consumer.specs.Sessions.{HasAt, taken_at, worn_at}
+use Rattle.dspec.specs.Workers.{WorkedBy, with_cpus}
+use Rattle.dspec.proofs.Returning.{worked}
+use Rattle.dspec.proofs.Tracing.{fresh_none, listed, traced}
+use Rattle.dspec.proofs.workers.trace_workers.Goals as goal
+
+pub returns-clause-traced : goal.returns-clause-traced
+returns-clause-traced g c =
+    let started = c.in_ok-session.ensures in
+    let s = c.in_ok-session.session in
+    let back = c.run_workers-session.result.0 in
+    let schema = c.args.schema in
+    let shape : EnabledRows → _ = λ e. table_shape e.header (enabled e.rows) in
+    let accepts : EnabledRows → _ = λ e. table_accepts e.header (enabled e.rows) in
+    let text : EnabledRows → _ = λ e. table_text e.header (enabled e.rows) in
+    let count : c.in-Ok.cpus ≡ length c.args.workers.items = search rules in
+    let sized = ap (λ n. with_cpus n c.args.config.now) count in
+    let same = ap (λ (w : Shared). set_up (words_of w)) c.run_workers-session.ensures.lent.1 ∙ (started.config ∙ sized) in
+    let does = λ (x : EnabledRows). WorkedBy (g.W.Worker.does x) c.args.workers.items c.run_workers-session.result.1.items in
+    let lent = c.run_workers-session.ensures.lent.0 in
+    traced shape accepts text (g.K.Sink.gets schema) schema (words_of s.shared) s.consumer back.consumer c.args.sink c.run_workers-session.result.2 c.pass_rests.new.sink
+    c.finish-closed.result started.consumer.1 c.run_workers-session.ensures.passes c.pass_rests.ensures (does schema) (with_cpus (length c.args.workers.items) c.args.config.now) back.cpus.items
+    (ap (λ (v : View). v.config) started.consumer.0 ∙ sized) (c.finish-closed.ensures.all ∙ ap (λ (k : Config). k.cpus) same)
+    (lent.all ∙ ap (λ (k : Config). k.cpus) same) (ap (λ (v : View). v.own) started.consumer.0) (λ n cpu at. (lent.each n cpu at).number)
+    (worked (Has shape accepts text) (fresh_none shape accepts text) does schema s back started.session started.fresh c.run_workers-session.ensures.returned)
+    (subst (λ (k : Config). IsPromisedBy (shape schema) (accepts schema) (text schema) k (entered_at back.cpus.items) (view_of back.consumer).own
+    (called_at back.cpus.items) (taken_at back.consumer) c.finish-closed.result) same
+    (c.finish-closed.ensures.promised schema lent))
+
+pub returns-clause-listed : goal.returns-clause-listed
+returns-clause-listed g c =
+    let started = c.in_ok-session.ensures in
+    let s = c.in_ok-session.session in
+    let back = c.run_workers-session.result.0 in
+    let schema = c.args.schema in
+    let shape : EnabledRows → _ = λ e. table_shape e.header (enabled e.rows) in
+    let accepts : EnabledRows → _ = λ e. table_accepts e.header (enabled e.rows) in
+    let text : EnabledRows → _ = λ e. table_text e.header (enabled e.rows) in
+    let count : c.in-Ok.cpus ≡ length c.args.workers.items = search rules in
+    let sized = ap (λ n. with_cpus n c.args.config.now) count in
+    let same = ap (λ (w : Shared). set_up (words_of w)) c.run_workers-session.ensures.lent.1 ∙ (started.config ∙ sized) in
+    listed shape accepts text (g.K.Sink.gets schema) schema (words_of s.shared) s.consumer back.consumer c.args.sink c.run_workers-session.result.2 c.pass_rests.new.sink
+    c.finish-closed.result started.consumer.1 c.run_workers-session.ensures.passes c.pass_rests.ensures (with_cpus (length c.args.workers.items) c.args.config.now)
+    back.cpus.items (worn_at back.cpus.items)
+    (view_of back.consumer).own c.all_stand.ensures
+    (subst (λ (k : Config). IsClosedBy (shape schema) (accepts schema) (text schema) k (HasAt (Has shape accepts text) back.cpus.items) (worn_at back.cpus.items)
+    (taken_at back.consumer) (view_of back.consumer).own c.finish-closed.result) same (c.finish-closed.ensures.closed schema c.run_workers-session.ensures.lent.0))

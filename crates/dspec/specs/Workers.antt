@@ -1,0 +1,44 @@
+-- Cited by calls. What workers did, each on the CPU of its place.
+use Rattle.std.specs.Prelude.{ℕ, ◌≡◌, List, length, map, slice_get, Some}
+use Rattle.dspec_record.specs.EnablingRows.{EnabledRows}
+use Rattle.dspec_deeds.specs.declared.config.Config.{Config}
+use Rattle.dspec_cpu.specs.declared.cpu.Cpu.{Cpu}
+use Rattle.dspec_cpu.specs.Called.{CallsMade, called}
+use Rattle.dspec_cpu.specs.Lists.{number_in, schema_of}
+use Rattle.dspec_cpu.specs.Standing.{identity}
+use Rattle.dspec.specs.declared.workers.Working.{Working}
+
+-- a configuration of so many CPUs
+abbrev pub with_cpus : ℕ → Config → Config
+with_cpus n k = record k { cpus = n }
+
+-- The worker at this place, as it was before, did that on the CPU with this number, and this is the worker behind it.
+pub record WorkedBy {W : Type 0} (does : ℕ → W → CallsMade → W → CallsMade → Type 0) (old new : List W) (c : ℕ) (x y : CallsMade) : Type 0 where
+  pub before : W
+  pub was : slice_get old c ≡ Some before
+  pub behind : W
+  pub is : slice_get new c ≡ Some behind
+  pub did : does c before x behind y
+
+-- each CPU stands at the place of its number
+abbrev pub AllNumbered : {S : Type 0} → List (Cpu S) → Type 0
+AllNumbered {S} cpus = (c : ℕ) (cpu : Cpu S) → slice_get cpus c ≡ Some cpu → number_in cpu ≡ c
+
+module _ {W : Type 0} where
+  -- the CPUs, and the workers, of pairs
+  abbrev pub cpus_of : List (Working W) → List (Cpu EnabledRows)
+  cpus_of pairs = map (λ (p : Working W). p.cpu) pairs
+
+  abbrev pub workers_of : List (Working W) → List W
+  workers_of pairs = map (λ (p : Working W). p.worker) pairs
+
+  module _ (does : EnabledRows → ℕ → W → CallsMade → W → CallsMade → Type 0) where
+    -- the CPU is the one that it was, and its worker did that on it
+    pub record WorkedOne (old new : Working W) : Type 0 where
+      pub same : identity new.cpu ≡ identity old.cpu
+      pub did : does (schema_of old.cpu) (number_in old.cpu) old.worker (called old.cpu) new.worker (called new.cpu)
+
+    -- so is each
+    pub record AllWorked (old new : List (Working W)) : Type 0 where
+      pub all : length new ≡ length old
+      pub each : (c : ℕ) (p : Working W) → slice_get new c ≡ Some p → (was : Working W) × (slice_get old c ≡ Some was) × WorkedOne was p
