@@ -86,11 +86,22 @@ ticks_text ticks = codes "\toffset = " ++ decimal ticks ++ codes ";\n\tabsolute 
 unfoldable pub clock_start : ClockStart → List ℕ
 clock_start start = option_map_or clock_uuid start.clock [] ++ seconds_text start.seconds ++ ticks_text start.ticks
 
+-- a clock of so many ticks a second, in braces that are still open
+abbrev pub clock_front : ℕ → List ℕ
+clock_front frequency = codes "\nclock {\n\tname = stamp;\n\tfreq = " ++ decimal frequency ++ codes ";\n"
+
+-- where it began, if that is told
+abbrev pub start_text : Option ClockStart → List ℕ
+start_text start = option_map_or clock_start start []
+
+-- the end of it, and the type of stamps
+unfoldable pub clock_back : List ℕ
+clock_back = codes "};\n\ntypealias integer { size = 64; align = 8; signed = false; map = clock.stamp.value; } := stamp_t;\n"
+
 -- the clock of a trace by time, whose ticks a second are known
 abbrev pub clock_text : Option ClockStart → Form → List ℕ
 clock_text start AsTaken = []
-clock_text start (ByTime frequency) = codes "\nclock {\n\tname = stamp;\n\tfreq = " ++ decimal frequency ++ codes ";\n" ++ option_map_or clock_start start []
-    ++ codes "};\n\ntypealias integer { size = 64; align = 8; signed = false; map = clock.stamp.value; } := stamp_t;\n"
+clock_text start (ByTime frequency) = clock_front frequency ++ start_text start ++ clock_back
 
 -- the context of packets, and the header of events; by time both have stamps
 abbrev pub stream_text : Form → List ℕ

@@ -1,6 +1,6 @@
 ghost use Rattle.std.specs.Prelude.{◌≡◌, ◌<◌, ◌++◌, false, OnOk, string_bytes};
 ghost use Rattle.std.specs.Fmt.{digit_glyph};
-ghost use Rattle.dspec_ctf.specs.Metadata.{hex_byte, hex, hyphened, uuid_text, types_text, trace_front, trace_back, trace_text, host_text, program_text, pid_text, process_text, environment_text, clock_uuid, seconds_text, ticks_text, clock_start, clock_text, stream_text};
+ghost use Rattle.dspec_ctf.specs.Metadata.{hex_byte, hex, hyphened, uuid_text, types_text, trace_front, trace_back, trace_text, host_text, program_text, pid_text, process_text, environment_text, clock_uuid, seconds_text, ticks_text, clock_start, clock_front, start_text, clock_back, clock_text, stream_text};
 
 use crate::{ClockStart, Form, Process};
 use std::alloc::AllocError;
@@ -168,6 +168,30 @@ fn print_clock_start(text: &mut String, start: &ClockStart) -> Result<(), AllocE
     print_ticks(text, start.ticks)
 }
 
+/// A clock of so many ticks a second, in braces that are still open.
+fn print_clock_front(text: &mut String, frequency: u64) -> Result<(), AllocError>
+    ensures { OnOk result (string_bytes text.new ≡ string_bytes text.old ++ clock_front frequency) }
+{
+    writeln!(text, "\nclock {{\n\tname = stamp;\n\tfreq = {frequency};")
+}
+
+/// Where it began, if that is told.
+fn print_start(text: &mut String, start: Option<ClockStart>) -> Result<(), AllocError>
+    ensures { OnOk result (string_bytes text.new ≡ string_bytes text.old ++ start_text start) }
+{
+    match start {
+        Some(start) => print_clock_start(text, &start),
+        None => Ok(()),
+    }
+}
+
+#[tactic(auto, unfolding(crate::specs::Metadata::clock_back))]
+fn clock_back_part() -> &'static str
+    ensures { result.now ≡ clock_back }
+{
+    "};\n\ntypealias integer { size = 64; align = 8; signed = false; map = clock.stamp.value; } := stamp_t;\n"
+}
+
 /// The clock, in a trace by time.
 pub(crate) fn print_clock(
     text: &mut String,
@@ -179,13 +203,9 @@ pub(crate) fn print_clock(
     let Form::ByTime(frequency) = form else {
         return Ok(());
     };
-    write!(text, "\nclock {{\n\tname = stamp;\n\tfreq = {frequency};\n")?;
-    if let Some(start) = start {
-        print_clock_start(text, &start)?;
-    }
-    text.push_str(
-        "};\n\ntypealias integer { size = 64; align = 8; signed = false; map = clock.stamp.value; } := stamp_t;\n",
-    )
+    print_clock_front(text, frequency)?;
+    print_start(text, start)?;
+    text.push_str(clock_back_part())
 }
 
 /// How packets and events begin.
