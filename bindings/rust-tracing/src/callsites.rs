@@ -58,12 +58,19 @@ impl Callsites {
     #[inline]
     pub(crate) fn of(&self, metadata: &'static Metadata<'static>) -> (u32, Option<&Callsite>) {
         let address = ptr::from_ref(metadata) as usize;
-        let first = (address >> 4).wrapping_mul(0x9e37_79b9_7f4a_7c15) >> 40;
+        let first = (address >> 4).wrapping_mul(0x9e37_79b9_7f4a_7c15) >> 52;
+        match self.callsites[first % CALLSITES].get() {
+            Some(found) if ptr::eq(found.metadata, metadata) => (number_of(first), Some(found)),
+            _ => self.of_behind(first, metadata),
+        }
+    }
+
+    fn of_behind(&self, first: usize, metadata: &'static Metadata<'static>) -> (u32, Option<&Callsite>) {
         for further in 0..CALLSITES {
-            let at = (first + further) & (CALLSITES - 1);
+            let at = (first + further) % CALLSITES;
             let found = self.callsites[at].get_or_init(|| Callsite::new(metadata));
             if ptr::eq(found.metadata, metadata) {
-                return (u32::try_from(at).unwrap_or(NO_CALLSITE), Some(found));
+                return (number_of(at), Some(found));
             }
         }
         (NO_CALLSITE, None)
@@ -93,6 +100,11 @@ impl Callsites {
         let callsites = self.callsites.iter().filter_map(OnceLock::get);
         callsites.flat_map(|callsite| &callsite.literals).filter_map(OnceLock::get).map(|known| &*known.text)
     }
+}
+
+#[inline]
+fn number_of(place: usize) -> u32 {
+    u32::try_from(place).unwrap_or(NO_CALLSITE)
 }
 
 impl Callsite {

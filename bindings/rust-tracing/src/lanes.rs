@@ -103,6 +103,18 @@ impl Lane {
 #[repr(align(128))]
 struct Place(Mutex<Lane>);
 
+impl Place {
+    /// The lane, where nobody is in it.
+    #[inline]
+    fn attempt(&self) -> Option<MutexGuard<'_, Lane>> {
+        match self.0.try_lock() {
+            Ok(lane) => Some(lane),
+            Err(TryLockError::Poisoned(lane)) => Some(lane.into_inner()),
+            Err(TryLockError::WouldBlock) => None,
+        }
+    }
+}
+
 #[derive(Debug)]
 pub(crate) struct Lanes {
     places: Vec<Place>,
@@ -128,10 +140,11 @@ impl Lanes {
     #[inline]
     pub(crate) fn on_one<R>(&self, work: impl FnOnce(&mut Lane) -> R) -> Option<R> {
         let home = HOME.get();
-        let first = if home < self.places.len() { home } else { self.home(home) };
-        let mut lane = match self.attempt(first) {
-            Some(lane) => lane,
-            None => self.another(first),
+        let tried = self.places.get(home).map(Place::attempt);
+        let mut lane = match tried {
+            Some(Some(lane)) => lane,
+            Some(None) => self.another(home),
+            None => self.home(home),
         };
         if lane.cpus.is_empty() {
             self.late.fetch_add(1, Ordering::Relaxed);
@@ -140,14 +153,15 @@ impl Lanes {
         Some(work(&mut lane))
     }
 
-    /// The lane of a thread that has none yet, or one of a layer with more lanes.
+    /// A lane for a thread that has none yet, or one of a layer with more lanes.
     #[cold]
-    fn home(&self, mut home: usize) -> usize {
+    fn home(&self, mut home: usize) -> MutexGuard<'_, Lane> {
         if home == usize::MAX {
             home = THREADS.fetch_add(1, Ordering::Relaxed);
             HOME.set(home);
         }
-        home % self.places.len()
+        let first = home % self.places.len();
+        self.places[first].attempt().unwrap_or_else(|| self.another(first))
     }
 
     /// A lane that nobody is in, behind one where somebody was.
@@ -160,18 +174,9 @@ impl Lanes {
             if at == first {
                 std::thread::yield_now();
             }
-            if let Some(lane) = self.attempt(at) {
+            if let Some(lane) = self.places[at].attempt() {
                 return lane;
             }
-        }
-    }
-
-    #[inline]
-    fn attempt(&self, number: usize) -> Option<MutexGuard<'_, Lane>> {
-        match self.places[number].0.try_lock() {
-            Ok(lane) => Some(lane),
-            Err(TryLockError::Poisoned(lane)) => Some(lane.into_inner()),
-            Err(TryLockError::WouldBlock) => None,
         }
     }
 
@@ -179,7 +184,7 @@ impl Lanes {
     pub(crate) fn tried(&self, number: usize) -> Option<MutexGuard<'_, Lane>> {
         for _ in 0..YIELDS {
             for _ in 0..TRIES {
-                if let Some(lane) = self.attempt(number) {
+                if let Some(lane) = self.places[number].attempt() {
                     return Some(lane);
                 }
                 std::hint::spin_loop();

@@ -240,9 +240,9 @@ impl Core {
     }
 
     #[inline]
-    fn put_values(&self, values: &mut Values, place: Place, epid: u32, stamp: u64, parent: u32) {
+    fn put_values(&self, values: &mut Values, place: Place, epid: u32, stamp: u64) {
         let Place { path, span, .. } = place;
-        values.head(path, span, parent);
+        values.head(path, span);
         self.lanes.on_one(|lane| match values.alone(epid) {
             Some((epid, row)) => self.offer(lane, path, epid, stamp, row),
             None => values.put(epid, &mut |epid, row| self.offer(lane, path, epid, stamp, row)),
@@ -284,7 +284,7 @@ impl Core {
             // stream where that is full.
             let before = lane.traced;
             let held = held.and_then(|mut held| {
-                held.values.head(path, held.span, 0);
+                held.values.head(path, held.span);
                 let whole = held.values.put(EVENT, &mut |epid, row| lane.trace(path.session(), epid, held.stamp, row));
                 (!whole).then_some(held)
             });
@@ -409,7 +409,8 @@ where
         let path = if root { core.open() } else { parent.path };
         let place = Place { path, span: core.span(path, root), layer: core.layer };
         if core.records(path) {
-            core.put_values(&mut gathering.values, place, OPEN, stamp, if root { 0 } else { parent.span });
+            gathering.values.parent(if root { 0 } else { parent.span });
+            core.put_values(&mut gathering.values, place, OPEN, stamp);
         }
         if gathering.keep && path != PathId::NONE {
             core.note(path, |state| state.why.asked = true);
@@ -436,7 +437,7 @@ where
         if gathering.keep && path != PathId::NONE {
             core.note(path, |state| state.why.asked = true);
         }
-        core.put_values(&mut gathering.values, here.place, SET, core.now(), 0);
+        core.put_values(&mut gathering.values, here.place, SET, core.now());
     }
 
     fn on_event(&self, event: &Event<'_>, ctx: Context<'_, S>) {
@@ -464,7 +465,7 @@ where
                 return;
             }
         }
-        core.put_values(&mut gathering.values, place, EVENT, stamp, 0);
+        core.put_values(&mut gathering.values, place, EVENT, stamp);
     }
 
     fn on_enter(&self, id: &Id, ctx: Context<'_, S>) {

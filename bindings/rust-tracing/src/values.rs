@@ -46,6 +46,8 @@ pub(crate) struct Values {
     row: [u64; HEAD + 1 + FIELDS],
     front: usize,
     used: usize,
+    /// Whether they are one record, and its shape says all of their types.
+    alone: bool,
     /// Where there is a text that the program made.
     texts: Option<Texts>,
 }
@@ -90,7 +92,7 @@ impl<'a> Gathering<'a> {
         let (number, callsite) = callsites.of(metadata);
         let names = callsite.map_or(&[][..], |callsite| &callsite.names);
         let shape = number << 4 | NO_SHAPE;
-        let values = Values { shape, types: 0, row: [0; HEAD + 1 + FIELDS], front, used: front, texts: None };
+        let values = Values { shape, types: 0, row: [0; HEAD + 1 + FIELDS], front, used: front, alone: false, texts: None };
         Gathering { callsites, callsite, names, metadata, next: 0, keep: false, values }
     }
 
@@ -98,43 +100,59 @@ impl<'a> Gathering<'a> {
     #[inline]
     pub(crate) fn end(&mut self) {
         if let Some(callsite) = self.callsite {
-            self.values.shape = self.values.shape & !NO_SHAPE | callsite.shape(self.values.types);
+            let shape = callsite.shape(self.values.types);
+            self.values.shape = self.values.shape & !NO_SHAPE | shape;
+            self.values.alone = shape != NO_SHAPE && self.values.used <= WORDS && self.values.texts.is_none();
         }
     }
 
-    /// The number of a field, which doesn't tell it. They come in order, but for what a caller does by hand.
+    /// The number of a field that stands behind all that came, and behind none that didn't: a field doesn't tell its number.
     #[inline]
-    fn number(&mut self, field: &Field) -> usize {
-        match self.names.get(self.next) {
-            Some(one) if ptr::eq(*one, field.name()) => {
-                self.next += 1;
-                self.next - 1
-            }
-            _ => self.number_of(field),
-        }
+    fn next(&mut self, field: &Field) -> Option<usize> {
+        let at = self.next;
+        let found = self.names.get(at).is_some_and(|name| ptr::eq(*name, field.name()));
+        self.next += usize::from(found);
+        found.then_some(at)
     }
 
-    /// The same, where a field without a value stands in front of it, or it doesn't stand behind the last.
+    /// The number of another: one without a value stands in front of it, or a caller put the fields together by hand.
     #[cold]
-    fn number_of(&mut self, field: &Field) -> usize {
+    fn number(&mut self, field: &Field) -> usize {
         let found = self.metadata.fields().iter().position(|one| one == *field);
-        self.next = found.map_or(0, |at| at + 1);
+        self.next = self.next.max(found.map_or(0, |at| at + 1));
         found.unwrap_or(FIELDS)
     }
 
     #[inline]
     fn set(&mut self, field: &Field, kind: u64, value: u64) {
+        match self.next(field) {
+            Some(at) => self.values.push(at, kind, value),
+            None => self.set_by_number(field, kind, value),
+        }
+    }
+
+    #[cold]
+    fn set_by_number(&mut self, field: &Field, kind: u64, value: u64) {
         let at = self.number(field);
         self.values.set(at, kind, value);
     }
 
     #[inline]
     fn text(&mut self, field: &Field, write: impl FnOnce(&mut Room<'_, 'a>) -> fmt::Result) {
-        let at = self.number(field);
+        let next = self.next(field);
         let mut room = Room { gathering: self, literal: 0, length: 0 };
         // What a value's own `Debug` answers is no matter: what it wrote is there.
         let _ = write(&mut room);
         let Room { literal, length, .. } = room;
+        match next {
+            Some(at) if literal != 0 => self.values.push(at, literal, 0),
+            _ => self.end_text(field, next, literal, length),
+        }
+    }
+
+    /// What was written is the value of a field.
+    fn end_text(&mut self, field: &Field, next: Option<usize>, literal: u64, length: usize) {
+        let at = next.unwrap_or_else(|| self.number(field));
         if literal == 0 {
             self.values.end_text(at, length);
         } else {
@@ -153,19 +171,24 @@ fn has_word(kind: u64) -> bool {
 }
 
 impl Values {
+    /// The value of a field behind all that have one.
     #[inline]
-    fn set(&mut self, at: usize, kind: u64, value: u64) {
-        if at >= FIELDS {
-            return;
-        }
-        if self.types >> (4 * at) != 0 {
-            self.set_again(at, kind, value);
-            return;
-        }
+    fn push(&mut self, at: usize, kind: u64, value: u64) {
         self.types |= kind << (4 * at);
         if has_word(kind) {
             self.row[self.used] = value;
             self.used += 1;
+        }
+    }
+
+    fn set(&mut self, at: usize, kind: u64, value: u64) {
+        if at >= FIELDS {
+            return;
+        }
+        if self.types >> (4 * at) == 0 {
+            self.push(at, kind, value);
+        } else {
+            self.set_again(at, kind, value);
         }
     }
 
@@ -201,21 +224,22 @@ impl Values {
         self.set(at, TEXT, (length as u64) << 16 | kept as u64);
     }
 
-    /// The words in front. `parent` is of a span that begins.
+    /// The words in front.
     #[inline]
-    pub(crate) fn head(&mut self, path: PathId, span: u32, parent: u32) {
+    pub(crate) fn head(&mut self, path: PathId, span: u32) {
         self.row[0] = path.raw();
         self.row[1] = u64::from(self.shape) << 32 | u64::from(span);
-        if self.front > HEAD {
-            self.row[HEAD] = parent.into();
-        }
+    }
+
+    /// The word behind those, of a span that begins.
+    pub(crate) fn parent(&mut self, span: u32) {
+        self.row[HEAD] = span.into();
     }
 
     /// The one record that these are, with its EPID; none where they are more than one, or their types have to be told.
     #[inline]
     pub(crate) fn alone(&self, first: u32) -> Option<(u32, &[u64])> {
-        let alone = self.texts.is_none() && self.used <= WORDS && self.shape & NO_SHAPE != NO_SHAPE;
-        alone.then(|| (nth(first, self.used - HEAD), &self.row[..self.used]))
+        self.alone.then(|| (nth(first, self.used - HEAD), &self.row[..self.used]))
     }
 
     /// Puts the record, and behind it on the same lane what belongs to it; where one of them has no room the next aren't offered. True: all
@@ -422,7 +446,7 @@ mod tests {
     /// What is read of the first so many records, and how many there are.
     fn read_again(callsites: &Callsites, values: &mut Values, records: usize) -> (Vec<(usize, Value)>, usize) {
         let (mut words, mut count) = (Vec::new(), 0);
-        values.head(PathId::NONE, 1, 0);
+        values.head(PathId::NONE, 1);
         let mut put = |epid: u32, row: &[u64]| {
             let first = if count == 0 { (EVENT, HEAD) } else { (MORE, 1) };
             assert_eq!(epid as usize, first.0 as usize + row.len() - first.1);
