@@ -1,14 +1,6 @@
--- Names that are borrowed: the lines of fields, and whether one is among them.
-use Rattle.std.proofs.Common.{◌≡◌, ◌++◌, ◌||◌, Bool, ℕ, zero, suc, ◌<◌, List, [], ◌∷◌, length, map, take, slice_index_or, refl, ap, arith}
-use Rattle.std.specs.List.{flat_map, list_any, zip}
-use Rattle.dspec_record.specs.declared.field.Field.{Field}
-use Rattle.dspec_ctf.specs.Metadata.{field_line, given_lines}
-
-pub given_lines-map : {A : Type 0} (name : A → List ℕ) (xs : List A) (fs : List Field)
-    → given_lines (map name xs) fs ≡ flat_map (λ p. field_line (name p.0) p.1) (zip xs fs)
-given_lines-map name [] fs = refl
-given_lines-map name (x ∷ xs) [] = refl
-given_lines-map name (x ∷ xs) (f ∷ fs) = ap (λ more. field_line (name x) f ++ more) (given_lines-map name xs fs)
+-- Names that are borrowed: whether one is among them.
+use Rattle.std.proofs.Common.{◌≡◌, ◌||◌, Bool, ℕ, zero, suc, ◌<◌, List, [], ◌∷◌, length, map, take, slice_index_or, refl, ap, arith}
+use Rattle.std.specs.List.{list_any}
 
 pub list_any_map : {A : Type 0} (p : List ℕ → Bool) (name : A → List ℕ) (xs : List A)
     → list_any p (map name xs) ≡ list_any (λ x. p (name x)) xs
