@@ -1,5 +1,5 @@
 /* Misuse of arguments: records, schemas and configurations that are refused, at both ends of each range. Each answers its status, and
- * changes nothing. */
+ * changes nothing, but that a CPU counts each record that was refused. */
 #include "c_check.h"
 
 static void refuses_record(check_all *a, uint64_t id, uint32_t epid, uint64_t stamp, const uint64_t *values, size_t n) {
@@ -8,6 +8,7 @@ static void refuses_record(check_all *a, uint64_t id, uint32_t epid, uint64_t st
     ANSWERS(dspec_trace(&a->cpu, epid, stamp, values, n), DSPEC_BAD_RECORD);
     ANSWERS(dspec_speculate(&a->cpu, id, epid, stamp, values, n), DSPEC_BAD_RECORD);
     MUST(dspec_cpu_report(&a->cpu, &after));
+    before.refused += 2;
     CHECK(check_same_report(&before, &after));
 }
 
@@ -79,12 +80,20 @@ static void schemas(void) {
 static void later_schema(void) {
     check_all a;
     uint32_t epid;
+    dspec_report report;
     check_set_up(&a);
     MUST(dspec_schema_enable(&a.schema, (const uint8_t[]){ 0 }, 0, &epid));
     MUST(dspec_schema_stamp(&a.schema));
     ANSWERS(DSPEC_TRACE(&a.cpu, epid), DSPEC_BAD_RECORD);
     ANSWERS(DSPEC_TRACE_AT(&a.cpu, 1, 1, 7), DSPEC_BAD_RECORD);
     ANSWERS(DSPEC_TRACE(&a.cpu, 1, 7), DSPEC_OK);
+    MUST(dspec_cpu_report(&a.cpu, &report));
+    CHECK(report.refused == 2 && report.offered == 1);
+    /* Of a row that has no place for a stamp. */
+    ANSWERS(DSPEC_TRACE_AT(&a.cpu, 1), DSPEC_BAD_RECORD);
+    ANSWERS(DSPEC_SPECULATE_AT(&a.cpu, 1, 1), DSPEC_BAD_RECORD);
+    MUST(dspec_cpu_report(&a.cpu, &report));
+    CHECK(report.refused == 4 && report.offered == 1);
     check_let_go(&a);
 }
 

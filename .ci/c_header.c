@@ -59,6 +59,7 @@ static void plain(void) {
     dspec_cpu cpu = DSPEC_EMPTY;
     uint64_t id = 0;
     uint32_t count = 0, evaluated = 8;
+    dspec_report report;
     start(&session, &cpu, false);
     CHECK(DSPEC_TRACE(&cpu, 1) == DSPEC_OK);
     CHECK(DSPEC_TRACE(&cpu, 2, ++evaluated) == DSPEC_OK);
@@ -75,6 +76,7 @@ static void plain(void) {
     CHECK(DSPEC_SPECULATE(&cpu, id, 2, 256) == DSPEC_BAD_RECORD);
     CHECK(DSPEC_SPECULATE(&cpu, id, (UINT64_C(1) << 32) + 1) == DSPEC_BAD_RECORD);
     CHECK(DSPEC_SPECULATE_AT(&cpu, id, (UINT64_C(1) << 32) + 1, 0) == DSPEC_BAD_RECORD);
+    CHECK(dspec_cpu_report(&cpu, &report) == DSPEC_OK && report.refused == 8 && report.offered == 5);
     CHECK(dspec_commit(&cpu, id, &count) == DSPEC_OK && count == 2);
     ends_with(&session, &cpu, due, sizeof due);
 }

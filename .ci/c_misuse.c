@@ -27,6 +27,7 @@ static dspec_status call_speculate(void *h, outs *o) { return (void)o, dspec_spe
 static dspec_status call_commit(void *h, outs *o) { return dspec_commit(h, 1, &o->number); }
 static dspec_status call_discard(void *h, outs *o) { return dspec_discard(h, 1, &o->number); }
 static dspec_status call_service(void *h, outs *o) { return dspec_service(h, &o->flag, &o->number); }
+static dspec_status call_dropped_in(void *h, outs *o) { return dspec_dropped_in(h, 1, &o->number); }
 static dspec_status call_cpu_report(void *h, outs *o) { return dspec_cpu_report(h, &o->report); }
 static dspec_status call_cpu_home(void *h, outs *o) { return (void)o, dspec_cpu_home(h); }
 static dspec_status call_ask(void *h, outs *o) { return (void)o, dspec_ask(h, 0); }
@@ -50,7 +51,7 @@ static const struct row {
     { "cpu_of", SESSION, call_cpu_of }, { "consumer_of", SESSION, call_consumer_of }, { "finish", SESSION, call_finish },
     { "trace", CPU, call_trace }, { "speculation", CPU, call_speculation }, { "speculate", CPU, call_speculate },
     { "commit", CPU, call_commit }, { "discard", CPU, call_discard }, { "service", CPU, call_service },
-    { "cpu_report", CPU, call_cpu_report }, { "cpu_home", CPU, call_cpu_home },
+    { "dropped_in", CPU, call_dropped_in }, { "cpu_report", CPU, call_cpu_report }, { "cpu_home", CPU, call_cpu_home },
     { "ask", CONSUMER, call_ask }, { "take", CONSUMER, call_take }, { "give_back", CONSUMER, call_give_back },
     { "clean", CONSUMER, call_clean }, { "stop", CONSUMER, call_stop }, { "consumer_home", CONSUMER, call_consumer_home },
     { "rest", CLOSED, call_rest }, { "closed_report", CLOSED, call_closed_report },

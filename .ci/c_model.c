@@ -126,10 +126,15 @@ static bool is_worn(model *m, model_cpu *c) {
     return false;
 }
 
+static dspec_status refused(model_cpu *c) {
+    c->report.refused++;
+    return DSPEC_BAD_RECORD;
+}
+
 dspec_status model_trace(model *m, uint32_t cpu, uint32_t epid, uint64_t stamp, const uint64_t *values, size_t n) {
     model_cpu *c = &m->cpus[cpu];
     piece p;
-    if (!piece_of(&m->schema, epid, stamp, values, n, &p)) return DSPEC_BAD_RECORD;
+    if (!piece_of(&m->schema, epid, stamp, values, n, &p)) return refused(c);
     if (is_worn(m, c)) return DSPEC_WORN;
     c->report.offered++;
     if (m->stopped) {
@@ -179,7 +184,7 @@ static model_slot *open_slot(model *m, uint64_t id) {
 dspec_status model_speculate(model *m, uint32_t cpu, uint64_t id, uint32_t epid, uint64_t stamp, const uint64_t *values, size_t n) {
     model_cpu *c = &m->cpus[cpu];
     piece p;
-    if (!piece_of(&m->schema, epid, stamp, values, n, &p)) return DSPEC_BAD_RECORD;
+    if (!piece_of(&m->schema, epid, stamp, values, n, &p)) return refused(c);
     if (is_worn(m, c)) return DSPEC_WORN;
     c->report.offered++;
     model_slot *slot = open_slot(m, id);
@@ -190,9 +195,13 @@ dspec_status model_speculate(model *m, uint32_t cpu, uint64_t id, uint32_t epid,
     }
     model_text *text = &c->speculative[id % 64];
     slot->callers |= UINT64_C(1) << cpu;
-    if (c->marks[id % 64] != slot->issue + 1) clear(text);
+    if (c->marks[id % 64] != slot->issue + 1) {
+        clear(text);
+        c->cut[id % 64] = 0;
+    }
     c->marks[id % 64] = slot->issue + 1;
     if (!push(text, p.bytes, p.len, p.align, 1)) {
+        c->cut[id % 64]++;
         c->report.specdropped++;
         return DSPEC_DROPPED;
     }
@@ -248,6 +257,12 @@ dspec_status model_discard(model *m, uint32_t cpu, uint64_t id, uint32_t *count)
     if (slot->callers == UINT64_C(1) << cpu) release(slot);
     else slot->code = MODEL_DISCARDED;
     return DSPEC_OK;
+}
+
+uint32_t model_dropped_in(const model *m, uint32_t cpu, uint64_t id) {
+    const model_cpu *c = &m->cpus[cpu];
+    uint64_t s = id % 64;
+    return s >= 1 && s <= m->config.nspec && c->marks[s] == id / 64 + 1 ? c->cut[s] : 0;
 }
 
 static bool is_decided(const model_slot *slot) { return slot->code == MODEL_COMMITTED || slot->code == MODEL_DISCARDED; }

@@ -28,6 +28,7 @@ typedef enum model_place { MODEL_SPARE, MODEL_SEALED, MODEL_OUT } model_place;
 typedef struct model_cpu {
     model_text active, other, speculative[MODEL_SLOTS + 1];
     uint64_t marks[MODEL_SLOTS + 1]; /* one more than the issue that was granted last, or 0 */
+    uint32_t cut[MODEL_SLOTS + 1];   /* records of that issue that had no room */
     uint64_t acknowledged[MODEL_SLOTS + 1];
     model_place place;
     uint64_t calls, sealed, taken, asked, drops, other_drops;
@@ -63,6 +64,7 @@ dspec_status model_speculation(model *m, uint32_t cpu, uint64_t *id);
 dspec_status model_speculate(model *m, uint32_t cpu, uint64_t id, uint32_t epid, uint64_t stamp, const uint64_t *values, size_t n);
 dspec_status model_commit(model *m, uint32_t cpu, uint64_t id, uint32_t *count);
 dspec_status model_discard(model *m, uint32_t cpu, uint64_t id, uint32_t *count);
+uint32_t model_dropped_in(const model *m, uint32_t cpu, uint64_t id);
 void model_service(model *m, uint32_t cpu, bool *sealed, uint32_t *settled);
 
 void model_ask(model *m, uint32_t cpu);

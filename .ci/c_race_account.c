@@ -314,6 +314,7 @@ static void compare(account *a) {
     same(a, "busy", told->busy, own->busy);
     same(a, "stopped", told->stopped, own->stopped);
     same(a, "worn", told->worn, own->worn);
+    same(a, "refused", told->refused, own->refused);
     same(a, "batches that came, and that services sealed", a->w->batches, a->sealed);
     same(a, "records that came, and that calls told of", a->w->records, a->place);
 }

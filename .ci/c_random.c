@@ -165,6 +165,12 @@ static void service(sequence *s, dspec_cpu *h, uint32_t cpu, bool held) {
     expect(s, sealed == due_sealed && settled == due_settled, "another batch, or count of what was settled");
 }
 
+static void ask_dropped(sequence *s, dspec_cpu *h, uint32_t cpu, bool held, uint64_t id) {
+    uint32_t count = MAGIC;
+    answers(s, "dropped_in", dspec_dropped_in(h, id, &count), held ? DSPEC_OK : DSPEC_BAD_HANDLE);
+    expect(s, count == (held ? model_dropped_in(&s->m, cpu, id) : MAGIC), "another count of dropped records");
+}
+
 static void cpu_calls(sequence *s) {
     bool own;
     uint32_t cpu = below(&s->dice, CPUS);
@@ -173,7 +179,7 @@ static void cpu_calls(sequence *s) {
     drawn r = draw_record(&s->dice, &s->m.schema);
     uint64_t id = draw_id(s);
     dspec_status got;
-    switch (below(&s->dice, 12)) {
+    switch (below(&s->dice, 13)) {
     case 0: case 1: case 10:
         got = dspec_trace(h, r.epid, r.stamp, r.values, r.n);
         answers(s, "trace", got, held ? model_trace(&s->m, cpu, r.epid, r.stamp, r.values, r.n) : DSPEC_BAD_HANDLE);
@@ -185,6 +191,7 @@ static void cpu_calls(sequence *s) {
     case 5: case 6: open_one(s, h, cpu, held); break;
     case 7: decide(s, h, cpu, held, true); break;
     case 8: decide(s, h, cpu, held, false); break;
+    case 12: ask_dropped(s, h, cpu, held, id); break;
     default: service(s, h, cpu, held); break;
     }
 }

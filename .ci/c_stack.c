@@ -1,13 +1,13 @@
 /* How much stack the calls take, as it is measured over this archive: each is made in a thread of its own, on a stack that was filled
- * before; what was written over since is counted, with what the thread itself takes. A start has to get by with 64 KiB and an end with
- * 96, however many CPUs there are, and each other call with 32. `c_stack CPUS ..` measures sessions of so many. */
+ * before; what was written over since is counted, with what the thread itself takes. A start and an end have to get by with
+ * 64 KiB, however many CPUs there are, and each other call with 32. `c_stack CPUS ..` measures sessions of so many. */
 #define _GNU_SOURCE
 #include "c_check.h"
 
 #include <pthread.h>
 #include <sys/mman.h>
 
-enum { STACK = 8 << 20, FILLED = 0xa5, MOST_OF_A_START = 64 << 10, MOST_OF_AN_END = 96 << 10, MOST_OF_OTHERS = 32 << 10 };
+enum { STACK = 8 << 20, FILLED = 0xa5, MOST = 64 << 10, MOST_OF_OTHERS = 32 << 10 };
 
 /* What the measure stands on. */
 static void must(dspec_status status, const char *call) {
@@ -111,14 +111,14 @@ static const struct step {
     size_t most; /* 0: it is only told */
 } steps[] = {
     { "dspec_schema_new", schema_new, MOST_OF_OTHERS },   { "dspec_schema_enable", schema_enable, MOST_OF_OTHERS },
-    { "dspec_start", start, MOST_OF_A_START },               { "dspec_cpu_of", cpu_of, MOST_OF_OTHERS },
+    { "dspec_start", start, MOST },               { "dspec_cpu_of", cpu_of, MOST_OF_OTHERS },
     { "dspec_consumer_of", consumer_of, MOST_OF_OTHERS }, { "dspec_trace", trace, MOST_OF_OTHERS },
     { "dspec_speculation", speculation, MOST_OF_OTHERS }, { "dspec_speculate", speculate, MOST_OF_OTHERS },
     { "dspec_commit", commit, MOST_OF_OTHERS },           { "dspec_ask", ask, MOST_OF_OTHERS },
     { "dspec_service", service, MOST_OF_OTHERS },         { "dspec_take", take, MOST_OF_OTHERS },
     { "dspec_give_back", give_back, MOST_OF_OTHERS },     { "dspec_clean", clean, MOST_OF_OTHERS },
     { "dspec_cpu_report", cpu_report, MOST_OF_OTHERS },   { "dspec_cpu_home", cpu_home, MOST_OF_OTHERS },
-    { "dspec_consumer_home", consumer_home, MOST_OF_OTHERS }, { "dspec_finish", finish, MOST_OF_AN_END },
+    { "dspec_consumer_home", consumer_home, MOST_OF_OTHERS }, { "dspec_finish", finish, MOST },
     { "dspec_rest", rest, MOST_OF_OTHERS },               { "dspec_closed_report", closed_report, MOST_OF_OTHERS },
     { "dspec_closed_drop", closed_drop, MOST_OF_OTHERS }, { "dspec_schema_drop", schema_drop, MOST_OF_OTHERS },
 };

@@ -1,8 +1,8 @@
 /* What no contract of the library says to C: which status stands for which answer, which count stands in which field of a report, whose
- * bytes a batch has. One CPU is brought to a report whose thirteen counts are all different, so that no two can be exchanged. */
+ * bytes a batch has. One CPU is brought to a report whose fourteen counts are all different, so that no two can be exchanged. */
 #include "c_check.h"
 
-enum { KEPT = 5, BLOCK = 3, SPECDROPPED = 5, DISCARDED = 2, DROPPED = 6, VOID = 4, UNAVAILABLE = 9, BUSY = 10, STOPPED = 11, WORN = 12 };
+enum { KEPT = 5, BLOCK = 3, SPECDROPPED = 5, DISCARDED = 2, DROPPED = 6, VOID = 4, UNAVAILABLE = 9, BUSY = 10, STOPPED = 11, WORN = 12, REFUSED = 13 };
 
 typedef struct lanes {
     dspec_session session;
@@ -47,6 +47,20 @@ static void offers(lanes *l, int n, uint64_t id, uint64_t first, dspec_status du
     l->calls += (uint64_t)n;
 }
 
+/* Records that the schema refuses: too large for its field, and of no enabling. No such call is one of the CPU's calls. */
+static void refuses(lanes *l, int n) {
+    for (int i = 0; i < n; i++) {
+        if (i % 2 == 0) ANSWERS(DSPEC_TRACE(&l->cpu, l->epid, UINT64_C(1) << 32), DSPEC_BAD_RECORD);
+        else ANSWERS(DSPEC_SPECULATE(&l->cpu, 1, l->epid + 1, 1), DSPEC_BAD_RECORD);
+    }
+}
+
+static void dropped_in(lanes *l, uint64_t id, uint32_t n) {
+    uint32_t count = 77;
+    MUST(dspec_dropped_in(&l->cpu, id, &count));
+    CHECK(count == n);
+}
+
 static uint64_t opens(lanes *l, int n, dspec_status due) {
     uint64_t id = 0;
     for (int i = 0; i < n; i++) ANSWERS(dspec_speculation(&l->cpu, &id), due);
@@ -74,10 +88,13 @@ static void fill_report(lanes *l) {
     uint32_t count = 77, settled = 77;
     bool sealed = true;
     traces(l, KEPT, 1, DSPEC_OK);
+    refuses(l, REFUSED - 3);
     uint64_t id = opens(l, 1, DSPEC_OK);
     offers(l, BLOCK, id, 11, DSPEC_OK);
     offers(l, SPECDROPPED, id, 21, DSPEC_DROPPED);
+    dropped_in(l, id, SPECDROPPED);
     commits(l, id, BLOCK, DSPEC_OK);
+    dropped_in(l, id, SPECDROPPED);
     commits(l, id, 77, DSPEC_VOID);
     id = opens(l, 1, DSPEC_OK);
     offers(l, DISCARDED, id, 31, DSPEC_OK);
@@ -85,6 +102,7 @@ static void fill_report(lanes *l) {
     discards(l, id, 77, DSPEC_VOID);
     id = opens(l, 1, DSPEC_OK);
     offers(l, BLOCK, id, 41, DSPEC_OK);
+    dropped_in(l, id, 0);
     commits(l, id, BLOCK, DSPEC_LOST);
     traces(l, DROPPED, 51, DSPEC_DROPPED);
     offers(l, VOID, 0, 61, DSPEC_VOID);
@@ -98,12 +116,14 @@ static void fill_report(lanes *l) {
     MUST(dspec_service(&l->cpu, &sealed, &settled));
     CHECK(!sealed && settled == 1);
     ANSWERS(dspec_stop(&l->consumer), DSPEC_OK);
+    refuses(l, 2);
     opens(l, STOPPED - 2, DSPEC_STOPPED);
     commits(l, id, 77, DSPEC_STOPPED);
     discards(l, id, 77, DSPEC_STOPPED);
 }
 
 static void wear(lanes *l) {
+    refuses(l, 1);
     opens(l, WORN - 4, DSPEC_WORN);
     traces(l, 1, 81, DSPEC_WORN);
     offers(l, 1, 1, 91, DSPEC_WORN);
@@ -125,6 +145,7 @@ static void look_at(const dspec_report *r) {
     CHECK(r->busy == BUSY);
     CHECK(r->stopped == STOPPED);
     CHECK(r->worn == WORN);
+    CHECK(r->refused == REFUSED);
 }
 
 /* The eight records that were accepted: 1 to 5, and 11 to 13. */

@@ -4,7 +4,7 @@
  * matter. A session has 1 to 64 CPUs, which are lanes of the trace and no processors, and one consumer. Each CPU traces records
  * into its own principal buffer; or it offers them to a speculation, on any CPUs, which is committed or discarded later. The
  * consumer takes the principal buffers, batch by batch. No record of a discarded speculation gets into a batch, and each record
- * that was offered stands in exactly one count of its CPU's report.
+ * that was offered stands in exactly one count of its CPU's report, as does each that the schema refused.
  *
  * HANDLES. A handle is two words of the caller's memory. All zeros is the empty handle, as DSPEC_EMPTY. The kinds have types of
  * their own, so that the compiler tells them apart; a call that is given an empty handle, or by a cast one of another kind,
@@ -22,7 +22,7 @@
  * changed, and the call may be made again. No other call takes any. Each call may free.
  *
  * STACK. Measured with the compiler that built this library, on x86-64, with what a thread itself takes: dspec_start
- * takes up to 64 KB of stack and dspec_finish up to 96 KB, however many CPUs there are, and each other call up to 32 KB.
+ * and dspec_finish take up to 64 KB of stack, however many CPUs there are, and each other call up to 32 KB.
  *
  * WHAT C OWES. No pointer is NULL, not even that of an array of no elements. Each points to memory of its type, aligned, that
  * nothing else reads or writes during the call; no two pointers of a call point to the same memory. An array has as many elements
@@ -84,7 +84,7 @@ typedef enum dspec_status {
 
     /* What was asked can't be asked. */
     DSPEC_BAD_RECORD = 16,  /* not a record of the schema: EPID, number of values, a value too large for its field, or a stamp
-                               where records have none; nothing was traced and nothing counted */
+                               where records have none; nothing was traced, and the report counts it as refused, and no more */
     DSPEC_BAD_HANDLE = 17,  /* empty, or of another kind */
     DSPEC_FULL_HANDLE = 18, /* a handle to be filled that isn't empty */
     DSPEC_NO_SUCH_CPU = 19, /* no CPU of this number */
@@ -126,7 +126,7 @@ typedef struct dspec_config {
 } dspec_config;
 
 /* A CPU's counts. Each record that was offered stands in exactly one of accepted, dropped, specdropped, lost, discarded, void_
- * and held; the rest counts events. */
+ * and held, and each that the schema refused in refused; the rest counts events. */
 typedef struct dspec_report {
     uint64_t offered;     /* records handed to trace or speculate, by calls that weren't worn */
     uint64_t accepted;    /* records that the principal buffers took, those of copied speculations among them */
@@ -141,6 +141,7 @@ typedef struct dspec_report {
     uint64_t busy;        /* calls answered DSPEC_BUSY */
     uint64_t stopped;     /* calls answered DSPEC_STOPPED */
     uint64_t worn;        /* calls answered DSPEC_WORN, of which nothing else is counted */
+    uint64_t refused;     /* calls answered DSPEC_BAD_RECORD, whose records weren't offered; it stays at 2^64 - 1 */
 } dspec_report;
 
 /* A principal buffer: its records, one behind another, all numbers little-endian. A record is its EPID in 4 bytes; with a stamped
@@ -191,7 +192,7 @@ dspec_status dspec_consumer_of(dspec_session *session, dspec_consumer *consumer)
 
 /* Traces the record with these n values into the principal buffer. stamp is 0 where records have none.
  * DSPEC_OK: it was kept. DSPEC_DROPPED: no room; the record and the drop were counted. DSPEC_STOPPED: it was counted void.
- * DSPEC_WORN. DSPEC_BAD_RECORD, DSPEC_BAD_HANDLE: nothing was done. */
+ * DSPEC_WORN. DSPEC_BAD_RECORD: it was counted as refused, and nothing else was done. DSPEC_BAD_HANDLE: nothing was done. */
 dspec_status dspec_trace(dspec_cpu *cpu, uint32_t epid, uint64_t stamp, const uint64_t *values, size_t n) DSPEC_NOEXCEPT;
 
 /* Opens a speculation; its identifier goes to any CPU of the session, as a number.
@@ -201,7 +202,7 @@ dspec_status dspec_speculation(dspec_cpu *cpu, uint64_t *id) DSPEC_NOEXCEPT;
 
 /* Offers the record to a speculation: it is kept in the CPU's speculative buffer until that is decided.
  * DSPEC_OK: it was kept there. DSPEC_DROPPED: no room there. DSPEC_VOID, DSPEC_STOPPED: it was counted void. DSPEC_WORN.
- * DSPEC_BAD_RECORD, DSPEC_BAD_HANDLE: nothing was done. */
+ * DSPEC_BAD_RECORD: it was counted as refused, and nothing else was done. DSPEC_BAD_HANDLE: nothing was done. */
 dspec_status dspec_speculate(dspec_cpu *cpu, uint64_t id, uint32_t epid, uint64_t stamp, const uint64_t *values, size_t n) DSPEC_NOEXCEPT;
 
 /* Commits a speculation: this CPU's records of it go to its principal buffer, all or none; the other CPUs do the same with theirs
@@ -219,6 +220,12 @@ dspec_status dspec_discard(dspec_cpu *cpu, uint64_t id, uint32_t *count) DSPEC_N
  * settled: how many speculations were. It is never worn, and works behind a stop too.
  * DSPEC_OK. DSPEC_BAD_HANDLE. */
 dspec_status dspec_service(dspec_cpu *cpu, bool *sealed, uint32_t *settled) DSPEC_NOEXCEPT;
+
+/* How many records of a speculation were dropped for want of room in this CPU's speculative buffer, since its first one: where there are
+ * any, the end of the path is cut. It can be asked before the decision and after it; 0 where this CPU has offered none, and once it
+ * has offered a record to a later speculation of the same slot. It stays at 2^32 - 1.
+ * DSPEC_OK. DSPEC_BAD_HANDLE. */
+dspec_status dspec_dropped_in(dspec_cpu *cpu, uint64_t id, uint32_t *count) DSPEC_NOEXCEPT;
 
 /* The CPU's counts so far.
  * DSPEC_OK. DSPEC_BAD_HANDLE. */
@@ -333,7 +340,7 @@ DSPEC_INLINE const char *dspec_status_text(dspec_status status) DSPEC_NOEXCEPT {
 
 #ifndef __cplusplus
 
-/* The EPID of a row: one that 32 bits don't hold is no EPID, as 0 is none. */
+/* The EPID of a row: one that 32 bits don't hold is no EPID, as 0 is none. A row without a stamp's place is refused, and counted, as it is. */
 static inline uint32_t dspec_row_epid(const uint64_t *row) { return row[0] > UINT32_MAX ? 0 : (uint32_t)row[0]; }
 
 /* Of a row with the EPID, and the stamp where there is one, in front of the values. */
@@ -341,13 +348,13 @@ static inline dspec_status dspec_trace_row(dspec_cpu *cpu, const uint64_t *row, 
     return dspec_trace(cpu, dspec_row_epid(row), 0, row + 1, n - 1);
 }
 static inline dspec_status dspec_trace_stamped_row(dspec_cpu *cpu, const uint64_t *row, size_t n) {
-    return n < 2 ? DSPEC_BAD_RECORD : dspec_trace(cpu, dspec_row_epid(row), row[1], row + 2, n - 2);
+    return n < 2 ? dspec_trace(cpu, 0, 0, row, 0) : dspec_trace(cpu, dspec_row_epid(row), row[1], row + 2, n - 2);
 }
 static inline dspec_status dspec_speculate_row(dspec_cpu *cpu, uint64_t id, const uint64_t *row, size_t n) {
     return dspec_speculate(cpu, id, dspec_row_epid(row), 0, row + 1, n - 1);
 }
 static inline dspec_status dspec_speculate_stamped_row(dspec_cpu *cpu, uint64_t id, const uint64_t *row, size_t n) {
-    return n < 2 ? DSPEC_BAD_RECORD : dspec_speculate(cpu, id, dspec_row_epid(row), row[1], row + 2, n - 2);
+    return n < 2 ? dspec_speculate(cpu, id, 0, 0, row, 0) : dspec_speculate(cpu, id, dspec_row_epid(row), row[1], row + 2, n - 2);
 }
 
 /* A zero stands behind the row, so that its values never begin past its end. */

@@ -191,6 +191,13 @@ public:
         return told;
     }
 
+    /* How many records of the speculation this CPU's buffer had no room for: where there are any, the path's end is cut. */
+    std::uint32_t dropped_in(std::uint64_t id) noexcept {
+        std::uint32_t count = 0;
+        dspec_dropped_in(get(), id, &count);
+        return count;
+    }
+
     /* To be called now and then between the other calls; whether a batch was handed on. */
     bool service() noexcept {
         bool sealed = false;
@@ -233,6 +240,9 @@ public:
     template <field... Fields> dspec_status step_at(probe<Fields...> of, std::uint64_t stamp, std::type_identity_t<Fields>... values) noexcept {
         return on_ ? on_->speculate_at(id_, of, stamp, values...) : DSPEC_VOID;
     }
+
+    /* How many of its records this CPU had no room for. */
+    std::uint32_t dropped() noexcept { return on_ ? on_->dropped_in(id_) : 0; }
 
     /* Each decides once; behind it, and behind a move, the path takes no step and no decision: DSPEC_VOID. */
     decided keep() noexcept {

@@ -149,4 +149,6 @@ pub struct Report {
     pub stopped: u64,
     /// Calls answered `Worn`, of which nothing else is counted.
     pub worn: u64,
+    /// Calls refused with [`Error::BadRecord`](crate::Error::BadRecord), whose records weren't offered; it stays at `u64::MAX`.
+    pub refused: u64,
 }

@@ -19,7 +19,7 @@ impl Cpu {
     ///
     /// # Errors
     ///
-    /// [`Error::BadRecord`] alone: nothing was done, and nothing counted.
+    /// [`Error::BadRecord`] alone: it was counted as refused, and nothing else was done.
     #[inline]
     pub fn trace(&mut self, epid: Epid, stamp: u64, values: &[u64]) -> Result<Traced, Error> {
         // SAFETY: the pointer is to as many values as is told, and the handle is in no other call.
@@ -54,7 +54,7 @@ impl Cpu {
     ///
     /// # Errors
     ///
-    /// [`Error::BadRecord`] alone: nothing was done, and nothing counted.
+    /// [`Error::BadRecord`] alone: it was counted as refused, and nothing else was done.
     #[inline]
     pub fn speculate(&mut self, id: SpecId, epid: Epid, stamp: u64, values: &[u64]) -> Result<Spoken, Error> {
         // SAFETY: as in `trace`.
@@ -85,6 +85,15 @@ impl Cpu {
             raw::OK => Decided::Thrown(count),
             other => undecided(other),
         }
+    }
+
+    /// How many records of the speculation this CPU's speculative buffer had no room for, since its first one: where there are any, the
+    /// path's end is cut. 0 where this CPU has offered none, and once it has offered a record to a later speculation of the same slot.
+    pub fn dropped_in(&mut self, id: SpecId) -> u32 {
+        let mut count = 0;
+        // SAFETY: as in `speculation`.
+        never_refused(unsafe { raw::dspec_dropped_in(self.handle.at(), id.raw(), &mut count) });
+        count
     }
 
     /// Does what this CPU owes the others: switches the principal buffer where the consumer asked, and settles what other CPUs have

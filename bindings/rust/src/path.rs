@@ -40,6 +40,11 @@ impl<'a> Path<'a> {
         self.cpu.speculate(self.id(), epid, stamp, values)
     }
 
+    /// How many of its records its CPU had no room for: where there are any, its end is cut.
+    pub fn dropped(&mut self) -> u32 {
+        self.cpu.dropped_in(self.opening.id())
+    }
+
     /// Commits it: its records get into the principal buffers, each CPU's at once or not at all.
     pub fn keep(mut self) -> Decided {
         let id = self.leave();

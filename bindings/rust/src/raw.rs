@@ -78,6 +78,7 @@ extern "C" {
     pub(crate) fn dspec_commit(cpu: *mut Words, id: u64, count: *mut u32) -> Status;
     pub(crate) fn dspec_discard(cpu: *mut Words, id: u64, count: *mut u32) -> Status;
     pub(crate) fn dspec_service(cpu: *mut Words, sealed: *mut bool, settled: *mut u32) -> Status;
+    pub(crate) fn dspec_dropped_in(cpu: *mut Words, id: u64, count: *mut u32) -> Status;
     pub(crate) fn dspec_cpu_report(cpu: *mut Words, report: *mut Report) -> Status;
     pub(crate) fn dspec_cpu_home(cpu: *mut Words) -> Status;
 

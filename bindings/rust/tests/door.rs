@@ -33,7 +33,9 @@ fn every_answer_of_a_cpu() {
     for value in 11..=13 {
         assert_eq!(cpu.speculate(id, epid, 0, &[value]), Ok(Spoken::Kept));
     }
+    assert_eq!(cpu.dropped_in(id), 0);
     assert_eq!(cpu.speculate(id, epid, 0, &[14]), Ok(Spoken::Dropped));
+    assert_eq!(cpu.dropped_in(id), 1);
     assert_eq!(cpu.commit(id), Decided::Copied(3));
     assert_eq!(cpu.commit(id), Decided::Void);
     assert_eq!(cpu.trace(epid, 0, &[6]), Ok(Traced::Dropped));
@@ -58,6 +60,8 @@ fn every_answer_of_a_cpu() {
     assert_eq!(cpu.commit(open), Decided::Stopped);
     assert_eq!(cpu.discard(open), Decided::Stopped);
     while cpu.speculation() != Opening::Worn {}
+    assert_eq!(cpu.trace(epid, 0, &[1 << 32]), Err(Error::BadRecord));
+    assert_eq!(cpu.speculate(open, epid, 0, &[]), Err(Error::BadRecord));
     assert_eq!(cpu.trace(epid, 0, &[8]), Ok(Traced::Worn));
     assert_eq!(cpu.speculate(open, epid, 0, &[53]), Ok(Spoken::Worn));
     assert_eq!(cpu.commit(open), Decided::Worn);
@@ -75,6 +79,7 @@ fn every_answer_of_a_cpu() {
         busy: 1,
         stopped: 5,
         worn: 4,
+        refused: 2,
     };
     let told = cpu.report();
     assert_eq!(told.offered, told.accepted + told.dropped + told.specdropped + told.lost + told.discarded + told.void + told.held);
@@ -163,6 +168,7 @@ fn refused_records_and_schemas() {
         assert_eq!(cpu.speculate(SpecId::from_raw(1), epid, stamp, values), Err(Error::BadRecord));
     }
     assert_eq!(cpu.report().offered, 2);
+    assert_eq!(cpu.report().refused, 14);
 }
 
 #[test]

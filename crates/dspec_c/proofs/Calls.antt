@@ -1,6 +1,6 @@
 -- A call on what a handle holds is one on the CPU, or the consumer, that is there.
-use Rattle.std.proofs.Common.{◌≡◌, ℕ, Option, Some, None, sym, subst}
-use Rattle.std.specs.Prelude.{Result, Ok, Err, IfErr, IfNone, IfSome, MatchOption, MatchResult, OnErr, OnOk}
+use Rattle.std.proofs.Common.{◌≡◌, ℕ, Bool, true, false, not, Option, Some, None, refl, sym, subst}
+use Rattle.std.specs.Prelude.{is_none, is_some, Result, Ok, Err, IfErr, IfNone, IfSome, MatchOption, MatchResult, OnErr, OnOk}
 use Rattle.dspec_ring.specs.declared.batch.Batch.{Batch}
 use Rattle.dspec_record.specs.EnablingRows.{EnabledRows}
 use Rattle.dspec_cpu.specs.declared.cpu.Cpu.{Cpu}
@@ -9,19 +9,28 @@ use Rattle.dspec_consumer.specs.Batches.{FoundNone, GaveBack, IsNotTakenBack, To
 use Rattle.dspec_consumer.specs.Consumers.{Consuming}
 use Rattle.dspec_c.specs.ConsumerCalls.{OnConsumer, OnTheirs}
 use Rattle.dspec_c.specs.ConsumerHomes.{Theirs}
-use Rattle.dspec_c.specs.CpuCalls.{OnCpu, OnSide}
+use Rattle.dspec_c.specs.CpuCalls.{OnCpu, OnSide, one_refused}
 use Rattle.dspec_c.specs.Homes.{Side}
 use Rattle.dspec_c.specs.declared.consumer_side.ConsumerSide.{ConsumerSide}
 use Rattle.dspec_c.specs.declared.held.Held.{Held}
 use Rattle.dspec_c.specs.declared.held.Held.TheVariants as held
 
-pub on_side : (did : Cpu EnabledRows → Cpu EnabledRows → Type 0) (old was new : Side) → was ≡ old → new.shared ≡ was.shared → did was.cpu new.cpu → OnSide did old new
-on_side did old was new e shared done = subst (λ (s : Side). OnSide did s new) e (record { shared = shared; cpu = done })
+pub on_side : (refuses : Bool) (did : Cpu EnabledRows → Cpu EnabledRows → Type 0) (old was new : Side) → was ≡ old → new.shared ≡ was.shared → did was.cpu new.cpu
+    → new.refused ≡ one_refused refuses was.refused → OnSide refuses did old new
+on_side refuses did old was new e shared done count = subst (λ (s : Side). OnSide refuses did s new) e (record { shared = shared; cpu = done; refused = count })
 
 -- where the CPU is in a box
-pub on_boxed : (did : Cpu EnabledRows → Cpu EnabledRows → Type 0) (old : Side) (shared : Shared) (was cpu : Cpu EnabledRows) (new : Side) → record { shared = shared; cpu = cpu } ≡ old → was ≡ cpu
-    → new.shared ≡ shared → did was new.cpu → OnSide did old new
-on_boxed did old shared was cpu new e f same done = on_side did old (record { shared = shared; cpu = cpu }) new e same (subst (λ (x : Cpu EnabledRows). did x new.cpu) f done)
+pub on_boxed : (refuses : Bool) (did : Cpu EnabledRows → Cpu EnabledRows → Type 0) (old : Side) (shared : Shared) (was cpu : Cpu EnabledRows) (refused : ℕ) (new : Side)
+    → record { shared = shared; cpu = cpu; refused = refused } ≡ old → was ≡ cpu → new.shared ≡ shared → did was new.cpu → new.refused ≡ one_refused refuses refused → OnSide refuses did old new
+on_boxed refuses did old shared was cpu refused new e f same done count =
+    on_side refuses did old (record { shared = shared; cpu = cpu; refused = refused }) new e same (subst (λ (x : Cpu EnabledRows). did x new.cpu) f done) count
+
+-- whether there is no answer, told by whether there is one
+pub none_told : {A : Type 0} (a : Option A) (told : Bool) → is_some a ≡ not told → told ≡ is_none a
+none_told None true e = refl
+none_told None false e = cc
+none_told (Some x) true e = cc
+none_told (Some x) false e = refl
 
 pub on_cpu : (did : Side → Side → Type 0) (stays : Type 0) (was : Held) (status : ℕ) (now : Held) (old new : Side) → was ≡ held.Cpu old → now ≡ held.Cpu new → did old new
     → OnCpu did stays was status now

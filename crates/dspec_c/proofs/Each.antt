@@ -1,5 +1,5 @@
 -- Lists each element of which has something at its place.
-use Rattle.std.proofs.Common.{◌≡◌, ℕ, ◌+◌, ◌<◌, List, [], ◌∷◌, ◌++◌, length, length-append, append_assoc, Option, suc, zero, refl, sym, ap, ◌∙◌, subst, arith}
+use Rattle.std.proofs.Common.{◌≡◌, ℕ, ◌+◌, ◌<◌, List, [], ◌∷◌, ◌++◌, length, length-append, append_assoc, Option, take, suc, zero, refl, sym, ap, ◌∙◌, subst, arith}
 use Rattle.std.specs.Prelude.{slice_get, slice_index_or, slice_set, map, remove, Some, IsSome}
 use Rattle.dspec_ring.specs.Known.{Pair}
 use Rattle.dspec_record.specs.EnablingRows.{EnabledRows}
@@ -8,8 +8,8 @@ use Rattle.dspec_cpu.specs.declared.shared.Shared.{Shared}
 use Rattle.dspec_cpu.specs.Lists.{words_of}
 use Rattle.dspec_cpu.specs.Standing.{Identity, IsCallable, identity}
 use Rattle.dspec_consumer.specs.Sessions.{IsCpuOf}
-use Rattle.dspec_c.specs.Homes.{CpuStay, Side}
-use Rattle.dspec_c.specs.Whole.{AllCalled, AllInside, EachFrom, IsCpuAt, IsPlaceOf, firsts, insides, waiting_so}
+use Rattle.dspec_c.specs.Homes.{AtHome, CpuStay, Side}
+use Rattle.dspec_c.specs.Whole.{AllCalled, AllInside, EachFrom, IsCpuAt, IsPlaceOf, cpu_inside, firsts, insides, new_side, refused_inside, refusals, waiting_so}
 
 -- the first element, and what is left when it is removed
 pub first_and_rest : {A : Type 0} (xs : List A) (x : A) → 0 < length xs → x ≡ slice_index_or xs 0 x → x ∷ remove xs 0 ≡ xs
@@ -34,8 +34,8 @@ set_back (y ∷ ys) zero old new e at = ap (λ z. z ∷ ys) (e ∙ at)
 set_back (y ∷ ys) (suc c) old new e at = ap (λ zs. y ∷ zs) (set_back ys c old new e at)
 
 -- a CPU that is at home is the one of its place
-pub cpu_at : (shared : Shared) (schema : EnabledRows) (pairs : List Pair) (c : ℕ) (place : Option Side) (home cpu : Cpu EnabledRows)
-    → ((first : Side) → place ≡ Some first → identity home ≡ identity first.cpu) → cpu ≡ home → IsPlaceOf shared schema pairs c place → IsCpuAt shared schema pairs c cpu
+pub cpu_at : (shared : Shared) (schema : EnabledRows) (pairs : List Pair) (c : ℕ) (place : Option Side) (home : AtHome) (cpu : Cpu EnabledRows)
+    → ((first : Side) → place ≡ Some first → identity home.cpu ≡ identity first.cpu) → cpu ≡ home.cpu → IsPlaceOf shared schema pairs c place → IsCpuAt shared schema pairs c cpu
 cpu_at shared schema pairs c place home cpu same f at =
     subst (λ (i : Identity EnabledRows). IsCpuOf schema (words_of shared) c (slice_get pairs c) i) (sym (ap (λ (y : Cpu EnabledRows). identity y) f ∙ same at.side at.is)) at.cpu
 
@@ -59,7 +59,7 @@ next_inside (x ∷ xs) cpu rest = ap (λ (zs : List (Option (Cpu EnabledRows))).
 
 pub one_inside : (cpus : List (Cpu EnabledRows)) (places : List CpuStay) (place : CpuStay) (rest : List CpuStay) (cpu : Cpu EnabledRows) (now : List (Cpu EnabledRows))
     (all : List (Option (Cpu EnabledRows)))
-    → places ≡ place ∷ rest → now ≡ cpus ++ cpu ∷ [] → place.inside ≡ Some cpu → map Some cpus ++ insides places ≡ all → map Some now ++ insides rest ≡ all
+    → places ≡ place ∷ rest → now ≡ cpus ++ cpu ∷ [] → cpu_inside place ≡ Some cpu → map Some cpus ++ insides places ≡ all → map Some now ++ insides rest ≡ all
 one_inside cpus places place rest cpu now all cons is inside was =
     ap (λ (xs : List (Cpu EnabledRows)). map Some xs ++ insides rest) is ∙ next_inside cpus cpu (insides rest)
     ∙ ap (λ (o : Option (Cpu EnabledRows)). map Some cpus ++ (o ∷ insides rest)) (sym inside) ∙ ap (λ (ps : List CpuStay). map Some cpus ++ insides ps) (sym cons) ∙ was
@@ -82,4 +82,22 @@ pub each_placed : (shared : Shared) (schema : EnabledRows) (pairs : List Pair) (
     → EachFrom (IsPlaceOf shared schema pairs) n (firsts (map (waiting_so shared) cpus))
 each_placed shared schema pairs n [] all = tt
 each_placed shared schema pairs n (cpu ∷ cpus) all =
-    (record { side = record { shared = shared; cpu = cpu }; is = refl; shares = refl; cpu = all.0 }, each_placed shared schema pairs (suc n) cpus all.1)
+    (record { side = new_side shared cpu; is = refl; shares = refl; cpu = all.0 }, each_placed shared schema pairs (suc n) cpus all.1)
+
+-- the counts of the places so far, one place more
+counts_to : (places : List CpuStay) (n : ℕ) (place : CpuStay) → n < length places → place ≡ slice_index_or places n place
+    → take (suc n) (refusals places) ≡ take n (refusals places) ++ refused_inside place ∷ []
+counts_to [] n place small at = absurd (omega arith)
+counts_to (p ∷ ps) zero place small at = ap (λ (s : CpuStay). refused_inside s ∷ []) (sym at)
+counts_to (p ∷ ps) (suc n) place small at = ap (λ (ks : List ℕ). refused_inside p ∷ ks) (counts_to ps n place (omega arith) at)
+
+pub one_counted : (places : List CpuStay) (n : ℕ) (place : CpuStay) (count : ℕ) (was now : List ℕ) → n < length places → place ≡ slice_index_or places n place → count ≡ refused_inside place
+    → was ≡ take n (refusals places) → now ≡ was ++ count ∷ [] → now ≡ take (suc n) (refusals places)
+one_counted places n place count was now small at is before e =
+    e ∙ ap (λ (ks : List ℕ). ks ++ count ∷ []) before ∙ ap (λ (k : ℕ). take n (refusals places) ++ k ∷ []) is ∙ sym (counts_to places n place small at)
+
+-- the counts of all of them
+pub all_counted : (places : List CpuStay) (n : ℕ) → n ≡ length places → take n (refusals places) ≡ refusals places
+all_counted [] n e = ap (λ (k : ℕ). take k (refusals [])) e
+all_counted (p ∷ ps) zero e = absurd (omega (arith, e))
+all_counted (p ∷ ps) (suc n) e = ap (λ (ks : List ℕ). refused_inside p ∷ ks) (all_counted ps n (omega (arith, e)))

@@ -16,7 +16,7 @@ use Rattle.dspec_cpu.specs.Standing.{Identity, IsCallable, identity}
 use Rattle.dspec_c.specs.ConsumerHomes.{IsTheirPlaceWith, LeaveTheirs, TheirStay, Theirs}
 use Rattle.dspec_c.specs.Homes.{Came, CpuStay, IsPlaceWith, Side, handed_out}
 use Rattle.dspec_c.specs.Whole.{AllCalled, AreCame, EachFrom, Going, GoesOut, IsFreshIn, IsJustStarted, IsCpuAt, IsEnding, IsPlaceOf, IsStarted, IsWhole, LeavesOne, LookedLater, TheyGoOut}
-use Rattle.dspec_c.specs.Whole.{firsts, insides, they_wait_so, waiting_so, waits_in}
+use Rattle.dspec_c.specs.Whole.{cpu_inside, firsts, insides, refusals, refused_inside, they_wait_so, waiting_so, waits_in}
 use Rattle.dspec_c.proofs.Each.{each_placed}
 use Rattle.dspec_c.proofs.Looking.{first_at, left_firsts, same_firsts}
 
@@ -54,7 +54,14 @@ session_is shared schema places consumer session is e f home count = record {
 
 -- as many as the places that they were at
 pub as_many : (cpus : List (Cpu EnabledRows)) (places : List CpuStay) → map Some cpus ≡ insides places → length cpus ≡ length (firsts places)
-as_many cpus places e = sym (length-map cpus Some) ∙ ap length e ∙ length-map places (λ (s : CpuStay). s.inside) ∙ sym (length-map places (λ (s : CpuStay). s.first))
+as_many cpus places e = sym (length-map cpus Some) ∙ ap length e ∙ length-map places cpu_inside ∙ sym (length-map places (λ (s : CpuStay). s.first))
+
+-- as many counts as there are CPUs left
+pub as_many_counts : (shared common : Shared) (cpus : ℕ) (places : List CpuStay) (theirs : Option Theirs) (refused : List ℕ) (left : ℕ) → IsWhole common cpus (firsts places) theirs
+    → shared ≡ common → refused ≡ refusals places → left ≡ (set_up (words_of shared)).cpus → length refused ≡ left
+as_many_counts shared common cpus places theirs refused left is e f g =
+    ap length f ∙ length-map places refused_inside ∙ sym (length-map places (λ (s : CpuStay). s.first)) ∙ is.ending.all
+    ∙ ap (λ (m : Shared). (set_up (words_of m)).cpus) (sym e) ∙ sym g
 
 -- the consumer that is home ends what the first one would have ended
 pub ends_so : (shared : Shared) (cpus : ℕ) (places : List (Option Side)) (place : Option Theirs) (consumer : Consuming) → (is : IsWhole shared cpus places place)
@@ -120,7 +127,7 @@ whole_kept shared n places now place there is e f =
 all_fresh : (shared : Shared) (schema : EnabledRows) (n : ℕ) (cpus : List (Cpu EnabledRows))
     → ((c : ℕ) (cpu : Cpu EnabledRows) → slice_get cpus c ≡ Some cpu → (schema_of cpu ≡ schema) × IsFresh Has cpu) → EachFrom (IsFreshIn schema) n (map (waiting_so shared) cpus)
 all_fresh shared schema n [] is = tt
-all_fresh shared schema n (cpu ∷ cpus) is = ((refl, is 0 cpu refl), all_fresh shared schema (suc n) cpus (λ c x at. is (suc c) x at))
+all_fresh shared schema n (cpu ∷ cpus) is = ((refl, ((is 0 cpu refl).0, (is 0 cpu refl).1, refl)), all_fresh shared schema (suc n) cpus (λ c x at. is (suc c) x at))
 
 -- those can call the CPU at a place who share what the session does
 pub place_with : (shared given : Shared) (n : ℕ) (places : List CpuStay) (theirs : Option Theirs) (c : ℕ) (s : CpuStay) → IsWhole shared n (firsts places) theirs → given ≡ shared

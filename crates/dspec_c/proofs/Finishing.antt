@@ -9,7 +9,7 @@ use Rattle.dspec_consumer.specs.declared.left.Left.{Left}
 use Rattle.dspec_c.specs.Handles.{held_in, is_full}
 use Rattle.dspec_c.specs.SessionCalls.{EndsSo, FinishAnswers, LooksHome}
 use Rattle.dspec_c.specs.Statuses.{busy, not_home}
-use Rattle.dspec_c.specs.Whole.{ClosedBy, EndedBy, Going, IsAway, IsHome, LookedLater, insides}
+use Rattle.dspec_c.specs.Whole.{ClosedBy, EndedBy, Going, IsAway, IsHome, LookedLater, insides, refusals}
 use Rattle.dspec_c.specs.declared.ended.Ended.{Ended}
 use Rattle.dspec_c.specs.declared.handle.Handle.{Handle}
 use Rattle.dspec_c.specs.declared.held.Held.{Held}
@@ -59,7 +59,7 @@ module _ (was new closed : Handle) where
   pub ended_so : {U : Type 0} (left : Handle) (h now : Held) (ended : Ended) (u : U) → LooksHome h (Ok u) now → EndsSo now (Ok ended) → is_full new ≡ false → is_full left ≡ true
       → held_in left ≡ held.Closed ended → FinishAnswers h was closed 0 new left
   ended_so left (held.Session old) now ended u looks ends f g i =
-      let by : (length ended.closed ≡ (looks.0).cpus) × EndedBy looks.0 ended.closed = subst (λ (x : Held). EndsSo x (Ok ended)) looks.1 ends in
+      let by : (length ended.closed ≡ (looks.0).cpus) × EndedBy looks.0 ended.closed ended.refused.items = subst (λ (x : Held). EndsSo x (Ok ended)) looks.1 ends in
       (looks.0, looks.2, inl (refl, looks.3, record { emptied = f; full = g; ended = ended; holds = i; all = by.0; by = by.1 }))
   ended_so left held.Nothing now ended u looks ends f g i = absurd looks.1
   ended_so left (held.Schema s) now ended u looks ends f g i = absurd looks.1
@@ -85,10 +85,11 @@ module _ (was new closed : Handle) (h : Held) (e : held_in was ≡ h) where
   ended_in left now ended u looks ends f g i = in_handle 0 left (ended_so was new closed left h now ended u looks ends f g i)
 
 -- what is left of the session by what was home
-pub left_of_home : (w : Going) (shared : Shared) (cpus : List (Option (Cpu EnabledRows))) (consumer : Consuming) (left : List Left) → shared ≡ w.shared → cpus ≡ insides w.places
-    → w.consumer.inside ≡ Some consumer → ClosedBy shared cpus consumer left → EndedBy w left
-left_of_home w shared cpus consumer left e f home closed = record {
+pub left_of_home : (w : Going) (shared : Shared) (cpus : List (Option (Cpu EnabledRows))) (consumer : Consuming) (left : List Left) (refused : List ℕ) → shared ≡ w.shared → cpus ≡ insides w.places
+    → w.consumer.inside ≡ Some consumer → ClosedBy shared cpus consumer left → refused ≡ refusals w.places → EndedBy w left refused
+left_of_home w shared cpus consumer left refused e f home closed counted = record {
   consumer = consumer;
   home = home;
   closed = subst (λ (m : Shared). ClosedBy m (insides w.places) consumer left) e (subst (λ (xs : List (Option (Cpu EnabledRows))). ClosedBy shared xs consumer left) f closed);
+  counted = counted;
 }

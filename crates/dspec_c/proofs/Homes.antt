@@ -9,7 +9,7 @@ use Rattle.dspec_cpu.specs.declared.cpu.Cpu.{Cpu}
 use Rattle.dspec_cpu.specs.declared.shared.Shared.{Shared}
 use Rattle.dspec_cpu.specs.Lists.{words_of}
 use Rattle.dspec_cpu.specs.Standing.{Belongs, Identity, IsCallable, identity}
-use Rattle.dspec_c.specs.Homes.{CpuStay, IsDesk, IsOut, IsSameAsAll, IsSameSide, IsUnused, LeavesPlace, Side}
+use Rattle.dspec_c.specs.Homes.{AtHome, CpuStay, IsDesk, IsOut, IsSameAsAll, IsSameSide, IsUnused, LeavesPlace, Side, at_home}
 use Rattle.dspec_c.specs.declared.homing.HomeRule.{HomeRule}
 use Rattle.dspec_c.proofs.Options.{if_none, or_this, the_none, unless}
 
@@ -37,56 +37,55 @@ free_on w = known_free w
 
 -- the place of a CPU, whatever its way out is
 module _ {X : Type 0} (went : X → List Side) (free : X → ℕ) where
-  abbrev pub IsPlace : List Side → Option X → Option (Cpu EnabledRows) → Type 0
+  abbrev pub IsPlace : List Side → Option X → Option AtHome → Type 0
   IsPlace received way inside =
       (first : Side) × (slice_get received 0 ≡ Some first) × IsDesk first received inside × IfSome way (λ w. IsUnused first received (went w) (free w) inside)
 
-  pub opened : (received : List Side) (w : X) (cpu : Side) (home : Cpu EnabledRows) → received ≡ cpu ∷ [] → went w ≡ cpu ∷ [] → 0 < free w → home ≡ cpu.cpu → IsPlace received (Some w) (Some home)
+  pub opened : (received : List Side) (w : X) (cpu : Side) (home : AtHome) → received ≡ cpu ∷ [] → went w ≡ cpu ∷ [] → 0 < free w → home ≡ at_home cpu → IsPlace received (Some w) (Some home)
   opened received w cpu home e f room is =
-      (cpu, ap (λ xs. slice_get xs 0) e, record { out = tt; same = ap (λ (x : Cpu EnabledRows). identity x) is }, record { came = e; went = f; room = room; is = refl })
+      (cpu, ap (λ xs. slice_get xs 0) e, record { out = tt; same = ap (λ (x : AtHome). identity x.cpu) is }, record { came = e; went = f; room = room; is = refl })
 
   -- while nothing is inside, nothing waits
-  none_waits : (first : Side) (received : List Side) (way : Option X) (P : X → Type 0) → IfSome way (λ w. IsUnused first received (went w) (free w) (the_none (Cpu EnabledRows))) → IfSome way P
+  none_waits : (first : Side) (received : List Side) (way : Option X) (P : X → Type 0) → IfSome way (λ w. IsUnused first received (went w) (free w) (the_none AtHome)) → IfSome way P
   none_waits first received None P is = tt
   none_waits first received (Some w) P is = absurd (subst (λ y. unless y) is.is tt)
 
-  pub came : (a : Side) (home : Cpu EnabledRows) (received new : List Side) (way : Option X) (inside : Option (Cpu EnabledRows)) → IsPlace received way inside → false ≡ is_some inside
-      → new ≡ received ++ a ∷ [] → IsSameAsAll received a → home ≡ a.cpu → IsPlace new way (Some home)
+  pub came : (a : Side) (home : AtHome) (received new : List Side) (way : Option X) (inside : Option AtHome) → IsPlace received way inside → false ≡ is_some inside
+      → new ≡ received ++ a ∷ [] → IsSameAsAll received a → home ≡ at_home a → IsPlace new way (Some home)
   came a home received new way None is none e all f = let first = is.0 in let was = is.2.out in (
     first,
     ap (λ xs. slice_get xs 0) e ∙ ap (λ xs. slice_get (xs ++ a ∷ []) 0) was,
-    record { out = tt; same = ap (λ (x : Cpu EnabledRows). identity x) f ∙ (subst (λ xs. IsSameAsAll xs a) was all).0.cpu },
+    record { out = tt; same = ap (λ (x : AtHome). identity x.cpu) f ∙ (subst (λ xs. IsSameAsAll xs a) was all).0.cpu },
     none_waits first received way _ is.3,
   )
   came a home received new way (Some x) is none e all f = absurd (subst (λ y. unless y) none tt)
 
-  pub stayed : (received new : List Side) (way : Option X) (inside : Option (Cpu EnabledRows)) → IsPlace received way inside → new ≡ received → IsPlace new way inside
+  pub stayed : (received new : List Side) (way : Option X) (inside : Option AtHome) → IsPlace received way inside → new ≡ received → IsPlace new way inside
   stayed received new way inside is e = subst (λ xs. IsPlace xs way inside) (sym e) is
 
   -- and once what waited is handed out
-  pub left_empty : (received : List Side) (way : Option X) (w : X) (inside : Option (Cpu EnabledRows)) → IsPlace received way inside → way ≡ Some w → IsPlace received None None
+  pub left_empty : (received : List Side) (way : Option X) (w : X) (inside : Option AtHome) → IsPlace received way inside → way ≡ Some w → IsPlace received None None
   left_empty received None w inside is at = absurd (subst (λ (o : Option X). if_none o) at tt)
   left_empty received (Some x) w inside is at = (is.0, is.1, record { out = is.3.came; same = tt }, tt)
 
-  pub left_so : (received : List Side) (way after : Option X) (w : X) (inside left : Option (Cpu EnabledRows)) → IsPlace received way inside → way ≡ Some w → after ≡ None → left ≡ None
+  pub left_so : (received : List Side) (way after : Option X) (w : X) (inside left : Option AtHome) → IsPlace received way inside → way ≡ Some w → after ≡ None → left ≡ None
       → IsPlace received after left
   left_so received way after w inside left is at e f =
-      subst (λ (o : Option X). IsPlace received o left) (sym e) (subst (λ (o : Option (Cpu EnabledRows)). IsPlace received None o) (sym f) (left_empty received way w inside is at))
+      subst (λ (o : Option X). IsPlace received o left) (sym e) (subst (λ (o : Option AtHome). IsPlace received None o) (sym f) (left_empty received way w inside is at))
 
   -- where nothing waited
-  pub not_waiting : (received : List Side) (way after : Option X) (inside : Option (Cpu EnabledRows)) → IsPlace received way inside → after ≡ None → IsPlace received after inside
+  pub not_waiting : (received : List Side) (way after : Option X) (inside : Option AtHome) → IsPlace received way inside → after ≡ None → IsPlace received after inside
   not_waiting received way after inside is e = subst (λ (o : Option X). IsPlace received o inside) (sym e) (is.0, is.1, is.2, tt)
 
   -- what waits is inside, is the one that went through, and there is room on the way
-  pub is_unused : (received : List Side) (way : Option X) (w : X) (inside : Option (Cpu EnabledRows)) → (is : IsPlace received way inside) → way ≡ Some w
-      → IsUnused is.0 received (went w) (free w) inside
+  pub is_unused : (received : List Side) (way : Option X) (w : X) (inside : Option AtHome) → (is : IsPlace received way inside) → way ≡ Some w → IsUnused is.0 received (went w) (free w) inside
   is_unused received None w inside is at = absurd (subst (λ (o : Option X). if_none o) at tt)
   is_unused received (Some x) w inside is at = subst (λ (y : X). IsUnused is.0 received (went y) (free y) inside) (ap (λ (o : Option X). or_this x o) at) is.3
 
 -- the CPU inside is the first
-pub same_there : (first : Side) (received : List Side) (inside : Option (Cpu EnabledRows)) (x : Cpu EnabledRows) → IsDesk first received inside → inside ≡ Some x → identity x ≡ identity first.cpu
-same_there first received None x is at = absurd (subst (λ (o : Option (Cpu EnabledRows)). if_none o) at tt)
-same_there first received (Some y) x is at = ap (λ (o : Option (Cpu EnabledRows)). identity (or_this x o)) (sym at) ∙ is.same
+pub same_there : (first : Side) (received : List Side) (inside : Option AtHome) (x : AtHome) → IsDesk first received inside → inside ≡ Some x → identity x.cpu ≡ identity first.cpu
+same_there first received None x is at = absurd (subst (λ (o : Option AtHome). if_none o) at tt)
+same_there first received (Some y) x is at = ap (λ (o : Option AtHome). identity (or_this x o).cpu) (sym at) ∙ is.same
 
 -- there is one first
 pub one_first : (received : List Side) (a b : Side) → slice_get received 0 ≡ Some a → slice_get received 0 ≡ Some b → a ≡ b
@@ -99,25 +98,25 @@ callable_so shared first x can same = subst (λ (i : Identity EnabledRows). Belo
 pub goes_out : (went : List Side) (first side : Side) → went ≡ first ∷ [] → side.shared ≡ first.shared → identity side.cpu ≡ identity first.cpu → IsOut went side
 goes_out went first side e f g = record { first = first; was = e; same = record { shared = f; cpu = g } }
 
-abbrev stay_of : Option Side → Option (Cpu EnabledRows) → Bool → CpuStay
+abbrev stay_of : Option Side → Option AtHome → Bool → CpuStay
 stay_of first inside waits = record { first = first; inside = inside; waits = waits }
 
 -- what waited leaves its place
-pub leaves_so : (shared : Shared) (received : List Side) (inside left : Option (Cpu EnabledRows)) (waits after : Bool) (first out : Side) (cpu : Cpu EnabledRows) → slice_get received 0 ≡ Some first
-    → IsDesk first received inside → inside ≡ Some cpu → waits ≡ true → left ≡ None → after ≡ false → out ≡ record { shared = shared; cpu = cpu }
+pub leaves_so : (shared : Shared) (received : List Side) (inside left : Option AtHome) (waits after : Bool) (first out : Side) (cpu : AtHome) → slice_get received 0 ≡ Some first
+    → IsDesk first received inside → inside ≡ Some cpu → waits ≡ true → left ≡ None → after ≡ false → out ≡ record { shared = shared; cpu = cpu.cpu; refused = cpu.refused }
     → LeavesPlace shared (record { first = slice_get received 0; inside = inside; waits = waits }) out (record { first = slice_get received 0; inside = left; waits = after })
 leaves_so shared received inside left waits after first out cpu at desk is w e f o = record {
   waits = w;
-  inside = is ∙ ap (λ (s : Side). Some s.cpu) (sym o);
+  inside = is ∙ ap (λ (s : Side). Some (at_home s)) (sym o);
   shares = ap (λ (s : Side). s.shared) o;
   same = λ one g. ap (λ (s : Side). identity s.cpu) o ∙ same_there first received inside cpu desk is ∙ ap (λ (s : Side). identity s.cpu) (one_first received first one at g);
-  gone = ap (λ (x : Option (Cpu EnabledRows)). stay_of (slice_get received 0) x after) e ∙ ap (λ (b : Bool). stay_of (slice_get received 0) None b) f;
+  gone = ap (λ (x : Option AtHome). stay_of (slice_get received 0) x after) e ∙ ap (λ (b : Bool). stay_of (slice_get received 0) None b) f;
 }
 
 -- so it is of a place as it was seen
-pub leaves_from : (shared : Shared) (old : CpuStay) (received : List Side) (inside left : Option (Cpu EnabledRows)) (waits after : Bool) (first out : Side) (cpu : Cpu EnabledRows)
+pub leaves_from : (shared : Shared) (old : CpuStay) (received : List Side) (inside left : Option AtHome) (waits after : Bool) (first out : Side) (cpu : AtHome)
     → stay_of (slice_get received 0) inside waits ≡ old → slice_get received 0 ≡ Some first
-    → IsDesk first received inside → inside ≡ Some cpu → waits ≡ true → left ≡ None → after ≡ false → out ≡ record { shared = shared; cpu = cpu }
+    → IsDesk first received inside → inside ≡ Some cpu → waits ≡ true → left ≡ None → after ≡ false → out ≡ record { shared = shared; cpu = cpu.cpu; refused = cpu.refused }
     → LeavesPlace shared old out (record { first = slice_get received 0; inside = left; waits = after })
 leaves_from shared old received inside left waits after first out cpu seen at desk is w e f o =
     subst (λ (s : CpuStay). LeavesPlace shared s out (record { first = slice_get received 0; inside = left; waits = after })) seen

@@ -1,6 +1,7 @@
 mod AsBox
 pub mod Calls
 pub mod ConsumerHomes
+pub mod Counted
 pub mod Each
 mod Ending
 pub mod Finishing

@@ -22,10 +22,10 @@ abbrev pub TellsLeftOf : Bool → Option Left → ℕ → CBatch → CBatch → 
 TellsLeftOf last (Some l) status before told = TellsLeft (left_of last l) status before told
 TellsLeftOf last None status before told = (status ≡ no_such_cpu) × (told ≡ before)
 
--- the counts of a CPU, to its end
-abbrev pub TellsCountsOf : Option Left → ℕ → CReport → CReport → Type 0
-TellsCountsOf (Some l) status before told = (status ≡ 0) × TellsReport told l.report
-TellsCountsOf None status before told = (status ≡ no_such_cpu) × (told ≡ before)
+-- the counts of a CPU, to its end, and how many records it refused
+abbrev pub TellsCountsOf : Option Left → Option ℕ → ℕ → CReport → CReport → Type 0
+TellsCountsOf (Some l) (Some refused) status before told = (status ≡ 0) × TellsReport told l.report refused
+TellsCountsOf l refused status before told = (status ≡ no_such_cpu) × (told ≡ before)
 
 -- Neither changes what is held. Where that isn't what is left of a session, the status is BAD_HANDLE, and nothing is told.
 abbrev pub RestAnswers : ℕ → Bool → Held → ℕ → CBatch → CBatch → Held → Type 0
@@ -33,5 +33,5 @@ RestAnswers c last (held.Closed e) status before told now = (now ≡ held.Closed
 RestAnswers c last was status before told now = (now ≡ was) × (status ≡ bad_handle) × (told ≡ before)
 
 abbrev pub ClosedReportAnswers : ℕ → Held → ℕ → CReport → CReport → Held → Type 0
-ClosedReportAnswers c (held.Closed e) status before told now = (now ≡ held.Closed e) × TellsCountsOf (slice_get e.closed c) status before told
+ClosedReportAnswers c (held.Closed e) status before told now = (now ≡ held.Closed e) × TellsCountsOf (slice_get e.closed c) (slice_get e.refused.items c) status before told
 ClosedReportAnswers c was status before told now = (now ≡ was) × (status ≡ bad_handle) × (told ≡ before)

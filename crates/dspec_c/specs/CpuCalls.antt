@@ -1,5 +1,5 @@
 -- Cited by calls. The calls on a CPU's handle: each did what the library's call says of its answer.
-use Rattle.std.specs.Prelude.{ℕ, ◌≡◌, ◌<◌, Bool, List, Option, ⊤}
+use Rattle.std.specs.Prelude.{ℕ, ◌≡◌, ◌<◌, ◌+◌, ◌-◌, ◌^◌, min, Bool, true, false, List, Option, is_none, ⊤}
 use Rattle.dspec_word.specs.SpecId.{Speculation, id_number}
 use Rattle.dspec_record.specs.Record.{Record}
 use Rattle.dspec_record.specs.EnablingRows.{EnabledRows}
@@ -11,9 +11,11 @@ use Rattle.dspec_deeds.specs.declared.calls.Spoken.{Spoken}
 use Rattle.dspec_deeds.specs.declared.calls.Traced.{Traced}
 use Rattle.dspec_deeds.specs.declared.deed.Deed.{Deed}
 use Rattle.dspec_deeds.specs.declared.report.Report.{Report}
+use Rattle.dspec_deeds.specs.Own.{dropped_in}
 use Rattle.dspec_deeds.specs.Reports.{report}
 use Rattle.dspec_promise.specs.Promise.{By, commit, discard}
 use Rattle.dspec_cpu.specs.declared.cpu.Cpu.{Cpu}
+use Rattle.dspec_cpu.specs.Dropped.{drops_told}
 use Rattle.dspec_cpu.specs.Lists.{config_of, number_in, worn_of}
 use Rattle.dspec_cpu.specs.OneCall.{OpensOne, DecidesOne, ServesOnce, RecordsValues, OffersValues}
 use Rattle.dspec_cpu.specs.Standing.{identity}
@@ -59,10 +61,20 @@ pub record ServicedSo (a : Served) (old new : Cpu EnabledRows) : Type 0 where
 abbrev pub Reports : Cpu EnabledRows → Report → Type 0
 Reports cpu r = (p : List Deed) → Has cpu p → r ≡ report (config_of cpu) (number_in cpu) (worn_of cpu) p
 
--- the session that it is of is the same, and the CPU came of the other so
-pub record OnSide (did : Cpu EnabledRows → Cpu EnabledRows → Type 0) (old new : Side) : Type 0 where
+-- how many records were refused once one more was, or none: the count stays at the largest that it can tell
+abbrev pub one_refused : Bool → ℕ → ℕ
+one_refused true n = min (n + 1) (2 ^ 64 - 1)
+one_refused false n = n
+
+-- `Cpu::dropped_in`
+abbrev pub Drops : Speculation → Cpu EnabledRows → ℕ → Type 0
+Drops id cpu n = (p : List Deed) → Has cpu p → n ≡ drops_told (dropped_in (number_in cpu) id p)
+
+-- the session that it is of is the same, the CPU came of the other so, and the call's record was refused, or none was
+pub record OnSide (refuses : Bool) (did : Cpu EnabledRows → Cpu EnabledRows → Type 0) (old new : Side) : Type 0 where
   pub shared : new.shared ≡ old.shared
   pub cpu : did old.cpu new.cpu
+  pub refused : new.refused ≡ one_refused refuses old.refused
 
 -- A call of a CPU, on what a handle holds: where that is a CPU, it stays one, and this was done on it; else the status is
 -- BAD_HANDLE, what is held stays as it was, and so do the out parameters.
@@ -77,19 +89,19 @@ pub record Names (number : ℕ) (id : Speculation) : Type 0 where
 
 abbrev pub TraceAnswers : ℕ → ℕ → List ℕ → Held → ℕ → Held → Type 0
 TraceAnswers epid stamp values was status now =
-    OnCpu (λ old new. Answered traced_status (λ a. OnSide (Recorded epid stamp values a) old new) status) ⊤ was status now
+    OnCpu (λ old new. Answered traced_status (λ a. OnSide (is_none a) (Recorded epid stamp values a) old new) status) ⊤ was status now
 
 abbrev pub SpeculationAnswers : Held → ℕ → ℕ → ℕ → Held → Type 0
 SpeculationAnswers was status before id now =
-    OnCpu (λ old new. AnsweredWith opening_status opened_number (λ a. OnSide (Opened a) old new) status before id) (id ≡ before) was status now
+    OnCpu (λ old new. AnsweredWith opening_status opened_number (λ a. OnSide false (Opened a) old new) status before id) (id ≡ before) was status now
 
 abbrev pub SpeculateAnswers : ℕ → ℕ → ℕ → List ℕ → Held → ℕ → Held → Type 0
 SpeculateAnswers number epid stamp values was status now =
-    OnCpu (λ old new. (id : Speculation) × Names number id × Answered spoken_status (λ a. OnSide (Offered id epid stamp values a) old new) status) ⊤ was status now
+    OnCpu (λ old new. (id : Speculation) × Names number id × Answered spoken_status (λ a. OnSide (is_none a) (Offered id epid stamp values a) old new) status) ⊤ was status now
 
 abbrev pub DecideAnswers : By → ℕ → Held → ℕ → ℕ → ℕ → Held → Type 0
 DecideAnswers b number was status before count now =
-    OnCpu (λ old new. (id : Speculation) × Names number id × AnsweredWith decided_status decided_number (λ a. OnSide (DecidedAs b id a) old new) status before count)
+    OnCpu (λ old new. (id : Speculation) × Names number id × AnsweredWith decided_status decided_number (λ a. OnSide false (DecidedAs b id a) old new) status before count)
     (count ≡ before) was status now
 
 abbrev pub CommitAnswers : ℕ → Held → ℕ → ℕ → ℕ → Held → Type 0
@@ -99,8 +111,12 @@ abbrev pub DiscardAnswers : ℕ → Held → ℕ → ℕ → ℕ → Held → Ty
 DiscardAnswers = DecideAnswers discard
 
 abbrev pub ServiceAnswers : Held → ℕ → Served → Served → Held → Type 0
-ServiceAnswers was status before told now = OnCpu (λ old new. (status ≡ 0) × OnSide (ServicedSo told) old new) (told ≡ before) was status now
+ServiceAnswers was status before told now = OnCpu (λ old new. (status ≡ 0) × OnSide false (ServicedSo told) old new) (told ≡ before) was status now
 
 abbrev pub ReportAnswers : Held → ℕ → CReport → CReport → Held → Type 0
 ReportAnswers was status before told now =
-    OnCpu (λ old new. (status ≡ 0) × (new ≡ old) × ((r : Report) × Reports old.cpu r × TellsReport told r)) (told ≡ before) was status now
+    OnCpu (λ old new. (status ≡ 0) × (new ≡ old) × ((r : Report) × Reports old.cpu r × TellsReport told r old.refused)) (told ≡ before) was status now
+
+abbrev pub DroppedInAnswers : ℕ → Held → ℕ → ℕ → ℕ → Held → Type 0
+DroppedInAnswers number was status before count now =
+    OnCpu (λ old new. (status ≡ 0) × (new ≡ old) × ((id : Speculation) × Names number id × Drops id old.cpu count)) (count ≡ before) was status now

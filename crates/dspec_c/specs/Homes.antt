@@ -5,10 +5,19 @@ use Rattle.dspec_cpu.specs.declared.cpu.Cpu.{Cpu}
 use Rattle.dspec_cpu.specs.declared.shared.Shared.{Shared}
 use Rattle.dspec_cpu.specs.Standing.{IsCallable, identity}
 
--- a CPU, and what it shares
+-- a CPU, what it shares, and how many of the records that it was handed the schema has refused
 pub record Side : Type 0 where
   pub shared : Shared
   pub cpu : Cpu EnabledRows
+  pub refused : ℕ
+
+-- a CPU that shares nothing, as it is at home
+pub record AtHome : Type 0 where
+  pub cpu : Cpu EnabledRows
+  pub refused : ℕ
+
+abbrev pub at_home : Side → AtHome
+at_home side = record { cpu = side.cpu; refused = side.refused }
 
 -- the same CPU of the same session
 pub record IsSameSide (old new : Side) : Type 0 where
@@ -39,7 +48,7 @@ pub record Stay (A B : Type 0) : Type 0 where
   pub waits : Bool
 
 abbrev pub CpuStay : Type 0
-CpuStay = Stay Side (Cpu EnabledRows)
+CpuStay = Stay Side AtHome
 
 -- the same place a look later: what was out may have come home, and nothing else changed
 pub record Came {A B : Type 0} (old new : Stay A B) : Type 0 where
@@ -59,14 +68,14 @@ pub record IsUnused {A B : Type 0} (first : A) (received sent : List A) (free : 
   pub is : IsSome inside
 
 -- The CPU that is inside is the same as the first; while none is, the ring has given that one alone.
-pub record IsDesk (first : Side) (received : List Side) (inside : Option (Cpu EnabledRows)) : Type 0 where
+pub record IsDesk (first : Side) (received : List Side) (inside : Option AtHome) : Type 0 where
   pub out : IfNone inside (received ≡ first ∷ [])
-  pub same : IfSome inside (λ (x : Cpu EnabledRows). identity x ≡ identity first.cpu)
+  pub same : IfSome inside (λ (x : AtHome). identity x.cpu ≡ identity first.cpu)
 
 -- a CPU leaves its place with what it shares
 pub record LeavesPlace (shared : Shared) (old : CpuStay) (side : Side) (new : CpuStay) : Type 0 where
   pub waits : old.waits ≡ true
-  pub inside : old.inside ≡ Some side.cpu
+  pub inside : old.inside ≡ Some (at_home side)
   pub shares : side.shared ≡ shared
   pub same : (first : Side) → old.first ≡ Some first → identity side.cpu ≡ identity first.cpu
   pub gone : new ≡ handed_out old

@@ -103,7 +103,7 @@ pub record Ends (old : Going) (now left : Handle) : Type 0 where
   pub ended : Ended
   pub holds : held_in left ≡ held.Closed ended
   pub all : length ended.closed ≡ old.cpus
-  pub by : EndedBy old ended.closed
+  pub by : EndedBy old ended.closed ended.refused.items
 
 -- the session goes on, and the other handle has what it had
 pub record GoesOn (old : Going) (now closed left : Handle) : Type 0 where
@@ -125,7 +125,7 @@ LooksHome h r now = (now ≡ h) × MatchResult r (λ _. ⊥) (λ why. why ≡ ba
 
 -- What is held ends; or it can't, and is given back as it was.
 abbrev pub EndsSo : Held → Result Ended Held → Type 0
-EndsSo (held.Session old) r = MatchResult r (λ (ended : Ended). (length ended.closed ≡ old.cpus) × EndedBy old ended.closed) (λ back. back ≡ held.Session old)
+EndsSo (held.Session old) r = MatchResult r (λ (ended : Ended). (length ended.closed ≡ old.cpus) × EndedBy old ended.closed ended.refused.items) (λ back. back ≡ held.Session old)
 EndsSo h r = MatchResult r (λ _. ⊥) (λ back. back ≡ h)
 
 -- A look shows who has come home, and changes nothing else. A session of which all is home ends; or its memory is still shared, and

@@ -1,12 +1,12 @@
 -- Cited by calls. What C reads of reports and batches.
-use Rattle.std.specs.Prelude.{◌≡◌, length}
+use Rattle.std.specs.Prelude.{ℕ, ◌≡◌, length}
 use Rattle.dspec_deeds.specs.declared.report.Report.{Report}
 use Rattle.dspec_ring.specs.declared.batch.Batch.{Batch}
 use Rattle.dspec_c.specs.declared.batches.CBatch.{CBatch}
 use Rattle.dspec_c.specs.declared.reports.CReport.{CReport}
 
--- the same counts, each at its name
-pub record TellsReport (c : CReport) (r : Report) : Type 0 where
+-- the same counts, each at its name, and how many records were refused
+pub record TellsReport (c : CReport) (r : Report) (n : ℕ) : Type 0 where
   pub offered : c.offered ≡ r.offered
   pub accepted : c.accepted ≡ r.accepted
   pub dropped : c.dropped ≡ r.dropped
@@ -20,6 +20,7 @@ pub record TellsReport (c : CReport) (r : Report) : Type 0 where
   pub busy : c.busy ≡ r.busy
   pub stopped : c.stopped ≡ r.stopped
   pub worn : c.worn ≡ r.worn
+  pub refused : c.refused ≡ n
 
 -- whose batch it is, its drops, and how many bytes it has
 pub record TellsBatch (c : CBatch) (b : Batch) : Type 0 where

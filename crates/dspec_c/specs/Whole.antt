@@ -1,6 +1,6 @@
 -- Cited by calls. What a session between its start and its end keeps of its parts.
 use Rattle.std.specs.Prelude.{ℕ, ◌≡◌, ◌⊎◌, Bool, true, false, List, [], ◌∷◌, Option, Some, None, IsSome, IsSomeAnd, ⊤, suc, length, map, slice_get, slice_set}
-use Rattle.std.specs.Option.{option_map_or}
+use Rattle.std.specs.Option.{option_map, option_map_or}
 use Rattle.dspec_deeds.specs.declared.config.Config.{Config}
 use Rattle.dspec_deeds.specs.Ranges.{start_fault}
 use Rattle.dspec_record.specs.EnablingRows.{EnabledRows}
@@ -17,7 +17,7 @@ use Rattle.dspec_consumer.specs.Sessions.{Has, IsCpuOf, IsFresh, IsSession, take
 use Rattle.dspec_consumer.specs.declared.left.Left.{Left}
 use Rattle.dspec_consumer.specs.declared.session.Session.{Session}
 use Rattle.dspec_c.specs.ConsumerHomes.{LeaveTheirs, TheirStay, Theirs}
-use Rattle.dspec_c.specs.Homes.{Came, CpuStay, LeavesPlace, Side, handed_out}
+use Rattle.dspec_c.specs.Homes.{AtHome, Came, CpuStay, LeavesPlace, Side, at_home, handed_out}
 
 -- each CPU can be called by those who share this
 abbrev pub AllCalled : Shared → List (Cpu EnabledRows) → Type 0
@@ -55,19 +55,34 @@ pub record IsWhole (shared : Shared) (cpus : ℕ) (places : List (Option Side)) 
   pub count : cpus ≡ (set_up (words_of shared)).cpus
   pub ending : IsEnding shared schema places first.consumer
 
--- how a CPU, and the consumer, begin: at their places, to be handed out
+-- how a CPU, and the consumer, begin: at their places, to be handed out; no record was refused
+abbrev pub new_side : Shared → Cpu EnabledRows → Side
+new_side shared cpu = record { shared = shared; cpu = cpu; refused = 0 }
+
+abbrev pub waits_with : Side → CpuStay
+waits_with side = record { first = Some side; inside = Some (at_home side); waits = true }
+
 abbrev pub waiting_so : Shared → Cpu EnabledRows → CpuStay
-waiting_so shared cpu = record { first = Some (record { shared = shared; cpu = cpu }); inside = Some cpu; waits = true }
+waiting_so shared cpu = waits_with (new_side shared cpu)
 
 abbrev pub they_wait_so : Shared → Consuming → TheirStay
 they_wait_so shared consumer = record { first = Some (record { shared = shared; consumer = consumer }); inside = Some consumer; waits = true }
 
--- whose places these are, and what is inside
+-- whose places these are, the CPUs that are inside, and how many records each of them refused
 abbrev pub firsts : List CpuStay → List (Option Side)
 firsts places = map (λ (s : CpuStay). s.first) places
 
+abbrev pub cpu_inside : CpuStay → Option (Cpu EnabledRows)
+cpu_inside s = option_map (λ (x : AtHome). x.cpu) s.inside
+
 abbrev pub insides : List CpuStay → List (Option (Cpu EnabledRows))
-insides places = map (λ (s : CpuStay). s.inside) places
+insides places = map cpu_inside places
+
+abbrev pub refused_inside : CpuStay → ℕ
+refused_inside s = option_map_or (λ (x : AtHome). x.refused) s.inside 0
+
+abbrev pub refusals : List CpuStay → List ℕ
+refusals places = map refused_inside places
 
 -- what contracts see of a session under way: what its parts share, how many CPUs it has, and the places of its CPUs and of its consumer
 pub record Going : Type 0 where
@@ -82,7 +97,7 @@ HasAll shared cpus consumer count w = (w.shared ≡ shared) × (w.cpus ≡ count
 
 -- a CPU waits whose records are of this schema, and of which nothing was asked yet
 abbrev pub IsFreshIn : EnabledRows → ℕ → CpuStay → Type 0
-IsFreshIn schema c s = (s.waits ≡ true) × IsSomeAnd s.inside (λ (cpu : Cpu EnabledRows). (schema_of cpu ≡ schema) × IsFresh Has cpu)
+IsFreshIn schema c s = (s.waits ≡ true) × IsSomeAnd s.inside (λ (x : AtHome). (schema_of x.cpu ≡ schema) × IsFresh Has x.cpu × (x.refused ≡ 0))
 
 -- it was started with this, over this schema, all of it waits to be handed out, and nothing was asked of it yet
 pub record IsJustStarted (k : Config) (schema : EnabledRows) (w : Going) : Type 0 where
@@ -164,11 +179,12 @@ pub record ClosedBy (shared : Shared) (cpus : List (Option (Cpu EnabledRows))) (
   pub theirs : session.consumer ≡ consumer
   pub promised : HasPromise schema session left
 
--- what is left of a session is that of the CPUs and the consumer that were home
-pub record EndedBy (w : Going) (left : List Left) : Type 0 where
+-- what is left of a session is that of the CPUs and the consumer that were home, with what each CPU had refused
+pub record EndedBy (w : Going) (left : List Left) (refused : List ℕ) : Type 0 where
   pub consumer : Consuming
   pub home : w.consumer.inside ≡ Some consumer
   pub closed : ClosedBy w.shared (insides w.places) consumer left
+  pub counted : refused ≡ refusals w.places
 
 -- what was started with so many CPUs, before anything is handed out
 pub record IsStarted (shared : Shared) (n : ℕ) (cpus : List (Cpu EnabledRows)) (consumer : Consuming) : Type 0 where

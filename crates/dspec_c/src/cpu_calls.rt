@@ -2,12 +2,12 @@
 
 ghost use Rattle.std.specs.Prelude.{◌≡◌};
 ghost use Rattle.dspec_c.specs.Handles.{held_in, is_full};
-ghost use Rattle.dspec_c.specs.CpuCalls.{CommitAnswers, DiscardAnswers, ReportAnswers, ServiceAnswers, SpeculateAnswers, SpeculationAnswers, TraceAnswers};
+ghost use Rattle.dspec_c.specs.CpuCalls.{CommitAnswers, DiscardAnswers, DroppedInAnswers, ReportAnswers, ServiceAnswers, SpeculateAnswers, SpeculationAnswers, TraceAnswers};
 
 use crate::handle::Handle;
 use crate::held_calls::{
-    held_commit, held_discard, held_report, held_service, held_speculate, held_speculation,
-    held_trace,
+    held_commit, held_discard, held_dropped_in, held_report, held_service, held_speculate,
+    held_speculation, held_trace,
 };
 use crate::reports::CReport;
 use crate::statuses::BAD_HANDLE;
@@ -89,6 +89,18 @@ pub extern "C" fn dspec_service(cpu: &mut Handle, sealed: &mut bool, settled: &m
         return BAD_HANDLE;
     }
     held_service(cpu.lend(), sealed, settled)
+}
+
+/// How many records were dropped from the CPU's buffer of a speculation.
+#[unsafe(no_mangle)]
+pub extern "C" fn dspec_dropped_in(cpu: &mut Handle, id: u64, count: &mut u32) -> u32
+    ensures answers { DroppedInAnswers id (held_in cpu.old) result count.old count.new (held_in cpu.new) }
+    ensures stays { is_full cpu.new ≡ is_full cpu.old }
+{
+    if !cpu.is_held() {
+        return BAD_HANDLE;
+    }
+    held_dropped_in(cpu.lend(), id, count)
 }
 
 /// The CPU's counts so far.

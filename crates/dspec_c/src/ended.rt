@@ -4,12 +4,13 @@ use dspec_consumer::Closed;
 use dspec_deeds::Report;
 use dspec_ring::Batch;
 
-/// What is left of a session, and of how many CPUs.
+/// What is left of a session, of how many CPUs, and how many records each of them refused.
 #[derive(Drop)]
 pub struct Ended {
     pub closed: Closed,
     pub cpus: u32,
-    pub ghost all: { cpus ≡ length closed },
+    pub refused: Vec<u64>,
+    pub ghost all: { (cpus ≡ length closed) × (length refused.items ≡ length closed) },
 }
 
 impl Ended {
@@ -39,5 +40,13 @@ impl Ended {
         ensures { (l : Left) → slice_get self.now.closed cpu ≡ Some l → result.now ≡ l.report }
     {
         self.closed.report(cpu)
+    }
+
+    /// How many records the CPU refused.
+    pub fn refused(&self, cpu: u32) -> u64
+        requires { cpu < length self.now.closed }
+        ensures { slice_get self.now.refused.items cpu ≡ Some result }
+    {
+        self.refused[cpu as usize]
     }
 }

@@ -4,7 +4,7 @@ ghost use Rattle.dspec_cpu.specs.declared.shared.Shared.{Shared};
 ghost use Rattle.dspec_record.specs.EnablingRows.{EnabledRows};
 ghost use Rattle.dspec_ring.specs.Known.{Pair};
 ghost use Rattle.dspec_c.specs.Homes.{CpuStay, IsPlaceWith};
-ghost use Rattle.dspec_c.specs.Whole.{AllInside, AreCame, EachFrom, IsCpuAt, IsInsideAt, IsPlaceOf, LeavesOne, OneOutside, firsts, insides, waits_in};
+ghost use Rattle.dspec_c.specs.Whole.{AllInside, AreCame, EachFrom, IsCpuAt, IsInsideAt, IsPlaceOf, LeavesOne, OneOutside, cpu_inside, firsts, insides, refusals, waits_in};
 
 use crate::out_cpu::OutCpu;
 use crate::place::Place;
@@ -63,10 +63,23 @@ fn next_place(places: &mut Vec<Place>) -> Place
 
 fn cpu_of(place: Place) -> Cpu<Enablings>
     requires { IsSome place.inside }
-    ensures is { place.inside ≡ Some result }
+    ensures is { cpu_inside place ≡ Some result }
     ensures of { (shared : Shared) (schema : EnabledRows) (pairs : List Pair) (c : ℕ) → IsPlaceOf shared schema pairs c place.first → IsCpuAt shared schema pairs c result }
 {
     place.into_home().into_cpu()
+}
+
+/// How many records each CPU refused, which are at their places, in order.
+pub fn count_refusals(places: &[Place], room: Vec<u64>) -> Vec<u64>
+    requires empty { room.items ≡ [] }
+    requires room { length places.now + vec_len room ≤ vec_capacity room }
+    ensures { result.items ≡ refusals places.now }
+{
+    let mut counts = room;
+    for at in 0..places.len() {
+        counts.push_reserved(places[at].refused());
+    }
+    counts
 }
 
 /// All CPUs, in order, which are at their places.

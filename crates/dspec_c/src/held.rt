@@ -1,8 +1,8 @@
 use crate::consumer_side::ConsumerSide;
 use crate::ended::Ended;
 use crate::out_cpu::OutCpu;
+use crate::schema_box::SchemaBox;
 use crate::under_way::UnderWay;
-use dspec_record::Enablings;
 
 /// What a handle can hold.
 #[derive(Drop)]
@@ -10,7 +10,7 @@ pub enum Held {
     /// Nothing yet, or nothing any more.
     Nothing,
     /// A schema, which grows.
-    Schema(Enablings),
+    Schema(SchemaBox),
     /// A session.
     Session(UnderWay),
     /// One CPU.

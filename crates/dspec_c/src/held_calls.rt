@@ -1,6 +1,6 @@
 //! The calls of a CPU, on what a handle holds.
 
-ghost use Rattle.dspec_c.specs.CpuCalls.{CommitAnswers, DiscardAnswers, ReportAnswers, ServiceAnswers, SpeculateAnswers, SpeculationAnswers, TraceAnswers};
+ghost use Rattle.dspec_c.specs.CpuCalls.{CommitAnswers, DiscardAnswers, DroppedInAnswers, ReportAnswers, ServiceAnswers, SpeculateAnswers, SpeculationAnswers, TraceAnswers};
 
 use crate::held::Held;
 use crate::reports::CReport;
@@ -67,12 +67,24 @@ pub fn held_service(held: &mut Held, sealed: &mut bool, settled: &mut u32) -> u3
     }
 }
 
+pub fn held_dropped_in(held: &mut Held, id: u64, count: &mut u32) -> u32
+    ensures { DroppedInAnswers id held.old result count.old count.new held.new }
+{
+    match held {
+        Held::Cpu(side) => {
+            *count = side.dropped_in(SpecId::from_raw(id));
+            OK
+        }
+        _ => BAD_HANDLE,
+    }
+}
+
 pub fn held_report(held: &mut Held, report: &mut CReport) -> u32
     ensures { ReportAnswers held.old result report.old report.new held.new }
 {
     match held {
         Held::Cpu(side) => {
-            *report = CReport::of(&side.report());
+            *report = CReport::of(&side.report(), side.refused());
             OK
         }
         _ => BAD_HANDLE,

@@ -2,39 +2,46 @@ use dspec_cpu::Cpu;
 use dspec_record::Enablings;
 use std::marker::Model;
 
-/// A CPU at home. It stays where it is in memory, and shares nothing with anybody.
+/// A CPU at home, and how many records it refused. It stays where it is in memory, and shares nothing with anybody.
 #[derive(Drop)]
 pub struct HomeCpu {
     cpu: Box<Cpu<Enablings>>,
+    refused: u64,
 }
 
 impl Model for HomeCpu {
-    ghost use Rattle.dspec_record.specs.EnablingRows.{EnabledRows};
-    ghost use Rattle.dspec_cpu.specs.declared.cpu.Cpu.{Cpu};
+    ghost use Rattle.dspec_c.specs.Homes.{AtHome};
 
-    ghost Value = { Cpu EnabledRows };
+    ghost Value = { AtHome };
 
-    ghost view = { λ s. s.cpu.value };
+    ghost view = { λ s. record { cpu = s.cpu.value; refused = s.refused } };
 }
 
 impl HomeCpu {
     ghost use Rattle.std.specs.Prelude.{◌≡◌};
 
-    pub fn of(cpu: Box<Cpu<Enablings>>) -> HomeCpu
-        ensures { result ≡ cpu.value }
+    pub fn of(cpu: Box<Cpu<Enablings>>, refused: u64) -> HomeCpu
+        ensures { result ≡ record { cpu = cpu.value; refused = refused } }
     {
-        HomeCpu { cpu }
+        HomeCpu { cpu, refused }
+    }
+
+    /// How many records it refused.
+    pub fn refused(&self) -> u64
+        ensures { result ≡ self.now.refused }
+    {
+        self.refused
     }
 
     pub fn into_box(self) -> Box<Cpu<Enablings>>
-        ensures { result.value ≡ self }
+        ensures { result.value ≡ self.cpu }
     {
-        let HomeCpu { cpu } = self;
+        let HomeCpu { cpu, refused: _ } = self;
         cpu
     }
 
     pub fn into_cpu(self) -> Cpu<Enablings>
-        ensures { result ≡ self }
+        ensures { result ≡ self.cpu }
     {
         Box::into_inner(self.into_box())
     }

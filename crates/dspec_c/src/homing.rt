@@ -1,3 +1,6 @@
+ghost use Rattle.std.specs.Prelude.{◌≡◌};
+ghost use Rattle.dspec_c.specs.CpuCalls.{one_refused};
+
 use crate::home_cpu::HomeCpu;
 use dspec_cpu::{Cpu, Shared};
 use dspec_deeds::{Decided, Opening, Report, Served, Spoken, Traced};
@@ -8,11 +11,12 @@ use std::alloc::Global;
 use std::marker::Model;
 use std::sync::Arc;
 
-/// One CPU, with what it shares. The CPU stays where it is in memory, wherever this goes.
+/// One CPU, with what it shares, and how many records the schema refused. The CPU stays where it is in memory, wherever this goes.
 #[derive(Drop)]
 pub struct Homing {
     shared: Arc<Shared, Global>,
     cpu: Box<Cpu<Enablings>>,
+    refused: u64,
 }
 
 impl Model for Homing {
@@ -22,9 +26,20 @@ impl Model for Homing {
 
     ghost Value = { Side };
 
-    ghost view = { λ s. record { shared = arc_value s.shared; cpu = s.cpu.value } };
+    ghost view = { λ s. record { shared = arc_value s.shared; cpu = s.cpu.value; refused = s.refused } };
 
     ghost invariant = { λ s. IsCallable (arc_value s.shared) s.cpu.value };
+}
+
+// The count once one record more was refused, or none.
+fn counted(refused: u64, is_refused: bool) -> u64
+    ensures { result ≡ one_refused is_refused refused }
+{
+    if is_refused {
+        refused.saturating_add(1)
+    } else {
+        refused
+    }
 }
 
 /// What comes through a ring is the same CPU of the same session as what came before.
@@ -38,60 +53,69 @@ impl Protocol<Homing> for HomeRule {
 }
 
 impl Homing {
-    ghost use Rattle.std.specs.Prelude.{◌≡◌};
+    ghost use Rattle.std.specs.Prelude.{◌≡◌, false, is_none};
     ghost use Rattle.std.specs.Arc.{arc_value};
     ghost use Rattle.dspec_cpu.specs.Standing.{IsCallable};
     ghost use Rattle.dspec_promise.specs.Promise.{commit, discard};
-    ghost use Rattle.dspec_c.specs.Homes.{IsSameSide};
-    ghost use Rattle.dspec_c.specs.CpuCalls.{DecidedAs, Offered, OnSide, Opened, Recorded, Reports, ServicedSo};
+    ghost use Rattle.dspec_c.specs.Homes.{IsSameSide, at_home};
+    ghost use Rattle.dspec_c.specs.CpuCalls.{DecidedAs, Drops, Offered, OnSide, Opened, Recorded, Reports, ServicedSo};
 
-    pub fn of(shared: Arc<Shared, Global>, cpu: Box<Cpu<Enablings>>) -> Homing
-        requires { IsCallable (arc_value shared) cpu.value }
-        ensures { result ≡ record { shared = arc_value shared; cpu = cpu.value } }
+    pub fn of(shared: Arc<Shared, Global>, home: HomeCpu) -> Homing
+        requires { IsCallable (arc_value shared) home.cpu }
+        ensures { result ≡ record { shared = arc_value shared; cpu = home.cpu; refused = home.refused } }
     {
-        Homing { shared, cpu }
+        let refused = home.refused();
+        Homing {
+            shared,
+            cpu: home.into_box(),
+            refused,
+        }
     }
 
-    /// None: it isn't a record of the schema.
+    /// None: it isn't a record of the schema, and is counted as refused.
     pub fn trace(&mut self, epid: u32, stamp: u64, values: &[u64]) -> Option<Traced>
         ensures same { IsSameSide self.old self.new }
-        ensures did { OnSide (Recorded epid stamp values.now result) self.old self.new }
+        ensures did { OnSide (is_none result) (Recorded epid stamp values.now result) self.old self.new }
     {
-        self.cpu.record(&self.shared, epid, stamp, values)
+        let answer = self.cpu.record(&self.shared, epid, stamp, values);
+        self.refused = counted(self.refused, answer.is_none());
+        answer
     }
 
     pub fn service(&mut self) -> Served
         ensures same { IsSameSide self.old self.new }
-        ensures did { OnSide (ServicedSo result) self.old self.new }
+        ensures did { OnSide false (ServicedSo result) self.old self.new }
     {
         self.cpu.service(&self.shared)
     }
 
-    /// None: it isn't a record of the schema.
+    /// None: it isn't a record of the schema, and is counted as refused.
     pub fn offer(&mut self, id: SpecId, epid: u32, stamp: u64, values: &[u64]) -> Option<Spoken>
         ensures same { IsSameSide self.old self.new }
-        ensures did { OnSide (Offered id epid stamp values.now result) self.old self.new }
+        ensures did { OnSide (is_none result) (Offered id epid stamp values.now result) self.old self.new }
     {
-        self.cpu.offer(&self.shared, id, epid, stamp, values)
+        let answer = self.cpu.offer(&self.shared, id, epid, stamp, values);
+        self.refused = counted(self.refused, answer.is_none());
+        answer
     }
 
     pub fn speculation(&mut self) -> Opening
         ensures same { IsSameSide self.old self.new }
-        ensures did { OnSide (Opened result) self.old self.new }
+        ensures did { OnSide false (Opened result) self.old self.new }
     {
         self.cpu.speculation(&self.shared)
     }
 
     pub fn commit(&mut self, id: SpecId) -> Decided
         ensures same { IsSameSide self.old self.new }
-        ensures did { OnSide (DecidedAs commit id result) self.old self.new }
+        ensures did { OnSide false (DecidedAs commit id result) self.old self.new }
     {
         self.cpu.commit(&self.shared, id)
     }
 
     pub fn discard(&mut self, id: SpecId) -> Decided
         ensures same { IsSameSide self.old self.new }
-        ensures did { OnSide (DecidedAs discard id result) self.old self.new }
+        ensures did { OnSide false (DecidedAs discard id result) self.old self.new }
     {
         self.cpu.discard(&self.shared, id)
     }
@@ -102,10 +126,28 @@ impl Homing {
         self.cpu.report(&self.shared)
     }
 
-    pub fn into_home(self) -> HomeCpu
-        ensures { result ≡ self.cpu }
+    /// How many records were dropped from the CPU's buffer of the speculation.
+    pub fn dropped_in(&self, id: SpecId) -> u32
+        ensures { Drops id self.now.cpu result }
     {
-        let Homing { shared: _, cpu } = self;
-        HomeCpu::of(cpu)
+        self.cpu.dropped_in(id)
+    }
+
+    /// How many records the schema refused.
+    pub fn refused(&self) -> u64
+        ensures { result ≡ self.now.refused }
+    {
+        self.refused
+    }
+
+    pub fn into_home(self) -> HomeCpu
+        ensures { result ≡ at_home self }
+    {
+        let Homing {
+            shared: _,
+            cpu,
+            refused,
+        } = self;
+        HomeCpu::of(cpu, refused)
     }
 }

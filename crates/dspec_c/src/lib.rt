@@ -28,6 +28,7 @@ mod place;
 mod places;
 mod reports;
 mod rest_calls;
+mod schema_box;
 mod schema_calls;
 mod seal;
 mod session_calls;

@@ -25,11 +25,11 @@ impl Model for OutCpu {
 }
 
 impl OutCpu {
-    ghost use Rattle.std.specs.Prelude.{◌≡◌, ◌<◌};
+    ghost use Rattle.std.specs.Prelude.{◌≡◌, ◌<◌, false, is_none};
     ghost use Rattle.rtrb.specs.Ring.{known_free, sent};
     ghost use Rattle.dspec_promise.specs.Promise.{commit, discard};
     ghost use Rattle.dspec_c.specs.Homes.{HasGone, IsOut};
-    ghost use Rattle.dspec_c.specs.CpuCalls.{DecidedAs, Offered, OnSide, Opened, Recorded, Reports, ServicedSo};
+    ghost use Rattle.dspec_c.specs.CpuCalls.{DecidedAs, Drops, Offered, OnSide, Opened, Recorded, Reports, ServicedSo};
 
     pub fn of(way: Producer<Homing, Global, HomeRule>, homing: Homing) -> OutCpu
         requires out { IsOut (sent way) homing }
@@ -39,40 +39,40 @@ impl OutCpu {
         OutCpu { way, homing }
     }
 
-    /// None: it isn't a record of the schema.
+    /// None: it isn't a record of the schema, and is counted as refused.
     pub fn trace(&mut self, epid: u32, stamp: u64, values: &[u64]) -> Option<Traced>
-        ensures did { OnSide (Recorded epid stamp values.now result) self.old self.new }
+        ensures did { OnSide (is_none result) (Recorded epid stamp values.now result) self.old self.new }
     {
         self.homing.trace(epid, stamp, values)
     }
 
     pub fn service(&mut self) -> Served
-        ensures did { OnSide (ServicedSo result) self.old self.new }
+        ensures did { OnSide false (ServicedSo result) self.old self.new }
     {
         self.homing.service()
     }
 
-    /// None: it isn't a record of the schema.
+    /// None: it isn't a record of the schema, and is counted as refused.
     pub fn offer(&mut self, id: SpecId, epid: u32, stamp: u64, values: &[u64]) -> Option<Spoken>
-        ensures did { OnSide (Offered id epid stamp values.now result) self.old self.new }
+        ensures did { OnSide (is_none result) (Offered id epid stamp values.now result) self.old self.new }
     {
         self.homing.offer(id, epid, stamp, values)
     }
 
     pub fn speculation(&mut self) -> Opening
-        ensures did { OnSide (Opened result) self.old self.new }
+        ensures did { OnSide false (Opened result) self.old self.new }
     {
         self.homing.speculation()
     }
 
     pub fn commit(&mut self, id: SpecId) -> Decided
-        ensures did { OnSide (DecidedAs commit id result) self.old self.new }
+        ensures did { OnSide false (DecidedAs commit id result) self.old self.new }
     {
         self.homing.commit(id)
     }
 
     pub fn discard(&mut self, id: SpecId) -> Decided
-        ensures did { OnSide (DecidedAs discard id result) self.old self.new }
+        ensures did { OnSide false (DecidedAs discard id result) self.old self.new }
     {
         self.homing.discard(id)
     }
@@ -81,6 +81,20 @@ impl OutCpu {
         ensures { Reports self.now.cpu result }
     {
         self.homing.report()
+    }
+
+    /// How many records were dropped from the CPU's buffer of the speculation.
+    pub fn dropped_in(&self, id: SpecId) -> u32
+        ensures { Drops id self.now.cpu result }
+    {
+        self.homing.dropped_in(id)
+    }
+
+    /// How many records the schema refused.
+    pub fn refused(&self) -> u64
+        ensures { result ≡ self.now.refused }
+    {
+        self.homing.refused()
     }
 
     /// Sends the CPU home, by the way that it gives back.

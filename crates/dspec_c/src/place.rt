@@ -34,11 +34,11 @@ impl Place {
     ghost use Rattle.std.specs.Arc.{arc_value};
     ghost use Rattle.dspec_cpu.specs.Standing.{identity};
     ghost use Rattle.dspec_c.specs.Homes.{Came, IsPlaceWith, LeavesPlace, Side};
-    ghost use Rattle.dspec_c.specs.Whole.{waiting_so};
+    ghost use Rattle.dspec_c.specs.Whole.{refused_inside, waits_with};
 
     /// The CPU's place, with the CPU in it, which waits.
     pub fn make(alloc: Global, cpu: Homing) -> Result<Place, AllocError>
-        ensures { IfOk result (λ r. r ≡ waiting_so cpu.shared cpu.cpu) }
+        ensures { IfOk result (λ r. r ≡ waits_with cpu) }
     {
         let (way, desk, cpu) = open(alloc, cpu)?;
         Ok(Place {
@@ -82,14 +82,24 @@ impl Place {
             return None;
         };
         let cpu = self.inside.take().unwrap();
-        Some(OutCpu::of(way, Homing::of(shared, cpu.into_box())))
+        Some(OutCpu::of(way, Homing::of(shared, cpu)))
+    }
+
+    /// How many records the CPU refused that is inside.
+    pub fn refused(&self) -> u64
+        ensures { result ≡ refused_inside self.now }
+    {
+        match &self.inside {
+            Some(cpu) => cpu.refused(),
+            None => 0,
+        }
     }
 
     /// The CPU that is inside.
     pub fn into_home(self) -> HomeCpu
         requires { IsSome self.inside }
         ensures is { self.inside ≡ Some result }
-        ensures same { (first : Side) → self.first ≡ Some first → identity result ≡ identity first.cpu }
+        ensures same { (first : Side) → self.first ≡ Some first → identity result.cpu ≡ identity first.cpu }
     {
         let Place {
             desk: _,

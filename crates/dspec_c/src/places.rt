@@ -3,6 +3,7 @@ ghost use Rattle.std.specs.Arc.{arc_value};
 ghost use Rattle.dspec_cpu.specs.Standing.{IsCallable};
 ghost use Rattle.dspec_c.specs.Whole.{AllCalled, waiting_so};
 
+use crate::home_cpu::HomeCpu;
 use crate::homing::Homing;
 use crate::place::Place;
 use dspec_cpu::{Cpu, Shared};
@@ -34,7 +35,7 @@ fn place(
     ensures { IfOk result (λ r. r ≡ waiting_so (arc_value shared.now) cpu.value) }
 {
     let shared = Arc::try_clone(shared)?;
-    Place::make(alloc, Homing::of(shared, cpu))
+    Place::make(alloc, Homing::of(shared, HomeCpu::of(cpu, 0)))
 }
 
 /// The places of all CPUs, in order, with the CPUs in them, which wait.

@@ -32,12 +32,14 @@ pub struct CReport {
     pub stopped: u64,
     /// Calls beyond the most.
     pub worn: u64,
+    /// Records that the schema refused, which weren't offered.
+    pub refused: u64,
 }
 
 impl CReport {
-    /// The same counts.
-    pub(crate) fn of(report: &Report) -> CReport
-        ensures { TellsReport result report.now }
+    /// The same counts, and how many records were refused.
+    pub(crate) fn of(report: &Report, refused: u64) -> CReport
+        ensures { TellsReport result report.now refused }
     {
         CReport {
             offered: report.offered,
@@ -53,6 +55,7 @@ impl CReport {
             busy: report.busy,
             stopped: report.stopped,
             worn: report.worn,
+            refused,
         }
     }
 }

@@ -46,12 +46,12 @@ pub extern "C" fn dspec_rest(closed: &mut Handle, cpu: u32, last: bool, batch: &
 }
 
 fn report_to(ended: &Ended, cpu: u32, report: &mut CReport) -> u32
-    ensures { TellsCountsOf (slice_get ended.now.closed cpu) result report.old report.new }
+    ensures { TellsCountsOf (slice_get ended.now.closed cpu) (slice_get ended.now.refused.items cpu) result report.old report.new }
 {
     if !ended.has_cpu(cpu) {
         return NO_SUCH_CPU;
     }
-    *report = CReport::of(ended.report(cpu));
+    *report = CReport::of(ended.report(cpu), ended.refused(cpu));
     OK
 }
 

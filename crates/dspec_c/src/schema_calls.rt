@@ -8,10 +8,11 @@ ghost use Rattle.dspec_c.specs.declared.held.Held.TheVariants as held_as;
 
 use crate::handle::Handle;
 use crate::held::Held;
+use crate::schema_box::SchemaBox;
 use crate::statuses::{
     BAD_HANDLE, BAD_WIDTH, FULL_HANDLE, NO_MEMORY, OK, TOO_MANY_ENABLINGS, TOO_MANY_FIELDS,
 };
-use dspec_record::{Enablings, Field, SchemaFault};
+use dspec_record::{Field, SchemaFault};
 use std::alloc::Global;
 
 /// The version, as the header has it: the major number from bit 16 on, the minor one from bit 8 on.
@@ -36,7 +37,10 @@ pub extern "C" fn dspec_schema_new(alloc: Global, schema: &mut Handle) -> u32
     if schema.is_held() {
         return FULL_HANDLE;
     }
-    let Ok(held) = Box::new(alloc, Held::Schema(Enablings::new())) else {
+    let Ok(made) = SchemaBox::new(alloc) else {
+        return NO_MEMORY;
+    };
+    let Ok(held) = Box::new(alloc, Held::Schema(made)) else {
         return NO_MEMORY;
     };
     schema.put(held);
@@ -71,7 +75,7 @@ fn fields_of(widths: &[u8]) -> Option<[Field; 8]>
     Some(fields)
 }
 
-fn enable(schema: &mut Enablings, widths: &[u8]) -> Result<u32, u32>
+fn enable(schema: &mut SchemaBox, widths: &[u8]) -> Result<u32, u32>
     ensures { MatchResult result (λ epid. Enables widths.now epid schema.old schema.new)
         (λ why. (enable_fault widths.now schema.old ≡ Some why) × (schema.new ≡ schema.old)) }
 {
@@ -88,7 +92,7 @@ fn enable(schema: &mut Enablings, widths: &[u8]) -> Result<u32, u32>
     }
 }
 
-fn enable_told(schema: &mut Enablings, widths: &[u8], epid: &mut u32) -> u32
+fn enable_told(schema: &mut SchemaBox, widths: &[u8], epid: &mut u32) -> u32
     ensures { EnablesSo widths.now (enable_fault widths.now schema.old) schema.old result epid.old epid.new schema.new }
 {
     match enable(schema, widths) {
@@ -104,7 +108,7 @@ fn held_enable(held: &mut Held, widths: &[u8], epid: &mut u32) -> u32
     ensures { EnableAnswers widths.now held.old result epid.old epid.new held.new }
 {
     match held {
-        Held::Schema(enablings) => enable_told(enablings, widths, epid),
+        Held::Schema(schema) => enable_told(schema, widths, epid),
         _ => BAD_HANDLE,
     }
 }
@@ -125,8 +129,8 @@ fn held_stamp(held: &mut Held) -> u32
     ensures { StampAnswers held.old result held.new }
 {
     match held {
-        Held::Schema(enablings) => {
-            *enablings = enablings.stamped();
+        Held::Schema(schema) => {
+            schema.stamp();
             OK
         }
         _ => BAD_HANDLE,

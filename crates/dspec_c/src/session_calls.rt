@@ -49,7 +49,7 @@ fn held_start(alloc: Global, config: &CConfig, schema: &mut Held, session: &mut 
     ensures { StartAnswers (asked_for config.now) schema.old result schema.new session.old session.new }
 {
     match schema {
-        Held::Schema(enablings) => start(alloc, config, &*enablings, session),
+        Held::Schema(schema) => start(alloc, config, schema.schema(), session),
         _ => BAD_HANDLE,
     }
 }

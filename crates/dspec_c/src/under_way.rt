@@ -2,7 +2,7 @@ use crate::close::close;
 use crate::consumer_homing::ConsumerHoming;
 use crate::consumer_place::ConsumerPlace;
 use crate::ended::Ended;
-use crate::gather::{all_home, hand_out, waits};
+use crate::gather::{all_home, count_refusals, hand_out, waits};
 use crate::out_consumer::OutConsumer;
 use crate::out_cpu::OutCpu;
 use crate::place::Place;
@@ -25,6 +25,8 @@ pub struct UnderWay {
     place: ConsumerPlace,
     /// Empty, with room for all CPUs.
     room: Vec<Cpu<Enablings>>,
+    /// Empty, with room for a count of each CPU.
+    counts: Vec<u64>,
 }
 
 impl Model for UnderWay {
@@ -36,7 +38,7 @@ impl Model for UnderWay {
 
     ghost view = { λ s. record { shared = arc_value s.common; cpus = s.cpus; places = s.places.items; consumer = s.place } };
 
-    ghost invariant = { λ s. IsWhole (arc_value s.common) s.cpus (firsts s.places.items) s.place.first × (s.room.items ≡ []) × (length s.places.items + vec_len s.room ≤ vec_capacity s.room) };
+    ghost invariant = { λ s. IsWhole (arc_value s.common) s.cpus (firsts s.places.items) s.place.first × (s.room.items ≡ []) × (length s.places.items + vec_len s.room ≤ vec_capacity s.room) × (s.counts.items ≡ []) × (length s.places.items + vec_len s.counts ≤ vec_capacity s.counts) };
 }
 
 impl UnderWay {
@@ -64,6 +66,7 @@ impl UnderWay {
         ensures { IfOk result (HasAll (arc_value common) cpus.items consumer count) }
     {
         let room = Vec::with_capacity(alloc, cpus.len())?;
+        let counts = Vec::with_capacity(alloc, cpus.len())?;
         let places = places(alloc, &common, cpus)?;
         let shared = Arc::try_clone(&common)?;
         let place = ConsumerPlace::make(alloc, ConsumerHoming::of(shared, consumer))?;
@@ -73,6 +76,7 @@ impl UnderWay {
             places,
             place,
             room,
+            counts,
         })
     }
 
@@ -193,7 +197,7 @@ impl UnderWay {
     pub fn finish(self) -> Result<Ended, UnderWay>
         requires { IsHome self }
         ensures all { IfOk result (λ ended. length ended.closed ≡ self.cpus) }
-        ensures ended { IfOk result (λ ended. EndedBy self ended.closed) }
+        ensures ended { IfOk result (λ ended. EndedBy self ended.closed ended.refused.items) }
         ensures back { IfErr result (λ whole. whole ≡ self) }
     {
         let UnderWay {
@@ -202,11 +206,17 @@ impl UnderWay {
             places,
             place,
             room,
+            counts,
         } = self;
         match Arc::try_unwrap(common) {
             Ok(shared) => {
+                let refused = count_refusals(&places, counts);
                 let closed = close(shared, places, room, place.into_home());
-                Ok(Ended { closed, cpus })
+                Ok(Ended {
+                    closed,
+                    cpus,
+                    refused,
+                })
             }
             Err(common) => Err(UnderWay {
                 common,
@@ -214,6 +224,7 @@ impl UnderWay {
                 places,
                 place,
                 room,
+                counts,
             }),
         }
     }

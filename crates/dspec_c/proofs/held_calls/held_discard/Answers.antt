@@ -1,4 +1,4 @@
-use Rattle.std.proofs.Common.{refl, ◌≡◌}
+use Rattle.std.proofs.Common.{false, refl, ◌≡◌}
 use Rattle.dspec_word.specs.SpecId.{Speculation}
 use Rattle.dspec_promise.specs.Promise.{discard}
 use Rattle.dspec_c.specs.Answered.{AnsweredWith}
@@ -9,7 +9,7 @@ use Rattle.dspec_c.proofs.held_calls.held_discard.Goals as goal
 
 pub returns-in-Cpu : goal.returns-in-Cpu
 returns-in-Cpu c = on_cpu (λ old new. (id : Speculation) × Names c.args.id id
-    × AnsweredWith decided_status decided_number (λ a. OnSide (DecidedAs discard id a) old new) c.of_decided.result c.args.count.now c.of_decided.new.count)
+    × AnsweredWith decided_status decided_number (λ a. OnSide false (DecidedAs discard id a) old new) c.of_decided.result c.args.count.now c.of_decided.new.count)
     (c.of_decided.new.count ≡ c.args.count.now) _ _ _ _ _ c.in-Cpu.is refl (
       c.from_raw.result,
       record { numbered = c.from_raw.ensures.number; slot = c.from_raw.ensures.slot },

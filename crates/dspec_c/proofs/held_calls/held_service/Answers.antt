@@ -1,4 +1,4 @@
-use Rattle.std.proofs.Common.{refl, ◌≡◌}
+use Rattle.std.proofs.Common.{false, refl, ◌≡◌}
 use Rattle.dspec_deeds.specs.declared.calls.Served.{Served}
 use Rattle.dspec_c.specs.CpuCalls.{OnSide, ServicedSo}
 use Rattle.dspec_c.proofs.Calls.{on_cpu}
@@ -8,4 +8,4 @@ pub returns-in-Cpu : goal.returns-in-Cpu
 returns-in-Cpu c =
     let told : Served = record { sealed = c.service-served.result.sealed; settled = c.service-served.result.settled } in
     let before : Served = record { sealed = c.args.sealed.now; settled = c.args.settled.now } in
-    on_cpu (λ old new. (0 ≡ 0) × OnSide (ServicedSo told) old new) (told ≡ before) _ _ _ _ _ c.in-Cpu.is refl (refl, c.service-served.ensures.did)
+    on_cpu (λ old new. (0 ≡ 0) × OnSide false (ServicedSo told) old new) (told ≡ before) _ _ _ _ _ c.in-Cpu.is refl (refl, c.service-served.ensures.did)

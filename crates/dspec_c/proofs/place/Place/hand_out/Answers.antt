@@ -1,30 +1,28 @@
 use Rattle.std.proofs.Common.{Option, Some, refl, sym, ap, ◌∙◌, subst}
 use Rattle.std.specs.Prelude.{IsSome, is_some}
 use Rattle.std.specs.Arc.{arc_value}
-use Rattle.dspec_record.specs.EnablingRows.{EnabledRows}
-use Rattle.dspec_cpu.specs.declared.cpu.Cpu.{Cpu}
 use Rattle.dspec_cpu.specs.Standing.{identity}
-use Rattle.dspec_c.specs.Homes.{CpuStay, Side}
+use Rattle.dspec_c.specs.Homes.{AtHome, CpuStay, Side}
 use Rattle.dspec_c.proofs.Homes.{callable_so, free_on, goes_out, is_unused, leaves_from, left_so, not_waiting, same_there, went_by}
 use Rattle.dspec_c.proofs.place.Place.hand_out.Goals as goal
 
 pub unwrap-cpu-requires : goal.unwrap-cpu-requires
-unwrap-cpu-requires c = subst (λ (o : Option (Cpu EnabledRows)). IsSome o) (sym c.take-2.ensures.value)
+unwrap-cpu-requires c = subst (λ (o : Option AtHome). IsSome o) (sym c.take-2.ensures.value)
     (is_unused went_by free_on _ _ c.in-Some.way _ c.self.invariant (sym c.take.ensures.value ∙ c.in-Some.is)).is
 
 pub of-requires : goal.of-requires
 of-requires c =
     let first = ap (λ (s : CpuStay). s.first) (sym c.self.view_is) ∙ c.self.invariant.1 in
-    callable_so (arc_value c.args.shared) c.self.invariant.0 c.into_box.result.value (c.requires c.self.invariant.0 first).1
-    (same_there c.self.invariant.0 _ _ c.into_box.result.value c.self.invariant.2 (sym c.take-2.ensures.value ∙ c.unwrap-cpu.ensures ∙ ap (λ (x : Cpu EnabledRows). Some x) (sym c.into_box.ensures)))
+    callable_so (arc_value c.args.shared) c.self.invariant.0 c.unwrap-cpu.result.cpu (c.requires c.self.invariant.0 first).1
+    (same_there c.self.invariant.0 _ _ c.unwrap-cpu.result c.self.invariant.2 (sym c.take-2.ensures.value ∙ c.unwrap-cpu.ensures))
 
 pub of-requires-2-clause-out : goal.of-requires-2-clause-out
 of-requires-2-clause-out c =
     let first = ap (λ (s : CpuStay). s.first) (sym c.self.view_is) ∙ c.self.invariant.1 in
     let used = is_unused went_by free_on _ _ c.in-Some.way _ c.self.invariant (sym c.take.ensures.value ∙ c.in-Some.is) in
-    let at = sym c.take-2.ensures.value ∙ c.unwrap-cpu.ensures ∙ ap (λ (x : Cpu EnabledRows). Some x) (sym c.into_box.ensures) in
+    let at = sym c.take-2.ensures.value ∙ c.unwrap-cpu.ensures in
     goes_out _ c.self.invariant.0 _ used.went (ap (λ (s : Side). s.shared) c.of.ensures ∙ (c.requires c.self.invariant.0 first).0)
-    (ap (λ (s : Side). identity s.cpu) c.of.ensures ∙ same_there c.self.invariant.0 _ _ c.into_box.result.value c.self.invariant.2 at)
+    (ap (λ (s : Side). identity s.cpu) c.of.ensures ∙ same_there c.self.invariant.0 _ _ c.unwrap-cpu.result c.self.invariant.2 at)
 
 pub of-requires-2-clause-room : goal.of-requires-2-clause-room
 of-requires-2-clause-room c = (is_unused went_by free_on _ _ c.in-Some.way _ c.self.invariant (sym c.take.ensures.value ∙ c.in-Some.is)).room
@@ -38,6 +36,6 @@ invariant_of-self-2 c = left_so went_by free_on _ c.self.inside.way c.take.new.s
 
 pub returns-clause-leaves : goal.returns-clause-leaves
 returns-clause-leaves c =
-    leaves_from (arc_value c.args.shared) _ _ _ _ _ _ c.self.invariant.0 c.of-2.result c.into_box.result.value c.self.view_is c.self.invariant.1 c.self.invariant.2
-    (sym c.take-2.ensures.value ∙ c.unwrap-cpu.ensures ∙ ap (λ (x : Cpu EnabledRows). Some x) (sym c.into_box.ensures))
+    leaves_from (arc_value c.args.shared) _ _ _ _ _ _ c.self.invariant.0 c.of-2.result c.unwrap-cpu.result c.self.view_is c.self.invariant.1 c.self.invariant.2
+    (sym c.take-2.ensures.value ∙ c.unwrap-cpu.ensures)
     (ap (λ o. is_some o) (sym c.take.ensures.value ∙ c.in-Some.is)) c.take-2.ensures.after (ap (λ o. is_some o) c.take.ensures.after) (c.of-2.ensures ∙ c.of.ensures)

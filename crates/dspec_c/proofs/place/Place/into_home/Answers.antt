@@ -1,6 +1,5 @@
 use Rattle.std.proofs.Common.{sym, ap, ◌∙◌}
 use Rattle.dspec_c.specs.Homes.{CpuStay, Side}
-use Rattle.dspec_record.specs.EnablingRows.{EnabledRows}
 use Rattle.dspec_cpu.specs.Standing.{identity}
 use Rattle.dspec_c.proofs.Homes.{one_first, same_there}
 use Rattle.dspec_c.proofs.place.Place.into_home.Goals as goal

@@ -15,6 +15,8 @@ invariant_of-self c =
       asked_for_one (arc_value c.self.inside.common) (arc_value c.args.shared) _ c.args.cpu _ _ _ c.hand_out.result c.self.invariant.0 c.hand_out.ensures.leaves c.hand_out.ensures.none,
       c.self.invariant.1,
       subst (λ n. n + vec_len c.self.inside.room ≤ vec_capacity c.self.inside.room) count c.self.invariant.2,
+      c.self.invariant.3,
+      subst (λ n. n + vec_len c.self.inside.counts ≤ vec_capacity c.self.inside.counts) count c.self.invariant.4,
     )
 
 pub returns-clause-goes : goal.returns-clause-goes

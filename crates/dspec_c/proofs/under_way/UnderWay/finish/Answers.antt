@@ -1,7 +1,7 @@
 use Rattle.std.proofs.Common.{◌≡◌, sym, ap, ◌∙◌, subst}
 use Rattle.std.specs.Prelude.{IsSome}
 use Rattle.dspec_cpu.specs.declared.shared.Shared.{Shared}
-use Rattle.dspec_c.specs.Whole.{AllInside, Going, IsEnding, firsts, insides}
+use Rattle.dspec_c.specs.Whole.{AllInside, Going, IsEnding, firsts, insides, refusals}
 use Rattle.dspec_c.proofs.Ending.{ends_so}
 use Rattle.dspec_c.proofs.Finishing.{left_of_home}
 use Rattle.dspec_c.proofs.under_way.UnderWay.finish.Goals as goal
@@ -20,5 +20,6 @@ pub close-closed-requires-clause-inside : goal.close-closed-requires-clause-insi
 close-closed-requires-clause-inside c = subst (λ (g : Going). AllInside g.places) (sym c.self.view_is) c.requires.cpus
 
 pub returns-in-Ok-clause-ended : goal.returns-in-Ok-clause-ended
-returns-in-Ok-clause-ended c = left_of_home _ _ _ c.into_home.result _ (c.in-Ok.ensures.ok ∙ ap (λ (g : Going). g.shared) c.self.view_is)
+returns-in-Ok-clause-ended c = left_of_home _ _ _ c.into_home.result _ _ (c.in-Ok.ensures.ok ∙ ap (λ (g : Going). g.shared) c.self.view_is)
     (ap (λ (g : Going). insides g.places) c.self.view_is) (ap (λ (g : Going). g.consumer.inside) (sym c.self.view_is) ∙ c.into_home.ensures.is) c.close-closed.ensures.closed
+    (c.count_refusals-refused.ensures ∙ ap refusals c.deref.ensures.value ∙ ap (λ (g : Going). refusals g.places) c.self.view_is)

@@ -9,6 +9,8 @@ invariant_of-self c = (
   whole_kept _ _ _ _ _ _ c.self.invariant.0 c.all_home-ours.ensures.came c.is_in-theirs.ensures.came,
   c.self.invariant.1,
   subst (λ n. n + vec_len c.self.inside.room ≤ vec_capacity c.self.inside.room) (sym (same_length _ _ c.all_home-ours.ensures.came)) c.self.invariant.2,
+  c.self.invariant.3,
+  subst (λ n. n + vec_len c.self.inside.counts ≤ vec_capacity c.self.inside.counts) (sym (same_length _ _ c.all_home-ours.ensures.came)) c.self.invariant.4,
 )
 
 pub returns-clause-looked : goal.returns-clause-looked

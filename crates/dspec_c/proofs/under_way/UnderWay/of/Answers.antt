@@ -13,4 +13,6 @@ invariant_of-result c =
           (c.in_ok-place.ensures ∙ ap (λ (t : Theirs). they_wait_so t.shared t.consumer) c.of.ensures) c.in_ok-shared.ensures c.in_ok-places.ensures,
       c.in_ok-room.ensures.items,
       omega (arith, count, c.in_ok-room.ensures.len, c.in_ok-room.ensures.capacity, c.len.ensures),
+      c.in_ok-counts.ensures.items,
+      omega (arith, count, c.in_ok-counts.ensures.len, c.in_ok-counts.ensures.capacity, c.len-2.ensures),
     )
