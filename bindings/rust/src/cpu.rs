@@ -10,6 +10,29 @@ pub struct Cpu {
     handle: Handle,
 }
 
+/// What a trace answered.
+fn traced(status: Status) -> Result<Traced, Error> {
+    match status {
+        raw::OK => Ok(Traced::Kept),
+        raw::DROPPED => Ok(Traced::Dropped),
+        raw::STOPPED => Ok(Traced::Stopped),
+        raw::WORN => Ok(Traced::Worn),
+        other => Err(Error::of(other)),
+    }
+}
+
+/// What a record that was offered to a speculation was answered.
+fn spoken(status: Status) -> Result<Spoken, Error> {
+    match status {
+        raw::OK => Ok(Spoken::Kept),
+        raw::DROPPED => Ok(Spoken::Dropped),
+        raw::VOID => Ok(Spoken::Void),
+        raw::STOPPED => Ok(Spoken::Stopped),
+        raw::WORN => Ok(Spoken::Worn),
+        other => Err(Error::of(other)),
+    }
+}
+
 impl Cpu {
     pub(crate) fn of(handle: Handle) -> Cpu {
         Cpu { handle }
@@ -22,13 +45,13 @@ impl Cpu {
     /// [`Error::BadRecord`] alone: it was counted as refused, and nothing else was done.
     pub fn trace(&mut self, epid: Epid, stamp: u64, values: &[u64]) -> Result<Traced, Error> {
         // SAFETY: the pointer is to as many values as is told, and the handle is in no other call.
-        match unsafe { raw::dspec_trace(self.handle.at(), epid.raw(), stamp, values.as_ptr(), values.len()) } {
-            raw::OK => Ok(Traced::Kept),
-            raw::DROPPED => Ok(Traced::Dropped),
-            raw::STOPPED => Ok(Traced::Stopped),
-            raw::WORN => Ok(Traced::Worn),
-            other => Err(Error::of(other)),
-        }
+        traced(unsafe { raw::dspec_trace(self.handle.at(), epid.raw(), stamp, values.as_ptr(), values.len()) })
+    }
+
+    /// Traces a record whose fields are those of this signature.
+    pub(crate) fn fire(&mut self, signature: u32, epid: Epid, stamp: u64, values: &[u64]) -> Result<Traced, Error> {
+        // SAFETY: as in `trace`.
+        traced(unsafe { raw::dspec_fire(self.handle.at(), signature, epid.raw(), stamp, values.as_ptr(), values.len()) })
     }
 
     /// Opens a speculation that is decided when it is dropped at the latest.
@@ -57,14 +80,13 @@ impl Cpu {
     /// [`Error::BadRecord`] alone: it was counted as refused, and nothing else was done.
     pub fn speculate(&mut self, id: SpecId, epid: Epid, stamp: u64, values: &[u64]) -> Result<Spoken, Error> {
         // SAFETY: as in `trace`.
-        match unsafe { raw::dspec_speculate(self.handle.at(), id.raw(), epid.raw(), stamp, values.as_ptr(), values.len()) } {
-            raw::OK => Ok(Spoken::Kept),
-            raw::DROPPED => Ok(Spoken::Dropped),
-            raw::VOID => Ok(Spoken::Void),
-            raw::STOPPED => Ok(Spoken::Stopped),
-            raw::WORN => Ok(Spoken::Worn),
-            other => Err(Error::of(other)),
-        }
+        spoken(unsafe { raw::dspec_speculate(self.handle.at(), id.raw(), epid.raw(), stamp, values.as_ptr(), values.len()) })
+    }
+
+    /// Offers a record whose fields are those of this signature to a speculation.
+    pub(crate) fn fire_in(&mut self, id: SpecId, signature: u32, epid: Epid, stamp: u64, values: &[u64]) -> Result<Spoken, Error> {
+        // SAFETY: as in `trace`.
+        spoken(unsafe { raw::dspec_fire_in(self.handle.at(), id.raw(), signature, epid.raw(), stamp, values.as_ptr(), values.len()) })
     }
 
     /// Commits a speculation: its records get into the principal buffers, each CPU's at once or not at all.
