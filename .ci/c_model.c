@@ -18,6 +18,13 @@ dspec_status model_enable(model_schema *schema, const uint8_t *widths, size_t n,
     return DSPEC_OK;
 }
 
+uint32_t model_signature(const model_schema *schema, uint32_t epid) {
+    uint32_t word = 0;
+    if (epid == 0 || epid > schema->enablings) return 0;
+    for (uint32_t i = schema->fields[epid - 1]; i > 0; i--) word = word << 4 | schema->widths[epid - 1][i - 1];
+    return word;
+}
+
 static bool is_size(uint32_t bytes) { return bytes >= 8 && bytes <= 1048576 && bytes % 8 == 0; }
 
 dspec_status model_ranges(const dspec_config *config) {
@@ -150,6 +157,11 @@ dspec_status model_trace(model *m, uint32_t cpu, uint32_t epid, uint64_t stamp, 
     return DSPEC_OK;
 }
 
+dspec_status model_fire(model *m, uint32_t cpu, uint32_t signature, uint32_t epid, uint64_t stamp, const uint64_t *values, size_t n) {
+    if (signature != model_signature(&m->schema, epid)) return refused(&m->cpus[cpu]);
+    return model_trace(m, cpu, epid, stamp, values, n);
+}
+
 dspec_status model_speculation(model *m, uint32_t cpu, uint64_t *id) {
     model_cpu *c = &m->cpus[cpu];
     bool busy = false;
@@ -207,6 +219,11 @@ dspec_status model_speculate(model *m, uint32_t cpu, uint64_t id, uint32_t epid,
     }
     c->report.held++;
     return DSPEC_OK;
+}
+
+dspec_status model_fire_in(model *m, uint32_t cpu, uint64_t id, uint32_t signature, uint32_t epid, uint64_t stamp, const uint64_t *values, size_t n) {
+    if (signature != model_signature(&m->schema, epid)) return refused(&m->cpus[cpu]);
+    return model_speculate(m, cpu, id, epid, stamp, values, n);
 }
 
 /* Takes a CPU's block of a slot's speculation to its principal buffer, or throws it away: false where it was lost. */

@@ -16,6 +16,9 @@ typedef struct model_schema {
 
 dspec_status model_enable(model_schema *schema, const uint8_t *widths, size_t n, uint32_t *epid);
 
+/* How many bytes each field of an EPID has, four bits a field, the first lowest; 0 where it isn't enabled. */
+uint32_t model_signature(const model_schema *schema, uint32_t epid);
+
 /* A row of records' bytes. */
 typedef struct model_text {
     uint8_t *bytes;
@@ -60,6 +63,8 @@ void model_start(model *m, const dspec_config *config, const model_schema *schem
 void model_free(model *m);
 
 dspec_status model_trace(model *m, uint32_t cpu, uint32_t epid, uint64_t stamp, const uint64_t *values, size_t n);
+dspec_status model_fire(model *m, uint32_t cpu, uint32_t signature, uint32_t epid, uint64_t stamp, const uint64_t *values, size_t n);
+dspec_status model_fire_in(model *m, uint32_t cpu, uint64_t id, uint32_t signature, uint32_t epid, uint64_t stamp, const uint64_t *values, size_t n);
 dspec_status model_speculation(model *m, uint32_t cpu, uint64_t *id);
 dspec_status model_speculate(model *m, uint32_t cpu, uint64_t id, uint32_t epid, uint64_t stamp, const uint64_t *values, size_t n);
 dspec_status model_commit(model *m, uint32_t cpu, uint64_t id, uint32_t *count);

@@ -1,11 +1,14 @@
 /* Typed probes of C: a record's values come back as they were handed in, by their types; negative numbers and floats keep their bits; and a
- * probe reads its own records alone. */
+ * probe reads its own records alone. What is fired has the bytes of what is traced, and a probe of another schema has no record. */
 #include "c_check.h"
 #include "dspec_probe.h"
 
 DSPEC_PROBE(narrow, int8_t, a, bool, b, uint16_t, c);
 DSPEC_PROBE(wide, int64_t, a, double, b, float, c, int32_t, d, uint8_t, e, bool, f, int16_t, g, uint32_t, h);
 DSPEC_PROBE(single, uint64_t, a);
+DSPEC_PROBE(word, uint32_t, a);
+DSPEC_PROBE(pair, uint64_t, a, uint64_t, b);
+DSPEC_PROBE(mixed, uint64_t, a, int32_t, b);
 
 typedef struct lane {
     dspec_layout layout;
@@ -103,6 +106,78 @@ static void refusals(void) {
     dspec_closed_drop(&l.closed);
 }
 
+/* A probe of another schema has no record, whichever of its fields is another; each is counted as refused, and nothing else is done. */
+static void other_schema(void) {
+    lane l;
+    dspec_batch batch;
+    dspec_report report;
+    const word_probe narrower = { 3 };
+    const pair_probe longer = { 3 };
+    const single_probe of_narrow = { 1 }, behind = { 4 }, far = { UINT32_MAX };
+    const mixed_probe none = { 0 };
+    start(&l, false);
+    ANSWERS(word_trace(&narrower, &l.cpu, 0, 1), DSPEC_BAD_RECORD);
+    ANSWERS(pair_trace(&longer, &l.cpu, 0, 1, 2), DSPEC_BAD_RECORD);
+    ANSWERS(single_trace(&of_narrow, &l.cpu, 0, 1), DSPEC_BAD_RECORD);
+    ANSWERS(single_trace(&behind, &l.cpu, 0, 1), DSPEC_BAD_RECORD);
+    ANSWERS(single_trace(&far, &l.cpu, 0, 1), DSPEC_BAD_RECORD);
+    ANSWERS(mixed_trace(&none, &l.cpu, 0, 1, 2), DSPEC_BAD_RECORD);
+    ANSWERS(word_speculate(&narrower, &l.cpu, 1, 0, 1), DSPEC_BAD_RECORD);
+    MUST(dspec_cpu_report(&l.cpu, &report));
+    CHECK(report.offered == 0 && report.refused == 7);
+    ANSWERS(dspec_fire(&l.cpu, 0x8, 3, 0, (const uint64_t[]){ 1, 2 }, 2), DSPEC_BAD_RECORD);
+    ANSWERS(dspec_fire(&l.cpu, 0x8, 3, 0, NULL, 0), DSPEC_BAD_RECORD);
+    ANSWERS(dspec_fire(&l.cpu, 0x211, 1, 0, (const uint64_t[]){ 256, 0, 0 }, 3), DSPEC_BAD_RECORD);
+    ANSWERS(dspec_fire(&l.cpu, 0x211, 1, 0, (const uint64_t[]){ 255, 1, 65535 }, 3), DSPEC_OK);
+    MUST(dspec_cpu_report(&l.cpu, &report));
+    CHECK(report.offered == 1 && report.refused == 10);
+    end(&l, &batch);
+    dspec_closed_drop(&l.closed);
+}
+
+/* Each of these as a record of its own and by dspec_trace: the same bytes behind one another. */
+static void same_bytes(bool stamped) {
+    static const uint8_t widths[][4] = { { 4 }, { 8 }, { 8, 8 }, { 8, 4 }, { 4, 4 }, { 1, 2, 4, 8 } };
+    static const size_t counts[] = { 1, 1, 2, 2, 2, 4 };
+    static const uint64_t most[] = { 0, 0xff, 0xffff, 0, 0xffffffff, 0, 0, 0, UINT64_MAX };
+    dspec_schema schema = DSPEC_EMPTY;
+    dspec_session session = DSPEC_EMPTY;
+    dspec_closed closed = DSPEC_EMPTY;
+    dspec_cpu cpus[2] = { DSPEC_EMPTY, DSPEC_EMPTY };
+    dspec_batch batches[2];
+    uint64_t ids[2], values[4], stamp = stamped ? UINT64_C(0x123456789a) : 0;
+    uint32_t epid, copied;
+    const dspec_config config = {
+        .cpus = 2, .nspec = 2, .bufsize = 4096, .specsize = 1024,
+        .max_issues = DSPEC_MAX_ISSUES, .max_calls = DSPEC_MAX_CALLS, .policy = DSPEC_POLICY_SWITCH,
+    };
+    MUST(dspec_schema_new(&schema));
+    if (stamped) MUST(dspec_schema_stamp(&schema));
+    for (size_t i = 0; i < 6; i++) MUST(dspec_schema_enable(&schema, widths[i], counts[i], &epid));
+    MUST(dspec_start(&config, &schema, &session));
+    for (uint32_t c = 0; c < 2; c++) MUST(dspec_cpu_of(&session, c, &cpus[c]));
+    for (int c = 0; c < 2; c++) MUST(dspec_speculation(&cpus[c], &ids[c]));
+    for (uint32_t i = 0; i < 6; i++) {
+        uint32_t word = 0;
+        for (size_t f = 0; f < counts[i]; f++) {
+            word |= (uint32_t)widths[i][f] << 4 * f;
+            values[f] = most[widths[i][f]] - f;
+        }
+        ANSWERS(dspec_fire(&cpus[0], word, i + 1, stamp, values, counts[i]), DSPEC_OK);
+        ANSWERS(dspec_trace(&cpus[1], i + 1, stamp, values, counts[i]), DSPEC_OK);
+        ANSWERS(dspec_fire_in(&cpus[0], ids[0], word, i + 1, stamp, values, counts[i]), DSPEC_OK);
+        ANSWERS(dspec_speculate(&cpus[1], ids[1], i + 1, stamp, values, counts[i]), DSPEC_OK);
+    }
+    for (int c = 0; c < 2; c++) MUST(dspec_commit(&cpus[c], ids[c], &copied));
+    for (int c = 0; c < 2; c++) MUST(dspec_cpu_home(&cpus[c]));
+    MUST(dspec_finish(&session, &closed));
+    for (uint32_t c = 0; c < 2; c++) MUST(dspec_rest(&closed, c, true, &batches[c]));
+    CHECK(copied == 6 && batches[0].len == batches[1].len && batches[0].len > 100);
+    CHECK(memcmp(batches[0].bytes, batches[1].bytes, batches[0].len) == 0);
+    dspec_closed_drop(&closed);
+    dspec_schema_drop(&schema);
+}
+
 /* What a bool reads of a number that isn't 0 or 1. */
 static void odd_bool(void) {
     narrow_probe probe = { 4 };
@@ -116,5 +191,8 @@ int main(void) {
     values_come_back(true);
     refusals();
     odd_bool();
+    other_schema();
+    same_bytes(false);
+    same_bytes(true);
     return check_end();
 }

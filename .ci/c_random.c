@@ -171,6 +171,24 @@ static void ask_dropped(sequence *s, dspec_cpu *h, uint32_t cpu, bool held, uint
     expect(s, count == (held ? model_dropped_in(&s->m, cpu, id) : MAGIC), "another count of dropped records");
 }
 
+/* Mostly the one of the EPID's fields, and else one a little off. */
+static uint32_t draw_signature(sequence *s, uint32_t epid) {
+    uint32_t due = model_signature(&s->m.schema, epid);
+    return one_in(&s->dice, 6) ? due ^ UINT32_C(1) << below(&s->dice, 32) : due;
+}
+
+static void fire(sequence *s, dspec_cpu *h, uint32_t cpu, bool held, const drawn *r) {
+    uint32_t word = draw_signature(s, r->epid);
+    dspec_status got = dspec_fire(h, word, r->epid, r->stamp, r->values, r->n);
+    answers(s, "fire", got, held ? model_fire(&s->m, cpu, word, r->epid, r->stamp, r->values, r->n) : DSPEC_BAD_HANDLE);
+}
+
+static void fire_in(sequence *s, dspec_cpu *h, uint32_t cpu, bool held, uint64_t id, const drawn *r) {
+    uint32_t word = draw_signature(s, r->epid);
+    dspec_status got = dspec_fire_in(h, id, word, r->epid, r->stamp, r->values, r->n);
+    answers(s, "fire_in", got, held ? model_fire_in(&s->m, cpu, id, word, r->epid, r->stamp, r->values, r->n) : DSPEC_BAD_HANDLE);
+}
+
 static void cpu_calls(sequence *s) {
     bool own;
     uint32_t cpu = below(&s->dice, CPUS);
@@ -179,7 +197,7 @@ static void cpu_calls(sequence *s) {
     drawn r = draw_record(&s->dice, &s->m.schema);
     uint64_t id = draw_id(s);
     dspec_status got;
-    switch (below(&s->dice, 13)) {
+    switch (below(&s->dice, 18)) {
     case 0: case 1: case 10:
         got = dspec_trace(h, r.epid, r.stamp, r.values, r.n);
         answers(s, "trace", got, held ? model_trace(&s->m, cpu, r.epid, r.stamp, r.values, r.n) : DSPEC_BAD_HANDLE);
@@ -192,6 +210,8 @@ static void cpu_calls(sequence *s) {
     case 7: decide(s, h, cpu, held, true); break;
     case 8: decide(s, h, cpu, held, false); break;
     case 12: ask_dropped(s, h, cpu, held, id); break;
+    case 13: case 14: fire(s, h, cpu, held, &r); break;
+    case 15: case 16: fire_in(s, h, cpu, held, id, &r); break;
     default: service(s, h, cpu, held); break;
     }
 }

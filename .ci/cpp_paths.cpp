@@ -66,7 +66,10 @@ void values() {
         CHECK(cpu.trace(w.bare) == DSPEC_OK);
         CHECK(cpu.trace_at(w.bare, 1) == DSPEC_BAD_RECORD);
         CHECK(cpu.trace(number{}, 1) == DSPEC_BAD_RECORD);
-        CHECK(cpu.report().offered == 3);
+        number foreign;
+        foreign.epid = w.of_all.epid;
+        CHECK(cpu.trace(foreign, 1) == DSPEC_BAD_RECORD);
+        CHECK(cpu.report().offered == 3 && cpu.report().refused == 3);
     }
     auto records = w.left(session);
     CHECK(records.size() == 3);

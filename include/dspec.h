@@ -195,6 +195,12 @@ dspec_status dspec_consumer_of(dspec_session *session, dspec_consumer *consumer)
  * DSPEC_WORN. DSPEC_BAD_RECORD: it was counted as refused, and nothing else was done. DSPEC_BAD_HANDLE: nothing was done. */
 dspec_status dspec_trace(dspec_cpu *cpu, uint32_t epid, uint64_t stamp, const uint64_t *values, size_t n) DSPEC_NOEXCEPT;
 
+/* As dspec_trace, for a caller that knows the record's fields when it is compiled, and says them by their signature: how many bytes
+ * each has, four bits a field, the first field lowest (0x48 is a field of 8 bytes and one of 4). Where the EPID has other fields, or isn't
+ * enabled, it is DSPEC_BAD_RECORD, and counted as refused. dspec_probe.h declares probes whose records are traced so. Records of
+ * one field of 4 or 8 bytes, and of two of which the first has 8, cost less than by dspec_trace. */
+dspec_status dspec_fire(dspec_cpu *cpu, uint32_t signature, uint32_t epid, uint64_t stamp, const uint64_t *values, size_t n) DSPEC_NOEXCEPT;
+
 /* Opens a speculation; its identifier goes to any CPU of the session, as a number.
  * DSPEC_OK. DSPEC_UNAVAILABLE, DSPEC_BUSY (clean, then try again), DSPEC_STOPPED, DSPEC_WORN: counted, and none was given.
  * DSPEC_BAD_HANDLE. */
@@ -204,6 +210,9 @@ dspec_status dspec_speculation(dspec_cpu *cpu, uint64_t *id) DSPEC_NOEXCEPT;
  * DSPEC_OK: it was kept there. DSPEC_DROPPED: no room there. DSPEC_VOID, DSPEC_STOPPED: it was counted void. DSPEC_WORN.
  * DSPEC_BAD_RECORD: it was counted as refused, and nothing else was done. DSPEC_BAD_HANDLE: nothing was done. */
 dspec_status dspec_speculate(dspec_cpu *cpu, uint64_t id, uint32_t epid, uint64_t stamp, const uint64_t *values, size_t n) DSPEC_NOEXCEPT;
+
+/* As dspec_speculate, for a caller that says the record's fields by their signature, as of dspec_fire. */
+dspec_status dspec_fire_in(dspec_cpu *cpu, uint64_t id, uint32_t signature, uint32_t epid, uint64_t stamp, const uint64_t *values, size_t n) DSPEC_NOEXCEPT;
 
 /* Commits a speculation: this CPU's records of it go to its principal buffer, all or none; the other CPUs do the same with theirs
  * at their next service. count is the number of this CPU's records, and is written at DSPEC_OK and DSPEC_LOST.

@@ -58,6 +58,13 @@ template <typename Handle> void leave(Handle *handle) noexcept { dspec_drop(hand
 template <> inline void leave(dspec_cpu *handle) noexcept { dspec_cpu_home(handle); }
 template <> inline void leave(dspec_consumer *handle) noexcept { dspec_consumer_home(handle); }
 
+/* The signature of fields: how many bytes each has, four bits a field, the first lowest. */
+template <typename... Fields> constexpr std::uint32_t signature() noexcept {
+    std::uint32_t word = 0, at = 0;
+    ((word |= static_cast<std::uint32_t>(sizeof(Fields)) << at, at += 4), ...);
+    return word;
+}
+
 /* Owns a handle of one kind. */
 template <typename Handle> class owned {
     Handle handle_ = DSPEC_EMPTY;
@@ -84,6 +91,8 @@ public:
 template <field... Fields> struct probe {
     static_assert(sizeof...(Fields) <= DSPEC_MAX_FIELDS, "a record has at most eight fields");
     static constexpr std::size_t fields = sizeof...(Fields);
+    /* How many bytes each field has, as dspec_fire wants it. */
+    static constexpr std::uint32_t signature = detail::signature<Fields...>();
 
     std::uint32_t epid = 0; /* 0 of a probe that wasn't enabled, whose records are DSPEC_BAD_RECORD */
 
@@ -171,14 +180,14 @@ public:
         return trace_at(of, 0, values...);
     }
     template <field... Fields> dspec_status trace_at(probe<Fields...> of, std::uint64_t stamp, std::type_identity_t<Fields>... values) noexcept {
-        return dspec_trace(get(), of.epid, stamp, row<Fields...>(values...).data(), sizeof...(Fields));
+        return dspec_fire(get(), of.signature, of.epid, stamp, row<Fields...>(values...).data(), sizeof...(Fields));
     }
     template <field... Fields> dspec_status speculate(std::uint64_t id, probe<Fields...> of, std::type_identity_t<Fields>... values) noexcept {
         return speculate_at(id, of, 0, values...);
     }
     template <field... Fields>
     dspec_status speculate_at(std::uint64_t id, probe<Fields...> of, std::uint64_t stamp, std::type_identity_t<Fields>... values) noexcept {
-        return dspec_speculate(get(), id, of.epid, stamp, row<Fields...>(values...).data(), sizeof...(Fields));
+        return dspec_fire_in(get(), id, of.signature, of.epid, stamp, row<Fields...>(values...).data(), sizeof...(Fields));
     }
     decided commit(std::uint64_t id) noexcept {
         decided told{DSPEC_OK, 0};

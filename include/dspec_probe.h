@@ -7,12 +7,13 @@
  *
  *     query_probe q;                                              the probe; all zeros until it is enabled
  *     query_enable(&q, &layout, &schema)                          answers as dspec_layout_enable
- *     query_trace(&q, &cpu, stamp, request, micros)               answers as dspec_trace
- *     query_speculate(&q, &cpu, id, stamp, request, micros)       answers as dspec_speculate
+ *     query_trace(&q, &cpu, stamp, request, micros)               answers as dspec_fire
+ *     query_speculate(&q, &cpu, id, stamp, request, micros)       answers as dspec_fire_in
  *     query_values v; query_read(&q, &record, &v)                 whether the record is one of q; its values are in v.request, v.micros
  *
  * The stamp is 0 where records have none. A value is converted to its field's type as an argument of a function is; a negative number
- * and a float keep their bits. A record of a probe that wasn't enabled is DSPEC_BAD_RECORD.
+ * and a float keep their bits. A record of a probe that wasn't enabled is DSPEC_BAD_RECORD, and so is one of a session over another schema where the
+ * EPID has other fields.
  */
 #ifndef DSPEC_PROBE_H
 #define DSPEC_PROBE_H
@@ -69,6 +70,7 @@ static inline void dspec_bool_of(void *value, const uint64_t *bits, size_t width
 #define DSPEC_PROBE_FIELD_(AT, TYPE, NAME) TYPE NAME;
 #define DSPEC_PROBE_ARGUMENT_(AT, TYPE, NAME) , TYPE NAME
 #define DSPEC_PROBE_WIDTH_(AT, TYPE, NAME) sizeof(TYPE),
+#define DSPEC_PROBE_SIGN_(AT, TYPE, NAME) | (uint32_t)sizeof(TYPE) << 4 * AT
 #define DSPEC_PROBE_BITS_(AT, TYPE, NAME) dspec_bits_of(&NAME, sizeof NAME),
 #define DSPEC_PROBE_BACK_(AT, TYPE, NAME) \
     _Generic(dspec_values_->NAME, bool: dspec_bool_of, default: dspec_value_of)(&dspec_values_->NAME, &dspec_record_->values[AT], sizeof(TYPE));
@@ -90,12 +92,14 @@ static inline void dspec_bool_of(void *value, const uint64_t *bits, size_t width
     DSPEC_PROBE_CALL_ dspec_status PROBE##_trace(const PROBE##_probe *dspec_probe_, dspec_cpu *dspec_cpu_,                                             \
                                              uint64_t dspec_stamp_ DSPEC_PROBE_EACH_(DSPEC_PROBE_ARGUMENT_, __VA_ARGS__)) {                            \
         const uint64_t dspec_bits_[] = { DSPEC_PROBE_EACH_(DSPEC_PROBE_BITS_, __VA_ARGS__) };                                                          \
-        return dspec_trace(dspec_cpu_, dspec_probe_->epid, dspec_stamp_, dspec_bits_, sizeof dspec_bits_ / sizeof dspec_bits_[0]);                     \
+        return dspec_fire(dspec_cpu_, 0 DSPEC_PROBE_EACH_(DSPEC_PROBE_SIGN_, __VA_ARGS__), dspec_probe_->epid, dspec_stamp_, dspec_bits_,              \
+                          sizeof dspec_bits_ / sizeof dspec_bits_[0]);                                                                                 \
     }                                                                                                                                                  \
     DSPEC_PROBE_CALL_ dspec_status PROBE##_speculate(const PROBE##_probe *dspec_probe_, dspec_cpu *dspec_cpu_, uint64_t dspec_id_,                     \
                                                  uint64_t dspec_stamp_ DSPEC_PROBE_EACH_(DSPEC_PROBE_ARGUMENT_, __VA_ARGS__)) {                        \
         const uint64_t dspec_bits_[] = { DSPEC_PROBE_EACH_(DSPEC_PROBE_BITS_, __VA_ARGS__) };                                                          \
-        return dspec_speculate(dspec_cpu_, dspec_id_, dspec_probe_->epid, dspec_stamp_, dspec_bits_, sizeof dspec_bits_ / sizeof dspec_bits_[0]);      \
+        return dspec_fire_in(dspec_cpu_, dspec_id_, 0 DSPEC_PROBE_EACH_(DSPEC_PROBE_SIGN_, __VA_ARGS__), dspec_probe_->epid, dspec_stamp_,             \
+                             dspec_bits_, sizeof dspec_bits_ / sizeof dspec_bits_[0]);                                                                 \
     }                                                                                                                                                  \
     DSPEC_PROBE_CALL_ bool PROBE##_read(const PROBE##_probe *dspec_probe_, const dspec_record *dspec_record_, PROBE##_values *dspec_values_) {         \
         if (dspec_record_->epid != dspec_probe_->epid) return false;                                                                                   \

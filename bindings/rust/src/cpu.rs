@@ -10,6 +10,18 @@ pub struct Cpu {
     handle: Handle,
 }
 
+/// What a trace answered: where it kept the record, by one comparison.
+#[inline]
+fn traced(status: Status) -> Result<Traced, Error> {
+    if status == raw::OK { Ok(Traced::Kept) } else { not_traced(status) }
+}
+
+/// What a record that was offered to a speculation was answered.
+#[inline]
+fn spoken(status: Status) -> Result<Spoken, Error> {
+    if status == raw::OK { Ok(Spoken::Kept) } else { not_spoken(status) }
+}
+
 impl Cpu {
     pub(crate) fn of(handle: Handle) -> Cpu {
         Cpu { handle }
@@ -23,12 +35,14 @@ impl Cpu {
     #[inline]
     pub fn trace(&mut self, epid: Epid, stamp: u64, values: &[u64]) -> Result<Traced, Error> {
         // SAFETY: the pointer is to as many values as is told, and the handle is in no other call.
-        let status = unsafe { raw::dspec_trace(self.handle.at(), epid.raw(), stamp, values.as_ptr(), values.len()) };
-        if status == raw::OK {
-            Ok(Traced::Kept)
-        } else {
-            not_traced(status)
-        }
+        traced(unsafe { raw::dspec_trace(self.handle.at(), epid.raw(), stamp, values.as_ptr(), values.len()) })
+    }
+
+    /// Traces a record whose fields are those of this signature.
+    #[inline]
+    pub(crate) fn fire(&mut self, signature: u32, epid: Epid, stamp: u64, values: &[u64]) -> Result<Traced, Error> {
+        // SAFETY: as in `trace`.
+        traced(unsafe { raw::dspec_fire(self.handle.at(), signature, epid.raw(), stamp, values.as_ptr(), values.len()) })
     }
 
     /// Opens a speculation that is decided when it is dropped at the latest.
@@ -58,12 +72,14 @@ impl Cpu {
     #[inline]
     pub fn speculate(&mut self, id: SpecId, epid: Epid, stamp: u64, values: &[u64]) -> Result<Spoken, Error> {
         // SAFETY: as in `trace`.
-        let status = unsafe { raw::dspec_speculate(self.handle.at(), id.raw(), epid.raw(), stamp, values.as_ptr(), values.len()) };
-        if status == raw::OK {
-            Ok(Spoken::Kept)
-        } else {
-            not_spoken(status)
-        }
+        spoken(unsafe { raw::dspec_speculate(self.handle.at(), id.raw(), epid.raw(), stamp, values.as_ptr(), values.len()) })
+    }
+
+    /// Offers a record whose fields are those of this signature to a speculation.
+    #[inline]
+    pub(crate) fn fire_in(&mut self, id: SpecId, signature: u32, epid: Epid, stamp: u64, values: &[u64]) -> Result<Spoken, Error> {
+        // SAFETY: as in `trace`.
+        spoken(unsafe { raw::dspec_fire_in(self.handle.at(), id.raw(), signature, epid.raw(), stamp, values.as_ptr(), values.len()) })
     }
 
     /// Commits a speculation: its records get into the principal buffers, each CPU's at once or not at all.

@@ -40,6 +40,11 @@ impl<'a> Path<'a> {
         self.cpu.speculate(self.id(), epid, stamp, values)
     }
 
+    /// Offers a record whose fields are those of this signature to it.
+    pub(crate) fn fire(&mut self, signature: u32, epid: Epid, stamp: u64, values: &[u64]) -> Result<Spoken, Error> {
+        self.cpu.fire_in(self.id(), signature, epid, stamp, values)
+    }
+
     /// How many of its records its CPU had no room for: where there are any, its end is cut.
     pub fn dropped(&mut self) -> u32 {
         self.cpu.dropped_in(self.opening.id())

@@ -95,6 +95,15 @@ pub struct Probe<F> {
     fields: PhantomData<F>,
 }
 
+const fn signature(widths: &[Width]) -> u32 {
+    let (mut word, mut at) = (0, widths.len());
+    while at > 0 {
+        at -= 1;
+        word = word << 4 | widths[at] as u32;
+    }
+    word
+}
+
 impl<F> Clone for Probe<F> {
     fn clone(&self) -> Self {
         *self
@@ -104,6 +113,9 @@ impl<F> Clone for Probe<F> {
 impl<F> Copy for Probe<F> {}
 
 impl<F: Fields> Probe<F> {
+    /// How many bytes each field has, four bits a field, the first lowest.
+    const SIGNATURE: u32 = signature(F::WIDTHS);
+
     pub(crate) fn of(epid: Epid) -> Probe<F> {
         Probe { epid, fields: PhantomData }
     }
@@ -120,7 +132,7 @@ impl<F: Fields> Probe<F> {
     ///
     /// [`Error::BadRecord`] alone.
     pub fn trace(self, cpu: &mut Cpu, stamp: u64, values: F) -> Result<Traced, Error> {
-        cpu.trace(self.epid, stamp, &values.row()[..F::WIDTHS.len()])
+        cpu.fire(Self::SIGNATURE, self.epid, stamp, &values.row()[..F::WIDTHS.len()])
     }
 
     /// Offers a record of these values to a speculation.
@@ -129,7 +141,7 @@ impl<F: Fields> Probe<F> {
     ///
     /// [`Error::BadRecord`] alone.
     pub fn speculate(self, cpu: &mut Cpu, id: SpecId, stamp: u64, values: F) -> Result<Spoken, Error> {
-        cpu.speculate(id, self.epid, stamp, &values.row()[..F::WIDTHS.len()])
+        cpu.fire_in(id, Self::SIGNATURE, self.epid, stamp, &values.row()[..F::WIDTHS.len()])
     }
 
     /// Offers a record of these values to a path.
@@ -138,7 +150,7 @@ impl<F: Fields> Probe<F> {
     ///
     /// [`Error::BadRecord`] alone.
     pub fn step(self, path: &mut Path<'_>, stamp: u64, values: F) -> Result<Spoken, Error> {
-        path.step(self.epid, stamp, &values.row()[..F::WIDTHS.len()])
+        path.fire(Self::SIGNATURE, self.epid, stamp, &values.row()[..F::WIDTHS.len()])
     }
 
     /// The values of a record of this probe; none of another's.

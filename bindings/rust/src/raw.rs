@@ -73,8 +73,10 @@ extern "C" {
     pub(crate) fn dspec_finish(session: *mut Words, closed: *mut Words) -> Status;
 
     pub(crate) fn dspec_trace(cpu: *mut Words, epid: u32, stamp: u64, values: *const u64, n: usize) -> Status;
+    pub(crate) fn dspec_fire(cpu: *mut Words, signature: u32, epid: u32, stamp: u64, values: *const u64, n: usize) -> Status;
     pub(crate) fn dspec_speculation(cpu: *mut Words, id: *mut u64) -> Status;
     pub(crate) fn dspec_speculate(cpu: *mut Words, id: u64, epid: u32, stamp: u64, values: *const u64, n: usize) -> Status;
+    pub(crate) fn dspec_fire_in(cpu: *mut Words, id: u64, signature: u32, epid: u32, stamp: u64, values: *const u64, n: usize) -> Status;
     pub(crate) fn dspec_commit(cpu: *mut Words, id: u64, count: *mut u32) -> Status;
     pub(crate) fn dspec_discard(cpu: *mut Words, id: u64, count: *mut u32) -> Status;
     pub(crate) fn dspec_service(cpu: *mut Words, sealed: *mut bool, settled: *mut u32) -> Status;

@@ -281,6 +281,21 @@ fn probes_keep_the_bits_of_their_values() {
 }
 
 #[test]
+fn probes_of_another_schema_are_refused() {
+    let mut schema = Schema::new().unwrap();
+    schema.probe::<(u64, u32)>().unwrap();
+    let mut other = Schema::new().unwrap();
+    let foreign = other.probe::<(u32, u64)>().unwrap();
+    let mut session = Session::start(&Config::default(), &schema).unwrap();
+    let mut cpu = session.cpu(0).unwrap();
+    assert_eq!(foreign.trace(&mut cpu, 0, (1, 2)), Err(Error::BadRecord));
+    let mut path = cpu.path();
+    assert_eq!(foreign.step(&mut path, 0, (1, 2)), Err(Error::BadRecord));
+    path.keep();
+    assert_eq!((cpu.report().offered, cpu.report().refused), (0, 2));
+}
+
+#[test]
 fn a_cpu_outlives_its_session() {
     let (session, mut cpu, consumer, epid) = small(1 << 62);
     drop(session);

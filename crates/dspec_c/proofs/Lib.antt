@@ -9,6 +9,8 @@ pub mod Handing
 pub mod Homes
 pub mod Looking
 mod Options
+pub mod Shapes
+pub mod Signing
 pub mod Taken
 mod Values
 pub mod Widths

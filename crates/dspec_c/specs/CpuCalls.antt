@@ -1,5 +1,5 @@
 -- Cited by calls. The calls on a CPU's handle: each did what the library's call says of its answer.
-use Rattle.std.specs.Prelude.{ℕ, ◌≡◌, ◌<◌, ◌+◌, ◌-◌, ◌^◌, min, Bool, true, false, List, Option, is_none, ⊤}
+use Rattle.std.specs.Prelude.{ℕ, ◌≡◌, ◌<◌, ◌+◌, ◌-◌, ◌^◌, min, Bool, true, false, List, Option, None, is_none, MatchBool, ⊤}
 use Rattle.dspec_word.specs.SpecId.{Speculation, id_number}
 use Rattle.dspec_record.specs.Record.{Record}
 use Rattle.dspec_record.specs.EnablingRows.{EnabledRows}
@@ -16,13 +16,14 @@ use Rattle.dspec_deeds.specs.Reports.{report}
 use Rattle.dspec_promise.specs.Promise.{By, commit, discard}
 use Rattle.dspec_cpu.specs.declared.cpu.Cpu.{Cpu}
 use Rattle.dspec_cpu.specs.Dropped.{drops_told}
-use Rattle.dspec_cpu.specs.Lists.{config_of, number_in, worn_of}
+use Rattle.dspec_cpu.specs.Lists.{config_of, number_in, schema_of, worn_of}
 use Rattle.dspec_cpu.specs.OneCall.{OpensOne, DecidesOne, ServesOnce, RecordsValues, OffersValues}
 use Rattle.dspec_cpu.specs.Standing.{identity}
 use Rattle.dspec_consumer.specs.Sessions.{Has}
 use Rattle.dspec_c.specs.Answered.{Answered, AnsweredWith}
 use Rattle.dspec_c.specs.Homes.{Side}
 use Rattle.dspec_c.specs.Shows.{TellsReport}
+use Rattle.dspec_c.specs.Signatures.{signs}
 use Rattle.dspec_c.specs.Statuses.{bad_handle, decided_number, decided_status, opened_number, opening_status, spoken_status, traced_status}
 use Rattle.dspec_c.specs.declared.held.Held.{Held}
 use Rattle.dspec_c.specs.declared.held.Held.TheVariants as held
@@ -41,6 +42,18 @@ pub record Recorded (epid stamp : ℕ) (values : List ℕ) (a : Option Traced) (
 pub record Offered (id : Speculation) (epid stamp : ℕ) (values : List ℕ) (a : Option Spoken) (old new : Cpu EnabledRows) : Type 0 where
   pub same : identity new ≡ identity old
   pub does : OffersValues Has accepts_at id epid stamp values a old new
+
+-- what is done with a record whose EPID has the fields of this word, and nothing is where it has others
+abbrev pub IfSigned : {A : Type 0} → ℕ → ℕ → Option A → (Cpu EnabledRows → Cpu EnabledRows → Type 0) → Cpu EnabledRows → Cpu EnabledRows → Type 0
+IfSigned word epid a did old new = MatchBool (signs word (enabled (schema_of old).rows epid)) (did old new) ((a ≡ None) × (new ≡ old))
+
+-- `Cpu::record`, by one who tells the EPID's fields
+abbrev pub Fired : ℕ → ℕ → ℕ → List ℕ → Option Traced → Cpu EnabledRows → Cpu EnabledRows → Type 0
+Fired word epid stamp values a = IfSigned word epid a (Recorded epid stamp values a)
+
+-- `Cpu::offer`, by one who tells the EPID's fields
+abbrev pub FiredIn : Speculation → ℕ → ℕ → ℕ → List ℕ → Option Spoken → Cpu EnabledRows → Cpu EnabledRows → Type 0
+FiredIn id word epid stamp values a = IfSigned word epid a (Offered id epid stamp values a)
 
 -- `Cpu::speculation`
 pub record Opened (a : Opening) (old new : Cpu EnabledRows) : Type 0 where
@@ -91,6 +104,10 @@ abbrev pub TraceAnswers : ℕ → ℕ → List ℕ → Held → ℕ → Held →
 TraceAnswers epid stamp values was status now =
     OnCpu (λ old new. Answered traced_status (λ a. OnSide (is_none a) (Recorded epid stamp values a) old new) status) ⊤ was status now
 
+abbrev pub FireAnswers : ℕ → ℕ → ℕ → List ℕ → Held → ℕ → Held → Type 0
+FireAnswers word epid stamp values was status now =
+    OnCpu (λ old new. Answered traced_status (λ a. OnSide (is_none a) (Fired word epid stamp values a) old new) status) ⊤ was status now
+
 abbrev pub SpeculationAnswers : Held → ℕ → ℕ → ℕ → Held → Type 0
 SpeculationAnswers was status before id now =
     OnCpu (λ old new. AnsweredWith opening_status opened_number (λ a. OnSide false (Opened a) old new) status before id) (id ≡ before) was status now
@@ -98,6 +115,10 @@ SpeculationAnswers was status before id now =
 abbrev pub SpeculateAnswers : ℕ → ℕ → ℕ → List ℕ → Held → ℕ → Held → Type 0
 SpeculateAnswers number epid stamp values was status now =
     OnCpu (λ old new. (id : Speculation) × Names number id × Answered spoken_status (λ a. OnSide (is_none a) (Offered id epid stamp values a) old new) status) ⊤ was status now
+
+abbrev pub FireInAnswers : ℕ → ℕ → ℕ → ℕ → List ℕ → Held → ℕ → Held → Type 0
+FireInAnswers number word epid stamp values was status now =
+    OnCpu (λ old new. (id : Speculation) × Names number id × Answered spoken_status (λ a. OnSide (is_none a) (FiredIn id word epid stamp values a) old new) status) ⊤ was status now
 
 abbrev pub DecideAnswers : By → ℕ → Held → ℕ → ℕ → ℕ → Held → Type 0
 DecideAnswers b number was status before count now =

@@ -10,6 +10,7 @@ pub mod Lending
 pub mod Seals
 pub mod SessionCalls
 pub mod Shows
+pub mod Signatures
 pub mod Statuses
 pub mod Whole
 pub mod Widths

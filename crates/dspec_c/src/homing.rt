@@ -1,7 +1,9 @@
 ghost use Rattle.std.specs.Prelude.{◌≡◌};
 ghost use Rattle.dspec_c.specs.CpuCalls.{one_refused};
 
+use crate::firing;
 use crate::home_cpu::HomeCpu;
+use crate::signatures::{Claim, EPIDS, epid_words};
 use dspec_cpu::{Cpu, Shared};
 use dspec_deeds::{Decided, Opening, Report, Served, Spoken, Traced};
 use dspec_record::Enablings;
@@ -53,9 +55,12 @@ impl Protocol<Homing> for HomeRule {
 }
 
 impl Homing {
-    ghost use Rattle.std.specs.Prelude.{◌≡◌, false, is_none};
+    ghost use Rattle.std.specs.Prelude.{◌≡◌, true, false, is_none};
     ghost use Rattle.std.specs.Arc.{arc_value};
+    ghost use Rattle.dspec_record.specs.Schemas.{enabled};
+    ghost use Rattle.dspec_cpu.specs.Lists.{schema_of};
     ghost use Rattle.dspec_cpu.specs.Standing.{IsCallable};
+    ghost use Rattle.dspec_c.specs.Signatures.{AreSigned, word_of};
     ghost use Rattle.dspec_promise.specs.Promise.{commit, discard};
     ghost use Rattle.dspec_c.specs.Homes.{IsSameSide, at_home};
     ghost use Rattle.dspec_c.specs.CpuCalls.{DecidedAs, Drops, Offered, OnSide, Opened, Recorded, Reports, ServicedSo};
@@ -82,6 +87,18 @@ impl Homing {
         answer
     }
 
+    /// As `trace`, of a record whose EPID has the fields that are said.
+    #[inline(always)]
+    pub fn fire(&mut self, claim: Claim, stamp: u64, values: &[u64]) -> Option<Traced>
+        requires { word_of (enabled (schema_of self.old.cpu).rows claim.epid) ≡ claim.word }
+        ensures same { IsSameSide self.old self.new }
+        ensures did { OnSide (is_none result) (Recorded claim.epid stamp values.now result) self.old self.new }
+    {
+        let answer = firing::trace(&mut *self.cpu, &*self.shared, claim, stamp, values);
+        self.refused = counted(self.refused, answer.is_none());
+        answer
+    }
+
     pub fn service(&mut self) -> Served
         ensures same { IsSameSide self.old self.new }
         ensures did { OnSide false (ServicedSo result) self.old self.new }
@@ -97,6 +114,40 @@ impl Homing {
         let answer = self.cpu.offer(&self.shared, id, epid, stamp, values);
         self.refused = counted(self.refused, answer.is_none());
         answer
+    }
+
+    /// As `offer`, of a record whose EPID has the fields that are said.
+    #[inline(always)]
+    pub fn fire_in(
+        &mut self,
+        id: SpecId,
+        claim: Claim,
+        stamp: u64,
+        values: &[u64],
+    ) -> Option<Spoken>
+        requires { word_of (enabled (schema_of self.old.cpu).rows claim.epid) ≡ claim.word }
+        ensures same { IsSameSide self.old self.new }
+        ensures did { OnSide (is_none result) (Offered id claim.epid stamp values.now result) self.old self.new }
+    {
+        let answer = firing::offer(&mut *self.cpu, &*self.shared, id, claim, stamp, values);
+        self.refused = counted(self.refused, answer.is_none());
+        answer
+    }
+
+    /// Counts a record as refused that isn't handed to the schema.
+    pub fn refuse(&mut self)
+        ensures same { IsSameSide self.old self.new }
+        ensures cpu { self.new.cpu ≡ self.old.cpu }
+        ensures refused { self.new.refused ≡ one_refused true self.old.refused }
+    {
+        self.refused = counted(self.refused, true);
+    }
+
+    /// The word of each EPID.
+    pub fn epid_words(&self) -> [u32; EPIDS]
+        ensures { AreSigned (schema_of self.now.cpu).rows result }
+    {
+        epid_words(self.cpu.schema())
     }
 
     pub fn speculation(&mut self) -> Opening

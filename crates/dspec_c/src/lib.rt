@@ -13,6 +13,7 @@ mod consumer_side;
 mod cpu_calls;
 mod desk;
 mod ended;
+mod firing;
 mod gather;
 mod handle;
 mod held;
@@ -32,6 +33,7 @@ mod schema_box;
 mod schema_calls;
 mod seal;
 mod session_calls;
+mod signatures;
 mod statuses;
 mod under_way;
 
