@@ -13,13 +13,21 @@ pub struct Cpu {
 /// What a trace answered: where it kept the record, by one comparison.
 #[inline]
 fn traced(status: Status) -> Result<Traced, Error> {
-    if status == raw::OK { Ok(Traced::Kept) } else { not_traced(status) }
+    if status == raw::OK {
+        Ok(Traced::Kept)
+    } else {
+        not_traced(status)
+    }
 }
 
 /// What a record that was offered to a speculation was answered.
 #[inline]
 fn spoken(status: Status) -> Result<Spoken, Error> {
-    if status == raw::OK { Ok(Spoken::Kept) } else { not_spoken(status) }
+    if status == raw::OK {
+        Ok(Spoken::Kept)
+    } else {
+        not_spoken(status)
+    }
 }
 
 impl Cpu {

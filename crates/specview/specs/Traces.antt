@@ -113,6 +113,8 @@ abbrev pub IsFormFault : MetadataFault → ViewFault → Type 0
 IsFormFault metadata_fault.NoStamp told = told ≡ NoStamp
 IsFormFault metadata_fault.NoFrequency told = told ≡ NoFrequency
 IsFormFault (metadata_fault.Name fault) told = told ≡ TooMuch
+IsFormFault metadata_fault.HostName told = told ≡ TooMuch
+IsFormFault metadata_fault.ProcessName told = told ≡ TooMuch
 IsFormFault metadata_fault.Memory told = told ≡ Memory
 
 -- the uuid of a text's trace, by the text's bytes (version 5 of RFC 4122)

@@ -199,14 +199,16 @@ fn files_of(
     Ok(files)
 }
 
-/// What is told of a fault of the metadata. None is of names, since they are numbered.
+/// What is told of a fault of the metadata. None is of names, since they are numbered, nor of a process, since none is told.
 fn form_fault(fault: MetadataFault) -> ViewFault
     ensures { IsFormFault fault result }
 {
     match fault {
         MetadataFault::NoStamp => ViewFault::NoStamp,
         MetadataFault::NoFrequency => ViewFault::NoFrequency,
-        MetadataFault::Name(_) => ViewFault::TooMuch,
+        MetadataFault::Name(_) | MetadataFault::HostName | MetadataFault::ProcessName => {
+            ViewFault::TooMuch
+        }
         MetadataFault::Memory => ViewFault::Memory,
     }
 }
