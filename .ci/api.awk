@@ -64,12 +64,25 @@ function take_names(text, path, count, names, i) {
 }
 
 # What a call of this signature, with these clauses, refuses with.
+# The last of types that commas part.
+function last_of(text, within, from, at, letter) {
+    within = 0
+    from = 1
+    for (at = 1; at <= length(text); at++) {
+        letter = substr(text, at, 1)
+        if (letter == "<" || letter == "(" || letter == "[") within++
+        else if (letter == ">" || letter == ")" || letter == "]") within--
+        else if (letter == "," && within == 0) from = at + 2
+    }
+    return substr(text, from)
+}
+
 function refusals(text, names, at) {
     at = index(text, "-> ")
     while (at && index(substr(text, at + 3), "-> ")) { text = substr(text, at + 3); at = index(text, "-> ") }
     if (!at) return "none"
     text = trimmed(substr(text, at + 3))
-    if (text ~ /^Result</) { sub(/>$/, "", text); sub(/^.*, /, "", text); return "`" text "`" }
+    if (text ~ /^Result</) { sub(/^Result</, "", text); sub(/>$/, "", text); return "`" last_of(text) "`" }
     if (text ~ /^Option</) return "`None`"
     if (text == "bool" && (", " names ",") ~ /, refused,/) return "`false`"
     return "none"

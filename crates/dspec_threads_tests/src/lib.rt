@@ -1,0 +1,5 @@
+//! Tests of dspec_threads.
+#![tactic(auto)]
+
+#[cfg(test)]
+mod lanes_out;
