@@ -118,8 +118,7 @@ impl Ctf {
         let events = events(path);
         let first = events.first().map_or(path.begun, |event| event.stamp.min(path.begun));
         let last = events.last().map_or(first, |event| event.stamp.max(first));
-        let offset = path.begun_unix.wrapping_sub(path.begun);
-        self.offset.get_or_insert(i64::from_ne_bytes(offset.to_ne_bytes()));
+        self.offset.get_or_insert(path.begun_unix.wrapping_sub(path.begun).cast_signed());
         let mut bytes = Vec::new();
         self.put_path(&mut bytes, path, first);
         for event in &events {
@@ -234,7 +233,7 @@ fn events(path: &Path) -> Vec<Event<'_>> {
 
 fn event<'p>(line: &'p Line, spans: &[Span<'p>]) -> Event<'p> {
     let Line { kind, stamp, lane, span, parent, .. } = *line;
-    let own = || spans.iter().find(|one| one.number == span);
+    let own = || spans.binary_search_by_key(&span, |one| one.number).ok().map(|at| &spans[at]);
     let values = match (kind, own()) {
         (Kind::Close, Some(own)) => last_of_each(&own.values),
         _ => line.values.iter().map(|(name, value)| (*name, value)).collect(),

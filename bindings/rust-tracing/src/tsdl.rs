@@ -74,7 +74,7 @@ impl Classes {
             return *number;
         }
         let number = u32::try_from(self.numbers.len() + 1).expect("fewer classes than bytes of memory");
-        let name = told_apart(allowed(&title(event)), &mut self.names);
+        let name = told_apart(&allowed(&title(event)), &mut self.names);
         let mut text = format!("\nevent {{\n\tid = {number};\n\tname = \"{name}\";\n\tstream_id = 0;\n");
         if let Some(metadata) = event.metadata {
             let _ = writeln!(text, "\tloglevel = {};", loglevel(*metadata.level()));
@@ -90,7 +90,7 @@ impl Classes {
         text += "\tfields := struct {\n";
         let mut names = HashSet::new();
         for (name, kind) in &shape.fields {
-            let _ = writeln!(text, "\t\t{kind} {};", told_apart(allowed(name), &mut names));
+            let _ = writeln!(text, "\t\t{kind} {};", told_apart(&allowed(name), &mut names));
         }
         text += "\t};\n};\n";
         self.text += &text;
@@ -178,7 +178,7 @@ fn title(event: &Event<'_>) -> String {
     format!("{name}_{word}")
 }
 
-/// LTTng's number of a level: error, warning, information, debugging of a module, and the least of debugging.
+/// The number that `LTTng` has for a level: error, warning, information, debugging of a module, and the least of debugging.
 fn loglevel(level: Level) -> u32 {
     match level {
         Level::ERROR => 3,
@@ -229,7 +229,7 @@ const RESERVED: [&str; 32] = [
 const LONGEST: usize = 240;
 
 /// A name that the format allows: each letter but A to Z, a to z, digits and `_` becomes `_`; what then begins with a digit or `_`, or is reserved, gets
-/// a `_` before it. Readers take one `_` away from the front of a field's name.
+/// a `_` before it, which babeltrace2 takes away again from a field's name.
 fn allowed(name: &str) -> String {
     let letter = |letter: char| if letter.is_ascii_alphanumeric() { letter } else { '_' };
     let mut out: String = name.chars().take(LONGEST).map(letter).collect();
@@ -243,8 +243,8 @@ fn allowed(name: &str) -> String {
 }
 
 /// The name, with `_2`, `_3`, .. behind it where it is taken.
-fn told_apart(name: String, taken: &mut HashSet<String>) -> String {
-    let mut one = name.clone();
+fn told_apart(name: &str, taken: &mut HashSet<String>) -> String {
+    let mut one = name.to_owned();
     let mut number = 1;
     while !taken.insert(one.clone()) {
         number += 1;
@@ -279,7 +279,7 @@ mod tests {
             assert_eq!(allowed(word), format!("_{word}"));
         }
         let mut taken = HashSet::new();
-        let apart = ["a.b", "a_b", "a_b_2", "a-b"].map(|name| told_apart(allowed(name), &mut taken));
+        let apart = ["a.b", "a_b", "a_b_2", "a-b"].map(|name| told_apart(&allowed(name), &mut taken));
         assert_eq!(apart, ["a_b", "a_b_2", "a_b_2_2", "a_b_3"]);
     }
 

@@ -222,7 +222,9 @@ fn same(events: &[&Event], path: &Path) {
     }
     assert_eq!(events.len(), path.lines.len() + 1);
     for (event, line) in events[1..].iter().zip(&path.lines) {
-        let values = |line: &Line| line.values.iter().map(|value| value.1.clone()).collect::<Vec<_>>();
+        // A cut text says how long it was.
+        let value = |value: &Value| value.text().map_or(value.clone(), |_| text(&value.to_string()));
+        let values = |line: &Line| line.values.iter().map(|one| value(&one.1)).collect::<Vec<_>>();
         assert_eq!((event.stamp, event.span, event.lane), (line.stamp, line.span, line.lane));
         if line.kind != Kind::Close {
             assert_eq!(event.fields.iter().map(|field| field.1.clone()).collect::<Vec<_>>(), values(line), "{event:?}");
@@ -398,6 +400,32 @@ fn a_cut_path_behind_a_missed_one() {
     fs::remove_dir_all(folder).unwrap();
 }
 
+/// A span of which the begin had no room is called by what is known of it. One of these sizes has room for an end where there is none for a begin.
+#[test]
+fn a_span_without_its_begin() {
+    let mut found = 0;
+    for bytes in (64..=192).step_by(8) {
+        let folder = folder("begin");
+        let (all, _) = written(&folder, Builder::new().bytes_a_path(bytes), || {
+            let path = info_span!("kept");
+            let _path = path.enter();
+            drop(info_span!("inner", text = "a text that was made while the program ran".repeat(2)));
+            error!("bad");
+        });
+        let (trace, path) = (read(&folder), &all.paths[0]);
+        let events = trace.of_path(path.id);
+        same(&events, path);
+        assert_eq!(events[0].field("cut"), &Value::U64(path.cut));
+        let has = |name: &str| events.iter().find(|event| event.name == name);
+        if let Some(end) = has("unknown_end") {
+            assert_eq!((end.span, end.loglevel.as_deref(), has("inner_begin").is_none()), (2, None, true));
+            found += 1;
+        }
+        fs::remove_dir_all(folder).unwrap();
+    }
+    assert!(found > 0);
+}
+
 #[test]
 fn a_folder_with_something_in_it_is_refused() {
     let folder = folder("refused");
@@ -418,7 +446,15 @@ fn a_folder_with_something_in_it_is_refused() {
 
 const LIMITED: &str = "TRACING_DSPEC_CTF_LIMITED";
 
-/// What `a_failed_write_leaves_whole_packets` runs again, with a limit on the size of files.
+/// Runs a test of this file again, with a limit on the size of files, in units of 512 bytes; what it prints.
+fn again(test: &str, units: u32, folder: &FilePath) -> String {
+    // The signal that a limit sends is ignored, so that the write answers.
+    let again = format!("trap '' XFSZ; ulimit -f {units}; exec \"$0\" --exact {test} --nocapture --test-threads 1");
+    let out = Command::new("sh").args(["-c", &again]).arg(env::current_exe().unwrap()).env(LIMITED, folder).output().unwrap();
+    String::from_utf8_lossy(&out.stdout).into_owned() + &String::from_utf8_lossy(&out.stderr)
+}
+
+/// What `a_failed_write_leaves_whole_packets` runs again.
 #[test]
 fn below_a_limit() {
     let Some(folder) = env::var_os(LIMITED) else { return };
@@ -445,10 +481,29 @@ fn below_a_limit() {
 #[test]
 fn a_failed_write_leaves_whole_packets() {
     let folder = folder("limited");
-    // The signal that a limit sends is ignored, so that the write answers. The unit is 512 bytes.
-    let again = "trap '' XFSZ; ulimit -f 32; exec \"$0\" --exact below_a_limit --nocapture --test-threads 1";
-    let out = Command::new("sh").args(["-c", again]).arg(env::current_exe().unwrap()).env(LIMITED, &folder).output().unwrap();
-    let (out, err) = (String::from_utf8_lossy(&out.stdout), String::from_utf8_lossy(&out.stderr));
-    assert!(out.contains("packets below the limit") && out.contains("test result: ok. 1 passed"), "{out}{err}");
+    let out = again("below_a_limit", 32, &folder);
+    assert!(out.contains("packets below the limit") && out.contains("test result: ok. 1 passed"), "{out}");
+    fs::remove_dir_all(folder).unwrap();
+}
+
+/// What `metadata_that_is_not_written_leaves_nothing` runs again.
+#[test]
+fn below_a_low_limit() {
+    let Some(folder) = env::var_os(LIMITED) else { return };
+    let folder = PathBuf::from(folder);
+    let (all, report) = written(&folder, Builder::new(), || info_span!("request").in_scope(|| error!("bad")));
+    // The path, and the end.
+    assert_eq!((all.paths.len(), report.failures), (1, 2), "{report:?}");
+    assert!(report.failure.as_deref().is_some_and(|why| why.contains("/metadata: ")), "{report:?}");
+    assert_eq!(fs::read_dir(&folder).unwrap().count(), 0);
+    println!("nothing below the limit");
+}
+
+/// Where `metadata` can't be written there is no packet either, and no other file stays.
+#[test]
+fn metadata_that_is_not_written_leaves_nothing() {
+    let folder = folder("nothing");
+    let out = again("below_a_low_limit", 2, &folder);
+    assert!(out.contains("nothing below the limit") && out.contains("test result: ok. 1 passed"), "{out}");
     fs::remove_dir_all(folder).unwrap();
 }
