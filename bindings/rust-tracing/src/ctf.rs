@@ -33,8 +33,8 @@ const MAGIC: u32 = 0xc1fc_1fc1;
 /// of the format's language, gets a `_` before it, which babeltrace2 takes away again from a field's name. It is cut behind 240 letters. Where a name is
 /// taken, by another class or another field of the same class, `_2`, `_3`, .. stands behind it.
 ///
-/// `metadata` is written whole, to another file that then gets its name, before a packet with a class that it hasn't yet: so the folder can be read while it
-/// is written to. A write that fails is cut back to the last whole packet.
+/// `metadata` is there from the beginning. It is written anew, to another file that then gets its name, before a packet with a class that it hasn't yet: so the
+/// folder can be read while it is written to. A write that fails is cut back to the last whole packet.
 #[derive(Debug)]
 pub struct Ctf {
     folder: PathBuf,
@@ -42,8 +42,8 @@ pub struct Ctf {
     /// When the clock began, in nanoseconds since 1970 began; none before the first path.
     offset: Option<i64>,
     classes: Classes,
-    /// How many bytes of the classes' text `metadata` has; none where there is no such file.
-    told: Option<usize>,
+    /// Of which clock `metadata` is, and how many bytes of the classes' text it has.
+    told: (Option<i64>, usize),
     rows: Vec<Row>,
     missed: u64,
     unwritten: u64,
@@ -68,7 +68,7 @@ impl Ctf {
     ///
     /// # Errors
     ///
-    /// There is something in the folder, or it can't be made or read, or the system has no random numbers.
+    /// There is something in the folder, or it can't be made, read or written to, or the system has no random numbers.
     pub fn create(folder: impl AsRef<FilePath>) -> io::Result<Ctf> {
         let folder = folder.as_ref();
         fs::create_dir_all(folder).map_err(|error| of(folder, &error))?;
@@ -76,25 +76,43 @@ impl Ctf {
             return Err(io::Error::new(io::ErrorKind::AlreadyExists, format!("{}: it isn't empty", folder.display())));
         }
         let folder = fs::canonicalize(folder).map_err(|error| of(folder, &error))?;
-        Ok(Ctf { folder, uuid: random()?, offset: None, classes: Classes::new(), told: None, rows: Vec::new(), missed: 0, unwritten: 0 })
+        let mut trace = Ctf {
+            folder,
+            uuid: random()?,
+            offset: None,
+            classes: Classes::new(),
+            told: (None, 0),
+            rows: Vec::new(),
+            missed: 0,
+            unwritten: 0,
+        };
+        // Whoever makes this file has the folder.
+        let place = trace.folder.join("metadata");
+        trace.tell_by(&place)?;
+        Ok(trace)
     }
 
-    /// Writes `metadata` where there are classes that it hasn't.
+    /// Writes `metadata` again where there is something that it hasn't.
     fn tell(&mut self) -> io::Result<()> {
-        let classes = self.classes.text();
-        if self.told == Some(classes.len()) {
+        if self.told == (self.offset, self.classes.text().len()) {
             return Ok(());
         }
+        let new = self.folder.join(".metadata");
+        self.tell_by(&new)
+    }
+
+    /// Writes `metadata` by a new file, which gets its name; none stays where that fails.
+    fn tell_by(&mut self, new: &FilePath) -> io::Result<()> {
+        let classes = self.classes.text();
         let text = head(self.uuid, self.offset.unwrap_or(0), &environment()) + classes;
-        let (place, new) = (self.folder.join("metadata"), self.folder.join(".metadata"));
-        let mut file = OpenOptions::new().write(true).create_new(true).open(&new).map_err(|error| of(&new, &error))?;
-        let written = file.write_all(text.as_bytes()).and_then(|()| fs::rename(&new, &place));
+        let mut file = OpenOptions::new().write(true).create_new(true).open(new).map_err(|error| of(new, &error))?;
+        let written = file.write_all(text.as_bytes()).and_then(|()| fs::rename(new, self.folder.join("metadata")));
         if let Err(error) = written {
             // Where it stays, the next such write is refused, and told.
-            let _ = fs::remove_file(&new);
-            return Err(of(&place, &error));
+            let _ = fs::remove_file(new);
+            return Err(of(new, &error));
         }
-        self.told = Some(classes.len());
+        self.told = (self.offset, classes.len());
         Ok(())
     }
 

@@ -437,6 +437,7 @@ fn a_folder_with_something_in_it_is_refused() {
     assert_eq!(refused.kind(), std::io::ErrorKind::AlreadyExists);
     assert_eq!(fs::read_to_string(folder.join("metadata")).unwrap(), trace.metadata);
     assert!(Ctf::create(folder.join("metadata")).is_err());
+    assert!(Ctf::create("").is_err());
     // Each trace has a uuid of its own.
     let second = folder.join("below/it");
     written(&second, Builder::new(), || ());
@@ -486,24 +487,55 @@ fn a_failed_write_leaves_whole_packets() {
     fs::remove_dir_all(folder).unwrap();
 }
 
-/// What `metadata_that_is_not_written_leaves_nothing` runs again.
+/// What `metadata_that_can_not_grow` runs again.
 #[test]
 fn below_a_low_limit() {
     let Some(folder) = env::var_os(LIMITED) else { return };
     let folder = PathBuf::from(folder);
-    let (all, report) = written(&folder, Builder::new(), || info_span!("request").in_scope(|| error!("bad")));
+    let (all, report) = written(&folder, Builder::new(), || {
+        let path = info_span!(
+            "a_span_whose_name_and_fields_are_long_so_that_its_classes_have_no_room_below_the_limit",
+            a_field_with_a_name_that_is_so_long_that_it_takes_some_of_the_room_there_is_below_the_limit_1 = 1u64,
+            a_field_with_a_name_that_is_so_long_that_it_takes_some_of_the_room_there_is_below_the_limit_2 = 2u64,
+            a_field_with_a_name_that_is_so_long_that_it_takes_some_of_the_room_there_is_below_the_limit_3 = 3u64,
+            a_field_with_a_name_that_is_so_long_that_it_takes_some_of_the_room_there_is_below_the_limit_4 = 4u64,
+            a_field_with_a_name_that_is_so_long_that_it_takes_some_of_the_room_there_is_below_the_limit_5 = 5u64,
+        );
+        path.in_scope(|| error!("bad"));
+    });
     // The path, and the end.
     assert_eq!((all.paths.len(), report.failures), (1, 2), "{report:?}");
-    assert!(report.failure.as_deref().is_some_and(|why| why.contains("/metadata: ")), "{report:?}");
-    assert_eq!(fs::read_dir(&folder).unwrap().count(), 0);
-    println!("nothing below the limit");
+    assert!(report.failure.as_deref().is_some_and(|why| why.contains("metadata: ")), "{report:?}");
+    assert_eq!(fs::read_dir(&folder).unwrap().count(), 1);
+    let trace = read(&folder);
+    assert_eq!((trace.files.len(), classes(&trace.metadata).len()), (0, 1));
+    println!("metadata alone");
 }
 
-/// Where `metadata` can't be written there is no packet either, and no other file stays.
+/// Where `metadata` can't be written anew it stays as it was, and there is no packet of a class that it hasn't.
 #[test]
-fn metadata_that_is_not_written_leaves_nothing() {
-    let folder = folder("nothing");
-    let out = again("below_a_low_limit", 2, &folder);
-    assert!(out.contains("nothing below the limit") && out.contains("test result: ok. 1 passed"), "{out}");
+fn metadata_that_can_not_grow() {
+    let folder = folder("low");
+    let out = again("below_a_low_limit", 6, &folder);
+    assert!(out.contains("metadata alone") && out.contains("test result: ok. 1 passed"), "{out}");
+    fs::remove_dir_all(folder).unwrap();
+}
+
+/// What `a_folder_that_has_no_room` runs again.
+#[test]
+fn below_the_lowest_limit() {
+    let Some(folder) = env::var_os(LIMITED) else { return };
+    let refused = Ctf::create(&folder).unwrap_err().to_string();
+    assert!(refused.contains("metadata: "), "{refused}");
+    assert_eq!(fs::read_dir(&folder).unwrap().count(), 0);
+    println!("nothing stays");
+}
+
+/// A trace that can't begin is refused at once, and leaves its folder empty.
+#[test]
+fn a_folder_that_has_no_room() {
+    let folder = folder("lowest");
+    let out = again("below_the_lowest_limit", 2, &folder);
+    assert!(out.contains("nothing stays") && out.contains("test result: ok. 1 passed"), "{out}");
     fs::remove_dir_all(folder).unwrap();
 }
