@@ -34,7 +34,7 @@ const MAGIC: u32 = 0xc1fc_1fc1;
 /// taken, by another class or another field of the same class, `_2`, `_3`, .. stands behind it.
 ///
 /// `metadata` is there from the beginning. It is written anew, to another file that then gets its name, before a packet with a class that it hasn't yet: so the
-/// folder can be read while it is written to. A write that fails is cut back to the last whole packet.
+/// folder is a whole trace behind each path. A write that fails is cut back to the last whole packet.
 #[derive(Debug)]
 pub struct Ctf {
     folder: PathBuf,
