@@ -229,6 +229,12 @@ fn same(events: &[&Event], path: &Path) {
         if line.kind != Kind::Close {
             assert_eq!(event.fields.iter().map(|field| field.1.clone()).collect::<Vec<_>>(), values(line), "{event:?}");
         }
+        let metadata = line.metadata.filter(|_| matches!(line.kind, Kind::Event | Kind::Open));
+        let called = metadata.map_or(String::new(), |metadata| match line.kind {
+            Kind::Event => format!("{}_{}_{}", metadata.target(), metadata.level(), metadata.line().unwrap()),
+            _ => format!("{}_begin", metadata.name()),
+        });
+        assert!(event.name.starts_with(&called), "{} isn't {called}", event.name);
         let parent = event.context.iter().find(|one| one.0 == "parent").map(|one| one.1.clone());
         assert_eq!(parent, (line.kind == Kind::Open).then_some(Value::U64(line.parent.into())));
     }
@@ -319,6 +325,7 @@ fn a_class_for_each_callsite_and_types() {
             path.in_scope(|| error!("bad"));
         }
         info_span!("turn").in_scope(|| error!("bad"));
+        info_span!("other").in_scope(|| error!("bad"));
     });
     let trace = read(&folder);
     for path in &all.paths {
@@ -424,6 +431,20 @@ fn a_span_without_its_begin() {
         fs::remove_dir_all(folder).unwrap();
     }
     assert!(found > 0);
+}
+
+/// A path of which no record had room is there, at its time.
+#[test]
+fn a_path_without_records() {
+    let folder = folder("records");
+    let (all, _) =
+        written(&folder, Builder::new().bytes_a_path(16).slow(std::time::Duration::ZERO), || info_span!("kept").in_scope(|| info!("well")));
+    let (trace, path) = (read(&folder), &all.paths[0]);
+    assert!(path.lines.is_empty() && path.cut > 0, "{path:?}");
+    let events = trace.of_path(path.id);
+    same(&events, path);
+    assert_eq!((events.len(), i128::from(events[0].stamp) + trace.offset), (1, i128::from(path.begun_unix)));
+    fs::remove_dir_all(folder).unwrap();
 }
 
 #[test]
