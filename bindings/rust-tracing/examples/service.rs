@@ -3,7 +3,8 @@
 //!
 //!     cargo run --example service -- FOLDER
 //!
-//! FOLDER gets `kept.txt`, `kept.json` (ui.perfetto.dev opens it) and `kept.otlp.jsonl` (an OpenTelemetry Collector reads it).
+//! FOLDER gets `kept.txt`, `kept.json` (ui.perfetto.dev opens it), `kept.otlp.jsonl` (an OpenTelemetry Collector reads it) and a folder `kept.ctf`, which
+//! has to be new (`babeltrace2 FOLDER/kept.ctf` prints it).
 
 use std::env;
 use std::error::Error;
@@ -15,7 +16,7 @@ use std::sync::mpsc::{channel, Receiver, Sender};
 use std::thread;
 use std::time::Duration;
 use tracing::{debug, debug_span, error, field, info, info_span, trace, Span};
-use tracing_dspec::{Builder, Chrome, Otlp, Text};
+use tracing_dspec::{Builder, Chrome, Ctf, Otlp, Text};
 use tracing_subscriber::prelude::*;
 
 const CLIENTS: u64 = 4;
@@ -104,6 +105,7 @@ fn main() -> Result<(), Box<dyn Error>> {
         Text::new(created(&folder, "kept.txt")?),
         Chrome::new(created(&folder, "kept.json")?),
         Otlp::new(created(&folder, "kept.otlp.jsonl")?, "orders"),
+        Ctf::create(folder.join("kept.ctf"))?,
     );
     let (layer, guard) = Builder::new().slow(Duration::from_secs(5)).build(sinks)?;
     tracing::subscriber::set_global_default(tracing_subscriber::registry().with(layer))?;

@@ -1,0 +1,315 @@
+use crate::sink::{Kind, Line, Missed, Path, Sink, Span, Value};
+use crate::tsdl::{head, quoted, Classes, Event, PATH};
+use std::fs::{self, File, OpenOptions};
+use std::io::{self, Read, Write};
+use std::path::{Path as FilePath, PathBuf};
+
+/// How many files there are at most whose times overlap. Each is held open.
+const FILES: usize = 64;
+
+const MAGIC: u32 = 0xc1fc_1fc1;
+
+/// Writes a folder of the Common Trace Format, version 1.8, which babeltrace2 and Trace Compass open. By time: a stamp is in nanoseconds, and readers
+/// tell it as the time of day.
+///
+/// The folder has a text `metadata` and files `stream_0`, `stream_1`, .. The packets of a file rise in time, and a path is one packet. So a path goes
+/// to the file whose last stamp is the greatest not above the path's first; where there is none, to a new file. 64 paths that overlap have files; one
+/// more is not written, which is a failure of [`Sink::path`].
+///
+/// Each event has the path's number, its span and its lane as its context. A path is, in order:
+///
+/// - `dspec_path`, with the path's name, why it was kept, how long it took, its records without room ([`Path::cut`], [`Path::lost`]), and what isn't there
+///   of the time since the path before: how many paths were `missed`, and how many are `unwritten` since a write failed. The records without room are
+///   the packet's discarded events too, of which readers warn.
+/// - Events, called by target, level and line: `service_ERROR_30`, with their fields.
+/// - A span's begin, with the fields that it began with, and the number of the span around it: `query_begin`.
+/// - Values that it was given later: `query_set`. Where a thread went into it, and left it: `query_enter`, `query_exit`.
+/// - A span's end, with all its fields: `query_end`. Those of a span of which the begin was cut are `unknown_set`, `unknown_end`, ..
+///
+/// Fields are what they are: integers of 64 bits with and without a sign, truth values, floating-point numbers, and texts in UTF-8. The letter of
+/// code 0 ends a text there, so U+2400 is written for it. Each pair of a callsite and its fields' types is a class of its own.
+///
+/// Of a name each letter but A to Z, a to z, digits and `_` becomes `_`: `log.target` is `log_target`. What then begins with a digit or with `_`, or is a word
+/// of the format's language, gets a `_` before it, which babeltrace2 takes away again from a field's name. It is cut behind 240 letters. Where a name is
+/// taken, by another class or another field of the same class, `_2`, `_3`, .. stands behind it.
+///
+/// `metadata` is there from the beginning. It is written anew, to another file that then gets its name, before a packet with a class that it hasn't yet: so the
+/// folder is a whole trace behind each path. A write that fails is cut back to the last whole packet.
+#[derive(Debug)]
+pub struct Ctf {
+    folder: PathBuf,
+    uuid: [u8; 16],
+    /// When the clock began, in nanoseconds since 1970 began; none before the first path.
+    offset: Option<i64>,
+    classes: Classes,
+    /// Of which clock `metadata` is, and how many bytes of the classes' text it has.
+    told: (Option<i64>, usize),
+    rows: Vec<Row>,
+    missed: u64,
+    unwritten: u64,
+}
+
+/// A file of which the times rise.
+#[derive(Debug)]
+struct Row {
+    file: File,
+    place: PathBuf,
+    /// Bytes of whole packets.
+    length: u64,
+    /// Whether there may be more bytes than that.
+    torn: bool,
+    /// The last stamp.
+    last: u64,
+    discarded: u64,
+}
+
+impl Ctf {
+    /// A trace in a folder, which is made where it isn't there.
+    ///
+    /// # Errors
+    ///
+    /// There is something in the folder, or it can't be made, read or written to, or the system has no random numbers.
+    pub fn create(folder: impl AsRef<FilePath>) -> io::Result<Ctf> {
+        let folder = folder.as_ref();
+        fs::create_dir_all(folder).map_err(|error| of(folder, &error))?;
+        if fs::read_dir(folder).map_err(|error| of(folder, &error))?.next().is_some() {
+            return Err(io::Error::new(io::ErrorKind::AlreadyExists, format!("{}: it isn't empty", folder.display())));
+        }
+        let folder = fs::canonicalize(folder).map_err(|error| of(folder, &error))?;
+        let mut trace = Ctf {
+            folder,
+            uuid: random()?,
+            offset: None,
+            classes: Classes::new(),
+            told: (None, 0),
+            rows: Vec::new(),
+            missed: 0,
+            unwritten: 0,
+        };
+        // Whoever makes this file has the folder.
+        let place = trace.folder.join("metadata");
+        trace.tell_by(&place)?;
+        Ok(trace)
+    }
+
+    /// Writes `metadata` again where there is something that it hasn't.
+    fn tell(&mut self) -> io::Result<()> {
+        if self.told == (self.offset, self.classes.text().len()) {
+            return Ok(());
+        }
+        let new = self.folder.join(".metadata");
+        self.tell_by(&new)
+    }
+
+    /// Writes `metadata` by a new file, which gets its name; none stays where that fails.
+    fn tell_by(&mut self, new: &FilePath) -> io::Result<()> {
+        let classes = self.classes.text();
+        let text = head(self.uuid, self.offset.unwrap_or(0), &environment()) + classes;
+        let mut file = OpenOptions::new().write(true).create_new(true).open(new).map_err(|error| of(new, &error))?;
+        let written = file.write_all(text.as_bytes()).and_then(|()| fs::rename(new, self.folder.join("metadata")));
+        if let Err(error) = written {
+            // Where it stays, the next such write is refused, and told.
+            let _ = fs::remove_file(new);
+            return Err(of(new, &error));
+        }
+        self.told = (self.offset, classes.len());
+        Ok(())
+    }
+
+    /// The row for a path that begins then.
+    fn row(&mut self, first: u64) -> io::Result<usize> {
+        let before = self.rows.iter().enumerate().filter(|(_, row)| row.last <= first);
+        if let Some((at, _)) = before.max_by_key(|(_, row)| row.last) {
+            return Ok(at);
+        }
+        let number = self.rows.len();
+        if number == FILES {
+            return Err(io::Error::other(format!("{}: each of its {FILES} files has a later time", self.folder.display())));
+        }
+        let place = self.folder.join(format!("stream_{number}"));
+        let file = OpenOptions::new().append(true).create_new(true).open(&place).map_err(|error| of(&place, &error))?;
+        self.rows.push(Row { file, place, length: 0, torn: false, last: 0, discarded: 0 });
+        Ok(number)
+    }
+
+    fn write(&mut self, path: &Path) -> io::Result<()> {
+        let events = events(path);
+        let first = events.first().map_or(path.begun, |event| event.stamp.min(path.begun));
+        let last = events.last().map_or(first, |event| event.stamp.max(first));
+        self.offset.get_or_insert(path.begun_unix.wrapping_sub(path.begun).cast_signed());
+        let mut bytes = Vec::new();
+        self.put_path(&mut bytes, path, first);
+        for event in &events {
+            let number = self.classes.number(event);
+            put_event(&mut bytes, path, number, event);
+        }
+        self.tell()?;
+        let uuid = self.uuid;
+        let row = self.row(first)?;
+        let row = &mut self.rows[row];
+        let discarded = row.discarded + path.cut + path.lost;
+        row.append(&packet(uuid, first, last, discarded, &bytes)).map_err(|error| of(&row.place, &error))?;
+        row.last = last;
+        row.discarded = discarded;
+        Ok(())
+    }
+
+    fn put_path(&self, bytes: &mut Vec<u8>, path: &Path, stamp: u64) {
+        put_header(bytes, path, PATH, stamp, 1, 0);
+        put_text(bytes, path.name());
+        put_text(bytes, &path.why.to_string());
+        for count in [path.nanoseconds, path.cut, path.lost, self.missed, self.unwritten] {
+            bytes.extend(count.to_le_bytes());
+        }
+    }
+}
+
+impl Sink for Ctf {
+    fn path(&mut self, path: &Path) -> io::Result<()> {
+        let answer = self.write(path);
+        if answer.is_ok() {
+            self.missed = 0;
+            self.unwritten = 0;
+        } else {
+            self.unwritten += 1;
+        }
+        answer
+    }
+
+    fn missed(&mut self, _: &Missed) -> io::Result<()> {
+        self.missed += 1;
+        Ok(())
+    }
+
+    fn end(&mut self) -> io::Result<()> {
+        self.tell()
+    }
+}
+
+impl Row {
+    /// Writes a packet, whole or not at all.
+    fn append(&mut self, packet: &[u8]) -> io::Result<()> {
+        if self.torn {
+            self.cut_back()?;
+        }
+        if let Err(error) = self.file.write_all(packet) {
+            self.torn = true;
+            return match self.cut_back() {
+                Ok(()) => Err(error),
+                Err(stays) => Err(io::Error::new(error.kind(), format!("{error}; and a part of a packet stays: {stays}"))),
+            };
+        }
+        self.length += packet.len() as u64;
+        Ok(())
+    }
+
+    fn cut_back(&mut self) -> io::Result<()> {
+        self.file.set_len(self.length)?;
+        self.torn = false;
+        Ok(())
+    }
+}
+
+/// A failure, with the file that it is of.
+fn of(place: &FilePath, error: &io::Error) -> io::Error {
+    io::Error::new(error.kind(), format!("{}: {error}", place.display()))
+}
+
+/// A random uuid, of version 4.
+fn random() -> io::Result<[u8; 16]> {
+    let place = FilePath::new("/dev/urandom");
+    let mut uuid = [0; 16];
+    File::open(place).and_then(|mut file| file.read_exact(&mut uuid)).map_err(|error| of(place, &error))?;
+    uuid[6] = uuid[6] & 0x0f | 0x40;
+    uuid[8] = uuid[8] & 0x3f | 0x80;
+    Ok(uuid)
+}
+
+/// What is told of the process, as far as the system tells it.
+fn environment() -> Vec<(&'static str, String)> {
+    let mut env = Vec::new();
+    if let Ok(name) = fs::read_to_string("/proc/sys/kernel/hostname") {
+        env.push(("hostname", quoted(name.trim())));
+    }
+    if let Some(name) = std::env::current_exe().ok().as_deref().and_then(FilePath::file_name) {
+        env.push(("procname", quoted(&name.to_string_lossy())));
+    }
+    env.push(("vpid", std::process::id().to_string()));
+    env.push(("tracer_name", quoted("sidingyarrow")));
+    env.push(("tracer_major", env!("CARGO_PKG_VERSION_MAJOR").to_owned()));
+    env.push(("tracer_minor", env!("CARGO_PKG_VERSION_MINOR").to_owned()));
+    env
+}
+
+/// What a path is written as, in the order of the stamps.
+fn events(path: &Path) -> Vec<Event<'_>> {
+    let spans = path.spans();
+    let mut events: Vec<_> = path.lines.iter().map(|line| event(line, &spans)).collect();
+    events.sort_by_key(|event| event.stamp);
+    events
+}
+
+fn event<'p>(line: &'p Line, spans: &[Span<'p>]) -> Event<'p> {
+    let Line { kind, stamp, lane, span, parent, .. } = *line;
+    let own = || spans.binary_search_by_key(&span, |one| one.number).ok().map(|at| &spans[at]);
+    let values = match (kind, own()) {
+        (Kind::Close, Some(own)) => last_of_each(&own.values),
+        _ => line.values.iter().map(|(name, value)| (*name, value)).collect(),
+    };
+    // An event beyond the callsites that are known isn't of its span's.
+    let metadata = if kind == Kind::Event { line.metadata } else { line.metadata.or_else(|| own()?.metadata) };
+    let left_out = u32::try_from(line.left_out()).unwrap_or(u32::MAX);
+    Event { kind, stamp, lane, span, parent, metadata, values, left_out }
+}
+
+/// The values whose name no later one has.
+fn last_of_each<'p>(values: &[(&'static str, &'p Value)]) -> Vec<(&'static str, &'p Value)> {
+    let alone = |(at, value): &(usize, &(&str, &Value))| values[at + 1..].iter().all(|later| later.0 != value.0);
+    values.iter().enumerate().filter(alone).map(|(_, value)| *value).collect()
+}
+
+fn packet(uuid: [u8; 16], first: u64, last: u64, discarded: u64, events: &[u8]) -> Vec<u8> {
+    const FRONT: usize = 4 + 16 + 4 + 5 * 8;
+    let mut bytes = Vec::with_capacity(FRONT + events.len());
+    bytes.extend(MAGIC.to_le_bytes());
+    bytes.extend(uuid);
+    bytes.extend(0u32.to_le_bytes());
+    let bits = 8 * (FRONT + events.len()) as u64;
+    for word in [first, last, bits, bits, discarded] {
+        bytes.extend(word.to_le_bytes());
+    }
+    bytes.extend(events);
+    bytes
+}
+
+fn put_header(bytes: &mut Vec<u8>, path: &Path, class: u32, stamp: u64, span: u32, lane: u32) {
+    bytes.extend(class.to_le_bytes());
+    bytes.extend(stamp.to_le_bytes());
+    bytes.extend(path.id.to_le_bytes());
+    bytes.extend(span.to_le_bytes());
+    bytes.extend(lane.to_le_bytes());
+}
+
+fn put_event(bytes: &mut Vec<u8>, path: &Path, class: u32, event: &Event<'_>) {
+    put_header(bytes, path, class, event.stamp, event.span, event.lane);
+    if event.kind == Kind::Open {
+        bytes.extend(event.parent.to_le_bytes());
+    }
+    if event.left_out > 0 {
+        bytes.extend(event.left_out.to_le_bytes());
+    }
+    for (_, value) in &event.values {
+        match value {
+            Value::U64(value) => bytes.extend(value.to_le_bytes()),
+            Value::I64(value) => bytes.extend(value.to_le_bytes()),
+            Value::Bool(value) => bytes.push(u8::from(*value)),
+            Value::F64(value) => bytes.extend(value.to_le_bytes()),
+            Value::Text(..) => put_text(bytes, &value.to_string()),
+        }
+    }
+}
+
+fn put_text(bytes: &mut Vec<u8>, text: &str) {
+    bytes.extend(text.replace('\0', "\u{2400}").into_bytes());
+    bytes.push(0);
+}
