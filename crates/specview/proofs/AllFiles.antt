@@ -119,4 +119,6 @@ pub form_told : (form : Form) (e : EnabledRows) (rss : List (List Record)) (f : 
 form_told form e rss metadata_fault.NoStamp told why is = subst (IsPlayTraceFault form e rss) (sym is) (⊎_elim (λ q. cc) (λ q. q) why)
 form_told form e rss metadata_fault.NoFrequency told why is = subst (IsPlayTraceFault form e rss) (sym is) (⊎_elim (λ q. cc) (λ q. q) why)
 form_told form e rss (metadata_fault.Name fault) told why is = subst (IsPlayTraceFault form e rss) (sym is) tt
+form_told form e rss metadata_fault.HostName told why is = subst (IsPlayTraceFault form e rss) (sym is) tt
+form_told form e rss metadata_fault.ProcessName told why is = subst (IsPlayTraceFault form e rss) (sym is) tt
 form_told form e rss metadata_fault.Memory told why is = subst (IsPlayTraceFault form e rss) (sym is) tt
