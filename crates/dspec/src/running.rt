@@ -1,5 +1,7 @@
-ghost use Rattle.std.specs.Prelude.{◌≡◌, ◌<◌, ℕ, [], ◌∷◌, IfOk, length, slice_get, Some};
+ghost use Rattle.std.specs.Prelude.{◌≡◌, ◌≢◌, ◌<◌, ℕ, [], ◌∷◌, IfErr, IfOk, length, None, slice_get, Some};
 ghost use denote.Param.Send.{IsSync};
+ghost use Rattle.dspec_deeds.specs.declared.config.StartFault.TheVariants as start;
+ghost use Rattle.dspec_deeds.specs.Ranges.{start_fault};
 ghost use Rattle.dspec_cpu.specs.Called.{called};
 ghost use Rattle.dspec_cpu.specs.Lists.{number_in, schema_of, words_of};
 ghost use Rattle.dspec_cpu.specs.Standing.{IsCallable, identity};
@@ -199,6 +201,9 @@ pub fn trace<R: Threads + Sync, W: Work<Enablings>, K: Sink<Enablings>>(
     work: &W,
     sink: K,
 ) -> Result<(Closed, K), StartFault>
+    ensures started { IfOk result (λ _. start_fault config.now ≡ None) }
+    ensures refused { IfErr result (λ fault. fault ≢ start.Memory → start_fault config.now ≡ Some fault) }
+    ensures memory { IfErr result (λ fault. fault ≡ start.Memory → start_fault config.now ≡ None) }
     ensures all { IfOk result (λ r. length r.0 ≡ config.now.cpus) }
     ensures traced { IfOk result (λ r. IsTraced (K.gets schema) (W.does schema work.now) (⟦<Enablings as Schema>⟧.shape_of schema)
         (⟦<Enablings as Schema>⟧.accepted schema) (⟦<Enablings as Schema>⟧.text schema) config.now sink r.0 r.1) }

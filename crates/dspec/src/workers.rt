@@ -1,5 +1,7 @@
-ghost use Rattle.std.specs.Prelude.{◌≡◌, ◌≤◌, ◌<◌, ◌∷◌, ℕ, [], IfOk, length, map, vec_capacity, vec_len};
+ghost use Rattle.std.specs.Prelude.{◌≡◌, ◌≢◌, ◌≤◌, ◌<◌, ◌∷◌, ℕ, [], IfErr, IfOk, length, map, None, Some, vec_capacity, vec_len};
 ghost use denote.Param.Send.{IsSync};
+ghost use Rattle.dspec_deeds.specs.declared.config.StartFault.TheVariants as start;
+ghost use Rattle.dspec_deeds.specs.Ranges.{start_fault};
 ghost use Rattle.dspec_cpu.specs.Called.{called};
 ghost use Rattle.dspec_cpu.specs.Lists.{number_in, schema_of, words_of};
 ghost use Rattle.dspec_cpu.specs.Standing.{IsCallable, identity};
@@ -184,6 +186,9 @@ pub fn trace_workers<R: Threads + Sync, W: Worker<Enablings>, K: Sink<Enablings>
     workers: Vec<W>,
     sink: K,
 ) -> Result<(Closed, Vec<W>, K), StartFault>
+    ensures started { IfOk result (λ _. start_fault (with_cpus (length workers.items) config.now) ≡ None) }
+    ensures refused { IfErr result (λ fault. fault ≢ start.Memory → start_fault (with_cpus (length workers.items) config.now) ≡ Some fault) }
+    ensures memory { IfErr result (λ fault. fault ≡ start.Memory → start_fault (with_cpus (length workers.items) config.now) ≡ None) }
     ensures all { IfOk result (λ r. (length r.0 ≡ length workers.items) × (length r.1.items ≡ length workers.items)) }
     ensures traced { IfOk result (λ r. IsTraced (K.gets schema) (WorkedBy (W.does schema) workers.items r.1.items) (⟦<Enablings as Schema>⟧.shape_of schema)
         (⟦<Enablings as Schema>⟧.accepted schema) (⟦<Enablings as Schema>⟧.text schema) (with_cpus (length workers.items) config.now) sink r.0 r.2) }

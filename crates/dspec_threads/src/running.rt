@@ -1,4 +1,6 @@
-ghost use Rattle.std.specs.Prelude.{◌≡◌, ◌<◌, ◌≤◌, ℕ, [], IfErr, IfOk, IsTrue, ◌↔◌, length, map, slice_get, Some, All};
+ghost use Rattle.std.specs.Prelude.{◌≡◌, ◌≢◌, ◌<◌, ◌≤◌, ℕ, [], IfErr, IfOk, IsTrue, ◌↔◌, length, map, None, slice_get, Some, All};
+ghost use Rattle.dspec_deeds.specs.declared.config.StartFault.TheVariants as start;
+ghost use Rattle.dspec_deeds.specs.Ranges.{start_fault};
 ghost use Rattle.dspec_record.specs.EnablingRows.{EnabledRows};
 ghost use Rattle.dspec_ring.specs.Known.{IsUnusedConsumer};
 ghost use Rattle.dspec_table.specs.Seats.{last_seat, set_up};
@@ -98,6 +100,9 @@ impl<D: Duty, K: Sink<Enablings>> Running<D, K> {
         schema: Enablings,
         sink: K,
     ) -> Result<(Running<D, K>, Vec<OwnedLane<D>>), StartFault>
+        ensures started { IfOk result (λ _. start_fault config.now ≡ None) }
+        ensures refused { IfErr result (λ fault. fault ≢ start.Memory → start_fault config.now ≡ Some fault) }
+        ensures memory { IfErr result (λ fault. fault ≡ start.Memory → start_fault config.now ≡ None) }
         ensures running { IfOk result (λ r. BeginsRun config.now schema sink r.0) }
         ensures lanes { IfOk result (λ r. AreNew config.now.cpus schema r.1.items) }
     {
