@@ -1,5 +1,5 @@
 -- CPUs that are paired with workers, what those did, and both apart again.
-use Rattle.std.proofs.Common.{◌≡◌, ℕ, zero, suc, ◌<◌, List, [], ◌∷◌, ◌++◌, length, map, take, drop, append_assoc, append-nil, Some, refl, sym, ap, ◌∙◌, subst, get_or, arith}
+use Rattle.std.proofs.Common.{◌≡◌, ℕ, zero, suc, ◌<◌, List, [], ◌∷◌, ◌++◌, length, map, take, drop, append_assoc, Some, refl, sym, ap, ◌∙◌, subst, get_or, arith}
 use Rattle.std.specs.Prelude.{slice_get}
 use Rattle.std.specs.Option.{option_map}
 use Rattle.std.proofs.lemmas.List.{length-map, map_push}
@@ -10,12 +10,12 @@ use Rattle.dspec_record.specs.EnablingRows.{EnabledRows}
 use Rattle.dspec_cpu.specs.declared.cpu.Cpu.{Cpu}
 use Rattle.dspec_cpu.specs.declared.shared.Shared.{Shared}
 use Rattle.dspec_cpu.specs.Called.{CallsMade, called}
-use Rattle.dspec_cpu.specs.Lists.{number_in, schema_of, words_of}
-use Rattle.dspec_cpu.specs.Standing.{IsCallable, identity}
+use Rattle.dspec_cpu.specs.Lists.{number_in, schema_of}
+use Rattle.dspec_cpu.specs.Standing.{IsCallable}
 use Rattle.dspec_consumer.specs.declared.session.Session.{Session}
 use Rattle.dspec_consumer.specs.Sessions.{IsSession}
 use Rattle.dspec.specs.Lent.{AllCallable, AllReturned, Returned}
-use Rattle.dspec.specs.Workers.{AllNumbered, AllWorked, WorkedBy, WorkedOne, cpus_of, workers_of}
+use Rattle.dspec.specs.Workers.{AllNumbered, AllWorked, WorkedBy, cpus_of, workers_of}
 use Rattle.dspec.specs.declared.workers.Working.{Working}
 
 -- the first element, and what is left when it is removed

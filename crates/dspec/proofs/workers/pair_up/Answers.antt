@@ -1,5 +1,4 @@
-use Rattle.std.proofs.Common.{◌≡◌, ◌++◌, List, [], length, ap, ◌∙◌, append-nil, refl, sym, subst, arith}
-use Rattle.std.specs.Prelude.{vec_capacity}
+use Rattle.std.proofs.Common.{◌++◌, length, ap, ◌∙◌, refl, arith}
 use Rattle.dspec.specs.Workers.{cpus_of, workers_of}
 use Rattle.dspec.specs.declared.workers.Working.{Working}
 use Rattle.dspec.proofs.Working.{moved_in}

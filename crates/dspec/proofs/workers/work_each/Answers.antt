@@ -1,8 +1,8 @@
-use Rattle.std.proofs.Common.{◌≡◌, List, length, sym, ap, ◌∙◌, subst, rules}
+use Rattle.std.proofs.Common.{List, length, sym, ap, ◌∙◌, subst, rules}
 use Rattle.dspec_cpu.specs.declared.cpu.Cpu.{Cpu}
 use Rattle.dspec_record.specs.EnablingRows.{EnabledRows}
 use Rattle.dspec.specs.Lent.{AllCallable, AllReturned}
-use Rattle.dspec.specs.Workers.{AllNumbered, AllWorked, WorkedBy, cpus_of, workers_of}
+use Rattle.dspec.specs.Workers.{AllNumbered, WorkedBy, cpus_of, workers_of}
 use Rattle.dspec.proofs.Working.{pairs_returned, workers_all}
 use Rattle.dspec.proofs.workers.work_each.Goals as goal
 
