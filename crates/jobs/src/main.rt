@@ -30,9 +30,8 @@ fn main(rt: HostRuntime) -> Result<()> {
     }
     println!(rt; "kept: begun {begun}, staged {staged}")?;
     for (cpu, worker) in closed_cpus(&closed).zip(workers) {
-        let (number, done, report) = (cpu.number, worker.done, cpu.report);
-        let (offered, held) = (report.offered, report.held);
-        println!(rt; "cpu {number}: {done} jobs, {offered} records offered, {held} held")?;
+        let (number, done, held) = (cpu.number, worker.done, cpu.report.held);
+        println!(rt; "cpu {number}: {done} jobs, {held} records held")?;
     }
     Ok(())
 }

@@ -48,15 +48,18 @@ impl Stage {
     fn begin(&mut self, lane: &mut Lane<'_, Enablings>, job: u32) -> Option<Path>
         ensures { place_of lane.new ≡ place_of lane.old }
     {
-        let begun = self.probes.begun.on(lane).ok()?;
-        let staged = self.probes.staged.on(lane).ok()?;
+        let (Ok(begun), Ok(staged)) = (self.probes.begun.on(lane), self.probes.staged.on(lane))
+        else {
+            return None;
+        };
         let Some(belt) = &mut self.from else {
             let path = open_within(lane, LOOKS);
             begun.step(lane, &path, 0, (job,));
             return Some(path);
         };
         let path = belt.take_within(lane, LOOKS)?;
-        staged.step(lane, &path, 0, (job, lane.number()));
+        let stage = lane.number();
+        staged.step(lane, &path, 0, (job, stage));
         Some(path)
     }
 

@@ -56,13 +56,14 @@ fn main(rt: HostRuntime) -> Result<()> {
     }
     let (config, sink) = (Config::of(3, 4, 65536, 512), Both { first, second });
     let (closed, workers, sink) = trace_workers(&rt, alloc, &config, schema, workers, sink)?;
-    if let Some(folder) = sink.first {
+    let Both { first, second } = sink;
+    if let Some(folder) = first {
         folder.finish()?;
     }
     for (cpu, worker) in closed_cpus(&closed).zip(workers) {
         let (number, failed, offered) = (cpu.number, worker.failed, cpu.report.offered);
         println!(rt; "cpu {number}: {failed} requests failed, {offered} records offered")?;
     }
-    println!(rt; "{} missing keys were told", sink.second.missing)?;
+    println!(rt; "{} missing keys were told", second.missing)?;
     Ok(())
 }
