@@ -4,7 +4,7 @@ use Rattle.dspec_cpu.specs.Lists.{HasList}
 use Rattle.dspec.specs.Lanes.{place_of}
 use Rattle.dspec_belt.specs.Belts.{taken_by, taken_off}
 use Rattle.dspec_belt.specs.Waits.{ServesTimes}
-use Rattle.dspec_belt.proofs.waiting.Taker.take_within.Given as goal
+use Rattle.dspec_belt.proofs.ends.Taker.take_within.Given as goal
 
 abbrev pub invariant-loop : goal.invariant-loop
 invariant-loop g l = record {
