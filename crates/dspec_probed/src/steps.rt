@@ -1,4 +1,4 @@
-ghost use Rattle.std.specs.Prelude.{◌≡◌, if◌then◌else◌};
+ghost use Rattle.std.specs.Prelude.{◌≡◌, ◌↔◌, if◌then◌else◌, IsSome, MatchOption};
 ghost use Rattle.dspec_probe.specs.Probes.{IsProbeOf, probed_record};
 ghost use Rattle.dspec_promise.specs.Promise.{commit, discard};
 ghost use Rattle.dspec_cpu.specs.Lists.{schema_of};
@@ -41,6 +41,21 @@ impl<'l, 'a, C: Clock> Steps<'l, 'a, C> {
     {
         let stamp = self.clock.stamp();
         probe.offer(self.lane, self.path.id(), stamp, values)
+    }
+
+    /// As `step`, of a probe of which nothing is known: it asks `Recording::on` each time. None, and nothing was done, where the lane's
+    /// schema doesn't have the probe.
+    #[inline]
+    pub fn try_step<F: Fields>(&mut self, probe: Probe<F>, values: F) -> Option<Spoken>
+        ensures due { IsSome result ↔ IsProbeOf F.fields_are probe (schema_of self.old.lane.now.cpu.now) }
+        ensures same { walk_of self.new ≡ walk_of self.old }
+        ensures does { MatchOption result (self.new.lane.now ≡ self.old.lane.now) (λ spoken. StampedOn ⟦<Cpu<Enablings> as Listed>⟧.has_list
+            (C.stamps self.old.clock.now) self.old.path.id (λ stamp. probed_record probe stamp (F.numbers_of values)) spoken self.old.lane.now self.new.lane.now) }
+    {
+        let Ok(probe) = probe.on(self.lane) else {
+            return None;
+        };
+        Some(self.step(probe, values))
     }
 
     /// Ends the path: it is kept where that is asked, and thrown away otherwise.

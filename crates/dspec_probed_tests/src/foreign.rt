@@ -1,8 +1,18 @@
 //! Probes that a lane's schema doesn't have.
 use crate::same::same;
-use dspec::{Config, Enablings, Kept, Lane, Work, trace};
-use dspec_probed::{ForeignProbe, Probe, Probes, Recording};
+use dspec::{Config, Enablings, Kept, Lane, Rec, Spoken, Work, trace};
+use dspec_probed::{Clock, ForeignProbe, Probe, Probes, Recording, Steps};
 use std::test::Fail;
+
+/// A clock that stands.
+#[derive(Drop)]
+struct Noon;
+
+impl Clock for Noon {
+    fn stamp(&self) -> u64 {
+        12
+    }
+}
 
 /// A probe of this program, and one of another.
 #[derive(Drop)]
@@ -23,6 +33,23 @@ impl Work<Enablings> for Mixed {
     }
 }
 
+/// Tries each probe in a path.
+#[derive(Drop)]
+struct Tries {
+    mixed: Mixed,
+}
+
+impl Work<Enablings> for Tries {
+    fn work(&self, lane: &mut Lane<'_, Enablings>) {
+        let path = lane.path().hand();
+        let clock = &Noon;
+        let mut steps = Steps { lane, clock, path };
+        let foreign = steps.try_step(self.mixed.foreign, (1, 1));
+        let own = steps.try_step(self.mixed.own, (2, 2));
+        steps.end(foreign.is_none() && own == Some(Spoken::Kept));
+    }
+}
+
 #[test]
 fn foreign_probes(rt: HostRuntime) -> Result<(), Fail> {
     let mut probes = Probes::new(rt.alloc());
@@ -40,5 +67,23 @@ fn foreign_probes(rt: HostRuntime) -> Result<(), Fail> {
     }
     let text = format!(in rt.alloc(); "{ForeignProbe}")?;
     same(&rt, text.as_str(), "the schema doesn't have the probe");
+    Ok(())
+}
+
+#[test]
+fn foreign_probes_in_paths(rt: HostRuntime) -> Result<(), Fail> {
+    let mut probes = Probes::new(rt.alloc());
+    let own: Probe<(u64, u32)> = probes.probe("own", &["a", "b"])?;
+    let mut others = Probes::new(rt.alloc());
+    let foreign: Probe<(u64, u16)> = others.probe("foreign", &["a", "b"])?;
+    let mixed = Mixed { own, foreign };
+    let config = Config::of(1, 2, 256, 128);
+    let (kept, work) = (Kept::new(rt.alloc()), Tries { mixed });
+    let (_closed, kept) = trace(&rt, rt.alloc(), &config, probes.enablings(), &work, kept)?;
+    let records = kept.records()?;
+    let [only] = records.as_slice() else {
+        return Err(Fail::from("one record"));
+    };
+    assert!(rt; Some(*only) == Rec::stamped(1, 12, &[2, 2]));
     Ok(())
 }

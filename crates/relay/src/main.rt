@@ -11,16 +11,15 @@
 #![tactic(auto)]
 
 mod belt;
-mod clock;
 mod deciding;
 mod probes;
 mod serving;
 
 use anyhow::{Result, ensure};
 use belt::{Belt, REQUESTS};
-use clock::SystemClock;
 use deciding::Decider;
 use dspec::{Both, Closed, Config, Kept, Rec, closed_cpus, trace};
+use dspec_clock::SystemClock;
 use dspec_probed::Probes;
 use dspec_verdicts::{Anything, board};
 use probes::RequestProbes;

@@ -2,9 +2,9 @@ ghost use Rattle.std.specs.Prelude.{◌≡◌};
 ghost use Rattle.dspec.specs.Lanes.{place_of};
 
 use crate::belt::{Belt, REQUESTS};
-use crate::clock::SystemClock;
 use crate::probes::RequestProbes;
 use dspec::{Enablings, Handed, Lane, Opening, Path, Work};
+use dspec_clock::SystemClock;
 use dspec_probed::{Clock, Recording, Steps};
 use dspec_verdicts::{Anything, Verdicts};
 use std::sync::atomic::{AtomicU64, Ordering};

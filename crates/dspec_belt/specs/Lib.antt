@@ -1,0 +1,2 @@
+pub mod Belts
+pub mod Waits

@@ -1,0 +1,7 @@
+//! Tests of `dspec_belt` and `dspec_clock`.
+#![tactic(auto)]
+
+#[cfg(test)]
+mod belts;
+#[cfg(test)]
+mod clocks;

@@ -1,0 +1,69 @@
+//! `kv [--ctf FOLDER]` is a key-value store. Three workers serve requests on one table, and stamp what they do by the system's clock. The
+//! paths of failed and of slow requests are kept: a sink tells them while the workers run, and with `--ctf` they are written as a trace.
+#![tactic(auto)]
+
+mod live;
+mod probes;
+mod serving;
+
+use anyhow::{Result, bail};
+use dspec::{Both, Config, closed_cpus, trace_workers};
+use dspec_clock::SystemClock;
+use dspec_probed::Probes;
+use dspec_trace::{Identity, Names, SystemFolder, TraceFolder};
+use live::Live;
+use probes::StoreProbes;
+use serving::Server;
+use std::env;
+use std::sync::atomic::AtomicU64;
+
+type Trace<'a> = TraceFolder<SystemFolder<'a>>;
+
+/// A trace of this process, with the names of these probes, if the command line asks for one.
+fn trace_asked<'a>(rt: &'a HostRuntime, probes: &Probes<'_>) -> Result<Option<Trace<'a>>> {
+    let mut words = env::args(rt)?.skip(1);
+    let folder = match (words.next(), words.next(), words.next()) {
+        (None, _, _) => return Ok(None),
+        (Some(flag), Some(path), None) if flag.as_str() == "--ctf" => path,
+        _ => bail!("usage: kv [--ctf FOLDER]"),
+    };
+    let (folder, identity) = (
+        SystemFolder::new(rt, folder.as_str())?,
+        Identity::of_system(rt)?,
+    );
+    let (origin, names) = (identity.origin("kv"), Names::Given(probes.names()));
+    let begun = TraceFolder::of(rt.alloc(), folder, &origin, &probes.enablings(), &names)?;
+    Ok(Some(begun))
+}
+
+fn main(rt: HostRuntime) -> Result<()> {
+    let alloc = rt.alloc();
+    let mut declared = Probes::new(alloc);
+    let probes = StoreProbes::declare(&mut declared)?;
+    let (first, schema) = (trace_asked(&rt, &declared)?, declared.enablings());
+    let second = Live {
+        rt: &rt,
+        probes,
+        missing: 0,
+    };
+    let (clock, table) = (
+        SystemClock::start(&rt)?,
+        [0u8; 8].map(|_| AtomicU64::new(0)),
+    );
+    let mut workers = Vec::new(alloc);
+    for _ in 0..3 {
+        workers.push(Server::new(&table, &clock, probes))?;
+    }
+    let (config, sink) = (Config::of(3, 4, 65536, 512), Both { first, second });
+    let (closed, workers, sink) = trace_workers(&rt, alloc, &config, schema, workers, sink)?;
+    let Both { first, second } = sink;
+    if let Some(folder) = first {
+        folder.finish()?;
+    }
+    for (cpu, worker) in closed_cpus(&closed).zip(workers) {
+        let (number, failed, offered) = (cpu.number, worker.failed, cpu.report.offered);
+        println!(rt; "cpu {number}: {failed} requests failed, {offered} records offered")?;
+    }
+    println!(rt; "{} missing keys were told", second.missing)?;
+    Ok(())
+}

@@ -1,0 +1,71 @@
+ghost use Rattle.std.specs.Prelude.{◌≡◌};
+ghost use Rattle.dspec.specs.Lanes.{place_of};
+ghost use Rattle.dspec_probed.specs.Walks.{walk_of};
+
+use crate::probes::StoreProbes;
+use dspec::{Enablings, Lane, Worker};
+use dspec_clock::SystemClock;
+use dspec_probed::{Clock, Steps};
+use std::sync::atomic::{AtomicU64, Ordering};
+
+/// The values of the keys 0 to 7, which all workers share.
+pub type Table = [AtomicU64; 8];
+
+/// A worker: what all share, and how many of its requests failed.
+#[derive(Drop)]
+pub struct Server<'a> {
+    table: &'a Table,
+    clock: &'a SystemClock<'a>,
+    probes: StoreProbes,
+    pub failed: u32,
+}
+
+impl<'a> Server<'a> {
+    pub fn new(table: &'a Table, clock: &'a SystemClock<'a>, probes: StoreProbes) -> Server<'a> {
+        Server {
+            table,
+            clock,
+            probes,
+            failed: 0,
+        }
+    }
+
+    /// Adds to the value of a key; false where there is no such key.
+    fn add(&self, steps: &mut Steps<'_, '_, SystemClock<'a>>, key: u32, amount: u64) -> bool
+        ensures { walk_of steps.new ≡ walk_of steps.old }
+    {
+        let Some(value) = self.table.get(key as usize) else {
+            steps.try_step(self.probes.missing, (key,));
+            return false;
+        };
+        let before = value.fetch_add(amount, Ordering::SeqCst);
+        steps.try_step(self.probes.added, (key, amount, before));
+        true
+    }
+
+    /// Serves a request: it adds to two keys. Its path is kept where it failed or was slow. False where it failed.
+    fn serve(&self, lane: &mut Lane<'_, Enablings>, request: u32) -> bool
+        ensures { place_of lane.new ≡ place_of lane.old }
+    {
+        let (worker, clock, begun) = (lane.number(), self.clock, self.clock.stamp());
+        let path = lane.path().hand();
+        let mut steps = Steps { lane, clock, path };
+        steps.try_step(self.probes.begin, (request, worker));
+        let done = self.add(&mut steps, request % 7, 1) && self.add(&mut steps, request % 9, 1);
+        let micros = clock.stamp().saturating_sub(begun) / 1000;
+        steps.try_step(self.probes.end, (request, micros));
+        steps.end(!done || micros > 500);
+        done
+    }
+}
+
+impl Worker<Enablings> for Server<'_> {
+    fn work(&mut self, lane: &mut Lane<'_, Enablings>) {
+        for request in 0..200 {
+            if !self.serve(lane, request) {
+                self.failed = self.failed.wrapping_add(1);
+            }
+            lane.service();
+        }
+    }
+}
