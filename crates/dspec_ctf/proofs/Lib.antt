@@ -4,4 +4,7 @@ mod Sizes
 mod Collecting
 mod OneList
 mod OneStream
+mod Spreading
+mod Rising
+mod Texts
 mod Sample

@@ -3,3 +3,4 @@ pub mod Metadata
 pub mod Packets
 pub mod Streams
 pub mod ByTime
+pub mod Rows

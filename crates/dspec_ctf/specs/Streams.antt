@@ -7,7 +7,7 @@ use Rattle.dspec_buffer.specs.BufferText.{BufferText}
 use Rattle.dspec_buffer.specs.Faults.{StopsAt}
 use Rattle.dspec_ctf.specs.Packets.{events, packet}
 use Rattle.dspec_ctf.specs.declared.stream.PacketFault.{PacketFault}
-use Rattle.dspec_ctf.specs.declared.stream.PacketFault.TheVariants.{Text, Missed, TooLong, Memory}
+use Rattle.dspec_ctf.specs.declared.stream.PacketFault.TheVariants.{Text, Missed, TooLong, Clock, Memory}
 
 module _ (e : EnabledRows) where
   -- these enablings take the record
@@ -37,6 +37,7 @@ module _ (e : EnabledRows) where
       × StopsAt (table_shape e.header (enabled e.rows)) (table_accepts e.header (enabled e.rows)) (table_text e.header (enabled e.rows)) text fault
   HasNoPacket missed drops text Missed = 2 ^ 64 ≤ missed + drops
   HasNoPacket missed drops text TooLong = (missed + drops < 2 ^ 64) × ((rs : List Record) × (IsText text rs × (2 ^ 60 ≤ length (events e rs))))
+  HasNoPacket missed drops text (Clock place) = ⊥
   HasNoPacket missed drops text Memory = Unit
 
   -- Why records have no packet, where so many events were missed before and so many more with them: a number of the packet goes past
@@ -45,11 +46,22 @@ module _ (e : EnabledRows) where
   HasNoRecordPacket missed drops rs (Text fault) = ⊥
   HasNoRecordPacket missed drops rs Missed = 2 ^ 64 ≤ missed + drops
   HasNoRecordPacket missed drops rs TooLong = (missed + drops < 2 ^ 64) × (2 ^ 60 ≤ length (events e rs))
+  HasNoRecordPacket missed drops rs (Clock place) = ⊥
   HasNoRecordPacket missed drops rs Memory = Unit
+
+  -- why the records of a text aren't there: it isn't one
+  abbrev pub HasNoRecords : List ℕ → PacketFault → Type 0
+  HasNoRecords text (Text fault) =
+      StopsAt (table_shape e.header (enabled e.rows)) (table_accepts e.header (enabled e.rows)) (table_text e.header (enabled e.rows)) text fault
+  HasNoRecords text Missed = ⊥
+  HasNoRecords text TooLong = ⊥
+  HasNoRecords text (Clock place) = ⊥
+  HasNoRecords text Memory = Unit
 
 -- why the bytes of events have no packet around them
 abbrev pub IsTooLong : List ℕ → PacketFault → Type 0
 IsTooLong body (Text fault) = ⊥
 IsTooLong body Missed = ⊥
 IsTooLong body TooLong = 2 ^ 60 ≤ length body
+IsTooLong body (Clock place) = ⊥
 IsTooLong body Memory = Unit

@@ -37,7 +37,10 @@ impl From<AllocError> for TimeFault {
 }
 
 /// Adds records behind these.
-fn add_records(recs: &mut Vec<Rec>, records: Records<'_, Enablings>) -> Result<(), AllocError>
+pub(crate) fn add_records(
+    recs: &mut Vec<Rec>,
+    records: Records<'_, Enablings>,
+) -> Result<(), AllocError>
     ensures { OnOk result (recs.new.items ≡ recs.old.items ++ records.entry) }
 {
     for rec in records {
@@ -96,7 +99,7 @@ fn stamp_of(rec: Option<&Rec>) -> u64
 }
 
 /// The stamps of the first record and of the last.
-fn span_of(recs: &[Rec]) -> (u64, u64)
+pub(crate) fn span_of(recs: &[Rec]) -> (u64, u64)
     ensures { result ≡ span_of recs.now }
 {
     (stamp_of(recs.first()), stamp_of(recs.last()))

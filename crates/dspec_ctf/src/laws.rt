@@ -1,10 +1,13 @@
 //! What follows from the definitions, as clauses of functions that have nothing to do.
 
-ghost use Rattle.std.specs.Prelude.{◌≡◌, ℕ, List, All};
+ghost use Rattle.std.specs.Prelude.{◌≡◌, ◌<◌, ◌≤◌, ◌++◌, ℕ, List, All, length, map, slice_index, slice_range, zip};
+ghost use Rattle.std.specs.List.Sorted.{IsNonDecreasingBy};
 ghost use Rattle.dspec_record.specs.Record.{Record};
 ghost use Rattle.dspec_ctf.specs.Packets.{packet};
 ghost use Rattle.dspec_ctf.specs.Streams.{Accepts};
 ghost use Rattle.dspec_ctf.specs.ByTime.{timed_packets};
+ghost use Rattle.dspec_ctf.specs.Rows.{AreRuns, Spreads, of_file, run_files, run_records};
+ghost use Rattle.dspec_ctf.specs.declared.rows.Run.{Run};
 
 use dspec_record::Enablings;
 
@@ -22,4 +25,31 @@ pub fn one_stream(_enablings: &Enablings)
         → All (Accepts _enablings.now) rs → All (Accepts _enablings.now) qs
         → timed_packets uuid _enablings.now missed cpu rs ≡ timed_packets uuid _enablings.now told other qs
         → rs ≡ qs }
+{}
+
+/// In each file of a CPU stamps don't fall, nor to before the last stamp that it had.
+pub fn files_rise()
+    ensures { (lasts : List ℕ) (rs : List Record) (files new : List ℕ) → Spreads lasts rs files new
+        → (file : ℕ) → IsNonDecreasingBy (λ r. r.stamp) (of_file file files rs)
+        × (file < length lasts → All (λ r. slice_index lasts file ≤ r.stamp) (of_file file files rs)) }
+{}
+
+/// Each record is in one file, of 64 at most: records and the numbers of their files, side by side, are all the records in their order.
+pub fn files_have_all()
+    ensures { (lasts : List ℕ) (rs : List Record) (files new : List ℕ) → length lasts ≤ 64 → Spreads lasts rs files new
+        → (map (λ p. p.1) (zip files rs) ≡ rs) × (map (λ p. p.0) (zip files rs) ≡ files)
+        × All (λ file. file < length new) files × (length new ≤ 64) }
+{}
+
+/// Runs from one place to another, one behind another, have all the records between, in their order, each once; and each record goes to
+/// the file of its run.
+pub fn runs_have_all()
+    ensures { (lasts new : List ℕ) (rs : List Record) (from to : ℕ) (runs : List Run) → AreRuns lasts rs from runs to new
+        → (run_records rs from runs ≡ slice_range rs from to) × Spreads lasts (slice_range rs from to) (run_files from runs) new }
+{}
+
+/// Records of one batch behind those of another go to files as those of a single batch.
+pub fn batches_go_on()
+    ensures { (lasts mid new : List ℕ) (rs qs : List Record) (files more : List ℕ)
+        → Spreads lasts rs files mid → Spreads mid qs more new → Spreads lasts (rs ++ qs) (files ++ more) new }
 {}

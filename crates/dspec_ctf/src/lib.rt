@@ -1,7 +1,8 @@
 //! Traces in the Common Trace Format, version 1.8, which other tools open.
 //!
 //! What the bytes of an event and of a packet are stands in `specs/Packets.antt`, which packet is that of a batch in
-//! `specs/Streams.antt`, which packets are those of a CPU by time in `specs/ByTime.antt`, which names there may be in `specs/Names.antt`.
+//! `specs/Streams.antt`, which packets are those of a CPU by time in `specs/ByTime.antt`, or, while it runs, in `specs/Rows.antt`,
+//! which names there may be in `specs/Names.antt`.
 #![tactic(auto)]
 
 pub mod by_time;
@@ -15,6 +16,7 @@ pub mod origin;
 mod packet;
 mod printing;
 pub mod records;
+pub mod rows;
 pub mod stream;
 mod text;
 
@@ -25,5 +27,6 @@ pub use form::Form;
 pub use names::Names;
 pub use origin::{ClockStart, Origin, Process};
 pub use records::first_refused;
+pub use rows::{MOST_FILES, Rows, Run};
 pub use stream::{PacketFault, Stream};
 pub use text::{metadata, metadata_from};

@@ -24,21 +24,22 @@ pub fn first_refused(enablings: &Enablings, records: &[Rec]) -> Option<usize>
     None
 }
 
-/// The packet around the bytes of these events.
-fn whole_packet(
+/// The packet around the bytes of these events, with the first stamp and the last in a trace by time.
+pub(crate) fn whole_packet(
     alloc: Global,
     stream: &Stream<'_>,
+    span: Option<(u64, u64)>,
     missed: u64,
     body: &[u8],
 ) -> Result<Vec<u8>, PacketFault>
-    ensures packet { IfOk result (λ bytes. bytes.items ≡ packet_around stream.now.uuid None missed stream.now.cpu body.now) }
+    ensures packet { IfOk result (λ bytes. bytes.items ≡ packet_around stream.now.uuid span missed stream.now.cpu body.now) }
     ensures fault { IfErr result (IsTooLong body.now) }
 {
     if body.len() as u64 > MAX_EVENTS_SIZE {
         return Err(PacketFault::TooLong);
     }
     let mut bytes = Vec::new(alloc);
-    put_around(&mut bytes, &stream.uuid, None, missed, stream.cpu, body)?;
+    put_around(&mut bytes, &stream.uuid, span, missed, stream.cpu, body)?;
     Ok(bytes)
 }
 
@@ -64,7 +65,7 @@ impl<'a> Stream<'a> {
         };
         let mut body = Vec::new(alloc);
         put_events(&mut body, self.enablings, records)?;
-        let bytes = whole_packet(alloc, self, missed, &body)?;
+        let bytes = whole_packet(alloc, self, None, missed, &body)?;
         self.missed = missed;
         Ok(bytes)
     }

@@ -5,7 +5,7 @@ ghost use Rattle.dspec_ctf.specs.declared.stream.PacketFault.TheVariants.{Memory
 use crate::packet::{events_of, front_size, put_around};
 use dspec_buffer::{ReadFault, read_all};
 use dspec_record::Enablings;
-use std::alloc::{AllocError, Global};
+use std::alloc::{AllocError, AllocFailed, Global};
 use thiserror::Error;
 
 /// The most bytes that the events of a packet have, so that its size in bits is one of 64 bits.
@@ -23,6 +23,9 @@ pub enum PacketFault {
     /// The events have 2^60 bytes or more, too many for a size in bits.
     #[error("too many bytes of events")]
     TooLong,
+    /// The record at this place, counted from 0, would need one file more than a CPU may have: stamps went back too often.
+    #[error("record {0}: its stamp is before the last of each of 64 files")]
+    Clock(usize),
     /// A growth was refused.
     #[error("out of memory")]
     Memory,
@@ -32,6 +35,14 @@ impl From<AllocError> for PacketFault {
     ghost from_gives = { λ _ fault. fault ≡ Memory };
 
     fn from(_refused: AllocError) -> Self {
+        PacketFault::Memory
+    }
+}
+
+impl<T: Drop> From<AllocFailed<T>> for PacketFault {
+    ghost from_gives = { λ _ fault. fault ≡ Memory };
+
+    fn from(_refused: AllocFailed<T>) -> Self {
         PacketFault::Memory
     }
 }

@@ -9,17 +9,17 @@ use std::alloc::{AllocError, Global};
 use std::test::Fail;
 
 /// The records 1@9 and 3@5(171, 4660).
-const FIRST: [u8; 28] = [
+pub const FIRST: [u8; 28] = [
     1, 0, 0, 0, 9, 0, 0, 0, 0, 0, 0, 0, 3, 0, 0, 0, 5, 0, 0, 0, 0, 0, 0, 0, 171, 0, 52, 18,
 ];
 
 /// The records 1@5 and 1@2.
-const SECOND: [u8; 24] = [
+pub const SECOND: [u8; 24] = [
     1, 0, 0, 0, 5, 0, 0, 0, 0, 0, 0, 0, 1, 0, 0, 0, 2, 0, 0, 0, 0, 0, 0, 0,
 ];
 
 /// Their packet on CPU 1, with seven events that were missed: 1@2, 3@5, 1@5 and 1@9, in 119 bytes, or 952 bits.
-const PACKET: [u8; 119] = [
+pub const PACKET: [u8; 119] = [
     193, 31, 252, 193, 0, 17, 34, 51, 68, 85, 102, 119, 136, 153, 170, 187, 204, 221, 238, 255, 0,
     0, 0, 0, 2, 0, 0, 0, 0, 0, 0, 0, 9, 0, 0, 0, 0, 0, 0, 0, 184, 3, 0, 0, 0, 0, 0, 0, 184, 3, 0,
     0, 0, 0, 0, 0, 7, 0, 0, 0, 0, 0, 0, 0, 1, 0, 0, 0, 1, 0, 0, 0, 2, 0, 0, 0, 0, 0, 0, 0, 3, 0, 0,

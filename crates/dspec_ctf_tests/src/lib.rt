@@ -8,4 +8,6 @@ mod metadata_texts;
 #[cfg(test)]
 mod packets;
 #[cfg(test)]
+mod rows;
+#[cfg(test)]
 mod same;

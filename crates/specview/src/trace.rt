@@ -38,7 +38,10 @@ fn packet_fault(fault: PacketFault) -> ViewFault
 {
     match fault {
         PacketFault::Memory => ViewFault::Memory,
-        PacketFault::Text(_) | PacketFault::Missed | PacketFault::TooLong => ViewFault::TooMuch,
+        PacketFault::Text(_)
+        | PacketFault::Missed
+        | PacketFault::TooLong
+        | PacketFault::Clock(_) => ViewFault::TooMuch,
     }
 }
 

@@ -1,0 +1,129 @@
+-- What files have whose records went to them one after another.
+use Rattle.std.proofs.Common.{◌≡◌, ◌<◌, ◌≤◌, ◌==◌, inl, inr, ℕ, zero, suc, Bool, true, false, cond, List, [], ◌∷◌, length, get_or, map, refl, ap, sym, subst, ◌∙◌, arith, All}
+use Rattle.std.specs.Prelude.{slice_index, filter, zip}
+use Rattle.std.specs.List.Sorted.{IsNonDecreasingBy}
+use Rattle.std.proofs.lemmas.Bool.{eqb-true, eqb-false}
+use Rattle.std.proofs.lemmas.List.{length-set, get_or-set_same, get_or-set_other, get_or_push, get_or_append_left, length_push}
+use Rattle.std.proofs.lemmas.List.Elements.{All-nil, All-cons, All-get_or, All-weaker}
+use Rattle.std.proofs.lemmas.List.Sorted.{IsNonDecreasingBy-short}
+use Rattle.dspec_record.specs.Record.{Record}
+use Rattle.dspec_ctf.specs.Rows.{GoesToFile, Spreads, of_file}
+
+-- the file that a record goes to has its stamp
+pub goes-here : (lasts mid : List ℕ) (stamp file : ℕ) → GoesToFile lasts stamp file mid → (file < length mid) × (slice_index mid file ≡ stamp)
+goes-here lasts mid stamp file (inl goes) =
+    subst (λ m. (file < length m) × (slice_index m file ≡ stamp)) (sym goes.1)
+    (omega (arith, length-set lasts file stamp, goes.0.there), get_or-set_same lasts file stamp 0 goes.0.there)
+goes-here lasts mid stamp file (inr goes) =
+    subst (λ m. (file < length m) × (slice_index m file ≡ stamp)) (sym goes.3)
+    (omega (arith, length_push lasts stamp, goes.2), get_or_push lasts stamp 0 file (sym goes.2))
+
+-- others have theirs
+goes-kept : (lasts mid : List ℕ) (stamp file other : ℕ) → GoesToFile lasts stamp file mid → (other ≡ file → ⊥) → other < length lasts
+    → (other < length mid) × (slice_index mid other ≡ slice_index lasts other)
+goes-kept lasts mid stamp file other (inl goes) differs there =
+    subst (λ m. (other < length m) × (slice_index m other ≡ slice_index lasts other)) (sym goes.1)
+    (omega (arith, length-set lasts file stamp, there), get_or-set_other lasts file other stamp 0 differs)
+goes-kept lasts mid stamp file other (inr goes) differs there =
+    subst (λ m. (other < length m) × (slice_index m other ≡ slice_index lasts other)) (sym goes.3)
+    (omega (arith, length_push lasts stamp, there), get_or_append_left lasts (stamp ∷ []) 0 other there)
+
+-- a record doesn't go before the last of its file
+goes-behind : (lasts mid : List ℕ) (stamp file : ℕ) → GoesToFile lasts stamp file mid → file < length lasts → slice_index lasts file ≤ stamp
+goes-behind lasts mid stamp file (inl goes) there = goes.0.not_above
+goes-behind lasts mid stamp file (inr goes) there = absurd (omega (arith, there, goes.2))
+
+-- files are added one at a time, up to 64
+goes-longer : (lasts mid : List ℕ) (stamp file : ℕ) → GoesToFile lasts stamp file mid → length lasts ≤ 64 → (length lasts ≤ length mid) × (length mid ≤ 64)
+goes-longer lasts mid stamp file (inl goes) few =
+    let same = ap length goes.1 ∙ length-set lasts file stamp in
+    (omega (arith, same), omega (arith, same, few))
+goes-longer lasts mid stamp file (inr goes) few =
+    let more = ap length goes.3 ∙ length_push lasts stamp in
+    (omega (arith, more), omega (arith, more, goes.1))
+
+-- records that don't fall, behind one that is before them
+cons-at : (r : Record) (rs : List Record) → All (λ q. r.stamp ≤ q.stamp) rs → IsNonDecreasingBy (λ q. q.stamp) rs → (i j : ℕ) (d : Record) → i ≤ j → j < length (r ∷ rs)
+    → (get_or (r ∷ rs) i d).stamp ≤ (get_or (r ∷ rs) j d).stamp
+cons-at r rs low rise zero zero d below within = omega arith
+cons-at r rs low rise zero (suc j) d below within = All-get_or (λ q. r.stamp ≤ q.stamp) rs j d (omega (arith, within)) low
+cons-at r rs low rise (suc i) zero d below within = absurd (omega (arith, below))
+cons-at r rs low rise (suc i) (suc j) d below within = rise i j d (omega (arith, below)) (omega (arith, within))
+
+-- these records of a file don't fall, nor stand before its last
+record Rises (lasts : List ℕ) (file : ℕ) (qs : List Record) : Type 0 where
+  pub behind : file < length lasts → All (λ q. slice_index lasts file ≤ q.stamp) qs
+  pub rising : IsNonDecreasingBy (λ q. q.stamp) qs
+
+one-more : (lasts mid : List ℕ) (r : Record) (file other : ℕ) (ps : List (ℕ × Record)) (here : Bool) → (other == file) ≡ here → GoesToFile lasts r.stamp other mid
+    → Rises mid file (map (λ p. p.1) ps) → Rises lasts file (map (λ p. p.1) (cond here ((other, r) ∷ ps) ps))
+one-more lasts mid r file other ps true is goes rises =
+    let qs : List Record = map (λ p. p.1) ps in
+    let same : other ≡ file = eqb-true other file is in
+    let at : GoesToFile lasts r.stamp file mid = subst (λ f. GoesToFile lasts r.stamp f mid) same goes in
+    let there = goes-here lasts mid r.stamp file at in
+    let low : All (λ q. r.stamp ≤ q.stamp) qs = subst (λ s. All (λ q. s ≤ q.stamp) qs) there.1 (rises.behind there.0) in
+    record {
+      behind = λ inside.
+          let first : slice_index lasts file ≤ r.stamp = goes-behind lasts mid r.stamp file at inside in
+          All-cons (λ q. slice_index lasts file ≤ q.stamp) r qs first
+          (All-weaker (λ q. r.stamp ≤ q.stamp) (λ q. slice_index lasts file ≤ q.stamp) (λ q above. omega (arith, first, above)) qs low);
+      rising = λ i j d below within. cons-at r qs low rises.rising i j d below within;
+    }
+one-more lasts mid r file other ps false is goes rises =
+    let qs : List Record = map (λ p. p.1) ps in
+    let differs : file ≡ other → ⊥ = λ same. eqb-false other file is (sym same) in
+    record {
+      behind = λ inside.
+          let kept = goes-kept lasts mid r.stamp other file goes differs inside in
+          subst (λ s. All (λ q. s ≤ q.stamp) qs) kept.1 (rises.behind kept.0);
+      rising = rises.rising;
+    }
+
+rises-from : (lasts new : List ℕ) (rs : List Record) (files : List ℕ) (file : ℕ) → Spreads lasts rs files new → Rises lasts file (of_file file files rs)
+rises-from lasts new [] [] file is = record {
+  behind = λ inside. All-nil (λ q. slice_index lasts file ≤ q.stamp);
+  rising = IsNonDecreasingBy-short (λ q. q.stamp) [] (omega arith);
+}
+rises-from lasts new [] (f ∷ fs) file is = elim is [ ]
+rises-from lasts new (r ∷ rs) [] file is = elim is [ ]
+rises-from lasts new (r ∷ rs) (f ∷ fs) file (mid, (goes, rest)) =
+    one-more lasts mid r file f (filter (λ p. p.0 == file) (zip fs rs)) (f == file) refl goes (rises-from mid new rs fs file rest)
+
+pub files-rise : (lasts : List ℕ) (rs : List Record) (files new : List ℕ) → Spreads lasts rs files new → (file : ℕ)
+    → IsNonDecreasingBy (λ r. r.stamp) (of_file file files rs) × (file < length lasts → All (λ r. slice_index lasts file ≤ r.stamp) (of_file file files rs))
+files-rise lasts rs files new is file =
+    let rises = rises-from lasts new rs files file is in
+    (rises.rising, rises.behind)
+
+-- which files there are in the end
+record Fills (rs : List Record) (files lasts new : List ℕ) : Type 0 where
+  pub records : map (λ p. p.1) (zip files rs) ≡ rs
+  pub numbers : map (λ p. p.0) (zip files rs) ≡ files
+  pub there : All (λ file. file < length new) files
+  pub longer : length lasts ≤ length new
+  pub few : length new ≤ 64
+
+fills-from : (lasts new : List ℕ) (rs : List Record) (files : List ℕ) → length lasts ≤ 64 → Spreads lasts rs files new → Fills rs files lasts new
+fills-from lasts new [] [] few is =
+    let same = ap length is in
+    record { records = refl; numbers = refl; there = All-nil (λ file. file < length new); longer = omega (arith, same); few = omega (arith, same, few) }
+fills-from lasts new [] (f ∷ fs) few is = elim is [ ]
+fills-from lasts new (r ∷ rs) [] few is = elim is [ ]
+fills-from lasts new (r ∷ rs) (f ∷ fs) few (mid, (goes, rest)) =
+    let longer = goes-longer lasts mid r.stamp f goes few in
+    let at = goes-here lasts mid r.stamp f goes in
+    let more = fills-from mid new rs fs longer.1 rest in
+    record {
+      records = ap (λ qs. r ∷ qs) more.records;
+      numbers = ap (λ gs. f ∷ gs) more.numbers;
+      there = All-cons (λ file. file < length new) f fs (omega (arith, at.0, more.longer)) more.there;
+      longer = omega (arith, longer.0, more.longer);
+      few = more.few;
+    }
+
+pub files-have-all : (lasts : List ℕ) (rs : List Record) (files new : List ℕ) → length lasts ≤ 64 → Spreads lasts rs files new
+    → (map (λ p. p.1) (zip files rs) ≡ rs) × (map (λ p. p.0) (zip files rs) ≡ files) × All (λ file. file < length new) files × (length new ≤ 64)
+files-have-all lasts rs files new few is =
+    let fills = fills-from lasts new rs files few is in
+    (fills.records, fills.numbers, fills.there, fills.few)

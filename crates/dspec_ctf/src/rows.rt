@@ -1,0 +1,241 @@
+//! A CPU's files in a trace by time that is written while it runs.
+//!
+//! A CPU's records aren't in the order of their stamps, since those of a committed path stand where it was committed. But each of several
+//! files can be: a record goes to the file that goes on with it (`specs/Rows.antt`), and tools merge the files.
+
+ghost use Rattle.std.specs.Prelude.{◌≡◌, ◌+◌, ◌<◌, ◌++◌, length, All, IfOk, IfErr, OnOk};
+ghost use Rattle.dspec_ctf.specs.Packets.{events};
+ghost use Rattle.dspec_ctf.specs.Streams.{Accepts, IsText, IsTooLong, HasNoRecords};
+ghost use Rattle.dspec_ctf.specs.Rows.{IsFoundOf, missed_packets, run_packet, silent_packet};
+
+use crate::by_time::{add_records, span_of};
+use crate::packet::{put_around, put_events};
+use crate::records::whole_packet;
+use crate::stream::{PacketFault, Stream};
+use dspec_buffer::read_all;
+use dspec_record::{Enablings, Rec};
+use std::alloc::{AllocError, Global};
+use std::marker::Model;
+
+/// The most files of a CPU.
+pub const MOST_FILES: usize = 64;
+
+/// Records of a CPU that stand one behind another and go to one file: those from a place on up to this one.
+#[derive(Debug, Clone, Copy, PartialEq, Eq)]
+pub struct Run {
+    /// The number of the file.
+    pub file: usize,
+    /// The place behind the last of them.
+    pub end: usize,
+}
+
+/// What is known of a CPU's files: of each the stamp of its last event. In each file stamps don't fall.
+#[derive(Debug, Drop)]
+pub struct Rows {
+    lasts: Vec<u64>,
+}
+
+impl Model for Rows {
+    ghost use Rattle.std.specs.Prelude.{ℕ, List};
+
+    ghost Value = { List ℕ };
+
+    ghost view = { λ i. i.lasts.items };
+}
+
+/// What is found among the files up to this one, by what is found among those before it.
+fn later(lasts: &[u64], found: Option<usize>, place: usize, stamp: u64) -> Option<usize>
+    requires there { place < length lasts.now }
+    requires before { IsFoundOf lasts.now place stamp found }
+    ensures { IsFoundOf lasts.now (place + 1) stamp result }
+{
+    if lasts[place] > stamp {
+        return found;
+    }
+    match found {
+        None => Some(place),
+        Some(file) if lasts[file] < lasts[place] => Some(place),
+        Some(file) => Some(file),
+    }
+}
+
+/// The file with the greatest last stamp that isn't above this one.
+fn latest(lasts: &[u64], stamp: u64) -> Option<usize>
+    ensures { IsFoundOf lasts.now (length lasts.now) stamp result }
+{
+    let mut found = None;
+    for place in 0..lasts.len() {
+        found = later(lasts, found, place, stamp);
+    }
+    found
+}
+
+impl Rows {
+    ghost use Rattle.std.specs.Prelude.{◌≡◌, ◌<◌, ◌≤◌, ◌-◌, ℕ, List, Some, [], true, false, length, slice_get, slice_index, slice_range, replicate, IfOk, IfErr, OnErr};
+    ghost use Rattle.dspec_record.specs.Record.{Record};
+    ghost use Rattle.dspec_ctf.specs.Rows.{GoesToFile, Spreads, IsNextRun, HasNoRun};
+
+    /// No files yet.
+    pub fn new(alloc: Global) -> Rows
+        ensures { result ≡ [] }
+    {
+        Rows {
+            lasts: Vec::new(alloc),
+        }
+    }
+
+    /// The last stamp of the first file; 0 where there is none.
+    fn first_stamp(&self) -> u64
+        ensures { result ≡ slice_index self.now 0 }
+    {
+        match self.lasts.first() {
+            Some(stamp) => *stamp,
+            None => 0,
+        }
+    }
+
+    /// Takes the record at a place, and says its file.
+    fn take(&mut self, records: &[Rec], place: usize) -> Result<usize, PacketFault>
+        requires { place < length records.now }
+        ensures goes { IfOk result (λ file. (r : Record) → slice_get records.now place ≡ Some r → GoesToFile self.old r.stamp file self.new) }
+        ensures fault { IfErr result (HasNoRun self.old records.now place) }
+        ensures refused { OnErr result (self.new ≡ self.old) }
+    {
+        let stamp = records[place].stamp();
+        if let Some(found) = latest(&self.lasts, stamp) {
+            self.lasts[found] = stamp;
+            return Ok(found);
+        }
+        let file = self.lasts.len();
+        if file >= MOST_FILES {
+            return Err(PacketFault::Clock(place));
+        }
+        self.lasts.push(stamp)?;
+        Ok(file)
+    }
+
+    /// Takes a record with this stamp where it goes to that file.
+    fn take_on(&mut self, file: usize, stamp: u64) -> bool
+        requires { file < length self.old }
+        ensures goes { result ≡ true → GoesToFile self.old stamp file self.new }
+        ensures elsewhere { result ≡ false → (after : List ℕ) → GoesToFile self.old stamp file after → ⊥ }
+        ensures same { result ≡ false → self.new ≡ self.old }
+        ensures files { length self.new ≡ length self.old }
+    {
+        if latest(&self.lasts, stamp) != Some(file) {
+            return false;
+        }
+        self.lasts[file] = stamp;
+        true
+    }
+
+    /// Takes the records from a place on that go to that file, and says up to where those stand.
+    fn take_all_on(&mut self, records: &[Rec], from: usize, file: usize) -> usize
+        requires there { file < length self.old }
+        requires within { from ≤ length records.now }
+        ensures behind { from ≤ result }
+        ensures within { result ≤ length records.now }
+        ensures goes { Spreads self.old (slice_range records.now from result) (replicate (result - from) file) self.new }
+        ensures whole { (r : Record) (after : List ℕ) → slice_get records.now result ≡ Some r → GoesToFile self.new r.stamp file after → ⊥ }
+    {
+        for place in from..records.len() {
+            if !self.take_on(file, records[place].stamp()) {
+                return place;
+            }
+        }
+        records.len()
+    }
+
+    /// The run of these records from a place on, which the files have then; None at their end. A record that would need one file more
+    /// than 64 is told by its place, as `Clock`: the stamps of the CPU aren't those of one clock. Nothing is taken where the answer is a
+    /// fault, which is that or `Memory`.
+    pub fn next_run(&mut self, records: &[Rec], place: usize) -> Result<Option<Run>, PacketFault>
+        ensures run { IfOk result (λ run. IsNextRun self.old records.now place run self.new) }
+        ensures fault { IfErr result (HasNoRun self.old records.now place) }
+        ensures refused { OnErr result (self.new ≡ self.old) }
+    {
+        if place >= records.len() {
+            return Ok(None);
+        }
+        let file = self.take(records, place)?;
+        let end = self.take_all_on(records, place + 1, file);
+        Ok(Some(Run { file, end }))
+    }
+}
+
+/// The records of a batch's text.
+pub fn records_of(
+    alloc: Global,
+    enablings: &Enablings,
+    text: &[u8],
+) -> Result<Vec<Rec>, PacketFault>
+    ensures text { IfOk result (λ recs. IsText enablings.now text.now recs.items) }
+    ensures accepted { IfOk result (λ recs. All (Accepts enablings.now) recs.items) }
+    ensures fault { IfErr result (HasNoRecords enablings.now text.now) }
+{
+    let records = match read_all(enablings, text) {
+        Ok(records) => records,
+        Err(fault) => return Err(PacketFault::Text(fault)),
+    };
+    let mut recs = Vec::new(alloc);
+    add_records(&mut recs, records)?;
+    Ok(recs)
+}
+
+/// Adds a packet without events.
+fn put_silent(
+    out: &mut Vec<u8>,
+    stream: &Stream<'_>,
+    missed: u64,
+    stamp: u64,
+) -> Result<(), AllocError>
+    ensures { OnOk result (out.new.items ≡ out.old.items ++ silent_packet stream.now.uuid missed stream.now.cpu stamp) }
+{
+    put_around(
+        out,
+        &stream.uuid,
+        Some((stamp, stamp)),
+        missed,
+        stream.cpu,
+        &[],
+    )
+}
+
+impl<'a> Stream<'a> {
+    /// The packet of a run's records for that file, with the stamps of the first and of the last. In the CPU's first file it tells
+    /// `missed`, in the others none. A fault is `TooLong` or `Memory`.
+    pub fn run_packet(
+        &self,
+        alloc: Global,
+        file: usize,
+        records: &[Rec],
+    ) -> Result<Vec<u8>, PacketFault>
+        requires { All (Accepts self.now.enablings.now) records.now }
+        ensures packet { IfOk result
+            (λ bytes. bytes.items ≡ run_packet self.now.uuid self.now.enablings.now self.now.missed self.now.cpu file records.now) }
+        ensures fault { IfErr result (IsTooLong (events self.now.enablings.now records.now)) }
+    {
+        let mut body = Vec::new(alloc);
+        put_events(&mut body, self.enablings, records)?;
+        let told = if file == 0 { self.missed } else { 0 };
+        whole_packet(alloc, self, Some(span_of(records)), told, &body)
+    }
+
+    /// Two packets for the CPU's first file that tell what was missed since so many were: they have no events, and stand at the last
+    /// stamp of that file, or at 0 where it has none.
+    pub fn missed_packets(
+        &self,
+        alloc: Global,
+        rows: &Rows,
+        before: u64,
+    ) -> Result<Vec<u8>, AllocError>
+        ensures { IfOk result
+            (λ bytes. bytes.items ≡ missed_packets self.now.uuid before self.now.missed self.now.cpu rows.now) }
+    {
+        let stamp = rows.first_stamp();
+        let mut bytes = Vec::new(alloc);
+        put_silent(&mut bytes, self, before, stamp)?;
+        put_silent(&mut bytes, self, self.missed, stamp)?;
+        Ok(bytes)
+    }
+}
