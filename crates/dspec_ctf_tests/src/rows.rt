@@ -167,7 +167,7 @@ impl Made {
 }
 
 /// The trace of a CPU with so many slots.
-fn made(alloc: Global, seed: u64, slots: usize) -> Result<Vec<u64>, AllocError> {
+fn stamps_of(alloc: Global, seed: u64, slots: usize) -> Result<Vec<u64>, AllocError> {
     let mut paths = Vec::new(alloc);
     for _ in 0..slots {
         paths.push(Vec::new(alloc))?;
@@ -207,7 +207,7 @@ fn files_of(alloc: Global, stamps: &[u64]) -> Result<(usize, u64), PacketFault> 
 fn files_suffice(rt: HostRuntime) -> Result<(), Fail> {
     for seed in 0..20u64 {
         for slots in [1usize, 2, 5, 16] {
-            let stamps = made(rt.alloc(), seed, slots)?;
+            let stamps = stamps_of(rt.alloc(), seed, slots)?;
             let Ok((files, fell)) = files_of(rt.alloc(), &stamps) else {
                 return Err(Fail::from(AllocError));
             };
