@@ -197,8 +197,7 @@ dspec_status dspec_trace(dspec_cpu *cpu, uint32_t epid, uint64_t stamp, const ui
 
 /* As dspec_trace, for a caller that knows the record's fields when it is compiled, and says them by their signature: how many bytes
  * each has, four bits a field, the first field lowest (0x48 is a field of 8 bytes and one of 4). Where the EPID has other fields, or isn't
- * enabled, it is DSPEC_BAD_RECORD, and counted as refused. dspec_probe.h declares probes whose records are traced so. Records of
- * one field of 4 or 8 bytes, and of two of which the first has 8, are laid out without a look at the schema. */
+ * enabled, it is DSPEC_BAD_RECORD, and counted as refused. dspec_probe.h declares probes whose records are traced so. */
 dspec_status dspec_fire(dspec_cpu *cpu, uint32_t signature, uint32_t epid, uint64_t stamp, const uint64_t *values, size_t n) DSPEC_NOEXCEPT;
 
 /* Opens a speculation; its identifier goes to any CPU of the session, as a number.
