@@ -188,6 +188,12 @@ dspec_status dspec_cpu_of(dspec_session *session, uint32_t number, dspec_cpu *cp
  * DSPEC_FULL_HANDLE, DSPEC_BAD_HANDLE (the session), DSPEC_OUT, DSPEC_NO_MEMORY. */
 dspec_status dspec_consumer_of(dspec_session *session, dspec_consumer *consumer) DSPEC_NOEXCEPT;
 
+/* Makes a service of each CPU that is home or was never handed out, as dspec_service does: a slot that was decided is freed only once every
+ * CPU has settled it, and such a CPU makes no service of its own. settled: how many speculations they settled in all. A thread that has the
+ * session's handle calls it now and then, beside the calls of the CPUs and of the consumer. A CPU that is out is its thread's own to serve.
+ * DSPEC_OK. DSPEC_BAD_HANDLE. */
+dspec_status dspec_tend(dspec_session *session, uint64_t *settled) DSPEC_NOEXCEPT;
+
 /* ---- The calls of one CPU, on the thread that has its handle. ---- */
 
 /* Traces the record with these n values into the principal buffer. stamp is 0 where records have none.
