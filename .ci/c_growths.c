@@ -126,7 +126,9 @@ static void record(void) {
 
 static void finish(void) {
     dspec_report report;
+    uint64_t settled;
     for (int i = 0; i < 2; i++) OK(dspec_cpu_home(&cpus[i]));
+    OK(dspec_tend(&session, &settled));
     OK(dspec_consumer_home(&consumer));
     OK(dspec_finish(&session, &closed));
     for (uint32_t i = 0; i < 2; i++) {

@@ -38,6 +38,7 @@ static dspec_status call_give_back(void *h, outs *o) { return (void)o, dspec_giv
 static dspec_status call_clean(void *h, outs *o) { return dspec_clean(h, &o->number); }
 static dspec_status call_stop(void *h, outs *o) { return (void)o, dspec_stop(h); }
 static dspec_status call_consumer_home(void *h, outs *o) { return (void)o, dspec_consumer_home(h); }
+static dspec_status call_tend(void *h, outs *o) { return dspec_tend(h, &o->id); }
 static dspec_status call_finish(void *h, outs *o) { return dspec_finish(h, &o->closed); }
 static dspec_status call_rest(void *h, outs *o) { return dspec_rest(h, 0, true, &o->batch); }
 static dspec_status call_closed_report(void *h, outs *o) { return dspec_closed_report(h, 0, &o->report); }
@@ -50,7 +51,7 @@ static const struct row {
     dspec_status (*call)(void *handle, outs *o);
 } rows[] = {
     { "schema_enable", SCHEMA, call_enable }, { "schema_stamp", SCHEMA, call_stamp }, { "start", SCHEMA, call_start },
-    { "cpu_of", SESSION, call_cpu_of }, { "consumer_of", SESSION, call_consumer_of }, { "finish", SESSION, call_finish },
+    { "cpu_of", SESSION, call_cpu_of }, { "consumer_of", SESSION, call_consumer_of }, { "tend", SESSION, call_tend }, { "finish", SESSION, call_finish },
     { "trace", CPU, call_trace }, { "speculation", CPU, call_speculation }, { "speculate", CPU, call_speculate },
     { "fire", CPU, call_fire }, { "fire_in", CPU, call_fire_in }, { "commit", CPU, call_commit }, { "discard", CPU, call_discard }, { "service", CPU, call_service },
     { "dropped_in", CPU, call_dropped_in }, { "cpu_report", CPU, call_cpu_report }, { "cpu_home", CPU, call_cpu_home },

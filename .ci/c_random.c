@@ -286,6 +286,23 @@ static void go_home(sequence *s) {
     if (held) s->where[cpu] = HOME;
 }
 
+/* The model makes the services of the CPUs that aren't out. */
+static void tend(sequence *s) {
+    bool own;
+    dspec_session *h = maybe_wrong(s, &s->session, &own);
+    bool held = own && h->held;
+    uint64_t settled = MAGIC, due = held ? 0 : MAGIC;
+    for (uint32_t cpu = 0; held && cpu < s->m.config.cpus; cpu++) {
+        bool sealed;
+        uint32_t one;
+        if (s->where[cpu] != INSIDE && s->where[cpu] != HOME) continue;
+        model_service(&s->m, cpu, &sealed, &one);
+        due += one;
+    }
+    answers(s, "tend", dspec_tend(h, &settled), held ? DSPEC_OK : DSPEC_BAD_HANDLE);
+    expect(s, settled == due, "another count of what was settled");
+}
+
 /* All that the closed session tells. */
 static void look_at_closed(sequence *s) {
     for (uint32_t cpu = 0; cpu < s->m.config.cpus; cpu++) {
@@ -366,6 +383,7 @@ static void anything(sequence *s) {
     else if (kind < 88) hand_out(s);
     else if (kind < 89) move_one(s);
     else if (kind < 90) schema_calls(s);
+    else if (kind < 91) tend(s);
     else if (kind < 92) finish(s);
     else if (kind < 94) start(s);
     else if (kind < 95) schema_new(s);

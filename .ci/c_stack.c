@@ -86,6 +86,11 @@ static void cpu_home(void) {
     for (uint32_t c = 0; c < config.cpus; c++) HAS_TO(dspec_cpu_home(&cpus[c]));
 }
 
+static void tend(void) {
+    uint64_t settled;
+    HAS_TO(dspec_tend(&session, &settled));
+}
+
 static void consumer_home(void) { HAS_TO(dspec_consumer_home(&consumer)); }
 
 static void finish(void) { HAS_TO(dspec_finish(&session, &closed)); }
@@ -118,7 +123,8 @@ static const struct step {
     { "dspec_service", service, MOST_OF_OTHERS },         { "dspec_take", take, MOST_OF_OTHERS },
     { "dspec_give_back", give_back, MOST_OF_OTHERS },     { "dspec_clean", clean, MOST_OF_OTHERS },
     { "dspec_cpu_report", cpu_report, MOST_OF_OTHERS },   { "dspec_cpu_home", cpu_home, MOST_OF_OTHERS },
-    { "dspec_consumer_home", consumer_home, MOST_OF_OTHERS }, { "dspec_finish", finish, MOST },
+    { "dspec_tend", tend, MOST_OF_OTHERS },               { "dspec_consumer_home", consumer_home, MOST_OF_OTHERS },
+    { "dspec_finish", finish, MOST },
     { "dspec_rest", rest, MOST_OF_OTHERS },               { "dspec_closed_report", closed_report, MOST_OF_OTHERS },
     { "dspec_closed_drop", closed_drop, MOST_OF_OTHERS }, { "dspec_schema_drop", schema_drop, MOST_OF_OTHERS },
 };

@@ -188,6 +188,12 @@ dspec_status dspec_cpu_of(dspec_session *session, uint32_t number, dspec_cpu *cp
  * DSPEC_FULL_HANDLE, DSPEC_BAD_HANDLE (the session), DSPEC_OUT, DSPEC_NO_MEMORY. */
 dspec_status dspec_consumer_of(dspec_session *session, dspec_consumer *consumer) DSPEC_NOEXCEPT;
 
+/* Makes a service of each CPU that is home or was never handed out, as dspec_service does: a slot that was decided is freed only once every
+ * CPU has settled it, and such a CPU makes no service of its own. settled: how many speculations they settled in all. A thread that has the
+ * session's handle calls it now and then, beside the calls of the CPUs and of the consumer. A CPU that is out is its thread's own to serve.
+ * DSPEC_OK. DSPEC_BAD_HANDLE. */
+dspec_status dspec_tend(dspec_session *session, uint64_t *settled) DSPEC_NOEXCEPT;
+
 /* ---- The calls of one CPU, on the thread that has its handle. ---- */
 
 /* Traces the record with these n values into the principal buffer. stamp is 0 where records have none.
@@ -197,8 +203,7 @@ dspec_status dspec_trace(dspec_cpu *cpu, uint32_t epid, uint64_t stamp, const ui
 
 /* As dspec_trace, for a caller that knows the record's fields when it is compiled, and says them by their signature: how many bytes
  * each has, four bits a field, the first field lowest (0x48 is a field of 8 bytes and one of 4). Where the EPID has other fields, or isn't
- * enabled, it is DSPEC_BAD_RECORD, and counted as refused. dspec_probe.h declares probes whose records are traced so. Records of
- * one field of 4 or 8 bytes, and of two of which the first has 8, are laid out without a look at the schema. */
+ * enabled, it is DSPEC_BAD_RECORD, and counted as refused. dspec_probe.h declares probes whose records are traced so. */
 dspec_status dspec_fire(dspec_cpu *cpu, uint32_t signature, uint32_t epid, uint64_t stamp, const uint64_t *values, size_t n) DSPEC_NOEXCEPT;
 
 /* Opens a speculation; its identifier goes to any CPU of the session, as a number.

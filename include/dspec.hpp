@@ -327,6 +327,12 @@ public:
         check(dspec_consumer_of(get(), made.get()));
         return made;
     }
+    /* A service of each CPU that is home or was never handed out; how many speculations they settled. */
+    std::uint64_t tend() {
+        std::uint64_t settled = 0;
+        check(dspec_tend(get(), &settled));
+        return settled;
+    }
     /* Once all that was handed out is home; else it throws DSPEC_NOT_HOME, and the session goes on. */
     [[nodiscard]] closed finish() {
         closed made;

@@ -70,6 +70,7 @@ extern "C" {
     pub(crate) fn dspec_start(config: *const Config, schema: *mut Words, session: *mut Words) -> Status;
     pub(crate) fn dspec_cpu_of(session: *mut Words, number: u32, cpu: *mut Words) -> Status;
     pub(crate) fn dspec_consumer_of(session: *mut Words, consumer: *mut Words) -> Status;
+    pub(crate) fn dspec_tend(session: *mut Words, settled: *mut u64) -> Status;
     pub(crate) fn dspec_finish(session: *mut Words, closed: *mut Words) -> Status;
 
     pub(crate) fn dspec_trace(cpu: *mut Words, epid: u32, stamp: u64, values: *const u64, n: usize) -> Status;

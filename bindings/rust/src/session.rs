@@ -107,6 +107,19 @@ impl Session {
         Ok(Consumer::of(consumer, self.layouts.clone()))
     }
 
+    /// Makes a service of each CPU that was dropped or never handed out, which makes none of its own; how many speculations they settled. A
+    /// slot that was decided is freed only once every CPU has settled it.
+    ///
+    /// # Errors
+    ///
+    /// None is known: the handle has a session.
+    pub fn tend(&mut self) -> Result<u64, Error> {
+        let mut settled = 0;
+        // SAFETY: nobody else has this session's handle, and the number is there to be written.
+        answered(unsafe { raw::dspec_tend(self.handle.at(), &mut settled) })?;
+        Ok(settled)
+    }
+
     /// Ends the session, whose CPUs and consumer were dropped or never handed out.
     ///
     /// # Errors

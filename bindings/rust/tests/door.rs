@@ -129,6 +129,18 @@ fn a_forgotten_batch_is_given_back_by_the_next_take() {
 }
 
 #[test]
+fn a_session_tends_a_cpu_that_is_home() {
+    let (mut session, mut cpu, consumer, _) = small(1 << 62);
+    let id = cpu.speculation().id();
+    assert_eq!(cpu.discard(id), Decided::Thrown(0));
+    assert_eq!(session.tend().unwrap(), 1);
+    assert_eq!(session.tend().unwrap(), 0);
+    cpu.service();
+    drop((cpu, consumer));
+    assert!(session.finish().is_ok());
+}
+
+#[test]
 fn what_is_out_comes_home() {
     let (mut session, cpu, consumer, _) = small(1 << 62);
     assert_eq!(session.cpu(0).err(), Some(Error::Out));

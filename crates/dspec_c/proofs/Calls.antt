@@ -1,6 +1,6 @@
 -- A call on what a handle holds is one on the CPU, or the consumer, that is there.
-use Rattle.std.proofs.Common.{◌≡◌, ℕ, Bool, true, false, not, Option, Some, None, refl, sym, subst}
-use Rattle.std.specs.Prelude.{is_none, is_some, Result, Ok, Err, IfErr, IfNone, IfSome, MatchOption, MatchResult, OnErr, OnOk}
+use Rattle.std.proofs.Common.{◌≡◌, ℕ, Bool, Option, Some, None, refl, sym, subst}
+use Rattle.std.specs.Prelude.{Result, Ok, Err, IfErr, IfNone, IfSome, MatchOption, MatchResult, OnErr, OnOk}
 use Rattle.dspec_ring.specs.declared.batch.Batch.{Batch}
 use Rattle.dspec_record.specs.EnablingRows.{EnabledRows}
 use Rattle.dspec_cpu.specs.declared.cpu.Cpu.{Cpu}
@@ -24,13 +24,6 @@ pub on_boxed : (refuses : Bool) (did : Cpu EnabledRows → Cpu EnabledRows → T
     → record { shared = shared; cpu = cpu; refused = refused } ≡ old → was ≡ cpu → new.shared ≡ shared → did was new.cpu → new.refused ≡ one_refused refuses refused → OnSide refuses did old new
 on_boxed refuses did old shared was cpu refused new e f same done count =
     on_side refuses did old (record { shared = shared; cpu = cpu; refused = refused }) new e same (subst (λ (x : Cpu EnabledRows). did x new.cpu) f done) count
-
--- whether there is no answer, told by whether there is one
-pub none_told : {A : Type 0} (a : Option A) (told : Bool) → is_some a ≡ not told → told ≡ is_none a
-none_told None true e = refl
-none_told None false e = cc
-none_told (Some x) true e = cc
-none_told (Some x) false e = refl
 
 pub on_cpu : (did : Side → Side → Type 0) (stays : Type 0) (was : Held) (status : ℕ) (now : Held) (old new : Side) → was ≡ held.Cpu old → now ≡ held.Cpu new → did old new
     → OnCpu did stays was status now

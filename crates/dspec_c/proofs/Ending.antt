@@ -130,14 +130,18 @@ all_fresh shared schema n [] is = tt
 all_fresh shared schema n (cpu ∷ cpus) is = ((refl, ((is 0 cpu refl).0, (is 0 cpu refl).1, refl)), all_fresh shared schema (suc n) cpus (λ c x at. is (suc c) x at))
 
 -- those can call the CPU at a place who share what the session does
-pub place_with : (shared given : Shared) (n : ℕ) (places : List CpuStay) (theirs : Option Theirs) (c : ℕ) (s : CpuStay) → IsWhole shared n (firsts places) theirs → given ≡ shared
-    → slice_get places c ≡ Some s → IsPlaceWith given s.first
-place_with shared given n places theirs c s is e at = λ first f.
-    let at_c = each_at (IsPlaceOf shared is.schema (pairs_of is.first.consumer)) 0 (firsts places) c s.first is.ending.each (first_at places c s at) in
+pub place_first : (shared given : Shared) (n : ℕ) (places : List CpuStay) (theirs : Option Theirs) (c : ℕ) (there : Option Side) → IsWhole shared n (firsts places) theirs → given ≡ shared
+    → slice_get (firsts places) c ≡ Some there → IsPlaceWith given there
+place_first shared given n places theirs c there is e at = λ first f.
+    let at_c = each_at (IsPlaceOf shared is.schema (pairs_of is.first.consumer)) 0 (firsts places) c there is.ending.each at in
     let g : at_c.side ≡ first = ap (λ (o : Option Side). or_else first o) (sym at_c.is ∙ f) in (
       e ∙ sym at_c.shares ∙ ap (λ (x : Side). x.shared) g,
       subst (λ (x : Side). IsCallable given x.cpu) g (subst (λ (m : Shared). IsCallable m at_c.side.cpu) (sym e) at_c.cpu.belongs),
     )
+
+pub place_with : (shared given : Shared) (n : ℕ) (places : List CpuStay) (theirs : Option Theirs) (c : ℕ) (s : CpuStay) → IsWhole shared n (firsts places) theirs → given ≡ shared
+    → slice_get places c ≡ Some s → IsPlaceWith given s.first
+place_with shared given n places theirs c s is e at = place_first shared given n places theirs c s.first is e (first_at places c s at)
 
 -- a CPU that goes out is the one of its number
 pub number_out : (shared given : Shared) (n : ℕ) (places : List CpuStay) (theirs : Option Theirs) (c : ℕ) (side : Side) (now : List CpuStay) → IsWhole shared n (firsts places) theirs

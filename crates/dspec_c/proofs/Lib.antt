@@ -12,5 +12,6 @@ mod Options
 pub mod Shapes
 pub mod Signing
 pub mod Taken
+mod Tends
 mod Values
 pub mod Widths

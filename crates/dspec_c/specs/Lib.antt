@@ -12,5 +12,6 @@ pub mod SessionCalls
 pub mod Shows
 pub mod Signatures
 pub mod Statuses
+pub mod Tending
 pub mod Whole
 pub mod Widths

@@ -11,7 +11,7 @@ use crate::held_calls::{
 };
 use crate::reports::CReport;
 use crate::signatures::Claim;
-use crate::statuses::BAD_HANDLE;
+use crate::statuses::{BAD_HANDLE, bad_handle};
 
 /// Traces a record.
 #[unsafe(no_mangle)]
@@ -20,7 +20,7 @@ pub extern "C" fn dspec_trace(cpu: &mut Handle, epid: u32, stamp: u64, values: &
     ensures stays { is_full cpu.new ≡ is_full cpu.old }
 {
     if !cpu.is_held() {
-        return BAD_HANDLE;
+        return bad_handle();
     }
     held_trace(cpu.lend(), epid, stamp, values)
 }
@@ -38,7 +38,7 @@ pub extern "C" fn dspec_fire(
     ensures stays { is_full cpu.new ≡ is_full cpu.old }
 {
     if !cpu.is_held() {
-        return BAD_HANDLE;
+        return bad_handle();
     }
     let claim = Claim {
         epid,
@@ -61,7 +61,7 @@ pub extern "C" fn dspec_fire_in(
     ensures stays { is_full cpu.new ≡ is_full cpu.old }
 {
     if !cpu.is_held() {
-        return BAD_HANDLE;
+        return bad_handle();
     }
     let claim = Claim {
         epid,
@@ -95,7 +95,7 @@ pub extern "C" fn dspec_speculate(
     ensures stays { is_full cpu.new ≡ is_full cpu.old }
 {
     if !cpu.is_held() {
-        return BAD_HANDLE;
+        return bad_handle();
     }
     held_speculate(cpu.lend(), id, epid, stamp, values)
 }

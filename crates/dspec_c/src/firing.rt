@@ -1,121 +1,122 @@
-//! Records whose fields are known when the library is compiled: their shape and their bytes are looked up nowhere. A few shapes are;
-//! a record of another is made as `Cpu::record` makes it.
+//! A record by its EPID and its values, on a CPU. What is fired has a type of its own: what takes a record is built once for each type, and
+//! so it stands in the one call that is made with it.
 
-ghost use Rattle.std.specs.Prelude.{◌≡◌, Some};
-ghost use Rattle.dspec_record.specs.Schemas.{enabled};
-ghost use Rattle.dspec_cpu.specs.Lists.{schema_of};
+ghost use Rattle.std.specs.Prelude.{◌≡◌};
 ghost use Rattle.dspec_cpu.specs.Standing.{IsCallable};
 ghost use Rattle.dspec_c.specs.CpuCalls.{Offered, Recorded};
-ghost use Rattle.dspec_c.specs.Signatures.{word_of};
 
-use crate::signatures::Claim;
 use dspec_cpu::{Cpu, Shared};
 use dspec_deeds::{Spoken, Traced};
-use dspec_probe::{Fields, Fired, Stamped, Unstamped};
-use dspec_record::{Enablings, Header};
+use dspec_record::{BorrowedRec, Enablings, Rec, Recorded, Schema, Shape};
 use dspec_word::SpecId;
 
-/// The greatest value of a field of four bytes.
-const MAX_FOUR: u64 = 0xffff_ffff;
+// A record that is fired.
+#[derive(Clone, Copy)]
+struct FiredRec<'a> {
+    borrowed: BorrowedRec<'a>,
+}
 
-// Traces the record of these values, which are those of the EPID's fields.
-#[inline(always)]
-fn trace_typed<F: Fields>(
-    cpu: &mut Cpu<Enablings>,
-    shared: &Shared,
-    epid: u32,
-    stamp: u64,
-    values: F,
-) -> Option<Traced>
-    requires of { IsCallable shared.now cpu.old }
-    requires row { enabled (schema_of cpu.old).rows epid ≡ Some F.fields_are }
-    ensures { Recorded epid stamp (F.numbers_of values) result cpu.old cpu.new }
-{
-    let rec = values.rec(epid, stamp);
-    match cpu.schema().header() {
-        Header::One => {
-            if stamp != 0 {
-                return None;
-            }
-            Some(cpu.trace_recorded(shared, Fired::<F, Unstamped>::of(&rec, values)))
-        }
-        Header::Two => Some(cpu.trace_recorded(shared, Fired::<F, Stamped>::of(&rec, values))),
+impl<'a> Recorded for FiredRec<'a> {
+    ghost use Rattle.std.specs.Prelude.{None};
+    ghost use Rattle.dspec_record.specs.Borrowed.{borrowed_record};
+
+    ghost as_record = { λ f. borrowed_record f.borrowed };
+
+    ghost laid_as = { λ _. None };
+
+    #[inline(always)]
+    fn epid(&self) -> u32 {
+        self.borrowed.epid()
+    }
+
+    #[inline(always)]
+    fn stamp(&self) -> u64 {
+        self.borrowed.stamp()
+    }
+
+    #[inline(always)]
+    fn values(&self) -> &[u64] {
+        self.borrowed.values()
+    }
+
+    #[inline(always)]
+    fn to_rec(&self) -> Rec {
+        self.borrowed.to_rec()
+    }
+
+    #[inline(always)]
+    fn laid_shape(&self) -> Option<Shape> {
+        self.borrowed.laid_shape()
+    }
+
+    #[inline(always)]
+    fn put_laid(&self, out: &mut [u8]) -> bool {
+        self.borrowed.put_laid(out)
     }
 }
 
-// Offers the record of these values, which are those of the EPID's fields, to a speculation.
+/// Traces the record with these values. None: the schema doesn't accept it.
 #[inline(always)]
-fn offer_typed<F: Fields>(
-    cpu: &mut Cpu<Enablings>,
-    shared: &Shared,
-    id: SpecId,
-    epid: u32,
-    stamp: u64,
-    values: F,
-) -> Option<Spoken>
-    requires of { IsCallable shared.now cpu.old }
-    requires row { enabled (schema_of cpu.old).rows epid ≡ Some F.fields_are }
-    ensures { Offered id epid stamp (F.numbers_of values) result cpu.old cpu.new }
-{
-    let rec = values.rec(epid, stamp);
-    match cpu.schema().header() {
-        Header::One => {
-            if stamp != 0 {
-                return None;
-            }
-            Some(cpu.speculate_recorded(shared, id, Fired::<F, Unstamped>::of(&rec, values)))
-        }
-        Header::Two => {
-            Some(cpu.speculate_recorded(shared, id, Fired::<F, Stamped>::of(&rec, values)))
-        }
-    }
-}
-
-/// Traces the record with these values; the EPID has the fields that are said. None: the schema doesn't accept it.
 pub fn trace(
     cpu: &mut Cpu<Enablings>,
     shared: &Shared,
-    claim: Claim,
+    epid: u32,
     stamp: u64,
     values: &[u64],
 ) -> Option<Traced>
     requires of { IsCallable shared.now cpu.old }
-    requires word { word_of (enabled (schema_of cpu.old).rows claim.epid) ≡ claim.word }
-    ensures { Recorded claim.epid stamp values.now result cpu.old cpu.new }
+    ensures { Recorded epid stamp values.now result cpu.old cpu.new }
 {
-    let Claim { epid, word } = claim;
-    match (word, values) {
-        (0x4, [a]) if *a <= MAX_FOUR => trace_typed(cpu, shared, epid, stamp, (*a as u32,)),
-        (0x8, [a]) => trace_typed(cpu, shared, epid, stamp, (*a,)),
-        (0x88, [a, b]) => trace_typed(cpu, shared, epid, stamp, (*a, *b)),
-        (0x48, [a, b]) if *b <= MAX_FOUR => {
-            trace_typed(cpu, shared, epid, stamp, (*a, *b as u32))
-        }
-        _ => cpu.record(shared, epid, stamp, values),
-    }
+    let rec = cpu.schema().borrowed(epid, stamp, values)?;
+    Some(cpu.trace_recorded(shared, rec))
 }
 
-/// Offers the record with these values to a speculation; the EPID has the fields that are said. None: the schema doesn't accept it.
-pub fn offer(
+/// As `trace`, by a fire.
+#[inline(always)]
+pub fn fire(
     cpu: &mut Cpu<Enablings>,
     shared: &Shared,
+    epid: u32,
+    stamp: u64,
+    values: &[u64],
+) -> Option<Traced>
+    requires of { IsCallable shared.now cpu.old }
+    ensures { Recorded epid stamp values.now result cpu.old cpu.new }
+{
+    let rec = cpu.schema().borrowed(epid, stamp, values)?;
+    Some(cpu.trace_recorded(shared, FiredRec { borrowed: rec }))
+}
+
+/// Offers the record with these values to a speculation. None: the schema doesn't accept it.
+#[inline(always)]
+pub fn offer(
+    cpu: &mut Cpu<Enablings>,
     id: SpecId,
-    claim: Claim,
+    shared: &Shared,
+    epid: u32,
     stamp: u64,
     values: &[u64],
 ) -> Option<Spoken>
     requires of { IsCallable shared.now cpu.old }
-    requires word { word_of (enabled (schema_of cpu.old).rows claim.epid) ≡ claim.word }
-    ensures { Offered id claim.epid stamp values.now result cpu.old cpu.new }
+    ensures { Offered id epid stamp values.now result cpu.old cpu.new }
 {
-    let Claim { epid, word } = claim;
-    match (word, values) {
-        (0x4, [a]) if *a <= MAX_FOUR => offer_typed(cpu, shared, id, epid, stamp, (*a as u32,)),
-        (0x8, [a]) => offer_typed(cpu, shared, id, epid, stamp, (*a,)),
-        (0x88, [a, b]) => offer_typed(cpu, shared, id, epid, stamp, (*a, *b)),
-        (0x48, [a, b]) if *b <= MAX_FOUR => {
-            offer_typed(cpu, shared, id, epid, stamp, (*a, *b as u32))
-        }
-        _ => cpu.offer(shared, id, epid, stamp, values),
-    }
+    let rec = cpu.schema().borrowed(epid, stamp, values)?;
+    Some(cpu.speculate_recorded(shared, id, rec))
+}
+
+/// As `offer`, by a fire.
+#[inline(always)]
+pub fn fire_in(
+    cpu: &mut Cpu<Enablings>,
+    id: SpecId,
+    shared: &Shared,
+    epid: u32,
+    stamp: u64,
+    values: &[u64],
+) -> Option<Spoken>
+    requires of { IsCallable shared.now cpu.old }
+    ensures { Offered id epid stamp values.now result cpu.old cpu.new }
+{
+    let rec = cpu.schema().borrowed(epid, stamp, values)?;
+    Some(cpu.speculate_recorded(shared, id, FiredRec { borrowed: rec }))
 }

@@ -5,15 +5,16 @@ ghost use Rattle.dspec_c.specs.CpuCalls.{CommitAnswers, DiscardAnswers, DroppedI
 use crate::held::Held;
 use crate::reports::CReport;
 use crate::signatures::Claim;
-use crate::statuses::{BAD_HANDLE, OK, of_decided, of_opening, of_spoken, of_traced};
+use crate::statuses::{BAD_HANDLE, OK, bad_handle, of_decided, of_opening, of_spoken, of_traced};
 use dspec_word::SpecId;
 
+#[inline(always)]
 pub fn held_trace(held: &mut Held, epid: u32, stamp: u64, values: &[u64]) -> u32
     ensures { TraceAnswers epid stamp values.now held.old result held.new }
 {
     match held {
         Held::Cpu(side) => of_traced(side.trace(epid, stamp, values)),
-        _ => BAD_HANDLE,
+        _ => bad_handle(),
     }
 }
 
@@ -23,7 +24,7 @@ pub fn held_fire(held: &mut Held, claim: Claim, stamp: u64, values: &[u64]) -> u
 {
     match held {
         Held::Cpu(side) => of_traced(side.fire(claim, stamp, values)),
-        _ => BAD_HANDLE,
+        _ => bad_handle(),
     }
 }
 
@@ -33,7 +34,7 @@ pub fn held_fire_in(held: &mut Held, id: u64, claim: Claim, stamp: u64, values: 
 {
     match held {
         Held::Cpu(side) => of_spoken(side.fire_in(SpecId::from_raw(id), claim, stamp, values)),
-        _ => BAD_HANDLE,
+        _ => bad_handle(),
     }
 }
 
@@ -46,12 +47,13 @@ pub fn held_speculation(held: &mut Held, id: &mut u64) -> u32
     }
 }
 
+#[inline(always)]
 pub fn held_speculate(held: &mut Held, id: u64, epid: u32, stamp: u64, values: &[u64]) -> u32
     ensures { SpeculateAnswers id epid stamp values.now held.old result held.new }
 {
     match held {
         Held::Cpu(side) => of_spoken(side.offer(SpecId::from_raw(id), epid, stamp, values)),
-        _ => BAD_HANDLE,
+        _ => bad_handle(),
     }
 }
 

@@ -1,4 +1,4 @@
-use dspec_cpu::Cpu;
+use dspec_cpu::{Cpu, Shared};
 use dspec_record::Enablings;
 use std::marker::Model;
 
@@ -19,6 +19,8 @@ impl Model for HomeCpu {
 
 impl HomeCpu {
     ghost use Rattle.std.specs.Prelude.{◌≡◌};
+    ghost use Rattle.dspec_cpu.specs.Standing.{IsCallable};
+    ghost use Rattle.dspec_c.specs.Tending.{ServedAtHome};
 
     pub fn of(cpu: Box<Cpu<Enablings>>, refused: u64) -> HomeCpu
         ensures { result ≡ record { cpu = cpu.value; refused = refused } }
@@ -31,6 +33,14 @@ impl HomeCpu {
         ensures { result ≡ self.now.refused }
     {
         self.refused
+    }
+
+    /// Makes a service of it; how many speculations that settled.
+    pub fn serve(&mut self, shared: &Shared) -> u32
+        requires { IsCallable shared.now self.old.cpu }
+        ensures { ServedAtHome result self.old self.new }
+    {
+        self.cpu.service(shared).settled
     }
 
     pub fn into_box(self) -> Box<Cpu<Enablings>>

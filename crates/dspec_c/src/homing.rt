@@ -1,9 +1,6 @@
-ghost use Rattle.std.specs.Prelude.{◌≡◌};
-ghost use Rattle.dspec_c.specs.CpuCalls.{one_refused};
-
 use crate::firing;
 use crate::home_cpu::HomeCpu;
-use crate::signatures::{Claim, EPIDS, epid_words};
+use crate::signatures::{EPIDS, epid_words};
 use dspec_cpu::{Cpu, Shared};
 use dspec_deeds::{Decided, Opening, Report, Served, Spoken, Traced};
 use dspec_record::Enablings;
@@ -33,17 +30,6 @@ impl Model for Homing {
     ghost invariant = { λ s. IsCallable (arc_value s.shared) s.cpu.value };
 }
 
-// The count once one record more was refused, or none.
-fn counted(refused: u64, is_refused: bool) -> u64
-    ensures { result ≡ one_refused is_refused refused }
-{
-    if is_refused {
-        refused.saturating_add(1)
-    } else {
-        refused
-    }
-}
-
 /// What comes through a ring is the same CPU of the same session as what came before.
 #[derive(Clone, Copy)]
 pub struct HomeRule;
@@ -57,13 +43,12 @@ impl Protocol<Homing> for HomeRule {
 impl Homing {
     ghost use Rattle.std.specs.Prelude.{◌≡◌, true, false, is_none};
     ghost use Rattle.std.specs.Arc.{arc_value};
-    ghost use Rattle.dspec_record.specs.Schemas.{enabled};
     ghost use Rattle.dspec_cpu.specs.Lists.{schema_of};
     ghost use Rattle.dspec_cpu.specs.Standing.{IsCallable};
-    ghost use Rattle.dspec_c.specs.Signatures.{AreSigned, word_of};
+    ghost use Rattle.dspec_c.specs.Signatures.{AreSigned};
     ghost use Rattle.dspec_promise.specs.Promise.{commit, discard};
     ghost use Rattle.dspec_c.specs.Homes.{IsSameSide, at_home};
-    ghost use Rattle.dspec_c.specs.CpuCalls.{DecidedAs, Drops, Offered, OnSide, Opened, Recorded, Reports, ServicedSo};
+    ghost use Rattle.dspec_c.specs.CpuCalls.{DecidedAs, Drops, Offered, OnSide, Opened, Recorded, Reports, ServicedSo, one_refused};
 
     pub fn of(shared: Arc<Shared, Global>, home: HomeCpu) -> Homing
         requires { IsCallable (arc_value shared) home.cpu }
@@ -78,25 +63,29 @@ impl Homing {
     }
 
     /// None: it isn't a record of the schema, and is counted as refused.
+    #[inline(always)]
     pub fn trace(&mut self, epid: u32, stamp: u64, values: &[u64]) -> Option<Traced>
         ensures same { IsSameSide self.old self.new }
         ensures did { OnSide (is_none result) (Recorded epid stamp values.now result) self.old self.new }
     {
-        let answer = self.cpu.record(&self.shared, epid, stamp, values);
-        self.refused = counted(self.refused, answer.is_none());
-        answer
+        let Some(answer) = firing::trace(&mut *self.cpu, &*self.shared, epid, stamp, values) else {
+            self.refuse();
+            return None;
+        };
+        Some(answer)
     }
 
-    /// As `trace`, of a record whose EPID has the fields that are said.
+    /// As `trace`, by a fire.
     #[inline(always)]
-    pub fn fire(&mut self, claim: Claim, stamp: u64, values: &[u64]) -> Option<Traced>
-        requires { word_of (enabled (schema_of self.old.cpu).rows claim.epid) ≡ claim.word }
+    pub fn fire(&mut self, epid: u32, stamp: u64, values: &[u64]) -> Option<Traced>
         ensures same { IsSameSide self.old self.new }
-        ensures did { OnSide (is_none result) (Recorded claim.epid stamp values.now result) self.old self.new }
+        ensures did { OnSide (is_none result) (Recorded epid stamp values.now result) self.old self.new }
     {
-        let answer = firing::trace(&mut *self.cpu, &*self.shared, claim, stamp, values);
-        self.refused = counted(self.refused, answer.is_none());
-        answer
+        let Some(answer) = firing::fire(&mut *self.cpu, &*self.shared, epid, stamp, values) else {
+            self.refuse();
+            return None;
+        };
+        Some(answer)
     }
 
     pub fn service(&mut self) -> Served
@@ -107,40 +96,42 @@ impl Homing {
     }
 
     /// None: it isn't a record of the schema, and is counted as refused.
+    #[inline(always)]
     pub fn offer(&mut self, id: SpecId, epid: u32, stamp: u64, values: &[u64]) -> Option<Spoken>
         ensures same { IsSameSide self.old self.new }
         ensures did { OnSide (is_none result) (Offered id epid stamp values.now result) self.old self.new }
     {
-        let answer = self.cpu.offer(&self.shared, id, epid, stamp, values);
-        self.refused = counted(self.refused, answer.is_none());
-        answer
+        let Some(answer) = firing::offer(&mut *self.cpu, id, &*self.shared, epid, stamp, values)
+        else {
+            self.refuse();
+            return None;
+        };
+        Some(answer)
     }
 
-    /// As `offer`, of a record whose EPID has the fields that are said.
+    /// As `offer`, by a fire.
     #[inline(always)]
-    pub fn fire_in(
-        &mut self,
-        id: SpecId,
-        claim: Claim,
-        stamp: u64,
-        values: &[u64],
-    ) -> Option<Spoken>
-        requires { word_of (enabled (schema_of self.old.cpu).rows claim.epid) ≡ claim.word }
+    pub fn fire_in(&mut self, id: SpecId, epid: u32, stamp: u64, values: &[u64]) -> Option<Spoken>
         ensures same { IsSameSide self.old self.new }
-        ensures did { OnSide (is_none result) (Offered id claim.epid stamp values.now result) self.old self.new }
+        ensures did { OnSide (is_none result) (Offered id epid stamp values.now result) self.old self.new }
     {
-        let answer = firing::offer(&mut *self.cpu, &*self.shared, id, claim, stamp, values);
-        self.refused = counted(self.refused, answer.is_none());
-        answer
+        let Some(answer) = firing::fire_in(&mut *self.cpu, id, &*self.shared, epid, stamp, values)
+        else {
+            self.refuse();
+            return None;
+        };
+        Some(answer)
     }
 
-    /// Counts a record as refused that isn't handed to the schema.
+    /// Counts a record as refused.
+    #[cold]
+    #[inline(never)]
     pub fn refuse(&mut self)
         ensures same { IsSameSide self.old self.new }
         ensures cpu { self.new.cpu ≡ self.old.cpu }
         ensures refused { self.new.refused ≡ one_refused true self.old.refused }
     {
-        self.refused = counted(self.refused, true);
+        self.refused = self.refused.saturating_add(1);
     }
 
     /// The word of each EPID.

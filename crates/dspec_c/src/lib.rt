@@ -35,6 +35,7 @@ mod seal;
 mod session_calls;
 mod signatures;
 mod statuses;
+mod tending;
 mod under_way;
 
 pub use batches::CBatch;

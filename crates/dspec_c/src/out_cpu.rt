@@ -67,7 +67,7 @@ impl OutCpu {
             self.homing.refuse();
             return None;
         }
-        self.homing.fire(of, stamp, values)
+        self.homing.fire(of.epid, stamp, values)
     }
 
     /// As `offer`, by one who says which fields the EPID has. None: it has others, or it isn't a record of the schema, and is counted as
@@ -80,10 +80,11 @@ impl OutCpu {
             self.homing.refuse();
             return None;
         }
-        self.homing.fire_in(id, of, stamp, values)
+        self.homing.fire_in(id, of.epid, stamp, values)
     }
 
     /// None: it isn't a record of the schema, and is counted as refused.
+    #[inline(always)]
     pub fn trace(&mut self, epid: u32, stamp: u64, values: &[u64]) -> Option<Traced>
         ensures did { OnSide (is_none result) (Recorded epid stamp values.now result) self.old self.new }
     {
@@ -97,6 +98,7 @@ impl OutCpu {
     }
 
     /// None: it isn't a record of the schema, and is counted as refused.
+    #[inline(always)]
     pub fn offer(&mut self, id: SpecId, epid: u32, stamp: u64, values: &[u64]) -> Option<Spoken>
         ensures did { OnSide (is_none result) (Offered id epid stamp values.now result) self.old self.new }
     {

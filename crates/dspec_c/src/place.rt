@@ -34,6 +34,7 @@ impl Place {
     ghost use Rattle.std.specs.Arc.{arc_value};
     ghost use Rattle.dspec_cpu.specs.Standing.{identity};
     ghost use Rattle.dspec_c.specs.Homes.{Came, IsPlaceWith, LeavesPlace, Side};
+    ghost use Rattle.dspec_c.specs.Tending.{IsTended, ServedIfThere};
     ghost use Rattle.dspec_c.specs.Whole.{refused_inside, waits_with};
 
     /// The CPU's place, with the CPU in it, which waits.
@@ -63,6 +64,29 @@ impl Place {
             }
             Err(_) => false,
         }
+    }
+
+    // A service of the CPU that is inside.
+    fn serve(&mut self, shared: &Shared) -> u32
+        requires place { IsPlaceWith shared.now self.old.first }
+        requires inside { IsSome self.old.inside }
+        ensures { ServedIfThere result self.old self.new }
+    {
+        let mut home = self.inside.take().unwrap();
+        let settled = home.serve(shared);
+        self.inside = Some(home);
+        settled
+    }
+
+    /// Makes a service of the CPU, where it is at its place; how many speculations that settled.
+    pub fn tend(&mut self, shared: &Shared) -> u32
+        requires { IsPlaceWith shared.now self.old.first }
+        ensures { IsTended result self.old self.new }
+    {
+        if !self.is_in() {
+            return 0;
+        }
+        self.serve(shared)
     }
 
     /// Whether the CPU waits to be handed out.

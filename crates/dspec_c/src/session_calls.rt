@@ -4,6 +4,7 @@ ghost use Rattle.std.specs.Prelude.{◌≡◌, true, false};
 ghost use Rattle.dspec_c.specs.Configs.{asked_for};
 ghost use Rattle.dspec_c.specs.Handles.{held_in, is_full};
 ghost use Rattle.dspec_c.specs.SessionCalls.{ConsumerOfAnswers, CpuOfAnswers, EndsSo, FinishAnswers, GivesConsumer, GivesCpu, HandsOut, KeptSo, LooksHome, StartAnswers, StartsSo, consumer_due, cpu_due};
+ghost use Rattle.dspec_c.specs.Tending.{TendAnswers};
 ghost use Rattle.dspec_c.specs.Whole.{Going, IsHome};
 ghost use Rattle.dspec_c.specs.declared.held.Held.TheVariants as held_as;
 
@@ -187,6 +188,30 @@ pub extern "C" fn dspec_consumer_of(
         return BAD_HANDLE;
     }
     held_consumer_of(alloc, session.lend(), consumer)
+}
+
+fn held_tend(session: &mut Held, settled: &mut u64) -> u32
+    ensures { TendAnswers session.old result settled.old settled.new session.new }
+{
+    match session {
+        Held::Session(whole) => {
+            *settled = whole.tend();
+            OK
+        }
+        _ => BAD_HANDLE,
+    }
+}
+
+/// Makes a service of each CPU that is home or was never handed out.
+#[unsafe(no_mangle)]
+pub extern "C" fn dspec_tend(session: &mut Handle, settled: &mut u64) -> u32
+    ensures answers { TendAnswers (held_in session.old) result settled.old settled.new (held_in session.new) }
+    ensures stays { is_full session.new ≡ is_full session.old }
+{
+    if !session.is_held() {
+        return BAD_HANDLE;
+    }
+    held_tend(session.lend(), settled)
 }
 
 fn is_home(held: &mut Held) -> Result<(), u32>

@@ -1,7 +1,7 @@
 //! What every call answers, as a number; `dspec.h` has their names.
 
 ghost use Rattle.std.specs.Prelude.{◌≡◌};
-ghost use Rattle.dspec_c.specs.Statuses.{asked_status, decided_number, decided_status, found_status, opened_number, opening_status, returned_status, spoken_status, start_status, traced_status};
+ghost use Rattle.dspec_c.specs.Statuses.{asked_status, bad_handle, decided_number, decided_status, found_status, opened_number, opening_status, returned_status, spoken_status, start_status, traced_status};
 
 use crate::consumer_side::{Found, Returned};
 use dspec_deeds::{Decided, Opening, Spoken, StartFault, Traced};
@@ -46,6 +46,15 @@ pub const BUSY: u32 = 37;
 
 pub const LOST: u32 = 38;
 
+/// What a call of a CPU answers where its handle holds none: a call of its own, by which the compiler knows that this is rare.
+#[cold]
+#[inline(never)]
+pub fn bad_handle() -> u32
+    ensures { result ≡ bad_handle }
+{
+    BAD_HANDLE
+}
+
 /// Why a session didn't start.
 pub fn of_start(fault: StartFault) -> u32
     ensures { result ≡ start_status fault }
@@ -62,6 +71,7 @@ pub fn of_start(fault: StartFault) -> u32
 }
 
 /// What a trace answered; None: it wasn't a record of the schema.
+#[inline(always)]
 pub fn of_traced(answer: Option<Traced>) -> u32
     ensures { result ≡ traced_status answer }
 {
@@ -75,6 +85,7 @@ pub fn of_traced(answer: Option<Traced>) -> u32
 }
 
 /// What a record offered to a speculation was answered; None: it wasn't a record of the schema.
+#[inline(always)]
 pub fn of_spoken(answer: Option<Spoken>) -> u32
     ensures { result ≡ spoken_status answer }
 {

@@ -7,6 +7,7 @@ use crate::out_consumer::OutConsumer;
 use crate::out_cpu::OutCpu;
 use crate::place::Place;
 use crate::places::places;
+use crate::tending::tend_all;
 use dspec_consumer::{Consumer, Session};
 use dspec_cpu::{Cpu, Shared};
 use dspec_deeds::{Config, StartFault};
@@ -52,6 +53,7 @@ impl UnderWay {
     ghost use Rattle.dspec_cpu.specs.Lists.{words_of};
     ghost use Rattle.dspec_consumer.specs.Consumers.{view_of};
     ghost use Rattle.dspec_consumer.specs.Sessions.{Has, IsFresh, IsSession};
+    ghost use Rattle.dspec_c.specs.Tending.{IsTendedWhole};
     ghost use Rattle.dspec_c.specs.Whole.{AllCalled, EndedBy, GoesOut, HasAll, IsAway, IsHome, IsJustStarted, IsStarted, LookedLater, TheyGoOut, waits_in};
 
     fn of(
@@ -181,6 +183,13 @@ impl UnderWay {
         ensures none { IfNone result ((self.old.consumer.waits ≡ false) × (self.new ≡ self.old)) }
     {
         self.place.hand_out(shared)
+    }
+
+    /// Makes a service of each CPU that is home or was never handed out; how many speculations they settled in all.
+    pub fn tend(&mut self) -> u64
+        ensures { IsTendedWhole result self.old self.new }
+    {
+        tend_all(&mut self.places, self.cpus, &self.common)
     }
 
     /// Whether the consumer and all CPUs are home. Those that were never handed out are.
