@@ -1,4 +1,4 @@
-ghost use Rattle.std.specs.Prelude.{◌≡◌, ◌++◌, [], ◌∷◌, List, IfOk, MatchOption, length};
+ghost use Rattle.std.specs.Prelude.{◌≡◌, ◌++◌, [], ◌∷◌, List, IfOk, MatchOption, MatchResult, length};
 ghost use Rattle.dspec.specs.declared.handing.Handed.{Handed};
 ghost use Rattle.dspec_belt.specs.Belts.{given_by, given_onto, handed_of, taken_by, taken_from_belt};
 
@@ -32,15 +32,15 @@ impl Giver {
     /// Gives a path, behind those that were given. It comes back, and nothing was given, where the belt is full, as far as this end
     /// can see.
     #[inline]
-    pub fn give(&mut self, path: Path) -> Option<Path>
+    pub fn give(&mut self, path: Path) -> Result<(), Path>
         ensures belt { given_onto self.new ≡ given_onto self.old }
-        ensures given { MatchOption result (given_by self.new ≡ given_by self.old ++ handed_of path ∷ []) (λ back. (back ≡ path) × (given_by self.new ≡ given_by self.old)) }
+        ensures given { MatchResult result (λ _. given_by self.new ≡ given_by self.old ++ handed_of path ∷ []) (λ back. (back ≡ path) × (given_by self.new ≡ given_by self.old)) }
     {
         if self.going.is_full() {
-            return Some(path);
+            return Err(path);
         }
         self.going.push_reserved(path.hand());
-        None
+        Ok(())
     }
 }
 
