@@ -25,5 +25,5 @@ given_onto g = pushed_into g.going
 abbrev pub taken_by : Taker → List Handed
 taken_by t = received t.coming
 
-abbrev pub taken_off : Taker → Ring
-taken_off t = popped_from t.coming
+abbrev pub taken_from_belt : Taker → Ring
+taken_from_belt t = popped_from t.coming

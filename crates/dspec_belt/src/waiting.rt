@@ -1,6 +1,6 @@
 ghost use Rattle.std.specs.Prelude.{◌≡◌, ◌++◌, [], ◌∷◌, MatchOption};
 ghost use Rattle.dspec.specs.Lanes.{place_of};
-ghost use Rattle.dspec_belt.specs.Belts.{handed_of, taken_by, taken_off};
+ghost use Rattle.dspec_belt.specs.Belts.{handed_of, taken_by, taken_from_belt};
 ghost use Rattle.dspec_belt.specs.Waits.{OpensWithin, ServesWithin, AsksOnce, LooksOnce};
 
 use crate::ends::Taker;
@@ -42,7 +42,7 @@ impl Taker {
     // A look, and a service behind one in vain.
     fn look<S: Schema>(&mut self, lane: &mut Lane<'_, S>) -> Option<Path>
         ensures same { place_of lane.new ≡ place_of lane.old }
-        ensures belt { taken_off self.new ≡ taken_off self.old }
+        ensures belt { taken_from_belt self.new ≡ taken_from_belt self.old }
         ensures looks { LooksOnce ⟦<Cpu<S> as Listed>⟧.has_list result self.old self.new lane.old lane.new }
     {
         if let Some(path) = self.take() {
@@ -58,7 +58,7 @@ impl Taker {
     pub fn take_within<S: Schema>(&mut self, lane: &mut Lane<'_, S>, looks: u32) -> Option<Path>
         ensures same { place_of lane.new ≡ place_of lane.old }
         ensures serves { ServesWithin ⟦<Cpu<S> as Listed>⟧.has_list looks lane.old lane.new }
-        ensures belt { taken_off self.new ≡ taken_off self.old }
+        ensures belt { taken_from_belt self.new ≡ taken_from_belt self.old }
         ensures taken { MatchOption result (taken_by self.new ≡ taken_by self.old) (λ path. taken_by self.new ≡ taken_by self.old ++ handed_of path ∷ []) }
     {
         for _ in 0..looks {

@@ -52,11 +52,11 @@ impl Hands {
         let Ok((mut giver, mut taker)) = belt(self.alloc, 2) else {
             return;
         };
-        let back = giver.give(self.opened(lane, 7));
+        let back = giver.give(self.opened(lane, 7)).err();
         self.count(!self.is_ended(lane, back, true));
-        let back = giver.give(self.opened(lane, 8));
+        let back = giver.give(self.opened(lane, 8)).err();
         self.count(!self.is_ended(lane, back, true));
-        let back = giver.give(self.opened(lane, 9));
+        let back = giver.give(self.opened(lane, 9)).err();
         self.count(self.is_ended(lane, back, false));
         self.count(taker.left(&mut giver) == 2);
         let path = taker.take();

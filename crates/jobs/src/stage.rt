@@ -68,7 +68,7 @@ impl Stage {
         ensures { place_of lane.new ≡ place_of lane.old }
     {
         let rest = match &mut self.to {
-            Some(belt) => belt.give(path),
+            Some(belt) => belt.give(path).err(),
             None => Some(path),
         };
         if let Some(path) = rest {
