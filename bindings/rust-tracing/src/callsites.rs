@@ -51,7 +51,8 @@ pub(crate) struct Callsites {
 
 impl Callsites {
     pub(crate) fn new() -> Callsites {
-        Callsites { callsites: Box::new([const { OnceLock::new() }; CALLSITES]), constants: constants() }
+        let callsites: Box<[_]> = (0..CALLSITES).map(|_| OnceLock::new()).collect();
+        Callsites { callsites: callsites.try_into().expect("as many were collected"), constants: constants() }
     }
 
     /// A callsite and its number: its place in a table without removals.

@@ -152,13 +152,11 @@ impl Lanes {
     #[inline(always)]
     pub(crate) fn on_cpu<R>(&self, session: usize, work: impl FnOnce(&mut Cpu) -> R) -> Option<R> {
         let mut lane = self.lane();
-        match lane.cpus.get_mut(session) {
-            Some(cpu) => Some(work(cpu)),
-            None => {
-                self.late();
-                None
-            }
+        if let Some(cpu) = lane.cpus.get_mut(session) {
+            return Some(work(cpu));
         }
+        self.late();
+        None
     }
 
     #[cold]
