@@ -3,7 +3,7 @@
 //! A literal is a text that stands in the program itself: in a part of the process that is mapped from the file of a program or of a library
 //! and that nobody can write to. Only such a text gets into the table, so no text that a program made while it ran stays there.
 
-use crate::values::{FIELDS, NO_SHAPE};
+use crate::values::{are_numbered, NO_SHAPE, UNNUMBERED};
 use std::fs;
 use std::ops::Range;
 use std::ptr;
@@ -36,8 +36,8 @@ struct Literal {
 #[derive(Debug)]
 pub(crate) struct Callsite {
     pub(crate) metadata: &'static Metadata<'static>,
-    /// The names of those fields that are recorded.
-    pub(crate) names: Box<[&'static str]>,
+    /// A bit among types, where the numbers of its fields aren't known; else none.
+    pub(crate) unnumbered: u64,
     literals: [OnceLock<Literal>; LITERALS],
     /// The types that its fields have had, each the shape of its place; 0 where there is none yet.
     shapes: [AtomicU64; SHAPES],
@@ -45,13 +45,14 @@ pub(crate) struct Callsite {
 
 #[derive(Debug)]
 pub(crate) struct Callsites {
-    callsites: Box<[OnceLock<Box<Callsite>>]>,
+    callsites: Box<[OnceLock<Box<Callsite>>; CALLSITES]>,
     constants: Vec<Range<usize>>,
 }
 
 impl Callsites {
     pub(crate) fn new() -> Callsites {
-        Callsites { callsites: (0..CALLSITES).map(|_| OnceLock::new()).collect(), constants: constants() }
+        let callsites: Box<[_]> = (0..CALLSITES).map(|_| OnceLock::new()).collect();
+        Callsites { callsites: callsites.try_into().expect("as many were collected"), constants: constants() }
     }
 
     /// A callsite and its number: its place in a table without removals.
@@ -110,20 +111,17 @@ fn number_of(place: usize) -> u32 {
 impl Callsite {
     #[cold]
     fn new(metadata: &'static Metadata<'static>) -> Box<Callsite> {
-        let names = metadata.fields().iter().take(FIELDS).map(|field| field.name()).collect();
-        Box::new(Callsite { metadata, names, literals: Default::default(), shapes: Default::default() })
+        let unnumbered = if are_numbered(metadata) { 0 } else { UNNUMBERED };
+        Box::new(Callsite { metadata, unnumbered, literals: Default::default(), shapes: Default::default() })
+    }
+
+    #[inline]
+    pub(crate) fn is_first_literal(&self, text: &str) -> bool {
+        self.literals[0].get().is_some_and(|first| first.at == text.as_ptr() as usize && first.text.len() == text.len())
     }
 
     /// The number of a literal, which is learnt where there is room; none of a text that the program made.
-    #[inline]
     pub(crate) fn literal(&self, text: &str, callsites: &Callsites) -> Option<u64> {
-        match self.literals[0].get() {
-            Some(first) if first.at == text.as_ptr() as usize && first.text.len() == text.len() => Some(0),
-            _ => self.literal_among(text, callsites),
-        }
-    }
-
-    fn literal_among(&self, text: &str, callsites: &Callsites) -> Option<u64> {
         if text.is_empty() {
             return None;
         }

@@ -5,7 +5,7 @@
 use crate::path_id::PathId;
 use crate::sink::Why;
 use crate::values::Held;
-use dspec::{Cpu, Epid, Spoken, Traced};
+use dspec::{Cpu, Epid, Error, Spoken, Traced};
 use std::cell::Cell;
 use std::sync::atomic::{AtomicU64, AtomicUsize, Ordering};
 use std::sync::{Mutex, MutexGuard, PoisonError, TryLockError};
@@ -73,10 +73,9 @@ impl Lane {
     }
 
     /// Offers a record to a path.
-    #[inline]
-    pub(crate) fn speculate(&mut self, path: PathId, epid: u32, stamp: u64, values: &[u64]) -> Spoken {
-        let Some(cpu) = self.cpus.get_mut(path.session()) else { return Spoken::Void };
-        cpu.speculate(path.speculation(), Epid::from_raw(epid), stamp, values).expect("a record of the layer's own schema")
+    pub(crate) fn speculate(&mut self, path: PathId, epid: u32, stamp: u64, values: &[u64]) -> Result<Spoken, Error> {
+        let Some(cpu) = self.cpus.get_mut(path.session()) else { return Ok(Spoken::Void) };
+        cpu.speculate(path.speculation(), Epid::from_raw(epid), stamp, values)
     }
 
     pub(crate) fn commit(&mut self, path: PathId) {
@@ -105,7 +104,8 @@ struct Place(Mutex<Lane>);
 
 impl Place {
     /// The lane, where nobody is in it.
-    #[inline]
+    #[allow(clippy::inline_always)]
+    #[inline(always)]
     fn attempt(&self) -> Option<MutexGuard<'_, Lane>> {
         match self.0.try_lock() {
             Ok(lane) => Some(lane),
@@ -139,18 +139,40 @@ impl Lanes {
     /// Does something on a lane that nobody is in. None: the sessions have ended.
     #[inline]
     pub(crate) fn on_one<R>(&self, work: impl FnOnce(&mut Lane) -> R) -> Option<R> {
-        let home = HOME.get();
-        let tried = self.places.get(home).map(Place::attempt);
-        let mut lane = match tried {
-            Some(Some(lane)) => lane,
-            Some(None) => self.another(home),
-            None => self.home(home),
-        };
+        let mut lane = self.lane();
         if lane.cpus.is_empty() {
-            self.late.fetch_add(1, Ordering::Relaxed);
+            self.late();
             return None;
         }
         Some(work(&mut lane))
+    }
+
+    /// Does something with the CPU of a session on such a lane. None: the sessions have ended.
+    #[allow(clippy::inline_always)] // each event makes this call once
+    #[inline(always)]
+    pub(crate) fn on_cpu<R>(&self, session: usize, work: impl FnOnce(&mut Cpu) -> R) -> Option<R> {
+        let mut lane = self.lane();
+        if let Some(cpu) = lane.cpus.get_mut(session) {
+            return Some(work(cpu));
+        }
+        self.late();
+        None
+    }
+
+    #[cold]
+    fn late(&self) {
+        self.late.fetch_add(1, Ordering::Relaxed);
+    }
+
+    #[allow(clippy::inline_always)]
+    #[inline(always)]
+    fn lane(&self) -> MutexGuard<'_, Lane> {
+        let home = HOME.get();
+        match self.places.get(home).map(Place::attempt) {
+            Some(Some(lane)) => lane,
+            Some(None) => self.another(home),
+            None => self.home(home),
+        }
     }
 
     /// A lane for a thread that has none yet, or one of a layer with more lanes.

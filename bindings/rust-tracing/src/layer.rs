@@ -6,7 +6,7 @@ use crate::schema::{CLOSE, ENTER, EVENT, EXIT, OPEN, SET};
 use crate::sink::Why;
 use crate::spans::{Here, Place, Spans};
 use crate::values::{Gathering, Held, Values};
-use dspec::{Cpu, Opening, Spoken};
+use dspec::{Cpu, Epid, Error, Opening, Spoken};
 use std::cell::{Cell, RefCell};
 use std::collections::HashMap;
 use std::sync::atomic::{AtomicBool, AtomicU32, AtomicU64, Ordering};
@@ -57,6 +57,14 @@ struct Slot {
     spans: AtomicU32,
     records: AtomicU64,
     cut: AtomicU64,
+}
+
+impl Slot {
+    /// A record of the open path was kept.
+    #[inline]
+    fn kept(&self) {
+        self.records.fetch_add(1, Ordering::Relaxed);
+    }
 }
 
 /// How many open spans of a path the layer has room for beside the registry.
@@ -179,6 +187,24 @@ impl Core {
         true
     }
 
+    /// An ERROR in a path. Whether it is held back until the path is decided.
+    #[cold]
+    #[inline(never)]
+    fn fails(&self, place: Place, stamp: u64, values: &Values) -> bool {
+        let Place { path, span, .. } = place;
+        let mut holds = false;
+        if path != PathId::NONE {
+            self.note(path, |state| {
+                state.why.failed = true;
+                if state.held.is_none() && path.has_slot() {
+                    state.held = Some(Box::new(Held { stamp, span, values: values.clone() }));
+                    holds = true;
+                }
+            });
+        }
+        holds
+    }
+
     /// Nothing is noted of the path from now on. What was.
     fn close(&self, path: PathId) -> (Why, Option<Box<Held>>) {
         if !path.has_slot() {
@@ -214,23 +240,27 @@ impl Core {
         path != PathId::NONE || self.options.outside
     }
 
+    /// Counts a record of a path with a slot that wasn't kept.
+    #[cold]
+    fn not_kept(&self, path: PathId, answer: Result<Spoken, Error>) {
+        if answer.expect("a record of the layer's own schema") == Spoken::Dropped {
+            self.slots[path.place()].cut.fetch_add(1, Ordering::Relaxed);
+        }
+    }
+
     /// Offers a record to a path, or traces it where there is none. False: it had no room, or the path isn't open.
-    #[allow(clippy::inline_always)] // each event makes this call once
-    #[inline(always)]
     fn offer(&self, lane: &mut Lane, path: PathId, epid: u32, stamp: u64, values: &[u64]) -> bool {
         if path == PathId::NONE {
             return lane.trace(0, epid, stamp, values);
         }
-        let spoken = lane.speculate(path, epid, stamp, values);
-        if path.has_slot() {
-            let slot = &self.slots[path.place()];
-            match spoken {
-                Spoken::Kept => slot.records.fetch_add(1, Ordering::Relaxed),
-                Spoken::Dropped => slot.cut.fetch_add(1, Ordering::Relaxed),
-                _ => 0,
-            };
+        let answer = lane.speculate(path, epid, stamp, values);
+        let kept = answer == Ok(Spoken::Kept);
+        if kept {
+            self.slots[path.place()].kept();
+        } else if path.has_slot() {
+            self.not_kept(path, answer);
         }
-        spoken == Spoken::Kept
+        kept
     }
 
     fn put(&self, path: PathId, epid: u32, stamp: u64, span: u32) {
@@ -239,10 +269,25 @@ impl Core {
         }
     }
 
-    #[inline]
+    #[allow(clippy::inline_always)] // each event makes this call once
+    #[inline(always)]
     fn put_values(&self, values: &mut Values, place: Place, epid: u32, stamp: u64) {
         let Place { path, span, .. } = place;
         values.head(path, span);
+        match values.alone(epid) {
+            Some((epid, row)) if path.has_slot() => {
+                self.lanes.on_cpu(path.session(), |cpu| match cpu.speculate(path.speculation(), Epid::from_raw(epid), stamp, row) {
+                    Ok(Spoken::Kept) => self.slots[path.place()].kept(),
+                    other => self.not_kept(path, other),
+                });
+            }
+            _ => self.put_parts(values, path, epid, stamp),
+        }
+    }
+
+    /// The same of what is more than one record, or has no slot.
+    #[inline(never)]
+    fn put_parts(&self, values: &Values, path: PathId, epid: u32, stamp: u64) {
         self.lanes.on_one(|lane| match values.alone(epid) {
             Some((epid, row)) => self.offer(lane, path, epid, stamp, row),
             None => values.put(epid, &mut |epid, row| self.offer(lane, path, epid, stamp, row)),
@@ -452,18 +497,8 @@ where
         let mut gathering = Gathering::new(&core.callsites, metadata);
         event.record(&mut gathering);
         gathering.end();
-        if *metadata.level() == Level::ERROR && path != PathId::NONE {
-            let mut holds = false;
-            core.note(path, |state| {
-                state.why.failed = true;
-                if state.held.is_none() && path.has_slot() {
-                    state.held = Some(Box::new(Held { stamp, span: place.span, values: gathering.values.clone() }));
-                    holds = true;
-                }
-            });
-            if holds {
-                return;
-            }
+        if *metadata.level() == Level::ERROR && core.fails(place, stamp, &gathering.values) {
+            return;
         }
         core.put_values(&mut gathering.values, place, EVENT, stamp);
     }

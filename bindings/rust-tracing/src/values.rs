@@ -6,7 +6,7 @@ use crate::path_id::PathId;
 use crate::schema::{BOOL, F64, HEAD, I64, LITERAL, MORE, TEXT, U64, WORDS};
 use crate::sink::Value;
 use std::fmt::{self, Write};
-use std::ptr;
+use std::hash::{Hash, Hasher};
 use tracing_core::field::{Field, Visit};
 use tracing_core::Metadata;
 
@@ -35,6 +35,12 @@ struct Texts {
     begun: usize,
 }
 
+/// Room for the words of a record, which are HEAD + 1 + FIELDS at most; a power of two.
+const ROW: usize = 16;
+
+/// Among types: of a callsite whose fields' numbers aren't known.
+pub(crate) const UNNUMBERED: u64 = 1 << 63;
+
 /// What was gathered.
 #[derive(Clone, Debug)]
 pub(crate) struct Values {
@@ -43,11 +49,9 @@ pub(crate) struct Values {
     /// Four bits a field.
     types: u64,
     /// The words of a record, those in front of the values among them.
-    row: [u64; HEAD + 1 + FIELDS],
+    row: [u64; ROW],
     front: usize,
     used: usize,
-    /// Whether they are one record, and its shape says all of their types.
-    alone: bool,
     /// Where there is a text that the program made.
     texts: Option<Texts>,
 }
@@ -60,15 +64,41 @@ pub(crate) struct Held {
     pub(crate) values: Values,
 }
 
+/// The number of a field among those of its callsite, which only its hash tells.
+struct Number(usize);
+
+impl Hasher for Number {
+    fn finish(&self) -> u64 {
+        self.0 as u64
+    }
+
+    #[inline]
+    fn write(&mut self, _: &[u8]) {}
+
+    #[inline]
+    fn write_usize(&mut self, number: usize) {
+        self.0 = number;
+    }
+}
+
+#[inline]
+fn number_of(field: &Field) -> usize {
+    let mut number = Number(usize::MAX);
+    field.hash(&mut number);
+    number.0
+}
+
+/// Whether the fields tell their numbers so.
+pub(crate) fn are_numbered(metadata: &'static Metadata<'static>) -> bool {
+    metadata.fields().iter().enumerate().all(|(at, field)| number_of(&field) == at)
+}
+
 /// Gathers the fields of one callsite.
 #[derive(Debug)]
 pub(crate) struct Gathering<'a> {
     callsites: &'a Callsites,
     callsite: Option<&'a Callsite>,
-    names: &'a [&'static str],
     metadata: &'static Metadata<'static>,
-    /// The number of the field behind the one that came last.
-    next: usize,
     /// Whether a field `dspec.keep` was true.
     pub(crate) keep: bool,
     pub(crate) values: Values,
@@ -90,69 +120,59 @@ impl<'a> Gathering<'a> {
     #[inline]
     fn behind(front: usize, callsites: &'a Callsites, metadata: &'static Metadata<'static>) -> Gathering<'a> {
         let (number, callsite) = callsites.of(metadata);
-        let names = callsite.map_or(&[][..], |callsite| &callsite.names);
-        let shape = number << 4 | NO_SHAPE;
-        let values = Values { shape, types: 0, row: [0; HEAD + 1 + FIELDS], front, used: front, alone: false, texts: None };
-        Gathering { callsites, callsite, names, metadata, next: 0, keep: false, values }
+        let types = callsite.map_or(UNNUMBERED, |callsite| callsite.unnumbered);
+        let values = Values { shape: number << 4, types, row: [0; ROW], front, used: front, texts: None };
+        Gathering { callsites, callsite, metadata, keep: false, values }
     }
 
     /// Behind the last field.
     #[inline]
     pub(crate) fn end(&mut self) {
-        if let Some(callsite) = self.callsite {
-            let shape = callsite.shape(self.values.types);
-            self.values.shape = self.values.shape & !NO_SHAPE | shape;
-            self.values.alone = shape != NO_SHAPE && self.values.used <= WORDS && self.values.texts.is_none();
-        }
-    }
-
-    /// The number of a field that stands behind all that came, and behind none that didn't: a field doesn't tell its number.
-    #[inline]
-    fn next(&mut self, field: &Field) -> Option<usize> {
-        let at = self.next;
-        let found = self.names.get(at).is_some_and(|name| ptr::eq(*name, field.name()));
-        self.next += usize::from(found);
-        found.then_some(at)
-    }
-
-    /// The number of another: one without a value stands in front of it, or a caller put the fields together by hand.
-    #[cold]
-    fn number(&mut self, field: &Field) -> usize {
-        let found = self.metadata.fields().iter().position(|one| one == *field);
-        self.next = self.next.max(found.map_or(0, |at| at + 1));
-        found.unwrap_or(FIELDS)
+        self.values.shape |= self.callsite.map_or(NO_SHAPE, |callsite| callsite.shape(self.values.types));
     }
 
     #[inline]
     fn set(&mut self, field: &Field, kind: u64, value: u64) {
-        match self.next(field) {
-            Some(at) => self.values.push(at, kind, value),
-            None => self.set_by_number(field, kind, value),
+        let at = number_of(field);
+        if self.values.is_next(at) {
+            self.values.push(at, kind, value);
+        } else {
+            self.set_by_place(field, kind, value);
         }
     }
 
+    /// The number of a field, also where it doesn't tell it.
+    fn place(&self, field: &Field) -> usize {
+        if self.values.types & UNNUMBERED == 0 {
+            return number_of(field);
+        }
+        self.metadata.fields().iter().position(|one| one == *field).unwrap_or(FIELDS)
+    }
+
     #[cold]
-    fn set_by_number(&mut self, field: &Field, kind: u64, value: u64) {
-        let at = self.number(field);
+    fn set_by_place(&mut self, field: &Field, kind: u64, value: u64) {
+        let at = self.place(field);
         self.values.set(at, kind, value);
     }
 
     #[inline]
     fn text(&mut self, field: &Field, write: impl FnOnce(&mut Room<'_, 'a>) -> fmt::Result) {
-        let next = self.next(field);
         let mut room = Room { gathering: self, literal: 0, length: 0 };
         // What a value's own `Debug` answers is no matter: what it wrote is there.
         let _ = write(&mut room);
         let Room { literal, length, .. } = room;
-        match next {
-            Some(at) if literal != 0 => self.values.push(at, literal, 0),
-            _ => self.end_text(field, next, literal, length),
+        let at = number_of(field);
+        if literal != 0 && self.values.is_next(at) {
+            self.values.push_literal(at, literal);
+        } else {
+            self.end_text(field, literal, length);
         }
     }
 
     /// What was written is the value of a field.
-    fn end_text(&mut self, field: &Field, next: Option<usize>, literal: u64, length: usize) {
-        let at = next.unwrap_or_else(|| self.number(field));
+    #[inline(never)]
+    fn end_text(&mut self, field: &Field, literal: u64, length: usize) {
+        let at = self.place(field);
         if literal == 0 {
             self.values.end_text(at, length);
         } else {
@@ -171,25 +191,40 @@ fn has_word(kind: u64) -> bool {
 }
 
 impl Values {
+    /// Whether a field is recorded, and stands behind all that have a value.
+    #[inline]
+    fn is_next(&self, at: usize) -> bool {
+        at < FIELDS && self.types >> (4 * at) == 0
+    }
+
     /// The value of a field behind all that have one.
     #[inline]
     fn push(&mut self, at: usize, kind: u64, value: u64) {
         self.types |= kind << (4 * at);
         if has_word(kind) {
-            self.row[self.used] = value;
+            self.row[self.used % ROW] = value;
             self.used += 1;
         }
     }
 
+    #[inline]
+    fn push_literal(&mut self, at: usize, literal: u64) {
+        self.types |= literal << (4 * at);
+    }
+
+    /// The value of a field, which may have one.
     fn set(&mut self, at: usize, kind: u64, value: u64) {
         if at >= FIELDS {
             return;
         }
-        if self.types >> (4 * at) == 0 {
+        let unnumbered = self.types & UNNUMBERED;
+        self.types ^= unnumbered;
+        if self.is_next(at) {
             self.push(at, kind, value);
         } else {
             self.set_again(at, kind, value);
         }
+        self.types |= unnumbered;
     }
 
     /// A field comes behind a later one, or once more.
@@ -239,7 +274,8 @@ impl Values {
     /// The one record that these are, with its EPID; none where they are more than one, or their types have to be told.
     #[inline]
     pub(crate) fn alone(&self, first: u32) -> Option<(u32, &[u64])> {
-        self.alone.then(|| (nth(first, self.used - HEAD), &self.row[..self.used]))
+        let alone = self.shape & NO_SHAPE != NO_SHAPE && self.used <= WORDS && self.texts.is_none();
+        alone.then(|| (nth(first, self.used - HEAD), &self.row[..self.used]))
     }
 
     /// Puts the record, and behind it on the same lane what belongs to it; where one of them has no room the next aren't offered. True: all
@@ -353,6 +389,20 @@ struct Room<'g, 'a> {
 }
 
 impl Room<'_, '_> {
+    /// A piece that isn't the callsite's first literal alone.
+    #[inline(never)]
+    fn write_other(&mut self, text: &str) -> fmt::Result {
+        if self.length == 0 {
+            if let Some(literal) = self.gathering.callsite.and_then(|callsite| callsite.literal(text, self.gathering.callsites)) {
+                self.literal = LITERAL + literal;
+                self.length = text.len();
+                return Ok(());
+            }
+        }
+        self.add(text);
+        Ok(())
+    }
+
     /// A piece that isn't a literal alone.
     fn add(&mut self, text: &str) {
         let literal = std::mem::take(&mut self.literal);
@@ -379,15 +429,12 @@ impl Room<'_, '_> {
 impl Write for Room<'_, '_> {
     #[inline]
     fn write_str(&mut self, text: &str) -> fmt::Result {
-        if self.length == 0 {
-            if let Some(literal) = self.gathering.callsite.and_then(|callsite| callsite.literal(text, self.gathering.callsites)) {
-                self.literal = LITERAL + literal;
-                self.length = text.len();
-                return Ok(());
-            }
+        if self.length == 0 && self.gathering.callsite.is_some_and(|callsite| callsite.is_first_literal(text)) {
+            self.literal = LITERAL;
+            self.length = text.len();
+            return Ok(());
         }
-        self.add(text);
-        Ok(())
+        self.write_other(text)
     }
 }
 
@@ -429,7 +476,7 @@ fn nth(first: u32, behind: usize) -> u32 {
 
 #[cfg(test)]
 mod tests {
-    use super::{read, Gathering, Values, NO_SHAPE};
+    use super::{are_numbered, read, Gathering, Values, NO_SHAPE, UNNUMBERED};
     use crate::callsites::Callsites;
     use crate::path_id::PathId;
     use crate::schema::{EVENT, HEAD, MORE};
@@ -469,21 +516,26 @@ mod tests {
         Value::Text(text.to_owned(), length)
     }
 
+    /// Whether or not fields tell their numbers.
     #[test]
     fn fields_by_hand_in_any_order() {
         let (callsites, metadata) = (Callsites::new(), metadata());
+        assert!(are_numbered(metadata));
         let field = |name| metadata.fields().field(name).unwrap();
-        let mut gathering = Gathering::new(&callsites, metadata);
-        gathering.record_str(&field("c"), &String::from("made last"));
-        gathering.record_u64(&field("a"), 1);
-        gathering.record_str(&field("b"), &String::from("made"));
-        gathering.record_u64(&field("a"), 2);
-        gathering.end();
-        let due = vec![(0, Value::U64(2)), (1, text("made", 4)), (2, text("made last", 9))];
-        assert_eq!(read_again(&callsites, &mut gathering.values, 9), (due.clone(), 1));
-        let mut held = Vec::new();
-        gathering.values.each(&callsites, |field, value| held.push((field, value)));
-        assert_eq!(held, due);
+        for unnumbered in [0, UNNUMBERED] {
+            let mut gathering = Gathering::new(&callsites, metadata);
+            gathering.values.types |= unnumbered;
+            gathering.record_str(&field("c"), &String::from("made last"));
+            gathering.record_u64(&field("a"), 1);
+            gathering.record_str(&field("b"), &String::from("made"));
+            gathering.record_u64(&field("a"), 2);
+            gathering.end();
+            let due = vec![(0, Value::U64(2)), (1, text("made", 4)), (2, text("made last", 9))];
+            assert_eq!(read_again(&callsites, &mut gathering.values, 9), (due.clone(), 1));
+            let mut held = Vec::new();
+            gathering.values.each(&callsites, |field, value| held.push((field, value)));
+            assert_eq!(held, due);
+        }
     }
 
     #[test]

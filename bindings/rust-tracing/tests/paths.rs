@@ -5,7 +5,7 @@ mod common;
 use common::{finished, kept, made, request};
 use std::fmt;
 use std::io;
-use std::sync::mpsc::{channel, Receiver};
+use std::sync::mpsc::{channel, Receiver, Sender};
 use std::thread;
 use std::time::Duration;
 use tracing::{debug, debug_span, error, info, info_span, trace, Dispatch};
@@ -294,14 +294,16 @@ impl io::Write for Full {
     }
 }
 
-/// Gets nothing done before its sender is dropped.
+/// Says that it has something to do, and gets nothing done before its sender is dropped.
 struct Still {
+    stands: Sender<()>,
     go: Receiver<()>,
     all: common::All,
 }
 
 impl Sink for Still {
     fn path(&mut self, path: &Path) -> io::Result<()> {
+        let _ = self.stands.send(());
         // The sender sends nothing.
         let _ = self.go.recv();
         self.all.path(path)
@@ -316,16 +318,21 @@ impl Sink for Still {
 fn a_sink_that_stands_still() {
     const FAILED: usize = 6000;
     let (send, go) = channel::<()>();
-    let (layer, guard) = Builder::new().lanes(1).build(Still { go, all: common::All::default() }).unwrap();
+    let (stands, stood) = channel();
+    let (layer, guard) = Builder::new().lanes(1).build(Still { stands, go, all: common::All::default() }).unwrap();
     tracing::subscriber::with_default(tracing_subscriber::registry().with(layer), || {
-        (0..FAILED).for_each(|_| info_span!("request").in_scope(|| error!("bad")));
+        let fails = || info_span!("request").in_scope(|| error!("bad"));
+        fails();
+        stood.recv().unwrap();
+        (1..FAILED).for_each(|_| fails());
     });
     drop(send);
     let (sink, report) = guard.finish();
     assert!(report.balances(), "{report:?}");
     let (kept, missed) = (sink.all.paths.len(), sink.all.missed.len());
-    assert_eq!((kept + missed, missed as u64), (FAILED, report.wanted));
-    assert!(missed > 0 && sink.all.paths.iter().all(|path| path.events().any(|line| line.title() == "bad")));
+    // The first, and as many as a lane notes.
+    assert_eq!((kept, missed, missed as u64), (1 + 4096, FAILED - 1 - 4096, report.wanted));
+    assert!(sink.all.paths.iter().all(|path| path.events().any(|line| line.title() == "bad")));
 }
 
 #[test]
