@@ -22,15 +22,14 @@ type Trace<'a> = TraceFolder<SystemFolder<'a>>;
 /// A trace of this process, with the names of these probes, if the command line asks for one.
 fn trace_asked<'a>(rt: &'a HostRuntime, probes: &Probes<'_>) -> Result<Option<Trace<'a>>> {
     let mut words = env::args(rt)?.skip(1);
-    let folder = match (words.next(), words.next(), words.next()) {
-        (None, _, _) => return Ok(None),
-        (Some(flag), Some(path), None) if flag.as_str() == "--ctf" => path,
-        _ => bail!("usage: kv [--ctf FOLDER]"),
+    let Some(flag) = words.next() else {
+        return Ok(None);
     };
-    let (folder, identity) = (
-        SystemFolder::new(rt, folder.as_str())?,
-        Identity::of_system(rt)?,
-    );
+    let (Some(path), "--ctf") = (words.next(), flag.as_str()) else {
+        bail!("usage: kv [--ctf FOLDER]");
+    };
+    let folder = SystemFolder::new(rt, path.as_str())?;
+    let identity = Identity::of_system(rt)?;
     let (origin, names) = (identity.origin("kv"), Names::Given(probes.names()));
     let begun = TraceFolder::of(rt.alloc(), folder, &origin, &probes.enablings(), &names)?;
     Ok(Some(begun))
@@ -41,11 +40,11 @@ fn main(rt: HostRuntime) -> Result<()> {
     let mut declared = Probes::new(alloc);
     let probes = StoreProbes::declare(&mut declared)?;
     let (first, schema) = (trace_asked(&rt, &declared)?, declared.enablings());
-    let second = Live {
+    let second = Some(Live {
         rt: &rt,
         probes,
         missing: 0,
-    };
+    });
     let (clock, table) = (
         SystemClock::start(&rt)?,
         [0u8; 8].map(|_| AtomicU64::new(0)),
@@ -64,6 +63,8 @@ fn main(rt: HostRuntime) -> Result<()> {
         let (number, failed, offered) = (cpu.number, worker.failed, cpu.report.offered);
         println!(rt; "cpu {number}: {failed} requests failed, {offered} records offered")?;
     }
-    println!(rt; "{} missing keys were told", second.missing)?;
+    if let Some(live) = second {
+        println!(rt; "{} missing keys were told", live.missing)?;
+    }
     Ok(())
 }

@@ -13,15 +13,15 @@ pub type Table = [AtomicU64; 8];
 
 /// A worker: what all share, and how many of its requests failed.
 #[derive(Drop)]
-pub struct Server<'a> {
+pub struct Server<'a, 'c> {
     table: &'a Table,
-    clock: &'a SystemClock<'a>,
+    clock: &'a SystemClock<'c>,
     probes: StoreProbes,
     pub failed: u32,
 }
 
-impl<'a> Server<'a> {
-    pub fn new(table: &'a Table, clock: &'a SystemClock<'a>, probes: StoreProbes) -> Server<'a> {
+impl<'a, 'c> Server<'a, 'c> {
+    pub fn new(table: &'a Table, clock: &'a SystemClock<'c>, probes: StoreProbes) -> Self {
         Server {
             table,
             clock,
@@ -31,10 +31,11 @@ impl<'a> Server<'a> {
     }
 
     /// Adds to the value of a key; false where there is no such key.
-    fn add(&self, steps: &mut Steps<'_, '_, SystemClock<'a>>, key: u32, amount: u64) -> bool
+    fn add(&self, steps: &mut Steps<'_, '_, SystemClock<'c>>, key: u32, amount: u64) -> bool
         ensures { walk_of steps.new ≡ walk_of steps.old }
     {
-        let Some(value) = self.table.get(key as usize) else {
+        let table = self.table;
+        let Some(value) = table.get(key as usize) else {
             steps.try_step(self.probes.missing, (key,));
             return false;
         };
@@ -59,7 +60,7 @@ impl<'a> Server<'a> {
     }
 }
 
-impl Worker<Enablings> for Server<'_> {
+impl Worker<Enablings> for Server<'_, '_> {
     fn work(&mut self, lane: &mut Lane<'_, Enablings>) {
         for request in 0..200 {
             if !self.serve(lane, request) {
