@@ -131,6 +131,7 @@ fn text_that_is_none(rt: HostRuntime) -> Result<(), Fail> {
 struct Made {
     dice: u64,
     clock: u64,
+    slots: u64,
     paths: Vec<Vec<u64>>,
     trace: Vec<u64>,
 }
@@ -147,7 +148,7 @@ impl Made {
 
     /// Records at once, or in a slot's path, or keeps or throws away that path.
     fn step(&mut self) -> Result<(), AllocError> {
-        let slot = (self.below(self.paths.len() as u64) % (1 << 16)) as usize;
+        let slot = (self.below(self.slots) % (1 << 16)) as usize;
         let deed = self.below(8);
         self.clock = self.clock.wrapping_add(self.below(3));
         let Some(path) = self.paths.get_mut(slot) else {
@@ -167,7 +168,7 @@ impl Made {
 }
 
 /// The trace of a CPU with so many slots.
-fn made(alloc: Global, seed: u64, slots: usize) -> Result<Vec<u64>, AllocError> {
+fn stamps_of(alloc: Global, seed: u64, slots: usize) -> Result<Vec<u64>, AllocError> {
     let mut paths = Vec::new(alloc);
     for _ in 0..slots {
         paths.push(Vec::new(alloc))?;
@@ -175,6 +176,7 @@ fn made(alloc: Global, seed: u64, slots: usize) -> Result<Vec<u64>, AllocError> 
     let mut made = Made {
         dice: seed,
         clock: 0,
+        slots: slots as u64,
         paths,
         trace: Vec::new(alloc),
     };
@@ -207,7 +209,7 @@ fn files_of(alloc: Global, stamps: &[u64]) -> Result<(usize, u64), PacketFault> 
 fn files_suffice(rt: HostRuntime) -> Result<(), Fail> {
     for seed in 0..20u64 {
         for slots in [1usize, 2, 5, 16] {
-            let stamps = made(rt.alloc(), seed, slots)?;
+            let stamps = stamps_of(rt.alloc(), seed, slots)?;
             let Ok((files, fell)) = files_of(rt.alloc(), &stamps) else {
                 return Err(Fail::from(AllocError));
             };
