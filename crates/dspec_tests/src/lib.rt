@@ -12,6 +12,8 @@ mod refusals;
 #[cfg(test)]
 mod tests;
 #[cfg(test)]
+mod timed_folders;
+#[cfg(test)]
 mod verdicts;
 #[cfg(test)]
 mod visits;

@@ -1,4 +1,9 @@
 -- Cited by calls. Why a place takes no bytes, and why no place is made.
+use Rattle.std.specs.Prelude.{Bool, true, false}
+use Rattle.dspec_ctf.specs.declared.fault.MetadataFault.TheVariants as metadata
+use Rattle.dspec_ctf.specs.declared.stream.PacketFault.{PacketFault}
+use Rattle.dspec_ctf.specs.declared.stream.PacketFault.TheVariants as packet
+use Rattle.dspec_ctf.specs.declared.fault.MetadataFault.{MetadataFault}
 use Rattle.dspec_trace.specs.declared.fault.FolderFault.{FolderFault}
 use Rattle.dspec_trace.specs.declared.fault.FolderFault.TheVariants.{Cpu, Cut, Memory, Metadata, NotEmpty, Packet, Read, Write}
 
@@ -23,3 +28,31 @@ IsFolderFault (Metadata fault) = ⊥
 IsFolderFault (Packet cpu fault) = ⊥
 IsFolderFault (Cpu cpu) = ⊥
 IsFolderFault Cut = ⊥
+
+-- memory was wanting for the metadata
+abbrev pub is_metadata_memory : MetadataFault → Bool
+is_metadata_memory metadata.Memory = true
+is_metadata_memory metadata.NoStamp = false
+is_metadata_memory metadata.NoFrequency = false
+is_metadata_memory (metadata.Name fault) = false
+is_metadata_memory metadata.HostName = false
+is_metadata_memory metadata.ProcessName = false
+
+-- memory was wanting for a packet
+abbrev pub is_packet_memory : PacketFault → Bool
+is_packet_memory packet.Memory = true
+is_packet_memory (packet.Text fault) = false
+is_packet_memory packet.Missed = false
+is_packet_memory packet.TooLong = false
+is_packet_memory (packet.Clock place) = false
+
+-- memory was wanting, wherever that was
+abbrev pub is_memory : FolderFault → Bool
+is_memory Memory = true
+is_memory (Metadata fault) = is_metadata_memory fault
+is_memory (Packet cpu fault) = is_packet_memory fault
+is_memory NotEmpty = false
+is_memory (Cpu cpu) = false
+is_memory Read = false
+is_memory Write = false
+is_memory Cut = false

@@ -1,4 +1,4 @@
-ghost use Rattle.std.specs.Prelude.{◌≡◌, ◌≢◌};
+ghost use Rattle.std.specs.Prelude.{◌≡◌, ◌≢◌, Some, None, IfErr, OnOk};
 ghost use Rattle.std.specs.IoError.{error_kind};
 ghost use Rattle.std.specs.declared.io.ErrorKind.TheVariants.{OutOfMemory};
 ghost use Rattle.dspec_trace.specs.declared.fault.FolderFault.TheVariants.{Memory, Read, Write};
@@ -50,6 +50,34 @@ impl<T: Drop> From<AllocFailed<T>> for FolderFault {
 
     fn from(_refused: AllocFailed<T>) -> Self {
         FolderFault::Memory
+    }
+}
+
+impl FolderFault {
+    ghost use Rattle.std.specs.Prelude.{◌≡◌};
+    ghost use Rattle.dspec_trace.specs.Faults.{is_memory};
+
+    /// Whether memory was wanting, wherever that was.
+    pub fn is_memory(&self) -> bool
+        ensures { result ≡ is_memory self.now }
+    {
+        match self {
+            FolderFault::Memory => true,
+            FolderFault::Metadata(fault) => matches!(fault, MetadataFault::Memory),
+            FolderFault::Packet { fault, .. } => matches!(fault, PacketFault::Memory),
+            _ => false,
+        }
+    }
+}
+
+/// How a trace ends by the first fault that it had.
+pub(crate) fn ended_by(first: Option<FolderFault>) -> Result<(), FolderFault>
+    ensures whole { OnOk result (first ≡ None) }
+    ensures fault { IfErr result (λ fault. first ≡ Some fault) }
+{
+    match first {
+        None => Ok(()),
+        Some(fault) => Err(fault),
     }
 }
 

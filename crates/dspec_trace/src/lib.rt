@@ -10,6 +10,7 @@ mod folder;
 mod held;
 mod identity;
 mod system;
+mod timed;
 mod tracing;
 
 pub use dspec_ctf::{
@@ -20,4 +21,5 @@ pub use fault::FolderFault;
 pub use folder::Folder;
 pub use identity::Identity;
 pub use system::SystemFolder;
+pub use timed::TimedFolder;
 pub use tracing::TraceFolder;

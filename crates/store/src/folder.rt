@@ -1,100 +1,51 @@
-use crate::fault::TraceFault;
-use crate::telling::is_of;
-use dspec::{Closed, Enablings, Rec, Report, closed_cpus};
+//! The trace that is written while the workers run.
+
+use crate::fault::StoreFault;
 use dspec_probed::Probes;
-use dspec_trace::{Folder, Form, Names, Origin, Stream, first_refused, metadata_from};
-use std::alloc::{AllocError, Global};
+use dspec_trace::{FolderFault, Identity, Names, SystemFolder, TimedFolder};
 
 /// Stamps are in microseconds.
 const HERTZ: u64 = 1_000_000;
 
-/// How many records a CPU missed.
-fn missed_of(report: &Report) -> u64 {
-    report
-        .dropped
-        .saturating_add(report.specdropped)
-        .saturating_add(report.lost)
-}
+/// A trace that is being written.
+pub type Begun<'a> = TimedFolder<SystemFolder<'a>>;
 
-/// The records of a worker's transfers, in their order.
-fn own_records(alloc: Global, worker: u32, records: &[Rec]) -> Result<Vec<Rec>, AllocError> {
-    let mut own = Vec::new(alloc);
-    for rec in records {
-        if is_of(rec, worker) {
-            own.push(*rec)?;
-        }
-    }
-    Ok(own)
-}
-
-/// Writes the metadata of a trace by time.
-fn write_metadata<F: Folder>(
-    alloc: Global,
-    folder: &mut F,
-    origin: &Origin<'_>,
+/// Begins a trace of this process in the folder of that path, with the names of the probes in its metadata.
+fn begun_trace<'a>(
+    rt: &'a HostRuntime,
+    name: &str,
     probes: &Probes<'_>,
-) -> Result<(), TraceFault> {
+) -> Result<Begun<'a>, FolderFault> {
     let names = Names::Given(probes.names());
-    let text = metadata_from(
-        alloc,
-        origin,
-        Form::ByTime(HERTZ),
-        &probes.enablings(),
-        &names,
-    )?;
-    folder.add(alloc, "metadata", text.as_str().as_bytes())?;
-    Ok(())
-}
-
-/// Writes what was kept of a worker's records as packets by time; no file where there is nothing to tell.
-fn write_worker<F: Folder>(
-    alloc: Global,
-    folder: &mut F,
-    uuid: [u8; 16],
-    schema: &Enablings,
-    worker: u32,
-    report: &Report,
-    records: &[Rec],
-) -> Result<(), TraceFault> {
-    let own = own_records(alloc, worker, records)?;
-    if first_refused(schema, &own).is_some() {
-        return Err(TraceFault::Record);
-    }
-    let stream = Stream {
-        uuid,
-        enablings: schema,
-        cpu: worker,
-        missed: missed_of(report),
-    };
-    let bytes = stream.packets_by_time_of(alloc, &own)?;
-    if bytes.is_empty() {
-        return Ok(());
-    }
-    let name = format!(in alloc; "cpu_{worker}")?;
-    folder.add(alloc, name.as_str(), bytes.as_slice())?;
-    Ok(())
-}
-
-/// Writes what was kept of all workers as a trace of this origin, and the metadata last, since a folder without it is no trace.
-pub fn write_trace<F: Folder>(
-    alloc: Global,
-    mut folder: F,
-    origin: &Origin<'_>,
-    probes: &Probes<'_>,
-    closed: &Closed,
-    records: &[Rec],
-) -> Result<(), TraceFault> {
+    let folder = SystemFolder::new(rt, name)?;
+    let identity = Identity::of_system(rt)?;
+    let origin = identity.origin("store");
     let schema = probes.enablings();
-    for cpu in closed_cpus(closed) {
-        write_worker(
-            alloc,
-            &mut folder,
-            origin.uuid,
-            &schema,
-            cpu.number,
-            cpu.report,
-            records,
-        )?;
+    TimedFolder::of(rt.alloc(), folder, &origin, HERTZ, &schema, &names)
+}
+
+/// The trace in the folder that is asked for, if one is.
+pub fn trace_asked<'a>(
+    rt: &'a HostRuntime,
+    folder: Option<&'a str>,
+    probes: &Probes<'_>,
+) -> Result<Option<Begun<'a>>, StoreFault<'a>> {
+    let Some(name) = folder else {
+        return Ok(None);
+    };
+    match begun_trace(rt, name, probes) {
+        Ok(begun) => Ok(Some(begun)),
+        Err(fault) => Err(StoreFault::Folder { name, fault }),
     }
-    write_metadata(alloc, &mut folder, origin, probes)
+}
+
+/// Ends a trace.
+pub fn finish<'a>(folder: Option<&'a str>, begun: Option<Begun<'a>>) -> Result<(), StoreFault<'a>> {
+    let (Some(name), Some(begun)) = (folder, begun) else {
+        return Ok(());
+    };
+    match begun.finish() {
+        Ok(()) => Ok(()),
+        Err(fault) => Err(StoreFault::Folder { name, fault }),
+    }
 }

@@ -1,7 +1,7 @@
 //! `store [--ctf FOLDER]` is a store of accounts in miniature. Three workers, each on a lane of its own, make transfers between their
 //! accounts; the steps of each are recorded speculatively, with stamps, and kept of those transfers alone that are aborted or slow. At
-//! the end their paths are printed in order of time, and the board of all balances. With `--ctf` what was kept is written to a folder
-//! too, as a trace by time, before anything is printed.
+//! the end their paths are printed in order of time, and the board of all balances. With `--ctf` what is kept is written to a folder too,
+//! as a trace by time, while the workers run.
 //!
 //! The stamps are of a clock that each worker counts for itself, so that the same is printed however the threads run. Its status is 0; 2
 //! for want of memory, 3 for a fault of input or output, and 4 for words that it doesn't know.
@@ -17,35 +17,17 @@ mod telling;
 
 use arguments::{Ask, ask_of};
 use board::Board;
-use dspec::{Closed, Config, Kept, Rec, closed_cpus, trace};
+use dspec::{Both, Closed, Config, Kept, Rec, closed_cpus, trace};
 use dspec_command::{ended, output_fault, print_text, words_of};
 use dspec_probed::Probes;
-use dspec_trace::{Identity, SystemFolder};
-use fault::{StoreFault, TraceFault};
-use folder::write_trace;
+use fault::StoreFault;
+use folder::{finish, trace_asked};
 use probes::StoreProbes;
 use serving::{Server, WORKERS};
 use std::io;
 use std::process::ExitCode;
 use std::thread::Threads;
 use telling::{tell_paths, tell_report};
-
-/// The folder of that name, if one is named.
-fn folder_asked<'a>(
-    rt: &'a HostRuntime,
-    name: Option<&'a str>,
-) -> Result<Option<SystemFolder<'a>>, StoreFault<'a>> {
-    let Some(name) = name else {
-        return Ok(None);
-    };
-    match SystemFolder::new(rt, name) {
-        Ok(folder) => Ok(Some(folder)),
-        Err(fault) => Err(StoreFault::Trace {
-            name,
-            fault: TraceFault::Folder(fault),
-        }),
-    }
-}
 
 /// Prints the paths of the records, which are in order of time, the board, and what the CPUs report.
 fn tell_all<R: Print>(rt: &R, records: &[Rec], server: &Server, closed: &Closed) -> io::Result<()> {
@@ -57,42 +39,27 @@ fn tell_all<R: Print>(rt: &R, records: &[Rec], server: &Server, closed: &Closed)
     Ok(())
 }
 
-/// Writes what was kept of all workers as a trace of this process.
-fn write_own(
-    rt: &HostRuntime,
-    folder: SystemFolder<'_>,
-    probes: &Probes<'_>,
-    closed: &Closed,
-    records: &[Rec],
-) -> Result<(), TraceFault> {
-    let identity = Identity::of_system(rt)?;
-    let origin = identity.origin("store");
-    write_trace(rt.alloc(), folder, &origin, probes, closed, records)
-}
-
-/// Makes the transfers, writes the trace where a folder is named, and tells what was kept.
+/// Makes the transfers, with a trace where a folder is named, and tells what was kept.
 fn transfers<'a, R: Threads + Sync>(
     rt: &'a HostRuntime,
     threads: &R,
     name: Option<&'a str>,
 ) -> Result<(), StoreFault<'a>> {
-    let folder = folder_asked(rt, name)?;
     let mut declared = Probes::new(rt.alloc());
     let server = Server {
         board: Board::new(),
         probes: StoreProbes::declare(&mut declared)?,
     };
+    let second = trace_asked(rt, name, &declared)?;
+    let first = Kept::new(rt.alloc());
+    let sink = Both { first, second };
     let schema = declared.enablings();
-    let kept = Kept::new(rt.alloc());
     let config = Config::of(WORKERS, 16, 16384, 512);
-    let (closed, kept) = trace(threads, rt.alloc(), &config, schema, &server, kept)?;
-    let mut records = kept.records()?;
+    let (closed, sink) = trace(threads, rt.alloc(), &config, schema, &server, sink)?;
+    let Both { first, second } = sink;
+    finish(name, second)?;
+    let mut records = first.records()?;
     records.sort_by_key(|rec: &Rec| rec.stamp())?;
-    if let (Some(name), Some(folder)) = (name, folder) {
-        if let Err(fault) = write_own(rt, folder, &declared, &closed, &records) {
-            return Err(StoreFault::Trace { name, fault });
-        }
-    }
     match tell_all(rt, &records, &server, &closed) {
         Ok(()) => Ok(()),
         Err(reason) => Err(StoreFault::Command(output_fault(reason))),

@@ -1,12 +1,6 @@
 use crate::probes::{ABORTED, StoreProbes, transfer_of};
-use crate::serving::WORKERS;
 use dspec::{Rec, Report};
 use std::io;
-
-/// Whether a record is of a transfer of that worker.
-pub fn is_of(rec: &Rec, worker: u32) -> bool {
-    transfer_of(rec) % u64::from(WORKERS) == u64::from(worker)
-}
 
 /// Prints a step of a transfer that began at that stamp.
 fn tell_step<R: Print>(rt: &R, probes: &StoreProbes, began: u64, rec: &Rec) -> io::Result<()> {

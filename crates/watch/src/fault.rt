@@ -1,6 +1,5 @@
 use dspec::{KeptFault, StartFault};
 use dspec_command::{CommandFault, Ending};
-use dspec_ctf::{MetadataFault, PacketFault};
 use dspec_probed::ProbeFault;
 use dspec_trace::FolderFault;
 use thiserror::Error;
@@ -28,23 +27,11 @@ impl<'a> Ending for WatchFault<'a> {
     fn exit_status(&self) -> u8 {
         match self {
             WatchFault::Command(fault) => fault.status(),
-            WatchFault::Folder { fault, .. } => folder_status(fault),
+            WatchFault::Folder { fault, .. } => { if fault.is_memory() { 2 } else { 3 } }
             WatchFault::Probe(ProbeFault::Memory)
             | WatchFault::Start(StartFault::Memory)
             | WatchFault::Kept(KeptFault::Memory) => 2,
             _ => 1,
         }
-    }
-}
-
-/// The exit status that tells of a trace folder's fault: 2 for memory, wherever it was wanting, else 3.
-fn folder_status(fault: &FolderFault) -> u8 {
-    match fault {
-        FolderFault::Memory | FolderFault::Metadata(MetadataFault::Memory) => 2,
-        FolderFault::Packet {
-            fault: PacketFault::Memory,
-            ..
-        } => 2,
-        _ => 3,
     }
 }
