@@ -4,7 +4,7 @@ use Rattle.std.specs.Prelude.{◌+◌, Option, Some, slice_get, slice_range, sli
 use Rattle.dspec_record.specs.Record.{Record}
 use Rattle.dspec_record.specs.EnablingRows.{EnabledRows}
 use Rattle.dspec_ctf.specs.Packets.{events}
-use Rattle.dspec_ctf.specs.Rows.{HasNoRun, IsFileRun}
+use Rattle.dspec_ctf.specs.Rows.{HasNoRun}
 use Rattle.dspec_ctf.specs.Streams.{HasNoRecords, IsText, IsTooLong}
 use Rattle.dspec_ring.specs.declared.batch.Batch.{Batch}
 use Rattle.dspec_ctf.specs.declared.stream.PacketFault.{PacketFault}
