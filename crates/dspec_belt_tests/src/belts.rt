@@ -4,6 +4,7 @@ ghost use Rattle.dspec.specs.Lanes.{place_of};
 
 use dspec::{Config, Enablings, Field, Kept, Lane, Path, Rec, Work, closed_cpu, trace};
 use dspec_belt::{belt, open_within};
+use dspec_deeds::Opening;
 use std::alloc::Global;
 use std::sync::atomic::{AtomicU64, Ordering};
 use std::test::Fail;
@@ -49,6 +50,8 @@ impl Hands {
     fn over_a_belt(&self, lane: &mut Lane<'_, Enablings>)
         ensures { place_of lane.new ≡ place_of lane.old }
     {
+        // names the type that a path holds
+        let _named: Option<Opening> = None;
         let Ok((mut giver, mut taker)) = belt(self.alloc, 2) else {
             return;
         };

@@ -38,10 +38,8 @@ fn packet_fault(fault: PacketFault) -> ViewFault
 {
     match fault {
         PacketFault::Memory => ViewFault::Memory,
-        PacketFault::Text(_)
-        | PacketFault::Missed
-        | PacketFault::TooLong
-        | PacketFault::Clock(_) => ViewFault::TooMuch,
+        PacketFault::Text(_) | PacketFault::Missed | PacketFault::TooLong | PacketFault::Clock(_) =>
+            ViewFault::TooMuch,
     }
 }
 
