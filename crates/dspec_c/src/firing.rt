@@ -103,3 +103,20 @@ pub fn offer(
     let rec = cpu.schema().borrowed(epid, stamp, values)?;
     Some(cpu.speculate_recorded(shared, id, rec))
 }
+
+/// As `offer`, by a fire.
+#[inline(always)]
+pub fn fire_in(
+    cpu: &mut Cpu<Enablings>,
+    id: SpecId,
+    shared: &Shared,
+    epid: u32,
+    stamp: u64,
+    values: &[u64],
+) -> Option<Spoken>
+    requires of { IsCallable shared.now cpu.old }
+    ensures { Offered id epid stamp values.now result cpu.old cpu.new }
+{
+    let rec = cpu.schema().borrowed(epid, stamp, values)?;
+    Some(cpu.speculate_recorded(shared, id, FiredRec { borrowed: rec }))
+}

@@ -109,6 +109,20 @@ impl Homing {
         Some(answer)
     }
 
+    /// As `offer`, by a fire.
+    #[inline(always)]
+    pub fn fire_in(&mut self, id: SpecId, epid: u32, stamp: u64, values: &[u64]) -> Option<Spoken>
+        ensures same { IsSameSide self.old self.new }
+        ensures did { OnSide (is_none result) (Offered id epid stamp values.now result) self.old self.new }
+    {
+        let Some(answer) = firing::fire_in(&mut *self.cpu, id, &*self.shared, epid, stamp, values)
+        else {
+            self.refuse();
+            return None;
+        };
+        Some(answer)
+    }
+
     /// Counts a record as refused.
     #[cold]
     #[inline(never)]

@@ -80,7 +80,7 @@ impl OutCpu {
             self.homing.refuse();
             return None;
         }
-        self.homing.offer(id, of.epid, stamp, values)
+        self.homing.fire_in(id, of.epid, stamp, values)
     }
 
     /// None: it isn't a record of the schema, and is counted as refused.
