@@ -96,9 +96,13 @@ fn ended<R: Threads + Sync>(
         return None;
     };
     let config = Config::of(1, 4, 64, 64);
-    match trace(rt, alloc, &config, schema, &Crossed {}, Some(sink)) {
-        Ok((_closed, Some(sink))) => Some(sink.finish()),
-        _ => None,
+    let Ok(done) = trace(rt, alloc, &config, schema, &Crossed {}, Some(sink)) else {
+        return None;
+    };
+    let (_closed, sink) = done;
+    match sink {
+        Some(sink) => Some(sink.finish()),
+        None => None,
     }
 }
 
