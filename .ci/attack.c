@@ -29,15 +29,22 @@ static int attacks(const char *how) {
     return strcmp(word("ATTACK"), how) == 0;
 }
 
-/* Puts a link or a pipe under each name that is free, and says how many. */
+/* Puts a link or a pipe there, if the name is free. */
+static int planted(const char *path, const char *victim) {
+    return (victim ? symlink(victim, path) : mkfifo(path, 0666)) == 0;
+}
+
+/* Puts a link or a pipe under each free name of a CPU's file, in a trace as taken and in one by time, and says how many. */
 static int plant(const char *folder, const char *victim) {
     char path[PATH];
-    int planted = 0;
+    int count = 0;
     for (int i = 0; i < FILES; i++) {
         snprintf(path, sizeof path, "%s/cpu_%d", folder, i);
-        planted += (victim ? symlink(victim, path) : mkfifo(path, 0666)) == 0;
+        count += planted(path, victim);
+        snprintf(path, sizeof path, "%s/cpu_%d_0", folder, i);
+        count += planted(path, victim);
     }
-    return planted;
+    return count;
 }
 
 /* Moves the folder away, and puts another in its place. */
