@@ -391,16 +391,15 @@ struct Room<'g, 'a> {
 impl Room<'_, '_> {
     /// A piece that isn't the callsite's first literal alone.
     #[inline(never)]
-    fn write_other(&mut self, text: &str) -> fmt::Result {
+    fn write_other(&mut self, text: &str) {
         if self.length == 0 {
             if let Some(literal) = self.gathering.callsite.and_then(|callsite| callsite.literal(text, self.gathering.callsites)) {
                 self.literal = LITERAL + literal;
                 self.length = text.len();
-                return Ok(());
+                return;
             }
         }
         self.add(text);
-        Ok(())
     }
 
     /// A piece that isn't a literal alone.
@@ -434,7 +433,8 @@ impl Write for Room<'_, '_> {
             self.length = text.len();
             return Ok(());
         }
-        self.write_other(text)
+        self.write_other(text);
+        Ok(())
     }
 }
 
