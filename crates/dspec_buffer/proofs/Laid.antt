@@ -1,7 +1,7 @@
 -- A record that says itself what its shape and its bytes are, and a schema that says the same.
-use Rattle.std.proofs.Common.{◌≡◌, ◌∙◌, ℕ, Bool, true, false, List, length, Option, Some, None, option_map, is_some, IfSome, refl, sym, ap}
+use Rattle.std.proofs.Common.{◌≡◌, ◌∙◌, ℕ, true, List, length, Option, Some, None, option_map, is_some, IfSome, refl, sym, ap}
 use Rattle.dspec_record.specs.Record.{Record}
-use Rattle.dspec_record.specs.LaidOut.{Laid, text_over, IsSaid, IsLaidBy}
+use Rattle.dspec_record.specs.LaidOut.{Laid, text_over, IsLaidBy}
 use Rattle.dspec_record.specs.declared.field.Shape.{Shape}
 
 pub said_shape : (shape : ℕ → Option Shape) (text : Record → List ℕ) (r : Record) (laid : Option Laid) (h : Shape) → IsLaidBy shape text r laid
@@ -20,7 +20,7 @@ pub said_text : (shape : ℕ → Option Shape) (text : Record → List ℕ) (r :
 said_text shape text r None out is some = absurd (cc)
 said_text shape text r (Some l) out is some = sym is.same_text
 
--- nothing is written where it says nothing
-pub none_over : (laid : Option Laid) (out : List ℕ) → is_some laid ≡ false → text_over laid out ≡ out
-none_over None out none = refl
-none_over (Some l) out none = absurd (cc)
+-- a record that knows its shape knows its bytes
+pub knows_both : (laid : Option Laid) (shape : Option Shape) → shape ≡ option_map (λ (l : Laid). l.shape) laid → is_some shape ≡ true → is_some laid ≡ true
+knows_both None shape e some = absurd (cc)
+knows_both (Some l) shape e some = refl

@@ -1,4 +1,4 @@
-ghost use Rattle.std.specs.Prelude.{◌≡◌, IsTrue, Some, length};
+ghost use Rattle.std.specs.Prelude.{◌≡◌, IsTrue, Some};
 ghost use Rattle.dspec_record.specs.LaidOut.{IsLaidBy};
 
 use dspec_record::{Recorded, Schema, Shape};
@@ -14,18 +14,4 @@ pub(crate) fn shape_in<S: Schema, R: Recorded>(schema: &S, rec: R) -> Shape
         Some(shape) => shape,
         None => schema.shape_recorded(rec),
     }
-}
-
-/// Writes an accepted record, which knows its bytes itself or has them of the schema.
-#[inline(always)]
-pub(crate) fn put_in<S: Schema, R: Recorded>(schema: &S, rec: R, out: &mut [u8])
-    requires accepted { IsTrue (S.accepted schema.now (R.as_record rec)) }
-    requires laid { IsLaidBy (S.shape_of schema.now) (S.text schema.now) (R.as_record rec) (R.laid_as rec) }
-    requires exact { length out.old ≡ length (S.text schema.now (R.as_record rec)) }
-    ensures { out.new ≡ S.text schema.now (R.as_record rec) }
-{
-    if rec.put_laid(out) {
-        return;
-    }
-    schema.put_recorded(rec, out);
 }

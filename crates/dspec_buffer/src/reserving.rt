@@ -2,7 +2,6 @@ ghost use Rattle.std.specs.Prelude.{◌≡◌, ◌≤◌, ◌<◌, ◌+◌, ◌-
 ghost use Rattle.dspec_record.specs.LaidOut.{IsLaidBy};
 ghost use Rattle.dspec_record.specs.Layout.{rounded_up, after};
 
-use crate::laying::put_in;
 use dspec_record::{Recorded, Schema};
 
 /// The bytes of a padding word.
@@ -78,7 +77,7 @@ pub(crate) fn put_behind<S: Schema, R: Recorded>(
     // a record that knows its shape itself is written in few stores: it needs no call of its own
     if rec.laid_shape().is_some() {
         pad(bytes, from, place);
-        put_in(schema, rec, &mut bytes[place..end]);
+        rec.put_laid(&mut bytes[place..end]);
         return;
     }
     if from < place {

