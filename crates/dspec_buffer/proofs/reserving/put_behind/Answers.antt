@@ -28,8 +28,8 @@ returns-then-is_some g c =
     let text = g.S.Schema.text c.args.schema.now (g.R.Recorded.as_record c.args.rec) in
     let knows = knows_both (g.R.Recorded.laid_as c.args.rec) c.laid_shape.result c.laid_shape.ensures (sym c.is_some.ensures ∙ c.if-is_some.true) in
     let put : c.put_laid.new.out ≡ text
-        = c.put_laid.ensures.put ∙ said_text (g.S.Schema.shape_of c.args.schema.now) (g.S.Schema.text c.args.schema.now) (g.R.Recorded.as_record c.args.rec)
-        (g.R.Recorded.laid_as c.args.rec) (take (c.args.end - place) (drop place c.pad.new.bytes)) c.requires.laid knows in
+    = c.put_laid.ensures.put ∙ said_text (g.S.Schema.shape_of c.args.schema.now) (g.S.Schema.text c.args.schema.now) (g.R.Recorded.as_record c.args.rec)
+    (g.R.Recorded.laid_as c.args.rec) (take (c.args.end - place) (drop place c.pad.new.bytes)) c.requires.laid knows in
     let long : c.args.end ≡ place + length c.put_laid.new.out = c.requires.end ∙ ap (λ z. place + length z) (sym put) in
     take-put_mid place (c.args.end - place) c.pad.new.bytes c.put_laid.new.out c.args.end long (omega arith)
     ∙ ap (λ z. z ++ c.put_laid.new.out) c.pad.ensures
