@@ -36,6 +36,7 @@ static dspec_status call_ask(void *h, outs *o) { return (void)o, dspec_ask(h, 0)
 static dspec_status call_take(void *h, outs *o) { return dspec_take(h, 0, &o->batch); }
 static dspec_status call_give_back(void *h, outs *o) { return (void)o, dspec_give_back(h, 0); }
 static dspec_status call_clean(void *h, outs *o) { return dspec_clean(h, &o->number); }
+static dspec_status call_waiting_for(void *h, outs *o) { return dspec_waiting_for(h, 0, &o->number); }
 static dspec_status call_stop(void *h, outs *o) { return (void)o, dspec_stop(h); }
 static dspec_status call_consumer_home(void *h, outs *o) { return (void)o, dspec_consumer_home(h); }
 static dspec_status call_tend(void *h, outs *o) { return dspec_tend(h, &o->id); }
@@ -56,7 +57,7 @@ static const struct row {
     { "fire", CPU, call_fire }, { "fire_in", CPU, call_fire_in }, { "commit", CPU, call_commit }, { "discard", CPU, call_discard }, { "service", CPU, call_service },
     { "dropped_in", CPU, call_dropped_in }, { "cpu_report", CPU, call_cpu_report }, { "cpu_home", CPU, call_cpu_home },
     { "ask", CONSUMER, call_ask }, { "take", CONSUMER, call_take }, { "give_back", CONSUMER, call_give_back },
-    { "clean", CONSUMER, call_clean }, { "stop", CONSUMER, call_stop }, { "consumer_home", CONSUMER, call_consumer_home },
+    { "clean", CONSUMER, call_clean }, { "waiting_for", CONSUMER, call_waiting_for }, { "stop", CONSUMER, call_stop }, { "consumer_home", CONSUMER, call_consumer_home },
     { "rest", CLOSED, call_rest }, { "closed_report", CLOSED, call_closed_report },
 };
 
@@ -204,6 +205,7 @@ static void numbers(void) {
         ANSWERS(dspec_ask(&a.consumer, cpu), DSPEC_NO_SUCH_CPU);
         ANSWERS(dspec_take(&a.consumer, cpu, &o.batch), DSPEC_NO_SUCH_CPU);
         ANSWERS(dspec_give_back(&a.consumer, cpu), DSPEC_NO_SUCH_CPU);
+        ANSWERS(dspec_waiting_for(&a.consumer, cpu, &o.number), DSPEC_NO_SUCH_CPU);
         ANSWERS(dspec_rest(&a.closed, cpu, true, &o.batch), DSPEC_NO_SUCH_CPU);
         ANSWERS(dspec_rest(&a.closed, cpu, false, &o.batch), DSPEC_NO_SUCH_CPU);
         ANSWERS(dspec_closed_report(&a.closed, cpu, &o.report), DSPEC_NO_SUCH_CPU);

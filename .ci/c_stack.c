@@ -86,6 +86,11 @@ static void cpu_home(void) {
     for (uint32_t c = 0; c < config.cpus; c++) HAS_TO(dspec_cpu_home(&cpus[c]));
 }
 
+static void waiting_for(void) {
+    uint32_t count;
+    HAS_TO(dspec_waiting_for(&consumer, 0, &count));
+}
+
 static void tend(void) {
     uint64_t settled;
     HAS_TO(dspec_tend(&session, &settled));
@@ -122,6 +127,7 @@ static const struct step {
     { "dspec_commit", commit, MOST_OF_OTHERS },           { "dspec_ask", ask, MOST_OF_OTHERS },
     { "dspec_service", service, MOST_OF_OTHERS },         { "dspec_take", take, MOST_OF_OTHERS },
     { "dspec_give_back", give_back, MOST_OF_OTHERS },     { "dspec_clean", clean, MOST_OF_OTHERS },
+    { "dspec_waiting_for", waiting_for, MOST_OF_OTHERS },
     { "dspec_cpu_report", cpu_report, MOST_OF_OTHERS },   { "dspec_cpu_home", cpu_home, MOST_OF_OTHERS },
     { "dspec_tend", tend, MOST_OF_OTHERS },               { "dspec_consumer_home", consumer_home, MOST_OF_OTHERS },
     { "dspec_finish", finish, MOST },

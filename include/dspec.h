@@ -270,6 +270,11 @@ dspec_status dspec_give_back(dspec_consumer *consumer, uint32_t cpu) DSPEC_NOEXC
  * DSPEC_OK. DSPEC_BAD_HANDLE. */
 dspec_status dspec_clean(dspec_consumer *consumer, uint32_t *released) DSPEC_NOEXCEPT;
 
+/* How many slots wait for a CPU: their speculations are decided, and that CPU has made no service since. They aren't given out again
+ * before it makes one, or dspec_tend makes it. count is written at DSPEC_OK.
+ * DSPEC_OK. DSPEC_NO_SUCH_CPU. DSPEC_BAD_HANDLE. */
+dspec_status dspec_waiting_for(dspec_consumer *consumer, uint32_t cpu, uint32_t *count) DSPEC_NOEXCEPT;
+
 /* Stops the session: from when a CPU is shown it, its calls answer DSPEC_STOPPED, but service. A second time changes nothing.
  * DSPEC_OK. DSPEC_BAD_HANDLE. */
 dspec_status dspec_stop(dspec_consumer *consumer) DSPEC_NOEXCEPT;

@@ -290,6 +290,12 @@ public:
         dspec_clean(get(), &released);
         return released;
     }
+    /* How many decided slots wait for this CPU's next service; 0 where there is no such CPU. */
+    std::uint32_t waiting_for(std::uint32_t number) noexcept {
+        std::uint32_t count = 0;
+        dspec_waiting_for(get(), number, &count);
+        return count;
+    }
     void stop() noexcept { dspec_stop(get()); }
 };
 

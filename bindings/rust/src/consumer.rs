@@ -60,6 +60,14 @@ impl Consumer {
         released
     }
 
+    /// How many slots wait for a CPU: their speculations are decided, and that CPU has made no service since. 0 where there is no such CPU.
+    pub fn waiting_for(&mut self, cpu: u32) -> u32 {
+        let mut count = 0;
+        // SAFETY: as above. A number that no CPU has writes nothing.
+        let _ = unsafe { raw::dspec_waiting_for(self.handle.at(), cpu, &mut count) };
+        count
+    }
+
     /// Stops the session: calls of CPUs that are shown it answer so, but service.
     pub fn stop(&mut self) {
         // SAFETY: as above.

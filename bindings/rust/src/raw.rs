@@ -89,6 +89,7 @@ extern "C" {
     pub(crate) fn dspec_take(consumer: *mut Words, cpu: u32, batch: *mut Batch) -> Status;
     pub(crate) fn dspec_give_back(consumer: *mut Words, cpu: u32) -> Status;
     pub(crate) fn dspec_clean(consumer: *mut Words, released: *mut u32) -> Status;
+    pub(crate) fn dspec_waiting_for(consumer: *mut Words, cpu: u32, count: *mut u32) -> Status;
     pub(crate) fn dspec_stop(consumer: *mut Words) -> Status;
     pub(crate) fn dspec_consumer_home(consumer: *mut Words) -> Status;
 

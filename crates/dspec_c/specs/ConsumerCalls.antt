@@ -1,7 +1,8 @@
 -- Cited by calls. The calls on the consumer's handle: each did what the library's call says of its answer.
-use Rattle.std.specs.Prelude.{ℕ, ◌≡◌, ◌<◌, ◌≤◌, Bool, Some, None, MatchBool, slice_get, slice_set, ⊤}
+use Rattle.std.specs.Prelude.{ℕ, ◌≡◌, ◌<◌, ◌≤◌, Bool, Option, Some, None, MatchBool, MatchOption, slice_get, slice_set, ⊤}
 use Rattle.dspec_ring.specs.declared.batch.Batch.{Batch}
 use Rattle.dspec_consumer.specs.Asking.{Asked}
+use Rattle.dspec_consumer.specs.Awaiting.{Awaited}
 use Rattle.dspec_consumer.specs.Batches.{FoundNone, GaveBack, IsNotTakenBack, Took}
 use Rattle.dspec_consumer.specs.Cleaning.{Cleaned}
 use Rattle.dspec_consumer.specs.Consumers.{Consuming, set_up_of, view_of}
@@ -9,7 +10,7 @@ use Rattle.dspec_consumer.specs.Stopping.{Stopped}
 use Rattle.dspec_c.specs.Answered.{Answered}
 use Rattle.dspec_c.specs.ConsumerHomes.{Theirs}
 use Rattle.dspec_c.specs.Shows.{TellsBatch}
-use Rattle.dspec_c.specs.Statuses.{asked_status, bad_handle, found_status, returned_status}
+use Rattle.dspec_c.specs.Statuses.{asked_status, bad_handle, found_status, no_such_cpu, returned_status}
 use Rattle.dspec_c.specs.declared.batches.CBatch.{CBatch}
 use Rattle.dspec_c.specs.declared.consumer_side.ConsumerSide.{ConsumerSide}
 use Rattle.dspec_c.specs.declared.consumer_side.Found.{Found}
@@ -26,6 +27,11 @@ Asks c a old new = MatchBool a ((c < (set_up_of old).cpus) × Asked c old new) (
 -- `Consumer::clean`
 pub record CleansSo (released : ℕ) (old new : Consuming) : Type 0 where
   pub cleaned : Cleaned released (view_of old) (view_of new)
+  pub ends : new.ends ≡ old.ends
+
+-- `Consumer::waiting_for`
+pub record WaitsSo (c : ℕ) (answer : Option ℕ) (old new : Consuming) : Type 0 where
+  pub awaited : MatchOption answer (((set_up_of old).cpus ≤ c) × (new ≡ old)) (λ count. (c < (set_up_of old).cpus) × Awaited c count (view_of old) (view_of new))
   pub ends : new.ends ≡ old.ends
 
 -- the session that it is of is the same, and the consumer came of the other so
@@ -78,6 +84,15 @@ GiveBackAnswers c was status now = OnConsumer (λ old new. Answered returned_sta
 
 abbrev pub CleanAnswers : Held → ℕ → ℕ → ℕ → Held → Type 0
 CleanAnswers was status before released now = OnConsumer (λ old new. (status ≡ 0) × OnOut (CleansSo released) old new) (released ≡ before) was status now
+
+-- what is told of how many slots wait for a CPU: nothing where there is no such CPU
+abbrev pub ToldSo : Option ℕ → ℕ → ℕ → ℕ → Type 0
+ToldSo (Some n) status before count = (status ≡ 0) × (count ≡ n)
+ToldSo None status before count = (status ≡ no_such_cpu) × (count ≡ before)
+
+abbrev pub WaitingAnswers : ℕ → Held → ℕ → ℕ → ℕ → Held → Type 0
+WaitingAnswers c was status before count now =
+    OnConsumer (λ old new. (answer : Option ℕ) × ToldSo answer status before count × OnOut (WaitsSo c answer) old new) (count ≡ before) was status now
 
 abbrev pub StopAnswers : Held → ℕ → Held → Type 0
 StopAnswers was status now = OnConsumer (λ old new. (status ≡ 0) × OnOut Stopped old new) ⊤ was status now

@@ -2,11 +2,13 @@
 
 ghost use Rattle.std.specs.Prelude.{◌≡◌};
 ghost use Rattle.dspec_c.specs.Handles.{held_in, is_full};
-ghost use Rattle.dspec_c.specs.ConsumerCalls.{AskAnswers, CleanAnswers, GiveBackAnswers, StopAnswers, TakeAnswers};
+ghost use Rattle.dspec_c.specs.ConsumerCalls.{AskAnswers, CleanAnswers, GiveBackAnswers, StopAnswers, TakeAnswers, WaitingAnswers};
 
 use crate::batches::CBatch;
 use crate::handle::Handle;
-use crate::held_consumer_calls::{held_ask, held_clean, held_give_back, held_stop, held_take};
+use crate::held_consumer_calls::{
+    held_ask, held_clean, held_give_back, held_stop, held_take, held_waiting_for,
+};
 use crate::statuses::BAD_HANDLE;
 
 /// Asks a CPU for a batch more.
@@ -55,6 +57,18 @@ pub extern "C" fn dspec_clean(consumer: &mut Handle, released: &mut u32) -> u32
         return BAD_HANDLE;
     }
     held_clean(consumer.lend(), released)
+}
+
+/// Tells how many slots wait for a CPU.
+#[unsafe(no_mangle)]
+pub extern "C" fn dspec_waiting_for(consumer: &mut Handle, cpu: u32, count: &mut u32) -> u32
+    ensures answers { WaitingAnswers cpu (held_in consumer.old) result count.old count.new (held_in consumer.new) }
+    ensures stays { is_full consumer.new ≡ is_full consumer.old }
+{
+    if !consumer.is_held() {
+        return BAD_HANDLE;
+    }
+    held_waiting_for(consumer.lend(), cpu, count)
 }
 
 /// Stops the session.

@@ -44,7 +44,7 @@ impl ConsumerHoming {
     ghost use Rattle.dspec_c.specs.ConsumerHomes.{IsSameTheirs};
     ghost use Rattle.dspec_consumer.specs.Batches.{FoundNone, GaveBack, IsNotTakenBack, Took};
     ghost use Rattle.dspec_consumer.specs.Stopping.{Stopped};
-    ghost use Rattle.dspec_c.specs.ConsumerCalls.{Asks, CleansSo, OnTheirs};
+    ghost use Rattle.dspec_c.specs.ConsumerCalls.{Asks, CleansSo, OnTheirs, WaitsSo};
 
     pub fn of(shared: Arc<Shared, Global>, consumer: Consumer) -> ConsumerHoming
         requires { IsConsumerOf (words_of (arc_value shared)) consumer }
@@ -65,6 +65,13 @@ impl ConsumerHoming {
         ensures did { OnTheirs (CleansSo result) self.old self.new }
     {
         self.consumer.clean(&self.shared)
+    }
+
+    pub fn waiting_for(&mut self, cpu: u32) -> Option<u32>
+        ensures same { IsSameTheirs self.old self.new }
+        ensures did { OnTheirs (WaitsSo cpu result) self.old self.new }
+    {
+        self.consumer.waiting_for(&self.shared, cpu)
     }
 
     pub fn stop(&mut self)

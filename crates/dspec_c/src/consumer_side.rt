@@ -48,7 +48,7 @@ impl ConsumerSide {
     ghost use Rattle.rtrb.specs.Ring.{sent};
     ghost use Rattle.dspec_consumer.specs.Stopping.{Stopped};
     ghost use Rattle.dspec_c.specs.ConsumerHomes.{HasGoneTheirs};
-    ghost use Rattle.dspec_c.specs.ConsumerCalls.{Asks, CleansSo, Finds, OnOut, Returns};
+    ghost use Rattle.dspec_c.specs.ConsumerCalls.{Asks, CleansSo, Finds, OnOut, Returns, WaitsSo};
 
     pub fn new(out: OutConsumer, taken: Vec<Option<Batch>>) -> ConsumerSide
         requires { length taken.items ≡ (set_up_of out.consumer).cpus }
@@ -68,6 +68,12 @@ impl ConsumerSide {
         ensures { OnOut (CleansSo result) self.old self.new }
     {
         self.out.clean()
+    }
+
+    pub fn waiting_for(&mut self, cpu: u32) -> Option<u32>
+        ensures { OnOut (WaitsSo cpu result) self.old self.new }
+    {
+        self.out.waiting_for(cpu)
     }
 
     pub fn stop(&mut self)

@@ -1,10 +1,10 @@
 //! The calls of the consumer, on what a handle holds.
 
-ghost use Rattle.dspec_c.specs.ConsumerCalls.{AskAnswers, CleanAnswers, GiveBackAnswers, StopAnswers, TakeAnswers};
+ghost use Rattle.dspec_c.specs.ConsumerCalls.{AskAnswers, CleanAnswers, GiveBackAnswers, StopAnswers, TakeAnswers, WaitingAnswers};
 
 use crate::batches::CBatch;
 use crate::held::Held;
-use crate::statuses::{BAD_HANDLE, OK, of_asked, of_found, of_returned};
+use crate::statuses::{BAD_HANDLE, NO_SUCH_CPU, OK, of_asked, of_found, of_returned};
 
 pub fn held_ask(held: &mut Held, cpu: u32) -> u32
     ensures { AskAnswers cpu held.old result held.new }
@@ -41,6 +41,21 @@ pub fn held_clean(held: &mut Held, released: &mut u32) -> u32
             *released = side.clean();
             OK
         }
+        _ => BAD_HANDLE,
+    }
+}
+
+pub fn held_waiting_for(held: &mut Held, cpu: u32, count: &mut u32) -> u32
+    ensures { WaitingAnswers cpu held.old result count.old count.new held.new }
+{
+    match held {
+        Held::Consumer(side) => match side.waiting_for(cpu) {
+            Some(number) => {
+                *count = number;
+                OK
+            }
+            None => NO_SUCH_CPU,
+        },
         _ => BAD_HANDLE,
     }
 }

@@ -29,7 +29,7 @@ impl OutConsumer {
     ghost use Rattle.dspec_c.specs.ConsumerHomes.{HasGoneTheirs, IsOutTheirs, IsSameTheirs};
     ghost use Rattle.dspec_consumer.specs.Batches.{FoundNone, GaveBack, IsNotTakenBack, Took};
     ghost use Rattle.dspec_consumer.specs.Stopping.{Stopped};
-    ghost use Rattle.dspec_c.specs.ConsumerCalls.{Asks, CleansSo, OnTheirs};
+    ghost use Rattle.dspec_c.specs.ConsumerCalls.{Asks, CleansSo, OnTheirs, WaitsSo};
 
     pub fn of(
         way: Producer<ConsumerHoming, Global, ConsumerRule>,
@@ -54,6 +54,13 @@ impl OutConsumer {
         ensures did { OnTheirs (CleansSo result) self.old self.new }
     {
         self.homing.clean()
+    }
+
+    pub fn waiting_for(&mut self, cpu: u32) -> Option<u32>
+        ensures same { IsSameTheirs self.old self.new }
+        ensures did { OnTheirs (WaitsSo cpu result) self.old self.new }
+    {
+        self.homing.waiting_for(cpu)
     }
 
     pub fn stop(&mut self)

@@ -25,10 +25,10 @@ pub record Idled (n : ℕ) (v w : View) : Type 0 where
   pub asks : w.asks ≡ v.asks
   pub steps : w.steps ≡ v.steps + n
 
-idled_none : (v : View) → Idled 0 v v
+pub idled_none : (v : View) → Idled 0 v v
 idled_none v = record { who = refl; config = refl; own = refl; asks = refl; steps = omega arith }
 
-idled_more : {place : ℕ} (n : ℕ) (v u w : View) (log : List Deed) → Idled n v u → w ≡ acted place u log [] → Idled (suc n) v w
+pub idled_more : {place : ℕ} (n : ℕ) (v u w : View) (log : List Deed) → Idled n v u → w ≡ acted place u log [] → Idled (suc n) v w
 idled_more n v u w log i is = record {
   who = ap (λ (x : View). x.who) is ∙ i.who;
   config = ap (λ (x : View). x.config) is ∙ i.config;
@@ -37,7 +37,7 @@ idled_more n v u w log i is = record {
   steps = let e = ap (λ (x : View). x.steps) is in let f = i.steps in omega arith;
 }
 
-idled_load : (slot : ℕ) (v w : View) (shown : SlotState) → LookedWord slot v shown w → Idled 1 v w
+pub idled_load : (slot : ℕ) (v w : View) (shown : SlotState) → LookedWord slot v shown w → Idled 1 v w
 idled_load slot v w shown step = idled_more 0 v v w step.0 (idled_none v) step.3
 
 pub idled_acks : (slot issue n : ℕ) (v w : View) → Acknowledged slot issue v n w → Idled n v w

@@ -13,7 +13,7 @@ use dspec_table::{ConsumerSeat, Words};
 use dspec_word::Code;
 
 // Whether a word of this code waits for every CPU.
-fn waits(code: Code) -> bool
+pub(crate) fn waits(code: Code) -> bool
     ensures { result ≡ awaits code }
 {
     matches!(code, Code::CommittingMany | Code::Discarding)

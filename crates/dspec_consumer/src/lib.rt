@@ -9,6 +9,7 @@
 #![tactic(auto)]
 
 mod asking;
+mod awaiting;
 mod batches;
 mod cleaning;
 mod closed;

@@ -42,6 +42,8 @@ pub(super) enum Dealing {
     GiveBack,
     /// Releases so many slots.
     Clean(u32),
+    /// Tells for how many slots this CPU is waited for; None: it isn't there.
+    Waits(u32, Option<u32>),
     /// Stops the session.
     Stop,
 }
@@ -163,6 +165,11 @@ pub(super) fn give_back() -> Call {
 /// Releases so many slots.
 pub(super) fn clean(released: u32) -> Call {
     Call::Consumer(Dealing::Clean(released))
+}
+
+/// So many slots wait for this CPU.
+pub(super) fn waits(cpu: u32, slots: Option<u32>) -> Call {
+    Call::Consumer(Dealing::Waits(cpu, slots))
 }
 
 pub(super) fn stop() -> Call {

@@ -1,7 +1,7 @@
 //! Speculations of a session: what is open, and what becomes of what was spoken to them, on one CPU and on two.
 use super::calls::{
     Call, Remains, add_rounds, all_accepted, bare, clean, commit, discard, enablings, left, opens,
-    service, speculate, speculation, stop, trace, valued,
+    service, speculate, speculation, stop, trace, valued, waits,
 };
 use super::staging::{plays, shows};
 use dspec_deeds::Decided::{Copied, Thrown};
@@ -53,6 +53,38 @@ fn discarded(rt: HostRuntime) {
     };
     let remains = [left(&[], report)];
     shows(&rt, &sized(1, 1, 64, 64), enablings(), &calls, &remains);
+}
+
+/// Slots that wait for a CPU: one discarded with nothing in it, and one committed that both recorded, for each CPU until its service.
+#[test]
+fn waited_for(rt: HostRuntime) {
+    let calls = [
+        waits(0, Some(0)),
+        waits(2, None),
+        opens(0, 1),
+        waits(1, Some(0)),
+        discard(0, 1, Thrown(0)),
+        waits(0, Some(1)),
+        waits(1, Some(1)),
+        opens(1, 2),
+        speculate(0, 2, bare(1), Spoken::Kept),
+        speculate(1, 2, bare(1), Spoken::Kept),
+        commit(1, 2, Copied(1)),
+        waits(0, Some(2)),
+        waits(1, Some(2)),
+        service(0, false, 2),
+        waits(0, Some(0)),
+        waits(1, Some(2)),
+        clean(0),
+        service(1, false, 2),
+        waits(1, Some(0)),
+        clean(2),
+    ];
+    let remains = [
+        left(&[1, 0, 0, 0], all_accepted(1)),
+        left(&[1, 0, 0, 0], all_accepted(1)),
+    ];
+    shows(&rt, &sized(2, 2, 64, 64), DefaultAction, &calls, &remains);
 }
 
 /// What `commit_on_two_cpus` calls.

@@ -49,6 +49,7 @@ fn deals(
             None => false,
         },
         Dealing::Clean(released) => consumer.clean(shared) == released,
+        Dealing::Waits(cpu, slots) => consumer.waiting_for(shared, cpu) == slots,
         Dealing::Stop => {
             consumer.stop(shared);
             true
