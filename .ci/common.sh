@@ -21,6 +21,11 @@ wrong() {
     [ $# -eq 0 ] || cat "$@"
 }
 
+# Shows how what came differs from what was due, where it does: differs WANTED GOT
+differs() {
+    cmp -s "$1" "$2" || diff -U 2 --label wanted --label got "$1" "$2" | head -n 20
+}
+
 # Prints the counts, as the last line of a script and its status.
 counted() {
     echo "$passed passed, $failed failed"

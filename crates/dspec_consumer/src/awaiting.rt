@@ -58,11 +58,6 @@ impl Consumer {
         if cpu >= self.config.cpus {
             return None;
         }
-        Some(waits_of(
-            &mut self.seat,
-            shared.words(),
-            &self.config,
-            cpu,
-        ))
+        Some(waits_of(&mut self.seat, shared.words(), &self.config, cpu))
     }
 }
