@@ -32,7 +32,7 @@ fn speculate_once(lane: &mut Lane<'_, Enablings>, epid: u32)
 {
     let path = lane.path();
     for _ in 0..BLOCK_RECORDS {
-        path.step(lane, epid, 0, &[7]);
+        let _ = path.step(lane, epid, 0, &[7]);
     }
     path.throw(lane);
 }

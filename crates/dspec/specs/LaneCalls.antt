@@ -1,5 +1,6 @@
 -- Cited by calls. What a call on a lane, or of a path on a lane, did: what the call of the lane's CPU did.
-use Rattle.std.specs.Prelude.{ℕ, ◌≡◌, Bool, List, Option}
+use Rattle.std.specs.Prelude.{ℕ, ◌≡◌, Bool, List, Result}
+use Rattle.std.specs.Result.{result_ok}
 use Rattle.dspec_record.specs.Record.{Record}
 use Rattle.dspec_record.specs.declared.schema.Schema.{Ghosts}
 use Rattle.dspec_word.specs.SpecId.{Speculation}
@@ -18,6 +19,7 @@ use Rattle.dspec_cpu.specs.declared.cpu.Cpu.{Cpu}
 use Rattle.dspec_cpu.specs.Dropped.{drops_told}
 use Rattle.dspec_cpu.specs.Lists.{config_of, number_in, worn_of}
 use Rattle.dspec_cpu.specs.OneCall.{TracesOne, SpeculatesOne, OpensOne, DecidesOne, ServesOnce, RecordsValues, OffersValues}
+use Rattle.dspec.specs.declared.bad_record.BadRecord.{BadRecord}
 use Rattle.dspec.specs.declared.lane.Lane.{Lane}
 use Rattle.dspec.specs.declared.path.Path.{Path}
 
@@ -53,14 +55,14 @@ module _ {S : Type 0} {g : Ghosts S} (has : Cpu S → List Deed → Type 0) wher
   PathDropsOn path n lane = DropsOn (id_told path.opening) n lane
 
   module _ (accepted : S → Record → Bool) where
-    -- a record by its values is traced
-    abbrev pub RecordOn : ℕ → ℕ → List ℕ → Option Traced → Lane S g → Lane S g → Type 0
-    RecordOn epid stamp values a old new = RecordsValues has accepted epid stamp values a old.cpu.now new.cpu.now
+    -- a record by its values is traced; an error says that the schema doesn't accept it
+    abbrev pub RecordOn : ℕ → ℕ → List ℕ → Result Traced BadRecord → Lane S g → Lane S g → Type 0
+    RecordOn epid stamp values a old new = RecordsValues has accepted epid stamp values (result_ok a) old.cpu.now new.cpu.now
 
     -- or offered to a speculation
-    abbrev pub OfferOn : Speculation → ℕ → ℕ → List ℕ → Option Spoken → Lane S g → Lane S g → Type 0
-    OfferOn id epid stamp values a old new = OffersValues has accepted id epid stamp values a old.cpu.now new.cpu.now
+    abbrev pub OfferOn : Speculation → ℕ → ℕ → List ℕ → Result Spoken BadRecord → Lane S g → Lane S g → Type 0
+    OfferOn id epid stamp values a old new = OffersValues has accepted id epid stamp values (result_ok a) old.cpu.now new.cpu.now
 
     -- or to a path
-    abbrev pub StepOn : Path → ℕ → ℕ → List ℕ → Option Spoken → Lane S g → Lane S g → Type 0
+    abbrev pub StepOn : Path → ℕ → ℕ → List ℕ → Result Spoken BadRecord → Lane S g → Lane S g → Type 0
     StepOn path epid stamp values a old new = OfferOn (id_told path.opening) epid stamp values a old new

@@ -5,6 +5,7 @@ ghost use Rattle.dspec_cpu.specs.Lists.{number_in, schema_of};
 ghost use Rattle.dspec.specs.LaneCalls.{TraceOn, SpeculateOn, OpeningOn, DecisionOn, ServiceOn, RecordOn, OfferOn, DropsOn, ReportOn};
 ghost use Rattle.dspec.specs.Lanes.{place_of};
 
+use crate::bad_record::BadRecord;
 use crate::lane::Lane;
 use dspec_cpu::{Cpu, Listed};
 use dspec_deeds::{Decided, Opening, Report, Served, Spoken, Traced};
@@ -49,13 +50,16 @@ impl<'a, S: Schema> Lane<'a, S> {
         self.cpu.trace_recorded(self.shared, rec)
     }
 
-    /// Makes a record and traces it. None, and nothing was done: there are more than eight values, or the schema doesn't accept it.
+    /// Makes a record and traces it. An `Err`, and nothing was done: there are more than eight values, or the schema doesn't accept it.
     #[inline]
-    pub fn record(&mut self, epid: u32, stamp: u64, values: &[u64]) -> Option<Traced>
+    pub fn record(&mut self, epid: u32, stamp: u64, values: &[u64]) -> Result<Traced, BadRecord>
         ensures same { place_of self.new ≡ place_of self.old }
         ensures does { RecordOn ⟦<Cpu<S> as Listed>⟧.has_list S.accepted epid stamp values.now result self.old self.new }
     {
-        self.cpu.record(self.shared, epid, stamp, values)
+        match self.cpu.record(self.shared, epid, stamp, values) {
+            Some(answer) => Ok(answer),
+            None => Err(BadRecord),
+        }
     }
 
     /// Asks for a speculation: the answer has its identifier, or says why there is none.
@@ -106,14 +110,23 @@ impl<'a, S: Schema> Lane<'a, S> {
         self.cpu.speculate_recorded(self.shared, id, rec)
     }
 
-    /// Makes a record and offers it to a speculation. None, and nothing was done: there are more than eight values, or the schema
-    /// doesn't accept it.
+    /// Makes a record and offers it to a speculation. An `Err`, and nothing was done: there are more than eight values, or the
+    /// schema doesn't accept it.
     #[inline]
-    pub fn offer(&mut self, id: SpecId, epid: u32, stamp: u64, values: &[u64]) -> Option<Spoken>
+    pub fn offer(
+        &mut self,
+        id: SpecId,
+        epid: u32,
+        stamp: u64,
+        values: &[u64],
+    ) -> Result<Spoken, BadRecord>
         ensures same { place_of self.new ≡ place_of self.old }
         ensures does { OfferOn ⟦<Cpu<S> as Listed>⟧.has_list S.accepted id epid stamp values.now result self.old self.new }
     {
-        self.cpu.offer(self.shared, id, epid, stamp, values)
+        match self.cpu.offer(self.shared, id, epid, stamp, values) {
+            Some(answer) => Ok(answer),
+            None => Err(BadRecord),
+        }
     }
 
     /// How many records were dropped from the CPU's buffer of the speculation since the CPU became a caller: where there are any,

@@ -6,6 +6,7 @@
 //! what its CPUs accepted (`specs/Passed.antt`). Whatever else a program needs is found here too. Stands on `dspec_consumer`.
 #![tactic(auto)]
 
+mod bad_record;
 mod both;
 mod calling;
 mod closing;
@@ -20,6 +21,7 @@ mod work;
 mod worker;
 mod workers;
 
+pub use bad_record::BadRecord;
 pub use both::Both;
 pub use closing::{ClosedCpu, closed_cpu, closed_cpus};
 pub use dspec_buffer::{ReadFault, Reading, Records, read_all, read_prefix};

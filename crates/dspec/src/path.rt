@@ -3,6 +3,7 @@ ghost use Rattle.dspec_promise.specs.Promise.{commit, discard};
 ghost use Rattle.dspec.specs.LaneCalls.{EndOn, OpeningOn, PathDropsOn, StepOn};
 ghost use Rattle.dspec.specs.Lanes.{place_of};
 
+use crate::bad_record::BadRecord;
 use crate::lane::Lane;
 use dspec_cpu::{Cpu, Listed};
 use dspec_deeds::{Decided, Opening, Spoken};
@@ -25,7 +26,7 @@ impl Path {
         self.opening
     }
 
-    /// Offers a record. None, and nothing was done: there are more than eight values, or the schema doesn't accept the record.
+    /// Offers a record. An `Err`, and nothing was done: there are more than eight values, or the schema doesn't accept the record.
     #[inline]
     pub fn step<S: Schema>(
         &self,
@@ -33,7 +34,7 @@ impl Path {
         epid: u32,
         stamp: u64,
         values: &[u64],
-    ) -> Option<Spoken>
+    ) -> Result<Spoken, BadRecord>
         ensures same { place_of lane.new ≡ place_of lane.old }
         ensures does { StepOn ⟦<Cpu<S> as Listed>⟧.has_list S.accepted self.now epid stamp values.now result lane.old lane.new }
     {

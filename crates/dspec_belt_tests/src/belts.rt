@@ -27,7 +27,7 @@ impl Hands {
         ensures { place_of lane.new ≡ place_of lane.old }
     {
         let path = open_within(lane, 0);
-        path.step(lane, 1, 0, &[value]);
+        let _ = path.step(lane, 1, 0, &[value]);
         path
     }
 

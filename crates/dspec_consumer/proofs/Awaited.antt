@@ -1,6 +1,5 @@
 -- What looks at the slots that wait for a CPU leave the consumer's seat.
-use Rattle.std.proofs.Common.{◌≡◌, ℕ, zero, suc, ◌+◌, ◌*◌, ◌≤◌, Bool, true, false, if◌then◌else◌, refl, sym, ap, ◌∙◌, subst, arith}
-use Rattle.std.specs.Prelude.{nat_le}
+use Rattle.std.proofs.Common.{◌≡◌, ℕ, zero, suc, ◌+◌, ◌*◌, ◌≤◌, Bool, true, false, if◌then◌else◌, refl, sym, ◌∙◌, subst, arith}
 use Rattle.dspec_deeds.specs.declared.config.Config.{Config}
 use Rattle.dspec_table.specs.declared.rule.View.{View}
 use Rattle.dspec_consumer.specs.Awaiting.{AwaitedIn, waits_for_none, waits_for_all, AwaitedSlots, Awaited}
@@ -37,12 +36,12 @@ slots_looked cpu v (suc n) count w h =
         asks = now.asks ∙ was.0.asks;
         steps = let a = now.steps in let b = was.0.steps in omega arith;
       },
-      go h.2 was.1 h.5,
+      go before h.2 was.1 h.5,
     )
   where
-    go : (hit : Bool) → before ≤ n → count ≡ (if hit then before + 1 else before) → count ≤ suc n
-    go true le e = omega arith
-    go false le e = omega arith
+    go : (before : ℕ) (hit : Bool) → before ≤ n → count ≡ (if hit then before + 1 else before) → count ≤ suc n
+    go before true le e = omega arith
+    go before false le e = omega arith
 
 -- all of them
 pub all_looked : (v : View) (k : Config) (cpu count : ℕ) (w : View) → v.config ≡ k → AwaitedSlots cpu v k.nspec count w → Awaited cpu count v w

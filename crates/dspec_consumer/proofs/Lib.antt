@@ -1,6 +1,7 @@
 pub mod Halts
 pub mod Ends
 pub mod Asks
+pub mod Awaited
 pub mod Waiting
 pub mod Acknowledging
 pub mod Passing

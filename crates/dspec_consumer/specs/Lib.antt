@@ -2,6 +2,7 @@ pub mod Counting
 pub mod Consumers
 pub mod ConsumerFields
 pub mod Asking
+pub mod Awaiting
 pub mod Batches
 pub mod Cleaning
 pub mod Stopping

@@ -60,7 +60,7 @@ const HALF: u64 = 0x3fe0_0000_0000_0000;
 
 impl Work<Enablings> for ByNumbers {
     fn work(&self, lane: &mut Lane<'_, Enablings>) {
-        lane.record(1, self.stamp(1), &[255]);
+        let _ = lane.record(1, self.stamp(1), &[255]);
         lane.record(3, self.stamp(2), &[1, 0xfffe, 3, HALF]);
         lane.record(2, self.stamp(3), &[0xffff_ffff]);
         let numbers = [
@@ -75,7 +75,7 @@ impl Work<Enablings> for ByNumbers {
         ];
         lane.record(4, self.stamp(u64::MAX), &numbers);
         let path = lane.path();
-        path.step(lane, 1, self.stamp(5), &[9]);
+        let _ = path.step(lane, 1, self.stamp(5), &[9]);
         path.step(lane, 4, self.stamp(6), &[1, 0, 2, 3, 4, 0x40a0_0000, 6, 7]);
         path.step(
             lane,

@@ -41,7 +41,7 @@ struct One {}
 
 impl Work<Enablings> for One {
     fn work(&self, lane: &mut Lane<'_, Enablings>) {
-        lane.record(1, 0, &[7]);
+        let _ = lane.record(1, 0, &[7]);
     }
 }
 

@@ -54,7 +54,7 @@ impl Relay {
         ensures { place_of lane.new ≡ place_of lane.old }
     {
         let path = lane.path();
-        self.count(path.step(lane, 1, 0, &[7]) == Some(Spoken::Kept));
+        self.count(path.step(lane, 1, 0, &[7]) == Ok(Spoken::Kept));
         self.word.store(path.hand().raw(), Ordering::SeqCst);
         self.settle(lane);
     }
@@ -63,7 +63,7 @@ impl Relay {
         ensures { place_of lane.new ≡ place_of lane.old }
     {
         let path = Path::take(self.handed());
-        self.count(path.step(lane, 1, 0, &[8]) == Some(Spoken::Kept));
+        self.count(path.step(lane, 1, 0, &[8]) == Ok(Spoken::Kept));
         self.count(path.keep(lane) == Decided::Copied(1));
     }
 }
@@ -87,7 +87,7 @@ struct Forgets {
 impl Work<Enablings> for Forgets {
     fn work(&self, lane: &mut Lane<'_, Enablings>) {
         let path = lane.path();
-        path.step(lane, 1, 0, &[7]);
+        let _ = path.step(lane, 1, 0, &[7]);
         self.word.store(path.hand().raw(), Ordering::SeqCst);
     }
 }
@@ -111,10 +111,10 @@ impl Work<Enablings> for NoneThere {
         self.count(handed.raw() == 0 && handed == Handed::from_raw(0));
         let none = Path::take(handed);
         self.count(none.opening() == Opening::Unavailable);
-        self.count(none.step(lane, 1, 0, &[9]) == Some(Spoken::Void));
+        self.count(none.step(lane, 1, 0, &[9]) == Ok(Spoken::Void));
         self.count(none.keep(lane) == Decided::Void);
         let again = Path::take(first.hand());
-        self.count(again.step(lane, 1, 0, &[7]) == Some(Spoken::Kept));
+        self.count(again.step(lane, 1, 0, &[7]) == Ok(Spoken::Kept));
         self.count(again.throw(lane) == Decided::Thrown(1));
     }
 }

@@ -1,7 +1,7 @@
 //! Two lanes: each keeps a path, throws one away, and traces a record; one that the schema refuses isn't offered.
 use dspec::{
-    Batch, Both, Config, Decided, Enablings, Field, Kept, Lane, Policy, Rec, Report, Sink, Traced,
-    Work, closed_cpu, closed_cpus, trace,
+    BadRecord, Batch, Both, Config, Decided, Enablings, Field, Kept, Lane, Policy, Rec, Report,
+    Sink, Traced, Work, closed_cpu, closed_cpus, trace,
 };
 use std::sync::atomic::{AtomicU64, Ordering};
 use std::test::Fail;
@@ -34,13 +34,13 @@ impl Requests {
 impl Work<Enablings> for Requests {
     fn work(&self, lane: &mut Lane<'_, Enablings>) {
         let kept = lane.path();
-        kept.step(lane, 1, 0, &[7]);
+        let _ = kept.step(lane, 1, 0, &[7]);
         let thrown = lane.path();
-        thrown.step(lane, 1, 0, &[8]);
+        let _ = thrown.step(lane, 1, 0, &[8]);
         self.count(kept.keep(lane) == Decided::Copied(1));
         self.count(thrown.throw(lane) == Decided::Thrown(1));
-        self.count(lane.record(1, 0, &[9]) == Some(Traced::Kept));
-        self.count(lane.record(1, 0, &[256]).is_none());
+        self.count(lane.record(1, 0, &[9]) == Ok(Traced::Kept));
+        self.count(lane.record(1, 0, &[256]) == Err(BadRecord));
         self.count(lane.report().offered == 3);
     }
 }
@@ -62,10 +62,10 @@ impl LongPath {
 impl Work<Enablings> for LongPath {
     fn work(&self, lane: &mut Lane<'_, Enablings>) {
         let path = lane.path();
-        path.step(lane, 1, 0, &[1]);
-        path.step(lane, 1, 0, &[2]);
+        let _ = path.step(lane, 1, 0, &[1]);
+        let _ = path.step(lane, 1, 0, &[2]);
         self.count(path.dropped(lane) == 0);
-        path.step(lane, 1, 0, &[3]);
+        let _ = path.step(lane, 1, 0, &[3]);
         self.count(path.dropped(lane) == 1);
         self.count(path.keep(lane) == Decided::Copied(2));
     }

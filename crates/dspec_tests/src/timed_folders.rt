@@ -71,12 +71,12 @@ struct Crossed {}
 impl Work<Enablings> for Crossed {
     fn work(&self, lane: &mut Lane<'_, Enablings>) {
         let path = lane.path();
-        path.step(lane, 1, 5, &[1]);
-        lane.record(1, 10, &[2]);
-        path.step(lane, 1, 15, &[3]);
+        let _ = path.step(lane, 1, 5, &[1]);
+        let _ = lane.record(1, 10, &[2]);
+        let _ = path.step(lane, 1, 15, &[3]);
         path.keep(lane);
-        lane.record(1, 20, &[4]);
-        lane.record(1, 25, &[5]);
+        let _ = lane.record(1, 20, &[4]);
+        let _ = lane.record(1, 25, &[5]);
     }
 }
 

@@ -26,7 +26,7 @@ impl Settles {
         ensures { place_of lane.new ≡ place_of lane.old }
     {
         let path = lane.path();
-        path.step(lane, 1, 0, &[value]);
+        let _ = path.step(lane, 1, 0, &[value]);
         path.hand().raw()
     }
 

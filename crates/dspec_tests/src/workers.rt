@@ -16,7 +16,7 @@ struct Counter {
 impl Worker<Enablings> for Counter {
     fn work(&mut self, lane: &mut Lane<'_, Enablings>) {
         for number in 0..self.most {
-            lane.record(1, 0, &[number]);
+            let _ = lane.record(1, 0, &[number]);
             self.done = self.done.wrapping_add(1);
         }
     }
@@ -89,7 +89,7 @@ impl Worker<Enablings> for Endless<'_> {
                 self.was_stopped = true;
                 return;
             }
-            lane.record(1, 0, &[7]);
+            let _ = lane.record(1, 0, &[7]);
             lane.service();
             thread::yield_now();
         }

@@ -24,7 +24,7 @@ struct Caller {
 
 impl Worker<Enablings> for Caller {
     fn work(&mut self, lane: &mut Lane<'_, Enablings>) {
-        lane.record(1, 0, &[self.calls]);
+        let _ = lane.record(1, 0, &[self.calls]);
         lane.service();
         self.calls = self.calls.wrapping_add(1);
     }

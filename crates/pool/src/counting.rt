@@ -34,7 +34,7 @@ impl Worker<Enablings> for Counter {
                 break;
             }
             let path = lane.path();
-            path.step(lane, self.epid, 0, &[number]);
+            let _ = path.step(lane, self.epid, 0, &[number]);
             if number % 3 == 0 {
                 path.keep(lane);
             } else {

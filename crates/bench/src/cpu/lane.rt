@@ -36,7 +36,7 @@ pub fn trace_over<S: Schema>(lane: &mut Lane<'_, S>, rec: &Rec, number: u32) -> 
 fn record_on<S: Schema>(lane: &mut Lane<'_, S>, rec: &Rec) -> bool
     ensures same { place_of lane.new ≡ place_of lane.old }
 {
-    lane.record(rec.epid(), rec.stamp(), rec.values()) == Some(Traced::Kept)
+    lane.record(rec.epid(), rec.stamp(), rec.values()) == Ok(Traced::Kept)
 }
 
 /// Records the values of the record so many times: how often that was kept.
@@ -57,7 +57,7 @@ pub fn record_over<S: Schema>(lane: &mut Lane<'_, S>, rec: &Rec, number: u32) ->
 fn step_on<S: Schema>(path: &Path, lane: &mut Lane<'_, S>, rec: &Rec) -> bool
     ensures same { place_of lane.new ≡ place_of lane.old }
 {
-    path.step(lane, rec.epid(), rec.stamp(), rec.values()) == Some(Spoken::Kept)
+    path.step(lane, rec.epid(), rec.stamp(), rec.values()) == Ok(Spoken::Kept)
 }
 
 /// One path of twenty steps: how many records were kept.

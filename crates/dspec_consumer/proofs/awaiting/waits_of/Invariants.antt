@@ -1,4 +1,3 @@
-use Rattle.std.proofs.Common.{ℕ}
 use Rattle.dspec_table.specs.Seats.{known_there, IsConsumerAt}
 use Rattle.dspec_consumer.specs.Awaiting.{AwaitedSlots}
 use Rattle.dspec_consumer.proofs.awaiting.waits_of.Given as goal
