@@ -51,11 +51,11 @@ examples: build
 ctf-check:
 	@sh .ci/ctf reader
 
-# The list of public calls, docs/API.md, made from the sources; the gate compares it.
+# The lists of public calls, made from the sources: docs/API.md, which the gate compares, and build/docs/API-BELOW.md.
 api:
 	@sh .ci/api
 
-# The list of wrong bodies, docs/EDITS.md, made from the folders; the gate compares it, and that each edit fits its file.
+# The list of wrong bodies, build/docs/EDITS.md, made from the folders; the gate looks whether each edit fits its file.
 edits:
 	@sh .ci/edits
 
