@@ -5,3 +5,5 @@
 mod belts;
 #[cfg(test)]
 mod clocks;
+#[cfg(test)]
+mod gatherings;
