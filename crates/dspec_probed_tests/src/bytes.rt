@@ -61,8 +61,8 @@ const HALF: u64 = 0x3fe0_0000_0000_0000;
 impl Work<Enablings> for ByNumbers {
     fn work(&self, lane: &mut Lane<'_, Enablings>) {
         let _ = lane.record(1, self.stamp(1), &[255]);
-        lane.record(3, self.stamp(2), &[1, 0xfffe, 3, HALF]);
-        lane.record(2, self.stamp(3), &[0xffff_ffff]);
+        let _ = lane.record(3, self.stamp(2), &[1, 0xfffe, 3, HALF]);
+        let _ = lane.record(2, self.stamp(3), &[0xffff_ffff]);
         let numbers = [
             u64::MAX,
             1,
@@ -73,19 +73,19 @@ impl Work<Enablings> for ByNumbers {
             1 << 63,
             7,
         ];
-        lane.record(4, self.stamp(u64::MAX), &numbers);
+        let _ = lane.record(4, self.stamp(u64::MAX), &numbers);
         let path = lane.path();
         let _ = path.step(lane, 1, self.stamp(5), &[9]);
-        path.step(lane, 4, self.stamp(6), &[1, 0, 2, 3, 4, 0x40a0_0000, 6, 7]);
-        path.step(
+        let _ = path.step(lane, 4, self.stamp(6), &[1, 0, 2, 3, 4, 0x40a0_0000, 6, 7]);
+        let _ = path.step(
             lane,
             3,
             self.stamp(7),
             &[255, 32767, 0, 0xbff0_0000_0000_0000],
         );
         path.keep(lane);
-        lane.record(2, self.stamp(8), &[8]);
-        lane.record(3, self.stamp(9), &[0, 0, 0, 0]);
+        let _ = lane.record(2, self.stamp(8), &[8]);
+        let _ = lane.record(3, self.stamp(9), &[0, 0, 0, 0]);
     }
 }
 
