@@ -8,6 +8,7 @@ ROUNDS = 50
 COUNT = 100000
 SEED = 1
 PREFIX = /usr/local
+INTO =
 
 JOBS =
 
