@@ -8,6 +8,7 @@ ROUNDS = 50
 COUNT = 100000
 SEED = 1
 PREFIX = /usr/local
+INTO =
 
 JOBS =
 
@@ -31,9 +32,10 @@ picture:
 check:
 	@cd "crates/$(CRATE)" && rt check
 
-# The line of crates.txt for a program that uses these crates, as in make crates-line CRATE=app CRATES="dspec dspec_probed anyhow".
+# The line of crates.txt for a program that uses these crates, as in make crates-line CRATE=app CRATES="dspec dspec_probed anyhow". With
+# INTO=FOLDER, a repository of its own, it copies the crates there too, and writes their lines and this one into its crates.txt.
 crates-line:
-	@.ci/crates_line "$(CRATE)" $(CRATES)
+	@INTO="$(INTO)" .ci/crates_line "$(CRATE)" $(CRATES)
 
 # All that runs, by trial builds: tests, programs, the corpus, sessions. Nothing is proved by it. Some minutes on four processors.
 quick:

@@ -83,6 +83,7 @@ function refusals(text, names, at) {
     if (!at) return "none"
     text = trimmed(substr(text, at + 3))
     if (text ~ /^Result</) { sub(/^Result</, "", text); sub(/>$/, "", text); return "`" last_of(text) "`" }
+    if (text ~ /^io::Result</) return "`io::Error`"
     if (text ~ /^Option</) return "`None`"
     if (text == "bool" && (", " names ",") ~ /, refused,/) return "`false`"
     return "none"
@@ -144,8 +145,10 @@ round == 1 {
     next
 }
 
-# Doc comments stand before their item, with attributes between.
+# Doc comments stand before their item, with attributes between. Their paragraphs are told as one; a line of code stands in backticks.
+state == "" && /^ *\/\/\/     [^ ]/ { doc = doc (doc == "" ? "" : " ") "`" trimmed(substr(trimmed($0), 5)) "`"; next }
 state == "" && /^ *\/\/\/ / { text = trimmed($0); doc = doc (doc == "" ? "" : " ") substr(text, 5); next }
+state == "" && /^ *\/\/\/$/ { next }
 state == "" && /^ *#\[/ { next }
 
 # Types and constants.
