@@ -91,6 +91,14 @@ static bool is_refused(dspec_status status, const void *handle) {
         if (status_ != DSPEC_OK) fail(#call, status_); \
     } while (0)
 
+/* A CPU that came home takes memory to be handed out again, and stays at home where that is refused. */
+static void park(void) {
+    uint64_t settled;
+    OK(dspec_cpu_home(&cpus[1]));
+    OK(dspec_tend(&session, &settled));
+    ASK(dspec_cpu_of(&session, 1, &cpus[1]), &cpus[1]);
+}
+
 static void start(void) {
     const dspec_config config = {
         .cpus = 2, .nspec = 3, .bufsize = 64, .specsize = 24, .max_issues = 9, .max_calls = 99, .policy = DSPEC_POLICY_SWITCH,
@@ -101,6 +109,7 @@ static void start(void) {
     ASK(dspec_start(&config, &schema, &session), &session);
     for (uint32_t i = 0; i < 2; i++) ASK(dspec_cpu_of(&session, i, &cpus[i]), &cpus[i]);
     ASK(dspec_consumer_of(&session, &consumer), &consumer);
+    for (int times = 0; times < 2; times++) park();
 }
 
 /* A speculation of both CPUs, and a batch: from here on no call takes memory. */

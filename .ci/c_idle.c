@@ -1,15 +1,16 @@
-/* A CPU that makes no service must not use up the slots of the others: CPU 2 is home, was never handed out, or its thread has ended, and the
- * session's handle tends. Paths over CPUs 0 and 1, and empty discards, are opened 1,000 times with 8 slots, none refused; without the tending all but
- * the first 8 are. Then the same in threads: the consumer cleans, the main thread tends, and each opening comes. */
+/* A CPU that makes no service must not use up the slots of the others: CPU 2 is home, was never handed out, was handed out again and again, or its
+ * thread has ended, and the session's handle tends. Paths over CPUs 0 and 1, and empty discards, are opened 1,000 times with 8 slots, none refused;
+ * without the tending all but the first 8 are. Then the same in threads: the consumer cleans, the main thread tends, and each opening comes; beside
+ * them a thread that blocks parks its CPU by dspec_cpu_home, and has it back by dspec_cpu_of. */
 #include "c_check.h"
 
 #include <pthread.h>
 #include <sched.h>
 #include <stdatomic.h>
 
-enum { PATHS = 1000, SLOTS = 8, TRIES = 100000000 };
+enum { PATHS = 1000, SLOTS = 8, PARKS = 5, TRIES = 100000000 };
 
-typedef enum idle { NEVER_OUT, HOME, THREAD_ENDED, IDLES } idle;
+typedef enum idle { NEVER_OUT, HOME, PARKED, THREAD_ENDED, IDLES } idle;
 
 typedef struct idling {
     dspec_schema schema;
@@ -18,7 +19,8 @@ typedef struct idling {
     dspec_consumer consumer;
     uint32_t epid;
     atomic_bool done;
-    int missed;
+    int missed, woken;
+    pthread_mutex_t lock; /* of the session, where two threads call it */
 } idling;
 
 /* A thread that traces, and ends without a thought of its CPU. */
@@ -27,6 +29,16 @@ static void *trace_one(void *given) {
     const uint64_t value = 1;
     MUST(dspec_trace(&i->cpus[2], i->epid, 0, &value, 1));
     return NULL;
+}
+
+/* CPU 2 wakes for one record and for its share of a path, and is parked again. */
+static void wake(idling *i, uint64_t id) {
+    const uint64_t value = 3;
+    MUST(dspec_cpu_of(&i->session, 2, &i->cpus[2]));
+    MUST(dspec_trace(&i->cpus[2], i->epid, 0, &value, 1));
+    MUST(dspec_speculate(&i->cpus[2], id, i->epid, 0, &value, 1));
+    MUST(dspec_cpu_home(&i->cpus[2]));
+    i->woken++;
 }
 
 static void begin(idling *i, idle kind) {
@@ -43,6 +55,10 @@ static void begin(idling *i, idle kind) {
         pthread_join(thread, NULL);
     }
     MUST(dspec_cpu_home(&i->cpus[2]));
+    for (int at = 0; at < PARKS && kind == PARKED; at++) {
+        MUST(dspec_cpu_of(&i->session, 2, &i->cpus[2]));
+        MUST(dspec_cpu_home(&i->cpus[2]));
+    }
 }
 
 static void end(idling *i) {
@@ -54,6 +70,7 @@ static void end(idling *i) {
         dspec_report report;
         MUST(dspec_closed_report(&closed, cpu, &report));
         CHECK(report.offered == report.accepted + report.dropped + report.specdropped + report.lost + report.discarded + report.void_ && report.held == 0);
+        if (i->woken > 0 && cpu == 2) CHECK(report.offered == 2u * (uint32_t)i->woken && report.discarded == (uint32_t)i->woken);
     }
     dspec_closed_drop(&closed);
     dspec_schema_drop(&i->schema);
@@ -77,8 +94,12 @@ static int refused(idle kind, bool is_empty, bool tends) {
     for (int at = 0; at < PATHS; at++) {
         uint64_t id, settled;
         uint32_t released;
-        if (dspec_speculation(&i.cpus[0], &id) == DSPEC_OK) walk(&i, id, is_empty);
-        else none++;
+        if (dspec_speculation(&i.cpus[0], &id) == DSPEC_OK) {
+            if (kind == PARKED && at % 10 == 0) wake(&i, id);
+            walk(&i, id, is_empty);
+        } else {
+            none++;
+        }
         if (tends) ANSWERS(dspec_tend(&i.session, &settled), DSPEC_OK);
         ANSWERS(dspec_clean(&i.consumer, &released), DSPEC_OK);
     }
@@ -114,19 +135,47 @@ static void *walk_all(void *given) {
     return NULL;
 }
 
+static void tend(idling *i) {
+    uint64_t settled;
+    pthread_mutex_lock(&i->lock);
+    dspec_status status = dspec_tend(&i->session, &settled);
+    pthread_mutex_unlock(&i->lock);
+    if (status != DSPEC_OK) exit(2);
+}
+
+/* A thread that has work now and then: it takes its CPU back, traces, and parks it before it blocks. */
+static void *sleep_on(void *given) {
+    idling *i = given;
+    const uint64_t value = 5;
+    while (!atomic_load(&i->done)) {
+        bool sealed;
+        uint32_t count;
+        pthread_mutex_lock(&i->lock);
+        dspec_status status = dspec_cpu_of(&i->session, 2, &i->cpus[2]);
+        pthread_mutex_unlock(&i->lock);
+        if (status != DSPEC_OK || dspec_trace(&i->cpus[2], i->epid, 0, &value, 1) == DSPEC_BAD_HANDLE) exit(2);
+        if (dspec_service(&i->cpus[2], &sealed, &count) != DSPEC_OK || dspec_cpu_home(&i->cpus[2]) != DSPEC_OK) exit(2);
+        sched_yield();
+    }
+    return NULL;
+}
+
 static void in_threads(idle kind) {
     static idling i;
-    pthread_t cleans, walks;
-    uint64_t settled;
+    pthread_t cleans, walks, sleeps;
     i = (idling){ .epid = 0 };
     begin(&i, kind);
+    if (!CHECK(pthread_mutex_init(&i.lock, NULL) == 0)) exit(2);
     if (!CHECK(pthread_create(&cleans, NULL, clean_on, &i) == 0) || !CHECK(pthread_create(&walks, NULL, walk_all, &i) == 0)) exit(2);
+    if (kind == PARKED && !CHECK(pthread_create(&sleeps, NULL, sleep_on, &i) == 0)) exit(2);
     while (!atomic_load(&i.done)) {
-        if (dspec_tend(&i.session, &settled) != DSPEC_OK) exit(2);
+        tend(&i);
         sched_yield();
     }
     pthread_join(cleans, NULL);
     pthread_join(walks, NULL);
+    if (kind == PARKED) pthread_join(sleeps, NULL);
+    pthread_mutex_destroy(&i.lock);
     CHECK(i.missed == 0);
     end(&i);
 }
@@ -139,6 +188,7 @@ int main(void) {
     for (idle kind = NEVER_OUT; kind < IDLES; kind++) {
         for (int is_empty = 0; is_empty < 2; is_empty++) {
             CHECK(refused(kind, is_empty, true) == 0);
+            /* a parked CPU that wakes for a record settles nothing of the paths before */
             CHECK(refused(kind, is_empty, false) == PATHS - SLOTS);
         }
         in_threads(kind);

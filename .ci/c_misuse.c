@@ -225,9 +225,47 @@ static void numbers(void) {
     MUST(dspec_give_back(&a.consumer, 0));
     ANSWERS(dspec_give_back(&a.consumer, 0), DSPEC_NO_BATCH);
     CHECK(o.batch.len == 0xa5);
-    MUST(dspec_cpu_home(&a.cpu));
-    ANSWERS(dspec_cpu_of(&a.session, 0, &a.cpu), DSPEC_OUT);
     check_let_go(&a);
+}
+
+/* A CPU that came home is handed out again, as it was: by its number, from its own session, and not while it is out. */
+static void parked(void) {
+    check_all a, b;
+    outs o;
+    dspec_report before, after;
+    uint64_t id;
+    uint32_t count;
+    check_set_up(&a);
+    check_set_up(&b);
+    fill(&o);
+    MUST(DSPEC_TRACE(&a.cpu, 1, 7));
+    ANSWERS(DSPEC_TRACE(&a.cpu, 9, 7), DSPEC_BAD_RECORD);
+    MUST(dspec_speculation(&a.cpu, &id));
+    MUST(DSPEC_SPECULATE(&a.cpu, id, 1, 8));
+    for (int i = 0; i < 3; i++) {
+        MUST(dspec_cpu_report(&a.cpu, &before));
+        MUST(dspec_cpu_home(&a.cpu));
+        ANSWERS(dspec_cpu_of(&b.session, 0, &a.cpu), DSPEC_OUT);
+        ANSWERS(dspec_cpu_of(&a.session, 2, &a.cpu), DSPEC_NO_SUCH_CPU);
+        MUST(dspec_cpu_of(&a.session, 0, &a.cpu));
+        ANSWERS(dspec_cpu_of(&a.session, 0, &a.second), DSPEC_OUT);
+        ANSWERS(dspec_finish(&a.session, &o.closed), DSPEC_NOT_HOME);
+        MUST(dspec_cpu_report(&a.cpu, &after));
+        CHECK(check_same_report(&before, &after));
+        MUST(DSPEC_TRACE(&a.cpu, 1, 9));
+        ANSWERS(DSPEC_TRACE(&a.cpu, 9, 7), DSPEC_BAD_RECORD);
+    }
+    MUST(dspec_commit(&a.cpu, id, &count));
+    CHECK(count == 1);
+    MUST(dspec_cpu_home(&a.cpu));
+    MUST(dspec_consumer_home(&a.consumer));
+    ANSWERS(dspec_consumer_of(&a.session, &a.consumer), DSPEC_OUT);
+    MUST(dspec_finish(&a.session, &o.closed));
+    MUST(dspec_closed_report(&o.closed, 0, &o.report));
+    CHECK(o.report.offered == 5 && o.report.accepted == 5 && o.report.refused == 4);
+    dspec_closed_drop(&o.closed);
+    check_let_go(&a);
+    check_let_go(&b);
 }
 
 /* A session can finish once all that was handed out of it is home; the parts of another session don't count. */
@@ -312,6 +350,7 @@ int main(void) {
     finished();
     full_handles();
     numbers();
+    parked();
     not_home();
     many_homes(false);
     many_homes(true);

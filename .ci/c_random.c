@@ -109,7 +109,10 @@ static void start(sequence *s) {
     s->consumer_where = INSIDE;
 }
 
-static dspec_status out_status(whereabouts where) { return where == INSIDE ? DSPEC_OK : DSPEC_OUT; }
+/* The consumer is handed out once; a CPU that came home is handed out again. */
+static dspec_status consumer_out(whereabouts where) { return where == INSIDE ? DSPEC_OK : DSPEC_OUT; }
+
+static dspec_status cpu_out(whereabouts where) { return where == INSIDE || where == HOME ? DSPEC_OK : DSPEC_OUT; }
 
 static void hand_out(sequence *s) {
     bool own;
@@ -117,7 +120,7 @@ static void hand_out(sequence *s) {
     dspec_session *h = maybe_wrong(s, &s->session, &own);
     bool held = own && h->held;
     if (one_in(&s->dice, 4)) {
-        dspec_status due = s->consumer.held ? DSPEC_FULL_HANDLE : held ? out_status(s->consumer_where) : DSPEC_BAD_HANDLE;
+        dspec_status due = s->consumer.held ? DSPEC_FULL_HANDLE : held ? consumer_out(s->consumer_where) : DSPEC_BAD_HANDLE;
         if ((void *)h == &s->consumer) return;
         answers(s, "consumer_of", dspec_consumer_of(h, &s->consumer), due);
         if (due == DSPEC_OK) s->consumer_where = OUTSIDE;
@@ -127,7 +130,7 @@ static void hand_out(sequence *s) {
     dspec_status due = s->cpus[place].held ? DSPEC_FULL_HANDLE
         : !held                           ? DSPEC_BAD_HANDLE
         : n >= s->m.config.cpus           ? DSPEC_NO_SUCH_CPU
-                                          : out_status(s->where[n]);
+                                          : cpu_out(s->where[n]);
     answers(s, "cpu_of", dspec_cpu_of(h, n, &s->cpus[place]), due);
     if (due == DSPEC_OK) s->where[n] = OUTSIDE;
 }
@@ -286,6 +289,19 @@ static void go_home(sequence *s) {
     if (held) s->where[cpu] = HOME;
 }
 
+/* A CPU goes home for a while, as a thread's does that blocks: others may call meanwhile, and `hand_out` gets it back. */
+static void park(sequence *s) {
+    uint32_t cpu = below(&s->dice, CPUS);
+    if (s->where[cpu] == HOME && s->session.held && one_in(&s->dice, 2)) {
+        dspec_status due = s->cpus[cpu].held ? DSPEC_FULL_HANDLE : DSPEC_OK;
+        answers(s, "cpu_of, parked", dspec_cpu_of(&s->session, cpu, &s->cpus[cpu]), due);
+        if (due == DSPEC_OK) s->where[cpu] = OUTSIDE;
+    } else if (s->cpus[cpu].held) {
+        answers(s, "cpu_home, to park", dspec_cpu_home(&s->cpus[cpu]), DSPEC_OK);
+        s->where[cpu] = HOME;
+    }
+}
+
 /* The model makes the services of the CPUs that aren't out. */
 static void tend(sequence *s) {
     bool own;
@@ -389,6 +405,7 @@ static void anything(sequence *s) {
     else if (kind < 95) schema_new(s);
     else if (kind < 96) { if (late || one_in(&s->dice, 4)) drop_one(s); }
     else if (kind < 97 || (late && kind >= 100)) { if (late || one_in(&s->dice, 3)) go_home(s); }
+    else park(s);
 }
 
 static void step(sequence *s) {

@@ -154,6 +154,31 @@ void batches() {
     CHECK(thrown_by([&] { static_cast<void>(session.finish()); }) == DSPEC_BAD_HANDLE);
 }
 
+/* A path that is open while its CPU is parked goes on once that is back. */
+void parking() {
+    world w;
+    dspec::session session(config, w.schema);
+    {
+        dspec::cpu cpu = session.cpu_of(0);
+        CHECK(thrown_by([&] { session.wake(0, cpu); }) == DSPEC_FULL_HANDLE);
+        dspec::path path = cpu.open();
+        CHECK(path.step(w.of_one, 5) == DSPEC_OK);
+        for (int times = 0; times < 3; times++) {
+            cpu.park();
+            CHECK(path.step(w.of_one, 6) == DSPEC_BAD_HANDLE && cpu.trace(w.of_one, 6) == DSPEC_BAD_HANDLE);
+            CHECK(session.tend() == 0);
+            session.wake(0, cpu);
+            CHECK(path.step(w.of_one, 7) == DSPEC_OK);
+        }
+        const auto [status, records] = path.keep();
+        CHECK(status == DSPEC_OK && records == 4);
+        cpu.park();
+        dspec::cpu again = session.cpu_of(0);
+        CHECK(again.trace(w.of_one, 8) == DSPEC_OK && thrown_by([&] { session.wake(0, cpu); }) == DSPEC_OUT);
+    }
+    CHECK(session.finish().report(0).accepted == 5);
+}
+
 void refusals() {
     dspec::schema schema;
     for (int n = 0; n < 64; n++) static_cast<void>(schema.enable<>());
@@ -172,6 +197,7 @@ int main() {
     values();
     paths();
     batches();
+    parking();
     refusals();
     std::printf("%d passed, %d failed\n", passed, failed);
     return failed > 0 || passed == 0;

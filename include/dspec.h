@@ -90,7 +90,7 @@ typedef enum dspec_status {
     DSPEC_NO_SUCH_CPU = 19, /* no CPU of this number */
     DSPEC_NOT_HOME = 20,    /* a CPU or the consumer hasn't come home */
     DSPEC_NO_BATCH = 21,    /* no batch has come, none is out, or none is left */
-    DSPEC_OUT = 22,         /* handed out already: the CPU, the consumer, or a batch that has to be given back first */
+    DSPEC_OUT = 22,         /* out already: the CPU, the consumer, which is handed out once, or a batch that has to be given back first */
 
     /* What became of a call, as its CPU's report counts it. */
     DSPEC_DROPPED = 32,     /* no room for the record */
@@ -180,8 +180,10 @@ dspec_status dspec_schema_stamp(dspec_schema *schema) DSPEC_NOEXCEPT;
  * DSPEC_BAD_SPECSIZE, DSPEC_BAD_MAX_ISSUES, DSPEC_BAD_MAX_CALLS, DSPEC_NO_MEMORY, looked at in this order. */
 dspec_status dspec_start(const dspec_config *config, dspec_schema *schema, dspec_session *session) DSPEC_NOEXCEPT;
 
-/* Hands out the CPU of this number, from 0 on, once. Takes memory.
- * DSPEC_FULL_HANDLE, DSPEC_BAD_HANDLE (the session), DSPEC_NO_SUCH_CPU, DSPEC_OUT, DSPEC_NO_MEMORY. */
+/* Hands out the CPU of this number, from 0 on, which was never handed out or came home; it goes on as it was, with all its counts. So a
+ * thread that is going to block parks its CPU by dspec_cpu_home, and gets it back here. Takes memory, and the CPU stays at home where that
+ * is refused.
+ * DSPEC_FULL_HANDLE, DSPEC_BAD_HANDLE (the session), DSPEC_NO_SUCH_CPU, DSPEC_OUT (it isn't home), DSPEC_NO_MEMORY. */
 dspec_status dspec_cpu_of(dspec_session *session, uint32_t number, dspec_cpu *cpu) DSPEC_NOEXCEPT;
 
 /* Hands out the consumer, once. Takes memory.
@@ -245,7 +247,8 @@ dspec_status dspec_dropped_in(dspec_cpu *cpu, uint64_t id, uint32_t *count) DSPE
  * DSPEC_OK. DSPEC_BAD_HANDLE. */
 dspec_status dspec_cpu_report(dspec_cpu *cpu, dspec_report *report) DSPEC_NOEXCEPT;
 
-/* Gives the CPU back to its session, whichever that is; the handle is empty then.
+/* Gives the CPU back to its session, whichever that is; the handle is empty then. dspec_tend makes its services from then on, and
+ * dspec_cpu_of hands it out again. Neither waits, and this takes no memory.
  * DSPEC_OK. DSPEC_BAD_HANDLE. */
 dspec_status dspec_cpu_home(dspec_cpu *cpu) DSPEC_NOEXCEPT;
 

@@ -214,6 +214,9 @@ public:
         dspec_service(get(), &sealed, &settled);
         return sealed;
     }
+    /* Sends the CPU home, as a thread does that is going to block: `session::tend` makes its services, and `session::wake` brings it back.
+     * Its calls answer DSPEC_BAD_HANDLE meanwhile, also those of a path on it: one whose scope ends then stays open. */
+    void park() noexcept { dspec_cpu_home(get()); }
     dspec_report report() {
         dspec_report told;
         check(dspec_cpu_report(get(), &told));
@@ -322,12 +325,16 @@ class session : public detail::owned<dspec_session> {
 public:
     session(const dspec_config &config, schema &of) { check(dspec_start(&config, of.get(), get())); }
 
-    /* Each CPU, and the consumer, is handed out once. */
+    /* A CPU that was never handed out, or came home; else it throws DSPEC_OUT. */
     [[nodiscard]] dspec::cpu cpu_of(std::uint32_t number) {
         dspec::cpu made;
         check(dspec_cpu_of(get(), number, made.get()));
         return made;
     }
+    /* The CPU of this number, which was parked, back into its value: a path that is open on it goes on. Where memory is refused it throws, and
+     * the CPU stays parked. */
+    void wake(std::uint32_t number, dspec::cpu &parked) { check(dspec_cpu_of(get(), number, parked.get())); }
+    /* The consumer, which is handed out once. */
     [[nodiscard]] dspec::consumer consumer_of() {
         dspec::consumer made;
         check(dspec_consumer_of(get(), made.get()));

@@ -137,7 +137,8 @@ impl Cpu {
         report
     }
 
-    /// Gives the CPU back to its session, as dropping it does.
+    /// Gives the CPU back to its session, as dropping it does. Until [`Session::cpu`](crate::Session::cpu) hands it out again,
+    /// [`Session::tend`](crate::Session::tend) makes its services.
     pub fn go_home(self) {}
 }
 

@@ -29,7 +29,7 @@ pub enum Error {
     BadRecord,
     /// The session has no CPU of this number.
     NoSuchCpu,
-    /// The CPU, the consumer, or the CPU's batch was handed out already.
+    /// The CPU isn't home, or the consumer or the CPU's batch was handed out already.
     Out,
     /// A status that this package doesn't know: the library is of another version.
     Unknown(u32),

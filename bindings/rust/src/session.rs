@@ -83,11 +83,12 @@ impl Session {
         Ok(Session { handle, layouts: Arc::new(schema.layouts.clone()), cpus: config.cpus })
     }
 
-    /// Hands out the CPU of this number, from 0 on, once.
+    /// Hands out the CPU of this number, from 0 on, which was never handed out, or was dropped: it goes on as it was, with all its counts. So a
+    /// thread that is going to block parks its CPU by [`Cpu::go_home`], and gets it back here.
     ///
     /// # Errors
     ///
-    /// [`Error::NoSuchCpu`], [`Error::Out`], [`Error::Memory`].
+    /// [`Error::NoSuchCpu`]; [`Error::Out`] where the CPU isn't home; [`Error::Memory`], and the CPU stays at home.
     pub fn cpu(&mut self, number: u32) -> Result<Cpu, Error> {
         let cpu = Handle::empty();
         // SAFETY: the handle to be filled is empty, and nobody else has this session's.

@@ -141,6 +141,24 @@ fn a_session_tends_a_cpu_that_is_home() {
 }
 
 #[test]
+fn a_parked_cpu_is_handed_out_again() {
+    let (mut session, mut cpu, consumer, epid) = small(1 << 62);
+    let id = cpu.speculation().id();
+    for times in 0..3 {
+        assert_eq!(cpu.speculate(id, epid, 0, &[times]), Ok(Spoken::Kept));
+        assert_eq!(cpu.trace(epid, 1, &[0]), Err(Error::BadRecord));
+        cpu.go_home();
+        assert_eq!(session.tend().unwrap(), 0);
+        cpu = session.cpu(0).unwrap();
+        assert_eq!(session.cpu(0).err(), Some(Error::Out));
+        assert_eq!((cpu.report().held, cpu.report().refused), (times + 1, times + 1));
+    }
+    assert_eq!(cpu.commit(id), Decided::Copied(3));
+    drop((cpu, consumer));
+    assert!(session.finish().is_ok());
+}
+
+#[test]
 fn what_is_out_comes_home() {
     let (mut session, cpu, consumer, _) = small(1 << 62);
     assert_eq!(session.cpu(0).err(), Some(Error::Out));

@@ -1,6 +1,6 @@
 -- What is home makes the session that was started.
 use Rattle.std.proofs.Common.{◌≡◌, ℕ, ◌+◌, List, [], ◌∷◌, length, Option, Some, None, suc, zero, refl, sym, ap, ◌∙◌, subst, arith}
-use Rattle.std.specs.Prelude.{IfNone, IfSome, IsSomeAnd, false, map, slice_get, slice_set}
+use Rattle.std.specs.Prelude.{Result, Ok, Err, IfNone, IfOk, IfSome, IsSomeAnd, OnErr, false, map, slice_get, slice_set}
 use Rattle.std.proofs.lemmas.List.{length-map, length-set}
 use Rattle.dspec_deeds.specs.declared.config.Config.{Config}
 use Rattle.dspec_deeds.specs.Ranges.{start_fault}
@@ -14,11 +14,13 @@ use Rattle.dspec_consumer.specs.Sessions.{Has, IsCpuOf, IsFresh, IsSession}
 use Rattle.dspec_consumer.specs.declared.session.Session.{Session}
 use Rattle.dspec_cpu.specs.Standing.{Identity, IsCallable, identity}
 use Rattle.dspec_c.specs.ConsumerHomes.{IsTheirPlaceWith, LeaveTheirs, TheirStay, Theirs}
-use Rattle.dspec_c.specs.Homes.{Came, CpuStay, IsPlaceWith, Side, handed_out}
-use Rattle.dspec_c.specs.Whole.{AllCalled, AreCame, EachFrom, Going, GoesOut, IsFreshIn, IsJustStarted, IsCpuAt, IsEnding, IsPlaceOf, IsStarted, IsWhole, LeavesOne, LookedLater, TheyGoOut}
-use Rattle.dspec_c.specs.Whole.{cpu_inside, firsts, insides, refusals, refused_inside, they_wait_so, waiting_so, waits_in}
+use Rattle.dspec_ring.specs.Known.{Pair}
+use Rattle.dspec_c.specs.Homes.{Came, CpuStay, IsPlaceWith, IsSameSide, LeavesPlace, Side}
+use Rattle.dspec_c.specs.Whole.{AllCalled, AreCame, EachFrom, Going, GoesOut, IsFreshIn, IsJustStarted, IsCpuAt, IsEnding, IsPlaceOf, IsStarted, IsWhole, LeavesOne}
+use Rattle.dspec_c.specs.Whole.{LookedLater, LooksAt, LooksAtOne, TheyGoOut}
+use Rattle.dspec_c.specs.Whole.{cpu_inside, firsts, insides, refusals, refused_inside, they_wait_so, waiting_so}
 use Rattle.dspec_c.proofs.Each.{each_placed}
-use Rattle.dspec_c.proofs.Looking.{first_at, left_firsts, same_firsts}
+use Rattle.dspec_c.proofs.Looking.{first_at, same_firsts}
 
 abbrev if_some : {X : Type 0} → Option X → Type 0
 if_some None = ⊥
@@ -150,16 +152,61 @@ number_out shared given n places theirs c side now is leaves =
     let at_c = each_at (IsPlaceOf shared is.schema (pairs_of is.first.consumer)) 0 (firsts places) c leaves.stay.first is.ending.each (first_at places c leaves.stay leaves.there) in
     ap (λ (i : Identity EnabledRows). i.number) (leaves.leaves.same at_c.side at_c.is) ∙ at_c.cpu.number ∙ omega arith
 
--- the session once a CPU went out
-pub one_goes : (shared given : Shared) (n c : ℕ) (places now : List CpuStay) (theirs : Option Theirs) (side : Side) → IsWhole shared n (firsts places) theirs → LeavesOne given c places side now
-    → IsWhole shared n (firsts now) theirs
-one_goes shared given n c places now theirs side is leaves = subst (λ (xs : List (Option Side)). IsWhole shared n xs theirs)
-    (sym (ap (λ (ps : List CpuStay). firsts ps) leaves.gone ∙ left_firsts places c leaves.stay leaves.there)) is
+pub each_set : {X : Type 0} (P : ℕ → X → Type 0) (n : ℕ) (xs : List X) (c : ℕ) (x y : X) → EachFrom P n xs → slice_get xs c ≡ Some x → ((k : ℕ) → P k x → P k y)
+    → EachFrom P n (slice_set xs c y)
+each_set P n [] c x y all at f = tt
+each_set P n (z ∷ zs) zero x y all at f = (f n (subst (λ w. P n w) (ap (or_else z) at) all.0), all.1)
+each_set P n (z ∷ zs) (suc c) x y all at f = (all.0, each_set P (suc n) zs c x y all.1 at f)
 
-pub goes_so : (shared given : Shared) (n c : ℕ) (w : Going) (theirs : Option Theirs) (o : Option Side) (now : List CpuStay) → given ≡ w.shared → IsWhole shared n (firsts w.places) theirs
-    → IfSome o (λ side. LeavesOne given c w.places side now) → IfSome o (λ side. GoesOut c w side (record w { places = now }))
-goes_so shared given n c w theirs None now e is leaves = tt
-goes_so shared given n c w theirs (Some side) now e is leaves = record {
+firsts_set : (xs : List CpuStay) (c : ℕ) (y : CpuStay) → firsts (slice_set xs c y) ≡ slice_set (firsts xs) c y.first
+firsts_set [] c y = refl
+firsts_set (x ∷ xs) zero y = refl
+firsts_set (x ∷ xs) (suc c) y = ap (λ (os : List (Option Side)). x.first ∷ os) (firsts_set xs c y)
+
+-- the place of a CPU that went out is still its own
+placed : (shared : Shared) (schema : EnabledRows) (pairs : List Pair) (k : ℕ) (o : Option Side) (side : Side) → IsSomeAnd o (λ (first : Side). IsSameSide first side) → side.shared ≡ shared
+    → IsCpuAt shared schema pairs k side.cpu → IsPlaceOf shared schema pairs k o
+placed shared schema pairs k None side is e at = absurd is
+placed shared schema pairs k (Some first) side is e at = record {
+  side = first;
+  is = refl;
+  shares = sym is.shared ∙ e;
+  cpu = subst (λ (i : Identity EnabledRows). IsCpuOf schema (words_of shared) k (slice_get pairs k) i) is.cpu at;
+}
+
+still_placed : (shared given : Shared) (schema : EnabledRows) (pairs : List Pair) (k : ℕ) (old new : CpuStay) (side : Side) → given ≡ shared → LeavesPlace given old side new
+    → IsPlaceOf shared schema pairs k old.first → IsPlaceOf shared schema pairs k new.first
+still_placed shared given schema pairs k old new side e leaves at = placed shared schema pairs k new.first side leaves.stays (leaves.shares ∙ e)
+    (subst (λ (i : Identity EnabledRows). IsCpuOf schema (words_of shared) k (slice_get pairs k) i) (sym (leaves.same at.side at.is)) at.cpu)
+
+-- as many places as before
+left_count : (shared : Shared) (c : ℕ) (places now : List CpuStay) (side : Side) → LeavesOne shared c places side now → length now ≡ length places
+left_count shared c places now side leaves = ap length leaves.gone ∙ length-set places c leaves.left
+
+-- the session once a CPU went out
+pub one_goes : (shared given : Shared) (n c : ℕ) (places now : List CpuStay) (theirs : Option Theirs) (side : Side) → given ≡ shared → IsWhole shared n (firsts places) theirs
+    → LeavesOne given c places side now → IsWhole shared n (firsts now) theirs
+one_goes shared given n c places now theirs side e is leaves = record {
+  schema = is.schema;
+  first = is.first;
+  is = is.is;
+  shares = is.shares;
+  count = is.count;
+  ending = record {
+    checked = is.ending.checked;
+    all = length-map now (λ (s : CpuStay). s.first) ∙ left_count given c places now side leaves ∙ sym (length-map places (λ (s : CpuStay). s.first)) ∙ is.ending.all;
+    each = subst (λ (os : List (Option Side)). EachFrom (IsPlaceOf shared is.schema (pairs_of is.first.consumer)) 0 os)
+        (sym (ap (λ (ps : List CpuStay). firsts ps) leaves.gone ∙ firsts_set places c leaves.left))
+        (each_set (IsPlaceOf shared is.schema (pairs_of is.first.consumer)) 0 (firsts places) c leaves.stay.first leaves.left.first is.ending.each (first_at places c leaves.stay leaves.there)
+        (λ k at. still_placed shared given is.schema (pairs_of is.first.consumer) k leaves.stay leaves.left side e leaves.leaves at));
+    theirs = is.ending.theirs;
+  };
+}
+
+pub goes_so : {E : Type 0} (shared given : Shared) (n c : ℕ) (w : Going) (theirs : Option Theirs) (r : Result Side E) (now : List CpuStay) → given ≡ w.shared
+    → IsWhole shared n (firsts w.places) theirs → IfOk r (λ side. LeavesOne given c w.places side now) → IfOk r (λ side. GoesOut c w side (record w { places = now }))
+goes_so shared given n c w theirs (Err x) now e is leaves = tt
+goes_so shared given n c w theirs (Ok side) now e is leaves = record {
   left = now;
   leaves = subst (λ (m : Shared). LeavesOne m c w.places side now) e leaves;
   number = number_out shared given n w.places theirs c side now is leaves;
@@ -167,24 +214,29 @@ goes_so shared given n c w theirs (Some side) now e is leaves = record {
 }
 
 -- so it is of a session as it was seen
-pub goes_from : (shared given : Shared) (n c : ℕ) (w old : Going) (theirs : Option Theirs) (o : Option Side) (now : List CpuStay) → w ≡ old → given ≡ w.shared
-    → IsWhole shared n (firsts w.places) theirs → IfSome o (λ side. LeavesOne given c w.places side now) → IfSome o (λ side. GoesOut c old side (record w { places = now }))
-goes_from shared given n c w old theirs o now seen e is leaves =
-    subst (λ (g : Going). IfSome o (λ side. GoesOut c g side (record w { places = now }))) seen (goes_so shared given n c w theirs o now e is leaves)
+pub goes_from : {E : Type 0} (shared given : Shared) (n c : ℕ) (w old : Going) (theirs : Option Theirs) (r : Result Side E) (now : List CpuStay) → w ≡ old → given ≡ w.shared
+    → IsWhole shared n (firsts w.places) theirs → IfOk r (λ side. LeavesOne given c w.places side now) → IfOk r (λ side. GoesOut c old side (record w { places = now }))
+goes_from shared given n c w old theirs r now seen e is leaves =
+    subst (λ (g : Going). IfOk r (λ side. GoesOut c g side (record w { places = now }))) seen (goes_so shared given n c w theirs r now e is leaves)
+
+pub stays_from : {X E : Type 0} (w old : Going) (r : Result X E) (now : List CpuStay) → w ≡ old → OnErr r (now ≡ w.places) → OnErr r (record w { places = now } ≡ old)
+stays_from w old (Err x) now seen is = ap (λ (ps : List CpuStay). record w { places = ps }) is ∙ seen
+stays_from w old (Ok x) now seen is = tt
 
 -- the session after a CPU was asked for
-pub asked_for_one : (shared given : Shared) (n c : ℕ) (places now : List CpuStay) (theirs : Option Theirs) (o : Option Side) → IsWhole shared n (firsts places) theirs
-    → IfSome o (λ side. LeavesOne given c places side now) → IfNone o ((waits_in c places ≡ false) × (now ≡ places)) → IsWhole shared n (firsts now) theirs
-asked_for_one shared given n c places now theirs None is leaves none = subst (λ (ps : List CpuStay). IsWhole shared n (firsts ps) theirs) (sym none.1) is
-asked_for_one shared given n c places now theirs (Some side) is leaves none = one_goes shared given n c places now theirs side is leaves
+pub asked_for_one : {E : Type 0} (shared given : Shared) (n c : ℕ) (places now : List CpuStay) (theirs : Option Theirs) (r : Result Side E) → given ≡ shared → IsWhole shared n (firsts places) theirs
+    → IfOk r (λ side. LeavesOne given c places side now) → OnErr r (now ≡ places) → IsWhole shared n (firsts now) theirs
+asked_for_one shared given n c places now theirs (Err x) e is leaves none = subst (λ (ps : List CpuStay). IsWhole shared n (firsts ps) theirs) (sym none) is
+asked_for_one shared given n c places now theirs (Ok side) e is leaves none = one_goes shared given n c places now theirs side e is leaves
 
-set_count : (xs : List CpuStay) (c : ℕ) (y : CpuStay) → length (slice_set xs c y) ≡ length xs
-set_count xs c y = length-set xs c y
+pub asked_count : {E : Type 0} (given : Shared) (c : ℕ) (places now : List CpuStay) (r : Result Side E) → IfOk r (λ side. LeavesOne given c places side now) → OnErr r (now ≡ places)
+    → length now ≡ length places
+asked_count given c places now (Err x) leaves none = ap length none
+asked_count given c places now (Ok side) leaves none = left_count given c places now side leaves
 
-pub asked_count : (given : Shared) (c : ℕ) (places now : List CpuStay) (o : Option Side) → IfSome o (λ side. LeavesOne given c places side now)
-    → IfNone o ((waits_in c places ≡ false) × (now ≡ places)) → length now ≡ length places
-asked_count given c places now None leaves none = ap length none.1
-asked_count given c places now (Some side) leaves none = ap length leaves.gone ∙ set_count places c (handed_out leaves.stay)
+-- a look at one place of a session as it was seen
+pub looks_from : (c : ℕ) (w old now : Going) → w ≡ old → now.shared ≡ w.shared → now.cpus ≡ w.cpus → now.consumer ≡ w.consumer → LooksAt c w.places now.places → LooksAtOne c old now
+looks_from c w old now seen e f g is = subst (λ (x : Going). LooksAtOne c x now) seen (record { shared = e; cpus = f; consumer = g; places = is })
 
 -- so does the consumer
 pub they_share : (shared given : Shared) (n : ℕ) (places : List (Option Side)) (theirs : Option Theirs) → IsWhole shared n places theirs → given ≡ shared → IsTheirPlaceWith given theirs

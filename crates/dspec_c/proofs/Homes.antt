@@ -1,6 +1,6 @@
 -- A CPU that was handed out stays the one that went through its ring, and so does the one that comes home.
-use Rattle.std.proofs.Common.{◌≡◌, ℕ, ◌<◌, Global, List, [], ◌∷◌, ◌++◌, Bool, true, false, Option, Some, None, refl, sym, ap, ◌∙◌, subst}
-use Rattle.std.specs.Prelude.{IfSome, slice_get}
+use Rattle.std.proofs.Common.{◌≡◌, ℕ, ◌<◌, Global, List, [], ◌∷◌, ◌++◌, Bool, false, Option, Some, None, refl, sym, ap, ◌∙◌, subst}
+use Rattle.std.specs.Prelude.{IfSome, IsSomeAnd, slice_get}
 use Rattle.core.specs.Option.{is_some}
 use Rattle.rtrb.specs.Ring.{known_free, sent}
 use Rattle.rtrb.specs.declared.producer.Producer.{Producer}
@@ -11,7 +11,7 @@ use Rattle.dspec_cpu.specs.Lists.{words_of}
 use Rattle.dspec_cpu.specs.Standing.{Belongs, Identity, IsCallable, identity}
 use Rattle.dspec_c.specs.Homes.{AtHome, CpuStay, IsDesk, IsOut, IsSameAsAll, IsSameSide, IsUnused, LeavesPlace, Side, at_home}
 use Rattle.dspec_c.specs.declared.homing.HomeRule.{HomeRule}
-use Rattle.dspec_c.proofs.Options.{if_none, or_this, the_none, unless}
+use Rattle.dspec_c.proofs.Options.{if_none, if_true, or_this, the_none, unless}
 
 pub after : (a b c : Side) → IsSameSide a b → IsSameSide b c → IsSameSide a c
 after a b c was is = record { shared = is.shared ∙ was.shared; cpu = is.cpu ∙ was.cpu }
@@ -22,7 +22,7 @@ kept sent a b is same = record { first = is.first; was = is.was; same = after is
 pub allowed : (sent : List Side) (a : Side) → IsOut sent a → IsSameAsAll sent a
 allowed sent a is = subst (λ xs. IsSameAsAll xs a) (sym is.was) (is.same, tt)
 
-itself : (a : Side) → IsSameSide a a
+pub itself : (a : Side) → IsSameSide a a
 itself a = record { shared = refl; cpu = refl }
 
 -- the way home of a CPU: what went it, and what there is room for
@@ -73,9 +73,11 @@ module _ {X : Type 0} (went : X → List Side) (free : X → ℕ) where
   left_so received way after w inside left is at e f =
       subst (λ (o : Option X). IsPlace received o left) (sym e) (subst (λ (o : Option AtHome). IsPlace received None o) (sym f) (left_empty received way w inside is at))
 
-  -- where nothing waited
-  pub not_waiting : (received : List Side) (way after : Option X) (inside : Option AtHome) → IsPlace received way inside → after ≡ None → IsPlace received after inside
-  not_waiting received way after inside is e = subst (λ (o : Option X). IsPlace received o inside) (sym e) (is.0, is.1, is.2, tt)
+  -- and once the CPU went through another ring, to leave by that
+  pub left_again : (received : List Side) (way : Option X) (inside : Option AtHome) (side : Side) → received ≡ side ∷ [] → is_some way ≡ false → inside ≡ None → IsPlace received way inside
+  left_again received None inside side e none f =
+      subst (λ (o : Option AtHome). IsPlace received None o) (sym f) (side, ap (λ xs. slice_get xs 0) e, record { out = e; same = tt }, tt)
+  left_again received (Some w) inside side e none f = absurd (subst (λ (t : Bool). if_true t) none tt)
 
   -- what waits is inside, is the one that went through, and there is room on the way
   pub is_unused : (received : List Side) (way : Option X) (w : X) (inside : Option AtHome) → (is : IsPlace received way inside) → way ≡ Some w → IsUnused is.0 received (went w) (free w) inside
@@ -98,26 +100,14 @@ callable_so shared first x can same = subst (λ (i : Identity EnabledRows). Belo
 pub goes_out : (went : List Side) (first side : Side) → went ≡ first ∷ [] → side.shared ≡ first.shared → identity side.cpu ≡ identity first.cpu → IsOut went side
 goes_out went first side e f g = record { first = first; was = e; same = record { shared = f; cpu = g } }
 
-abbrev stay_of : Option Side → Option AtHome → Bool → CpuStay
-stay_of first inside waits = record { first = first; inside = inside; waits = waits }
-
--- what waited leaves its place
-pub leaves_so : (shared : Shared) (received : List Side) (inside left : Option AtHome) (waits after : Bool) (first out : Side) (cpu : AtHome) → slice_get received 0 ≡ Some first
-    → IsDesk first received inside → inside ≡ Some cpu → waits ≡ true → left ≡ None → after ≡ false → out ≡ record { shared = shared; cpu = cpu.cpu; refused = cpu.refused }
-    → LeavesPlace shared (record { first = slice_get received 0; inside = inside; waits = waits }) out (record { first = slice_get received 0; inside = left; waits = after })
-leaves_so shared received inside left waits after first out cpu at desk is w e f o = record {
-  waits = w;
-  inside = is ∙ ap (λ (s : Side). Some (at_home s)) (sym o);
-  shares = ap (λ (s : Side). s.shared) o;
-  same = λ one g. ap (λ (s : Side). identity s.cpu) o ∙ same_there first received inside cpu desk is ∙ ap (λ (s : Side). identity s.cpu) (one_first received first one at g);
-  gone = ap (λ (x : Option AtHome). stay_of (slice_get received 0) x after) e ∙ ap (λ (b : Bool). stay_of (slice_get received 0) None b) f;
+-- a CPU that was inside leaves its place, which is that CPU's from then on as it was
+pub leaves_so : (shared : Shared) (old new : CpuStay) (was now out : Side) (cpu : AtHome) → old.first ≡ Some was → old.inside ≡ Some cpu → identity cpu.cpu ≡ identity was.cpu
+    → out ≡ record { shared = shared; cpu = cpu.cpu; refused = cpu.refused } → new.first ≡ Some now → IsSameSide now out → new.inside ≡ None → new.waits ≡ false → LeavesPlace shared old out new
+leaves_so shared old new was now out cpu at inside same is stays belongs gone waits = record {
+  inside = inside ∙ ap (λ (s : Side). Some (at_home s)) (sym is);
+  shares = ap (λ (s : Side). s.shared) is;
+  same = λ first e. ap (λ (s : Side). identity s.cpu) is ∙ same ∙ ap (λ (o : Option Side). identity (or_this was o).cpu) (sym at ∙ e);
+  stays = subst (λ (o : Option Side). IsSomeAnd o (λ (first : Side). IsSameSide first out)) (sym stays) belongs;
+  gone = gone;
+  waits = waits;
 }
-
--- so it is of a place as it was seen
-pub leaves_from : (shared : Shared) (old : CpuStay) (received : List Side) (inside left : Option AtHome) (waits after : Bool) (first out : Side) (cpu : AtHome)
-    → stay_of (slice_get received 0) inside waits ≡ old → slice_get received 0 ≡ Some first
-    → IsDesk first received inside → inside ≡ Some cpu → waits ≡ true → left ≡ None → after ≡ false → out ≡ record { shared = shared; cpu = cpu.cpu; refused = cpu.refused }
-    → LeavesPlace shared old out (record { first = slice_get received 0; inside = left; waits = after })
-leaves_from shared old received inside left waits after first out cpu seen at desk is w e f o =
-    subst (λ (s : CpuStay). LeavesPlace shared s out (record { first = slice_get received 0; inside = left; waits = after })) seen
-    (leaves_so shared received inside left waits after first out cpu at desk is w e f o)

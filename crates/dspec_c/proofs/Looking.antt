@@ -1,11 +1,11 @@
 -- Looking at places, one after another, and handing out what waits at one.
 use Rattle.std.proofs.Common.{◌≡◌, ℕ, ◌<◌, List, [], ◌∷◌, ◌++◌, length, Bool, true, false, Option, Some, None, suc, zero, refl, sym, ap, ◌∙◌, subst, inl, inr, arith}
-use Rattle.std.specs.Prelude.{◌⊎◌, IfNone, IfSome, IsSome, MatchBool, is_some, slice_get, slice_index_or, slice_set}
+use Rattle.std.specs.Prelude.{◌⊎◌, Result, Ok, Err, IfOk, IfSome, IsSome, OnErr, is_some, slice_get, slice_index_or, slice_set}
 use Rattle.std.specs.Option.{option_map_or}
 use Rattle.std.proofs.lemmas.Option.{slice_get_read, slice_get_within}
 use Rattle.dspec_cpu.specs.declared.shared.Shared.{Shared}
-use Rattle.dspec_c.specs.Homes.{Came, CpuStay, LeavesPlace, Side, Stay, handed_out}
-use Rattle.dspec_c.specs.Whole.{AllInside, AreCame, IsInsideAt, LeavesOne, OneOutside, firsts, waits_in}
+use Rattle.dspec_c.specs.Homes.{Came, CpuStay, LeavesPlace, Side, Stay}
+use Rattle.dspec_c.specs.Whole.{AllInside, AreCame, IsInsideAt, LeavesOne, LooksAt, OneOutside, firsts, inside_at}
 use Rattle.dspec_c.proofs.Each.{set_back}
 use Rattle.dspec_c.proofs.Options.{if_some, if_true, none_of, or_this}
 
@@ -55,10 +55,17 @@ all_after (x ∷ xs) [] zs is was = absurd is
 all_after (x ∷ xs) (y ∷ ys) [] is was = absurd was
 all_after (x ∷ xs) (y ∷ ys) (z ∷ zs) is was = (after x y z is.0 was.0, all_after xs ys zs is.1 was.1)
 
-pub one_came : (xs : List CpuStay) (c : ℕ) (x y : CpuStay) → x ≡ slice_index_or xs c x → Came x y → AreCame xs (slice_set xs c y)
+one_came : (xs : List CpuStay) (c : ℕ) (x y : CpuStay) → slice_get xs c ≡ Some x → Came x y → AreCame xs (slice_set xs c y)
 one_came [] c x y at is = tt
-one_came (z ∷ zs) zero x y at is = (subst (λ (w : CpuStay). Came w y) at is, all_themselves zs)
+one_came (z ∷ zs) zero x y at is = (subst (λ (w : CpuStay). Came w y) (sym (ap (λ (o : Option CpuStay). or_this x o) at)) is, all_themselves zs)
 one_came (z ∷ zs) (suc c) x y at is = (itself z, one_came zs c x y at is)
+
+-- a look at one place
+pub looks_at : (c : ℕ) (xs : List CpuStay) (x y : CpuStay) → c < length xs → x ≡ slice_index_or xs c x → Came x y → LooksAt c xs (slice_set xs c y)
+looks_at c xs x y small at is = record { was = x; is = y; there = slice_get_read xs (length xs) c x refl small at; came = is; all = refl }
+
+pub looked_came : (c : ℕ) (xs ys : List CpuStay) → LooksAt c xs ys → AreCame xs ys
+looked_came c xs ys is = subst (λ (zs : List CpuStay). AreCame xs zs) (sym is.all) (one_came xs c is.was is.is is.there is.came)
 
 pub same_length : (xs ys : List CpuStay) → AreCame xs ys → length ys ≡ length xs
 same_length [] [] is = refl
@@ -80,21 +87,30 @@ inside_still (x ∷ xs) [] k is all s at = absurd is
 inside_still (x ∷ xs) (y ∷ ys) zero is all s at = subst (λ (t : CpuStay). IsSome t.inside) (ap (λ (o : Option CpuStay). or_this y o) at) (some_still x.inside y.inside is.0.stays (all x refl))
 inside_still (x ∷ xs) (y ∷ ys) (suc k) is all s at = inside_still xs ys k is.1 all s at
 
-set_there : (xs : List CpuStay) (c : ℕ) (y s : CpuStay) → slice_get (slice_set xs c y) c ≡ Some s → y ≡ s
-set_there [] c y s at = absurd (subst (λ (o : Option CpuStay). if_some o) (sym at) tt)
-set_there (z ∷ zs) zero y s at = ap (λ (o : Option CpuStay). or_this y o) at
-set_there (z ∷ zs) (suc c) y s at = set_there zs c y s at
-
 is_set : (xs : List CpuStay) (c : ℕ) (y : CpuStay) → c < length xs → slice_get (slice_set xs c y) c ≡ Some y
 is_set [] c y small = absurd (omega arith)
 is_set (z ∷ zs) zero y small = refl
 is_set (z ∷ zs) (suc c) y small = is_set zs c y (omega arith)
 
+inside_of : (xs : List CpuStay) (c : ℕ) (s : CpuStay) → slice_get xs c ≡ Some s → inside_at c xs ≡ is_some s.inside
+inside_of xs c s at = ap (λ (o : Option CpuStay). option_map_or (λ (x : CpuStay). is_some x.inside) o false) at
+
 -- what a look at one place says
-pub looked_at : (r : Bool) (xs : List CpuStay) (c : ℕ) (y : CpuStay) → c < length xs → r ≡ is_some y.inside
-    → MatchBool r (IsInsideAt c (slice_set xs c y)) (OneOutside (slice_set xs c y))
-looked_at true xs c y small e = λ s at. subst (λ (t : CpuStay). IsSome t.inside) (set_there xs c y s at) (sym e)
-looked_at false xs c y small e = (c, y, is_set xs c y small, none_of y.inside (sym e))
+pub looked_inside : (r : Bool) (xs : List CpuStay) (c : ℕ) (y : CpuStay) → c < length xs → r ≡ is_some y.inside → r ≡ inside_at c (slice_set xs c y)
+looked_inside r xs c y small e = e ∙ sym (inside_of (slice_set xs c y) c y (is_set xs c y small))
+
+pub is_here : (xs : List CpuStay) (c : ℕ) → inside_at c xs ≡ true → IsInsideAt c xs
+is_here xs c e = λ s at. sym (inside_of xs c s at) ∙ e
+
+pub none_here : (xs : List CpuStay) (c : ℕ) → c < length xs → inside_at c xs ≡ false → OneOutside xs
+none_here [] c small e = absurd (omega arith)
+none_here (x ∷ xs) zero small e = (0, x, refl, none_of x.inside e)
+none_here (x ∷ xs) (suc c) small e = let rest = none_here xs c (omega arith) e in (suc rest.0, rest.1, rest.2, rest.3)
+
+pub inside_within : (xs : List CpuStay) (c : ℕ) → inside_at c xs ≡ true → c < length xs
+inside_within [] c e = absurd (subst (λ (t : Bool). if_true t) (sym e) tt)
+inside_within (x ∷ xs) zero e = omega arith
+inside_within (x ∷ xs) (suc c) e = omega (arith, inside_within xs c e)
 
 -- what looks at all of them say
 pub all_looked : (xs : List CpuStay) (n : ℕ) → length xs ≡ n → ((k : ℕ) → k < n → IsInsideAt k xs) → AllInside xs
@@ -114,27 +130,15 @@ below (suc k) (suc n) small = either (below k n (omega arith)) (λ s. inl (omega
 pub one_looked : (xs ys : List CpuStay) (n : ℕ) → AreCame xs ys → ((k : ℕ) → k < n → IsInsideAt k xs) → IsInsideAt n ys → (k : ℕ) → k < suc n → IsInsideAt k ys
 one_looked xs ys n is all at k small = either (below k n small) (λ s. inside_still xs ys k is (all k s)) (λ e. subst (λ m. IsInsideAt m ys) (sym e) at)
 
--- what waits at one place is handed out
-pub one_leaves : (shared : Shared) (c : ℕ) (xs : List CpuStay) (x y : CpuStay) (o : Option Side) → c < length xs → x ≡ slice_index_or xs c x → IfSome o (λ out. LeavesPlace shared x out y)
-    → IfSome o (λ out. LeavesOne shared c xs out (slice_set xs c y))
-one_leaves shared c xs x y None small at is = tt
-one_leaves shared c xs x y (Some out) small at is = record {
-  stay = x;
-  there = slice_get_read xs (length xs) c x refl small at;
-  leaves = record { waits = is.waits; inside = is.inside; shares = is.shares; same = is.same; gone = refl };
-  gone = ap (λ (s : CpuStay). slice_set xs c s) is.gone;
-}
+-- what is inside at one place is handed out, or stays as it is
+pub one_leaves : {E : Type 0} (shared : Shared) (c : ℕ) (xs : List CpuStay) (x y : CpuStay) (r : Result Side E) → c < length xs → x ≡ slice_index_or xs c x
+    → IfOk r (λ out. LeavesPlace shared x out y) → IfOk r (λ out. LeavesOne shared c xs out (slice_set xs c y))
+one_leaves shared c xs x y (Err e) small at is = tt
+one_leaves shared c xs x y (Ok out) small at is = record { stay = x; left = y; there = slice_get_read xs (length xs) c x refl small at; leaves = is; gone = refl }
 
-pub none_leaves : (c : ℕ) (xs : List CpuStay) (x y : CpuStay) (o : Option Side) → c < length xs → x ≡ slice_index_or xs c x → IfNone o ((x.waits ≡ false) × (y ≡ x))
-    → IfNone o ((waits_in c xs ≡ false) × (slice_set xs c y ≡ xs))
-none_leaves c xs x y None small at is =
-    (ap (λ (o : Option CpuStay). option_map_or (λ (s : CpuStay). s.waits) o false) (slice_get_read xs (length xs) c x refl small at) ∙ is.0, set_back xs c x y is.1 at)
-none_leaves c xs x y (Some out) small at is = tt
-
-pub left_firsts : (xs : List CpuStay) (c : ℕ) (s : CpuStay) → slice_get xs c ≡ Some s → firsts (slice_set xs c (handed_out s)) ≡ firsts xs
-left_firsts [] c s at = refl
-left_firsts (x ∷ xs) zero s at = ap (λ (t : CpuStay). t.first ∷ firsts xs) (sym (ap (λ (o : Option CpuStay). or_this x o) at))
-left_firsts (x ∷ xs) (suc c) s at = ap (λ (os : List (Option Side)). x.first ∷ os) (left_firsts xs c s at)
+pub one_stays : {E : Type 0} (c : ℕ) (xs : List CpuStay) (x y : CpuStay) (r : Result Side E) → x ≡ slice_index_or xs c x → OnErr r (y ≡ x) → OnErr r (slice_set xs c y ≡ xs)
+one_stays c xs x y (Err e) at is = set_back xs c x y is at
+one_stays c xs x y (Ok out) at is = tt
 
 pub first_at : (xs : List CpuStay) (c : ℕ) (s : CpuStay) → slice_get xs c ≡ Some s → slice_get (firsts xs) c ≡ Some s.first
 first_at [] c s at = absurd (subst (λ (o : Option CpuStay). if_some o) (sym at) tt)

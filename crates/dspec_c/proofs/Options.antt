@@ -1,5 +1,5 @@
 -- Telling options and tests apart.
-use Rattle.std.proofs.Common.{◌≡◌, Bool, true, false, Option, Some, None, refl, sym, subst}
+use Rattle.std.proofs.Common.{◌≡◌, Bool, true, false, Option, Some, None, refl, subst}
 use Rattle.std.specs.Prelude.{⊤}
 use Rattle.core.specs.Option.{is_some}
 

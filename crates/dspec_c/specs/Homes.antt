@@ -1,5 +1,6 @@
--- Cited by calls. How a CPU comes home: by a ring of its own, through which it went when the session started.
-use Rattle.std.specs.Prelude.{ℕ, ◌≡◌, ◌<◌, Bool, true, false, List, [], ◌∷◌, Option, Some, None, IfSome, IfNone, IsSome, ⊤}
+-- Cited by calls. How a CPU comes home: by a ring of its own, through which it went when that was made, at the session's start or as it
+-- was handed out again.
+use Rattle.std.specs.Prelude.{ℕ, ◌≡◌, ◌<◌, Bool, false, List, [], ◌∷◌, Option, Some, None, IfSome, IfNone, IsSome, IsSomeAnd, ⊤}
 use Rattle.dspec_record.specs.EnablingRows.{EnabledRows}
 use Rattle.dspec_cpu.specs.declared.cpu.Cpu.{Cpu}
 use Rattle.dspec_cpu.specs.declared.shared.Shared.{Shared}
@@ -40,8 +41,8 @@ pub record HasGone (side : Side) (sent : List Side) : Type 0 where
   pub first : Side
   pub went : sent ≡ first ∷ side ∷ []
 
--- What contracts see of a place where a CPU, or the consumer, is at home: whose place it is, what is inside, and whether that waits to
--- be handed out, as nothing does that was.
+-- What contracts see of a place where a CPU, or the consumer, is at home: whose place it is, what is inside, and whether that was never
+-- handed out.
 pub record Stay (A B : Type 0) : Type 0 where
   pub first : Option A
   pub inside : Option B
@@ -56,7 +57,7 @@ pub record Came {A B : Type 0} (old new : Stay A B) : Type 0 where
   pub waits : new.waits ≡ old.waits
   pub stays : IfSome old.inside (λ x. new.inside ≡ Some x)
 
--- the same place once what waited was handed out
+-- the same place once what waited there was handed out
 abbrev pub handed_out : {A B : Type 0} → Stay A B → Stay A B
 handed_out s = record { first = s.first; inside = None; waits = false }
 
@@ -72,13 +73,14 @@ pub record IsDesk (first : Side) (received : List Side) (inside : Option AtHome)
   pub out : IfNone inside (received ≡ first ∷ [])
   pub same : IfSome inside (λ (x : AtHome). identity x.cpu ≡ identity first.cpu)
 
--- a CPU leaves its place with what it shares
+-- A CPU leaves its place, where it was inside, with what it shares. The place stays that CPU's, and nothing is inside.
 pub record LeavesPlace (shared : Shared) (old : CpuStay) (side : Side) (new : CpuStay) : Type 0 where
-  pub waits : old.waits ≡ true
   pub inside : old.inside ≡ Some (at_home side)
   pub shares : side.shared ≡ shared
   pub same : (first : Side) → old.first ≡ Some first → identity side.cpu ≡ identity first.cpu
-  pub gone : new ≡ handed_out old
+  pub stays : IsSomeAnd new.first (λ first. IsSameSide first side)
+  pub gone : new.inside ≡ None
+  pub waits : new.waits ≡ false
 
 -- the place is of a CPU that those can call who share this, and that went through its ring with it
 abbrev pub IsPlaceWith : Shared → Option Side → Type 0

@@ -6,7 +6,7 @@ use Rattle.dspec_deeds.specs.declared.config.Config.{Config}
 use Rattle.dspec_deeds.specs.declared.config.StartFault.{StartFault}
 use Rattle.dspec_deeds.specs.Ranges.{start_fault}
 use Rattle.dspec_c.specs.Homes.{Side}
-use Rattle.dspec_c.specs.Whole.{EndedBy, Going, GoesOut, IsAway, IsHome, IsJustStarted, LookedLater, TheyGoOut, waits_in}
+use Rattle.dspec_c.specs.Whole.{EndedBy, Going, GoesOut, IsAway, IsHome, IsJustStarted, LookedLater, LooksIfThere, TheyGoOut, inside_at}
 use Rattle.dspec_c.specs.declared.consumer_side.ConsumerSide.{ConsumerSide}
 use Rattle.dspec_c.specs.declared.ended.Ended.{Ended}
 use Rattle.dspec_c.specs.Handles.{held_in, is_full}
@@ -56,15 +56,15 @@ abbrev pub is_consumer_in : Held → Bool
 is_consumer_in (held.Consumer side) = true
 is_consumer_in h = false
 
--- why a CPU isn't handed out: there is none of the number, or it is out
+-- why a CPU isn't handed out: there is none of the number, or it isn't at its place
 abbrev pub cpu_due : ℕ → Going → Option ℕ
-cpu_due c whole = if nat_lt c whole.cpus then (if waits_in c whole.places then None else Some already_out) else Some no_such_cpu
+cpu_due c whole = if nat_lt c whole.cpus then (if inside_at c whole.places then None else Some already_out) else Some no_such_cpu
 
 -- and why the consumer isn't
 abbrev pub consumer_due : Going → Option ℕ
 consumer_due whole = if whole.consumer.waits then None else Some already_out
 
--- the handle has the CPU of that number, which waited in this session, and waits no more
+-- the handle has the CPU of that number, which was at its place in this session, and is so no more
 pub record GivesCpu (c : ℕ) (old new : Going) (now : Handle) : Type 0 where
   pub side : Side
   pub goes : GoesOut c old side new
@@ -88,8 +88,13 @@ abbrev pub HandsOut : (Going → Going → Handle → Type 0) → Option ℕ →
 HandsOut gives (Some why) old status new was now = (status ≡ why) × KeepsWhole old new was now
 HandsOut gives None old status new was now = ((status ≡ 0) × gives old new now) ⊎ ((status ≡ no_memory) × KeepsWhole old new was now)
 
+-- A look at the place of that CPU, and at no other, shows whether it came home, and changes nothing else. A CPU that is at its place is
+-- handed out, where there is memory.
+abbrev pub HandsOutCpu : ℕ → Going → ℕ → Going → Handle → Handle → Type 0
+HandsOutCpu c old status new was now = (looked : Going) × LooksIfThere c old looked × HandsOut (GivesCpu c) (cpu_due c looked) looked status new was now
+
 abbrev pub CpuOfAnswers : ℕ → Held → ℕ → Held → Handle → Handle → Type 0
-CpuOfAnswers c (held.Session old) status left was now = (new : Going) × (left ≡ held.Session new) × HandsOut (GivesCpu c) (cpu_due c old) old status new was now
+CpuOfAnswers c (held.Session old) status left was now = (new : Going) × (left ≡ held.Session new) × HandsOutCpu c old status new was now
 CpuOfAnswers c session status left was now = (left ≡ session) × (status ≡ bad_handle) × (now ≡ was)
 
 abbrev pub ConsumerOfAnswers : Held → ℕ → Held → Handle → Handle → Type 0

@@ -1,5 +1,5 @@
 -- Cited by calls. What a session between its start and its end keeps of its parts.
-use Rattle.std.specs.Prelude.{ℕ, ◌≡◌, ◌⊎◌, Bool, true, false, List, [], ◌∷◌, Option, Some, None, IsSome, IsSomeAnd, ⊤, suc, length, map, slice_get, slice_set}
+use Rattle.std.specs.Prelude.{ℕ, ◌≡◌, ◌⊎◌, Bool, true, false, List, [], ◌∷◌, Option, Some, None, IsSome, IsSomeAnd, MatchBool, ⊤, suc, is_some, length, map, nat_lt, slice_get, slice_set}
 use Rattle.std.specs.Option.{option_map, option_map_or}
 use Rattle.dspec_deeds.specs.declared.config.Config.{Config}
 use Rattle.dspec_deeds.specs.Ranges.{start_fault}
@@ -107,16 +107,36 @@ pub record IsJustStarted (k : Config) (schema : EnabledRows) (w : Going) : Type 
   pub consumer : w.consumer.waits ≡ true
   pub theirs : IsSomeAnd w.consumer.inside (λ (x : Consuming). view_of x ≡ last_seat k)
 
--- whether the CPU of this number waits
-abbrev pub waits_in : ℕ → List CpuStay → Bool
-waits_in c places = option_map_or (λ (s : CpuStay). s.waits) (slice_get places c) false
+-- whether the CPU of this number is at its place
+abbrev pub inside_at : ℕ → List CpuStay → Bool
+inside_at c places = option_map_or (λ (s : CpuStay). is_some s.inside) (slice_get places c) false
+
+-- a look at the place of this number, and at no other
+pub record LooksAt (c : ℕ) (old new : List CpuStay) : Type 0 where
+  pub was : CpuStay
+  pub is : CpuStay
+  pub there : slice_get old c ≡ Some was
+  pub came : Came was is
+  pub all : new ≡ slice_set old c is
 
 -- the CPU of this number leaves its place
 pub record LeavesOne (shared : Shared) (c : ℕ) (old : List CpuStay) (side : Side) (new : List CpuStay) : Type 0 where
   pub stay : CpuStay
+  pub left : CpuStay
   pub there : slice_get old c ≡ Some stay
-  pub leaves : LeavesPlace shared stay side (handed_out stay)
-  pub gone : new ≡ slice_set old c (handed_out stay)
+  pub leaves : LeavesPlace shared stay side left
+  pub gone : new ≡ slice_set old c left
+
+-- a look at the place of the CPU of this number; nothing else of the session changed
+pub record LooksAtOne (c : ℕ) (old new : Going) : Type 0 where
+  pub shared : new.shared ≡ old.shared
+  pub cpus : new.cpus ≡ old.cpus
+  pub consumer : new.consumer ≡ old.consumer
+  pub places : LooksAt c old.places new.places
+
+-- so it is where there is such a CPU, and where there is none nothing changes
+abbrev pub LooksIfThere : ℕ → Going → Going → Type 0
+LooksIfThere c old new = MatchBool (nat_lt c old.cpus) (LooksAtOne c old new) (new ≡ old)
 
 -- the CPU of this number goes out, with what the session shares
 pub record GoesOut (c : ℕ) (old : Going) (side : Side) (new : Going) : Type 0 where

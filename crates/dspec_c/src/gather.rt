@@ -1,42 +1,38 @@
-ghost use Rattle.std.specs.Prelude.{◌≡◌, ◌≤◌, ◌<◌, ◌+◌, ◌∷◌, [], ℕ, List, MatchBool, length, map, slice_get, vec_capacity, vec_len, IfSome, IfNone, IsSome, Some, false};
+ghost use Rattle.std.specs.Prelude.{◌≡◌, ◌≤◌, ◌<◌, ◌+◌, ◌∷◌, [], ℕ, List, MatchBool, length, map, slice_get, vec_capacity, vec_len, IfOk, IsSome, OnErr, Some, true};
 ghost use Rattle.std.specs.Arc.{arc_value};
 ghost use Rattle.dspec_cpu.specs.declared.shared.Shared.{Shared};
 ghost use Rattle.dspec_record.specs.EnablingRows.{EnabledRows};
 ghost use Rattle.dspec_ring.specs.Known.{Pair};
 ghost use Rattle.dspec_c.specs.Homes.{CpuStay, IsPlaceWith};
-ghost use Rattle.dspec_c.specs.Whole.{AllInside, AreCame, EachFrom, IsCpuAt, IsInsideAt, IsPlaceOf, LeavesOne, OneOutside, cpu_inside, firsts, insides, refusals, waits_in};
+ghost use Rattle.dspec_c.specs.Whole.{AllInside, AreCame, EachFrom, IsCpuAt, IsPlaceOf, LeavesOne, LooksAt, OneOutside, cpu_inside, firsts, inside_at, insides, refusals};
 
 use crate::out_cpu::OutCpu;
 use crate::place::Place;
 use dspec_cpu::{Cpu, Shared};
 use dspec_record::Enablings;
-use std::alloc::Global;
+use std::alloc::{AllocError, Global};
 use std::sync::Arc;
 
-/// Whether such a CPU waits to be handed out.
-pub fn waits(places: &[Place], cpu: usize) -> bool
-    ensures { result ≡ waits_in cpu places.now }
+/// The CPU, with what it shares, which is at its place. It stays there, as it was, where memory is refused.
+pub fn hand_out(
+    alloc: Global,
+    places: &mut Vec<Place>,
+    cpu: usize,
+    shared: Arc<Shared, Global>,
+) -> Result<OutCpu, AllocError>
+    requires place { (s : CpuStay) → slice_get places.old.items cpu ≡ Some s → IsPlaceWith (arc_value shared) s.first }
+    requires inside { inside_at cpu places.old.items ≡ true }
+    ensures leaves { IfOk result (λ out. LeavesOne (arc_value shared) cpu places.old.items out places.new.items) }
+    ensures stays { OnErr result (places.new.items ≡ places.old.items) }
 {
-    cpu < places.len() && places[cpu].waits()
+    places[cpu].hand_out(alloc, shared)
 }
 
-/// The CPU, with what it shares, where it waits to be handed out.
-pub fn hand_out(places: &mut Vec<Place>, cpu: usize, shared: Arc<Shared, Global>) -> Option<OutCpu>
-    requires { (s : CpuStay) → slice_get places.old.items cpu ≡ Some s → IsPlaceWith (arc_value shared) s.first }
-    ensures leaves { IfSome result (λ out. LeavesOne (arc_value shared) cpu places.old.items out places.new.items) }
-    ensures none { IfNone result ((waits_in cpu places.old.items ≡ false) × (places.new.items ≡ places.old.items)) }
-{
-    if cpu >= places.len() {
-        return None;
-    }
-    places[cpu].hand_out(shared)
-}
-
-// Whether the CPU at this place is inside.
-fn is_in(places: &mut Vec<Place>, cpu: usize) -> bool
+/// Whether the CPU at this place is inside.
+pub fn is_in(places: &mut Vec<Place>, cpu: usize) -> bool
     requires { cpu < length places.old.items }
-    ensures came { AreCame places.old.items places.new.items }
-    ensures looked { MatchBool result (IsInsideAt cpu places.new.items) (OneOutside places.new.items) }
+    ensures looked { LooksAt cpu places.old.items places.new.items }
+    ensures inside { result ≡ inside_at cpu places.new.items }
 {
     places[cpu].is_in()
 }

@@ -1,4 +1,4 @@
-use crate::desk::open;
+use crate::desk::{open, pass, ring};
 use crate::home_cpu::HomeCpu;
 use crate::homing::{HomeRule, Homing};
 use crate::out_cpu::OutCpu;
@@ -8,8 +8,9 @@ use std::alloc::{AllocError, Global};
 use std::marker::Model;
 use std::sync::Arc;
 
-/// The place of a CPU at its session, where it waits to be handed out, and where it comes home. The CPU has gone once through the ring
-/// that leads there, so whatever comes is that CPU of that session. What is inside shares nothing with anybody.
+/// The place of a CPU at its session, from where it is handed out, and where it comes home. The CPU has gone once through the ring
+/// that leads there, so whatever comes is that CPU of that session. A ring is for one way home: each later handing-out takes one of its
+/// own. What is inside shares nothing with anybody.
 #[derive(Drop)]
 pub struct Place {
     desk: Consumer<Homing, Global, HomeRule>,
@@ -30,7 +31,7 @@ impl Model for Place {
 }
 
 impl Place {
-    ghost use Rattle.std.specs.Prelude.{◌≡◌, IfNone, IfOk, IfSome, IsSome, Some, false, is_some};
+    ghost use Rattle.std.specs.Prelude.{◌≡◌, IfOk, IsSome, OnErr, Some, true, false, is_some};
     ghost use Rattle.std.specs.Arc.{arc_value};
     ghost use Rattle.dspec_cpu.specs.Standing.{identity};
     ghost use Rattle.dspec_c.specs.Homes.{Came, IsPlaceWith, LeavesPlace, Side};
@@ -89,24 +90,52 @@ impl Place {
         self.serve(shared)
     }
 
-    /// Whether the CPU waits to be handed out.
-    pub fn waits(&self) -> bool
-        ensures { result ≡ self.now.waits }
+    // The CPU, with what it shares, which was never handed out.
+    fn hand_out_first(&mut self, shared: Arc<Shared, Global>) -> OutCpu
+        requires place { IsPlaceWith (arc_value shared) self.old.first }
+        requires waits { self.old.waits ≡ true }
+        ensures { LeavesPlace (arc_value shared) self.old result self.new }
     {
-        self.way.is_some()
+        let way = self.way.take().unwrap();
+        let home = self.inside.take().unwrap();
+        OutCpu::of(way, Homing::of(shared, home))
     }
 
-    /// The CPU, with what it shares, where it waits.
-    pub fn hand_out(&mut self, shared: Arc<Shared, Global>) -> Option<OutCpu>
-        requires { IsPlaceWith (arc_value shared) self.old.first }
-        ensures leaves { IfSome result (λ out. LeavesPlace (arc_value shared) self.old out self.new) }
-        ensures none { IfNone result ((self.old.waits ≡ false) × (self.new ≡ self.old)) }
+    // The CPU, with what it shares, which came home: it takes a ring of its own, and goes through that once. Where there is no memory for
+    // the ring it stays as it is.
+    fn hand_out_again(
+        &mut self,
+        alloc: Global,
+        shared: Arc<Shared, Global>,
+    ) -> Result<OutCpu, AllocError>
+        requires place { IsPlaceWith (arc_value shared) self.old.first }
+        requires inside { IsSome self.old.inside }
+        requires again { self.old.waits ≡ false }
+        ensures leaves { IfOk result (λ out. LeavesPlace (arc_value shared) self.old out self.new) }
+        ensures stays { OnErr result (self.new ≡ self.old) }
     {
-        let Some(way) = self.way.take() else {
-            return None;
-        };
-        let cpu = self.inside.take().unwrap();
-        Some(OutCpu::of(way, Homing::of(shared, cpu)))
+        let (way, desk) = ring(alloc)?;
+        let home = self.inside.take().unwrap();
+        let (way, desk, homing) = pass(way, desk, Homing::of(shared, home));
+        self.desk = desk;
+        Ok(OutCpu::of(way, homing))
+    }
+
+    /// The CPU, with what it shares, which is at its place. It stays there, as it was, where there is no memory for its way home.
+    pub fn hand_out(
+        &mut self,
+        alloc: Global,
+        shared: Arc<Shared, Global>,
+    ) -> Result<OutCpu, AllocError>
+        requires place { IsPlaceWith (arc_value shared) self.old.first }
+        requires inside { IsSome self.old.inside }
+        ensures leaves { IfOk result (λ out. LeavesPlace (arc_value shared) self.old out self.new) }
+        ensures stays { OnErr result (self.new ≡ self.old) }
+    {
+        if self.way.is_some() {
+            return Ok(self.hand_out_first(shared));
+        }
+        self.hand_out_again(alloc, shared)
     }
 
     /// How many records the CPU refused that is inside.

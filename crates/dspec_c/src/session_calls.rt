@@ -1,11 +1,11 @@
 //! The exports of a session: its start, what it hands out, and its end.
 
-ghost use Rattle.std.specs.Prelude.{◌≡◌, true, false};
+ghost use Rattle.std.specs.Prelude.{◌≡◌, None, true, false};
 ghost use Rattle.dspec_c.specs.Configs.{asked_for};
 ghost use Rattle.dspec_c.specs.Handles.{held_in, is_full};
-ghost use Rattle.dspec_c.specs.SessionCalls.{ConsumerOfAnswers, CpuOfAnswers, EndsSo, FinishAnswers, GivesConsumer, GivesCpu, HandsOut, KeptSo, LooksHome, StartAnswers, StartsSo, consumer_due, cpu_due};
+ghost use Rattle.dspec_c.specs.SessionCalls.{ConsumerOfAnswers, CpuOfAnswers, EndsSo, FinishAnswers, GivesConsumer, GivesCpu, HandsOut, HandsOutCpu, KeptSo, LooksHome, StartAnswers, StartsSo, consumer_due};
 ghost use Rattle.dspec_c.specs.Tending.{TendAnswers};
-ghost use Rattle.dspec_c.specs.Whole.{Going, IsHome};
+ghost use Rattle.dspec_c.specs.Whole.{Going, IsHome, inside_at};
 ghost use Rattle.dspec_c.specs.declared.held.Held.TheVariants as held_as;
 
 use crate::configs::CConfig;
@@ -84,9 +84,27 @@ fn fill(held: Box<Held>, what: Held) -> Box<Held>
     held
 }
 
-// The box comes first: what can't be had in it stays where it is.
+// All memory comes first: the CPU stays where it is, as it was, where any is refused.
+fn give_cpu(alloc: Global, session: &mut UnderWay, number: u32, cpu: &mut Handle) -> u32
+    requires { inside_at number session.old.places ≡ true }
+    ensures { HandsOut (GivesCpu number) None session.old result session.new cpu.old cpu.new }
+{
+    let Ok(held) = Box::new(alloc, Held::Nothing) else {
+        return NO_MEMORY;
+    };
+    let Ok(shared) = session.share() else {
+        return NO_MEMORY;
+    };
+    let Ok(out) = session.cpu(alloc, shared, number) else {
+        return NO_MEMORY;
+    };
+    let filled = fill(held, Held::Cpu(out));
+    cpu.put(filled);
+    OK
+}
+
 fn hand_out_cpu(alloc: Global, session: &mut UnderWay, number: u32, cpu: &mut Handle) -> u32
-    ensures { HandsOut (GivesCpu number) (cpu_due number session.old) session.old result session.new cpu.old cpu.new }
+    ensures { HandsOutCpu number session.old result session.new cpu.old cpu.new }
 {
     if !session.has_cpu(number) {
         return NO_SUCH_CPU;
@@ -94,18 +112,7 @@ fn hand_out_cpu(alloc: Global, session: &mut UnderWay, number: u32, cpu: &mut Ha
     if !session.has_cpu_in(number) {
         return OUT;
     }
-    let Ok(held) = Box::new(alloc, Held::Nothing) else {
-        return NO_MEMORY;
-    };
-    let Ok(shared) = session.share() else {
-        return NO_MEMORY;
-    };
-    let Some(out) = session.cpu(shared, number) else {
-        return OUT;
-    };
-    let filled = fill(held, Held::Cpu(out));
-    cpu.put(filled);
-    OK
+    give_cpu(alloc, session, number, cpu)
 }
 
 fn held_cpu_of(alloc: Global, session: &mut Held, number: u32, cpu: &mut Handle) -> u32
@@ -117,7 +124,7 @@ fn held_cpu_of(alloc: Global, session: &mut Held, number: u32, cpu: &mut Handle)
     }
 }
 
-/// Hands out a CPU.
+/// Hands out a CPU that is at its place: it was never handed out, or came home.
 #[unsafe(no_mangle)]
 pub extern "C" fn dspec_cpu_of(
     alloc: Global,

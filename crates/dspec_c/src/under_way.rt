@@ -2,7 +2,7 @@ use crate::close::close;
 use crate::consumer_homing::ConsumerHoming;
 use crate::consumer_place::ConsumerPlace;
 use crate::ended::Ended;
-use crate::gather::{all_home, count_refusals, hand_out, waits};
+use crate::gather::{all_home, count_refusals, hand_out, is_in};
 use crate::out_consumer::OutConsumer;
 use crate::out_cpu::OutCpu;
 use crate::place::Place;
@@ -43,7 +43,7 @@ impl Model for UnderWay {
 }
 
 impl UnderWay {
-    ghost use Rattle.std.specs.Prelude.{◌≡◌, ◌≢◌, ℕ, MatchBool, nat_lt, IfErr, IfOk, IfSome, IfNone, Some, None, false, length, slice_get};
+    ghost use Rattle.std.specs.Prelude.{◌≡◌, ◌≢◌, ℕ, MatchBool, nat_lt, IfErr, IfOk, IfSome, IfNone, OnErr, Some, None, true, false, length, slice_get};
     ghost use Rattle.dspec_deeds.specs.declared.config.StartFault.TheVariants as start;
     ghost use Rattle.dspec_deeds.specs.Ranges.{start_fault};
     ghost use Rattle.std.specs.Arc.{arc_value};
@@ -54,7 +54,7 @@ impl UnderWay {
     ghost use Rattle.dspec_consumer.specs.Consumers.{view_of};
     ghost use Rattle.dspec_consumer.specs.Sessions.{Has, IsFresh, IsSession};
     ghost use Rattle.dspec_c.specs.Tending.{IsTendedWhole};
-    ghost use Rattle.dspec_c.specs.Whole.{AllCalled, EndedBy, GoesOut, HasAll, IsAway, IsHome, IsJustStarted, IsStarted, LookedLater, TheyGoOut, waits_in};
+    ghost use Rattle.dspec_c.specs.Whole.{AllCalled, EndedBy, GoesOut, HasAll, IsAway, IsHome, IsJustStarted, IsStarted, LookedLater, LooksAtOne, TheyGoOut, inside_at};
 
     fn of(
         alloc: Global,
@@ -146,11 +146,13 @@ impl UnderWay {
         cpu < self.cpus
     }
 
-    /// Whether such a CPU waits to be handed out.
-    pub fn has_cpu_in(&self, cpu: u32) -> bool
-        ensures { result ≡ waits_in cpu self.now.places }
+    /// Whether such a CPU is at its place.
+    pub fn has_cpu_in(&mut self, cpu: u32) -> bool
+        requires { nat_lt cpu self.old.cpus ≡ true }
+        ensures looked { LooksAtOne cpu self.old self.new }
+        ensures inside { result ≡ inside_at cpu self.new.places }
     {
-        waits(&self.places, cpu as usize)
+        is_in(&mut self.places, cpu as usize)
     }
 
     /// What the parts of the session share.
@@ -160,13 +162,19 @@ impl UnderWay {
         Arc::try_clone(&self.common)
     }
 
-    /// The CPU, with what it shares, where it wasn't handed out yet.
-    pub fn cpu(&mut self, shared: Arc<Shared, Global>, cpu: u32) -> Option<OutCpu>
-        requires { arc_value shared ≡ self.old.shared }
-        ensures goes { IfSome result (λ side. GoesOut cpu self.old side self.new) }
-        ensures none { IfNone result ((waits_in cpu self.old.places ≡ false) × (self.new ≡ self.old)) }
+    /// The CPU, with what it shares, which is at its place. It stays there, as it was, where memory is refused.
+    pub fn cpu(
+        &mut self,
+        alloc: Global,
+        shared: Arc<Shared, Global>,
+        cpu: u32,
+    ) -> Result<OutCpu, AllocError>
+        requires shares { arc_value shared ≡ self.old.shared }
+        requires inside { inside_at cpu self.old.places ≡ true }
+        ensures goes { IfOk result (λ side. GoesOut cpu self.old side self.new) }
+        ensures stays { OnErr result (self.new ≡ self.old) }
     {
-        hand_out(&mut self.places, cpu as usize, shared)
+        hand_out(alloc, &mut self.places, cpu as usize, shared)
     }
 
     /// Whether the consumer waits to be handed out.

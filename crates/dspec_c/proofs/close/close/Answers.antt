@@ -1,4 +1,4 @@
-use Rattle.std.proofs.Common.{refl, sym, ap, ◌∙◌}
+use Rattle.std.proofs.Common.{refl}
 use Rattle.dspec_record.specs.EnablingRows.{EnabledRows}
 use Rattle.dspec_consumer.specs.Consumers.{pairs_of}
 use Rattle.dspec_consumer.specs.Sessions.{IsSession}

@@ -1,4 +1,4 @@
-use Rattle.std.proofs.Common.{◌≡◌, ℕ, ◌<◌}
+use Rattle.std.proofs.Common.{ℕ, ◌<◌}
 use Rattle.dspec_c.specs.Whole.{AreCame, IsInsideAt}
 use Rattle.dspec_c.proofs.gather.all_home.Given as goal
 

@@ -1,5 +1,4 @@
-use Rattle.std.proofs.Common.{arith, sym, subst}
-use Rattle.dspec_c.specs.Shows.{TellsReport}
+use Rattle.std.proofs.Common.{arith}
 use Rattle.dspec_c.proofs.Counted.{told_counts}
 use Rattle.dspec_c.proofs.rest_calls.report_to.Goals as goal
 

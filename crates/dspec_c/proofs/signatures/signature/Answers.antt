@@ -1,4 +1,4 @@
-use Rattle.std.proofs.Common.{◌≡◌, ◌≤◌, ◌<◌, ◌+◌, ◌*◌, ◌-◌, ◌^◌, ℕ, List, length, drop, get_or, sym, ◌∙◌, ap, Fits, w32, arith}
+use Rattle.std.proofs.Common.{◌≡◌, ◌≤◌, ◌<◌, ◌+◌, ◌*◌, ◌-◌, ◌^◌, ℕ, List, length, drop, get_or, ◌∙◌, ap, arith}
 use Rattle.std.proofs.lemmas.List.{length-drop}
 use Rattle.dspec_record.specs.Layout.{width}
 use Rattle.dspec_record.specs.declared.field.Field.{Field}

@@ -1,4 +1,4 @@
-use Rattle.std.proofs.Common.{sym, ap, ◌∙◌, subst}
+use Rattle.std.proofs.Common.{ap, ◌∙◌, subst}
 use Rattle.dspec_cpu.specs.Lists.{words_of}
 use Rattle.dspec_consumer.specs.Consumers.{IsConsumerOf, IsSameConsumer}
 use Rattle.dspec_c.specs.ConsumerHomes.{TheirStay, Theirs}

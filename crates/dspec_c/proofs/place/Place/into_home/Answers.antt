@@ -1,4 +1,4 @@
-use Rattle.std.proofs.Common.{sym, ap, ◌∙◌}
+use Rattle.std.proofs.Common.{ap, ◌∙◌}
 use Rattle.dspec_c.specs.Homes.{CpuStay, Side}
 use Rattle.dspec_cpu.specs.Standing.{identity}
 use Rattle.dspec_c.proofs.Homes.{one_first, same_there}

@@ -1,0 +1,26 @@
+use Rattle.std.proofs.Common.{◌≤◌, ◌+◌, refl, sym, ap, ◌∙◌, subst, arith}
+use Rattle.std.specs.Prelude.{nat_lt, vec_capacity, vec_len}
+use Rattle.std.proofs.lemmas.Bool.{ltb-true}
+use Rattle.dspec_c.specs.Whole.{Going}
+use Rattle.dspec_c.proofs.Ending.{looks_from}
+use Rattle.dspec_c.proofs.Looking.{looked_came, same_firsts, same_length}
+use Rattle.dspec_c.proofs.Tends.{places_counted, whole_on}
+use Rattle.dspec_c.proofs.under_way.UnderWay.has_cpu_in.Goals as goal
+
+pub is_in-requires : goal.is_in-requires
+is_in-requires c =
+    let small = ltb-true c.args.cpu c.self.inside.cpus (ap (λ (g : Going). nat_lt c.args.cpu g.cpus) c.self.view_is ∙ c.requires) in
+    omega (arith, small, places_counted _ _ _ _ c.self.invariant.0)
+
+pub invariant_of-self : goal.invariant_of-self
+invariant_of-self c =
+    let came = looked_came _ _ _ c.is_in.ensures.looked in (
+      whole_on _ _ _ _ _ c.self.invariant.0 (same_firsts _ _ came),
+      c.self.invariant.1,
+      subst (λ n. n + vec_len c.self.inside.room ≤ vec_capacity c.self.inside.room) (sym (same_length _ _ came)) c.self.invariant.2,
+      c.self.invariant.3,
+      subst (λ n. n + vec_len c.self.inside.counts ≤ vec_capacity c.self.inside.counts) (sym (same_length _ _ came)) c.self.invariant.4,
+    )
+
+pub returns-clause-looked : goal.returns-clause-looked
+returns-clause-looked c = looks_from c.args.cpu _ _ _ c.self.view_is refl refl refl c.is_in.ensures.looked
