@@ -1,2 +1,10 @@
 pub mod Bounds
 pub mod Joining
+pub mod Numbers
+pub mod Events
+pub mod Packets
+pub mod Sizes
+pub mod Files
+pub mod Timed
+pub mod Live
+pub mod Named

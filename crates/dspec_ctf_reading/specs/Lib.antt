@@ -1,2 +1,4 @@
 pub mod Reading
 pub mod Sample
+pub mod Layouts
+pub mod Files
