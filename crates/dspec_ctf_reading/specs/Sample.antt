@@ -1,6 +1,6 @@
 -- Cited by calls. Two packets by hand, byte by byte, and what they say. Their trace has three events: one without fields, one with a field of eight
 -- bytes, and one with fields of one byte and of two.
-use Rattle.std.specs.Prelude.{ℕ, Bool, List, [], ◌∷◌, ◌++◌, codes, Some, None}
+use Rattle.std.specs.Prelude.{ℕ, Bool, List, [], ◌∷◌, ◌++◌, slice_set, codes, Some, None}
 use Rattle.dspec_ctf_reading.specs.Reading.{Layout, PacketRead}
 
 abbrev pub sample_layout : Bool → Layout
@@ -32,6 +32,10 @@ sample_events = 1 ∷ 0 ∷ 0 ∷ 0 ∷ 2 ∷ 0 ∷ 0 ∷ 0 ∷ 7 ∷ 0 ∷ 0 �
 
 abbrev pub sample_bytes : List ℕ
 sample_bytes = sample_header ++ (sample_context ++ sample_events)
+
+-- the same with both sizes of these two bytes, the lower first
+abbrev pub sized : ℕ → ℕ → List ℕ
+sized low high = slice_set (slice_set (slice_set (slice_set sample_bytes 24 low) 25 high) 32 low) 33 high
 
 abbrev pub sample_packet : PacketRead
 sample_packet = record {

@@ -1,6 +1,6 @@
 //! What follows from the definitions, as clauses of functions that have nothing to do.
 
-ghost use Rattle.std.specs.Prelude.{◌≡◌, ◌≤◌, ◌<◌, ◌^◌, ◌++◌, ◌∷◌, [], ℕ, true, false, All, List, map, length, drop, take, slice_index, Option, Some, None};
+ghost use Rattle.std.specs.Prelude.{◌≡◌, ◌≤◌, ◌<◌, ◌^◌, ◌++◌, ◌∷◌, [], ℕ, true, false, All, List, map, length, drop, take, slice_index, slice_set, Option, Some, None};
 ghost use Rattle.std.specs.Option.{option_map, option_and_then};
 ghost use Rattle.std.specs.List.{flat_map};
 ghost use Rattle.dspec_record.specs.Record.{Record};
@@ -17,7 +17,7 @@ ghost use Rattle.dspec_probe.specs.declared.probes.ProbeNames.{ProbeNames};
 ghost use Rattle.dspec_ctf_reading.specs.Reading.{Layout, PacketRead, read_packets_within, read_events_within, read_event, read_events, read_packet, read_file};
 ghost use Rattle.dspec_ctf_reading.specs.Layouts.{layout_of, event_of, packet_of, given_for};
 ghost use Rattle.dspec_ctf_reading.specs.Files.{Tells, TellsEach, file_bytes, last_missed};
-ghost use Rattle.dspec_ctf_reading.specs.Sample.{sample_layout, sample_bytes, sample_packet, timed_bytes, timed_packet};
+ghost use Rattle.dspec_ctf_reading.specs.Sample.{sample_layout, sample_bytes, sample_packet, sized, timed_bytes, timed_packet};
 
 /// The number that shows that reading comes to an end changes nothing, from the number of bytes on.
 pub fn bound_is_enough()
@@ -46,11 +46,21 @@ pub fn worked_packets()
     ensures file { read_file (sample_layout false) (sample_bytes ++ sample_bytes) ≡ Some (sample_packet ∷ sample_packet ∷ []) }
 {}
 
-/// What is no packet is refused: bytes that are cut short, bytes that begin late, bytes of a trace of the other form.
+/// What is no packet is refused: bytes that are cut short, that begin late or are of a trace of the other form; another magic number, another
+/// stream; sizes that differ, that end within a byte, before the events or behind the file; an event that nobody knows, and one that is cut.
 pub fn worked_refusals()
     ensures short { read_packet (sample_layout false) (take 74 sample_bytes) ≡ None }
     ensures late { read_packet (sample_layout false) (drop 1 sample_bytes) ≡ None }
-    ensures other { read_packet (sample_layout true) sample_bytes ≡ None }
+    ensures other_form { read_packet (sample_layout true) sample_bytes ≡ None }
+    ensures magic { read_packet (sample_layout false) (slice_set sample_bytes 0 192) ≡ None }
+    ensures stream { read_packet (sample_layout false) (slice_set sample_bytes 20 1) ≡ None }
+    ensures content { read_packet (sample_layout false) (slice_set sample_bytes 24 80) ≡ None }
+    ensures size { read_packet (sample_layout false) (slice_set sample_bytes 32 96) ≡ None }
+    ensures within_a_byte { read_packet (sample_layout false) (sized 89 2) ≡ None }
+    ensures before_the_events { read_packet (sample_layout false) (sized 152 1) ≡ None }
+    ensures behind_the_file { read_packet (sample_layout false) (sized 96 2) ≡ None }
+    ensures event { read_packet (sample_layout false) (slice_set sample_bytes 52 4) ≡ None }
+    ensures cut { read_packet (sample_layout false) (sized 80 2) ≡ None }
     ensures rest { read_file (sample_layout false) (sample_bytes ++ 193 ∷ []) ≡ None }
 {}
 
