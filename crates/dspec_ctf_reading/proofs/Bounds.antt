@@ -1,9 +1,11 @@
 -- Each event and each packet takes some bytes: so the number that shows that reading ends changes nothing, from the number of bytes on.
-use Rattle.std.proofs.Common.{◌≡◌, ◌≤◌, ◌<◌, ◌+◌, ◌-◌, ◌*◌, ◌/◌, ◌%◌, ◌&&◌, ◌==◌, ℕ, zero, suc, Bool, true, false, cond, leb, IsTrue, List, [], ◌∷◌, length, take, drop, Option, Some, None, option_map, refl, ap, arith, length-drop}
+use Rattle.std.proofs.Common.{◌≡◌, ◌≤◌, ◌<◌, ◌+◌, ◌-◌, ◌*◌, ◌/◌, ◌%◌, ◌&&◌, ◌==◌, ℕ, zero, suc, Bool, true, false, cond, leb, IsTrue, List, [], ◌∷◌, length, take, drop, Option}
+use Rattle.std.proofs.Common.{Some, None, option_map, refl, ap, arith, length-drop}
 use Rattle.std.specs.Prelude.{option_and_then}
 use Rattle.std.proofs.lemmas.Bool.{leb-true}
 use Rattle.dspec_ctf_reading.specs.Reading.{FieldLayout, EventLayout, Layout, PacketRead, FrontRead, Part, then_read, read_number, read_bytes, read_stamp, read_span, find_event, read_values}
-use Rattle.dspec_ctf_reading.specs.Reading.{read_event_body, read_event, read_events_within, read_events, read_this, read_header, read_counts, read_front, sizes_agree, with_events, read_body, read_packet, read_packets_within, read_file}
+use Rattle.dspec_ctf_reading.specs.Reading.{read_event_body, read_event, read_events_within, read_events, read_this, read_header, read_counts, read_front, sizes_agree}
+use Rattle.dspec_ctf_reading.specs.Reading.{with_events, read_body, read_packet, read_packets_within, read_file}
 
 -- behind the part, if there is one, there are so many bytes at most
 unfoldable pub Leaves : {A : Type 0} → ℕ → Part A → Type 0
@@ -35,7 +37,8 @@ unfolding Leaves
 number-leaves zero bytes = omega arith
 number-leaves (suc n) [] = tt
 number-leaves (suc n) (b ∷ bytes) =
-    Leaves-map (length (b ∷ bytes) - suc n) (read_number n bytes) (λ x. b + 256 * x) (Leaves-more (length bytes - n) (length (b ∷ bytes) - suc n) (read_number n bytes) (omega arith) (number-leaves n bytes))
+    Leaves-map (length (b ∷ bytes) - suc n) (read_number n bytes) (λ x. b + 256 * x)
+    (Leaves-more (length bytes - n) (length (b ∷ bytes) - suc n) (read_number n bytes) (omega arith) (number-leaves n bytes))
 
 number-within : (n m : ℕ) (bytes : List ℕ) → length bytes ≤ m → Leaves m (read_number n bytes)
 number-within n m bytes few = Leaves-more (length bytes - n) m (read_number n bytes) (omega (arith, few)) (number-leaves n bytes)

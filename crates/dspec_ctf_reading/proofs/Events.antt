@@ -1,5 +1,6 @@
 -- What was written of a record is read as its event.
-use Rattle.std.proofs.Common.{◌≡◌, ◌≢◌, ◌≤◌, ◌<◌, ◌+◌, ◌^◌, ◌++◌, ◌==◌, ℕ, zero, suc, Bool, true, false, cond, ltb, leb, IsTrue, List, [], ◌∷◌, length, map, Option, Some, None, option_map, refl, ap, sym, subst, ◌∙◌, arith, append_assoc, All}
+use Rattle.std.proofs.Common.{◌≡◌, ◌≢◌, ◌≤◌, ◌<◌, ◌+◌, ◌^◌, ◌++◌, ◌==◌, ℕ, zero, suc, Bool, true, false, cond, ltb, leb, IsTrue, List, [], ◌∷◌, length, map, Option, Some, None}
+use Rattle.std.proofs.Common.{option_map, refl, ap, sym, subst, ◌∙◌, arith, append_assoc, All}
 use Rattle.std.specs.Prelude.{slice_get, unwrap_or, option_and_then}
 use Rattle.std.specs.Option.{option_map_or}
 use Rattle.std.specs.List.{enumerate_from, range_with_len}
@@ -75,7 +76,8 @@ find-from : (f : ℕ → EventLayout) → ((n : ℕ) → (f n).id ≡ n) → (k 
 find-from f ids zero from id low high = absurd (omega (arith, low, high))
 find-from f ids (suc k) from id low high = go ((f from).id == id) refl (λ above. find-from f ids k (from + 1) id above (omega (arith, high)))
   where
-    go : (b : Bool) → ((f from).id == id) ≡ b → (from + 1 ≤ id → find_event id (map f (range_with_len (from + 1) k)) ≡ Some (f id)) → cond b (Some (f from)) (find_event id (map f (range_with_len (from + 1) k))) ≡ Some (f id)
+    go : (b : Bool) → ((f from).id == id) ≡ b → (from + 1 ≤ id → find_event id (map f (range_with_len (from + 1) k)) ≡ Some (f id))
+        → cond b (Some (f from)) (find_event id (map f (range_with_len (from + 1) k))) ≡ Some (f id)
     go true is later = ap (λ n. Some (f n)) (sym (ids from) ∙ eqb-true (f from).id id is)
     go false is later =
         let other : from ≢ id = λ same. eqb-false (f from).id id is (ids from ∙ same) in

@@ -1,5 +1,6 @@
 -- What a file has isn't changed by what is written behind it.
-use Rattle.std.proofs.Common.{◌≡◌, ◌≤◌, ◌+◌, ◌-◌, ◌*◌, ◌/◌, ◌%◌, ◌==◌, ◌++◌, ℕ, zero, suc, Bool, true, false, cond, leb, List, [], ◌∷◌, length, take, drop, Option, Some, None, option_map, refl, ap, sym, subst, ◌∙◌, arith, length-append}
+use Rattle.std.proofs.Common.{◌≡◌, ◌≤◌, ◌+◌, ◌-◌, ◌*◌, ◌/◌, ◌%◌, ◌==◌, ◌++◌, ℕ, zero, suc, Bool, true, false, cond, leb, List, [], ◌∷◌, length, take, drop, Option, Some, None}
+use Rattle.std.proofs.Common.{option_map, refl, ap, sym, subst, ◌∙◌, arith, length-append}
 use Rattle.std.specs.Prelude.{option_and_then}
 use Rattle.std.proofs.lemmas.Bool.{leb-true, le-leb, and_from, and_parts, cond-true}
 use Rattle.std.proofs.lemmas.List.{take-append-le, drop-append-le}
@@ -135,7 +136,8 @@ module _ (more : List ℕ) where
           let holds : sizes_agree front read' (length (bytes ++ more)) ≡ true =
           and_from (front.content_size == front.packet_size) _ are.same (
           and_from (front.packet_size % 8 == 0) _ are.whole (
-          and_from (leb read' end) (leb end (length (bytes ++ more))) (le-leb read' end (omega (arith, same, are.low))) (le-leb end (length (bytes ++ more)) (omega (arith, are.high, length-append bytes more))))) in
+          and_from (leb read' end) (leb end (length (bytes ++ more))) (le-leb read' end (omega (arith, same, are.low)))
+          (le-leb end (length (bytes ++ more)) (omega (arith, are.high, length-append bytes more))))) in
           let known : read_body layout (bytes ++ more) front (rest ++ more) ≡ option_map (λ packet. (packet, drop end (bytes ++ more))) (with_events layout front (take (end - read) rest)) =
           cond-true (sizes_agree front read' (length (bytes ++ more)))
           (option_map (λ packet. (packet, drop end (bytes ++ more))) (with_events layout front (take (end - read') (rest ++ more)))) None holds
@@ -158,7 +160,8 @@ some-parts x (Some rest) ys is = let same : x ∷ rest ≡ ys = cc in (rest, (re
 none-read : (ps : List PacketRead) → Some [] ≡ Some ps → [] ≡ ps
 none-read ps is = cc
 
-pub join : (layout : Layout) (most : ℕ) (a b : List ℕ) (ps qs : List PacketRead) → length a ≤ most → read_file layout a ≡ Some ps → read_file layout b ≡ Some qs → read_file layout (a ++ b) ≡ Some (ps ++ qs)
+pub join : (layout : Layout) (most : ℕ) (a b : List ℕ) (ps qs : List PacketRead) → length a ≤ most
+    → read_file layout a ≡ Some ps → read_file layout b ≡ Some qs → read_file layout (a ++ b) ≡ Some (ps ++ qs)
 unfolding Keeps Leaves
 join layout most [] b ps qs few first second = second ∙ ap (λ front. Some (front ++ qs)) (none-read ps first)
 join layout zero (x ∷ a) b ps qs few first second = absurd (omega (arith, few))

@@ -8,3 +8,8 @@ pub mod Files
 pub mod Timed
 pub mod Live
 pub mod Named
+pub mod Scanning
+pub mod Lines
+pub mod Texts
+pub mod Headings
+pub mod Allowed

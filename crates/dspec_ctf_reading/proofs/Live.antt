@@ -1,5 +1,6 @@
 -- A CPU's file while it runs: the packets of the runs that go to it.
-use Rattle.std.proofs.Common.{◌≡◌, ◌≤◌, ◌<◌, ◌-◌, ◌^◌, ◌++◌, ◌==◌, ℕ, zero, suc, Bool, true, false, cond, List, [], ◌∷◌, length, map, take, drop, replicate, Option, Some, refl, ap, sym, ◌∙◌, arith, append_assoc, length-append, All}
+use Rattle.std.proofs.Common.{◌≡◌, ◌≤◌, ◌<◌, ◌-◌, ◌^◌, ◌++◌, ◌==◌, ℕ, zero, suc, Bool, true, false, cond, List, [], ◌∷◌, length, map, take, drop, replicate, Option, Some, refl}
+use Rattle.std.proofs.Common.{ap, sym, ◌∙◌, arith, append_assoc, length-append, All}
 use Rattle.std.specs.Prelude.{filter, zip, slice_index, slice_range}
 use Rattle.std.specs.List.{flat_map}
 use Rattle.std.proofs.lemmas.Bool.{eqb-true}
@@ -61,7 +62,8 @@ module _ (called : Called) (e : EnabledRows) (has : HasStamps true e.header) (uu
   run_read : ℕ → List Record → PacketRead
   run_read file rs = packet_read called true e uuid (Some (span_of rs)) (told_by file missed) cpu rs
 
-  run-back : (file : ℕ) (rs : List Record) → length (events e rs) < 2 ^ 60 → All (Accepts e) rs → read_file (layout_by called true e) (run_packet uuid e missed cpu file rs) ≡ Some (run_read file rs ∷ [])
+  run-back : (file : ℕ) (rs : List Record) → length (events e rs) < 2 ^ 60 → All (Accepts e) rs
+      → read_file (layout_by called true e) (run_packet uuid e missed cpu file rs) ≡ Some (run_read file rs ∷ [])
   unfolding run_read
   run-back file rs few of_rs = packet-read called true e has uuid (Some (span_of rs)) (told_by file missed) cpu rs long (span-low e rs of_rs) (told-low (file == 0) missed low) small few of_rs
 
@@ -141,7 +143,8 @@ module _ (called : Called) (e : EnabledRows) (has : HasStamps true e.header) (uu
         step from run runs is.some is.within (runs-back mid run.end runs to new rest)
 
 -- the two packets that tell what was missed
-pub missed-back : (called : Called) (e : EnabledRows) → HasStamps true e.header → (uuid : List ℕ) (before missed cpu : ℕ) (lasts : List ℕ) → length uuid ≡ 16 → before < 2 ^ 64 → missed < 2 ^ 64 → cpu < 2 ^ 32
+pub missed-back : (called : Called) (e : EnabledRows) → HasStamps true e.header → (uuid : List ℕ) (before missed cpu : ℕ) (lasts : List ℕ)
+    → length uuid ≡ 16 → before < 2 ^ 64 → missed < 2 ^ 64 → cpu < 2 ^ 32
     → slice_index lasts 0 < 2 ^ 64 → Tells (layout_by called true e) uuid cpu (missed_packets uuid before missed cpu lasts) [] missed
 unfolding HasSpan
 missed-back called e has uuid before missed cpu lasts long low high small at =

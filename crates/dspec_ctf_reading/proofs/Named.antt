@@ -16,11 +16,13 @@ pub values-of : (name : ℕ → List ℕ) (n : ℕ) (vs : List ℕ) → map (λ 
 values-of name n [] = refl
 values-of name n (v ∷ vs) = ap (λ more. v ∷ more) (values-of name (n + 1) vs)
 
-pub stamped-values : (h : Header) (stamp : ℕ) (vs : List (List ℕ × ℕ)) (us : List ℕ) → map (λ (v : List ℕ × ℕ). v.1) vs ≡ us → h ≡ header.Two → map (λ (v : List ℕ × ℕ). v.1) (stamp_value false h stamp ++ vs) ≡ stamp ∷ us
+pub stamped-values : (h : Header) (stamp : ℕ) (vs : List (List ℕ × ℕ)) (us : List ℕ) → map (λ (v : List ℕ × ℕ). v.1) vs ≡ us
+    → h ≡ header.Two → map (λ (v : List ℕ × ℕ). v.1) (stamp_value false h stamp ++ vs) ≡ stamp ∷ us
 stamped-values header.One stamp vs us is two = absurd (cc)
 stamped-values header.Two stamp vs us is two = ap (λ more. stamp ∷ more) is
 
-pub plain-values : (h : Header) (stamp : ℕ) (vs : List (List ℕ × ℕ)) (us : List ℕ) → map (λ (v : List ℕ × ℕ). v.1) vs ≡ us → h ≡ header.One → map (λ (v : List ℕ × ℕ). v.1) (stamp_value false h stamp ++ vs) ≡ us
+pub plain-values : (h : Header) (stamp : ℕ) (vs : List (List ℕ × ℕ)) (us : List ℕ) → map (λ (v : List ℕ × ℕ). v.1) vs ≡ us
+    → h ≡ header.One → map (λ (v : List ℕ × ℕ). v.1) (stamp_value false h stamp ++ vs) ≡ us
 plain-values header.One stamp vs us is one = is
 plain-values header.Two stamp vs us is one = absurd (cc)
 
@@ -44,4 +46,5 @@ pub fields-called : (names : Names) (epid : ℕ) (n : ProbeNames) (vs : List ℕ
     → map (λ (v : List ℕ × ℕ). v.0) (named_values ((calls names).field epid) vs) ≡ map (λ name. name.now) n.fields.now
 fields-called Numbered epid n vs is long = absurd (cc)
 fields-called (Given names) epid n vs is long =
-    names-of (λ name. name.now) ((calls (Given names)).field epid) 0 n.fields.now vs long (λ k. ap (λ o. option_map_or (λ m. given_name m (0 + k)) o []) is ∙ ap (λ place. given_name n place) (omega arith))
+    names-of (λ name. name.now) ((calls (Given names)).field epid) 0 n.fields.now
+    vs long (λ k. ap (λ o. option_map_or (λ m. given_name m (0 + k)) o []) is ∙ ap (λ place. given_name n place) (omega arith))

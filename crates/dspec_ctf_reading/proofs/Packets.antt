@@ -1,5 +1,6 @@
 -- What was written of records is read as their packet.
-use Rattle.std.proofs.Common.{◌≡◌, ◌≤◌, ◌<◌, ◌+◌, ◌-◌, ◌*◌, ◌/◌, ◌%◌, ◌^◌, ◌++◌, ◌==◌, ℕ, Bool, true, false, leb, IsTrue, List, length, map, take, drop, Option, Some, None, option_map, refl, ap, sym, ◌∙◌, arith, append_assoc, length-append, All}
+use Rattle.std.proofs.Common.{◌≡◌, ◌≤◌, ◌<◌, ◌+◌, ◌-◌, ◌*◌, ◌/◌, ◌%◌, ◌^◌, ◌++◌, ◌==◌, ℕ, Bool, true, false, leb, IsTrue, List, length, map, take, drop, Option, Some, None}
+use Rattle.std.proofs.Common.{option_map, refl, ap, sym, ◌∙◌, arith, append_assoc, length-append, All}
 use Rattle.std.proofs.lemmas.Bool.{le-leb, eq-eqb, and_from, cond-true}
 use Rattle.std.proofs.lemmas.List.{take_at, drop_at}
 use Rattle.dspec_record.specs.Record.{Record}
@@ -8,7 +9,8 @@ use Rattle.dspec_record.specs.EnablingRows.{EnabledRows}
 use Rattle.dspec_record.specs.declared.field.Field.TheVariants.{Four, Eight}
 use Rattle.dspec_ctf.specs.Packets.{events, header_bytes, span_bytes, front_size, context_bytes, front_bytes, packet_around}
 use Rattle.dspec_ctf.specs.Streams.{Accepts}
-use Rattle.dspec_ctf_reading.specs.Reading.{Layout, EventRead, PacketRead, FrontRead, Part, then_read, read_number, read_bytes, read_this, read_span, read_header, read_counts, read_front, sizes_agree, read_events, with_events, read_body, read_packet}
+use Rattle.dspec_ctf_reading.specs.Reading.{Layout, EventRead, PacketRead, FrontRead, Part, then_read, read_number, read_bytes, read_this, read_span, read_header, read_counts}
+use Rattle.dspec_ctf_reading.specs.Reading.{read_front, sizes_agree, read_events, with_events, read_body, read_packet}
 use Rattle.dspec_ctf_reading.specs.Layouts.{Called, event_read, layout_by, packet_read}
 use Rattle.dspec_ctf_reading.proofs.Numbers.{number-back}
 use Rattle.dspec_ctf_reading.proofs.Events.{HasStamps, events-back}
@@ -151,5 +153,6 @@ module _ (called : Called) (timed : Bool) (e : EnabledRows) (has : HasStamps tim
       let layout : Layout = layout_by called timed e in
       let bytes : List ℕ = head ++ (body ++ rest) in
       ap (read_packet layout) (append_assoc head body rest)
-      ∙ ap (λ part. then_read part (λ told more. read_body layout bytes told more)) (front-back timed uuid span size missed cpu (body ++ rest) long ends (omega (arith, low, length-span span, span-few span)) few small)
+      ∙ ap (λ part. then_read part (λ told more. read_body layout bytes told more))
+      (front-back timed uuid span size missed cpu (body ++ rest) long ends (omega (arith, low, length-span span, span-few span)) few small)
       ∙ body-back layout head body rest front size (map (event_read called timed e) rs) (omega (arith, length-front uuid span size missed cpu long)) refl refl (events-back called timed e has rs of_rs)

@@ -1,6 +1,6 @@
 //! What follows from the definitions, as clauses of functions that have nothing to do.
 
-ghost use Rattle.std.specs.Prelude.{◌≡◌, ◌≤◌, ◌<◌, ◌^◌, ◌++◌, ◌∷◌, [], ℕ, true, false, All, List, map, length, drop, take, slice_index, slice_set, Option, Some, None};
+ghost use Rattle.std.specs.Prelude.{◌≡◌, ◌≤◌, ◌<◌, ◌^◌, ◌++◌, ◌∷◌, [], ◌-◌, ℕ, true, false, All, List, map, length, codes, drop, take, slice_index, slice_set, Option, Some, None};
 ghost use Rattle.std.specs.Option.{option_map, option_and_then};
 ghost use Rattle.std.specs.List.{flat_map};
 ghost use Rattle.dspec_record.specs.Record.{Record};
@@ -10,6 +10,10 @@ ghost use Rattle.dspec_ctf.specs.Packets.{events, packet, packet_around};
 ghost use Rattle.dspec_ctf.specs.Streams.{Accepts};
 ghost use Rattle.dspec_ctf.specs.ByTime.{timed_packets};
 ghost use Rattle.dspec_ctf.specs.Rows.{AreRuns, missed_packets, of_file, run_files, run_packets, run_records, told_by};
+ghost use Rattle.dspec_ctf.specs.Metadata.{origin_text};
+ghost use Rattle.dspec_ctf.specs.Names.{origin_fault};
+ghost use Rattle.dspec_ctf.specs.declared.form.Form.{Form};
+ghost use Rattle.dspec_ctf.specs.declared.origin.Origin.{Origin};
 ghost use Rattle.dspec_ctf.specs.declared.form.Form.TheVariants.{AsTaken, ByTime};
 ghost use Rattle.dspec_ctf.specs.declared.names.Names.{Names};
 ghost use Rattle.dspec_ctf.specs.declared.rows.Run.{Run};
@@ -17,6 +21,9 @@ ghost use Rattle.dspec_probe.specs.declared.probes.ProbeNames.{ProbeNames};
 ghost use Rattle.dspec_ctf_reading.specs.Reading.{Layout, PacketRead, read_packets_within, read_events_within, read_event, read_events, read_packet, read_file};
 ghost use Rattle.dspec_ctf_reading.specs.Layouts.{layout_of, event_of, packet_of, given_for};
 ghost use Rattle.dspec_ctf_reading.specs.Files.{Tells, TellsEach, file_bytes, last_missed};
+ghost use Rattle.dspec_ctf_reading.specs.Told.{HasNumbers};
+ghost use Rattle.dspec_ctf_reading.specs.ReadingMetadata.{read_field, read_metadata, read_type};
+ghost use Rattle.dspec_ctf_reading.specs.SampleMetadata.{timed_text, timed_text_layout, taken_text, taken_text_layout};
 ghost use Rattle.dspec_ctf_reading.specs.Sample.{sample_layout, sample_bytes, sample_packet, sized, timed_bytes, timed_packet};
 
 /// The number that shows that reading comes to an end changes nothing, from the number of bytes on.
@@ -117,4 +124,28 @@ pub fn live_file_reads_back()
     ensures missed { (e : EnabledRows) (names : Names) (frequency : ℕ) (uuid : List ℕ) (before missed cpu : ℕ) (lasts : List ℕ)
         → e.header ≡ header.Two → length uuid ≡ 16 → before < 2 ^ 64 → missed < 2 ^ 64 → cpu < 2 ^ 32 → slice_index lasts 0 < 2 ^ 64
         → Tells (layout_of e names (ByTime frequency)) uuid cpu (missed_packets uuid before missed cpu lasts) [] missed }
+{}
+
+/// Two texts of metadata by hand tell their layouts.
+pub fn worked_metadata()
+    ensures timed { read_metadata timed_text ≡ Some timed_text_layout }
+    ensures taken { read_metadata taken_text ≡ Some taken_text_layout }
+{}
+
+/// What isn't known in a text of metadata is refused: a text that is cut or goes on, another byte order, another type, an enumeration of
+/// floats, a label without its number.
+pub fn worked_metadata_refusals()
+    ensures cut { read_metadata (take (length taken_text - 1) taken_text) ≡ None }
+    ensures goes_on { read_metadata (taken_text ++ codes "\n") ≡ None }
+    ensures order { read_metadata (slice_set taken_text 400 98) ≡ None }
+    ensures field_type { read_field (codes "\t\tuint24_t arg_0;\n") ≡ None }
+    ensures enumeration { read_type (codes "enum : floating_point { exp_dig = 8; mant_dig = 24; align = 8; } { \"ok\" = 0, }") ≡ None }
+    ensures label { read_type (codes "enum : uint8_t { \"ok\", }") ≡ None }
+{}
+
+/// The metadata that is written tells the layout of which the other laws speak, wherever names, form and process are such that it is
+/// written at all (`origin_fault` has nothing to say).
+pub fn metadata_reads_back()
+    ensures { (origin : Origin) (form : Form) (e : EnabledRows) (names : Names) → origin_fault origin form e names ≡ None → HasNumbers origin form e names
+        → read_metadata (origin_text origin form e names) ≡ Some (layout_of e names form) }
 {}
