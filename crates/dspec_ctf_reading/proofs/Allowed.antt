@@ -30,7 +30,7 @@ use Rattle.dspec_ctf.specs.declared.fault.MetadataFault.TheVariants.{Name}
 use Rattle.dspec_ctf.specs.declared.form.Form.{Form}
 use Rattle.dspec_ctf_reading.specs.Reading.{FieldLayout}
 use Rattle.dspec_ctf_reading.specs.ReadingMetadata.{is_digit, is_word, is_quoted}
-use Rattle.dspec_ctf_reading.specs.Layouts.{calls, given_name, given_for}
+use Rattle.dspec_ctf_reading.specs.Layouts.{names_by, given_name, given_for}
 use Rattle.dspec_ctf_reading.specs.Told.{HasNumbers}
 use Rattle.dspec_ctf_reading.proofs.Scanning.{decimal-digits, list_all-weaker}
 use Rattle.dspec_ctf_reading.proofs.Lines.{IsQuotable, IsWordy, IsLine, joined-map, AreLines-map, typed-line, type-back, kind-back}
@@ -267,11 +267,11 @@ given-line n k f fit labels few within =
 
 given-told : (e : EnabledRows) (names : Names) (given : List ProbeNames) (place : ℕ) (n : ProbeNames) → place + 1 < 2 ^ 64 → ((k : ℕ) → length (labels_at n k) ≤ 2 ^ 64)
     → given_for names (place + 1) ≡ Some n → event_name names place ≡ n.event.now → field_lines names place (event_fields e (place + 1)) ≡ given_lines n (event_fields e (place + 1))
-    → ((k : ℕ) → (calls names).field (place + 1) k ≡ given_name n k) → IsFit e given place n → IsTold e names place
+    → ((k : ℕ) → (names_by names).field (place + 1) k ≡ given_name n k) → IsFit e given place n → IsTold e names place
 given-told e names given place n low few here name_is lines_are called fit =
     let fs : List Field = event_fields e (place + 1) in
     let line : ℕ × Field → List ℕ = λ p. given_line n p.0 p.1 in
-    let shape : ℕ × Field → FieldLayout = λ p. record { name = (calls names).field (place + 1) p.0; width = width p.1 } in
+    let shape : ℕ × Field → FieldLayout = λ p. record { name = (names_by names).field (place + 1) p.0; width = width p.1 } in
     let one : (k : ℕ) (f : Field) → k < length fs → IsLine (line (k, f)) (shape (k, f)) =
     λ k f within.
     let inside : k < length n.fields.now = omega (arith, within, fit.many) in

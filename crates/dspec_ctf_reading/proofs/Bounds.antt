@@ -3,7 +3,7 @@ use Rattle.std.proofs.Common.{◌≡◌, ◌≤◌, ◌<◌, ◌+◌, ◌-◌, �
 use Rattle.std.proofs.Common.{Some, None, option_map, refl, ap, arith, length-drop}
 use Rattle.std.specs.Prelude.{option_and_then}
 use Rattle.std.proofs.lemmas.Bool.{leb-true}
-use Rattle.dspec_ctf_reading.specs.Reading.{FieldLayout, EventLayout, Layout, PacketRead, FrontRead, Part, then_read, read_number, read_bytes, read_stamp, read_span, find_event, read_values}
+use Rattle.dspec_ctf_reading.specs.Reading.{FieldLayout, EventLayout, Layout, PacketRead, FrontRead, Part, then_read, read_number, read_bytes, read_stamp, read_span, find_event, read_payload}
 use Rattle.dspec_ctf_reading.specs.Reading.{read_event_body, read_event, read_events_within, read_events, read_this, read_header, read_counts, read_front, sizes_agree}
 use Rattle.dspec_ctf_reading.specs.Reading.{with_events, read_body, read_packet, read_packets_within, read_file}
 
@@ -55,19 +55,19 @@ span-within true m bytes few =
     Leaves-then m m (read_number 8 bytes) (λ begin rest. option_map (λ p. (Some (begin, p.0), p.1)) (read_number 8 rest)) (number-within 8 m bytes few)
     (λ begin rest few'. Leaves-map m (read_number 8 rest) (λ end. Some (begin, end)) (number-within 8 m rest few'))
 
-values-within : (fields : List FieldLayout) (m : ℕ) (bytes : List ℕ) → length bytes ≤ m → Leaves m (read_values fields bytes)
+values-within : (fields : List FieldLayout) (m : ℕ) (bytes : List ℕ) → length bytes ≤ m → Leaves m (read_payload fields bytes)
 unfolding Leaves
 values-within [] m bytes few = few
 values-within (field ∷ fields) m bytes few =
-    Leaves-then m m (read_number field.width bytes) (λ value rest. option_map (λ p. ((field.name, value) ∷ p.0, p.1)) (read_values fields rest)) (number-within field.width m bytes few)
-    (λ value rest few'. Leaves-map m (read_values fields rest) (λ more. (field.name, value) ∷ more) (values-within fields m rest few'))
+    Leaves-then m m (read_number field.width bytes) (λ value rest. option_map (λ p. ((field.name, value) ∷ p.0, p.1)) (read_payload fields rest)) (number-within field.width m bytes few)
+    (λ value rest few'. Leaves-map m (read_payload fields rest) (λ more. (field.name, value) ∷ more) (values-within fields m rest few'))
 
 event_body-within : (timed : Bool) (event : EventLayout) (m : ℕ) (bytes : List ℕ) → length bytes ≤ m → Leaves m (read_event_body timed event bytes)
 event_body-within timed event m bytes few =
     Leaves-then m m (read_stamp timed bytes)
-    (λ stamp rest. option_map (λ p. (record { id = event.id; name = event.name; stamp = stamp; values = p.0 }, p.1)) (read_values event.fields rest))
+    (λ stamp rest. option_map (λ p. (record { id = event.id; name = event.name; stamp = stamp; values = p.0 }, p.1)) (read_payload event.fields rest))
     (stamp-within timed m bytes few)
-    (λ stamp rest few'. Leaves-map m (read_values event.fields rest) (λ values. record { id = event.id; name = event.name; stamp = stamp; values = values }) (values-within event.fields m rest few'))
+    (λ stamp rest few'. Leaves-map m (read_payload event.fields rest) (λ values. record { id = event.id; name = event.name; stamp = stamp; values = values }) (values-within event.fields m rest few'))
 
 -- an event takes its number's bytes
 event-leaves : (layout : Layout) (bytes : List ℕ) → Leaves (length bytes - 4) (read_event layout bytes)

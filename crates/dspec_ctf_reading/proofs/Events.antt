@@ -20,21 +20,21 @@ use Rattle.dspec_record.specs.declared.header.Header.{Header}
 use Rattle.dspec_record.specs.declared.header.Header.TheVariants as header
 use Rattle.dspec_ctf.specs.Packets.{stamp_bytes, values_bytes, event, events, event_fields}
 use Rattle.dspec_ctf.specs.Streams.{Accepts}
-use Rattle.dspec_ctf_reading.specs.Reading.{FieldLayout, EventLayout, EventRead, Part, then_read, read_number, find_event, read_values, read_event_body, read_event, read_events}
-use Rattle.dspec_ctf_reading.specs.Layouts.{Called, stamp_field, field_layouts, stamp_value, named_values, event_layout, layout_by, event_read}
+use Rattle.dspec_ctf_reading.specs.Reading.{FieldLayout, EventLayout, EventRead, Part, then_read, read_number, find_event, read_payload, read_event_body, read_event, read_events}
+use Rattle.dspec_ctf_reading.specs.Layouts.{Naming, stamp_field, field_layouts, stamp_value, named_values, event_layout, layout_by, event_read}
 use Rattle.dspec_ctf_reading.proofs.Numbers.{number-back}
 use Rattle.dspec_ctf_reading.proofs.Bounds.{events-on-bytes}
 
 -- values stand under the names of their fields
 values-back : (name : ℕ → List ℕ) (n : ℕ) (fs : List Field) (vs rest : List ℕ) → IsTrue (fits fs vs)
-    → read_values (map (λ p. record { name = name p.0; width = width p.1 }) (enumerate_from n fs)) (values_bytes fs vs ++ rest) ≡ Some (map (λ p. (name p.0, p.1)) (enumerate_from n vs), rest)
+    → read_payload (map (λ p. record { name = name p.0; width = width p.1 }) (enumerate_from n fs)) (values_bytes fs vs ++ rest) ≡ Some (map (λ p. (name p.0, p.1)) (enumerate_from n vs), rest)
 values-back name n [] [] rest h = refl
 values-back name n [] (v ∷ vs) rest h = absurd (cc)
 values-back name n (f ∷ fs) [] rest h = absurd (cc)
 values-back name n (f ∷ fs) (v ∷ vs) rest h =
     let parts : IsTrue (ltb v (256 ^ width f)) × IsTrue (fits fs vs) = both (ltb v (256 ^ width f)) (fits fs vs) h in
     let others : List FieldLayout = map (λ p. record { name = name p.0; width = width p.1 }) (enumerate_from (n + 1) fs) in
-    let go_on : ℕ → List ℕ → Part (List (List ℕ × ℕ)) = λ value more. option_map (λ p. ((name n, value) ∷ p.0, p.1)) (read_values others more) in
+    let go_on : ℕ → List ℕ → Part (List (List ℕ × ℕ)) = λ value more. option_map (λ p. ((name n, value) ∷ p.0, p.1)) (read_payload others more) in
     ap (λ bytes. then_read (read_number (width f) bytes) go_on) (append_assoc (little_endian (width f) v) (values_bytes fs vs) rest)
     ∙ ap (λ part. then_read part go_on) (number-back f v (values_bytes fs vs ++ rest) (ltb-true v (256 ^ width f) parts.0))
     ∙ ap (option_map (λ p. ((name n, v) ∷ p.0, p.1))) (values-back name (n + 1) fs vs rest parts.1)
@@ -52,14 +52,14 @@ stamps-with-two header.Two is = tt
 
 -- the stamp behind the number, or as the first field
 body-back : (timed : Bool) (h : Header) (id stamp : ℕ) (name : List ℕ) (fields : List FieldLayout) (vs : List (List ℕ × ℕ)) (bytes rest : List ℕ)
-    → HasStamps timed h → IsTrue (stamp_fits h stamp) → read_values fields bytes ≡ Some (vs, rest)
+    → HasStamps timed h → IsTrue (stamp_fits h stamp) → read_payload fields bytes ≡ Some (vs, rest)
     → read_event_body timed (record { id = id; name = name; fields = stamp_field timed h ++ fields }) (stamp_bytes h stamp ++ bytes)
     ≡ Some (record { id = id; name = name; stamp = cond timed (Some stamp) None; values = stamp_value timed h stamp ++ vs }, rest)
 unfolding HasStamps
 body-back true header.One id stamp name fields vs bytes rest has low is = absurd has
 body-back true header.Two id stamp name fields vs bytes rest has low is =
     let made : List (List ℕ × ℕ) × List ℕ → EventRead × List ℕ = λ p. (record { id = id; name = name; stamp = Some stamp; values = p.0 }, p.1) in
-    ap (λ part. then_read (option_map (λ p. (Some p.0, p.1)) part) (λ at more. option_map (λ p. (record { id = id; name = name; stamp = at; values = p.0 }, p.1)) (read_values fields more)))
+    ap (λ part. then_read (option_map (λ p. (Some p.0, p.1)) part) (λ at more. option_map (λ p. (record { id = id; name = name; stamp = at; values = p.0 }, p.1)) (read_payload fields more)))
     (number-back Eight stamp bytes (ltb-true stamp (2 ^ 64) low))
     ∙ ap (option_map made) is
 body-back false header.One id stamp name fields vs bytes rest has low is =
@@ -67,7 +67,7 @@ body-back false header.One id stamp name fields vs bytes rest has low is =
 body-back false header.Two id stamp name fields vs bytes rest has low is =
     let made : List (List ℕ × ℕ) × List ℕ → EventRead × List ℕ = λ p. (record { id = id; name = name; stamp = None; values = p.0 }, p.1) in
     let first : ℕ → List (List ℕ × ℕ) × List ℕ → List (List ℕ × ℕ) × List ℕ = λ value p. (stamp_value false header.Two value ++ p.0, p.1) in
-    ap (λ part. option_map made (then_read part (λ value more. option_map (first value) (read_values fields more))))
+    ap (λ part. option_map made (then_read part (λ value more. option_map (first value) (read_payload fields more))))
     (number-back Eight stamp bytes (ltb-true stamp (2 ^ 64) low))
     ∙ ap (λ part. option_map made (option_map (first stamp) part)) is
 
@@ -110,7 +110,7 @@ is-known e (suc n) vs h = go (slice_get e.rows n) refl h
           few = subst (λ o. length (unwrap_or o []) ≤ 8) (sym is) known.1;
         }
 
-module _ (called : Called) (timed : Bool) (e : EnabledRows) (has : HasStamps timed e.header) where
+module _ (called : Naming) (timed : Bool) (e : EnabledRows) (has : HasStamps timed e.header) where
   pub event-back : (r : Record) (rest : List ℕ) → Accepts e r → read_event (layout_by called timed e) (event e r ++ rest) ≡ Some (event_read called timed e r, rest)
   event-back r rest of_r =
       let parts : IsAccepted e.header r (enabled e.rows r.epid) = accepted-parts e.header (enabled e.rows) r of_r in

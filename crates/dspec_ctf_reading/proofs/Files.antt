@@ -17,7 +17,7 @@ use Rattle.dspec_ctf.specs.Packets.{events, header_bytes, front_bytes, packet_ar
 use Rattle.dspec_ctf.specs.Streams.{Accepts}
 use Rattle.dspec_ctf.specs.ByTime.{span_of}
 use Rattle.dspec_ctf_reading.specs.Reading.{Layout, EventRead, PacketRead, read_packet, read_file, events_of}
-use Rattle.dspec_ctf_reading.specs.Layouts.{Called, layout_by, packet_read}
+use Rattle.dspec_ctf_reading.specs.Layouts.{Naming, layout_by, packet_read}
 use Rattle.dspec_ctf_reading.proofs.Bounds.{packets-on-bytes}
 use Rattle.dspec_ctf_reading.proofs.Events.{HasStamps}
 use Rattle.dspec_ctf_reading.proofs.Packets.{HasSpan, packet-back}
@@ -54,7 +54,7 @@ pub All-of : {A : Type 0} (P : A → Type 0) → ((x : A) → P x) → (xs : Lis
 All-of P each [] = All-nil P
 All-of P each (x ∷ xs) = All-cons P x xs (each x) (All-of P each xs)
 
-module _ (called : Called) (timed : Bool) (e : EnabledRows) (has : HasStamps timed e.header) where
+module _ (called : Naming) (timed : Bool) (e : EnabledRows) (has : HasStamps timed e.header) where
   pub packet-read : (uuid : List ℕ) (span : Option (ℕ × ℕ)) (missed cpu : ℕ) (rs : List Record) → length uuid ≡ 16 → HasSpan timed span → missed < 2 ^ 64 → cpu < 2 ^ 32
       → length (events e rs) < 2 ^ 60 → All (Accepts e) rs
       → read_file (layout_by called timed e) (packet_around uuid span missed cpu (events e rs)) ≡ Some (packet_read called timed e uuid span missed cpu rs ∷ [])

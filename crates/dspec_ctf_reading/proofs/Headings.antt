@@ -18,9 +18,9 @@ use Rattle.dspec_ctf.specs.declared.form.Form.{Form}
 use Rattle.dspec_ctf.specs.declared.form.Form.TheVariants.{AsTaken, ByTime}
 use Rattle.dspec_ctf.specs.declared.names.Names.{Names}
 use Rattle.dspec_ctf_reading.specs.Reading.{EventLayout, Layout}
-use Rattle.dspec_ctf_reading.specs.ReadingMetadata.{after, behind, then_rest, with_part, is_digit, is_quoted, read_decimal, read_quoted, read_event_texts, header_lines}
+use Rattle.dspec_ctf_reading.specs.ReadingMetadata.{rest_past, past, then_rest, with_part, is_digit, is_quoted, read_decimal, read_quoted, read_event_texts, header_lines}
 use Rattle.dspec_ctf_reading.specs.ReadingMetadata.{read_process, read_clock_uuid, read_clock_start, read_clock, read_streams, read_metadata}
-use Rattle.dspec_ctf_reading.specs.Layouts.{event_layout, is_timed, calls, layout_of}
+use Rattle.dspec_ctf_reading.specs.Layouts.{event_layout, is_timed, names_by, layout_of}
 use Rattle.dspec_ctf_reading.specs.Told.{ticks_of, HasNumbers}
 use Rattle.dspec_ctf_reading.proofs.Scanning.{read-run-back, decimal-back}
 use Rattle.dspec_ctf_reading.proofs.Lines.{IsQuotable}
@@ -85,12 +85,12 @@ process-back p rest host name low =
     let tail : List ℕ = codes ";\n" ++ rest in
     let behind_name : List ℕ = codes "\";\n" ++ (codes "\tvpid = " ++ (decimal p.pid ++ tail)) in
     let behind_host : List ℕ = codes "\";\n" ++ (codes "\tprocname = \"" ++ (p.name.now ++ behind_name)) in
-    let third : List ℕ → Option (List ℕ) = λ more. behind (codes "\";\n\tvpid = ") more (λ more. then_rest (read_decimal more) (after (codes ";\n"))) in
-    let second : List ℕ → Option (List ℕ) = λ more. behind (codes "\";\n\tprocname = \"") more (λ more. then_rest (read_quoted more) third) in
+    let third : List ℕ → Option (List ℕ) = λ more. past (codes "\";\n\tvpid = ") more (λ more. then_rest (read_decimal more) (rest_past (codes ";\n"))) in
+    let second : List ℕ → Option (List ℕ) = λ more. past (codes "\";\n\tprocname = \"") more (λ more. then_rest (read_quoted more) third) in
     ap read_process (nine (codes "\thostname = \"") p.host.now (codes "\";\n") (codes "\tprocname = \"") p.name.now (codes "\";\n") (codes "\tvpid = ") (decimal p.pid) (codes ";\n") rest)
     ∙ ap (λ part. then_rest part second) (read-run-back is_quoted p.host.now behind_host host.0 host.1 refl)
     ∙ ap (λ part. then_rest part third) (read-run-back is_quoted p.name.now behind_name name.0 name.1 refl)
-    ∙ ap (λ part. then_rest part (after (codes ";\n"))) (decimal-back p.pid tail low refl)
+    ∙ ap (λ part. then_rest part (rest_past (codes ";\n"))) (decimal-back p.pid tail low refl)
 
 -- the environment, up to what tells who wrote this
 environment-back : (process : Option Process) (rest : List ℕ) → IsShown process → read_process (environment_text process ++ rest) ≡ Some (codes "\ttracer_name = \"sidingyarrow\";\n};\n" ++ rest)
@@ -112,7 +112,7 @@ clock-uuid-back (Some u) seconds rest of_u =
     let tail : List ℕ = codes "\";\n" ++ (seconds_text seconds ++ rest) in
     let fit = uuid-quoted u of_u in
     ap read_clock_uuid (three (codes "\tuuid = \"") (uuid_text u) (codes "\";\n") (seconds_text seconds ++ rest))
-    ∙ ap (λ part. then_rest part (after (codes "\";\n"))) (read-run-back is_quoted (uuid_text u) tail fit.0 fit.1 refl)
+    ∙ ap (λ part. then_rest part (rest_past (codes "\";\n"))) (read-run-back is_quoted (uuid_text u) tail fit.0 fit.1 refl)
 
 six : (a b c d f g x : List ℕ) → (a ++ b ++ c) ++ ((d ++ f ++ g) ++ x) ≡ a ++ (b ++ (c ++ (d ++ (f ++ (g ++ x)))))
 six a b c d f g x = simp append_assoc
@@ -122,14 +122,14 @@ unfolding is_digit
 clock-start-back seconds ticks rest low few =
     let end : List ℕ = codes ";\n\tabsolute = true;\n" ++ rest in
     let tail : List ℕ = codes ";\n" ++ (codes "\toffset = " ++ (decimal ticks ++ end)) in
-    let second : List ℕ → Option (List ℕ) = λ more. behind (codes ";\n\toffset = ") more (λ more. then_rest (read_decimal more) (after (codes ";\n\tabsolute = true;\n"))) in
+    let second : List ℕ → Option (List ℕ) = λ more. past (codes ";\n\toffset = ") more (λ more. then_rest (read_decimal more) (rest_past (codes ";\n\tabsolute = true;\n"))) in
     ap read_clock_start (six (codes "\toffset_s = ") (decimal seconds) (codes ";\n") (codes "\toffset = ") (decimal ticks) (codes ";\n\tabsolute = true;\n") rest)
     ∙ ap (λ part. then_rest part second) (decimal-back seconds tail low refl)
-    ∙ ap (λ part. then_rest part (after (codes ";\n\tabsolute = true;\n"))) (decimal-back ticks end few refl)
+    ∙ ap (λ part. then_rest part (rest_past (codes ";\n\tabsolute = true;\n"))) (decimal-back ticks end few refl)
 
 -- where the clock began, up to its end
 abbrev start_end : List ℕ → Option (Bool × List ℕ)
-start_end rest = behind (codes "};\n\ntypealias integer { size = 64; align = 8; signed = false; map = clock.stamp.value; } := stamp_t;\n") rest (λ rest. Some (true, rest))
+start_end rest = past (codes "};\n\ntypealias integer { size = 64; align = 8; signed = false; map = clock.stamp.value; } := stamp_t;\n") rest (λ rest. Some (true, rest))
 
 start-back : (start : Option ClockStart) (rest : List ℕ) → All (λ b. b < 256) (option_map_or (λ s. unwrap_or s.clock []) start [])
     → option_map_or (λ s. s.seconds) start 0 < 2 ^ 64 → option_map_or (λ s. s.ticks) start 0 < 2 ^ 64
@@ -156,7 +156,7 @@ clock-back start (ByTime frequency) rest ticking of_u low few =
     let more : List ℕ = stream_text (ByTime frequency) ++ rest in
     let tail : List ℕ = start_text start ++ (clock_back ++ more) in
     let second : List ℕ → Option (Bool × List ℕ) =
-    λ bytes. behind (codes ";\n") bytes (λ bytes. option_and_then (λ bytes. option_and_then start_end (read_clock_start bytes)) (read_clock_uuid bytes)) in
+    λ bytes. past (codes ";\n") bytes (λ bytes. option_and_then (λ bytes. option_and_then start_end (read_clock_start bytes)) (read_clock_uuid bytes)) in
     ap read_clock (five (codes "\nclock {\n\tname = stamp;\n\tfreq = ") (decimal frequency) (codes ";\n") (start_text start) clock_back more)
     ∙ ap (λ part. then_rest part second) (decimal-back frequency (codes ";\n" ++ tail) ticking refl)
     ∙ start-back start more of_u low few
@@ -180,10 +180,10 @@ origin-back origin form e names numbers shown told =
     let clock : List ℕ = clock_text origin.start form ++ streams in
     let env : List ℕ = environment_text origin.process ++ clock in
     let fit = uuid-quoted origin.uuid numbers.uuid in
-    let third : List ℕ → Option Layout = λ more. behind (codes "\ttracer_name = \"sidingyarrow\";\n};\n") more (λ more. with_part (read_clock more) read_streams) in
-    let second : List ℕ → Option Layout = λ more. behind header_lines more (λ more. option_and_then third (read_process more)) in
+    let third : List ℕ → Option Layout = λ more. past (codes "\ttracer_name = \"sidingyarrow\";\n};\n") more (λ more. with_part (read_clock more) read_streams) in
+    let second : List ℕ → Option Layout = λ more. past header_lines more (λ more. option_and_then third (read_process more)) in
     ap read_metadata (whole types_text trace_front (uuid_text origin.uuid) trace_back (environment_text origin.process) (clock_text origin.start form) (stream_text form) events)
     ∙ ap (λ part. then_rest part second) (read-run-back is_quoted (uuid_text origin.uuid) (trace_back ++ env) fit.0 fit.1 refl)
     ∙ ap (option_and_then third) (environment-back origin.process clock shown)
     ∙ ap (λ part. with_part part read_streams) (clock-back origin.start form events numbers.frequency numbers.clock numbers.seconds numbers.ticks)
-    ∙ streams-back form events (map (event_layout (calls names) (is_timed form) e) (range_with_len 1 (length e.rows))) (texts-back form e names (length e.rows) told)
+    ∙ streams-back form events (map (event_layout (names_by names) (is_timed form) e) (range_with_len 1 (length e.rows))) (texts-back form e names (length e.rows) told)

@@ -124,7 +124,7 @@ module _ (more : List ℕ) where
       there : (o : Option PacketRead) → end ≤ length bytes
           → Keeps (option_map (λ packet. (packet, drop end bytes)) o) (option_map (λ packet. (packet, drop end (bytes ++ more))) o)
       there None high = tt
-      there (Some packet) high = ap (λ behind. Some (packet, behind)) (drop-append-le end bytes more high)
+      there (Some packet) high = ap (λ past. Some (packet, past)) (drop-append-le end bytes more high)
 
       go : (b : Bool) → sizes_agree front read (length bytes) ≡ b
           → Keeps (cond b (option_map (λ packet. (packet, drop end bytes)) (with_events layout front (take (end - read) rest))) None)

@@ -10,7 +10,7 @@ use Rattle.dspec_probe.specs.declared.kind.Kind.{Kind}
 use Rattle.dspec_probe.specs.declared.kind.Kind.TheVariants.{Unsigned, Signed, Float}
 use Rattle.dspec_ctf.specs.Metadata.{kind_type, label_item, label_items, labelled_type, typed_line}
 use Rattle.dspec_ctf_reading.specs.Reading.{FieldLayout, Part, then_read}
-use Rattle.dspec_ctf_reading.specs.ReadingMetadata.{after, behind, behind_or, is_digit, read_decimal, is_word, read_word, is_quoted, whole_types, float_types, read_type_of}
+use Rattle.dspec_ctf_reading.specs.ReadingMetadata.{rest_past, past, past_or, is_digit, read_decimal, is_word, read_word, is_quoted, whole_types, float_types, read_type_of}
 use Rattle.dspec_ctf_reading.specs.ReadingMetadata.{read_label, read_labels, read_type, read_field, read_fields}
 use Rattle.dspec_ctf_reading.proofs.Scanning.{read-run-back, decimal-back}
 
@@ -29,7 +29,7 @@ plain-back Float Two rest = refl
 plain-back Float Four rest = refl
 plain-back Float Eight rest = refl
 
-no-enum : (kind : Kind) (f : Field) (rest : List ℕ) → after (codes "enum : ") (kind_type kind f ++ rest) ≡ None
+no-enum : (kind : Kind) (f : Field) (rest : List ℕ) → rest_past (codes "enum : ") (kind_type kind f ++ rest) ≡ None
 no-enum Unsigned One rest = refl
 no-enum Unsigned Two rest = refl
 no-enum Unsigned Four rest = refl
@@ -46,8 +46,8 @@ no-enum Float Eight rest = refl
 pub kind-back : (kind : Kind) (f : Field) (rest : List ℕ) → read_type (kind_type kind f ++ rest) ≡ Some (width f, rest)
 kind-back kind f rest =
     let enum : List ℕ → Part ℕ =
-    λ more. then_read (read_type_of whole_types more) (λ w more. behind (codes " { ") more (λ more. option_map (λ p. (w, p.1)) (read_labels (length more) more))) in
-    ap (λ o. behind_or o enum (read_type_of (whole_types ++ float_types) (kind_type kind f ++ rest))) (no-enum kind f rest) ∙ plain-back kind f rest
+    λ more. then_read (read_type_of whole_types more) (λ w more. past (codes " { ") more (λ more. option_map (λ p. (w, p.1)) (read_labels (length more) more))) in
+    ap (λ o. past_or o enum (read_type_of (whole_types ++ float_types) (kind_type kind f ++ rest))) (no-enum kind f rest) ∙ plain-back kind f rest
 
 -- a whole number's
 IsWhole : Kind → Type 0
@@ -77,8 +77,8 @@ five a b c d e x = simp append_assoc
 label-back : (n : ℕ) (label rest : List ℕ) → n < 2 ^ 64 → IsQuotable label → read_label (label_item (n, label) ++ rest) ≡ Some ((label, n), rest)
 unfolding IsQuotable is_quoted is_digit
 label-back n label rest low fit =
-    let c : List ℕ → ℕ → List ℕ → Part (List ℕ × ℕ) = λ name number more. behind (codes ", ") more (λ more. Some ((name, number), more)) in
-    let b : List ℕ → List ℕ → Part (List ℕ × ℕ) = λ name more. behind (codes "\" = ") more (λ more. then_read (read_decimal more) (λ number more. c name number more)) in
+    let c : List ℕ → ℕ → List ℕ → Part (List ℕ × ℕ) = λ name number more. past (codes ", ") more (λ more. Some ((name, number), more)) in
+    let b : List ℕ → List ℕ → Part (List ℕ × ℕ) = λ name more. past (codes "\" = ") more (λ more. then_read (read_decimal more) (λ number more. c name number more)) in
     ap read_label (five (codes "\"") label (codes "\" = ") (decimal n) (codes ", ") rest)
     ∙ ap (λ part. then_read part b) (read-run-back is_quoted label (codes "\" = " ++ (decimal n ++ (codes ", " ++ rest))) fit.0 fit.1 refl)
     ∙ ap (λ part. then_read part (λ number more. c label number more)) (decimal-back n (codes ", " ++ rest) low refl)
@@ -107,7 +107,7 @@ enum-back : (kind : Kind) (labels : List (List ℕ)) (f : Field) (rest : List �
 enum-back kind labels f rest whole low fit =
     let items : List ℕ = flat_map label_item (enumerate_from 0 labels) in
     let tail : List ℕ = items ++ (codes "}" ++ rest) in
-    let next : ℕ → List ℕ → Part ℕ = λ w more. behind (codes " { ") more (λ more. option_map (λ p. (w, p.1)) (read_labels (length more) more)) in
+    let next : ℕ → List ℕ → Part ℕ = λ w more. past (codes " { ") more (λ more. option_map (λ p. (w, p.1)) (read_labels (length more) more)) in
     ap read_type (five (codes "enum : ") (kind_type kind f) (codes " { ") items (codes "}") rest)
     ∙ ap (λ part. then_read part next) (whole-back kind f (codes " { " ++ tail) whole)
     ∙ ap (option_map (λ p. (width f, p.1)))
@@ -131,8 +131,8 @@ pub field-back : (type name rest : List ℕ) (w : ℕ) → ((more : List ℕ) �
     → read_field (typed_line type name ++ rest) ≡ Some (record { name = name; width = w }, rest)
 unfolding IsWordy is_word is_digit
 field-back type name rest w known fit =
-    let c : ℕ → List ℕ → List ℕ → Part FieldLayout = λ size word more. behind (codes ";\n") more (λ more. Some (record { name = word; width = size }, more)) in
-    let b : ℕ → List ℕ → Part FieldLayout = λ size more. behind (codes " ") more (λ more. then_read (read_word more) (λ word more. c size word more)) in
+    let c : ℕ → List ℕ → List ℕ → Part FieldLayout = λ size word more. past (codes ";\n") more (λ more. Some (record { name = word; width = size }, more)) in
+    let b : ℕ → List ℕ → Part FieldLayout = λ size more. past (codes " ") more (λ more. then_read (read_word more) (λ word more. c size word more)) in
     ap read_field (five (codes "\t\t") type (codes " ") name (codes ";\n") rest)
     ∙ ap (λ part. then_read part b) (known (codes " " ++ (name ++ (codes ";\n" ++ rest))))
     ∙ ap (λ part. then_read part (λ word more. c w word more)) (read-run-back is_word name (codes ";\n" ++ rest) fit.0 fit.1 refl)
@@ -140,7 +140,7 @@ field-back type name rest w known fit =
 -- what a field's line has to be
 pub record IsLine (line : List ℕ) (shape : FieldLayout) : Type 0 where
   pub known : (rest : List ℕ) → read_field (line ++ rest) ≡ Some (shape, rest)
-  pub goes_on : (rest : List ℕ) → after (codes "\t};\n};\n") (line ++ rest) ≡ None
+  pub goes_on : (rest : List ℕ) → rest_past (codes "\t};\n};\n") (line ++ rest) ≡ None
   pub some : 1 ≤ length line
 
 pub typed-line : (type name : List ℕ) (w : ℕ) → ((more : List ℕ) → read_type (type ++ more) ≡ Some (w, more)) → IsWordy name → IsLine (typed_line type name) (record { name = name; width = w })
@@ -189,7 +189,7 @@ lines-within (suc most) (line ∷ lines) (shape ∷ shapes) rest are few =
     let next : FieldLayout → List ℕ → Part (List FieldLayout) = λ one more. option_map (λ p. (one ∷ p.0, p.1)) (read_fields most more) in
     let end : List ℕ → Part (List FieldLayout) = λ more. Some ([], more) in
     ap (read_fields (suc most)) (append_assoc line (joined lines) (codes "\t};\n};\n" ++ rest))
-    ∙ ap (λ o. behind_or o end (then_read (read_field (line ++ tail)) next)) (are.0.goes_on tail)
+    ∙ ap (λ o. past_or o end (then_read (read_field (line ++ tail)) next)) (are.0.goes_on tail)
     ∙ ap (λ part. then_read part next) (are.0.known tail)
     ∙ ap (option_map (λ p. (shape ∷ p.0, p.1))) (lines-within most lines shapes rest are.1 (omega (arith, few)))
 

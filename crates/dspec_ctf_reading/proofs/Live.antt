@@ -14,8 +14,8 @@ use Rattle.dspec_ctf.specs.ByTime.{span_of}
 use Rattle.dspec_ctf.specs.Rows.{AreRuns, of_file, run_records, run_files, told_by, run_packet, run_packets, missed_packets}
 use Rattle.dspec_ctf.specs.declared.rows.Run.{Run}
 use Rattle.dspec_ctf_reading.specs.Reading.{Layout, PacketRead, read_file}
-use Rattle.dspec_ctf_reading.specs.Layouts.{Called, event_read, layout_by, packet_read}
-use Rattle.dspec_ctf_reading.specs.Files.{Tells, TellsEach, file_bytes}
+use Rattle.dspec_ctf_reading.specs.Layouts.{Naming, event_read, layout_by, packet_read}
+use Rattle.dspec_ctf_reading.specs.Files.{FileTells, PartTells, file_bytes}
 use Rattle.dspec_ctf_reading.proofs.Events.{HasStamps}
 use Rattle.dspec_ctf_reading.proofs.Packets.{HasSpan}
 use Rattle.dspec_ctf_reading.proofs.Joining.{join}
@@ -57,7 +57,7 @@ told-low : (b : Bool) (missed : ℕ) → missed < 2 ^ 64 → cond b missed 0 < 2
 told-low true missed low = low
 told-low false missed low = omega arith
 
-module _ (called : Called) (e : EnabledRows) (has : HasStamps true e.header) (uuid : List ℕ) (missed cpu : ℕ) (long : length uuid ≡ 16) (low : missed < 2 ^ 64) (small : cpu < 2 ^ 32) where
+module _ (called : Naming) (e : EnabledRows) (has : HasStamps true e.header) (uuid : List ℕ) (missed cpu : ℕ) (long : length uuid ≡ 16) (low : missed < 2 ^ 64) (small : cpu < 2 ^ 32) where
   -- a run's packet, as it is read
   run_read : ℕ → List Record → PacketRead
   run_read file rs = packet_read called true e uuid (Some (span_of rs)) (told_by file missed) cpu rs
@@ -70,7 +70,7 @@ module _ (called : Called) (e : EnabledRows) (has : HasStamps true e.header) (uu
   module _ (rs : List Record) (few : length (events e rs) < 2 ^ 60) (of_rs : All (Accepts e) rs) (file : ℕ) where
     -- what is read of the runs from a place on
     From : ℕ → List Run → Type 0
-    From from runs = TellsEach (layout_by called true e) uuid cpu (file_bytes file (run_packets uuid e missed cpu rs from runs))
+    From from runs = PartTells (layout_by called true e) uuid cpu (file_bytes file (run_packets uuid e missed cpu rs from runs))
         (map (event_read called true e) (of_file file (run_files from runs) (run_records rs from runs))) (told_by file missed)
 
     slice-of : (from to : ℕ) → All (Accepts e) (slice_range rs from to)
@@ -130,7 +130,7 @@ module _ (called : Called) (e : EnabledRows) (has : HasStamps true e.header) (uu
             }
 
     pub runs-back : (lasts : List ℕ) (from : ℕ) (runs : List Run) (to : ℕ) (new : List ℕ) → AreRuns lasts rs from runs to new
-        → TellsEach (layout_by called true e) uuid cpu (file_bytes file (run_packets uuid e missed cpu rs from runs))
+        → PartTells (layout_by called true e) uuid cpu (file_bytes file (run_packets uuid e missed cpu rs from runs))
         (map (event_read called true e) (of_file file (run_files from runs) (run_records rs from runs))) (told_by file missed)
     unfolding From
     runs-back lasts from [] to new are = record {
@@ -143,9 +143,9 @@ module _ (called : Called) (e : EnabledRows) (has : HasStamps true e.header) (uu
         step from run runs is.some is.within (runs-back mid run.end runs to new rest)
 
 -- the two packets that tell what was missed
-pub missed-back : (called : Called) (e : EnabledRows) → HasStamps true e.header → (uuid : List ℕ) (before missed cpu : ℕ) (lasts : List ℕ)
+pub missed-back : (called : Naming) (e : EnabledRows) → HasStamps true e.header → (uuid : List ℕ) (before missed cpu : ℕ) (lasts : List ℕ)
     → length uuid ≡ 16 → before < 2 ^ 64 → missed < 2 ^ 64 → cpu < 2 ^ 32
-    → slice_index lasts 0 < 2 ^ 64 → Tells (layout_by called true e) uuid cpu (missed_packets uuid before missed cpu lasts) [] missed
+    → slice_index lasts 0 < 2 ^ 64 → FileTells (layout_by called true e) uuid cpu (missed_packets uuid before missed cpu lasts) [] missed
 unfolding HasSpan
 missed-back called e has uuid before missed cpu lasts long low high small at =
     let span : Option (ℕ × ℕ) = Some (slice_index lasts 0, slice_index lasts 0) in

@@ -9,7 +9,7 @@ use Rattle.dspec_probe.specs.declared.probes.ProbeNames.{ProbeNames}
 use Rattle.dspec_ctf.specs.Metadata.{event_name}
 use Rattle.dspec_ctf.specs.declared.names.Names.{Names}
 use Rattle.dspec_ctf.specs.declared.names.Names.TheVariants.{Numbered, Given}
-use Rattle.dspec_ctf_reading.specs.Layouts.{calls, given_for, given_name, stamp_value, named_values}
+use Rattle.dspec_ctf_reading.specs.Layouts.{names_by, given_for, given_name, stamp_value, named_values}
 
 -- the values
 pub values-of : (name : ℕ → List ℕ) (n : ℕ) (vs : List ℕ) → map (λ (v : List ℕ × ℕ). v.1) (map (λ p. (name p.0, p.1)) (enumerate_from n vs)) ≡ vs
@@ -37,14 +37,14 @@ names-of now name n (x ∷ xs) (v ∷ vs) long each =
     let rest = names-of now name (n + 1) xs vs (omega (arith, long)) (λ k. ap name (omega arith) ∙ each (suc k)) in
     (λ i. first i ∷ rest i)
 
-pub event-called : (names : Names) (epid : ℕ) (n : ProbeNames) → given_for names epid ≡ Some n → (calls names).event epid ≡ n.event.now
+pub event-called : (names : Names) (epid : ℕ) (n : ProbeNames) → given_for names epid ≡ Some n → (names_by names).event epid ≡ n.event.now
 unfolding event_name
 event-called Numbered epid n is = absurd (cc)
 event-called (Given names) epid n is = ap (λ o. option_map_or (λ m. m.event.now) o []) is
 
 pub fields-called : (names : Names) (epid : ℕ) (n : ProbeNames) (vs : List ℕ) → given_for names epid ≡ Some n → length n.fields.now ≡ length vs
-    → map (λ (v : List ℕ × ℕ). v.0) (named_values ((calls names).field epid) vs) ≡ map (λ name. name.now) n.fields.now
+    → map (λ (v : List ℕ × ℕ). v.0) (named_values ((names_by names).field epid) vs) ≡ map (λ name. name.now) n.fields.now
 fields-called Numbered epid n vs is long = absurd (cc)
 fields-called (Given names) epid n vs is long =
-    names-of (λ name. name.now) ((calls (Given names)).field epid) 0 n.fields.now
+    names-of (λ name. name.now) ((names_by (Given names)).field epid) 0 n.fields.now
     vs long (λ k. ap (λ o. option_map_or (λ m. given_name m (0 + k)) o []) is ∙ ap (λ place. given_name n place) (omega arith))

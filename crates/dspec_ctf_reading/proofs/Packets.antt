@@ -11,7 +11,7 @@ use Rattle.dspec_ctf.specs.Packets.{events, header_bytes, span_bytes, front_size
 use Rattle.dspec_ctf.specs.Streams.{Accepts}
 use Rattle.dspec_ctf_reading.specs.Reading.{Layout, EventRead, PacketRead, FrontRead, Part, then_read, read_number, read_bytes, read_this, read_span, read_header, read_counts}
 use Rattle.dspec_ctf_reading.specs.Reading.{read_front, sizes_agree, read_events, with_events, read_body, read_packet}
-use Rattle.dspec_ctf_reading.specs.Layouts.{Called, event_read, layout_by, packet_read}
+use Rattle.dspec_ctf_reading.specs.Layouts.{Naming, event_read, layout_by, packet_read}
 use Rattle.dspec_ctf_reading.proofs.Numbers.{number-back}
 use Rattle.dspec_ctf_reading.proofs.Events.{HasStamps, events-back}
 
@@ -141,7 +141,7 @@ body-back layout head body rest front n es long content size are =
     ∙ ap (λ o. made (option_map (λ events. record { uuid = front.uuid; cpu = front.cpu; discarded = front.discarded; span = front.span; events = events }) o)) are
     ∙ ap (λ more. Some (record { uuid = front.uuid; cpu = front.cpu; discarded = front.discarded; span = front.span; events = es }, more)) rest_is
 
-module _ (called : Called) (timed : Bool) (e : EnabledRows) (has : HasStamps timed e.header) where
+module _ (called : Naming) (timed : Bool) (e : EnabledRows) (has : HasStamps timed e.header) where
   pub packet-back : (uuid : List ℕ) (span : Option (ℕ × ℕ)) (missed cpu : ℕ) (rs : List Record) (rest : List ℕ) → length uuid ≡ 16 → HasSpan timed span → missed < 2 ^ 64 → cpu < 2 ^ 32
       → length (events e rs) < 2 ^ 60 → All (Accepts e) rs
       → read_packet (layout_by called timed e) (packet_around uuid span missed cpu (events e rs) ++ rest) ≡ Some (packet_read called timed e uuid span missed cpu rs, rest)

@@ -6,14 +6,14 @@ use Rattle.std.proofs.Common.{rules}
 use Rattle.std.proofs.lemmas.Bool.{eq-eqb, ne_eqb, and_parts, and_from, cond-false}
 use Rattle.std.proofs.lemmas.Fmt.{digits_decimal, digits_value-decimal, decimal_nonempty}
 use Rattle.std.proofs.lemmas.Str.Parse.{IsNumeralModel, numerals_by_fold}
-use Rattle.dspec_ctf_reading.specs.ReadingMetadata.{after, behind, run_of, read_run, is_digit, number_of, read_decimal}
+use Rattle.dspec_ctf_reading.specs.ReadingMetadata.{rest_past, past, run_of, read_run, is_digit, digits_number, read_decimal}
 
-pub after-back : (text rest : List ℕ) → after text (text ++ rest) ≡ Some rest
-after-back [] rest = refl
-after-back (c ∷ text) rest = ap (λ b. cond b (after text (text ++ rest)) None) (eq-eqb c c refl) ∙ after-back text rest
+pub rest_past-back : (text rest : List ℕ) → rest_past text (text ++ rest) ≡ Some rest
+rest_past-back [] rest = refl
+rest_past-back (c ∷ text) rest = ap (λ b. cond b (rest_past text (text ++ rest)) None) (eq-eqb c c refl) ∙ rest_past-back text rest
 
-pub behind-back : {A : Type 0} (text rest : List ℕ) (f : List ℕ → Option A) → behind text (text ++ rest) f ≡ f rest
-behind-back text rest f = ap (option_and_then f) (after-back text rest)
+pub past-back : {A : Type 0} (text rest : List ℕ) (f : List ℕ → Option A) → past text (text ++ rest) f ≡ f rest
+past-back text rest f = ap (option_and_then f) (rest_past-back text rest)
 
 -- a run ends where what follows it doesn't begin with another byte of it
 pub Ends : (ℕ → Bool) → List ℕ → Type 0
@@ -32,16 +32,16 @@ read-run-back test xs rest pass some ends =
     ∙ cond-false (length xs == 0) None (Some (xs, rest)) (ne_eqb (length xs) 0 (λ none. omega (arith, some, none)))
 
 -- numbers
-own : IsNumeralModel (λ ds. list_all is_digit ds ≡ true) (number_of 0)
+own : IsNumeralModel (λ ds. list_all is_digit ds ≡ true) (digits_number 0)
 unfolding is_digit
-own = numerals_by_fold _ (search rules) number_of (search rules)
+own = numerals_by_fold _ (search rules) digits_number (search rules)
 
 pub decimal-digits : (n : ℕ) → n < 2 ^ 64 → list_all is_digit (decimal n) ≡ true
 decimal-digits n low = digits_decimal own n low
 
 pub decimal-back : (n : ℕ) (rest : List ℕ) → n < 2 ^ 64 → run_of is_digit rest ≡ ([], rest) → read_decimal (decimal n ++ rest) ≡ Some (n, rest)
 decimal-back n rest low ends =
-    ap (option_map (λ p. (number_of 0 p.0, p.1))) (read-run-back is_digit (decimal n) rest (decimal-digits n low) (decimal_nonempty n low) ends)
+    ap (option_map (λ p. (digits_number 0 p.0, p.1))) (read-run-back is_digit (decimal n) rest (decimal-digits n low) (decimal_nonempty n low) ends)
     ∙ ap (λ v. Some (v, rest)) (digits_value-decimal own n low)
 
 -- tests that pass more

@@ -14,8 +14,8 @@ use Rattle.dspec_ctf.specs.declared.form.Form.{Form}
 use Rattle.dspec_ctf.specs.declared.form.Form.TheVariants.{AsTaken, ByTime}
 use Rattle.dspec_ctf.specs.declared.names.Names.{Names}
 use Rattle.dspec_ctf_reading.specs.Reading.{FieldLayout, EventLayout, Part, then_read}
-use Rattle.dspec_ctf_reading.specs.ReadingMetadata.{behind, is_digit, is_word, is_quoted, read_quoted, read_fields, read_event_text, read_event_texts}
-use Rattle.dspec_ctf_reading.specs.Layouts.{stamp_field, field_layouts, event_layout, is_timed, calls}
+use Rattle.dspec_ctf_reading.specs.ReadingMetadata.{past, is_digit, is_word, is_quoted, read_quoted, read_fields, read_event_text, read_event_texts}
+use Rattle.dspec_ctf_reading.specs.Layouts.{stamp_field, field_layouts, event_layout, is_timed, names_by}
 use Rattle.dspec_ctf_reading.proofs.Scanning.{read-run-back, decimal-back}
 use Rattle.dspec_ctf_reading.proofs.Lines.{IsQuotable, IsWordy, AreLines, joined, joined-append, AreLines-append, typed-line, kind-back, lines-back}
 
@@ -47,26 +47,26 @@ eight a b c d f g h k x = simp append_assoc
 pub record IsTold (e : EnabledRows) (names : Names) (place : ℕ) : Type 0 where
   pub low : place + 1 < 2 ^ 64
   pub called : IsQuotable (event_name names place)
-  pub fields : HasLines (field_lines names place (event_fields e (place + 1))) (field_layouts ((calls names).field (place + 1)) (event_fields e (place + 1)))
+  pub fields : HasLines (field_lines names place (event_fields e (place + 1))) (field_layouts ((names_by names).field (place + 1)) (event_fields e (place + 1)))
 
 pub event-text-back : (form : Form) (e : EnabledRows) (names : Names) (place : ℕ) (rest : List ℕ) → IsTold e names place
-    → read_event_text (event_text form e names place ++ rest) ≡ Some (event_layout (calls names) (is_timed form) e (place + 1), rest)
+    → read_event_text (event_text form e names place ++ rest) ≡ Some (event_layout (names_by names) (is_timed form) e (place + 1), rest)
 unfolding event_text event_front event_number IsQuotable is_quoted is_digit
 event-text-back form e names place rest told =
     let stamp : HasLines (stamp_line form e.header) (stamp_field (is_timed form) e.header) = stamp-lines form e.header in
     let name : List ℕ = event_name names place in
     let others : List ℕ = field_lines names place (event_fields e (place + 1)) in
     let end : List ℕ = codes "\t};\n};\n" ++ rest in
-    let shapes : List FieldLayout = stamp_field (is_timed form) e.header ++ field_layouts ((calls names).field (place + 1)) (event_fields e (place + 1)) in
+    let shapes : List FieldLayout = stamp_field (is_timed form) e.header ++ field_layouts ((names_by names).field (place + 1)) (event_fields e (place + 1)) in
     let all : List (List ℕ) = stamp.lines ++ told.fields.lines in
     let tail : List ℕ = joined all ++ end in
     let tail_is : stamp_line form e.header ++ (others ++ end) ≡ tail =
     (λ i. stamp.text_is i ++ (told.fields.text_is i ++ end)) ∙ sym (append_assoc (joined stamp.lines) (joined told.fields.lines) end)
     ∙ ap (λ bytes. bytes ++ end) (sym (joined-append stamp.lines told.fields.lines)) in
     let c : ℕ → List ℕ → List ℕ → Part EventLayout =
-    λ id word more. behind (codes "\";\n\tstream_id = 0;\n\tfields := struct {\n")
+    λ id word more. past (codes "\";\n\tstream_id = 0;\n\tfields := struct {\n")
     more (λ more. option_map (λ p. (record { id = id; name = word; fields = p.0 }, p.1)) (read_fields (length more) more)) in
-    let b : ℕ → List ℕ → Part EventLayout = λ id more. behind (codes ";\n\tname = \"") more (λ more. then_read (read_quoted more) (λ word more. c id word more)) in
+    let b : ℕ → List ℕ → Part EventLayout = λ id more. past (codes ";\n\tname = \"") more (λ more. then_read (read_quoted more) (λ word more. c id word more)) in
     let back : (place + 1) - 1 ≡ place = omega arith in
     ap read_event_text
     (eight (codes "\nevent {\n\tid = ") (decimal (place + 1)) (codes ";\n\tname = \"")
@@ -91,7 +91,7 @@ on-bytes most (b ∷ bytes) some = refl
 
 -- texts of events up to the end
 texts-within : (form : Form) (e : EnabledRows) (names : Names) (most a k : ℕ) → ((place : ℕ) → place < a + k → IsTold e names place) → k ≤ most
-    → read_event_texts most (flat_map (event_text form e names) (range_with_len a k)) ≡ Some (map (event_layout (calls names) (is_timed form) e) (range_with_len (a + 1) k))
+    → read_event_texts most (flat_map (event_text form e names) (range_with_len a k)) ≡ Some (map (event_layout (names_by names) (is_timed form) e) (range_with_len (a + 1) k))
 texts-within form e names zero a zero told few = refl
 texts-within form e names (suc most) a zero told few = refl
 texts-within form e names zero a (suc k) told few = absurd (omega (arith, few))
@@ -100,7 +100,7 @@ texts-within form e names (suc most) a (suc k) told few =
     let go_on : Part EventLayout → Option (List EventLayout) = λ part. option_and_then (λ p. option_map (λ events. p.0 ∷ events) (read_event_texts most p.1)) part in
     on-bytes most (event_text form e names a ++ rest) (omega (arith, text-some form e names a, length-append (event_text form e names a) rest))
     ∙ ap go_on (event-text-back form e names a rest (told a (omega arith)))
-    ∙ ap (option_map (λ events. event_layout (calls names) (is_timed form) e (a + 1) ∷ events))
+    ∙ ap (option_map (λ events. event_layout (names_by names) (is_timed form) e (a + 1) ∷ events))
     (texts-within form e names most (a + 1) k (λ place low. told place (omega (arith, low))) (omega (arith, few)))
 
 texts-long : (form : Form) (e : EnabledRows) (names : Names) (a k : ℕ) → k ≤ length (flat_map (event_text form e names) (range_with_len a k))
@@ -111,6 +111,6 @@ texts-long form e names a (suc k) =
 
 pub texts-back : (form : Form) (e : EnabledRows) (names : Names) (k : ℕ) → ((place : ℕ) → place < k → IsTold e names place)
     → read_event_texts (length (flat_map (event_text form e names) (range_with_len 0 k))) (flat_map (event_text form e names) (range_with_len 0 k))
-    ≡ Some (map (event_layout (calls names) (is_timed form) e) (range_with_len 1 k))
+    ≡ Some (map (event_layout (names_by names) (is_timed form) e) (range_with_len 1 k))
 texts-back form e names k told =
     texts-within form e names (length (flat_map (event_text form e names) (range_with_len 0 k))) 0 k (λ place low. told place (omega (arith, low))) (texts-long form e names 0 k)

@@ -11,8 +11,8 @@ use Rattle.dspec_ctf.specs.Packets.{events, packet}
 use Rattle.dspec_ctf.specs.Streams.{Accepts}
 use Rattle.dspec_ctf.specs.ByTime.{span_of, packet_count, part_at, packet_at, timed_packets}
 use Rattle.dspec_ctf_reading.specs.Reading.{PacketRead, read_file, events_of, loss_of}
-use Rattle.dspec_ctf_reading.specs.Layouts.{Called, event_read, layout_by, packet_read}
-use Rattle.dspec_ctf_reading.specs.Files.{Tells, last_missed}
+use Rattle.dspec_ctf_reading.specs.Layouts.{Naming, event_read, layout_by, packet_read}
+use Rattle.dspec_ctf_reading.specs.Files.{FileTells, last_missed}
 use Rattle.dspec_ctf_reading.proofs.Events.{HasStamps}
 use Rattle.dspec_ctf_reading.proofs.Packets.{HasSpan}
 use Rattle.dspec_ctf_reading.proofs.Sizes.{events-small}
@@ -58,7 +58,7 @@ told-low : (b : Bool) (missed : ℕ) → missed < 2 ^ 64 → cond b missed 0 < 2
 told-low true missed low = low
 told-low false missed low = omega arith
 
-module _ (called : Called) (e : EnabledRows) (has : HasStamps true e.header) (uuid : List ℕ) (missed cpu : ℕ) (rs : List Record)
+module _ (called : Naming) (e : EnabledRows) (has : HasStamps true e.header) (uuid : List ℕ) (missed cpu : ℕ) (rs : List Record)
     (long : length uuid ≡ 16) (low : missed < 2 ^ 64) (small : cpu < 2 ^ 32) (of_rs : All (Accepts e) rs) where
   count : ℕ
   count = packet_count missed (length rs)
@@ -87,7 +87,7 @@ module _ (called : Called) (e : EnabledRows) (has : HasStamps true e.header) (uu
   loss-is (suc k) is =
       loss-last at_place k 0 ∙ ap (λ b. cond b missed 0) (eq-eqb (0 + k + 1) count (omega (arith, is)))
 
-  pub timed-back : Tells (layout_by called true e) uuid cpu (timed_packets uuid e missed cpu rs) (map (event_read called true e) rs) missed
+  pub timed-back : FileTells (layout_by called true e) uuid cpu (timed_packets uuid e missed cpu rs) (map (event_read called true e) rs) missed
   unfolding timed_packets count at_place
   timed-back = record {
     packets = map at_place (range_with_len 0 count);
@@ -100,7 +100,7 @@ module _ (called : Called) (e : EnabledRows) (has : HasStamps true e.header) (uu
   }
 
 -- the batches of a CPU as they were taken: what was missed so far, and the records
-module _ (called : Called) (e : EnabledRows) (uuid : List ℕ) (cpu : ℕ) (long : length uuid ≡ 16) (small : cpu < 2 ^ 32) where
+module _ (called : Naming) (e : EnabledRows) (uuid : List ℕ) (cpu : ℕ) (long : length uuid ≡ 16) (small : cpu < 2 ^ 32) where
   Taken : ℕ × List Record → Type 0
   Taken batch = (batch.0 < 2 ^ 64) × (length (events e batch.1) < 2 ^ 60) × All (Accepts e) batch.1
 
@@ -122,7 +122,7 @@ module _ (called : Called) (e : EnabledRows) (uuid : List ℕ) (cpu : ℕ) (long
   taken-loss (batch ∷ other ∷ batches) = taken-loss (other ∷ batches)
 
   pub taken-back : (batches : List (ℕ × List Record)) → All (λ b. (b.0 < 2 ^ 64) × (length (events e b.1) < 2 ^ 60) × All (Accepts e) b.1) batches
-      → Tells (layout_by called false e) uuid cpu (flat_map (λ b. packet uuid e b.0 cpu b.1) batches) (map (event_read called false e) (flat_map (λ b. b.1) batches)) (last_missed batches)
+      → FileTells (layout_by called false e) uuid cpu (flat_map (λ b. packet uuid e b.0 cpu b.1) batches) (map (event_read called false e) (flat_map (λ b. b.1) batches)) (last_missed batches)
   unfolding Taken taken_read
   taken-back batches of_batches = record {
     packets = map taken_read batches;

@@ -5,7 +5,7 @@ use Rattle.dspec_record.specs.Record.{Record}
 use Rattle.dspec_ctf_reading.specs.Reading.{Layout, EventRead, PacketRead, read_file, events_of, loss_of}
 
 -- A file of this trace and of this CPU: it is read as packets that have these events, in order, and tell that so many were missed.
-pub record Tells (layout : Layout) (uuid : List ℕ) (cpu : ℕ) (bytes : List ℕ) (events : List EventRead) (loss : ℕ) : Type 0 where
+pub record FileTells (layout : Layout) (uuid : List ℕ) (cpu : ℕ) (bytes : List ℕ) (events : List EventRead) (loss : ℕ) : Type 0 where
   pub packets : List PacketRead
   pub read : read_file layout bytes ≡ Some packets
   pub has : events_of packets ≡ events
@@ -13,7 +13,7 @@ pub record Tells (layout : Layout) (uuid : List ℕ) (cpu : ℕ) (bytes : List �
   pub whose : All (λ p. (p.uuid ≡ uuid) × (p.cpu ≡ cpu)) packets
 
 -- The same of a part of a file, of which each packet tells that so many were missed.
-pub record TellsEach (layout : Layout) (uuid : List ℕ) (cpu : ℕ) (bytes : List ℕ) (events : List EventRead) (told : ℕ) : Type 0 where
+pub record PartTells (layout : Layout) (uuid : List ℕ) (cpu : ℕ) (bytes : List ℕ) (events : List EventRead) (told : ℕ) : Type 0 where
   pub packets : List PacketRead
   pub read : read_file layout bytes ≡ Some packets
   pub has : events_of packets ≡ events

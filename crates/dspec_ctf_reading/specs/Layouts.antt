@@ -18,7 +18,7 @@ use Rattle.dspec_probe.specs.declared.probes.ProbeNames.{ProbeNames}
 use Rattle.dspec_ctf_reading.specs.Reading.{FieldLayout, EventLayout, Layout, EventRead, PacketRead}
 
 -- what the events of an EPID are called, and their fields by their places, counted from 0
-pub record Called : Type 0 where
+pub record Naming : Type 0 where
   pub event : ℕ → List ℕ
   pub field : ℕ → ℕ → List ℕ
 
@@ -38,7 +38,7 @@ stamp_value _ _ stamp = []
 abbrev pub named_values : (ℕ → List ℕ) → List ℕ → List (List ℕ × ℕ)
 named_values name vs = map (λ p. (name p.0, p.1)) (enumerate_from 0 vs)
 
-module _ (called : Called) (timed : Bool) (e : EnabledRows) where
+module _ (called : Naming) (timed : Bool) (e : EnabledRows) where
   abbrev pub event_layout : ℕ → EventLayout
   event_layout epid = record {
     id = epid;
@@ -82,18 +82,18 @@ field_name Numbered epid place = codes "arg_" ++ decimal place
 field_name (Given names) epid place = option_map_or (λ n. given_name n place) (slice_get names.now (epid - 1)) []
 
 -- names as they are given, by EPIDs
-abbrev pub calls : Names → Called
-calls names = record { event = λ epid. event_name names (epid - 1); field = field_name names }
+abbrev pub names_by : Names → Naming
+names_by names = record { event = λ epid. event_name names (epid - 1); field = field_name names }
 
 module _ (e : EnabledRows) (names : Names) (form : Form) where
   -- what the metadata tells of these enablings, names and form
   abbrev pub layout_of : Layout
-  layout_of = layout_by (calls names) (is_timed form) e
+  layout_of = layout_by (names_by names) (is_timed form) e
 
   -- a record as it is read
   abbrev pub event_of : Record → EventRead
-  event_of r = event_read (calls names) (is_timed form) e r
+  event_of r = event_read (names_by names) (is_timed form) e r
 
   -- a packet of records as it is read
   abbrev pub packet_of : List ℕ → Option (ℕ × ℕ) → ℕ → ℕ → List Record → PacketRead
-  packet_of uuid span missed cpu rs = packet_read (calls names) (is_timed form) e uuid span missed cpu rs
+  packet_of uuid span missed cpu rs = packet_read (names_by names) (is_timed form) e uuid span missed cpu rs

@@ -79,16 +79,16 @@ find_event id [] = None
 find_event id (event ∷ events) = if event.id == id then Some event else find_event id events
 
 -- a value for each field, one behind another
-abbrev pub read_values : List FieldLayout → List ℕ → Part (List (List ℕ × ℕ))
-read_values [] bytes = Some ([], bytes)
-read_values (field ∷ fields) bytes =
-    then_read (read_number field.width bytes) (λ value rest. option_map (λ p. ((field.name, value) ∷ p.0, p.1)) (read_values fields rest))
+abbrev pub read_payload : List FieldLayout → List ℕ → Part (List (List ℕ × ℕ))
+read_payload [] bytes = Some ([], bytes)
+read_payload (field ∷ fields) bytes =
+    then_read (read_number field.width bytes) (λ value rest. option_map (λ p. ((field.name, value) ∷ p.0, p.1)) (read_payload fields rest))
 
 -- what stands behind an event's number: its stamp, then its values
 abbrev pub read_event_body : Bool → EventLayout → List ℕ → Part EventRead
 read_event_body timed event bytes =
     then_read (read_stamp timed bytes) (λ stamp rest.
-    option_map (λ p. (record { id = event.id; name = event.name; stamp = stamp; values = p.0 }, p.1)) (read_values event.fields rest))
+    option_map (λ p. (record { id = event.id; name = event.name; stamp = stamp; values = p.0 }, p.1)) (read_payload event.fields rest))
 
 -- an event: a number that the metadata knows, in four bytes, and what stands behind it
 abbrev pub read_event : Layout → List ℕ → Part EventRead

@@ -7,19 +7,19 @@ use Rattle.dspec_ctf_reading.specs.Reading.{FieldLayout, EventLayout, Layout, Pa
 -- ---- the parts of a text
 
 -- what stands behind this text, where the bytes begin with it
-abbrev pub after : List ℕ → List ℕ → Option (List ℕ)
-after [] bytes = Some bytes
-after (c ∷ text) [] = None
-after (c ∷ text) (b ∷ bytes) = if b == c then after text bytes else None
+abbrev pub rest_past : List ℕ → List ℕ → Option (List ℕ)
+rest_past [] bytes = Some bytes
+rest_past (c ∷ text) [] = None
+rest_past (c ∷ text) (b ∷ bytes) = if b == c then rest_past text bytes else None
 
 -- goes on behind this text
-abbrev pub behind : {A : Type 0} → List ℕ → List ℕ → (List ℕ → Option A) → Option A
-behind text bytes f = option_and_then f (after text bytes)
+abbrev pub past : {A : Type 0} → List ℕ → List ℕ → (List ℕ → Option A) → Option A
+past text bytes f = option_and_then f (rest_past text bytes)
 
 -- goes on behind this text where it is there, and else in another way
-abbrev pub behind_or : {A : Type 0} → Option (List ℕ) → (List ℕ → A) → A → A
-behind_or None f other = other
-behind_or (Some rest) f other = f rest
+abbrev pub past_or : {A : Type 0} → Option (List ℕ) → (List ℕ → A) → A → A
+past_or None f other = other
+past_or (Some rest) f other = f rest
 
 -- goes on behind a part, which tells nothing of the layout
 abbrev pub then_rest : {A B : Type 0} → Part A → (List ℕ → Option B) → Option B
@@ -42,12 +42,12 @@ read_run test bytes = if length (run_of test bytes).0 == 0 then None else Some (
 unfoldable pub is_digit : ℕ → Bool
 is_digit b = nat_le 48 b && nat_le b 57
 
-abbrev pub number_of : ℕ → List ℕ → ℕ
-number_of n [] = n
-number_of n (b ∷ bs) = number_of (10 * n + (b - 48)) bs
+abbrev pub digits_number : ℕ → List ℕ → ℕ
+digits_number n [] = n
+digits_number n (b ∷ bs) = digits_number (10 * n + (b - 48)) bs
 
 abbrev pub read_decimal : List ℕ → Part ℕ
-read_decimal bytes = option_map (λ p. (number_of 0 p.0, p.1)) (read_run is_digit bytes)
+read_decimal bytes = option_map (λ p. (digits_number 0 p.0, p.1)) (read_run is_digit bytes)
 
 -- a word of English letters, digits and underscores
 unfoldable pub is_word : ℕ → Bool
@@ -79,53 +79,53 @@ float_types =
 -- the first of these types that stands there
 abbrev pub read_type_of : List (List ℕ × ℕ) → List ℕ → Part ℕ
 read_type_of [] bytes = None
-read_type_of (type ∷ types) bytes = behind_or (after type.0 bytes) (λ rest. Some (type.1, rest)) (read_type_of types bytes)
+read_type_of (type ∷ types) bytes = past_or (rest_past type.0 bytes) (λ rest. Some (type.1, rest)) (read_type_of types bytes)
 
 -- a label, and the number that has it
 abbrev pub read_label : List ℕ → Part (List ℕ × ℕ)
 read_label bytes =
-    behind (codes "\"") bytes (λ rest.
+    past (codes "\"") bytes (λ rest.
     then_read (read_quoted rest) (λ label rest.
-    behind (codes "\" = ") rest (λ rest.
-    then_read (read_decimal rest) (λ number rest. behind (codes ", ") rest (λ rest. Some ((label, number), rest))))))
+    past (codes "\" = ") rest (λ rest.
+    then_read (read_decimal rest) (λ number rest. past (codes ", ") rest (λ rest. Some ((label, number), rest))))))
 
 -- labels up to the brace behind them, of so many at most; a label takes some bytes, so as many as there are bytes are enough
 abbrev pub read_labels : ℕ → List ℕ → Part (List (List ℕ × ℕ))
 read_labels zero bytes = None
 read_labels (suc most) bytes =
-    behind_or (after (codes "}") bytes) (λ rest. Some ([], rest))
+    past_or (rest_past (codes "}") bytes) (λ rest. Some ([], rest))
     (then_read (read_label bytes) (λ label rest. option_map (λ p. (label ∷ p.0, p.1)) (read_labels most rest)))
 
 -- a type, and how many bytes its values have: a number's, or an enumeration of labels over a whole number's
 abbrev pub read_type : List ℕ → Part ℕ
 read_type bytes =
-    behind_or (after (codes "enum : ") bytes)
-    (λ rest. then_read (read_type_of whole_types rest) (λ width rest. behind (codes " { ") rest (λ rest. option_map (λ p. (width, p.1)) (read_labels (length rest) rest))))
+    past_or (rest_past (codes "enum : ") bytes)
+    (λ rest. then_read (read_type_of whole_types rest) (λ width rest. past (codes " { ") rest (λ rest. option_map (λ p. (width, p.1)) (read_labels (length rest) rest))))
     (read_type_of (whole_types ++ float_types) bytes)
 
 -- ---- events
 
 abbrev pub read_field : List ℕ → Part FieldLayout
 read_field bytes =
-    behind (codes "\t\t") bytes (λ rest.
+    past (codes "\t\t") bytes (λ rest.
     then_read (read_type rest) (λ width rest.
-    behind (codes " ") rest (λ rest.
-    then_read (read_word rest) (λ name rest. behind (codes ";\n") rest (λ rest. Some (record { name = name; width = width }, rest))))))
+    past (codes " ") rest (λ rest.
+    then_read (read_word rest) (λ name rest. past (codes ";\n") rest (λ rest. Some (record { name = name; width = width }, rest))))))
 
 -- fields up to the end of their event, of so many at most
 abbrev pub read_fields : ℕ → List ℕ → Part (List FieldLayout)
 read_fields zero bytes = None
 read_fields (suc most) bytes =
-    behind_or (after (codes "\t};\n};\n") bytes) (λ rest. Some ([], rest))
+    past_or (rest_past (codes "\t};\n};\n") bytes) (λ rest. Some ([], rest))
     (then_read (read_field bytes) (λ field rest. option_map (λ p. (field ∷ p.0, p.1)) (read_fields most rest)))
 
 abbrev pub read_event_text : List ℕ → Part EventLayout
 read_event_text bytes =
-    behind (codes "\nevent {\n\tid = ") bytes (λ rest.
+    past (codes "\nevent {\n\tid = ") bytes (λ rest.
     then_read (read_decimal rest) (λ id rest.
-    behind (codes ";\n\tname = \"") rest (λ rest.
+    past (codes ";\n\tname = \"") rest (λ rest.
     then_read (read_quoted rest) (λ name rest.
-    behind (codes "\";\n\tstream_id = 0;\n\tfields := struct {\n") rest (λ rest.
+    past (codes "\";\n\tstream_id = 0;\n\tfields := struct {\n") rest (λ rest.
     option_map (λ p. (record { id = id; name = name; fields = p.0 }, p.1)) (read_fields (length rest) rest))))))
 
 -- events up to the end of the text, of so many at most
@@ -155,31 +155,31 @@ header_lines =
 -- the process, where it is told
 abbrev pub read_process : List ℕ → Option (List ℕ)
 read_process bytes =
-    behind_or (after (codes "\thostname = \"") bytes) (λ rest.
+    past_or (rest_past (codes "\thostname = \"") bytes) (λ rest.
     then_rest (read_quoted rest) (λ rest.
-    behind (codes "\";\n\tprocname = \"") rest (λ rest.
-    then_rest (read_quoted rest) (λ rest. behind (codes "\";\n\tvpid = ") rest (λ rest. then_rest (read_decimal rest) (after (codes ";\n")))))))
+    past (codes "\";\n\tprocname = \"") rest (λ rest.
+    then_rest (read_quoted rest) (λ rest. past (codes "\";\n\tvpid = ") rest (λ rest. then_rest (read_decimal rest) (rest_past (codes ";\n")))))))
     (Some bytes)
 
 -- the uuid of the clock, where it is told, and where it began
 abbrev pub read_clock_uuid : List ℕ → Option (List ℕ)
-read_clock_uuid bytes = behind_or (after (codes "\tuuid = \"") bytes) (λ rest. then_rest (read_quoted rest) (after (codes "\";\n"))) (Some bytes)
+read_clock_uuid bytes = past_or (rest_past (codes "\tuuid = \"") bytes) (λ rest. then_rest (read_quoted rest) (rest_past (codes "\";\n"))) (Some bytes)
 
 abbrev pub read_clock_start : List ℕ → Option (List ℕ)
 read_clock_start bytes =
-    behind_or (after (codes "\toffset_s = ") bytes) (λ rest.
-    then_rest (read_decimal rest) (λ rest. behind (codes ";\n\toffset = ") rest (λ rest. then_rest (read_decimal rest) (after (codes ";\n\tabsolute = true;\n")))))
+    past_or (rest_past (codes "\toffset_s = ") bytes) (λ rest.
+    then_rest (read_decimal rest) (λ rest. past (codes ";\n\toffset = ") rest (λ rest. then_rest (read_decimal rest) (rest_past (codes ";\n\tabsolute = true;\n")))))
     (Some bytes)
 
 -- the clock, where there is one, with the type of its stamps
 abbrev pub read_clock : List ℕ → Part Bool
 read_clock bytes =
-    behind_or (after (codes "\nclock {\n\tname = stamp;\n\tfreq = ") bytes) (λ rest.
+    past_or (rest_past (codes "\nclock {\n\tname = stamp;\n\tfreq = ") bytes) (λ rest.
     then_rest (read_decimal rest) (λ rest.
-    behind (codes ";\n") rest (λ rest.
+    past (codes ";\n") rest (λ rest.
     option_and_then (λ rest.
     option_and_then (λ rest.
-    behind (codes "};\n\ntypealias integer { size = 64; align = 8; signed = false; map = clock.stamp.value; } := stamp_t;\n") rest (λ rest. Some (true, rest)))
+    past (codes "};\n\ntypealias integer { size = 64; align = 8; signed = false; map = clock.stamp.value; } := stamp_t;\n") rest (λ rest. Some (true, rest)))
     (read_clock_start rest)) (read_clock_uuid rest))))
     (Some (false, bytes))
 
@@ -196,14 +196,14 @@ stream_lines true =
 -- the streams, and then the events
 abbrev pub read_streams : Bool → List ℕ → Option Layout
 read_streams timed bytes =
-    behind (stream_lines timed) bytes (λ rest. option_map (λ events. record { timed = timed; events = events }) (read_event_texts (length rest) rest))
+    past (stream_lines timed) bytes (λ rest. option_map (λ events. record { timed = timed; events = events }) (read_event_texts (length rest) rest))
 
 abbrev pub read_metadata : List ℕ → Option Layout
 read_metadata bytes =
-    behind types_lines bytes (λ rest.
-    behind trace_lines rest (λ rest.
+    past types_lines bytes (λ rest.
+    past trace_lines rest (λ rest.
     then_rest (read_quoted rest) (λ rest.
-    behind header_lines rest (λ rest.
+    past header_lines rest (λ rest.
     option_and_then (λ rest.
-    behind (codes "\ttracer_name = \"sidingyarrow\";\n};\n") rest (λ rest.
+    past (codes "\ttracer_name = \"sidingyarrow\";\n};\n") rest (λ rest.
     with_part (read_clock rest) read_streams)) (read_process rest)))))

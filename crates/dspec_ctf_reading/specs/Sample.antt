@@ -51,14 +51,14 @@ sample_packet = record {
 }
 
 -- the same with a clock, from the stamp 2 to the stamp 5: 760 bits, seven missed; `open` at 2, `state` at 5
-abbrev pub timed_bytes : List ℕ
-timed_bytes = sample_header ++ (
+abbrev pub stamped_bytes : List ℕ
+stamped_bytes = sample_header ++ (
     2 ∷ 0 ∷ 0 ∷ 0 ∷ 0 ∷ 0 ∷ 0 ∷ 0 ∷ 5 ∷ 0 ∷ 0 ∷ 0 ∷ 0 ∷ 0 ∷ 0 ∷ 0 ∷ 248 ∷ 2 ∷ 0 ∷ 0 ∷ 0 ∷ 0 ∷ 0 ∷ 0 ∷ 248 ∷ 2 ∷ 0 ∷ 0 ∷ 0 ∷ 0 ∷ 0 ∷ 0
     ∷ 7 ∷ 0 ∷ 0 ∷ 0 ∷ 0 ∷ 0 ∷ 0 ∷ 0 ∷ 1 ∷ 0 ∷ 0 ∷ 0
     ∷ 1 ∷ 0 ∷ 0 ∷ 0 ∷ 2 ∷ 0 ∷ 0 ∷ 0 ∷ 0 ∷ 0 ∷ 0 ∷ 0 ∷ 3 ∷ 0 ∷ 0 ∷ 0 ∷ 5 ∷ 0 ∷ 0 ∷ 0 ∷ 0 ∷ 0 ∷ 0 ∷ 0 ∷ 171 ∷ 52 ∷ 18 ∷ [])
 
-abbrev pub timed_packet : PacketRead
-timed_packet = record {
+abbrev pub stamped_packet : PacketRead
+stamped_packet = record {
   uuid = sample_uuid;
   cpu = 1;
   discarded = 7;

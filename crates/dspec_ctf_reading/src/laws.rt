@@ -20,11 +20,11 @@ ghost use Rattle.dspec_ctf.specs.declared.rows.Run.{Run};
 ghost use Rattle.dspec_probe.specs.declared.probes.ProbeNames.{ProbeNames};
 ghost use Rattle.dspec_ctf_reading.specs.Reading.{Layout, PacketRead, read_packets_within, read_events_within, read_event, read_events, read_packet, read_file};
 ghost use Rattle.dspec_ctf_reading.specs.Layouts.{layout_of, event_of, packet_of, given_for};
-ghost use Rattle.dspec_ctf_reading.specs.Files.{Tells, TellsEach, file_bytes, last_missed};
+ghost use Rattle.dspec_ctf_reading.specs.Files.{FileTells, PartTells, file_bytes, last_missed};
 ghost use Rattle.dspec_ctf_reading.specs.Told.{HasNumbers};
 ghost use Rattle.dspec_ctf_reading.specs.ReadingMetadata.{read_field, read_metadata, read_type};
 ghost use Rattle.dspec_ctf_reading.specs.SampleMetadata.{timed_text, timed_text_layout, taken_text, taken_text_layout};
-ghost use Rattle.dspec_ctf_reading.specs.Sample.{sample_layout, sample_bytes, sample_packet, sized, timed_bytes, timed_packet};
+ghost use Rattle.dspec_ctf_reading.specs.Sample.{sample_layout, sample_bytes, sample_packet, sized, stamped_bytes, stamped_packet};
 
 /// The number that shows that reading comes to an end changes nothing, from the number of bytes on.
 pub fn bound_is_enough()
@@ -49,7 +49,7 @@ pub fn files_join()
 /// Two packets by hand say what they were made to say, alone and one behind another.
 pub fn worked_packets()
     ensures taken { read_packet (sample_layout false) sample_bytes ≡ Some (sample_packet, []) }
-    ensures timed { read_packet (sample_layout true) (timed_bytes ++ 255 ∷ []) ≡ Some (timed_packet, 255 ∷ []) }
+    ensures timed { read_packet (sample_layout true) (stamped_bytes ++ 255 ∷ []) ≡ Some (stamped_packet, 255 ∷ []) }
     ensures file { read_file (sample_layout false) (sample_bytes ++ sample_bytes) ≡ Some (sample_packet ∷ sample_packet ∷ []) }
 {}
 
@@ -101,7 +101,7 @@ pub fn event_is_its_record()
 pub fn taken_file_reads_back()
     ensures { (e : EnabledRows) (names : Names) (uuid : List ℕ) (cpu : ℕ) (batches : List (ℕ × List Record)) → length uuid ≡ 16 → cpu < 2 ^ 32
         → All (λ b. (b.0 < 2 ^ 64) × (length (events e b.1) < 2 ^ 60) × All (Accepts e) b.1) batches
-        → Tells (layout_of e names AsTaken) uuid cpu (flat_map (λ b. packet uuid e b.0 cpu b.1) batches)
+        → FileTells (layout_of e names AsTaken) uuid cpu (flat_map (λ b. packet uuid e b.0 cpu b.1) batches)
         (map (event_of e names AsTaken) (flat_map (λ b. b.1) batches)) (last_missed batches) }
 {}
 
@@ -109,7 +109,7 @@ pub fn taken_file_reads_back()
 pub fn timed_file_reads_back()
     ensures { (e : EnabledRows) (names : Names) (frequency : ℕ) (uuid : List ℕ) (missed cpu : ℕ) (rs : List Record)
         → e.header ≡ header.Two → length uuid ≡ 16 → missed < 2 ^ 64 → cpu < 2 ^ 32 → All (Accepts e) rs
-        → Tells (layout_of e names (ByTime frequency)) uuid cpu (timed_packets uuid e missed cpu rs) (map (event_of e names (ByTime frequency)) rs) missed }
+        → FileTells (layout_of e names (ByTime frequency)) uuid cpu (timed_packets uuid e missed cpu rs) (map (event_of e names (ByTime frequency)) rs) missed }
 {}
 
 /// What a batch adds to a CPU's files while it runs: each file tells those of the records that go to it, in order, and the first alone what
@@ -119,11 +119,11 @@ pub fn live_file_reads_back()
     ensures runs { (e : EnabledRows) (names : Names) (frequency : ℕ) (uuid : List ℕ) (missed cpu : ℕ) (rs : List Record) (file : ℕ)
         (lasts new : List ℕ) (from to : ℕ) (runs : List Run) → e.header ≡ header.Two → length uuid ≡ 16 → missed < 2 ^ 64 → cpu < 2 ^ 32
         → length (events e rs) < 2 ^ 60 → All (Accepts e) rs → AreRuns lasts rs from runs to new
-        → TellsEach (layout_of e names (ByTime frequency)) uuid cpu (file_bytes file (run_packets uuid e missed cpu rs from runs))
+        → PartTells (layout_of e names (ByTime frequency)) uuid cpu (file_bytes file (run_packets uuid e missed cpu rs from runs))
         (map (event_of e names (ByTime frequency)) (of_file file (run_files from runs) (run_records rs from runs))) (told_by file missed) }
     ensures missed { (e : EnabledRows) (names : Names) (frequency : ℕ) (uuid : List ℕ) (before missed cpu : ℕ) (lasts : List ℕ)
         → e.header ≡ header.Two → length uuid ≡ 16 → before < 2 ^ 64 → missed < 2 ^ 64 → cpu < 2 ^ 32 → slice_index lasts 0 < 2 ^ 64
-        → Tells (layout_of e names (ByTime frequency)) uuid cpu (missed_packets uuid before missed cpu lasts) [] missed }
+        → FileTells (layout_of e names (ByTime frequency)) uuid cpu (missed_packets uuid before missed cpu lasts) [] missed }
 {}
 
 /// Two texts of metadata by hand tell their layouts.
