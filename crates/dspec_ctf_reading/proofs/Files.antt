@@ -1,0 +1,80 @@
+-- Files of packets that were written one behind another.
+use Rattle.std.proofs.Common.{◌≡◌, ◌<◌, ◌^◌, ◌++◌, ℕ, zero, suc, Bool, true, IsTrue, List, [], ◌∷◌, length, map, Option, Some, option_map, refl, ap, sym, ◌∙◌, arith, All}
+use Rattle.std.specs.Prelude.{slice_get, option_and_then}
+use Rattle.std.specs.Option.{option_map_or}
+use Rattle.std.specs.List.{flat_map}
+use Rattle.std.proofs.lemmas.Bool.{ltb-true, eqb-true}
+use Rattle.std.proofs.lemmas.List.{append-nil, map-append}
+use Rattle.std.proofs.lemmas.List.Elements.{All-head, All-tail, All-nil, All-cons}
+use Rattle.dspec_record.specs.Record.{Record}
+use Rattle.dspec_record.specs.RecordText.{stamp_fits}
+use Rattle.dspec_record.specs.Schemas.{enabled}
+use Rattle.dspec_record.specs.EnablingRows.{EnabledRows}
+use Rattle.dspec_record.specs.Laws.Tables.{IsAccepted, accepted-parts}
+use Rattle.dspec_record.specs.declared.header.Header.{Header}
+use Rattle.dspec_record.specs.declared.header.Header.TheVariants as header
+use Rattle.dspec_ctf.specs.Packets.{events, header_bytes, front_bytes, packet_around}
+use Rattle.dspec_ctf.specs.Streams.{Accepts}
+use Rattle.dspec_ctf.specs.ByTime.{span_of}
+use Rattle.dspec_ctf_reading.specs.Reading.{Layout, EventRead, PacketRead, read_packet, read_file, events_of}
+use Rattle.dspec_ctf_reading.specs.Layouts.{Naming, layout_by, packet_read}
+use Rattle.dspec_ctf_reading.proofs.Bounds.{packets-on-bytes}
+use Rattle.dspec_ctf_reading.proofs.Events.{HasStamps}
+use Rattle.dspec_ctf_reading.proofs.Packets.{HasSpan, packet-back}
+use Rattle.dspec_ctf_reading.proofs.Joining.{join}
+
+-- a packet is a file
+around-some : (uuid : List ℕ) (span : Option (ℕ × ℕ)) (missed cpu : ℕ) (body : List ℕ) → 0 < length (packet_around uuid span missed cpu body)
+unfolding front_bytes header_bytes
+around-some uuid span missed cpu body = omega arith
+
+one-read : (layout : Layout) (bytes : List ℕ) (p : PacketRead) → 0 < length bytes → read_packet layout bytes ≡ Some (p, []) → read_file layout bytes ≡ Some (p ∷ [])
+one-read layout bytes p some is =
+    packets-on-bytes layout bytes some ∙ ap (λ part. option_and_then (λ q. option_map (λ packets. q.0 ∷ packets) (read_file layout q.1)) part) is
+
+-- packets that are files are one file, one behind another
+pub flat-read : {A : Type 0} (layout : Layout) (P : A → Type 0) (f : A → List ℕ) (g : A → PacketRead) → ((x : A) → P x → read_file layout (f x) ≡ Some (g x ∷ []))
+    → (xs : List A) → All P xs → read_file layout (flat_map f xs) ≡ Some (map g xs)
+flat-read layout P f g each [] of_xs = refl
+flat-read layout P f g each (x ∷ xs) of_xs =
+    join layout (length (f x)) (f x) (flat_map f xs) (g x ∷ []) (map g xs) (omega arith) (each x (All-head P x xs of_xs)) (flat-read layout P f g each xs (All-tail P x xs of_xs))
+
+-- the events of packets that are made of records
+pub flat-events : {A : Type 0} (g : A → PacketRead) (h : Record → EventRead) (part : A → List Record) → ((x : A) → (g x).events ≡ map h (part x))
+    → (xs : List A) → events_of (map g xs) ≡ map h (flat_map part xs)
+flat-events g h part each [] = refl
+flat-events g h part each (x ∷ xs) =
+    ap (λ front. front ++ events_of (map g xs)) (each x) ∙ ap (λ more. map h (part x) ++ more) (flat-events g h part each xs) ∙ sym (map-append h (part x) (flat_map part xs))
+
+pub All-each : {A B : Type 0} (P : B → Type 0) (g : A → B) → ((x : A) → P (g x)) → (xs : List A) → All P (map g xs)
+All-each P g each [] = All-nil P
+All-each P g each (x ∷ xs) = All-cons P (g x) (map g xs) (each x) (All-each P g each xs)
+
+pub All-of : {A : Type 0} (P : A → Type 0) → ((x : A) → P x) → (xs : List A) → All P xs
+All-of P each [] = All-nil P
+All-of P each (x ∷ xs) = All-cons P x xs (each x) (All-of P each xs)
+
+module _ (called : Naming) (timed : Bool) (e : EnabledRows) (has : HasStamps timed e.header) where
+  pub packet-read : (uuid : List ℕ) (span : Option (ℕ × ℕ)) (missed cpu : ℕ) (rs : List Record) → length uuid ≡ 16 → HasSpan timed span → missed < 2 ^ 64 → cpu < 2 ^ 32
+      → length (events e rs) < 2 ^ 60 → All (Accepts e) rs
+      → read_file (layout_by called timed e) (packet_around uuid span missed cpu (events e rs)) ≡ Some (packet_read called timed e uuid span missed cpu rs ∷ [])
+  packet-read uuid span missed cpu rs long ends few small low of_rs =
+      let bytes : List ℕ = packet_around uuid span missed cpu (events e rs) in
+      one-read (layout_by called timed e) bytes (packet_read called timed e uuid span missed cpu rs) (around-some uuid span missed cpu (events e rs))
+      (ap (read_packet (layout_by called timed e)) (sym (append-nil bytes)) ∙ packet-back called timed e has uuid span missed cpu rs [] long ends few small low of_rs)
+
+-- stamps of accepted records have 64 bits
+stamp-low : (h : Header) (stamp : ℕ) → IsTrue (stamp_fits h stamp) → stamp < 2 ^ 64
+stamp-low header.One stamp fit = omega (arith, eqb-true stamp 0 fit)
+stamp-low header.Two stamp fit = ltb-true stamp (2 ^ 64) fit
+
+end-low : (e : EnabledRows) (rs : List Record) (k : ℕ) → All (Accepts e) rs → option_map_or (λ r. r.stamp) (slice_get rs k) 0 < 2 ^ 64
+end-low e [] k of_rs = omega arith
+end-low e (r ∷ rs) zero of_rs =
+    let parts : IsAccepted e.header r (enabled e.rows r.epid) = accepted-parts e.header (enabled e.rows) r (All-head (Accepts e) r rs of_rs) in
+    stamp-low e.header r.stamp parts.stamp
+end-low e (r ∷ rs) (suc k) of_rs = end-low e rs k (All-tail (Accepts e) r rs of_rs)
+
+pub span-low : (e : EnabledRows) (rs : List Record) → All (Accepts e) rs → HasSpan true (Some (span_of rs))
+unfolding HasSpan
+span-low e rs of_rs = (end-low e rs 0 of_rs, end-low e rs _ of_rs)

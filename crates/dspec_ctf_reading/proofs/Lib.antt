@@ -1,0 +1,15 @@
+pub mod Bounds
+pub mod Joining
+pub mod Numbers
+pub mod Events
+pub mod Packets
+pub mod Sizes
+pub mod Files
+pub mod Timed
+pub mod Live
+pub mod Named
+pub mod Scanning
+pub mod Lines
+pub mod Texts
+pub mod Headings
+pub mod Allowed

@@ -1,0 +1,168 @@
+-- A CPU's file while it runs: the packets of the runs that go to it.
+use Rattle.std.proofs.Common.{◌≡◌, ◌≤◌, ◌<◌, ◌-◌, ◌^◌, ◌++◌, ◌==◌, ℕ, zero, suc, Bool, true, false, cond, List, [], ◌∷◌, length, map, take, drop, replicate, Option, Some, refl}
+use Rattle.std.proofs.Common.{ap, sym, ◌∙◌, arith, append_assoc, length-append, All}
+use Rattle.std.specs.Prelude.{filter, zip, slice_index, slice_range}
+use Rattle.std.specs.List.{flat_map}
+use Rattle.std.proofs.lemmas.Bool.{eqb-true}
+use Rattle.std.proofs.lemmas.List.{map-append, take-append-drop, length-take-le, length-drop}
+use Rattle.std.proofs.lemmas.List.Elements.{All-take, All-drop, All-nil, All-cons}
+use Rattle.dspec_record.specs.Record.{Record}
+use Rattle.dspec_record.specs.EnablingRows.{EnabledRows}
+use Rattle.dspec_ctf.specs.Packets.{event, events, packet_around}
+use Rattle.dspec_ctf.specs.Streams.{Accepts}
+use Rattle.dspec_ctf.specs.ByTime.{span_of}
+use Rattle.dspec_ctf.specs.Rows.{AreRuns, of_file, run_records, run_files, told_by, run_packet, run_packets, missed_packets}
+use Rattle.dspec_ctf.specs.declared.rows.Run.{Run}
+use Rattle.dspec_ctf_reading.specs.Reading.{Layout, PacketRead, read_file}
+use Rattle.dspec_ctf_reading.specs.Layouts.{Naming, event_read, layout_by, packet_read}
+use Rattle.dspec_ctf_reading.specs.Files.{FileTells, PartTells, file_bytes}
+use Rattle.dspec_ctf_reading.proofs.Events.{HasStamps}
+use Rattle.dspec_ctf_reading.proofs.Packets.{HasSpan}
+use Rattle.dspec_ctf_reading.proofs.Joining.{join}
+use Rattle.dspec_ctf_reading.proofs.Files.{packet-read, span-low}
+
+-- records of a run that goes to this file, before others; and of one that doesn't
+of-same : (file f k : ℕ) (xs : List Record) (fs : List ℕ) (ys : List Record) → length xs ≡ k → (f == file) ≡ true → of_file file (replicate k f ++ fs) (xs ++ ys) ≡ xs ++ of_file file fs ys
+of-same file f zero [] fs ys long same = refl
+of-same file f zero (x ∷ xs) fs ys long same = absurd (omega (arith, long))
+of-same file f (suc k) [] fs ys long same = absurd (omega (arith, long))
+of-same file f (suc k) (x ∷ xs) fs ys long same =
+    let rest : List (ℕ × Record) = filter (λ p. p.0 == file) (zip (replicate k f ++ fs) (xs ++ ys)) in
+    ap (λ b. map (λ p. p.1) (cond b ((f, x) ∷ rest) rest)) same ∙ ap (λ more. x ∷ more) (of-same file f k xs fs ys (omega (arith, long)) same)
+
+of-other : (file f k : ℕ) (xs : List Record) (fs : List ℕ) (ys : List Record) → length xs ≡ k → (f == file) ≡ false → of_file file (replicate k f ++ fs) (xs ++ ys) ≡ of_file file fs ys
+of-other file f zero [] fs ys long other = refl
+of-other file f zero (x ∷ xs) fs ys long other = absurd (omega (arith, long))
+of-other file f (suc k) [] fs ys long other = absurd (omega (arith, long))
+of-other file f (suc k) (x ∷ xs) fs ys long other =
+    let rest : List (ℕ × Record) = filter (λ p. p.0 == file) (zip (replicate k f ++ fs) (xs ++ ys)) in
+    ap (λ b. map (λ p. p.1) (cond b ((f, x) ∷ rest) rest)) other ∙ of-other file f k xs fs ys (omega (arith, long)) other
+
+-- a part of records has no more bytes than all of them
+events-split : (e : EnabledRows) (xs ys : List Record) → events e (xs ++ ys) ≡ events e xs ++ events e ys
+events-split e [] ys = refl
+events-split e (x ∷ xs) ys = ap (λ more. event e x ++ more) (events-split e xs ys) ∙ sym (append_assoc (event e x) (events e xs) (events e ys))
+
+take-small : (e : EnabledRows) (n : ℕ) (rs : List Record) → length (events e (take n rs)) ≤ length (events e rs)
+take-small e n rs =
+    let whole : events e rs ≡ events e (take n rs) ++ events e (drop n rs) = ap (events e) (sym (take-append-drop n rs)) ∙ events-split e (take n rs) (drop n rs) in
+    omega (arith, ap length whole, length-append (events e (take n rs)) (events e (drop n rs)))
+
+drop-small : (e : EnabledRows) (n : ℕ) (rs : List Record) → length (events e (drop n rs)) ≤ length (events e rs)
+drop-small e n rs =
+    let whole : events e rs ≡ events e (take n rs) ++ events e (drop n rs) = ap (events e) (sym (take-append-drop n rs)) ∙ events-split e (take n rs) (drop n rs) in
+    omega (arith, ap length whole, length-append (events e (take n rs)) (events e (drop n rs)))
+
+told-low : (b : Bool) (missed : ℕ) → missed < 2 ^ 64 → cond b missed 0 < 2 ^ 64
+told-low true missed low = low
+told-low false missed low = omega arith
+
+module _ (called : Naming) (e : EnabledRows) (has : HasStamps true e.header) (uuid : List ℕ) (missed cpu : ℕ) (long : length uuid ≡ 16) (low : missed < 2 ^ 64) (small : cpu < 2 ^ 32) where
+  -- a run's packet, as it is read
+  run_read : ℕ → List Record → PacketRead
+  run_read file rs = packet_read called true e uuid (Some (span_of rs)) (told_by file missed) cpu rs
+
+  run-back : (file : ℕ) (rs : List Record) → length (events e rs) < 2 ^ 60 → All (Accepts e) rs
+      → read_file (layout_by called true e) (run_packet uuid e missed cpu file rs) ≡ Some (run_read file rs ∷ [])
+  unfolding run_read
+  run-back file rs few of_rs = packet-read called true e has uuid (Some (span_of rs)) (told_by file missed) cpu rs long (span-low e rs of_rs) (told-low (file == 0) missed low) small few of_rs
+
+  module _ (rs : List Record) (few : length (events e rs) < 2 ^ 60) (of_rs : All (Accepts e) rs) (file : ℕ) where
+    -- what is read of the runs from a place on
+    From : ℕ → List Run → Type 0
+    From from runs = PartTells (layout_by called true e) uuid cpu (file_bytes file (run_packets uuid e missed cpu rs from runs))
+        (map (event_read called true e) (of_file file (run_files from runs) (run_records rs from runs))) (told_by file missed)
+
+    slice-of : (from to : ℕ) → All (Accepts e) (slice_range rs from to)
+    slice-of from to = All-take (Accepts e) (to - from) (drop from rs) (All-drop (Accepts e) from rs of_rs)
+
+    slice-small : (from to : ℕ) → length (events e (slice_range rs from to)) < 2 ^ 60
+    slice-small from to = omega (arith, few, take-small e (to - from) (drop from rs), drop-small e from rs)
+
+    slice-long : (from to : ℕ) → from < to → to ≤ length rs → length (slice_range rs from to) ≡ to - from
+    slice-long from to some within = length-take-le (to - from) (drop from rs) (omega (arith, some, within, length-drop from rs))
+
+    step : (from : ℕ) (run : Run) (runs : List Run) → from < run.end → run.end ≤ length rs → From run.end runs → From from (run ∷ runs)
+    unfolding From run_read
+    step from run runs some within rest = go (run.file == file) refl
+      where
+        part : List Record
+        part = slice_range rs from run.end
+
+        others : List (ℕ × List ℕ)
+        others = run_packets uuid e missed cpu rs run.end runs
+
+        mine : ℕ × List ℕ
+        mine = (run.file, run_packet uuid e missed cpu run.file part)
+
+        later_files : List ℕ
+        later_files = run_files run.end runs
+
+        later : List Record
+        later = run_records rs run.end runs
+
+        kept : List (ℕ × List ℕ)
+        kept = filter (λ p. p.0 == file) others
+
+        go : (b : Bool) → (run.file == file) ≡ b → From from (run ∷ runs)
+        go true is =
+            let same : run.file ≡ file = eqb-true run.file file is in
+            let bytes : file_bytes file (mine ∷ others) ≡ mine.1 ++ file_bytes file others = ap (λ b. flat_map (λ p. p.1) (cond b (mine ∷ kept) kept)) is in
+            record {
+              packets = run_read run.file part ∷ rest.packets;
+              read = ap (read_file (layout_by called true e)) bytes
+                  ∙ join (layout_by called true e) (length mine.1) mine.1 (file_bytes file others) (run_read run.file part ∷ []) rest.packets (omega arith)
+                  (run-back run.file part (slice-small from run.end) (slice-of from run.end)) rest.read;
+              has = ap (λ more. map (event_read called true e) part ++ more) rest.has
+                  ∙ sym (map-append (event_read called true e) part (of_file file later_files later))
+                  ∙ ap (map (event_read called true e)) (sym (of-same file run.file (run.end - from) part later_files later (slice-long from run.end some within) is));
+              whose = All-cons (λ p. (p.uuid ≡ uuid) × (p.cpu ≡ cpu) × (p.discarded ≡ told_by file missed)) (run_read run.file part) rest.packets
+                  (refl, refl, ap (λ f. told_by f missed) same) rest.whose;
+            }
+        go false is =
+            let bytes : file_bytes file (mine ∷ others) ≡ file_bytes file others = ap (λ b. flat_map (λ p. p.1) (cond b (mine ∷ kept) kept)) is in
+            record {
+              packets = rest.packets;
+              read = ap (read_file (layout_by called true e)) bytes ∙ rest.read;
+              has = rest.has
+                  ∙ ap (map (event_read called true e)) (sym (of-other file run.file (run.end - from) part later_files later (slice-long from run.end some within) is));
+              whose = rest.whose;
+            }
+
+    pub runs-back : (lasts : List ℕ) (from : ℕ) (runs : List Run) (to : ℕ) (new : List ℕ) → AreRuns lasts rs from runs to new
+        → PartTells (layout_by called true e) uuid cpu (file_bytes file (run_packets uuid e missed cpu rs from runs))
+        (map (event_read called true e) (of_file file (run_files from runs) (run_records rs from runs))) (told_by file missed)
+    unfolding From
+    runs-back lasts from [] to new are = record {
+      packets = [];
+      read = refl;
+      has = refl;
+      whose = All-nil (λ p. (p.uuid ≡ uuid) × (p.cpu ≡ cpu) × (p.discarded ≡ told_by file missed));
+    }
+    runs-back lasts from (run ∷ runs) to new (mid, (is, rest)) =
+        step from run runs is.some is.within (runs-back mid run.end runs to new rest)
+
+-- the two packets that tell what was missed
+pub missed-back : (called : Naming) (e : EnabledRows) → HasStamps true e.header → (uuid : List ℕ) (before missed cpu : ℕ) (lasts : List ℕ)
+    → length uuid ≡ 16 → before < 2 ^ 64 → missed < 2 ^ 64 → cpu < 2 ^ 32
+    → slice_index lasts 0 < 2 ^ 64 → FileTells (layout_by called true e) uuid cpu (missed_packets uuid before missed cpu lasts) [] missed
+unfolding HasSpan
+missed-back called e has uuid before missed cpu lasts long low high small at =
+    let span : Option (ℕ × ℕ) = Some (slice_index lasts 0, slice_index lasts 0) in
+    let layout : Layout = layout_by called true e in
+    let first : PacketRead = packet_read called true e uuid span before cpu [] in
+    let second : PacketRead = packet_read called true e uuid span missed cpu [] in
+    let one : (n : ℕ) → n < 2 ^ 64 → read_file layout (packet_around uuid span n cpu []) ≡ Some (packet_read called true e uuid span n cpu [] ∷ []) =
+    λ n fits. packet-read called true e has uuid span n cpu [] long (both-low (slice_index lasts 0) at) fits small (omega arith) (All-nil (Accepts e)) in
+    record {
+      packets = first ∷ second ∷ [];
+      read = join layout (length (packet_around uuid span before cpu [])) (packet_around uuid span before cpu []) (packet_around uuid span missed cpu []) (first ∷ []) (second ∷ []) (omega arith)
+          (one before low) (one missed high);
+      has = refl;
+      misses = refl;
+      whose = All-cons (λ p. (p.uuid ≡ uuid) × (p.cpu ≡ cpu)) first (second ∷ []) (refl, refl)
+          (All-cons (λ p. (p.uuid ≡ uuid) × (p.cpu ≡ cpu)) second [] (refl, refl) (All-nil (λ p. (p.uuid ≡ uuid) × (p.cpu ≡ cpu))));
+    }
+  where
+    both-low : (stamp : ℕ) → stamp < 2 ^ 64 → HasSpan true (Some (stamp, stamp))
+    both-low stamp fits = (fits, fits)

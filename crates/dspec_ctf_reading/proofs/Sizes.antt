@@ -1,0 +1,48 @@
+-- How many bytes the events of records have at most.
+use Rattle.std.proofs.Common.{◌≡◌, ◌≤◌, ◌*◌, ◌++◌, ℕ, List, [], ◌∷◌, length, refl, arith, length-append, All}
+use Rattle.std.proofs.lemmas.List.Elements.{All-head, All-tail}
+use Rattle.dspec_record.specs.Record.{Record}
+use Rattle.dspec_record.specs.Layout.{width}
+use Rattle.dspec_record.specs.RecordText.{little_endian}
+use Rattle.dspec_record.specs.EnablingRows.{EnabledRows}
+use Rattle.dspec_record.specs.Schemas.{enabled}
+use Rattle.dspec_record.specs.Laws.Texts.{length-little_endian}
+use Rattle.dspec_record.specs.Laws.Tables.{IsAccepted, accepted-parts}
+use Rattle.dspec_record.specs.declared.field.Field.{Field}
+use Rattle.dspec_record.specs.declared.field.Field.TheVariants.{One, Two, Four, Eight}
+use Rattle.dspec_record.specs.declared.header.Header.{Header}
+use Rattle.dspec_record.specs.declared.header.Header.TheVariants as header
+use Rattle.dspec_ctf.specs.Packets.{stamp_bytes, values_bytes, event, events, event_fields}
+use Rattle.dspec_ctf.specs.Streams.{Accepts}
+use Rattle.dspec_ctf_reading.proofs.Events.{IsKnown, is-known}
+
+narrow : (f : Field) → width f ≤ 8
+narrow One = omega arith
+narrow Two = omega arith
+narrow Four = omega arith
+narrow Eight = omega arith
+
+stamp-small : (h : Header) (stamp : ℕ) → length (stamp_bytes h stamp) ≤ 8
+stamp-small header.One stamp = omega arith
+stamp-small header.Two stamp = omega arith
+
+values-small : (fs : List Field) (vs : List ℕ) → length (values_bytes fs vs) ≤ 8 * length fs
+values-small [] vs = omega arith
+values-small (f ∷ fs) [] = omega arith
+values-small (f ∷ fs) (v ∷ vs) =
+    omega (arith, length-append (little_endian (width f) v) (values_bytes fs vs), length-little_endian f v, narrow f, values-small fs vs)
+
+event-small : (e : EnabledRows) (r : Record) → Accepts e r → length (event e r) ≤ 76
+event-small e r of_r =
+    let parts : IsAccepted e.header r (enabled e.rows r.epid) = accepted-parts e.header (enabled e.rows) r of_r in
+    let known : IsKnown e r.epid r.values = is-known e r.epid r.values parts.values in
+    let id : List ℕ = little_endian 4 r.epid in
+    let stamp : List ℕ = stamp_bytes e.header r.stamp in
+    let values : List ℕ = values_bytes (event_fields e r.epid) r.values in
+    let four : length id ≡ 4 = refl in
+    omega (arith, known.few, four, length-append id (stamp ++ values), length-append stamp values, stamp-small e.header r.stamp, values-small (event_fields e r.epid) r.values)
+
+pub events-small : (e : EnabledRows) (rs : List Record) → All (Accepts e) rs → length (events e rs) ≤ 76 * length rs
+events-small e [] of_rs = omega arith
+events-small e (r ∷ rs) of_rs =
+    omega (arith, length-append (event e r) (events e rs), event-small e r (All-head (Accepts e) r rs of_rs), events-small e rs (All-tail (Accepts e) r rs of_rs))

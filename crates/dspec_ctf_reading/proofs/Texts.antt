@@ -1,0 +1,116 @@
+-- The texts of events are read as their layouts.
+use Rattle.std.proofs.Common.{◌≡◌, ◌≤◌, ◌<◌, ◌+◌, ◌-◌, ◌^◌, ◌++◌, ℕ, zero, suc, List, [], ◌∷◌, length, map, Option, Some, option_map, refl, ap, sym, ◌∙◌, arith, append_assoc, length-append}
+use Rattle.std.specs.Prelude.{option_and_then, codes, decimal}
+use Rattle.std.specs.List.{flat_map, range_with_len}
+use Rattle.std.proofs.lemmas.List.{append-nil}
+use Rattle.dspec_record.specs.EnablingRows.{EnabledRows}
+use Rattle.dspec_record.specs.declared.field.Field.TheVariants.{Eight}
+use Rattle.dspec_record.specs.declared.header.Header.{Header}
+use Rattle.dspec_record.specs.declared.header.Header.TheVariants as header
+use Rattle.dspec_probe.specs.declared.kind.Kind.TheVariants.{Unsigned}
+use Rattle.dspec_ctf.specs.Packets.{event_fields}
+use Rattle.dspec_ctf.specs.Metadata.{stamp_line, event_name, field_lines, event_number, event_front, event_text, typed_line}
+use Rattle.dspec_ctf.specs.declared.form.Form.{Form}
+use Rattle.dspec_ctf.specs.declared.form.Form.TheVariants.{AsTaken, ByTime}
+use Rattle.dspec_ctf.specs.declared.names.Names.{Names}
+use Rattle.dspec_ctf_reading.specs.Reading.{FieldLayout, EventLayout, Part, then_read}
+use Rattle.dspec_ctf_reading.specs.ReadingMetadata.{past, is_digit, is_word, is_quoted, read_quoted, read_fields, read_event_text, read_event_texts}
+use Rattle.dspec_ctf_reading.specs.Layouts.{stamp_field, field_layouts, event_layout, is_timed, names_by}
+use Rattle.dspec_ctf_reading.proofs.Scanning.{read-run-back, decimal-back}
+use Rattle.dspec_ctf_reading.proofs.Lines.{IsQuotable, IsWordy, AreLines, joined, joined-append, AreLines-append, typed-line, kind-back, lines-back}
+
+-- the stamp as a field
+pub record HasLines (text : List ℕ) (shapes : List FieldLayout) : Type 0 where
+  pub lines : List (List ℕ)
+  pub text_is : text ≡ joined lines
+  pub are : AreLines lines shapes
+
+no-lines : HasLines [] []
+unfolding AreLines
+no-lines = record { lines = []; text_is = refl; are = tt }
+
+stamp-lines : (form : Form) (h : Header) → HasLines (stamp_line form h) (stamp_field (is_timed form) h)
+unfolding AreLines IsWordy is_word is_digit
+stamp-lines AsTaken header.One = no-lines
+stamp-lines AsTaken header.Two = record {
+  lines = typed_line (codes "uint64_t") (codes "stamp") ∷ [];
+  text_is = sym (append-nil (typed_line (codes "uint64_t") (codes "stamp")));
+  are = (typed-line (codes "uint64_t") (codes "stamp") 8 (λ more. kind-back Unsigned Eight more) (refl, omega arith), tt);
+}
+stamp-lines (ByTime frequency) header.One = no-lines
+stamp-lines (ByTime frequency) header.Two = no-lines
+
+eight : (a b c d f g h k x : List ℕ) → (a ++ b ++ c ++ d ++ f ++ g ++ h ++ k) ++ x ≡ a ++ (b ++ (c ++ (d ++ (f ++ (g ++ (h ++ (k ++ x)))))))
+eight a b c d f g h k x = simp append_assoc
+
+-- the event at a place has a name and fields that can be read
+pub record IsTold (e : EnabledRows) (names : Names) (place : ℕ) : Type 0 where
+  pub low : place + 1 < 2 ^ 64
+  pub called : IsQuotable (event_name names place)
+  pub fields : HasLines (field_lines names place (event_fields e (place + 1))) (field_layouts ((names_by names).field (place + 1)) (event_fields e (place + 1)))
+
+pub event-text-back : (form : Form) (e : EnabledRows) (names : Names) (place : ℕ) (rest : List ℕ) → IsTold e names place
+    → read_event_text (event_text form e names place ++ rest) ≡ Some (event_layout (names_by names) (is_timed form) e (place + 1), rest)
+unfolding event_text event_front event_number IsQuotable is_quoted is_digit
+event-text-back form e names place rest told =
+    let stamp : HasLines (stamp_line form e.header) (stamp_field (is_timed form) e.header) = stamp-lines form e.header in
+    let name : List ℕ = event_name names place in
+    let others : List ℕ = field_lines names place (event_fields e (place + 1)) in
+    let end : List ℕ = codes "\t};\n};\n" ++ rest in
+    let shapes : List FieldLayout = stamp_field (is_timed form) e.header ++ field_layouts ((names_by names).field (place + 1)) (event_fields e (place + 1)) in
+    let all : List (List ℕ) = stamp.lines ++ told.fields.lines in
+    let tail : List ℕ = joined all ++ end in
+    let tail_is : stamp_line form e.header ++ (others ++ end) ≡ tail =
+    (λ i. stamp.text_is i ++ (told.fields.text_is i ++ end)) ∙ sym (append_assoc (joined stamp.lines) (joined told.fields.lines) end)
+    ∙ ap (λ bytes. bytes ++ end) (sym (joined-append stamp.lines told.fields.lines)) in
+    let c : ℕ → List ℕ → List ℕ → Part EventLayout =
+    λ id word more. past (codes "\";\n\tstream_id = 0;\n\tfields := struct {\n")
+    more (λ more. option_map (λ p. (record { id = id; name = word; fields = p.0 }, p.1)) (read_fields (length more) more)) in
+    let b : ℕ → List ℕ → Part EventLayout = λ id more. past (codes ";\n\tname = \"") more (λ more. then_read (read_quoted more) (λ word more. c id word more)) in
+    let back : (place + 1) - 1 ≡ place = omega arith in
+    ap read_event_text
+    (eight (codes "\nevent {\n\tid = ") (decimal (place + 1)) (codes ";\n\tname = \"")
+    name (codes "\";\n\tstream_id = 0;\n\tfields := struct {\n") (stamp_line form e.header) others (codes "\t};\n};\n") rest
+    ∙ ap (λ bytes. codes "\nevent {\n\tid = " ++ (decimal (place + 1) ++ (codes ";\n\tname = \"" ++ (name ++ (codes "\";\n\tstream_id = 0;\n\tfields := struct {\n" ++ bytes))))) tail_is)
+    ∙ ap (λ part. then_read part b)
+    (decimal-back (place + 1) (codes ";\n\tname = \"" ++ (name ++ (codes "\";\n\tstream_id = 0;\n\tfields := struct {\n" ++ tail))) told.low refl)
+    ∙ ap (λ part. then_read part (λ word more. c (place + 1) word more)) (read-run-back is_quoted name (codes "\";\n\tstream_id = 0;\n\tfields := struct {\n" ++ tail) told.called.0 told.called.1 refl)
+    ∙ ap (option_map (λ p. (record { id = place + 1; name = name; fields = p.0 }, p.1)))
+    (lines-back all shapes rest (AreLines-append stamp.lines told.fields.lines (stamp_field (is_timed form) e.header) _ stamp.are told.fields.are))
+    ∙ ap (λ at. Some (record { id = place + 1; name = event_name names at; fields = shapes }, rest)) (sym back)
+
+-- a text isn't empty
+text-some : (form : Form) (e : EnabledRows) (names : Names) (place : ℕ) → 1 ≤ length (event_text form e names place)
+unfolding event_text event_front event_number
+text-some form e names place = omega arith
+
+on-bytes : (most : ℕ) (bytes : List ℕ) → 0 < length bytes
+    → read_event_texts (suc most) bytes ≡ option_and_then (λ p. option_map (λ events. p.0 ∷ events) (read_event_texts most p.1)) (read_event_text bytes)
+on-bytes most [] some = absurd (omega (arith, some))
+on-bytes most (b ∷ bytes) some = refl
+
+-- texts of events up to the end
+texts-within : (form : Form) (e : EnabledRows) (names : Names) (most a k : ℕ) → ((place : ℕ) → place < a + k → IsTold e names place) → k ≤ most
+    → read_event_texts most (flat_map (event_text form e names) (range_with_len a k)) ≡ Some (map (event_layout (names_by names) (is_timed form) e) (range_with_len (a + 1) k))
+texts-within form e names zero a zero told few = refl
+texts-within form e names (suc most) a zero told few = refl
+texts-within form e names zero a (suc k) told few = absurd (omega (arith, few))
+texts-within form e names (suc most) a (suc k) told few =
+    let rest : List ℕ = flat_map (event_text form e names) (range_with_len (a + 1) k) in
+    let go_on : Part EventLayout → Option (List EventLayout) = λ part. option_and_then (λ p. option_map (λ events. p.0 ∷ events) (read_event_texts most p.1)) part in
+    on-bytes most (event_text form e names a ++ rest) (omega (arith, text-some form e names a, length-append (event_text form e names a) rest))
+    ∙ ap go_on (event-text-back form e names a rest (told a (omega arith)))
+    ∙ ap (option_map (λ events. event_layout (names_by names) (is_timed form) e (a + 1) ∷ events))
+    (texts-within form e names most (a + 1) k (λ place low. told place (omega (arith, low))) (omega (arith, few)))
+
+texts-long : (form : Form) (e : EnabledRows) (names : Names) (a k : ℕ) → k ≤ length (flat_map (event_text form e names) (range_with_len a k))
+texts-long form e names a zero = omega arith
+texts-long form e names a (suc k) =
+    let rest : List ℕ = flat_map (event_text form e names) (range_with_len (a + 1) k) in
+    omega (arith, text-some form e names a, length-append (event_text form e names a) rest, texts-long form e names (a + 1) k)
+
+pub texts-back : (form : Form) (e : EnabledRows) (names : Names) (k : ℕ) → ((place : ℕ) → place < k → IsTold e names place)
+    → read_event_texts (length (flat_map (event_text form e names) (range_with_len 0 k))) (flat_map (event_text form e names) (range_with_len 0 k))
+    ≡ Some (map (event_layout (names_by names) (is_timed form) e) (range_with_len 1 k))
+texts-back form e names k told =
+    texts-within form e names (length (flat_map (event_text form e names) (range_with_len 0 k))) 0 k (λ place low. told place (omega (arith, low))) (texts-long form e names 0 k)

@@ -1,0 +1,133 @@
+-- A CPU's file by time, and one as taken.
+use Rattle.std.proofs.Common.{◌≡◌, ◌≢◌, ◌≤◌, ◌<◌, ◌+◌, ◌*◌, ◌/◌, ◌^◌, ◌++◌, ◌==◌, ℕ, zero, suc, Bool, true, false, cond, List, [], ◌∷◌, length, map, take, drop, Some, None}
+use Rattle.std.proofs.Common.{refl, ap, sym, ◌∙◌, arith, All}
+use Rattle.std.specs.List.{flat_map, range_with_len}
+use Rattle.std.proofs.lemmas.Bool.{eqb-true, eqb-false, eq-eqb}
+use Rattle.std.proofs.lemmas.List.{take-append-drop, drop_all, drop-drop, length-take}
+use Rattle.std.proofs.lemmas.List.Elements.{All-take, All-drop}
+use Rattle.dspec_record.specs.Record.{Record}
+use Rattle.dspec_record.specs.EnablingRows.{EnabledRows}
+use Rattle.dspec_ctf.specs.Packets.{events, packet}
+use Rattle.dspec_ctf.specs.Streams.{Accepts}
+use Rattle.dspec_ctf.specs.ByTime.{span_of, packet_count, part_at, packet_at, timed_packets}
+use Rattle.dspec_ctf_reading.specs.Reading.{PacketRead, read_file, events_of, loss_of}
+use Rattle.dspec_ctf_reading.specs.Layouts.{Naming, event_read, layout_by, packet_read}
+use Rattle.dspec_ctf_reading.specs.Files.{FileTells, last_missed}
+use Rattle.dspec_ctf_reading.proofs.Events.{HasStamps}
+use Rattle.dspec_ctf_reading.proofs.Packets.{HasSpan}
+use Rattle.dspec_ctf_reading.proofs.Sizes.{events-small}
+use Rattle.dspec_ctf_reading.proofs.Files.{flat-read, flat-events, All-each, All-of, packet-read, span-low}
+
+few : (ps : List Record) → length (take 4096 ps) ≤ 4096
+few ps = omega (arith, length-take 4096 ps)
+
+-- there are packets for all records
+covers-test : (missed n : ℕ) (none : Bool) → (n == 0) ≡ none → n ≤ 4096 * (0 + cond none (cond (missed == 0) 0 1) ((n + 4095) / 4096))
+covers-test missed n true is =
+    let nothing : n ≡ 0 = eqb-true n 0 is in
+    omega (arith, nothing)
+covers-test missed n false is = omega arith
+
+covers : (missed n : ℕ) → n ≤ 4096 * (0 + packet_count missed n)
+covers missed n = covers-test missed n (n == 0) refl
+
+-- and there is none only where nothing was missed
+none-test : (missed n : ℕ) (none gone : Bool) → (n == 0) ≡ none → (missed == 0) ≡ gone → cond none (cond gone 0 1) ((n + 4095) / 4096) ≡ 0 → missed ≡ 0
+none-test missed n true true is nothing count = eqb-true missed 0 nothing
+none-test missed n true false is nothing count = absurd (omega (arith, count))
+none-test missed n false gone is nothing count =
+    let some : n ≢ 0 = eqb-false n 0 is in
+    absurd (omega (arith, count, some))
+
+-- the parts are all records, in order
+parts-all : (rs : List Record) (k a : ℕ) → length rs ≤ 4096 * (a + k) → flat_map (part_at rs) (range_with_len a k) ≡ drop (4096 * a) rs
+unfolding part_at
+parts-all rs zero a short = sym (drop_all (4096 * a) rs (omega (arith, short)))
+parts-all rs (suc k) a short =
+    let part : List Record = take 4096 (drop (4096 * a) rs) in
+    let next : 4096 * (a + 1) ≡ 4096 * a + 4096 = omega arith in
+    ap (λ more. part ++ more) (parts-all rs k (a + 1) (omega (arith, short)) ∙ ap (λ n. drop n rs) next ∙ sym (drop-drop 4096 (4096 * a) rs))
+    ∙ take-append-drop 4096 (drop (4096 * a) rs)
+
+-- what the last packet tells
+loss-last : (g : ℕ → PacketRead) (k a : ℕ) → loss_of (map g (range_with_len a (suc k))) ≡ (g (a + k)).discarded
+loss-last g zero a = ap (λ n. (g n).discarded) (omega arith)
+loss-last g (suc k) a = loss-last g k (a + 1) ∙ ap (λ n. (g n).discarded) (omega arith)
+
+told-low : (b : Bool) (missed : ℕ) → missed < 2 ^ 64 → cond b missed 0 < 2 ^ 64
+told-low true missed low = low
+told-low false missed low = omega arith
+
+module _ (called : Naming) (e : EnabledRows) (has : HasStamps true e.header) (uuid : List ℕ) (missed cpu : ℕ) (rs : List Record)
+    (long : length uuid ≡ 16) (low : missed < 2 ^ 64) (small : cpu < 2 ^ 32) (of_rs : All (Accepts e) rs) where
+  count : ℕ
+  count = packet_count missed (length rs)
+
+  -- the packet at a place, as it is read
+  at_place : ℕ → PacketRead
+  at_place place = packet_read called true e uuid (Some (span_of (part_at rs place))) (cond (place + 1 == count) missed 0) cpu (part_at rs place)
+
+  part-of : (place : ℕ) → All (Accepts e) (part_at rs place)
+  unfolding part_at
+  part-of place = All-take (Accepts e) 4096 (drop (4096 * place) rs) (All-drop (Accepts e) (4096 * place) rs of_rs)
+
+  part-small : (place : ℕ) → length (events e (part_at rs place)) < 2 ^ 60
+  unfolding part_at
+  part-small place = omega (arith, events-small e (part_at rs place) (part-of place), few (drop (4096 * place) rs))
+
+  place-read : (place : ℕ) → read_file (layout_by called true e) (packet_at uuid e missed cpu rs count place) ≡ Some (at_place place ∷ [])
+  unfolding packet_at count at_place
+  place-read place =
+      packet-read called true e has uuid (Some (span_of (part_at rs place))) (cond (place + 1 == count) missed 0) cpu (part_at rs place) long
+      (span-low e (part_at rs place) (part-of place)) (told-low (place + 1 == count) missed low) small (part-small place) (part-of place)
+
+  loss-is : (n : ℕ) → n ≡ count → loss_of (map at_place (range_with_len 0 n)) ≡ missed
+  unfolding count at_place
+  loss-is zero is = sym (none-test missed (length rs) (length rs == 0) (missed == 0) refl refl (sym is))
+  loss-is (suc k) is =
+      loss-last at_place k 0 ∙ ap (λ b. cond b missed 0) (eq-eqb (0 + k + 1) count (omega (arith, is)))
+
+  pub timed-back : FileTells (layout_by called true e) uuid cpu (timed_packets uuid e missed cpu rs) (map (event_read called true e) rs) missed
+  unfolding timed_packets count at_place
+  timed-back = record {
+    packets = map at_place (range_with_len 0 count);
+    read = flat-read (layout_by called true e) (λ _. Unit {0}) (packet_at uuid e missed cpu rs count) at_place (λ place _. place-read place) (range_with_len 0 count)
+        (All-of (λ _. Unit {0}) (λ _. tt) (range_with_len 0 count));
+    has = flat-events at_place (event_read called true e) (part_at rs) (λ place. refl) (range_with_len 0 count)
+        ∙ ap (map (event_read called true e)) (parts-all rs count 0 (covers missed (length rs)));
+    misses = loss-is count refl;
+    whose = All-each (λ p. (p.uuid ≡ uuid) × (p.cpu ≡ cpu)) at_place (λ place. (refl, refl)) (range_with_len 0 count);
+  }
+
+-- the batches of a CPU as they were taken: what was missed so far, and the records
+module _ (called : Naming) (e : EnabledRows) (uuid : List ℕ) (cpu : ℕ) (long : length uuid ≡ 16) (small : cpu < 2 ^ 32) where
+  Taken : ℕ × List Record → Type 0
+  Taken batch = (batch.0 < 2 ^ 64) × (length (events e batch.1) < 2 ^ 60) × All (Accepts e) batch.1
+
+  taken_read : ℕ × List Record → PacketRead
+  taken_read batch = packet_read called false e uuid None batch.0 cpu batch.1
+
+  batch-read : (batch : ℕ × List Record) → Taken batch → read_file (layout_by called false e) (packet uuid e batch.0 cpu batch.1) ≡ Some (taken_read batch ∷ [])
+  unfolding Taken taken_read HasStamps HasSpan
+  batch-read batch of_batch = packet-read called false e tt uuid None batch.0 cpu batch.1 long tt of_batch.0 small of_batch.1 of_batch.2
+
+  taken-events : (batches : List (ℕ × List Record)) → events_of (map taken_read batches) ≡ map (event_read called false e) (flat_map (λ b. b.1) batches)
+  unfolding taken_read
+  taken-events batches = flat-events taken_read (event_read called false e) (λ b. b.1) (λ b. refl) batches
+
+  taken-loss : (batches : List (ℕ × List Record)) → loss_of (map taken_read batches) ≡ last_missed batches
+  unfolding taken_read
+  taken-loss [] = refl
+  taken-loss (batch ∷ []) = refl
+  taken-loss (batch ∷ other ∷ batches) = taken-loss (other ∷ batches)
+
+  pub taken-back : (batches : List (ℕ × List Record)) → All (λ b. (b.0 < 2 ^ 64) × (length (events e b.1) < 2 ^ 60) × All (Accepts e) b.1) batches
+      → FileTells (layout_by called false e) uuid cpu (flat_map (λ b. packet uuid e b.0 cpu b.1) batches) (map (event_read called false e) (flat_map (λ b. b.1) batches)) (last_missed batches)
+  unfolding Taken taken_read
+  taken-back batches of_batches = record {
+    packets = map taken_read batches;
+    read = flat-read (layout_by called false e) Taken (λ b. packet uuid e b.0 cpu b.1) taken_read batch-read batches of_batches;
+    has = taken-events batches;
+    misses = taken-loss batches;
+    whose = All-each (λ p. (p.uuid ≡ uuid) × (p.cpu ≡ cpu)) taken_read (λ b. (refl, refl)) batches;
+  }

@@ -1,0 +1,12 @@
+use Rattle.dspec_ctf_reading.specs.Layouts.{names_by}
+use Rattle.dspec_ctf_reading.proofs.Events.{stamps-with-two}
+use Rattle.dspec_ctf_reading.proofs.Live.{runs-back, missed-back}
+use Rattle.dspec_ctf_reading.proofs.laws.live_file_reads_back.Goals as goal
+
+pub returns-clause-runs : goal.returns-clause-runs
+returns-clause-runs c = λ e names frequency uuid missed cpu rs file lasts new from to runs two long low small few of_rs are.
+    runs-back (names_by names) e (stamps-with-two e.header two) uuid missed cpu long low small rs few of_rs file lasts from runs to new are
+
+pub returns-clause-missed : goal.returns-clause-missed
+returns-clause-missed c = λ e names frequency uuid before missed cpu lasts two long low high small at.
+    missed-back (names_by names) e (stamps-with-two e.header two) uuid before missed cpu lasts long low high small at
