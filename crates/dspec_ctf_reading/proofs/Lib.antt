@@ -13,3 +13,5 @@ pub mod Lines
 pub mod Texts
 pub mod Headings
 pub mod Allowed
+pub mod Numbered
+pub mod Shorter

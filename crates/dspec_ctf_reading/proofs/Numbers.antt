@@ -11,10 +11,10 @@ use Rattle.dspec_ctf_reading.specs.Reading.{read_number}
 nested-2 : (a b : ℕ) → a + 256 * (b + 256 * 0) ≡ a + b * 256
 nested-2 a b = omega arith
 
-nested-4 : (a b c d : ℕ) → a + 256 * (b + 256 * (c + 256 * (d + 256 * 0))) ≡ a + b * 256 + c * 256 ^ 2 + d * 256 ^ 3
+pub nested-4 : (a b c d : ℕ) → a + 256 * (b + 256 * (c + 256 * (d + 256 * 0))) ≡ a + b * 256 + c * 256 ^ 2 + d * 256 ^ 3
 nested-4 a b c d = omega arith
 
-nested-8 : (a b c d e f g h : ℕ) → a + 256 * (b + 256 * (c + 256 * (d + 256 * (e + 256 * (f + 256 * (g + 256 * (h + 256 * 0)))))))
+pub nested-8 : (a b c d e f g h : ℕ) → a + 256 * (b + 256 * (c + 256 * (d + 256 * (e + 256 * (f + 256 * (g + 256 * (h + 256 * 0)))))))
     ≡ a + b * 256 + c * 256 ^ 2 + d * 256 ^ 3 + e * 256 ^ 4 + f * 256 ^ 5 + g * 256 ^ 6 + h * 256 ^ 7
 nested-8 a b c d e f g h = omega arith
 

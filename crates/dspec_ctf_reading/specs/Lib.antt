@@ -5,3 +5,4 @@ pub mod Told
 pub mod Files
 pub mod ReadingMetadata
 pub mod SampleMetadata
+pub mod Fronts

@@ -18,7 +18,8 @@ ghost use Rattle.dspec_ctf.specs.declared.form.Form.TheVariants.{AsTaken, ByTime
 ghost use Rattle.dspec_ctf.specs.declared.names.Names.{Names};
 ghost use Rattle.dspec_ctf.specs.declared.rows.Run.{Run};
 ghost use Rattle.dspec_probe.specs.declared.probes.ProbeNames.{ProbeNames};
-ghost use Rattle.dspec_ctf_reading.specs.Reading.{Layout, PacketRead, read_packets_within, read_events_within, read_event, read_events, read_packet, read_file};
+ghost use Rattle.dspec_ctf_reading.specs.Reading.{Layout, PacketRead, read_packets_within, read_events_within, read_event, read_events, read_packet, read_file, with_events};
+ghost use Rattle.dspec_ctf_reading.specs.Fronts.{split_packet};
 ghost use Rattle.dspec_ctf_reading.specs.Layouts.{layout_of, event_of, packet_of, given_for};
 ghost use Rattle.dspec_ctf_reading.specs.Files.{FileTells, PartTells, file_bytes, last_missed};
 ghost use Rattle.dspec_ctf_reading.specs.Told.{HasNumbers};
@@ -38,6 +39,12 @@ pub fn reads_on()
         ≡ option_and_then (λ p. option_map (λ events. p.0 ∷ events) (read_events layout p.1)) (read_event layout (b ∷ bytes)) }
     ensures packets { (layout : Layout) (b : ℕ) (bytes : List ℕ) → read_file layout (b ∷ bytes)
         ≡ option_and_then (λ p. option_map (λ packets. p.0 ∷ packets) (read_file layout p.1)) (read_packet layout (b ∷ bytes)) }
+{}
+
+/// To read a packet is to split it and to read its events.
+pub fn packet_is_split()
+    ensures { (layout : Layout) (bytes : List ℕ) → read_packet layout bytes
+        ≡ option_and_then (λ s. option_map (λ packet. (packet, s.behind)) (with_events layout s.front s.body)) (split_packet layout.timed bytes) }
 {}
 
 /// What is written behind a file changes nothing of what the file has, and is read behind it.

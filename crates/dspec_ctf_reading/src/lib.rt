@@ -2,4 +2,5 @@
 //! writer's definitions. The laws say what reading gives of what the writer writes.
 #![tactic(auto)]
 
+pub mod fronts;
 pub mod laws;

@@ -1,8 +1,10 @@
-//! Tests of `dspec_ctf`, by worked examples. They stand in a crate above it, so that it isn't proved again with its tests.
+//! Tests of `dspec_ctf` and `dspec_ctf_reading`, by worked examples. They stand in a crate above them, so that they aren't proved again with their tests.
 #![tactic(auto)]
 
 #[cfg(test)]
 mod by_time;
+#[cfg(test)]
+mod fronts;
 #[cfg(test)]
 mod metadata_texts;
 #[cfg(test)]

@@ -1,0 +1,31 @@
+-- Cited by calls. A packet split into its front, the bytes of its events and what is behind it, before any event is read.
+use Rattle.std.specs.Prelude.{ℕ, ◌-◌, ◌/◌, Bool, List, length, take, drop, Option, Some, None, if◌then◌else◌}
+use Rattle.std.specs.Option.{option_and_then}
+use Rattle.dspec_ctf_reading.specs.Reading.{FrontRead, read_front, sizes_agree}
+use Rattle.dspec_ctf_reading.specs.declared.fronts.Front.{Front}
+
+-- a front in memory, as it is read
+abbrev pub front_of : Front → FrontRead
+front_of f = record {
+  uuid = f.uuid;
+  span = f.span;
+  content_size = f.content_size;
+  packet_size = f.packet_size;
+  discarded = f.discarded;
+  cpu = f.cpu;
+}
+
+pub record PacketSplit : Type 0 where
+  pub front : FrontRead
+  pub body : List ℕ
+  pub behind : List ℕ
+
+-- of a packet whose sizes agree with the bytes, of which those behind its front are given besides
+abbrev pub split_behind : List ℕ → FrontRead → List ℕ → Option PacketSplit
+split_behind bytes front rest =
+    if sizes_agree front (length bytes - length rest) (length bytes)
+    then Some (record { front = front; body = take (front.packet_size / 8 - (length bytes - length rest)) rest; behind = drop (front.packet_size / 8) bytes })
+    else None
+
+abbrev pub split_packet : Bool → List ℕ → Option PacketSplit
+split_packet timed bytes = option_and_then (λ p. split_behind bytes p.0 p.1) (read_front timed bytes)
