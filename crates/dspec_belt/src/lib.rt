@@ -3,15 +3,15 @@
 //! as a part of its state, and moves with it into its thread.
 //!
 //! `open_within` and `Taker::take_within` look again and again, with a service of the lane between two looks, so that the lanes that
-//! they wait for get what they need; after so many looks they give up. At a `Gathering` works that have nothing left to do go on serving
+//! they wait for get what they need; after so many looks they give up. At a `Barrier` works that have nothing left to do go on serving
 //! until all have come. A path that is on the belt when that is let go stays
 //! undecided: the reports count its records as `held`. Stands on `dspec` and on the kit's `rtrb`.
 #![tactic(auto)]
 
+mod barrier;
 mod ends;
-mod gathering;
 mod waiting;
 
+pub use barrier::Barrier;
 pub use ends::{Giver, Taker, belt};
-pub use gathering::Gathering;
 pub use waiting::open_within;

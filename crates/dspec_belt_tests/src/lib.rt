@@ -2,8 +2,8 @@
 #![tactic(auto)]
 
 #[cfg(test)]
+mod barriers;
+#[cfg(test)]
 mod belts;
 #[cfg(test)]
 mod clocks;
-#[cfg(test)]
-mod gatherings;

@@ -1,6 +1,6 @@
 use Rattle.std.proofs.Common.{◌∙◌}
 use Rattle.dspec_belt.proofs.OnceMore.{serves_once_more}
-use Rattle.dspec_belt.proofs.gathering.Gathering.wait.Goals as goal
+use Rattle.dspec_belt.proofs.barrier.Barrier.wait.Goals as goal
 
 pub loop-preserved : goal.loop-preserved
 loop-preserved g c = record {

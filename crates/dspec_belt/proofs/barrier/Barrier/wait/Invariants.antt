@@ -3,7 +3,7 @@ use Rattle.std.proofs.Common.{◌≡◌}
 use Rattle.dspec_cpu.specs.Lists.{HasList}
 use Rattle.dspec.specs.Lanes.{place_of}
 use Rattle.dspec_belt.specs.Waits.{ServesTimes}
-use Rattle.dspec_belt.proofs.gathering.Gathering.wait.Given as goal
+use Rattle.dspec_belt.proofs.barrier.Barrier.wait.Given as goal
 
 abbrev pub invariant-loop : goal.invariant-loop
 invariant-loop g l = record {

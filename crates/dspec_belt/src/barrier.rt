@@ -10,17 +10,20 @@ use std::thread;
 
 /// Where works meet at their ends. A work that returns makes no services any more, and each slot that waits for its CPU stays taken: so
 /// a work that ends before the others waits here, and its lane goes on serving until all have come. Whoever waits has a reference to it.
-/// No contract says how many have come, since any thread may come at any time.
+/// Every work has to come, also one that ends early by a fault: the others serve for it as often as they were told. No contract says how
+/// many have come, since any thread may come at any time.
 #[derive(Drop)]
-pub struct Gathering {
+pub struct Barrier {
     works: u64,
     came: AtomicU64,
 }
 
-impl Gathering {
+impl Barrier {
     /// Of so many works, of which none has come.
-    pub fn of(works: u32) -> Gathering {
-        Gathering {
+    pub fn of(works: u32) -> Barrier
+        ensures { result.works ≡ works }
+    {
+        Barrier {
             works: u64::from(works),
             came: AtomicU64::new(0),
         }
@@ -50,7 +53,7 @@ impl Gathering {
             if self.is_whole() {
                 break;
             }
-            Gathering::serve(lane);
+            Barrier::serve(lane);
         }
         self.is_whole()
     }

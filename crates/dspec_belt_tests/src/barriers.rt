@@ -4,7 +4,7 @@ ghost use Rattle.std.specs.Prelude.{◌≡◌};
 ghost use Rattle.dspec.specs.Lanes.{place_of};
 
 use dspec::{Config, Enablings, Field, Kept, Lane, Work, trace};
-use dspec_belt::{Gathering, open_within};
+use dspec_belt::{Barrier, open_within};
 use std::alloc::Global;
 use std::sync::atomic::{AtomicU64, Ordering};
 use std::test::Fail;
@@ -18,7 +18,7 @@ const FEW: u32 = 1_000;
 /// What two lanes do. It counts the paths that were opened.
 #[derive(Drop)]
 struct Ends {
-    gathering: Gathering,
+    barrier: Barrier,
     waits: bool,
     opened: AtomicU64,
 }
@@ -47,7 +47,7 @@ impl Work<Enablings> for Ends {
             }
         }
         if self.waits {
-            let _ = self.gathering.wait(lane, u64::MAX);
+            let _ = self.barrier.wait(lane, u64::MAX);
         }
     }
 }
@@ -59,7 +59,7 @@ fn opened<R: Threads + Sync>(rt: &R, alloc: Global, waits: bool) -> Result<u64, 
         return Err(Fail::from("an enabling"));
     };
     let work = Ends {
-        gathering: Gathering::of(2),
+        barrier: Barrier::of(2),
         waits,
         opened: AtomicU64::new(0),
     };
@@ -83,8 +83,8 @@ fn a_lane_that_returns_takes_slots(rt: HostRuntime) -> Result<(), Fail> {
 /// All have come, or one hasn't: then so many services are made, and no more.
 #[derive(Drop)]
 struct Alone {
-    whole: Gathering,
-    wanting: Gathering,
+    whole: Barrier,
+    wanting: Barrier,
     due: AtomicU64,
 }
 
@@ -98,10 +98,10 @@ impl Work<Enablings> for Alone {
 }
 
 #[test]
-fn a_gathering_tells_whether_all_came(rt: HostRuntime) -> Result<(), Fail> {
+fn a_barrier_tells_whether_all_came(rt: HostRuntime) -> Result<(), Fail> {
     let work = Alone {
-        whole: Gathering::of(1),
-        wanting: Gathering::of(2),
+        whole: Barrier::of(1),
+        wanting: Barrier::of(2),
         due: AtomicU64::new(0),
     };
     let config = Config::of(1, 1, 64, 64);
