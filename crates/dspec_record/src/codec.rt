@@ -13,6 +13,15 @@ const EPID_SIZE: usize = 4;
 /// How many numbers a word of four bytes holds.
 const WORD: u64 = 1 << 32;
 
+/// How a value is stored; the bytes are the same.
+#[derive(Clone, Copy)]
+pub(crate) enum Stores {
+    /// By slices: the fewest instructions where the fields are known only when the program runs.
+    Slices,
+    /// By arrays: no code is left that asks how long a slice is, where the fields are known when the program is compiled.
+    Arrays,
+}
+
 /// Whether a record with this header can have this stamp: 0 alone where the header has none.
 #[inline]
 pub(crate) fn fits_header(header: Header, stamp: u64) -> bool
@@ -59,12 +68,12 @@ pub(crate) fn put_record<R: Recorded>(
 {
     let values = rec.values();
     let wide = has_wide_front(header, values);
-    let mut end = put_header(header, rec, wide, out);
+    let mut end = put_header(header, rec, wide, Stores::Slices, out);
     let moved = header.stamp_size();
     // each place is known: no running code is left of the ends
     for (i, value) in values.iter().enumerate() {
         let place = places[i] as usize + moved;
-        end = put_field(fields[i], *value, end, place, out);
+        end = put_field(fields[i], *value, end, place, Stores::Slices, out);
     }
 }
 
@@ -81,7 +90,13 @@ fn has_wide_front(header: Header, values: &[u64]) -> bool
 
 /// Writes what stands before the fields; answers where they begin. Whether there is room for eight bytes the caller tells.
 #[inline(always)]
-pub(crate) fn put_header<R: Recorded>(header: Header, rec: R, wide: bool, out: &mut [u8]) -> usize
+pub(crate) fn put_header<R: Recorded>(
+    header: Header,
+    rec: R,
+    wide: bool,
+    stores: Stores,
+    out: &mut [u8],
+) -> usize
     requires wide { wide ≡ nat_le 8 (length out.old) }
     requires whole_words { length out.old % 4 ≡ 0 }
     requires room { fields_start header ≤ length out.old }
@@ -89,12 +104,12 @@ pub(crate) fn put_header<R: Recorded>(header: Header, rec: R, wide: bool, out: &
     ensures put { take (fields_start header) out.new ≡ header_text header (R.as_record rec) }
     ensures clear { IsClearBehind (fields_start header) out.new }
 {
-    let end = put_in_room(Field::Four, u64::from(rec.epid()), 0, 0, wide, out);
+    let end = put_in_room(Field::Four, u64::from(rec.epid()), 0, 0, wide, stores, out);
     match header {
         Header::One => end,
         Header::Two => {
-            let low = put_field(Field::Four, rec.stamp() % WORD, end, end, out);
-            put_field(Field::Four, rec.stamp() / WORD, low, low, out)
+            let low = put_field(Field::Four, rec.stamp() % WORD, end, end, stores, out);
+            put_field(Field::Four, rec.stamp() / WORD, low, low, stores, out)
         }
     }
 }
@@ -102,7 +117,14 @@ pub(crate) fn put_header<R: Recorded>(header: Header, rec: R, wide: bool, out: &
 /// Writes a value at the field's place behind `end`; answers where the field ends. What is between is zero already,
 /// and so is what is behind the field, up to the next multiple of eight: no gap is longer.
 #[inline(always)]
-pub(crate) fn put_field(field: Field, value: u64, end: usize, place: usize, out: &mut [u8]) -> usize
+pub(crate) fn put_field(
+    field: Field,
+    value: u64,
+    end: usize,
+    place: usize,
+    stores: Stores,
+    out: &mut [u8],
+) -> usize
     requires holds { value < 256 ^ width field }
     requires whole_words { length out.old % 4 ≡ 0 }
     requires place { place ≡ rounded_up end (width field) }
@@ -114,7 +136,7 @@ pub(crate) fn put_field(field: Field, value: u64, end: usize, place: usize, out:
     ensures clear { IsClearBehind result out.new }
 {
     let wide = place + 8 <= out.len();
-    put_in_room(field, value, end, place, wide, out)
+    put_in_room(field, value, end, place, wide, stores, out)
 }
 
 /// As `put_field`, where the caller tells whether there is room for eight bytes.
@@ -125,6 +147,7 @@ fn put_in_room(
     _end: usize,
     place: usize,
     wide: bool,
+    stores: Stores,
     out: &mut [u8],
 ) -> usize
     requires wide { wide ≡ nat_le (place + 8) (length out.old) }
@@ -138,20 +161,51 @@ fn put_in_room(
         ≡ take _end out.old ++ (gap _end (width field) ++ little_endian (width field) value) }
     ensures clear { IsClearBehind result out.new }
 {
-    write_wide(value, wide, &mut out[place..]);
+    write_wide(value, wide, stores, &mut out[place..]);
     place + field.width()
 }
 
 /// Writes the value's lowest 8, 4, 2 bytes or 1, the most that there is room for: stores of fixed sizes, the zeros
 /// of a gap behind a short value among them. Whether there is room for all eight the caller tells.
 #[inline(always)]
-fn write_wide(value: u64, wide: bool, out: &mut [u8])
+fn write_wide(value: u64, wide: bool, stores: Stores, out: &mut [u8])
+    requires wide { wide ≡ nat_le 8 (length out.old) }
+    requires some { 1 ≤ length out.old }
+    ensures { IsWrittenWide value out.old out.new }
+{
+    match stores {
+        Stores::Slices => write_slices(value, wide, out),
+        Stores::Arrays => write_arrays(value, wide, out),
+    }
+}
+
+/// As `write_wide`, by slices.
+#[inline(always)]
+fn write_slices(value: u64, wide: bool, out: &mut [u8])
     requires wide { wide ≡ nat_le 8 (length out.old) }
     requires some { 1 ≤ length out.old }
     ensures { IsWrittenWide value out.old out.new }
 {
     let bytes = value.to_le_bytes();
-    // arrays of fixed sizes: no code is left that asks how long a slice is, or whether two of them overlap
+    if wide {
+        out[..8].copy_from_slice(&bytes);
+    } else if out.len() >= 4 {
+        out[..4].copy_from_slice(&bytes[..4]);
+    } else if out.len() >= 2 {
+        out[..2].copy_from_slice(&bytes[..2]);
+    } else {
+        out[0] = bytes[0];
+    }
+}
+
+/// As `write_wide`, by arrays.
+#[inline(always)]
+fn write_arrays(value: u64, wide: bool, out: &mut [u8])
+    requires wide { wide ≡ nat_le 8 (length out.old) }
+    requires some { 1 ≤ length out.old }
+    ensures { IsWrittenWide value out.old out.new }
+{
+    let bytes = value.to_le_bytes();
     if wide {
         *out.first_chunk_mut::<8>().unwrap() = bytes;
     } else if out.len() >= 4 {

@@ -1,7 +1,7 @@
 -- Each branch writes the most bytes that there is room for.
-use Rattle.std.proofs.Common.{◌++◌, ◌∷◌, ◌∙◌, length, sym, ap, drop, slice_index_or, refl, inl, inr, arith}
+use Rattle.std.proofs.Common.{◌++◌, ◌∙◌, length, sym, ap, take, drop, refl, inl, inr, arith}
 use Rattle.std.proofs.lemmas.Bool.{leb-true, leb-false}
-use Rattle.dspec_record.proofs.codec.write_wide.Goals as goal
+use Rattle.dspec_record.proofs.codec.write_slices.Goals as goal
 
 pub returns-then-wide : goal.returns-then-wide
 returns-then-wide c =
@@ -9,7 +9,7 @@ returns-then-wide c =
     record {
       count = 8;
       wide = inl (refl, long);
-      bytes = ap (λ b. b ++ drop 8 c.args.out.now) c.to_le_bytes-bytes.ensures;
+      bytes = ap (λ b. b ++ drop 8 c.args.out.now) (c.copy_from_slice.ensures.after ∙ c.to_le_bytes-bytes.ensures);
     }
 
 pub returns-then-out-ge4 : goal.returns-then-out-ge4
@@ -18,12 +18,12 @@ returns-then-out-ge4 c =
     record {
       count = 4;
       wide = inr (inl (refl, omega arith, omega arith));
-      bytes = ap (λ b. slice_index_or b 0 0 ∷ slice_index_or b 1 0 ∷ slice_index_or b 2 0 ∷ slice_index_or b 3 0 ∷ drop 4 c.args.out.now) c.to_le_bytes-bytes.ensures;
+      bytes = ap (λ b. b ++ drop 4 c.args.out.now) (c.copy_from_slice-then-out-ge4.ensures.after ∙ ap (take 4) c.to_le_bytes-bytes.ensures);
     }
 
 pub returns-then-out-ge2 : goal.returns-then-out-ge2
 returns-then-out-ge2 c = record {
   count = 2;
   wide = inr (inr (inl (refl, omega arith, omega arith)));
-  bytes = ap (λ b. slice_index_or b 0 0 ∷ slice_index_or b 1 0 ∷ drop 2 c.args.out.now) c.to_le_bytes-bytes.ensures;
+  bytes = ap (λ b. b ++ drop 2 c.args.out.now) (c.copy_from_slice-then-out-ge2.ensures.after ∙ ap (take 2) c.to_le_bytes-bytes.ensures);
 }
