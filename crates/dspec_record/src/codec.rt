@@ -14,12 +14,51 @@ const EPID_SIZE: usize = 4;
 const WORD: u64 = 1 << 32;
 
 /// How a value is stored; the bytes are the same.
-#[derive(Clone, Copy)]
-pub(crate) enum Stores {
-    /// By slices: the fewest instructions where the fields are known only when the program runs.
-    Slices,
-    /// By arrays: no code is left that asks how long a slice is, where the fields are known when the program is compiled.
-    Arrays,
+pub(crate) trait Store {
+    /// Writes the value's lowest 8, 4, 2 bytes or 1, the most that there is room for: stores of fixed sizes, the zeros
+    /// of a gap behind a short value among them. Whether there is room for all eight the caller tells.
+    fn write_wide(value: u64, wide: bool, out: &mut [u8])
+        requires wide { wide ≡ nat_le 8 (length out.old) }
+        requires some { 1 ≤ length out.old }
+        ensures { IsWrittenWide value out.old out.new };
+}
+
+/// By slices: the fewest instructions where the fields are looked up when the program runs.
+pub(crate) struct BySlices;
+
+impl Store for BySlices {
+    #[inline(always)]
+    fn write_wide(value: u64, wide: bool, out: &mut [u8]) {
+        let bytes = value.to_le_bytes();
+        if wide {
+            out[..8].copy_from_slice(&bytes);
+        } else if out.len() >= 4 {
+            out[..4].copy_from_slice(&bytes[..4]);
+        } else if out.len() >= 2 {
+            out[..2].copy_from_slice(&bytes[..2]);
+        } else {
+            out[0] = bytes[0];
+        }
+    }
+}
+
+/// By arrays: no code is left that asks how long a slice is, where the fields are known when the program is compiled.
+pub(crate) struct ByArrays;
+
+impl Store for ByArrays {
+    #[inline(always)]
+    fn write_wide(value: u64, wide: bool, out: &mut [u8]) {
+        let bytes = value.to_le_bytes();
+        if wide {
+            *out.first_chunk_mut::<8>().unwrap() = bytes;
+        } else if out.len() >= 4 {
+            *out.first_chunk_mut::<4>().unwrap() = [bytes[0], bytes[1], bytes[2], bytes[3]];
+        } else if out.len() >= 2 {
+            *out.first_chunk_mut::<2>().unwrap() = [bytes[0], bytes[1]];
+        } else {
+            out[0] = bytes[0];
+        }
+    }
 }
 
 /// Whether a record with this header can have this stamp: 0 alone where the header has none.
@@ -68,12 +107,12 @@ pub(crate) fn put_record<R: Recorded>(
 {
     let values = rec.values();
     let wide = has_wide_front(header, values);
-    let mut end = put_header(header, rec, wide, Stores::Slices, out);
+    let mut end = put_header::<R, BySlices>(header, rec, wide, out);
     let moved = header.stamp_size();
     // each place is known: no running code is left of the ends
     for (i, value) in values.iter().enumerate() {
         let place = places[i] as usize + moved;
-        end = put_field(fields[i], *value, end, place, Stores::Slices, out);
+        end = put_field::<BySlices>(fields[i], *value, end, place, out);
     }
 }
 
@@ -90,11 +129,10 @@ fn has_wide_front(header: Header, values: &[u64]) -> bool
 
 /// Writes what stands before the fields; answers where they begin. Whether there is room for eight bytes the caller tells.
 #[inline(always)]
-pub(crate) fn put_header<R: Recorded>(
+pub(crate) fn put_header<R: Recorded, W: Store>(
     header: Header,
     rec: R,
     wide: bool,
-    stores: Stores,
     out: &mut [u8],
 ) -> usize
     requires wide { wide ≡ nat_le 8 (length out.old) }
@@ -104,12 +142,12 @@ pub(crate) fn put_header<R: Recorded>(
     ensures put { take (fields_start header) out.new ≡ header_text header (R.as_record rec) }
     ensures clear { IsClearBehind (fields_start header) out.new }
 {
-    let end = put_in_room(Field::Four, u64::from(rec.epid()), 0, 0, wide, stores, out);
+    let end = put_in_room::<W>(Field::Four, u64::from(rec.epid()), 0, 0, wide, out);
     match header {
         Header::One => end,
         Header::Two => {
-            let low = put_field(Field::Four, rec.stamp() % WORD, end, end, stores, out);
-            put_field(Field::Four, rec.stamp() / WORD, low, low, stores, out)
+            let low = put_field::<W>(Field::Four, rec.stamp() % WORD, end, end, out);
+            put_field::<W>(Field::Four, rec.stamp() / WORD, low, low, out)
         }
     }
 }
@@ -117,12 +155,11 @@ pub(crate) fn put_header<R: Recorded>(
 /// Writes a value at the field's place behind `end`; answers where the field ends. What is between is zero already,
 /// and so is what is behind the field, up to the next multiple of eight: no gap is longer.
 #[inline(always)]
-pub(crate) fn put_field(
+pub(crate) fn put_field<W: Store>(
     field: Field,
     value: u64,
     end: usize,
     place: usize,
-    stores: Stores,
     out: &mut [u8],
 ) -> usize
     requires holds { value < 256 ^ width field }
@@ -136,18 +173,17 @@ pub(crate) fn put_field(
     ensures clear { IsClearBehind result out.new }
 {
     let wide = place + 8 <= out.len();
-    put_in_room(field, value, end, place, wide, stores, out)
+    put_in_room::<W>(field, value, end, place, wide, out)
 }
 
 /// As `put_field`, where the caller tells whether there is room for eight bytes.
 #[inline(always)]
-fn put_in_room(
+fn put_in_room<W: Store>(
     field: Field,
     value: u64,
     _end: usize,
     place: usize,
     wide: bool,
-    stores: Stores,
     out: &mut [u8],
 ) -> usize
     requires wide { wide ≡ nat_le (place + 8) (length out.old) }
@@ -161,60 +197,8 @@ fn put_in_room(
         ≡ take _end out.old ++ (gap _end (width field) ++ little_endian (width field) value) }
     ensures clear { IsClearBehind result out.new }
 {
-    write_wide(value, wide, stores, &mut out[place..]);
+    W::write_wide(value, wide, &mut out[place..]);
     place + field.width()
-}
-
-/// Writes the value's lowest 8, 4, 2 bytes or 1, the most that there is room for: stores of fixed sizes, the zeros
-/// of a gap behind a short value among them. Whether there is room for all eight the caller tells.
-#[inline(always)]
-fn write_wide(value: u64, wide: bool, stores: Stores, out: &mut [u8])
-    requires wide { wide ≡ nat_le 8 (length out.old) }
-    requires some { 1 ≤ length out.old }
-    ensures { IsWrittenWide value out.old out.new }
-{
-    match stores {
-        Stores::Slices => write_slices(value, wide, out),
-        Stores::Arrays => write_arrays(value, wide, out),
-    }
-}
-
-/// As `write_wide`, by slices.
-#[inline(always)]
-fn write_slices(value: u64, wide: bool, out: &mut [u8])
-    requires wide { wide ≡ nat_le 8 (length out.old) }
-    requires some { 1 ≤ length out.old }
-    ensures { IsWrittenWide value out.old out.new }
-{
-    let bytes = value.to_le_bytes();
-    if wide {
-        out[..8].copy_from_slice(&bytes);
-    } else if out.len() >= 4 {
-        out[..4].copy_from_slice(&bytes[..4]);
-    } else if out.len() >= 2 {
-        out[..2].copy_from_slice(&bytes[..2]);
-    } else {
-        out[0] = bytes[0];
-    }
-}
-
-/// As `write_wide`, by arrays.
-#[inline(always)]
-fn write_arrays(value: u64, wide: bool, out: &mut [u8])
-    requires wide { wide ≡ nat_le 8 (length out.old) }
-    requires some { 1 ≤ length out.old }
-    ensures { IsWrittenWide value out.old out.new }
-{
-    let bytes = value.to_le_bytes();
-    if wide {
-        *out.first_chunk_mut::<8>().unwrap() = bytes;
-    } else if out.len() >= 4 {
-        *out.first_chunk_mut::<4>().unwrap() = [bytes[0], bytes[1], bytes[2], bytes[3]];
-    } else if out.len() >= 2 {
-        *out.first_chunk_mut::<2>().unwrap() = [bytes[0], bytes[1]];
-    } else {
-        out[0] = bytes[0];
-    }
 }
 
 /// The EPID at the front; Truncated for fewer than its four bytes, Padding for EPID 0.

@@ -6,7 +6,7 @@ ghost use Rattle.dspec_record.specs.Layout.{width, after, fields_start, layout};
 ghost use Rattle.dspec_record.specs.RecordText.{little_endian, gap, header_text};
 ghost use Rattle.dspec_record.specs.Writing.{IsClearBehind};
 
-use crate::codec::{Stores, put_field, put_header};
+use crate::codec::{ByArrays, put_field, put_header};
 use crate::layout::layout_of;
 use crate::{Field, Header, Recorded, Shape};
 
@@ -29,7 +29,7 @@ pub fn put_front<R: Recorded>(header: Header, rec: R, out: &mut [u8]) -> usize
     ensures clear { IsClearBehind (fields_start header) out.new }
 {
     let wide = out.len() >= 8;
-    put_header(header, rec, wide, Stores::Arrays, out)
+    put_header::<R, ByArrays>(header, rec, wide, out)
 }
 
 /// Writes a value at the field's place behind `end`, behind which zeros stand, and zeros behind it; answers where the field ends.
@@ -45,5 +45,5 @@ pub fn put_behind(field: Field, value: u64, end: usize, out: &mut [u8]) -> usize
         ≡ take end out.old ++ (gap end (width field) ++ little_endian (width field) value) }
     ensures clear { IsClearBehind result out.new }
 {
-    put_field(field, value, end, field.place(end), Stores::Arrays, out)
+    put_field::<ByArrays>(field, value, end, field.place(end), out)
 }

@@ -1,7 +1,7 @@
 -- Each branch writes the most bytes that there is room for.
 use Rattle.std.proofs.Common.{◌++◌, ◌∙◌, length, sym, ap, take, drop, refl, inl, inr, arith}
 use Rattle.std.proofs.lemmas.Bool.{leb-true, leb-false}
-use Rattle.dspec_record.proofs.codec.write_slices.Goals as goal
+use Rattle.dspec_record.proofs.codec.BySlicesStore.write_wide.Goals as goal
 
 pub returns-then-wide : goal.returns-then-wide
 returns-then-wide c =
