@@ -13,6 +13,11 @@
 //!
 //! A tool that counts instructions runs a way twice: the difference of both counts is what the further records cost. Nothing is
 //! promised of times.
+//!
+//! | File | What is in it |
+//! |---|---|
+//! | `push/`, `cpu/`, `loads/` | records into a buffer and out of it; a trace kept, dropped, a speculation committed, an idle service; loads of activity beside another thread. Each way is one loop round one call that stays a call |
+//! | `instructions` | the script over callgrind; the same records by others |
 #![tactic(auto)]
 
 mod cpu;

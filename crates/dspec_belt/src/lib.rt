@@ -6,6 +6,12 @@
 //! they wait for get what they need; after so many looks they give up. At a `Barrier` works that have nothing left to do go on serving
 //! until all have come. A path that is on the belt when that is let go stays
 //! undecided: the reports count its records as `held`. Stands on `dspec` and on the kit's `rtrb`.
+//!
+//! | File | What is in it |
+//! |---|---|
+//! | `ends.rt`, `waiting.rt`, `barrier.rt` | the two ends of a belt; `open_within` and `take_within`, which serve the lane while they wait; where works meet at their ends |
+//! | `specs/`: Belts, Waits | what went over a belt, by its ends; the calls that a lane made while it waited |
+//! | `proofs/` | OnceMore |
 #![tactic(auto)]
 
 mod barrier;

@@ -7,6 +7,17 @@
 //! of buffers; `read_all` reads exactly those, and names the fault of anything else (`specs/Faults.antt`), `read_prefix` those before it. That no
 //! bytes are read in two ways, and that what was pushed is read back, are clauses of the functions in `laws`. The
 //! crate stands on `dspec_record`, and only the two `make` take memory.
+//!
+//! | File | What is in it |
+//! |---|---|
+//! | `trace_buffer.rt` | the trait `TraceBuffer`: a list of pieces, each a record or a block, the latest at the head |
+//! | `byte_buffer.rt`, `list_buffer.rt` | its two implementations |
+//! | `reader.rt`, `records.rt` | `read_all`. The check of a text makes no record, the walk makes each once: small functions, inlined into both loops |
+//! | `prefix.rt`, `reading.rt` | `read_prefix`, the records before a text's first fault; `Reading`, which reads once and checks as it goes |
+//! | `upgrading.rt` | `upgrade`: the records of a text that was read whole, pushed with a stamp |
+//! | `specs/`: Extent, BufferText, Faults | pieces and their places; bytes related to records, with no buffer in it; where a text stops being one |
+//! | `specs/`: ReadingOn, Progress | one step of reading, and how far a reader has come; what a call of `Reading` makes of that |
+//! | `specs/`: Upgrading | which text can be upgraded, what the buffer then has, which record is the first that doesn't fit |
 #![tactic(auto)]
 
 mod byte_buffer;

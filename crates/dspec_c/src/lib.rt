@@ -1,5 +1,21 @@
 //! What C calls of a session: handles, each call with its checks and its status, and the CPUs and the consumer that are handed out
 //! and come home. `include/dspec.h` is its header. No exported call has a condition; each ends.
+//!
+//! | File | What is in it |
+//! |---|---|
+//! | `handle.rt`, `seal.rt`, `parts.rt`, `held.rt`, `schema_box.rt` | a box in C's memory, which is lent for a call (the walks over raw pointers in `proofs/seal` and `proofs/parts`), and what a handle can hold: a schema in a box of its own |
+//! | `homing.rt`, `out_cpu.rt`, `desk.rt`, `place.rt` | how a CPU goes out and comes home, again and again, each time by a ring of its own; `consumer_homing.rt`, `out_consumer.rt`, `consumer_desk.rt`, `consumer_place.rt`, `consumer_side.rt` the same of the consumer, with the batches that are out |
+//! | `under_way.rt`, `places.rt`, `gather.rt`, `close.rt`, `ended.rt` | a session from its start to its end |
+//! | `tending.rt` | the services of CPUs that are at their places (`specs/Tending`) |
+//! | `statuses.rt`, `configs.rt`, `reports.rt`, `batches.rt` | what crosses |
+//! | `schema_calls.rt`, `session_calls.rt`, `cpu_calls.rt`, `consumer_calls.rt`, `home_calls.rt`, `rest_calls.rt` | the exports |
+//! | `held_calls.rt`, `held_consumer_calls.rt` | the calls of a CPU and of the consumer on what a handle holds, by cases |
+//! | `signatures.rt`, `firing.rt` | the fields of an EPID in one word (`specs/Signatures`); a record by its EPID and values, traced or fired: each stands whole in its export, since what is fired has a type of its own |
+//! | `specs/`: Homes, Statuses, Shows, Handles, Lending | that a call leaves the same CPU of the same session; which number an answer is, and what goes out; what C reads, field by field; which handles are full, and of what; what lending keeps |
+//! | `specs/`: Answered, CpuCalls, ConsumerCalls | what a status and an out parameter tell of an answer; what each call of a CPU and of the consumer did, by what its handle held before and after |
+//! | `specs/`: SessionCalls, Widths, Configs, ClosedCalls | the same of schemas, sessions and what is left; fields by their widths; a configuration in C's memory |
+//! | `../include`, `../examples/c`, `../examples/cpp`, `../bindings/rust` | `dspec.h`, `dspec_probe.h` (typed probes), `dspec_reader.h` (the records of a batch), `dspec.hpp` (C++20), the pkg-config file; `first` (the program of docs/C.md), `four`, `slow_sql`, `files` (preloaded); `requests`, a server in C++; the Cargo package `dspec` |
+//! | `../bindings/rust-tracing` | the Cargo package `tracing-dspec`, a layer for `tracing` over `dspec`: `lanes.rs` lends CPUs, `consumer.rs` puts paths together |
 #![tactic(auto)]
 
 mod batches;

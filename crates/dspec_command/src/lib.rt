@@ -1,5 +1,9 @@
 //! What the programs' command lines have in common: the words, what is found in them, the inputs that they name, and how a fault is
 //! told: one line of standard error, behind the program's name, and a status by its kind.
+//!
+//! | File | What is in it |
+//! |---|---|
+//! | `asking.rt`, `input.rt`, `fault.rt` | `words_of`, `asked_of`; an input that keeps why it failed; faults and how they are told |
 #![tactic(auto)]
 
 mod asking;

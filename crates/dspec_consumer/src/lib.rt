@@ -6,6 +6,20 @@
 //! nothing else changes. `finish` promises, for whichever lists the CPUs have, one legal list of all deeds that closes them
 //! (`specs/Closing.antt`). No call waits, and none but `start` and `make` takes memory. Stands on `dspec_cpu`, `dspec_table` and
 //! `dspec_ring`.
+//!
+//! | File | What is in it |
+//! |---|---|
+//! | `session.rt`, `starting.rt` | `Session`, and its start |
+//! | `finishing.rt`, `parting.rt`, `parted.rt`, `left.rt`, `closed.rt`, `looking.rt` | the close: `all_stand` reads each CPU's condition; the CPUs are parted from their seats one after another, the words are closed, and what is left of each CPU is settled, in lists that have had their room since the start, so that no memory is taken |
+//! | `consumer.rt`, `counted.rt`, `making.rt` | `Consumer`, which has the room that the close needs; an end of a ring with the numbers of batches taken and given back |
+//! | `asking.rt`, `awaiting.rt`, `batches.rt`, `cleaning.rt`, `stopping.rt`, `meeting.rt` | its calls |
+//! | `specs/`: Sessions, Closing, Leaving | what a session is, by the identities of its CPUs; what its end promises, a clause for each sentence; the parts of the close between its steps |
+//! | `specs/`: Promised | `IsPromisedBy`: what the close promises each CPU, by what its calls did (`called_at`); which settlements the close makes (`owes_settlement`, `closed_up`, `closed_for`) |
+//! | `specs/`: Consumers, ConsumerFields | a consumer as its seat and the list of what its ends know; its invariant; `Stays` |
+//! | `specs/`: Asking, Awaiting, Batches, Cleaning, Stopping | one relation a call: `Asked`, `Awaited`, `Took` and `GaveBack`, `Cleaned` (the whole chain of the seat's steps), `Stopped` |
+//! | `proofs/`, the close | ClosingLists, ClosingRecords, ClosingRests, Partings, Leavings, Ending; ClosingSaid, ClosedDeeds, PromisedBy |
+//! | `proofs/`, the clean | Waiting (a word that waits for every CPU stands until the consumer's exchange), Acknowledging, Halts, Ends, Asks |
+//! | `proofs/`, the rest | Begins (a session at its start), Passing (batches), Standing; Callings, for the crates above: a session stays one where a part of it is called |
 #![tactic(auto)]
 
 mod asking;

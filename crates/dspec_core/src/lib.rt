@@ -7,6 +7,11 @@
 //! for every interleaving over any schema and any buffer, `play` for whole schedules over lists. Users `use` this crate alone:
 //! it gives what the three below it have. Where a `Series` is gone over by `for`, or a deed or a fault is printed, crates.txt
 //! names `dspec_deeds` and `dspec_play` too, in which those impls stand.
+//!
+//! | File | What is in it |
+//! |---|---|
+//! | `world.rt` | `World`, the public session, over any schema and buffer |
+//! | `player.rt`, `actor.rt` | `play`, over lists; whether there is an actor |
 #![tactic(auto)]
 
 mod actor;

@@ -1,4 +1,6 @@
 //! Tests of a CPU's calls, on one thread. They stand in a crate of their own, so that the calls aren't proved again beside them.
+//!
+//! Its tests: two CPUs of one thread, as tables
 #![tactic(auto)]
 
 #[cfg(test)]

@@ -3,6 +3,16 @@
 //! What the bytes of an event and of a packet are stands in `specs/Packets.antt`, which packet is that of a batch in
 //! `specs/Streams.antt`, which packets are those of a CPU by time in `specs/ByTime.antt`, or, while it runs, in `specs/Rows.antt`,
 //! which names there may be in `specs/Names.antt`.
+//!
+//! | File | What is in it |
+//! |---|---|
+//! | `form.rt`, `names.rt`, `origin.rt`, `checking.rt` | `Form`; `Names`; `Origin`: whose trace it is; which names and labels can't be used |
+//! | `text.rt`, `heading.rt`, `printing.rt` | `metadata_from`, `metadata`; the trace, its process and clock; its events |
+//! | `packet.rt`, `stream.rt`, `by_time.rt` | the bytes of events and packets; `Stream`, which sums the drops of a CPU's batches; its packets by time |
+//! | `rows.rt` | `Rows`: a CPU's files in a trace by time that is written while it runs; the runs of a batch, the packet of one, what tells what was missed |
+//! | `records.rt`, `laws.rt`, `fault.rt` | packets of records in memory; the laws; the faults |
+//! | `specs/`: Packets, Streams, ByTime, Rows, Metadata, Names | the bytes; which packet is a batch's and why there is none; a CPU's packets by time; which file each record goes to; the text; the first thing that is wrong with names or a form |
+//! | `proofs/` | Sizes (what an event has at the most), Collecting (one text more), Ranges (a loop that writes a piece each), Lines, OneList, Spreading (records go to files), Rising (what the files have then), Texts |
 #![tactic(auto)]
 
 pub mod by_time;

@@ -5,6 +5,23 @@
 //! a speculative record is accepted once at most and only after its own commit, and that every record has one fate
 //! (`specs/Headline.antt`); and that a list of all CPUs is legal exactly as the lists of each CPU are (`specs/Owning.antt`,
 //! `specs/Weaving.antt`). Stands on `dspec_record`, `dspec_buffer` and `dspec_word`; `dspec_core` gives all of it to its users.
+//!
+//! What is read off a list of deeds, the latest at its head.
+//!
+//! | File | What is in it |
+//! |---|---|
+//! | `calls.rt`, `config.rt`, `deed.rt`, `report.rt` | the types |
+//! | `laws.rt`, `lists.rt`, `common.rt`, `rules.rt`, `filled.rt` | the laws, functions without a body: of every legal list; of one CPU's list, and of weaving; of the common part and the words; of whole lists; of a buffer that closes |
+//! | `specs/`: History, Own | open, decided, callers, words, acknowledgements; what rests on a CPU's own deeds: its offers, buffers, batches |
+//! | `specs/`: Legal | which deed may come next, in a common part over `Facts` and in a CPU's own part; `IsLegal` is both |
+//! | `specs/`: Settling, Reports, Fates, Headline | what becomes of a buffer once its speculation is decided; counts, fates, the three laws |
+//! | `specs/`: Closes, Told, Ranges | the close; a fate as it is told; the configuration |
+//! | `specs/`: Owning, Marks, OwnShown, Weaving | the own part over one CPU's list; the mark of a slot; what a CPU's side shows; the lists of the CPUs put together |
+//! | `specs/`: CommonDeeds, WordSteps, OthersDeeds, Rules | a deed as the common part sees it; the word behind a deed; what stands behind another's deed; what the conditions come to over a whole list |
+//! | `proofs/`, sound lists | SoundLists, PresentIds, Word.., Staying.., Acked, Awaiting, Debtless, Emptied |
+//! | `proofs/`, the headline | Prefixes, DeedEffects, HeldOffers, FateCounts, Acceptance, Balance, ReportBounds, Headlines |
+//! | `proofs/`, own lists and weaving | OwnReads, Marks, Dropping, OwnSides, OwnParts, OwnAccounts, BareReads, BareSound, SealsPut, SoloOwed, WovenLists, PlacedSeals; Sample, a small list on which the premises are met |
+//! | `proofs/`, the rest | CommonDeeds and WordsMade (words), WholeLists (rules), FullBuffers (policy Fill) |
 #![tactic(auto)]
 
 pub mod calls;

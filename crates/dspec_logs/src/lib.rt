@@ -1,5 +1,11 @@
 //! Logs of a session's calls, and the comparison of what they answered with what was recorded and reported: what a program of random
 //! calls on threads stands on. A contradiction is a rule of the session that was broken; that none is found promises nothing.
+//!
+//! | File | What is in it |
+//! |---|---|
+//! | `logging.rt`, `stories.rt`, `answers.rt`, `records.rt` | `Called`, `Log`; `Story`, all that is known of a session that has ended; what an answer says; records with a value of their own |
+//! | `identifiers.rt`, `blocks.rt`, `calls.rt`, `order.rt`, `due.rt`, `checking.rt`, `flaws.rt`, `sums.rt` | the comparisons, `check`, which calls them in turn, contradictions and their texts |
+//! | `made.rt`, `damages.rt` | a session made up by hand, and its damages |
 #![tactic(auto)]
 
 mod answers;

@@ -7,6 +7,18 @@
 //! `specs/Reading.antt`, and how the three schemas of the crate come from these in `specs/Schemas.antt`. The laws
 //! that every schema keeps are those of the trait `Schema`, and what follows from them is a clause in `laws`. The
 //! crate stands on std alone, and no call of it takes memory.
+//!
+//! | File | What is in it |
+//! |---|---|
+//! | `header.rt`, `field.rt`, `record.rt` | `Header`; `Field` and `Shape`; `Rec`, into which a reader puts a record field by field (`bare`, `add`) |
+//! | `recorded.rt`, `borrowed.rt` | the trait `Recorded`: what can be traced as a record, a reference to a `Rec` or a `BorrowedRec`, whose values stand elsewhere |
+//! | `schema.rt`, `laws.rt` | the trait `Schema`; what follows from its laws over every schema |
+//! | `enabling.rt`, `enabled.rt` | `Enablings`. An enabling keeps its layout, each field's place, without a stamp (with one each size is eight more), and each field's greatest value; all of them how many bytes a stamp has |
+//! | `default_action.rt`, `stamped_action.rt` | the schemas without fields |
+//! | `layout.rt`, `codec.rt` | places and greatest values of fields, writing and reading |
+//! | `specs/`: Record, EnablingRows | a record as contracts see it: EPID, stamp, list of values; enablings as their header and rows of fields |
+//! | `specs/`: Layout, RecordText, Reading | where fields stand; the bytes; what reading answers |
+//! | `specs/`: Writing | a value is written as the most of its 8, 4, 2 bytes or 1 that there is room for, so that the zeros of the gap behind it come with it |
 #![tactic(auto)]
 
 mod borrowed;

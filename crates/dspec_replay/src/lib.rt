@@ -4,6 +4,10 @@
 //!
 //! It promises that it ends, and makes each call under that call's conditions; that each turn is made, in order, by its actor; and
 //! that a refusal is due. That it answers as the player does isn't promised: `examples/replay` and the program `fuzz` compare both.
+//!
+//! | File | What is in it |
+//! |---|---|
+//! | `playing.rt`, `whole_calls.rt`, `calls.rt`, `taken.rt`, `closing.rt`, `session_fault.rt`, `replaying.rt` | a session whose calls are turns; a call by its kind; the consumer's calls; the batches taken; what is left, as an outcome; why it doesn't go on; whole schedules. `specs/Replayed`: which call a turn is, and why it isn't played |
 #![tactic(auto)]
 
 mod calls;

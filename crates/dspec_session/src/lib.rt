@@ -4,6 +4,12 @@
 //! Users `use` this crate alone: it gives what `dspec_consumer` has, a session with its start, its consumer and its close. What the
 //! demonstration promises stands in `specs/Races.antt` and `specs/Results.antt`. No call but `demo` and `demonstrate` waits, and
 //! none but these, `start` and `make` takes memory.
+//!
+//! | File | What is in it |
+//! |---|---|
+//! | `gate.rt`, `demonstration.rt`, `demonstration/` | `Gate`, `RoundGate`, `Free`; `demonstrate` and `demo`: a worker, the four threads, the consumer's rounds, whether values rise, the lines |
+//! | `specs/` | Demonstrated (`CpuRounds`), Visits, Results, Crews, Races, Rising |
+//! | `proofs/` | Scanned, Servings, Worked, Handles, Fours, Crews, Opened, Ended, Visited, Done |
 #![tactic(auto)]
 
 mod demonstration;

@@ -5,6 +5,20 @@
 //! call in flight and by what its one step showed, is `specs/Acts.antt` and `specs/Steps.antt`; what it asks of its seat is
 //! `specs/Conditions.antt`. No call waits, and only `start` takes memory. Stands on `dspec_deeds`, `dspec_word` and the kit's
 //! `atomic_table`.
+//!
+//! | File | What is in it |
+//! |---|---|
+//! | `rule.rt`, `seats.rt`, `doing.rt` | `View`, what a seat knows, as plain data, and the rule `OneList`; `Words`, `CpuSeat`, `ConsumerSeat`; `Doing`, the call in flight |
+//! | `layout.rt`, `laws.rt`, `plays.rt`, `reading.rt` | where the words lie, each slot's on a line of its own; the laws; what each kind of step tells `atomic_table`; a number back to a word |
+//! | `starting.rt`, `gathering.rt`, `last.rt`, `ending.rt` | the two ends, and `LastWords` |
+//! | `loading.rt`, `opening.rt`, `trying.rt`, `releasing.rt`, `settling.rt` | a CPU's steps: activity and word loaded, `open_word`, `join_word` and `decide_word`, `release_word`, `store_ack` |
+//! | `cleaning.rt`, `stopping.rt`, `asking.rt`, `meeting.rt` | the consumer's steps, and the meeting |
+//! | `specs/`: Rule, Showing, Owners, Holders, Since | `Kept`; that the words show a list; whose each deed and each seat is; a list that goes on by deeds of others |
+//! | `specs/`: Flights, Acts, Steps, Conditions, Asks | which call of a seat is in flight; the deeds of a step; `Found` and `Entered`, one relation a kind of step, and `TriedExchange`, what an exchange of a call came to; what a call asks of its seat |
+//! | `specs/`: Notes, Meeting, Seats, Last, Layout | splits and joins of views; `Met`; seats; `Ended`; places |
+//! | `proofs/`: Keeps, Changes | `acts_asking`, the lemma that all deeds go through; its forms for loads and exchanges (`Owes` for deeds that move no word) |
+//! | `proofs/`, one a kind of step | Activity, Loads, Opens, Tries, Releases, Halting, Settlements, Reaping, Looking, AsksKept |
+//! | `proofs/`, the rest | InFlight, Totals, Joining, AtStart, Dealing, AtEnd, Limits, Grows, Commits, Waiting, Pasts; Flights for the crates above: what a call on an identifier may do next |
 #![tactic(auto)]
 
 mod asking;

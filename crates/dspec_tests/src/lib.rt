@@ -1,4 +1,6 @@
 //! Tests of dspec and dspec_trace: whole sessions by lanes, paths, a work and a sink.
+//!
+//! Its tests: worked bytes and texts; a session in threads by lanes
 #![tactic(auto)]
 
 #[cfg(test)]

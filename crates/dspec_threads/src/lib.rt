@@ -9,6 +9,14 @@
 //! A lane can't come back to another session than its own: it knows its way. What a program promises of what its threads do with a lane
 //! stands in a type (`Duty`): who gives a lane back owes it, and the promise of the close has it. Stands on `dspec` and on the kit's
 //! `rtrb`.
+//!
+//! | File | What is in it |
+//! |---|---|
+//! | `owned_lane.rt`, `duty.rt` | `OwnedLane`: a CPU, what it shares, and its way home; `Duty`, what is promised of a lane that is given back, and the rule of the ring that carries it |
+//! | `opening.rt`, `gathering.rt` | a ring for each CPU, through which it goes once at the start; those that came home, in order |
+//! | `running.rt` | `Running`: the session between its start and its end |
+//! | `specs/`: Homes, Runs | who may come home (`ComesHome`), and which CPU of which session comes where; what a running session keeps (`IsRun`) |
+//! | `proofs/` | Homes, Runs |
 #![tactic(auto)]
 
 mod duty;

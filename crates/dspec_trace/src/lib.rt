@@ -3,6 +3,16 @@
 //! A folder has the file `metadata` and one file a CPU, `cpu_0`, `cpu_1`, ..; each batch becomes one packet, and that one write, as
 //! it comes, so that memory doesn't grow with the trace. What a call adds to a folder stands in `specs/Writing.antt`. Stands on
 //! `dspec` and `dspec_ctf`.
+//!
+//! | File | What is in it |
+//! |---|---|
+//! | `folder.rt`, `system.rt` | `Folder`, a place that takes writes, with a ghost list of them and their answers; `SystemFolder`, one of the system, which has to be empty; it and its files are held open |
+//! | `held.rt` | `HeldFile`: a file that is held open and has whole writes alone; what a failed write left is cut off |
+//! | `tracing.rt`, `fault.rt` | `TraceFolder`, the sink: metadata first, then a packet a batch, one write each; the first fault is kept |
+//! | `timed.rt` | `TimedFolder`, the sink by time: several files for each CPU, a packet for each run of a batch's records |
+//! | `identity.rt` | `Identity`: a uuid of the system's random bytes, the machine's name, the process's number |
+//! | `specs/`: Writes, Writing, Timed, Faults, Held | a write and its answer; what a call adds; the same by time; which faults a place has; what a file has behind a write |
+//! | `proofs/` | Handing (a packet is handed to the place), Following (runs behind one another), Cutting (bytes behind others, cut off again) |
 #![tactic(auto)]
 
 mod fault;

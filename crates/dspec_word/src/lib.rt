@@ -8,6 +8,13 @@
 //! greater word, of the same issue or inactive of the next (`Rises`, by the law `attempts_rise`), so
 //! no word comes twice and a stale exchange fails. No call takes memory. It stands on no other
 //! crate of this repository.
+//!
+//! | File | What is in it |
+//! |---|---|
+//! | `code.rt`, `word.rt`, `id.rt`, `act.rt` | `Code`; `Word`, which holds its number alone (`specs/WordFields`); `SpecId`; `Act` |
+//! | `speculating.rt`, `committing.rt`, `discarding.rt`, `turnover.rt` | the tables |
+//! | `laws.rt` | that attempts rise, and the numbers |
+//! | `specs/`: Word, SpecId, Tables | a word as its issue and code, an identifier as its issue and slot, so nobody above divides a number; the tables |
 #![tactic(auto)]
 
 pub use act::Act;

@@ -5,6 +5,12 @@
 //!
 //! It promises that it ends, that the turns are whole calls, and that a schedule passes only where both printed the same text or
 //! refused it alike. One seed gives the same schedules on every machine.
+//!
+//! | File | What is in it |
+//! |---|---|
+//! | `options.rt` | what the words ask; statuses |
+//! | `making.rt`, `records.rt`, `sample.rt` | configurations, schemas, turns (identifiers are guessed); records, a few of them none of the schema |
+//! | `comparing.rt`, `shortening.rt`, `writing.rt`, `tally.rt`, `options.rt` | what both make of it; turns taken out while both differ; a schedule as text. `specs/Comparing`: when both told the same |
 #![tactic(auto)]
 
 mod comparing;

@@ -8,6 +8,10 @@
 //!
 //! It promises that it ends, and that it makes each call under that call's conditions. A schedule that the player refuses it
 //! refuses with the player's line on standard error, and one with a line that is no whole call with a status of its own.
+//!
+//! | File | What is in it |
+//! |---|---|
+//! | `main.rt`, `arguments.rt`, `fault.rt` | the program, what its words ask, and its statuses |
 #![tactic(auto)]
 
 mod arguments;

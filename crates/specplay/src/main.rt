@@ -7,6 +7,11 @@
 //! play of the schedule that the input's bytes say, and a line that is told is the first one at which they say none, or
 //! the one whose turn the play refuses (specs/Schedules.antt). Stands on `dspec_player`, which reads the input and plays the
 //! schedule, and on `dspec_schedule`, which prints.
+//!
+//! | File | What is in it |
+//! |---|---|
+//! | `runner.rt`, `fault.rt`, `threads.rt` | `run`: what is written; why a run failed; the demonstration's lines |
+//! | `specs/`: Schedules, Runs, Written, Threads, Lines | what a run prints, or tells; how far a text was written; what is printed of the demonstration, as a function of the answers |
 #![tactic(auto)]
 
 mod fault;

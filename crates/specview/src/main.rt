@@ -7,6 +7,14 @@
 //!
 //! `specview picture [--output FILE] [SCHEDULE]` plays a schedule, and draws its play as an SVG: into the file, which is made, or
 //! replaced once the picture is whole, or on standard output. `specview steps [SCHEDULE]` tells each atomic step of the play in a line.
+//!
+//! | File | What is in it |
+//! |---|---|
+//! | `arguments.rt`, `main.rt`, `fault.rt`, `program.rt`, `replacing.rt` | what the words ask (a subcommand more is one function and one arm of `Ask`); statuses; how a picture takes the place of an old one |
+//! | `clock.rt` | `see_clock`: what readers of a trace by time take (`specs/Clocks`) |
+//! | `pictured.rt`, `stepped.rt`, `ending.rt` | `picture_of`: the picture of a text's play (`specs/Pictures`); `steps_of_text`: its steps (`specs/Stepping`); how a run ends |
+//! | `trace.rt`, `batches.rt`, `events.rt`, `folder.rt` | `trace_of`: a file as taken and by time; `shares_of`: a stream cut at the seals; the events; `Folder` and `write_trace` |
+//! | `proofs/` | Cutting (a stream cut into batches), Parts, Greatest, AllFiles, Files |
 #![tactic(auto)]
 
 mod arguments;

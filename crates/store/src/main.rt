@@ -5,6 +5,10 @@
 //!
 //! The stamps are of a clock that each worker counts for itself, so that the same is printed however the threads run. Its status is 0; 2
 //! for want of memory, 3 for a fault of input or output, and 4 for words that it doesn't know.
+//!
+//! | File | What is in it |
+//! |---|---|
+//! | `arguments.rt`, `fault.rt` | what the words ask; statuses |
 #![tactic(auto)]
 
 mod arguments;

@@ -5,6 +5,12 @@
 //!
 //! It promises that the threads give back the session that they were lent, so that it may be ended (`specs/Lent.antt`). That what
 //! the calls answered, what was recorded and what is reported agree isn't promised here: the program compares it.
+//!
+//! | File | What is in it |
+//! |---|---|
+//! | `arguments.rt`, `fault.rt` | what the words ask; statuses |
+//! | `planning.rt`, `choosing.rt`, `sharing.rt`, `working.rt` | what a seed chooses; the calls of a CPU; the board that threads share; a worker |
+//! | `taken.rt`, `consuming.rt`, `racing.rt`, `running.rt`, `telling.rt` | the consumer and what it took; the threads; a session from start to end. `specs/Lent`: what the threads are lent and give back |
 #![tactic(auto)]
 
 mod arguments;

@@ -6,6 +6,10 @@
 //!
 //! That what was recorded is what the generator made isn't promised: the program compares it, and ends with status 1 where it isn't. With
 //! 2 it ends for want of memory, with 3 for a fault of input or output, and with 4 for words that it doesn't know.
+//!
+//! | File | What is in it |
+//! |---|---|
+//! | `arguments.rt`, `fault.rt` | what the words ask; statuses |
 #![tactic(auto)]
 
 mod arguments;
