@@ -21,6 +21,12 @@ pub(crate) trait Store {
         requires wide { wide ≡ nat_le 8 (length out.old) }
         requires some { 1 ≤ length out.old }
         ensures { IsWrittenWide value out.old out.new };
+
+    /// As `write_wide`, where there is room for four.
+    fn write_word(value: u64, wide: bool, out: &mut [u8])
+        requires wide { wide ≡ nat_le 8 (length out.old) }
+        requires some { 4 ≤ length out.old }
+        ensures { IsWrittenWide value out.old out.new };
 }
 
 /// By slices: the fewest instructions where the fields are looked up when the program runs.
@@ -40,6 +46,16 @@ impl Store for BySlices {
             out[0] = bytes[0];
         }
     }
+
+    #[inline(always)]
+    fn write_word(value: u64, wide: bool, out: &mut [u8]) {
+        let bytes = value.to_le_bytes();
+        if wide {
+            out[..8].copy_from_slice(&bytes);
+        } else {
+            out[..4].copy_from_slice(&bytes[..4]);
+        }
+    }
 }
 
 /// By arrays: no code is left that asks how long a slice is, where the fields are known when the program is compiled.
@@ -57,6 +73,16 @@ impl Store for ByArrays {
             *out.first_chunk_mut::<2>().unwrap() = [bytes[0], bytes[1]];
         } else {
             out[0] = bytes[0];
+        }
+    }
+
+    #[inline(always)]
+    fn write_word(value: u64, wide: bool, out: &mut [u8]) {
+        let bytes = value.to_le_bytes();
+        if wide {
+            *out.first_chunk_mut::<8>().unwrap() = bytes;
+        } else {
+            *out.first_chunk_mut::<4>().unwrap() = [bytes[0], bytes[1], bytes[2], bytes[3]];
         }
     }
 }
@@ -142,14 +168,34 @@ pub(crate) fn put_header<R: Recorded, W: Store>(
     ensures put { take (fields_start header) out.new ≡ header_text header (R.as_record rec) }
     ensures clear { IsClearBehind (fields_start header) out.new }
 {
-    let end = put_in_room::<W>(Field::Four, u64::from(rec.epid()), 0, 0, wide, out);
+    let end = put_word::<W>(u64::from(rec.epid()), 0, wide, out);
     match header {
         Header::One => end,
         Header::Two => {
-            let low = put_field::<W>(Field::Four, rec.stamp() % WORD, end, end, out);
-            put_field::<W>(Field::Four, rec.stamp() / WORD, low, low, out)
+            let wide = end + 8 <= out.len();
+            let low = put_word::<W>(rec.stamp() % WORD, end, wide, out);
+            let wide = low + 8 <= out.len();
+            put_word::<W>(rec.stamp() / WORD, low, wide, out)
         }
     }
+}
+
+/// Writes a value of four bytes at `end`, where a word begins; answers where it ends. What is behind it is zero, up to the next
+/// multiple of eight. Whether there is room for eight bytes the caller tells.
+#[inline(always)]
+fn put_word<W: Store>(value: u64, end: usize, wide: bool, out: &mut [u8]) -> usize
+    requires wide { wide ≡ nat_le (end + 8) (length out.old) }
+    requires holds { value < 256 ^ 4 }
+    requires whole_words { length out.old % 4 ≡ 0 }
+    requires place { end ≡ rounded_up end 4 }
+    requires room { end + 4 ≤ length out.old }
+    requires clear { IsClearBehind end out.old }
+    ensures end { result ≡ after end 4 4 }
+    ensures put { take result out.new ≡ take end out.old ++ (gap end 4 ++ little_endian 4 value) }
+    ensures clear { IsClearBehind result out.new }
+{
+    W::write_word(value, wide, &mut out[end..]);
+    end + 4
 }
 
 /// Writes a value at the field's place behind `end`; answers where the field ends. What is between is zero already,
