@@ -87,7 +87,9 @@ impl<'a, F: Fields, H: KnownHeader> Recorded for Fired<'a, F, H> {
         Some(laid_shape(H::header(), F::fields().as_slice()))
     }
 
-    #[inline(always)]
+    // a hint alone: what `always` puts into its callers is what stands here before it is simplified, and callers that would grow
+    // too large by it become calls themselves
+    #[inline]
     fn put_laid(&self, out: &mut [u8]) -> bool {
         let header = H::header();
         // told by the fields, so that no running code asks how long the slice is
