@@ -295,6 +295,15 @@ dspec_status dspec_consumer_home(dspec_consumer *consumer) DSPEC_NOEXCEPT;
  * was; no way to this answer is known. */
 dspec_status dspec_finish(dspec_session *session, dspec_closed *closed) DSPEC_NOEXCEPT;
 
+/* The same in one call, for a program whose threads are joined before the end: sends home the CPUs that these count handles hold and the
+ * consumer, and then ends the session as dspec_finish does. No handle stands twice among them. A CPU that is home already, or was never
+ * handed out, isn't among them; a program that never asked for the consumer calls dspec_finish. Takes no memory.
+ * DSPEC_FULL_HANDLE (closed), DSPEC_BAD_HANDLE: the session's handle, the consumer's or one of the CPUs' is empty, or holds another kind,
+ * and nothing has changed. Else all handles that were passed are empty but the session's, whatever comes of it. DSPEC_NOT_HOME: a CPU of
+ * the session is neither home nor was among them, or the consumer was another session's; what was brought home is home, and the session goes
+ * on: it ends by dspec_finish once the others are home. A CPU of another session goes home to that one. DSPEC_BUSY as of dspec_finish. */
+dspec_status dspec_close(dspec_session *session, dspec_cpu *const *cpus, size_t count, dspec_consumer *consumer, dspec_closed *closed) DSPEC_NOEXCEPT;
+
 /* What was left of a CPU: with last false the batch that was handed on and never taken, with last true its principal buffer.
  * The batches of a CPU are those that were taken, in order, then these two.
  * DSPEC_OK: batch was written. DSPEC_NO_BATCH: none was left untaken. DSPEC_NO_SUCH_CPU. DSPEC_BAD_HANDLE. */
