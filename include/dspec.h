@@ -21,8 +21,8 @@
  * MEMORY. The calls marked "Takes memory" take it from malloc, and answer DSPEC_NO_MEMORY where it is refused; then nothing has
  * changed, and the call may be made again. No other call takes any. Each call may free.
  *
- * STACK. Measured with the compiler that built this library, on x86-64, with what a thread itself takes: dspec_start
- * and dspec_finish take up to 64 KB of stack, however many CPUs there are, and each other call up to 32 KB.
+ * STACK. Measured with the compiler that built this library, on x86-64, with what a thread itself takes: dspec_start,
+ * dspec_finish and dspec_close take up to 64 KB of stack, however many CPUs there are, and each other call up to 32 KB.
  *
  * WHAT C OWES. No pointer is NULL, not even that of an array of no elements. Each points to memory of its type, aligned, that
  * nothing else reads or writes during the call; no two pointers of a call point to the same memory. An array has as many elements
