@@ -136,10 +136,10 @@ static void record(void) {
 static void finish(void) {
     dspec_report report;
     uint64_t settled;
-    for (int i = 0; i < 2; i++) OK(dspec_cpu_home(&cpus[i]));
+    dspec_cpu *out[] = { &cpus[1] };
+    OK(dspec_cpu_home(&cpus[0]));
     OK(dspec_tend(&session, &settled));
-    OK(dspec_consumer_home(&consumer));
-    OK(dspec_finish(&session, &closed));
+    OK(dspec_close(&session, out, 1, &consumer, &closed));
     for (uint32_t i = 0; i < 2; i++) {
         OK(dspec_closed_report(&closed, i, &report));
         if (report.offered != 2 || report.accepted != 2) fail("a report", DSPEC_OK);

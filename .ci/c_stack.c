@@ -100,6 +100,13 @@ static void consumer_home(void) { HAS_TO(dspec_consumer_home(&consumer)); }
 
 static void finish(void) { HAS_TO(dspec_finish(&session, &closed)); }
 
+/* Of another session, all of which is out. */
+static void close_all(void) {
+    dspec_cpu *out[DSPEC_MAX_CPUS];
+    for (uint32_t c = 0; c < config.cpus; c++) out[c] = &cpus[c];
+    HAS_TO(dspec_close(&session, out, config.cpus, &consumer, &closed));
+}
+
 static void rest(void) {
     dspec_batch batch;
     HAS_TO(dspec_rest(&closed, 0, true, &batch));
@@ -132,7 +139,10 @@ static const struct step {
     { "dspec_tend", tend, MOST_OF_OTHERS },               { "dspec_consumer_home", consumer_home, MOST_OF_OTHERS },
     { "dspec_finish", finish, MOST },
     { "dspec_rest", rest, MOST_OF_OTHERS },               { "dspec_closed_report", closed_report, MOST_OF_OTHERS },
-    { "dspec_closed_drop", closed_drop, MOST_OF_OTHERS }, { "dspec_schema_drop", schema_drop, MOST_OF_OTHERS },
+    { "dspec_closed_drop", closed_drop, MOST_OF_OTHERS }, { "dspec_start", start, MOST },
+    { "dspec_cpu_of", cpu_of, MOST_OF_OTHERS },           { "dspec_consumer_of", consumer_of, MOST_OF_OTHERS },
+    { "dspec_close", close_all, MOST },                   { "dspec_closed_drop", closed_drop, MOST_OF_OTHERS },
+    { "dspec_schema_drop", schema_drop, MOST_OF_OTHERS },
 };
 
 static void *makes(void *step) {

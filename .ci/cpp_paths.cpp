@@ -179,6 +179,41 @@ void parking() {
     CHECK(session.finish().report(0).accepted == 5);
 }
 
+/* All that is out, but a CPU that is parked; then with one CPU elsewhere; then a consumer that was moved away, and more CPUs than there are. */
+void closing() {
+    world w;
+    dspec_config three = config;
+    three.cpus = 3;
+    {
+        dspec::session session(three, w.schema);
+        std::vector<dspec::cpu> cpus;
+        for (std::uint32_t n = 0; n < 3; n++) cpus.push_back(session.cpu_of(n));
+        dspec::consumer consumer = session.consumer_of();
+        for (dspec::cpu &one : cpus) CHECK(one.trace(w.of_one, 1) == DSPEC_OK);
+        cpus[1].park();
+        dspec::closed closed = session.close(cpus, consumer);
+        for (std::uint32_t n = 0; n < 3; n++) CHECK(closed.report(n).accepted == 1);
+        CHECK(cpus[0].trace(w.of_one, 1) == DSPEC_BAD_HANDLE);
+        CHECK(thrown_by([&] { static_cast<void>(session.close({}, consumer)); }) == DSPEC_BAD_HANDLE);
+    }
+    dspec::session session(three, w.schema);
+    std::vector<dspec::cpu> cpus;
+    for (std::uint32_t n = 0; n < 3; n++) cpus.push_back(session.cpu_of(n));
+    dspec::consumer consumer = session.consumer_of();
+    {
+        dspec::consumer moved = std::move(consumer);
+        CHECK(thrown_by([&] { static_cast<void>(session.close(cpus, consumer)); }) == DSPEC_BAD_HANDLE);
+        CHECK(cpus[0].trace(w.of_one, 1) == DSPEC_OK);
+        consumer = std::move(moved);
+    }
+    dspec::cpu elsewhere = std::move(cpus[2]);
+    CHECK(thrown_by([&] { static_cast<void>(session.close(cpus, consumer)); }) == DSPEC_NOT_HOME);
+    CHECK(elsewhere.trace(w.of_one, 1) == DSPEC_OK);
+    elsewhere.park();
+    dspec::closed closed = session.finish();
+    CHECK(closed.report(0).accepted == 1 && closed.report(1).accepted == 0 && closed.report(2).accepted == 1);
+}
+
 void refusals() {
     dspec::schema schema;
     for (int n = 0; n < 64; n++) static_cast<void>(schema.enable<>());
@@ -198,6 +233,7 @@ int main() {
     paths();
     batches();
     parking();
+    closing();
     refusals();
     std::printf("%d passed, %d failed\n", passed, failed);
     return failed > 0 || passed == 0;

@@ -21,8 +21,8 @@
  * MEMORY. The calls marked "Takes memory" take it from malloc, and answer DSPEC_NO_MEMORY where it is refused; then nothing has
  * changed, and the call may be made again. No other call takes any. Each call may free.
  *
- * STACK. Measured with the compiler that built this library, on x86-64, with what a thread itself takes: dspec_start
- * and dspec_finish take up to 64 KB of stack, however many CPUs there are, and each other call up to 32 KB.
+ * STACK. Measured with the compiler that built this library, on x86-64, with what a thread itself takes: dspec_start,
+ * dspec_finish and dspec_close take up to 64 KB of stack, however many CPUs there are, and each other call up to 32 KB.
  *
  * WHAT C OWES. No pointer is NULL, not even that of an array of no elements. Each points to memory of its type, aligned, that
  * nothing else reads or writes during the call; no two pointers of a call point to the same memory. An array has as many elements
@@ -294,6 +294,15 @@ dspec_status dspec_consumer_home(dspec_consumer *consumer) DSPEC_NOEXCEPT;
  * session goes on as it was. DSPEC_BUSY: all are home, but what they share is still somebody else's, and the session goes on as it
  * was; no way to this answer is known. */
 dspec_status dspec_finish(dspec_session *session, dspec_closed *closed) DSPEC_NOEXCEPT;
+
+/* The same in one call, for a program whose threads are joined before the end: sends home the CPUs that these count handles hold and the
+ * consumer, and then ends the session as dspec_finish does. No handle stands twice among them. A CPU that is home already, or was never
+ * handed out, isn't among them; a program that never asked for the consumer calls dspec_finish. Takes no memory.
+ * DSPEC_FULL_HANDLE (closed), DSPEC_BAD_HANDLE: the session's handle, the consumer's or one of the CPUs' is empty, or holds another kind,
+ * and nothing has changed. Else all handles that were passed are empty but the session's, whatever comes of it. DSPEC_NOT_HOME: a CPU of
+ * the session is neither home nor was among them, or the consumer was another session's; what was brought home is home, and the session goes
+ * on: it ends by dspec_finish once the others are home. A CPU of another session goes home to that one. DSPEC_BUSY as of dspec_finish. */
+dspec_status dspec_close(dspec_session *session, dspec_cpu *const *cpus, size_t count, dspec_consumer *consumer, dspec_closed *closed) DSPEC_NOEXCEPT;
 
 /* What was left of a CPU: with last false the batch that was handed on and never taken, with last true its principal buffer.
  * The batches of a CPU are those that were taken, in order, then these two.

@@ -352,6 +352,21 @@ public:
         check(dspec_finish(get(), made.get()));
         return made;
     }
+    /* The end in one call, once all threads are joined: these CPUs, of which one that is parked is home already, and the consumer go home, and
+     * the session ends. Where another CPU of it is out it throws DSPEC_NOT_HOME; what was passed is home then, and the session goes on. More
+     * than 64 CPUs are no session's: DSPEC_NO_SUCH_CPU, and nothing has changed. */
+    [[nodiscard]] closed close(std::span<dspec::cpu> cpus, dspec::consumer &theirs) {
+        std::array<dspec_cpu *, DSPEC_MAX_CPUS> all{};
+        std::size_t count = 0;
+        for (dspec::cpu &one : cpus) {
+            if (!one.get()->held) continue;
+            if (count == all.size()) throw error(DSPEC_NO_SUCH_CPU);
+            all[count++] = one.get();
+        }
+        closed made;
+        check(dspec_close(get(), all.data(), count, theirs.get(), made.get()));
+        return made;
+    }
 };
 
 } /* namespace dspec */

@@ -224,13 +224,15 @@ int main(void) {
     static reader r;
     dspec_session session = DSPEC_EMPTY;
     dspec_closed closed = DSPEC_EMPTY;
+    dspec_cpu *cpus[CPUS];
     start(&session);
-    for (uint32_t cpu = 0; cpu < CPUS; cpu++) OK(dspec_cpu_of(&session, cpu, &workers[cpu].cpu));
+    for (uint32_t cpu = 0; cpu < CPUS; cpu++) {
+        cpus[cpu] = &workers[cpu].cpu;
+        OK(dspec_cpu_of(&session, cpu, cpus[cpu]));
+    }
     OK(dspec_consumer_of(&session, &r.consumer));
     run_threads(workers, &r);
-    for (uint32_t cpu = 0; cpu < CPUS; cpu++) OK(dspec_cpu_home(&workers[cpu].cpu));
-    OK(dspec_consumer_home(&r.consumer));
-    OK(dspec_finish(&session, &closed));
+    OK(dspec_close(&session, cpus, CPUS, &r.consumer, &closed));
     for (uint32_t cpu = 0; cpu < CPUS; cpu++) {
         dspec_report told;
         OK(dspec_closed_report(&closed, cpu, &told));

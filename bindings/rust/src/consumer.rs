@@ -17,6 +17,11 @@ impl Consumer {
         Consumer { handle, layouts }
     }
 
+    /// Its handle, for a call.
+    pub(crate) fn at(&self) -> *mut raw::Words {
+        self.handle.at()
+    }
+
     /// Asks a CPU for a batch: its next service switches its principal buffers. Asking twice before that batch was taken is asking
     /// once.
     ///

@@ -35,6 +35,11 @@ impl Cpu {
         Cpu { handle }
     }
 
+    /// Its handle, for a call.
+    pub(crate) fn at(&self) -> *mut raw::Words {
+        self.handle.at()
+    }
+
     /// Traces a record into the principal buffer. `stamp` is 0 where records have none.
     ///
     /// # Errors

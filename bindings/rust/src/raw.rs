@@ -72,6 +72,7 @@ extern "C" {
     pub(crate) fn dspec_consumer_of(session: *mut Words, consumer: *mut Words) -> Status;
     pub(crate) fn dspec_tend(session: *mut Words, settled: *mut u64) -> Status;
     pub(crate) fn dspec_finish(session: *mut Words, closed: *mut Words) -> Status;
+    pub(crate) fn dspec_close(session: *mut Words, cpus: *const *mut Words, count: usize, consumer: *mut Words, closed: *mut Words) -> Status;
 
     pub(crate) fn dspec_trace(cpu: *mut Words, epid: u32, stamp: u64, values: *const u64, n: usize) -> Status;
     pub(crate) fn dspec_fire(cpu: *mut Words, signature: u32, epid: u32, stamp: u64, values: *const u64, n: usize) -> Status;

@@ -139,6 +139,29 @@ impl Session {
             status => panic!("libdspec lost the session, or is of another version than this package: status {status}"),
         }
     }
+
+    /// Ends the session in one call, for a program that has joined its threads: these CPUs and the consumer go home, each to its own session.
+    ///
+    /// # Errors
+    ///
+    /// [`NotHome`], with the session, where another CPU is still somewhere, or the consumer was another session's. What was passed is home then.
+    ///
+    /// # Panics
+    ///
+    /// As [`Session::finish`].
+    pub fn close(self, cpus: impl IntoIterator<Item = Cpu>, consumer: Consumer) -> Result<Closed, NotHome> {
+        let cpus: Vec<Cpu> = cpus.into_iter().collect();
+        let handles: Vec<_> = cpus.iter().map(Cpu::at).collect();
+        let closed = Handle::empty();
+        // SAFETY: the pointers are to as many handles as is told, which nobody else has, nor the session's and the consumer's; the last is empty.
+        let status = unsafe { raw::dspec_close(self.handle.at(), handles.as_ptr(), handles.len(), consumer.at(), closed.at()) };
+        drop((cpus, consumer));
+        match status {
+            raw::OK => Ok(Closed::of(closed, self.layouts, self.cpus)),
+            raw::NOT_HOME => Err(NotHome { session: self }),
+            status => panic!("libdspec lost the session, or is of another version than this package: status {status}"),
+        }
+    }
 }
 
 // SAFETY: no method takes `&Session`, so that threads which share one can't make a call.

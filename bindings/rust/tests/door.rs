@@ -178,6 +178,34 @@ fn what_is_out_comes_home() {
 }
 
 #[test]
+fn a_session_closes_with_what_is_out() {
+    let (mut session, mut cpu, consumer, epid) = small(1 << 62);
+    let second = session.cpu(1).unwrap();
+    assert_eq!(cpu.trace(epid, 0, &[7]), Ok(Traced::Kept));
+    let closed = session.close([second, cpu], consumer).unwrap();
+    assert_eq!(values(&closed, 0), [7]);
+    assert_eq!(values(&closed, 1), []);
+
+    let (mut session, cpu, consumer, _) = small(1 << 62);
+    let second = session.cpu(1).unwrap();
+    session = session.close([cpu], consumer).err().unwrap().into_session();
+    assert_eq!(session.cpu(1).err(), Some(Error::Out));
+    drop(second);
+    assert!(session.finish().is_ok());
+}
+
+#[test]
+fn a_cpu_of_another_session_goes_home_to_that() {
+    let (one, cpu, consumer, _) = small(1 << 62);
+    let (other, others, theirs, _) = small(1 << 62);
+    let one = one.close([others, cpu], theirs).err().unwrap().into_session();
+    assert!(other.finish().is_ok());
+    let one = one.finish().err().unwrap().into_session();
+    drop(consumer);
+    assert!(one.finish().is_ok());
+}
+
+#[test]
 fn refused_records_and_schemas() {
     let mut schema = Schema::new().unwrap();
     assert_eq!(schema.enable(&[Width::One; 9]), Err(Error::TooManyFields));

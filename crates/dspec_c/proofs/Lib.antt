@@ -1,3 +1,4 @@
+pub mod AllHome
 mod AsBox
 pub mod Calls
 pub mod ConsumerHomes

@@ -1,5 +1,6 @@
 pub mod Answered
 pub mod ClosedCalls
+pub mod Closing
 pub mod Configs
 pub mod ConsumerCalls
 pub mod ConsumerHomes

@@ -17,13 +17,13 @@ use crate::statuses::{BAD_HANDLE, OK};
 use rtrb::Producer;
 use std::alloc::Global;
 
-fn is_cpu(held: &Held) -> bool
+pub fn is_cpu(held: &Held) -> bool
     ensures { result ≡ is_cpu_in held.now }
 {
     matches!(held, Held::Cpu(_))
 }
 
-fn is_consumer(held: &Held) -> bool
+pub fn is_consumer(held: &Held) -> bool
     ensures { result ≡ is_consumer_in held.now }
 {
     matches!(held, Held::Consumer(_))

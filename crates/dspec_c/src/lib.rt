@@ -20,6 +20,7 @@
 
 mod batches;
 mod close;
+mod closing;
 mod configs;
 mod consumer_calls;
 mod consumer_desk;

@@ -1,0 +1,90 @@
+//! The end of a session in one call: its CPUs and its consumer go home, and it ends.
+
+ghost use Rattle.std.specs.Prelude.{◌≡◌, true, false};
+ghost use Rattle.dspec_c.specs.Closing.{CloseAnswers, EmptiesAll, KeepAll, KeepsHeld, are_cpus_in, is_session_in};
+ghost use Rattle.dspec_c.specs.Handles.{held_in, is_full};
+ghost use Rattle.dspec_c.specs.SessionCalls.{is_consumer_in, is_cpu_in};
+
+use crate::handle::Handle;
+use crate::held::Held;
+use crate::home_calls::{dspec_consumer_home, dspec_cpu_home, is_consumer, is_cpu};
+use crate::session_calls::dspec_finish;
+use crate::statuses::{BAD_HANDLE, FULL_HANDLE};
+use std::alloc::Global;
+
+fn is_session(held: &Held) -> bool
+    ensures { result ≡ is_session_in held.now }
+{
+    matches!(held, Held::Session(_))
+}
+
+fn has_session(session: &mut Handle) -> bool
+    ensures has { result ≡ is_session_in (held_in session.old) }
+    ensures keeps { KeepsHeld session.old session.new }
+{
+    session.is_held() && is_session(session.lend())
+}
+
+fn has_consumer(consumer: &mut Handle) -> bool
+    ensures has { result ≡ is_consumer_in (held_in consumer.old) }
+    ensures keeps { KeepsHeld consumer.old consumer.new }
+{
+    consumer.is_held() && is_consumer(consumer.lend())
+}
+
+fn has_cpu(cpu: &mut Handle) -> bool
+    ensures has { result ≡ is_cpu_in (held_in cpu.old) }
+    ensures keeps { KeepsHeld cpu.old cpu.new }
+{
+    cpu.is_held() && is_cpu(cpu.lend())
+}
+
+// Whether each of the handles has a CPU.
+fn have_cpus(cpus: &mut [&mut Handle]) -> bool
+    ensures have { result ≡ are_cpus_in cpus.old }
+    ensures keep { KeepAll cpus.old cpus.new }
+{
+    for at in 0..cpus.len() {
+        let cpu = &mut cpus[at];
+        if !has_cpu(cpu) {
+            return false;
+        }
+    }
+    true
+}
+
+// Sends each of the CPUs home.
+fn send_all(alloc: Global, cpus: &mut [&mut Handle])
+    requires { are_cpus_in cpus.old ≡ true }
+    ensures { EmptiesAll cpus.old cpus.new }
+{
+    for number in 0..cpus.len() {
+        let cpu = &mut cpus[number];
+        dspec_cpu_home(alloc, cpu);
+    }
+}
+
+/// Sends the CPUs and the consumer home, and ends the session.
+#[unsafe(no_mangle)]
+pub extern "C" fn dspec_close(
+    alloc: Global,
+    session: &mut Handle,
+    cpus: &mut [&mut Handle],
+    consumer: &mut Handle,
+    closed: &mut Handle,
+) -> u32
+    ensures full { is_full closed.old ≡ true → (result ≡ 18) × (session.new ≡ session.old) × (cpus.new ≡ cpus.old) × (consumer.new ≡ consumer.old) × (closed.new ≡ closed.old) }
+    ensures answers { is_full closed.old ≡ false → CloseAnswers result
+        (record { session = session.old; cpus = cpus.old; consumer = consumer.old; closed = closed.old })
+        (record { session = session.new; cpus = cpus.new; consumer = consumer.new; closed = closed.new }) }
+{
+    if closed.is_held() {
+        return FULL_HANDLE;
+    }
+    if !has_session(session) || !has_consumer(consumer) || !have_cpus(cpus) {
+        return BAD_HANDLE;
+    }
+    send_all(alloc, cpus);
+    dspec_consumer_home(alloc, consumer);
+    dspec_finish(alloc, session, closed)
+}
