@@ -1,0 +1,1 @@
+//! Packets and events, byte by byte.
