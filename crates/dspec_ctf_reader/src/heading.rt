@@ -1,5 +1,9 @@
 //! What stands before the events of a metadata's text.
 
+ghost use Rattle.std.specs.Prelude.{◌≡◌, is_some};
+ghost use Rattle.dspec_ctf_reading.specs.ReadingMetadata.{read_clock, read_clock_start, read_clock_uuid, read_process, rest_past, stream_lines};
+ghost use Rattle.dspec_ctf_reader.specs.Parts.{Tells, read_trace};
+
 use crate::fault::{Expected, Stop};
 use crate::scan::{behind, decimal, past, past_text, quoted};
 use crate::told::{ClockText, Process};
@@ -28,7 +32,9 @@ const TIMED_STREAM: &str =
     "\nstream {\n\tid = 0;\n\tpacket.context := struct {\n\t\tstamp_t timestamp_begin;\n\t\tstamp_t timestamp_end;\n\t\tuint64_t content_size;\n\t\tuint64_t packet_size;\n\t\tuint64_t events_discarded;\n\t\tuint32_t cpu_id;\n\t};\n\tevent.header := struct {\n\t\tuint32_t id;\n\t\tstamp_t timestamp;\n\t};\n};\n";
 
 /// The text of the trace's uuid, and the bytes behind the lines in which it stands.
-pub(crate) fn trace(bytes: &[u8]) -> Result<(&str, &[u8]), Stop> {
+pub(crate) fn trace(bytes: &[u8]) -> Result<(&str, &[u8]), Stop>
+    ensures { Tells result (λ p. p.1.now) (read_trace bytes.now) }
+{
     let rest = past(bytes, TYPES, Expected::Types)?;
     let rest = past(rest, TRACE, Expected::Text(TRACE))?;
     let (uuid, rest) = quoted(rest)?;
@@ -36,28 +42,26 @@ pub(crate) fn trace(bytes: &[u8]) -> Result<(&str, &[u8]), Stop> {
     Ok((uuid, rest))
 }
 
-/// The process, behind what begins its machine's name, and the bytes behind it.
-fn process_told(bytes: &[u8]) -> Result<(Process<'_>, &[u8]), Stop> {
-    let (host, rest) = quoted(bytes)?;
+/// The process, where it is told, and the bytes behind it.
+pub(crate) fn process(bytes: &[u8]) -> Result<(Option<Process<'_>>, &[u8]), Stop>
+    ensures { Tells result (λ p. p.1.now) (read_process bytes.now) }
+{
+    let Some(rest) = behind(bytes, "\thostname = \"") else {
+        return Ok((None, bytes));
+    };
+    let (host, rest) = quoted(rest)?;
     let rest = past_text(rest, "\";\n\tprocname = \"")?;
     let (name, rest) = quoted(rest)?;
     let rest = past_text(rest, "\";\n\tvpid = ")?;
     let (pid, rest) = decimal(rest)?;
     let rest = past_text(rest, ";\n")?;
-    Ok((Process { host, name, pid }, rest))
-}
-
-/// The process, where it is told, and the bytes behind it.
-pub(crate) fn process(bytes: &[u8]) -> Result<(Option<Process<'_>>, &[u8]), Stop> {
-    let Some(rest) = behind(bytes, "\thostname = \"") else {
-        return Ok((None, bytes));
-    };
-    let (process, rest) = process_told(rest)?;
-    Ok((Some(process), rest))
+    Ok((Some(Process { host, name, pid }), rest))
 }
 
 /// The text of the clock's uuid, where it is told, and the bytes behind it.
-fn clock_uuid(bytes: &[u8]) -> Result<(Option<&str>, &[u8]), Stop> {
+fn clock_uuid(bytes: &[u8]) -> Result<(Option<&str>, &[u8]), Stop>
+    ensures { Tells result (λ p. p.1.now) (read_clock_uuid bytes.now) }
+{
     let Some(rest) = behind(bytes, "\tuuid = \"") else {
         return Ok((None, bytes));
     };
@@ -67,7 +71,9 @@ fn clock_uuid(bytes: &[u8]) -> Result<(Option<&str>, &[u8]), Stop> {
 }
 
 /// Where the clock began, where it is told, and the bytes behind it.
-fn clock_start(bytes: &[u8]) -> Result<(Option<(u64, u64)>, &[u8]), Stop> {
+fn clock_start(bytes: &[u8]) -> Result<(Option<(u64, u64)>, &[u8]), Stop>
+    ensures { Tells result (λ p. p.1.now) (read_clock_start bytes.now) }
+{
     let Some(rest) = behind(bytes, "\toffset_s = ") else {
         return Ok((None, bytes));
     };
@@ -78,34 +84,32 @@ fn clock_start(bytes: &[u8]) -> Result<(Option<(u64, u64)>, &[u8]), Stop> {
     Ok((Some((seconds, ticks)), rest))
 }
 
-/// The clock, behind what begins its frequency, and the bytes behind the type of its stamps.
-fn clock_told(bytes: &[u8]) -> Result<(ClockText<'_>, &[u8]), Stop> {
-    let (frequency, rest) = decimal(bytes)?;
+/// The clock, where there is one, and the bytes behind it.
+pub(crate) fn clock(bytes: &[u8]) -> Result<(Option<ClockText<'_>>, &[u8]), Stop>
+    ensures { Tells result (λ p. (is_some p.0, p.1.now)) (read_clock bytes.now) }
+{
+    let Some(rest) = behind(bytes, "\nclock {\n\tname = stamp;\n\tfreq = ") else {
+        return Ok((None, bytes));
+    };
+    let (frequency, rest) = decimal(rest)?;
     let rest = past_text(rest, ";\n")?;
     let (uuid, rest) = clock_uuid(rest)?;
     let (start, rest) = clock_start(rest)?;
-    let rest = past_text(rest, CLOCK_END)?;
+    let rest = past(rest, CLOCK_END, Expected::Text(CLOCK_END))?;
     Ok((
-        ClockText {
+        Some(ClockText {
             frequency,
             uuid,
             start,
-        },
+        }),
         rest,
     ))
 }
 
-/// The clock, where there is one, and the bytes behind it.
-pub(crate) fn clock(bytes: &[u8]) -> Result<(Option<ClockText<'_>>, &[u8]), Stop> {
-    let Some(rest) = behind(bytes, "\nclock {\n\tname = stamp;\n\tfreq = ") else {
-        return Ok((None, bytes));
-    };
-    let (clock, rest) = clock_told(rest)?;
-    Ok((Some(clock), rest))
-}
-
 /// What is behind the streams of a trace with a clock or without.
-pub(crate) fn streams(timed: bool, bytes: &[u8]) -> Result<&[u8], Stop> {
+pub(crate) fn streams(timed: bool, bytes: &[u8]) -> Result<&[u8], Stop>
+    ensures { Tells result (λ rest. rest.now) (rest_past (stream_lines timed) bytes.now) }
+{
     if timed {
         past(bytes, TIMED_STREAM, Expected::Stream)
     } else {
