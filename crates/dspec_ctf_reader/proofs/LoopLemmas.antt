@@ -1,5 +1,5 @@
 -- Loops that read one part behind another.
-use Rattle.std.proofs.Common.{◌≡◌, ◌≤◌, ◌<◌, ◌+◌, ◌-◌, ℕ, zero, suc, List, [], ◌∷◌, ◌++◌, map, length, Option, Some, None, option_map, refl, ap, sym, ◌∙◌, subst, arith, append_assoc}
+use Rattle.std.proofs.Common.{◌≡◌, ◌≤◌, ◌<◌, ◌+◌, ◌-◌, ◌==◌, ℕ, zero, suc, false, List, [], ◌∷◌, ◌++◌, map, length, Option, Some, None, option_map, refl, ap, sym, ◌∙◌, subst, arith, append_assoc}
 use Rattle.std.specs.Prelude.{option_and_then}
 use Rattle.std.proofs.lemmas.List.{map-append}
 use Rattle.dspec_ctf_reading.specs.Reading.{Part, then_read, EventLayout}
@@ -94,3 +94,8 @@ module _ {X : Type 0} (f : X → EventLayout) where
   texts-none n found whole [] some is = absurd (omega (arith, some))
   texts-none n found whole (b ∷ bytes) some is =
       let none : n - n ≡ 0 = omega arith in is ∙ ap (λ m. option_map (λ events. map f found ++ events) (read_event_texts m (b ∷ bytes))) none
+
+-- what a test says that a list isn't empty
+pub some-left : (n : ℕ) → (n == 0) ≡ false → 0 < n
+some-left zero other = absurd (cc)
+some-left (suc n) other = omega arith

@@ -115,9 +115,11 @@ impl<T: Drop> From<AllocFailed<T>> for EventFault {
 
 /// Why events don't fill the bytes of a packet.
 #[derive(Debug, Clone, Copy, PartialEq, Eq, Error)]
-#[error("at byte {at}: {fault}")]
+#[error("event {before}, at byte {at}: {fault}")]
 pub struct EventsFault {
-    /// Where the first event begins that can't be read, in bytes from the first event on.
+    /// How many events stand before the first one that can't be read.
+    pub before: usize,
+    /// Where that one begins, in bytes from the first event on.
     pub at: usize,
     /// Why it can't be read.
     pub fault: EventFault,

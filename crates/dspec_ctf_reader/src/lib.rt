@@ -11,6 +11,7 @@ pub mod fault;
 mod heading;
 mod kinds;
 pub mod metadata;
+mod numbers;
 pub mod packets;
 mod scan;
 pub mod told;
