@@ -51,21 +51,27 @@ payload-here i fields f rest below is =
     ∙ ap (λ x. then_read (read_number (width x.width) rest) (λ value rest. option_map (λ p. ((x.name.now, value) ∷ p.0, p.1)) (read_payload (map field_layout (drop (suc i) fields)) rest))) (sym is)
     ∙ ap (λ n. then_read (read_number (width f.width) rest) (λ value rest. option_map (λ p. ((f.name.now, value) ∷ p.0, p.1)) (read_payload (map field_layout (drop n fields)) rest))) (sym (add-one i))
 
+zip-none : {A : Type 0} (names : List A) (values : List ℕ) → values ≡ [] → zip names values ≡ []
+zip-none [] values none = refl
+zip-none (m ∷ names) [] none = refl
+zip-none (m ∷ names) (v ∷ values) none = absurd (cc)
+
 zip-push : {A : Type 0} (names : List A) (values : List ℕ) (v : ℕ) (d : A) → length values < length names → zip names (values ++ v ∷ []) ≡ zip names values ++ (get_or names (length values) d, v) ∷ []
 zip-push [] values v d below = absurd (omega (arith, below))
-zip-push (n ∷ names) [] v d below = zip-none names
-  where
-    zip-none : (names : List A) → (n, v) ∷ zip names [] ≡ (n, v) ∷ []
-    zip-none [] = refl
-    zip-none (m ∷ names) = refl
+zip-push (n ∷ names) [] v d below = ap (λ more. (n, v) ∷ more) (zip-none names [] refl)
 zip-push (n ∷ names) (w ∷ values) v d below = ap (λ more. (n, w) ∷ more) (zip-push names values v d (omega (arith, below)))
 
 -- the values so far under their names, and what is read behind them
 abbrev pub under_names : List FieldText → List ℕ → Part (List (List ℕ × ℕ)) → Part (List (List ℕ × ℕ))
 under_names fields values part = option_map (λ p. (zip (names_of (map field_layout fields)) values ++ p.0, p.1)) part
 
-one-value : (before : List (List ℕ × ℕ)) (x : List ℕ × ℕ) (part : Part (List (List ℕ × ℕ)))
-    → option_map (λ p. (before ++ p.0, p.1)) (option_map (λ p. (x ∷ p.0, p.1)) part) ≡ option_map (λ p. ((before ++ x ∷ []) ++ p.0, p.1)) part
+abbrev put_before : List (List ℕ × ℕ) → Part (List (List ℕ × ℕ)) → Part (List (List ℕ × ℕ))
+put_before before part = option_map (λ p. (before ++ p.0, p.1)) part
+
+abbrev put_first : List ℕ × ℕ → Part (List (List ℕ × ℕ)) → Part (List (List ℕ × ℕ))
+put_first x part = option_map (λ p. (x ∷ p.0, p.1)) part
+
+one-value : (before : List (List ℕ × ℕ)) (x : List ℕ × ℕ) (part : Part (List (List ℕ × ℕ))) → put_before before (put_first x part) ≡ put_before (before ++ x ∷ []) part
 one-value before x None = refl
 one-value before x (Some p) = ap (λ xs. Some (xs, p.1)) (sym (append_assoc before (x ∷ []) p.0))
 
@@ -73,6 +79,13 @@ name-at : (i : ℕ) (fields : List FieldText) (f : FieldText) → i < length fie
 name-at i [] f below is = absurd (omega (arith, below))
 name-at zero (x ∷ fields) f below is = ap (λ x. x.name.now) (sym is)
 name-at (suc i) (x ∷ fields) f below is = name-at i fields f (omega (arith, below)) is
+
+put-none : (part : Part (List (List ℕ × ℕ))) → part ≡ put_before [] part
+put-none None = refl
+put-none (Some p) = refl
+
+pub payload-begin : (fields : List FieldText) (values : List ℕ) (part : Part (List (List ℕ × ℕ))) → values ≡ [] → part ≡ under_names fields values part
+payload-begin fields values part none = put-none part ∙ ap (λ before. put_before before part) (sym (zip-none (names_of (map field_layout fields)) values none))
 
 pub payload-on : (i : ℕ) (fields : List FieldText) (f : FieldText) (values grown : List ℕ) (v : ℕ) (whole : Part (List (List ℕ × ℕ))) (rest next : List ℕ)
     → i < length fields → f ≡ get_or fields i f → length values ≡ i → whole ≡ under_names fields values (read_payload (map field_layout (drop i fields)) rest)
@@ -84,7 +97,7 @@ payload-on i fields f values grown v whole rest next below is count so_far read 
     so_far ∙ ap (under_names fields values) (payload-here i fields f rest below is
     ∙ ap (λ part. then_read part (λ value rest. option_map (λ p. ((f.name.now, value) ∷ p.0, p.1)) (read_payload (map field_layout (drop (i + 1) fields)) rest))) read)
     ∙ one-value (zip (names_of (map field_layout fields)) values) (f.name.now, v) (read_payload (map field_layout (drop (i + 1) fields)) next)
-    ∙ ap (λ before. option_map (λ p. (before ++ p.0, p.1)) (read_payload (map field_layout (drop (i + 1) fields)) next))
+    ∙ ap (λ before. put_before before (read_payload (map field_layout (drop (i + 1) fields)) next))
     (ap (λ name. zip (names_of (map field_layout fields)) values ++ (name, v) ∷ []) (sym name)
     ∙ sym (zip-push (names_of (map field_layout fields)) values v [] few) ∙ ap (zip (names_of (map field_layout fields))) (sym longer))
 
@@ -107,7 +120,10 @@ payload-end i fields values whole rest all so_far =
     ∙ ap (λ vs. Some (vs, rest)) (append-nil (zip (names_of (map field_layout fields)) values))
 
 -- the same where no value is kept
-only-rest : (x : List ℕ × ℕ) (part : Part (List (List ℕ × ℕ))) → option_map (λ p. p.1) (option_map (λ p. (x ∷ p.0, p.1)) part) ≡ option_map (λ p. p.1) part
+abbrev rest_of : Part (List (List ℕ × ℕ)) → Option (List ℕ)
+rest_of part = option_map (λ p. p.1) part
+
+only-rest : (x : List ℕ × ℕ) (part : Part (List (List ℕ × ℕ))) → rest_of (put_first x part) ≡ rest_of part
 only-rest x None = refl
 only-rest x (Some p) = refl
 
