@@ -28,25 +28,25 @@ const RECORDS: [u8; 32] = [
     18,
 ];
 
+/// The enablings of records with these fields.
+fn enablings_of(rows: &[&[Field]]) -> Result<Enablings, SchemaFault> {
+    let mut enablings = Enablings::new();
+    for fields in rows {
+        enablings.enable(fields)?;
+    }
+    Ok(enablings)
+}
+
 /// The enablings 1 none, 2 [8], 3 [1, 2].
 fn three_enablings() -> Result<Enablings, SchemaFault> {
-    let mut enablings = Enablings::new();
-    enablings.enable(&[])?;
-    enablings.enable(&[Field::Eight])?;
-    enablings.enable(&[Field::One, Field::Two])?;
-    Ok(enablings)
+    enablings_of(&[&[], &[Field::Eight], &[Field::One, Field::Two]])
 }
 
 /// The text of their metadata.
 fn three_texts(rt: &impl AllocGlobal) -> Result<String, Fail> {
     let enablings = three_enablings()?;
-    let text = metadata(
-        rt.alloc(),
-        &UUID,
-        Form::AsTaken,
-        &enablings,
-        &Names::Numbered,
-    )?;
+    let names = Names::Numbered;
+    let text = metadata(rt.alloc(), &UUID, Form::AsTaken, &enablings, &names)?;
     Ok(text)
 }
 
@@ -70,10 +70,10 @@ fn same_event(
 fn written_and_read(rt: HostRuntime) -> Result<(), Fail> {
     let enablings = three_enablings()?;
     let mut stream = Stream {
-        uuid: UUID,
-        enablings: &enablings,
         cpu: 1,
         missed: 0,
+        uuid: UUID,
+        enablings: &enablings,
     };
     let bytes = stream.packet(rt.alloc(), 5, &RECORDS)?;
     let text = three_texts(&rt)?;
