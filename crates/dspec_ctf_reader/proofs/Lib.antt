@@ -1,0 +1,3 @@
+pub mod ScanLemmas
+pub mod LoopLemmas
+pub mod EventLemmas

@@ -1,0 +1,101 @@
+-- Loops that read one part behind another.
+use Rattle.std.proofs.Common.{◌≡◌, ◌≤◌, ◌<◌, ◌+◌, ◌-◌, ◌==◌, ℕ, zero, suc, false, List, [], ◌∷◌, ◌++◌, map, length, Option, Some, None, option_map, refl, ap, sym, ◌∙◌, subst, arith, append_assoc}
+use Rattle.std.specs.Prelude.{option_and_then}
+use Rattle.std.proofs.lemmas.List.{map-append}
+use Rattle.dspec_ctf_reading.specs.Reading.{Part, then_read, EventLayout}
+use Rattle.dspec_ctf_reading.specs.ReadingMetadata.{rest_past, past_or, read_event_text, read_event_texts}
+
+-- what is read on, behind what was found before
+abbrev pub found_before : {A : Type 0} → List A → Part (List A) → Part (List A)
+found_before before part = option_map (λ p. (before ++ p.0, p.1)) part
+
+pub none-before : {A : Type 0} (part : Part (List A)) → part ≡ found_before [] part
+none-before None = refl
+none-before (Some p) = refl
+
+one-more : {A : Type 0} (before : List A) (x : A) (part : Part (List A)) → found_before before (option_map (λ p. (x ∷ p.0, p.1)) part) ≡ found_before (before ++ x ∷ []) part
+one-more before x None = refl
+one-more before x (Some p) = ap (λ xs. Some (xs, p.1)) (sym (append_assoc before (x ∷ []) p.0))
+
+append_nil : {A : Type 0} (xs : List A) → xs ++ [] ≡ xs
+append_nil [] = refl
+append_nil (x ∷ xs) = ap (λ ys. x ∷ ys) (append_nil xs)
+
+-- parts up to a text that ends them, of so many at most
+module _ {X A : Type 0} (f : X → A) (end : List ℕ) (one : List ℕ → Part A) (many : ℕ → List ℕ → Part (List A))
+    (some : (m : ℕ) (bytes : List ℕ) → many (suc m) bytes
+        ≡ past_or (rest_past end bytes) (λ rest. Some ([], rest)) (then_read (one bytes) (λ x rest. option_map (λ p. (x ∷ p.0, p.1)) (many m rest)))) where
+  less : (n i : ℕ) → i < n → n - i ≡ suc (n - (i + 1))
+  less n i below = omega (arith, below)
+
+  opened : (n i : ℕ) (rest : List ℕ) → i < n → many (n - i) rest
+      ≡ past_or (rest_past end rest) (λ rest. Some ([], rest)) (then_read (one rest) (λ x rest. option_map (λ p. (x ∷ p.0, p.1)) (many (n - (i + 1)) rest)))
+  opened n i rest below = ap (λ m. many m rest) (less n i below) ∙ some (n - (i + 1)) rest
+
+  pub many-on : (n i : ℕ) (found grown : List X) (x : X) (whole : Part (List A)) (rest next : List ℕ) → i < n → whole ≡ found_before (map f found) (many (n - i) rest)
+      → rest_past end rest ≡ None → one rest ≡ Some (f x, next) → grown ≡ found ++ x ∷ [] → whole ≡ found_before (map f grown) (many (n - (i + 1)) next)
+  many-on n i found grown x whole rest next below is no_end is_one longer =
+      is ∙ ap (found_before (map f found)) (opened n i rest below
+      ∙ ap (λ e. past_or e (λ rest. Some ([], rest)) (then_read (one rest) (λ x rest. option_map (λ p. (x ∷ p.0, p.1)) (many (n - (i + 1)) rest)))) no_end
+      ∙ ap (λ part. then_read part (λ x rest. option_map (λ p. (x ∷ p.0, p.1)) (many (n - (i + 1)) rest))) is_one)
+      ∙ one-more (map f found) (f x) (many (n - (i + 1)) next)
+      ∙ ap (λ xs. found_before xs (many (n - (i + 1)) next)) (sym (ap (map f) longer ∙ map-append f found (x ∷ [])))
+
+  pub many-end : (n i : ℕ) (found : List X) (whole : Part (List A)) (rest behind : List ℕ) → i < n → whole ≡ found_before (map f found) (many (n - i) rest)
+      → rest_past end rest ≡ Some behind → whole ≡ Some (map f found, behind)
+  many-end n i found whole rest behind below is ends =
+      is ∙ ap (found_before (map f found)) (opened n i rest below
+      ∙ ap (λ e. past_or e (λ rest. Some ([], rest)) (then_read (one rest) (λ x rest. option_map (λ p. (x ∷ p.0, p.1)) (many (n - (i + 1)) rest)))) ends)
+      ∙ ap (λ xs. Some (xs, behind)) (append_nil (map f found))
+
+  pub many-stop : (n i : ℕ) (found : List X) (whole : Part (List A)) (rest : List ℕ) → i < n → whole ≡ found_before (map f found) (many (n - i) rest)
+      → rest_past end rest ≡ None → one rest ≡ None → whole ≡ None
+  many-stop n i found whole rest below is no_end no_one =
+      is ∙ ap (found_before (map f found)) (opened n i rest below
+      ∙ ap (λ e. past_or e (λ rest. Some ([], rest)) (then_read (one rest) (λ x rest. option_map (λ p. (x ∷ p.0, p.1)) (many (n - (i + 1)) rest)))) no_end
+      ∙ ap (λ part. then_read part (λ x rest. option_map (λ p. (x ∷ p.0, p.1)) (many (n - (i + 1)) rest))) no_one)
+
+-- events up to the end of the text
+module _ {X : Type 0} (f : X → EventLayout) where
+  one-after : (found : List X) (x : X) (part : Option (List EventLayout)) → option_map (λ events. map f found ++ events) (option_map (λ events. f x ∷ events) part)
+      ≡ option_map (λ events. map f (found ++ x ∷ []) ++ events) part
+  one-after found x None = refl
+  one-after found x (Some events) =
+      ap Some (sym (append_assoc (map f found) (f x ∷ []) events) ∙ ap (λ xs. xs ++ events) (sym (map-append f found (x ∷ []))))
+
+  texts-open : (n i : ℕ) (rest : List ℕ) → i < n → 0 < length rest
+      → read_event_texts (n - i) rest ≡ option_and_then (λ p. option_map (λ events. p.0 ∷ events) (read_event_texts (n - (i + 1)) p.1)) (read_event_text rest)
+  texts-open n i [] below some = absurd (omega (arith, some))
+  texts-open n i (b ∷ bytes) below some = let m : n - i ≡ suc (n - (i + 1)) = omega (arith, below) in ap (λ m. read_event_texts m (b ∷ bytes)) m
+
+  pub texts-on : (n i : ℕ) (found grown : List X) (x : X) (whole : Option (List EventLayout)) (rest next : List ℕ) → i < n → 0 < length rest
+      → whole ≡ option_map (λ events. map f found ++ events) (read_event_texts (n - i) rest) → read_event_text rest ≡ Some (f x, next) → grown ≡ found ++ x ∷ []
+      → whole ≡ option_map (λ events. map f grown ++ events) (read_event_texts (n - (i + 1)) next)
+  texts-on n i found grown x whole rest next below some is is_one longer =
+      is ∙ ap (option_map (λ events. map f found ++ events)) (texts-open n i rest below some
+      ∙ ap (option_and_then (λ p. option_map (λ events. p.0 ∷ events) (read_event_texts (n - (i + 1)) p.1))) is_one)
+      ∙ one-after found x (read_event_texts (n - (i + 1)) next)
+      ∙ ap (λ xs. option_map (λ events. map f xs ++ events) (read_event_texts (n - (i + 1)) next)) (sym longer)
+
+  pub texts-end : (n : ℕ) (found : List X) (whole : Option (List EventLayout)) (rest : List ℕ) → length rest ≡ 0
+      → whole ≡ option_map (λ events. map f found ++ events) (read_event_texts n rest) → whole ≡ Some (map f found)
+  texts-end zero found whole [] none is = is ∙ ap Some (append_nil (map f found))
+  texts-end (suc n) found whole [] none is = is ∙ ap Some (append_nil (map f found))
+  texts-end n found whole (b ∷ bytes) none is = absurd (omega (arith, none))
+
+  pub texts-stop : (n i : ℕ) (found : List X) (whole : Option (List EventLayout)) (rest : List ℕ) → i < n → 0 < length rest
+      → whole ≡ option_map (λ events. map f found ++ events) (read_event_texts (n - i) rest) → read_event_text rest ≡ None → whole ≡ None
+  texts-stop n i found whole rest below some is no_one =
+      is ∙ ap (option_map (λ events. map f found ++ events)) (texts-open n i rest below some
+      ∙ ap (option_and_then (λ p. option_map (λ events. p.0 ∷ events) (read_event_texts (n - (i + 1)) p.1))) no_one)
+
+  pub texts-none : (n : ℕ) (found : List X) (whole : Option (List EventLayout)) (rest : List ℕ) → 0 < length rest
+      → whole ≡ option_map (λ events. map f found ++ events) (read_event_texts (n - n) rest) → whole ≡ None
+  texts-none n found whole [] some is = absurd (omega (arith, some))
+  texts-none n found whole (b ∷ bytes) some is =
+      let none : n - n ≡ 0 = omega arith in is ∙ ap (λ m. option_map (λ events. map f found ++ events) (read_event_texts m (b ∷ bytes))) none
+
+-- what a test says that a list isn't empty
+pub some-left : (n : ℕ) → (n == 0) ≡ false → 0 < n
+some-left zero other = absurd (cc)
+some-left (suc n) other = omega arith

@@ -1,0 +1,4 @@
+pub mod Parts
+pub mod Told
+pub mod Faults
+pub mod Packets

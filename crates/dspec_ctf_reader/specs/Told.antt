@@ -1,0 +1,54 @@
+-- Cited by calls. What was read in code, in the words of the definitions of reading.
+use Rattle.std.specs.Prelude.{◌≡◌, ◌<◌, ℕ, List, [], length, map, slice_index_or, is_some}
+use Rattle.std.specs.List.{zip}
+use Rattle.dspec_record.specs.Layout.{width}
+use Rattle.dspec_ctf_reading.specs.Reading.{FieldLayout, EventLayout, Layout, EventRead}
+use Rattle.dspec_ctf_reading.specs.Fronts.{PacketSplit, front_of}
+use Rattle.dspec_ctf_reading.specs.declared.fronts.Packet.{Packet}
+use Rattle.dspec_ctf_reader.specs.declared.told.Label.{Label}
+use Rattle.dspec_ctf_reader.specs.declared.told.FieldText.{FieldText}
+use Rattle.dspec_ctf_reader.specs.declared.told.EventText.{EventText}
+use Rattle.dspec_ctf_reader.specs.declared.told.Metadata.{Metadata}
+use Rattle.dspec_ctf_reader.specs.declared.events.Event.{Event}
+
+-- a label, and the number that has it
+abbrev pub label_read : Label → List ℕ × ℕ
+label_read label = (label.text.now, label.number)
+
+abbrev pub field_layout : FieldText → FieldLayout
+field_layout field = record { name = field.name.now; width = width field.width }
+
+abbrev pub event_layout : EventText → EventLayout
+event_layout event = record { id = event.id; name = event.name.now; fields = map field_layout event.fields.items }
+
+-- the layout that the metadata tells: a trace with a clock has stamps
+abbrev pub layout_of : Metadata → Layout
+layout_of metadata = record { timed = is_some metadata.clock; events = map event_layout metadata.events.items }
+
+-- ---- events
+
+abbrev pub names_of : List FieldLayout → List (List ℕ)
+names_of fields = map (λ field. field.name) fields
+
+-- what is told at a place of a layout; nothing where it has no such place
+abbrev pub text_at : List EventLayout → ℕ → EventLayout
+text_at events place = slice_index_or events place (record { id = 0; name = []; fields = [] })
+
+-- an event in memory as it is read: the text at its place, its stamp, and its values under its fields' names
+abbrev pub event_read : Layout → Event → EventRead
+event_read layout event = record {
+  id = (text_at layout.events event.place).id;
+  name = (text_at layout.events event.place).name;
+  stamp = event.stamp;
+  values = zip (names_of (text_at layout.events event.place).fields) event.values.items;
+}
+
+-- there is a text at its place, and it has a value for each field
+abbrev pub Fits : Layout → Event → Type 0
+Fits layout event = (event.place < length layout.events) × (length event.values.items ≡ length (text_at layout.events event.place).fields)
+
+-- ---- packets
+
+-- a packet in memory as it is split
+abbrev pub packet_told : Packet → PacketSplit
+packet_told packet = record { front = front_of packet.front; body = packet.body.now; behind = packet.behind.now }
