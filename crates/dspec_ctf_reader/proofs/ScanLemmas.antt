@@ -1,5 +1,6 @@
 -- Runs of bytes, fixed texts and numbers, as loops over bytes find them.
-use Rattle.std.proofs.Common.{◌≡◌, ◌≤◌, ◌<◌, ◌^◌, ◌+◌, ◌*◌, ◌-◌, ◌==◌, ◌&&◌, ℕ, zero, suc, nat_eq, Bool, true, false, cond, List, [], ◌∷◌, length, take, drop, get_or, Option, Some, None, option_map, refl, ap, sym, ◌∙◌, arith, rules, Bor, MatchOption, drop-cons, add-one}
+use Rattle.std.proofs.Common.{◌≡◌, ◌≤◌, ◌<◌, ◌^◌, ◌+◌, ◌*◌, ◌-◌, ◌==◌, ◌&&◌, ℕ, zero, suc, nat_eq, Bool, true, false, cond, List, [], ◌∷◌, length, take, drop, get_or, Option, Some, None}
+use Rattle.std.proofs.Common.{option_map, refl, ap, sym, ◌∙◌, arith, rules, Bor, MatchOption, drop-cons, add-one}
 use Rattle.std.specs.Cmp.Lexicographic.{pointwise}
 use Rattle.std.specs.List.{list_all}
 use Rattle.std.specs.Str.{IsUtf8}
@@ -51,7 +52,8 @@ run-passes : (test : ℕ → Bool) (bytes : List ℕ) → list_all test (run_of 
 run-passes test [] = refl
 run-passes test (b ∷ bytes) = passes (test b) refl (run-passes test bytes)
   where
-    passes : (t : Bool) → test b ≡ t → list_all test (run_of test bytes).0 ≡ true → list_all test (cond {A = List ℕ × List ℕ} t (b ∷ (run_of test bytes).0, (run_of test bytes).1) ([], b ∷ bytes)).0 ≡ true
+    passes : (t : Bool) → test b ≡ t → list_all test (run_of test bytes).0 ≡ true
+        → list_all test (cond {A = List ℕ × List ℕ} t (b ∷ (run_of test bytes).0, (run_of test bytes).1) ([], b ∷ bytes)).0 ≡ true
     passes true is more = and_from (test b) (list_all test (run_of test bytes).0) is more
     passes false is more = refl
 

@@ -2,7 +2,8 @@
 use Rattle.std.specs.Prelude.{◌≡◌, ℕ, List, length, codes, Bool, true, false, Option, Some, None, Result, MatchResult, IsTrue}
 use Rattle.std.specs.Option.{option_map}
 use Rattle.dspec_ctf_reading.specs.Reading.{Part, then_read}
-use Rattle.dspec_ctf_reading.specs.ReadingMetadata.{is_digit, is_word, is_quoted, rest_past, past, then_rest, read_quoted, whole_types, read_type_of, read_labels, types_lines, trace_lines, header_lines}
+use Rattle.dspec_ctf_reading.specs.ReadingMetadata.{is_digit, is_word, is_quoted, rest_past, past, then_rest, read_quoted, whole_types, read_type_of, read_labels, types_lines, trace_lines}
+use Rattle.dspec_ctf_reading.specs.ReadingMetadata.{header_lines}
 use Rattle.dspec_ctf_reader.specs.declared.fault.Stop.{Stop}
 use Rattle.dspec_ctf_reader.specs.declared.fault.Stop.TheVariants.{Unread, TooLarge, Memory}
 use Rattle.dspec_ctf_reader.specs.declared.scan.Set.{Set}
@@ -21,8 +22,8 @@ is_unread (TooLarge left) = false
 is_unread Memory = false
 
 -- a part that was read is what the definition reads there; and where something else stands, the definition reads nothing
-abbrev pub Tells : {A B : Type 0} → Result A Stop → (A → B) → Option B → Type 0
-Tells result told part = MatchResult result (λ x. part ≡ Some (told x)) (λ stop. IsTrue (is_unread stop) → part ≡ None)
+abbrev pub Gives : {A B : Type 0} → Result A Stop → (A → B) → Option B → Type 0
+Gives result told part = MatchResult result (λ x. part ≡ Some (told x)) (λ stop. IsTrue (is_unread stop) → part ≡ None)
 
 -- an enumeration, from the type of its numbers on
 abbrev pub read_enumeration : List ℕ → Part ℕ

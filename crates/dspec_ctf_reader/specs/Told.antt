@@ -12,18 +12,18 @@ use Rattle.dspec_ctf_reader.specs.declared.told.Metadata.{Metadata}
 use Rattle.dspec_ctf_reader.specs.declared.events.Event.{Event}
 
 -- a label, and the number that has it
-abbrev pub label_read : Label → List ℕ × ℕ
-label_read label = (label.text.now, label.number)
+abbrev pub told_label : Label → List ℕ × ℕ
+told_label label = (label.text.now, label.number)
 
-abbrev pub field_layout : FieldText → FieldLayout
-field_layout field = record { name = field.name.now; width = width field.width }
+abbrev pub told_field : FieldText → FieldLayout
+told_field field = record { name = field.name.now; width = width field.width }
 
-abbrev pub event_layout : EventText → EventLayout
-event_layout event = record { id = event.id; name = event.name.now; fields = map field_layout event.fields.items }
+abbrev pub told_event : EventText → EventLayout
+told_event event = record { id = event.id; name = event.name.now; fields = map told_field event.fields.items }
 
 -- the layout that the metadata tells: a trace with a clock has stamps
-abbrev pub layout_of : Metadata → Layout
-layout_of metadata = record { timed = is_some metadata.clock; events = map event_layout metadata.events.items }
+abbrev pub told_layout : Metadata → Layout
+told_layout metadata = record { timed = is_some metadata.clock; events = map told_event metadata.events.items }
 
 -- ---- events
 
@@ -35,8 +35,8 @@ abbrev pub text_at : List EventLayout → ℕ → EventLayout
 text_at events place = slice_index_or events place (record { id = 0; name = []; fields = [] })
 
 -- an event in memory as it is read: the text at its place, its stamp, and its values under its fields' names
-abbrev pub event_read : Layout → Event → EventRead
-event_read layout event = record {
+abbrev pub as_read : Layout → Event → EventRead
+as_read layout event = record {
   id = (text_at layout.events event.place).id;
   name = (text_at layout.events event.place).name;
   stamp = event.stamp;
@@ -50,5 +50,5 @@ Fits layout event = (event.place < length layout.events) × (length event.values
 -- ---- packets
 
 -- a packet in memory as it is split
-abbrev pub packet_told : Packet → PacketSplit
-packet_told packet = record { front = front_of packet.front; body = packet.body.now; behind = packet.behind.now }
+abbrev pub told_packet : Packet → PacketSplit
+told_packet packet = record { front = front_of packet.front; body = packet.body.now; behind = packet.behind.now }

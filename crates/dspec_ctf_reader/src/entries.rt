@@ -2,8 +2,8 @@
 
 ghost use Rattle.std.specs.Prelude.{◌≡◌, length, map};
 ghost use Rattle.dspec_ctf_reading.specs.ReadingMetadata.{read_event_text, read_event_texts, read_field, read_fields};
-ghost use Rattle.dspec_ctf_reader.specs.Parts.{Tells};
-ghost use Rattle.dspec_ctf_reader.specs.Told.{event_layout, field_layout};
+ghost use Rattle.dspec_ctf_reader.specs.Parts.{Gives};
+ghost use Rattle.dspec_ctf_reader.specs.Told.{told_event, told_field};
 
 use crate::fault::{Expected, Stop};
 use crate::kinds::field_type;
@@ -13,7 +13,7 @@ use std::alloc::Global;
 
 /// A field's line, and the bytes behind it.
 fn field<'t>(alloc: Global, bytes: &'t [u8]) -> Result<(FieldText<'t>, &'t [u8]), Stop>
-    ensures { Tells result (λ p. (field_layout p.0, p.1.now)) (read_field bytes.now) } {
+    ensures { Gives result (λ p. (told_field p.0, p.1.now)) (read_field bytes.now) } {
     let rest = past_text(bytes, "\t\t")?;
     let (told, rest) = field_type(alloc, rest)?;
     let rest = past_text(rest, " ")?;
@@ -32,7 +32,7 @@ fn field<'t>(alloc: Global, bytes: &'t [u8]) -> Result<(FieldText<'t>, &'t [u8])
 
 /// Fields up to the end of their event, and the bytes behind it.
 fn fields<'t>(alloc: Global, bytes: &'t [u8]) -> Result<(Vec<FieldText<'t>>, &'t [u8]), Stop>
-    ensures { Tells result (λ p. (map field_layout p.0.items, p.1.now)) (read_fields (length bytes.now) bytes.now) } {
+    ensures { Gives result (λ p. (map told_field p.0.items, p.1.now)) (read_fields (length bytes.now) bytes.now) } {
     let mut found = Vec::new(alloc);
     let mut rest = bytes;
     for _ in 0..bytes.len() {
@@ -51,7 +51,7 @@ fn fields<'t>(alloc: Global, bytes: &'t [u8]) -> Result<(Vec<FieldText<'t>>, &'t
 
 /// An event, and the bytes behind it.
 fn event<'t>(alloc: Global, bytes: &'t [u8]) -> Result<(EventText<'t>, &'t [u8]), Stop>
-    ensures { Tells result (λ p. (event_layout p.0, p.1.now)) (read_event_text bytes.now) }
+    ensures { Gives result (λ p. (told_event p.0, p.1.now)) (read_event_text bytes.now) }
 {
     let rest = past_text(bytes, "\nevent {\n\tid = ")?;
     let (id, rest) = decimal(rest)?;
@@ -64,7 +64,7 @@ fn event<'t>(alloc: Global, bytes: &'t [u8]) -> Result<(EventText<'t>, &'t [u8])
 
 /// Events up to the end of the text.
 pub(crate) fn events<'t>(alloc: Global, bytes: &'t [u8]) -> Result<Vec<EventText<'t>>, Stop>
-    ensures { Tells result (λ events. map event_layout events.items) (read_event_texts (length bytes.now) bytes.now) } {
+    ensures { Gives result (λ events. map told_event events.items) (read_event_texts (length bytes.now) bytes.now) } {
     let mut found = Vec::new(alloc);
     let mut rest = bytes;
     for _ in 0..bytes.len() {

@@ -4,7 +4,7 @@ ghost use Rattle.std.specs.Prelude.{◌≡◌, ◌≤◌, ◌<◌, length, map, 
 ghost use Rattle.std.specs.List.{zip};
 ghost use Rattle.std.specs.Option.{option_map};
 ghost use Rattle.dspec_ctf_reading.specs.Reading.{find_event, read_event as event_from, read_event_body, read_events as events_from, read_payload};
-ghost use Rattle.dspec_ctf_reader.specs.Told.{Fits, event_layout, event_read, field_layout, layout_of, names_of, text_at};
+ghost use Rattle.dspec_ctf_reader.specs.Told.{Fits, told_event, as_read, told_field, told_layout, names_of, text_at};
 ghost use Rattle.dspec_ctf_reader.specs.Faults.{EventDue, EventsDue, HasKnown, IsCutOrMemory, is_event_fault};
 
 use crate::fault::{EventFault, EventsFault};
@@ -25,8 +25,8 @@ pub struct Event {
 
 /// The first event with this number, and its place.
 fn find<'m, 't>(events: &'m [EventText<'t>], id: u32) -> Option<(usize, &'m EventText<'t>)>
-    ensures found { MatchOption result (find_event id (map event_layout events.now) ≡ None) (λ p. find_event id (map event_layout events.now) ≡ Some (event_layout p.1.now)) }
-    ensures place { IfSome result (λ p. (p.0 < length events.now) × (text_at (map event_layout events.now) p.0 ≡ event_layout p.1.now)) }
+    ensures found { MatchOption result (find_event id (map told_event events.now) ≡ None) (λ p. find_event id (map told_event events.now) ≡ Some (told_event p.1.now)) }
+    ensures place { IfSome result (λ p. (p.0 < length events.now) × (text_at (map told_event events.now) p.0 ≡ told_event p.1.now)) }
 {
     for (place, event) in events.iter().enumerate() {
         if event.id == u64::from(id) {
@@ -41,12 +41,12 @@ fn heading<'m, 't, 'b>(
     metadata: &'m Metadata<'t>,
     bytes: &'b [u8],
 ) -> Result<(usize, &'m EventText<'t>, &'b [u8]), EventFault>
-    ensures read { IfOk result (λ p. event_from (layout_of metadata.now) bytes.now ≡ read_event_body (layout_of metadata.now).timed (event_layout p.1.now) p.2.now) }
-    ensures place { IfOk result (λ p. (p.0 < length metadata.now.events.items) × (text_at (layout_of metadata.now).events p.0 ≡ event_layout p.1.now)) }
-    ensures known { IfOk result (λ p. HasKnown (layout_of metadata.now) bytes.now) }
+    ensures read { IfOk result (λ p. event_from (told_layout metadata.now) bytes.now ≡ read_event_body (told_layout metadata.now).timed (told_event p.1.now) p.2.now) }
+    ensures place { IfOk result (λ p. (p.0 < length metadata.now.events.items) × (text_at (told_layout metadata.now).events p.0 ≡ told_event p.1.now)) }
+    ensures known { IfOk result (λ p. HasKnown (told_layout metadata.now) bytes.now) }
     ensures shorter { IfOk result (λ p. length p.2.now < length bytes.now) }
-    ensures fault { IfErr result (λ fault. EventDue (layout_of metadata.now) bytes.now fault) }
-    ensures none { IfErr result (λ fault. event_from (layout_of metadata.now) bytes.now ≡ None) }
+    ensures fault { IfErr result (λ fault. EventDue (told_layout metadata.now) bytes.now fault) }
+    ensures none { IfErr result (λ fault. event_from (told_layout metadata.now) bytes.now ≡ None) }
 {
     let Some((id, rest)) = four(bytes) else {
         return Err(EventFault::Cut);
@@ -63,11 +63,11 @@ fn payload<'b>(
     fields: &[FieldText<'_>],
     bytes: &'b [u8],
 ) -> Result<(Vec<u64>, &'b [u8]), EventFault>
-    ensures read { IfOk result (λ p. read_payload (map field_layout fields.now) bytes.now ≡ Some (zip (names_of (map field_layout fields.now)) p.0.items, p.1.now)) }
+    ensures read { IfOk result (λ p. read_payload (map told_field fields.now) bytes.now ≡ Some (zip (names_of (map told_field fields.now)) p.0.items, p.1.now)) }
     ensures count { IfOk result (λ p. length p.0.items ≡ length fields.now) }
     ensures within { IfOk result (λ p. length p.1.now ≤ length bytes.now) }
     ensures fault { IfErr result (λ fault. IsCutOrMemory fault) }
-    ensures none { IfErr result (λ fault. IsTrue (is_event_fault fault) → read_payload (map field_layout fields.now) bytes.now ≡ None) }
+    ensures none { IfErr result (λ fault. IsTrue (is_event_fault fault) → read_payload (map told_field fields.now) bytes.now ≡ None) }
 {
     let mut values = Vec::new(alloc);
     let mut rest = bytes;
@@ -83,7 +83,7 @@ fn payload<'b>(
 
 /// The bytes behind the numbers of the fields.
 fn behind_payload<'b>(fields: &[FieldText<'_>], bytes: &'b [u8]) -> Option<&'b [u8]>
-    ensures read { option_map (λ rest. rest.now) result ≡ option_map (λ p. p.1) (read_payload (map field_layout fields.now) bytes.now) }
+    ensures read { option_map (λ rest. rest.now) result ≡ option_map (λ p. p.1) (read_payload (map told_field fields.now) bytes.now) }
     ensures within { IfSome result (λ rest. length rest.now ≤ length bytes.now) }
 {
     let mut rest = bytes;
@@ -102,11 +102,11 @@ pub fn read_event<'b>(
     metadata: &Metadata<'_>,
     bytes: &'b [u8],
 ) -> Result<(Event, &'b [u8]), EventFault>
-    ensures read { IfOk result (λ p. event_from (layout_of metadata.now) bytes.now ≡ Some (event_read (layout_of metadata.now) p.0, p.1.now)) }
-    ensures fits { IfOk result (λ p. Fits (layout_of metadata.now) p.0) }
+    ensures read { IfOk result (λ p. event_from (told_layout metadata.now) bytes.now ≡ Some (as_read (told_layout metadata.now) p.0, p.1.now)) }
+    ensures fits { IfOk result (λ p. Fits (told_layout metadata.now) p.0) }
     ensures shorter { IfOk result (λ p. length p.1.now < length bytes.now) }
-    ensures fault { IfErr result (λ fault. EventDue (layout_of metadata.now) bytes.now fault) }
-    ensures none { IfErr result (λ fault. IsTrue (is_event_fault fault) → event_from (layout_of metadata.now) bytes.now ≡ None) }
+    ensures fault { IfErr result (λ fault. EventDue (told_layout metadata.now) bytes.now fault) }
+    ensures none { IfErr result (λ fault. IsTrue (is_event_fault fault) → event_from (told_layout metadata.now) bytes.now ≡ None) }
 {
     let (place, event, rest) = heading(metadata, bytes)?;
     let Some((stamp, rest)) = stamp(metadata.clock.is_some(), rest) else {
@@ -125,10 +125,10 @@ pub fn read_event<'b>(
 
 /// The bytes behind the event with which these begin.
 fn behind_event<'b>(metadata: &Metadata<'_>, bytes: &'b [u8]) -> Result<&'b [u8], EventFault>
-    ensures read { IfOk result (λ rest. option_map (λ p. p.1) (event_from (layout_of metadata.now) bytes.now) ≡ Some rest.now) }
+    ensures read { IfOk result (λ rest. option_map (λ p. p.1) (event_from (told_layout metadata.now) bytes.now) ≡ Some rest.now) }
     ensures shorter { IfOk result (λ rest. length rest.now < length bytes.now) }
-    ensures fault { IfErr result (λ fault. EventDue (layout_of metadata.now) bytes.now fault) }
-    ensures none { IfErr result (λ fault. event_from (layout_of metadata.now) bytes.now ≡ None) }
+    ensures fault { IfErr result (λ fault. EventDue (told_layout metadata.now) bytes.now fault) }
+    ensures none { IfErr result (λ fault. event_from (told_layout metadata.now) bytes.now ≡ None) }
 {
     let (_, event, rest) = heading(metadata, bytes)?;
     let Some((_, rest)) = stamp(metadata.clock.is_some(), rest) else {
@@ -146,10 +146,10 @@ pub fn read_events(
     metadata: &Metadata<'_>,
     body: &[u8],
 ) -> Result<Vec<Event>, EventsFault>
-    ensures read { IfOk result (λ events. events_from (layout_of metadata.now) body.now ≡ Some (map (event_read (layout_of metadata.now)) events.items)) }
-    ensures fit { IfOk result (λ events. All (Fits (layout_of metadata.now)) events.items) }
-    ensures fault { IfErr result (λ fault. EventsDue (layout_of metadata.now) body.now fault) }
-    ensures none { IfErr result (λ fault. IsTrue (is_event_fault fault.fault) → events_from (layout_of metadata.now) body.now ≡ None) }
+    ensures read { IfOk result (λ events. events_from (told_layout metadata.now) body.now ≡ Some (map (as_read (told_layout metadata.now)) events.items)) }
+    ensures fit { IfOk result (λ events. All (Fits (told_layout metadata.now)) events.items) }
+    ensures fault { IfErr result (λ fault. EventsDue (told_layout metadata.now) body.now fault) }
+    ensures none { IfErr result (λ fault. IsTrue (is_event_fault fault.fault) → events_from (told_layout metadata.now) body.now ≡ None) }
 {
     let mut events = Vec::new(alloc);
     let mut rest = body;
@@ -172,9 +172,9 @@ pub fn read_events(
 
 /// How many events fill the bytes of a packet. Takes no memory.
 pub fn check_events(metadata: &Metadata<'_>, body: &[u8]) -> Result<usize, EventsFault>
-    ensures read { IfOk result (λ count. option_map length (events_from (layout_of metadata.now) body.now) ≡ Some count) }
-    ensures fault { IfErr result (λ fault. EventsDue (layout_of metadata.now) body.now fault) }
-    ensures none { IfErr result (λ fault. events_from (layout_of metadata.now) body.now ≡ None) }
+    ensures read { IfOk result (λ count. option_map length (events_from (told_layout metadata.now) body.now) ≡ Some count) }
+    ensures fault { IfErr result (λ fault. EventsDue (told_layout metadata.now) body.now fault) }
+    ensures none { IfErr result (λ fault. events_from (told_layout metadata.now) body.now ≡ None) }
 {
     let mut count = 0usize;
     let mut rest = body;

@@ -2,7 +2,7 @@
 
 ghost use Rattle.std.specs.Prelude.{◌≡◌, is_some};
 ghost use Rattle.dspec_ctf_reading.specs.ReadingMetadata.{read_clock, read_clock_start, read_clock_uuid, read_process, rest_past, stream_lines};
-ghost use Rattle.dspec_ctf_reader.specs.Parts.{Tells, read_trace};
+ghost use Rattle.dspec_ctf_reader.specs.Parts.{Gives, read_trace};
 
 use crate::fault::{Expected, Stop};
 use crate::scan::{behind, decimal, past, past_text, quoted};
@@ -33,7 +33,7 @@ const TIMED_STREAM: &str =
 
 /// The text of the trace's uuid, and the bytes behind the lines in which it stands.
 pub(crate) fn trace(bytes: &[u8]) -> Result<(&str, &[u8]), Stop>
-    ensures { Tells result (λ p. p.1.now) (read_trace bytes.now) }
+    ensures { Gives result (λ p. p.1.now) (read_trace bytes.now) }
 {
     let rest = past(bytes, TYPES, Expected::Types)?;
     let rest = past(rest, TRACE, Expected::Text(TRACE))?;
@@ -44,7 +44,7 @@ pub(crate) fn trace(bytes: &[u8]) -> Result<(&str, &[u8]), Stop>
 
 /// The process, where it is told, and the bytes behind it.
 pub(crate) fn process(bytes: &[u8]) -> Result<(Option<Process<'_>>, &[u8]), Stop>
-    ensures { Tells result (λ p. p.1.now) (read_process bytes.now) }
+    ensures { Gives result (λ p. p.1.now) (read_process bytes.now) }
 {
     let Some(rest) = behind(bytes, "\thostname = \"") else {
         return Ok((None, bytes));
@@ -60,7 +60,7 @@ pub(crate) fn process(bytes: &[u8]) -> Result<(Option<Process<'_>>, &[u8]), Stop
 
 /// The text of the clock's uuid, where it is told, and the bytes behind it.
 fn clock_uuid(bytes: &[u8]) -> Result<(Option<&str>, &[u8]), Stop>
-    ensures { Tells result (λ p. p.1.now) (read_clock_uuid bytes.now) }
+    ensures { Gives result (λ p. p.1.now) (read_clock_uuid bytes.now) }
 {
     let Some(rest) = behind(bytes, "\tuuid = \"") else {
         return Ok((None, bytes));
@@ -72,7 +72,7 @@ fn clock_uuid(bytes: &[u8]) -> Result<(Option<&str>, &[u8]), Stop>
 
 /// Where the clock began, where it is told, and the bytes behind it.
 fn clock_start(bytes: &[u8]) -> Result<(Option<(u64, u64)>, &[u8]), Stop>
-    ensures { Tells result (λ p. p.1.now) (read_clock_start bytes.now) }
+    ensures { Gives result (λ p. p.1.now) (read_clock_start bytes.now) }
 {
     let Some(rest) = behind(bytes, "\toffset_s = ") else {
         return Ok((None, bytes));
@@ -86,7 +86,7 @@ fn clock_start(bytes: &[u8]) -> Result<(Option<(u64, u64)>, &[u8]), Stop>
 
 /// The clock, where there is one, and the bytes behind it.
 pub(crate) fn clock(bytes: &[u8]) -> Result<(Option<ClockText<'_>>, &[u8]), Stop>
-    ensures { Tells result (λ p. (is_some p.0, p.1.now)) (read_clock bytes.now) }
+    ensures { Gives result (λ p. (is_some p.0, p.1.now)) (read_clock bytes.now) }
 {
     let Some(rest) = behind(bytes, "\nclock {\n\tname = stamp;\n\tfreq = ") else {
         return Ok((None, bytes));
@@ -108,7 +108,7 @@ pub(crate) fn clock(bytes: &[u8]) -> Result<(Option<ClockText<'_>>, &[u8]), Stop
 
 /// What is behind the streams of a trace with a clock or without.
 pub(crate) fn streams(timed: bool, bytes: &[u8]) -> Result<&[u8], Stop>
-    ensures { Tells result (λ rest. rest.now) (rest_past (stream_lines timed) bytes.now) }
+    ensures { Gives result (λ rest. rest.now) (rest_past (stream_lines timed) bytes.now) }
 {
     if timed {
         past(bytes, TIMED_STREAM, Expected::Stream)

@@ -4,8 +4,8 @@ ghost use Rattle.std.specs.Prelude.{◌≡◌, length, map, take, drop, ◌++◌
 ghost use Rattle.std.specs.Option.{option_map};
 ghost use Rattle.dspec_record.specs.Layout.{width as bytes_of};
 ghost use Rattle.dspec_ctf_reading.specs.ReadingMetadata.{float_types, read_label, read_labels, read_type, read_type_of, whole_types};
-ghost use Rattle.dspec_ctf_reader.specs.Parts.{Tells, read_enumeration};
-ghost use Rattle.dspec_ctf_reader.specs.Told.{label_read};
+ghost use Rattle.dspec_ctf_reader.specs.Parts.{Gives, read_enumeration};
+ghost use Rattle.dspec_ctf_reader.specs.Told.{told_label};
 
 use crate::fault::{Expected, Stop};
 use crate::scan::{behind, decimal, past_text, quoted};
@@ -92,7 +92,7 @@ fn no_type(bytes: &[u8]) -> Stop {
 
 /// A label, and the bytes behind it.
 fn label(bytes: &[u8]) -> Result<(Label<'_>, &[u8]), Stop>
-    ensures { Tells result (λ p. (label_read p.0, p.1.now)) (read_label bytes.now) } {
+    ensures { Gives result (λ p. (told_label p.0, p.1.now)) (read_label bytes.now) } {
     let rest = past_text(bytes, "\"")?;
     let (text, rest) = quoted(rest)?;
     let rest = past_text(rest, "\" = ")?;
@@ -103,7 +103,7 @@ fn label(bytes: &[u8]) -> Result<(Label<'_>, &[u8]), Stop>
 
 /// Labels up to the brace behind them, and the bytes behind it.
 fn labels<'t>(alloc: Global, bytes: &'t [u8]) -> Result<(Vec<Label<'t>>, &'t [u8]), Stop>
-    ensures { Tells result (λ p. (map label_read p.0.items, p.1.now)) (read_labels (length bytes.now) bytes.now) } {
+    ensures { Gives result (λ p. (map told_label p.0.items, p.1.now)) (read_labels (length bytes.now) bytes.now) } {
     let mut found = Vec::new(alloc);
     let mut rest = bytes;
     for _ in 0..bytes.len() {
@@ -133,7 +133,7 @@ pub(crate) struct Numbers<'t> {
 
 /// An enumeration, from the type of its numbers on, and the bytes behind it.
 fn enumeration<'t>(alloc: Global, bytes: &'t [u8]) -> Result<(Numbers<'t>, &'t [u8]), Stop>
-    ensures { Tells result (λ p. (bytes_of p.0.width, p.1.now)) (read_enumeration bytes.now) } {
+    ensures { Gives result (λ p. (bytes_of p.0.width, p.1.now)) (read_enumeration bytes.now) } {
     let Some((width, kind, rest)) = whole(bytes) else {
         return Err(no_type(bytes));
     };
@@ -154,7 +154,7 @@ pub(crate) fn field_type<'t>(
     alloc: Global,
     bytes: &'t [u8],
 ) -> Result<(Numbers<'t>, &'t [u8]), Stop>
-    ensures { Tells result (λ p. (bytes_of p.0.width, p.1.now)) (read_type bytes.now) } {
+    ensures { Gives result (λ p. (bytes_of p.0.width, p.1.now)) (read_type bytes.now) } {
     if let Some(rest) = behind(bytes, "enum : ") {
         return enumeration(alloc, rest);
     }

@@ -2,8 +2,8 @@
 
 ghost use Rattle.std.specs.Prelude.{◌≡◌, IfOk, IfErr, IsTrue, Some, None};
 ghost use Rattle.dspec_ctf_reading.specs.ReadingMetadata.{read_metadata as metadata_read};
-ghost use Rattle.dspec_ctf_reader.specs.Parts.{Tells};
-ghost use Rattle.dspec_ctf_reader.specs.Told.{layout_of};
+ghost use Rattle.dspec_ctf_reader.specs.Parts.{Gives};
+ghost use Rattle.dspec_ctf_reader.specs.Told.{told_layout};
 ghost use Rattle.dspec_ctf_reader.specs.Faults.{is_misread};
 
 use crate::entries::events;
@@ -15,7 +15,7 @@ use std::alloc::Global;
 
 /// What the text tells, or where reading it stopped.
 fn read<'t>(alloc: Global, text: &'t [u8]) -> Result<Metadata<'t>, Stop>
-    ensures { Tells result layout_of (metadata_read text.now) } {
+    ensures { Gives result told_layout (metadata_read text.now) } {
     let (uuid, rest) = trace(text)?;
     let (process, rest) = process(rest)?;
     let rest = past_text(rest, "\ttracer_name = \"sidingyarrow\";\n};\n")?;
@@ -43,7 +43,7 @@ fn line_of(text: &[u8], left: usize) -> u64 {
 
 /// What a trace's metadata tells.
 pub fn read_metadata<'t>(alloc: Global, text: &'t [u8]) -> Result<Metadata<'t>, MetadataReadFault>
-    ensures read { IfOk result (λ metadata. metadata_read text.now ≡ Some (layout_of metadata)) }
+    ensures read { IfOk result (λ metadata. metadata_read text.now ≡ Some (told_layout metadata)) }
     ensures fault { IfErr result (λ fault. IsTrue (is_misread fault) → metadata_read text.now ≡ None) } {
     match read(alloc, text) {
         Ok(metadata) => Ok(metadata),

@@ -12,8 +12,8 @@ fn one(bytes: &[u8]) -> Option<(u8, &[u8])>
     ensures read { option_map (λ p. (p.0, p.1.now)) result ≡ read_number 1 bytes.now }
     ensures shorter { IfSome result (λ p. length p.1.now < length bytes.now) }
 {
-    let (number, rest) = bytes.split_first_chunk::<1>()?;
-    Some((number[0], rest))
+    let (chunk, rest) = bytes.split_first_chunk::<1>()?;
+    Some((chunk[0], rest))
 }
 
 /// A number of two bytes, and those behind it.
@@ -21,8 +21,8 @@ fn two(bytes: &[u8]) -> Option<(u16, &[u8])>
     ensures read { option_map (λ p. (p.0, p.1.now)) result ≡ read_number 2 bytes.now }
     ensures shorter { IfSome result (λ p. length p.1.now < length bytes.now) }
 {
-    let (number, rest) = bytes.split_first_chunk::<2>()?;
-    Some((u16::from_le_bytes(*number), rest))
+    let (chunk, rest) = bytes.split_first_chunk::<2>()?;
+    Some((u16::from_le_bytes(*chunk), rest))
 }
 
 /// A number of four bytes, and those behind it.
@@ -30,8 +30,8 @@ pub(crate) fn four(bytes: &[u8]) -> Option<(u32, &[u8])>
     ensures read { option_map (λ p. (p.0, p.1.now)) result ≡ read_number 4 bytes.now }
     ensures shorter { IfSome result (λ p. length p.1.now < length bytes.now) }
 {
-    let (number, rest) = bytes.split_first_chunk::<4>()?;
-    Some((u32::from_le_bytes(*number), rest))
+    let (chunk, rest) = bytes.split_first_chunk::<4>()?;
+    Some((u32::from_le_bytes(*chunk), rest))
 }
 
 /// A number of eight bytes, and those behind it.
@@ -39,8 +39,8 @@ fn eight(bytes: &[u8]) -> Option<(u64, &[u8])>
     ensures read { option_map (λ p. (p.0, p.1.now)) result ≡ read_number 8 bytes.now }
     ensures shorter { IfSome result (λ p. length p.1.now < length bytes.now) }
 {
-    let (number, rest) = bytes.split_first_chunk::<8>()?;
-    Some((u64::from_le_bytes(*number), rest))
+    let (chunk, rest) = bytes.split_first_chunk::<8>()?;
+    Some((u64::from_le_bytes(*chunk), rest))
 }
 
 /// A number of the field's width, and the bytes behind it.

@@ -4,7 +4,7 @@ ghost use Rattle.std.specs.Prelude.{◌≡◌, ◌≢◌, ◌<◌, ◌-◌, ◌/
 ghost use Rattle.std.specs.Option.{option_map};
 ghost use Rattle.dspec_ctf_reading.specs.Reading.{read_front as front_from, read_number, read_packet as packet_from, sizes_agree};
 ghost use Rattle.dspec_ctf_reading.specs.Fronts.{front_of, split_packet as packet_split};
-ghost use Rattle.dspec_ctf_reader.specs.Told.{layout_of, packet_told};
+ghost use Rattle.dspec_ctf_reader.specs.Told.{told_layout, told_packet};
 ghost use Rattle.dspec_ctf_reader.specs.Packets.{FrontDue, PacketDue, SizesDue, WholeDue};
 
 use crate::events::check_events;
@@ -71,7 +71,7 @@ fn size_fault(front: &Front, read: usize, there: usize) -> PacketReadFault
 /// The packet with which these bytes begin: its front, the bytes of its events, and those behind it. `timed` says whether the trace has a
 /// clock.
 pub fn next_packet(timed: bool, bytes: &[u8]) -> Result<Packet<'_>, PacketReadFault>
-    ensures read { IfOk result (λ packet. packet_split timed bytes.now ≡ Some (packet_told packet)) }
+    ensures read { IfOk result (λ packet. packet_split timed bytes.now ≡ Some (told_packet packet)) }
     ensures none { IfErr result (λ _. packet_split timed bytes.now ≡ None) }
     ensures fault { IfErr result (λ fault. PacketDue timed bytes.now fault) }
 {
@@ -89,10 +89,10 @@ pub fn next_packet(timed: bool, bytes: &[u8]) -> Result<Packet<'_>, PacketReadFa
 
 /// The packet with which these bytes begin, where its events can be read too. Takes no memory.
 pub fn check_packet<'b>(metadata: &Metadata<'_>, bytes: &'b [u8]) -> Result<Packet<'b>, PacketFault>
-    ensures split { IfOk result (λ packet. packet_split (layout_of metadata.now).timed bytes.now ≡ Some (packet_told packet)) }
-    ensures read { IfOk result (λ packet. option_map (λ p. p.1) (packet_from (layout_of metadata.now) bytes.now) ≡ Some packet.behind.now) }
-    ensures none { IfErr result (λ _. packet_from (layout_of metadata.now) bytes.now ≡ None) }
-    ensures fault { IfErr result (λ fault. WholeDue (layout_of metadata.now) bytes.now fault) }
+    ensures split { IfOk result (λ packet. packet_split (told_layout metadata.now).timed bytes.now ≡ Some (told_packet packet)) }
+    ensures read { IfOk result (λ packet. option_map (λ p. p.1) (packet_from (told_layout metadata.now) bytes.now) ≡ Some packet.behind.now) }
+    ensures none { IfErr result (λ _. packet_from (told_layout metadata.now) bytes.now ≡ None) }
+    ensures fault { IfErr result (λ fault. WholeDue (told_layout metadata.now) bytes.now fault) }
 {
     let packet = match next_packet(metadata.clock.is_some(), bytes) {
         Ok(packet) => packet,
