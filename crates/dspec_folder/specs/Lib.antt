@@ -1,0 +1,5 @@
+pub mod Checks
+pub mod Clocks
+pub mod Marks
+pub mod Values
+pub mod Whole
