@@ -4,6 +4,11 @@ use std::os::unix::fs::symlink;
 use std::test::Fail;
 use std::{fs, process};
 
+/// The numbers that Linux gives a path to nothing, ENOENT, and a file that is there, EEXIST.
+const NO_FILE: i32 = 2;
+
+const THERE: i32 = 17;
+
 /// A path of this test's own, where nothing stands.
 fn free_path(rt: &HostRuntime, test: &str) -> Result<String, Fail> {
     let id = process::id(rt.process());
@@ -48,7 +53,7 @@ fn an_empty_folder_is_taken(rt: HostRuntime) -> Result<(), Fail> {
     assert!(rt; refused == Some(FolderFault::Read));
     let below = format!(in rt.alloc(); "{path}/no/folder")?;
     let refused = SystemFolder::new(&rt, below.as_str()).err();
-    assert!(rt; refused == Some(FolderFault::Write));
+    assert!(rt; refused == Some(FolderFault::Write(NO_FILE)));
     fs::remove_dir_all(&rt, path.as_str())?;
     Ok(())
 }
@@ -62,7 +67,7 @@ fn a_planted_link_is_not_followed(rt: HostRuntime) -> Result<(), Fail> {
     fs::write(&rt, victim.as_str(), "precious")?;
     let link = format!(in rt.alloc(); "{path}/cpu_0")?;
     symlink(&rt, victim.as_str(), link.as_str())?;
-    let refused = Err(FolderFault::Write);
+    let refused = Err(FolderFault::Write(THERE));
     assert!(rt; folder.add(rt.alloc(), "cpu_0", b"bytes") == refused);
     assert!(rt; folder.add(rt.alloc(), "victim", b"bytes") == refused);
     assert!(rt; has(&rt, path.as_str(), "victim", "precious")?);

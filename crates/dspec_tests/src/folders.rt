@@ -1,6 +1,6 @@
 //! A trace folder in memory: what a session writes, and what is told where a write is refused.
 use dspec::{Config, Enablings, Field, Lane, Work, trace};
-use dspec_trace::{Folder, FolderFault, Names, TraceFolder};
+use dspec_trace::{Folder, FolderFault, Loss, Names, TraceFolder};
 use std::alloc::Global;
 use std::sync::atomic::{AtomicU64, Ordering};
 use std::test::Fail;
@@ -27,7 +27,7 @@ impl<'a> Folder for Counted<'a> {
 
     fn add(&mut self, _alloc: Global, _name: &str, bytes: &[u8]) -> Result<(), FolderFault> {
         if self.counts.writes.fetch_add(1, Ordering::SeqCst) >= self.most {
-            return Err(FolderFault::Write);
+            return Err(FolderFault::Write(5));
         }
         let size = bytes.len() as u64;
         self.counts.bytes.fetch_add(size, Ordering::SeqCst);
@@ -65,7 +65,7 @@ fn ended<R: Threads + Sync>(
     cpus: u32,
     counts: &Counts,
     most: u64,
-) -> Option<Result<(), FolderFault>> {
+) -> Option<Result<(), Loss>> {
     let mut schema = Enablings::new();
     let _ = schema.enable(&[Field::One]);
     let Ok(sink) = begin(alloc, counts, most, &schema) else {
@@ -86,7 +86,7 @@ fn written<R: Threads + Sync>(
     alloc: Global,
     cpus: u32,
     most: u64,
-) -> (Option<Result<(), FolderFault>>, u64, u64) {
+) -> (Option<Result<(), Loss>>, u64, u64) {
     let counts = Counts {
         writes: AtomicU64::new(0),
         bytes: AtomicU64::new(0),
@@ -99,6 +99,14 @@ fn written<R: Threads + Sync>(
     )
 }
 
+/// The first fault, and how many records were lost.
+fn lost_of(ended: Option<Result<(), Loss>>) -> Option<(FolderFault, u64)> {
+    match ended {
+        Some(Err(loss)) => Some((loss.fault, loss.records)),
+        _ => None,
+    }
+}
+
 #[test]
 fn a_packet_a_batch(rt: HostRuntime) -> Result<(), Fail> {
     assert!(rt; written(&rt, rt.alloc(), 1, 10) == (Some(Ok(())), 2, 57));
@@ -106,12 +114,16 @@ fn a_packet_a_batch(rt: HostRuntime) -> Result<(), Fail> {
     Ok(())
 }
 
-/// Behind a write that is refused none is asked for; the session goes on.
+/// A record whose write was refused is counted as lost; the session goes on, and so do the writes of other CPUs, and of this one, if only to
+/// tell it.
 #[test]
 fn a_refused_write_is_told(rt: HostRuntime) -> Result<(), Fail> {
-    let refused = Some(Err(FolderFault::Write));
     assert!(rt; written(&rt, rt.alloc(), 2, 0) == (None, 1, 0));
-    assert!(rt; written(&rt, rt.alloc(), 2, 1) == (refused, 2, 0));
-    assert!(rt; written(&rt, rt.alloc(), 2, 2) == (refused, 3, 57));
+    let (ended, writes, bytes) = written(&rt, rt.alloc(), 2, 1);
+    assert!(rt; writes >= 3 && bytes == 0);
+    assert!(rt; lost_of(ended) == Some((FolderFault::Write(5), 2)));
+    let (ended, writes, bytes) = written(&rt, rt.alloc(), 2, 2);
+    assert!(rt; writes >= 3 && bytes == 57);
+    assert!(rt; lost_of(ended) == Some((FolderFault::Write(5), 1)));
     Ok(())
 }

@@ -10,6 +10,8 @@ mod folders;
 #[cfg(test)]
 mod handing;
 #[cfg(test)]
+mod losses;
+#[cfg(test)]
 mod refusals;
 #[cfg(test)]
 mod tests;

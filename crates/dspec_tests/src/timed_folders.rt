@@ -1,6 +1,6 @@
 //! A trace by time in memory: which files a session writes, and what is told where a write is refused.
 use dspec::{Config, Enablings, Field, Lane, Work, trace};
-use dspec_trace::{Folder, FolderFault, Names, Origin, TimedFolder};
+use dspec_trace::{Folder, FolderFault, Loss, Names, Origin, TimedFolder};
 use std::alloc::Global;
 use std::sync::atomic::{AtomicU64, Ordering};
 use std::test::Fail;
@@ -55,7 +55,7 @@ impl<'a> Folder for Summed<'a> {
 
     fn add(&mut self, _alloc: Global, name: &str, bytes: &[u8]) -> Result<(), FolderFault> {
         if self.sizes.writes.fetch_add(1, Ordering::SeqCst) >= self.most {
-            return Err(FolderFault::Write);
+            return Err(FolderFault::Write(5));
         }
         if let Some(size) = self.sizes.sizes.get(place_of(name)) {
             size.fetch_add(bytes.len() as u64, Ordering::SeqCst);
@@ -86,7 +86,7 @@ fn ended<R: Threads + Sync>(
     alloc: Global,
     sizes: &Sizes,
     most: u64,
-) -> Option<Result<(), FolderFault>> {
+) -> Option<Result<(), Loss>> {
     let mut schema = Enablings::new();
     let _ = schema.enable(&[Field::Four]);
     let schema = schema.stamped();
@@ -119,12 +119,19 @@ fn a_file_a_row(rt: HostRuntime) -> Result<(), Fail> {
     Ok(())
 }
 
-/// Behind a write that is refused none is asked for; the session goes on.
+/// The second run's write is the fourth: it and the record behind it are lost.
 #[test]
 fn a_refused_row(rt: HostRuntime) -> Result<(), Fail> {
     let sizes = Sizes::new();
-    let refused = ended(&rt, rt.alloc(), &sizes, 2);
-    assert!(rt; refused == Some(Err(FolderFault::Write)));
-    assert!(rt; sizes.writes.load(Ordering::SeqCst) == 3);
+    let ended = ended(&rt, rt.alloc(), &sizes, 3);
+    let loss = Loss {
+        cpu: 0,
+        row: Some(1),
+        fault: FolderFault::Write(5),
+        records: 3,
+    };
+    assert!(rt; ended == Some(Err(loss)));
+    assert!(rt; sizes.writes.load(Ordering::SeqCst) >= 4);
+    assert!(rt; sizes.of(1) == 136 + (68 + 16));
     Ok(())
 }

@@ -1,19 +1,23 @@
--- Runs that follow one another, and their packets.
-use Rattle.std.proofs.Common.{◌≡◌, ℕ, List, [], ◌∷◌, length, refl, sym, subst}
-use Rattle.std.specs.Prelude.{◌+◌, Option, Some, slice_get, slice_range, slice_set}
+-- Runs that follow one another, their packets, and what stops them.
+use Rattle.std.proofs.Common.{◌≡◌, ◌≤◌, ◌-◌, ◌+◌, ℕ, List, [], ◌∷◌, ◌∙◌, ap, arith, inl, inr, length, refl, sym, subst}
+use Rattle.std.specs.Prelude.{Option, Some, None, slice_range}
 use Rattle.dspec_record.specs.Record.{Record}
 use Rattle.dspec_record.specs.EnablingRows.{EnabledRows}
 use Rattle.dspec_ctf.specs.Packets.{events}
-use Rattle.dspec_ctf.specs.Rows.{HasNoRun}
-use Rattle.dspec_ctf.specs.Streams.{HasNoRecords, IsText, IsTooLong}
+use Rattle.dspec_ctf.specs.Rows.{HasNoRun, IsFileRun, run_packet}
+use Rattle.dspec_ctf.specs.Streams.{HasNoRecords, IsTooLong}
 use Rattle.dspec_ring.specs.declared.batch.Batch.{Batch}
 use Rattle.dspec_ctf.specs.declared.stream.PacketFault.{PacketFault}
 use Rattle.dspec_ctf.specs.declared.stream.PacketFault.TheVariants as packet
-use Rattle.dspec_trace.specs.Faults.{IsWriteFault}
-use Rattle.dspec_trace.specs.Writes.{FileWrite}
-use Rattle.dspec_trace.specs.Timed.{AddsRun, AddsAll, AddsBatch, AddsRuns, HasNoRuns, IsRunsFault, StopsRuns, StopsWriting, TimedTracing}
+use Rattle.dspec_trace.specs.Writes.{FileWrite, IsNotTaken}
+use Rattle.dspec_trace.specs.Timed.{AddsRun, AddsAll, HasNoRuns, StopsRun, StopsRuns, row_name}
 use Rattle.dspec_trace.specs.declared.fault.FolderFault.{FolderFault}
-use Rattle.dspec_trace.specs.declared.fault.FolderFault.TheVariants.{Cpu, Cut, Memory, Metadata, NotEmpty, Packet, Read, Write}
+use Rattle.dspec_trace.specs.declared.fault.FolderFault.TheVariants.{Packet}
+use Rattle.dspec_trace.specs.declared.losing.Loss.{Loss}
+
+-- what a CPU loses
+abbrev pub of_cpu : ℕ → Option ℕ → FolderFault → ℕ → Loss
+of_cpu cpu row fault records = record { cpu = cpu; row = row; fault = fault; records = records }
 
 module _ (uuid : List ℕ) (e : EnabledRows) (missed cpu : ℕ) (rs : List Record) where
   -- a run's packet, and then those of the runs behind it
@@ -30,106 +34,69 @@ module _ (uuid : List ℕ) (e : EnabledRows) (missed cpu : ℕ) (rs : List Recor
   adds-none place lasts old end = record { runs = []; are_runs = (end, refl); taken = refl }
 
   -- what stops behind a run stops before it
-  pub stops-more : (from to : ℕ) (lasts mid : List ℕ) (old at : Option (List FileWrite)) → AddsRun uuid e missed cpu rs from lasts old mid at to
-      → (fault : FolderFault) → StopsWriting cpu (StopsRuns e rs to mid) fault → StopsWriting cpu (StopsRuns e rs from lasts) fault
-  stops-more from to lasts mid old at one (Packet c (packet.Clock place)) (same, (runs, (last, (are, none)))) =
-      (same, (record { file = one.file; end = to } ∷ runs, (last, ((mid, (one.is_run, are)), none))))
-  stops-more from to lasts mid old at one (Packet c packet.TooLong) stops = stops
-  stops-more from to lasts mid old at one (Packet c packet.Memory) stops = stops
-  stops-more from to lasts mid old at one (Packet c packet.Missed) stops = stops
-  stops-more from to lasts mid old at one (Packet c (packet.Text fault)) stops = stops
-  stops-more from to lasts mid old at one Write stops = stops
-  stops-more from to lasts mid old at one Cut stops = stops
-  stops-more from to lasts mid old at one Memory stops = stops
-  stops-more from to lasts mid old at one Read stops = stops
-  stops-more from to lasts mid old at one NotEmpty stops = stops
-  stops-more from to lasts mid old at one (Metadata fault) stops = stops
-  stops-more from to lasts mid old at one (Cpu c) stops = stops
+  pub stops-more : (from to : ℕ) (lasts mid after : List ℕ) (old at new : Option (List FileWrite)) (loss : Loss) → AddsRun uuid e missed cpu rs from lasts old mid at to
+      → StopsRuns uuid e missed cpu rs to mid at after new loss → StopsRuns uuid e missed cpu rs from lasts old after new loss
+  stops-more from to lasts mid after old at new loss one more = record {
+    runs = record { file = one.file; end = to } ∷ more.runs;
+    to = more.to;
+    mid = more.mid;
+    between = more.between;
+    are_runs = (mid, (one.is_run, more.are_runs));
+    taken = (at, (one.taken, more.taken));
+    stops = more.stops;
+  }
 
--- no run at a place stops there
-pub run-stops : (e : EnabledRows) (rs : List Record) (place : ℕ) (lasts : List ℕ) (fault : PacketFault) → HasNoRun lasts rs place fault → StopsRuns e rs place lasts fault
-run-stops e rs place lasts (packet.Clock n) (same, (r, (at, nowhere))) =
-    ([], (lasts, ((same, refl), (refl, (r, (subst (λ k. slice_get rs k ≡ Some r) (sym same) at, nowhere))))))
-run-stops e rs place lasts (packet.Text fault) none = elim none [ ]
-run-stops e rs place lasts packet.Missed none = elim none [ ]
-run-stops e rs place lasts packet.TooLong none = elim none [ ]
-run-stops e rs place lasts packet.Memory none = tt
+  -- the first run stops
+  pub stops-first : (from : ℕ) (lasts after : List ℕ) (old new : Option (List FileWrite)) (loss : Loss) → StopsRun uuid e missed cpu rs from lasts old after new loss
+      → StopsRuns uuid e missed cpu rs from lasts old after new loss
+  stops-first from lasts after old new loss stops =
+      record { runs = []; to = from; mid = lasts; between = old; are_runs = (refl, refl); taken = refl; stops = stops }
 
--- nor does a run that is too long
-pub long-stops : (e : EnabledRows) (rs : List Record) (place at to : ℕ) (lasts : List ℕ) (fault : PacketFault) → IsTooLong (events e (slice_range rs at to)) fault
-    → StopsRuns e rs place lasts fault
-long-stops e rs place at to lasts packet.TooLong long = (at, (to, long))
-long-stops e rs place at to lasts packet.Memory long = tt
-long-stops e rs place at to lasts packet.Missed long = elim long [ ]
-long-stops e rs place at to lasts (packet.Text fault) long = elim long [ ]
-long-stops e rs place at to lasts (packet.Clock n) long = elim long [ ]
+  module _ (from rest : ℕ) (lasts : List ℕ) (old : Option (List FileWrite)) (loss : Loss) (within : from ≤ length rs) (is_rest : rest ≡ length rs - from) where
+    remain : (row : Option ℕ) (fault : FolderFault) → loss ≡ of_cpu cpu row fault rest → loss.records + from ≡ length rs
+    remain row fault is =
+        let sum : rest + from ≡ length rs = omega (arith, within, is_rest) in
+        ap (λ l. l.records + from) is ∙ sum
 
--- nor a place that refuses
-pub write-stops : (cpu : ℕ) (Stops : PacketFault → Type 0) (fault : FolderFault) → IsWriteFault fault → StopsWriting cpu Stops fault
-write-stops cpu Stops Write is = tt
-write-stops cpu Stops Cut is = tt
-write-stops cpu Stops Memory is = tt
-write-stops cpu Stops NotEmpty is = elim is [ ]
-write-stops cpu Stops (Metadata fault) is = elim is [ ]
-write-stops cpu Stops (Packet c fault) is = elim is [ ]
-write-stops cpu Stops (Cpu c) is = elim is [ ]
-write-stops cpu Stops Read is = elim is [ ]
+    -- the record at a place goes nowhere
+    pub stops-nowhere : (f : PacketFault) (fault : FolderFault) → HasNoRun lasts rs from f → fault ≡ Packet cpu f → loss ≡ of_cpu cpu None fault rest
+        → StopsRun uuid e missed cpu rs from lasts old lasts old loss
+    stops-nowhere f fault none told is = record {
+      whose = λ i. (is i).cpu;
+      rest = remain None fault is;
+      why = inl (record { fault = f; none = none; told = ap (λ l. l.fault) is ∙ told; row = λ i. (is i).row; lasts_same = refl; same = refl });
+    }
 
--- the trace, by its parts
-abbrev pub timed : List ℕ → List ℕ → List (List ℕ) → Option (List FileWrite) → Option FolderFault → TimedTracing
-timed uuid missed lasts written fault = record { uuid = uuid; missed = missed; lasts = lasts; written = written; fault = fault }
+    -- a run is too long for a packet
+    pub stops-long : (file to : ℕ) (after : List ℕ) (f : PacketFault) (fault : FolderFault) → IsFileRun lasts rs from (record { file = file; end = to }) after
+        → IsTooLong (events e (slice_range rs from to)) f → fault ≡ Packet cpu f → loss ≡ of_cpu cpu (Some file) fault rest
+        → StopsRun uuid e missed cpu rs from lasts old after old loss
+    stops-long file to after f fault run long told is = record {
+      whose = λ i. (is i).cpu;
+      rest = remain (Some file) fault is;
+      why = inr (record { file = file; to = to; is_run = run; row = λ i. (is i).row; why = inl (f, (long, (ap (λ l. l.fault) is ∙ told, refl))) });
+    }
 
-module _ (e : EnabledRows) (uuid missed : List ℕ) (lasts : List (List ℕ)) (was is : Option (List FileWrite)) (fault : Option FolderFault) (old : TimedTracing) (b : Batch) where
-  -- a batch is added
-  pub adds-runs : (before total : ℕ) (known after : List ℕ) (rs : List Record) → timed uuid missed lasts was fault ≡ old → slice_get missed b.cpu ≡ Some before
-      → total ≡ before + b.drops → slice_get lasts b.cpu ≡ Some known → IsText e b.buffer.text rs → AddsBatch uuid e total b.cpu rs before known was after is
-      → AddsRuns e old b (timed uuid (slice_set missed b.cpu total) (slice_set lasts b.cpu after) is fault)
-  adds-runs before total known after rs view there sum here read added =
-      subst (λ o. AddsRuns e o b (timed uuid (slice_set missed b.cpu total) (slice_set lasts b.cpu after) is fault)) view
-      (record {
-        before = before;
-        there = there;
-        missed = λ i. slice_set missed b.cpu (sum i);
-        lasts = known;
-        known = here;
-        after = after;
-        carried = refl;
-        read = rs;
-        is_text = read;
-        added = subst (λ n. AddsBatch uuid e n b.cpu rs before known was after is) sum added;
-      })
-
-  -- or it isn't
-  batch-stops : (before : ℕ) (known : List ℕ) (rs : List Record) (why : FolderFault) → slice_get missed b.cpu ≡ Some before → slice_get lasts b.cpu ≡ Some known
-      → IsText e b.buffer.text rs → StopsWriting b.cpu (StopsRuns e rs 0 known) why → IsRunsFault e (timed uuid missed lasts was fault) b why
-  batch-stops before known rs (Packet c (packet.Clock place)) there here read (same, stops) = (same, (before, (known, (there, (here, (rs, (read, stops)))))))
-  batch-stops before known rs (Packet c packet.TooLong) there here read (same, stops) = (same, (before, (known, (there, (here, (rs, (read, stops)))))))
-  batch-stops before known rs (Packet c packet.Memory) there here read (same, stops) = (same, (before, (known, (there, (here, tt)))))
-  batch-stops before known rs (Packet c packet.Missed) there here read (same, stops) = elim stops [ ]
-  batch-stops before known rs (Packet c (packet.Text f)) there here read (same, stops) = elim stops [ ]
-  batch-stops before known rs Write there here read stops = tt
-  batch-stops before known rs Cut there here read stops = tt
-  batch-stops before known rs Memory there here read stops = tt
-  batch-stops before known rs Read there here read stops = elim stops [ ]
-  batch-stops before known rs NotEmpty there here read stops = elim stops [ ]
-  batch-stops before known rs (Metadata f) there here read stops = elim stops [ ]
-  batch-stops before known rs (Cpu c) there here read stops = elim stops [ ]
-
-  pub runs-fault : (before : ℕ) (known : List ℕ) (rs : List Record) (why : FolderFault) → timed uuid missed lasts was fault ≡ old → slice_get missed b.cpu ≡ Some before
-      → slice_get lasts b.cpu ≡ Some known → IsText e b.buffer.text rs → StopsWriting b.cpu (StopsRuns e rs 0 known) why → IsRunsFault e old b why
-  runs-fault before known rs why view there here read stops =
-      subst (λ o. IsRunsFault e o b why) view (batch-stops before known rs why there here read stops)
-
-  -- nor where it has no packets
-  pub packet-fault : (before : ℕ) (known : List ℕ) (f : PacketFault) (why : FolderFault) → timed uuid missed lasts was fault ≡ old → slice_get missed b.cpu ≡ Some before
-      → slice_get lasts b.cpu ≡ Some known → HasNoRuns e known before b.drops b.buffer.text f → why ≡ Packet b.cpu f → IsRunsFault e old b why
-  packet-fault before known f why view there here none is =
-      subst (λ o. IsRunsFault e o b why) view (subst (λ w. IsRunsFault e (timed uuid missed lasts was fault) b w) (sym is) (refl, (before, (known, (there, (here, none))))))
+    -- its packet isn't taken
+    pub stops-refused : (file to : ℕ) (after : List ℕ) (new : Option (List FileWrite)) (fault : FolderFault) → IsFileRun lasts rs from (record { file = file; end = to }) after
+        → IsNotTaken old (row_name cpu file) (run_packet uuid e missed cpu file (slice_range rs from to)) new fault → loss ≡ of_cpu cpu (Some file) fault rest
+        → StopsRun uuid e missed cpu rs from lasts old after new loss
+    stops-refused file to after new fault run refused is = record {
+      whose = λ i. (is i).cpu;
+      rest = remain (Some file) fault is;
+      why = inr (record {
+        file = file;
+        to = to;
+        is_run = run;
+        row = λ i. (is i).row;
+        why = inr (subst (λ f. IsNotTaken old (row_name cpu file) (run_packet uuid e missed cpu file (slice_range rs from to)) new f) (λ i. (sym is i).fault) refused);
+      });
+    }
 
 -- a text that is none has no packets
-pub no-records : (e : EnabledRows) (known : List ℕ) (before drops : ℕ) (text : List ℕ) (f : PacketFault) → HasNoRecords e text f → HasNoRuns e known before drops text f
-no-records e known before drops text (packet.Text f) none = none
-no-records e known before drops text packet.Memory none = tt
-no-records e known before drops text packet.Missed none = elim none [ ]
-no-records e known before drops text packet.TooLong none = elim none [ ]
-no-records e known before drops text (packet.Clock place) none = elim none [ ]
+pub no-records : (e : EnabledRows) (before : ℕ) (b : Batch) (f : PacketFault) → HasNoRecords e b.buffer.text f → HasNoRuns e before b f
+no-records e before b (packet.Text f) none = none
+no-records e before b packet.Memory none = tt
+no-records e before b packet.Missed none = elim none [ ]
+no-records e before b packet.TooLong none = elim none [ ]
+no-records e before b (packet.Clock place) none = elim none [ ]

@@ -1,3 +1,7 @@
+mod Accounting
+mod Batching
+mod Counting
 mod Cutting
-mod Handing
 mod Following
+mod Handing
+mod Timely

@@ -1,5 +1,7 @@
 -- Cited by calls. Why a place takes no bytes, and why no place is made.
-use Rattle.std.specs.Prelude.{Bool, true, false}
+use Rattle.std.specs.Prelude.{ℤ, pos, Bool, true, false, unwrap_or}
+use Rattle.std.specs.IoError.{raw_os_error}
+use Rattle.std.specs.declared.io.Error.{Error}
 use Rattle.dspec_ctf.specs.declared.fault.MetadataFault.TheVariants as metadata
 use Rattle.dspec_ctf.specs.declared.stream.PacketFault.{PacketFault}
 use Rattle.dspec_ctf.specs.declared.stream.PacketFault.TheVariants as packet
@@ -7,9 +9,13 @@ use Rattle.dspec_ctf.specs.declared.fault.MetadataFault.{MetadataFault}
 use Rattle.dspec_trace.specs.declared.fault.FolderFault.{FolderFault}
 use Rattle.dspec_trace.specs.declared.fault.FolderFault.TheVariants.{Cpu, Cut, Memory, Metadata, NotEmpty, Packet, Read, Write}
 
+-- the system's number of a fault of input or output, 0 where it gave none
+abbrev pub code_of : Error → ℤ
+code_of fault = unwrap_or (raw_os_error fault) (pos 0)
+
 -- what a place that takes files answers where it took a write not or not whole: it can't be written, or memory was wanting
 abbrev pub IsWriteFault : FolderFault → Type 0
-IsWriteFault Write = Unit {0}
+IsWriteFault (Write code) = Unit {0}
 IsWriteFault Cut = Unit {0}
 IsWriteFault Memory = Unit {0}
 IsWriteFault NotEmpty = ⊥
@@ -22,7 +28,7 @@ IsWriteFault Read = ⊥
 abbrev pub IsFolderFault : FolderFault → Type 0
 IsFolderFault NotEmpty = Unit {0}
 IsFolderFault Read = Unit {0}
-IsFolderFault Write = Unit {0}
+IsFolderFault (Write code) = Unit {0}
 IsFolderFault Memory = Unit {0}
 IsFolderFault (Metadata fault) = ⊥
 IsFolderFault (Packet cpu fault) = ⊥
@@ -54,5 +60,5 @@ is_memory (Packet cpu fault) = is_packet_memory fault
 is_memory NotEmpty = false
 is_memory (Cpu cpu) = false
 is_memory Read = false
-is_memory Write = false
+is_memory (Write code) = false
 is_memory Cut = false

@@ -24,7 +24,7 @@ IsCut (Some xs) (Some ys) n = ys ≡ take n xs
 
 -- what a refused write leaves of the bytes that a file had: all and no more, unless what it had written couldn't be cut off
 abbrev pub LeavesBytes : Option (List ℕ) → Option (List ℕ) → FolderFault → Type 0
-LeavesBytes old new Write = Keeps old new
+LeavesBytes old new (Write code) = Keeps old new
 LeavesBytes old new Memory = Keeps old new
 LeavesBytes old new Cut = ⊤
 LeavesBytes old new Read = ⊥
@@ -35,7 +35,7 @@ LeavesBytes old new (Cpu cpu) = ⊥
 
 -- and of the file: only where that couldn't be cut off it takes no more
 abbrev pub LeavesFile : Held → Held → FolderFault → Type 0
-LeavesFile old new Write = Keeps old.bytes new.bytes × (new.broken ≡ false)
+LeavesFile old new (Write code) = Keeps old.bytes new.bytes × (new.broken ≡ false)
 LeavesFile old new Memory = Keeps old.bytes new.bytes × (new.broken ≡ false)
 LeavesFile old new Cut = new.broken ≡ true
 LeavesFile old new Read = ⊥

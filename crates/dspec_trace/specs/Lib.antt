@@ -1,5 +1,7 @@
+pub mod Accounts
 pub mod Faults
 pub mod Held
+pub mod Losses
 pub mod Writes
 pub mod Writing
 pub mod Timed

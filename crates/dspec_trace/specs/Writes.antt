@@ -1,7 +1,8 @@
 -- Cited by calls. What a place that takes files was asked for.
-use Rattle.std.specs.Prelude.{ℕ, ◌≡◌, List, [], ◌∷◌, ◌++◌, Option, Some, None}
+use Rattle.std.specs.Prelude.{ℕ, ◌≡◌, ◌⊎◌, List, [], ◌∷◌, ◌++◌, Option, Some, None}
 use Rattle.dspec_trace.specs.Faults.{IsWriteFault}
 use Rattle.dspec_trace.specs.declared.fault.FolderFault.{FolderFault}
+use Rattle.dspec_trace.specs.declared.fault.FolderFault.TheVariants.{Memory}
 
 -- one write: a file's name, the bytes that are to come behind those that it has, and why they weren't taken whole, where they weren't
 pub record FileWrite : Type 0 where
@@ -23,3 +24,7 @@ Takes old name bytes new = AddsWrite old new (record { name = name; bytes = byte
 pub record Refuses (old : Option (List FileWrite)) (name bytes : List ℕ) (new : Option (List FileWrite)) (fault : FolderFault) : Type 0 where
   pub known : IsWriteFault fault
   pub asked : AddsWrite old new (record { name = name; bytes = bytes; refused = Some fault })
+
+-- a write wasn't taken, for that: memory was wanting to ask for it, or the place refused it
+abbrev pub IsNotTaken : Option (List FileWrite) → List ℕ → List ℕ → Option (List FileWrite) → FolderFault → Type 0
+IsNotTaken old name bytes new fault = ((fault ≡ Memory) × (new ≡ old)) ⊎ Refuses old name bytes new fault

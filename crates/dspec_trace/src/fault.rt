@@ -1,39 +1,33 @@
-ghost use Rattle.std.specs.Prelude.{◌≡◌, ◌≢◌, Some, None, IfErr, OnOk};
+ghost use Rattle.std.specs.Prelude.{◌≡◌, ◌≢◌};
 ghost use Rattle.std.specs.IoError.{error_kind};
+ghost use Rattle.dspec_trace.specs.Faults.{code_of};
 ghost use Rattle.std.specs.declared.io.ErrorKind.TheVariants.{OutOfMemory};
 ghost use Rattle.dspec_trace.specs.declared.fault.FolderFault.TheVariants.{Memory, Read, Write};
 
 use dspec_ctf::{MetadataFault, PacketFault};
 use std::alloc::{AllocError, AllocFailed};
-use std::io;
-use thiserror::Error;
+use std::error::Error;
+use std::{fmt, io};
 
-/// Why a trace folder isn't written, or not to its end.
-#[derive(Debug, Clone, Copy, PartialEq, Eq, Error)]
+/// Why a trace folder isn't made, or a write isn't taken.
+#[derive(Debug, Clone, Copy, PartialEq, Eq)]
 pub enum FolderFault {
     /// It is there, and has files in it.
-    #[error("the folder has files in it")]
     NotEmpty,
     /// There is no metadata for these names.
-    #[error("{0}")]
     Metadata(MetadataFault),
     /// A batch of this CPU has no packet.
-    #[error("a batch of cpu {cpu}: {fault}")]
     Packet { cpu: u32, fault: PacketFault },
     /// A CPU's number is 64 or more, which no session has.
-    #[error("no cpu {0}")]
     Cpu(u32),
     /// The folder can't be looked into.
-    #[error("read fault")]
     Read,
-    /// The folder, or a file in it, can't be made or written. Nothing of a write that failed is left.
-    #[error("write fault")]
-    Write,
+    /// The folder, or a file in it, can't be made or written, for what the system numbers so (`errno`); 0 where it gave no number.
+    /// Nothing of a write that failed is left.
+    Write(i32),
     /// A write failed in its middle, and what it had written couldn't be cut off: the file ends with a broken packet.
-    #[error("write fault, and a file ends with a broken packet")]
     Cut,
     /// A growth was refused.
-    #[error("out of memory")]
     Memory,
 }
 
@@ -70,14 +64,24 @@ impl FolderFault {
     }
 }
 
-/// How a trace ends by the first fault that it had.
-pub(crate) fn ended_by(first: Option<FolderFault>) -> Result<(), FolderFault>
-    ensures whole { OnOk result (first ≡ None) }
-    ensures fault { IfErr result (λ fault. first ≡ Some fault) }
-{
-    match first {
-        None => Ok(()),
-        Some(fault) => Err(fault),
+impl Error for FolderFault {}
+
+/// A write fault is told in the system's own words.
+impl fmt::Display for FolderFault {
+    fn fmt<W: fmt::Write>(&self, f: &mut fmt::Formatter<W>) -> fmt::Result {
+        match self {
+            FolderFault::NotEmpty => f.write_str("the folder has files in it"),
+            FolderFault::Metadata(fault) => write!(f, "{fault}"),
+            FolderFault::Packet { cpu, fault } => write!(f, "a batch of cpu {cpu}: {fault}"),
+            FolderFault::Cpu(cpu) => write!(f, "no cpu {cpu}"),
+            Self::Read => f.write_str("read fault"),
+            FolderFault::Write(0) => f.write_str("write fault"),
+            FolderFault::Write(code) => {
+                write!(f, "write fault: {}", io::Error::from_raw_os_error(*code))
+            }
+            FolderFault::Cut => f.write_str("write fault, and a file ends with a broken packet"),
+            FolderFault::Memory => f.write_str("out of memory"),
+        }
     }
 }
 
@@ -96,11 +100,11 @@ pub(crate) fn look_fault(fault: &io::Error) -> FolderFault
 /// What is told of a folder, or of a file in it, that can't be made or written.
 pub(crate) fn write_fault(fault: &io::Error) -> FolderFault
     ensures memory { error_kind fault.now ≡ OutOfMemory → result ≡ Memory }
-    ensures other { error_kind fault.now ≢ OutOfMemory → result ≡ Write }
+    ensures other { error_kind fault.now ≢ OutOfMemory → result ≡ Write (code_of fault.now) }
 {
     if fault.kind() == io::ErrorKind::OutOfMemory {
         FolderFault::Memory
     } else {
-        FolderFault::Write
+        FolderFault::Write(fault.raw_os_error().unwrap_or(0))
     }
 }

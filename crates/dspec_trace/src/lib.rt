@@ -19,7 +19,10 @@ mod fault;
 mod folder;
 mod held;
 mod identity;
+pub mod laws;
+mod losing;
 mod system;
+mod telling;
 mod timed;
 mod tracing;
 
@@ -30,6 +33,8 @@ pub use dspec_ctf::{
 pub use fault::FolderFault;
 pub use folder::Folder;
 pub use identity::Identity;
+pub use losing::{Loss, Lossy};
 pub use system::SystemFolder;
+pub use telling::Telling;
 pub use timed::TimedFolder;
 pub use tracing::TraceFolder;

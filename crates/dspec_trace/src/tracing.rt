@@ -1,8 +1,9 @@
-ghost use Rattle.std.specs.Prelude.{◌≡◌, IfOk, IfErr, OnOk, OnErr, Some, None};
-ghost use Rattle.dspec_trace.specs.Writing.{AddsPacket, GetsPacket, IsBatchFault, IsBeginFault, IsBegun};
+ghost use Rattle.std.specs.Prelude.{◌≡◌, ◌+◌, ◌↔◌, IsTrue, IfOk, IfErr, OnOk, OnErr, Some, None};
+ghost use Rattle.dspec_trace.specs.Writing.{AddsPacket, CountsLost, GetsPacket, IsBatchFault, IsBeginFault, IsBegun, IsNothing};
 
 use crate::fault::FolderFault;
 use crate::folder::Folder;
+use crate::losing::{Loss, Lossy, ended_by, miss, records_in, with_loss};
 use dspec::{Batch, Enablings, Sink};
 use dspec_ctf::{Form, Names, Origin, Stream, metadata_from};
 use std::alloc::Global;
@@ -12,15 +13,18 @@ use std::marker::Model;
 const MOST_CPUS: usize = 64;
 
 /// A sink that writes a trace as taken: each batch as one packet behind those before it in the file of its CPU, by one write. A batch
-/// without records of a CPU that missed none since the last adds nothing. Behind the first fault it writes no more; the session goes
-/// on, and `finish` tells the fault. It takes memory for one packet at a time.
+/// without records of a CPU that dropped none since the last adds nothing. A batch that can't be written is counted: the next packet of its
+/// CPU that is written tells its records, and the drops that it carried, as missed. What the last batch lost is told by `last_loss`, and
+/// what was lost in all by `finish`. It takes memory for one packet at a time.
 #[derive(Drop)]
 pub struct TraceFolder<F: Folder> {
     alloc: Global,
     folder: F,
     uuid: [u8; 16],
     missed: [u64; 64],
-    fault: Option<FolderFault>,
+    told: [u64; 64],
+    lost: Option<Loss>,
+    last: Option<Loss>,
 }
 
 impl<F: Folder> Model for TraceFolder<F> {
@@ -28,7 +32,7 @@ impl<F: Folder> Model for TraceFolder<F> {
 
     ghost Value = { Tracing };
 
-    ghost view = { λ i. record { uuid = i.uuid; missed = i.missed; written = F.written i.folder; fault = i.fault } };
+    ghost view = { λ i. record { uuid = i.uuid; missed = i.missed; told = i.told; written = F.written i.folder; lost = i.lost; last = i.last } };
 }
 
 impl<F: Folder> TraceFolder<F> {
@@ -71,17 +75,20 @@ impl<F: Folder> TraceFolder<F> {
             folder,
             uuid: origin.uuid,
             missed: [0; MOST_CPUS],
-            fault: None,
+            told: [0; MOST_CPUS],
+            lost: None,
+            last: None,
         })
     }
 
     // Adds the packet of a batch.
     fn add(&mut self, schema: &Enablings, batch: &Batch) -> Result<(), FolderFault>
         ensures uuid { self.new.uuid ≡ self.old.uuid }
-        ensures same { self.new.fault ≡ self.old.fault }
         ensures added { OnOk result (AddsPacket schema.now self.old batch.now self.new) }
-        ensures why { IfErr result (IsBatchFault schema.now self.old batch.now self.new) }
+        ensures why { IfErr result (IsBatchFault schema.now self.old batch.now self.new.written) }
         ensures uncounted { OnErr result (self.new.missed ≡ self.old.missed) }
+        ensures told { OnErr result (self.new.told ≡ self.old.told) }
+        ensures lost { OnErr result (self.new.lost ≡ self.old.lost) }
     {
         let cpu = batch.cpu;
         let Some(missed) = self.missed.get(cpu as usize) else {
@@ -105,18 +112,53 @@ impl<F: Folder> TraceFolder<F> {
             return Err(fault);
         }
         self.missed[cpu as usize] = stream.missed;
+        self.told[cpu as usize] = stream.missed;
+        self.last = None;
         Ok(())
     }
 
-    /// The first fault, if there was one. The files have whole packets, those before the fault, unless it is `Cut`.
-    pub fn finish(self) -> Result<(), FolderFault>
-        ensures whole { OnOk result (self.fault ≡ None) }
-        ensures fault { IfErr result (λ fault. self.fault ≡ Some fault) }
+    // Whether there is nothing to write of a batch.
+    fn has_nothing(&self, batch: &Batch) -> bool
+        ensures { IsTrue result ↔ IsNothing self.now batch.now }
     {
-        match self.fault {
-            None => Ok(()),
-            Some(fault) => Err(fault),
-        }
+        let place = batch.cpu as usize;
+        batch.buffer.bytes().is_empty()
+            && batch.drops == 0
+            && self.missed.get(place) == self.told.get(place)
+    }
+
+    // Counts what a batch has of which nothing was written.
+    fn lose(&mut self, schema: &Enablings, batch: &Batch, fault: FolderFault)
+        ensures same { (self.new.uuid ≡ self.old.uuid) × (self.new.told ≡ self.old.told) × (self.new.written ≡ self.old.written) }
+        ensures counted { CountsLost schema.now self.old batch.now fault self.new }
+    {
+        let records = records_in(schema, batch);
+        let loss = Loss {
+            cpu: batch.cpu,
+            row: None,
+            fault,
+            records,
+        };
+        miss(&mut self.missed, batch.cpu, batch.drops, records);
+        self.lost = Some(with_loss(self.lost, loss));
+        self.last = Some(loss);
+    }
+
+    /// What was lost in all, if anything was: in which file and why first, and how many records weren't written. The files have whole
+    /// packets, unless a fault was `Cut`.
+    pub fn finish(self) -> Result<(), Loss>
+        ensures whole { OnOk result (self.lost ≡ None) }
+        ensures loss { IfErr result (λ loss. self.lost ≡ Some loss) }
+    {
+        ended_by(self.lost)
+    }
+}
+
+impl<F: Folder> Lossy for TraceFolder<F> {
+    fn last_loss(&self) -> Option<Loss>
+        ensures { result ≡ self.now.last }
+    {
+        self.last
     }
 }
 
@@ -124,15 +166,13 @@ impl<F: Folder + Send> Sink<Enablings> for TraceFolder<F> {
     ghost gets = { GetsPacket };
 
     fn batch(&mut self, schema: &Enablings, batch: &Batch) {
-        if self.fault.is_some() {
-            return;
-        }
-        if batch.buffer.bytes().is_empty() && batch.drops == 0 {
+        if self.has_nothing(batch) {
+            self.last = None;
             return;
         }
         let Err(fault) = self.add(schema, batch) else {
             return;
         };
-        self.fault = Some(fault);
+        self.lose(schema, batch, fault);
     }
 }

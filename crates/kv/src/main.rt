@@ -10,16 +10,16 @@ use anyhow::{Result, bail};
 use dspec::{Both, Config, closed_cpus, trace_workers};
 use dspec_clock::SystemClock;
 use dspec_probed::Probes;
-use dspec_trace::{Identity, Names, SystemFolder, TraceFolder};
+use dspec_trace::{Identity, Names, SystemFolder, Telling, TraceFolder};
 use live::Live;
 use probes::StoreProbes;
 use serving::Server;
 use std::env;
 use std::sync::atomic::AtomicU64;
 
-type Trace<'a> = TraceFolder<SystemFolder<'a>>;
+type Trace<'a> = Telling<'a, TraceFolder<SystemFolder<'a>>>;
 
-/// A trace of this process, with the names of these probes, if the command line asks for one.
+/// A trace of this process, with the names of these probes, if the command line asks for one. What it loses is told on the error output.
 fn trace_asked<'a>(rt: &'a HostRuntime, probes: &Probes<'_>) -> Result<Option<Trace<'a>>> {
     let mut words = env::args(rt)?.skip(1);
     let Some(flag) = words.next() else {
@@ -32,7 +32,7 @@ fn trace_asked<'a>(rt: &'a HostRuntime, probes: &Probes<'_>) -> Result<Option<Tr
     let identity = Identity::of_system(rt)?;
     let (origin, names) = (identity.origin("kv"), Names::Given(probes.names()));
     let begun = TraceFolder::of(rt.alloc(), folder, &origin, &probes.enablings(), &names)?;
-    Ok(Some(begun))
+    Ok(Some(Telling::new(rt, "kv", begun)))
 }
 
 fn main(rt: HostRuntime) -> Result<()> {
@@ -57,7 +57,7 @@ fn main(rt: HostRuntime) -> Result<()> {
     let (closed, workers, sink) = trace_workers(&rt, alloc, &config, schema, workers, sink)?;
     let Both { first, second } = sink;
     if let Some(folder) = first {
-        folder.finish()?;
+        folder.sink.finish()?;
     }
     for (cpu, worker) in closed_cpus(&closed).zip(workers) {
         let (number, failed, offered) = (cpu.number, worker.failed, cpu.report.offered);

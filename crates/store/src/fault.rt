@@ -1,7 +1,7 @@
 use dspec::{KeptFault, StartFault};
 use dspec_command::{CommandFault, Ending};
 use dspec_probed::ProbeFault;
-use dspec_trace::FolderFault;
+use dspec_trace::{FolderFault, Loss};
 use std::alloc::AllocError;
 use thiserror::Error;
 
@@ -12,6 +12,8 @@ pub enum StoreFault<'a> {
     Command(#[from] CommandFault<'a>),
     #[error("{name}: {fault}")]
     Folder { name: &'a str, fault: FolderFault },
+    #[error("{name}: {loss}")]
+    Lost { name: &'a str, loss: Loss },
     #[error("out of memory")]
     Memory(#[from(alloc)] AllocError),
     #[error("{0}")]
@@ -28,6 +30,7 @@ impl<'a> Ending for StoreFault<'a> {
         match self {
             StoreFault::Command(fault) => fault.status(),
             StoreFault::Folder { fault, .. } => { if fault.is_memory() { 2 } else { 3 } }
+            StoreFault::Lost { loss, .. } => { if loss.fault.is_memory() { 2 } else { 3 } }
             StoreFault::Memory(_)
             | StoreFault::Probe(ProbeFault::Memory)
             | StoreFault::Start(StartFault::Memory)

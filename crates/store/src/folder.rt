@@ -2,18 +2,18 @@
 
 use crate::fault::StoreFault;
 use dspec_probed::Probes;
-use dspec_trace::{FolderFault, Identity, Names, SystemFolder, TimedFolder};
+use dspec_trace::{FolderFault, Identity, Names, SystemFolder, Telling, TimedFolder};
 
 /// Stamps are in microseconds.
 const HERTZ: u64 = 1_000_000;
 
-/// A trace that is being written.
-pub type Begun<'a> = TimedFolder<SystemFolder<'a>>;
+/// A trace that is being written. What it loses is told on the error output while the workers run.
+pub type Begun<'a> = Telling<'a, TimedFolder<SystemFolder<'a>>>;
 
 /// Begins a trace of this process in the folder of that path, with the names of the probes in its metadata.
 fn begun_trace<'a>(
     rt: &'a HostRuntime,
-    name: &str,
+    name: &'a str,
     probes: &Probes<'_>,
 ) -> Result<Begun<'a>, FolderFault> {
     let names = Names::Given(probes.names());
@@ -21,7 +21,8 @@ fn begun_trace<'a>(
     let identity = Identity::of_system(rt)?;
     let origin = identity.origin("store");
     let schema = probes.enablings();
-    TimedFolder::of(rt.alloc(), folder, &origin, HERTZ, &schema, &names)
+    let sink = TimedFolder::of(rt.alloc(), folder, &origin, HERTZ, &schema, &names)?;
+    Ok(Telling::new(rt, name, sink))
 }
 
 /// The trace in the folder that is asked for, if one is.
@@ -44,8 +45,8 @@ pub fn finish<'a>(folder: Option<&'a str>, begun: Option<Begun<'a>>) -> Result<(
     let (Some(name), Some(begun)) = (folder, begun) else {
         return Ok(());
     };
-    match begun.finish() {
+    match begun.sink.finish() {
         Ok(()) => Ok(()),
-        Err(fault) => Err(StoreFault::Folder { name, fault }),
+        Err(loss) => Err(StoreFault::Lost { name, loss }),
     }
 }

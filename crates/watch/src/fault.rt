@@ -1,7 +1,7 @@
 use dspec::{KeptFault, StartFault};
 use dspec_command::{CommandFault, Ending};
 use dspec_probed::ProbeFault;
-use dspec_trace::FolderFault;
+use dspec_trace::{FolderFault, Loss};
 use thiserror::Error;
 
 /// Why the program doesn't end with status 0.
@@ -11,6 +11,8 @@ pub enum WatchFault<'a> {
     Command(#[from] CommandFault<'a>),
     #[error("{name}: {fault}")]
     Folder { name: &'a str, fault: FolderFault },
+    #[error("{name}: {loss}")]
+    Lost { name: &'a str, loss: Loss },
     #[error("{0}")]
     Start(#[from] StartFault),
     #[error("{0}")]
@@ -28,6 +30,7 @@ impl<'a> Ending for WatchFault<'a> {
         match self {
             WatchFault::Command(fault) => fault.status(),
             WatchFault::Folder { fault, .. } => { if fault.is_memory() { 2 } else { 3 } }
+            WatchFault::Lost { loss, .. } => { if loss.fault.is_memory() { 2 } else { 3 } }
             WatchFault::Probe(ProbeFault::Memory)
             | WatchFault::Start(StartFault::Memory)
             | WatchFault::Kept(KeptFault::Memory) => 2,

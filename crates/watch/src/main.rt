@@ -23,7 +23,7 @@ use arguments::{Ask, WatchAsk, ask_of};
 use dspec::{Both, Config, Kept, closed_cpus, trace};
 use dspec_command::{ended, output_fault, print_text, words_of};
 use dspec_probed::Probes;
-use dspec_trace::{FolderFault, Identity, Names, SystemFolder, TraceFolder};
+use dspec_trace::{FolderFault, Identity, Names, SystemFolder, Telling, TraceFolder};
 use fault::WatchFault;
 use paths::{compare, tell};
 use probes::ServerProbes;
@@ -32,17 +32,21 @@ use serving::Server;
 use std::process::ExitCode;
 use std::thread::Threads;
 
+/// A trace that is being written. What it loses is told on the error output while the workers run.
+type Begun<'a> = Telling<'a, TraceFolder<SystemFolder<'a>>>;
+
 /// Begins a trace of this process in the folder of that path, with the names of the probes in its metadata.
 fn begun_trace<'a>(
     rt: &'a HostRuntime,
-    name: &str,
+    name: &'a str,
     probes: &Probes<'_>,
-) -> Result<TraceFolder<SystemFolder<'a>>, FolderFault> {
+) -> Result<Begun<'a>, FolderFault> {
     let names = Names::Given(probes.names());
     let folder = SystemFolder::new(rt, name)?;
     let identity = Identity::of_system(rt)?;
     let origin = identity.origin("watch");
-    TraceFolder::of(rt.alloc(), folder, &origin, &probes.enablings(), &names)
+    let sink = TraceFolder::of(rt.alloc(), folder, &origin, &probes.enablings(), &names)?;
+    Ok(Telling::new(rt, name, sink))
 }
 
 /// The same, by the program's fault.
@@ -50,7 +54,7 @@ fn begin_trace<'a>(
     rt: &'a HostRuntime,
     name: &'a str,
     probes: &Probes<'_>,
-) -> Result<TraceFolder<SystemFolder<'a>>, WatchFault<'a>> {
+) -> Result<Begun<'a>, WatchFault<'a>> {
     match begun_trace(rt, name, probes) {
         Ok(begun) => Ok(begun),
         Err(fault) => Err(WatchFault::Folder { name, fault }),
@@ -62,7 +66,7 @@ fn trace_asked<'a>(
     rt: &'a HostRuntime,
     folder: Option<&'a str>,
     probes: &Probes<'_>,
-) -> Result<Option<TraceFolder<SystemFolder<'a>>>, WatchFault<'a>> {
+) -> Result<Option<Begun<'a>>, WatchFault<'a>> {
     match folder {
         Some(name) => Ok(Some(begin_trace(rt, name, probes)?)),
         None => Ok(None),
@@ -70,16 +74,13 @@ fn trace_asked<'a>(
 }
 
 /// Ends a trace.
-fn finish<'a>(
-    folder: Option<&'a str>,
-    begun: Option<TraceFolder<SystemFolder<'a>>>,
-) -> Result<(), WatchFault<'a>> {
+fn finish<'a>(folder: Option<&'a str>, begun: Option<Begun<'a>>) -> Result<(), WatchFault<'a>> {
     let (Some(name), Some(begun)) = (folder, begun) else {
         return Ok(());
     };
-    match begun.finish() {
+    match begun.sink.finish() {
         Ok(()) => Ok(()),
-        Err(fault) => Err(WatchFault::Folder { name, fault }),
+        Err(loss) => Err(WatchFault::Lost { name, loss }),
     }
 }
 
