@@ -7,6 +7,7 @@
 //! | `homing.rt`, `out_cpu.rt`, `desk.rt`, `place.rt` | how a CPU goes out and comes home, again and again, each time by a ring of its own; `consumer_homing.rt`, `out_consumer.rt`, `consumer_desk.rt`, `consumer_place.rt`, `consumer_side.rt` the same of the consumer, with the batches that are out |
 //! | `under_way.rt`, `places.rt`, `gather.rt`, `close.rt`, `ended.rt` | a session from its start to its end |
 //! | `tending.rt` | the services of CPUs that are at their places (`specs/Tending`) |
+//! | `closing.rt` | the end in one call (`specs/Closing`, `proofs/AllHome`) |
 //! | `statuses.rt`, `configs.rt`, `reports.rt`, `batches.rt` | what crosses |
 //! | `schema_calls.rt`, `session_calls.rt`, `cpu_calls.rt`, `consumer_calls.rt`, `home_calls.rt`, `rest_calls.rt` | the exports |
 //! | `held_calls.rt`, `held_consumer_calls.rt` | the calls of a CPU and of the consumer on what a handle holds, by cases |

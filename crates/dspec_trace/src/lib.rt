@@ -8,11 +8,13 @@
 //! |---|---|
 //! | `folder.rt`, `system.rt` | `Folder`, a place that takes writes, with a ghost list of them and their answers; `SystemFolder`, one of the system, which has to be empty; it and its files are held open |
 //! | `held.rt` | `HeldFile`: a file that is held open and has whole writes alone; what a failed write left is cut off |
-//! | `tracing.rt`, `fault.rt` | `TraceFolder`, the sink: metadata first, then a packet a batch, one write each; the first fault is kept |
+//! | `tracing.rt`, `fault.rt` | `TraceFolder`, the sink: metadata first, then a packet a batch, one write each; what a refused write loses is counted, and the next batch is tried |
+//! | `losing.rt`, `telling.rt`, `laws.rt` | `Loss` and `Lossy`, which tell what wasn't written; `Telling`, a sink whose losses are printed while it runs; the law that nothing is lost uncounted |
 //! | `timed.rt` | `TimedFolder`, the sink by time: several files for each CPU, a packet for each run of a batch's records |
 //! | `identity.rt` | `Identity`: a uuid of the system's random bytes, the machine's name, the process's number |
-//! | `specs/`: Writes, Writing, Timed, Faults, Held | a write and its answer; what a call adds; the same by time; which faults a place has; what a file has behind a write |
-//! | `proofs/` | Handing (a packet is handed to the place), Following (runs behind one another), Cutting (bytes behind others, cut off again) |
+//! | `specs/`: Writes, Writing, Timed, Faults, Held | a write and its answer; what a call adds or loses; the same by time; which faults a place has; what a file has behind a write |
+//! | `specs/`: Losses, Accounts | what is kept of losses; that records in packets and what is counted add up |
+//! | `proofs/` | Handing (a packet is handed to the place), Following (runs behind one another), Cutting (bytes behind others, cut off again), Batching, Counting, Timely and Accounting (what a batch adds, counts and loses) |
 #![tactic(auto)]
 
 mod fault;
