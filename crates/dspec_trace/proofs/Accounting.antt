@@ -7,7 +7,7 @@ use Rattle.dspec_record.specs.Record.{Record}
 use Rattle.dspec_record.specs.EnablingRows.{EnabledRows}
 use Rattle.dspec_ring.specs.declared.batch.Batch.{Batch}
 use Rattle.dspec_ctf.specs.Streams.{IsText}
-use Rattle.dspec_trace.specs.Losses.{HasRecords, capped}
+use Rattle.dspec_trace.specs.Losses.{HasSoManyRecords, capped}
 use Rattle.dspec_trace.specs.Writing.{AddsPacket, GetsPacket, IsNothing, LosesPacket, Tracing}
 use Rattle.dspec_trace.specs.Accounts.{Accounts, missed_on}
 
@@ -50,7 +50,7 @@ module _ (e : EnabledRows) (old new : Tracing) (b : Batch) (there : b.cpu < leng
 
   module _ (is_one : (rs : List Record) × IsText e b.buffer.text rs)
       (fits : (rs : List Record) → IsText e b.buffer.text rs → missed_on old b.cpu + b.drops + length rs < 2 ^ 64) where
-    of_lost : (n : ℕ) → HasRecords e b n → new.missed ≡ slice_set old.missed b.cpu (capped (missed_on old b.cpu + (b.drops + n))) → Accounts e old b new
+    of_lost : (n : ℕ) → HasSoManyRecords e b n → new.missed ≡ slice_set old.missed b.cpu (capped (missed_on old b.cpu + (b.drops + n))) → Accounts e old b new
     of_lost n (inl (rs, (text, is))) missed =
         let below : missed_on old b.cpu + b.drops + length rs < 2 ^ 64 = fits rs text in
         let all : n ≡ length rs = is ∙ capped_below (length rs) (omega (arith, below)) in

@@ -6,7 +6,7 @@ use Rattle.dspec_record.specs.EnablingRows.{EnabledRows}
 use Rattle.dspec_ctf.specs.Streams.{IsText}
 use Rattle.dspec_ring.specs.declared.batch.Batch.{Batch}
 use Rattle.dspec_ctf.specs.declared.stream.PacketFault.{PacketFault}
-use Rattle.dspec_trace.specs.Losses.{HasRecords, lost_more, missed_more}
+use Rattle.dspec_trace.specs.Losses.{HasSoManyRecords, lost_more, missed_more}
 use Rattle.dspec_trace.specs.Writes.{FileWrite}
 use Rattle.dspec_trace.specs.Timed.{AddsAll, AddsBatch, AddsRuns, CpuFiles, GetsRuns, HasNoRuns, IsBatchLoss, LosesRuns, StopsRuns, TellsMissed, TellsNone, TimedTracing}
 use Rattle.dspec_trace.specs.declared.fault.FolderFault.{FolderFault}
@@ -23,7 +23,7 @@ lost_of b row fault records = record { cpu = b.cpu; row = row; fault = fault; re
 
 module _ (uuid : List ℕ) (e : EnabledRows) (before total cpu : ℕ) (b : Batch) (told : ℕ) (lasts : List ℕ) (was : Option (List FileWrite)) where
   -- it has no packets
-  pub no-file : (f : PacketFault) (fault : FolderFault) (loss : Loss) → HasNoRuns e before b f → fault ≡ Packet b.cpu f → HasRecords e b loss.records
+  pub no-file : (f : PacketFault) (fault : FolderFault) (loss : Loss) → HasNoRuns e before b f → fault ≡ Packet b.cpu f → HasSoManyRecords e b loss.records
       → loss ≡ lost_of b None fault loss.records → LosesRuns uuid e before b (files told lasts was) (files told lasts was) loss
   no-file f fault loss none is has loss_is = inl (record {
     same = refl;
@@ -35,7 +35,7 @@ module _ (uuid : List ℕ) (e : EnabledRows) (before total cpu : ℕ) (b : Batch
 
   -- what was missed isn't told
   pub loses-all : (is : Option (List FileWrite)) (fault : FolderFault) (loss : Loss) → total ≡ before + b.drops → cpu ≡ b.cpu → TellsNone uuid told total cpu lasts was is fault
-      → HasRecords e b loss.records → loss ≡ lost_of b (Some 0) fault loss.records → LosesRuns uuid e before b (files told lasts was) (files told lasts is) loss
+      → HasSoManyRecords e b loss.records → loss ≡ lost_of b (Some 0) fault loss.records → LosesRuns uuid e before b (files told lasts was) (files told lasts is) loss
   loses-all is fault loss sum same none has loss_is = inr (inl (record {
     told = refl;
     lasts = refl;
@@ -80,7 +80,7 @@ timed uuid missed told lasts written lost last =
 module _ (e : EnabledRows) (uuid missed told : List ℕ) (lasts : List (List ℕ)) (was : Option (List FileWrite)) (lost last : Option Loss) (old : TimedTracing) (b : Batch)
     (view : timed uuid missed told lasts was lost last ≡ old) where
   -- no such CPU
-  pub no-cpu : (loss : Loss) → (slice_get missed b.cpu ≡ None) ⊎ (slice_get lasts b.cpu ≡ None) → HasRecords e b loss.records
+  pub no-cpu : (loss : Loss) → (slice_get missed b.cpu ≡ None) ⊎ (slice_get lasts b.cpu ≡ None) → HasSoManyRecords e b loss.records
       → loss ≡ lost_of b None (Cpu b.cpu) loss.records → IsBatchLoss e old b (timed uuid missed told lasts was lost last) loss
   no-cpu loss beyond has loss_is = subst (λ o. IsBatchLoss e o b (timed uuid missed told lasts was lost last) loss) view
       (inl (record { beyond = beyond; has = has; loss_is = loss_is; told = refl; lasts = refl; written = refl }))

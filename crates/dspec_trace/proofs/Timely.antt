@@ -7,7 +7,7 @@ use Rattle.dspec_record.specs.Record.{Record}
 use Rattle.dspec_record.specs.EnablingRows.{EnabledRows}
 use Rattle.dspec_ring.specs.declared.batch.Batch.{Batch}
 use Rattle.dspec_ctf.specs.Streams.{IsText}
-use Rattle.dspec_trace.specs.Losses.{HasRecords, capped, missed_more}
+use Rattle.dspec_trace.specs.Losses.{HasSoManyRecords, capped, missed_more}
 use Rattle.dspec_trace.specs.Timed.{AddsBatch, CpuFiles, GetsRuns, IsBatchLoss, LosesBatch, LosesRuns, TimedTracing}
 use Rattle.dspec_trace.specs.Accounts.{TimedAccounts}
 use Rattle.dspec_trace.specs.declared.losing.Loss.{Loss}
@@ -53,7 +53,7 @@ module _ (e : EnabledRows) (old new : TimedTracing) (b : Batch) (there : b.cpu <
           others = other (capped (slice_index old.missed b.cpu + (b.drops + loss.records))) missed;
         }
 
-    of_all : HasRecords e b loss.records → TimedAccounts e old b new
+    of_all : HasSoManyRecords e b loss.records → TimedAccounts e old b new
     of_all (inl (rs, (text, is))) =
         let below : slice_index old.missed b.cpu + b.drops + length rs < 2 ^ 64 = fits rs text in
         let all : loss.records ≡ length rs = is ∙ capped_below (length rs) (omega (arith, below)) in

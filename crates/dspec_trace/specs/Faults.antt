@@ -10,8 +10,8 @@ use Rattle.dspec_trace.specs.declared.fault.FolderFault.{FolderFault}
 use Rattle.dspec_trace.specs.declared.fault.FolderFault.TheVariants.{Cpu, Cut, Memory, Metadata, NotEmpty, Packet, Read, Write}
 
 -- the system's number of a fault of input or output, 0 where it gave none
-abbrev pub code_of : Error → ℤ
-code_of fault = unwrap_or (raw_os_error fault) (pos 0)
+abbrev pub system_code : Error → ℤ
+system_code fault = unwrap_or (raw_os_error fault) (pos 0)
 
 -- what a place that takes files answers where it took a write not or not whole: it can't be written, or memory was wanting
 abbrev pub IsWriteFault : FolderFault → Type 0

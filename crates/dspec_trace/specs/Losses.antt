@@ -11,8 +11,8 @@ abbrev pub capped : ℕ → ℕ
 capped n = min n (2 ^ 64 - 1)
 
 -- so many records a batch has: those of its text; where it is the text of none, as many as its buffer says
-abbrev pub HasRecords : EnabledRows → Batch → ℕ → Type 0
-HasRecords e b n =
+abbrev pub HasSoManyRecords : EnabledRows → Batch → ℕ → Type 0
+HasSoManyRecords e b n =
     ((rs : List Record) × (IsText e b.buffer.text rs × (n ≡ capped (length rs))))
     ⊎ (((rs : List Record) → IsText e b.buffer.text rs → ⊥) × (n ≡ b.buffer.count))
 

@@ -15,7 +15,7 @@ use Rattle.dspec_ctf.specs.Packets.{events}
 use Rattle.dspec_ctf.specs.Rows.{AreRuns, IsFileRun, HasNoRun, missed_packets, run_packet, run_packets}
 use Rattle.dspec_ctf.specs.Streams.{HasNoRecords, IsText, IsTooLong}
 use Rattle.dspec_ctf.specs.declared.fault.MetadataFault.TheVariants as metadata
-use Rattle.dspec_trace.specs.Losses.{HasRecords, lost_more, missed_more}
+use Rattle.dspec_trace.specs.Losses.{HasSoManyRecords, lost_more, missed_more}
 use Rattle.dspec_trace.specs.Writes.{FileWrite, IsNotTaken, Refuses, Takes}
 use Rattle.dspec_trace.specs.declared.fault.FolderFault.{FolderFault}
 use Rattle.dspec_trace.specs.declared.fault.FolderFault.TheVariants.{Cpu, Cut, Memory, Metadata, NotEmpty, Packet, Read, Write}
@@ -154,7 +154,7 @@ module _ (uuid : List ℕ) (e : EnabledRows) (before : ℕ) (b : Batch) (old : C
     pub same : new ≡ old
     pub fault : PacketFault
     pub none : HasNoRuns e before b fault
-    pub has : HasRecords e b loss.records
+    pub has : HasSoManyRecords e b loss.records
     pub loss_is : loss ≡ record { cpu = b.cpu; row = None; fault = Packet b.cpu fault; records = loss.records }
 
   -- what was missed by now wasn't told: all of the batch is lost
@@ -163,7 +163,7 @@ module _ (uuid : List ℕ) (e : EnabledRows) (before : ℕ) (b : Batch) (old : C
     pub lasts : new.lasts ≡ old.lasts
     pub fault : FolderFault
     pub why : TellsNone uuid old.told (before + b.drops) b.cpu old.lasts old.written new.written fault
-    pub has : HasRecords e b loss.records
+    pub has : HasSoManyRecords e b loss.records
     pub loss_is : loss ≡ record { cpu = b.cpu; row = Some 0; fault = fault; records = loss.records }
 
   -- what was missed by now was told, and the packets of some runs were taken: the records behind them are lost
@@ -207,7 +207,7 @@ pub record AddsBatch (e : EnabledRows) (old : TimedTracing) (b : Batch) (new : T
 -- what a batch of a CPU that no session has loses, of which nothing is written
 pub record HasNoCpu (e : EnabledRows) (old : TimedTracing) (b : Batch) (new : TimedTracing) (loss : Loss) : Type 0 where
   pub beyond : (slice_get old.missed b.cpu ≡ None) ⊎ (slice_get old.lasts b.cpu ≡ None)
-  pub has : HasRecords e b loss.records
+  pub has : HasSoManyRecords e b loss.records
   pub loss_is : loss ≡ record { cpu = b.cpu; row = None; fault = Cpu b.cpu; records = loss.records }
   pub told : new.told ≡ old.told
   pub lasts : new.lasts ≡ old.lasts

@@ -9,7 +9,7 @@ use Rattle.dspec_ctf.specs.Metadata.{origin_text}
 use Rattle.dspec_ctf.specs.Names.{origin_fault}
 use Rattle.dspec_ctf.specs.Streams.{HasNoPacket, IsPacketOf}
 use Rattle.dspec_ctf.specs.declared.fault.MetadataFault.TheVariants as metadata
-use Rattle.dspec_trace.specs.Losses.{HasRecords, lost_more, missed_more}
+use Rattle.dspec_trace.specs.Losses.{HasSoManyRecords, lost_more, missed_more}
 use Rattle.dspec_trace.specs.Writes.{FileWrite, Refuses, Takes}
 use Rattle.dspec_trace.specs.declared.losing.Loss.{Loss}
 use Rattle.dspec_trace.specs.declared.fault.FolderFault.{FolderFault}
@@ -94,7 +94,7 @@ whole_loss b fault records = record { cpu = b.cpu; row = None; fault = fault; re
 -- all of a batch is counted: its records, and the drops that it carried, are what its CPU missed
 pub record CountsLost (e : EnabledRows) (old : Tracing) (b : Batch) (fault : FolderFault) (new : Tracing) : Type 0 where
   pub records : ℕ
-  pub has : HasRecords e b records
+  pub has : HasSoManyRecords e b records
   pub missed : new.missed ≡ missed_more old.missed b.cpu (b.drops + records)
   pub told : new.told ≡ old.told
   pub lost : new.lost ≡ lost_more old.lost (whole_loss b fault records)

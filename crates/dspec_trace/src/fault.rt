@@ -1,6 +1,6 @@
 ghost use Rattle.std.specs.Prelude.{◌≡◌, ◌≢◌};
 ghost use Rattle.std.specs.IoError.{error_kind};
-ghost use Rattle.dspec_trace.specs.Faults.{code_of};
+ghost use Rattle.dspec_trace.specs.Faults.{system_code};
 ghost use Rattle.std.specs.declared.io.ErrorKind.TheVariants.{OutOfMemory};
 ghost use Rattle.dspec_trace.specs.declared.fault.FolderFault.TheVariants.{Memory, Read, Write};
 
@@ -100,7 +100,7 @@ pub(crate) fn look_fault(fault: &io::Error) -> FolderFault
 /// What is told of a folder, or of a file in it, that can't be made or written.
 pub(crate) fn write_fault(fault: &io::Error) -> FolderFault
     ensures memory { error_kind fault.now ≡ OutOfMemory → result ≡ Memory }
-    ensures other { error_kind fault.now ≢ OutOfMemory → result ≡ Write (code_of fault.now) }
+    ensures other { error_kind fault.now ≢ OutOfMemory → result ≡ Write (system_code fault.now) }
 {
     if fault.kind() == io::ErrorKind::OutOfMemory {
         FolderFault::Memory

@@ -1,7 +1,7 @@
 //! What isn't written of a trace, and its count.
 
 ghost use Rattle.std.specs.Prelude.{◌≡◌, ◌+◌, length, None, IfErr, OnOk, Some};
-ghost use Rattle.dspec_trace.specs.Losses.{HasRecords, capped, lost_more, missed_more};
+ghost use Rattle.dspec_trace.specs.Losses.{HasSoManyRecords, capped, lost_more, missed_more};
 
 use crate::fault::FolderFault;
 use dspec::{Batch, Enablings, Records, read_all};
@@ -57,7 +57,7 @@ fn count_of(records: Records<'_, Enablings>) -> u64
 
 /// How many records a batch has.
 pub(crate) fn records_in(schema: &Enablings, batch: &Batch) -> u64
-    ensures { HasRecords schema.now batch.now result }
+    ensures { HasSoManyRecords schema.now batch.now result }
 {
     match read_all(schema, batch.buffer.bytes()) {
         Ok(records) => count_of(records),

@@ -1,6 +1,6 @@
 ghost use Rattle.std.specs.Prelude.{◌≡◌, ◌+◌, ◌<◌, [], All, IfOk, IfErr, OnOk, OnErr, Some, None, length, replicate, string_bytes};
 ghost use Rattle.dspec_ctf.specs.Streams.{Accepts};
-ghost use Rattle.dspec_trace.specs.Losses.{HasRecords};
+ghost use Rattle.dspec_trace.specs.Losses.{HasSoManyRecords};
 ghost use Rattle.dspec_trace.specs.Writes.{IsNotTaken, Takes};
 ghost use Rattle.dspec_trace.specs.Timed.{AddsAll, AddsBatch, AddsRun, AddsRuns, GetsRuns, IsTimedBegun, IsBatchLoss, IsTimedFault, LosesRuns, StopsRun, StopsRuns, TellsMissed, TellsNone, row_name};
 ghost use Rattle.dspec_trace.specs.declared.fault.FolderFault.TheVariants.{Memory, Packet};
@@ -76,7 +76,7 @@ fn lost_of(cpu: u32, row: Option<usize>, fault: FolderFault, records: u64) -> Lo
 
 /// What is lost of a batch of which nothing is written.
 fn all_lost(schema: &Enablings, batch: &Batch, row: Option<usize>, fault: FolderFault) -> Loss
-    ensures has { HasRecords schema.now batch.now result.records }
+    ensures has { HasSoManyRecords schema.now batch.now result.records }
     ensures loss { result ≡ record { cpu = batch.now.cpu; row = row; fault = fault; records = result.records } }
 {
     lost_of(batch.cpu, row, fault, records_in(schema, batch))
@@ -298,16 +298,17 @@ impl<F: Folder> TimedFolder<F> {
     /// What was lost in all, if anything was: in which file and why first, and how many records weren't written. The files have whole
     /// packets, unless a fault was `Cut`.
     pub fn finish(self) -> Result<(), Loss>
-        ensures whole { OnOk result (self.lost ≡ None) }
         ensures loss { IfErr result (λ loss. self.lost ≡ Some loss) }
+        ensures whole { OnOk result (self.lost ≡ None) }
     {
         ended_by(self.lost)
     }
 }
 
 impl<F: Folder> Lossy for TimedFolder<F> {
+    /// Of the last batch: its rest, behind the first packet that wasn't taken.
     fn last_loss(&self) -> Option<Loss>
-        ensures { result ≡ self.now.last }
+        ensures last { result ≡ self.now.last }
     {
         self.last
     }

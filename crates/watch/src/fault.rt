@@ -9,10 +9,10 @@ use thiserror::Error;
 pub enum WatchFault<'a> {
     #[error("{0}")]
     Command(#[from] CommandFault<'a>),
-    #[error("{name}: {fault}")]
-    Folder { name: &'a str, fault: FolderFault },
     #[error("{name}: {loss}")]
     Lost { name: &'a str, loss: Loss },
+    #[error("{name}: {fault}")]
+    Folder { name: &'a str, fault: FolderFault },
     #[error("{0}")]
     Start(#[from] StartFault),
     #[error("{0}")]

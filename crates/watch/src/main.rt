@@ -38,8 +38,8 @@ type Begun<'a> = Telling<'a, TraceFolder<SystemFolder<'a>>>;
 /// Begins a trace of this process in the folder of that path, with the names of the probes in its metadata.
 fn begun_trace<'a>(
     rt: &'a HostRuntime,
-    name: &'a str,
     probes: &Probes<'_>,
+    name: &'a str,
 ) -> Result<Begun<'a>, FolderFault> {
     let names = Names::Given(probes.names());
     let folder = SystemFolder::new(rt, name)?;
@@ -55,7 +55,7 @@ fn begin_trace<'a>(
     name: &'a str,
     probes: &Probes<'_>,
 ) -> Result<Begun<'a>, WatchFault<'a>> {
-    match begun_trace(rt, name, probes) {
+    match begun_trace(rt, probes, name) {
         Ok(begun) => Ok(begun),
         Err(fault) => Err(WatchFault::Folder { name, fault }),
     }
