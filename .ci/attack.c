@@ -2,7 +2,8 @@
    file, by number ATTACK_AT, the first one 1, and does what ATTACK says. `links` and `pipes` put links to ATTACK_VICTIM, or pipes, into the
    folder ATTACK_FOLDER behind that write, under the names of the files that a trace has. `replace` moves the folder away, with `.moved`
    behind its name, and puts an empty one in its place. `full` lets that write take half of its bytes, and fails all later ones; `stuck`
-   fails to cut a file too. ATTACK_TOLD names a file that is made then.
+   fails to cut a file too; `gap` takes half of it and fails the two behind it. `room` removes ATTACK_VICTIM behind that write, whether it was
+   taken or not. ATTACK_TOLD names a file that is made then.
 
    As a program, `attack FOLDER VICTIM` waits for FOLDER/metadata, puts links there, and prints how many. */
 #define _GNU_SOURCE
@@ -68,15 +69,31 @@ static void attack(void) {
     full = attacks("full") || attacks("stuck");
 }
 
+/* Answers that there is no space left. */
+static ssize_t refuse(void) {
+    errno = ENOSPC;
+    return -1;
+}
+
+/* Writes, and removes the victim then. */
+static ssize_t write_and_make_room(int file, const void *bytes, size_t count) {
+    ssize_t taken = syscall(SYS_write, file, bytes, count);
+    int why = errno;
+    unlink(word("ATTACK_VICTIM"));
+    errno = why;
+    return taken;
+}
+
 ssize_t write(int file, const void *bytes, size_t count) {
+    unsigned long at = strtoul(word("ATTACK_AT"), 0, 10);
     if (!is_of_a_file(file)) return syscall(SYS_write, file, bytes, count);
-    if (full) {
-        errno = ENOSPC;
-        return -1;
-    }
-    if (++writes != strtoul(word("ATTACK_AT"), 0, 10)) return syscall(SYS_write, file, bytes, count);
+    if (full) return refuse();
+    writes++;
+    if (attacks("gap") && writes > at && writes <= at + 2) return refuse();
+    if (writes != at) return syscall(SYS_write, file, bytes, count);
     attack();
-    return syscall(SYS_write, file, bytes, full ? count / 2 : count);
+    if (attacks("room")) return write_and_make_room(file, bytes, count);
+    return syscall(SYS_write, file, bytes, full || attacks("gap") ? count / 2 : count);
 }
 
 int ftruncate(int file, off_t size) {
