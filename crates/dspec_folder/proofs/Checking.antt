@@ -1,15 +1,15 @@
 -- A file that is sound is one packet that is, and then the others.
-use Rattle.std.proofs.Common.{◌≡◌, ◌≤◌, ◌<◌, ◌++◌, ℕ, List, [], ◌∷◌, length, map, Option, Some, None, option_map, refl, ap, sym, subst, ◌∙◌, arith, append_assoc}
+use Rattle.std.proofs.Common.{◌≡◌, ◌≤◌, ◌<◌, ◌++◌, ℕ, List, [], ◌∷◌, length, map, Option, Some, None, option_map, refl, ap, sym, subst, ◌∙◌, arith}
 use Rattle.std.specs.Prelude.{All, option_and_then, unwrap_or}
 use Rattle.std.specs.Option.{option_map_or}
 use Rattle.std.specs.List.{flat_map}
 use Rattle.std.proofs.lemmas.List.Elements.{All-head, All-tail, All-nil, All-cons}
-use Rattle.dspec_ctf_reading.specs.Reading.{Layout, EventRead, PacketRead, Part, read_packet, read_file}
+use Rattle.dspec_ctf_reading.specs.Reading.{Layout, PacketRead, Part, read_packet, read_file}
 use Rattle.dspec_ctf_reading.proofs.Bounds.{packets-on-bytes}
 use Rattle.dspec_ctf_reader.specs.declared.events.Event.{Event}
-use Rattle.dspec_ctf_reader.specs.Told.{event_read}
+use Rattle.dspec_ctf_reader.specs.Told.{as_read}
 use Rattle.dspec_folder.specs.declared.packet.ReadPacket.{ReadPacket}
-use Rattle.dspec_folder.specs.Checks.{RisesFrom, last_of, stamps_of, times_of, as_read, IsSoundFrom}
+use Rattle.dspec_folder.specs.Checks.{RisesFrom, last_of, stamps_of, times_of, packet_as_read, IsSoundFrom}
 
 -- a list that rises, in two parts
 pub rises-append : (before : ℕ) (xs ys : List ℕ) → RisesFrom before xs → RisesFrom (last_of before xs) ys → RisesFrom before (xs ++ ys)
@@ -29,30 +29,30 @@ last-append before [] ys = refl
 last-append before (x ∷ xs) ys = last-append x xs ys
 
 -- the stamps of events as they are read
-pub stamps-read : (layout : Layout) (events : List Event) → map (λ e. unwrap_or e.stamp 0) (map (event_read layout) events) ≡ stamps_of events
+pub stamps-read : (layout : Layout) (events : List Event) → map (λ e. unwrap_or e.stamp 0) (map (as_read layout) events) ≡ stamps_of events
 stamps-read layout [] = refl
 stamps-read layout (e ∷ events) = ap (λ more. unwrap_or e.stamp 0 ∷ more) (stamps-read layout events)
 
 -- the times of a packet with stamps, whose events are these
 module _ (layout : Layout) (p : ReadPacket) (events : List Event) (begin end last : ℕ) (is : p.front.span ≡ Some (begin, end)) (are : events ≡ p.events.items) where
-  times : times_of (as_read layout p) ≡ begin ∷ (stamps_of events ++ end ∷ [])
+  times : times_of (packet_as_read layout p) ≡ begin ∷ (stamps_of events ++ end ∷ [])
   times =
-      ap (λ o. option_map_or (λ span. span.0 ∷ (map (λ e. unwrap_or e.stamp 0) (map (event_read layout) p.events.items) ++ span.1 ∷ [])) o []) is
+      ap (λ o. option_map_or (λ span. span.0 ∷ (map (λ e. unwrap_or e.stamp 0) (map (as_read layout) p.events.items) ++ span.1 ∷ [])) o []) is
       ∙ ap (λ more. begin ∷ (more ++ end ∷ [])) (stamps-read layout p.events.items ∙ ap stamps_of (sym are))
 
-  pub falls-end : (from : ℕ) → from ≡ last_of begin (stamps_of events) → end < from → ¬ RisesFrom last (times_of (as_read layout p))
+  pub falls-end : (from : ℕ) → from ≡ last_of begin (stamps_of events) → end < from → ¬ RisesFrom last (times_of (packet_as_read layout p))
   falls-end from same less rises =
       let all : RisesFrom last (begin ∷ (stamps_of events ++ end ∷ [])) = subst (RisesFrom last) times rises in
       let behind : RisesFrom (last_of begin (stamps_of events)) (end ∷ []) = rises-second begin (stamps_of events) (end ∷ []) all.1 in
       absurd (omega (arith, same, less, behind.0))
 
-  pub falls-within : ¬ RisesFrom begin (stamps_of events) → ¬ RisesFrom last (times_of (as_read layout p))
+  pub falls-within : ¬ RisesFrom begin (stamps_of events) → ¬ RisesFrom last (times_of (packet_as_read layout p))
   falls-within none rises =
       let all : RisesFrom last (begin ∷ (stamps_of events ++ end ∷ [])) = subst (RisesFrom last) times rises in
       none (rises-first begin (stamps_of events) (end ∷ []) all.1)
 
   pub rises-whole : (from : ℕ) → last ≤ begin → RisesFrom begin (stamps_of events) → from ≡ last_of begin (stamps_of events) → from ≤ end
-      → RisesFrom last (times_of (as_read layout p)) × (end ≡ last_of last (times_of (as_read layout p)))
+      → RisesFrom last (times_of (packet_as_read layout p)) × (end ≡ last_of last (times_of (packet_as_read layout p)))
   rises-whole from low rises same high =
       let second : RisesFrom (last_of begin (stamps_of events)) (end ∷ []) = (omega (arith, same, high), tt) in
       let all : RisesFrom last (begin ∷ (stamps_of events ++ end ∷ [])) = (low, rises-append begin (stamps_of events) (end ∷ []) rises second) in
@@ -96,7 +96,7 @@ module _ (layout : Layout) (uuid : List ℕ) (cpu : ℕ) where
   pub sound-back : (last : ℕ) (rest behind : List ℕ) (p : PacketRead) → 0 < length rest → read_packet layout rest ≡ Some (p, behind) → IsSoundFrom layout uuid cpu last rest → Back last behind p
   sound-back last rest behind p some is sound =
       let two : Parts p (read_file layout behind) sound.packets =
-          parts p (read_file layout behind) sound.packets (sym (ap (file_by layout) is) ∙ sym (packets-on-bytes layout rest some) ∙ sound.read) in
+      parts p (read_file layout behind) sound.packets (sym (ap (file_by layout) is) ∙ sym (packets-on-bytes layout rest some) ∙ sound.read) in
       let whose : All (λ q. (q.uuid ≡ uuid) × (q.cpu ≡ cpu)) (p ∷ two.rest) = subst (All (λ q. (q.uuid ≡ uuid) × (q.cpu ≡ cpu))) two.all sound.whose in
       let rises : RisesFrom last (times_of p ++ flat_map times_of two.rest) = subst (λ ps. RisesFrom last (flat_map times_of ps)) two.all sound.rises in
       let first = All-head (λ q. (q.uuid ≡ uuid) × (q.cpu ≡ cpu)) p two.rest whose in

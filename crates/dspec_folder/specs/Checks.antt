@@ -2,8 +2,8 @@
 use Rattle.std.specs.Prelude.{◌≡◌, ◌≤◌, ℕ, Bool, true, List, [], ◌∷◌, ◌++◌, map, All, Some, unwrap_or}
 use Rattle.std.specs.Option.{option_map_or}
 use Rattle.std.specs.List.{flat_map}
-use Rattle.dspec_ctf_reading.specs.Reading.{Layout, EventRead, PacketRead, read_file}
-use Rattle.dspec_ctf_reader.specs.Told.{event_read}
+use Rattle.dspec_ctf_reading.specs.Reading.{Layout, PacketRead, read_file}
+use Rattle.dspec_ctf_reader.specs.Told.{as_read}
 use Rattle.dspec_ctf_reader.specs.Faults.{is_event_fault}
 use Rattle.dspec_ctf_reader.specs.declared.events.Event.{Event}
 use Rattle.dspec_ctf_reading.specs.Fronts.{front_of}
@@ -30,13 +30,13 @@ abbrev pub times_of : PacketRead → List ℕ
 times_of packet = option_map_or (λ span. span.0 ∷ (map (λ e. unwrap_or e.stamp 0) packet.events ++ span.1 ∷ [])) packet.span []
 
 -- a packet in memory, as it is read
-abbrev pub as_read : Layout → ReadPacket → PacketRead
-as_read layout p = record {
+abbrev pub packet_as_read : Layout → ReadPacket → PacketRead
+packet_as_read layout p = record {
   uuid = (front_of p.front).uuid;
   cpu = p.front.cpu;
   discarded = p.front.discarded;
   span = p.front.span;
-  events = map (event_read layout) p.events.items;
+  events = map (as_read layout) p.events.items;
 }
 
 -- Nothing is wrong with a file of this trace and CPU, before which the time was this: it is packets, all of this trace and CPU, and from

@@ -2,8 +2,8 @@
 
 ghost use Rattle.std.specs.Prelude.{◌≡◌, IfErr, IfOk, IsTrue, OnErr, OnOk, true};
 ghost use Rattle.dspec_ctf_reading.specs.Fronts.{front_of};
-ghost use Rattle.dspec_ctf_reader.specs.Told.{layout_of};
-ghost use Rattle.dspec_folder.specs.Checks.{IsSoundFrom, RisesFrom, is_of_bytes, last_of, as_read, stamps_of, times_of};
+ghost use Rattle.dspec_ctf_reader.specs.Told.{told_layout};
+ghost use Rattle.dspec_folder.specs.Checks.{IsSoundFrom, RisesFrom, is_of_bytes, last_of, packet_as_read, stamps_of, times_of};
 
 use crate::fault::{FileFault, Wrong};
 use crate::packet::{ReadPacket, read_packet};
@@ -75,9 +75,9 @@ fn see_times(
     at: usize,
     packet: &ReadPacket<'_>,
 ) -> Result<u64, FileFault>
-    ensures rises { IfOk result (λ now. RisesFrom last (times_of (as_read (layout_of metadata.now) packet.now))
-        × (now ≡ last_of last (times_of (as_read (layout_of metadata.now) packet.now)))) }
-    ensures falls { IfErr result (λ _. ¬ RisesFrom last (times_of (as_read (layout_of metadata.now) packet.now))) }
+    ensures rises { IfOk result (λ now. RisesFrom last (times_of (packet_as_read (told_layout metadata.now) packet.now))
+        × (now ≡ last_of last (times_of (packet_as_read (told_layout metadata.now) packet.now)))) }
+    ensures falls { IfErr result (λ _. ¬ RisesFrom last (times_of (packet_as_read (told_layout metadata.now) packet.now))) }
 {
     let Some((begin, end)) = packet.front.span else {
         return Ok(last);
@@ -93,7 +93,12 @@ fn see_times(
             Ok(end)
         }
         Err(fall) => {
-            let at = event_at(metadata, packet.events.as_slice(), fall.place, packet.body_at);
+            let at = event_at(
+                metadata,
+                packet.events.as_slice(),
+                fall.place,
+                packet.body_at,
+            );
             Err(falls(at, fall.from, fall.to))
         }
     }
@@ -137,8 +142,8 @@ pub fn check_file(
     whose: &Whose,
     bytes: &[u8],
 ) -> Result<(), FileFault>
-    ensures sound { OnOk result (IsSoundFrom (layout_of metadata.now) whose.now.uuid whose.now.cpu 0 bytes.now) }
-    ensures told { IfErr result (λ fault. IsTrue (is_of_bytes fault.wrong) → ¬ IsSoundFrom (layout_of metadata.now) whose.now.uuid whose.now.cpu 0 bytes.now) }
+    ensures sound { OnOk result (IsSoundFrom (told_layout metadata.now) whose.now.uuid whose.now.cpu 0 bytes.now) }
+    ensures told { IfErr result (λ fault. IsTrue (is_of_bytes fault.wrong) → ¬ IsSoundFrom (told_layout metadata.now) whose.now.uuid whose.now.cpu 0 bytes.now) }
 {
     let mut rest = bytes;
     let mut last = 0u64;

@@ -2,7 +2,7 @@
 //! Chrome's Trace Event form.
 //!
 //! `packet.rt` reads a file packet by packet, `whole.rt` says how much of a file is whole packets, `check.rt` what is wrong with one.
-//! `counts.rt` counts, `clock.rt` tells times, `value.rt` what a field's number stands for, `merge.rt` puts what happened in order of
+//! `counts.rt` counts, `clock.rt` tells times, `value.rt` what a field's number stands for, `mark.rt` puts what happened in order of
 //! time. `text.rt` and `chrome.rt` write what happened. The files themselves are read by a program.
 #![tactic(auto)]
 

@@ -2,8 +2,8 @@
 
 ghost use Rattle.std.specs.Prelude.{◌≡◌, ◌<◌, IfErr, IfOk, IsTrue, None, Some, length};
 ghost use Rattle.dspec_ctf_reading.specs.Reading.{read_packet as packet_from};
-ghost use Rattle.dspec_ctf_reader.specs.Told.{layout_of};
-ghost use Rattle.dspec_folder.specs.Checks.{is_of_bytes, as_read};
+ghost use Rattle.dspec_ctf_reader.specs.Told.{told_layout};
+ghost use Rattle.dspec_folder.specs.Checks.{is_of_bytes, packet_as_read};
 
 use crate::fault::{FileFault, Wrong};
 use dspec_ctf_reader::{Event, Front, Metadata, next_packet, read_events};
@@ -29,8 +29,8 @@ pub fn read_packet<'b>(
     at: usize,
     bytes: &'b [u8],
 ) -> Result<ReadPacket<'b>, FileFault>
-    ensures read { IfOk result (λ packet. packet_from (layout_of metadata.now) bytes.now ≡ Some (as_read (layout_of metadata.now) packet, packet.behind.now)) }
-    ensures none { IfErr result (λ fault. IsTrue (is_of_bytes fault.wrong) → packet_from (layout_of metadata.now) bytes.now ≡ None) }
+    ensures read { IfOk result (λ packet. packet_from (told_layout metadata.now) bytes.now ≡ Some (packet_as_read (told_layout metadata.now) packet, packet.behind.now)) }
+    ensures none { IfErr result (λ fault. IsTrue (is_of_bytes fault.wrong) → packet_from (told_layout metadata.now) bytes.now ≡ None) }
     ensures shorter { IfOk result (λ packet. length packet.behind.now < length bytes.now) }
 {
     let packet = match next_packet(metadata.clock.is_some(), bytes) {

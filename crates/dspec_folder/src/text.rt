@@ -6,10 +6,10 @@ use std::alloc::{AllocError, Global};
 
 /// Whether a label can stand without quotes.
 fn is_plain(label: &str) -> bool {
-    label
-        .as_bytes()
-        .iter()
-        .all(|byte| byte.is_ascii_alphanumeric() || *byte == b'_' || *byte == b'-' || *byte == b'.')
+    label.as_bytes().iter().all(|byte| byte.is_ascii_alphanumeric()
+        || *byte == b'_'
+        || *byte == b'-'
+        || *byte == b'.')
 }
 
 /// Adds what a number stands for.

@@ -1,18 +1,18 @@
 use Rattle.std.proofs.Common.{◌<◌, List, ℕ, length, rules, sym, subst}
 use Rattle.dspec_ctf_reading.specs.Reading.{Layout, PacketRead}
-use Rattle.dspec_ctf_reader.specs.Told.{layout_of}
-use Rattle.dspec_folder.specs.Checks.{IsSoundFrom, as_read}
-use Rattle.dspec_folder.proofs.Checking.{sound-back, sound-none, sound-step}
+use Rattle.dspec_ctf_reader.specs.Told.{told_layout}
+use Rattle.dspec_folder.specs.Checks.{IsSoundFrom, packet_as_read}
+use Rattle.dspec_folder.proofs.Checking.{sound-back, sound-step}
 use Rattle.dspec_folder.proofs.check.check_file.Goals as goal
 
 pub loop-rest-preserved : goal.loop-rest-preserved
 loop-rest-preserved c =
-    let layout : Layout = layout_of c.args.metadata.now in
+    let layout : Layout = told_layout c.args.metadata.now in
     let uuid : List ℕ = c.args.whose.now.uuid in
     let cpu : ℕ = c.args.whose.now.cpu in
     let rest : List ℕ = c.loop-rest.rest.now in
     let some : 0 < length rest = search rules in
-    let packet : PacketRead = as_read layout c.in-Ok.packet in
+    let packet : PacketRead = packet_as_read layout c.in-Ok.packet in
     let behind : List ℕ = c.in-Ok.packet.behind.now in
     let rises = c.in-Ok-see_times.ensures.rises in
     record {
@@ -26,18 +26,18 @@ loop-rest-preserved c =
 
 pub returns-in-Err-see_whose-clause-told : goal.returns-in-Err-see_whose-clause-told
 returns-in-Err-see_whose-clause-told c =
-    let layout : Layout = layout_of c.args.metadata.now in
+    let layout : Layout = told_layout c.args.metadata.now in
     let some : 0 < length c.loop-rest.rest.now = search rules in
     λ _ sound.
-    let back = sound-back layout c.args.whose.now.uuid c.args.whose.now.cpu c.loop-rest.last c.loop-rest.rest.now c.in-Ok.packet.behind.now (as_read layout c.in-Ok.packet) some
-        c.in-Ok.ensures.read (c.loop-rest.invariant.on sound) in
+    let back = sound-back layout c.args.whose.now.uuid c.args.whose.now.cpu c.loop-rest.last c.loop-rest.rest.now c.in-Ok.packet.behind.now (packet_as_read layout c.in-Ok.packet) some
+    c.in-Ok.ensures.read (c.loop-rest.invariant.on sound) in
     c.in-Err-see_whose.ensures.other (back.of_uuid, back.of_cpu)
 
 pub returns-in-Err-see_times-clause-told : goal.returns-in-Err-see_times-clause-told
 returns-in-Err-see_times-clause-told c =
-    let layout : Layout = layout_of c.args.metadata.now in
+    let layout : Layout = told_layout c.args.metadata.now in
     let some : 0 < length c.loop-rest.rest.now = search rules in
     λ _ sound.
-    let back = sound-back layout c.args.whose.now.uuid c.args.whose.now.cpu c.loop-rest.last c.loop-rest.rest.now c.in-Ok.packet.behind.now (as_read layout c.in-Ok.packet) some
-        c.in-Ok.ensures.read (c.loop-rest.invariant.on sound) in
+    let back = sound-back layout c.args.whose.now.uuid c.args.whose.now.cpu c.loop-rest.last c.loop-rest.rest.now c.in-Ok.packet.behind.now (packet_as_read layout c.in-Ok.packet) some
+    c.in-Ok.ensures.read (c.loop-rest.invariant.on sound) in
     c.in-Err-see_times.ensures.falls back.rises

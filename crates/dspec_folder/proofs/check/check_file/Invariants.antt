@@ -1,13 +1,13 @@
 -- The file is sound where what is left of it is.
 use Rattle.std.proofs.Common.{length}
-use Rattle.dspec_ctf_reader.specs.Told.{layout_of}
+use Rattle.dspec_ctf_reader.specs.Told.{told_layout}
 use Rattle.dspec_folder.specs.Checks.{IsSoundFrom}
 use Rattle.dspec_folder.proofs.check.check_file.Given as goal
 
 abbrev pub invariant-loop-rest : goal.invariant-loop-rest
 invariant-loop-rest l = record {
-  on : IsSoundFrom (layout_of l.metadata) l.whose.uuid l.whose.cpu 0 l.bytes → IsSoundFrom (layout_of l.metadata) l.whose.uuid l.whose.cpu l.last l.rest;
-  back : IsSoundFrom (layout_of l.metadata) l.whose.uuid l.whose.cpu l.last l.rest → IsSoundFrom (layout_of l.metadata) l.whose.uuid l.whose.cpu 0 l.bytes;
+  on : IsSoundFrom (told_layout l.metadata) l.whose.uuid l.whose.cpu 0 l.bytes → IsSoundFrom (told_layout l.metadata) l.whose.uuid l.whose.cpu l.last l.rest;
+  back : IsSoundFrom (told_layout l.metadata) l.whose.uuid l.whose.cpu l.last l.rest → IsSoundFrom (told_layout l.metadata) l.whose.uuid l.whose.cpu 0 l.bytes;
 }
 
 abbrev pub decreases-loop-rest : goal.decreases-loop-rest

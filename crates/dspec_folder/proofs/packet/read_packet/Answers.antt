@@ -3,7 +3,7 @@ use Rattle.std.specs.Prelude.{option_and_then}
 use Rattle.dspec_ctf_reading.specs.Reading.{Layout, Part, FrontRead, EventRead, PacketRead, with_events}
 use Rattle.dspec_ctf_reading.specs.Fronts.{PacketSplit, front_of, split_packet}
 use Rattle.dspec_ctf_reading.proofs.Shorter.{packet-split}
-use Rattle.dspec_ctf_reader.specs.Told.{layout_of, packet_told}
+use Rattle.dspec_ctf_reader.specs.Told.{told_layout, told_packet}
 use Rattle.dspec_folder.proofs.Splitting.{left, shorter}
 use Rattle.dspec_folder.proofs.packet.read_packet.Goals as goal
 
@@ -20,9 +20,9 @@ of_split layout split = option_and_then (λ s. beside s.behind (with_events layo
 
 pub returns-in-Ok-read_events-clause-read : goal.returns-in-Ok-read_events-clause-read
 returns-in-Ok-read_events-clause-read c =
-    let layout : Layout = layout_of c.args.metadata.now in
+    let layout : Layout = told_layout c.args.metadata.now in
     let timed : layout.timed ≡ c.is_some.result = search rules in
-    let split : split_packet layout.timed c.args.bytes.now ≡ Some (packet_told c.in-Ok.packet) = ap (λ t. split_packet t c.args.bytes.now) timed ∙ c.in-Ok.ensures.read in
+    let split : split_packet layout.timed c.args.bytes.now ≡ Some (told_packet c.in-Ok.packet) = ap (λ t. split_packet t c.args.bytes.now) timed ∙ c.in-Ok.ensures.read in
     packet-split layout c.args.bytes.now ∙ ap (of_split layout) split
     ∙ ap (λ events. beside c.in-Ok.packet.behind.now (whole (front_of c.in-Ok.packet.front) events)) c.in-Ok-read_events.ensures.read
 

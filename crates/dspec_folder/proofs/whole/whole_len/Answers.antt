@@ -1,4 +1,4 @@
-use Rattle.std.proofs.Common.{◌≡◌, ap, sym, subst, ◌∙◌}
+use Rattle.std.proofs.Common.{ap, sym, subst, ◌∙◌}
 use Rattle.dspec_ctf_reading.specs.Fronts.{split_packet as packet_split}
 use Rattle.dspec_folder.specs.Whole.{AreWholeBefore}
 use Rattle.dspec_folder.proofs.Splitting.{left, shorter, tail-on, tail-dropped, whole-more}
