@@ -41,7 +41,7 @@ impl Seen {
 struct Flaky<'a> {
     seen: &'a Seen,
     refused: u64,
-    place: usize,
+    place: u8,
 }
 
 /// The number of eight bytes from a place on; 0 where there are none.
@@ -64,11 +64,12 @@ impl<'a> Folder for Flaky<'a> {
             return Err(FolderFault::Write(FULL));
         }
         // Two packets without events stand in one write where they tell what was missed.
-        let silent = self.place + 12;
+        let place = usize::from(self.place);
+        let silent = place + 12;
         let place = if bytes.len() == 2 * silent {
-            silent + self.place
+            silent + place
         } else {
-            self.place
+            place
         };
         let missed = number_at(bytes, place);
         self.seen.missed.store(missed, Ordering::SeqCst);
