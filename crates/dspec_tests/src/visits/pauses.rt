@@ -8,7 +8,7 @@ use std::thread;
 use std::thread::Threads;
 
 /// How often the work looks for a pause before it gives up.
-const MOST_LOOKS: u32 = 10_000_000;
+const MOST_LOOKS: u32 = 100_000_000;
 
 /// Counts the pauses.
 #[derive(Drop)]
