@@ -25,7 +25,7 @@ append_nil (x ∷ xs) = ap (λ ys. x ∷ ys) (append_nil xs)
 -- parts up to a text that ends them, of so many at most
 module _ {X A : Type 0} (f : X → A) (end : List ℕ) (one : List ℕ → Part A) (many : ℕ → List ℕ → Part (List A))
     (some : (m : ℕ) (bytes : List ℕ) → many (suc m) bytes
-        ≡ past_or (rest_past end bytes) (λ rest. Some ([], rest)) (then_read (one bytes) (λ x rest. option_map (λ p. (x ∷ p.0, p.1)) (many m rest)))) where
+    ≡ past_or (rest_past end bytes) (λ rest. Some ([], rest)) (then_read (one bytes) (λ x rest. option_map (λ p. (x ∷ p.0, p.1)) (many m rest)))) where
   less : (n i : ℕ) → i < n → n - i ≡ suc (n - (i + 1))
   less n i below = omega (arith, below)
 

@@ -13,7 +13,8 @@ use std::alloc::Global;
 
 /// A field's line, and the bytes behind it.
 fn field<'t>(alloc: Global, bytes: &'t [u8]) -> Result<(FieldText<'t>, &'t [u8]), Stop>
-    ensures { Gives result (λ p. (told_field p.0, p.1.now)) (read_field bytes.now) } {
+    ensures { Gives result (λ p. (told_field p.0, p.1.now)) (read_field bytes.now) }
+{
     let rest = past_text(bytes, "\t\t")?;
     let (told, rest) = field_type(alloc, rest)?;
     let rest = past_text(rest, " ")?;
@@ -32,7 +33,8 @@ fn field<'t>(alloc: Global, bytes: &'t [u8]) -> Result<(FieldText<'t>, &'t [u8])
 
 /// Fields up to the end of their event, and the bytes behind it.
 fn fields<'t>(alloc: Global, bytes: &'t [u8]) -> Result<(Vec<FieldText<'t>>, &'t [u8]), Stop>
-    ensures { Gives result (λ p. (map told_field p.0.items, p.1.now)) (read_fields (length bytes.now) bytes.now) } {
+    ensures { Gives result (λ p. (map told_field p.0.items, p.1.now)) (read_fields (length bytes.now) bytes.now) }
+{
     let mut found = Vec::new(alloc);
     let mut rest = bytes;
     for _ in 0..bytes.len() {
@@ -64,7 +66,8 @@ fn event<'t>(alloc: Global, bytes: &'t [u8]) -> Result<(EventText<'t>, &'t [u8])
 
 /// Events up to the end of the text.
 pub(crate) fn events<'t>(alloc: Global, bytes: &'t [u8]) -> Result<Vec<EventText<'t>>, Stop>
-    ensures { Gives result (λ events. map told_event events.items) (read_event_texts (length bytes.now) bytes.now) } {
+    ensures { Gives result (λ events. map told_event events.items) (read_event_texts (length bytes.now) bytes.now) }
+{
     let mut found = Vec::new(alloc);
     let mut rest = bytes;
     for _ in 0..bytes.len() {

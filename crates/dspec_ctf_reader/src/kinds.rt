@@ -16,7 +16,8 @@ use std::alloc::Global;
 
 /// The type of numbers with this text, and the bytes behind it.
 fn unsigned(bytes: &[u8]) -> Option<(Field, &[u8])>
-    ensures { option_map (λ p. (bytes_of p.0, p.1.now)) result ≡ read_type_of (take 4 whole_types) bytes.now } {
+    ensures { option_map (λ p. (bytes_of p.0, p.1.now)) result ≡ read_type_of (take 4 whole_types) bytes.now }
+{
     if let Some(rest) = behind(bytes, "uint8_t") {
         return Some((Field::One, rest));
     }
@@ -32,7 +33,8 @@ fn unsigned(bytes: &[u8]) -> Option<(Field, &[u8])>
 
 /// The same of numbers with a sign.
 fn signed(bytes: &[u8]) -> Option<(Field, &[u8])>
-    ensures { option_map (λ p. (bytes_of p.0, p.1.now)) result ≡ read_type_of (drop 4 whole_types) bytes.now } {
+    ensures { option_map (λ p. (bytes_of p.0, p.1.now)) result ≡ read_type_of (drop 4 whole_types) bytes.now }
+{
     if let Some(rest) = behind(bytes, "integer { size = 8; align = 8; signed = true; }") {
         return Some((Field::One, rest));
     }
@@ -48,7 +50,8 @@ fn signed(bytes: &[u8]) -> Option<(Field, &[u8])>
 
 /// The same of floats.
 fn float(bytes: &[u8]) -> Option<(Field, &[u8])>
-    ensures { option_map (λ p. (bytes_of p.0, p.1.now)) result ≡ read_type_of float_types bytes.now } {
+    ensures { option_map (λ p. (bytes_of p.0, p.1.now)) result ≡ read_type_of float_types bytes.now }
+{
     if let Some(rest) = behind(
         bytes,
         "floating_point { exp_dig = 8; mant_dig = 24; align = 8; }",
@@ -64,7 +67,8 @@ fn float(bytes: &[u8]) -> Option<(Field, &[u8])>
 
 /// A type of whole numbers: how wide they are and what they mean, and the bytes behind it.
 fn whole(bytes: &[u8]) -> Option<(Field, Kind, &[u8])>
-    ensures { option_map (λ p. (bytes_of p.0, p.2.now)) result ≡ read_type_of whole_types bytes.now } {
+    ensures { option_map (λ p. (bytes_of p.0, p.2.now)) result ≡ read_type_of whole_types bytes.now }
+{
     if let Some((width, rest)) = unsigned(bytes) {
         return Some((width, Kind::Unsigned, rest));
     }
@@ -74,7 +78,8 @@ fn whole(bytes: &[u8]) -> Option<(Field, Kind, &[u8])>
 
 /// A type of numbers.
 fn number(bytes: &[u8]) -> Option<(Field, Kind, &[u8])>
-    ensures { option_map (λ p. (bytes_of p.0, p.2.now)) result ≡ read_type_of (whole_types ++ float_types) bytes.now } {
+    ensures { option_map (λ p. (bytes_of p.0, p.2.now)) result ≡ read_type_of (whole_types ++ float_types) bytes.now }
+{
     if let Some(part) = whole(bytes) {
         return Some(part);
     }
@@ -92,7 +97,8 @@ fn no_type(bytes: &[u8]) -> Stop {
 
 /// A label, and the bytes behind it.
 fn label(bytes: &[u8]) -> Result<(Label<'_>, &[u8]), Stop>
-    ensures { Gives result (λ p. (told_label p.0, p.1.now)) (read_label bytes.now) } {
+    ensures { Gives result (λ p. (told_label p.0, p.1.now)) (read_label bytes.now) }
+{
     let rest = past_text(bytes, "\"")?;
     let (text, rest) = quoted(rest)?;
     let rest = past_text(rest, "\" = ")?;
@@ -103,7 +109,8 @@ fn label(bytes: &[u8]) -> Result<(Label<'_>, &[u8]), Stop>
 
 /// Labels up to the brace behind them, and the bytes behind it.
 fn labels<'t>(alloc: Global, bytes: &'t [u8]) -> Result<(Vec<Label<'t>>, &'t [u8]), Stop>
-    ensures { Gives result (λ p. (map told_label p.0.items, p.1.now)) (read_labels (length bytes.now) bytes.now) } {
+    ensures { Gives result (λ p. (map told_label p.0.items, p.1.now)) (read_labels (length bytes.now) bytes.now) }
+{
     let mut found = Vec::new(alloc);
     let mut rest = bytes;
     for _ in 0..bytes.len() {
@@ -133,7 +140,8 @@ pub(crate) struct Numbers<'t> {
 
 /// An enumeration, from the type of its numbers on, and the bytes behind it.
 fn enumeration<'t>(alloc: Global, bytes: &'t [u8]) -> Result<(Numbers<'t>, &'t [u8]), Stop>
-    ensures { Gives result (λ p. (bytes_of p.0.width, p.1.now)) (read_enumeration bytes.now) } {
+    ensures { Gives result (λ p. (bytes_of p.0.width, p.1.now)) (read_enumeration bytes.now) }
+{
     let Some((width, kind, rest)) = whole(bytes) else {
         return Err(no_type(bytes));
     };
@@ -154,7 +162,8 @@ pub(crate) fn field_type<'t>(
     alloc: Global,
     bytes: &'t [u8],
 ) -> Result<(Numbers<'t>, &'t [u8]), Stop>
-    ensures { Gives result (λ p. (bytes_of p.0.width, p.1.now)) (read_type bytes.now) } {
+    ensures { Gives result (λ p. (bytes_of p.0.width, p.1.now)) (read_type bytes.now) }
+{
     if let Some(rest) = behind(bytes, "enum : ") {
         return enumeration(alloc, rest);
     }

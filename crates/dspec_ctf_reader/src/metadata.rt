@@ -15,7 +15,8 @@ use std::alloc::Global;
 
 /// What the text tells, or where reading it stopped.
 fn read<'t>(alloc: Global, text: &'t [u8]) -> Result<Metadata<'t>, Stop>
-    ensures { Gives result told_layout (metadata_read text.now) } {
+    ensures { Gives result told_layout (metadata_read text.now) }
+{
     let (uuid, rest) = trace(text)?;
     let (process, rest) = process(rest)?;
     let rest = past_text(rest, "\ttracer_name = \"sidingyarrow\";\n};\n")?;
@@ -44,7 +45,8 @@ fn line_of(text: &[u8], left: usize) -> u64 {
 /// What a trace's metadata tells.
 pub fn read_metadata<'t>(alloc: Global, text: &'t [u8]) -> Result<Metadata<'t>, MetadataReadFault>
     ensures read { IfOk result (λ metadata. metadata_read text.now ≡ Some (told_layout metadata)) }
-    ensures fault { IfErr result (λ fault. IsTrue (is_misread fault) → metadata_read text.now ≡ None) } {
+    ensures fault { IfErr result (λ fault. IsTrue (is_misread fault) → metadata_read text.now ≡ None) }
+{
     match read(alloc, text) {
         Ok(metadata) => Ok(metadata),
         Err(Stop::Unread { left, expected }) => Err(MetadataReadFault::Line {

@@ -9,7 +9,8 @@ use crate::fault::{Expected, Stop};
 
 /// What is behind this text, where the bytes begin with it.
 pub(crate) fn behind<'t>(bytes: &'t [u8], text: &str) -> Option<&'t [u8]>
-    ensures { option_map (λ rest. rest.now) result ≡ rest_past text.now bytes.now } {
+    ensures { option_map (λ rest. rest.now) result ≡ rest_past text.now bytes.now }
+{
     bytes.strip_prefix(text.as_bytes())
 }
 
@@ -29,7 +30,8 @@ pub(crate) fn past<'t>(
     text: &'static str,
     expected: Expected,
 ) -> Result<&'t [u8], Stop>
-    ensures { Gives result (λ rest. rest.now) (rest_past text.now bytes.now) } {
+    ensures { Gives result (λ rest. rest.now) (rest_past text.now bytes.now) }
+{
     match behind(bytes, text) {
         Some(rest) => Ok(rest),
         None => Err(Stop::Unread {
@@ -41,7 +43,8 @@ pub(crate) fn past<'t>(
 
 /// What is behind a short text, with which the bytes have to begin.
 pub(crate) fn past_text<'t>(bytes: &'t [u8], text: &'static str) -> Result<&'t [u8], Stop>
-    ensures { Gives result (λ rest. rest.now) (rest_past text.now bytes.now) } {
+    ensures { Gives result (λ rest. rest.now) (rest_past text.now bytes.now) }
+{
     past(bytes, text, Expected::Text(text))
 }
 
@@ -60,7 +63,8 @@ impl Set {
     /// Whether the byte is of the set.
     #[tactic(auto, unfolding(dspec_ctf_reading::specs::ReadingMetadata::is_digit, dspec_ctf_reading::specs::ReadingMetadata::is_word, dspec_ctf_reading::specs::ReadingMetadata::is_quoted))]
     fn has(self, byte: u8) -> bool
-        ensures { result ≡ test_of self byte } {
+        ensures { result ≡ test_of self byte }
+    {
         match self {
             Set::Digits => byte.is_ascii_digit(),
             Set::Word => byte.is_ascii_alphanumeric() || byte == b'_',
@@ -72,7 +76,8 @@ impl Set {
 /// How many bytes of the set the bytes begin with.
 fn run_len(set: Set, bytes: &[u8]) -> usize
     ensures parts { run_of (test_of set) bytes.now ≡ (take result bytes.now, drop result bytes.now) }
-    ensures within { result ≤ length bytes.now } {
+    ensures within { result ≤ length bytes.now }
+{
     for (place, byte) in bytes.iter().enumerate() {
         if !set.has(*byte) {
             return place;
@@ -83,7 +88,8 @@ fn run_len(set: Set, bytes: &[u8]) -> usize
 
 /// The bytes of the set with which the bytes begin, one or more, as text, and those behind them.
 pub(crate) fn run<'t>(set: Set, bytes: &'t [u8]) -> Option<(&'t str, &'t [u8])>
-    ensures { option_map (λ p. (p.0.now, p.1.now)) result ≡ read_run (test_of set) bytes.now } {
+    ensures { option_map (λ p. (p.0.now, p.1.now)) result ≡ read_run (test_of set) bytes.now }
+{
     let count = run_len(set, bytes);
     if count == 0 {
         return None;
@@ -97,7 +103,8 @@ pub(crate) fn run<'t>(set: Set, bytes: &'t [u8]) -> Option<(&'t str, &'t [u8])>
 
 /// A word, and the bytes behind it.
 pub(crate) fn word(bytes: &[u8]) -> Result<(&str, &[u8]), Stop>
-    ensures { Gives result (λ p. (p.0.now, p.1.now)) (read_word bytes.now) } {
+    ensures { Gives result (λ p. (p.0.now, p.1.now)) (read_word bytes.now) }
+{
     match run(Set::Word, bytes) {
         Some(part) => Ok(part),
         None => Err(Stop::Unread {
@@ -109,7 +116,8 @@ pub(crate) fn word(bytes: &[u8]) -> Result<(&str, &[u8]), Stop>
 
 /// A text that stands in quotes, behind the first of them, and the bytes behind it.
 pub(crate) fn quoted(bytes: &[u8]) -> Result<(&str, &[u8]), Stop>
-    ensures { Gives result (λ p. (p.0.now, p.1.now)) (read_quoted bytes.now) } {
+    ensures { Gives result (λ p. (p.0.now, p.1.now)) (read_quoted bytes.now) }
+{
     match run(Set::Quoted, bytes) {
         Some(part) => Ok(part),
         None => Err(Stop::Unread {
@@ -121,7 +129,8 @@ pub(crate) fn quoted(bytes: &[u8]) -> Result<(&str, &[u8]), Stop>
 
 /// The number with a digit more; None where it has more than 64 bits.
 fn with_digit(number: u64, digit: u8) -> Option<u64>
-    ensures { MatchOption result (2 ^ 64 ≤ 10 * number + (digit - 48)) (λ n. n ≡ 10 * number + (digit - 48)) } {
+    ensures { MatchOption result (2 ^ 64 ≤ 10 * number + (digit - 48)) (λ n. n ≡ 10 * number + (digit - 48)) }
+{
     number
         .checked_mul(10)?
         .checked_add(u64::from(digit.saturating_sub(b'0')))
@@ -129,7 +138,8 @@ fn with_digit(number: u64, digit: u8) -> Option<u64>
 
 /// The number that digits make; None where it has more than 64 bits.
 fn number_of(digits: &[u8]) -> Option<u64>
-    ensures { MatchOption result (2 ^ 64 ≤ digits_number 0 digits.now) (λ n. n ≡ digits_number 0 digits.now) } {
+    ensures { MatchOption result (2 ^ 64 ≤ digits_number 0 digits.now) (λ n. n ≡ digits_number 0 digits.now) }
+{
     let mut number = 0u64;
     for digit in digits {
         let Some(next) = with_digit(number, *digit) else {
@@ -142,7 +152,8 @@ fn number_of(digits: &[u8]) -> Option<u64>
 
 /// A number by its digits, and the bytes behind it.
 pub(crate) fn decimal(bytes: &[u8]) -> Result<(u64, &[u8]), Stop>
-    ensures { Gives result (λ p. (p.0, p.1.now)) (read_decimal bytes.now) } {
+    ensures { Gives result (λ p. (p.0, p.1.now)) (read_decimal bytes.now) }
+{
     let left = bytes.len();
     let Some((digits, rest)) = run(Set::Digits, bytes) else {
         return Err(Stop::Unread {
