@@ -13,9 +13,9 @@ use std::marker::Model;
 const MOST_CPUS: usize = 64;
 
 /// A sink that writes a trace as taken: each batch as one packet behind those before it in the file of its CPU, by one write. A batch
-/// without records of a CPU that dropped none since the last adds nothing. A batch that can't be written is counted: the next packet of its
-/// CPU that is written tells its records, and the drops that it carried, as missed. What the last batch lost is told by `last_loss`, and
-/// what was lost in all by `finish`. It takes memory for one packet at a time.
+/// without records and drops adds nothing, unless its CPU missed something that no packet tells yet. A batch that can't be written is
+/// counted: the next packet of its CPU that is written tells its records, and the drops that it carried, as missed. What the last batch lost
+/// is told by `last_loss`, and what was lost in all by `finish`. It takes memory for one packet at a time.
 #[derive(Drop)]
 pub struct TraceFolder<F: Folder> {
     alloc: Global,
