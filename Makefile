@@ -17,12 +17,12 @@ JOBS =
 # Plays one schedule, or several (SCHEDULES="a b"), at once: with the proved program where it is built, else with the trial build of the
 # same sources.
 play:
-	@sh .ci/play $(SCHEDULES)
+	@sh tools/play $(SCHEDULES)
 
 # Draws the play of a schedule as an SVG, as in make picture SCHEDULE=examples/tutorial/08-stale-exchange.schedule OUTPUT=play.svg: with
 # the proved program where it is built, else with the trial build of the same sources.
 picture:
-	@sh .ci/picture draw "$(SCHEDULE)" "$(OUTPUT)"
+	@sh tests/pictures draw "$(SCHEDULE)" "$(OUTPUT)"
 
 # A schedule is no goal, though it is a file.
 %.schedule: no_goal
@@ -35,11 +35,11 @@ check:
 # The line of crates.txt for a program that uses these crates, as in make crates-line CRATE=app CRATES="dspec dspec_probed anyhow". With
 # INTO=FOLDER, a repository of its own, it copies the crates there too, and writes their lines and this one into its crates.txt.
 crates-line:
-	@INTO="$(INTO)" .ci/crates_line "$(CRATE)" $(CRATES)
+	@INTO="$(INTO)" tools/crates_line "$(CRATE)" $(CRATES)
 
 # All that runs, by trial builds: tests, programs, the corpus, sessions. Nothing is proved by it. Some minutes on four processors.
 quick:
-	@JOBS="$(JOBS)" sh .ci/quick
+	@JOBS="$(JOBS)" sh tools/quick
 
 # Everything: all proofs from nothing, the must-fail edits, the tests, the program, and the corpus.
 test:
@@ -51,34 +51,34 @@ examples: build
 
 # The traces of examples/ctf, over the built `specview`, as babeltrace2 reads them: it has to be installed (Debian's package).
 ctf-check:
-	@sh .ci/ctf reader
+	@sh tests/traces reader
 
 # The lists of public calls, made from the sources: docs/API.md, which the gate compares, and build/docs/API-BELOW.md.
 api:
-	@sh .ci/api
+	@sh tools/api
 
 # The list of wrong bodies, build/docs/EDITS.md, made from the folders; the gate looks whether each edit fits its file.
 edits:
-	@sh .ci/edits
+	@sh tools/edits
 
 # The wrong bodies that the gate leaves out, each of which the prover must refuse; CRATES names some crates alone.
 mutants:
-	@sh .ci/mutants $(CRATES)
+	@sh tools/mutants $(CRATES)
 
 # Rows of the definitions of a play's steps and of the words' steps, turned one at a time: the law that both agree is refused.
 rows:
-	@sh .ci/rows
+	@sh tools/rows
 
 # What runs in threads, so many times each, as in make soak COUNT=5000; the gate runs it 50, 20, 20 and 20 times.
 soak: COUNT = 1000
 soak:
-	@sh .ci/threads "$(COUNT)" "$(COUNT)"
-	@sh .ci/torture "$(COUNT)" "$(SEED)"
-	@sh .ci/c race "$(COUNT)" "$(SEED)"
+	@sh tests/running-threads "$(COUNT)" "$(COUNT)"
+	@sh tests/random-threads "$(COUNT)" "$(SEED)"
+	@sh tests/c/run race "$(COUNT)" "$(SEED)"
 
 # Random schedules of whole calls, by the player and on a session; the gate plays 2,000.
 fuzz:
-	@sh .ci/fuzz "$(COUNT)" "$(SEED)"
+	@sh tests/random-schedules "$(COUNT)" "$(SEED)"
 
 # Proves what the program stands on, and builds it; where nothing has changed, it is kept. It gets the time at which the build
 # began, so that what was edited meanwhile is newer, and play doesn't take the program for proved.
@@ -100,7 +100,7 @@ bench-instructions: build-bench
 
 # A kept record beside the same record by others: C, and LTTng-UST where it is installed.
 bench-peers: build-bench
-	@sh .ci/peers
+	@sh tools/peers
 
 build-bench:
 	@command -v rt > /dev/null || { echo "make bench needs rt, the toolchain's command" >&2; exit 1; }
@@ -110,25 +110,25 @@ build-bench:
 # TRY=1 in a minute or two, unproved: to look at and to write programs against. With BITCODE=1 the proved library's bitcode too, for -flto.
 lib:
 	@if [ "$(TRY)" = 1 ]; then \
-		.ci/c_module trial build/trial/libdspec_c.a && TRY=1 DSPEC_ARCHIVE=build/trial/libdspec_c.a sh .ci/c_lib build build; \
+		tools/c_module trial build/trial/libdspec_c.a && TRY=1 DSPEC_ARCHIVE=build/trial/libdspec_c.a sh tools/c_lib build build; \
 	else \
-		sh .ci/c_lib prove && sh .ci/c_lib build build; \
+		sh tools/c_lib prove && sh tools/c_lib build build; \
 	fi
-	@[ "$(BITCODE)" != 1 ] || .ci/c_module bitcode build/lib/libdspec.bc
+	@[ "$(BITCODE)" != 1 ] || tools/c_module bitcode build/lib/libdspec.bc
 
 # The C library's tests, and those of the Rust package: over the archive that make lib builds.
 c-check: lib
-	@sh .ci/c
+	@sh tests/c/run
 
 # The archive, the headers, a pkg-config file and manual pages to PREFIX, behind DESTDIR; with SHARED=1 the shared object too, with
 # PROGRAMS=1 specplay and specview, proved; with TRY=1 an unproved archive.
 install: lib
 	@[ "$(PROGRAMS)" != 1 ] || for program in specplay specview; do (cd "crates/$$program" && rt run < /dev/null > /dev/null) || exit 1; done
-	@DESTDIR="$(DESTDIR)" SHARED="$(SHARED)" PROGRAMS="$(PROGRAMS)" sh .ci/c_lib install build "$(PREFIX)"
+	@DESTDIR="$(DESTDIR)" SHARED="$(SHARED)" PROGRAMS="$(PROGRAMS)" sh tools/c_lib install build "$(PREFIX)"
 
 uninstall:
-	@DESTDIR="$(DESTDIR)" sh .ci/c_lib uninstall "$(PREFIX)"
+	@DESTDIR="$(DESTDIR)" sh tools/c_lib uninstall "$(PREFIX)"
 
 # build/dspec-VERSION.tar.gz, which needs nothing of the kit: archive, shared object, headers, pkg-config file, Rust package, documents.
 dist: lib
-	@sh .ci/c_lib dist build
+	@sh tools/c_lib dist build

@@ -2,7 +2,7 @@
 //! streams and reports are schedules of `examples/`.
 //!
 //! What takes memory is asked once more where a growth was refused, and must then be served as if none had been. None is
-//! refused in an ordinary run; `.ci/refused-growth-player` refuses each growth of a test in turn.
+//! refused in an ordinary run; `tests/refused-growth-player` refuses each growth of a test in turn.
 use dspec_core::{
     Actor, Answer, Config, ConsumerOp, CpuOp, Decided, Deed, Op, Opening, Outcome, PlayFault,
     Policy, Report, Served, Spoken, Traced, Turn, play,

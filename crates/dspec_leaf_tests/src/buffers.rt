@@ -389,7 +389,7 @@ fn asked_again<S: Schema, B: TraceBuffer<S>>(
 }
 
 /// Where a growth is refused, `make` answers so, and serves when it is asked again. None is refused in an ordinary run;
-/// `.ci/refused-growth` refuses each of the four in turn.
+/// `tests/refused-growth` refuses each of the four in turn.
 #[test]
 fn refused_growth(rt: HostRuntime) -> Result<(), Fail> {
     let schema = four_enablings()?;

@@ -1,4 +1,4 @@
-//! Memory that is refused while a session's CPUs are made. `.ci/refused-growth` refuses one growth after another; in an ordinary run
+//! Memory that is refused while a session's CPUs are made. `tests/refused-growth` refuses one growth after another; in an ordinary run
 //! none is.
 use crate::tests::playing::{call, same, session};
 use dspec_deeds::{Answer, Config, CpuOp, Policy, StartFault, Traced};

@@ -1,4 +1,4 @@
-//! Memory that is refused while a session is started, or its consumer is made. `.ci/refused-growth-player` refuses one growth after
+//! Memory that is refused while a session is started, or its consumer is made. `tests/refused-growth-player` refuses one growth after
 //! another in each of these tests; in an ordinary run none is refused.
 use super::switching::switched;
 use super::*;

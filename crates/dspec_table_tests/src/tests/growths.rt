@@ -1,4 +1,4 @@
-//! Memory that is refused while a session starts. The gate refuses one growth after another (`.ci/refused-growth`).
+//! Memory that is refused while a session starts. The gate refuses one growth after another (`tests/refused-growth`).
 use super::*;
 
 /// As many CPUs and slots as a session has at the most.

@@ -1,5 +1,5 @@
 //! The consumer pauses between its rounds as the sink says, and lets another thread run where the sink says nothing. Whether it does no
-//! test can see by itself: `.ci/threads` counts the calls of the system by which a thread lets others run.
+//! test can see by itself: `tests/running-threads` counts the calls of the system by which a thread lets others run.
 use dspec::{Batch, Both, Config, Enablings, Field, Lane, Sink, Work, trace};
 use std::alloc::Global;
 use std::sync::atomic::{AtomicU64, Ordering};

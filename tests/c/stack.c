@@ -1,0 +1,190 @@
+/* How much stack the calls take, as it is measured over this archive: each is made in a thread of its own, on a stack that was filled
+ * before; what was written over since is counted, with what the thread itself takes. A start and an end have to get by with
+ * 64 KiB, however many CPUs there are, and each other call with 32. `c_stack CPUS ..` measures sessions of so many. */
+#define _GNU_SOURCE
+#include "check.h"
+
+#include <pthread.h>
+#include <sys/mman.h>
+
+enum { STACK = 8 << 20, FILLED = 0xa5, MOST = 64 << 10, MOST_OF_OTHERS = 32 << 10 };
+
+/* What the measure stands on. */
+static void must(dspec_status status, const char *call) {
+    if (status == DSPEC_OK) return;
+    printf("%s: %s\n", call, dspec_status_text(status));
+    exit(2);
+}
+
+#define HAS_TO(call) must((call), #call)
+
+/* All that the calls are made on. */
+static check_all all;
+static dspec_cpu cpus[DSPEC_MAX_CPUS];
+static dspec_session session;
+static dspec_consumer consumer;
+static dspec_closed closed;
+static dspec_config config = {
+    .nspec = DSPEC_MAX_NSPEC, .bufsize = 4096, .specsize = 256, .max_issues = DSPEC_MAX_ISSUES, .max_calls = DSPEC_MAX_CALLS,
+};
+static uint64_t id;
+
+static void schema_new(void) { HAS_TO(dspec_schema_new(&all.schema)); }
+
+static void schema_enable(void) {
+    uint32_t epid;
+    for (uint32_t i = 0; i < DSPEC_MAX_ENABLINGS; i++) HAS_TO(dspec_schema_enable(&all.schema, (const uint8_t[]){ 8, 8, 8, 8, 8, 8, 8, 8 }, 8, &epid));
+}
+
+static void start(void) { HAS_TO(dspec_start(&config, &all.schema, &session)); }
+
+static void cpu_of(void) {
+    for (uint32_t c = 0; c < config.cpus; c++) HAS_TO(dspec_cpu_of(&session, c, &cpus[c]));
+}
+
+static void consumer_of(void) { HAS_TO(dspec_consumer_of(&session, &consumer)); }
+
+static const uint64_t values[8] = { 1, 2, 3, 4, 5, 6, 7, 8 };
+
+static void trace(void) { HAS_TO(dspec_trace(&cpus[0], 1, 0, values, 8)); }
+
+static void speculation(void) { HAS_TO(dspec_speculation(&cpus[0], &id)); }
+
+static void speculate(void) { HAS_TO(dspec_speculate(&cpus[0], id, 1, 0, values, 8)); }
+
+static void commit(void) {
+    uint32_t count;
+    HAS_TO(dspec_commit(&cpus[0], id, &count));
+}
+
+static void ask(void) { HAS_TO(dspec_ask(&consumer, 0)); }
+
+static void service(void) {
+    bool sealed;
+    uint32_t settled;
+    HAS_TO(dspec_service(&cpus[0], &sealed, &settled));
+}
+
+static void take(void) {
+    dspec_batch batch;
+    HAS_TO(dspec_take(&consumer, 0, &batch));
+}
+
+static void give_back(void) { HAS_TO(dspec_give_back(&consumer, 0)); }
+
+static void clean(void) {
+    uint32_t released;
+    HAS_TO(dspec_clean(&consumer, &released));
+}
+
+static void cpu_report(void) {
+    dspec_report report;
+    HAS_TO(dspec_cpu_report(&cpus[0], &report));
+}
+
+static void cpu_home(void) {
+    for (uint32_t c = 0; c < config.cpus; c++) HAS_TO(dspec_cpu_home(&cpus[c]));
+}
+
+static void waiting_for(void) {
+    uint32_t count;
+    HAS_TO(dspec_waiting_for(&consumer, 0, &count));
+}
+
+static void tend(void) {
+    uint64_t settled;
+    HAS_TO(dspec_tend(&session, &settled));
+}
+
+static void consumer_home(void) { HAS_TO(dspec_consumer_home(&consumer)); }
+
+static void finish(void) { HAS_TO(dspec_finish(&session, &closed)); }
+
+/* Of another session, all of which is out. */
+static void close_all(void) {
+    dspec_cpu *out[DSPEC_MAX_CPUS];
+    for (uint32_t c = 0; c < config.cpus; c++) out[c] = &cpus[c];
+    HAS_TO(dspec_close(&session, out, config.cpus, &consumer, &closed));
+}
+
+static void rest(void) {
+    dspec_batch batch;
+    HAS_TO(dspec_rest(&closed, 0, true, &batch));
+}
+
+static void closed_report(void) {
+    dspec_report report;
+    HAS_TO(dspec_closed_report(&closed, 0, &report));
+}
+
+static void closed_drop(void) { dspec_closed_drop(&closed); }
+
+static void schema_drop(void) { dspec_schema_drop(&all.schema); }
+
+/* In this order they are the calls of one session. */
+static const struct step {
+    const char *name;
+    void (*make)(void);
+    size_t most; /* 0: it is only told */
+} steps[] = {
+    { "dspec_schema_new", schema_new, MOST_OF_OTHERS },   { "dspec_schema_enable", schema_enable, MOST_OF_OTHERS },
+    { "dspec_start", start, MOST },               { "dspec_cpu_of", cpu_of, MOST_OF_OTHERS },
+    { "dspec_consumer_of", consumer_of, MOST_OF_OTHERS }, { "dspec_trace", trace, MOST_OF_OTHERS },
+    { "dspec_speculation", speculation, MOST_OF_OTHERS }, { "dspec_speculate", speculate, MOST_OF_OTHERS },
+    { "dspec_commit", commit, MOST_OF_OTHERS },           { "dspec_ask", ask, MOST_OF_OTHERS },
+    { "dspec_service", service, MOST_OF_OTHERS },         { "dspec_take", take, MOST_OF_OTHERS },
+    { "dspec_give_back", give_back, MOST_OF_OTHERS },     { "dspec_clean", clean, MOST_OF_OTHERS },
+    { "dspec_waiting_for", waiting_for, MOST_OF_OTHERS },
+    { "dspec_cpu_report", cpu_report, MOST_OF_OTHERS },   { "dspec_cpu_home", cpu_home, MOST_OF_OTHERS },
+    { "dspec_tend", tend, MOST_OF_OTHERS },               { "dspec_consumer_home", consumer_home, MOST_OF_OTHERS },
+    { "dspec_finish", finish, MOST },
+    { "dspec_rest", rest, MOST_OF_OTHERS },               { "dspec_closed_report", closed_report, MOST_OF_OTHERS },
+    { "dspec_closed_drop", closed_drop, MOST_OF_OTHERS }, { "dspec_start", start, MOST },
+    { "dspec_cpu_of", cpu_of, MOST_OF_OTHERS },           { "dspec_consumer_of", consumer_of, MOST_OF_OTHERS },
+    { "dspec_close", close_all, MOST },                   { "dspec_closed_drop", closed_drop, MOST_OF_OTHERS },
+    { "dspec_schema_drop", schema_drop, MOST_OF_OTHERS },
+};
+
+static void *makes(void *step) {
+    ((const struct step *)step)->make();
+    return NULL;
+}
+
+static void *nothing(void *step) { return step; }
+
+static void must_be(bool is_so, const char *what) {
+    if (is_so) return;
+    perror(what);
+    exit(2);
+}
+
+/* The bytes of the stack of a thread that runs this which were written over. */
+static size_t stack_of(void *(*run)(void *), const struct step *step) {
+    pthread_attr_t attributes;
+    pthread_t thread;
+    unsigned char *stack = mmap(NULL, STACK, PROT_READ | PROT_WRITE, MAP_PRIVATE | MAP_ANONYMOUS, -1, 0);
+    must_be(stack != MAP_FAILED, "mmap");
+    memset(stack, FILLED, STACK);
+    must_be(pthread_attr_init(&attributes) == 0 && pthread_attr_setstack(&attributes, stack, STACK) == 0, "a thread's attributes");
+    must_be(pthread_create(&thread, &attributes, run, (void *)step) == 0 && pthread_join(thread, NULL) == 0, "a thread");
+    pthread_attr_destroy(&attributes);
+    size_t kept = 0;
+    while (kept < STACK && stack[kept] == FILLED) kept++;
+    munmap(stack, STACK);
+    return STACK - kept;
+}
+
+static void measure(uint32_t count) {
+    config.cpus = count;
+    for (size_t i = 0; i < sizeof steps / sizeof *steps; i++) {
+        size_t taken = stack_of(makes, &steps[i]);
+        printf("%u CPUs: %s: %zu bytes\n", count, steps[i].name, taken);
+        if (steps[i].most > 0) check_counts(taken <= steps[i].most, steps[i].name, __LINE__);
+    }
+}
+
+int main(int argc, char **argv) {
+    printf("a thread alone: %zu bytes\n", stack_of(nothing, &steps[0]));
+    for (int i = 1; i < argc; i++) measure((uint32_t)strtoul(argv[i], NULL, 10));
+    return check_end();
+}
