@@ -6,6 +6,8 @@
 #[cfg(test)]
 mod disk;
 #[cfg(test)]
+mod endings;
+#[cfg(test)]
 mod folders;
 #[cfg(test)]
 mod handing;

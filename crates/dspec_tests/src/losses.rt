@@ -12,14 +12,14 @@ const FULL: i32 = 28;
 
 /// How many writes were asked for, and how many missed events the last packet tells that was taken.
 #[derive(Drop)]
-struct Seen {
+pub(crate) struct Seen {
     writes: AtomicU64,
     missed: AtomicU64,
 }
 
 impl Seen {
     /// No writes yet.
-    fn new() -> Seen {
+    pub(crate) fn new() -> Seen {
         Seen {
             writes: AtomicU64::new(0),
             missed: AtomicU64::new(0),
@@ -27,7 +27,7 @@ impl Seen {
     }
 
     /// How many writes were asked for, and how many missed events were told last.
-    fn told(&self) -> (u64, u64) {
+    pub(crate) fn told(&self) -> (u64, u64) {
         (
             self.writes.load(Ordering::SeqCst),
             self.missed.load(Ordering::SeqCst),
@@ -38,10 +38,10 @@ impl Seen {
 /// A folder that refuses the writes whose bits are set, the first of which is bit 0. Of what it takes it reads how many missed events the last
 /// packet tells: a number of eight bytes at this place of the packet.
 #[derive(Drop)]
-struct Flaky<'a> {
-    seen: &'a Seen,
-    refused: u64,
-    place: u8,
+pub(crate) struct Flaky<'a> {
+    pub seen: &'a Seen,
+    pub refused: u64,
+    pub place: u8,
 }
 
 /// The number of eight bytes from a place on; 0 where there are none.

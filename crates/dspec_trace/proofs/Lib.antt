@@ -2,6 +2,7 @@ mod Accounting
 mod Batching
 mod Counting
 mod Cutting
+mod OneMore
 mod Following
 mod Handing
 mod Timely

@@ -11,12 +11,14 @@
 //! | `tracing.rt`, `fault.rt` | `TraceFolder`, the sink: metadata first, then a packet a batch, one write each; what a refused write loses is counted, and the next batch is tried |
 //! | `losing.rt`, `telling.rt`, `laws.rt` | `Loss` and `Lossy`, which tell what wasn't written; `Telling`, a sink whose losses are printed while it runs; the law that nothing is lost uncounted |
 //! | `timed.rt` | `TimedFolder`, the sink by time: several files for each CPU, a packet for each run of a batch's records |
+//! | `ending.rt` | `tell_untold`: what reports count as lost beyond what batches told (`specs/Ending`, `proofs/OneMore`) |
 //! | `identity.rt` | `Identity`: a uuid of the system's random bytes, the machine's name, the process's number |
 //! | `specs/`: Writes, Writing, Timed, Faults, Held | a write and its answer; what a call adds or loses; the same by time; which faults a place has; what a file has behind a write |
 //! | `specs/`: Losses, Accounts | what is kept of losses; that records in packets and what is counted add up |
 //! | `proofs/` | Handing (a packet is handed to the place), Following (runs behind one another), Cutting (bytes behind others, cut off again), Batching, Counting, Timely and Accounting (what a batch adds, counts and loses) |
 #![tactic(auto)]
 
+mod ending;
 mod fault;
 mod folder;
 mod held;
@@ -32,6 +34,7 @@ pub use dspec_ctf::{
     ClockStart, Form, Kind, Names, Origin, ProbeNames, Process, Stream, first_refused, metadata,
     metadata_from,
 };
+pub use ending::tell_untold;
 pub use fault::FolderFault;
 pub use folder::Folder;
 pub use identity::Identity;

@@ -10,7 +10,7 @@ use anyhow::{Result, bail};
 use dspec::{Both, Config, closed_cpus, trace_workers};
 use dspec_clock::SystemClock;
 use dspec_probed::Probes;
-use dspec_trace::{Identity, Names, SystemFolder, Telling, TraceFolder};
+use dspec_trace::{Identity, Names, SystemFolder, Telling, TraceFolder, tell_untold};
 use live::Live;
 use probes::StoreProbes;
 use serving::Server;
@@ -55,7 +55,8 @@ fn main(rt: HostRuntime) -> Result<()> {
     }
     let (config, sink) = (Config::of(3, 4, 65536, 512), Both { first, second });
     let (closed, workers, sink) = trace_workers(&rt, alloc, &config, schema, workers, sink)?;
-    let Both { first, second } = sink;
+    let Both { mut first, second } = sink;
+    tell_untold(alloc, &schema, &closed, &mut first)?;
     if let Some(folder) = first {
         folder.sink.finish()?;
     }

@@ -24,6 +24,7 @@ use board::Board;
 use dspec::{Both, Closed, Config, Kept, Rec, closed_cpus, trace};
 use dspec_command::{ended, output_fault, print_text, words_of};
 use dspec_probed::Probes;
+use dspec_trace::tell_untold;
 use fault::StoreFault;
 use folder::{finish, trace_asked};
 use probes::StoreProbes;
@@ -60,7 +61,8 @@ fn transfers<'a, R: Threads + Sync>(
     let schema = declared.enablings();
     let config = Config::of(WORKERS, 16, 16384, 512);
     let (closed, sink) = trace(threads, rt.alloc(), &config, schema, &server, sink)?;
-    let Both { first, second } = sink;
+    let Both { first, mut second } = sink;
+    tell_untold(rt.alloc(), &schema, &closed, &mut second)?;
     finish(name, second)?;
     let mut records = first.records()?;
     records.sort_by_key(|rec: &Rec| rec.stamp())?;

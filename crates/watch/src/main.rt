@@ -23,7 +23,7 @@ use arguments::{Ask, WatchAsk, ask_of};
 use dspec::{Both, Config, Kept, closed_cpus, trace};
 use dspec_command::{ended, output_fault, print_text, words_of};
 use dspec_probed::Probes;
-use dspec_trace::{FolderFault, Identity, Names, SystemFolder, Telling, TraceFolder};
+use dspec_trace::{FolderFault, Identity, Names, SystemFolder, Telling, TraceFolder, tell_untold};
 use fault::WatchFault;
 use paths::{compare, tell};
 use probes::ServerProbes;
@@ -100,7 +100,8 @@ fn watch<'a, R: Threads + Sync>(
     let server = Server { seed, probes };
     let schema = declared.enablings();
     let (closed, sink) = trace(threads, rt.alloc(), &config, schema, &server, sink)?;
-    let Both { first, second } = sink;
+    let Both { first, mut second } = sink;
+    tell_untold(rt.alloc(), &schema, &closed, &mut second)?;
     finish(ask.folder, second)?;
     let seen = first.records()?;
     for cpu in closed_cpus(&closed) {
