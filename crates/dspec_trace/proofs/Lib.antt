@@ -5,3 +5,6 @@ mod Cutting
 mod Following
 mod Handing
 mod Timely
+mod Tying
+mod Walks
+mod Written

@@ -1,4 +1,6 @@
 pub mod Accounts
+pub mod Answered
+pub mod Asked
 pub mod Faults
 pub mod Held
 pub mod Losses
