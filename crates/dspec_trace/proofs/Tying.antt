@@ -1,9 +1,9 @@
 -- What a folder's files have, and what it was asked for, where a write is added.
-use Rattle.std.proofs.Common.{◌≡◌, ◌≢◌, ℕ, ◌<◌, List, [], ◌∷◌, ◌++◌, ap, sym, refl, subst, ◌∙◌, set, get_or, slice_get, All, Some, None, Ok, Err, Option, Result, true, false, OnOk, IfErr}
+use Rattle.std.proofs.Common.{◌≡◌, ◌≢◌, ℕ, List, [], ◌∷◌, ◌++◌, ap, sym, subst, ◌∙◌, set, get_or, slice_get, All, Some, None, Ok, Err, Option, Result, true, false, OnOk, IfErr}
 use Rattle.std.specs.Result.{result_err}
 use Rattle.std.specs.Io.KnownBytes.{Appends}
 use Rattle.std.proofs.Math.Logic.{∥∥₁_elim, ∥∥₁_prop}
-use Rattle.std.proofs.lemmas.Option.{slice_get_within, get_or_from_slice_get}
+use Rattle.std.proofs.lemmas.Option.{get_or_from_slice_get}
 use Rattle.dspec_trace.specs.Writes.{FileWrite}
 use Rattle.dspec_trace.specs.Held.{FilesHave, HaveBesides, Held, IsFileAt, LeavesFile}
 use Rattle.dspec_trace.specs.declared.fault.FolderFault.{FolderFault}

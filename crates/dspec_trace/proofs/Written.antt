@@ -1,5 +1,5 @@
 -- Files that are held have what was written to them.
-use Rattle.std.proofs.Common.{◌≡◌, ◌≢◌, ℕ, zero, suc, ◌⊎◌, inl, inr, ⊎_elim, ◌<◌, List, [], ◌∷◌, ◌++◌, ap, sym, refl, subst, ◌∙◌, append_assoc, arith, slice_get, slice_set, length, All, Some, None, Option, true, false, Bool, ◌&&◌, if◌then◌else◌, bytes_eq, is_none, Decides}
+use Rattle.std.proofs.Common.{◌≡◌, ◌≢◌, ℕ, zero, suc, ◌⊎◌, inl, inr, ⊎_elim, List, [], ◌∷◌, ◌++◌, ap, sym, refl, subst, ◌∙◌, append_assoc, arith, slice_get, slice_set, length, All, Some, None, Option, true, false, Bool, ◌&&◌, if◌then◌else◌, bytes_eq, is_none, Decides}
 use Rattle.std.specs.Io.KnownBytes.{Appends, Keeps}
 use Rattle.std.proofs.lemmas.List.{append-nil}
 use Rattle.std.proofs.lemmas.Grind.{flat_map-append}
@@ -61,10 +61,10 @@ is_not false d refutes = refl
 is_so : {P : Type 0} (r : Bool) → Decides r P → P → r ≡ true
 is_so r d p = d.1 p
 
-brought_elsewhere : (name : List ℕ) (w : FileWrite) → w.name ≢ name → brought_to name w ≡ []
+pub brought_elsewhere : (name : List ℕ) (w : FileWrite) → w.name ≢ name → brought_to name w ≡ []
 brought_elsewhere name w apart = neither (is_none w.refused) (bytes_eq w.name name) w.bytes (is_not (bytes_eq w.name name) (bytes_eq-Decides w.name name) apart)
 
-brought_whole : (name other bytes : List ℕ) → name ≡ other → brought_to other (record { name = name; bytes = bytes; refused = None }) ≡ bytes
+pub brought_whole : (name other bytes : List ℕ) → name ≡ other → brought_to other (record { name = name; bytes = bytes; refused = None }) ≡ bytes
 brought_whole name other bytes e = both (bytes_eq name other) bytes (is_so (bytes_eq name other) (bytes_eq-Decides name other) e)
 
 pub file_of_more : (name : List ℕ) (writes : List FileWrite) (w : FileWrite) → file_of name (writes ++ w ∷ []) ≡ file_of name writes ++ brought_to name w
