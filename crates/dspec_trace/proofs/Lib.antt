@@ -6,3 +6,6 @@ mod OneMore
 mod Following
 mod Handing
 mod Timely
+mod Tying
+mod Walks
+mod Written

@@ -1,4 +1,6 @@
 pub mod Accounts
+pub mod Answered
+pub mod Asked
 pub mod Ending
 pub mod Faults
 pub mod Held

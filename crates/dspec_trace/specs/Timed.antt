@@ -32,8 +32,9 @@ pub record TimedTracing : Type 0 where
   pub lost : Option Loss
   pub last : Option Loss
 
--- the metadata of a clock of so many ticks a second was written, and no packet yet
+-- the metadata of a clock of so many ticks a second was written, in which nothing is refused, and no packet yet
 pub record IsTimedBegun (origin : Origin) (hertz : ℕ) (e : EnabledRows) (names : Names) (before : Option (List FileWrite)) (new : TimedTracing) : Type 0 where
+  pub allowed : origin_fault origin (ByTime hertz) e names ≡ None
   pub uuid_is : new.uuid ≡ origin.uuid
   pub missed : new.missed ≡ replicate 64 0
   pub told : new.told ≡ replicate 64 0

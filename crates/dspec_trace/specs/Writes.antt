@@ -1,5 +1,6 @@
 -- Cited by calls. What a place that takes files was asked for.
-use Rattle.std.specs.Prelude.{ℕ, ◌≡◌, ◌⊎◌, List, [], ◌∷◌, ◌++◌, Option, Some, None}
+use Rattle.std.specs.Prelude.{ℕ, ◌≡◌, ◌⊎◌, ◌&&◌, if◌then◌else◌, is_none, bytes_eq, List, [], ◌∷◌, ◌++◌, Option, Some, None}
+use Rattle.std.specs.List.{flat_map}
 use Rattle.dspec_trace.specs.Faults.{IsWriteFault}
 use Rattle.dspec_trace.specs.declared.fault.FolderFault.{FolderFault}
 use Rattle.dspec_trace.specs.declared.fault.FolderFault.TheVariants.{Memory}
@@ -28,3 +29,11 @@ pub record Refuses (old : Option (List FileWrite)) (name bytes : List ℕ) (new 
 -- a write wasn't taken, for that: memory was wanting to ask for it, or the place refused it
 abbrev pub IsNotTaken : Option (List FileWrite) → List ℕ → List ℕ → Option (List FileWrite) → FolderFault → Type 0
 IsNotTaken old name bytes new fault = ((fault ≡ Memory) × (new ≡ old)) ⊎ Refuses old name bytes new fault
+
+-- what a write brings to the file of this name: its bytes, where it is one of that file and was taken
+abbrev pub brought_to : List ℕ → FileWrite → List ℕ
+brought_to name w = if (is_none w.refused && bytes_eq w.name name) then w.bytes else []
+
+-- what these writes leave of the file of this name: the bytes of those that were taken, one behind another
+abbrev pub file_of : List ℕ → List FileWrite → List ℕ
+file_of name writes = flat_map (brought_to name) writes

@@ -25,8 +25,9 @@ pub record Tracing : Type 0 where
   pub lost : Option Loss
   pub last : Option Loss
 
--- the metadata was written, and no packet yet
+-- the metadata was written, in which nothing is refused, and no packet yet
 pub record IsBegun (origin : Origin) (e : EnabledRows) (names : Names) (before : Option (List FileWrite)) (new : Tracing) : Type 0 where
+  pub allowed : origin_fault origin AsTaken e names ≡ None
   pub uuid_is : new.uuid ≡ origin.uuid
   pub missed : new.missed ≡ replicate 64 0
   pub told : new.told ≡ replicate 64 0

@@ -5,7 +5,6 @@ ghost use Rattle.std.specs.Io.KnownBytes.{Appends, Keeps};
 ghost use Rattle.dspec_trace.specs.Held.{IsCut, IsLong, LeavesBytes};
 
 use crate::fault::{FolderFault, write_fault};
-use std::fs::File;
 use std::io;
 use std::io::Write;
 use std::marker::Model;
@@ -18,17 +17,8 @@ pub(crate) trait Cuttable: Write {
 
     /// Leaves the first so many bytes.
     fn cut(&mut self, length: u64) -> io::Result<()>
-        ensures { OnOk result (IsCut (Self.contents self.old) (Self.contents self.new) length) };
-}
-
-impl Cuttable for File {
-    fn size(&self) -> io::Result<u64> {
-        Ok(self.metadata()?.len())
-    }
-
-    fn cut(&mut self, length: u64) -> io::Result<()> {
-        self.set_len(length)
-    }
+        ensures cut { OnOk result (IsCut (Self.contents self.old) (Self.contents self.new) length) }
+        ensures kept { OnErr result (Keeps (Self.contents self.old) (Self.contents self.new)) };
 }
 
 /// Writes some of the bytes from a place on, and tells up to where they are written then.

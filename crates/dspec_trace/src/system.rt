@@ -1,8 +1,11 @@
-ghost use Rattle.std.specs.Prelude.{◌≡◌, ◌≢◌, All, IfOk, IfErr, IfSome, None, OnOk, string_bytes, true};
+ghost use Rattle.std.specs.Prelude.{◌≡◌, ◌≢◌, ◌<◌, length, vec_len, [], All, List, Some, IfOk, IfErr, IfSome, None, OnOk, string_bytes, true};
 ghost use Rattle.std.specs.Fs.{new_options, with_append, with_create_new};
 ghost use Rattle.dspec_trace.specs.Faults.{IsFolderFault, IsWriteFault};
-ghost use Rattle.dspec_trace.specs.Held.{IsFileAt, path_in};
+ghost use Rattle.dspec_trace.specs.Held.{FilesHave, HaveBesides, IsFileAt, path_in};
+ghost use Rattle.dspec_trace.specs.Writes.{FileWrite};
 
+use crate::asked::{Asked, Asking};
+use crate::counted::CountedFile;
 use crate::fault::{FolderFault, look_fault, write_fault};
 use crate::folder::Folder;
 use crate::held::{Cuttable, HeldFile};
@@ -17,13 +20,16 @@ use std::{fs, io};
 pub struct SystemFolder<'a> {
     host: &'a HostRuntime,
     folder: File,
-    files: Vec<HeldFile<File>>,
+    files: Vec<HeldFile<CountedFile>>,
+    asked: Asked,
+    ghost tied: { ∥ FilesHave files.items asked.writes ∥₁ },
 }
 
 impl<'a> SystemFolder<'a> {
     /// Makes the folder of that path. One that is there has to be empty.
     pub fn new(rt: &'a HostRuntime, path: &str) -> Result<SystemFolder<'a>, FolderFault>
-        ensures { IfErr result IsFolderFault }
+        ensures unasked { IfOk result (λ folder. ⟦<SystemFolder<'a> as Folder>⟧.written folder ≡ Some []) }
+        ensures fault { IfErr result IsFolderFault }
     {
         match fs::create_dir(rt, path) {
             Err(fault) if fault.kind() != io::ErrorKind::AlreadyExists => {
@@ -37,23 +43,8 @@ impl<'a> SystemFolder<'a> {
             host: rt,
             folder,
             files: Vec::new(rt.alloc()),
+            asked: Asked::none(),
         })
-    }
-
-    /// The place of the file of that name, which is made where there is none.
-    fn place(&mut self, alloc: Global, name: &str) -> Result<usize, FolderFault>
-        ensures there { IfOk result (IsFileAt self.new.files.items name.now) }
-        ensures fault { IfErr result IsWriteFault }
-    {
-        if let Some(place) = place_of(&self.files, name) {
-            return Ok(place);
-        }
-        let path = path_in(alloc, self.folder.as_raw_fd(), name)?;
-        let name = String::from_str(alloc, name)?;
-        self.files.reserve(1)?;
-        let file = make_file(self.host, path.as_str())?;
-        self.files.push(HeldFile::new(name, file))?;
-        Ok(self.files.len() - 1)
     }
 }
 
@@ -121,16 +112,84 @@ fn make_file(rt: &HostRuntime, path: &str) -> Result<File, FolderFault>
 /// Where the file of that name stands among these.
 fn place_of<W: Cuttable>(files: &[HeldFile<W>], name: &str) -> Option<usize>
     ensures there { IfSome result (IsFileAt files.now name.now) }
+    ensures within { IfSome result (λ place. place < length files.now) }
     ensures none { result ≡ None → All (λ file. file.name ≢ name.now) files.now }
 {
     files.iter().position(|file| file.is_named(name))
 }
 
+/// Makes the file of that name, which isn't there, and tells its place.
+fn make_place(
+    files: &mut Vec<HeldFile<CountedFile>>,
+    rt: &HostRuntime,
+    folder: &File,
+    alloc: Global,
+    name: &str,
+) -> Result<usize, FolderFault>
+    requires { All (λ file. file.name ≢ name.now) files.now.items }
+    ensures there { IfOk result (IsFileAt files.new.items name.now) }
+    ensures within { IfOk result (λ place. place < vec_len files.new) }
+    ensures kept { (writes : List FileWrite) → FilesHave files.old.items writes → FilesHave files.new.items writes }
+    ensures fault { IfErr result IsWriteFault }
+{
+    let path = path_in(alloc, folder.as_raw_fd(), name)?;
+    let name = String::from_str(alloc, name)?;
+    files.reserve(1)?;
+    let file = make_file(rt, path.as_str())?;
+    files.push(HeldFile::new(name, CountedFile::of(file)))?;
+    Ok(files.len() - 1)
+}
+
+/// The place of the file of that name, which is made where there is none.
+fn place_for(
+    files: &mut Vec<HeldFile<CountedFile>>,
+    rt: &HostRuntime,
+    folder: &File,
+    alloc: Global,
+    name: &str,
+) -> Result<usize, FolderFault>
+    ensures there { IfOk result (IsFileAt files.new.items name.now) }
+    ensures within { IfOk result (λ place. place < vec_len files.new) }
+    ensures kept { (writes : List FileWrite) → FilesHave files.old.items writes → FilesHave files.new.items writes }
+    ensures fault { IfErr result IsWriteFault }
+{
+    match place_of(files, name) {
+        Some(place) => Ok(place),
+        None => make_place(files, rt, folder, alloc, name),
+    }
+}
+
+/// Writes bytes to the file of that name, whole or not at all.
+fn add_to(
+    files: &mut Vec<HeldFile<CountedFile>>,
+    rt: &HostRuntime,
+    folder: &File,
+    alloc: Global,
+    name: &str,
+    bytes: &[u8],
+) -> Result<(), FolderFault>
+    ensures taken { OnOk result (HaveBesides files.old.items (record { name = name.now; bytes = bytes.now; refused = None }) files.new.items) }
+    ensures refused { IfErr result (λ fault. HaveBesides files.old.items (record { name = name.now; bytes = bytes.now; refused = Some fault }) files.new.items) }
+    ensures fault { IfErr result IsWriteFault }
+{
+    let place = match place_for(files, rt, folder, alloc, name) {
+        Ok(place) => place,
+        Err(fault) => return Err(fault),
+    };
+    files[place].add(bytes)
+}
+
 impl<'a> Folder for SystemFolder<'a> {
-    ghost written = { λ _. None };
+    ghost written = { λ i. Some i.asked.writes };
 
     fn add(&mut self, alloc: Global, name: &str, bytes: &[u8]) -> Result<(), FolderFault> {
-        let place = self.place(alloc, name)?;
-        self.files[place].add(bytes)
+        let answer = add_to(&mut self.files, self.host, &self.folder, alloc, name, bytes);
+        let refused = answer.err();
+        self.asked = self.asked.then(&Asking {
+            name,
+            bytes,
+            refused,
+        });
+        answer
     }
 }

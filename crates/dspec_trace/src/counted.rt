@@ -1,0 +1,64 @@
+//! A file of the system, and what the system's answers tell of its bytes. Nothing but the calls here writes it or cuts it.
+
+ghost use Rattle.std.specs.Prelude.{◌≡◌, [], length, Some};
+
+use crate::held::Cuttable;
+use crate::told::{Answer, Told};
+use std::fs::File;
+use std::io;
+use std::io::Write;
+
+/// A file that had no bytes when it was made, and how many it has by now.
+#[derive(Drop)]
+pub(crate) struct CountedFile {
+    file: File,
+    size: u64,
+    told: Told,
+    ghost long: { length told.bytes ≡ size },
+}
+
+impl CountedFile {
+    /// One that has no bytes.
+    pub(crate) fn of(file: File) -> CountedFile
+        ensures { ⟦<CountedFile as Write>⟧.contents result ≡ Some [] }
+    {
+        CountedFile {
+            file,
+            size: 0,
+            told: Told::none(),
+        }
+    }
+}
+
+/// Its contents are what the system answered: of each write so many of its bytes, and of a cut those before it.
+impl Write for CountedFile {
+    ghost contents = { λ i. Some i.told.bytes };
+
+    fn write(&mut self, buf: &[u8]) -> io::Result<usize> {
+        if self.size.checked_add(buf.len() as u64).is_none() {
+            return Err(io::Error::from(io::ErrorKind::FileTooLarge));
+        }
+        let count = self.file.write(buf)?;
+        self.told = self.told.then(&Answer::Behind(&buf[..count]));
+        self.size += count as u64;
+        Ok(count)
+    }
+
+    fn flush(&mut self) -> io::Result<()> {
+        self.file.flush()
+    }
+}
+
+impl Cuttable for CountedFile {
+    fn size(&self) -> io::Result<u64> {
+        Ok(self.size)
+    }
+
+    fn cut(&mut self, length: u64) -> io::Result<()> {
+        let left = length.min(self.size);
+        self.file.set_len(left)?;
+        self.told = self.told.then(&Answer::Left(left));
+        self.size = left;
+        Ok(())
+    }
+}
