@@ -314,8 +314,8 @@ dspec_status dspec_rest(dspec_closed *closed, uint32_t cpu, bool last, dspec_bat
 dspec_status dspec_closed_report(dspec_closed *closed, uint32_t cpu, dspec_report *report) DSPEC_NOEXCEPT;
 
 /* Lets go what a handle of any kind holds, at any time; an empty one stays empty. What was handed out of a session lives on: a CPU
- * may trace after its session was dropped, and is dropped itself. A session whose CPU or consumer was dropped can't finish, and is
- * dropped too. The bytes of batches go with the consumer or the closed session that has them. */
+ * may trace after its session was dropped. A CPU or the consumer that is dropped goes home, as by dspec_cpu_home and
+ * dspec_consumer_home, so that its session can finish. The bytes of batches go with the consumer or the closed session that has them. */
 void dspec_drop(void *handle) DSPEC_NOEXCEPT;
 
 /* The same, with the types checked. */

@@ -325,7 +325,7 @@ static void many_homes(bool is_turned) {
     check_let_go(&a);
 }
 
-/* A CPU goes on where its session was dropped, and is dropped itself; the schema isn't the session's. */
+/* A CPU goes on where its session was dropped; the schema isn't the session's. A CPU and the consumer that are dropped go home. */
 static void dropped(void) {
     check_all a;
     outs o;
@@ -338,9 +338,20 @@ static void dropped(void) {
     MUST(dspec_cpu_home(&a.cpu));
     MUST(dspec_start(&check_config, &a.schema, &a.session));
     MUST(dspec_cpu_of(&a.session, 0, &a.cpu));
+    MUST(DSPEC_TRACE(&a.cpu, 1, 7));
+    dspec_cpu_drop(&a.cpu);
+    CHECK(!a.cpu.held);
+    MUST(dspec_cpu_of(&a.session, 0, &a.cpu));
+    MUST(DSPEC_TRACE(&a.cpu, 1, 8));
+    MUST(dspec_consumer_of(&a.session, &o.consumer));
     dspec_cpu_drop(&a.cpu);
     ANSWERS(dspec_finish(&a.session, &o.closed), DSPEC_NOT_HOME);
-    ANSWERS(dspec_cpu_of(&a.session, 0, &a.cpu), DSPEC_OUT);
+    dspec_consumer_drop(&o.consumer);
+    CHECK(!o.consumer.held);
+    MUST(dspec_finish(&a.session, &o.closed));
+    MUST(dspec_closed_report(&o.closed, 0, &o.report));
+    CHECK(o.report.offered == 2 && o.report.accepted == 2);
+    dspec_closed_drop(&o.closed);
     check_let_go(&a);
 }
 

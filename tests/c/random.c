@@ -12,7 +12,7 @@
 enum { STEPS = 150, CPUS = 3, IDS = 4, MAGIC = 0x5a5a5a5a };
 
 /* Where a part of a session is. */
-typedef enum whereabouts { INSIDE, OUTSIDE, HOME, GONE } whereabouts;
+typedef enum whereabouts { INSIDE, OUTSIDE, HOME } whereabouts;
 
 typedef struct sequence {
     uint64_t seed;
@@ -339,8 +339,8 @@ static void finish(sequence *s) {
     bool own, full = s->closed.held, out = false;
     dspec_session *h = maybe_wrong(s, &s->session, &own);
     if ((void *)h == &s->closed) return;
-    for (uint32_t i = 0; i < CPUS; i++) out |= s->where[i] == OUTSIDE || s->where[i] == GONE;
-    out |= s->consumer_where == OUTSIDE || s->consumer_where == GONE;
+    for (uint32_t i = 0; i < CPUS; i++) out |= s->where[i] == OUTSIDE;
+    out |= s->consumer_where == OUTSIDE;
     dspec_status due = full ? DSPEC_FULL_HANDLE : !own || !h->held ? DSPEC_BAD_HANDLE : out ? DSPEC_NOT_HOME : DSPEC_OK;
     bool held = s->session.held;
     answers(s, "finish", dspec_finish(h, &s->closed), due);
@@ -357,11 +357,11 @@ static void drop_one(sequence *s) {
     case 1: dspec_session_drop(&s->session); break;
     case 2: dspec_closed_drop(&s->closed); break;
     case 3:
-        if (s->consumer.held) s->consumer_where = GONE;
+        if (s->consumer.held) s->consumer_where = HOME;
         dspec_consumer_drop(&s->consumer);
         break;
     default:
-        if (s->cpus[cpu].held) s->where[cpu] = GONE;
+        if (s->cpus[cpu].held) s->where[cpu] = HOME;
         dspec_cpu_drop(&s->cpus[cpu]);
     }
 }
@@ -414,7 +414,7 @@ static void step(sequence *s) {
     if (!s->is_wrong) compare_reports(s);
 }
 
-/* Where no part of the session is gone, it finishes. */
+/* Once each part of the session is home, it finishes. */
 static void end(sequence *s) {
     for (int i = 0; i < CPUS; i++) {
         if (s->cpus[i].held) answers(s, "cpu_home", dspec_cpu_home(&s->cpus[i]), DSPEC_OK);

@@ -10,4 +10,4 @@ is_full h = h.held
 
 -- what is in it: nothing, where it is empty
 abbrev pub held_in : Handle → Held
-held_in h = if h.held then h.seal.inside else Nothing
+held_in h = if h.held then h.seal.inside.held else Nothing

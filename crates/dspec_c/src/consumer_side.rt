@@ -35,7 +35,6 @@ pub enum Returned {
 }
 
 /// The consumer that was handed out, and the batch of each CPU that it took and has not given back.
-#[derive(Drop)]
 pub struct ConsumerSide {
     out: OutConsumer,
     taken: Vec<Option<Batch>>,
@@ -131,7 +130,7 @@ impl ConsumerSide {
 }
 
 /// Room for a batch of each CPU.
-pub fn room(alloc: Global, n: u32) -> Result<Vec<Option<Batch>>, AllocError>
+pub fn places_for_batches(alloc: Global, n: u32) -> Result<Vec<Option<Batch>>, AllocError>
     ensures { IfOk result (λ taken. taken.items ≡ replicate n None) }
 {
     let mut taken = Vec::with_capacity(alloc, n as usize)?;

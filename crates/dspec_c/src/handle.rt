@@ -2,12 +2,87 @@ ghost use Rattle.std.specs.Prelude.{◌≡◌};
 
 use crate::held::Held;
 use crate::seal::Seal;
-use std::alloc::Global;
+use std::alloc::{AllocError, Global};
 use std::mem;
+
+/// What is in a handle's box. Where that is let go, what was handed out goes home.
+pub struct Kept {
+    held: Held,
+}
+
+impl Drop for Kept {
+    fn drop(self) {
+        let Kept { held } = self;
+        held.let_go();
+    }
+}
+
+impl Kept {
+    ghost use Rattle.std.specs.Prelude.{◌≡◌};
+    ghost use Rattle.std.specs.Borrow.{sem};
+    ghost use Rattle.dspec_c.specs.Lending.{LendsKept};
+
+    /// What is in the box, for a call.
+    #[inline(always)]
+    fn lend(&mut self) -> &mut Held
+        ensures* writes_back { sem 𝓛 (LendsKept self.entry result) }
+        ensures value { result.now ≡ self.old.held }
+    {
+        &mut self.held
+    }
+
+    fn into_held(self) -> Held
+        ensures { result ≡ self.held }
+    {
+        let Kept { held } = self;
+        held
+    }
+}
+
+/// A box with room for what a handle can hold.
+#[derive(Drop)]
+pub struct Room {
+    kept: Box<Kept>,
+}
+
+impl Room {
+    ghost use Rattle.std.specs.Prelude.{◌≡◌};
+
+    pub(crate) fn new(alloc: Global) -> Result<Room, AllocError> {
+        let nothing = Kept {
+            held: Held::Nothing,
+        };
+        let Ok(kept) = Box::new(alloc, nothing) else {
+            return Err(AllocError);
+        };
+        Ok(Room { kept })
+    }
+
+    /// The box, with this in it.
+    fn fill(self, held: Held) -> Box<Kept>
+        ensures { result.value.held ≡ held }
+    {
+        let Room { kept } = self;
+        let mut kept = kept;
+        *kept = Kept { held };
+        kept
+    }
+
+    /// What is in the box, and the room that it leaves.
+    fn clear(kept: Box<Kept>) -> (Held, Room)
+        ensures { result.0 ≡ kept.value.held }
+    {
+        let mut kept = kept;
+        let nothing = Kept {
+            held: Held::Nothing,
+        };
+        let was = mem::replace(&mut *kept, nothing);
+        (was.into_held(), Room { kept })
+    }
+}
 
 /// A box or nothing, as C holds it.
 #[repr(C)]
-#[derive(Drop)]
 pub struct Handle {
     held: bool,
     seal: Seal,
@@ -33,24 +108,27 @@ impl Handle {
         ensures* writes_back { sem 𝓛 (LendsHeld self.entry result) }
         ensures value { result.now ≡ held_in self.old }
     {
-        self.seal.lend()
+        self.seal.lend().lend()
     }
 
-    /// Fills the handle, and lets go what was there.
-    pub(crate) fn put(&mut self, b: Box<Held>)
+    /// Fills the handle, which was empty.
+    pub(crate) fn put(&mut self, room: Room, what: Held)
+        requires { is_full self.old ≡ false }
         ensures full { is_full self.new ≡ true }
-        ensures holds { held_in self.new ≡ b.value }
+        ensures holds { held_in self.new ≡ what }
     {
-        *self = Handle {
+        let filled = Handle {
             held: true,
-            seal: Seal::of(b),
+            seal: Seal::of(room.fill(what)),
         };
+        let Handle { held: _, seal } = mem::replace(self, filled);
+        seal.leave();
     }
 
-    /// What is in the handle, which is empty then.
-    pub(crate) fn take(&mut self, alloc: Global) -> Option<Box<Held>>
+    /// What is in the handle, which is empty then, and the room that it leaves.
+    pub(crate) fn take(&mut self, alloc: Global) -> Option<(Held, Room)>
         ensures was { is_some result ≡ is_full self.old }
-        ensures held { IfSome result (λ b. b.value ≡ held_in self.old) }
+        ensures held { IfSome result (λ r. r.0 ≡ held_in self.old) }
         ensures empty { is_full self.new ≡ false }
     {
         let Handle { held, seal } = mem::replace(
@@ -61,8 +139,9 @@ impl Handle {
             },
         );
         if !held {
+            seal.leave();
             return None;
         }
-        Some(seal.into_box())
+        Some(Room::clear(seal.into_box()))
     }
 }

@@ -1,20 +1,12 @@
 //! The exports that bring a CPU and the consumer home, and that let go what a handle holds.
 
-ghost use Rattle.std.specs.Prelude.{◌≡◌, false, IsSomeAnd};
-ghost use Rattle.rtrb.specs.Ring.{sent};
-ghost use Rattle.dspec_c.specs.ConsumerHomes.{HasGoneTheirs};
+ghost use Rattle.std.specs.Prelude.{◌≡◌, false};
 ghost use Rattle.dspec_c.specs.Handles.{held_in, is_full};
-ghost use Rattle.dspec_c.specs.Homes.{HasGone, Side};
 ghost use Rattle.dspec_c.specs.SessionCalls.{HomeAnswers, is_consumer_in, is_cpu_in};
-ghost use Rattle.dspec_c.specs.declared.consumer_side.ConsumerSide.{ConsumerSide};
-ghost use Rattle.dspec_c.specs.declared.held.Held.TheVariants as held_as;
 
-use crate::consumer_homing::{ConsumerHoming, ConsumerRule};
 use crate::handle::Handle;
 use crate::held::Held;
-use crate::homing::{HomeRule, Homing};
 use crate::statuses::{BAD_HANDLE, OK};
-use rtrb::Producer;
 use std::alloc::Global;
 
 pub fn is_cpu(held: &Held) -> bool
@@ -29,40 +21,24 @@ pub fn is_consumer(held: &Held) -> bool
     matches!(held, Held::Consumer(_))
 }
 
-// Sends the CPU that is held home, by the way that this gives back.
-fn send_cpu_home(held: Held) -> Option<Producer<Homing, Global, HomeRule>>
-    ensures { (side : Side) → held ≡ held_as.Cpu side → IsSomeAnd result (λ way. HasGone side (sent way)) }
-{
-    match held {
-        Held::Cpu(out) => Some(out.go_home()),
-        _ => None,
-    }
-}
-
-// Sends the consumer that is held home, by the way that this gives back.
-fn send_consumer_home(held: Held) -> Option<Producer<ConsumerHoming, Global, ConsumerRule>>
-    ensures { (side : ConsumerSide) → held ≡ held_as.Consumer side → IsSomeAnd result (λ way. HasGoneTheirs side.out (sent way)) }
-{
-    match held {
-        Held::Consumer(side) => Some(side.go_home()),
-        _ => None,
-    }
-}
-
 /// Gives a CPU back to its session.
 #[unsafe(no_mangle)]
 pub extern "C" fn dspec_cpu_home(alloc: Global, cpu: &mut Handle) -> u32
     ensures { HomeAnswers (is_cpu_in (held_in cpu.old)) cpu.old result cpu.new }
 {
-    let Some(held) = cpu.take(alloc) else {
+    let Some((held, room)) = cpu.take(alloc) else {
         return BAD_HANDLE;
     };
-    if !is_cpu(&held) {
-        cpu.put(held);
-        return BAD_HANDLE;
+    match held {
+        Held::Cpu(out) => {
+            let _way = out.go_home();
+            OK
+        }
+        other => {
+            cpu.put(room, other);
+            BAD_HANDLE
+        }
     }
-    let _way = send_cpu_home(Box::into_inner(held));
-    OK
 }
 
 /// Gives the consumer back to its session.
@@ -70,21 +46,28 @@ pub extern "C" fn dspec_cpu_home(alloc: Global, cpu: &mut Handle) -> u32
 pub extern "C" fn dspec_consumer_home(alloc: Global, consumer: &mut Handle) -> u32
     ensures { HomeAnswers (is_consumer_in (held_in consumer.old)) consumer.old result consumer.new }
 {
-    let Some(held) = consumer.take(alloc) else {
+    let Some((held, room)) = consumer.take(alloc) else {
         return BAD_HANDLE;
     };
-    if !is_consumer(&held) {
-        consumer.put(held);
-        return BAD_HANDLE;
+    match held {
+        Held::Consumer(side) => {
+            let _way = side.go_home();
+            OK
+        }
+        other => {
+            consumer.put(room, other);
+            BAD_HANDLE
+        }
     }
-    let _way = send_consumer_home(Box::into_inner(held));
-    OK
 }
 
-/// Lets go what the handle holds; an empty one stays empty.
+/// Lets go what the handle holds, of which a CPU or the consumer goes home; an empty one stays empty.
 #[unsafe(no_mangle)]
 pub extern "C" fn dspec_drop(alloc: Global, handle: &mut Handle)
     ensures { is_full handle.new ≡ false }
 {
-    let _ = handle.take(alloc);
+    let Some((held, _room)) = handle.take(alloc) else {
+        return;
+    };
+    held.let_go();
 }

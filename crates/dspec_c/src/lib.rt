@@ -3,7 +3,7 @@
 //!
 //! | File | What is in it |
 //! |---|---|
-//! | `handle.rt`, `seal.rt`, `parts.rt`, `held.rt`, `schema_box.rt` | a box in C's memory, which is lent for a call (the walks over raw pointers in `proofs/seal` and `proofs/parts`), and what a handle can hold: a schema in a box of its own |
+//! | `handle.rt`, `seal.rt`, `parts.rt`, `held.rt`, `schema_box.rt` | a box in C's memory, which is lent for a call (the walks over raw pointers in `proofs/seal` and `proofs/parts`); room for what a handle can hold, which can't be let go but by going home where it was handed out; a schema in a box of its own |
 //! | `homing.rt`, `out_cpu.rt`, `desk.rt`, `place.rt` | how a CPU goes out and comes home, again and again, each time by a ring of its own; `consumer_homing.rt`, `out_consumer.rt`, `consumer_desk.rt`, `consumer_place.rt`, `consumer_side.rt` the same of the consumer, with the batches that are out |
 //! | `under_way.rt`, `places.rt`, `gather.rt`, `close.rt`, `ended.rt` | a session from its start to its end |
 //! | `tending.rt` | the services of CPUs that are at their places (`specs/Tending`) |

@@ -4,8 +4,8 @@ use rtrb::Producer;
 use std::alloc::Global;
 use std::marker::Model;
 
-/// The consumer that was handed out, with its way home, on which there is room for it.
-#[derive(Drop)]
+/// The consumer that was handed out, with its way home, on which there is room for it. It can't be let go: `go_home` is the one way to be
+/// rid of it.
 pub struct OutConsumer {
     way: Producer<ConsumerHoming, Global, ConsumerRule>,
     homing: ConsumerHoming,

@@ -6,8 +6,8 @@ use rtrb::Producer;
 use std::alloc::Global;
 use std::marker::Model;
 
-/// A CPU that was handed out, with its way home, on which there is room for it, and the word of each EPID of its schema.
-#[derive(Drop)]
+/// A CPU that was handed out, with its way home, on which there is room for it, and the word of each EPID of its schema. It can't be let
+/// go: `go_home` is the one way to be rid of it.
 pub struct OutCpu {
     way: Producer<Homing, Global, HomeRule>,
     homing: Homing,

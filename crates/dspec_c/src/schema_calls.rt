@@ -6,7 +6,7 @@ ghost use Rattle.dspec_c.specs.SessionCalls.{StampAnswers, new_schema};
 ghost use Rattle.dspec_c.specs.Widths.{EnableAnswers, Enables, EnablesSo, enable_fault, field_of_width, fields_of_widths};
 ghost use Rattle.dspec_c.specs.declared.held.Held.TheVariants as held_as;
 
-use crate::handle::Handle;
+use crate::handle::{Handle, Room};
 use crate::held::Held;
 use crate::schema_box::SchemaBox;
 use crate::statuses::{
@@ -40,10 +40,10 @@ pub extern "C" fn dspec_schema_new(alloc: Global, schema: &mut Handle) -> u32
     let Ok(made) = SchemaBox::new(alloc) else {
         return NO_MEMORY;
     };
-    let Ok(held) = Box::new(alloc, Held::Schema(made)) else {
+    let Ok(room) = Room::new(alloc) else {
         return NO_MEMORY;
     };
-    schema.put(held);
+    schema.put(room, Held::Schema(made));
     OK
 }
 

@@ -9,9 +9,9 @@ ghost use Rattle.dspec_c.specs.Whole.{Going, IsHome, inside_at};
 ghost use Rattle.dspec_c.specs.declared.held.Held.TheVariants as held_as;
 
 use crate::configs::CConfig;
-use crate::consumer_side::{ConsumerSide, room};
+use crate::consumer_side::{ConsumerSide, places_for_batches};
 use crate::ended::Ended;
-use crate::handle::Handle;
+use crate::handle::{Handle, Room};
 use crate::held::Held;
 use crate::statuses::{
     BAD_HANDLE, BAD_POLICY, BUSY, FULL_HANDLE, NO_MEMORY, NO_SUCH_CPU, NOT_HOME, OK, OUT, of_start,
@@ -19,21 +19,22 @@ use crate::statuses::{
 use crate::under_way::UnderWay;
 use dspec_record::Enablings;
 use std::alloc::Global;
-use std::mem;
 
 // Puts a session into its handle. It is a call of its own so that what lets the session go, where memory is refused, takes stack only here.
 #[inline(never)]
 fn keep(alloc: Global, whole: UnderWay, session: &mut Handle) -> u32
+    requires { is_full session.old ≡ false }
     ensures { KeptSo whole result session.old session.new }
 {
-    let Ok(held) = Box::new(alloc, Held::Session(whole)) else {
+    let Ok(room) = Room::new(alloc) else {
         return NO_MEMORY;
     };
-    session.put(held);
+    session.put(room, Held::Session(whole));
     OK
 }
 
 fn start(alloc: Global, config: &CConfig, schema: &Enablings, session: &mut Handle) -> u32
+    requires { is_full session.old ≡ false }
     ensures { StartsSo (asked_for config.now) schema.now result session.old session.new }
 {
     let Some(config) = config.read() else {
@@ -47,6 +48,7 @@ fn start(alloc: Global, config: &CConfig, schema: &Enablings, session: &mut Hand
 }
 
 fn held_start(alloc: Global, config: &CConfig, schema: &mut Held, session: &mut Handle) -> u32
+    requires { is_full session.old ≡ false }
     ensures { StartAnswers (asked_for config.now) schema.old result schema.new session.old session.new }
 {
     match schema {
@@ -76,20 +78,13 @@ pub extern "C" fn dspec_start(
     held_start(alloc, config, schema.lend(), session)
 }
 
-fn fill(held: Box<Held>, what: Held) -> Box<Held>
-    ensures { result.value ≡ what }
-{
-    let mut held = held;
-    *held = what;
-    held
-}
-
 // All memory comes first: the CPU stays where it is, as it was, where any is refused.
 fn give_cpu(alloc: Global, session: &mut UnderWay, number: u32, cpu: &mut Handle) -> u32
-    requires { inside_at number session.old.places ≡ true }
+    requires inside { inside_at number session.old.places ≡ true }
+    requires empty { is_full cpu.old ≡ false }
     ensures { HandsOut (GivesCpu number) None session.old result session.new cpu.old cpu.new }
 {
-    let Ok(held) = Box::new(alloc, Held::Nothing) else {
+    let Ok(room) = Room::new(alloc) else {
         return NO_MEMORY;
     };
     let Ok(shared) = session.share() else {
@@ -98,12 +93,12 @@ fn give_cpu(alloc: Global, session: &mut UnderWay, number: u32, cpu: &mut Handle
     let Ok(out) = session.cpu(alloc, shared, number) else {
         return NO_MEMORY;
     };
-    let filled = fill(held, Held::Cpu(out));
-    cpu.put(filled);
+    cpu.put(room, Held::Cpu(out));
     OK
 }
 
 fn hand_out_cpu(alloc: Global, session: &mut UnderWay, number: u32, cpu: &mut Handle) -> u32
+    requires { is_full cpu.old ≡ false }
     ensures { HandsOutCpu number session.old result session.new cpu.old cpu.new }
 {
     if !session.has_cpu(number) {
@@ -116,6 +111,7 @@ fn hand_out_cpu(alloc: Global, session: &mut UnderWay, number: u32, cpu: &mut Ha
 }
 
 fn held_cpu_of(alloc: Global, session: &mut Held, number: u32, cpu: &mut Handle) -> u32
+    requires { is_full cpu.old ≡ false }
     ensures { CpuOfAnswers number session.old result session.new cpu.old cpu.new }
 {
     match session {
@@ -146,15 +142,16 @@ pub extern "C" fn dspec_cpu_of(
 }
 
 fn hand_out_consumer(alloc: Global, session: &mut UnderWay, consumer: &mut Handle) -> u32
+    requires { is_full consumer.old ≡ false }
     ensures { HandsOut GivesConsumer (consumer_due session.old) session.old result session.new consumer.old consumer.new }
 {
     if !session.has_consumer_in() {
         return OUT;
     }
-    let Ok(held) = Box::new(alloc, Held::Nothing) else {
+    let Ok(room) = Room::new(alloc) else {
         return NO_MEMORY;
     };
-    let Ok(taken) = room(alloc, session.count()) else {
+    let Ok(taken) = places_for_batches(alloc, session.count()) else {
         return NO_MEMORY;
     };
     let Ok(shared) = session.share() else {
@@ -163,12 +160,12 @@ fn hand_out_consumer(alloc: Global, session: &mut UnderWay, consumer: &mut Handl
     let Some(out) = session.consumer(shared) else {
         return OUT;
     };
-    let filled = fill(held, Held::Consumer(ConsumerSide::new(out, taken)));
-    consumer.put(filled);
+    consumer.put(room, Held::Consumer(ConsumerSide::new(out, taken)));
     OK
 }
 
 fn held_consumer_of(alloc: Global, session: &mut Held, consumer: &mut Handle) -> u32
+    requires { is_full consumer.old ≡ false }
     ensures { ConsumerOfAnswers session.old result session.new consumer.old consumer.new }
 {
     match session {
@@ -259,22 +256,20 @@ pub extern "C" fn dspec_finish(alloc: Global, session: &mut Handle, closed: &mut
     if closed.is_held() {
         return FULL_HANDLE;
     }
-    let Some(mut held) = session.take(alloc) else {
+    let Some((mut held, room)) = session.take(alloc) else {
         return BAD_HANDLE;
     };
-    if let Err(why) = is_home(&mut *held) {
-        session.put(held);
+    if let Err(why) = is_home(&mut held) {
+        session.put(room, held);
         return why;
     }
-    match end(mem::replace(&mut *held, Held::Nothing)) {
+    match end(held) {
         Ok(ended) => {
-            let filled = fill(held, Held::Closed(ended));
-            closed.put(filled);
+            closed.put(room, Held::Closed(ended));
             OK
         }
         Err(back) => {
-            let filled = fill(held, back);
-            session.put(filled);
+            session.put(room, back);
             BUSY
         }
     }

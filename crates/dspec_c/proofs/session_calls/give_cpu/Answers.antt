@@ -1,4 +1,4 @@
-use Rattle.std.proofs.Common.{refl, ◌∙◌, inl}
+use Rattle.std.proofs.Common.{refl, inl}
 use Rattle.dspec_c.proofs.session_calls.give_cpu.Goals as goal
 
 pub returns : goal.returns
@@ -8,6 +8,6 @@ returns c = inl (
     side = c.in-Ok-cpu.out;
     goes = c.in-Ok-cpu.ensures.goes;
     full = c.put.ensures.full;
-    holds = c.put.ensures.holds ∙ c.fill-filled.ensures;
+    holds = c.put.ensures.holds;
   },
 )

@@ -12,7 +12,7 @@ returns c = given GivesConsumer (consumer_due c.args.session.now) c.args.session
     (record {
       side = c.new-2.result;
       go = subst (λ (t : Theirs). TheyGoOut c.args.session.now t c.consumer.new.self) (sym c.new-2.ensures.out) c.in-Some.ensures.go;
-      none_out = c.new-2.ensures.taken ∙ c.in-Ok-room.ensures ∙ ap (λ n. replicate n None) c.count.ensures;
+      none_out = c.new-2.ensures.taken ∙ c.in-Ok-places_for_batches.ensures ∙ ap (λ n. replicate n None) c.count.ensures;
       full = c.put.ensures.full;
-      holds = c.put.ensures.holds ∙ c.fill-filled.ensures;
+      holds = c.put.ensures.holds;
     })
