@@ -1,0 +1,67 @@
+-- What one batch asks of the folder, where nothing is lost.
+use Rattle.std.proofs.Common.{◌≡◌, ◌≢◌, ◌<◌, ◌+◌, ℕ, ◌⊎◌, inl, inr, List, [], ◌∷◌, ◌++◌, Option, Some, None, sym, ap, ◌∙◌, subst, length, length-set, slice_index}
+use Rattle.std.proofs.lemmas.List.{get_or-set_same, get_or-set_other}
+use Rattle.std.proofs.lemmas.Option.{slice_get_within, get_or_from_slice_get}
+use Rattle.dspec_record.specs.EnablingRows.{EnabledRows}
+use Rattle.dspec_ring.specs.declared.batch.Batch.{Batch}
+use Rattle.dspec.specs.Passed.{Passed, GotAll}
+use Rattle.dspec_trace.specs.Accounts.{missed_on}
+use Rattle.dspec_trace.specs.Losses.{lost_more}
+use Rattle.dspec_trace.specs.Writes.{FileWrite, Takes}
+use Rattle.dspec_trace.specs.Writing.{AddsPacket, GetsPacket, IsNothing, LosesPacket, Tracing}
+use Rattle.dspec_trace.specs.declared.losing.Loss.{Loss}
+
+-- what a place took stands behind what it was asked for before
+pub took : (old new : Option (List FileWrite)) (was : List FileWrite) (name bytes : List ℕ) → old ≡ Some was → Takes old name bytes new
+    → new ≡ Some (was ++ record { name = name; bytes = bytes; refused = None } ∷ [])
+took None new was name bytes e takes = absurd (cc (e))
+took (Some xs) None was name bytes e takes = elim takes [ ]
+took (Some xs) (Some ys) was name bytes e takes =
+    let same : xs ≡ was = cc (e) in
+    ap Some (takes ∙ ap (λ zs. zs ++ record { name = name; bytes = bytes; refused = None } ∷ []) same)
+
+some_lost : (o : Option Loss) (l : Loss) → lost_more o l ≡ None → ⊥
+some_lost None l e = absurd (cc (e))
+some_lost (Some first) l e = absurd (cc (e))
+
+module _ (e : EnabledRows) where
+  -- nothing was to be written of the batch, or its packet was taken
+  pub came_whole : (old new : Tracing) (b : Batch) → GetsPacket e old b new → new.lost ≡ None → (IsNothing old b × (new ≡ record old { last = None })) ⊎ AddsPacket e old b new
+  came_whole old new b gets none = go gets.came where
+    go : (IsNothing old b × (new ≡ record old { last = None })) ⊎ ((IsNothing old b → ⊥) × (AddsPacket e old b new ⊎ LosesPacket e old b new))
+        → (IsNothing old b × (new ≡ record old { last = None })) ⊎ AddsPacket e old b new
+    go (inl nothing) = inl nothing
+    go (inr (some, inl adds)) = inr adds
+    go (inr (some, inr loses)) = absurd (some_lost old.lost _ (sym loses.counted.lost ∙ none))
+
+  -- what was lost once stays lost
+  lost_before : (old new : Tracing) (b : Batch) → GetsPacket e old b new → new.lost ≡ None → old.lost ≡ None
+  lost_before old new b gets none = go (came_whole old new b gets none) where
+    go : (IsNothing old b × (new ≡ record old { last = None })) ⊎ AddsPacket e old b new → old.lost ≡ None
+    go (inl nothing) = sym (ap (λ (t : Tracing). t.lost) nothing.1) ∙ none
+    go (inr adds) = sym adds.lost ∙ none
+
+  pub unlost : (bs : List Passed) (old new : Tracing) → GotAll (GetsPacket e) old bs new → new.lost ≡ None → old.lost ≡ None
+  unlost [] old new got none = ap (λ (t : Tracing). t.lost) got ∙ none
+  unlost (x ∷ xs) old new (mid, gets, rest) none = lost_before old mid x.batch gets (unlost xs mid new rest none)
+
+  module _ (old new : Tracing) (b : Batch) (adds : AddsPacket e old b new) (wide : length old.missed ≡ 64) where
+    within : b.cpu < length old.missed
+    within = slice_get_within old.missed b.cpu adds.packet_is.before adds.packet_is.there
+
+    pub few : b.cpu < 64
+    few = subst (λ n. b.cpu < n) wide within
+
+    pub stays_wide : length new.missed ≡ 64
+    stays_wide = ap length adds.missed ∙ length-set old.missed b.cpu adds.total ∙ wide
+
+    pub missed_here : (c : ℕ) → b.cpu ≡ c → missed_on new c ≡ adds.total
+    missed_here c same =
+        subst (λ n. slice_index new.missed n ≡ adds.total) same (ap (λ (xs : List ℕ). slice_index xs b.cpu) adds.missed ∙ get_or-set_same old.missed b.cpu adds.total 0 within)
+
+    pub missed_before : (c : ℕ) → b.cpu ≡ c → adds.total ≡ missed_on old c + b.drops
+    missed_before c same =
+        adds.packet_is.missed_is ∙ ap (λ n. n + b.drops) (sym (get_or_from_slice_get old.missed b.cpu adds.packet_is.before 0 adds.packet_is.there) ∙ ap (λ n. missed_on old n) same)
+
+    pub missed_elsewhere : (c : ℕ) → b.cpu ≢ c → missed_on new c ≡ missed_on old c
+    missed_elsewhere c apart = ap (λ (xs : List ℕ). slice_index xs c) adds.missed ∙ get_or-set_other old.missed b.cpu c adds.total 0 (λ s. apart (sym s))

@@ -1,0 +1,4 @@
+mod Asking
+mod Folding
+mod Naming
+mod Whole

@@ -1,0 +1,115 @@
+-- A folder that was written as batches were taken, and what is read of it.
+use Rattle.std.proofs.Common.{◌≡◌, ◌<◌, ◌^◌, ℕ, zero, suc, List, [], ◌∷◌, ◌++◌, Some, None, refl, sym, ap, ◌∙◌, subst, arith, length, map, slice_get, slice_index, replicate, codes, All}
+use Rattle.std.specs.List.{flat_map}
+use Rattle.std.proofs.lemmas.List.{append-nil}
+use Rattle.std.proofs.lemmas.List.Elements.{All-weaker}
+use Rattle.dspec_record.specs.Record.{Record}
+use Rattle.dspec_record.specs.EnablingRows.{EnabledRows}
+use Rattle.dspec_consumer.specs.declared.left.Left.{Left}
+use Rattle.dspec.specs.Passed.{Passed, GotAll, passed_from}
+use Rattle.dspec_ctf.specs.Packets.{events, packet}
+use Rattle.dspec_ctf.specs.Metadata.{origin_text}
+use Rattle.dspec_ctf.specs.Streams.{Accepts}
+use Rattle.dspec_ctf.specs.Names.{origin_fault}
+use Rattle.dspec_ctf.specs.declared.form.Form.{Form}
+use Rattle.dspec_ctf.specs.declared.form.Form.TheVariants.{AsTaken}
+use Rattle.dspec_ctf.specs.declared.names.Names.{Names}
+use Rattle.dspec_ctf.specs.declared.origin.Origin.{Origin}
+use Rattle.dspec_ctf_reading.specs.Files.{FileTells, last_missed}
+use Rattle.dspec_ctf_reading.specs.Layouts.{event_of, layout_of}
+use Rattle.dspec_ctf_reading.specs.ReadingMetadata.{read_metadata}
+use Rattle.dspec_ctf_reading.specs.Told.{HasNumbers}
+use Rattle.dspec_trace.specs.Accounts.{missed_on}
+use Rattle.dspec_trace.specs.Writes.{FileWrite, brought_to, file_of}
+use Rattle.dspec_trace.specs.Writing.{GetsPacket, IsBegun, Tracing, cpu_name}
+use Rattle.dspec_trace.proofs.Written.{brought_elsewhere, brought_whole}
+use Rattle.dspec_trace_reading.specs.AsTaken.{AreShort, HaveNumbers, ReadsBack, drops_of}
+use Rattle.dspec_trace_reading.proofs.Naming.{not_metadata}
+use Rattle.dspec_trace_reading.proofs.Asking.{took}
+use Rattle.dspec_trace_reading.proofs.Folding.{Brought, Fits, Holds, Stays, brought, last_from, metadata_stays}
+
+last_of : (p : ℕ × List Record) (ps : List (ℕ × List Record)) → last_missed (p ∷ ps) ≡ last_from p.0 ps
+last_of p [] = refl
+last_of p (q ∷ ps) = last_of q ps
+
+last_same : (ps : List (ℕ × List Record)) → last_missed ps ≡ last_from 0 ps
+last_same [] = refl
+last_same (p ∷ ps) = last_of p ps
+
+-- that metadata is read as its layout, and a file of packets as their events
+abbrev pub MetadataReads : Type 0
+MetadataReads = (origin : Origin) (form : Form) (e : EnabledRows) (names : Names) → origin_fault origin form e names ≡ None → HasNumbers origin form e names
+    → read_metadata (origin_text origin form e names) ≡ Some (layout_of e names form)
+
+abbrev pub FilesRead : Type 0
+FilesRead = (e : EnabledRows) (names : Names) (uuid : List ℕ) (cpu : ℕ) (batches : List (ℕ × List Record)) → length uuid ≡ 16 → cpu < 2 ^ 32
+    → All (λ b. (b.0 < 2 ^ 64) × (length (events e b.1) < 2 ^ 60) × All (Accepts e) b.1) batches
+    → FileTells (layout_of e names AsTaken) uuid cpu (flat_map (λ b. packet uuid e b.0 cpu b.1) batches) (map (event_of e names AsTaken) (flat_map (λ b. b.1) batches)) (last_missed batches)
+
+module _ (metadata_law : MetadataReads) (files_law : FilesRead) (origin : Origin) (e : EnabledRows) (names : Names) (begun ended : Tracing) (is : IsBegun origin e names (Some []) begun) (passed : List Passed) (got : GotAll (GetsPacket e) begun passed ended)
+    (none : ended.lost ≡ None) where
+  abbrev pub first : FileWrite
+  first = record { name = codes "metadata"; bytes = origin_text origin AsTaken e names; refused = None }
+
+  asked : begun.written ≡ Some (first ∷ [])
+  asked = took (Some []) begun.written [] first.name first.bytes refl is.written
+
+  pub all : Stays e ended (first ∷ [])
+  all = metadata_stays e passed begun ended (first ∷ []) got none asked
+
+  metadata_is : file_of (codes "metadata") (first ∷ []) ≡ origin_text origin AsTaken e names
+  metadata_is = append-nil (brought_to (codes "metadata") first) ∙ brought_whole (codes "metadata") (codes "metadata") first.bytes refl
+
+  metadata_read : HasNumbers origin AsTaken e names → read_metadata (file_of (codes "metadata") all.0) ≡ Some (layout_of e names AsTaken)
+  metadata_read numbers =
+      ap read_metadata (all.1.1 ∙ metadata_is)
+      ∙ metadata_law origin AsTaken e names is.allowed numbers
+
+  module _ (c : ℕ) (low : c < 64) (rs : List Record) (long : length origin.uuid ≡ 16) (small : missed_on ended c < 2 ^ 64) (own : HaveNumbers passed) (short : AreShort e passed)
+      (hold : Holds e (passed_from c passed) rs) where
+    nothing_yet : file_of (cpu_name c) (first ∷ []) ≡ []
+    nothing_yet = append-nil (brought_to (cpu_name c) first) ∙ brought_elsewhere (cpu_name c) first (λ s. not_metadata c (sym s))
+
+    none_missed : missed_on begun c ≡ 0
+    none_missed = ap (λ (xs : List ℕ). slice_index xs c) is.missed ∙ all_zero 64 c where
+      all_zero : (n i : ℕ) → slice_index (replicate n 0) i ≡ 0
+      all_zero zero i = refl
+      all_zero (suc n) zero = refl
+      all_zero (suc n) (suc i) = all_zero n i
+
+    one : Brought e origin.uuid c low begun ended (passed_from c passed) rs (first ∷ [])
+    one = brought e origin.uuid c low passed begun ended (first ∷ []) rs got none is.uuid_is (ap length is.missed) asked own short hold
+
+    tells : FileTells (layout_of e names AsTaken) origin.uuid c (flat_map (λ p. packet origin.uuid e p.0 c p.1) one.packets) (map (event_of e names AsTaken) (flat_map (λ p. p.1) one.packets)) (last_missed one.packets)
+    tells =
+        files_law e names origin.uuid c one.packets long (omega (arith, low))
+        (All-weaker (Fits e origin.uuid c low ended) (λ p. (p.0 < 2 ^ 64) × (length (events e p.1) < 2 ^ 60) × All (Accepts e) p.1)
+        (λ p h. (omega (arith, h.0, small), h.1, h.2)) one.packets one.each)
+
+    missed_is : last_missed one.packets ≡ drops_of (passed_from c passed)
+    missed_is =
+        let last : last_missed one.packets ≡ missed_on ended c = last_same one.packets ∙ ap (λ n. last_from n one.packets) (sym none_missed) ∙ one.told in
+        last ∙ omega (arith, one.counted, none_missed)
+
+    writes_same : all.0 ≡ one.writes
+    writes_same =
+        let both : Some all.0 ≡ Some one.writes = sym all.1.0 ∙ one.asked in
+        cc (both)
+
+    pub stream_read : FileTells (layout_of e names AsTaken) origin.uuid c (file_of (cpu_name c) all.0) (map (event_of e names AsTaken) rs) (drops_of (passed_from c passed))
+    stream_read =
+        let bytes : file_of (cpu_name c) all.0 ≡ flat_map (λ p. packet origin.uuid e p.0 c p.1) one.packets = ap (λ ws. file_of (cpu_name c) ws) writes_same ∙ one.bytes ∙ ap (λ xs. xs ++ flat_map (λ p. packet origin.uuid e p.0 c p.1) one.packets) nothing_yet in
+        subst (λ n. FileTells (layout_of e names AsTaken) origin.uuid c (file_of (cpu_name c) all.0) (map (event_of e names AsTaken) rs) n) missed_is
+        (subst (λ xs. FileTells (layout_of e names AsTaken) origin.uuid c (file_of (cpu_name c) all.0) (map (event_of e names AsTaken) xs) (last_missed one.packets)) one.has
+        (subst (λ xs. FileTells (layout_of e names AsTaken) origin.uuid c xs (map (event_of e names AsTaken) (flat_map (λ p. p.1) one.packets)) (last_missed one.packets)) (sym bytes) tells))
+
+  pub reads_back : (left : List Left) (seen : (c : ℕ) (l : Left) → slice_get left c ≡ Some l → List Record) → length origin.uuid ≡ 16 → HasNumbers origin AsTaken e names
+      → ((c : ℕ) → missed_on ended c < 2 ^ 64) → HaveNumbers passed → AreShort e passed
+      → ((c : ℕ) (l : Left) (there : slice_get left c ≡ Some l) → Holds e (passed_from c passed) (seen c l there))
+      → ReadsBack origin.uuid e names left seen (λ c. passed_from c passed) ended.written
+  reads_back left seen long numbers small own short holds = record {
+    writes = all.0;
+    asked = all.1.0;
+    metadata = metadata_read numbers;
+    streams = λ c l low there. stream_read c low (seen c l there) long (small c) own short (holds c l there);
+  }

@@ -1,0 +1,40 @@
+-- Cited by calls. What is read of a folder that was written as a session's batches were taken.
+use Rattle.std.specs.Prelude.{ℕ, ◌≡◌, ◌<◌, ◌+◌, ◌^◌, List, [], ◌∷◌, length, map, slice_get, codes, Option, Some}
+use Rattle.std.specs.List.{AllByRecursion}
+use Rattle.dspec_record.specs.Record.{Record}
+use Rattle.dspec_record.specs.EnablingRows.{EnabledRows}
+use Rattle.dspec_ring.specs.declared.batch.Batch.{Batch}
+use Rattle.dspec_consumer.specs.declared.left.Left.{Left}
+use Rattle.dspec.specs.Passed.{Passed}
+use Rattle.dspec_ctf.specs.Packets.{events}
+use Rattle.dspec_ctf.specs.Streams.{IsText}
+use Rattle.dspec_ctf.specs.declared.form.Form.TheVariants.{AsTaken}
+use Rattle.dspec_ctf.specs.declared.names.Names.{Names}
+use Rattle.dspec_ctf_reading.specs.Files.{FileTells}
+use Rattle.dspec_ctf_reading.specs.Layouts.{event_of, layout_of}
+use Rattle.dspec_ctf_reading.specs.ReadingMetadata.{read_metadata}
+use Rattle.dspec_trace.specs.Writes.{FileWrite, file_of}
+use Rattle.dspec_trace.specs.Writing.{cpu_name}
+
+-- the drops that these batches carry, together
+abbrev pub drops_of : List Batch → ℕ
+drops_of [] = 0
+drops_of (b ∷ bs) = b.drops + drops_of bs
+
+-- each batch has the number of the CPU that it came from
+abbrev pub HaveNumbers : List Passed → Type 0
+HaveNumbers passed = AllByRecursion (λ (x : Passed). x.batch.cpu ≡ x.from) passed
+
+-- no batch has records whose events take 2^60 bytes, since 64 bits tell a packet's size in bits
+abbrev pub AreShort : EnabledRows → List Passed → Type 0
+AreShort e passed = AllByRecursion (λ (x : Passed). (rs : List Record) → IsText e x.batch.buffer.text rs → length (events e rs) < 2 ^ 60) passed
+
+-- It is known what the folder was asked for. What that leaves of the file `metadata` is read as the layout of these enablings and names; and
+-- what it leaves of a CPU's file, by that layout, as the events of exactly the records that came out of that CPU, in order, of this trace and
+-- this CPU, with as many missed as the CPU's batches carried drops.
+pub record ReadsBack (uuid : List ℕ) (e : EnabledRows) (names : Names) (left : List Left) (seen : (c : ℕ) (l : Left) → slice_get left c ≡ Some l → List Record) (batches : ℕ → List Batch) (written : Option (List FileWrite)) : Type 0 where
+  pub writes : List FileWrite
+  pub asked : written ≡ Some writes
+  pub metadata : read_metadata (file_of (codes "metadata") writes) ≡ Some (layout_of e names AsTaken)
+  pub streams : (c : ℕ) (l : Left) → c < 64 → (there : slice_get left c ≡ Some l)
+      → FileTells (layout_of e names AsTaken) uuid c (file_of (cpu_name c) writes) (map (event_of e names AsTaken) (seen c l there)) (drops_of (batches c))

@@ -1,0 +1,11 @@
+//! What is read of a trace folder is what the session's promise calls each CPU's stream: laws above the writer (`dspec_trace`), the
+//! reading (`dspec_ctf_reading`) and the session (`dspec`).
+//!
+//! | File | What is in it |
+//! |---|---|
+//! | `laws.rt` | the law, as clauses of a function that has nothing to do |
+//! | `specs/`: AsTaken | what is read of a folder that was written as batches were taken |
+//! | `proofs/` | Naming (each CPU has a file of its own), Asking (what one batch asks of the folder), Folding (what all batches bring to one CPU's file), Whole (the law) |
+#![tactic(auto)]
+
+pub mod laws;
