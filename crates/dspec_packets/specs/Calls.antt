@@ -24,7 +24,7 @@ pub record Opens (old : CpuFiling) (drops : ℕ) (text : List ℕ) (new : CpuFil
 -- why no batch is opened: more was missed than 64 bits count, the bytes are no text, or memory was wanting
 abbrev pub HasNoBatch : CpuFiling → ℕ → List ℕ → PacketFault → Type 0
 HasNoBatch f drops text Missed = 2 ^ 64 ≤ f.missed + left f + drops
-HasNoBatch f drops text (Text fault) = HasNoRecords f.schema text (Text fault)
+HasNoBatch f drops text (Text fault) = (f.missed + left f + drops < 2 ^ 64) × HasNoRecords f.schema text (Text fault)
 HasNoBatch f drops text Memory = Unit {0}
 HasNoBatch f drops text (Clock place) = ⊥
 HasNoBatch f drops text TooLong = ⊥
@@ -123,6 +123,7 @@ pub record FindsAlone (f : CpuFiling) (room : List ℕ) (fault : PutFault) (new 
 pub record FindsNone (f : CpuFiling) (fault : PutFault) (new : CpuFiling) : Type 0 where
   pub why : PacketFault
   pub fault_is : fault ≡ put.Packet why
+  pub told : f.missed ≡ f.told
   pub none : HasNoRun f.lasts f.records f.place why
   pub is : new ≡ f
 

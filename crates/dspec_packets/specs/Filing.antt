@@ -1,5 +1,5 @@
 -- Cited by calls. The files of one CPU in a trace by time whose packets somebody else writes: what is known of them.
-use Rattle.std.specs.Prelude.{ℕ, ◌+◌, ◌-◌, ◌^◌, ◌<◌, ◌≤◌, min, All, IfSome, List, [], length, Option, None}
+use Rattle.std.specs.Prelude.{ℕ, ◌-◌, ◌^◌, ◌<◌, ◌≤◌, min, All, IfSome, List, [], length, Option, None}
 use Rattle.dspec_record.specs.Record.{Record}
 use Rattle.dspec_record.specs.EnablingRows.{EnabledRows}
 use Rattle.dspec_ctf.specs.Streams.{Accepts}

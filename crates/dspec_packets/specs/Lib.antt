@@ -1,3 +1,4 @@
-pub mod Filing
+pub mod Batches
 pub mod Calls
+pub mod Filing
 pub mod Naming

@@ -5,6 +5,7 @@
 //! |---|---|
 //! | `cpu_packets.rt`, `filing.rt`, `putting.rt` | `CpuPackets`: what is known of a CPU's files; batches, and what wasn't written; the next packet |
 //! | `packet.rt`, `fault.rt`, `room.rt` | which packet was handed out; why none was, or no text; bytes at the front of a room |
+//! | `laws.rt` | the law that the packets of a batch have all its records (`specs/Batches`) |
 //! | `identity.rt`, `naming.rt`, `metadata.rt` | `Identity`: whose trace it is; the names of events and fields; `put_metadata` |
 //! | `specs/`: Filing, Calls, Naming | what is known of a CPU's files; what each call makes of it; the metadata by plain bytes and numbers |
 #![tactic(auto)]
@@ -13,6 +14,7 @@ pub mod cpu_packets;
 pub mod fault;
 mod filing;
 pub mod identity;
+pub mod laws;
 mod metadata;
 mod naming;
 pub mod packet;

@@ -36,6 +36,7 @@ impl CpuPackets {
     fn find(&mut self) -> Result<Next, PacketFault>
         ensures found { IfOk result (λ next. Finds self.old next self.new) }
         ensures fault { IfErr result (HasNoRun self.old.lasts self.old.records self.old.place) }
+        ensures told { OnErr result (self.old.missed ≡ self.old.told) }
         ensures refused { OnErr result (self.new ≡ self.old) }
     {
         if self.missed != self.told {

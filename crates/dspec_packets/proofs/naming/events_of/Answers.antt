@@ -1,4 +1,4 @@
-use Rattle.std.proofs.Common.{◌≡◌, ◌+◌, ◌++◌, ◌∷◌, ◌∙◌, [], map, take, drop, subst, sym, rules, arith}
+use Rattle.std.proofs.Common.{◌≡◌, ◌+◌, ◌++◌, ◌∷◌, ◌∙◌, [], map, take, drop, subst, sym, rules}
 use Rattle.dspec_packets.specs.Naming.{AreEvents, kinds_in, texts_in}
 use Rattle.dspec_packets.proofs.Events.{of_part, one_more, some_behind, some_numbers}
 use Rattle.dspec_packets.proofs.naming.events_of.Goals as goal

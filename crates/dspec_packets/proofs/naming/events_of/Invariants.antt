@@ -1,4 +1,4 @@
-use Rattle.std.proofs.Common.{◌≡◌, ◌≤◌, length, map, take}
+use Rattle.std.proofs.Common.{◌≤◌, length, map, take}
 use Rattle.dspec_packets.specs.Naming.{AreEvents}
 use Rattle.dspec_packets.proofs.naming.events_of.Given as goal
 
