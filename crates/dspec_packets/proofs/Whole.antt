@@ -4,7 +4,7 @@ use Rattle.std.specs.Prelude.{None, if◌then◌else◌}
 use Rattle.dspec_ctf.specs.Rows.{IsFileRun}
 use Rattle.dspec_ctf.specs.declared.rows.Run.{Run}
 use Rattle.dspec_packets.specs.Filing.{CpuFiling}
-use Rattle.dspec_packets.specs.Calls.{FindsAndHands, HandsMissed, IsDone, IsFoundRun, settled}
+use Rattle.dspec_packets.specs.Calls.{FindsAndHands, HandsMissed, IsAllHanded, IsFoundRun, as_written}
 use Rattle.dspec_packets.specs.Batches.{HaveAllLeft, PutsPackets, parts_of}
 use Rattle.dspec_packets.specs.declared.packet.Packet.{Packet}
 
@@ -23,9 +23,9 @@ one_of p ps file n is_file is some =
 
 -- what was missed is handed out: the files are these then, and their records, runs and stamps are as they were
 told_all : CpuFiling → CpuFiling
-told_all f = record (settled f) { told = f.missed }
+told_all f = record (as_written f) { told = f.missed }
 
-after_missed : (f mid new : CpuFiling) (p : Packet) (ps : List Packet) (room filled : List ℕ) → HandsMissed (settled f) room p filled mid
+after_missed : (f mid new : CpuFiling) (p : Packet) (ps : List Packet) (room filled : List ℕ) → HandsMissed (as_written f) room p filled mid
     → HaveAllLeft (told_all f) ps new → HaveAllLeft f (p ∷ ps) new
 unfolding told_all
 after_missed f mid new p ps room filled h all =
@@ -33,17 +33,17 @@ after_missed f mid new p ps room filled h all =
 
 -- the packet of a run is handed out: the files are these then
 behind_run : CpuFiling → Run → List ℕ → CpuFiling
-behind_run f run lasts = record (settled f) { lasts = lasts; place = run.end; run = None }
+behind_run f run lasts = record (as_written f) { lasts = lasts; place = run.end; run = None }
 
-is_behind : (f mid : CpuFiling) (p : Packet) (room filled : List ℕ) (h : FindsAndHands (settled f) room p filled mid) → mid ≡ behind_run f h.run h.finds.lasts
+is_behind : (f mid : CpuFiling) (p : Packet) (room filled : List ℕ) (h : FindsAndHands (as_written f) room p filled mid) → mid ≡ behind_run f h.run h.finds.lasts
 unfolding behind_run
 is_behind f mid p room filled h = h.hands.is ∙ ap (λ (x : CpuFiling). record x { place = h.run.end; run = None }) h.finds.is
 
-is_run_of : (f mid : CpuFiling) (p : Packet) (room filled : List ℕ) → f.run ≡ None → (h : FindsAndHands (settled f) room p filled mid)
+is_run_of : (f mid : CpuFiling) (p : Packet) (room filled : List ℕ) → f.run ≡ None → (h : FindsAndHands (as_written f) room p filled mid)
     → IsFileRun f.lasts f.records f.place h.run h.finds.lasts
-is_run_of f mid p room filled none h = subst (λ o. IsFoundRun o (settled f) h.run h.finds.lasts) none h.finds.is_run
+is_run_of f mid p room filled none h = subst (λ o. IsFoundRun o (as_written f) h.run h.finds.lasts) none h.finds.is_run
 
-after_run : (f mid new : CpuFiling) (p : Packet) (ps : List Packet) (room filled : List ℕ) → f.run ≡ None → (h : FindsAndHands (settled f) room p filled mid)
+after_run : (f mid new : CpuFiling) (p : Packet) (ps : List Packet) (room filled : List ℕ) → f.run ≡ None → (h : FindsAndHands (as_written f) room p filled mid)
     → HaveAllLeft (behind_run f h.run h.finds.lasts) ps new → HaveAllLeft f (p ∷ ps) new
 unfolding behind_run
 after_run f mid new p ps room filled none h all =
@@ -54,7 +54,7 @@ after_run f mid new p ps room filled none h all =
     let first : parts_of (p ∷ ps) ≡ (run.file, run.end - f.place) ∷ parts_of ps = one_of p ps run.file (run.end - f.place) (ap (λ q. q.file) h.hands.packet_is) count some in
     record { runs = run ∷ all.runs; are_runs = (h.finds.lasts, (is_run, all.are_runs)); parts = first ∙ ap (λ rs. (run.file, run.end - f.place) ∷ rs) all.parts }
 
-pub have_all : (f new : CpuFiling) (ps : List Packet) → f.run ≡ None → f.place ≤ length f.records → PutsPackets f ps new → IsDone new → HaveAllLeft f ps new
+pub have_all : (f new : CpuFiling) (ps : List Packet) → f.run ≡ None → f.place ≤ length f.records → PutsPackets f ps new → IsAllHanded new → HaveAllLeft f ps new
 unfolding told_all behind_run
 have_all f new [] none within is done =
     let all : length f.records ≤ f.place = subst (λ (m : CpuFiling). length m.records ≤ m.place) is done.1 in

@@ -7,7 +7,7 @@ use Rattle.dspec_ctf.specs.Rows.{HasNoRun, IsFileRun, missed_packets, run_packet
 use Rattle.dspec_ctf.specs.declared.rows.Run.{Run}
 use Rattle.dspec_ctf.specs.declared.stream.PacketFault.{PacketFault}
 use Rattle.dspec_ctf.specs.declared.stream.PacketFault.TheVariants.{Text, Missed, TooLong, Clock, Memory}
-use Rattle.dspec_packets.specs.Filing.{CpuFiling, IsWithin, as_counted, left, unwritten}
+use Rattle.dspec_packets.specs.Filing.{CpuFiling, IsRunWithin, as_counted, left, unwritten}
 use Rattle.dspec_packets.specs.declared.packet.Packet.{Packet}
 use Rattle.dspec_packets.specs.declared.fault.PutFault.{PutFault}
 use Rattle.dspec_packets.specs.declared.putting.Next.{Next}
@@ -16,7 +16,7 @@ use Rattle.dspec_packets.specs.declared.fault.PutFault.TheVariants as put
 
 -- A batch is open now, which has the records of this text. What its CPU missed is counted: what it dropped, and the records of the batch
 -- before that no packet has.
-pub record Opens (old : CpuFiling) (drops : ℕ) (text : List ℕ) (new : CpuFiling) : Type 0 where
+pub record OpensBatch (old : CpuFiling) (drops : ℕ) (text : List ℕ) (new : CpuFiling) : Type 0 where
   pub read : List Record
   pub is_text : IsText old.schema text read
   pub is : new ≡ record old { missed = old.missed + left old + drops; told_before = old.told; records = read; from = 0; place = 0; run = None }
@@ -30,8 +30,8 @@ HasNoBatch f drops text (Clock place) = ⊥
 HasNoBatch f drops text TooLong = ⊥
 
 -- the packet that was handed out last counts as written
-abbrev pub settled : CpuFiling → CpuFiling
-settled f = record f { told_before = f.told; from = f.place }
+abbrev pub as_written : CpuFiling → CpuFiling
+as_written f = record f { told_before = f.told; from = f.place }
 
 -- the run of the next packet, and the last stamps with it: it was found before, or it is what comes next of the records
 abbrev pub IsFoundRun : Option Run → CpuFiling → Run → List ℕ → Type 0
@@ -47,18 +47,18 @@ pub record FindsRun (f : CpuFiling) (run : Run) (found : CpuFiling) : Type 0 whe
   pub told : f.missed ≡ f.told
   pub lasts : List ℕ
   pub is_run : IsFoundRun f.run f run lasts
-  pub within : IsWithin f.records f.place run
+  pub within : IsRunWithin f.records f.place run
   pub is : found ≡ record f { lasts = lasts; run = Some run }
 
 -- all that was missed is told, and all records of the batch were handed out
-abbrev pub IsDone : CpuFiling → Type 0
-IsDone f = (f.missed ≡ f.told) × (length f.records ≤ f.place)
+abbrev pub IsAllHanded : CpuFiling → Type 0
+IsAllHanded f = (f.missed ≡ f.told) × (length f.records ≤ f.place)
 
 -- what the next packet is, of which the run is found now
-abbrev pub Finds : CpuFiling → Next → CpuFiling → Type 0
-Finds f next.Missed found = IsToTell f × (found ≡ f)
-Finds f (next.Run run) found = FindsRun f run found
-Finds f next.Done found = IsDone f × (found ≡ f)
+abbrev pub FindsNext : CpuFiling → Next → CpuFiling → Type 0
+FindsNext f next.Missed found = IsToTell f × (found ≡ f)
+FindsNext f (next.Run run) found = FindsRun f run found
+FindsNext f next.Done found = IsAllHanded f × (found ≡ f)
 
 -- the packet that tells what was missed, for the CPU's first file
 abbrev pub missed_bytes : CpuFiling → List ℕ
@@ -96,8 +96,8 @@ pub record FindsAndHands (f : CpuFiling) (room : List ℕ) (p : Packet) (filled 
 -- Either way what was handed out before counts as written.
 abbrev pub Hands : CpuFiling → List ℕ → Option Packet → List ℕ → CpuFiling → Type 0
 Hands f room (Some p) filled new =
-    (IsToTell f × HandsMissed (settled f) room p filled new) ⊎ FindsAndHands (settled f) room p filled new
-Hands f room None filled new = IsDone f × (filled ≡ room) × (new ≡ settled f)
+    (IsToTell f × HandsMissed (as_written f) room p filled new) ⊎ FindsAndHands (as_written f) room p filled new
+Hands f room None filled new = IsAllHanded f × (filled ≡ room) × (new ≡ as_written f)
 
 -- these bytes have no room of so many, which they need
 abbrev pub HasNoRoom : List ℕ → List ℕ → ℕ → Type 0
@@ -130,8 +130,8 @@ pub record FindsNone (f : CpuFiling) (fault : PutFault) (new : CpuFiling) : Type
 -- Why nothing is handed out. Nothing is changed but that what was handed out before counts as written, and that the next run is found.
 abbrev pub HandsNone : CpuFiling → List ℕ → PutFault → CpuFiling → Type 0
 HandsNone f room fault new =
-    (IsToTell f × HasNoMissed (settled f) room fault × (new ≡ settled f))
-    ⊎ (FindsAlone (settled f) room fault new ⊎ FindsNone (settled f) fault new)
+    (IsToTell f × HasNoMissed (as_written f) room fault × (new ≡ as_written f))
+    ⊎ (FindsAlone (as_written f) room fault new ⊎ FindsNone (as_written f) fault new)
 
 -- The packet that was handed out last wasn't written, nor will be those behind it: what it told isn't told, and its records and those that
 -- come behind are missed.
@@ -140,5 +140,5 @@ without_rest f =
     record f { missed = as_counted (f.missed + unwritten f); told = f.told_before; from = length f.records; place = length f.records; run = None }
 
 -- so many events more were missed
-abbrev pub with_missed : CpuFiling → ℕ → CpuFiling
-with_missed f count = record f { missed = as_counted (f.missed + count) }
+abbrev pub with_more_missed : CpuFiling → ℕ → CpuFiling
+with_more_missed f count = record f { missed = as_counted (f.missed + count) }

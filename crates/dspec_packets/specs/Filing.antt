@@ -31,15 +31,15 @@ pub record CpuFiling : Type 0 where
   pub run : Option Run
 
 -- a run of records from a place on, which are there
-abbrev pub IsWithin : List Record → ℕ → Run → Type 0
-IsWithin rs place r = (place < r.end) × (r.end ≤ length rs)
+abbrev pub IsRunWithin : List Record → ℕ → Run → Type 0
+IsRunWithin rs place r = (place < r.end) × (r.end ≤ length rs)
 
 -- what is true of all files at all times
-pub record IsSound (f : CpuFiling) : Type 0 where
+pub record IsSoundFiling (f : CpuFiling) : Type 0 where
   pub accepted : All (Accepts f.schema) f.records
   pub from_place : f.from ≤ f.place
   pub place_within : f.place ≤ length f.records
-  pub run_within : IfSome f.run (IsWithin f.records f.place)
+  pub run_within : IfSome f.run (IsRunWithin f.records f.place)
 
 -- no packets yet, and no batch
 abbrev pub no_packets : List ℕ → EnabledRows → ℕ → CpuFiling

@@ -24,11 +24,11 @@ pub struct CpuPackets {
 }
 
 impl Model for CpuPackets {
-    ghost use Rattle.dspec_packets.specs.Filing.{CpuFiling, IsSound};
+    ghost use Rattle.dspec_packets.specs.Filing.{CpuFiling, IsSoundFiling};
 
     ghost Value = { CpuFiling };
 
     ghost view = { λ i. record { uuid = i.uuid; schema = i.enablings; cpu = i.cpu; lasts = i.rows; missed = i.missed; told = i.told; told_before = i.told_before; records = i.records.items; from = i.from; place = i.place; run = i.run } };
 
-    ghost invariant = { λ i. IsSound (record { uuid = i.uuid; schema = i.enablings; cpu = i.cpu; lasts = i.rows; missed = i.missed; told = i.told; told_before = i.told_before; records = i.records.items; from = i.from; place = i.place; run = i.run }) };
+    ghost invariant = { λ i. IsSoundFiling (record { uuid = i.uuid; schema = i.enablings; cpu = i.cpu; lasts = i.rows; missed = i.missed; told = i.told; told_before = i.told_before; records = i.records.items; from = i.from; place = i.place; run = i.run }) };
 }

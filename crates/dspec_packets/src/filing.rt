@@ -3,7 +3,7 @@
 ghost use Rattle.std.specs.Prelude.{◌≡◌, IfOk, IfErr, IfSome, OnOk, OnErr, None};
 ghost use Rattle.dspec_record.specs.declared.header.Header.TheVariants.{One, Two};
 ghost use Rattle.dspec_packets.specs.Filing.{no_packets, unwritten};
-ghost use Rattle.dspec_packets.specs.Calls.{HasNoBatch, Opens, with_missed, without_rest};
+ghost use Rattle.dspec_packets.specs.Calls.{HasNoBatch, OpensBatch, with_more_missed, without_rest};
 
 use crate::CpuPackets;
 use dspec_ctf::rows::records_of;
@@ -48,7 +48,7 @@ impl CpuPackets {
     /// Opens the next batch of the CPU, by its drops and its text. Records of the batch before that weren't handed out are missed. Nothing is changed where the
     /// answer is a fault.
     pub fn open(&mut self, drops: u64, text: &[u8]) -> Result<(), PacketFault>
-        ensures opened { OnOk result (Opens self.old drops text.now self.new) }
+        ensures opened { OnOk result (OpensBatch self.old drops text.now self.new) }
         ensures fault { IfErr result (HasNoBatch self.old drops text.now) }
         ensures refused { OnErr result (self.new ≡ self.old) }
     {
@@ -91,7 +91,7 @@ impl CpuPackets {
 
     /// Counts events that the CPU missed for another reason, as a batch that the caller let go.
     pub fn miss(&mut self, count: u64)
-        ensures { self.new ≡ with_missed self.old count }
+        ensures { self.new ≡ with_more_missed self.old count }
     {
         self.missed = self.missed.saturating_add(count);
     }

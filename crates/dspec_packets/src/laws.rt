@@ -2,7 +2,7 @@
 
 ghost use Rattle.std.specs.Prelude.{◌≡◌, ◌≤◌, List, None, length};
 ghost use Rattle.dspec_packets.specs.Filing.{CpuFiling};
-ghost use Rattle.dspec_packets.specs.Calls.{IsDone};
+ghost use Rattle.dspec_packets.specs.Calls.{IsAllHanded};
 ghost use Rattle.dspec_packets.specs.Batches.{HaveAllLeft, PutsPackets};
 ghost use Rattle.dspec_packets.specs.declared.packet.Packet.{Packet};
 
@@ -10,5 +10,5 @@ ghost use Rattle.dspec_packets.specs.declared.packet.Packet.{Packet};
 /// packet: they are those of runs one behind another. (That runs have all records once is a law of `dspec_ctf`.)
 pub fn packets_have_all()
     ensures { (f new : CpuFiling) (ps : List Packet) → f.run ≡ None → f.place ≤ length f.records
-        → PutsPackets f ps new → IsDone new → HaveAllLeft f ps new }
+        → PutsPackets f ps new → IsAllHanded new → HaveAllLeft f ps new }
 {}

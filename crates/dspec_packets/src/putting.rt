@@ -4,8 +4,8 @@ ghost use Rattle.std.specs.Prelude.{◌≡◌, IfOk, IfErr, OnOk, OnErr, slice_r
 ghost use Rattle.dspec_ctf.specs.Packets.{events};
 ghost use Rattle.dspec_ctf.specs.Streams.{IsTooLong};
 ghost use Rattle.dspec_ctf.specs.Rows.{HasNoRun};
-ghost use Rattle.dspec_packets.specs.Filing.{IsWithin};
-ghost use Rattle.dspec_packets.specs.Calls.{Hands, HandsMissed, HandsNone, HandsRun, HasNoMissed, HasNoRunPacket, Finds, missed_bytes, run_bytes, settled};
+ghost use Rattle.dspec_packets.specs.Filing.{IsRunWithin};
+ghost use Rattle.dspec_packets.specs.Calls.{Hands, HandsMissed, HandsNone, HandsRun, HasNoMissed, HasNoRunPacket, FindsNext, missed_bytes, run_bytes, as_written};
 
 use crate::room::fill;
 use crate::{CpuPackets, Packet, PutFault};
@@ -26,7 +26,7 @@ pub(crate) enum Next {
 impl CpuPackets {
     // What was handed out counts as written.
     fn settle(&mut self)
-        ensures { self.new ≡ settled self.old }
+        ensures { self.new ≡ as_written self.old }
     {
         self.told_before = self.told;
         self.from = self.place;
@@ -34,7 +34,7 @@ impl CpuPackets {
 
     // What the next packet is; its run is found.
     fn find(&mut self) -> Result<Next, PacketFault>
-        ensures found { IfOk result (λ next. Finds self.old next self.new) }
+        ensures found { IfOk result (λ next. FindsNext self.old next self.new) }
         ensures fault { IfErr result (HasNoRun self.old.lasts self.old.records self.old.place) }
         ensures told { OnErr result (self.old.missed ≡ self.old.told) }
         ensures refused { OnErr result (self.new ≡ self.old) }
@@ -76,7 +76,7 @@ impl CpuPackets {
     }
 
     fn run_bytes(&self, run: Run) -> Result<Vec<u8>, PacketFault>
-        requires { IsWithin self.now.records self.now.place run }
+        requires { IsRunWithin self.now.records self.now.place run }
         ensures bytes { IfOk result (λ bytes. bytes.items ≡ run_bytes self.now run) }
         ensures fault { IfErr result (IsTooLong (events self.now.schema (slice_range self.now.records self.now.place run.end))) }
     {
@@ -105,7 +105,7 @@ impl CpuPackets {
 
     // Hands out the packet of this run.
     fn put_run(&mut self, run: Run, room: &mut [u8]) -> Result<Packet, PutFault>
-        requires { IsWithin self.old.records self.old.place run }
+        requires { IsRunWithin self.old.records self.old.place run }
         ensures hands { IfOk result (λ packet. HandsRun self.old run room.old packet room.new self.new) }
         ensures fault { IfErr result (HasNoRunPacket self.old run room.old) }
         ensures refused { OnErr result ((self.new ≡ self.old) × (room.new ≡ room.old)) }
