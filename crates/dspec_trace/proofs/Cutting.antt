@@ -5,7 +5,7 @@ use Rattle.std.specs.Io.KnownBytes.{Appends, Keeps}
 use Rattle.std.proofs.Math.Seq.{take-add}
 use Rattle.std.proofs.lemmas.List.{take_at}
 use Rattle.std.proofs.lemmas.List.{append-nil}
-use Rattle.dspec_trace.specs.Held.{GoesOn, IsCut, IsLong}
+use Rattle.dspec_trace.specs.Held.{KeepsInFront, IsCut, IsLong}
 
 split : (bs : List ℕ) (at to : ℕ) → at ≤ to → take to bs ≡ take at bs ++ take (to - at) (drop at bs)
 split bs at to below =
@@ -29,13 +29,13 @@ cut-back (Some xs) (Some ys) None bs n long begun cut = elim cut [ ]
 cut-back (Some xs) (Some ys) (Some zs) bs n long begun cut = cut ∙ ap (λ all. take n all) begun ∙ take_at xs bs n long
 
 -- what was written of some bytes is there, and couldn't be cut off
-pub left-on : (old mid new : Option (List ℕ)) (bs : List ℕ) → (n : ℕ) × Appends old mid (take n bs) → Keeps mid new → GoesOn old new
+pub left-on : (old mid new : Option (List ℕ)) (bs : List ℕ) → (n : ℕ) × Appends old mid (take n bs) → Keeps mid new → KeepsInFront old new
 left-on None mid new bs begun kept = ([], record {})
 left-on (Some xs) None new bs begun kept = elim begun.1 [ ]
 left-on (Some xs) (Some ys) None bs begun kept = elim kept [ ]
 left-on (Some xs) (Some ys) (Some zs) bs begun kept = (take begun.0 bs, kept ∙ begun.1)
 
 -- nothing more
-pub goes-nowhere : (known : Option (List ℕ)) → GoesOn known known
+pub goes-nowhere : (known : Option (List ℕ)) → KeepsInFront known known
 goes-nowhere None = ([], record {})
 goes-nowhere (Some xs) = ([], sym (append-nil xs))

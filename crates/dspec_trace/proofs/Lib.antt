@@ -8,4 +8,4 @@ mod Handing
 mod Timely
 mod Tying
 mod Walks
-mod Written
+pub mod Written

@@ -10,14 +10,16 @@ use Rattle.dspec_trace.specs.declared.fault.FolderFault.{FolderFault}
 use Rattle.dspec_trace.proofs.Written.{asks_in_vain, has_left, has_more, none_among, one_file_has, one_file_more}
 
 -- a file was made and pushed
-pub made : (files mid new : List Held) (file : Held) (known : Option (List ℕ)) (called name : List ℕ) → mid ≡ files → new ≡ mid ++ file ∷ [] → file ≡ record { name = called; bytes = known; broken = false }
+pub made : (files mid new : List Held) (file : Held) (known : Option (List ℕ)) (called name : List ℕ) → mid ≡ files → new ≡ mid ++ file ∷ []
+    → file ≡ record { name = called; bytes = known; broken = false }
     → known ≡ Some [] → called ≡ name → All (λ f. f.name ≢ name) files → (writes : List FileWrite) → FilesHave files writes → FilesHave new writes
 made files mid new file known called name kept pushed is none called_so apart writes has =
     let named : file.name ≡ name = ap (λ (x : Held). x.name) is ∙ called_so in
     subst (λ xs. FilesHave xs writes) (sym (pushed ∙ ap (λ xs. xs ++ file ∷ []) kept))
     (one_file_more files file writes (ap (λ (x : Held). x.bytes) is ∙ none) (λ place f got e. none_among files name apart place f got (e ∙ named)) has)
 
-module _ (files mid : List Held) (place : ℕ) (old new : Held) (name bytes : List ℕ) (there : IsFileAt mid name place) (read : old ≡ get_or mid place old) (named : new.name ≡ old.name) (stays : old.broken ≡ true → new ≡ old) (kept : (writes : List FileWrite) → FilesHave files writes → FilesHave mid writes) where
+module _ (files mid : List Held) (place : ℕ) (old new : Held) (name bytes : List ℕ) (there : IsFileAt mid name place) (read : old ≡ get_or mid place old)
+    (named : new.name ≡ old.name) (stays : old.broken ≡ true → new ≡ old) (kept : (writes : List FileWrite) → FilesHave files writes → FilesHave mid writes) where
   is : old ≡ there.0
   is = read ∙ get_or_from_slice_get mid place there.0 old there.1.0
 

@@ -1,12 +1,13 @@
 -- Files that are held have what was written to them.
-use Rattle.std.proofs.Common.{◌≡◌, ◌≢◌, ℕ, zero, suc, ◌⊎◌, inl, inr, ⊎_elim, List, [], ◌∷◌, ◌++◌, ap, sym, refl, subst, ◌∙◌, append_assoc, arith, slice_get, slice_set, length, All, Some, None, Option, true, false, Bool, ◌&&◌, if◌then◌else◌, bytes_eq, is_none, Decides}
+use Rattle.std.proofs.Common.{◌≡◌, ◌≢◌, ℕ, zero, suc, ◌⊎◌, inl, inr, ⊎_elim, List, [], ◌∷◌, ◌++◌, ap, sym, refl, subst}
+use Rattle.std.proofs.Common.{◌∙◌, append_assoc, arith, slice_get, slice_set, length, All, Some, None, Option, true, false, Bool, ◌&&◌, if◌then◌else◌, bytes_eq, is_none, Decides}
 use Rattle.std.specs.Io.KnownBytes.{Appends, Keeps}
 use Rattle.std.proofs.lemmas.List.{append-nil}
 use Rattle.std.proofs.lemmas.Grind.{flat_map-append}
 use Rattle.std.proofs.lemmas.Option.{slice_get_within, get_or_from_slice_get}
 use Rattle.std.proofs.lemmas.Slice.Eq.{bytes_eq-Decides}
 use Rattle.dspec_trace.specs.Writes.{FileWrite, brought_to, file_of}
-use Rattle.dspec_trace.specs.Held.{FilesHave, GoesOn, HasWritten, HaveBesides, Held, IsNotAmong, LeavesFile}
+use Rattle.dspec_trace.specs.Held.{FilesHave, KeepsInFront, HasWritten, HaveBesides, Held, IsNotAmong, LeavesFile}
 use Rattle.dspec_trace.specs.declared.fault.FolderFault.{FolderFault}
 use Rattle.dspec_trace.specs.declared.fault.FolderFault.TheVariants.{Cpu, Cut, Memory, Metadata, NotEmpty, Packet, Read, Write}
 use Rattle.dspec_deeds.proofs.Places.{got_set, got_other}
@@ -181,7 +182,7 @@ has_same old new xs keeps whole stays has =
       whole = λ _. refl;
     }
 
-has_broken : (old new : Held) (xs : List ℕ) → GoesOn old.bytes new.bytes → new.broken ≡ true → HasWritten old xs → HasWritten new (xs ++ [])
+has_broken : (old new : Held) (xs : List ℕ) → KeepsInFront old.bytes new.bytes → new.broken ≡ true → HasWritten old xs → HasWritten new (xs ++ [])
 has_broken old new xs goes broken has = record {
   more = has.more ++ goes.0;
   has = appended old.bytes new.bytes (xs ++ has.more) goes.0 has.has goes.1

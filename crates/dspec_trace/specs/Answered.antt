@@ -4,6 +4,6 @@ use Rattle.dspec_trace.specs.declared.told.Answer.{Answer}
 use Rattle.dspec_trace.specs.declared.told.Answer.TheVariants.{Behind, Left}
 
 -- with one answer more
-abbrev pub told_by : List ℕ → Answer → List ℕ
-told_by bytes (Behind more) = bytes ++ more.now
-told_by bytes (Left n) = take n bytes
+abbrev pub answered_by : List ℕ → Answer → List ℕ
+answered_by bytes (Behind more) = bytes ++ more.now
+answered_by bytes (Left n) = take n bytes

@@ -23,15 +23,15 @@ IsCut None new n = ⊤
 IsCut (Some xs) None n = ⊥
 IsCut (Some xs) (Some ys) n = ys ≡ take n xs
 
--- some bytes are behind those known that nobody answers for
-abbrev pub GoesOn : Option (List ℕ) → Option (List ℕ) → Type 0
-GoesOn old new = (more : List ℕ) × Appends old new more
+-- known bytes stay in front, and some are behind them that nobody answers for
+abbrev pub KeepsInFront : Option (List ℕ) → Option (List ℕ) → Type 0
+KeepsInFront old new = (more : List ℕ) × Appends old new more
 
 -- what a refused write leaves of the bytes that a file had: all and no more, unless what it had written couldn't be cut off
 abbrev pub LeavesBytes : Option (List ℕ) → Option (List ℕ) → FolderFault → Type 0
 LeavesBytes old new (Write code) = Keeps old new
 LeavesBytes old new Memory = Keeps old new
-LeavesBytes old new Cut = GoesOn old new
+LeavesBytes old new Cut = KeepsInFront old new
 LeavesBytes old new Read = ⊥
 LeavesBytes old new NotEmpty = ⊥
 LeavesBytes old new (Metadata fault) = ⊥
@@ -42,7 +42,7 @@ LeavesBytes old new (Cpu cpu) = ⊥
 abbrev pub LeavesFile : Held → Held → FolderFault → Type 0
 LeavesFile old new (Write code) = Keeps old.bytes new.bytes × (new.broken ≡ false)
 LeavesFile old new Memory = Keeps old.bytes new.bytes × (new.broken ≡ false)
-LeavesFile old new Cut = GoesOn old.bytes new.bytes × (new.broken ≡ true)
+LeavesFile old new Cut = KeepsInFront old.bytes new.bytes × (new.broken ≡ true)
 LeavesFile old new Read = ⊥
 LeavesFile old new NotEmpty = ⊥
 LeavesFile old new (Metadata fault) = ⊥

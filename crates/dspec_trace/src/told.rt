@@ -24,7 +24,7 @@ impl Model for Told {
 unsafe impl Send for Told {}
 
 impl Told {
-    ghost use Rattle.dspec_trace.specs.Answered.{told_by};
+    ghost use Rattle.dspec_trace.specs.Answered.{answered_by};
 
     /// Nothing was answered.
     pub(crate) fn none() -> Told
@@ -35,7 +35,7 @@ impl Told {
 
     /// One answer more.
     pub(crate) fn then(&self, _answer: &Answer<'_>) -> Told
-        ensures { result.bytes ≡ told_by self.now.bytes _answer.now }
+        ensures { result.bytes ≡ answered_by self.now.bytes _answer.now }
     {
         Told {}
     }

@@ -1,5 +1,6 @@
 -- What all batches of a session bring to one CPU's file, where nothing is lost.
-use Rattle.std.proofs.Common.{◌≡◌, ◌≢◌, ◌<◌, ◌≤◌, ◌+◌, ◌^◌, ◌==◌, ℕ, Bool, true, false, if◌then◌else◌, ◌⊎◌, inl, inr, List, [], ◌∷◌, ◌++◌, Some, None, refl, sym, ap, ◌∙◌, subst, arith, length, reverse, All, codes, append_assoc}
+use Rattle.std.proofs.Common.{◌≡◌, ◌≢◌, ◌<◌, ◌≤◌, ◌+◌, ◌^◌, ◌==◌, ℕ, Bool, true, false, if◌then◌else◌, ◌⊎◌, inl, inr, List}
+use Rattle.std.proofs.Common.{[], ◌∷◌, ◌++◌, Some, None, refl, sym, ap, ◌∙◌, subst, arith, length, reverse, All, codes, append_assoc}
 use Rattle.std.specs.List.{flat_map}
 use Rattle.std.proofs.lemmas.List.{append-nil}
 use Rattle.std.proofs.lemmas.List.Elements.{All-cons, All-nil}
@@ -23,7 +24,7 @@ use Rattle.dspec_trace.specs.Accounts.{missed_on}
 use Rattle.dspec_trace.specs.Writes.{FileWrite, brought_to, file_of}
 use Rattle.dspec_trace.specs.Writing.{AddsPacket, GetsPacket, IsNothing, Tracing, cpu_name}
 use Rattle.dspec_trace.proofs.Written.{brought_elsewhere, brought_whole, file_of_more}
-use Rattle.dspec_trace_reading.specs.AsTaken.{AreShort, HaveNumbers, drops_of}
+use Rattle.dspec_trace_reading.specs.AsTaken.{AreShort, HaveNumbers, drops_carried}
 use Rattle.dspec_trace_reading.proofs.Naming.{names_differ, not_metadata}
 use Rattle.dspec_trace_reading.proofs.Asking.{came_whole, few, missed_before, missed_elsewhere, missed_here, stays_wide, took, unlost}
 
@@ -45,7 +46,8 @@ module _ (e : EnabledRows) where
   }
 
   -- a text is of the records of the buffer's pieces alone
-  one_text : (b : Batch) (ps : List Piece) (read : List Record) → HasPieces (table_shape e.header (enabled e.rows)) (table_accepts e.header (enabled e.rows)) (table_text e.header (enabled e.rows)) b.buffer ps
+  one_text : (b : Batch) (ps : List Piece) (read : List Record) → HasPieces (table_shape e.header (enabled e.rows)) (table_accepts e.header (enabled e.rows)) (table_text e.header (enabled e.rows))
+      b.buffer ps
       → IsText e b.buffer.text read → read ≡ reverse (records ps)
   one_text b ps read has is =
       one_reading (table_shape e.header (enabled e.rows)) (table_accepts e.header (enabled e.rows)) (table_text e.header (enabled e.rows)) laws 0 b.buffer.text read (reverse (records ps)) is
@@ -87,20 +89,20 @@ module _ (e : EnabledRows) where
       pub asked : new.written ≡ Some writes
       pub bytes : file_of (cpu_name c) writes ≡ file_of (cpu_name c) was ++ flat_map (λ p. packet uuid e p.0 c p.1) packets
       pub has : flat_map (λ p. p.1) packets ≡ rs
-      pub counted : missed_on new c ≡ missed_on old c + drops_of bs
+      pub counted : missed_on new c ≡ missed_on old c + drops_carried bs
       pub told : last_from (missed_on old c) packets ≡ missed_on new c
       pub each : All (Fits new) packets
 
     -- a call that brought the file nothing
     skips : (old mid new : Tracing) (bs all : List Batch) (rs rest : List Record) (was next : List FileWrite) → file_of (cpu_name c) next ≡ file_of (cpu_name c) was
-        → missed_on mid c ≡ missed_on old c → drops_of all ≡ drops_of bs → rs ≡ rest → Brought mid new bs rest next → Brought old new all rs was
+        → missed_on mid c ≡ missed_on old c → drops_carried all ≡ drops_carried bs → rs ≡ rest → Brought mid new bs rest next → Brought old new all rs was
     skips old mid new bs all rs rest was next file missed drops same b = record {
       packets = b.packets;
       writes = b.writes;
       asked = b.asked;
       bytes = b.bytes ∙ ap (λ xs. xs ++ flat_map (λ p. packet uuid e p.0 c p.1) b.packets) file;
       has = b.has ∙ sym same;
-      counted = b.counted ∙ ap (λ n. n + drops_of bs) missed ∙ ap (λ n. missed_on old c + n) (sym drops);
+      counted = b.counted ∙ ap (λ n. n + drops_carried bs) missed ∙ ap (λ n. missed_on old c + n) (sym drops);
       told = ap (λ n. last_from n b.packets) (sym missed) ∙ b.told;
       each = b.each;
     }

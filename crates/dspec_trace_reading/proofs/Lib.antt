@@ -1,4 +1,5 @@
 mod Asking
 mod Folding
 mod Naming
+mod OwnNumbers
 mod Whole

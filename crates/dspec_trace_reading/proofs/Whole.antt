@@ -23,7 +23,7 @@ use Rattle.dspec_trace.specs.Accounts.{missed_on}
 use Rattle.dspec_trace.specs.Writes.{FileWrite, brought_to, file_of}
 use Rattle.dspec_trace.specs.Writing.{GetsPacket, IsBegun, Tracing, cpu_name}
 use Rattle.dspec_trace.proofs.Written.{brought_elsewhere, brought_whole}
-use Rattle.dspec_trace_reading.specs.AsTaken.{AreShort, HaveNumbers, ReadsBack, drops_of}
+use Rattle.dspec_trace_reading.specs.AsTaken.{AreShort, HaveNumbers, ReadsBack, drops_carried}
 use Rattle.dspec_trace_reading.proofs.Naming.{not_metadata}
 use Rattle.dspec_trace_reading.proofs.Asking.{took}
 use Rattle.dspec_trace_reading.proofs.Folding.{Brought, Fits, Holds, Stays, brought, last_from, metadata_stays}
@@ -46,7 +46,8 @@ FilesRead = (e : EnabledRows) (names : Names) (uuid : List ℕ) (cpu : ℕ) (bat
     → All (λ b. (b.0 < 2 ^ 64) × (length (events e b.1) < 2 ^ 60) × All (Accepts e) b.1) batches
     → FileTells (layout_of e names AsTaken) uuid cpu (flat_map (λ b. packet uuid e b.0 cpu b.1) batches) (map (event_of e names AsTaken) (flat_map (λ b. b.1) batches)) (last_missed batches)
 
-module _ (metadata_law : MetadataReads) (files_law : FilesRead) (origin : Origin) (e : EnabledRows) (names : Names) (begun ended : Tracing) (is : IsBegun origin e names (Some []) begun) (passed : List Passed) (got : GotAll (GetsPacket e) begun passed ended)
+module _ (metadata_law : MetadataReads) (files_law : FilesRead) (origin : Origin) (e : EnabledRows) (names : Names) (begun ended : Tracing)
+    (is : IsBegun origin e names (Some []) begun) (passed : List Passed) (got : GotAll (GetsPacket e) begun passed ended)
     (none : ended.lost ≡ None) where
   abbrev pub first : FileWrite
   first = record { name = codes "metadata"; bytes = origin_text origin AsTaken e names; refused = None }
@@ -80,13 +81,14 @@ module _ (metadata_law : MetadataReads) (files_law : FilesRead) (origin : Origin
     one : Brought e origin.uuid c low begun ended (passed_from c passed) rs (first ∷ [])
     one = brought e origin.uuid c low passed begun ended (first ∷ []) rs got none is.uuid_is (ap length is.missed) asked own short hold
 
-    tells : FileTells (layout_of e names AsTaken) origin.uuid c (flat_map (λ p. packet origin.uuid e p.0 c p.1) one.packets) (map (event_of e names AsTaken) (flat_map (λ p. p.1) one.packets)) (last_missed one.packets)
+    tells : FileTells (layout_of e names AsTaken) origin.uuid c (flat_map (λ p. packet origin.uuid e p.0 c p.1) one.packets)
+        (map (event_of e names AsTaken) (flat_map (λ p. p.1) one.packets)) (last_missed one.packets)
     tells =
         files_law e names origin.uuid c one.packets long (omega (arith, low))
         (All-weaker (Fits e origin.uuid c low ended) (λ p. (p.0 < 2 ^ 64) × (length (events e p.1) < 2 ^ 60) × All (Accepts e) p.1)
         (λ p h. (omega (arith, h.0, small), h.1, h.2)) one.packets one.each)
 
-    missed_is : last_missed one.packets ≡ drops_of (passed_from c passed)
+    missed_is : last_missed one.packets ≡ drops_carried (passed_from c passed)
     missed_is =
         let last : last_missed one.packets ≡ missed_on ended c = last_same one.packets ∙ ap (λ n. last_from n one.packets) (sym none_missed) ∙ one.told in
         last ∙ omega (arith, one.counted, none_missed)
@@ -96,9 +98,10 @@ module _ (metadata_law : MetadataReads) (files_law : FilesRead) (origin : Origin
         let both : Some all.0 ≡ Some one.writes = sym all.1.0 ∙ one.asked in
         cc (both)
 
-    pub stream_read : FileTells (layout_of e names AsTaken) origin.uuid c (file_of (cpu_name c) all.0) (map (event_of e names AsTaken) rs) (drops_of (passed_from c passed))
+    pub stream_read : FileTells (layout_of e names AsTaken) origin.uuid c (file_of (cpu_name c) all.0) (map (event_of e names AsTaken) rs) (drops_carried (passed_from c passed))
     stream_read =
-        let bytes : file_of (cpu_name c) all.0 ≡ flat_map (λ p. packet origin.uuid e p.0 c p.1) one.packets = ap (λ ws. file_of (cpu_name c) ws) writes_same ∙ one.bytes ∙ ap (λ xs. xs ++ flat_map (λ p. packet origin.uuid e p.0 c p.1) one.packets) nothing_yet in
+        let bytes : file_of (cpu_name c) all.0 ≡ flat_map (λ p. packet origin.uuid e p.0 c p.1) one.packets =
+        ap (λ ws. file_of (cpu_name c) ws) writes_same ∙ one.bytes ∙ ap (λ xs. xs ++ flat_map (λ p. packet origin.uuid e p.0 c p.1) one.packets) nothing_yet in
         subst (λ n. FileTells (layout_of e names AsTaken) origin.uuid c (file_of (cpu_name c) all.0) (map (event_of e names AsTaken) rs) n) missed_is
         (subst (λ xs. FileTells (layout_of e names AsTaken) origin.uuid c (file_of (cpu_name c) all.0) (map (event_of e names AsTaken) xs) (last_missed one.packets)) one.has
         (subst (λ xs. FileTells (layout_of e names AsTaken) origin.uuid c xs (map (event_of e names AsTaken) (flat_map (λ p. p.1) one.packets)) (last_missed one.packets)) (sym bytes) tells))

@@ -17,9 +17,9 @@ use Rattle.dspec_trace.specs.Writes.{FileWrite, file_of}
 use Rattle.dspec_trace.specs.Writing.{cpu_name}
 
 -- the drops that these batches carry, together
-abbrev pub drops_of : List Batch → ℕ
-drops_of [] = 0
-drops_of (b ∷ bs) = b.drops + drops_of bs
+abbrev pub drops_carried : List Batch → ℕ
+drops_carried [] = 0
+drops_carried (b ∷ bs) = b.drops + drops_carried bs
 
 -- each batch has the number of the CPU that it came from
 abbrev pub HaveNumbers : List Passed → Type 0
@@ -32,9 +32,10 @@ AreShort e passed = AllByRecursion (λ (x : Passed). (rs : List Record) → IsTe
 -- It is known what the folder was asked for. What that leaves of the file `metadata` is read as the layout of these enablings and names; and
 -- what it leaves of a CPU's file, by that layout, as the events of exactly the records that came out of that CPU, in order, of this trace and
 -- this CPU, with as many missed as the CPU's batches carried drops.
-pub record ReadsBack (uuid : List ℕ) (e : EnabledRows) (names : Names) (left : List Left) (seen : (c : ℕ) (l : Left) → slice_get left c ≡ Some l → List Record) (batches : ℕ → List Batch) (written : Option (List FileWrite)) : Type 0 where
+pub record ReadsBack (uuid : List ℕ) (e : EnabledRows) (names : Names) (left : List Left)
+    (seen : (c : ℕ) (l : Left) → slice_get left c ≡ Some l → List Record) (batches : ℕ → List Batch) (written : Option (List FileWrite)) : Type 0 where
   pub writes : List FileWrite
   pub asked : written ≡ Some writes
   pub metadata : read_metadata (file_of (codes "metadata") writes) ≡ Some (layout_of e names AsTaken)
   pub streams : (c : ℕ) (l : Left) → c < 64 → (there : slice_get left c ≡ Some l)
-      → FileTells (layout_of e names AsTaken) uuid c (file_of (cpu_name c) writes) (map (event_of e names AsTaken) (seen c l there)) (drops_of (batches c))
+      → FileTells (layout_of e names AsTaken) uuid c (file_of (cpu_name c) writes) (map (event_of e names AsTaken) (seen c l there)) (drops_carried (batches c))

@@ -28,7 +28,7 @@ use denote.Triple.Walked.{says, Stays, stay_dropped, walk_of, ends_at, walk_Meet
 use Rattle.dspec_trace.proofs.Walks.{none, none_made}
 use Rattle.dspec_trace.specs.contracts.told.Told as Told
 use Rattle.dspec_trace.specs.contracts.told.Answer as Answer
-use Rattle.dspec_trace.specs.Answered.{told_by}
+use Rattle.dspec_trace.specs.Answered.{answered_by}
 use Rattle.dspec_trace.specs.contracts.told.Told.then as F
 use Rattle.dspec_trace.specs.contracts.told.Told.then.Key.{name as #self}
 use Rattle.dspec_trace.proofs.told.Told.then.Statement as stated
@@ -62,7 +62,7 @@ module _ {M : Type 1} {𝓤 : Ura M} (𝓛 : Logic 𝓤) (at_mem : Memory → SP
         let vss = z.0.4 in
         let u : Val = vptr a.0.ref_ptr.0 a.0.ref_ptr.1 in
         let v : Val = vptr a.1.0.ref_ptr.0 a.1.0.ref_ptr.1 in
-        let made : (Told.the_row).Denot = record { bytes = told_by a.0.now.bytes a.1.0.now } in
+        let made : (Told.the_row).Denot = record { bytes = answered_by a.0.now.bytes a.1.0.now } in
         qed 𝓛 ((raw toks ⊛ ‵ (owns (types_at ended.signature.params z.0.0) a vss)) ∷ raw ((held z.0.0 a).requires z.1) ∷ []) ∵
         keep ! (0 ∷ []) $ split ! $ move ! (1 ∷ []) $ fsplit ! $ fsplit ! $ feq_l ! (λ is₀. drop ! $ fsplit ! $ fsplit ! $ feq_l ! (λ is₁. drop ! $ drop ! $
         regoal ! (λ (us : List Val). prop (WpFn 𝓤 H C Λ function (us ++ (vss.1.0 ++ [])) Post)) is₀ refl $
@@ -76,7 +76,10 @@ module _ {M : Type 1} {𝓤 : Ura M} (𝓛 : Logic 𝓤) (at_mem : Memory → SP
 
   meets : (𝓣 : Tables 𝓤 H) → Meets 𝓛 ended.signature (WpFn 𝓤 H 𝓣.C 𝓣.Λ function) (closing 𝓛 ended held)
   meets 𝓣 =
-      walk_Meets 𝓛 ended stayed (Goes-dropped 𝓛 3 (RefOf (0 ∷ []) tt (plain (λ _. Told.the_row)) (λ _. tt)) yes (λ κs x f. refl), (Goes-dropped 𝓛 3 (RefOf (1 ∷ []) tt (plain (λ κs. Answer.the_row (named_lft 3 2 tt κs))) (λ _. tt)) yes (λ κs x f. refl), tt)) held
+      walk_Meets 𝓛 ended stayed (
+        Goes-dropped 𝓛 3 (RefOf (0 ∷ []) tt (plain (λ _. Told.the_row)) (λ _. tt)) yes (λ κs x f. refl),
+        (Goes-dropped 𝓛 3 (RefOf (1 ∷ []) tt (plain (λ κs. Answer.the_row (named_lft 3 2 tt κs))) (λ _. tt)) yes (λ κs x f. refl), tt),
+      ) held
       (WpFn 𝓤 H 𝓣.C 𝓣.Λ function) (WpFn-mono 𝓤 H 𝓛.laws 𝓣 function) (walks 𝓣.C 𝓣.Λ)
 
 pub then_spec : {M : Type 1} → stated.statement M
