@@ -235,6 +235,9 @@ static void writes_that_fail(const char *path) {
     const uint64_t first[] = { 10, 20 }, lost[] = { 30, 40, 35 }, last[] = { 50 };
     bytes due = { .len = 0 };
     signal(SIGXFSZ, SIG_IGN);
+    limit(150);
+    CHECK(!dspec_folder_begin(&folder, path, &schema, 4, &identity, NULL) && folder.last.code == EFBIG);
+    limit(RLIM_INFINITY);
     CHECK(dspec_folder_begin(&folder, path, &schema, 4, &identity, NULL));
     CHECK(!dspec_folder_begin(&second, path, &schema, 4, &identity, NULL) && second.last.code == EEXIST);
     limit(150);

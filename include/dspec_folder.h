@@ -87,6 +87,19 @@ DSPEC_INLINE int dspec_folder_open(dspec_folder *folder, const char *name) DSPEC
     return open(path, O_WRONLY | O_CREAT | O_EXCL | O_APPEND | O_CLOEXEC, 0666);
 }
 
+/* Writes a new file of the folder, which isn't left there where it can't be written whole: 0 or the errno. */
+DSPEC_INLINE int dspec_folder_file(dspec_folder *folder, const char *name, const uint8_t *bytes, size_t len) DSPEC_NOEXCEPT {
+    char path[4200];
+    int file = dspec_folder_open(folder, name);
+    int code = file < 0 ? errno : dspec_folder_write(file, bytes, len);
+    if (file < 0) return code;
+    if (close(file) != 0 && code == 0) code = errno;
+    if (code == 0) return 0;
+    snprintf(path, sizeof path, "%s/%s", folder->path, name);
+    unlink(path);
+    return code;
+}
+
 /* Makes room for so many bytes. */
 DSPEC_INLINE bool dspec_folder_grows(dspec_folder *folder, size_t size) DSPEC_NOEXCEPT {
     uint8_t *room = (uint8_t *)realloc(folder->room, size);
@@ -127,7 +140,7 @@ DSPEC_INLINE bool dspec_folder_begin(dspec_folder *folder, const char *path, dsp
     static dspec_names none; /* no names */
     size_t needed = 0;
     dspec_status status;
-    int file, code;
+    int code;
     memset(folder, 0, sizeof *folder);
     if (strlen(path) >= sizeof folder->path) return dspec_folder_loses(folder, DSPEC_OK, ENAMETOOLONG, 0, 0, 0);
     memcpy(folder->path, path, strlen(path));
@@ -145,11 +158,7 @@ DSPEC_INLINE bool dspec_folder_begin(dspec_folder *folder, const char *path, dsp
     }
     code = 0;
     if (status == DSPEC_OK && mkdir(folder->path, 0777) != 0 && errno != EEXIST) code = errno;
-    if (status == DSPEC_OK && code == 0) {
-        file = dspec_folder_open(folder, "metadata");
-        code = file < 0 ? errno : dspec_folder_write(file, folder->room, needed);
-        if (file >= 0 && close(file) != 0 && code == 0) code = errno;
-    }
+    if (status == DSPEC_OK && code == 0) code = dspec_folder_file(folder, "metadata", folder->room, needed);
     if (status == DSPEC_OK && code == 0) return true;
     for (uint32_t cpu = 0; cpu < folder->cpus; cpu++) dspec_ctf_drop(&folder->ctf[cpu]);
     free(folder->room);

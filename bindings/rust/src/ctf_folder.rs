@@ -93,8 +93,13 @@ impl CtfFolder {
         let files = (0..cpus).map(|cpu| CtfPackets::new(schema, identity, cpu).map(|packets| (packets, Vec::new())));
         let cpus = files.collect::<Result<Vec<_>, _>>().map_err(LossCause::Library)?;
         fs::create_dir_all(path).map_err(LossCause::System)?;
-        let mut metadata = made(&path.join("metadata")).map_err(LossCause::System)?;
-        metadata.write_all(&text).map_err(LossCause::System)?;
+        let metadata = path.join("metadata");
+        let mut file = made(&metadata).map_err(LossCause::System)?;
+        if let Err(error) = file.write_all(&text) {
+            // a part of it would be in the way of the next try
+            let _ = fs::remove_file(&metadata);
+            return Err(LossCause::System(error));
+        }
         Ok(CtfFolder { path: path.to_owned(), cpus, lost: 0 })
     }
 
