@@ -4,7 +4,7 @@ use Rattle.dspec_record.specs.EnablingRows.{EnabledRows}
 use Rattle.dspec_record.specs.declared.header.Header.TheVariants.{One, Two}
 use Rattle.dspec_ctf.specs.declared.stream.PacketFault.{PacketFault}
 use Rattle.dspec_packets.specs.Filing.{CpuFiling, no_packets, unwritten}
-use Rattle.dspec_packets.specs.Calls.{Hands, HandsNone, HasNoBatch, Opens, with_missed, without_rest}
+use Rattle.dspec_packets.specs.Calls.{Hands, HandsNone, HasNoBatch, Opens, with_more_missed, without_rest}
 use Rattle.dspec_packets.specs.Naming.{PutsMetadata, PutsNone}
 use Rattle.dspec_packets.specs.declared.fault.PutFault.{PutFault}
 use Rattle.dspec_packets.specs.declared.fault.TextFault.{TextFault}
@@ -123,5 +123,5 @@ CtfLoseAnswers (held.Files old) status before told now = (status ≡ 0) × ((tol
 CtfLoseAnswers was status before told now = (status ≡ bad_handle) × ((told ≡ before) × (now ≡ was))
 
 abbrev pub CtfMissAnswers : ℕ → Held → ℕ → Held → Type 0
-CtfMissAnswers count (held.Files old) status now = (status ≡ 0) × (now ≡ held.Files (with_missed old count))
+CtfMissAnswers count (held.Files old) status now = (status ≡ 0) × (now ≡ held.Files (with_more_missed old count))
 CtfMissAnswers count was status now = (status ≡ bad_handle) × (now ≡ was)

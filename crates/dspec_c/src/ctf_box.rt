@@ -30,7 +30,7 @@ pub enum NoFiles {
 impl CtfBox {
     ghost use Rattle.std.specs.Prelude.{◌≡◌, IfOk, IfErr, OnOk, OnErr, MatchResult};
     ghost use Rattle.dspec_packets.specs.Filing.{unwritten};
-    ghost use Rattle.dspec_packets.specs.Calls.{Hands, HandsNone, HasNoBatch, Opens, with_missed, without_rest};
+    ghost use Rattle.dspec_packets.specs.Calls.{Hands, HandsNone, HasNoBatch, Opens, with_more_missed, without_rest};
     ghost use Rattle.dspec_c.specs.CtfCalls.{BeginsFiles, HasNoFiles};
 
     /// No packets yet of this CPU.
@@ -82,7 +82,7 @@ impl CtfBox {
     }
 
     pub fn miss(&mut self, count: u64)
-        ensures { self.new ≡ with_missed self.old count }
+        ensures { self.new ≡ with_more_missed self.old count }
     {
         self.files.miss(count);
     }
