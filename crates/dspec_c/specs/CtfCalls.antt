@@ -4,13 +4,13 @@ use Rattle.dspec_record.specs.EnablingRows.{EnabledRows}
 use Rattle.dspec_record.specs.declared.header.Header.TheVariants.{One, Two}
 use Rattle.dspec_ctf.specs.declared.stream.PacketFault.{PacketFault}
 use Rattle.dspec_packets.specs.Filing.{CpuFiling, no_packets, unwritten}
-use Rattle.dspec_packets.specs.Calls.{Hands, HandsNone, HasNoBatch, Opens, with_more_missed, without_rest}
+use Rattle.dspec_packets.specs.Calls.{Hands, HandsNone, HasNoBatch, OpensBatch, with_more_missed, without_rest}
 use Rattle.dspec_packets.specs.Naming.{PutsMetadata, PutsNone}
 use Rattle.dspec_packets.specs.declared.fault.PutFault.{PutFault}
 use Rattle.dspec_packets.specs.declared.fault.TextFault.{TextFault}
 use Rattle.dspec_packets.specs.declared.identity.Identity.{Identity}
 use Rattle.dspec_packets.specs.declared.packet.Packet.{Packet}
-use Rattle.dspec_c.specs.CtfStatuses.{needed_of, no_packet, no_stamp, packet_status, put_status, size_of, text_status}
+use Rattle.dspec_c.specs.CtfStatuses.{needed_of, no_packet, no_stamp, packet_status, put_status, text_size, text_status}
 use Rattle.dspec_c.specs.Handles.{held_in, is_full}
 use Rattle.dspec_c.specs.Statuses.{bad_handle, no_memory, no_such_cpu}
 use Rattle.dspec_c.specs.declared.ctf_box.NoFiles.{NoFiles}
@@ -39,7 +39,7 @@ pub record LacksMetadata (identity : Identity) (e : EnabledRows) (names : List (
   pub fault : TextFault
   pub numbered : status ≡ text_status fault
   pub why : PutsNone identity e names kinds (length before.room) fault
-  pub told : now ≡ record { room = before.room; size = size_of fault before.size }
+  pub told : now ≡ record { room = before.room; size = text_size fault before.size }
 
 abbrev pub TellsMetadata : Identity → EnabledRows → List (List ℕ) → List ℕ → ℕ → Text → Text → Type 0
 TellsMetadata identity e names kinds status before now = HasMetadata identity e names kinds status before now ⊎ LacksMetadata identity e names kinds status before now
@@ -92,7 +92,7 @@ pub record OpensNone (drops : ℕ) (bytes : List ℕ) (old : CpuFiling) (status 
 abbrev pub OpensSo : ℕ → ℕ → List ℕ → CpuFiling → ℕ → CpuFiling → Type 0
 OpensSo cpu drops bytes old status new =
     ((old.cpu ≢ cpu) × ((status ≡ no_such_cpu) × (new ≡ old)))
-    ⊎ ((old.cpu ≡ cpu) × (((status ≡ 0) × Opens old drops bytes new) ⊎ OpensNone drops bytes old status new))
+    ⊎ ((old.cpu ≡ cpu) × (((status ≡ 0) × OpensBatch old drops bytes new) ⊎ OpensNone drops bytes old status new))
 
 abbrev pub CtfOpenAnswers : ℕ → ℕ → List ℕ → Held → ℕ → Held → Type 0
 CtfOpenAnswers cpu drops bytes (held.Files old) status now = (new : CpuFiling) × ((now ≡ held.Files new) × OpensSo cpu drops bytes old status new)

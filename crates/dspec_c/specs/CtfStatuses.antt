@@ -48,9 +48,9 @@ text_status text.Count = 15
 text_status (text.Metadata fault) = metadata_status fault
 
 -- likewise of a text
-abbrev pub size_of : TextFault → ℕ → ℕ
-size_of (text.TooSmall needed) was = needed
-size_of text.NotText was = was
-size_of text.BadKind was = was
-size_of text.Count was = was
-size_of (text.Metadata fault) was = was
+abbrev pub text_size : TextFault → ℕ → ℕ
+text_size (text.TooSmall needed) was = needed
+text_size text.NotText was = was
+text_size text.BadKind was = was
+text_size text.Count was = was
+text_size (text.Metadata fault) was = was

@@ -30,7 +30,7 @@ pub enum NoFiles {
 impl CtfBox {
     ghost use Rattle.std.specs.Prelude.{◌≡◌, IfOk, IfErr, OnOk, OnErr, MatchResult};
     ghost use Rattle.dspec_packets.specs.Filing.{unwritten};
-    ghost use Rattle.dspec_packets.specs.Calls.{Hands, HandsNone, HasNoBatch, Opens, with_more_missed, without_rest};
+    ghost use Rattle.dspec_packets.specs.Calls.{Hands, HandsNone, HasNoBatch, OpensBatch, with_more_missed, without_rest};
     ghost use Rattle.dspec_c.specs.CtfCalls.{BeginsFiles, HasNoFiles};
 
     /// No packets yet of this CPU.
@@ -59,7 +59,7 @@ impl CtfBox {
     }
 
     pub fn open(&mut self, drops: u64, bytes: &[u8]) -> Result<(), PacketFault>
-        ensures opened { OnOk result (Opens self.old drops bytes.now self.new) }
+        ensures opened { OnOk result (OpensBatch self.old drops bytes.now self.new) }
         ensures fault { IfErr result (HasNoBatch self.old drops bytes.now) }
         ensures refused { OnErr result (self.new ≡ self.old) }
     {

@@ -5,7 +5,7 @@ ghost use Rattle.dspec_c.specs.Handles.{held_in, is_full};
 ghost use Rattle.dspec_c.specs.CtfCalls.{CtfLoseAnswers, CtfMetadataAnswers, CtfMissAnswers, CtfNewAnswers, CtfOpenAnswers, CtfPutAnswers, LooksAtSchema, MakesFiles, MakesNoFiles, OpensSo, PutsSo, TellsMetadata};
 
 use crate::ctf_box::{CtfBox, NoFiles};
-use crate::ctf_statuses::{NO_PACKET, NO_STAMP, needed_of, of_packet, of_put, of_text, size_of};
+use crate::ctf_statuses::{NO_PACKET, NO_STAMP, needed_of, of_packet, of_put, of_text, text_size};
 use crate::handle::Handle;
 use crate::held::Held;
 use crate::statuses::{BAD_HANDLE, FULL_HANDLE, NO_MEMORY, NO_SUCH_CPU, OK};
@@ -31,7 +31,7 @@ fn metadata(
             OK
         }
         Err(fault) => {
-            *size = size_of(fault, *size);
+            *size = text_size(fault, *size);
             of_text(fault)
         }
     }

@@ -1,7 +1,7 @@
 //! What the calls of a trace answer, as a number; `dspec.h` has their names.
 
 ghost use Rattle.std.specs.Prelude.{◌≡◌};
-ghost use Rattle.dspec_c.specs.CtfStatuses.{metadata_status, needed_of, packet_status, put_status, size_of, text_status};
+ghost use Rattle.dspec_c.specs.CtfStatuses.{metadata_status, needed_of, packet_status, put_status, text_size, text_status};
 
 use dspec_ctf::{MetadataFault, PacketFault};
 use dspec_packets::{PutFault, TextFault};
@@ -70,8 +70,8 @@ pub fn of_text(fault: TextFault) -> u32
 }
 
 /// How many bytes it needs, where that is why.
-pub fn size_of(fault: TextFault, was: usize) -> usize
-    ensures { result ≡ size_of fault was }
+pub fn text_size(fault: TextFault, was: usize) -> usize
+    ensures { result ≡ text_size fault was }
 {
     match fault {
         TextFault::TooSmall(needed) => needed,
