@@ -3,7 +3,8 @@
  * freed at the end. It prints how many calls were refused: exactly one in a run in which a growth was.
  *
  * The linker's --wrap leads the library's calls of malloc, realloc and free through the three functions below, which count. */
-#include "dspec.h"
+#define DSPEC_CTF_NO_FOLDER
+#include "dspec_ctf.h"
 
 #include <stdio.h>
 #include <stdlib.h>
@@ -46,8 +47,12 @@ static dspec_session session;
 static dspec_cpu cpus[2];
 static dspec_consumer consumer;
 static dspec_closed closed;
+static dspec_schema stamped;
+static dspec_ctf ctf;
 
 static void let_go(void) {
+    dspec_ctf_drop(&ctf);
+    dspec_schema_drop(&stamped);
     dspec_closed_drop(&closed);
     dspec_consumer_drop(&consumer);
     for (int i = 0; i < 2; i++) dspec_cpu_drop(&cpus[i]);
@@ -146,6 +151,31 @@ static void finish(void) {
     }
 }
 
+/* The metadata of a trace, and two packets of a batch. */
+static void trace(void) {
+    static const uint8_t batch[] = { 1, 0, 0, 0, 9, 0, 0, 0, 0, 0, 0, 0, 7, 0, 0, 0, 1, 0, 0, 0, 8, 0, 0, 0, 0, 0, 0, 0, 6, 0, 0, 0 };
+    static const dspec_text names[] = { { "step", 4 }, { "number", 6 } };
+    static const uint8_t kinds[] = { DSPEC_KIND_UNSIGNED };
+    static const dspec_ctf nothing = DSPEC_EMPTY;
+    static uint8_t room[4096];
+    dspec_identity identity = { .hertz = 1000, .host = { "here", 4 }, .name = { "growths", 7 } };
+    dspec_packet packet;
+    uint32_t epid;
+    size_t size = 0;
+    ASK(dspec_schema_new(&stamped), &stamped);
+    OK(dspec_schema_stamp(&stamped));
+    OK(dspec_schema_enable(&stamped, (const uint8_t[]){ 4 }, 1, &epid));
+    ASK(dspec_ctf_metadata(&stamped, &identity, names, 2, kinds, 1, room, sizeof room, &size), &nothing);
+    if (size < 1000 || memcmp(room + size - 5, "};\n};\n" + 1, 5) != 0) fail("the metadata", DSPEC_OK);
+    ASK(dspec_ctf_new(&stamped, &identity, 0, &ctf), &ctf);
+    ASK(dspec_ctf_open(&ctf, 0, 0, batch, sizeof batch), &nothing);
+    for (size_t file = 0; file < 2; file++) {
+        ASK(dspec_ctf_put(&ctf, room, sizeof room, &packet), &nothing);
+        if (packet.file != file || packet.records != 1 || packet.size != 84 || room[80] != 7 - file) fail("a packet", DSPEC_OK);
+    }
+    if (dspec_ctf_put(&ctf, room, sizeof room, &packet) != DSPEC_NO_PACKET) fail("the end of a batch", DSPEC_OK);
+}
+
 int main(int argc, char **argv) {
     static char buffer[4096];
     setvbuf(stdout, buffer, _IOFBF, sizeof buffer);
@@ -154,6 +184,7 @@ int main(int argc, char **argv) {
         fputs("usage: c_growths again|once\n", stderr);
         return 2;
     }
+    trace();
     start();
     long before = asked;
     record();

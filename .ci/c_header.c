@@ -1,7 +1,9 @@
 /* What dspec.h has beside the library, in C11 and in C++17: the macros for values that are spelled out, the texts, the drops. Compiled as
  * either, included twice. */
+#include "dspec_ctf.h"
+
 #include "dspec.h"
-#include "dspec.h"
+#include "dspec_ctf.h"
 
 #include <stdio.h>
 #include <string.h>

@@ -82,6 +82,12 @@ typedef enum dspec_status {
     DSPEC_TOO_MANY_FIELDS = 10,     /* more than 8 */
     DSPEC_TOO_MANY_ENABLINGS = 11,  /* there are 64 already */
 
+    /* A trace (dspec_ctf.h). */
+    DSPEC_NO_STAMP = 12,       /* records have no stamps */
+    DSPEC_NO_FREQUENCY = 13,   /* a clock of no tick a second */
+    DSPEC_BAD_NAME = 14,       /* a name of an event or of a field that isn't allowed, or stands there twice, or a text that isn't UTF-8 */
+    DSPEC_BAD_NAME_COUNT = 15, /* not a name for each event and each field, or not a kind for each field */
+
     /* What was asked can't be asked. */
     DSPEC_BAD_RECORD = 16,  /* not a record of the schema: EPID, number of values, a value too large for its field, or a stamp
                                where records have none; nothing was traced, and the report counts it as refused, and no more */
@@ -91,6 +97,14 @@ typedef enum dspec_status {
     DSPEC_NOT_HOME = 20,    /* a CPU or the consumer hasn't come home */
     DSPEC_NO_BATCH = 21,    /* no batch has come, none is out, or none is left */
     DSPEC_OUT = 22,         /* out already: the CPU, the consumer, which is handed out once, or a batch that has to be given back first */
+
+    /* A trace again. */
+    DSPEC_TOO_SMALL = 23,    /* the room is too small; how many bytes it needs was told */
+    DSPEC_NO_PACKET = 24,    /* no packet of the batch is left */
+    DSPEC_BAD_CLOCK = 25,    /* the next record's stamp is before the last of each of 64 files: the CPU's stamps aren't those of one clock */
+    DSPEC_TOO_LONG = 26,     /* a packet of 2^60 bytes or more */
+    DSPEC_BAD_KIND = 27,     /* what numbers mean that is none of 0, 1 and 2 */
+    DSPEC_BAD_IDENTITY = 28, /* the name of a machine or of a program that can't be shown */
 
     /* What became of a call, as its CPU's report counts it. */
     DSPEC_DROPPED = 32,     /* no room for the record */
@@ -351,6 +365,10 @@ DSPEC_INLINE const char *dspec_status_text(dspec_status status) DSPEC_NOEXCEPT {
     case DSPEC_BAD_WIDTH: return "the width of a field is none of 1, 2, 4 and 8";
     case DSPEC_TOO_MANY_FIELDS: return "too many fields";
     case DSPEC_TOO_MANY_ENABLINGS: return "too many enablings";
+    case DSPEC_NO_STAMP: return "records have no stamps";
+    case DSPEC_NO_FREQUENCY: return "a clock of no tick a second";
+    case DSPEC_BAD_NAME: return "a name that isn't allowed";
+    case DSPEC_BAD_NAME_COUNT: return "not a name for each event and field";
     case DSPEC_BAD_RECORD: return "not a record of the schema";
     case DSPEC_BAD_HANDLE: return "the handle is empty or of another kind";
     case DSPEC_FULL_HANDLE: return "the handle to be filled is not empty";
@@ -358,6 +376,12 @@ DSPEC_INLINE const char *dspec_status_text(dspec_status status) DSPEC_NOEXCEPT {
     case DSPEC_NOT_HOME: return "a CPU or the consumer is not home";
     case DSPEC_NO_BATCH: return "no batch";
     case DSPEC_OUT: return "handed out already";
+    case DSPEC_TOO_SMALL: return "the room is too small";
+    case DSPEC_NO_PACKET: return "no packet is left";
+    case DSPEC_BAD_CLOCK: return "stamps went back too often";
+    case DSPEC_TOO_LONG: return "a packet is too long";
+    case DSPEC_BAD_KIND: return "no such kind of numbers";
+    case DSPEC_BAD_IDENTITY: return "a machine's or a program's name that can't be shown";
     case DSPEC_DROPPED: return "dropped";
     case DSPEC_STOPPED: return "stopped";
     case DSPEC_WORN: return "worn";

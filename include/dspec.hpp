@@ -1,5 +1,5 @@
 /* dspec.hpp: dspec.h for C++20. Handles that let go what they hold, probes whose fields the compiler knows, paths that end with their scope,
- * the records of a batch. Header only, and nothing is allocated here.
+ * the records of a batch, a trace in a folder. Header only, and nothing is allocated here but a trace's folder.
  *
  * Constructors and the calls that hand something out throw dspec::error, with the status, where they are refused; no call that traces throws.
  * A handle of this header is in one call at a time, and goes to another thread as dspec.h says. Each can be moved and none copied.
@@ -11,6 +11,8 @@
 #include <bit>
 #include <concepts>
 #include <cstdint>
+#include <initializer_list>
+#include <memory>
 #include <optional>
 #include <span>
 #include <stdexcept>
@@ -19,6 +21,7 @@
 #include <utility>
 
 #include "dspec.h"
+#include "dspec_ctf.h"
 #include "dspec_reader.h"
 
 namespace dspec {
@@ -367,6 +370,59 @@ public:
         check(dspec_close(get(), all.data(), count, theirs.get(), made.get()));
         return made;
     }
+};
+
+/* The names of probes and of their fields, in the order in which they were enabled, for a trace. The texts stay the caller's. */
+class names {
+    dspec_names names_{};
+
+    template <field T> static constexpr std::uint8_t kind() noexcept {
+        if constexpr (std::floating_point<T>) return DSPEC_KIND_FLOAT;
+        else if constexpr (std::integral<T> && !std::same_as<T, bool>) return std::is_signed_v<T> ? DSPEC_KIND_SIGNED : DSPEC_KIND_UNSIGNED;
+        else return DSPEC_KIND_UNSIGNED;
+    }
+
+public:
+    /* Adds the next probe's, and as many fields' as it has. */
+    template <field... Fields> names &add(probe<Fields...>, const char *event, std::initializer_list<const char *> fields) noexcept {
+        static constexpr std::array<std::uint8_t, sizeof...(Fields) + 1> kinds{kind<Fields>()..., 0};
+        std::size_t at = 0;
+        dspec_names_event(&names_, event);
+        for (const char *field : fields) dspec_names_field(&names_, field, at < sizeof...(Fields) ? kinds[at++] : kinds.back());
+        return *this;
+    }
+    const dspec_names *get() const noexcept { return &names_; }
+};
+
+/* Why no trace was begun. */
+struct trace_error : std::runtime_error {
+    dspec_loss loss;
+    explicit trace_error(const dspec_loss &why) : std::runtime_error(why.code != 0 ? strerror(why.code) : dspec_status_text(why.status)), loss(why) {}
+};
+
+/* A trace in a folder, which is written while a session runs (dspec_ctf.h). Where the value ends, the files are closed. */
+class trace_folder {
+    struct ending {
+        void operator()(dspec_folder *folder) const noexcept {
+            dspec_folder_end(folder);
+            delete folder;
+        }
+    };
+    std::unique_ptr<dspec_folder, ending> folder_;
+    dspec_layout layout_;
+
+public:
+    /* Makes the folder and writes the metadata; throws trace_error. The CPUs are as many as the session has. */
+    trace_folder(const char *path, schema &of, std::uint32_t cpus, const dspec_identity &identity, const names &called) : folder_(new dspec_folder{}), layout_(of.layout()) {
+        if (!dspec_folder_begin(folder_.get(), path, of.get(), cpus, &identity, called.get())) throw trace_error(folder_->last);
+    }
+    /* Writes a batch; where it answers false, `last` says what of it isn't written, and why. */
+    bool take(const dspec_batch &batch) noexcept { return dspec_folder_take(folder_.get(), &layout_, &batch); }
+    const dspec_loss &last() const noexcept { return folder_->last; }
+    /* How many records weren't written so far. */
+    std::uint64_t lost() const noexcept { return folder_->lost ? folder_->first.records : 0; }
+    /* Tells what isn't told yet, and closes the files: whether the whole trace is written. No batch is taken behind it. */
+    bool end() noexcept { return dspec_folder_end(folder_.get()); }
 };
 
 } /* namespace dspec */

@@ -10,6 +10,7 @@
  *     query_trace(&q, &cpu, stamp, request, micros)               answers as dspec_fire
  *     query_speculate(&q, &cpu, id, stamp, request, micros)       answers as dspec_fire_in
  *     query_values v; query_read(&q, &record, &v)                 whether the record is one of q; its values are in v.request, v.micros
+ *     query_name(&names)                                          adds its name and those of its fields, for the metadata of a trace
  *
  * The stamp is 0 where records have none. A value is converted to its field's type as an argument of a function is; a negative number
  * and a float keep their bits. A record of a probe that wasn't enabled is DSPEC_BAD_RECORD, and so is one of a session over another schema where the
@@ -19,6 +20,7 @@
 #define DSPEC_PROBE_H
 
 #include "dspec.h"
+#include "dspec_names.h"
 #include "dspec_reader.h"
 
 #include <assert.h>
@@ -39,6 +41,11 @@ static inline void dspec_bool_of(void *value, const uint64_t *bits, size_t width
     (void)width;
     *(bool *)value = *bits != 0;
 }
+
+/* What numbers of a type mean, as a trace's metadata says it. */
+#define DSPEC_KIND_OF(TYPE)                                                                                                                          \
+    _Generic((TYPE)0, float: DSPEC_KIND_FLOAT, double: DSPEC_KIND_FLOAT, char: DSPEC_KIND_SIGNED, signed char: DSPEC_KIND_SIGNED, short: DSPEC_KIND_SIGNED, \
+        int: DSPEC_KIND_SIGNED, long: DSPEC_KIND_SIGNED, long long: DSPEC_KIND_SIGNED, default: DSPEC_KIND_UNSIGNED)
 
 /* Not each probe is used in each way. */
 #if defined(__GNUC__)
@@ -74,6 +81,7 @@ static inline void dspec_bool_of(void *value, const uint64_t *bits, size_t width
 #define DSPEC_PROBE_BITS_(AT, TYPE, NAME) dspec_bits_of(&NAME, sizeof NAME),
 #define DSPEC_PROBE_BACK_(AT, TYPE, NAME) \
     _Generic(dspec_values_->NAME, bool: dspec_bool_of, default: dspec_value_of)(&dspec_values_->NAME, &dspec_record_->values[AT], sizeof(TYPE));
+#define DSPEC_PROBE_KIND_(AT, TYPE, NAME) dspec_names_field(dspec_names_, #NAME, DSPEC_KIND_OF(TYPE));
 #define DSPEC_PROBE_ASSERT_(AT, TYPE, NAME) \
     static_assert(sizeof(TYPE) == 1 || sizeof(TYPE) == 2 || sizeof(TYPE) == 4 || sizeof(TYPE) == 8, "a field has 1, 2, 4 or 8 bytes");
 
@@ -105,6 +113,10 @@ static inline void dspec_bool_of(void *value, const uint64_t *bits, size_t width
         if (dspec_record_->epid != dspec_probe_->epid) return false;                                                                                   \
         DSPEC_PROBE_EACH_(DSPEC_PROBE_BACK_, __VA_ARGS__)                                                                                              \
         return true;                                                                                                                                   \
+    }                                                                                                                                                  \
+    DSPEC_PROBE_CALL_ void PROBE##_name(dspec_names *dspec_names_) {                                                                                   \
+        dspec_names_event(dspec_names_, #PROBE);                                                                                                       \
+        DSPEC_PROBE_EACH_(DSPEC_PROBE_KIND_, __VA_ARGS__)                                                                                              \
     }                                                                                                                                                  \
     static_assert(sizeof(PROBE##_probe) == 4, "a probe is its EPID")
 

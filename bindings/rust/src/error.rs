@@ -31,6 +31,20 @@ pub enum Error {
     NoSuchCpu,
     /// The CPU isn't home, or the consumer or the CPU's batch was handed out already.
     Out,
+    /// A trace of records without stamps.
+    NoStamp,
+    /// A trace by a clock of no tick a second.
+    NoFrequency,
+    /// A name of an event or of a field that a trace can't have, or that stands there twice.
+    Name,
+    /// Not a name for each event and each field of the schema.
+    NameCount,
+    /// The name of a machine or of a program that can't be shown.
+    Identity,
+    /// A record's stamp is before the last of each of 64 files: the stamps of its CPU aren't those of one clock.
+    Clock,
+    /// More events were missed than 64 bits count.
+    Worn,
     /// A status that this package doesn't know: the library is of another version.
     Unknown(u32),
 }
@@ -50,6 +64,13 @@ impl Error {
             raw::BAD_RECORD => Error::BadRecord,
             raw::NO_SUCH_CPU => Error::NoSuchCpu,
             raw::OUT => Error::Out,
+            raw::NO_STAMP => Error::NoStamp,
+            raw::NO_FREQUENCY => Error::NoFrequency,
+            raw::BAD_NAME => Error::Name,
+            raw::BAD_NAME_COUNT => Error::NameCount,
+            raw::BAD_IDENTITY => Error::Identity,
+            raw::BAD_CLOCK => Error::Clock,
+            raw::WORN => Error::Worn,
             other => Error::Unknown(other),
         }
     }
@@ -84,6 +105,13 @@ impl fmt::Display for Error {
             Error::BadRecord => f.write_str("not a record of the schema"),
             Error::NoSuchCpu => f.write_str("no such CPU"),
             Error::Out => f.write_str("handed out already"),
+            Error::NoStamp => f.write_str("a trace of records without stamps"),
+            Error::NoFrequency => f.write_str("a clock of no tick a second"),
+            Error::Name => f.write_str("a name that isn't allowed"),
+            Error::NameCount => f.write_str("not a name for each event and field"),
+            Error::Identity => f.write_str("a machine's or a program's name that can't be shown"),
+            Error::Clock => f.write_str("stamps went back too often"),
+            Error::Worn => f.write_str("more events were missed than 64 bits count"),
             Error::Unknown(status) => write!(f, "unknown status {status}: libdspec is of another version"),
         }
     }

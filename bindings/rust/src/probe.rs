@@ -12,12 +12,15 @@ pub(crate) mod private {
 
     pub trait Field {
         const WIDTH: Width;
+        /// What its numbers mean, as the metadata of a trace says it.
+        const KIND: u8;
         fn bits(self) -> u64;
         fn of_bits(bits: u64) -> Self;
     }
 
     pub trait Fields: Sized {
         const WIDTHS: &'static [Width];
+        const KINDS: &'static [u8];
         /// The numbers of the fields, with zeros behind them.
         fn row(self) -> [u64; 8];
         /// The fields of as many numbers as there are widths.
@@ -26,10 +29,11 @@ pub(crate) mod private {
 }
 
 macro_rules! fields_by_number {
-    ($($type:ty as $bits:ty, $width:ident;)*) => {$(
+    ($($type:ty as $bits:ty, $width:ident, $kind:expr;)*) => {$(
         impl Field for $type {}
         impl private::Field for $type {
             const WIDTH: Width = Width::$width;
+            const KIND: u8 = $kind;
             fn bits(self) -> u64 {
                 u64::from(<$bits>::from_ne_bytes(self.to_ne_bytes()))
             }
@@ -42,14 +46,15 @@ macro_rules! fields_by_number {
 }
 
 fields_by_number! {
-    u8 as u8, One; u16 as u16, Two; u32 as u32, Four; u64 as u64, Eight;
-    i8 as u8, One; i16 as u16, Two; i32 as u32, Four; i64 as u64, Eight;
-    f32 as u32, Four; f64 as u64, Eight;
+    u8 as u8, One, 0; u16 as u16, Two, 0; u32 as u32, Four, 0; u64 as u64, Eight, 0;
+    i8 as u8, One, 1; i16 as u16, Two, 1; i32 as u32, Four, 1; i64 as u64, Eight, 1;
+    f32 as u32, Four, 2; f64 as u64, Eight, 2;
 }
 
 impl Field for bool {}
 impl private::Field for bool {
     const WIDTH: Width = Width::One;
+    const KIND: u8 = 0;
     fn bits(self) -> u64 {
         u64::from(self)
     }
@@ -63,6 +68,7 @@ macro_rules! fields_of_tuple {
         impl<$($name: Field),*> Fields for ($($name,)*) {}
         impl<$($name: Field),*> private::Fields for ($($name,)*) {
             const WIDTHS: &'static [Width] = &[$($name::WIDTH),*];
+            const KINDS: &'static [u8] = &[$($name::KIND),*];
             #[allow(unused_mut)] // of no fields
             fn row(self) -> [u64; 8] {
                 let mut row = [0; 8];

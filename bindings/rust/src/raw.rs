@@ -15,11 +15,19 @@ pub(crate) const BAD_MAX_CALLS: Status = 6;
 pub(crate) const NO_MEMORY: Status = 7;
 pub(crate) const TOO_MANY_FIELDS: Status = 10;
 pub(crate) const TOO_MANY_ENABLINGS: Status = 11;
+pub(crate) const NO_STAMP: Status = 12;
+pub(crate) const NO_FREQUENCY: Status = 13;
+pub(crate) const BAD_NAME: Status = 14;
+pub(crate) const BAD_NAME_COUNT: Status = 15;
 pub(crate) const BAD_RECORD: Status = 16;
 pub(crate) const NO_SUCH_CPU: Status = 19;
 pub(crate) const NOT_HOME: Status = 20;
 pub(crate) const NO_BATCH: Status = 21;
 pub(crate) const OUT: Status = 22;
+pub(crate) const TOO_SMALL: Status = 23;
+pub(crate) const NO_PACKET: Status = 24;
+pub(crate) const BAD_CLOCK: Status = 25;
+pub(crate) const BAD_IDENTITY: Status = 28;
 pub(crate) const DROPPED: Status = 32;
 pub(crate) const STOPPED: Status = 33;
 pub(crate) const WORN: Status = 34;
@@ -59,6 +67,39 @@ impl Batch {
     pub(crate) const NONE: Batch = Batch { bytes: std::ptr::null(), len: 0, drops: 0, cpu: 0 };
 }
 
+/// Bytes of a text.
+#[repr(C)]
+pub(crate) struct Text {
+    pub(crate) bytes: *const u8,
+    pub(crate) len: usize,
+}
+
+impl Text {
+    pub(crate) fn of(text: &str) -> Text {
+        Text { bytes: text.as_ptr(), len: text.len() }
+    }
+}
+
+#[repr(C)]
+pub(crate) struct Identity {
+    pub(crate) uuid: [u8; 16],
+    pub(crate) clock: [u8; 16],
+    pub(crate) has_clock: bool,
+    pub(crate) pid: u32,
+    pub(crate) hertz: u64,
+    pub(crate) seconds: u64,
+    pub(crate) ticks: u64,
+    pub(crate) host: Text,
+    pub(crate) name: Text,
+}
+
+#[repr(C)]
+pub(crate) struct Packet {
+    pub(crate) file: usize,
+    pub(crate) size: usize,
+    pub(crate) records: usize,
+}
+
 extern "C" {
     pub(crate) fn dspec_version() -> u32;
     pub(crate) fn dspec_drop(handle: *mut c_void);
@@ -96,4 +137,21 @@ extern "C" {
 
     pub(crate) fn dspec_rest(closed: *mut Words, cpu: u32, last: bool, batch: *mut Batch) -> Status;
     pub(crate) fn dspec_closed_report(closed: *mut Words, cpu: u32, report: *mut Report) -> Status;
+
+    pub(crate) fn dspec_ctf_metadata(
+        schema: *mut Words,
+        identity: *const Identity,
+        names: *const Text,
+        count: usize,
+        kinds: *const u8,
+        kind_count: usize,
+        room: *mut u8,
+        size: usize,
+        needed: *mut usize,
+    ) -> Status;
+    pub(crate) fn dspec_ctf_new(schema: *mut Words, identity: *const Identity, cpu: u32, ctf: *mut Words) -> Status;
+    pub(crate) fn dspec_ctf_open(ctf: *mut Words, cpu: u32, drops: u64, bytes: *const u8, len: usize) -> Status;
+    pub(crate) fn dspec_ctf_put(ctf: *mut Words, room: *mut u8, size: usize, packet: *mut Packet) -> Status;
+    pub(crate) fn dspec_ctf_lose(ctf: *mut Words, records: *mut u64) -> Status;
+    pub(crate) fn dspec_ctf_miss(ctf: *mut Words, count: u64) -> Status;
 }

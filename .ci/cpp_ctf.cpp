@@ -1,0 +1,67 @@
+/* A trace that C++20 writes, by dspec.hpp: `cpp_ctf FOLDER`, a folder that isn't there yet. */
+#include "dspec.hpp"
+
+#include <cerrno>
+#include <cstdio>
+#include <fstream>
+#include <iterator>
+#include <string>
+
+static int passed, failed;
+
+static void check(bool is_well, const char *what) {
+    if (is_well) {
+        passed++;
+    } else {
+        failed++;
+        std::puts(what);
+    }
+}
+
+#define CHECK(what) check((what), #what)
+
+static std::string read(const std::string &path) {
+    std::ifstream file(path, std::ios::binary);
+    return {std::istreambuf_iterator<char>(file), {}};
+}
+
+int main(int argc, char **argv) {
+    if (argc != 2) return 2;
+    const std::string folder = argv[1];
+    const dspec_identity identity{{1}, {}, false, 7, 1000, 0, 0, {"here", 4}, {"cpp", 3}};
+    constexpr dspec_config config{1, 1, 64, 64, DSPEC_MAX_ISSUES, DSPEC_MAX_CALLS, DSPEC_POLICY_SWITCH};
+    dspec::schema schema;
+    schema.stamp();
+    auto step = schema.enable<std::int32_t, bool>();
+    auto rate = schema.enable<double>();
+    dspec::names names;
+    names.add(step, "step", {"number", "last"}).add(rate, "rate", {"of"});
+    {
+        dspec::trace_folder trace(folder.c_str(), schema, 1, identity, names);
+        dspec::session session(config, schema);
+        dspec::cpu cpu = session.cpu_of(0);
+        dspec::consumer consumer = session.consumer_of();
+        CHECK(cpu.trace_at(step, 5, -1, true) == DSPEC_OK);
+        CHECK(cpu.trace_at(rate, 6, 0.5) == DSPEC_OK);
+        CHECK(!consumer.take(0, [](const dspec_batch &) {}));
+        cpu.service();
+        bool well = false;
+        CHECK(consumer.take(0, [&](const dspec_batch &batch) { well = trace.take(batch); }));
+        CHECK(well && trace.lost() == 0);
+        CHECK(!trace.take(dspec_batch{nullptr, 0, 0, 1}) && trace.last().status == DSPEC_NO_SUCH_CPU);
+    }
+    const std::string text = read(folder + "/metadata");
+    CHECK(text.find("\t\tinteger { size = 32; align = 8; signed = true; } number;\n\t\tuint8_t last;\n") != std::string::npos);
+    CHECK(text.find("\t\tfloating_point { exp_dig = 11; mant_dig = 53; align = 8; } of;\n") != std::string::npos);
+    /* A packet of 68 bytes and two events, of 4 + 8 + 4 + 1 and of 4 + 8 + 8. */
+    CHECK(read(folder + "/cpu_0_0").size() == 68 + 17 + 20);
+    int code = 0;
+    try {
+        dspec::trace_folder again(folder.c_str(), schema, 1, identity, names);
+    } catch (const dspec::trace_error &e) {
+        code = e.loss.code;
+    }
+    CHECK(code == EEXIST);
+    std::printf("%d passed, %d failed\n", passed, failed);
+    return failed > 0 || passed == 0;
+}

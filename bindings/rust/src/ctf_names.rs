@@ -1,0 +1,151 @@
+//! Whose trace it is, and what its events and fields are called.
+
+use crate::error::answered;
+use crate::raw::{self, Text};
+use crate::{monotonic, Error, Fields, Probe, Schema};
+use std::io;
+use std::time::{SystemTime, UNIX_EPOCH};
+
+/// Whose trace it is, and of which clock its stamps are. The texts are of 1 to 255 bytes of printable ASCII without quotes and backslashes.
+#[derive(Clone, Debug, PartialEq, Eq)]
+pub struct CtfIdentity {
+    /// The trace's uuid, which no other trace has: tools take folders of one uuid for one trace, and lose events of it in silence.
+    pub uuid: [u8; 16],
+    /// The name of the machine.
+    pub host: String,
+    /// The name of the program.
+    pub name: String,
+    /// The number of the process.
+    pub pid: u32,
+    /// How many ticks of the clock a second has.
+    pub hertz: u64,
+    /// Where the clock began: whole seconds from the beginning of 1970 on.
+    pub seconds: u64,
+    /// And so many ticks.
+    pub ticks: u64,
+    /// The clock's own uuid, where several processes read one clock.
+    pub clock: Option<[u8; 16]>,
+}
+
+impl CtfIdentity {
+    /// This process, under this name, with stamps of [`monotonic`], and a uuid of the system's random bytes: each call has one of its own.
+    ///
+    /// # Errors
+    ///
+    /// Where `/proc` can't be read, or the system's time is before 1970.
+    pub fn of_system(name: &str) -> io::Result<CtfIdentity> {
+        let text = std::fs::read_to_string("/proc/sys/kernel/random/uuid")?;
+        let host = std::fs::read_to_string("/proc/sys/kernel/hostname")?.trim().to_owned();
+        let since = SystemTime::now().duration_since(UNIX_EPOCH).map_err(io::Error::other)?;
+        let began = since.as_nanos().saturating_sub(u128::from(monotonic()));
+        let part = |of: u128| u64::try_from(of).map_err(io::Error::other);
+        Ok(CtfIdentity {
+            uuid: uuid_of(&text).ok_or_else(|| io::Error::other("no uuid"))?,
+            host,
+            name: name.to_owned(),
+            pid: std::process::id(),
+            hertz: 1_000_000_000,
+            seconds: part(began / 1_000_000_000)?,
+            ticks: part(began % 1_000_000_000)?,
+            clock: None,
+        })
+    }
+
+    /// As C reads it, while this is borrowed.
+    pub(crate) fn raw(&self) -> raw::Identity {
+        raw::Identity {
+            uuid: self.uuid,
+            clock: self.clock.unwrap_or([0; 16]),
+            has_clock: self.clock.is_some(),
+            pid: self.pid,
+            hertz: self.hertz,
+            seconds: self.seconds,
+            ticks: self.ticks,
+            host: Text::of(&self.host),
+            name: Text::of(&self.name),
+        }
+    }
+}
+
+/// The bytes of 32 digits of base 16 with hyphens between.
+fn uuid_of(text: &str) -> Option<[u8; 16]> {
+    let digits: Vec<u8> = text.chars().filter_map(|letter| letter.to_digit(16)).filter_map(|digit| u8::try_from(digit).ok()).collect();
+    let bytes: Vec<u8> = digits.chunks(2).map(|pair| pair.iter().fold(0, |byte, digit| byte << 4 | digit)).collect();
+    bytes.try_into().ok()
+}
+
+/// What the events and fields of a schema are called, in the order in which its probes were enabled. Without any they are numbered.
+#[derive(Clone, Debug, Default)]
+pub struct CtfNames {
+    texts: Vec<String>,
+    kinds: Vec<u8>,
+}
+
+impl CtfNames {
+    /// No names.
+    #[must_use]
+    pub fn new() -> CtfNames {
+        CtfNames::default()
+    }
+
+    /// Adds the name of the next probe and those of its fields.
+    pub fn add<F: Fields>(&mut self, _probe: Probe<F>, event: &str, fields: &[&str]) {
+        self.texts.push(event.to_owned());
+        self.texts.extend(fields.iter().map(|&field| field.to_owned()));
+        self.kinds.extend(F::KINDS);
+    }
+
+    /// The text of the file `metadata` of a trace of this schema.
+    ///
+    /// # Errors
+    ///
+    /// [`Error::NoStamp`], [`Error::NoFrequency`], [`Error::Name`], [`Error::NameCount`], [`Error::Identity`], [`Error::Memory`].
+    pub fn metadata(&self, schema: &Schema, identity: &CtfIdentity) -> Result<Vec<u8>, Error> {
+        let mut room = vec![0; 4096];
+        let size = match self.put(schema, identity, &mut room) {
+            Err(Put::TooSmall(needed)) => {
+                room.resize(needed, 0);
+                self.put(schema, identity, &mut room)
+            }
+            put => put,
+        };
+        match size {
+            Ok(size) => {
+                room.truncate(size);
+                Ok(room)
+            }
+            Err(Put::Refused(error)) => Err(error),
+            Err(Put::TooSmall(_)) => Err(Error::Unknown(raw::TOO_SMALL)),
+        }
+    }
+
+    fn put(&self, schema: &Schema, identity: &CtfIdentity, room: &mut [u8]) -> Result<usize, Put> {
+        let texts: Vec<Text> = self.texts.iter().map(|text| Text::of(text)).collect();
+        let mut needed = 0;
+        // SAFETY: the pointers are valid, and to as many elements as is told; the texts are borrowed meanwhile.
+        let status = unsafe {
+            raw::dspec_ctf_metadata(
+                schema.handle.at(),
+                &identity.raw(),
+                texts.as_ptr(),
+                texts.len(),
+                self.kinds.as_ptr(),
+                self.kinds.len(),
+                room.as_mut_ptr(),
+                room.len(),
+                &mut needed,
+            )
+        };
+        match answered(status) {
+            Ok(()) => Ok(needed),
+            Err(_) if status == raw::TOO_SMALL => Err(Put::TooSmall(needed)),
+            Err(error) => Err(Put::Refused(error)),
+        }
+    }
+}
+
+/// Why no text was put.
+enum Put {
+    TooSmall(usize),
+    Refused(Error),
+}

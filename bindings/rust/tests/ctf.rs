@@ -1,0 +1,156 @@
+//! Traces that a program writes: packets byte for byte, what isn't written, refusals. What bytes are due says an encoder of this test.
+
+use dspec::{Config, CtfFolder, CtfIdentity, CtfNames, CtfPackets, Error, LossCause, Probe, Schema, Session, Traced};
+use std::fs;
+use std::path::PathBuf;
+
+fn identity() -> CtfIdentity {
+    let uuid = [1, 2, 3, 4, 5, 6, 7, 8, 9, 10, 11, 12, 13, 14, 15, 16];
+    CtfIdentity { uuid, host: "here".into(), name: "server".into(), pid: 77, hertz: 1000, seconds: 5, ticks: 6, clock: None }
+}
+
+/// A packet of CPU 0 with these stamps, whose records have their stamps as values.
+fn packet(begin: u64, end: u64, missed: u64, stamps: &[u32]) -> Vec<u8> {
+    let bits = 8 * (68 + 16 * stamps.len() as u64);
+    let mut bytes = 0xC1FC_1FC1_u32.to_le_bytes().to_vec();
+    bytes.extend(identity().uuid);
+    bytes.extend([0; 4]);
+    for number in [begin, end, bits, bits, missed] {
+        bytes.extend(number.to_le_bytes());
+    }
+    bytes.extend([0; 4]);
+    for &stamp in stamps {
+        bytes.extend(1_u32.to_le_bytes());
+        bytes.extend(u64::from(stamp).to_le_bytes());
+        bytes.extend(stamp.to_le_bytes());
+    }
+    bytes
+}
+
+fn schema() -> (Schema, Probe<(i32,)>) {
+    let mut schema = Schema::new().unwrap();
+    schema.stamp();
+    let step = schema.probe().unwrap();
+    (schema, step)
+}
+
+/// A closed session of one CPU that traced records with these stamps, in buffers of so many bytes.
+fn traced(schema: &Schema, step: Probe<(i32,)>, bufsize: u32, stamps: &[i32]) -> dspec::Closed {
+    let mut session = Session::start(&Config { bufsize, ..Config::of_cpus(1) }, schema).unwrap();
+    let mut cpu = session.cpu(0).unwrap();
+    for &stamp in stamps {
+        step.trace(&mut cpu, u64::from(stamp.cast_unsigned()), (stamp,)).unwrap();
+    }
+    assert_eq!(step.trace(&mut cpu, 0, (0,)), Ok(Traced::Dropped));
+    drop(cpu);
+    session.finish().unwrap()
+}
+
+/// A folder of this name that isn't there.
+fn fresh(name: &str) -> PathBuf {
+    let path = std::env::temp_dir().join(format!("dspec-ctf-{}-{name}", std::process::id()));
+    let _ = fs::remove_dir_all(&path);
+    path
+}
+
+#[test]
+fn packets_of_a_batch() {
+    let (schema, step) = schema();
+    let closed = traced(&schema, step, 96, &[10, 20, 5, 15, 20, 30]);
+    let mut packets = CtfPackets::new(&schema, &identity(), 0).unwrap();
+    packets.open(&closed.rest(0).unwrap().last).unwrap();
+    let due = [
+        (0, 0, [packet(0, 0, 0, &[]), packet(0, 0, 1, &[])].concat()),
+        (0, 2, packet(10, 20, 1, &[10, 20])),
+        (1, 2, packet(5, 15, 0, &[5, 15])),
+        (0, 2, packet(20, 30, 1, &[20, 30])),
+    ];
+    for (file, records, bytes) in &due {
+        let put = packets.put().unwrap().unwrap();
+        assert_eq!((put.file, put.records, put.bytes), (*file, *records, bytes.as_slice()));
+    }
+    assert_eq!(packets.put(), Ok(None));
+    assert_eq!(packets.lose(), 0);
+    let mut other = CtfPackets::new(&schema, &identity(), 1).unwrap();
+    assert_eq!(other.open(&closed.rest(0).unwrap().last), Err(Error::NoSuchCpu));
+}
+
+#[test]
+fn a_packet_larger_than_the_room() {
+    let (schema, step) = schema();
+    let stamps: Vec<i32> = (1..=1000).collect();
+    let closed = traced(&schema, step, 16000, &stamps);
+    let mut packets = CtfPackets::new(&schema, &identity(), 0).unwrap();
+    packets.open(&closed.rest(0).unwrap().last).unwrap();
+    assert_eq!(packets.put().unwrap().unwrap().records, 0);
+    let stamps: Vec<u32> = (1..=1000).collect();
+    assert_eq!(packets.put().unwrap().unwrap().bytes, packet(1, 1000, 1, &stamps));
+}
+
+#[test]
+fn what_is_lost_is_told() {
+    let (schema, step) = schema();
+    let closed = traced(&schema, step, 48, &[10, 20, 5]);
+    let mut packets = CtfPackets::new(&schema, &identity(), 0).unwrap();
+    packets.open(&closed.rest(0).unwrap().last).unwrap();
+    packets.put().unwrap();
+    packets.put().unwrap();
+    assert_eq!(packets.lose(), 3);
+    packets.miss(4);
+    let closed = traced(&schema, step, 16, &[40]);
+    packets.open(&closed.rest(0).unwrap().last).unwrap();
+    let told = [packet(20, 20, 1, &[]), packet(20, 20, 9, &[])].concat();
+    assert_eq!(packets.put().unwrap().unwrap().bytes, told);
+    assert_eq!(packets.put().unwrap().unwrap().bytes, packet(40, 40, 9, &[40]));
+}
+
+#[test]
+fn metadata_and_its_refusals() {
+    let (schema, step) = schema();
+    let mut names = CtfNames::new();
+    names.add(step, "step", &["number"]);
+    let text = String::from_utf8(names.metadata(&schema, &identity()).unwrap()).unwrap();
+    for part in [
+        "name = \"step\";",
+        "\t\tinteger { size = 32; align = 8; signed = true; } number;",
+        "\thostname = \"here\";\n\tprocname = \"server\";\n\tvpid = 77;\n",
+        "\tfreq = 1000;\n\toffset_s = 5;\n\toffset = 6;\n",
+    ] {
+        assert!(text.contains(part), "{part}");
+    }
+    let of = |identity: &CtfIdentity, names: &CtfNames| names.metadata(&schema, identity).unwrap_err();
+    let mut more = names.clone();
+    more.add(step, "step", &["number"]);
+    assert_eq!(of(&identity(), &more), Error::NameCount);
+    let mut reserved = CtfNames::new();
+    reserved.add(step, "event", &["number"]);
+    assert_eq!(of(&identity(), &reserved), Error::Name);
+    assert_eq!(of(&CtfIdentity { host: String::new(), ..identity() }, &names), Error::Identity);
+    assert_eq!(of(&CtfIdentity { hertz: 0, ..identity() }, &names), Error::NoFrequency);
+    let bare = Schema::new().unwrap();
+    assert_eq!(CtfPackets::new(&bare, &identity(), 0).unwrap_err(), Error::NoStamp);
+    let one = CtfIdentity::of_system("test").unwrap();
+    let other = CtfIdentity::of_system("test").unwrap();
+    assert!(one.uuid != other.uuid && one.pid == std::process::id() && !one.host.is_empty());
+}
+
+#[test]
+fn a_folder_in_which_something_stands() {
+    let (schema, step) = schema();
+    let path = fresh("folder");
+    let mut folder = CtfFolder::begin(&path, &schema, 1, &identity(), &CtfNames::new()).unwrap();
+    let again = CtfFolder::begin(&path, &schema, 1, &identity(), &CtfNames::new());
+    assert!(matches!(again, Err(LossCause::System(error)) if error.kind() == std::io::ErrorKind::AlreadyExists));
+    fs::write(path.join("cpu_0_0"), b"mine").unwrap();
+    let closed = traced(&schema, step, 48, &[10, 20, 5]);
+    let loss = folder.take(&closed.rest(0).unwrap().last).unwrap_err();
+    assert!(loss.cpu == 0 && loss.file == Some(0) && loss.records == 3 && matches!(loss.cause, LossCause::System(_)), "{loss}");
+    assert_eq!(fs::read(path.join("cpu_0_0")).unwrap(), b"mine");
+    fs::remove_file(path.join("cpu_0_0")).unwrap();
+    let closed = traced(&schema, step, 16, &[40]);
+    folder.take(&closed.rest(0).unwrap().last).unwrap();
+    assert_eq!((folder.lost(), folder.end()), (3, 3));
+    let due = [packet(0, 0, 0, &[]), packet(0, 0, 5, &[]), packet(40, 40, 5, &[40])].concat();
+    assert_eq!(fs::read(path.join("cpu_0_0")).unwrap(), due);
+    fs::remove_dir_all(&path).unwrap();
+}

@@ -1,0 +1,188 @@
+/* A server of two workers: each request's steps are a path, kept where the request failed. What is kept goes into a trace of the Common Trace Format while the
+ * server runs, which other tools open:
+ *
+ *     ctf FOLDER [ROUNDS]
+ *
+ * The last line says how many records the reports count as accepted, and how many the trace misses. */
+#include "dspec_ctf.h"
+#include "dspec_probe.h"
+
+#include <inttypes.h>
+#include <pthread.h>
+#include <stdatomic.h>
+#include <time.h>
+
+#define WORKERS 2u
+#define HERTZ UINT64_C(1000000000)
+
+#define OK(call)                                                                 \
+    do {                                                                         \
+        dspec_status status_ = (call);                                           \
+        if (status_ != DSPEC_OK) {                                               \
+            fprintf(stderr, "ctf: %s: %s\n", #call, dspec_status_text(status_)); \
+            exit(1);                                                             \
+        }                                                                        \
+    } while (0)
+
+/* A request begins, looks something up, and ends with a code. */
+DSPEC_PROBE(request, uint32_t, number, uint32_t, worker);
+DSPEC_PROBE(lookup, uint64_t, key, bool, found);
+DSPEC_PROBE(reply, int32_t, code);
+
+static request_probe request;
+static lookup_probe lookup;
+static reply_probe reply;
+static uint32_t rounds = 1000;
+static atomic_uint done;
+
+typedef struct worker {
+    dspec_cpu cpu;
+    uint32_t number;
+    pthread_t thread;
+} worker;
+
+/* Nanoseconds of the system's monotonic clock: the stamps of all workers. */
+static uint64_t now(void) {
+    struct timespec at;
+    clock_gettime(CLOCK_MONOTONIC, &at);
+    return (uint64_t)at.tv_sec * HERTZ + (uint64_t)at.tv_nsec;
+}
+
+/* One request in ten fails, and keeps its path; where no slot is free it has none. */
+static void serve(worker *me, uint32_t number) {
+    bool fails = number % 10 == 7;
+    uint64_t id;
+    uint32_t count;
+    if (dspec_speculation(&me->cpu, &id) != DSPEC_OK) return;
+    request_speculate(&request, &me->cpu, id, now(), number, me->number);
+    lookup_speculate(&lookup, &me->cpu, id, now(), number * UINT64_C(2654435761), !fails);
+    reply_speculate(&reply, &me->cpu, id, now(), fails ? -2 : 0);
+    if (fails) {
+        dspec_commit(&me->cpu, id, &count);
+    } else {
+        dspec_discard(&me->cpu, id, &count);
+    }
+}
+
+static void *work(void *of) {
+    worker *me = of;
+    bool sealed;
+    uint32_t settled;
+    for (uint32_t number = 0; number < rounds; number++) {
+        serve(me, number);
+        dspec_service(&me->cpu, &sealed, &settled);
+    }
+    atomic_fetch_add(&done, 1);
+    return NULL;
+}
+
+/* Says what the last batch lost; the server goes on. */
+static void tell(const dspec_folder *folder) {
+    const dspec_loss *loss = &folder->last;
+    fprintf(stderr, "ctf: cpu_%" PRIu32 "_%zu: %s: %" PRIu64 " records aren't written\n", loss->cpu, loss->file,
+            loss->code ? strerror(loss->code) : dspec_status_text(loss->status), loss->records);
+}
+
+/* One round of the consumer: what has come of each worker goes into the trace. */
+static void consume(dspec_consumer *consumer, dspec_folder *folder, const dspec_layout *layout) {
+    dspec_batch batch;
+    uint32_t released;
+    for (uint32_t cpu = 0; cpu < WORKERS; cpu++) {
+        OK(dspec_ask(consumer, cpu));
+        if (dspec_take(consumer, cpu, &batch) != DSPEC_OK) continue;
+        if (!dspec_folder_take(folder, layout, &batch)) tell(folder);
+        OK(dspec_give_back(consumer, cpu));
+    }
+    OK(dspec_clean(consumer, &released));
+}
+
+/* A uuid that no other trace has, this process, and where the clock of the stamps began: what the system says. */
+static void identify(dspec_identity *identity, char host[256]) {
+    struct timespec real, monotonic;
+    uint64_t began;
+    FILE *random = fopen("/dev/urandom", "rb");
+    memset(identity, 0, sizeof *identity);
+    if (random == NULL || fread(identity->uuid, 1, 16, random) != 16 || gethostname(host, 255) != 0) {
+        fprintf(stderr, "ctf: the system doesn't say who this is\n");
+        exit(1);
+    }
+    fclose(random);
+    host[255] = 0;
+    clock_gettime(CLOCK_REALTIME, &real);
+    clock_gettime(CLOCK_MONOTONIC, &monotonic);
+    began = (uint64_t)real.tv_sec * HERTZ + (uint64_t)real.tv_nsec - ((uint64_t)monotonic.tv_sec * HERTZ + (uint64_t)monotonic.tv_nsec);
+    identity->pid = (uint32_t)getpid();
+    identity->hertz = HERTZ;
+    identity->seconds = began / HERTZ;
+    identity->ticks = began % HERTZ;
+    identity->host = (dspec_text){ host, strlen(host) };
+    identity->name = (dspec_text){ "ctf", 3 };
+}
+
+/* What was left of a worker goes into the trace too; how many records it accepted. */
+static uint64_t rest(dspec_closed *closed, dspec_folder *folder, const dspec_layout *layout, uint32_t cpu) {
+    dspec_batch batch;
+    dspec_report report;
+    for (int last = 0; last < 2; last++)
+        if (dspec_rest(closed, cpu, last, &batch) == DSPEC_OK && !dspec_folder_take(folder, layout, &batch)) tell(folder);
+    OK(dspec_closed_report(closed, cpu, &report));
+    return report.accepted;
+}
+
+int main(int argc, char **argv) {
+    static dspec_folder folder;
+    static dspec_names names;
+    static worker workers[WORKERS];
+    dspec_schema schema = DSPEC_EMPTY;
+    dspec_session session = DSPEC_EMPTY;
+    dspec_consumer consumer = DSPEC_EMPTY;
+    dspec_closed closed = DSPEC_EMPTY;
+    dspec_layout layout = { .stamped = true };
+    dspec_identity identity;
+    uint64_t accepted = 0;
+    char host[256];
+    const dspec_config config = {
+        .cpus = WORKERS, .nspec = 8, .bufsize = 65536, .specsize = 1024,
+        .max_issues = DSPEC_MAX_ISSUES, .max_calls = DSPEC_MAX_CALLS, .policy = DSPEC_POLICY_SWITCH,
+    };
+    if (argc < 2) {
+        fprintf(stderr, "usage: ctf FOLDER [ROUNDS]\n");
+        return 2;
+    }
+    if (argc > 2) rounds = (uint32_t)strtoul(argv[2], NULL, 10);
+
+    OK(dspec_schema_new(&schema));
+    OK(dspec_schema_stamp(&schema));
+    OK(request_enable(&request, &layout, &schema));
+    OK(lookup_enable(&lookup, &layout, &schema));
+    OK(reply_enable(&reply, &layout, &schema));
+    request_name(&names);
+    lookup_name(&names);
+    reply_name(&names);
+    identify(&identity, host);
+    if (!dspec_folder_begin(&folder, argv[1], &schema, WORKERS, &identity, &names)) {
+        fprintf(stderr, "ctf: %s: %s\n", argv[1], folder.last.code ? strerror(folder.last.code) : dspec_status_text(folder.last.status));
+        return 1;
+    }
+
+    OK(dspec_start(&config, &schema, &session));
+    OK(dspec_consumer_of(&session, &consumer));
+    for (uint32_t number = 0; number < WORKERS; number++) {
+        workers[number].number = number;
+        OK(dspec_cpu_of(&session, number, &workers[number].cpu));
+        if (pthread_create(&workers[number].thread, NULL, work, &workers[number]) != 0) return 1;
+    }
+    while (atomic_load(&done) < WORKERS) consume(&consumer, &folder, &layout);
+    for (uint32_t number = 0; number < WORKERS; number++) {
+        pthread_join(workers[number].thread, NULL);
+        OK(dspec_cpu_home(&workers[number].cpu));
+    }
+    OK(dspec_consumer_home(&consumer));
+    OK(dspec_finish(&session, &closed));
+    for (uint32_t cpu = 0; cpu < WORKERS; cpu++) accepted += rest(&closed, &folder, &layout, cpu);
+    dspec_closed_drop(&closed);
+    dspec_schema_drop(&schema);
+    bool whole = dspec_folder_end(&folder);
+    printf("accepted %" PRIu64 ", not written %" PRIu64 "\n", accepted, whole ? 0 : folder.first.records);
+    return 0;
+}
