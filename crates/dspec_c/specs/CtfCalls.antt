@@ -53,15 +53,16 @@ CtfMetadataAnswers identity names kinds was status before now left = (left ≡ w
 abbrev pub BeginsFiles : List ℕ → EnabledRows → ℕ → CpuFiling → Type 0
 BeginsFiles uuid e cpu files = (files ≡ no_packets uuid e cpu) × (e.header ≡ Two)
 
+-- there are none: records have no stamps, or memory was wanting for them
 abbrev pub HasNoFiles : EnabledRows → NoFiles → Type 0
 HasNoFiles e no_files.NoStamp = e.header ≡ One
-HasNoFiles e no_files.Memory = Unit {0}
+HasNoFiles e no_files.Memory = e.header ≡ Two
 
 -- the handle has them; or not, and that stays as it was
 abbrev pub FilesSo : List ℕ → EnabledRows → ℕ → ℕ → Handle → Handle → Type 0
 FilesSo uuid e cpu status was now =
     ((status ≡ 0) × ((e.header ≡ Two) × ((is_full now ≡ true) × (held_in now ≡ held.Files (no_packets uuid e cpu)))))
-    ⊎ (((status ≡ no_stamp) × ((e.header ≡ One) × (now ≡ was))) ⊎ ((status ≡ no_memory) × (now ≡ was)))
+    ⊎ (((status ≡ no_stamp) × ((e.header ≡ One) × (now ≡ was))) ⊎ ((status ≡ no_memory) × ((e.header ≡ Two) × (now ≡ was))))
 
 -- a schema that is held is looked at
 abbrev pub LooksAtSchema : Held → Option EnabledRows → Held → Type 0
@@ -74,7 +75,7 @@ MakesFiles uuid cpu (held.Schema e) files = BeginsFiles uuid e cpu files
 MakesFiles uuid cpu was files = ⊥
 
 abbrev pub MakesNoFiles : Held → ℕ → Type 0
-MakesNoFiles (held.Schema e) why = ((why ≡ no_stamp) × (e.header ≡ One)) ⊎ (why ≡ no_memory)
+MakesNoFiles (held.Schema e) why = ((why ≡ no_stamp) × (e.header ≡ One)) ⊎ ((why ≡ no_memory) × (e.header ≡ Two))
 MakesNoFiles was why = why ≡ bad_handle
 
 -- a schema is looked at, and stays as it was

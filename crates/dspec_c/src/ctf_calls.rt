@@ -6,7 +6,7 @@ ghost use Rattle.dspec_c.specs.CtfCalls.{CtfLoseAnswers, CtfMetadataAnswers, Ctf
 
 use crate::ctf_box::{CtfBox, NoFiles};
 use crate::ctf_statuses::{NO_PACKET, NO_STAMP, needed_of, of_packet, of_put, of_text, text_size};
-use crate::handle::Handle;
+use crate::handle::{Handle, Room};
 use crate::held::Held;
 use crate::statuses::{BAD_HANDLE, FULL_HANDLE, NO_MEMORY, NO_SUCH_CPU, OK};
 use dspec_packets::{Identity, Packet, put_metadata};
@@ -137,10 +137,10 @@ pub extern "C" fn dspec_ctf_new(
         Ok(made) => made,
         Err(why) => return why,
     };
-    let Ok(held) = Box::new(alloc, Held::Files(made)) else {
+    let Ok(room) = Room::new(alloc) else {
         return NO_MEMORY;
     };
-    files.put(held);
+    files.put(room, Held::Files(made));
     OK
 }
 

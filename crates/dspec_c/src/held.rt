@@ -33,6 +33,7 @@ impl Held {
             Held::Cpu(out) => drop(out.go_home()),
             Held::Consumer(side) => drop(side.go_home()),
             Held::Closed(ended) => drop(ended),
+            Held::Files(files) => drop(files),
         }
     }
 }
