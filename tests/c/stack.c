@@ -2,6 +2,9 @@
  * before; what was written over since is counted, with what the thread itself takes. A start and an end have to get by with
  * 64 KiB, however many CPUs there are, and each other call with 32. `c_stack CPUS ..` measures sessions of so many. */
 #define _GNU_SOURCE
+#define DSPEC_CTF_NO_FOLDER
+#include "dspec_ctf.h"
+
 #include "check.h"
 
 #include <pthread.h>
@@ -121,6 +124,39 @@ static void closed_drop(void) { dspec_closed_drop(&closed); }
 
 static void schema_drop(void) { dspec_schema_drop(&all.schema); }
 
+/* A trace: a schema with stamps, and a batch of two records of which the second's stamp is before the first's. */
+static dspec_ctf ctf;
+static uint8_t room[1 << 18];
+static uint8_t records[2 * (4 + 8 + 64)] = { [0] = 1, [4] = 2, [4 + 8 + 64] = 1, [4 + 8 + 64 + 4] = 1 };
+static const dspec_identity identity = { .uuid = { 1 }, .hertz = 1000, .host = { "here", 4 }, .name = { "c_stack", 7 } };
+
+static void schema_stamp(void) { HAS_TO(dspec_schema_stamp(&all.schema)); }
+
+static void ctf_metadata(void) {
+    size_t needed;
+    const dspec_text none = { "", 0 };
+    HAS_TO(dspec_ctf_metadata(&all.schema, &identity, &none, 0, room, 0, room, sizeof room, &needed));
+}
+
+static void ctf_new(void) { HAS_TO(dspec_ctf_new(&all.schema, &identity, 0, &ctf)); }
+
+static void ctf_open(void) { HAS_TO(dspec_ctf_open(&ctf, 0, 3, records, sizeof records)); }
+
+/* The packet that tells of the drops, and those of two files. */
+static void ctf_put(void) {
+    dspec_packet packet;
+    for (int i = 0; i < 3; i++) HAS_TO(dspec_ctf_put(&ctf, room, sizeof room, &packet));
+}
+
+static void ctf_lose(void) {
+    uint64_t lost;
+    HAS_TO(dspec_ctf_lose(&ctf, &lost));
+}
+
+static void ctf_miss(void) { HAS_TO(dspec_ctf_miss(&ctf, 7)); }
+
+static void ctf_drop(void) { dspec_ctf_drop(&ctf); }
+
 /* In this order they are the calls of one session. */
 static const struct step {
     const char *name;
@@ -142,6 +178,10 @@ static const struct step {
     { "dspec_closed_drop", closed_drop, MOST_OF_OTHERS }, { "dspec_start", start, MOST },
     { "dspec_cpu_of", cpu_of, MOST_OF_OTHERS },           { "dspec_consumer_of", consumer_of, MOST_OF_OTHERS },
     { "dspec_close", close_all, MOST },                   { "dspec_closed_drop", closed_drop, MOST_OF_OTHERS },
+    { "dspec_schema_stamp", schema_stamp, MOST_OF_OTHERS }, { "dspec_ctf_metadata", ctf_metadata, MOST_OF_OTHERS },
+    { "dspec_ctf_new", ctf_new, MOST_OF_OTHERS },           { "dspec_ctf_open", ctf_open, MOST_OF_OTHERS },
+    { "dspec_ctf_put", ctf_put, MOST_OF_OTHERS },           { "dspec_ctf_lose", ctf_lose, MOST_OF_OTHERS },
+    { "dspec_ctf_miss", ctf_miss, MOST_OF_OTHERS },         { "dspec_ctf_drop", ctf_drop, MOST_OF_OTHERS },
     { "dspec_schema_drop", schema_drop, MOST_OF_OTHERS },
 };
 

@@ -32,6 +32,7 @@ home_then (held.Schema s) now u looks w is = absurd looks.1
 home_then (held.Cpu s) now u looks w is = absurd looks.1
 home_then (held.Consumer s) now u looks w is = absurd looks.1
 home_then (held.Closed e) now u looks w is = absurd looks.1
+home_then (held.Files x) now u looks w is = absurd looks.1
 
 module _ (was new closed : Handle) where
   -- something isn't home, or there is no session
@@ -43,6 +44,7 @@ module _ (was new closed : Handle) where
   refused_so U (held.Cpu s) now why looks f e g i = (looks.1, record { full = g ∙ sym f; holds = i ∙ looks.0 ∙ sym e; other = refl })
   refused_so U (held.Consumer s) now why looks f e g i = (looks.1, record { full = g ∙ sym f; holds = i ∙ looks.0 ∙ sym e; other = refl })
   refused_so U (held.Closed x) now why looks f e g i = (looks.1, record { full = g ∙ sym f; holds = i ∙ looks.0 ∙ sym e; other = refl })
+  refused_so U (held.Files x) now why looks f e g i = (looks.1, record { full = g ∙ sym f; holds = i ∙ looks.0 ∙ sym e; other = refl })
 
   -- it is still shared
   pub goes_on_so : {U : Type 0} (h now back : Held) (u : U) → LooksHome h (Ok u) now → EndsSo now (Err back) → is_full new ≡ true → held_in new ≡ back → FinishAnswers h was closed busy new closed
@@ -54,6 +56,7 @@ module _ (was new closed : Handle) where
   goes_on_so (held.Cpu s) now back u looks ends g i = absurd looks.1
   goes_on_so (held.Consumer s) now back u looks ends g i = absurd looks.1
   goes_on_so (held.Closed x) now back u looks ends g i = absurd looks.1
+  goes_on_so (held.Files x) now back u looks ends g i = absurd looks.1
 
   -- it has ended
   pub ended_so : {U : Type 0} (left : Handle) (h now : Held) (ended : Ended) (u : U) → LooksHome h (Ok u) now → EndsSo now (Ok ended) → is_full new ≡ false → is_full left ≡ true
@@ -66,6 +69,7 @@ module _ (was new closed : Handle) where
   ended_so left (held.Cpu s) now ended u looks ends f g i = absurd looks.1
   ended_so left (held.Consumer s) now ended u looks ends f g i = absurd looks.1
   ended_so left (held.Closed x) now ended u looks ends f g i = absurd looks.1
+  ended_so left (held.Files x) now ended u looks ends f g i = absurd looks.1
 
 -- so it is of what the session's handle had
 module _ (was new closed : Handle) (h : Held) (e : held_in was ≡ h) where

@@ -5,6 +5,8 @@ pub mod Configs
 pub mod ConsumerCalls
 pub mod ConsumerHomes
 pub mod CpuCalls
+pub mod CtfCalls
+pub mod CtfStatuses
 pub mod Handles
 pub mod Homes
 pub mod Lending

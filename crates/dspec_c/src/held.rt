@@ -1,4 +1,5 @@
 use crate::consumer_side::ConsumerSide;
+use crate::ctf_box::CtfBox;
 use crate::ended::Ended;
 use crate::out_cpu::OutCpu;
 use crate::schema_box::SchemaBox;
@@ -18,6 +19,8 @@ pub enum Held {
     Consumer(ConsumerSide),
     /// A session that has ended.
     Closed(Ended),
+    /// The files of a CPU in a trace.
+    Files(CtfBox),
 }
 
 impl Held {
@@ -30,6 +33,7 @@ impl Held {
             Held::Cpu(out) => drop(out.go_home()),
             Held::Consumer(side) => drop(side.go_home()),
             Held::Closed(ended) => drop(ended),
+            Held::Files(files) => drop(files),
         }
     }
 }

@@ -11,6 +11,7 @@
 //! | `statuses.rt`, `configs.rt`, `reports.rt`, `batches.rt` | what crosses |
 //! | `schema_calls.rt`, `session_calls.rt`, `cpu_calls.rt`, `consumer_calls.rt`, `home_calls.rt`, `rest_calls.rt` | the exports |
 //! | `held_calls.rt`, `held_consumer_calls.rt` | the calls of a CPU and of the consumer on what a handle holds, by cases |
+//! | `ctf_box.rt`, `ctf_calls.rt`, `ctf_statuses.rt` | the files of a CPU in a trace that C writes, in a box of their own; the exports of a trace, and what they answer (`specs/CtfCalls`, `specs/CtfStatuses`) |
 //! | `signatures.rt`, `firing.rt` | the fields of an EPID in one word (`specs/Signatures`); a record by its EPID and values, traced or fired: each stands whole in its export, since what is fired has a type of its own |
 //! | `specs/`: Homes, Statuses, Shows, Handles, Lending | that a call leaves the same CPU of the same session; which number an answer is, and what goes out; what C reads, field by field; which handles are full, and of what; what lending keeps |
 //! | `specs/`: Answered, CpuCalls, ConsumerCalls | what a status and an out parameter tell of an answer; what each call of a CPU and of the consumer did, by what its handle held before and after |
@@ -29,6 +30,9 @@ mod consumer_homing;
 mod consumer_place;
 mod consumer_side;
 mod cpu_calls;
+mod ctf_box;
+mod ctf_calls;
+mod ctf_statuses;
 mod desk;
 mod ended;
 mod firing;

@@ -1,0 +1,128 @@
+-- Cited by calls. The calls on a CPU's files in a trace, and the metadata of one.
+use Rattle.std.specs.Prelude.{ℕ, ◌≡◌, ◌≢◌, ◌⊎◌, true, false, List, Option, Some, None, length}
+use Rattle.dspec_record.specs.EnablingRows.{EnabledRows}
+use Rattle.dspec_record.specs.declared.header.Header.TheVariants.{One, Two}
+use Rattle.dspec_ctf.specs.declared.stream.PacketFault.{PacketFault}
+use Rattle.dspec_packets.specs.Filing.{CpuFiling, no_packets, unwritten}
+use Rattle.dspec_packets.specs.Calls.{Hands, HandsNone, HasNoBatch, OpensBatch, with_more_missed, without_rest}
+use Rattle.dspec_packets.specs.Naming.{PutsMetadata, PutsNone}
+use Rattle.dspec_packets.specs.declared.fault.PutFault.{PutFault}
+use Rattle.dspec_packets.specs.declared.fault.TextFault.{TextFault}
+use Rattle.dspec_packets.specs.declared.identity.Identity.{Identity}
+use Rattle.dspec_packets.specs.declared.packet.Packet.{Packet}
+use Rattle.dspec_c.specs.CtfStatuses.{needed_of, no_packet, no_stamp, packet_status, put_status, text_size, text_status}
+use Rattle.dspec_c.specs.Handles.{held_in, is_full}
+use Rattle.dspec_c.specs.Statuses.{bad_handle, no_memory, no_such_cpu}
+use Rattle.dspec_c.specs.declared.ctf_box.NoFiles.{NoFiles}
+use Rattle.dspec_c.specs.declared.ctf_box.NoFiles.TheVariants as no_files
+use Rattle.dspec_c.specs.declared.handle.Handle.{Handle}
+use Rattle.dspec_c.specs.declared.held.Held.{Held}
+use Rattle.dspec_c.specs.declared.held.Held.TheVariants as held
+
+-- a room of the caller's, and how many bytes it is told
+pub record Text : Type 0 where
+  pub room : List ℕ
+  pub size : ℕ
+
+-- a room of the caller's, and what it is told of the packet in it
+pub record Room : Type 0 where
+  pub room : List ℕ
+  pub packet : Packet
+
+-- the metadata stands in the room, and its size is told
+pub record HasMetadata (identity : Identity) (e : EnabledRows) (names : List (List ℕ)) (kinds : List ℕ) (status : ℕ) (before now : Text) : Type 0 where
+  pub fine : status ≡ 0
+  pub puts : PutsMetadata identity e names kinds before.room now.size now.room
+
+-- it doesn't, for that; where the room is too small, it is told how many bytes are needed
+pub record LacksMetadata (identity : Identity) (e : EnabledRows) (names : List (List ℕ)) (kinds : List ℕ) (status : ℕ) (before now : Text) : Type 0 where
+  pub fault : TextFault
+  pub numbered : status ≡ text_status fault
+  pub why : PutsNone identity e names kinds (length before.room) fault
+  pub told : now ≡ record { room = before.room; size = text_size fault before.size }
+
+abbrev pub TellsMetadata : Identity → EnabledRows → List (List ℕ) → List ℕ → ℕ → Text → Text → Type 0
+TellsMetadata identity e names kinds status before now = HasMetadata identity e names kinds status before now ⊎ LacksMetadata identity e names kinds status before now
+
+-- a schema is looked at, and stays as it was
+abbrev pub CtfMetadataAnswers : Identity → List (List ℕ) → List ℕ → Held → ℕ → Text → Text → Held → Type 0
+CtfMetadataAnswers identity names kinds (held.Schema e) status before now left = (left ≡ held.Schema e) × TellsMetadata identity e names kinds status before now
+CtfMetadataAnswers identity names kinds was status before now left = (left ≡ was) × ((status ≡ bad_handle) × (now ≡ before))
+
+-- there are files of this CPU, without a packet, of records with stamps
+abbrev pub BeginsFiles : List ℕ → EnabledRows → ℕ → CpuFiling → Type 0
+BeginsFiles uuid e cpu files = (files ≡ no_packets uuid e cpu) × (e.header ≡ Two)
+
+-- there are none: records have no stamps, or memory was wanting for them
+abbrev pub HasNoFiles : EnabledRows → NoFiles → Type 0
+HasNoFiles e no_files.NoStamp = e.header ≡ One
+HasNoFiles e no_files.Memory = e.header ≡ Two
+
+-- the handle has them; or not, and that stays as it was
+abbrev pub FilesSo : List ℕ → EnabledRows → ℕ → ℕ → Handle → Handle → Type 0
+FilesSo uuid e cpu status was now =
+    ((status ≡ 0) × ((e.header ≡ Two) × ((is_full now ≡ true) × (held_in now ≡ held.Files (no_packets uuid e cpu)))))
+    ⊎ (((status ≡ no_stamp) × ((e.header ≡ One) × (now ≡ was))) ⊎ ((status ≡ no_memory) × ((e.header ≡ Two) × (now ≡ was))))
+
+-- a schema that is held is looked at
+abbrev pub LooksAtSchema : Held → Option EnabledRows → Held → Type 0
+LooksAtSchema (held.Schema e) found now = (found ≡ Some e) × (now ≡ held.Schema e)
+LooksAtSchema was found now = (found ≡ None) × (now ≡ was)
+
+-- what is made of a schema, and why nothing is
+abbrev pub MakesFiles : List ℕ → ℕ → Held → CpuFiling → Type 0
+MakesFiles uuid cpu (held.Schema e) files = BeginsFiles uuid e cpu files
+MakesFiles uuid cpu was files = ⊥
+
+abbrev pub MakesNoFiles : Held → ℕ → Type 0
+MakesNoFiles (held.Schema e) why = ((why ≡ no_stamp) × (e.header ≡ One)) ⊎ ((why ≡ no_memory) × (e.header ≡ Two))
+MakesNoFiles was why = why ≡ bad_handle
+
+-- a schema is looked at, and stays as it was
+abbrev pub CtfNewAnswers : List ℕ → ℕ → Held → ℕ → Held → Handle → Handle → Type 0
+CtfNewAnswers uuid cpu (held.Schema e) status left was now = (left ≡ held.Schema e) × FilesSo uuid e cpu status was now
+CtfNewAnswers uuid cpu schema status left was now = (left ≡ schema) × ((status ≡ bad_handle) × (now ≡ was))
+
+-- the batch isn't of this CPU; or it is opened; or not, for that
+pub record OpensNone (drops : ℕ) (bytes : List ℕ) (old : CpuFiling) (status : ℕ) (new : CpuFiling) : Type 0 where
+  pub fault : PacketFault
+  pub numbered : status ≡ packet_status fault
+  pub why : HasNoBatch old drops bytes fault
+  pub same : new ≡ old
+
+abbrev pub OpensSo : ℕ → ℕ → List ℕ → CpuFiling → ℕ → CpuFiling → Type 0
+OpensSo cpu drops bytes old status new =
+    ((old.cpu ≢ cpu) × ((status ≡ no_such_cpu) × (new ≡ old)))
+    ⊎ ((old.cpu ≡ cpu) × (((status ≡ 0) × OpensBatch old drops bytes new) ⊎ OpensNone drops bytes old status new))
+
+abbrev pub CtfOpenAnswers : ℕ → ℕ → List ℕ → Held → ℕ → Held → Type 0
+CtfOpenAnswers cpu drops bytes (held.Files old) status now = (new : CpuFiling) × ((now ≡ held.Files new) × OpensSo cpu drops bytes old status new)
+CtfOpenAnswers cpu drops bytes was status now = (status ≡ bad_handle) × (now ≡ was)
+
+-- a packet is put, and told; there is none left; or none is put, for that, and where the room is too small its size is told
+abbrev pub PutsOne : CpuFiling → ℕ → Room → Room → CpuFiling → Type 0
+PutsOne old status before now new = (status ≡ 0) × Hands old before.room (Some now.packet) now.room new
+
+abbrev pub PutsNoMore : CpuFiling → ℕ → Room → Room → CpuFiling → Type 0
+PutsNoMore old status before now new = (status ≡ no_packet) × ((now ≡ before) × Hands old before.room None before.room new)
+
+pub record PutsNot (old : CpuFiling) (status : ℕ) (before now : Room) (new : CpuFiling) : Type 0 where
+  pub fault : PutFault
+  pub numbered : status ≡ put_status fault
+  pub why : HandsNone old before.room fault new
+  pub told : now ≡ record { room = before.room; packet = record before.packet { size = needed_of fault before.packet.size } }
+
+abbrev pub PutsSo : CpuFiling → ℕ → Room → Room → CpuFiling → Type 0
+PutsSo old status before now new = PutsOne old status before now new ⊎ (PutsNoMore old status before now new ⊎ PutsNot old status before now new)
+
+abbrev pub CtfPutAnswers : Held → ℕ → Room → Room → Held → Type 0
+CtfPutAnswers (held.Files old) status before now left = (new : CpuFiling) × ((left ≡ held.Files new) × PutsSo old status before now new)
+CtfPutAnswers was status before now left = (status ≡ bad_handle) × ((left ≡ was) × (now ≡ before))
+
+abbrev pub CtfLoseAnswers : Held → ℕ → ℕ → ℕ → Held → Type 0
+CtfLoseAnswers (held.Files old) status before told now = (status ≡ 0) × ((told ≡ unwritten old) × (now ≡ held.Files (without_rest old)))
+CtfLoseAnswers was status before told now = (status ≡ bad_handle) × ((told ≡ before) × (now ≡ was))
+
+abbrev pub CtfMissAnswers : ℕ → Held → ℕ → Held → Type 0
+CtfMissAnswers count (held.Files old) status now = (status ≡ 0) × (now ≡ held.Files (with_more_missed old count))
+CtfMissAnswers count was status now = (status ≡ bad_handle) × (now ≡ was)
