@@ -37,8 +37,21 @@ pub struct FileFault {
 }
 
 impl FileFault {
+    ghost use Rattle.std.specs.Prelude.{◌≡◌, not};
+    ghost use Rattle.dspec_folder.specs.Checks.{is_of_bytes};
+
     /// Whether memory was refused, and nothing is known of the file.
-    pub fn is_memory(&self) -> bool {
-        self.wrong == Wrong::Event(EventFault::Memory)
+    pub fn is_memory(&self) -> bool
+        ensures { result ≡ not (is_of_bytes self.now.wrong) }
+    {
+        match self.wrong {
+            Wrong::Event(EventFault::Memory) => true,
+            Wrong::Event(EventFault::Unknown(_) | EventFault::Cut)
+            | Wrong::Packet(_)
+            | Wrong::Uuid
+            | Wrong::Cpu(_)
+            | Wrong::Falls { .. }
+            | Wrong::TooMuch => false,
+        }
     }
 }
