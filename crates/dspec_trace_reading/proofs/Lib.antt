@@ -1,5 +1,7 @@
 mod Asking
 mod Folding
+mod Keeping
+mod Losing
 mod Naming
 mod OwnNumbers
 mod Whole
