@@ -22,7 +22,7 @@ use Rattle.dspec_trace.proofs.Written.{brought_elsewhere, brought_whole, file_of
 use Rattle.dspec_trace_reading.specs.AsTaken.{AreKept, AreShort, HaveNumbers, drops_carried, told_on}
 use Rattle.dspec_trace_reading.proofs.Naming.{names_differ, not_metadata}
 use Rattle.dspec_trace_reading.proofs.Asking.{few, missed_before, missed_elsewhere, missed_here, stays_wide, took}
-use Rattle.dspec_trace_reading.proofs.Losing.{files_stay, others_missed, own_missed, still_wide, told_stays}
+use Rattle.dspec_trace_reading.proofs.Losing.{files_stay, others_missed, own_missed, still_wide}
 use Rattle.dspec_trace_reading.proofs.Folding.{Holds, Stays, all_accepted, last_from, laws, one_text}
 
 -- what may come of a batch
@@ -118,7 +118,8 @@ module _ (e : EnabledRows) where
 
     next_kept : (old mid new : Tracing) (x : Passed) (xs : List Passed) (was : List FileWrite) (rs : List Record) → old.uuid ≡ uuid → length old.missed ≡ 64 → length old.told ≡ 64
         → old.written ≡ Some was → missed_on new c + 1 < 2 ^ 64 → x.batch.cpu ≡ x.from → ((read : List Record) → IsText e x.batch.buffer.text read → length (events e read) < 2 ^ 60)
-        → ((next : List FileWrite) (more : List Record) → length mid.missed ≡ 64 → length mid.told ≡ 64 → mid.written ≡ Some next → Holds e (passed_from c xs) more → Kept mid new (passed_from c xs) next)
+        → ((next : List FileWrite) (more : List Record) → length mid.missed ≡ 64 → length mid.told ≡ 64 → mid.written ≡ Some next → Holds e (passed_from c xs) more
+        → Kept mid new (passed_from c xs) next)
         → Came e old x.batch mid → (q : Bool) → (x.from == c) ≡ q
         → Holds e (if q then x.batch ∷ passed_from c xs else passed_from c xs) rs → Kept old new (if q then x.batch ∷ passed_from c xs else passed_from c xs) was
     next_kept old mid new x xs was rs u wide broad asked small own short more_kept (inl nothing) false is holds =
@@ -159,7 +160,8 @@ module _ (e : EnabledRows) where
     next_kept old mid new x xs was rs u wide broad asked small own short more_kept (inr (some, inr loses)) true is (ps, more, has, sum, holds) =
         let kept = files_stay e old mid x.batch was asked loses in
         let here : x.batch.cpu ≡ c = own ∙ eqb-true x.from c is in
-        let later : Kept mid new (passed_from c xs) kept.0 = more_kept kept.0 more (still_wide e old mid x.batch loses wide) (ap length loses.counted.told ∙ broad) kept.1.0 holds in
+        let later : Kept mid new (passed_from c xs) kept.0 =
+        more_kept kept.0 more (still_wide e old mid x.batch loses wide) (ap length loses.counted.told ∙ broad) kept.1.0 holds in
         let below : missed_on mid c + 1 < 2 ^ 64 = omega (arith, small, later.counted) in
         loses_one old mid new x.batch (passed_from c xs) (reverse (records ps)) was kept.0 (has_text x.batch ps has) (kept.1.1 (cpu_name c))
         (own_missed e old mid x.batch loses wide c low here below (reverse (records ps)) (has_text x.batch ps has) (λ qs text. one_text e x.batch ps qs has text))

@@ -1,14 +1,14 @@
 -- What one batch asks of the folder, where some may be lost.
-use Rattle.std.proofs.Common.{◌≡◌, ◌≢◌, ◌<◌, ◌≤◌, ◌+◌, ◌-◌, ◌^◌, ℕ, min, ◌⊎◌, inl, inr, List, [], ◌∷◌, ◌++◌, Option, Some, None, refl, sym, ap, ◌∙◌, subst, arith, length, length-set, slice_get, slice_set, slice_index}
+use Rattle.std.proofs.Common.{◌≡◌, ◌≢◌, ◌<◌, ◌+◌, ◌^◌, ℕ, inl, inr, List, [], ◌∷◌, ◌++◌, Option, Some, None, refl, sym, ap, ◌∙◌, subst, arith, length, length-set, slice_index}
 use Rattle.std.proofs.lemmas.List.{append-nil, get_or-set_same, get_or-set_other}
 use Rattle.dspec_record.specs.Record.{Record}
 use Rattle.dspec_record.specs.EnablingRows.{EnabledRows}
 use Rattle.dspec_ring.specs.declared.batch.Batch.{Batch}
 use Rattle.dspec_ctf.specs.Streams.{IsText}
 use Rattle.dspec_trace.specs.Accounts.{missed_on}
-use Rattle.dspec_trace.specs.Losses.{HasSoManyRecords, capped, missed_more}
+use Rattle.dspec_trace.specs.Losses.{HasSoManyRecords, capped}
 use Rattle.dspec_trace.specs.Writes.{FileWrite, Refuses, file_of}
-use Rattle.dspec_trace.specs.Writing.{AddsPacket, GetsPacket, IsBatchFault, IsNothing, LosesPacket, Tracing, cpu_name}
+use Rattle.dspec_trace.specs.Writing.{IsBatchFault, LosesPacket, Tracing, cpu_name}
 use Rattle.dspec_trace.specs.declared.fault.FolderFault.{FolderFault}
 use Rattle.dspec_trace.proofs.Written.{file_of_more}
 
