@@ -37,7 +37,7 @@ module _ (e : EnabledRows) where
   abbrev pub Holds : List Batch → List Record → Type 0
   Holds bs rs = HoldInOrder (table_shape e.header (enabled e.rows)) (table_accepts e.header (enabled e.rows)) (table_text e.header (enabled e.rows)) bs rs
 
-  laws : SchemaLaws (table_shape e.header (enabled e.rows)) (table_accepts e.header (enabled e.rows)) (table_text e.header (enabled e.rows))
+  pub laws : SchemaLaws (table_shape e.header (enabled e.rows)) (table_accepts e.header (enabled e.rows)) (table_text e.header (enabled e.rows))
   laws = record {
     zero_has_none = refl;
     shapes_fit = table-shapes_fit e.header (enabled e.rows) (enabled-IsLimited e.rows);
@@ -46,14 +46,14 @@ module _ (e : EnabledRows) where
   }
 
   -- a text is of the records of the buffer's pieces alone
-  one_text : (b : Batch) (ps : List Piece) (read : List Record) → HasPieces (table_shape e.header (enabled e.rows)) (table_accepts e.header (enabled e.rows)) (table_text e.header (enabled e.rows))
+  pub one_text : (b : Batch) (ps : List Piece) (read : List Record) → HasPieces (table_shape e.header (enabled e.rows)) (table_accepts e.header (enabled e.rows)) (table_text e.header (enabled e.rows))
       b.buffer ps
       → IsText e b.buffer.text read → read ≡ reverse (records ps)
   one_text b ps read has is =
       one_reading (table_shape e.header (enabled e.rows)) (table_accepts e.header (enabled e.rows)) (table_text e.header (enabled e.rows)) laws 0 b.buffer.text read (reverse (records ps)) is
       (reads_back (table_shape e.header (enabled e.rows)) (table_accepts e.header (enabled e.rows)) (table_text e.header (enabled e.rows)) laws b.buffer ps has)
 
-  all_accepted : (rs : List Record) (o : ℕ) (text : List ℕ)
+  pub all_accepted : (rs : List Record) (o : ℕ) (text : List ℕ)
       → BufferText (table_shape e.header (enabled e.rows)) (table_accepts e.header (enabled e.rows)) (table_text e.header (enabled e.rows)) o text rs → All (Accepts e) rs
   all_accepted [] o text is = All-nil (Accepts e)
   all_accepted (r ∷ rs) o text (gap, (rest, (stands, more))) =

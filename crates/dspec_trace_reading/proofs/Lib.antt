@@ -1,5 +1,9 @@
 mod Asking
+mod Begun
 mod Folding
+mod Keeping
+mod Losing
 mod Naming
 mod OwnNumbers
+mod Partly
 mod Whole

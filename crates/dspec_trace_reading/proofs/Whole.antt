@@ -1,7 +1,6 @@
 -- A folder that was written as batches were taken, and what is read of it.
-use Rattle.std.proofs.Common.{◌≡◌, ◌<◌, ◌^◌, ℕ, zero, suc, List, [], ◌∷◌, ◌++◌, Some, None, refl, sym, ap, ◌∙◌, subst, arith, length, map, slice_get, slice_index, replicate, codes, All}
+use Rattle.std.proofs.Common.{◌≡◌, ◌<◌, ◌^◌, ℕ, List, [], ◌∷◌, ◌++◌, Some, None, refl, sym, ap, ◌∙◌, subst, arith, length, map, slice_get, codes, All}
 use Rattle.std.specs.List.{flat_map}
-use Rattle.std.proofs.lemmas.List.{append-nil}
 use Rattle.std.proofs.lemmas.List.Elements.{All-weaker}
 use Rattle.dspec_record.specs.Record.{Record}
 use Rattle.dspec_record.specs.EnablingRows.{EnabledRows}
@@ -20,19 +19,17 @@ use Rattle.dspec_ctf_reading.specs.Layouts.{event_of, layout_of}
 use Rattle.dspec_ctf_reading.specs.ReadingMetadata.{read_metadata}
 use Rattle.dspec_ctf_reading.specs.Told.{HasNumbers}
 use Rattle.dspec_trace.specs.Accounts.{missed_on}
-use Rattle.dspec_trace.specs.Writes.{FileWrite, brought_to, file_of}
+use Rattle.dspec_trace.specs.Writes.{file_of}
 use Rattle.dspec_trace.specs.Writing.{GetsPacket, IsBegun, Tracing, cpu_name}
-use Rattle.dspec_trace.proofs.Written.{brought_elsewhere, brought_whole}
 use Rattle.dspec_trace_reading.specs.AsTaken.{AreShort, HaveNumbers, ReadsBack, drops_carried}
-use Rattle.dspec_trace_reading.proofs.Naming.{not_metadata}
-use Rattle.dspec_trace_reading.proofs.Asking.{took}
+use Rattle.dspec_trace_reading.proofs.Begun.{asked, first, metadata_is, none_missed, nothing_yet}
 use Rattle.dspec_trace_reading.proofs.Folding.{Brought, Fits, Holds, Stays, brought, last_from, metadata_stays}
 
 last_of : (p : ℕ × List Record) (ps : List (ℕ × List Record)) → last_missed (p ∷ ps) ≡ last_from p.0 ps
 last_of p [] = refl
 last_of p (q ∷ ps) = last_of q ps
 
-last_same : (ps : List (ℕ × List Record)) → last_missed ps ≡ last_from 0 ps
+pub last_same : (ps : List (ℕ × List Record)) → last_missed ps ≡ last_from 0 ps
 last_same [] = refl
 last_same (p ∷ ps) = last_of p ps
 
@@ -49,37 +46,18 @@ FilesRead = (e : EnabledRows) (names : Names) (uuid : List ℕ) (cpu : ℕ) (bat
 module _ (metadata_law : MetadataReads) (files_law : FilesRead) (origin : Origin) (e : EnabledRows) (names : Names) (begun ended : Tracing)
     (is : IsBegun origin e names (Some []) begun) (passed : List Passed) (got : GotAll (GetsPacket e) begun passed ended)
     (none : ended.lost ≡ None) where
-  abbrev pub first : FileWrite
-  first = record { name = codes "metadata"; bytes = origin_text origin AsTaken e names; refused = None }
-
-  asked : begun.written ≡ Some (first ∷ [])
-  asked = took (Some []) begun.written [] first.name first.bytes refl is.written
-
-  pub all : Stays e ended (first ∷ [])
-  all = metadata_stays e passed begun ended (first ∷ []) got none asked
-
-  metadata_is : file_of (codes "metadata") (first ∷ []) ≡ origin_text origin AsTaken e names
-  metadata_is = append-nil (brought_to (codes "metadata") first) ∙ brought_whole (codes "metadata") (codes "metadata") first.bytes refl
+  pub all : Stays e ended (first origin e names ∷ [])
+  all = metadata_stays e passed begun ended (first origin e names ∷ []) got none (asked origin e names begun is)
 
   metadata_read : HasNumbers origin AsTaken e names → read_metadata (file_of (codes "metadata") all.0) ≡ Some (layout_of e names AsTaken)
   metadata_read numbers =
-      ap read_metadata (all.1.1 ∙ metadata_is)
+      ap read_metadata (all.1.1 ∙ metadata_is origin e names)
       ∙ metadata_law origin AsTaken e names is.allowed numbers
 
   module _ (c : ℕ) (low : c < 64) (rs : List Record) (long : length origin.uuid ≡ 16) (small : missed_on ended c < 2 ^ 64) (own : HaveNumbers passed) (short : AreShort e passed)
       (hold : Holds e (passed_from c passed) rs) where
-    nothing_yet : file_of (cpu_name c) (first ∷ []) ≡ []
-    nothing_yet = append-nil (brought_to (cpu_name c) first) ∙ brought_elsewhere (cpu_name c) first (λ s. not_metadata c (sym s))
-
-    none_missed : missed_on begun c ≡ 0
-    none_missed = ap (λ (xs : List ℕ). slice_index xs c) is.missed ∙ all_zero 64 c where
-      all_zero : (n i : ℕ) → slice_index (replicate n 0) i ≡ 0
-      all_zero zero i = refl
-      all_zero (suc n) zero = refl
-      all_zero (suc n) (suc i) = all_zero n i
-
-    one : Brought e origin.uuid c low begun ended (passed_from c passed) rs (first ∷ [])
-    one = brought e origin.uuid c low passed begun ended (first ∷ []) rs got none is.uuid_is (ap length is.missed) asked own short hold
+    one : Brought e origin.uuid c low begun ended (passed_from c passed) rs (first origin e names ∷ [])
+    one = brought e origin.uuid c low passed begun ended (first origin e names ∷ []) rs got none is.uuid_is (ap length is.missed) (asked origin e names begun is) own short hold
 
     tells : FileTells (layout_of e names AsTaken) origin.uuid c (flat_map (λ p. packet origin.uuid e p.0 c p.1) one.packets)
         (map (event_of e names AsTaken) (flat_map (λ p. p.1) one.packets)) (last_missed one.packets)
@@ -90,8 +68,8 @@ module _ (metadata_law : MetadataReads) (files_law : FilesRead) (origin : Origin
 
     missed_is : last_missed one.packets ≡ drops_carried (passed_from c passed)
     missed_is =
-        let last : last_missed one.packets ≡ missed_on ended c = last_same one.packets ∙ ap (λ n. last_from n one.packets) (sym none_missed) ∙ one.told in
-        last ∙ omega (arith, one.counted, none_missed)
+        let last : last_missed one.packets ≡ missed_on ended c = last_same one.packets ∙ ap (λ n. last_from n one.packets) (sym (none_missed origin e names begun is c)) ∙ one.told in
+        last ∙ omega (arith, one.counted, none_missed origin e names begun is c)
 
     writes_same : all.0 ≡ one.writes
     writes_same =
@@ -101,7 +79,7 @@ module _ (metadata_law : MetadataReads) (files_law : FilesRead) (origin : Origin
     pub stream_read : FileTells (layout_of e names AsTaken) origin.uuid c (file_of (cpu_name c) all.0) (map (event_of e names AsTaken) rs) (drops_carried (passed_from c passed))
     stream_read =
         let bytes : file_of (cpu_name c) all.0 ≡ flat_map (λ p. packet origin.uuid e p.0 c p.1) one.packets =
-        ap (λ ws. file_of (cpu_name c) ws) writes_same ∙ one.bytes ∙ ap (λ xs. xs ++ flat_map (λ p. packet origin.uuid e p.0 c p.1) one.packets) nothing_yet in
+        ap (λ ws. file_of (cpu_name c) ws) writes_same ∙ one.bytes ∙ ap (λ xs. xs ++ flat_map (λ p. packet origin.uuid e p.0 c p.1) one.packets) (nothing_yet origin e names c) in
         subst (λ n. FileTells (layout_of e names AsTaken) origin.uuid c (file_of (cpu_name c) all.0) (map (event_of e names AsTaken) rs) n) missed_is
         (subst (λ xs. FileTells (layout_of e names AsTaken) origin.uuid c (file_of (cpu_name c) all.0) (map (event_of e names AsTaken) xs) (last_missed one.packets)) one.has
         (subst (λ xs. FileTells (layout_of e names AsTaken) origin.uuid c xs (map (event_of e names AsTaken) (flat_map (λ p. p.1) one.packets)) (last_missed one.packets)) (sym bytes) tells))

@@ -11,6 +11,7 @@ use Rattle.dspec_trace.specs.Writing.{GetsPacket, Tracing}
 use Rattle.dspec_trace_reading.specs.AsTaken.{HaveNumbers}
 use Rattle.dspec_trace_reading.proofs.OwnNumbers.{Numbered, have_numbers, is_there, taken_numbered}
 use Rattle.dspec_trace_reading.proofs.Folding.{Holds}
+use Rattle.dspec_trace_reading.proofs.Partly.{reads_kept}
 use Rattle.dspec_trace_reading.proofs.Whole.{reads_back}
 use Rattle.dspec_trace_reading.proofs.laws.trace_reads_back.Goals as goal
 
@@ -28,6 +29,11 @@ pub returns : goal.returns
 returns g c = record {
   taken = λ origin names k begun ended left is t h none long numbers small short.
       reads_back c.metadata_reads_back.ensures c.taken_file_reads_back.ensures origin c.args._schema.now names begun ended is t.passed t.got none left
+      (λ n l there. (t.promised.each n l there).seen) long numbers small (numbered c.args._schema.now k begun left ended t h) short
+      (λ n l there. subst (λ bs. Holds c.args._schema.now bs (t.promised.each n l there).seen) (append_assoc (t.taken n) (waiting l.rest) (l.last ∷ []) ∙ sym (t.whole n l there))
+      (t.promised.each n l there).hold);
+  kept = λ origin names k begun ended left is t h long numbers small short.
+      reads_kept c.metadata_reads_back.ensures c.taken_file_reads_back.ensures origin c.args._schema.now names begun ended is t.passed t.got left
       (λ n l there. (t.promised.each n l there).seen) long numbers small (numbered c.args._schema.now k begun left ended t h) short
       (λ n l there. subst (λ bs. Holds c.args._schema.now bs (t.promised.each n l there).seen) (append_assoc (t.taken n) (waiting l.rest) (l.last ∷ []) ∙ sym (t.whole n l there))
       (t.promised.each n l there).hold);

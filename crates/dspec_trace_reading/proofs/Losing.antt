@@ -1,0 +1,69 @@
+-- What one batch asks of the folder, where some may be lost.
+use Rattle.std.proofs.Common.{◌≡◌, ◌≢◌, ◌<◌, ◌+◌, ◌^◌, ℕ, inl, inr, List, [], ◌∷◌, ◌++◌, Option, Some, None, refl, sym, ap, ◌∙◌, subst, arith, length, length-set, slice_index}
+use Rattle.std.proofs.lemmas.List.{append-nil, get_or-set_same, get_or-set_other}
+use Rattle.dspec_record.specs.Record.{Record}
+use Rattle.dspec_record.specs.EnablingRows.{EnabledRows}
+use Rattle.dspec_ring.specs.declared.batch.Batch.{Batch}
+use Rattle.dspec_ctf.specs.Streams.{IsText}
+use Rattle.dspec_trace.specs.Accounts.{missed_on}
+use Rattle.dspec_trace.specs.Losses.{HasSoManyRecords, capped}
+use Rattle.dspec_trace.specs.Writes.{FileWrite, Refuses, file_of}
+use Rattle.dspec_trace.specs.Writing.{IsBatchFault, LosesPacket, Tracing, cpu_name}
+use Rattle.dspec_trace.specs.declared.fault.FolderFault.{FolderFault}
+use Rattle.dspec_trace.proofs.Written.{file_of_more}
+
+-- what a place refused stands behind what it was asked for before, and brings no file anything
+refused_there : (old new : Option (List FileWrite)) (was : List FileWrite) (name bytes : List ℕ) (fault : FolderFault) → old ≡ Some was → Refuses old name bytes new fault
+    → new ≡ Some (was ++ record { name = name; bytes = bytes; refused = Some fault } ∷ [])
+refused_there None new was name bytes fault e refuses = absurd (cc (e))
+refused_there (Some xs) None was name bytes fault e refuses = elim refuses.asked [ ]
+refused_there (Some xs) (Some ys) was name bytes fault e refuses =
+    let same : xs ≡ was = cc (e) in
+    ap Some (refuses.asked ∙ ap (λ zs. zs ++ record { name = name; bytes = bytes; refused = Some fault } ∷ []) same)
+
+-- so many are so many, where the cap isn't reached
+uncapped : (n : ℕ) → capped n + 1 < 2 ^ 64 → capped n ≡ n
+uncapped n below = omega (arith, below)
+
+module _ (e : EnabledRows) where
+  -- every file stays where a batch is lost
+  pub files_stay : (old new : Tracing) (b : Batch) (was : List FileWrite) → old.written ≡ Some was → LosesPacket e old b new
+      → (next : List FileWrite) × ((new.written ≡ Some next) × ((name : List ℕ) → file_of name next ≡ file_of name was))
+  files_stay old new b was asked loses = go loses.why where
+    go : IsBatchFault e old b new.written loses.fault → (next : List FileWrite) × ((new.written ≡ Some next) × ((name : List ℕ) → file_of name next ≡ file_of name was))
+    go (inl none) = (was, (none.1 ∙ asked, λ name. refl))
+    go (inr refuses) =
+        let w : FileWrite = record { name = cpu_name b.cpu; bytes = refuses.bytes; refused = Some loses.fault } in (
+          was ++ w ∷ [],
+          (
+            refused_there old.written new.written was (cpu_name b.cpu) refuses.bytes loses.fault asked refuses.refused,
+            λ name. file_of_more name was w ∙ append-nil (file_of name was),
+          ),
+        )
+
+  module _ (old new : Tracing) (b : Batch) (loses : LosesPacket e old b new) (wide : length old.missed ≡ 64) where
+    pub still_wide : length new.missed ≡ 64
+    still_wide = ap length loses.counted.missed ∙ length-set old.missed b.cpu _ ∙ wide
+
+    pub others_missed : (c : ℕ) → b.cpu ≢ c → missed_on new c ≡ missed_on old c
+    others_missed c apart = ap (λ (xs : List ℕ). slice_index xs c) loses.counted.missed ∙ get_or-set_other old.missed b.cpu c _ 0 (λ s. apart (sym s))
+
+    pub told_stays : new.told ≡ old.told
+    told_stays = loses.counted.told
+
+    -- all records of the batch are counted, and its drops
+    pub own_missed : (c : ℕ) → c < 64 → b.cpu ≡ c → missed_on new c + 1 < 2 ^ 64 → (rs : List Record) → IsText e b.buffer.text rs
+        → ((qs : List Record) → IsText e b.buffer.text qs → qs ≡ rs) → missed_on new c ≡ missed_on old c + b.drops + length rs
+    own_missed c low same below rs is_text unique =
+        let there : b.cpu < length old.missed = omega (arith, low, same, wide) in
+        let read : missed_on new c ≡ capped (missed_on old c + (b.drops + loses.counted.records)) =
+        subst (λ n. slice_index new.missed n ≡ capped (slice_index old.missed n + (b.drops + loses.counted.records))) same
+        (ap (λ (xs : List ℕ). slice_index xs b.cpu) loses.counted.missed ∙ get_or-set_same old.missed b.cpu _ 0 there) in
+        let sum : missed_on new c ≡ missed_on old c + (b.drops + loses.counted.records) = read ∙ uncapped _ (subst (λ n. n + 1 < 2 ^ 64) read below) in
+        let small : loses.counted.records + 1 < 2 ^ 64 = omega (arith, sum, below) in
+        let so_many : loses.counted.records ≡ length rs = count loses.counted.has small in
+        omega (arith, sum, so_many)
+      where
+        count : HasSoManyRecords e b loses.counted.records → loses.counted.records + 1 < 2 ^ 64 → loses.counted.records ≡ length rs
+        count (inl (qs, (text, n))) small = n ∙ uncapped (length qs) (subst (λ m. m + 1 < 2 ^ 64) n small) ∙ ap length (unique qs text)
+        count (inr (none, n)) small = absurd (none rs is_text)
