@@ -124,10 +124,10 @@ static void closed_drop(void) { dspec_closed_drop(&closed); }
 
 static void schema_drop(void) { dspec_schema_drop(&all.schema); }
 
-/* A trace: a schema with stamps, and a batch of two records of which the second's stamp is before the first's. */
+/* A trace: a schema with stamps, and a batch of two records, of 12 bytes, a gap of 4 and 64 bytes, of which the second's stamp is before the first's. */
 static dspec_ctf ctf;
 static uint8_t room[1 << 18];
-static uint8_t records[2 * (4 + 8 + 64)] = { [0] = 1, [4] = 2, [4 + 8 + 64] = 1, [4 + 8 + 64 + 4] = 1 };
+static uint8_t records[2 * 80] = { [0] = 1, [4] = 2, [80] = 1, [84] = 1 };
 static const dspec_identity identity = { .uuid = { 1 }, .hertz = 1000, .host = { "here", 4 }, .name = { "c_stack", 7 } };
 
 static void schema_stamp(void) { HAS_TO(dspec_schema_stamp(&all.schema)); }
