@@ -1,5 +1,5 @@
 -- Cited by calls. The calls on a CPU's files in a trace, and the metadata of one.
-use Rattle.std.specs.Prelude.{ℕ, ◌≡◌, ◌≢◌, ◌⊎◌, true, List, Option, Some, None, length}
+use Rattle.std.specs.Prelude.{ℕ, ◌≡◌, ◌≢◌, ◌⊎◌, true, false, List, Option, Some, None, length}
 use Rattle.dspec_record.specs.EnablingRows.{EnabledRows}
 use Rattle.dspec_record.specs.declared.header.Header.TheVariants.{One, Two}
 use Rattle.dspec_ctf.specs.declared.stream.PacketFault.{PacketFault}
