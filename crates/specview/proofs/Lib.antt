@@ -5,3 +5,4 @@ pub mod Files
 pub mod AllFiles
 pub mod Taking
 pub mod Steppings
+pub mod Uuids

@@ -5,3 +5,4 @@ pub mod Clocks
 pub mod Folders
 pub mod Pictures
 pub mod Stepping
+pub mod Examined

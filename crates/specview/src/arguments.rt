@@ -1,5 +1,6 @@
 //! What the command line asks for.
 
+use crate::folder_asking::{FolderAsk, folder_ask, folder_command};
 use clap::{Arg, ArgMatches, Command};
 use dspec_command::{Asked, CommandFault, asked_of};
 use dspec_ctf::Form;
@@ -10,7 +11,7 @@ const VERSION: &str = "0.1.0";
 
 /// How the program is called.
 const USAGE: &str =
-    "specview ctf --output FOLDER [--by-time HERTZ] [SCHEDULE], specview picture [--output FILE] [SCHEDULE], specview steps [SCHEDULE]";
+    "specview ctf --output FOLDER [--by-time HERTZ] [SCHEDULE], specview picture [--output FILE] [SCHEDULE], specview steps [SCHEDULE], specview folder [--check | --repair | --text | --json] DIR ..";
 
 /// A trace to be written.
 #[derive(Debug, Clone, Copy)]
@@ -41,6 +42,8 @@ pub enum Ask<'a> {
     Picture(PictureAsk<'a>),
     /// To tell the steps of a schedule's play, of this file, or of standard input where none is named.
     Steps(Option<&'a str>),
+    /// To show or mend trace folders.
+    Folder(FolderAsk<'a>),
     /// To print this text, which was asked for by `--help` or `--version`.
     Text(String),
 }
@@ -96,11 +99,12 @@ fn steps_command<'a>(alloc: Global) -> Result<Command<'a>, AllocError> {
 fn command<'a>(alloc: Global) -> Result<Command<'a>, AllocError> {
     Command::new(alloc, "specview")
         .version(VERSION)
-        .about("shows plays")
+        .about("shows plays and traces")
         .subcommand_required(true)
         .subcommand(ctf_command(alloc)?)?
         .subcommand(picture_command(alloc)?)?
-        .subcommand(steps_command(alloc)?)
+        .subcommand(steps_command(alloc)?)?
+        .subcommand(folder_command(alloc)?)
 }
 
 /// The trace that is asked for.
@@ -125,20 +129,29 @@ fn picture_ask<'a>(found: &ArgMatches<'a>) -> PictureAsk<'a> {
 }
 
 /// What is asked for by what was found in the words, if it is anything.
-fn ask_found<'a>(found: &ArgMatches<'a>) -> Option<Ask<'a>> {
+fn ask_found<'a>(alloc: Global, found: &ArgMatches<'a>) -> Result<Option<Ask<'a>>, AllocError> {
+    if let Some(found) = found.subcommand_matches("folder") {
+        return Ok(Some(Ask::Folder(folder_ask(alloc, found)?)));
+    }
     if let Some(found) = found.subcommand_matches("picture") {
-        return Some(Ask::Picture(picture_ask(found)));
+        return Ok(Some(Ask::Picture(picture_ask(found))));
     }
     if let Some(found) = found.subcommand_matches("steps") {
-        return Some(Ask::Steps(found.get_str("schedule")));
+        return Ok(Some(Ask::Steps(found.get_str("schedule"))));
     }
-    Some(Ask::Trace(trace_ask(found.subcommand_matches("ctf")?)?))
+    let Some(found) = found.subcommand_matches("ctf") else {
+        return Ok(None);
+    };
+    match trace_ask(found) {
+        Some(ask) => Ok(Some(Ask::Trace(ask))),
+        None => Ok(None),
+    }
 }
 
 /// What these words ask for, the first of which is the program's name.
 pub fn ask_of<'a>(alloc: Global, words: &'a [String]) -> Result<Ask<'a>, CommandFault<'a>> {
     match asked_of(alloc, command(alloc)?, USAGE, words)? {
-        Asked::Found(found) => ask_found(&found).ok_or(CommandFault::Usage(USAGE)),
+        Asked::Found(found) => ask_found(alloc, &found)?.ok_or(CommandFault::Usage(USAGE)),
         Asked::Text(text) => Ok(Ask::Text(text)),
     }
 }

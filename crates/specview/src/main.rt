@@ -1,4 +1,4 @@
-//! `specview` shows plays. `specview ctf --output FOLDER [--by-time HERTZ] [SCHEDULE]` plays a schedule, of a file or of standard
+//! `specview` shows plays and traces. `specview ctf --output FOLDER [--by-time HERTZ] [SCHEDULE]` plays a schedule, of a file or of standard
 //! input, and writes what each CPU's principal buffers accepted as a trace of the Common Trace Format, which other tools open: a
 //! folder with the text `metadata` and one file a CPU.
 //!
@@ -8,36 +8,58 @@
 //! `specview picture [--output FILE] [SCHEDULE]` plays a schedule, and draws its play as an SVG: into the file, which is made, or
 //! replaced once the picture is whole, or on standard output. `specview steps [SCHEDULE]` tells each atomic step of the play in a line.
 //!
+//! `specview folder [--check | --repair | --text | --json] DIR ..` sums up trace folders of ours, whoever wrote them; or checks them, by the
+//! definition of what their bytes say, and cuts off what a stopped writer left; or tells or draws all that they have, merged by time. What they
+//! have is judged by functions over bytes, whose contracts say what an answer means; reading the files and printing is promised nothing of.
+//!
 //! | File | What is in it |
 //! |---|---|
 //! | `arguments.rt`, `main.rt`, `fault.rt`, `program.rt`, `replacing.rt` | what the words ask (a subcommand more is one function and one arm of `Ask`); statuses; how a picture takes the place of an old one |
 //! | `clock.rt` | `see_clock`: what readers of a trace by time take (`specs/Clocks`) |
 //! | `pictured.rt`, `stepped.rt`, `ending.rt` | `picture_of`: the picture of a text's play (`specs/Pictures`); `steps_of_text`: its steps (`specs/Stepping`); how a run ends |
 //! | `trace.rt`, `batches.rt`, `events.rt`, `folder.rt` | `trace_of`: a file as taken and by time; `shares_of`: a stream cut at the seals; the events; `Folder` and `write_trace` |
+//! | `folder_asking.rt`, `folder_fault.rt`, `naming.rt`, `opening.rt` | what is asked of folders; statuses; which file is which CPU's; a folder's metadata and files |
+//! | `judging.rt`, `examining.rt` | `wrong_with`, `mend_of`: what is wrong with a file, and where it is cut (`specs/Examined`); the files of folders, one by one |
+//! | `counting.rt`, `merging.rt`, `showing.rt`, `listing.rt`, `chart.rt` | the tables; what files tell, in order of time; as lines; as Chrome's Trace Event form |
 //! | `proofs/` | Cutting (a stream cut into batches), Parts, Greatest, AllFiles, Files |
 #![tactic(auto)]
 
 mod arguments;
 mod batches;
+mod chart;
 mod clock;
+mod counting;
 mod ending;
 mod events;
+mod examining;
 mod fault;
 mod folder;
+mod folder_asking;
+mod folder_fault;
+mod judging;
+mod listing;
+mod merging;
+mod naming;
+mod opening;
 mod pictured;
 mod program;
 mod replacing;
+mod showing;
 mod stepped;
 mod trace;
 
 use arguments::{Ask, PictureAsk, TraceAsk, ask_of};
+use counting::count_folders;
 use dspec_command::{Input, ended, open, print_text, words_of};
 use dspec_player::read_whole;
+use examining::examine_folders;
 use fault::ViewFault;
 use folder::{SystemFolder, write_trace};
+use folder_asking::{FolderAsk, FolderTask};
 use pictured::picture_of;
 use program::ProgramFault;
 use replacing::{see_other, write_file};
+use showing::{Shape, show_folders};
 use std::alloc::Global;
 use std::io::Read;
 use std::process::ExitCode;
@@ -100,12 +122,25 @@ fn run_steps<'a>(rt: &HostRuntime, schedule: Option<&'a str>) -> Result<(), Prog
     Ok(print_text(rt, told.as_str())?)
 }
 
-/// Does what the words ask for.
+/// Shows or mends trace folders, and says whether nothing is wrong with them.
+fn run_folder<'a>(rt: &HostRuntime, ask: &FolderAsk<'a>) -> Result<bool, ProgramFault<'a>> {
+    let paths = ask.paths.as_slice();
+    match ask.task {
+        FolderTask::Count => count_folders(rt, paths),
+        FolderTask::Check => examine_folders(rt, paths, false),
+        FolderTask::Repair => examine_folders(rt, paths, true),
+        FolderTask::Text => show_folders(rt, paths, Shape::Text),
+        FolderTask::Json => show_folders(rt, paths, Shape::Json),
+    }
+}
+
+/// Does what the words ask for, and says whether all is well.
 fn run<'a>(rt: &'a HostRuntime, words: &'a [String]) -> Result<bool, ProgramFault<'a>> {
     match ask_of(rt.alloc(), words)? {
         Ask::Trace(ask) => run_ctf(rt, &ask)?,
         Ask::Picture(ask) => run_picture(rt, &ask)?,
         Ask::Steps(schedule) => run_steps(rt, schedule)?,
+        Ask::Folder(ask) => return run_folder(rt, &ask),
         Ask::Text(text) => print_text(rt, text.as_str())?,
     }
     Ok(true)

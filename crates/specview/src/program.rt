@@ -1,6 +1,8 @@
 use crate::ending::RunFault;
 use crate::fault::ViewFault;
+use crate::folder_fault::FolderFault;
 use dspec_command::{CommandFault, Ending};
+use std::alloc::{AllocError, AllocFailed};
 use thiserror::Error;
 
 /// Why the program doesn't end with status 0.
@@ -10,6 +12,8 @@ pub enum ProgramFault<'a> {
     Run(#[from] RunFault),
     #[error("{0}")]
     Command(#[from] CommandFault<'a>),
+    #[error("{0}")]
+    Folder(#[from] FolderFault<'a>),
     /// The picture would take the place of its own schedule.
     #[error("{0}: the schedule's own file")]
     OwnSchedule(&'a str),
@@ -21,6 +25,7 @@ impl<'a> Ending for ProgramFault<'a> {
         match self {
             ProgramFault::Run(fault) => fault.status(),
             ProgramFault::Command(fault) => fault.status(),
+            ProgramFault::Folder(fault) => fault.status(),
             ProgramFault::OwnSchedule(_) => 4,
         }
     }
@@ -29,5 +34,17 @@ impl<'a> Ending for ProgramFault<'a> {
 impl<'a> From<ViewFault> for ProgramFault<'a> {
     fn from(fault: ViewFault) -> Self {
         ProgramFault::Run(RunFault::View(fault))
+    }
+}
+
+impl<'a> From<AllocError> for ProgramFault<'a> {
+    fn from(_refused: AllocError) -> Self {
+        ProgramFault::Command(CommandFault::Memory)
+    }
+}
+
+impl<'a, T: Drop> From<AllocFailed<T>> for ProgramFault<'a> {
+    fn from(_refused: AllocFailed<T>) -> Self {
+        ProgramFault::Command(CommandFault::Memory)
     }
 }

@@ -1,0 +1,9 @@
+-- Places of a list that don't have a value.
+use Rattle.std.proofs.Common.{◌≡◌, ℕ, ◌<◌, ◌≤◌, List, Some, None, length, ⊎_elim, arith}
+use Rattle.std.specs.List.{slice_get}
+use Rattle.std.proofs.lemmas.Option.{slice_get_cases}
+
+-- a value that none of all places has stands nowhere
+pub nowhere : {X : Type 0} (xs : List X) (x : X) (n : ℕ) → length xs ≤ n → ((k : ℕ) → k < n → slice_get xs k ≡ Some x → ⊥) → (k : ℕ) → slice_get xs k ≡ Some x → ⊥
+nowhere xs x n le below k is =
+    ⊎_elim (λ here. below k (let lt = here.1 in omega arith) is) (λ past. let none = past.1 in cc) (slice_get_cases xs k).1

@@ -1,0 +1,121 @@
+//! What the words behind `specview folder` ask for.
+
+use clap::{Arg, ArgAction, ArgMatches, Command};
+use std::alloc::{AllocError, Global};
+
+/// What is done with trace folders.
+#[derive(Debug, Clone, Copy, PartialEq, Eq)]
+pub enum FolderTask {
+    /// What they have is counted.
+    Count,
+    /// All of their files are read, and what is wrong is told.
+    Check,
+    /// The same, and what stands behind the last whole packet of a file is cut off.
+    Repair,
+    /// Their events are told, a line each.
+    Text,
+    /// Their events are written as a document that ui.perfetto.dev opens.
+    Json,
+}
+
+/// Folders, and what is done with them.
+#[derive(Debug, Drop)]
+pub struct FolderAsk<'a> {
+    /// What is done.
+    pub task: FolderTask,
+    /// Their paths.
+    pub paths: Vec<&'a str>,
+}
+
+/// A flag that says what is done with the folders.
+fn flag<'a>(alloc: Global, name: &'a str, help: &'a str) -> Arg<'a> {
+    Arg::new(alloc, name)
+        .long(name)
+        .action(ArgAction::SetTrue)
+        .help(help)
+}
+
+/// The flags, of which one at most is given.
+fn flags<'a>(alloc: Global, command: Command<'a>) -> Result<Command<'a>, AllocError> {
+    let check = flag(
+        alloc,
+        "check",
+        "read each packet of each file, and tell which file is wrong at which byte",
+    );
+    let repair = flag(
+        alloc,
+        "repair",
+        "the same, and cut off what a stopped writer left behind the last whole packet of a file; of folders that nobody writes to any more",
+    );
+    let text = flag(
+        alloc,
+        "text",
+        "tell all events, a line each; those of several folders by time, all of them in memory",
+    );
+    let json = flag(
+        alloc,
+        "json",
+        "the same as a document of Chrome's Trace Event form, which ui.perfetto.dev opens",
+    );
+    command
+        .arg(
+            check
+                .conflicts_with("repair")?
+                .conflicts_with("text")?
+                .conflicts_with("json")?,
+        )?
+        .arg(repair.conflicts_with("text")?.conflicts_with("json")?)?
+        .arg(text.conflicts_with("json")?)?
+        .arg(json)
+}
+
+/// The subcommand that shows trace folders.
+pub fn folder_command<'a>(alloc: Global) -> Result<Command<'a>, AllocError> {
+    let command = Command::new(alloc, "folder").about(
+        "sum up trace folders of the Common Trace Format: what each has, and when; or check, mend, tell or draw them. Several folders are merged by time where their clocks are one, or each tells when it began",
+    );
+    let paths = Arg::new(alloc, "paths")
+        .value_name("DIR")
+        .required(true)
+        .action(ArgAction::Append)
+        .num_args(1..)
+        .help("a trace folder");
+    flags(alloc, command)?.arg(paths)
+}
+
+/// What is done, by the flags.
+fn task_of(found: &ArgMatches<'_>) -> FolderTask {
+    if found.get_flag("check") {
+        return FolderTask::Check;
+    }
+    if found.get_flag("repair") {
+        return FolderTask::Repair;
+    }
+    if found.get_flag("text") {
+        return FolderTask::Text;
+    }
+    if found.get_flag("json") {
+        return FolderTask::Json;
+    }
+    FolderTask::Count
+}
+
+/// A path without the slashes behind it.
+fn trimmed<'a>(path: &'a str) -> &'a str {
+    let short = path.trim_end_matches('/');
+    if short.is_empty() { path } else { short }
+}
+
+/// What is asked for.
+pub fn folder_ask<'a>(alloc: Global, found: &ArgMatches<'a>) -> Result<FolderAsk<'a>, AllocError> {
+    let mut paths = Vec::new(alloc);
+    if let Some(given) = found.get_strs("paths") {
+        for path in given {
+            paths.push(trimmed(*path))?;
+        }
+    }
+    Ok(FolderAsk {
+        task: task_of(found),
+        paths,
+    })
+}

@@ -1,0 +1,85 @@
+//! `specview folder --text` and `--json`: all that trace folders tell, merged by time.
+
+use crate::chart::write_chart;
+use crate::folder_fault::FolderFault;
+use crate::listing::write_list;
+use crate::merging::merge_all;
+use crate::opening::Opened;
+use crate::program::ProgramFault;
+use dspec_command::output_fault;
+use dspec_ctf_reader::Metadata;
+use std::alloc::Global;
+use std::io;
+use std::io::{BufWriter, Write};
+
+/// How folders are shown.
+#[derive(Debug, Clone, Copy, PartialEq, Eq)]
+pub enum Shape {
+    /// A line for each event.
+    Text,
+    /// A document of Chrome's Trace Event form.
+    Json,
+}
+
+/// Traces with their folders.
+#[derive(Clone, Copy)]
+pub struct Traces<'s, 'o, 'a> {
+    /// The folders.
+    pub opened: &'s [Opened<'a>],
+    /// What the metadata of each tells.
+    pub metadatas: &'s [Metadata<'o>],
+}
+
+/// Opens the folders of these paths.
+fn open_all<'a>(rt: &HostRuntime, paths: &[&'a str]) -> Result<Vec<Opened<'a>>, ProgramFault<'a>> {
+    let mut opened = Vec::new(rt.alloc());
+    for path in paths {
+        opened.push(Opened::of(rt, path)?)?;
+    }
+    Ok(opened)
+}
+
+/// What the metadata of each of these folders tells.
+fn read_all<'o, 'a>(
+    alloc: Global,
+    opened: &'o [Opened<'a>],
+) -> Result<Vec<Metadata<'o>>, ProgramFault<'a>> {
+    let mut metadatas = Vec::new(alloc);
+    for folder in opened {
+        metadatas.push(folder.metadata(alloc)?)?;
+    }
+    Ok(metadatas)
+}
+
+/// What was written to standard output, or wasn't.
+fn written<'a>(outcome: io::Result<()>) -> Result<(), ProgramFault<'a>> {
+    match outcome {
+        Ok(()) => Ok(()),
+        Err(reason) => Err(ProgramFault::Command(output_fault(reason))),
+    }
+}
+
+/// Shows folders on standard output, and says whether each of their files could be read to its end.
+pub fn show_folders<'a>(
+    rt: &HostRuntime,
+    paths: &[&'a str],
+    shape: Shape,
+) -> Result<bool, ProgramFault<'a>> {
+    let opened = open_all(rt, paths)?;
+    let metadatas = read_all(rt.alloc(), opened.as_slice())?;
+    let traces = Traces {
+        opened: opened.as_slice(),
+        metadatas: metadatas.as_slice(),
+    };
+    let merged = merge_all(rt, &traces)?;
+    let mut out = match BufWriter::new(rt.alloc(), io::writer(rt)) {
+        Ok(out) => out,
+        Err(reason) => return Err(ProgramFault::Command(output_fault(reason))),
+    };
+    written(match shape {
+        Shape::Text => write_list(rt.alloc(), &mut out, &traces, &merged),
+        Shape::Json => write_chart(rt.alloc(), &mut out, &traces, &merged),
+    })?;
+    written(out.flush())?;
+    Ok(merged.sound)
+}
