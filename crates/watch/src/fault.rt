@@ -2,6 +2,7 @@ use dspec::{KeptFault, StartFault};
 use dspec_command::{CommandFault, Ending};
 use dspec_probed::ProbeFault;
 use dspec_trace::{FolderFault, Loss};
+use std::alloc::AllocError;
 use thiserror::Error;
 
 /// Why the program doesn't end with status 0.
@@ -13,6 +14,8 @@ pub enum WatchFault<'a> {
     Lost { name: &'a str, loss: Loss },
     #[error("{name}: {fault}")]
     Folder { name: &'a str, fault: FolderFault },
+    #[error("out of memory")]
+    Memory(#[from(alloc)] AllocError),
     #[error("{0}")]
     Start(#[from] StartFault),
     #[error("{0}")]
@@ -31,7 +34,8 @@ impl<'a> Ending for WatchFault<'a> {
             WatchFault::Command(fault) => fault.status(),
             WatchFault::Folder { fault, .. } => { if fault.is_memory() { 2 } else { 3 } }
             WatchFault::Lost { loss, .. } => { if loss.fault.is_memory() { 2 } else { 3 } }
-            WatchFault::Probe(ProbeFault::Memory)
+            WatchFault::Memory(_)
+            | WatchFault::Probe(ProbeFault::Memory)
             | WatchFault::Start(StartFault::Memory)
             | WatchFault::Kept(KeptFault::Memory) => 2,
             _ => 1,
