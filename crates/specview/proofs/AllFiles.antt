@@ -1,6 +1,6 @@
 -- The file of each CPU stands at its place.
-use Rattle.std.proofs.Common.{◌≡◌, ℕ, ◌+◌, ◌<◌, ◌≤◌, List, [], ◌∷◌, ◌++◌, Option, Bool, true, false, ◌==◌, if◌then◌else◌, Some, None, length}
-use Rattle.std.proofs.Common.{map, reverse, slice_index_or, get_or, refl, sym, ap, ◌∙◌, subst, below_more, ⊎_elim, ◌⊎◌, inl, inr, zero, suc, add-one, arith}
+use Rattle.std.proofs.Common.{◌≡◌, ℕ, ◌+◌, ◌<◌, ◌≤◌, List, [], ◌∷◌, ◌++◌, Option, Bool, true, false, if◌then◌else◌, Some, length}
+use Rattle.std.proofs.Common.{map, reverse, slice_index_or, get_or, refl, sym, ap, ◌∙◌, subst, below_more, ⊎_elim, ◌⊎◌, zero, suc, add-one, arith}
 use Rattle.std.proofs.lemmas.List.{map-append, length-append, length-map, get_or_append_left, get_or_at, get_or_default, get_or-map}
 use Rattle.dspec_record.specs.Record.{Record}
 use Rattle.dspec_record.specs.EnablingRows.{EnabledRows}
@@ -21,11 +21,8 @@ use Rattle.specview.specs.declared.fault.ViewFault.TheVariants.{Line, NoStamp, L
 use Rattle.specview.specs.Batches.{TellsCounts}
 use Rattle.specview.specs.Clocks.{IsClockFault}
 use Rattle.dspec_ctf.specs.declared.form.Form.TheVariants.{AsTaken, ByTime}
-use Rattle.specview.specs.Traces.{AreFiles, AreStreams, IsFile, HasUnknown, IsFileFault, IsFormFault, IsOneTooMuch, IsPlayTraceFault, IsTooMuch}
-use Rattle.dspec_ctf.specs.Names.{metadata_fault as fault_of_metadata, earlier, form_fault, names_fault}
-use Rattle.dspec_record.specs.declared.header.Header.{Header}
-use Rattle.dspec_record.specs.declared.header.Header.TheVariants as header
-use Rattle.std.proofs.lemmas.Option.{slice_get-get_or}
+use Rattle.specview.specs.Traces.{AreFiles, AreStreams, IsFile, HasUnknown, IsFileFault, IsFormFault, IsPlayTraceFault}
+use Rattle.dspec_ctf.specs.Names.{metadata_fault as fault_of_metadata}
 use Rattle.dspec_ctf.specs.declared.names.Names.TheVariants.{Numbered}
 use Rattle.dspec_ctf.specs.declared.fault.MetadataFault.{MetadataFault}
 use Rattle.dspec_ctf.specs.declared.fault.MetadataFault.TheVariants as metadata_fault
@@ -65,21 +62,20 @@ file_next uuid e form h reps old new file n r long before lt is here more c p le
     c less p there
 
 -- why there is no file is why there is no trace
-pub no_trace : (form : Form) (e : EnabledRows) (h : List Deed) (reps : List Report) (rss : List (List Record)) (rs : List Record) (d : Report) (c : ℕ) (fault : ViewFault)
-    → c < length rss → rs ≡ get_or rss c rs → c < length reps
-    → IsFileFault form e (IsTooMuch form e c h (get_or reps c d)) rs fault → IsPlayTraceFault form e (IsOneTooMuch form e h reps) rss fault
-no_trace form e h reps rss rs d c (Line line kind) lt is within why = why
-no_trace form e h reps rss rs d c NoStamp lt is within why = why
-no_trace form e h reps rss rs d c LateStamp lt is within why = absurd why
-no_trace form e h reps rss rs d c NoFrequency lt is within why = absurd why
-no_trace form e h reps rss rs d c GreatestFrequency lt is within why = absurd why
-no_trace form e h reps rss rs d c (NoEvent epid) lt is within why = (c, subst (HasUnknown e epid) (is ∙ get_or_default rss c rs [] lt) why)
-no_trace form e h reps rss rs d c TooMuch lt is within why = (c, (get_or reps c d, (slice_get-get_or reps c d within, why)))
-no_trace form e h reps rss rs d c Memory lt is within why = why
-no_trace form e h reps rss rs d c Read lt is within why = why
-no_trace form e h reps rss rs d c Write lt is within why = why
-no_trace form e h reps rss rs d c TooLong lt is within why = why
-no_trace form e h reps rss rs d c NotEmpty lt is within why = why
+pub no_trace : (form : Form) (e : EnabledRows) (rss : List (List Record)) (rs : List Record) (c : ℕ) (fault : ViewFault) → c < length rss → rs ≡ get_or rss c rs
+    → IsFileFault form e rs fault → IsPlayTraceFault form e rss fault
+no_trace form e rss rs c (Line line kind) lt is why = why
+no_trace form e rss rs c NoStamp lt is why = why
+no_trace form e rss rs c LateStamp lt is why = absurd why
+no_trace form e rss rs c NoFrequency lt is why = absurd why
+no_trace form e rss rs c GreatestFrequency lt is why = absurd why
+no_trace form e rss rs c (NoEvent epid) lt is why = (c, subst (HasUnknown e epid) (is ∙ get_or_default rss c rs [] lt) why)
+no_trace form e rss rs c TooMuch lt is why = why
+no_trace form e rss rs c Memory lt is why = why
+no_trace form e rss rs c Read lt is why = why
+no_trace form e rss rs c Write lt is why = why
+no_trace form e rss rs c TooLong lt is why = why
+no_trace form e rss rs c NotEmpty lt is why = why
 
 -- a deed tells how many records it brought
 one_or_none : (b : Bool) (os : List Offer) → (if b then length os else 0) ≡ length (if b then os else [])
@@ -102,42 +98,27 @@ pub reports_long : (k : Config) (worn : ℕ → ℕ) (h : List Deed) → length 
 reports_long k worn h = length-map (numbers_below k.cpus) (λ c. report k c (worn c) h) ∙ below_long k.cpus
 
 -- a clock that readers don't take
-pub clock_told : (form : Form) (e : EnabledRows) (due : Type 0) (rss : List (List Record)) (told : ViewFault) → IsClockFault form rss told → IsPlayTraceFault form e due rss told
-clock_told AsTaken e due rss told why = absurd why
-clock_told (ByTime hertz) e due rss (Line line kind) why = absurd why
-clock_told (ByTime hertz) e due rss NoStamp why = absurd why
-clock_told (ByTime hertz) e due rss LateStamp why = why
-clock_told (ByTime hertz) e due rss NoFrequency why = absurd why
-clock_told (ByTime hertz) e due rss GreatestFrequency why = why
-clock_told (ByTime hertz) e due rss (NoEvent epid) why = absurd why
-clock_told (ByTime hertz) e due rss TooMuch why = absurd why
-clock_told (ByTime hertz) e due rss Memory why = absurd why
-clock_told (ByTime hertz) e due rss Read why = absurd why
-clock_told (ByTime hertz) e due rss Write why = absurd why
-clock_told (ByTime hertz) e due rss TooLong why = absurd why
-clock_told (ByTime hertz) e due rss NotEmpty why = absurd why
-
--- where names are numbered, none is wrong, and no process is told
-numbered_at : (form : Form) (h : Header) (f : MetadataFault) → earlier (form_fault form h) None ≡ Some f → (f ≡ metadata_fault.NoStamp) ⊎ (f ≡ metadata_fault.NoFrequency)
-unfolding form_fault
-numbered_at AsTaken h f is = cc
-numbered_at (ByTime hertz) header.One f is = inl cc
-numbered_at (ByTime hertz) header.Two f is = step (hertz == 0) is
-  where
-    step : (b : Bool) → earlier (if b then Some metadata_fault.NoFrequency else None) None ≡ Some f → (f ≡ metadata_fault.NoStamp) ⊎ (f ≡ metadata_fault.NoFrequency)
-    step true q = inr cc
-    step false q = cc
-
-numbered : (form : Form) (e : EnabledRows) (f : MetadataFault) → fault_of_metadata form e Numbered ≡ Some f → (f ≡ metadata_fault.NoStamp) ⊎ (f ≡ metadata_fault.NoFrequency)
-unfolding fault_of_metadata names_fault
-numbered form e f is = numbered_at form e.header f is
+pub clock_told : (form : Form) (e : EnabledRows) (rss : List (List Record)) (told : ViewFault) → IsClockFault form rss told → IsPlayTraceFault form e rss told
+clock_told AsTaken e rss told why = absurd why
+clock_told (ByTime hertz) e rss (Line line kind) why = absurd why
+clock_told (ByTime hertz) e rss NoStamp why = absurd why
+clock_told (ByTime hertz) e rss LateStamp why = why
+clock_told (ByTime hertz) e rss NoFrequency why = absurd why
+clock_told (ByTime hertz) e rss GreatestFrequency why = why
+clock_told (ByTime hertz) e rss (NoEvent epid) why = absurd why
+clock_told (ByTime hertz) e rss TooMuch why = absurd why
+clock_told (ByTime hertz) e rss Memory why = absurd why
+clock_told (ByTime hertz) e rss Read why = absurd why
+clock_told (ByTime hertz) e rss Write why = absurd why
+clock_told (ByTime hertz) e rss TooLong why = absurd why
+clock_told (ByTime hertz) e rss NotEmpty why = absurd why
 
 -- a fault of the metadata as it is told
-pub form_told : (form : Form) (e : EnabledRows) (due : Type 0) (rss : List (List Record)) (f : MetadataFault) (told : ViewFault)
-    → (f ≡ metadata_fault.Memory) ⊎ (fault_of_metadata form e Numbered ≡ Some f) → IsFormFault f told → IsPlayTraceFault form e due rss told
-form_told form e due rss metadata_fault.NoStamp told why is = subst (IsPlayTraceFault form e due rss) (sym is) (⊎_elim (λ q. cc) (λ q. q) why)
-form_told form e due rss metadata_fault.NoFrequency told why is = subst (IsPlayTraceFault form e due rss) (sym is) (⊎_elim (λ q. cc) (λ q. q) why)
-form_told form e due rss (metadata_fault.Name fault) told why is = absurd (⊎_elim (λ q. cc) (λ q. ⊎_elim (λ r. cc) (λ r. cc) (numbered form e (metadata_fault.Name fault) q)) why)
-form_told form e due rss metadata_fault.HostName told why is = absurd (⊎_elim (λ q. cc) (λ q. ⊎_elim (λ r. cc) (λ r. cc) (numbered form e metadata_fault.HostName q)) why)
-form_told form e due rss metadata_fault.ProcessName told why is = absurd (⊎_elim (λ q. cc) (λ q. ⊎_elim (λ r. cc) (λ r. cc) (numbered form e metadata_fault.ProcessName q)) why)
-form_told form e due rss metadata_fault.Memory told why is = subst (IsPlayTraceFault form e due rss) (sym is) tt
+pub form_told : (form : Form) (e : EnabledRows) (rss : List (List Record)) (f : MetadataFault) (told : ViewFault) → (f ≡ metadata_fault.Memory) ⊎ (fault_of_metadata form e Numbered ≡ Some f)
+    → IsFormFault f told → IsPlayTraceFault form e rss told
+form_told form e rss metadata_fault.NoStamp told why is = subst (IsPlayTraceFault form e rss) (sym is) (⊎_elim (λ q. cc) (λ q. q) why)
+form_told form e rss metadata_fault.NoFrequency told why is = subst (IsPlayTraceFault form e rss) (sym is) (⊎_elim (λ q. cc) (λ q. q) why)
+form_told form e rss (metadata_fault.Name fault) told why is = subst (IsPlayTraceFault form e rss) (sym is) tt
+form_told form e rss metadata_fault.HostName told why is = subst (IsPlayTraceFault form e rss) (sym is) tt
+form_told form e rss metadata_fault.ProcessName told why is = subst (IsPlayTraceFault form e rss) (sym is) tt
+form_told form e rss metadata_fault.Memory told why is = subst (IsPlayTraceFault form e rss) (sym is) tt

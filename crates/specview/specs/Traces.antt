@@ -1,5 +1,5 @@
 -- Cited by calls. The trace of a play: its metadata, and the bytes of each CPU's file.
-use Rattle.std.specs.Prelude.{◌≡◌, ℕ, ◌+◌, ◌<◌, ◌≤◌, ◌^◌, ◌==◌, ◌++◌, ◌⊎◌, List, [], ◌∷◌, length, map, reverse}
+use Rattle.std.specs.Prelude.{◌≡◌, ℕ, ◌+◌, ◌<◌, ◌==◌, ◌++◌, ◌⊎◌, List, [], ◌∷◌, length, map, reverse}
 use Rattle.std.specs.Prelude.{replicate, min, max, take, slice_get, slice_index_or, Some, unwrap_or, IfSome, Bool, true, false, if◌then◌else◌, string_bytes}
 use Rattle.dspec_record.specs.Record.{Record}
 use Rattle.dspec_record.specs.EnablingRows.{EnabledRows}
@@ -20,9 +20,7 @@ use Rattle.dspec_ctf.specs.declared.names.Names.TheVariants.{Numbered}
 use Rattle.dspec_ctf.specs.ByTime.{ArePacketsOfRecords}
 use Rattle.dspec_ctf.specs.Metadata.{metadata_text}
 use Rattle.dspec_ctf.specs.Names.{metadata_fault as fault_of_metadata}
-use Rattle.dspec_ctf.specs.Packets.{events, packet}
-use Rattle.dspec_ctf.specs.declared.stream.PacketFault.{PacketFault}
-use Rattle.dspec_ctf.specs.declared.stream.PacketFault.TheVariants as packet_fault
+use Rattle.dspec_ctf.specs.Packets.{packet}
 use Rattle.dspec_ctf.specs.declared.fault.MetadataFault.{MetadataFault}
 use Rattle.sha1.specs.Sha1.{sha1}
 use Rattle.uuid.specs.declared.Variant.TheVariants.{RFC4122}
@@ -49,10 +47,6 @@ greatest_epid (rs ∷ rss) = max (greatest_of rs) (greatest_epid rss)
 abbrev pub event_rows : Plan → List (List Record) → EnabledRows
 event_rows p rss = unwrap_or p.enablings (record { header = header_of p; rows = replicate (min (greatest_epid rss) 64) [] })
 
--- the batches that a CPU's file as taken has packets of: of a CPU without records one, where reservations were refused
-abbrev pub written_shares : ℕ → List Deed → ℕ → List ShareOf
-written_shares cpu h drops = if length (stream cpu h) == 0 then last_share (record { drops = drops; records = [] }) else shares cpu h
-
 module _ (uuid : List ℕ) (e : EnabledRows) (cpu : ℕ) where
   -- a packet for each batch, where so many reservations were refused before
   abbrev pub packets_behind : ℕ → List ShareOf → List ℕ
@@ -61,7 +55,8 @@ module _ (uuid : List ℕ) (e : EnabledRows) (cpu : ℕ) where
 
   -- a CPU's file as taken: of one without records, one packet where reservations were refused
   abbrev pub file_as_taken : List Deed → ℕ → List ℕ
-  file_as_taken h drops = packets_behind 0 (written_shares cpu h drops)
+  file_as_taken h drops =
+      packets_behind 0 (if length (stream cpu h) == 0 then last_share (record { drops = drops; records = [] }) else shares cpu h)
 
   -- The bytes of a CPU's file; none where it has no file.
   abbrev pub IsFile : Form → List Deed → Report → List ℕ → Type 0
@@ -84,61 +79,34 @@ pub record IsPlayTrace (uuid : List ℕ) (form : Form) (p : Plan) (outcome : Out
   pub count : length t.files.items ≡ p.config.cpus
   pub files : AreFiles uuid (event_rows p outcome.close.accepted) form (reverse outcome.close.deeds) outcome.close.reports (map (λ f. f.items) t.files.items) p.config.cpus
 
--- ---- numbers that 64 bits don't hold
-
--- One of these batches, before which so many reservations were refused, has a packet with such a number: how many were refused up to it, or the
--- packet's size in bits.
-abbrev pub HasTooMuch : EnabledRows → ℕ → List ShareOf → Type 0
-HasTooMuch e missed [] = ⊥
-HasTooMuch e missed (s ∷ ss) = (2 ^ 64 ≤ missed + s.drops) ⊎ ((2 ^ 60 ≤ length (events e s.records)) ⊎ HasTooMuch e (missed + s.drops) ss)
-
--- a CPU's file has such a number: by time how many records it missed
-abbrev pub IsTooMuch : Form → EnabledRows → ℕ → List Deed → Report → Type 0
-IsTooMuch AsTaken e c h p = HasTooMuch e 0 (written_shares c h p.drops)
-IsTooMuch (ByTime hertz) e c h p = 2 ^ 64 ≤ p.dropped + p.specdropped + p.lost
-
--- one CPU's file has
-abbrev pub IsOneTooMuch : Form → EnabledRows → List Deed → List Report → Type 0
-IsOneTooMuch form e h reps = (c : ℕ) × ((p : Report) × ((slice_get reps c ≡ Some p) × IsTooMuch form e c h p))
-
--- what is told of a packet that there isn't
-abbrev pub IsPacketTold : PacketFault → ViewFault → Type 0
-IsPacketTold (packet_fault.Text fault) told = told ≡ TooMuch
-IsPacketTold packet_fault.Missed told = told ≡ TooMuch
-IsPacketTold packet_fault.TooLong told = told ≡ TooMuch
-IsPacketTold (packet_fault.Clock place) told = told ≡ TooMuch
-IsPacketTold packet_fault.Memory told = told ≡ Memory
-
--- ---- why there is no trace
-
--- out of memory, or a number is due that 64 bits don't hold
-abbrev pub IsSizeFault : Type 0 → ViewFault → Type 0
-IsSizeFault due TooMuch = due
-IsSizeFault due Memory = Unit {0}
-IsSizeFault due fault = ⊥
+-- out of memory, or a size or a sum went past 64 bits
+abbrev pub IsSizeFault : ViewFault → Type 0
+IsSizeFault TooMuch = Unit {0}
+IsSizeFault Memory = Unit {0}
+IsSizeFault fault = ⊥
 
 -- a record that the events don't have, with this EPID, is among these
 abbrev pub HasUnknown : EnabledRows → ℕ → List Record → Type 0
 HasUnknown e epid rs = (i : ℕ) × ((r : Record) × ((slice_get rs i ≡ Some r) × ((r.epid ≡ epid) × (table_accepts e.header (enabled e.rows) r ≡ false))))
 
--- why there is no file of these records, where such a number is due by this
-abbrev pub IsFileFault : Form → EnabledRows → Type 0 → List Record → ViewFault → Type 0
-IsFileFault form e due rs NoStamp = fault_of_metadata form e Numbered ≡ Some metadata_fault.NoStamp
-IsFileFault form e due rs (NoEvent epid) = HasUnknown e epid rs
-IsFileFault form e due rs fault = IsSizeFault due fault
+-- why there is no file of these records
+abbrev pub IsFileFault : Form → EnabledRows → List Record → ViewFault → Type 0
+IsFileFault form e rs NoStamp = fault_of_metadata form e Numbered ≡ Some metadata_fault.NoStamp
+IsFileFault form e rs (NoEvent epid) = HasUnknown e epid rs
+IsFileFault form e rs fault = IsSizeFault fault
 
 -- a record that the events don't have, with this EPID, is among those of a CPU
 abbrev pub IsUnknown : EnabledRows → ℕ → List (List Record) → Type 0
 IsUnknown e epid rss = (c : ℕ) × HasUnknown e epid (slice_index_or rss c [])
 
--- why a play has no trace, where such a number is due by this
-abbrev pub IsPlayTraceFault : Form → EnabledRows → Type 0 → List (List Record) → ViewFault → Type 0
-IsPlayTraceFault form e due rss NoStamp = fault_of_metadata form e Numbered ≡ Some metadata_fault.NoStamp
-IsPlayTraceFault form e due rss NoFrequency = fault_of_metadata form e Numbered ≡ Some metadata_fault.NoFrequency
-IsPlayTraceFault form e due rss GreatestFrequency = IsClockFault form rss GreatestFrequency
-IsPlayTraceFault form e due rss LateStamp = IsClockFault form rss LateStamp
-IsPlayTraceFault form e due rss (NoEvent epid) = IsUnknown e epid rss
-IsPlayTraceFault form e due rss fault = IsSizeFault due fault
+-- why a play has no trace
+abbrev pub IsPlayTraceFault : Form → EnabledRows → List (List Record) → ViewFault → Type 0
+IsPlayTraceFault form e rss NoStamp = fault_of_metadata form e Numbered ≡ Some metadata_fault.NoStamp
+IsPlayTraceFault form e rss NoFrequency = fault_of_metadata form e Numbered ≡ Some metadata_fault.NoFrequency
+IsPlayTraceFault form e rss GreatestFrequency = IsClockFault form rss GreatestFrequency
+IsPlayTraceFault form e rss LateStamp = IsClockFault form rss LateStamp
+IsPlayTraceFault form e rss (NoEvent epid) = IsUnknown e epid rss
+IsPlayTraceFault form e rss fault = IsSizeFault fault
 
 -- what is told of a fault of the metadata
 abbrev pub IsFormFault : MetadataFault → ViewFault → Type 0
@@ -165,8 +133,7 @@ pub record HasNoTrace (form : Form) (text : List ℕ) (fault : ViewFault) : Type
   pub plan : Plan
   pub outcome : Outcome
   pub played : IsPlayedText text plan outcome
-  pub because : IsPlayTraceFault form (event_rows plan outcome.close.accepted)
-      (IsOneTooMuch form (event_rows plan outcome.close.accepted) (reverse outcome.close.deeds) outcome.close.reports) outcome.close.accepted fault
+  pub because : IsPlayTraceFault form (event_rows plan outcome.close.accepted) outcome.close.accepted fault
 
 -- why a text has no trace: it says no schedule, or the play of its schedule is refused or has none
 abbrev pub IsTraceFault : Form → List ℕ → ViewFault → Type 0

@@ -1,13 +1,13 @@
 //! The trace of a play: its metadata, and the bytes of each CPU's file.
 
-ghost use Rattle.std.specs.Prelude.{◌≡◌, ◌≢◌, ℕ, true, ◌+◌, ◌<◌, ◌≤◌, ◌^◌, ◌==◌, [], if◌then◌else◌, map, reverse, length, All, IfOk, IfErr, string_bytes};
+ghost use Rattle.std.specs.Prelude.{◌≡◌, ◌≢◌, ℕ, true, ◌+◌, ◌<◌, ◌==◌, [], if◌then◌else◌, map, reverse, length, All, IfOk, IfErr, string_bytes};
 ghost use Rattle.dspec_ctf.specs.ByTime.{ArePacketsOfRecords};
 ghost use Rattle.dspec_ctf.specs.Streams.{Accepts};
 ghost use Rattle.dspec_deeds.specs.Own.{stream as stream_of};
 ghost use Rattle.dspec_schedule.specs.Schedules.{plan_of};
 ghost use Rattle.dspec_player.specs.PlayedTexts.{IsPlayOf};
 ghost use Rattle.specview.specs.Batches.{TellsCounts, last_share, shares, shown_share};
-ghost use Rattle.specview.specs.Traces.{AreFiles, AreStreams, HasTooMuch, IsFile, IsFileFault, IsFormFault, IsOneTooMuch, IsPacketTold, IsPlayTrace, IsPlayTraceFault, IsSizeFault, IsTooMuch, IsTraceFault, IsTraceOf, event_rows, file_as_taken, packets_behind, written_shares};
+ghost use Rattle.specview.specs.Traces.{AreFiles, AreStreams, IsFile, IsFileFault, IsFormFault, IsPlayTrace, IsPlayTraceFault, IsSizeFault, IsTraceFault, IsTraceOf, event_rows, file_as_taken, packets_behind};
 
 use crate::batches::{Share, shares_of, with_last};
 use crate::clock::see_clock;
@@ -34,14 +34,12 @@ pub struct Trace {
 
 /// What is told of records that have no packet.
 fn packet_fault(fault: PacketFault) -> ViewFault
-    ensures { IsPacketTold fault result }
+    ensures { IsSizeFault result }
 {
     match fault {
         PacketFault::Memory => ViewFault::Memory,
-        PacketFault::Text(_) => ViewFault::TooMuch,
-        PacketFault::Missed => ViewFault::TooMuch,
-        PacketFault::TooLong => ViewFault::TooMuch,
-        PacketFault::Clock(_) => ViewFault::TooMuch,
+        PacketFault::Text(_) | PacketFault::Missed | PacketFault::TooLong | PacketFault::Clock(_) =>
+            ViewFault::TooMuch,
     }
 }
 
@@ -54,7 +52,7 @@ fn put_shares(
     requires { All (λ s. All (Accepts stream.enablings.now) s.records) (map shown_share shares.now) }
     ensures packets { IfOk result (λ bytes. bytes.items
         ≡ packets_behind stream.entry.uuid stream.entry.enablings.now stream.entry.cpu stream.entry.missed (map shown_share shares.now)) }
-    ensures fault { IfErr result (IsSizeFault (HasTooMuch stream.entry.enablings.now stream.entry.missed (map shown_share shares.now))) }
+    ensures fault { IfErr result IsSizeFault }
 {
     let mut bytes = Vec::new(alloc);
     for share in shares {
@@ -100,7 +98,7 @@ fn file_as_taken(
     requires known { All (Accepts stream.enablings.now) records.now }
     ensures file { IfOk result (λ bytes. bytes.items
         ≡ file_as_taken stream.entry.uuid stream.entry.enablings.now stream.entry.cpu (reverse deeds.now) drops) }
-    ensures fault { IfErr result (IsSizeFault (HasTooMuch stream.entry.enablings.now 0 (written_shares stream.entry.cpu (reverse deeds.now) drops))) }
+    ensures fault { IfErr result IsSizeFault }
 {
     let shares = shares_to_write(alloc, stream.cpu, deeds, records, drops)?;
     put_shares(alloc, stream, shares.as_slice())
@@ -109,7 +107,7 @@ fn file_as_taken(
 /// How many records a CPU missed, by its report.
 fn missed_of(report: &Report) -> Result<u64, ViewFault>
     ensures sum { IfOk result (λ missed. missed ≡ report.now.dropped + report.now.specdropped + report.now.lost) }
-    ensures fault { IfErr result (IsSizeFault (2 ^ 64 ≤ report.now.dropped + report.now.specdropped + report.now.lost)) }
+    ensures fault { IfErr result IsSizeFault }
 {
     let missed = report
         .dropped
@@ -130,8 +128,7 @@ fn file_by_time(
     requires by_time { form ≢ Form.AsTaken }
     ensures file { IfOk result (λ bytes. ArePacketsOfRecords stream.entry.enablings.now stream.entry.uuid
         (report.now.dropped + report.now.specdropped + report.now.lost) stream.entry.cpu records.now bytes.items) }
-    ensures fault { IfErr result (IsFileFault form stream.entry.enablings.now
-        (2 ^ 64 ≤ report.now.dropped + report.now.specdropped + report.now.lost) records.now) }
+    ensures fault { IfErr result (IsFileFault form stream.entry.enablings.now records.now) }
 {
     stream.missed = missed_of(report)?;
     match stream.packets_by_time_of(alloc, records) {
@@ -155,8 +152,7 @@ fn file_of(
     requires accepted { records.now ≡ stream_of stream.cpu (reverse deeds.now) }
     requires told { TellsCounts stream.cpu (reverse deeds.now) }
     ensures file { IfOk result (λ bytes. IsFile stream.entry.uuid stream.entry.enablings.now stream.entry.cpu form (reverse deeds.now) report.now bytes.items) }
-    ensures fault { IfErr result (IsFileFault form stream.entry.enablings.now
-        (IsTooMuch form stream.entry.enablings.now stream.entry.cpu (reverse deeds.now) report.now) records.now) }
+    ensures fault { IfErr result (IsFileFault form stream.entry.enablings.now records.now) }
 {
     if let Some(place) = first_refused(stream.enablings, records) {
         return Err(ViewFault::NoEvent(records[place].epid()));
@@ -181,8 +177,7 @@ fn files_of(
     requires told { (c : ℕ) → TellsCounts c (reverse close.now.deeds) }
     ensures count { IfOk result (λ files. length files.items ≡ cpus) }
     ensures files { IfOk result (λ files. AreFiles uuid.now events.now form (reverse close.now.deeds) close.now.reports (map (λ f. f.items) files.items) cpus) }
-    ensures fault { IfErr result (IsPlayTraceFault form events.now
-        (IsOneTooMuch form events.now (reverse close.now.deeds) close.now.reports) close.now.accepted) }
+    ensures fault { IfErr result (IsPlayTraceFault form events.now close.now.accepted) }
 {
     let (deeds, reports) = (close.deeds.as_slice(), close.reports.as_slice());
     let accepted = close.accepted.as_slice();
@@ -229,9 +224,7 @@ fn trace_of_play(
 ) -> Result<Trace, ViewFault>
     requires { IsPlayOf (plan_of schedule.now) outcome.now }
     ensures trace { IfOk result (IsPlayTrace uuid.now form (plan_of schedule.now) outcome.now) }
-    ensures fault { IfErr result (IsPlayTraceFault form (event_rows (plan_of schedule.now) outcome.now.close.accepted)
-        (IsOneTooMuch form (event_rows (plan_of schedule.now) outcome.now.close.accepted) (reverse outcome.now.close.deeds) outcome.now.close.reports)
-        outcome.now.close.accepted) }
+    ensures fault { IfErr result (IsPlayTraceFault form (event_rows (plan_of schedule.now) outcome.now.close.accepted) outcome.now.close.accepted) }
 {
     let events = events_of(schedule, outcome.close.accepted.as_slice());
     let metadata = match metadata(alloc, uuid, form, &events, &Names::Numbered) {

@@ -1,9 +1,7 @@
-use Rattle.std.proofs.Common.{◌∙◌, ◌<◌, sym, ap, subst, List, reverse, length, slice_index_or, arith}
-use Rattle.dspec_deeds.specs.declared.deed.Deed.{Deed}
-use Rattle.dspec_deeds.specs.declared.report.Report.{Report}
+use Rattle.std.proofs.Common.{◌∙◌, sym, ap, subst, reverse, length, slice_index_or, arith}
 use Rattle.dspec_deeds.specs.Own.{stream}
 use Rattle.specview.specs.Batches.{TellsCounts}
-use Rattle.specview.specs.Traces.{AreStreams, IsFileFault, IsTooMuch}
+use Rattle.specview.specs.Traces.{AreStreams}
 use Rattle.specview.proofs.AllFiles.{stream_at, streams_long, no_trace}
 use Rattle.specview.proofs.trace.files_of.Goals as goal
 
@@ -27,15 +25,8 @@ pub returns-in-Err-clause-fault : goal.returns-in-Err-clause-fault
 returns-in-Err-clause-fault c =
     let accepted = c.args.close.now.accepted in
     let same = c.as_slice-accepted.ensures in
-    let form = c.args.form in
-    let events = c.args.events.now in
-    let none : Report = record { offered = 0; accepted = 0; dropped = 0; specdropped = 0; lost = 0; discarded = 0; void = 0; held = 0; drops = 0; unavailable = 0; busy = 0; stopped = 0; worn = 0 } in
     let long = streams_long c.args.cpus c.args.close.now.deeds accepted c.requires.accepted in
-    let within : c.loop-cpu.cpu < length c.args.close.now.reports = omega arith in
-    let due : List Deed → List Report → Type 0 = λ ds reps.
-    IsFileFault form events (IsTooMuch form events c.loop-cpu.cpu (reverse ds) (slice_index_or reps c.loop-cpu.cpu none)) c.as_slice-records.result.now c.in-Err.fault in
-    no_trace form events (reverse c.args.close.now.deeds) c.args.close.now.reports accepted c.as_slice-records.result.now none c.loop-cpu.cpu c.in-Err.fault (omega arith)
+    no_trace c.args.form c.args.events.now accepted c.as_slice-records.result.now c.loop-cpu.cpu c.in-Err.fault (omega arith)
     (c.as_slice-records.ensures ∙ (c.index-accepted-cpu.is ∙ (ap (λ l. slice_index_or l c.loop-cpu.cpu c.index-accepted-cpu.result) same
     ∙ ap (slice_index_or accepted c.loop-cpu.cpu) (sym c.as_slice-records.ensures))))
-    within
-    (subst (λ ds. due ds c.args.close.now.reports) c.as_slice-deeds.ensures (subst (due c.as_slice-deeds.result.now) c.as_slice-reports.ensures c.in-Err.ensures.fault))
+    c.in-Err.ensures.fault
