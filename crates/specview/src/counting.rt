@@ -50,7 +50,10 @@ fn count_files<'a>(
 fn width_of(title: &str, number: u64) -> usize {
     let mut width = 1usize;
     let mut rest = number / 10;
-    while rest > 0 {
+    for _ in 0..20 {
+        if rest == 0 {
+            break;
+        }
         width = width.saturating_add(1);
         rest /= 10;
     }
