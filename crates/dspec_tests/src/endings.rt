@@ -12,9 +12,9 @@ struct Full {}
 impl Work<Enablings> for Full {
     fn work(&self, lane: &mut Lane<'_, Enablings>) {
         let path = lane.path();
-        for _ in 0..3 {
-            let _ = path.step(lane, 1, 0, &[]);
-        }
+        let _ = path.step(lane, 1, 0, &[]);
+        let _ = path.step(lane, 1, 0, &[]);
+        let _ = path.step(lane, 1, 0, &[]);
         let _ = lane.record(1, 0, &[]);
         path.keep(lane);
         let _ = lane.record(1, 0, &[]);
