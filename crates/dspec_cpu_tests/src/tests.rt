@@ -1,14 +1,11 @@
-//! Calls of two CPUs over one `Shared`, on one thread. A test is a schedule of whole calls (`schedules`) and what the answers, the
-//! reports and the streams of its play print; worked examples give it its name.
-mod blocks;
+//! Calls of two CPUs over one `Shared`, on one thread, which no schedule of a session has: asks beyond the next batch, buffers that were never taken,
+//! meetings behind each call. A test is a schedule of whole calls (`schedules`) and what the answers, the reports and the streams of its play
+//! print. What a session plays stands in `examples/` as data.
 mod cutting;
-mod ending;
-mod filling;
 mod growths;
 mod playing;
 mod resting;
 mod schedules;
-mod settling;
 mod sharing;
 mod switching;
 mod taking;

@@ -34,8 +34,6 @@ pub struct Row<'a> {
     pub wanted: &'a str,
     /// What the second CPU's report and stream print.
     pub second: &'a str,
-    /// The text of all of the first CPU's batches; empty where it isn't compared.
-    pub text: &'a [u8],
 }
 
 /// The four enablings of the worked examples.
@@ -58,7 +56,6 @@ pub const PLAIN: Row<'static> = Row {
     second: "report cpu 1 offered 0 accepted 0 dropped 0 specdropped 0 lost 0 discarded 0 void 0 held 0 drops 0 unavailable 0 busy 0 stopped 0 worn 0
 stream cpu 1:
 ",
-    text: &[],
 };
 
 /// The text of a row's schedule.
@@ -211,7 +208,7 @@ fn answers<S: Schema>(
     Ok(answers)
 }
 
-/// The outcome of a play, once all calls were made, and the text of all of the first CPU's batches.
+/// The outcome of a play, once all calls were made.
 fn outcome<S: Schema>(
     alloc: Global,
     schema: &S,
@@ -219,7 +216,7 @@ fn outcome<S: Schema>(
     near: Taker,
     far: Taker,
     answers: Series<(Actor, Op, Answer)>,
-) -> Result<(Outcome, Vec<u8>), Fail>
+) -> Result<Outcome, Fail>
     requires first { Belongs (words_of cpus.shared) (identity cpus.first) }
     requires second { Belongs (words_of cpus.shared) (identity cpus.second) }
 {
@@ -233,7 +230,7 @@ fn outcome<S: Schema>(
         accepted: streams(alloc, near.stream, far.stream)?,
         reports,
     };
-    Ok((Outcome { close, answers }, near.text))
+    Ok(Outcome { close, answers })
 }
 
 /// Plays the calls of a schedule.
@@ -242,7 +239,7 @@ fn play<S: Schema>(
     schedule: &Schedule,
     schema: S,
     row: &Row<'_>,
-) -> Result<(Outcome, Vec<u8>), Fail>
+) -> Result<Outcome, Fail>
     requires two { schedule.now.config.cpus ≡ 2 }
 {
     let alloc = rt.alloc();
@@ -261,7 +258,7 @@ fn play<S: Schema>(
     outcome(alloc, &schema, cpus, near, far, answers)
 }
 
-/// Plays a schedule, and compares what that prints, whole, and the text. Without enablings the records are those of the default
+/// Plays a schedule, and compares what that prints, whole. Without enablings the records are those of the default
 /// action.
 pub fn played(rt: &(impl Abort + AllocGlobal), row: &Row<'_>) -> Result<(), Fail> {
     let text = schedule_text(rt.alloc(), row)?;
@@ -271,16 +268,13 @@ pub fn played(rt: &(impl Abort + AllocGlobal), row: &Row<'_>) -> Result<(), Fail
         Err(_) => return Err("no schedule".into()),
     };
     assert!(rt; schedule.config.cpus == 2);
-    let (outcome, text) = match schedule.enablings {
+    let outcome = match schedule.enablings {
         Some(enablings) => play(rt, &schedule, enablings, row)?,
         None => play(rt, &schedule, DefaultAction, row)?,
     };
     let told = printed(rt.alloc(), Header::One, &outcome)?;
     let first = told.as_str().strip_suffix(row.second);
     same(rt, (row.name, first), (row.name, Some(row.wanted)));
-    if !row.text.is_empty() {
-        same(rt, (row.name, text.as_slice()), (row.name, row.text));
-    }
     Ok(())
 }
 

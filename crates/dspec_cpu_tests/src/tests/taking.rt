@@ -8,12 +8,11 @@ use std::alloc::{AllocError, Global};
 use std::process::Abort;
 use std::test::Fail;
 
-/// The end of one CPU's rings, the batches that were taken and not given back, and the texts and records of all that were taken.
+/// The end of one CPU's rings, the batches that were taken and not given back, and the records of all that were taken.
 #[derive(Drop)]
 pub struct Taker {
     end: ConsumerEnd,
     out: Vec<Batch>,
-    pub text: Vec<u8>,
     pub stream: Series<Rec>,
 }
 
@@ -33,7 +32,6 @@ impl Taker {
         Taker {
             end,
             out: Vec::new(alloc),
-            text: Vec::new(alloc),
             stream: Series::new(alloc),
         }
     }
@@ -68,7 +66,6 @@ impl Taker {
         let Ok(records) = read_all(schema, batch.buffer.bytes()) else {
             return Err("no text of a buffer".into());
         };
-        self.text.extend_from_slice(batch.buffer.bytes())?;
         let mut count: u32 = 0;
         for rec in records {
             self.stream.push(rec)?;
