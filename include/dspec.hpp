@@ -249,10 +249,10 @@ public:
     /* For `speculate` on other CPUs. */
     std::uint64_t id() const noexcept { return id_; }
 
-    template <field... Fields> dspec_status step(probe<Fields...> of, std::type_identity_t<Fields>... values) noexcept {
-        return step_at(of, 0, values...);
+    template <field... Fields> dspec_status record(probe<Fields...> of, std::type_identity_t<Fields>... values) noexcept {
+        return record_at(of, 0, values...);
     }
-    template <field... Fields> dspec_status step_at(probe<Fields...> of, std::uint64_t stamp, std::type_identity_t<Fields>... values) noexcept {
+    template <field... Fields> dspec_status record_at(probe<Fields...> of, std::uint64_t stamp, std::type_identity_t<Fields>... values) noexcept {
         return on_ ? on_->speculate_at(id_, of, stamp, values...) : DSPEC_VOID;
     }
 
@@ -260,7 +260,7 @@ public:
     std::uint32_t dropped() noexcept { return on_ ? on_->dropped_in(id_) : 0; }
 
     /* Each decides once; behind it, and behind a move, the path takes no step and no decision: DSPEC_VOID. */
-    decided keep() noexcept {
+    decided commit() noexcept {
         cpu *on = std::exchange(on_, nullptr);
         return on ? on->commit(id_) : decided{DSPEC_VOID, 0};
     }

@@ -24,12 +24,12 @@
         }                                                                        \
     } while (0)
 
-/* A request begins, looks something up, and ends with a code. */
-DSPEC_PROBE(request, uint32_t, number, uint32_t, worker);
-DSPEC_PROBE(lookup, uint64_t, key, bool, found);
-DSPEC_PROBE(reply, int32_t, code);
+/* A request begins, looks something up, and ends with a code. Each record has the number of its request. */
+DSPEC_PROBE(begin, uint32_t, request, uint32_t, worker);
+DSPEC_PROBE(lookup, uint32_t, request, uint64_t, key, bool, found);
+DSPEC_PROBE(reply, uint32_t, request, int32_t, code);
 
-static request_probe request;
+static begin_probe begin;
 static lookup_probe lookup;
 static reply_probe reply;
 static uint32_t rounds = 1000;
@@ -49,14 +49,15 @@ static uint64_t now(void) {
 }
 
 /* One request in ten fails, and keeps its path; where no slot is free it has none. */
-static void serve(worker *me, uint32_t number) {
-    bool fails = number % 10 == 7;
+static void serve(worker *me, uint32_t round) {
+    uint32_t number = round * WORKERS + me->number;
+    bool fails = round % 10 == 7;
     uint64_t id;
     uint32_t count;
     if (dspec_speculation(&me->cpu, &id) != DSPEC_OK) return;
-    request_speculate(&request, &me->cpu, id, now(), number, me->number);
-    lookup_speculate(&lookup, &me->cpu, id, now(), number * UINT64_C(2654435761), !fails);
-    reply_speculate(&reply, &me->cpu, id, now(), fails ? -2 : 0);
+    begin_speculate(&begin, &me->cpu, id, now(), number, me->number);
+    lookup_speculate(&lookup, &me->cpu, id, now(), number, number * UINT64_C(2654435761), !fails);
+    reply_speculate(&reply, &me->cpu, id, now(), number, fails ? -2 : 0);
     if (fails) {
         dspec_commit(&me->cpu, id, &count);
     } else {
@@ -68,8 +69,8 @@ static void *work(void *of) {
     worker *me = of;
     bool sealed;
     uint32_t settled;
-    for (uint32_t number = 0; number < rounds; number++) {
-        serve(me, number);
+    for (uint32_t round = 0; round < rounds; round++) {
+        serve(me, round);
         dspec_service(&me->cpu, &sealed, &settled);
     }
     atomic_fetch_add(&done, 1);
@@ -153,10 +154,10 @@ int main(int argc, char **argv) {
 
     OK(dspec_schema_new(&schema));
     OK(dspec_schema_stamp(&schema));
-    OK(request_enable(&request, &layout, &schema));
+    OK(begin_enable(&begin, &layout, &schema));
     OK(lookup_enable(&lookup, &layout, &schema));
     OK(reply_enable(&reply, &layout, &schema));
-    request_name(&names);
+    begin_name(&names);
     lookup_name(&names);
     reply_name(&names);
     identify(&identity, host);

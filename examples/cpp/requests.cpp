@@ -28,11 +28,11 @@ void look_up(std::uint32_t request) {
 
 /* The steps of one request: it may return before its last one, or throw. */
 void answer(dspec::path &path, step_probe step, std::uint32_t request) {
-    path.step(step, request, stage::accepted, 0.0);
+    path.record(step, request, stage::accepted, 0.0);
     if (is_early(request)) return;
-    path.step(step, request, stage::looked_up, 0.25);
+    path.record(step, request, stage::looked_up, 0.25);
     look_up(request);
-    path.step(step, request, stage::answered, 0.5);
+    path.record(step, request, stage::answered, 0.5);
 }
 
 void serve(dspec::cpu &cpu, step_probe step, std::uint32_t request) {
@@ -40,7 +40,7 @@ void serve(dspec::cpu &cpu, step_probe step, std::uint32_t request) {
     try {
         answer(path, step, request);
     } catch (const std::runtime_error &) {
-        path.keep();
+        path.commit();
     }
 }
 

@@ -82,7 +82,7 @@ void values() {
 
 void fails_behind_a_step(dspec::cpu &cpu, number of) {
     dspec::path path = cpu.open();
-    path.step(of, 1);
+    path.record(of, 1);
     throw std::runtime_error("thrown");
 }
 
@@ -102,13 +102,13 @@ void paths() {
             CHECK(first.opened() == DSPEC_OK && first.id() != 0);
             CHECK(cpu.open().opened() == DSPEC_UNAVAILABLE);
             dspec::path moved = std::move(first);
-            CHECK(first.step(w.of_one, 2) == DSPEC_VOID);
-            CHECK(moved.step(w.of_one, 3) == DSPEC_OK);
-            CHECK(moved.step_at(w.of_one, 9, 3) == DSPEC_BAD_RECORD);
-            dspec::decided kept = moved.keep();
+            CHECK(first.record(w.of_one, 2) == DSPEC_VOID);
+            CHECK(moved.record(w.of_one, 3) == DSPEC_OK);
+            CHECK(moved.record_at(w.of_one, 9, 3) == DSPEC_BAD_RECORD);
+            dspec::decided kept = moved.commit();
             CHECK(kept.status == DSPEC_OK && kept.records == 1);
-            CHECK(moved.keep().status == DSPEC_VOID);
-            CHECK(moved.step(w.of_one, 4) == DSPEC_VOID);
+            CHECK(moved.commit().status == DSPEC_VOID);
+            CHECK(moved.record(w.of_one, 4) == DSPEC_VOID);
         }
         {
             dspec::path gone = cpu.open();
@@ -162,15 +162,15 @@ void parking() {
         dspec::cpu cpu = session.cpu_of(0);
         CHECK(thrown_by([&] { session.wake(0, cpu); }) == DSPEC_FULL_HANDLE);
         dspec::path path = cpu.open();
-        CHECK(path.step(w.of_one, 5) == DSPEC_OK);
+        CHECK(path.record(w.of_one, 5) == DSPEC_OK);
         for (int times = 0; times < 3; times++) {
             cpu.park();
-            CHECK(path.step(w.of_one, 6) == DSPEC_BAD_HANDLE && cpu.trace(w.of_one, 6) == DSPEC_BAD_HANDLE);
+            CHECK(path.record(w.of_one, 6) == DSPEC_BAD_HANDLE && cpu.trace(w.of_one, 6) == DSPEC_BAD_HANDLE);
             CHECK(session.tend() == 0);
             session.wake(0, cpu);
-            CHECK(path.step(w.of_one, 7) == DSPEC_OK);
+            CHECK(path.record(w.of_one, 7) == DSPEC_OK);
         }
-        const auto [status, records] = path.keep();
+        const auto [status, records] = path.commit();
         CHECK(status == DSPEC_OK && records == 4);
         cpu.park();
         dspec::cpu again = session.cpu_of(0);

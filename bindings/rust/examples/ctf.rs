@@ -24,13 +24,13 @@ struct Probes {
 fn serve(probes: Probes, cpu: &mut Cpu, worker: u32, number: u32) -> Result<(), dspec::Error> {
     let fails = number % 10 == 7;
     let mut path = cpu.path();
-    probes.request.step(&mut path, monotonic(), (number, worker))?;
-    probes.lookup.step(&mut path, monotonic(), (u64::from(number) * 2_654_435_761, !fails))?;
-    probes.reply.step(&mut path, monotonic(), (if fails { -2 } else { 0 },))?;
+    probes.request.record_in(&mut path, monotonic(), (number, worker))?;
+    probes.lookup.record_in(&mut path, monotonic(), (u64::from(number) * 2_654_435_761, !fails))?;
+    probes.reply.record_in(&mut path, monotonic(), (if fails { -2 } else { 0 },))?;
     if fails {
-        path.keep();
+        path.commit();
     } else {
-        path.throw();
+        path.discard();
     }
     cpu.service();
     Ok(())

@@ -41,19 +41,19 @@ impl Worker {
         let probes = self.probes;
         let mut path = cpu.path();
         let begun = self.clock;
-        probes.accepted.step(&mut path, self.clock, (request,))?;
+        probes.accepted.record_in(&mut path, self.clock, (request,))?;
         for _ in 0..=self.draw(4) {
             let rows = self.draw(200);
             self.clock += u64::from(20 + if rows > 197 { 5 * rows } else { rows });
-            probes.queried.step(&mut path, self.clock, (rows,))?;
+            probes.queried.record_in(&mut path, self.clock, (rows,))?;
         }
         let status = if self.draw(60) == 0 { 500 } else { 200 };
         self.clock += 5;
-        probes.replied.step(&mut path, self.clock, (status,))?;
+        probes.replied.record_in(&mut path, self.clock, (status,))?;
         if status != 200 || self.clock - begun > SLOW {
-            path.keep();
+            path.commit();
         } else {
-            path.throw();
+            path.discard();
         }
         cpu.service();
         Ok(())

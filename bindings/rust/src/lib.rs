@@ -20,12 +20,12 @@
 //! let worker = std::thread::spawn(move || -> Result<(), dspec::Error> {
 //!     for request in 0..10 {
 //!         let mut path = cpu.path();
-//!         step.step(&mut path, 0, (request, false))?;
-//!         step.step(&mut path, 0, (request, true))?;
+//!         step.record_in(&mut path, 0, (request, false))?;
+//!         step.record_in(&mut path, 0, (request, true))?;
 //!         if request == 7 {
-//!             path.keep();
+//!             path.commit();
 //!         } else {
-//!             path.throw();
+//!             path.discard();
 //!         }
 //!         cpu.service();
 //!     }

@@ -36,7 +36,7 @@ impl<'a> Path<'a> {
     /// # Errors
     ///
     /// [`Error::BadRecord`] alone.
-    pub fn step(&mut self, epid: Epid, stamp: u64, values: &[u64]) -> Result<Spoken, Error> {
+    pub fn record(&mut self, epid: Epid, stamp: u64, values: &[u64]) -> Result<Spoken, Error> {
         self.cpu.speculate(self.id(), epid, stamp, values)
     }
 
@@ -51,13 +51,13 @@ impl<'a> Path<'a> {
     }
 
     /// Commits it: its records get into the principal buffers, each CPU's at once or not at all.
-    pub fn keep(mut self) -> Decided {
+    pub fn commit(mut self) -> Decided {
         let id = self.leave();
         self.cpu.commit(id)
     }
 
     /// Discards it, as dropping it does, and tells what became of it.
-    pub fn throw(mut self) -> Decided {
+    pub fn discard(mut self) -> Decided {
         let id = self.leave();
         self.cpu.discard(id)
     }

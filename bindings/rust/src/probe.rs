@@ -155,7 +155,7 @@ impl<F: Fields> Probe<F> {
     /// # Errors
     ///
     /// [`Error::BadRecord`] alone.
-    pub fn step(self, path: &mut Path<'_>, stamp: u64, values: F) -> Result<Spoken, Error> {
+    pub fn record_in(self, path: &mut Path<'_>, stamp: u64, values: F) -> Result<Spoken, Error> {
         path.fire(Self::SIGNATURE, self.epid, stamp, &values.row()[..F::WIDTHS.len()])
     }
 

@@ -269,9 +269,9 @@ fn records_with_stamps_gaps_and_padding() {
 
 fn leaves_early(cpu: &mut Cpu, epid: Epid) -> Result<(), Error> {
     let mut path = cpu.path();
-    path.step(epid, 0, &[1])?;
-    path.step(epid, 0, &[1 << 32])?;
-    path.keep();
+    path.record(epid, 0, &[1])?;
+    path.record(epid, 0, &[1 << 32])?;
+    path.commit();
     Ok(())
 }
 
@@ -284,17 +284,17 @@ fn a_path_that_is_left_is_thrown_away() {
     assert_eq!((cpu.report().discarded, cpu.report().unavailable), (100, 0));
     let panicked = std::panic::catch_unwind(std::panic::AssertUnwindSafe(|| {
         let mut path = cpu.path();
-        path.step(epid, 0, &[1]).unwrap();
+        path.record(epid, 0, &[1]).unwrap();
         panic!("behind a step");
     }));
     assert!(panicked.is_err());
     assert_eq!(cpu.report().discarded, 101);
     let mut kept = cpu.path();
-    assert_eq!(kept.step(epid, 0, &[7]), Ok(Spoken::Kept));
+    assert_eq!(kept.record(epid, 0, &[7]), Ok(Spoken::Kept));
     let id = kept.id();
     assert_eq!(kept.cpu().speculate(id, epid, 0, &[8]), Ok(Spoken::Kept));
-    assert_eq!(kept.keep(), Decided::Copied(2));
-    assert_eq!(cpu.path().throw(), Decided::Thrown(0));
+    assert_eq!(kept.commit(), Decided::Copied(2));
+    assert_eq!(cpu.path().discard(), Decided::Thrown(0));
     drop(cpu);
     assert_eq!(values(&session.finish().unwrap(), 0), [7, 8]);
 }
@@ -305,8 +305,8 @@ fn a_path_that_cannot_be_opened_says_why() {
     let ids = [cpu.speculation(), cpu.speculation()].map(Opening::id);
     let mut path = cpu.path();
     assert_eq!(path.opening(), Opening::Unavailable);
-    assert_eq!(path.step(epid, 0, &[1]), Ok(Spoken::Void));
-    assert_eq!(path.keep(), Decided::Void);
+    assert_eq!(path.record(epid, 0, &[1]), Ok(Spoken::Void));
+    assert_eq!(path.commit(), Decided::Void);
     drop(cpu.path());
     assert_eq!(ids.map(|id| cpu.discard(id)), [Decided::Thrown(0); 2]);
     assert_eq!((cpu.report().void, cpu.report().unavailable), (1, 2));
@@ -324,10 +324,10 @@ fn probes_keep_the_bits_of_their_values() {
     assert_eq!(none.trace(&mut cpu, 0, ()), Ok(Traced::Kept));
     assert_eq!(none.trace(&mut cpu, 1, ()), Err(Error::BadRecord));
     let mut path = cpu.path();
-    assert_eq!(none.step(&mut path, 0, ()), Ok(Spoken::Kept));
+    assert_eq!(none.record_in(&mut path, 0, ()), Ok(Spoken::Kept));
     let id = path.id();
     assert_eq!(none.speculate(path.cpu(), id, 0, ()), Ok(Spoken::Kept));
-    assert_eq!(path.keep(), Decided::Copied(2));
+    assert_eq!(path.commit(), Decided::Copied(2));
     drop(cpu);
     let closed = session.finish().unwrap();
     let last = closed.rest(0).unwrap().last;
@@ -348,8 +348,8 @@ fn probes_of_another_schema_are_refused() {
     let mut cpu = session.cpu(0).unwrap();
     assert_eq!(foreign.trace(&mut cpu, 0, (1, 2)), Err(Error::BadRecord));
     let mut path = cpu.path();
-    assert_eq!(foreign.step(&mut path, 0, (1, 2)), Err(Error::BadRecord));
-    path.keep();
+    assert_eq!(foreign.record_in(&mut path, 0, (1, 2)), Err(Error::BadRecord));
+    path.commit();
     assert_eq!((cpu.report().offered, cpu.report().refused), (0, 2));
 }
 

@@ -4,8 +4,8 @@ use Rattle.std.proofs.lemmas.Option.{slice_get_read}
 use Rattle.dspec_cpu.specs.declared.cpu.Cpu.{Cpu}
 use Rattle.dspec_cpu.specs.declared.shared.Shared.{Shared}
 use Rattle.dspec_cpu.specs.Standing.{IsCallable}
-use Rattle.dspec_consumer.specs.declared.session.Session.{Session}
-use Rattle.dspec_consumer.specs.Sessions.{IsSession}
+use Rattle.dspec_session_core.specs.declared.session.Session.{Session}
+use Rattle.dspec_session_core.specs.Sessions.{IsSession}
 use Rattle.dspec.specs.Lent.{AllCallable}
 
 module _ {S : Type 0} where

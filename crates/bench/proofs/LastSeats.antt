@@ -5,8 +5,8 @@ use Rattle.dspec_table.specs.declared.seats.CpuSeat.{CpuSeat}
 use Rattle.dspec_table.specs.declared.seats.Words.{Words}
 use Rattle.dspec_table.specs.Seats.{known, FreshSeats, IsAt, set_up, cpu_of}
 use Rattle.dspec_table.proofs.AtEnd.{got_front, got_last}
-use Rattle.dspec_table_tests.specs.Calls.{Unused}
-use Rattle.dspec_table_tests.proofs.Openers.{none_unused}
+use Rattle.test_words.specs.Calls.{Unused}
+use Rattle.test_words.proofs.Openers.{none_unused}
 
 at_place : (words : Words) (items : List CpuSeat) (n : ℕ) (seat : CpuSeat) → slice_get items n ≡ Some seat → FreshSeats words items
     → IsAt words seat × Unused (set_up words) (cpu_of seat) (known seat).own

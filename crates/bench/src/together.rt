@@ -5,7 +5,9 @@ ghost use Rattle.dspec.specs.Lent.{AllCallable};
 ghost use Rattle.dspec_cpu.specs.Standing.{IsCallable};
 
 use crate::push::number_of;
-use dspec::{Closed, Config, Cpu, Enablings, Field, Kept, Lane, Session, Shared, Work, trace};
+use dspec::{
+    Closed, Config, Cpu, Enablings, Field, Lane, RecordSink, Session, Shared, Work, trace,
+};
 use std::alloc::Global;
 use std::sync::atomic::{AtomicU64, Ordering};
 use std::thread::Threads;
@@ -32,9 +34,9 @@ fn speculate_once(lane: &mut Lane<'_, Enablings>, epid: u32)
 {
     let path = lane.path();
     for _ in 0..BLOCK_RECORDS {
-        let _ = path.step(lane, epid, 0, &[7]);
+        let _ = path.record(lane, epid, 0, &[7]);
     }
-    path.throw(lane);
+    path.discard(lane);
 }
 
 impl Work<Enablings> for Speculating {
@@ -73,7 +75,7 @@ fn speculate_all<R: Threads + Sync>(threads: &R, alloc: Global, cpus: u32, numbe
     let Some((schema, work)) = work_of(number) else {
         return 0;
     };
-    let nobody: Option<Kept> = None;
+    let nobody: Option<RecordSink> = None;
     match trace(threads, alloc, &config_of(cpus), schema, &work, nobody) {
         Ok((closed, _)) => offered(&closed),
         Err(_) => 0,

@@ -11,9 +11,9 @@ use Rattle.dspec_buffer.specs.Extent.{records}
 use Rattle.dspec_buffer.proofs.SchemaLaws.{SchemaLaws}
 use Rattle.dspec_buffer.proofs.OneReading.{one_reading}
 use Rattle.dspec_buffer.proofs.Walks.{reads_back}
-use Rattle.dspec_consumer.specs.Closing.{HoldInOrder}
-use Rattle.dspec.specs.declared.kept.KeptFault.{KeptFault}
-use Rattle.dspec.specs.KeptRecords.{KeptRecords, KeepsBatch}
+use Rattle.dspec_session_core.specs.Closing.{HoldInOrder}
+use Rattle.dspec.specs.declared.record_sink.RecordSinkFault.{RecordSinkFault}
+use Rattle.dspec.specs.SinkRecords.{SinkRecords, KeepsBatch}
 use Rattle.dspec.specs.Passed.{Passed, AreFrom, GotAll, passed_from}
 
 module _ (e : EnabledRows) where
@@ -29,21 +29,21 @@ module _ (e : EnabledRows) where
   Hold xs seen = HoldInOrder (table_shape e.header (enabled e.rows)) (table_accepts e.header (enabled e.rows)) (table_text e.header (enabled e.rows)) (passed_from 0 xs) seen
 
   -- behind a fault nothing changes
-  fault_stays : (xs : List Passed) (k l : KeptRecords) (fault : KeptFault) → k.fault ≡ Some fault → GotAll (KeepsBatch e) k xs l → l ≡ k
+  fault_stays : (xs : List Passed) (k l : SinkRecords) (fault : RecordSinkFault) → k.fault ≡ Some fault → GotAll (KeepsBatch e) k xs l → l ≡ k
   fault_stays [] k l fault is got = sym got
   fault_stays (x ∷ xs) k l fault is (m, keeps, rest) =
       let same = keeps.stopped fault is in
-      fault_stays xs m l fault (ap (λ (r : KeptRecords). r.fault) same ∙ is) rest ∙ same
+      fault_stays xs m l fault (ap (λ (r : SinkRecords). r.fault) same ∙ is) rest ∙ same
 
   -- so there was none where there is none in the end
-  unfaulted : (o : Option KeptFault) (xs : List Passed) (k l : KeptRecords) → k.fault ≡ o → l.fault ≡ None → GotAll (KeepsBatch e) k xs l → k.fault ≡ None
+  unfaulted : (o : Option RecordSinkFault) (xs : List Passed) (k l : SinkRecords) → k.fault ≡ o → l.fault ≡ None → GotAll (KeepsBatch e) k xs l → k.fault ≡ None
   unfaulted None xs k l is none got = is
-  unfaulted (Some fault) xs k l is none got = ap (λ (r : KeptRecords). r.fault) (sym (fault_stays xs k l fault is got)) ∙ none
+  unfaulted (Some fault) xs k l is none got = ap (λ (r : SinkRecords). r.fault) (sym (fault_stays xs k l fault is got)) ∙ none
 
-  pub kept_all : (xs : List Passed) (old new : KeptRecords) (seen : List Record) → old.fault ≡ None → new.fault ≡ None → AreFrom 1 xs
+  pub kept_all : (xs : List Passed) (old new : SinkRecords) (seen : List Record) → old.fault ≡ None → new.fault ≡ None → AreFrom 1 xs
       → GotAll (KeepsBatch e) old xs new → Hold xs seen → new.records ≡ old.records ++ seen
   kept_all [] old new seen fine none from got hold =
-      ap (λ (r : KeptRecords). r.records) (sym got) ∙ (sym (append-nil old.records) ∙ ap (λ s. old.records ++ s) (sym hold))
+      ap (λ (r : SinkRecords). r.records) (sym got) ∙ (sym (append-nil old.records) ∙ ap (λ s. old.records ++ s) (sym hold))
   kept_all (x ∷ xs) old new seen fine none from (m, keeps, rest) hold =
       let first : x.from < 1 = All-head (λ (p : Passed). p.from < 1) x xs from in
       let same : (x.from == 0) ≡ true = grind (arith, nat_tests) in

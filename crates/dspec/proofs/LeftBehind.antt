@@ -1,7 +1,7 @@
 -- What is left of the CPUs of a closed session, one CPU after another.
 use Rattle.std.proofs.Common.{◌≡◌, ℕ, zero, suc, ◌+◌, ◌<◌, List, [], ◌∷◌, drop, length, Some, refl, sym, ap, ◌∙◌, arith}
 use Rattle.std.specs.Prelude.{slice_get, option_copied}
-use Rattle.dspec_consumer.specs.declared.left.Left.{Left}
+use Rattle.dspec_session_core.specs.declared.left.Left.{Left}
 use Rattle.dspec.specs.declared.closing.ClosedCpu.{ClosedCpu}
 use Rattle.dspec.specs.ClosedCpus.{left_shown, lefts_from}
 

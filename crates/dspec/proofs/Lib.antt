@@ -2,6 +2,7 @@ pub mod KeptAll
 mod LeftBehind
 pub mod Passing
 pub mod Returning
+pub mod Serving
 mod Standing
 mod TakenUp
 pub mod Tracing

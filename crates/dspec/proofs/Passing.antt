@@ -16,12 +16,12 @@ use Rattle.dspec_table.specs.Seats.{known_there}
 use Rattle.dspec_ring.specs.declared.batch.Batch.{Batch}
 use Rattle.dspec_ring.specs.Known.{ConsumerKnows, consumer_moved}
 use Rattle.dspec_cpu.specs.Sealed.{waiting}
-use Rattle.dspec_consumer.specs.declared.left.Left.{Left}
-use Rattle.dspec_consumer.specs.Batches.{Took, FoundNone, GaveBack, IsNotTakenBack}
-use Rattle.dspec_consumer.specs.Asking.{Asked}
-use Rattle.dspec_consumer.specs.Consumers.{Consuming, IsConsumerOf, Stays, set_up_of, view_of}
-use Rattle.dspec_consumer.specs.Sessions.{taken_at}
-use Rattle.dspec_consumer.proofs.PromisedBy.{there_is}
+use Rattle.dspec_session_core.specs.declared.left.Left.{Left}
+use Rattle.dspec_session_core.specs.Batches.{Took, FoundNone, GaveBack, IsNotTakenBack}
+use Rattle.dspec_session_core.specs.Asking.{Asked}
+use Rattle.dspec_session_core.specs.Consumers.{Consuming, IsConsumerOf, Stays, set_up_of, view_of}
+use Rattle.dspec_session_core.specs.Sessions.{taken_at}
+use Rattle.dspec_session_core.proofs.PromisedBy.{there_is}
 use Rattle.dspec.specs.Passed.{Passed, AreFrom, passed_from, each_from, left_batches, rests_passed, GotAll, PassesOn}
 
 -- a batch more stands before the others of its CPU

@@ -9,9 +9,9 @@ use Rattle.dspec_deeds.specs.declared.deed.Deed.{Deed}
 use Rattle.dspec_cpu.specs.Called.{CallsMade, called, no_calls}
 use Rattle.dspec_cpu.specs.Lists.{number_in, words_of}
 use Rattle.dspec_cpu.specs.Standing.{IsCallable, identity}
-use Rattle.dspec_consumer.specs.declared.session.Session.{Session}
-use Rattle.dspec_consumer.specs.Consumers.{Stays, pairs_of}
-use Rattle.dspec_consumer.specs.Sessions.{IsCpuOf, IsFresh, IsSession}
+use Rattle.dspec_session_core.specs.declared.session.Session.{Session}
+use Rattle.dspec_session_core.specs.Consumers.{Stays, pairs_of}
+use Rattle.dspec_session_core.specs.Sessions.{IsCpuOf, IsFresh, IsSession}
 use Rattle.dspec.specs.Lent.{AllCallable, AllReturned}
 
 module _ {S : Type 0} where

@@ -18,13 +18,13 @@ use Rattle.dspec_cpu.specs.declared.cpu.Cpu.{Cpu}
 use Rattle.dspec_cpu.specs.Called.{CallsMade, called, no_calls}
 use Rattle.dspec_cpu.specs.Lists.{number_in, seat_of}
 use Rattle.dspec_cpu.specs.Sealed.{waiting}
-use Rattle.dspec_consumer.specs.declared.left.Left.{Left}
-use Rattle.dspec_consumer.specs.Closing.{HoldInOrder, IsClosedBy}
-use Rattle.dspec_consumer.specs.Consumers.{Consuming, set_up_of, view_of}
-use Rattle.dspec_consumer.specs.Leaving.{AllSteady, Has}
-use Rattle.dspec_consumer.specs.Promised.{IsPromisedBy, called_at, entered_at}
-use Rattle.dspec_consumer.specs.Sessions.{HasAt, IsFresh, taken_at}
-use Rattle.dspec_consumer.proofs.PromisedBy.{there_is, called_there, entered_there, had_tells}
+use Rattle.dspec_session_core.specs.declared.left.Left.{Left}
+use Rattle.dspec_session_core.specs.Closing.{HoldInOrder, IsClosedBy}
+use Rattle.dspec_session_core.specs.Consumers.{Consuming, set_up_of, view_of}
+use Rattle.dspec_session_core.specs.Leaving.{AllSteady, Has}
+use Rattle.dspec_session_core.specs.Promised.{IsPromisedBy, called_at, entered_at}
+use Rattle.dspec_session_core.specs.Sessions.{HasAt, IsFresh, taken_at}
+use Rattle.dspec_session_core.proofs.PromisedBy.{there_is, called_there, entered_there, had_tells}
 use Rattle.dspec_promise.specs.Deeds.{did}
 use Rattle.dspec.specs.Passed.{Passed, AreFrom, passed_from, left_batches, rests_passed, GotAll, PassesOn, HasLists}
 use Rattle.dspec.specs.Traced.{IsTraced}

@@ -12,9 +12,10 @@ use Rattle.dspec_cpu.specs.declared.shared.Shared.{Shared}
 use Rattle.dspec_cpu.specs.Called.{CallsMade, called}
 use Rattle.dspec_cpu.specs.Lists.{number_in, schema_of}
 use Rattle.dspec_cpu.specs.Standing.{IsCallable}
-use Rattle.dspec_consumer.specs.declared.session.Session.{Session}
-use Rattle.dspec_consumer.specs.Sessions.{IsSession}
+use Rattle.dspec_session_core.specs.declared.session.Session.{Session}
+use Rattle.dspec_session_core.specs.Sessions.{IsSession}
 use Rattle.dspec.specs.Lent.{AllCallable, AllReturned, Returned}
+use Rattle.dspec.specs.Serving.{ThenServed}
 use Rattle.dspec.specs.Workers.{AllNumbered, AllWorked, WorkedBy, cpus_of, workers_of}
 use Rattle.dspec.specs.declared.workers.Working.{Working}
 
@@ -58,7 +59,7 @@ module _ {W : Type 0} where
 
     -- what the workers did is what was done on the CPUs
     pub pairs_returned : (old new : List (Working W)) → AllNumbered (cpus_of old) → AllWorked does old new
-        → AllReturned (λ s. WorkedBy (does s) (workers_of old) (workers_of new)) (cpus_of old) (cpus_of new)
+        → AllReturned (λ s. ThenServed (WorkedBy (does s) (workers_of old) (workers_of new))) (cpus_of old) (cpus_of new)
     pairs_returned old new numbers worked = record {
       all = length-map new (λ (p : Working W). p.cpu) ∙ (worked.all ∙ sym (length-map old (λ (p : Working W). p.cpu)));
       each = λ c cpu at.
@@ -66,15 +67,20 @@ module _ {W : Type 0} where
           let (was, before, one) = worked.each c p there in
           let old_there = there_is_of (λ (x : Working W). x.cpu) old c was before in
           let number = numbers c was.cpu old_there in
-          let done : WorkedBy (does (schema_of was.cpu)) (workers_of old) (workers_of new) (number_in was.cpu) (called was.cpu) (called p.cpu) = record {
+          let done : WorkedBy (does (schema_of was.cpu)) (workers_of old) (workers_of new) (number_in was.cpu) (called was.cpu) one.did.returned = record {
             before = was.worker;
             was = ap (λ n. slice_get (workers_of old) n) number ∙ there_is_of (λ (x : Working W). x.worker) old c was before;
             behind = p.worker;
             is = ap (λ n. slice_get (workers_of new) n) number ∙ there_is_of (λ (x : Working W). x.worker) new c p there;
-            did = one.did;
+            did = one.did.worked;
           } in
-          let returned : Returned (λ s. WorkedBy (does s) (workers_of old) (workers_of new)) was.cpu p.cpu = record { same = one.same; did = done } in
-          (was.cpu, old_there, subst (λ (x : Cpu EnabledRows). Returned (λ s. WorkedBy (does s) (workers_of old) (workers_of new)) was.cpu x) is returned);
+          let served : ThenServed (WorkedBy (does (schema_of was.cpu)) (workers_of old) (workers_of new)) (number_in was.cpu) (called was.cpu) (called p.cpu) = record {
+            returned = one.did.returned;
+            worked = done;
+            served = one.did.served;
+          } in
+          let returned : Returned (λ s. ThenServed (WorkedBy (does s) (workers_of old) (workers_of new))) was.cpu p.cpu = record { same = one.same; did = served } in
+          (was.cpu, old_there, subst (λ (x : Cpu EnabledRows). Returned (λ s. ThenServed (WorkedBy (does s) (workers_of old) (workers_of new))) was.cpu x) is returned);
     }
 
     pub workers_all : (old new : List (Working W)) → AllWorked does old new → length (workers_of new) ≡ length (workers_of old)

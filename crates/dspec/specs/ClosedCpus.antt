@@ -1,6 +1,6 @@
 -- Cited by calls. What is left of the CPUs of a closed session, with their numbers.
 use Rattle.std.specs.Prelude.{ℕ, ◌+◌, ◌∷◌, [], List, drop, option_copied}
-use Rattle.dspec_consumer.specs.declared.left.Left.{Left}
+use Rattle.dspec_session_core.specs.declared.left.Left.{Left}
 use Rattle.dspec.specs.declared.closing.ClosedCpu.{ClosedCpu}
 use Rattle.dspec.specs.declared.each_closed.ClosedCpus.{ClosedCpus}
 

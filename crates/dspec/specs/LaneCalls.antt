@@ -64,5 +64,5 @@ module _ {S : Type 0} {g : Ghosts S} (has : Cpu S → List Deed → Type 0) wher
     OfferOn id epid stamp values a old new = OffersValues has accepted id epid stamp values (result_ok a) old.cpu.now new.cpu.now
 
     -- or to a path
-    abbrev pub StepOn : Path → ℕ → ℕ → List ℕ → Result Spoken BadRecord → Lane S g → Lane S g → Type 0
-    StepOn path epid stamp values a old new = OfferOn (id_told path.opening) epid stamp values a old new
+    abbrev pub PathRecordOn : Path → ℕ → ℕ → List ℕ → Result Spoken BadRecord → Lane S g → Lane S g → Type 0
+    PathRecordOn path epid stamp values a old new = OfferOn (id_told path.opening) epid stamp values a old new

@@ -1,10 +1,11 @@
 pub mod ClosedCpus
 pub mod Handing
-pub mod KeptRecords
+pub mod SinkRecords
 pub mod LaneCalls
 pub mod Lanes
 pub mod Lent
 pub mod Passed
+pub mod Serving
 pub mod Visits
 pub mod Traced
 pub mod Works

@@ -10,10 +10,10 @@ use Rattle.dspec_deeds.specs.Own.{stream}
 use Rattle.dspec_table.specs.declared.seats.Words.{Words}
 use Rattle.dspec_ring.specs.declared.batch.Batch.{Batch}
 use Rattle.dspec_cpu.specs.Sealed.{waiting}
-use Rattle.dspec_consumer.specs.declared.left.Left.{Left}
-use Rattle.dspec_consumer.specs.Closing.{ClosesAs, HoldInOrder}
-use Rattle.dspec_consumer.specs.Consumers.{Consuming, Stays, set_up_of, view_of}
-use Rattle.dspec_consumer.specs.Sessions.{taken_at}
+use Rattle.dspec_session_core.specs.declared.left.Left.{Left}
+use Rattle.dspec_session_core.specs.Closing.{ClosesAs, HoldInOrder}
+use Rattle.dspec_session_core.specs.Consumers.{Consuming, Stays, set_up_of, view_of}
+use Rattle.dspec_session_core.specs.Sessions.{taken_at}
 
 -- a batch, with the number of the CPU that it came from
 pub record Passed : Type 0 where

@@ -8,8 +8,8 @@ use Rattle.dspec_deeds.specs.declared.deed.Deed.TheVariants.{Release}
 use Rattle.dspec_promise.specs.Deeds.{did}
 use Rattle.dspec_ring.specs.declared.batch.Batch.{Batch}
 use Rattle.dspec_cpu.specs.Called.{CallsMade, no_calls}
-use Rattle.dspec_consumer.specs.declared.left.Left.{Left}
-use Rattle.dspec_consumer.specs.Promised.{IsPromisedBy}
+use Rattle.dspec_session_core.specs.declared.left.Left.{Left}
+use Rattle.dspec_session_core.specs.Promised.{IsPromisedBy}
 use Rattle.dspec.specs.Passed.{Passed, AreFrom, passed_from, left_batches, GotAll}
 
 module _ {K : Type 0} (gets : K → Batch → K → Type 0) (does : ℕ → CallsMade → CallsMade → Type 0) (shape : ℕ → Option Shape) (accepted : Record → Bool)
@@ -17,7 +17,7 @@ module _ {K : Type 0} (gets : K → Batch → K → Type 0) (does : ℕ → Call
   -- One session ran, in which the work did on each CPU what it says that it does, from no calls on; the sink got these batches of
   -- its CPUs and no others; and then it was closed, and this was left. Each CPU's seat entered some deeds, by which its calls did that; the consumer's seat entered
   -- Releases alone, so nobody stopped the session; and by these deeds the close promises what it does of the batches that the sink got.
-  -- Nothing ties the CPUs' scans, openings, misses and Releases to the work, which doesn't tell of them.
+  -- Nothing ties the CPUs' scans, openings, misses and Releases to the work, which doesn't tell of them. What `trace` says that its work did is `ThenServed`.
   pub record IsTraced (k : Config) (old : K) (left : List Left) (new : K) : Type 0 where
     pub passed : List Passed
     pub from : AreFrom k.cpus passed

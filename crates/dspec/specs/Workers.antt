@@ -6,6 +6,7 @@ use Rattle.dspec_cpu.specs.declared.cpu.Cpu.{Cpu}
 use Rattle.dspec_cpu.specs.Called.{CallsMade, called}
 use Rattle.dspec_cpu.specs.Lists.{number_in, schema_of}
 use Rattle.dspec_cpu.specs.Standing.{identity}
+use Rattle.dspec.specs.Serving.{ThenServed}
 use Rattle.dspec.specs.declared.workers.Working.{Working}
 
 -- a configuration of so many CPUs
@@ -33,10 +34,10 @@ module _ {W : Type 0} where
   workers_of pairs = map (λ (p : Working W). p.worker) pairs
 
   module _ (does : EnabledRows → ℕ → W → CallsMade → W → CallsMade → Type 0) where
-    -- the CPU is the one that it was, and its worker did that on it
+    -- the CPU is the one that it was, its worker did that on it, and from there on it served
     pub record WorkedOne (old new : Working W) : Type 0 where
       pub same : identity new.cpu ≡ identity old.cpu
-      pub did : does (schema_of old.cpu) (number_in old.cpu) old.worker (called old.cpu) new.worker (called new.cpu)
+      pub did : ThenServed (λ c x y. does (schema_of old.cpu) c old.worker x new.worker y) (number_in old.cpu) (called old.cpu) (called new.cpu)
 
     -- so is each
     pub record AllWorked (old new : List (Working W)) : Type 0 where

@@ -1,11 +1,11 @@
 ghost use Rattle.std.specs.Prelude.{◌≡◌, ◌<◌, length, slice_get, Some, option_copied};
-ghost use Rattle.dspec_consumer.specs.declared.left.Left.{Left};
+ghost use Rattle.dspec_session_core.specs.declared.left.Left.{Left};
 ghost use Rattle.dspec.specs.ClosedCpus.{cpus_left, lefts_from};
 
 use crate::each_closed::ClosedCpus;
-use dspec_consumer::Closed;
 use dspec_deeds::Report;
 use dspec_ring::Batch;
+use dspec_session_core::Closed;
 
 /// What is left of one CPU of a closed session.
 #[derive(Debug, Clone, Copy)]

@@ -1,7 +1,7 @@
 ghost use Rattle.std.specs.Prelude.{◌≤◌, length};
 
 use crate::closing::{ClosedCpu, closed_cpu};
-use dspec_consumer::Closed;
+use dspec_session_core::Closed;
 
 /// What is left of each CPU of a closed session, CPU 0 first.
 #[derive(Drop)]

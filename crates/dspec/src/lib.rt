@@ -3,21 +3,22 @@
 //!
 //! No call has a condition, but that a record is one of the schema where it is handed over whole. What a call promises is that it
 //! leaves the lane the one that it is (`specs/Lanes.antt`), and what the CPU's call does. What a sink got of a whole session is
-//! what its CPUs accepted (`specs/Passed.antt`). Whatever else a program needs is found here too. Stands on `dspec_consumer`.
+//! what its CPUs accepted (`specs/Passed.antt`). Whatever else a program needs is found here too. Stands on `dspec_session_core`.
 //!
 //! | File | What is in it |
 //! |---|---|
 //! | `lane.rt`, `calling.rt` | `Lane`: what is shared, and a CPU that is lent; that it can be called is its ghost field; its calls |
 //! | `path.rt`, `handing.rt` | `Path`, a speculation that can't be let go: it is kept or thrown away, by any lane; `Handed`, the word that a path goes on as |
 //! | `work.rt`, `running.rt` | `Work`; `Sink`, whose ghost relation `gets` says what a batch makes of it; `trace`; the consumer's round, and what is passed on at the close |
+//! | `serving_on.rt` | a work that has returned: its lane serves until all works have |
 //! | `worker.rt`, `workers.rt`, `stop.rt` | `Worker`, with a state of its own; `trace_workers`, which pairs CPUs and workers, lends each pair to a thread and takes them apart again; `Stop` |
-//! | `kept.rt`, `both.rt` | sinks: all records kept; two sinks that get the same; one that may be left out |
+//! | `record_sink.rt`, `both.rt` | sinks: all records kept; two sinks that get the same; one that may be left out |
 //! | `closing.rt`, `each_closed.rt` | `closed_cpu`, `closed_cpus` (`specs/ClosedCpus`: what is left of which CPU, in order) |
 //! | `specs/`: Lanes, Lent | `place_of`, which lane it is: all that a program says of its worker; what the threads are lent, and return |
-//! | `specs/`: Passed, KeptRecords | what a sink got of a session, chained call by call, and how that is what each CPU accepted (`HasLists`); what `Kept` keeps |
+//! | `specs/`: Passed, SinkRecords | what a sink got of a session, chained call by call, and how that is what each CPU accepted (`HasLists`); what `RecordSink` keeps |
 //! | `specs/`: Workers | what a worker did on the CPU of its place (`WorkedBy`), and pairs of both |
-//! | `specs/`: Traced, Visits, Works | `IsTraced`: the work that was done, and the page; what the consumer does in a round; what one call does, for a work that says what it does |
-//! | `proofs/` | Returning (with all CPUs and the consumer back it is a session again), Passing (lists of what is passed), Tracing (the whole), Standing, LeftBehind (one CPU more of those left), Visiting, Works (a call by its values, as a work tells it), Working (CPUs and workers in pairs, and apart again) |
+//! | `specs/`: Traced, Serving, Visits, Works | `IsTraced`: the work that was done, and the page; `ThenServed`: services behind a work; what the consumer does in a round; what one call does, for a work that says what it does |
+//! | `proofs/` | Returning (with all CPUs and the consumer back it is a session again), Passing (lists of what is passed), Tracing (the whole), Standing, LeftBehind (one CPU more of those left), Visiting, Works (a call by its values, as a work tells it), Working (CPUs and workers in pairs, and apart again), Serving (what services behind a work settled) |
 #![tactic(auto)]
 
 mod bad_record;
@@ -26,10 +27,11 @@ mod calling;
 mod closing;
 mod each_closed;
 mod handing;
-mod kept;
 mod lane;
 mod path;
+mod record_sink;
 mod running;
+mod serving_on;
 mod stop;
 mod work;
 mod worker;
@@ -39,19 +41,19 @@ pub use bad_record::BadRecord;
 pub use both::Both;
 pub use closing::{ClosedCpu, closed_cpu, closed_cpus};
 pub use dspec_buffer::{ReadFault, Reading, Records, read_all, read_prefix};
-pub use dspec_consumer::{Closed, Consumer, Session};
 pub use dspec_cpu::{Cpu, Shared};
 pub use dspec_deeds::{
     Config, Decided, Opening, Policy, Report, Served, Spoken, StartFault, Traced,
 };
 pub use dspec_record::{Enablings, Field, Header, Rec, Schema, SchemaFault};
 pub use dspec_ring::Batch;
+pub use dspec_session_core::{Closed, Consumer, Session};
 pub use dspec_word::SpecId;
 pub use each_closed::ClosedCpus;
 pub use handing::Handed;
-pub use kept::{Kept, KeptFault};
 pub use lane::Lane;
 pub use path::Path;
+pub use record_sink::{RecordSink, RecordSinkFault};
 pub use running::{pass_rests, trace, visit_all};
 pub use stop::Stop;
 pub use work::{Sink, Work};

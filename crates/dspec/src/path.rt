@@ -1,6 +1,6 @@
 ghost use Rattle.std.specs.Prelude.{◌≡◌};
 ghost use Rattle.dspec_promise.specs.Promise.{commit, discard};
-ghost use Rattle.dspec.specs.LaneCalls.{EndOn, OpeningOn, PathDropsOn, StepOn};
+ghost use Rattle.dspec.specs.LaneCalls.{EndOn, OpeningOn, PathDropsOn, PathRecordOn};
 ghost use Rattle.dspec.specs.Lanes.{place_of};
 
 use crate::bad_record::BadRecord;
@@ -28,7 +28,7 @@ impl Path {
 
     /// Offers a record. An `Err`, and nothing was done: there are more than eight values, or the schema doesn't accept the record.
     #[inline]
-    pub fn step<S: Schema>(
+    pub fn record<S: Schema>(
         &self,
         lane: &mut Lane<'_, S>,
         epid: u32,
@@ -36,7 +36,7 @@ impl Path {
         values: &[u64],
     ) -> Result<Spoken, BadRecord>
         ensures same { place_of lane.new ≡ place_of lane.old }
-        ensures does { StepOn ⟦<Cpu<S> as Listed>⟧.has_list S.accepted self.now epid stamp values.now result lane.old lane.new }
+        ensures does { PathRecordOn ⟦<Cpu<S> as Listed>⟧.has_list S.accepted self.now epid stamp values.now result lane.old lane.new }
     {
         lane.offer(self.opening.id(), epid, stamp, values)
     }
@@ -52,7 +52,7 @@ impl Path {
 
     /// Keeps what was offered: the speculation is committed.
     #[inline]
-    pub fn keep<S: Schema>(self, lane: &mut Lane<'_, S>) -> Decided
+    pub fn commit<S: Schema>(self, lane: &mut Lane<'_, S>) -> Decided
         ensures same { place_of lane.new ≡ place_of lane.old }
         ensures does { EndOn ⟦<Cpu<S> as Listed>⟧.has_list commit self result lane.old lane.new }
     {
@@ -62,7 +62,7 @@ impl Path {
 
     /// Throws away what was offered: the speculation is discarded.
     #[inline]
-    pub fn throw<S: Schema>(self, lane: &mut Lane<'_, S>) -> Decided
+    pub fn discard<S: Schema>(self, lane: &mut Lane<'_, S>) -> Decided
         ensures same { place_of lane.new ≡ place_of lane.old }
         ensures does { EndOn ⟦<Cpu<S> as Listed>⟧.has_list discard self result lane.old lane.new }
     {

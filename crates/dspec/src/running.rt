@@ -5,21 +5,23 @@ ghost use Rattle.dspec_deeds.specs.Ranges.{start_fault};
 ghost use Rattle.dspec_cpu.specs.Called.{called};
 ghost use Rattle.dspec_cpu.specs.Lists.{number_in, schema_of, words_of};
 ghost use Rattle.dspec_cpu.specs.Standing.{IsCallable, identity};
-ghost use Rattle.dspec_consumer.specs.Consumers.{IsConsumerOf};
-ghost use Rattle.dspec_consumer.specs.declared.left.Left.{Left};
-ghost use Rattle.dspec_consumer.specs.Leaving.{AllSteady};
-ghost use Rattle.dspec_consumer.specs.Sessions.{IsSession};
+ghost use Rattle.dspec_session_core.specs.Consumers.{IsConsumerOf};
+ghost use Rattle.dspec_session_core.specs.declared.left.Left.{Left};
+ghost use Rattle.dspec_session_core.specs.Leaving.{AllSteady};
+ghost use Rattle.dspec_session_core.specs.Sessions.{IsSession};
 ghost use Rattle.dspec.specs.Lent.{AllCallable, AllReturned};
 ghost use Rattle.dspec.specs.Passed.{GotAll, HasLists, PassesOn, rests_passed};
+ghost use Rattle.dspec.specs.Serving.{ThenServed};
 ghost use Rattle.dspec.specs.Traced.{IsTraced};
 ghost use Rattle.dspec.specs.Visits.{MakesRound, VisitsOne};
 
 use crate::lane::Lane;
+use crate::serving_on::WorkCounts;
 use crate::work::{Sink, Work};
-use dspec_consumer::{Closed, Consumer, Session};
 use dspec_cpu::{Cpu, Shared};
 use dspec_deeds::{Config, StartFault};
 use dspec_record::{Enablings, Schema};
+use dspec_session_core::{Closed, Consumer, Session};
 use std::alloc::Global;
 use std::sync::atomic::{AtomicU64, Ordering};
 use std::thread;
@@ -28,7 +30,7 @@ use std::thread::Threads;
 /// The most threads at once: a CPU has one of its own.
 pub(crate) const MOST_CPUS: usize = 64;
 
-// Each CPU works in a thread of its own; then the last thing is told.
+// Each CPU works in a thread of its own, and serves on until all have; then the last thing is told.
 fn work_all<R: Threads + Sync, W: Work<Enablings>>(
     rt: &R,
     cpus: Vec<Cpu<Enablings>>,
@@ -37,16 +39,20 @@ fn work_all<R: Threads + Sync, W: Work<Enablings>>(
     over: &AtomicU64,
 ) -> Vec<Cpu<Enablings>>
     requires { AllCallable shared.now cpus.items }
-    ensures { AllReturned (λ s. W.does s work.now) cpus.items result.items }
+    ensures { AllReturned (λ s. ThenServed (W.does s work.now)) cpus.items result.items }
 {
     let mut cpus = cpus;
+    let counts = WorkCounts::of(cpus.len());
+    let works = &counts;
     let part = move |_number: usize, cpu: &mut Cpu<Enablings>|
         requires { IsCallable shared.now cpu.now }
         ensures same { identity cpu.exit.now ≡ identity cpu.entry.now }
-        ensures did { W.does (schema_of cpu.entry.now) work.entry.now (number_in cpu.entry.now) (called cpu.entry.now) (called cpu.exit.now) }
+        ensures did { ThenServed (W.does (schema_of cpu.entry.now) work.entry.now) (number_in cpu.entry.now) (called cpu.entry.now) (called cpu.exit.now) }
     {
         let mut lane = Lane::of(shared, cpu);
+        works.begin();
         work.work(&mut lane);
+        works.serve_on(&mut lane);
     };
     thread::for_each_mut(rt, cpus.as_mut_slice(), MOST_CPUS, &part);
     over.store(1, Ordering::SeqCst);
@@ -126,7 +132,7 @@ fn run<R: Threads + Sync, W: Work<Enablings>, K: Sink<Enablings>>(
     requires { IsSession schema.now session }
     ensures lent { IsSession schema.now result.0 }
     ensures words { result.0.shared ≡ session.shared }
-    ensures returned { AllReturned (λ s. W.does s work.now) session.cpus.items result.0.cpus.items }
+    ensures returned { AllReturned (λ s. ThenServed (W.does s work.now)) session.cpus.items result.0.cpus.items }
     ensures passes { PassesOn (K.gets schema.now) (words_of session.shared) session.consumer sink result.0.consumer result.1 }
 {
     let over = AtomicU64::new(0);
@@ -145,7 +151,7 @@ fn run<R: Threads + Sync, W: Work<Enablings>, K: Sink<Enablings>>(
         { drain(consumer, words, schema, count, sink, flag) },
         move || -> Vec<Cpu<Enablings>>
             requires { IsSync R.row × AllCallable words.now cpus.items }
-            ensures { AllReturned (λ s. W.does s work.entry.now) cpus.items result.items }
+            ensures { AllReturned (λ s. ThenServed (W.does s work.entry.now)) cpus.items result.items }
         { work_all(rt, cpus, words, work, flag) },
     );
     let (consumer, sink) = drained;
@@ -190,9 +196,11 @@ pub fn pass_rests<K: Sink<Enablings>>(closed: &Closed, schema: &Enablings, count
     }
 }
 
-/// A whole session: its CPUs work in threads of their own while a further one hands their batches to the sink; then it is closed, and
-/// what nobody had taken goes to the sink too, CPU by CPU: the batch that was sealed, and the last buffer. Each CPU is promised, of what
-/// its work did and of what the sink got of it, what `dspec_promise` has on its page.
+/// A whole session: its CPUs work in threads of their own while a further one hands their batches to the sink. A lane whose work has
+/// returned makes services until every work has returned, so that no slot waits for it; where some works have not begun, it makes at most
+/// 2^20, since they may wait for its thread. Then the session is closed, and what nobody had taken goes to the sink too, CPU by CPU: the
+/// batch that was sealed, and the last buffer. Each CPU is promised, of what its work did, of the services behind it and of what the sink
+/// got of it, what `dspec_promise` has on its page.
 pub fn trace<R: Threads + Sync, W: Work<Enablings>, K: Sink<Enablings>>(
     rt: &R,
     alloc: Global,
@@ -205,7 +213,7 @@ pub fn trace<R: Threads + Sync, W: Work<Enablings>, K: Sink<Enablings>>(
     ensures refused { IfErr result (λ fault. fault ≢ start.Memory → start_fault config.now ≡ Some fault) }
     ensures memory { IfErr result (λ fault. fault ≡ start.Memory → start_fault config.now ≡ None) }
     ensures all { IfOk result (λ r. length r.0 ≡ config.now.cpus) }
-    ensures traced { IfOk result (λ r. IsTraced (K.gets schema) (W.does schema work.now) (⟦<Enablings as Schema>⟧.shape_of schema)
+    ensures traced { IfOk result (λ r. IsTraced (K.gets schema) (ThenServed (W.does schema work.now)) (⟦<Enablings as Schema>⟧.shape_of schema)
         (⟦<Enablings as Schema>⟧.accepted schema) (⟦<Enablings as Schema>⟧.text schema) config.now sink r.0 r.1) }
     ensures listed { IfOk result (λ r. HasLists (K.gets schema) (⟦<Enablings as Schema>⟧.shape_of schema) (⟦<Enablings as Schema>⟧.accepted schema)
         (⟦<Enablings as Schema>⟧.text schema) config.now sink r.0 r.1) }

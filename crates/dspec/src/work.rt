@@ -17,7 +17,8 @@ pub trait Work<S: Schema>: Sync {
     // done behind it. Whoever promises nothing of it leaves it out.
     ghost does: { S → Self → ℕ → CallsMade → CallsMade → Type 0 } = { λ _ _ _ _ _. Unit {0} };
 
-    /// Calls the lane as often as it likes, and leaves it the one that it was.
+    /// Calls the lane as often as it likes, and leaves it the one that it was. Behind it the lane makes services until every work has
+    /// returned.
     fn work(&self, lane: &mut Lane<'_, S>)
         ensures same { place_of lane.new ≡ place_of lane.old }
         ensures did { does (schema_of lane.old.cpu.now) self.now (number_in lane.old.cpu.now) (called lane.old.cpu.now) (called lane.new.cpu.now) };

@@ -15,7 +15,8 @@ pub trait Worker<S: Schema>: Send + Drop {
     // before, and the worker and what they have done behind it. Whoever promises nothing of it leaves it out.
     ghost does: { S → ℕ → Self → CallsMade → Self → CallsMade → Type 0 } = { λ _ _ _ _ _ _. Unit {0} };
 
-    /// Calls the lane as often as it likes, and leaves it the one that it was.
+    /// Calls the lane as often as it likes, and leaves it the one that it was. In `trace_workers` the lane makes services behind it, until
+    /// every work has returned.
     fn work(&mut self, lane: &mut Lane<'_, S>)
         ensures same { place_of lane.new ≡ place_of lane.old }
         ensures did { does (schema_of lane.old.cpu.now) (number_in lane.old.cpu.now) self.old (called lane.old.cpu.now) self.new (called lane.new.cpu.now) };

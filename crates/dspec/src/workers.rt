@@ -5,21 +5,23 @@ ghost use Rattle.dspec_deeds.specs.Ranges.{start_fault};
 ghost use Rattle.dspec_cpu.specs.Called.{called};
 ghost use Rattle.dspec_cpu.specs.Lists.{number_in, schema_of, words_of};
 ghost use Rattle.dspec_cpu.specs.Standing.{IsCallable, identity};
-ghost use Rattle.dspec_consumer.specs.Consumers.{IsConsumerOf};
-ghost use Rattle.dspec_consumer.specs.Sessions.{IsSession};
+ghost use Rattle.dspec_session_core.specs.Consumers.{IsConsumerOf};
+ghost use Rattle.dspec_session_core.specs.Sessions.{IsSession};
 ghost use Rattle.dspec.specs.Lent.{AllCallable, AllReturned};
 ghost use Rattle.dspec.specs.Passed.{HasLists, PassesOn};
+ghost use Rattle.dspec.specs.Serving.{ThenServed};
 ghost use Rattle.dspec.specs.Traced.{IsTraced};
 ghost use Rattle.dspec.specs.Workers.{AllNumbered, AllWorked, WorkedBy, WorkedOne, cpus_of, with_cpus, workers_of};
 
 use crate::lane::Lane;
 use crate::running::{MOST_CPUS, all_stand, drain, pass_rests};
+use crate::serving_on::WorkCounts;
 use crate::work::Sink;
 use crate::worker::Worker;
-use dspec_consumer::{Closed, Consumer, Session};
 use dspec_cpu::{Cpu, Shared};
 use dspec_deeds::{Config, StartFault};
 use dspec_record::{Enablings, Schema};
+use dspec_session_core::{Closed, Consumer, Session};
 use std::alloc::Global;
 use std::sync::atomic::{AtomicU64, Ordering};
 use std::thread;
@@ -80,13 +82,15 @@ fn part_again<W: Worker<Enablings>>(
     }
 }
 
-// A worker works on its CPU.
-fn work_one<W: Worker<Enablings>>(pair: &mut Working<W>, shared: &Shared)
+// A worker works on its CPU, which serves on until all have.
+fn work_one<W: Worker<Enablings>>(pair: &mut Working<W>, shared: &Shared, works: &WorkCounts)
     requires { IsCallable shared.now pair.old.cpu }
     ensures { WorkedOne W.does pair.old pair.new }
 {
     let mut lane = Lane::of(shared, &mut pair.cpu);
+    works.begin();
     pair.worker.work(&mut lane);
+    works.serve_on(&mut lane);
 }
 
 // Each works in a thread of its own.
@@ -99,10 +103,12 @@ fn work_pairs<R: Threads + Sync, W: Worker<Enablings>>(
     ensures { AllWorked W.does pairs.items result.items }
 {
     let mut pairs = pairs;
+    let counts = WorkCounts::of(pairs.len());
+    let works = &counts;
     let part = move |_number: usize, pair: &mut Working<W>|
         requires { IsCallable shared.now pair.now.cpu }
         ensures { WorkedOne W.does pair.entry.now pair.exit.now }
-    { work_one(pair, shared) };
+    { work_one(pair, shared, works) };
     thread::for_each_mut(rt, pairs.as_mut_slice(), MOST_CPUS, &part);
     pairs
 }
@@ -119,7 +125,7 @@ fn work_each<R: Threads + Sync, W: Worker<Enablings>>(
     requires callable { AllCallable shared.now cpus.items × AllNumbered cpus.items }
     requires count { length workers.items ≡ length cpus.items }
     requires room { (room.items ≡ []) × (length cpus.items ≤ vec_capacity room) }
-    ensures { AllReturned (λ s. WorkedBy (W.does s) workers.items result.1.items) cpus.items result.0.items × (length result.1.items ≡ length workers.items) }
+    ensures { AllReturned (λ s. ThenServed (WorkedBy (W.does s) workers.items result.1.items)) cpus.items result.0.items × (length result.1.items ≡ length workers.items) }
 {
     let (mut cpus, mut workers) = (cpus, workers);
     let pairs = pair_up(&mut cpus, &mut workers, room);
@@ -143,7 +149,7 @@ fn run_workers<R: Threads + Sync, W: Worker<Enablings>, K: Sink<Enablings>>(
     requires count { length workers.items ≡ length session.cpus.items }
     requires room { (room.items ≡ []) × (length session.cpus.items ≤ vec_capacity room) }
     ensures lent { IsSession schema.now result.0 × (result.0.shared ≡ session.shared) × (length result.1.items ≡ length workers.items) }
-    ensures returned { AllReturned (λ s. WorkedBy (W.does s) workers.items result.1.items) session.cpus.items result.0.cpus.items }
+    ensures returned { AllReturned (λ s. ThenServed (WorkedBy (W.does s) workers.items result.1.items)) session.cpus.items result.0.cpus.items }
     ensures passes { PassesOn (K.gets schema.now) (words_of session.shared) session.consumer sink result.0.consumer result.2 }
 {
     let over = AtomicU64::new(0);
@@ -162,7 +168,7 @@ fn run_workers<R: Threads + Sync, W: Worker<Enablings>, K: Sink<Enablings>>(
         { drain(consumer, words, schema, count, sink, flag) },
         move || -> (Vec<Cpu<Enablings>>, Vec<W>)
             requires { IsSync R.row × AllCallable words.now cpus.items × AllNumbered cpus.items × (length workers.items ≡ length cpus.items) × (room.items ≡ []) × (length cpus.items ≤ vec_capacity room) }
-            ensures { AllReturned (λ s. WorkedBy (W.does s) workers.items result.1.items) cpus.items result.0.items × (length result.1.items ≡ length workers.items) }
+            ensures { AllReturned (λ s. ThenServed (WorkedBy (W.does s) workers.items result.1.items)) cpus.items result.0.items × (length result.1.items ≡ length workers.items) }
         { work_each(rt, cpus, workers, room, words, flag) },
     );
     let (consumer, sink) = drained;
@@ -190,7 +196,7 @@ pub fn trace_workers<R: Threads + Sync, W: Worker<Enablings>, K: Sink<Enablings>
     ensures refused { IfErr result (λ fault. fault ≢ start.Memory → start_fault (with_cpus (length workers.items) config.now) ≡ Some fault) }
     ensures memory { IfErr result (λ fault. fault ≡ start.Memory → start_fault (with_cpus (length workers.items) config.now) ≡ None) }
     ensures all { IfOk result (λ r. (length r.0 ≡ length workers.items) × (length r.1.items ≡ length workers.items)) }
-    ensures traced { IfOk result (λ r. IsTraced (K.gets schema) (WorkedBy (W.does schema) workers.items r.1.items) (⟦<Enablings as Schema>⟧.shape_of schema)
+    ensures traced { IfOk result (λ r. IsTraced (K.gets schema) (ThenServed (WorkedBy (W.does schema) workers.items r.1.items)) (⟦<Enablings as Schema>⟧.shape_of schema)
         (⟦<Enablings as Schema>⟧.accepted schema) (⟦<Enablings as Schema>⟧.text schema) (with_cpus (length workers.items) config.now) sink r.0 r.2) }
     ensures listed { IfOk result (λ r. HasLists (K.gets schema) (⟦<Enablings as Schema>⟧.shape_of schema) (⟦<Enablings as Schema>⟧.accepted schema)
         (⟦<Enablings as Schema>⟧.text schema) (with_cpus (length workers.items) config.now) sink r.0 r.2) }

@@ -3,9 +3,9 @@ use Rattle.std.proofs.Common.{◌≡◌, ℕ, ◌+◌, ◌<◌, ◌≤◌, List,
 use Rattle.std.specs.Prelude.{slice_index_or, slice_set, ◌&&◌}
 use Rattle.std.specs.List.{list_all}
 use Rattle.std.proofs.Math.Seq.{map-set_same}
-use Rattle.std.proofs.lemmas.List.{get_or-map, get_or-set_other, map-set, length-map, replicate_more, take_all, take_more_set}
+use Rattle.std.proofs.lemmas.List.{get_or-map, get_or-set_other, map-set, length-map, replicate_more, take_more_set}
 use Rattle.std.proofs.lemmas.List.Folds.{list_all_at, list_all_more}
-use Rattle.dspec_c.specs.Closing.{EmptiesAll, KeepAll, KeepsHeld, held_in_each, fulls, names}
+use Rattle.dspec_c.specs.Closing.{KeepAll, KeepsHeld, held_in_each, fulls, names}
 use Rattle.dspec_c.specs.Handles.{held_in, is_full}
 use Rattle.dspec_c.specs.SessionCalls.{HomeAnswers, is_cpu_in}
 use Rattle.dspec_c.proofs.Options.{unless}
@@ -93,9 +93,3 @@ pub others_held : (was hs : List One) (at : ℕ) (new : One) → ((k : ℕ) → 
 others_held was hs at new hold k above =
     ap (λ xs. slice_index_or xs k Nothing) (map-set (λ (h : One). held_in h.now) hs at new)
     ∙ get_or-set_other (held_in_each hs) at k (held_in new.now) Nothing (λ e. absurd (omega (arith, above, e))) ∙ hold k (omega (arith, above))
-
-pub all_empty : (was now : List One) (n : ℕ) → n ≡ length was → names now ≡ names was → take n (fulls now) ≡ replicate n false → EmptiesAll was now
-all_empty was now n e same empty = record {
-  same = same;
-  empty = sym (take_all n (fulls now) (omega (arith, e, same_count was now same, length-map now (λ (h : One). is_full h.now)))) ∙ empty ∙ ap (λ k. replicate k false) e;
-}

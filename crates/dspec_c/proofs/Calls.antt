@@ -5,27 +5,27 @@ use Rattle.dspec_ring.specs.declared.batch.Batch.{Batch}
 use Rattle.dspec_record.specs.EnablingRows.{EnabledRows}
 use Rattle.dspec_cpu.specs.declared.cpu.Cpu.{Cpu}
 use Rattle.dspec_cpu.specs.declared.shared.Shared.{Shared}
-use Rattle.dspec_consumer.specs.Batches.{FoundNone, GaveBack, IsNotTakenBack, Took}
-use Rattle.dspec_consumer.specs.Consumers.{Consuming}
+use Rattle.dspec_session_core.specs.Batches.{FoundNone, GaveBack, IsNotTakenBack, Took}
+use Rattle.dspec_session_core.specs.Consumers.{Consuming}
 use Rattle.dspec_c.specs.ConsumerCalls.{OnConsumer, OnTheirs}
 use Rattle.dspec_c.specs.ConsumerHomes.{Theirs}
 use Rattle.dspec_c.specs.CpuCalls.{OnCpu, OnSide, one_refused}
-use Rattle.dspec_c.specs.Homes.{Side}
+use Rattle.dspec_c.specs.Homes.{CpuSide}
 use Rattle.dspec_c.specs.declared.consumer_side.ConsumerSide.{ConsumerSide}
 use Rattle.dspec_c.specs.declared.held.Held.{Held}
 use Rattle.dspec_c.specs.declared.held.Held.TheVariants as held
 
-pub on_side : (refuses : Bool) (did : Cpu EnabledRows → Cpu EnabledRows → Type 0) (old was new : Side) → was ≡ old → new.shared ≡ was.shared → did was.cpu new.cpu
+pub on_side : (refuses : Bool) (did : Cpu EnabledRows → Cpu EnabledRows → Type 0) (old was new : CpuSide) → was ≡ old → new.shared ≡ was.shared → did was.cpu new.cpu
     → new.refused ≡ one_refused refuses was.refused → OnSide refuses did old new
-on_side refuses did old was new e shared done count = subst (λ (s : Side). OnSide refuses did s new) e (record { shared = shared; cpu = done; refused = count })
+on_side refuses did old was new e shared done count = subst (λ (s : CpuSide). OnSide refuses did s new) e (record { shared = shared; cpu = done; refused = count })
 
 -- where the CPU is in a box
-pub on_boxed : (refuses : Bool) (did : Cpu EnabledRows → Cpu EnabledRows → Type 0) (old : Side) (shared : Shared) (was cpu : Cpu EnabledRows) (refused : ℕ) (new : Side)
+pub on_boxed : (refuses : Bool) (did : Cpu EnabledRows → Cpu EnabledRows → Type 0) (old : CpuSide) (shared : Shared) (was cpu : Cpu EnabledRows) (refused : ℕ) (new : CpuSide)
     → record { shared = shared; cpu = cpu; refused = refused } ≡ old → was ≡ cpu → new.shared ≡ shared → did was new.cpu → new.refused ≡ one_refused refuses refused → OnSide refuses did old new
 on_boxed refuses did old shared was cpu refused new e f same done count =
     on_side refuses did old (record { shared = shared; cpu = cpu; refused = refused }) new e same (subst (λ (x : Cpu EnabledRows). did x new.cpu) f done) count
 
-pub on_cpu : (did : Side → Side → Type 0) (stays : Type 0) (was : Held) (status : ℕ) (now : Held) (old new : Side) → was ≡ held.Cpu old → now ≡ held.Cpu new → did old new
+pub on_cpu : (did : CpuSide → CpuSide → Type 0) (stays : Type 0) (was : Held) (status : ℕ) (now : Held) (old new : CpuSide) → was ≡ held.Cpu old → now ≡ held.Cpu new → did old new
     → OnCpu did stays was status now
 on_cpu did stays was status now old new e f done = subst (λ (h : Held). OnCpu did stays h status now) (sym e) (new, f, done)
 

@@ -2,7 +2,7 @@
 use Rattle.std.proofs.Common.{◌≡◌, ℕ, ◌<◌, List, [], ◌∷◌, length, Option, Some, None, suc, zero, refl, sym, subst, arith}
 use Rattle.std.specs.Prelude.{slice_get}
 use Rattle.dspec_deeds.specs.declared.report.Report.{Report}
-use Rattle.dspec_consumer.specs.declared.left.Left.{Left}
+use Rattle.dspec_session_core.specs.declared.left.Left.{Left}
 use Rattle.dspec_c.specs.ClosedCalls.{TellsCountsOf}
 use Rattle.dspec_c.specs.Shows.{TellsReport}
 use Rattle.dspec_c.specs.declared.reports.CReport.{CReport}

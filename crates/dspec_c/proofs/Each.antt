@@ -7,8 +7,8 @@ use Rattle.dspec_cpu.specs.declared.cpu.Cpu.{Cpu}
 use Rattle.dspec_cpu.specs.declared.shared.Shared.{Shared}
 use Rattle.dspec_cpu.specs.Lists.{words_of}
 use Rattle.dspec_cpu.specs.Standing.{Identity, IsCallable, identity}
-use Rattle.dspec_consumer.specs.Sessions.{IsCpuOf}
-use Rattle.dspec_c.specs.Homes.{AtHome, CpuStay, Side}
+use Rattle.dspec_session_core.specs.Sessions.{IsCpuOf}
+use Rattle.dspec_c.specs.Homes.{AtHome, CpuStay, CpuSide}
 use Rattle.dspec_c.specs.Whole.{AllCalled, AllInside, EachFrom, IsCpuAt, IsPlaceOf, cpu_inside, firsts, insides, new_side, refused_inside, refusals, waiting_so}
 
 -- the first element, and what is left when it is removed
@@ -34,8 +34,8 @@ set_back (y ∷ ys) zero old new e at = ap (λ z. z ∷ ys) (e ∙ at)
 set_back (y ∷ ys) (suc c) old new e at = ap (λ zs. y ∷ zs) (set_back ys c old new e at)
 
 -- a CPU that is at home is the one of its place
-pub cpu_at : (shared : Shared) (schema : EnabledRows) (pairs : List Pair) (c : ℕ) (place : Option Side) (home : AtHome) (cpu : Cpu EnabledRows)
-    → ((first : Side) → place ≡ Some first → identity home.cpu ≡ identity first.cpu) → cpu ≡ home.cpu → IsPlaceOf shared schema pairs c place → IsCpuAt shared schema pairs c cpu
+pub cpu_at : (shared : Shared) (schema : EnabledRows) (pairs : List Pair) (c : ℕ) (place : Option CpuSide) (home : AtHome) (cpu : Cpu EnabledRows)
+    → ((first : CpuSide) → place ≡ Some first → identity home.cpu ≡ identity first.cpu) → cpu ≡ home.cpu → IsPlaceOf shared schema pairs c place → IsCpuAt shared schema pairs c cpu
 cpu_at shared schema pairs c place home cpu same f at =
     subst (λ (i : Identity EnabledRows). IsCpuOf schema (words_of shared) c (slice_get pairs c) i) (sym (ap (λ (y : Cpu EnabledRows). identity y) f ∙ same at.side at.is)) at.cpu
 

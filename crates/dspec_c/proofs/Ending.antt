@@ -9,16 +9,16 @@ use Rattle.dspec_table.specs.Seats.{last_seat, set_up}
 use Rattle.dspec_cpu.specs.declared.cpu.Cpu.{Cpu}
 use Rattle.dspec_cpu.specs.declared.shared.Shared.{Shared}
 use Rattle.dspec_cpu.specs.Lists.{number_in, schema_of, words_of}
-use Rattle.dspec_consumer.specs.Consumers.{Consuming, IsConsumerOf, IsSameConsumer, pairs_of, view_of}
-use Rattle.dspec_consumer.specs.Sessions.{Has, IsCpuOf, IsFresh, IsSession}
-use Rattle.dspec_consumer.specs.declared.session.Session.{Session}
+use Rattle.dspec_session_core.specs.Consumers.{Consuming, IsConsumerOf, IsSameConsumer, pairs_of, view_of}
+use Rattle.dspec_session_core.specs.Sessions.{Has, IsCpuOf, IsFresh, IsSession}
+use Rattle.dspec_session_core.specs.declared.session.Session.{Session}
 use Rattle.dspec_cpu.specs.Standing.{Identity, IsCallable, identity}
 use Rattle.dspec_c.specs.ConsumerHomes.{IsTheirPlaceWith, LeaveTheirs, TheirStay, Theirs}
 use Rattle.dspec_ring.specs.Known.{Pair}
-use Rattle.dspec_c.specs.Homes.{Came, CpuStay, IsPlaceWith, IsSameSide, LeavesPlace, Side}
+use Rattle.dspec_c.specs.Homes.{Came, CpuStay, IsPlaceWith, IsSameSide, LeavesPlace, CpuSide}
 use Rattle.dspec_c.specs.Whole.{AllCalled, AreCame, EachFrom, Going, GoesOut, IsFreshIn, IsJustStarted, IsCpuAt, IsEnding, IsPlaceOf, IsStarted, IsWhole, LeavesOne}
 use Rattle.dspec_c.specs.Whole.{LookedLater, LooksAt, LooksAtOne, TheyGoOut}
-use Rattle.dspec_c.specs.Whole.{cpu_inside, firsts, insides, refusals, refused_inside, they_wait_so, waiting_so}
+use Rattle.dspec_c.specs.Whole.{cpu_inside, firsts, insides, they_wait_so, waiting_so}
 use Rattle.dspec_c.proofs.Each.{each_placed}
 use Rattle.dspec_c.proofs.Looking.{first_at, same_firsts}
 
@@ -40,7 +40,7 @@ each_from P n [] all = tt
 each_from P n (x ∷ xs) all = (subst (λ k. P k x) (omega arith) (all 0 x refl), each_from P (suc n) xs (λ k y at. subst (λ j. P j y) (omega arith) (all (suc k) y at)))
 
 -- all that is home makes a session
-pub session_is : (shared : Shared) (schema : EnabledRows) (places : List (Option Side)) (consumer : Consuming) (session : Session EnabledRows) → IsEnding shared schema places consumer
+pub session_is : (shared : Shared) (schema : EnabledRows) (places : List (Option CpuSide)) (consumer : Consuming) (session : Session EnabledRows) → IsEnding shared schema places consumer
     → session.shared ≡ shared → session.consumer ≡ consumer
     → EachFrom (IsCpuAt shared schema (pairs_of consumer)) 0 session.cpus.items → length session.cpus.items ≡ length places → IsSession schema session
 session_is shared schema places consumer session is e f home count = record {
@@ -58,15 +58,8 @@ session_is shared schema places consumer session is e f home count = record {
 pub as_many : (cpus : List (Cpu EnabledRows)) (places : List CpuStay) → map Some cpus ≡ insides places → length cpus ≡ length (firsts places)
 as_many cpus places e = sym (length-map cpus Some) ∙ ap length e ∙ length-map places cpu_inside ∙ sym (length-map places (λ (s : CpuStay). s.first))
 
--- as many counts as there are CPUs left
-pub as_many_counts : (shared common : Shared) (cpus : ℕ) (places : List CpuStay) (theirs : Option Theirs) (refused : List ℕ) (left : ℕ) → IsWhole common cpus (firsts places) theirs
-    → shared ≡ common → refused ≡ refusals places → left ≡ (set_up (words_of shared)).cpus → length refused ≡ left
-as_many_counts shared common cpus places theirs refused left is e f g =
-    ap length f ∙ length-map places refused_inside ∙ sym (length-map places (λ (s : CpuStay). s.first)) ∙ is.ending.all
-    ∙ ap (λ (m : Shared). (set_up (words_of m)).cpus) (sym e) ∙ sym g
-
 -- the consumer that is home ends what the first one would have ended
-pub ends_so : (shared : Shared) (cpus : ℕ) (places : List (Option Side)) (place : Option Theirs) (consumer : Consuming) → (is : IsWhole shared cpus places place)
+pub ends_so : (shared : Shared) (cpus : ℕ) (places : List (Option CpuSide)) (place : Option Theirs) (consumer : Consuming) → (is : IsWhole shared cpus places place)
     → ((first : Theirs) → place ≡ Some first → IsSameConsumer first.consumer consumer × IsConsumerOf (words_of first.shared) consumer) → IsEnding shared is.schema places consumer
 ends_so shared cpus places place consumer is same =
     let so = same is.first is.is in
@@ -124,7 +117,7 @@ looked_so w old now seen e f came there = subst (λ (g : Going). LookedLater g n
 pub whole_kept : (shared : Shared) (n : ℕ) (places now : List CpuStay) (place there : TheirStay) → IsWhole shared n (firsts places) place.first → AreCame places now → Came place there
     → IsWhole shared n (firsts now) there.first
 whole_kept shared n places now place there is e f =
-    subst (λ (xs : List (Option Side)). IsWhole shared n xs there.first) (sym (same_firsts places now e)) (subst (λ (o : Option Theirs). IsWhole shared n (firsts places) o) (sym f.first) is)
+    subst (λ (xs : List (Option CpuSide)). IsWhole shared n xs there.first) (sym (same_firsts places now e)) (subst (λ (o : Option Theirs). IsWhole shared n (firsts places) o) (sym f.first) is)
 
 all_fresh : (shared : Shared) (schema : EnabledRows) (n : ℕ) (cpus : List (Cpu EnabledRows))
     → ((c : ℕ) (cpu : Cpu EnabledRows) → slice_get cpus c ≡ Some cpu → (schema_of cpu ≡ schema) × IsFresh Has cpu) → EachFrom (IsFreshIn schema) n (map (waiting_so shared) cpus)
@@ -132,13 +125,13 @@ all_fresh shared schema n [] is = tt
 all_fresh shared schema n (cpu ∷ cpus) is = ((refl, ((is 0 cpu refl).0, (is 0 cpu refl).1, refl)), all_fresh shared schema (suc n) cpus (λ c x at. is (suc c) x at))
 
 -- those can call the CPU at a place who share what the session does
-pub place_first : (shared given : Shared) (n : ℕ) (places : List CpuStay) (theirs : Option Theirs) (c : ℕ) (there : Option Side) → IsWhole shared n (firsts places) theirs → given ≡ shared
+pub place_first : (shared given : Shared) (n : ℕ) (places : List CpuStay) (theirs : Option Theirs) (c : ℕ) (there : Option CpuSide) → IsWhole shared n (firsts places) theirs → given ≡ shared
     → slice_get (firsts places) c ≡ Some there → IsPlaceWith given there
 place_first shared given n places theirs c there is e at = λ first f.
     let at_c = each_at (IsPlaceOf shared is.schema (pairs_of is.first.consumer)) 0 (firsts places) c there is.ending.each at in
-    let g : at_c.side ≡ first = ap (λ (o : Option Side). or_else first o) (sym at_c.is ∙ f) in (
-      e ∙ sym at_c.shares ∙ ap (λ (x : Side). x.shared) g,
-      subst (λ (x : Side). IsCallable given x.cpu) g (subst (λ (m : Shared). IsCallable m at_c.side.cpu) (sym e) at_c.cpu.belongs),
+    let g : at_c.side ≡ first = ap (λ (o : Option CpuSide). or_else first o) (sym at_c.is ∙ f) in (
+      e ∙ sym at_c.shares ∙ ap (λ (x : CpuSide). x.shared) g,
+      subst (λ (x : CpuSide). IsCallable given x.cpu) g (subst (λ (m : Shared). IsCallable m at_c.side.cpu) (sym e) at_c.cpu.belongs),
     )
 
 pub place_with : (shared given : Shared) (n : ℕ) (places : List CpuStay) (theirs : Option Theirs) (c : ℕ) (s : CpuStay) → IsWhole shared n (firsts places) theirs → given ≡ shared
@@ -146,7 +139,7 @@ pub place_with : (shared given : Shared) (n : ℕ) (places : List CpuStay) (thei
 place_with shared given n places theirs c s is e at = place_first shared given n places theirs c s.first is e (first_at places c s at)
 
 -- a CPU that goes out is the one of its number
-pub number_out : (shared given : Shared) (n : ℕ) (places : List CpuStay) (theirs : Option Theirs) (c : ℕ) (side : Side) (now : List CpuStay) → IsWhole shared n (firsts places) theirs
+pub number_out : (shared given : Shared) (n : ℕ) (places : List CpuStay) (theirs : Option Theirs) (c : ℕ) (side : CpuSide) (now : List CpuStay) → IsWhole shared n (firsts places) theirs
     → LeavesOne given c places side now → number_in side.cpu ≡ c
 number_out shared given n places theirs c side now is leaves =
     let at_c = each_at (IsPlaceOf shared is.schema (pairs_of is.first.consumer)) 0 (firsts places) c leaves.stay.first is.ending.each (first_at places c leaves.stay leaves.there) in
@@ -161,10 +154,10 @@ each_set P n (z ∷ zs) (suc c) x y all at f = (all.0, each_set P (suc n) zs c x
 firsts_set : (xs : List CpuStay) (c : ℕ) (y : CpuStay) → firsts (slice_set xs c y) ≡ slice_set (firsts xs) c y.first
 firsts_set [] c y = refl
 firsts_set (x ∷ xs) zero y = refl
-firsts_set (x ∷ xs) (suc c) y = ap (λ (os : List (Option Side)). x.first ∷ os) (firsts_set xs c y)
+firsts_set (x ∷ xs) (suc c) y = ap (λ (os : List (Option CpuSide)). x.first ∷ os) (firsts_set xs c y)
 
 -- the place of a CPU that went out is still its own
-placed : (shared : Shared) (schema : EnabledRows) (pairs : List Pair) (k : ℕ) (o : Option Side) (side : Side) → IsSomeAnd o (λ (first : Side). IsSameSide first side) → side.shared ≡ shared
+placed : (shared : Shared) (schema : EnabledRows) (pairs : List Pair) (k : ℕ) (o : Option CpuSide) (side : CpuSide) → IsSomeAnd o (λ (first : CpuSide). IsSameSide first side) → side.shared ≡ shared
     → IsCpuAt shared schema pairs k side.cpu → IsPlaceOf shared schema pairs k o
 placed shared schema pairs k None side is e at = absurd is
 placed shared schema pairs k (Some first) side is e at = record {
@@ -174,17 +167,17 @@ placed shared schema pairs k (Some first) side is e at = record {
   cpu = subst (λ (i : Identity EnabledRows). IsCpuOf schema (words_of shared) k (slice_get pairs k) i) is.cpu at;
 }
 
-still_placed : (shared given : Shared) (schema : EnabledRows) (pairs : List Pair) (k : ℕ) (old new : CpuStay) (side : Side) → given ≡ shared → LeavesPlace given old side new
+still_placed : (shared given : Shared) (schema : EnabledRows) (pairs : List Pair) (k : ℕ) (old new : CpuStay) (side : CpuSide) → given ≡ shared → LeavesPlace given old side new
     → IsPlaceOf shared schema pairs k old.first → IsPlaceOf shared schema pairs k new.first
 still_placed shared given schema pairs k old new side e leaves at = placed shared schema pairs k new.first side leaves.stays (leaves.shares ∙ e)
     (subst (λ (i : Identity EnabledRows). IsCpuOf schema (words_of shared) k (slice_get pairs k) i) (sym (leaves.same at.side at.is)) at.cpu)
 
 -- as many places as before
-left_count : (shared : Shared) (c : ℕ) (places now : List CpuStay) (side : Side) → LeavesOne shared c places side now → length now ≡ length places
+left_count : (shared : Shared) (c : ℕ) (places now : List CpuStay) (side : CpuSide) → LeavesOne shared c places side now → length now ≡ length places
 left_count shared c places now side leaves = ap length leaves.gone ∙ length-set places c leaves.left
 
 -- the session once a CPU went out
-pub one_goes : (shared given : Shared) (n c : ℕ) (places now : List CpuStay) (theirs : Option Theirs) (side : Side) → given ≡ shared → IsWhole shared n (firsts places) theirs
+pub one_goes : (shared given : Shared) (n c : ℕ) (places now : List CpuStay) (theirs : Option Theirs) (side : CpuSide) → given ≡ shared → IsWhole shared n (firsts places) theirs
     → LeavesOne given c places side now → IsWhole shared n (firsts now) theirs
 one_goes shared given n c places now theirs side e is leaves = record {
   schema = is.schema;
@@ -195,7 +188,7 @@ one_goes shared given n c places now theirs side e is leaves = record {
   ending = record {
     checked = is.ending.checked;
     all = length-map now (λ (s : CpuStay). s.first) ∙ left_count given c places now side leaves ∙ sym (length-map places (λ (s : CpuStay). s.first)) ∙ is.ending.all;
-    each = subst (λ (os : List (Option Side)). EachFrom (IsPlaceOf shared is.schema (pairs_of is.first.consumer)) 0 os)
+    each = subst (λ (os : List (Option CpuSide)). EachFrom (IsPlaceOf shared is.schema (pairs_of is.first.consumer)) 0 os)
         (sym (ap (λ (ps : List CpuStay). firsts ps) leaves.gone ∙ firsts_set places c leaves.left))
         (each_set (IsPlaceOf shared is.schema (pairs_of is.first.consumer)) 0 (firsts places) c leaves.stay.first leaves.left.first is.ending.each (first_at places c leaves.stay leaves.there)
         (λ k at. still_placed shared given is.schema (pairs_of is.first.consumer) k leaves.stay leaves.left side e leaves.leaves at));
@@ -203,7 +196,7 @@ one_goes shared given n c places now theirs side e is leaves = record {
   };
 }
 
-pub goes_so : {E : Type 0} (shared given : Shared) (n c : ℕ) (w : Going) (theirs : Option Theirs) (r : Result Side E) (now : List CpuStay) → given ≡ w.shared
+pub goes_so : {E : Type 0} (shared given : Shared) (n c : ℕ) (w : Going) (theirs : Option Theirs) (r : Result CpuSide E) (now : List CpuStay) → given ≡ w.shared
     → IsWhole shared n (firsts w.places) theirs → IfOk r (λ side. LeavesOne given c w.places side now) → IfOk r (λ side. GoesOut c w side (record w { places = now }))
 goes_so shared given n c w theirs (Err x) now e is leaves = tt
 goes_so shared given n c w theirs (Ok side) now e is leaves = record {
@@ -214,7 +207,7 @@ goes_so shared given n c w theirs (Ok side) now e is leaves = record {
 }
 
 -- so it is of a session as it was seen
-pub goes_from : {E : Type 0} (shared given : Shared) (n c : ℕ) (w old : Going) (theirs : Option Theirs) (r : Result Side E) (now : List CpuStay) → w ≡ old → given ≡ w.shared
+pub goes_from : {E : Type 0} (shared given : Shared) (n c : ℕ) (w old : Going) (theirs : Option Theirs) (r : Result CpuSide E) (now : List CpuStay) → w ≡ old → given ≡ w.shared
     → IsWhole shared n (firsts w.places) theirs → IfOk r (λ side. LeavesOne given c w.places side now) → IfOk r (λ side. GoesOut c old side (record w { places = now }))
 goes_from shared given n c w old theirs r now seen e is leaves =
     subst (λ (g : Going). IfOk r (λ side. GoesOut c g side (record w { places = now }))) seen (goes_so shared given n c w theirs r now e is leaves)
@@ -224,12 +217,13 @@ stays_from w old (Err x) now seen is = ap (λ (ps : List CpuStay). record w { pl
 stays_from w old (Ok x) now seen is = tt
 
 -- the session after a CPU was asked for
-pub asked_for_one : {E : Type 0} (shared given : Shared) (n c : ℕ) (places now : List CpuStay) (theirs : Option Theirs) (r : Result Side E) → given ≡ shared → IsWhole shared n (firsts places) theirs
+pub asked_for_one : {E : Type 0} (shared given : Shared) (n c : ℕ) (places now : List CpuStay) (theirs : Option Theirs) (r : Result CpuSide E)
+    → given ≡ shared → IsWhole shared n (firsts places) theirs
     → IfOk r (λ side. LeavesOne given c places side now) → OnErr r (now ≡ places) → IsWhole shared n (firsts now) theirs
 asked_for_one shared given n c places now theirs (Err x) e is leaves none = subst (λ (ps : List CpuStay). IsWhole shared n (firsts ps) theirs) (sym none) is
 asked_for_one shared given n c places now theirs (Ok side) e is leaves none = one_goes shared given n c places now theirs side e is leaves
 
-pub asked_count : {E : Type 0} (given : Shared) (c : ℕ) (places now : List CpuStay) (r : Result Side E) → IfOk r (λ side. LeavesOne given c places side now) → OnErr r (now ≡ places)
+pub asked_count : {E : Type 0} (given : Shared) (c : ℕ) (places now : List CpuStay) (r : Result CpuSide E) → IfOk r (λ side. LeavesOne given c places side now) → OnErr r (now ≡ places)
     → length now ≡ length places
 asked_count given c places now (Err x) leaves none = ap length none
 asked_count given c places now (Ok side) leaves none = left_count given c places now side leaves
@@ -239,7 +233,7 @@ pub looks_from : (c : ℕ) (w old now : Going) → w ≡ old → now.shared ≡ 
 looks_from c w old now seen e f g is = subst (λ (x : Going). LooksAtOne c x now) seen (record { shared = e; cpus = f; consumer = g; places = is })
 
 -- so does the consumer
-pub they_share : (shared given : Shared) (n : ℕ) (places : List (Option Side)) (theirs : Option Theirs) → IsWhole shared n places theirs → given ≡ shared → IsTheirPlaceWith given theirs
+pub they_share : (shared given : Shared) (n : ℕ) (places : List (Option CpuSide)) (theirs : Option Theirs) → IsWhole shared n places theirs → given ≡ shared → IsTheirPlaceWith given theirs
 they_share shared given n places theirs is e = λ first f. e ∙ sym is.shares ∙ ap (λ (o : Option Theirs). (or_else first o).shared) (sym is.is ∙ f)
 
 pub they_go : (shared given : Shared) (n : ℕ) (w : Going) (o : Option Theirs) (now : TheirStay) → w.shared ≡ shared → w.cpus ≡ n → given ≡ shared → IsWhole shared n (firsts w.places) w.consumer.first
@@ -256,7 +250,7 @@ pub they_go_from : (shared given : Shared) (n : ℕ) (w old : Going) (o : Option
 they_go_from shared given n w old o now seen e f g is leave =
     subst (λ (h : Going). IfSome o (λ side. TheyGoOut h side (record w { consumer = now }))) seen (they_go shared given n w o now e f g is leave)
 
-pub they_stay : (shared given : Shared) (n : ℕ) (places : List (Option Side)) (place now : TheirStay) (o : Option Theirs) → IsWhole shared n places place.first
+pub they_stay : (shared given : Shared) (n : ℕ) (places : List (Option CpuSide)) (place now : TheirStay) (o : Option Theirs) → IsWhole shared n places place.first
     → IfSome o (λ side. LeaveTheirs given place side now) → IfNone o ((place.waits ≡ false) × (now ≡ place)) → IsWhole shared n places now.first
 they_stay shared given n places place now None is leave none = subst (λ (s : TheirStay). IsWhole shared n places s.first) (sym none.1) is
 they_stay shared given n places place now (Some side) is leave none = subst (λ (s : TheirStay). IsWhole shared n places s.first) (sym leave.gone) is

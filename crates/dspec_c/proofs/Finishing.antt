@@ -4,8 +4,8 @@ use Rattle.std.specs.Prelude.{Result, Ok, Err, MatchResult, length}
 use Rattle.dspec_record.specs.EnablingRows.{EnabledRows}
 use Rattle.dspec_cpu.specs.declared.cpu.Cpu.{Cpu}
 use Rattle.dspec_cpu.specs.declared.shared.Shared.{Shared}
-use Rattle.dspec_consumer.specs.Consumers.{Consuming}
-use Rattle.dspec_consumer.specs.declared.left.Left.{Left}
+use Rattle.dspec_session_core.specs.Consumers.{Consuming}
+use Rattle.dspec_session_core.specs.declared.left.Left.{Left}
 use Rattle.dspec_c.specs.Handles.{held_in, is_full}
 use Rattle.dspec_c.specs.SessionCalls.{EndsSo, FinishAnswers, LooksHome}
 use Rattle.dspec_c.specs.Statuses.{busy, not_home}

@@ -20,9 +20,6 @@ pub due_none : (c : ℕ) (old : Going) → nat_lt c old.cpus ≡ true → inside
 due_none c old e f = ap (λ (b : Bool). if b then (if inside_at c old.places then None else Some already_out) else Some no_such_cpu) e
     ∙ ap (λ (b : Bool). if b then None else Some already_out) f
 
-pub theirs_out : (old : Going) → old.consumer.waits ≡ false → consumer_due old ≡ Some already_out
-theirs_out old e = ap (λ (b : Bool). if b then None else Some already_out) e
-
 pub theirs_none : (old : Going) → old.consumer.waits ≡ true → consumer_due old ≡ None
 theirs_none old e = ap (λ (b : Bool). if b then None else Some already_out) e
 

@@ -4,7 +4,7 @@ use Rattle.std.specs.Prelude.{◌⊎◌, Result, Ok, Err, IfOk, IfSome, IsSome, 
 use Rattle.std.specs.Option.{option_map_or}
 use Rattle.std.proofs.lemmas.Option.{slice_get_read, slice_get_within}
 use Rattle.dspec_cpu.specs.declared.shared.Shared.{Shared}
-use Rattle.dspec_c.specs.Homes.{Came, CpuStay, LeavesPlace, Side, Stay}
+use Rattle.dspec_c.specs.Homes.{Came, CpuStay, LeavesPlace, CpuSide, Stay}
 use Rattle.dspec_c.specs.Whole.{AllInside, AreCame, IsInsideAt, LeavesOne, LooksAt, OneOutside, firsts, inside_at}
 use Rattle.dspec_c.proofs.Each.{set_back}
 use Rattle.dspec_c.proofs.Options.{if_some, if_true, none_of, or_this}
@@ -77,7 +77,7 @@ pub same_firsts : (xs ys : List CpuStay) → AreCame xs ys → firsts ys ≡ fir
 same_firsts [] [] is = refl
 same_firsts [] (y ∷ ys) is = absurd is
 same_firsts (x ∷ xs) [] is = absurd is
-same_firsts (x ∷ xs) (y ∷ ys) is = ap (λ (o : Option Side). o ∷ firsts ys) is.0.first ∙ ap (λ (os : List (Option Side)). x.first ∷ os) (same_firsts xs ys is.1)
+same_firsts (x ∷ xs) (y ∷ ys) is = ap (λ (o : Option CpuSide). o ∷ firsts ys) is.0.first ∙ ap (λ (os : List (Option CpuSide)). x.first ∷ os) (same_firsts xs ys is.1)
 
 -- who is inside stays
 pub inside_still : (xs ys : List CpuStay) (k : ℕ) → AreCame xs ys → IsInsideAt k xs → IsInsideAt k ys
@@ -131,12 +131,12 @@ pub one_looked : (xs ys : List CpuStay) (n : ℕ) → AreCame xs ys → ((k : �
 one_looked xs ys n is all at k small = either (below k n small) (λ s. inside_still xs ys k is (all k s)) (λ e. subst (λ m. IsInsideAt m ys) (sym e) at)
 
 -- what is inside at one place is handed out, or stays as it is
-pub one_leaves : {E : Type 0} (shared : Shared) (c : ℕ) (xs : List CpuStay) (x y : CpuStay) (r : Result Side E) → c < length xs → x ≡ slice_index_or xs c x
+pub one_leaves : {E : Type 0} (shared : Shared) (c : ℕ) (xs : List CpuStay) (x y : CpuStay) (r : Result CpuSide E) → c < length xs → x ≡ slice_index_or xs c x
     → IfOk r (λ out. LeavesPlace shared x out y) → IfOk r (λ out. LeavesOne shared c xs out (slice_set xs c y))
 one_leaves shared c xs x y (Err e) small at is = tt
 one_leaves shared c xs x y (Ok out) small at is = record { stay = x; left = y; there = slice_get_read xs (length xs) c x refl small at; leaves = is; gone = refl }
 
-pub one_stays : {E : Type 0} (c : ℕ) (xs : List CpuStay) (x y : CpuStay) (r : Result Side E) → x ≡ slice_index_or xs c x → OnErr r (y ≡ x) → OnErr r (slice_set xs c y ≡ xs)
+pub one_stays : {E : Type 0} (c : ℕ) (xs : List CpuStay) (x y : CpuStay) (r : Result CpuSide E) → x ≡ slice_index_or xs c x → OnErr r (y ≡ x) → OnErr r (slice_set xs c y ≡ xs)
 one_stays c xs x y (Err e) at is = set_back xs c x y is at
 one_stays c xs x y (Ok out) at is = tt
 

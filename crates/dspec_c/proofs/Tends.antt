@@ -10,7 +10,7 @@ use Rattle.dspec_cpu.specs.declared.shared.Shared.{Shared}
 use Rattle.dspec_cpu.specs.Standing.{identity}
 use Rattle.dspec_c.specs.ConsumerHomes.{Theirs}
 use Rattle.dspec_c.specs.CpuCalls.{ServicedSo}
-use Rattle.dspec_c.specs.Homes.{AtHome, CpuStay, IsPlaceWith, IsUnused, Side}
+use Rattle.dspec_c.specs.Homes.{AtHome, CpuStay, IsPlaceWith, IsUnused, CpuSide}
 use Rattle.dspec_c.specs.Tending.{AreTended, IsTended, IsTendedWhole, ServedAtHome, ServedIfThere, ServedThere, TendsOne}
 use Rattle.dspec_c.specs.Whole.{Going, IsWhole, firsts}
 use Rattle.dspec_c.proofs.Homes.{IsPlace, same_there}
@@ -27,14 +27,14 @@ served_boxed n told old new was cpu refused e f count done same = record {
   refused = same ∙ ap (λ (h : AtHome). h.refused) e;
 }
 
-module _ {X : Type 0} (went : X → List Side) (free : X → ℕ) where
-  still_unused : (first : Side) (received : List Side) (way : Option X) (inside : Option AtHome) (y : AtHome) → IfSome way (λ w. IsUnused first received (went w) (free w) inside)
+module _ {X : Type 0} (went : X → List CpuSide) (free : X → ℕ) where
+  still_unused : (first : CpuSide) (received : List CpuSide) (way : Option X) (inside : Option AtHome) (y : AtHome) → IfSome way (λ w. IsUnused first received (went w) (free w) inside)
       → IfSome way (λ w. IsUnused first received (went w) (free w) (Some y))
   still_unused first received None inside y is = tt
   still_unused first received (Some w) inside y is = record { came = is.came; went = is.went; room = is.room; is = refl }
 
   -- the CPU that was served is at its place
-  pub served_in : (received : List Side) (way : Option X) (inside now : Option AtHome) (x y : AtHome) → IsPlace went free received way inside → inside ≡ Some x → identity y.cpu ≡ identity x.cpu
+  pub served_in : (received : List CpuSide) (way : Option X) (inside now : Option AtHome) (x y : AtHome) → IsPlace went free received way inside → inside ≡ Some x → identity y.cpu ≡ identity x.cpu
       → now ≡ Some y → IsPlace went free received way now
   served_in received way inside now x y is at same e = subst (λ (o : Option AtHome). IsPlace went free received way o) (sym e)
       (is.0, is.1, record { out = tt; same = same ∙ same_there is.0 received inside x is.2 at }, still_unused is.0 received way inside y is.3)
@@ -61,8 +61,8 @@ tended_first n old new is = served_first is.looked.inside n is.looked new is.ser
 
 set_firsts : (xs : List CpuStay) (c : ℕ) (s t : CpuStay) → slice_get xs c ≡ Some s → t.first ≡ s.first → firsts (slice_set xs c t) ≡ firsts xs
 set_firsts [] c s t at same = refl
-set_firsts (x ∷ xs) zero s t at same = ap (λ (o : Option Side). o ∷ firsts xs) (same ∙ sym (ap (λ (o : Option CpuStay). (or_this x o).first) at))
-set_firsts (x ∷ xs) (suc c) s t at same = ap (λ (os : List (Option Side)). x.first ∷ os) (set_firsts xs c s t at same)
+set_firsts (x ∷ xs) zero s t at same = ap (λ (o : Option CpuSide). o ∷ firsts xs) (same ∙ sym (ap (λ (o : Option CpuStay). (or_this x o).first) at))
+set_firsts (x ∷ xs) (suc c) s t at same = ap (λ (os : List (Option CpuSide)). x.first ∷ os) (set_firsts xs c s t at same)
 
 one_firsts : (c n : ℕ) (xs ys : List CpuStay) → TendsOne c n xs ys → firsts ys ≡ firsts xs
 one_firsts c n xs ys is = ap (λ (zs : List CpuStay). firsts zs) is.all ∙ set_firsts xs c is.was is.is is.there (tended_first n is.was is.is is.tended)
@@ -83,13 +83,13 @@ pub tends_one : (c n : ℕ) (xs : List CpuStay) (x y : CpuStay) → c < length x
 tends_one c n xs x y small at is = record { was = x; is = y; there = slice_get_read xs (length xs) c x refl small at; tended = is; all = refl }
 
 pub place_here : (shared : Shared) (xs : List CpuStay) (c : ℕ) (x : CpuStay) → c < length xs → x ≡ slice_index_or xs c x
-    → ((first : Option Side) → slice_get (firsts xs) c ≡ Some first → IsPlaceWith shared first) → IsPlaceWith shared x.first
+    → ((first : Option CpuSide) → slice_get (firsts xs) c ≡ Some first → IsPlaceWith shared first) → IsPlaceWith shared x.first
 place_here shared xs c x small at belongs = belongs x.first (first_at xs c x (slice_get_read xs (length xs) c x refl small at))
 
 -- whose the places are stays, while they are tended
-pub place_on : (shared : Shared) (c n : ℕ) (xs ys : List CpuStay) (k : ℕ) (first : Option Side) → AreTended c n xs ys
-    → ((j : ℕ) (f : Option Side) → slice_get (firsts xs) j ≡ Some f → IsPlaceWith shared f) → slice_get (firsts ys) k ≡ Some first → IsPlaceWith shared first
-place_on shared c n xs ys k first is belongs at = belongs k first (subst (λ (fs : List (Option Side)). slice_get fs k ≡ Some first) (tended_firsts c n xs ys is) at)
+pub place_on : (shared : Shared) (c n : ℕ) (xs ys : List CpuStay) (k : ℕ) (first : Option CpuSide) → AreTended c n xs ys
+    → ((j : ℕ) (f : Option CpuSide) → slice_get (firsts xs) j ≡ Some f → IsPlaceWith shared f) → slice_get (firsts ys) k ≡ Some first → IsPlaceWith shared first
+place_on shared c n xs ys k first is belongs at = belongs k first (subst (λ (fs : List (Option CpuSide)). slice_get fs k ≡ Some first) (tended_firsts c n xs ys is) at)
 
 -- one place more
 pub one_more : (c n here : ℕ) (xs ys zs : List CpuStay) → AreTended c n xs ys → TendsOne c here ys zs → AreTended (suc c) (n + here) xs zs
@@ -106,4 +106,4 @@ places_counted shared n places theirs is = is.count ∙ sym is.ending.all ∙ le
 
 pub whole_on : (shared : Shared) (n : ℕ) (places now : List CpuStay) (theirs : Option Theirs) → IsWhole shared n (firsts places) theirs → firsts now ≡ firsts places
     → IsWhole shared n (firsts now) theirs
-whole_on shared n places now theirs is e = subst (λ (xs : List (Option Side)). IsWhole shared n xs theirs) (sym e) is
+whole_on shared n places now theirs is e = subst (λ (xs : List (Option CpuSide)). IsWhole shared n xs theirs) (sym e) is

@@ -1,7 +1,7 @@
 -- Cited by calls. The calls on what is left of a session.
 use Rattle.std.specs.Prelude.{ℕ, ◌≡◌, Bool, Option, Some, None, slice_get, if◌then◌else◌}
 use Rattle.dspec_ring.specs.declared.batch.Batch.{Batch}
-use Rattle.dspec_consumer.specs.declared.left.Left.{Left}
+use Rattle.dspec_session_core.specs.declared.left.Left.{Left}
 use Rattle.dspec_c.specs.Shows.{TellsBatch, TellsReport}
 use Rattle.dspec_c.specs.Statuses.{bad_handle, no_batch, no_such_cpu}
 use Rattle.dspec_c.specs.declared.batches.CBatch.{CBatch}

@@ -1,12 +1,12 @@
 -- Cited by calls. The calls on the consumer's handle: each did what the library's call says of its answer.
 use Rattle.std.specs.Prelude.{ℕ, ◌≡◌, ◌<◌, ◌≤◌, Bool, Option, Some, None, MatchBool, MatchOption, slice_get, slice_set, ⊤}
 use Rattle.dspec_ring.specs.declared.batch.Batch.{Batch}
-use Rattle.dspec_consumer.specs.Asking.{Asked}
-use Rattle.dspec_consumer.specs.Awaiting.{Awaited}
-use Rattle.dspec_consumer.specs.Batches.{FoundNone, GaveBack, IsNotTakenBack, Took}
-use Rattle.dspec_consumer.specs.Cleaning.{Cleaned}
-use Rattle.dspec_consumer.specs.Consumers.{Consuming, set_up_of, view_of}
-use Rattle.dspec_consumer.specs.Stopping.{Stopped}
+use Rattle.dspec_session_core.specs.Asking.{Asked}
+use Rattle.dspec_session_core.specs.Awaiting.{Awaited}
+use Rattle.dspec_session_core.specs.Batches.{FoundNone, GaveBack, IsNotTakenBack, Took}
+use Rattle.dspec_session_core.specs.Cleaning.{Cleaned}
+use Rattle.dspec_session_core.specs.Consumers.{Consuming, set_up_of, view_of}
+use Rattle.dspec_session_core.specs.Stopping.{Stopped}
 use Rattle.dspec_c.specs.Answered.{Answered}
 use Rattle.dspec_c.specs.ConsumerHomes.{Theirs}
 use Rattle.dspec_c.specs.Shows.{TellsBatch}

@@ -2,7 +2,7 @@
 use Rattle.std.specs.Prelude.{◌≡◌, true, List, [], ◌∷◌, Option, Some, IfSome, IfNone, ⊤}
 use Rattle.dspec_cpu.specs.declared.shared.Shared.{Shared}
 use Rattle.dspec_cpu.specs.Lists.{words_of}
-use Rattle.dspec_consumer.specs.Consumers.{Consuming, IsConsumerOf, IsSameConsumer}
+use Rattle.dspec_session_core.specs.Consumers.{Consuming, IsConsumerOf, IsSameConsumer}
 use Rattle.dspec_c.specs.Homes.{Stay, handed_out}
 
 -- a consumer, and what it shares

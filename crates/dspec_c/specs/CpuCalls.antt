@@ -19,9 +19,9 @@ use Rattle.dspec_cpu.specs.Dropped.{drops_told}
 use Rattle.dspec_cpu.specs.Lists.{config_of, number_in, schema_of, worn_of}
 use Rattle.dspec_cpu.specs.OneCall.{OpensOne, DecidesOne, ServesOnce, RecordsValues, OffersValues}
 use Rattle.dspec_cpu.specs.Standing.{identity}
-use Rattle.dspec_consumer.specs.Sessions.{Has}
+use Rattle.dspec_session_core.specs.Sessions.{Has}
 use Rattle.dspec_c.specs.Answered.{Answered, AnsweredWith}
-use Rattle.dspec_c.specs.Homes.{Side}
+use Rattle.dspec_c.specs.Homes.{CpuSide}
 use Rattle.dspec_c.specs.Shows.{TellsReport}
 use Rattle.dspec_c.specs.Signatures.{signs}
 use Rattle.dspec_c.specs.Statuses.{bad_handle, decided_number, decided_status, opened_number, opening_status, spoken_status, traced_status}
@@ -84,15 +84,15 @@ abbrev pub Drops : Speculation → Cpu EnabledRows → ℕ → Type 0
 Drops id cpu n = (p : List Deed) → Has cpu p → n ≡ drops_told (dropped_in (number_in cpu) id p)
 
 -- the session that it is of is the same, the CPU came of the other so, and the call's record was refused, or none was
-pub record OnSide (refuses : Bool) (did : Cpu EnabledRows → Cpu EnabledRows → Type 0) (old new : Side) : Type 0 where
+pub record OnSide (refuses : Bool) (did : Cpu EnabledRows → Cpu EnabledRows → Type 0) (old new : CpuSide) : Type 0 where
   pub shared : new.shared ≡ old.shared
   pub cpu : did old.cpu new.cpu
   pub refused : new.refused ≡ one_refused refuses old.refused
 
 -- A call of a CPU, on what a handle holds: where that is a CPU, it stays one, and this was done on it; else the status is
 -- BAD_HANDLE, what is held stays as it was, and so do the out parameters.
-abbrev pub OnCpu : (Side → Side → Type 0) → Type 0 → Held → ℕ → Held → Type 0
-OnCpu did stays (held.Cpu old) status now = (new : Side) × (now ≡ held.Cpu new) × did old new
+abbrev pub OnCpu : (CpuSide → CpuSide → Type 0) → Type 0 → Held → ℕ → Held → Type 0
+OnCpu did stays (held.Cpu old) status now = (new : CpuSide) × (now ≡ held.Cpu new) × did old new
 OnCpu did stays was status now = (status ≡ bad_handle) × (now ≡ was) × stays
 
 -- the identifier of the number

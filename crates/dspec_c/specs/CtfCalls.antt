@@ -1,5 +1,5 @@
 -- Cited by calls. The calls on a CPU's files in a trace, and the metadata of one.
-use Rattle.std.specs.Prelude.{ℕ, ◌≡◌, ◌≢◌, ◌⊎◌, true, false, List, Option, Some, None, length}
+use Rattle.std.specs.Prelude.{ℕ, ◌≡◌, ◌≢◌, ◌⊎◌, true, List, Option, Some, None, length}
 use Rattle.dspec_record.specs.EnablingRows.{EnabledRows}
 use Rattle.dspec_record.specs.declared.header.Header.TheVariants.{One, Two}
 use Rattle.dspec_ctf.specs.declared.stream.PacketFault.{PacketFault}
@@ -25,7 +25,7 @@ pub record Text : Type 0 where
   pub size : ℕ
 
 -- a room of the caller's, and what it is told of the packet in it
-pub record Room : Type 0 where
+pub record CallersBytes : Type 0 where
   pub room : List ℕ
   pub packet : Packet
 
@@ -100,22 +100,22 @@ CtfOpenAnswers cpu drops bytes (held.Files old) status now = (new : CpuFiling) �
 CtfOpenAnswers cpu drops bytes was status now = (status ≡ bad_handle) × (now ≡ was)
 
 -- a packet is put, and told; there is none left; or none is put, for that, and where the room is too small its size is told
-abbrev pub PutsOne : CpuFiling → ℕ → Room → Room → CpuFiling → Type 0
+abbrev pub PutsOne : CpuFiling → ℕ → CallersBytes → CallersBytes → CpuFiling → Type 0
 PutsOne old status before now new = (status ≡ 0) × Hands old before.room (Some now.packet) now.room new
 
-abbrev pub PutsNoMore : CpuFiling → ℕ → Room → Room → CpuFiling → Type 0
+abbrev pub PutsNoMore : CpuFiling → ℕ → CallersBytes → CallersBytes → CpuFiling → Type 0
 PutsNoMore old status before now new = (status ≡ no_packet) × ((now ≡ before) × Hands old before.room None before.room new)
 
-pub record PutsNot (old : CpuFiling) (status : ℕ) (before now : Room) (new : CpuFiling) : Type 0 where
+pub record PutsNot (old : CpuFiling) (status : ℕ) (before now : CallersBytes) (new : CpuFiling) : Type 0 where
   pub fault : PutFault
   pub numbered : status ≡ put_status fault
   pub why : HandsNone old before.room fault new
   pub told : now ≡ record { room = before.room; packet = record before.packet { size = needed_of fault before.packet.size } }
 
-abbrev pub PutsSo : CpuFiling → ℕ → Room → Room → CpuFiling → Type 0
+abbrev pub PutsSo : CpuFiling → ℕ → CallersBytes → CallersBytes → CpuFiling → Type 0
 PutsSo old status before now new = PutsOne old status before now new ⊎ (PutsNoMore old status before now new ⊎ PutsNot old status before now new)
 
-abbrev pub CtfPutAnswers : Held → ℕ → Room → Room → Held → Type 0
+abbrev pub CtfPutAnswers : Held → ℕ → CallersBytes → CallersBytes → Held → Type 0
 CtfPutAnswers (held.Files old) status before now left = (new : CpuFiling) × ((left ≡ held.Files new) × PutsSo old status before now new)
 CtfPutAnswers was status before now left = (status ≡ bad_handle) × ((left ≡ was) × (now ≡ before))
 

@@ -7,7 +7,7 @@ use Rattle.dspec_cpu.specs.declared.shared.Shared.{Shared}
 use Rattle.dspec_cpu.specs.Standing.{IsCallable, identity}
 
 -- a CPU, what it shares, and how many of the records that it was handed the schema has refused
-pub record Side : Type 0 where
+pub record CpuSide : Type 0 where
   pub shared : Shared
   pub cpu : Cpu EnabledRows
   pub refused : ℕ
@@ -17,28 +17,28 @@ pub record AtHome : Type 0 where
   pub cpu : Cpu EnabledRows
   pub refused : ℕ
 
-abbrev pub at_home : Side → AtHome
+abbrev pub at_home : CpuSide → AtHome
 at_home side = record { cpu = side.cpu; refused = side.refused }
 
 -- the same CPU of the same session
-pub record IsSameSide (old new : Side) : Type 0 where
+pub record IsSameSide (old new : CpuSide) : Type 0 where
   pub shared : new.shared ≡ old.shared
   pub cpu : identity new.cpu ≡ identity old.cpu
 
 -- it is the same as each that went through the ring before
-abbrev pub IsSameAsAll : List Side → Side → Type 0
+abbrev pub IsSameAsAll : List CpuSide → CpuSide → Type 0
 IsSameAsAll [] x = ⊤
 IsSameAsAll (y ∷ ys) x = IsSameSide y x × IsSameAsAll ys x
 
 -- The CPU is out: what went through its ring when it was made is the same CPU of the same session.
-pub record IsOut (sent : List Side) (side : Side) : Type 0 where
-  pub first : Side
+pub record IsOut (sent : List CpuSide) (side : CpuSide) : Type 0 where
+  pub first : CpuSide
   pub was : sent ≡ first ∷ []
   pub same : IsSameSide first side
 
 -- The CPU has gone home: it went through its ring as it was held, behind what went through when it was made.
-pub record HasGone (side : Side) (sent : List Side) : Type 0 where
-  pub first : Side
+pub record HasGone (side : CpuSide) (sent : List CpuSide) : Type 0 where
+  pub first : CpuSide
   pub went : sent ≡ first ∷ side ∷ []
 
 -- What contracts see of a place where a CPU, or the consumer, is at home: whose place it is, what is inside, and whether that was never
@@ -49,7 +49,7 @@ pub record Stay (A B : Type 0) : Type 0 where
   pub waits : Bool
 
 abbrev pub CpuStay : Type 0
-CpuStay = Stay Side AtHome
+CpuStay = Stay CpuSide AtHome
 
 -- the same place a look later: what was out may have come home, and nothing else changed
 pub record Came {A B : Type 0} (old new : Stay A B) : Type 0 where
@@ -69,19 +69,19 @@ pub record IsUnused {A B : Type 0} (first : A) (received sent : List A) (free : 
   pub is : IsSome inside
 
 -- The CPU that is inside is the same as the first; while none is, the ring has given that one alone.
-pub record IsDesk (first : Side) (received : List Side) (inside : Option AtHome) : Type 0 where
+pub record IsDesk (first : CpuSide) (received : List CpuSide) (inside : Option AtHome) : Type 0 where
   pub out : IfNone inside (received ≡ first ∷ [])
   pub same : IfSome inside (λ (x : AtHome). identity x.cpu ≡ identity first.cpu)
 
 -- A CPU leaves its place, where it was inside, with what it shares. The place stays that CPU's, and nothing is inside.
-pub record LeavesPlace (shared : Shared) (old : CpuStay) (side : Side) (new : CpuStay) : Type 0 where
+pub record LeavesPlace (shared : Shared) (old : CpuStay) (side : CpuSide) (new : CpuStay) : Type 0 where
   pub inside : old.inside ≡ Some (at_home side)
   pub shares : side.shared ≡ shared
-  pub same : (first : Side) → old.first ≡ Some first → identity side.cpu ≡ identity first.cpu
+  pub same : (first : CpuSide) → old.first ≡ Some first → identity side.cpu ≡ identity first.cpu
   pub stays : IsSomeAnd new.first (λ first. IsSameSide first side)
   pub gone : new.inside ≡ None
   pub waits : new.waits ≡ false
 
 -- the place is of a CPU that those can call who share this, and that went through its ring with it
-abbrev pub IsPlaceWith : Shared → Option Side → Type 0
-IsPlaceWith shared place = (first : Side) → place ≡ Some first → (shared ≡ first.shared) × IsCallable shared first.cpu
+abbrev pub IsPlaceWith : Shared → Option CpuSide → Type 0
+IsPlaceWith shared place = (first : CpuSide) → place ≡ Some first → (shared ≡ first.shared) × IsCallable shared first.cpu

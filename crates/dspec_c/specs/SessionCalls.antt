@@ -5,7 +5,7 @@ use Rattle.dspec_record.specs.declared.header.Header.TheVariants.{One, Two}
 use Rattle.dspec_deeds.specs.declared.config.Config.{Config}
 use Rattle.dspec_deeds.specs.declared.config.StartFault.{StartFault}
 use Rattle.dspec_deeds.specs.Ranges.{start_fault}
-use Rattle.dspec_c.specs.Homes.{Side}
+use Rattle.dspec_c.specs.Homes.{CpuSide}
 use Rattle.dspec_c.specs.Whole.{EndedBy, Going, GoesOut, IsAway, IsHome, IsJustStarted, LookedLater, LooksIfThere, TheyGoOut, inside_at}
 use Rattle.dspec_c.specs.declared.consumer_side.ConsumerSide.{ConsumerSide}
 use Rattle.dspec_c.specs.declared.ended.Ended.{Ended}
@@ -66,7 +66,7 @@ consumer_due whole = if whole.consumer.waits then None else Some already_out
 
 -- the handle has the CPU of that number, which was at its place in this session, and is so no more
 pub record GivesCpu (c : ℕ) (old new : Going) (now : Handle) : Type 0 where
-  pub side : Side
+  pub side : CpuSide
   pub goes : GoesOut c old side new
   pub full : is_full now ≡ true
   pub holds : held_in now ≡ held.Cpu side

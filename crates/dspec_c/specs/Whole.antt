@@ -11,13 +11,13 @@ use Rattle.dspec_cpu.specs.declared.cpu.Cpu.{Cpu}
 use Rattle.dspec_cpu.specs.declared.shared.Shared.{Shared}
 use Rattle.dspec_cpu.specs.Lists.{number_in, schema_of, words_of}
 use Rattle.dspec_cpu.specs.Standing.{IsCallable, identity}
-use Rattle.dspec_consumer.specs.Consumers.{Consuming, IsConsumerOf, pairs_of, set_up_of, view_of}
-use Rattle.dspec_consumer.specs.Promised.{IsPromisedBy, called_at, entered_at}
-use Rattle.dspec_consumer.specs.Sessions.{Has, IsCpuOf, IsFresh, IsSession, taken_at}
-use Rattle.dspec_consumer.specs.declared.left.Left.{Left}
-use Rattle.dspec_consumer.specs.declared.session.Session.{Session}
+use Rattle.dspec_session_core.specs.Consumers.{Consuming, IsConsumerOf, pairs_of, set_up_of, view_of}
+use Rattle.dspec_session_core.specs.Promised.{IsPromisedBy, called_at, entered_at}
+use Rattle.dspec_session_core.specs.Sessions.{Has, IsCpuOf, IsFresh, IsSession, taken_at}
+use Rattle.dspec_session_core.specs.declared.left.Left.{Left}
+use Rattle.dspec_session_core.specs.declared.session.Session.{Session}
 use Rattle.dspec_c.specs.ConsumerHomes.{LeaveTheirs, TheirStay, Theirs}
-use Rattle.dspec_c.specs.Homes.{AtHome, Came, CpuStay, LeavesPlace, Side, at_home, handed_out}
+use Rattle.dspec_c.specs.Homes.{AtHome, Came, CpuStay, LeavesPlace, CpuSide, at_home, handed_out}
 
 -- each CPU can be called by those who share this
 abbrev pub AllCalled : Shared → List (Cpu EnabledRows) → Type 0
@@ -33,21 +33,21 @@ abbrev pub IsCpuAt : Shared → EnabledRows → List Pair → ℕ → Cpu Enable
 IsCpuAt shared schema pairs c cpu = IsCpuOf schema (words_of shared) c (slice_get pairs c) (identity cpu)
 
 -- the place of that CPU
-pub record IsPlaceOf (shared : Shared) (schema : EnabledRows) (pairs : List Pair) (c : ℕ) (place : Option Side) : Type 0 where
-  pub side : Side
+pub record IsPlaceOf (shared : Shared) (schema : EnabledRows) (pairs : List Pair) (c : ℕ) (place : Option CpuSide) : Type 0 where
+  pub side : CpuSide
   pub is : place ≡ Some side
   pub shares : side.shared ≡ shared
   pub cpu : IsCpuAt shared schema pairs c side.cpu
 
 -- what a session that can end has: the places of all its CPUs, and its consumer, home
-pub record IsEnding (shared : Shared) (schema : EnabledRows) (places : List (Option Side)) (consumer : Consuming) : Type 0 where
+pub record IsEnding (shared : Shared) (schema : EnabledRows) (places : List (Option CpuSide)) (consumer : Consuming) : Type 0 where
   pub checked : start_fault (set_up (words_of shared)) ≡ None
   pub all : length places ≡ (set_up (words_of shared)).cpus
   pub each : EachFrom (IsPlaceOf shared schema (pairs_of consumer)) 0 places
   pub theirs : IsConsumerOf (words_of shared) consumer
 
 -- a session under way: what it was started with, whoever is out
-pub record IsWhole (shared : Shared) (cpus : ℕ) (places : List (Option Side)) (place : Option Theirs) : Type 0 where
+pub record IsWhole (shared : Shared) (cpus : ℕ) (places : List (Option CpuSide)) (place : Option Theirs) : Type 0 where
   pub schema : EnabledRows
   pub first : Theirs
   pub is : place ≡ Some first
@@ -56,10 +56,10 @@ pub record IsWhole (shared : Shared) (cpus : ℕ) (places : List (Option Side)) 
   pub ending : IsEnding shared schema places first.consumer
 
 -- how a CPU, and the consumer, begin: at their places, to be handed out; no record was refused
-abbrev pub new_side : Shared → Cpu EnabledRows → Side
+abbrev pub new_side : Shared → Cpu EnabledRows → CpuSide
 new_side shared cpu = record { shared = shared; cpu = cpu; refused = 0 }
 
-abbrev pub waits_with : Side → CpuStay
+abbrev pub waits_with : CpuSide → CpuStay
 waits_with side = record { first = Some side; inside = Some (at_home side); waits = true }
 
 abbrev pub waiting_so : Shared → Cpu EnabledRows → CpuStay
@@ -69,7 +69,7 @@ abbrev pub they_wait_so : Shared → Consuming → TheirStay
 they_wait_so shared consumer = record { first = Some (record { shared = shared; consumer = consumer }); inside = Some consumer; waits = true }
 
 -- whose places these are, the CPUs that are inside, and how many records each of them refused
-abbrev pub firsts : List CpuStay → List (Option Side)
+abbrev pub firsts : List CpuStay → List (Option CpuSide)
 firsts places = map (λ (s : CpuStay). s.first) places
 
 abbrev pub cpu_inside : CpuStay → Option (Cpu EnabledRows)
@@ -120,7 +120,7 @@ pub record LooksAt (c : ℕ) (old new : List CpuStay) : Type 0 where
   pub all : new ≡ slice_set old c is
 
 -- the CPU of this number leaves its place
-pub record LeavesOne (shared : Shared) (c : ℕ) (old : List CpuStay) (side : Side) (new : List CpuStay) : Type 0 where
+pub record LeavesOne (shared : Shared) (c : ℕ) (old : List CpuStay) (side : CpuSide) (new : List CpuStay) : Type 0 where
   pub stay : CpuStay
   pub left : CpuStay
   pub there : slice_get old c ≡ Some stay
@@ -139,7 +139,7 @@ abbrev pub LooksIfThere : ℕ → Going → Going → Type 0
 LooksIfThere c old new = MatchBool (nat_lt c old.cpus) (LooksAtOne c old new) (new ≡ old)
 
 -- the CPU of this number goes out, with what the session shares
-pub record GoesOut (c : ℕ) (old : Going) (side : Side) (new : Going) : Type 0 where
+pub record GoesOut (c : ℕ) (old : Going) (side : CpuSide) (new : Going) : Type 0 where
   pub left : List CpuStay
   pub leaves : LeavesOne old.shared c old.places side left
   pub number : number_in side.cpu ≡ c

@@ -6,9 +6,9 @@ ghost use Rattle.dspec_c.specs.Whole.{AllInside, ClosedBy, IsEnding, firsts, ins
 
 use crate::gather::gather;
 use crate::place::Place;
-use dspec_consumer::{Closed, Consumer, Session};
 use dspec_cpu::{Cpu, Shared};
 use dspec_record::Enablings;
+use dspec_session_core::{Closed, Consumer, Session};
 
 /// Ends a session whose CPUs are at their places, and whose consumer is home.
 pub fn close(

@@ -1,6 +1,6 @@
-use dspec_consumer::Consumer;
 use dspec_cpu::Shared;
 use dspec_ring::Batch;
+use dspec_session_core::Consumer;
 use rtrb::Protocol;
 use std::alloc::Global;
 use std::marker::Model;
@@ -16,7 +16,7 @@ pub struct ConsumerHoming {
 impl Model for ConsumerHoming {
     ghost use Rattle.std.specs.Arc.{arc_value};
     ghost use Rattle.dspec_cpu.specs.Lists.{words_of};
-    ghost use Rattle.dspec_consumer.specs.Consumers.{IsConsumerOf};
+    ghost use Rattle.dspec_session_core.specs.Consumers.{IsConsumerOf};
     ghost use Rattle.dspec_c.specs.ConsumerHomes.{Theirs};
 
     ghost Value = { Theirs };
@@ -40,10 +40,10 @@ impl ConsumerHoming {
     ghost use Rattle.std.specs.Prelude.{◌≡◌, MatchOption, MatchResult};
     ghost use Rattle.std.specs.Arc.{arc_value};
     ghost use Rattle.dspec_cpu.specs.Lists.{words_of};
-    ghost use Rattle.dspec_consumer.specs.Consumers.{IsConsumerOf};
+    ghost use Rattle.dspec_session_core.specs.Consumers.{IsConsumerOf};
     ghost use Rattle.dspec_c.specs.ConsumerHomes.{IsSameTheirs};
-    ghost use Rattle.dspec_consumer.specs.Batches.{FoundNone, GaveBack, IsNotTakenBack, Took};
-    ghost use Rattle.dspec_consumer.specs.Stopping.{Stopped};
+    ghost use Rattle.dspec_session_core.specs.Batches.{FoundNone, GaveBack, IsNotTakenBack, Took};
+    ghost use Rattle.dspec_session_core.specs.Stopping.{Stopped};
     ghost use Rattle.dspec_c.specs.ConsumerCalls.{Asks, CleansSo, OnTheirs, WaitsSo};
 
     pub fn of(shared: Arc<Shared, Global>, consumer: Consumer) -> ConsumerHoming

@@ -13,7 +13,7 @@ use std::sync::Arc;
 pub struct ConsumerPlace {
     desk: rtrb::Consumer<ConsumerHoming, Global, ConsumerRule>,
     way: Option<Producer<ConsumerHoming, Global, ConsumerRule>>,
-    back: Option<dspec_consumer::Consumer>,
+    back: Option<dspec_session_core::Consumer>,
 }
 
 impl Model for ConsumerPlace {
@@ -33,7 +33,7 @@ impl ConsumerPlace {
     ghost use Rattle.std.specs.Prelude.{◌≡◌, IfNone, IfOk, IfSome, IsSome, Some, false, is_some};
     ghost use Rattle.std.specs.Arc.{arc_value};
     ghost use Rattle.dspec_cpu.specs.Lists.{words_of};
-    ghost use Rattle.dspec_consumer.specs.Consumers.{IsConsumerOf, IsSameConsumer};
+    ghost use Rattle.dspec_session_core.specs.Consumers.{IsConsumerOf, IsSameConsumer};
     ghost use Rattle.dspec_c.specs.ConsumerHomes.{IsTheirPlaceWith, LeaveTheirs, Theirs};
     ghost use Rattle.dspec_c.specs.Homes.{Came};
     ghost use Rattle.dspec_c.specs.Whole.{they_wait_so};
@@ -88,7 +88,7 @@ impl ConsumerPlace {
     }
 
     /// The consumer that is inside.
-    pub fn into_home(self) -> dspec_consumer::Consumer
+    pub fn into_home(self) -> dspec_session_core::Consumer
         requires { IsSome self.inside }
         ensures is { self.inside ≡ Some result }
         ensures same { (first : Theirs) → self.first ≡ Some first → IsSameConsumer first.consumer result × IsConsumerOf (words_of first.shared) result }

@@ -1,5 +1,5 @@
 ghost use Rattle.std.specs.Prelude.{◌≡◌, length, replicate, IfOk, None};
-ghost use Rattle.dspec_consumer.specs.Consumers.{set_up_of};
+ghost use Rattle.dspec_session_core.specs.Consumers.{set_up_of};
 
 use crate::batches::CBatch;
 use crate::consumer_homing::{ConsumerHoming, ConsumerRule};
@@ -43,9 +43,9 @@ pub struct ConsumerSide {
 
 impl ConsumerSide {
     ghost use Rattle.std.specs.Prelude.{◌≡◌, length};
-    ghost use Rattle.dspec_consumer.specs.Consumers.{set_up_of};
+    ghost use Rattle.dspec_session_core.specs.Consumers.{set_up_of};
     ghost use Rattle.rtrb.specs.Ring.{sent};
-    ghost use Rattle.dspec_consumer.specs.Stopping.{Stopped};
+    ghost use Rattle.dspec_session_core.specs.Stopping.{Stopped};
     ghost use Rattle.dspec_c.specs.ConsumerHomes.{HasGoneTheirs};
     ghost use Rattle.dspec_c.specs.ConsumerCalls.{Asks, CleansSo, Finds, OnOut, Returns, WaitsSo};
 

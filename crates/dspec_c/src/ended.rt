@@ -1,8 +1,8 @@
 ghost use Rattle.std.specs.Prelude.{◌≡◌, length};
 
-use dspec_consumer::Closed;
 use dspec_deeds::Report;
 use dspec_ring::Batch;
+use dspec_session_core::Closed;
 
 /// What is left of a session, of how many CPUs, and how many records each of them refused.
 #[derive(Drop)]
@@ -15,7 +15,7 @@ pub struct Ended {
 
 impl Ended {
     ghost use Rattle.std.specs.Prelude.{◌≡◌, ◌<◌, IsTrue, length, slice_get, Some, option_copied, ◌↔◌};
-    ghost use Rattle.dspec_consumer.specs.declared.left.Left.{Left};
+    ghost use Rattle.dspec_session_core.specs.declared.left.Left.{Left};
     ghost use Rattle.dspec_c.specs.ClosedCalls.{left_of};
 
     /// Whether there is such a CPU.

@@ -6,26 +6,26 @@ use std::alloc::{AllocError, Global};
 use std::mem;
 
 /// What is in a handle's box. Where that is let go, what was handed out goes home.
-pub struct Kept {
+pub struct Contents {
     held: Held,
 }
 
-impl Drop for Kept {
+impl Drop for Contents {
     fn drop(self) {
-        let Kept { held } = self;
+        let Contents { held } = self;
         held.let_go();
     }
 }
 
-impl Kept {
+impl Contents {
     ghost use Rattle.std.specs.Prelude.{◌≡◌};
     ghost use Rattle.std.specs.Borrow.{sem};
-    ghost use Rattle.dspec_c.specs.Lending.{LendsKept};
+    ghost use Rattle.dspec_c.specs.Lending.{LendsContents};
 
     /// What is in the box, for a call.
     #[inline(always)]
     fn lend(&mut self) -> &mut Held
-        ensures* writes_back { sem 𝓛 (LendsKept self.entry result) }
+        ensures* writes_back { sem 𝓛 (LendsContents self.entry result) }
         ensures value { result.now ≡ self.old.held }
     {
         &mut self.held
@@ -34,7 +34,7 @@ impl Kept {
     fn into_held(self) -> Held
         ensures { result ≡ self.held }
     {
-        let Kept { held } = self;
+        let Contents { held } = self;
         held
     }
 }
@@ -42,14 +42,14 @@ impl Kept {
 /// A box with room for what a handle can hold.
 #[derive(Drop)]
 pub struct Room {
-    kept: Box<Kept>,
+    kept: Box<Contents>,
 }
 
 impl Room {
     ghost use Rattle.std.specs.Prelude.{◌≡◌};
 
     pub(crate) fn new(alloc: Global) -> Result<Room, AllocError> {
-        let nothing = Kept {
+        let nothing = Contents {
             held: Held::Nothing,
         };
         let Ok(kept) = Box::new(alloc, nothing) else {
@@ -59,21 +59,21 @@ impl Room {
     }
 
     /// The box, with this in it.
-    fn fill(self, held: Held) -> Box<Kept>
+    fn fill(self, held: Held) -> Box<Contents>
         ensures { result.value.held ≡ held }
     {
         let Room { kept } = self;
         let mut kept = kept;
-        *kept = Kept { held };
+        *kept = Contents { held };
         kept
     }
 
     /// What is in the box, and the room that it leaves.
-    fn clear(kept: Box<Kept>) -> (Held, Room)
+    fn clear(kept: Box<Contents>) -> (Held, Room)
         ensures { result.0 ≡ kept.value.held }
     {
         let mut kept = kept;
-        let nothing = Kept {
+        let nothing = Contents {
             held: Held::Nothing,
         };
         let was = mem::replace(&mut *kept, nothing);

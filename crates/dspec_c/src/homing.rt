@@ -21,9 +21,9 @@ pub struct Homing {
 impl Model for Homing {
     ghost use Rattle.std.specs.Arc.{arc_value};
     ghost use Rattle.dspec_cpu.specs.Standing.{IsCallable};
-    ghost use Rattle.dspec_c.specs.Homes.{Side};
+    ghost use Rattle.dspec_c.specs.Homes.{CpuSide};
 
-    ghost Value = { Side };
+    ghost Value = { CpuSide };
 
     ghost view = { λ s. record { shared = arc_value s.shared; cpu = s.cpu.value; refused = s.refused } };
 

@@ -27,8 +27,8 @@ impl OutConsumer {
     ghost use Rattle.std.specs.Prelude.{◌≡◌, ◌<◌, MatchOption, MatchResult};
     ghost use Rattle.rtrb.specs.Ring.{known_free, sent};
     ghost use Rattle.dspec_c.specs.ConsumerHomes.{HasGoneTheirs, IsOutTheirs, IsSameTheirs};
-    ghost use Rattle.dspec_consumer.specs.Batches.{FoundNone, GaveBack, IsNotTakenBack, Took};
-    ghost use Rattle.dspec_consumer.specs.Stopping.{Stopped};
+    ghost use Rattle.dspec_session_core.specs.Batches.{FoundNone, GaveBack, IsNotTakenBack, Took};
+    ghost use Rattle.dspec_session_core.specs.Stopping.{Stopped};
     ghost use Rattle.dspec_c.specs.ConsumerCalls.{Asks, CleansSo, OnTheirs, WaitsSo};
 
     pub fn of(

@@ -18,10 +18,10 @@ impl Model for OutCpu {
     ghost use Rattle.std.specs.Prelude.{◌<◌};
     ghost use Rattle.rtrb.specs.Ring.{known_free, sent};
     ghost use Rattle.dspec_cpu.specs.Lists.{schema_of};
-    ghost use Rattle.dspec_c.specs.Homes.{IsOut, Side};
+    ghost use Rattle.dspec_c.specs.Homes.{IsOut, CpuSide};
     ghost use Rattle.dspec_c.specs.Signatures.{AreSigned};
 
-    ghost Value = { Side };
+    ghost Value = { CpuSide };
 
     ghost view = { λ s. s.homing };
 

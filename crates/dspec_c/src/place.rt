@@ -21,20 +21,20 @@ pub struct Place {
 impl Model for Place {
     ghost use Rattle.std.specs.Prelude.{◌≡◌, is_some, slice_get, IfSome, Some};
     ghost use Rattle.rtrb.specs.Ring.{known_free, received, sent};
-    ghost use Rattle.dspec_c.specs.Homes.{CpuStay, IsDesk, IsUnused, Side};
+    ghost use Rattle.dspec_c.specs.Homes.{CpuStay, IsDesk, IsUnused, CpuSide};
 
     ghost Value = { CpuStay };
 
     ghost view = { λ d. record { first = slice_get (received d.desk) 0; inside = d.inside; waits = is_some d.way } };
 
-    ghost invariant = { λ d. (first : Side) × (slice_get (received d.desk) 0 ≡ Some first) × IsDesk first (received d.desk) d.inside × IfSome d.way (λ w. IsUnused first (received d.desk) (sent w) (known_free w) d.inside) };
+    ghost invariant = { λ d. (first : CpuSide) × (slice_get (received d.desk) 0 ≡ Some first) × IsDesk first (received d.desk) d.inside × IfSome d.way (λ w. IsUnused first (received d.desk) (sent w) (known_free w) d.inside) };
 }
 
 impl Place {
     ghost use Rattle.std.specs.Prelude.{◌≡◌, IfOk, IsSome, OnErr, Some, true, false, is_some};
     ghost use Rattle.std.specs.Arc.{arc_value};
     ghost use Rattle.dspec_cpu.specs.Standing.{identity};
-    ghost use Rattle.dspec_c.specs.Homes.{Came, IsPlaceWith, LeavesPlace, Side};
+    ghost use Rattle.dspec_c.specs.Homes.{Came, IsPlaceWith, LeavesPlace, CpuSide};
     ghost use Rattle.dspec_c.specs.Tending.{IsTended, ServedIfThere};
     ghost use Rattle.dspec_c.specs.Whole.{refused_inside, waits_with};
 
@@ -152,7 +152,7 @@ impl Place {
     pub fn into_home(self) -> HomeCpu
         requires { IsSome self.inside }
         ensures is { self.inside ≡ Some result }
-        ensures same { (first : Side) → self.first ≡ Some first → identity result.cpu ≡ identity first.cpu }
+        ensures same { (first : CpuSide) → self.first ≡ Some first → identity result.cpu ≡ identity first.cpu }
     {
         let Place {
             desk: _,

@@ -8,10 +8,10 @@ use crate::out_cpu::OutCpu;
 use crate::place::Place;
 use crate::places::places;
 use crate::tending::tend_all;
-use dspec_consumer::{Consumer, Session};
 use dspec_cpu::{Cpu, Shared};
 use dspec_deeds::{Config, StartFault};
 use dspec_record::Enablings;
+use dspec_session_core::{Consumer, Session};
 use std::alloc::{AllocError, Global};
 use std::marker::Model;
 use std::sync::Arc;
@@ -51,8 +51,8 @@ impl UnderWay {
     ghost use Rattle.dspec_table.specs.Seats.{last_seat, set_up};
     ghost use Rattle.dspec_cpu.specs.declared.cpu.Cpu.{Cpu};
     ghost use Rattle.dspec_cpu.specs.Lists.{words_of};
-    ghost use Rattle.dspec_consumer.specs.Consumers.{view_of};
-    ghost use Rattle.dspec_consumer.specs.Sessions.{Has, IsFresh, IsSession};
+    ghost use Rattle.dspec_session_core.specs.Consumers.{view_of};
+    ghost use Rattle.dspec_session_core.specs.Sessions.{Has, IsFresh, IsSession};
     ghost use Rattle.dspec_c.specs.Tending.{IsTendedWhole};
     ghost use Rattle.dspec_c.specs.Whole.{AllCalled, EndedBy, GoesOut, HasAll, IsAway, IsHome, IsJustStarted, IsStarted, LookedLater, LooksAtOne, TheyGoOut, inside_at};
 

@@ -1,5 +1,5 @@
 ghost use Rattle.std.specs.Prelude.{◌≡◌};
-ghost use Rattle.dspec_play.specs.Calls.{is_actor};
+ghost use Rattle.dspec_interleaving.specs.Calls.{is_actor};
 
 use dspec_deeds::{Actor, Config};
 

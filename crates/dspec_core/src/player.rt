@@ -1,19 +1,19 @@
 ghost use Rattle.std.specs.Prelude.{◌≡◌, ◌≢◌, ℕ, List, true, false, None, Some, IfOk, IfErr, OnOk, reverse};
-ghost use Rattle.dspec_play.specs.declared.outcome.PlayFault.TheVariants as failure;
-ghost use Rattle.dspec_play.specs.Bounds.{most_steps};
-ghost use Rattle.dspec_play.specs.Calls.{begin_consumer_fault, begin_cpu_fault, idle_step_fault, is_actor, is_idle};
+ghost use Rattle.dspec_interleaving.specs.declared.outcome.PlayFault.TheVariants as failure;
+ghost use Rattle.dspec_interleaving.specs.Bounds.{most_steps};
+ghost use Rattle.dspec_interleaving.specs.Calls.{begin_consumer_fault, begin_cpu_fault, idle_step_fault, is_actor, is_idle};
 ghost use Rattle.dspec_deeds.specs.Closes.{reports, streams};
 ghost use Rattle.dspec_deeds.specs.Headline.{Headline};
 ghost use Rattle.dspec_deeds.specs.Legal.{IsLegal};
-ghost use Rattle.dspec_play.specs.Plays.{EndedCall, IsPlayingAt, Playing, all_ran, answers_of, begin_refusal, begun_consumer, begun_cpu, deeds_of, play_fault, ran, refusal, step_refusal, stepped, turned, worn_count};
-ghost use Rattle.dspec_play.specs.Promised.{HasHeadline};
+ghost use Rattle.dspec_interleaving.specs.Plays.{EndedCall, IsPlayingAt, Playing, all_ran, answers_of, begin_refusal, begun_consumer, begun_cpu, deeds_of, play_fault, ran, refusal, step_refusal, stepped, turned, worn_count};
+ghost use Rattle.dspec_interleaving.specs.Promised.{HasHeadline};
 ghost use Rattle.dspec_deeds.specs.Ranges.{start_fault};
 
 use crate::actor::is_actor;
 use crate::world::World;
 use dspec_buffer::{ListBuffer, TraceBuffer};
 use dspec_deeds::{Actor, Answer, Config, ConsumerOp, CpuOp, Op, StartFault, Turn};
-use dspec_play::{BeginFault, Outcome, PlayFault, Series, Stepped};
+use dspec_interleaving::{BeginFault, Outcome, PlayFault, Series, Stepped};
 use dspec_record::Schema;
 use std::alloc::{AllocError, Global};
 

@@ -1,30 +1,30 @@
 ghost use Rattle.std.specs.Prelude.{◌≡◌, ◌≢◌, ◌<◌, ◌+◌, ℕ, true, false, None, Some, IfOk, IfErr, OnOk, OnErr, reverse};
 ghost use Rattle.dspec_deeds.specs.declared.calls.Actor.{Actor};
 ghost use Rattle.dspec_deeds.specs.declared.config.StartFault.TheVariants as start;
-ghost use Rattle.dspec_play.specs.declared.refusal.StepFault.TheVariants as refusal;
-ghost use Rattle.dspec_play.specs.declared.refusal.Stepped.TheVariants as stepped;
-ghost use Rattle.dspec_play.specs.Bounds.{steps_limit};
-ghost use Rattle.dspec_play.specs.Calls.{begin_consumer_fault, begin_cpu_fault, call_of, idle_step_fault, is_about, is_actor, is_idle, record_passes, steps_of, told_step};
+ghost use Rattle.dspec_interleaving.specs.declared.refusal.StepFault.TheVariants as refusal;
+ghost use Rattle.dspec_interleaving.specs.declared.refusal.Stepped.TheVariants as stepped;
+ghost use Rattle.dspec_interleaving.specs.Bounds.{steps_limit};
+ghost use Rattle.dspec_interleaving.specs.Calls.{begin_consumer_fault, begin_cpu_fault, call_of, idle_step_fault, is_about, is_actor, is_idle, record_passes, steps_of, told_step};
 ghost use Rattle.dspec_deeds.specs.Closes.{reports, streams, closing};
-ghost use Rattle.dspec_play.specs.Coherent.{progress_of};
+ghost use Rattle.dspec_interleaving.specs.Coherent.{progress_of};
 ghost use Rattle.dspec_deeds.specs.Headline.{Headline};
 ghost use Rattle.dspec_deeds.specs.History.{halted};
 ghost use Rattle.dspec_deeds.specs.Legal.{IsLegal};
 ghost use Rattle.dspec_deeds.specs.Own.{stream, taken};
-ghost use Rattle.dspec_play.specs.Promised.{HasHeadline};
+ghost use Rattle.dspec_interleaving.specs.Promised.{HasHeadline};
 ghost use Rattle.dspec_deeds.specs.Ranges.{start_fault};
 ghost use Rattle.dspec_deeds.specs.Reports.{report};
 ghost use Rattle.dspec_machine.specs.Shown.{ShowsWords};
-ghost use Rattle.dspec_side.specs.Sides.{ShowsList};
-ghost use Rattle.dspec_play.specs.Turns.{at_start, begin_consumer, begin_cpu, step};
+ghost use Rattle.dspec_cpu_state.specs.CpuStates.{ShowsList};
+ghost use Rattle.dspec_interleaving.specs.Turns.{at_start, begin_consumer, begin_cpu, step};
 
 use crate::actor::is_actor;
 use dspec_buffer::TraceBuffer;
+use dspec_cpu_state::CpuState;
 use dspec_deeds::{Actor, Answer, Config, ConsumerOp, CpuOp, Deed, Op, Report, StartFault};
+use dspec_interleaving::{BeginFault, Close, StepFault, Stepped};
 use dspec_machine::Machine;
-use dspec_play::{BeginFault, Close, StepFault, Stepped};
 use dspec_record::{Rec, Schema};
-use dspec_side::Side;
 use dspec_word::Word;
 use std::alloc::{AllocError, Global};
 use std::fmt;
@@ -41,11 +41,11 @@ impl<S: Schema, B: TraceBuffer<S>> Model for World<S, B> {
 
     ghost Value = { WorldView S };
 
-    ghost use Rattle.dspec_machine.specs.Worlds.{IsKept, world_view};
+    ghost use Rattle.dspec_machine.specs.Worlds.{WorldInvariant, world_view};
 
     ghost view = { λ w. world_view w.machine };
 
-    ghost invariant = { λ w. IsKept B.has B.capacity S.shape_of S.accepted w.machine };
+    ghost invariant = { λ w. WorldInvariant B.has B.capacity S.shape_of S.accepted w.machine };
 }
 
 /// How many CPUs and slots it has, how many deeds were done, and whether it was stopped.
@@ -258,7 +258,7 @@ impl<S: Schema, B: TraceBuffer<S>> World<S, B> {
 
     /// The CPU's side: its active buffer, its buffers of speculations, its marks and counts. They show the list of deeds. Condition:
     /// the CPU exists.
-    pub fn side(&self, cpu: u32) -> &Side<B>
+    pub fn side(&self, cpu: u32) -> &CpuState<B>
         requires { cpu < self.now.state.config.cpus }
         ensures { ShowsList (λ b. B.has b self.now.schema) B.capacity self.now.state.config cpu self.now.state.deeds result.now }
     {

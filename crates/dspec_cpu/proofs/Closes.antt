@@ -10,7 +10,7 @@ use Rattle.dspec_deeds.specs.Closes.{is_granted}
 use Rattle.dspec_deeds.specs.History.{ack, word_at}
 use Rattle.dspec_deeds.specs.Settling.{settle_fate}
 use Rattle.dspec_deeds.proofs.TestLemmas.{either_way, same_number}
-use Rattle.dspec_play.specs.OwnClose.{own_closed, own_closed_slot}
+use Rattle.dspec_interleaving.specs.CpuClose.{own_closed, own_closed_slot}
 use Rattle.dspec_table.specs.Showing.{Shows}
 use Rattle.dspec_cpu.specs.Rests.{CanCloseBehind}
 use Rattle.dspec_cpu.specs.Settled.{IsPartOf, shown_at}

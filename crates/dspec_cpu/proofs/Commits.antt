@@ -13,7 +13,7 @@ use Rattle.dspec_deeds.specs.declared.deed.DecideFate.{DecideFate}
 use Rattle.dspec_deeds.specs.declared.deed.Deed.{Deed}
 use Rattle.dspec_deeds.specs.declared.deed.Deed.TheVariants.{Commit, Release}
 use Rattle.dspec_deeds.specs.FateKinds.{is_commit}
-use Rattle.dspec_deeds.specs.Legal.{OwnAllows, fits_principal}
+use Rattle.dspec_deeds.specs.Legal.{CpuLegal, fits_principal}
 use Rattle.dspec_deeds.specs.Marks.{mark}
 use Rattle.dspec_deeds.specs.Own.{contents, held}
 use Rattle.dspec_deeds.proofs.TestLemmas.{number_is_itself}
@@ -22,8 +22,8 @@ use Rattle.dspec_table.specs.declared.seats.Words.{Words}
 use Rattle.dspec_table.specs.declared.seats.CpuSeat.{CpuSeat}
 use Rattle.dspec_table.specs.Seats.{known, set_up, IsAt, cpu_of}
 use Rattle.dspec_table.specs.Steps.{ReleasedWord}
-use Rattle.dspec_side.specs.declared.side.Side.{Side}
-use Rattle.dspec_side.specs.Sides.{IsCaller, ShowsList, committed_fate}
+use Rattle.dspec_cpu_state.specs.declared.cpu_state.CpuState.{CpuState}
+use Rattle.dspec_cpu_state.specs.CpuStates.{IsCaller, ShowsList, committed_fate}
 use Rattle.dspec_cpu.specs.declared.parts.CpuParts.{CpuParts as Cpu}
 use Rattle.dspec_cpu.specs.declared.reaching.Reach.TheVariants as reach
 use Rattle.dspec_cpu.specs.Calls.{Goes, steps, decided_deeds}
@@ -34,7 +34,7 @@ use Rattle.dspec_cpu.proofs.Decisions.{block_answer, block_deeds, fate_commits, 
 use Rattle.dspec_cpu.proofs.Decided.{Ended, deciding, deed_of}
 use Rattle.dspec_cpu.proofs.Ready.{few, holder, ready_after, set_up_is, stands_behind}
 use Rattle.dspec_cpu.proofs.Shown.{shows, shown_behind}
-use Rattle.dspec_cpu.proofs.Speaks.{caller_of}
+use Rattle.dspec_cpu.proofs.Speculates.{caller_of}
 
 module _ (shape : ℕ → Option Shape) (accepted : Record → Bool) (text : Record → List ℕ) {S : Type 0} (words : Words) (cpu : Cpu S)
     (ready : IsReady shape accepted text words cpu) (id : Speculation) (fit mine : Bool) (n : ℕ) (to : SlotState) (seat : CpuSeat) (commits : Bool) (is : commits ≡ true)
@@ -55,22 +55,22 @@ module _ (shape : ℕ → Option Shape) (accepted : Record → Bool) (text : Rec
   left = let a = got.acts refl in left_by_commit id mine a.0 to a.1
 
   -- the block was copied or lost, as the call measured it
-  module _ (at : IsAt words seat × (cpu_of seat ≡ cpu_of cpu.seat)) (now : Side Stored) (a : Decided) (answers : a ≡ block_answer fit n)
+  module _ (at : IsAt words seat × (cpu_of seat ≡ cpu_of cpu.seat)) (now : CpuState Stored) (a : Decided) (answers : a ≡ block_answer fit n)
       (marked : (p : List Deed) → IsShown shape accepted text cpu p → mine ≡ (mark cpu.cpu id.slot p == id.issue + 1))
       (fitting : (p : List Deed) → IsShown shape accepted text cpu p → IsCaller cpu.cpu id mine p
       → fit ≡ fits_principal shape cpu.config cpu.cpu (extent.block (contents (held cpu.cpu id p))) p)
       (counting : (p : List Deed) → IsShown shape accepted text cpu p → IsCaller cpu.cpu id mine p → n ≡ length (held cpu.cpu id p)) (fate : DecideFate) (its : fate ≡ f)
       (shown : (p : List Deed) → ShowsList (HasPieces shape accepted text) (λ b. b.size) cpu.config cpu.cpu p cpu.side → IsCaller cpu.cpu id mine p → is_commit fate ≡ true
-      → OwnAllows shape cpu.config p (Commit cpu.cpu id fate) → ShowsList (HasPieces shape accepted text) (λ b. b.size) cpu.config cpu.cpu (Commit cpu.cpu id fate ∷ p) now) where
+      → CpuLegal shape cpu.config p (Commit cpu.cpu id fate) → ShowsList (HasPieces shape accepted text) (λ b. b.size) cpu.config cpu.cpu (Commit cpu.cpu id fate ∷ p) now) where
     abbrev new : Cpu S
     new = record cpu { seat = seat; side = now }
 
     block_shown : (p : List Deed) → HasList shape accepted text cpu p → IsShown shape accepted text new (d ∷ p)
     block_shown p had =
         let caller = caller_of cpu.config cpu.cpu id v.own mine (few shape accepted text words cpu ready) (got.present refl).0 p had.own (marked p had.shown) in
-        let allows : OwnAllows shape cpu.config p d = rw (fate_commits fit n) (fate_count fit n ∙ counting p had.shown caller, fate_copied fit n ∙ fitting p had.shown caller) in
+        let allows : CpuLegal shape cpu.config p d = rw (fate_commits fit n) (fate_count fit n ∙ counting p had.shown caller, fate_copied fit n ∙ fitting p had.shown caller) in
         let was = shown p (shows shape accepted text cpu.side p had.shown) caller (ap is_commit its ∙ fate_commits fit n)
-        (subst (λ x. OwnAllows shape cpu.config p (Commit cpu.cpu id x)) (sym its) allows) in
+        (subst (λ x. CpuLegal shape cpu.config p (Commit cpu.cpu id x)) (sym its) allows) in
         shown_behind shape accepted text cpu.side p had.shown d refl (number_is_itself cpu.cpu) allows now
         (subst (λ x. ShowsList (HasPieces shape accepted text) (λ b. b.size) cpu.config cpu.cpu (Commit cpu.cpu id x ∷ p) now) its was)
 

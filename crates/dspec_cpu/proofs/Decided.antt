@@ -15,7 +15,7 @@ use Rattle.dspec_deeds.specs.declared.deed.Deed.{Deed}
 use Rattle.dspec_deeds.specs.declared.deed.Deed.TheVariants.{Commit, Discard}
 use Rattle.dspec_deeds.specs.History.{scan}
 use Rattle.dspec_deeds.specs.Legal.{is_seal}
-use Rattle.dspec_deeds.specs.Owning.{OwnRow, is_of}
+use Rattle.dspec_deeds.specs.Owning.{CpuRow, is_of}
 use Rattle.dspec_deeds.specs.Weaving.{bare}
 use Rattle.dspec_deeds.proofs.TestLemmas.{number_is_itself}
 use Rattle.dspec_table.specs.declared.doing.Doing.{Doing}
@@ -24,8 +24,8 @@ use Rattle.dspec_table.specs.declared.seats.Words.{Words}
 use Rattle.dspec_table.specs.declared.seats.CpuSeat.{CpuSeat}
 use Rattle.dspec_table.specs.Flights.{flight_after}
 use Rattle.dspec_table.specs.Seats.{known, set_up, IsAt, cpu_of}
-use Rattle.dspec_side.specs.declared.side.Side.{Side}
-use Rattle.dspec_side.specs.Sides.{ShowsList}
+use Rattle.dspec_cpu_state.specs.declared.cpu_state.CpuState.{CpuState}
+use Rattle.dspec_cpu_state.specs.CpuStates.{ShowsList}
 use Rattle.dspec_cpu.specs.declared.parts.CpuParts.{CpuParts as Cpu}
 use Rattle.dspec_cpu.specs.declared.reaching.Reach.{Reach}
 use Rattle.dspec_cpu.specs.declared.reaching.Reach.TheVariants as reach
@@ -64,9 +64,9 @@ module _ (shape : ℕ → Option Shape) (accepted : Record → Bool) (text : Rec
   reached_here ready id fit mine n is {r} {w} got =
       subst (λ (x : Config × ℕ × CpuOp). Reached x.0 x.1 record { op = x.2; fits = fit; count = n; mine = mine } id (known cpu.seat) r w) (λ i. (ready.config i, ready.steady.seat i, is i)) got
 
-  module _ (ready : IsReady shape accepted text words cpu) (id : Speculation) (fit mine : Bool) (n : ℕ) (seat : CpuSeat) (now : Side Stored)
+  module _ (ready : IsReady shape accepted text words cpu) (id : Speculation) (fit mine : Bool) (n : ℕ) (seat : CpuSeat) (now : CpuState Stored)
       (at : IsAt words seat × (cpu_of seat ≡ cpu_of cpu.seat)) where
-    abbrev Shows : List Deed → Side Stored → Type 0
+    abbrev Shows : List Deed → CpuState Stored → Type 0
     Shows p side = ShowsList (HasPieces shape accepted text) (λ b. b.size) cpu.config cpu.cpu p side
 
     abbrev new : Cpu S
@@ -74,7 +74,7 @@ module _ (shape : ℕ → Option Shape) (accepted : Record → Bool) (text : Rec
 
     -- behind one deed that has no part in a block
     behind : (d : Deed) → Stands cpu.config cpu.cpu (known cpu.seat) (d ∷ []) (known seat) → ((p : List Deed) → Shows p cpu.side → Shows (d ∷ p) now)
-        → is_seal d ≡ false → is_of cpu.cpu d ≡ true → ((p : List Deed) → OwnRow shape cpu.config p d) → ((p : List Deed) → bare (d ∷ p) ≡ d ∷ bare p)
+        → is_seal d ≡ false → is_of cpu.cpu d ≡ true → ((p : List Deed) → CpuRow shape cpu.config p d) → ((p : List Deed) → bare (d ∷ p) ≡ d ∷ bare p)
         → scan cpu.config cpu.cpu (d ∷ (known cpu.seat).own) ≡ 0 → flight_after cpu.config (known cpu.seat).flight (d ∷ []) ≡ None
         → IsReady shape accepted text words new × ((p : List Deed) → HasList shape accepted text cpu p → HasList shape accepted text new (d ∷ p))
     behind d stands side unsealed its row bared idle over =

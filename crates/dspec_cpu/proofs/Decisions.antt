@@ -26,13 +26,13 @@ use Rattle.dspec_table.specs.declared.rule.View.{View}
 use Rattle.dspec_table.specs.declared.seats.CpuSeat.{CpuSeat}
 use Rattle.dspec_table.specs.Conditions.{CommitsNow, IfCommitting, OwnCommit}
 use Rattle.dspec_cpu.specs.declared.parts.CpuParts.{CpuParts as Cpu}
-use Rattle.dspec_side.specs.declared.counts.Counts.{Counts}
+use Rattle.dspec_cpu_state.specs.declared.counts.Counts.{Counts}
 use Rattle.dspec_cpu.specs.Calls.{decision, decided_deeds}
-use Rattle.dspec_side.specs.Counting.{counts_of}
-use Rattle.dspec_side.specs.Sides.{committed_fate}
+use Rattle.dspec_cpu_state.specs.Counting.{counts_of}
+use Rattle.dspec_cpu_state.specs.CpuStates.{committed_fate}
 use Rattle.dspec_cpu.specs.Lists.{IsShown}
 use Rattle.dspec_cpu.specs.Reaching.{OwnsCommit}
-use Rattle.dspec_side.proofs.Tallies.{released_counts}
+use Rattle.dspec_cpu_state.proofs.Tallies.{released_counts}
 use Rattle.dspec_cpu.proofs.Quiet.{quiet_shown}
 use Rattle.dspec_cpu.proofs.Retries.{here_or_void, attempt_is}
 

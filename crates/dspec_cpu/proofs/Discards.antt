@@ -16,7 +16,7 @@ use Rattle.dspec_deeds.specs.declared.deed.Deed.{Deed}
 use Rattle.dspec_deeds.specs.declared.deed.Deed.TheVariants.{Discard}
 use Rattle.dspec_deeds.specs.History.{scan}
 use Rattle.dspec_deeds.specs.FateKinds.{is_discard}
-use Rattle.dspec_deeds.specs.Legal.{OwnAllows}
+use Rattle.dspec_deeds.specs.Legal.{CpuLegal}
 use Rattle.dspec_deeds.specs.Marks.{mark}
 use Rattle.dspec_deeds.specs.Own.{held}
 use Rattle.dspec_deeds.specs.Weaving.{bare}
@@ -27,10 +27,10 @@ use Rattle.dspec_table.specs.declared.seats.Words.{Words}
 use Rattle.dspec_table.specs.declared.seats.CpuSeat.{CpuSeat}
 use Rattle.dspec_table.specs.Seats.{known, set_up, IsAt, cpu_of}
 use Rattle.dspec_cpu.specs.declared.parts.CpuParts.{CpuParts as Cpu}
-use Rattle.dspec_side.specs.declared.side.Side.{Side}
+use Rattle.dspec_cpu_state.specs.declared.cpu_state.CpuState.{CpuState}
 use Rattle.dspec_cpu.specs.declared.reaching.Reach.TheVariants as reach
 use Rattle.dspec_cpu.specs.Calls.{decision}
-use Rattle.dspec_side.specs.Sides.{IsCaller, ShowsList}
+use Rattle.dspec_cpu_state.specs.CpuStates.{IsCaller, ShowsList}
 use Rattle.dspec_cpu.specs.Lists.{HasList, IsReady, IsShown}
 use Rattle.dspec_cpu.specs.Reached.{Reached}
 use Rattle.dspec_cpu.specs.Reaching.{OwnsCommit}
@@ -39,7 +39,7 @@ use Rattle.dspec_cpu.proofs.Decisions.{waits_at, released_shown}
 use Rattle.dspec_cpu.proofs.Retries.{here_or_void, attempt_is}
 use Rattle.dspec_cpu.proofs.Ready.{few, ready_after}
 use Rattle.dspec_cpu.proofs.Shown.{shows, shown_behind}
-use Rattle.dspec_cpu.proofs.Speaks.{caller_of}
+use Rattle.dspec_cpu.proofs.Speculates.{caller_of}
 
 -- an exchange of discard releases the slot, or leaves the issue and a discard that waits
 pub record IsDiscardWord (i : ℕ) (to : SlotState) : Type 0 where
@@ -100,9 +100,9 @@ module _ (shape : ℕ → Option Shape) (accepted : Record → Bool) (text : Rec
   -- the block was thrown away, as the call measured it
   pub thrown : IsAt words seat × (cpu_of seat ≡ cpu_of cpu.seat) → OwnsCommit (set_up words) (cpu_of seat) id.slot (known seat) (Attempt to)
       → ((p : List Deed) → IsShown shape accepted text cpu p → mine ≡ (mark cpu.cpu id.slot p == id.issue + 1))
-      → ((p : List Deed) → IsShown shape accepted text cpu p → IsCaller cpu.cpu id mine p → n ≡ length (held cpu.cpu id p)) → (now : Side Stored)
+      → ((p : List Deed) → IsShown shape accepted text cpu p → IsCaller cpu.cpu id mine p → n ≡ length (held cpu.cpu id p)) → (now : CpuState Stored)
       → ((p : List Deed) → ShowsList (HasPieces shape accepted text) (λ b. b.size) cpu.config cpu.cpu p cpu.side → IsCaller cpu.cpu id mine p → is_discard (fated.Thrown n) ≡ true
-      → OwnAllows shape cpu.config p d → ShowsList (HasPieces shape accepted text) (λ b. b.size) cpu.config cpu.cpu (d ∷ p) now)
+      → CpuLegal shape cpu.config p d → ShowsList (HasPieces shape accepted text) (λ b. b.size) cpu.config cpu.cpu (d ∷ p) now)
       → (commits : Bool) → commits ≡ false
       → Ended shape accepted text words cpu (deed_of commits cpu.cpu id) id (decided.Thrown n) (record cpu { seat = seat; side = now })
   thrown at owns marked counting now shown commits is =

@@ -24,7 +24,7 @@ use Rattle.dspec_table.specs.Holders.{number_of}
 use Rattle.dspec_table.specs.Layout.{ack_place}
 use Rattle.dspec_table.specs.Steps.{Entered, SettledWord}
 use Rattle.dspec_table.proofs.OwnReading.{scan_part}
-use Rattle.dspec_side.specs.declared.side.Side.{Side}
+use Rattle.dspec_cpu_state.specs.declared.cpu_state.CpuState.{CpuState}
 use Rattle.dspec_cpu.specs.declared.parts.CpuParts.{CpuParts as Cpu}
 use Rattle.dspec_cpu.specs.Calls.{rests, steps}
 use Rattle.dspec_cpu.specs.Lists.{AreShown, HasList, IsReady, side_of, batches_of}
@@ -70,7 +70,7 @@ module _ (shape : ℕ → Option Shape) (accepted : Record → Bool) (text : Rec
 
   module _ (own : Doing) (service : own.op ≡ op.Service) (last : CpuSeat) (i : ℕ) (i_is : i ≡ word.issue)
       (stored : SettledWord own record { issue = i; slot = slot } (word_at slot v.seen).code v (known last))
-      (now : Side Stored) (block : (p : List Deed) → CanSettle shape accepted text cpu.config cpu.cpu cpu.side (batches_of cpu) id word.code p
+      (now : CpuState Stored) (block : (p : List Deed) → CanSettle shape accepted text cpu.config cpu.cpu cpu.side (batches_of cpu) id word.code p
       → BlockSettled shape accepted text cpu.config cpu.cpu now (batches_of cpu) id word.code own p) where
     abbrev pub new : Cpu S
     new = record cpu { seat = last; side = now }

@@ -15,14 +15,14 @@ use Rattle.dspec_table.specs.declared.seats.CpuSeat.{CpuSeat}
 use Rattle.dspec_table.specs.Seats.{known}
 use Rattle.dspec_table.specs.Layout.{activity_place, slot_place}
 use Rattle.dspec_table.specs.Steps.{LoadedActivity, ReleasedWord}
-use Rattle.dspec_side.specs.declared.counts.Counts.{Counts}
-use Rattle.dspec_side.specs.declared.side.Side.{Side}
-use Rattle.dspec_side.specs.Counting.{one_more_worn, is_stopped_opening}
+use Rattle.dspec_cpu_state.specs.declared.counts.Counts.{Counts}
+use Rattle.dspec_cpu_state.specs.declared.cpu_state.CpuState.{CpuState}
+use Rattle.dspec_cpu_state.specs.Counting.{one_more_worn, is_stopped_opening}
 use Rattle.dspec_cpu.specs.declared.parts.CpuParts.{CpuParts as Cpu}
 use Rattle.dspec_cpu.specs.declared.reaching.Reach.{Reach}
 use Rattle.dspec_cpu.specs.declared.reaching.Reach.TheVariants as reach
 use Rattle.dspec_cpu.specs.Calls.{is_worn_decided}
-use Rattle.dspec_cpu.specs.Keeping.{CallKeeps}
+use Rattle.dspec_cpu.specs.Keeping.{CallLeaves}
 use Rattle.dspec_cpu.specs.Reached.{Reached}
 use Rattle.dspec_cpu.specs.Reaching.{is_committing, releases_next, turns}
 use Rattle.dspec_cpu.specs.Scans.{Scanned, is_worn_opening}
@@ -34,7 +34,7 @@ use Rattle.dspec_cpu.proofs.Touching.{none_touched, touched_more, touched_one}
 
 -- it was worn
 pub worn_keeps : {S : Type 0} {within : ℕ → Type 0} (cpu : Cpu S) (most : ℕ) (counts : Counts) → cpu.config.max_calls ≤ cpu.side.calls
-    → counts ≡ record cpu.side.counts { worn = one_more_worn cpu.side.counts.worn } → CallKeeps true false most within cpu (record cpu { side = record cpu.side { counts = counts } })
+    → counts ≡ record cpu.side.counts { worn = one_more_worn cpu.side.counts.worn } → CallLeaves true false most within cpu (record cpu { side = record cpu.side { counts = counts } })
 worn_keeps {within = within} cpu most counts all is = record {
   batches = record { end = refl; spare = refl; held_back = refl; seals = refl };
   worn = (λ t. all, λ le. refl);
@@ -46,15 +46,15 @@ worn_keeps {within = within} cpu most counts all is = record {
 }
 
 -- it wasn't: it moved its seat and its side, which has as many batches sealed and as many calls worn
-module _ {S : Type 0} (cpu : Cpu S) (fewer : cpu.side.calls < cpu.config.max_calls) (seat : CpuSeat) (side was : Side Stored) (is : side ≡ was)
+module _ {S : Type 0} (cpu : Cpu S) (fewer : cpu.side.calls < cpu.config.max_calls) (seat : CpuSeat) (side was : CpuState Stored) (is : side ≡ was)
     (seals : was.seals ≡ cpu.side.seals) (worn : was.counts.worn ≡ cpu.side.counts.worn) where
   pub unworn_keeps : (stopped : Bool) (most : ℕ) (within : ℕ → Type 0) → (known seat).steps ≤ (known cpu.seat).steps + most → Touches within (known cpu.seat) (known seat)
-      → StopsWhereMet (known cpu.seat) false stopped (known seat) → CallKeeps false stopped most within cpu (record cpu { seat = seat; side = side })
+      → StopsWhereMet (known cpu.seat) false stopped (known seat) → CallLeaves false stopped most within cpu (record cpu { seat = seat; side = side })
   unworn_keeps stopped most within bounded touches stops = record {
-    batches = record { end = refl; spare = refl; held_back = refl; seals = ap (λ (s : Side Stored). s.seals) is ∙ seals };
+    batches = record { end = refl; spare = refl; held_back = refl; seals = ap (λ (s : CpuState Stored). s.seals) is ∙ seals };
     worn = (λ t. absurd (true≢false (sym t)), λ le. absurd (omega arith));
     untouched = λ t. absurd (true≢false (sym t));
-    wears = ap (λ (s : Side Stored). s.counts.worn) is ∙ worn;
+    wears = ap (λ (s : CpuState Stored). s.counts.worn) is ∙ worn;
     bounded = bounded;
     touches = touches;
     stops = stops;
@@ -62,7 +62,7 @@ module _ {S : Type 0} (cpu : Cpu S) (fewer : cpu.side.calls < cpu.config.max_cal
 
   -- it loaded activity alone
   pub loaded_keeps : (doing : Doing) (stopped : Bool) → LoadedActivity doing (known cpu.seat) stopped (known seat)
-      → CallKeeps false stopped 1 of_activity cpu (record cpu { seat = seat; side = side })
+      → CallLeaves false stopped 1 of_activity cpu (record cpu { seat = seat; side = side })
   loaded_keeps doing stopped step =
       let one : (known seat).steps ≡ (known cpu.seat).steps + 1 = ap (λ (x : View). x.steps) step.3.view in
       unworn_keeps stopped 1 of_activity (omega arith)
@@ -74,16 +74,16 @@ module _ {S : Type 0} (cpu : Cpu S) (fewer : cpu.side.calls < cpu.config.max_cal
 
   -- its scan came to this answer
   pub scanned_keeps : {k : Config} {c : ℕ} {busy : Bool} (a : Opening) (slots : ℕ) → Scanned k c (known cpu.seat) a busy (known seat) → k.nspec ≡ slots
-      → CallKeeps (is_worn_opening a) (is_stopped_opening a) (1 + 2 * slots) (of_slots (last_looked slots a)) cpu (record cpu { seat = seat; side = side })
+      → CallLeaves (is_worn_opening a) (is_stopped_opening a) (1 + 2 * slots) (of_slots (last_looked slots a)) cpu (record cpu { seat = seat; side = side })
   scanned_keeps a slots got same =
       let le = got.bounded in
-      subst (λ b. CallKeeps b (is_stopped_opening a) (1 + 2 * slots) (of_slots (last_looked slots a)) cpu (record cpu { seat = seat; side = side })) (sym got.unworn)
+      subst (λ b. CallLeaves b (is_stopped_opening a) (1 + 2 * slots) (of_slots (last_looked slots a)) cpu (record cpu { seat = seat; side = side })) (sym got.unworn)
       (unworn_keeps (is_stopped_opening a) (1 + 2 * slots) (of_slots (last_looked slots a)) (omega arith)
       (subst (λ (n : ℕ). Touches (of_slots (last_looked n a)) (known cpu.seat) (known seat)) same got.touches) got.stops)
 
   -- on an identifier it came so far
   pub reached_keeps : {k : Config} {c : ℕ} {doing : Doing} {id : Speculation} (r : Reach) (most : ℕ) → Reached k c doing id (known cpu.seat) r (known seat) → most ≡ 1 + turns doing.op
-      → k ≡ cpu.config → CallKeeps false (is_stopped_reach r) most (of_slot cpu.config id) cpu (record cpu { seat = seat; side = side })
+      → k ≡ cpu.config → CallLeaves false (is_stopped_reach r) most (of_slot cpu.config id) cpu (record cpu { seat = seat; side = side })
   reached_keeps {id = id} r most got same its =
       let le = got.bounded in
       unworn_keeps (is_stopped_reach r) most (of_slot cpu.config id) (omega arith)
@@ -92,7 +92,7 @@ module _ {S : Type 0} (cpu : Cpu S) (fewer : cpu.side.calls < cpu.config.max_cal
   -- and released the slot behind its exchange
   pub released_keeps : {k : Config} {c : ℕ} {doing : Doing} {id : Speculation} (to : SlotState) (w : View) (slot most : ℕ) → Reached k c doing id (known cpu.seat) (reach.Done to) w
       → to.code ≡ Committing → ReleasedWord slot w (known seat) → most ≡ 1 + turns doing.op → k ≡ cpu.config → slot ≡ id.slot
-      → CallKeeps false false most (of_slot cpu.config id) cpu (record cpu { seat = seat; side = side })
+      → CallLeaves false false most (of_slot cpu.config id) cpu (record cpu { seat = seat; side = side })
   released_keeps {id = id} to w slot most got alone step same its there =
       let next : releases_next (Attempt to) ≡ 1 = ap (λ x. if is_committing x then 1 else 0) alone in
       let one : (known seat).steps ≡ w.steps + 1 = ap (λ (x : View). x.steps) step.2.view in
@@ -103,10 +103,10 @@ module _ {S : Type 0} (cpu : Cpu S) (fewer : cpu.side.calls < cpu.config.max_cal
       (ap (λ (x : View). x.touched) step.2.view) (inr (inside, ap (λ (s : ℕ). slot_place s) there))) (heeded (known cpu.seat) w (known seat) got.stops)
 
 -- it copied or lost a block
-pub copied_keeps : {S : Type 0} {within : ℕ → Type 0} (a : Decided) (fit : Bool) (n most : ℕ) (old new : Cpu S) → a ≡ block_answer fit n → CallKeeps false false most within old new
-    → CallKeeps (is_worn_decided a) (is_stopped_decided a) most within old new
-copied_keeps {within = within} a fit n most old new is keeps = subst (λ x. CallKeeps (is_worn_decided x) (is_stopped_decided x) most within old new) (sym is) (go fit)
+pub copied_keeps : {S : Type 0} {within : ℕ → Type 0} (a : Decided) (fit : Bool) (n most : ℕ) (old new : Cpu S) → a ≡ block_answer fit n → CallLeaves false false most within old new
+    → CallLeaves (is_worn_decided a) (is_stopped_decided a) most within old new
+copied_keeps {within = within} a fit n most old new is keeps = subst (λ x. CallLeaves (is_worn_decided x) (is_stopped_decided x) most within old new) (sym is) (go fit)
   where
-    go : (b : Bool) → CallKeeps (is_worn_decided (block_answer b n)) (is_stopped_decided (block_answer b n)) most within old new
+    go : (b : Bool) → CallLeaves (is_worn_decided (block_answer b n)) (is_stopped_decided (block_answer b n)) most within old new
     go true = keeps
     go false = keeps

@@ -10,7 +10,7 @@ pub mod Touching
 pub mod Retries
 pub mod Stopping
 pub mod Reaches
-pub mod Speaks
+pub mod Speculates
 pub mod Decisions
 pub mod Keeps
 pub mod Decided

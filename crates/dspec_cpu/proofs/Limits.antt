@@ -10,8 +10,8 @@ use Rattle.dspec_deeds.specs.declared.deed.DecideFate.{DecideFate}
 use Rattle.dspec_deeds.specs.declared.deed.DecideFate.TheVariants.{Copied, Lost, Thrown, Void, Stopped}
 use Rattle.dspec_deeds.specs.FateKinds.{count_of}
 use Rattle.dspec_deeds.proofs.TestLemmas.{and_tells, same_number}
-use Rattle.dspec_side.specs.declared.counts.Counts.{Counts}
-use Rattle.dspec_side.specs.Counting.{HasRoom, IsRoomy}
+use Rattle.dspec_cpu_state.specs.declared.counts.Counts.{Counts}
+use Rattle.dspec_cpu_state.specs.Counting.{HasRoom, IsRoomy}
 
 pub record Within (low high n : ℕ) : Type 0 where
   pub least : low ≤ n

@@ -10,7 +10,7 @@ use Rattle.dspec_table.specs.declared.rule.View.{View}
 use Rattle.dspec_table.specs.Seats.{known, cpu_of, fresh_seat}
 use Rattle.dspec_deeds.specs.Legal.{IsSound}
 use Rattle.dspec_cpu.specs.declared.parts.CpuParts.{CpuParts as Cpu}
-use Rattle.dspec_side.specs.Sides.{ShowsList}
+use Rattle.dspec_cpu_state.specs.CpuStates.{ShowsList}
 use Rattle.dspec_cpu.specs.Sealed.{waiting}
 use Rattle.dspec_cpu.specs.Lists.{HasList, IsSteady, batches_of, spare_count}
 

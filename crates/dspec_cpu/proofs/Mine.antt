@@ -16,7 +16,7 @@ use Rattle.dspec_deeds.proofs.PresentIds.{open_is_now, present_is}
 use Rattle.dspec_deeds.proofs.SoundLists.{granted_goes, answered_open}
 use Rattle.dspec_deeds.proofs.Marks.{mark_tells, mark_part}
 use Rattle.dspec_deeds.proofs.OwnReads.{reads, apart_bare}
-use Rattle.dspec_deeds.proofs.OwnSides.{tells_present}
+use Rattle.dspec_deeds.proofs.OwnStates.{tells_present}
 
 -- who was granted a speculation last is a caller of it
 pub marked_among : (c : ℕ) (id : Speculation) (h : List Deed) → mark c id.slot h ≡ id.issue + 1 → is_among c (callers id h) ≡ true

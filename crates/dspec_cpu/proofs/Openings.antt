@@ -10,14 +10,14 @@ use Rattle.dspec_deeds.specs.declared.calls.Opening.TheVariants as opening
 use Rattle.dspec_deeds.specs.declared.deed.Deed.{Deed}
 use Rattle.dspec_deeds.specs.declared.deed.Deed.TheVariants.{Scan, Opened, Miss}
 use Rattle.dspec_deeds.specs.Own.{calls, growing}
-use Rattle.dspec_deeds.specs.Owning.{OwnRow, is_of}
+use Rattle.dspec_deeds.specs.Owning.{CpuRow, is_of}
 use Rattle.dspec_deeds.specs.Reports.{missed_busy, one_if}
 use Rattle.dspec_deeds.specs.Weaving.{bare}
 use Rattle.dspec_deeds.proofs.TestLemmas.{either_way, number_is_itself, same_number}
 use Rattle.dspec_table.specs.declared.seats.CpuSeat.{CpuSeat}
 use Rattle.dspec_cpu.specs.declared.parts.CpuParts.{CpuParts as Cpu}
-use Rattle.dspec_side.specs.declared.counts.Counts.{Counts}
-use Rattle.dspec_side.specs.Counting.{counts_of, with_opening}
+use Rattle.dspec_cpu_state.specs.declared.counts.Counts.{Counts}
+use Rattle.dspec_cpu_state.specs.Counting.{counts_of, with_opening}
 use Rattle.dspec_cpu.specs.Lists.{IsShown}
 use Rattle.dspec_cpu.specs.Scans.{misses, any_busy, opening_deeds, IsOpening, is_worn_opening}
 use Rattle.dspec_cpu.proofs.Quiet.{quiet, quiet_shown}
@@ -214,12 +214,12 @@ module _ (shape : ℕ → Option Shape) (accepted : Record → Bool) (text : Rec
     };
   }
 
-  one_shown : (d : Deed) → quiet d ≡ true → is_of cpu.cpu d ≡ true → OwnRow shape cpu.config p d → IsShown shape accepted text (shows (d ∷ [])) (d ∷ p)
+  one_shown : (d : Deed) → quiet d ≡ true → is_of cpu.cpu d ≡ true → CpuRow shape cpu.config p d → IsShown shape accepted text (shows (d ∷ [])) (d ∷ p)
   one_shown d still mine row = quiet_shown shape accepted text cpu p was d still mine row seat (calls cpu.cpu (d ∷ p)) (missed_busy cpu.cpu (d ∷ p))
       (growing cpu.cpu (d ∷ p)).drops (counts_of cpu.config cpu.cpu cpu.side.counts.worn (d ∷ p)) refl refl refl refl
 
   more_shown : (ds : List Deed) → IsShown shape accepted text (shows ds) (ds ++ p) → (d : Deed) → quiet d ≡ true → is_of cpu.cpu d ≡ true
-      → OwnRow shape cpu.config (ds ++ p) d → IsShown shape accepted text (shows (d ∷ ds)) (d ∷ ds ++ p)
+      → CpuRow shape cpu.config (ds ++ p) d → IsShown shape accepted text (shows (d ∷ ds)) (d ∷ ds ++ p)
   more_shown ds before d still mine row = quiet_shown shape accepted text (shows ds) (ds ++ p) before d still mine row seat (calls cpu.cpu (d ∷ ds ++ p))
       (missed_busy cpu.cpu (d ∷ ds ++ p)) (growing cpu.cpu (d ∷ ds ++ p)).drops (counts_of cpu.config cpu.cpu cpu.side.counts.worn (d ∷ ds ++ p)) refl refl refl refl
 

@@ -15,27 +15,27 @@ use Rattle.dspec_deeds.specs.declared.deed.DecideFate.TheVariants as fated
 use Rattle.dspec_deeds.specs.declared.deed.Deed.TheVariants.{Settle}
 use Rattle.dspec_deeds.specs.declared.deed.Deed.{Deed}
 use Rattle.dspec_deeds.specs.FateKinds.{is_commit, is_discard, is_lost, decided_stopped}
-use Rattle.dspec_deeds.specs.Legal.{OwnAllows, fits_principal}
+use Rattle.dspec_deeds.specs.Legal.{CpuLegal, fits_principal}
 use Rattle.dspec_deeds.specs.Marks.{mark}
 use Rattle.dspec_deeds.specs.Own.{contents, held}
-use Rattle.dspec_deeds.specs.Owning.{OwnRow}
+use Rattle.dspec_deeds.specs.Owning.{CpuRow}
 use Rattle.dspec_deeds.specs.Settling as settling
 use Rattle.dspec_deeds.proofs.TestLemmas.{number_is_itself}
 use Rattle.dspec_table.specs.declared.doing.Doing.{Doing}
 use Rattle.dspec_table.specs.Acts.{fate_of_settlement}
-use Rattle.dspec_side.specs.declared.side.Side.{Side}
-use Rattle.dspec_side.specs.Counting.{HasRoom}
-use Rattle.dspec_side.specs.Sides.{IsCaller, ShowsList, committed_fate, settled_fate}
+use Rattle.dspec_cpu_state.specs.declared.cpu_state.CpuState.{CpuState}
+use Rattle.dspec_cpu_state.specs.Counting.{HasRoom}
+use Rattle.dspec_cpu_state.specs.CpuStates.{IsCaller, ShowsList, committed_fate, settled_fate}
 use Rattle.dspec_cpu.specs.Settled.{BlockSettled, CanSettle, serving}
 use Rattle.dspec_cpu.proofs.Shown.{shows, shown_behind}
 
 -- what becomes of a block is lawful, and never stopped
-pub lawful : (shape : ℕ → Option Shape) (k : Config) (c : ℕ) (p : List Deed) (id : Speculation) (code : Code) → OwnRow shape k p (Settle c id (settling.settle_fate shape k c p id code))
+pub lawful : (shape : ℕ → Option Shape) (k : Config) (c : ℕ) (p : List Deed) (id : Speculation) (code : Code) → CpuRow shape k p (Settle c id (settling.settle_fate shape k c p id code))
 lawful shape k c p id Discarding = refl
 lawful shape k c p id code = go (fits_principal shape k c (extent.block (contents (held c id p))) p) refl
   where
     go : (b : Bool) → fits_principal shape k c (extent.block (contents (held c id p))) p ≡ b
-        → OwnRow shape k p (Settle c id (if b then fated.Copied (length (held c id p)) else fated.Lost (length (held c id p))))
+        → CpuRow shape k p (Settle c id (if b then fated.Copied (length (held c id p)) else fated.Lost (length (held c id p))))
     go true e = (refl, sym e)
     go false e = (refl, sym e)
 
@@ -72,7 +72,7 @@ ends false n Committing = refl
 ends true n CommittingMany = refl
 ends false n CommittingMany = refl
 
-module _ (shape : ℕ → Option Shape) (accepted : Record → Bool) (text : Record → List ℕ) {k : Config} {c : ℕ} {side : Side Stored} {batches : List Batch} {id : Speculation} {code : Code}
+module _ (shape : ℕ → Option Shape) (accepted : Record → Bool) (text : Record → List ℕ) {k : Config} {c : ℕ} {side : CpuState Stored} {batches : List Batch} {id : Speculation} {code : Code}
     (p : List Deed) (can : CanSettle shape accepted text k c side batches id code p) (j : Speculation) (named : j ≡ id) where
   -- the slot is one of the session's, and so of the CPU's
   pub there : (1 ≤ j.slot) × (j.slot ≤ length side.marks) × (j.slot ≤ length side.speculative.items) × (j.slot ≤ length side.acks.items)
@@ -127,14 +127,14 @@ module _ (shape : ℕ → Option Shape) (accepted : Record → Bool) (text : Rec
         drops = subst (λ f. side.drops + (if is_lost f then 1 else 0) < 2 ^ 64) (sym same) can.drops
 
         -- so the Settle is shown
-        pub block_settled : (now : Side Stored)
-            → (ShowsList (HasPieces shape accepted text) (λ b. b.size) k c p side → IsCaller c j mine p → (is_commit fate || is_discard fate) ≡ true → OwnAllows shape k p (Settle c j fate)
+        pub block_settled : (now : CpuState Stored)
+            → (ShowsList (HasPieces shape accepted text) (λ b. b.size) k c p side → IsCaller c j mine p → (is_commit fate || is_discard fate) ≡ true → CpuLegal shape k p (Settle c j fate)
             → ShowsList (HasPieces shape accepted text) (λ b. b.size) k c (Settle c j fate ∷ p) now)
             → (doing : Doing) → doing ≡ serving fit n mine → BlockSettled shape accepted text k c now batches id code doing p
         block_settled now shown doing served =
             let f = settling.settle_fate shape k c p id code in
-            let allows : OwnAllows shape k p (Settle c j fate) =
-            subst (λ (x : Speculation × DecideFate). OwnAllows shape k p (Settle c x.0 x.1)) (λ i. (sym named i, sym same i)) (lawful shape k c p id code) in
+            let allows : CpuLegal shape k p (Settle c j fate) =
+            subst (λ (x : Speculation × DecideFate). CpuLegal shape k p (Settle c x.0 x.1)) (λ i. (sym named i, sym same i)) (lawful shape k c p id code) in
             let was = shown (shows shape accepted text side p can.shown) caller (ap (λ g. is_commit g || is_discard g) is ∙ ends fit n code) allows in
             record {
               fate = ap (λ (d : Doing). fate_of_settlement d code) served ∙ (served_as fit n mine code ∙ fate_is);

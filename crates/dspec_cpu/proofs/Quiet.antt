@@ -17,13 +17,13 @@ use Rattle.dspec_deeds.specs.History.{ack}
 use Rattle.dspec_deeds.specs.Legal.{is_seal}
 use Rattle.dspec_deeds.specs.Marks.{mark}
 use Rattle.dspec_deeds.specs.Own.{active, contents, dropped_in, growing, held, seals, calls}
-use Rattle.dspec_deeds.specs.OwnShown.{last_called}
-use Rattle.dspec_deeds.specs.Owning.{OwnRow, is_of}
+use Rattle.dspec_deeds.specs.CpuShown.{last_called}
+use Rattle.dspec_deeds.specs.Owning.{CpuRow, is_of}
 use Rattle.dspec_deeds.specs.Reports.{missed_busy}
 use Rattle.dspec_table.specs.declared.seats.CpuSeat.{CpuSeat}
 use Rattle.dspec_cpu.specs.declared.parts.CpuParts.{CpuParts as Cpu}
-use Rattle.dspec_side.specs.declared.counts.Counts.{Counts}
-use Rattle.dspec_side.specs.Counting.{counts_of}
+use Rattle.dspec_cpu_state.specs.declared.counts.Counts.{Counts}
+use Rattle.dspec_cpu_state.specs.Counting.{counts_of}
 use Rattle.dspec_cpu.specs.Sealed.{HasSized, AreSealed}
 use Rattle.dspec_cpu.specs.Lists.{IsShown}
 
@@ -106,7 +106,7 @@ module _ (shape : ℕ → Option Shape) (accepted : Record → Bool) (text : Rec
 
   module _ {S : Type 0} (cpu : Cpu S) (p : List Deed) (was : IsShown shape accepted text cpu p) where
     -- what shows the list shows it with such a deed in front, once numbers and counts are those of the longer list
-    pub quiet_shown : (d : Deed) → quiet d ≡ true → is_of cpu.cpu d ≡ true → OwnRow shape cpu.config p d → (seat : CpuSeat) (n : ℕ) (missed : Bool) (drops : ℕ) (counts : Counts)
+    pub quiet_shown : (d : Deed) → quiet d ≡ true → is_of cpu.cpu d ≡ true → CpuRow shape cpu.config p d → (seat : CpuSeat) (n : ℕ) (missed : Bool) (drops : ℕ) (counts : Counts)
         → n ≡ calls cpu.cpu (d ∷ p) → missed ≡ missed_busy cpu.cpu (d ∷ p) → drops ≡ (growing cpu.cpu (d ∷ p)).drops → counts ≡ counts_of cpu.config cpu.cpu counts.worn (d ∷ p)
         → IsShown shape accepted text (record cpu { seat = seat; side = record cpu.side { calls = n; missed_busy = missed; drops = drops; counts = counts } }) (d ∷ p)
     quiet_shown d e mine row seat n missed drops counts call_is missed_is drops_is counts_is =

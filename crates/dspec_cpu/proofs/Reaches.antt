@@ -26,7 +26,7 @@ use Rattle.dspec_deeds.proofs.TestLemmas.{and_tells, same_number}
 use Rattle.dspec_table.specs.declared.rule.View.{View}
 use Rattle.dspec_table.specs.declared.doing.Doing.{Doing}
 use Rattle.dspec_table.specs.Holders.{of_cpu, number_of, part_of}
-use Rattle.dspec_table.specs.Acts.{at_activity, at_word, at_hit, at_exchange, speaks, void_commit, void_discard, discard_hits}
+use Rattle.dspec_table.specs.Acts.{at_activity, at_word, at_hit, at_exchange, speculates, void_commit, void_discard, discard_hits}
 use Rattle.dspec_table.specs.Conditions.{IsOn, IsInFlight}
 use Rattle.dspec_table.specs.Flights.{calling, flight_after}
 use Rattle.dspec_table.specs.Layout.{activity_place, slot_place}
@@ -136,10 +136,10 @@ granted_is q = absurd (cc (q))
 ended_deeds : (k : Config) (c slot : ℕ) (doing : Doing) (id : Speculation) (word : SlotState) (o : CpuOp) (r : Reach) → IsOn id o → act_of o word doing.mine ≡ act_reached r
     → (r ≡ reach.Stopped → ⊥) → (if is_attempt (act_reached r) then at_hit c doing word o else at_word k c doing slot word o) ≡ reached_deeds c doing o r
 ended_deeds k c slot doing id word o reach.Stopped on e n = absurd (n refl)
-ended_deeds k c slot doing id word (op.Speculate j r) reach.Void on e n = ap (speaks c doing j r) e
+ended_deeds k c slot doing id word (op.Speculate j r) reach.Void on e n = ap (speculates c doing j r) e
 ended_deeds k c slot doing id word (op.Commit j) reach.Void on e n = ap (void_commit c j) e
 ended_deeds k c slot doing id word (op.Discard j) reach.Void on e n = ap (void_discard c j) e
-ended_deeds k c slot doing id word (op.Speculate j r) reach.Granted on e n = ap (speaks c doing j r) e
+ended_deeds k c slot doing id word (op.Speculate j r) reach.Granted on e n = ap (speculates c doing j r) e
 ended_deeds k c slot doing id word (op.Commit j) reach.Granted on e n = absurd (commit_grants_none word.issue doing.mine word.code (here_or_void (word.issue == j.issue) _ Granted e granted_is).1)
 ended_deeds k c slot doing id word (op.Discard j) reach.Granted on e n = absurd (discard_grants_none word.issue doing.mine word.code (here_or_void (word.issue == j.issue) _ Granted e granted_is).1)
 ended_deeds k c slot doing id word (op.Speculate j r) (reach.Done to) on e n = refl

@@ -21,12 +21,12 @@ use Rattle.dspec_table.specs.Flights.{calling, flight_after}
 use Rattle.dspec_table.specs.Steps.{Entered}
 use Rattle.dspec_table.specs.Seats.{known, IsAt, cpu_of}
 use Rattle.dspec_cpu.specs.declared.parts.CpuParts.{CpuParts as Cpu}
-use Rattle.dspec_side.specs.declared.counts.Counts.{Counts}
-use Rattle.dspec_side.specs.Counting.{counts_of, with_fate, IsRoomy}
+use Rattle.dspec_cpu_state.specs.declared.counts.Counts.{Counts}
+use Rattle.dspec_cpu_state.specs.Counting.{counts_of, with_fate, IsRoomy}
 use Rattle.dspec_cpu.specs.Reached.{Stands}
 use Rattle.dspec_cpu.specs.Lists.{HasList, IsReady, IsSteady, batches_of, spare_count}
 use Rattle.dspec_cpu.specs.Standing.{Belongs, identity}
-use Rattle.dspec_side.proofs.Tallies.{drops_since}
+use Rattle.dspec_cpu_state.proofs.Tallies.{drops_since}
 use Rattle.dspec_cpu.proofs.Limits.{limits}
 
 -- behind the last of them

@@ -14,13 +14,13 @@ use Rattle.dspec_deeds.specs.Closes.{is_granted}
 use Rattle.dspec_deeds.specs.History.{ack, word_at}
 use Rattle.dspec_deeds.specs.Settling.{settle_fate}
 use Rattle.dspec_buffer.specs.Stored.{Stored}
-use Rattle.dspec_play.specs.OwnClose.{own_closed_slot}
+use Rattle.dspec_interleaving.specs.CpuClose.{own_closed_slot}
 use Rattle.dspec_table.specs.declared.last.LastWords.{LastWords}
 use Rattle.dspec_table.specs.Last.{last_set_up, last_words}
 use Rattle.dspec_table.specs.Showing.{Shows}
 use Rattle.dspec_table.proofs.Limits.{limit_of}
-use Rattle.dspec_side.specs.declared.side.Side.{Side}
-use Rattle.dspec_side.specs.Sides.{parts_of_side}
+use Rattle.dspec_cpu_state.specs.declared.cpu_state.CpuState.{CpuState}
+use Rattle.dspec_cpu_state.specs.CpuStates.{parts_of_side}
 use Rattle.dspec_cpu.specs.declared.rest.CpuRest.{CpuRest}
 use Rattle.dspec_cpu.specs.Lists.{AreShown}
 use Rattle.dspec_cpu.specs.Rests.{AreItsWords, CanCloseBehind, RestHasList, batches_of_rest}
@@ -71,7 +71,7 @@ module _ (shape : ℕ → Option Shape) (accepted : Record → Bool) (text : Rec
           accepted text rest.side (batches_of_rest rest handed) had low high its.one small
 
       -- and the settlement is that of the close
-      pub closed : (handed : List Batch) (log now p : List Deed) → CanCloseBehind rest.config rest.cpu slot (last_words last) log now p → (side : Side Stored)
+      pub closed : (handed : List Batch) (log now p : List Deed) → CanCloseBehind rest.config rest.cpu slot (last_words last) log now p → (side : CpuState Stored)
           → AreShown shape accepted text rest.config rest.cpu (parts_of_side side) (batches_of_rest rest handed) side.counts
           (Settle rest.cpu (shown_at slot word) (settle_fate shape rest.config rest.cpu p (shown_at slot word) word.code) ∷ p)
           → AreShown shape accepted text rest.config rest.cpu (parts_of_side side) (batches_of_rest rest handed) side.counts (own_closed_slot shape rest.config (λ s. word_at s log) rest.cpu slot p)

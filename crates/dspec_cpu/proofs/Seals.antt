@@ -18,7 +18,7 @@ use Rattle.dspec_table.specs.declared.seats.Words.{Words}
 use Rattle.dspec_table.specs.declared.seats.CpuSeat.{CpuSeat}
 use Rattle.dspec_table.specs.Seats.{known}
 use Rattle.dspec_cpu.specs.declared.parts.CpuParts.{CpuParts as Cpu}
-use Rattle.dspec_side.specs.Counting.{counts_of}
+use Rattle.dspec_cpu_state.specs.Counting.{counts_of}
 use Rattle.dspec_cpu.specs.Lists.{HasList, IsReady, batches_of}
 use Rattle.dspec_cpu.specs.Sealed.{HasSized, AreSealed, waiting}
 use Rattle.dspec_cpu.specs.Switching.{batch_of, buffers_of}

@@ -32,15 +32,15 @@ use Rattle.dspec_deeds.proofs.OwnAccounts.{own_report}
 use Rattle.dspec_deeds.proofs.OwnReads.{apart_bare}
 use Rattle.dspec_deeds.proofs.TestLemmas.{cpu_is_itself, number_is_itself}
 use Rattle.dspec_table.proofs.OwnReading.{ack_part}
-use Rattle.dspec_side.specs.declared.counts.Counts.{Counts}
-use Rattle.dspec_side.specs.declared.side.Side.{Side}
-use Rattle.dspec_side.specs.Sides.{parts_of_side}
-use Rattle.dspec_side.specs.Counting.{HasRoom, counts_of, with_decided}
+use Rattle.dspec_cpu_state.specs.declared.counts.Counts.{Counts}
+use Rattle.dspec_cpu_state.specs.declared.cpu_state.CpuState.{CpuState}
+use Rattle.dspec_cpu_state.specs.CpuStates.{parts_of_side}
+use Rattle.dspec_cpu_state.specs.Counting.{HasRoom, counts_of, with_decided}
 use Rattle.dspec_cpu.specs.Lists.{AreShown}
 use Rattle.dspec_cpu.specs.Settled.{CanSettle, IsPartOf, shown_at}
 use Rattle.dspec_cpu.proofs.Mine.{unmarked_empty}
 use Rattle.dspec_cpu.proofs.OwnBlocks.{lawful, goes_on}
-use Rattle.dspec_side.proofs.Tallies.{drops_since, settle_counts}
+use Rattle.dspec_cpu_state.proofs.Tallies.{drops_since, settle_counts}
 
 -- what a grant tells of the word
 pub grant_tells : (w : SlotState) (acked : ℕ) → is_granted (settle_at w acked) ≡ true → (awaits w.code ≡ true) × (nat_le acked w.issue ≡ true)
@@ -102,7 +102,7 @@ module _ (shape : ℕ → Option Shape) (k : Config) (c : ℕ) (log p : List Dee
       not_yet true e = absurd (true≢false (sym e))
       not_yet false e = refl
 
-  module _ (accepted : Record → Bool) (text : Record → List ℕ) (side : Side Stored) (batches : List Batch) (shown : AreShown shape accepted text k c (parts_of_side side) batches side.counts p)
+  module _ (accepted : Record → Bool) (text : Record → List ℕ) (side : CpuState Stored) (batches : List Batch) (shown : AreShown shape accepted text k c (parts_of_side side) batches side.counts p)
       (low : 1 ≤ slot) (high : slot ≤ k.nspec) (few : c < k.cpus) (small : side.calls < 2 ^ 64) where
     counted : with_decided f side.counts ≡ counts_of k c side.counts.worn (Settle c id f ∷ p)
     counted = ap (with_decided f) shown.counted ∙ sym (settle_counts k c side.counts.worn p id f (goes_on shape k c p id word.code))

@@ -8,13 +8,13 @@ use Rattle.dspec_ring.specs.declared.batch.Batch.{Batch}
 use Rattle.dspec_deeds.specs.declared.config.Config.{Config}
 use Rattle.dspec_deeds.specs.declared.deed.Deed.{Deed}
 use Rattle.dspec_deeds.specs.Legal.{is_seal}
-use Rattle.dspec_deeds.specs.Owning.{OwnRow, is_of}
-use Rattle.dspec_side.specs.declared.side.Side.{Side}
-use Rattle.dspec_side.specs.Sides.{ShowsList, parts_of_side}
+use Rattle.dspec_deeds.specs.Owning.{CpuRow, is_of}
+use Rattle.dspec_cpu_state.specs.declared.cpu_state.CpuState.{CpuState}
+use Rattle.dspec_cpu_state.specs.CpuStates.{ShowsList, parts_of_side}
 use Rattle.dspec_cpu.specs.Lists.{AreShown}
 use Rattle.dspec_cpu.proofs.Quiet.{sealed_on}
 
-module _ (shape : ℕ → Option Shape) (accepted : Record → Bool) (text : Record → List ℕ) {k : Config} {c : ℕ} {batches : List Batch} (side : Side Stored) (p : List Deed)
+module _ (shape : ℕ → Option Shape) (accepted : Record → Bool) (text : Record → List ℕ) {k : Config} {c : ℕ} {batches : List Batch} (side : CpuState Stored) (p : List Deed)
     (was : AreShown shape accepted text k c (parts_of_side side) batches side.counts p) where
   abbrev pub keeps : Stored → List Piece → Type 0
   keeps = HasPieces shape accepted text
@@ -27,7 +27,7 @@ module _ (shape : ℕ → Option Shape) (accepted : Record → Bool) (text : Rec
   shows = record { parts = was.side; counted = was.counted }
 
   -- a side that shows a deed of the CPU's in front, which is no Seal, and the batches show it
-  pub shown_behind : (d : Deed) → is_seal d ≡ false → is_of c d ≡ true → OwnRow shape k p d → (now : Side Stored) → ShowsList keeps size_of k c (d ∷ p) now
+  pub shown_behind : (d : Deed) → is_seal d ≡ false → is_of c d ≡ true → CpuRow shape k p d → (now : CpuState Stored) → ShowsList keeps size_of k c (d ∷ p) now
       → AreShown shape accepted text k c (parts_of_side now) batches now.counts (d ∷ p)
   shown_behind d unsealed mine row now shown = record {
     legal = (was.legal, mine, row);

@@ -16,7 +16,7 @@ use Rattle.dspec_deeds.specs.declared.deed.SpeculateFate.TheVariants as speculat
 use Rattle.dspec_deeds.specs.declared.deed.TraceFate.TheVariants as trace_fate
 use Rattle.dspec_promise.specs.Deeds.{did}
 use Rattle.dspec_promise.specs.Promise.{By, service, Did, traced, speculated, emptied}
-use Rattle.dspec_side.specs.Counting.{worn_after}
+use Rattle.dspec_cpu_state.specs.Counting.{worn_after}
 use Rattle.dspec_table.specs.Seats.{known}
 use Rattle.dspec_cpu.specs.declared.parts.CpuParts.{CpuParts as Cpu}
 use Rattle.dspec_cpu.specs.Calls.{is_worn_decided, is_worn_spoken, is_worn_trace}

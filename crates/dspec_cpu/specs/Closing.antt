@@ -7,7 +7,7 @@ use Rattle.dspec_deeds.specs.declared.deed.Deed.{Deed}
 use Rattle.dspec_deeds.specs.declared.report.Report.{Report}
 use Rattle.dspec_deeds.specs.History.{word_at}
 use Rattle.dspec_deeds.specs.Reports.{report}
-use Rattle.dspec_play.specs.OwnClose.{own_closed, own_closed_slot}
+use Rattle.dspec_interleaving.specs.CpuClose.{own_closed, own_closed_slot}
 use Rattle.dspec_table.specs.Showing.{Shows}
 use Rattle.dspec_cpu.specs.declared.rest.CpuRest.{CpuRest}
 use Rattle.dspec_cpu.specs.Rests.{CanCloseBehind, IsLegalPart, config_of_rest, number_of_rest, schema_of_rest, worn_of_rest}

@@ -1,7 +1,7 @@
 -- Cited by calls. What stays of a CPU: what each of its calls keeps, all of it but its count of worn calls, or all of it but its seat.
 use Rattle.std.specs.Prelude.{ℕ, ◌≡◌, ◌≤◌, ◌+◌, ◌↔◌, Bool, true}
 use Rattle.dspec_table.specs.Seats.{known}
-use Rattle.dspec_side.specs.Counting.{one_more_worn, worn_after}
+use Rattle.dspec_cpu_state.specs.Counting.{one_more_worn, worn_after}
 use Rattle.dspec_cpu.specs.declared.parts.CpuParts.{CpuParts as Cpu}
 use Rattle.dspec_cpu.specs.Lists.{calls_of, config_of, seat_of, worn_of}
 use Rattle.dspec_cpu.specs.Settled.{KeepsBatches}
@@ -15,7 +15,7 @@ WearsAlone old new = new ≡ record old { side = record old.side { counts = reco
 -- What every call that counts keeps, by whether its answer is Worn and whether it is Stopped. It leaves what goes through the
 -- rings alone. It is worn exactly where the CPU had made all its calls: that is counted, and nothing else comes of it. It makes
 -- so many steps at the most, each on a word whose place is within, and heeds a stop that its seat was shown.
-pub record CallKeeps {S : Type 0} (is_worn is_stopped : Bool) (most : ℕ) (within : ℕ → Type 0) (old new : Cpu S) : Type 0 where
+pub record CallLeaves {S : Type 0} (is_worn is_stopped : Bool) (most : ℕ) (within : ℕ → Type 0) (old new : Cpu S) : Type 0 where
   pub batches : KeepsBatches old new
   pub worn : (is_worn ≡ true) ↔ ((config_of old).max_calls ≤ calls_of old)
   pub untouched : is_worn ≡ true → WearsAlone old new

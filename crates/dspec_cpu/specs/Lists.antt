@@ -10,18 +10,18 @@ use Rattle.dspec_deeds.specs.declared.deed.Deed.{Deed}
 use Rattle.dspec_deeds.specs.History.{part, scan}
 use Rattle.dspec_deeds.specs.Legal.{IsSound}
 use Rattle.dspec_deeds.specs.Owning.{IsOwn}
-use Rattle.dspec_deeds.specs.OwnShown.{SideParts, ShowsOwnSide, own_side}
+use Rattle.dspec_deeds.specs.CpuShown.{StateParts, ShowsOwnState, own_side}
 use Rattle.dspec_deeds.specs.Ranges.{start_fault}
 use Rattle.dspec_deeds.specs.Weaving.{bare}
 use Rattle.dspec_table.specs.declared.seats.Words.{Words}
 use Rattle.dspec_table.specs.declared.seats.CpuSeat.{CpuSeat}
 use Rattle.dspec_table.specs.Seats.{known, IsAt, set_up, cpu_of}
 use Rattle.dspec_ring.specs.Known.{CpuKnows}
-use Rattle.dspec_side.specs.declared.counts.Counts.{Counts}
+use Rattle.dspec_cpu_state.specs.declared.counts.Counts.{Counts}
 use Rattle.dspec_cpu.specs.declared.parts.CpuParts.{CpuParts as Cpu}
 use Rattle.dspec_cpu.specs.declared.shared.Shared.{Shared}
-use Rattle.dspec_side.specs.Counting.{counts_of}
-use Rattle.dspec_side.specs.Sides.{parts_of_side}
+use Rattle.dspec_cpu_state.specs.Counting.{counts_of}
+use Rattle.dspec_cpu_state.specs.CpuStates.{parts_of_side}
 use Rattle.dspec_cpu.specs.Sealed.{HasSized, AreSealed, waiting}
 
 -- the words that all threads of a session share
@@ -29,7 +29,7 @@ abbrev pub words_of : Shared → Words
 words_of shared = shared.words
 
 -- what a CPU's side shows of its deeds
-abbrev pub side_of : {S : Type 0} → Cpu S → SideParts Stored
+abbrev pub side_of : {S : Type 0} → Cpu S → StateParts Stored
 side_of cpu = parts_of_side cpu.side
 
 -- the batches that the CPU sealed, the latest first: the one held back, and those handed on
@@ -83,9 +83,9 @@ pub record IsSameCpu {S : Type 0} (old new : Cpu S) : Type 0 where
 module _ (shape : ℕ → Option Shape) (accepted : Record → Bool) (text : Record → List ℕ) where
   -- The list is legal in the own part of this CPU, and numbers and buffers, batches, the latest first, and counts show it: a
   -- CPU's, and what is left of it once its seat and its end of the rings are taken off.
-  pub record AreShown (k : Config) (c : ℕ) (parts : SideParts Stored) (batches : List Batch) (counts : Counts) (p : List Deed) : Type 0 where
+  pub record AreShown (k : Config) (c : ℕ) (parts : StateParts Stored) (batches : List Batch) (counts : Counts) (p : List Deed) : Type 0 where
     pub legal : IsOwn shape k c p
-    pub side : ShowsOwnSide (HasSized shape accepted text) k (own_side c p) parts
+    pub side : ShowsOwnState (HasSized shape accepted text) k (own_side c p) parts
     pub sealed : AreSealed shape accepted text k c p batches
     pub counted : counts ≡ counts_of k c counts.worn p
 

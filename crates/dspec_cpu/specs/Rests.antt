@@ -9,12 +9,12 @@ use Rattle.dspec_deeds.specs.declared.calls.Actor.TheVariants.{Cpu as CpuActor}
 use Rattle.dspec_deeds.specs.declared.deed.Deed.{Deed}
 use Rattle.dspec_deeds.specs.History.{ack, part, word_at}
 use Rattle.dspec_deeds.specs.Legal.{IsLegal}
-use Rattle.dspec_deeds.specs.OwnShown.{SideParts}
+use Rattle.dspec_deeds.specs.CpuShown.{StateParts}
 use Rattle.dspec_table.specs.declared.last.LastWords.{LastWords}
 use Rattle.dspec_table.specs.Last.{last_set_up}
 use Rattle.dspec_table.specs.Showing.{Shows}
 use Rattle.dspec_cpu.specs.declared.rest.CpuRest.{CpuRest}
-use Rattle.dspec_side.specs.Sides.{parts_of_side}
+use Rattle.dspec_cpu_state.specs.CpuStates.{parts_of_side}
 use Rattle.dspec_cpu.specs.Lists.{AreShown}
 use Rattle.dspec_cpu.specs.Sealed.{waiting}
 use Rattle.dspec_cpu.specs.Settled.{IsPartOf}
@@ -41,7 +41,7 @@ abbrev pub last_batch : {S : Type 0} → CpuRest S → Batch
 last_batch rest = record { cpu = rest.cpu; drops = rest.side.drops; buffer = rest.side.active }
 
 -- what it shows of the CPU's deeds
-abbrev pub side_of_rest : {S : Type 0} → CpuRest S → SideParts Stored
+abbrev pub side_of_rest : {S : Type 0} → CpuRest S → StateParts Stored
 side_of_rest rest = parts_of_side rest.side
 
 -- the batches that the CPU sealed, the latest first, where its end had handed on these, the oldest first

@@ -9,12 +9,12 @@ use Rattle.dspec_deeds.specs.declared.config.Config.{Config}
 use Rattle.dspec_deeds.specs.declared.deed.Deed.{Deed}
 use Rattle.dspec_deeds.specs.declared.deed.Deed.TheVariants.{Seal}
 use Rattle.dspec_deeds.specs.Own.{active, growing}
-use Rattle.dspec_side.specs.Sides as Sides
+use Rattle.dspec_cpu_state.specs.CpuStates as CpuStates
 
 module _ (shape : ℕ → Option Shape) (accepted : Record → Bool) (text : Record → List ℕ) where
   -- a buffer of that size has these pieces
   abbrev pub HasSized : ℕ → List Piece → Stored → Type 0
-  HasSized = Sides.IsFilledWith (λ b. HasPieces shape accepted text b) (λ b. b.size)
+  HasSized = CpuStates.IsFilledWith (λ b. HasPieces shape accepted text b) (λ b. b.size)
 
   -- a batch that was sealed behind the list: its buffer has the pieces that were in the active buffer then
   pub record IsSealed (k : Config) (c : ℕ) (p : List Deed) (b : Batch) : Type 0 where

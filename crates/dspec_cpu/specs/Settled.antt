@@ -27,11 +27,11 @@ use Rattle.dspec_table.specs.declared.doing.Doing.{Doing}
 use Rattle.dspec_table.specs.declared.rule.View.{View}
 use Rattle.dspec_table.specs.Acts.{fate_of_settlement}
 use Rattle.dspec_table.specs.Steps.{LoadedWord, SettledWord}
-use Rattle.dspec_side.specs.declared.side.Side.{Side}
-use Rattle.dspec_side.specs.Sides.{parts_of_side}
+use Rattle.dspec_cpu_state.specs.declared.cpu_state.CpuState.{CpuState}
+use Rattle.dspec_cpu_state.specs.CpuStates.{parts_of_side}
 use Rattle.dspec_cpu.specs.declared.parts.CpuParts.{CpuParts as Cpu}
 use Rattle.dspec_cpu.specs.Calls.{Goes}
-use Rattle.dspec_side.specs.Counting.{HasRoom}
+use Rattle.dspec_cpu_state.specs.Counting.{HasRoom}
 use Rattle.dspec_cpu.specs.Lists.{AreShown}
 
 -- the speculation of a slot whose word was shown
@@ -114,7 +114,7 @@ pub record IsPartOf (k : Config) (c : ℕ) (log p : List Deed) : Type 0 where
 module _ (shape : ℕ → Option Shape) (accepted : Record → Bool) (text : Record → List ℕ) where
   -- a list is shown, in which the CPU can settle a speculation whose word of that code waits for every CPU: where it isn't
   -- marked for it, it holds nothing of it; and the counts have room for its block
-  pub record CanSettle (k : Config) (c : ℕ) (side : Side Stored) (batches : List Batch) (id : Speculation) (code : Code) (p : List Deed) : Type 0 where
+  pub record CanSettle (k : Config) (c : ℕ) (side : CpuState Stored) (batches : List Batch) (id : Speculation) (code : Code) (p : List Deed) : Type 0 where
     pub shown : AreShown shape accepted text k c (parts_of_side side) batches side.counts p
     pub low : 1 ≤ id.slot
     pub high : id.slot ≤ k.nspec
@@ -124,6 +124,6 @@ module _ (shape : ℕ → Option Shape) (accepted : Record → Bool) (text : Rec
     pub drops : side.drops + (if is_lost (settling.settle_fate shape k c p id code) then 1 else 0) < 2 ^ 64
 
   -- the block is settled: as the code says, by whether it fits and how many records it has; and the Settle is shown too
-  pub record BlockSettled (k : Config) (c : ℕ) (new : Side Stored) (batches : List Batch) (id : Speculation) (code : Code) (doing : Doing) (p : List Deed) : Type 0 where
+  pub record BlockSettled (k : Config) (c : ℕ) (new : CpuState Stored) (batches : List Batch) (id : Speculation) (code : Code) (doing : Doing) (p : List Deed) : Type 0 where
     pub fate : fate_of_settlement doing code ≡ settling.settle_fate shape k c p id code
     pub shown : AreShown shape accepted text k c (parts_of_side new) batches new.counts (Settle c id (settling.settle_fate shape k c p id code) ∷ p)

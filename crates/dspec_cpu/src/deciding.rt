@@ -3,7 +3,7 @@ ghost use Rattle.dspec_deeds.specs.declared.calls.CpuOp.TheVariants as op;
 ghost use Rattle.dspec_deeds.specs.declared.deed.Deed.TheVariants.{Commit, Discard};
 ghost use Rattle.dspec_table.specs.Seats.{known};
 ghost use Rattle.dspec_cpu.specs.Calls.{Decides, is_worn_decided};
-ghost use Rattle.dspec_cpu.specs.Keeping.{CallKeeps};
+ghost use Rattle.dspec_cpu.specs.Keeping.{CallLeaves};
 ghost use Rattle.dspec_cpu.specs.Lists.{IsSameCpu, config_of, number_in, seat_of, words_of};
 ghost use Rattle.dspec_cpu.specs.Stops.{is_stopped_decided};
 ghost use Rattle.dspec_cpu.specs.Touching.{of_slot};
@@ -14,9 +14,9 @@ use crate::listed::Listed;
 use crate::parts::CpuParts;
 use crate::reaching::{Reach, go_on};
 use crate::shared::Shared;
+use dspec_cpu_state::committed_as;
 use dspec_deeds::{CpuOp, DecideFate, Decided};
 use dspec_record::Schema;
-use dspec_side::committed_as;
 use dspec_table::Doing;
 use dspec_word::{Code, SpecId};
 
@@ -49,7 +49,7 @@ impl<S: Schema> CpuParts<S> {
         requires ready { ⟦<CpuParts<S> as Callable>⟧.is_ready (words_of shared.now) self.old }
         ensures ready { ⟦<CpuParts<S> as Callable>⟧.is_ready (words_of shared.now) self.new }
         ensures same { IsSameCpu self.old self.new }
-        ensures keeps { CallKeeps (is_worn_decided result) (is_stopped_decided result) 5 (of_slot (config_of self.old) id) self.old self.new }
+        ensures keeps { CallLeaves (is_worn_decided result) (is_stopped_decided result) 5 (of_slot (config_of self.old) id) self.old self.new }
         ensures decides { Decides (Commit (number_in self.old) id) id result (⟦<Cpu<S> as Listed>⟧.has_list self.old) (known (seat_of self.old)) (⟦<Cpu<S> as Listed>⟧.has_list self.new) (known (seat_of self.new)) }
     {
         self.decide(shared, id, true)
@@ -60,7 +60,7 @@ impl<S: Schema> CpuParts<S> {
         requires ready { ⟦<CpuParts<S> as Callable>⟧.is_ready (words_of shared.now) self.old }
         ensures ready { ⟦<CpuParts<S> as Callable>⟧.is_ready (words_of shared.now) self.new }
         ensures same { IsSameCpu self.old self.new }
-        ensures keeps { CallKeeps (is_worn_decided result) (is_stopped_decided result) 5 (of_slot (config_of self.old) id) self.old self.new }
+        ensures keeps { CallLeaves (is_worn_decided result) (is_stopped_decided result) 5 (of_slot (config_of self.old) id) self.old self.new }
         ensures decides { Decides (Discard (number_in self.old) id) id result (⟦<Cpu<S> as Listed>⟧.has_list self.old) (known (seat_of self.old)) (⟦<Cpu<S> as Listed>⟧.has_list self.new) (known (seat_of self.new)) }
     {
         self.decide(shared, id, false)
@@ -72,7 +72,7 @@ impl<S: Schema> CpuParts<S> {
         requires ready { ⟦<CpuParts<S> as Callable>⟧.is_ready (words_of shared.now) self.old }
         ensures ready { ⟦<CpuParts<S> as Callable>⟧.is_ready (words_of shared.now) self.new }
         ensures same { IsSameCpu self.old self.new }
-        ensures keeps { CallKeeps (is_worn_decided result) (is_stopped_decided result) 5 (of_slot (config_of self.old) id) self.old self.new }
+        ensures keeps { CallLeaves (is_worn_decided result) (is_stopped_decided result) 5 (of_slot (config_of self.old) id) self.old self.new }
         ensures decides { Decides (if commits then Commit (number_in self.old) id else Discard (number_in self.old) id) id result (⟦<Cpu<S> as Listed>⟧.has_list self.old) (known (seat_of self.old)) (⟦<Cpu<S> as Listed>⟧.has_list self.new) (known (seat_of self.new)) }
     {
         if self.side.calls >= self.config.max_calls {

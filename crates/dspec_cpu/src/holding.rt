@@ -5,7 +5,7 @@ ghost use Rattle.dspec_deeds.specs.History.{in_range};
 ghost use Rattle.dspec_deeds.specs.Legal.{fits_principal, fits_speculative};
 ghost use Rattle.dspec_deeds.specs.Marks.{mark};
 ghost use Rattle.dspec_deeds.specs.Own.{contents, held};
-ghost use Rattle.dspec_side.specs.Sides.{IsCaller};
+ghost use Rattle.dspec_cpu_state.specs.CpuStates.{IsCaller};
 
 use crate::cpu::Cpu;
 use crate::listed::Listed;

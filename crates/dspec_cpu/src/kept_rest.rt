@@ -4,10 +4,10 @@ ghost use Rattle.dspec_cpu.specs.Rests.{schema_of_rest};
 
 use crate::rest::CpuRest;
 use dspec_buffer::ByteBuffer;
+use dspec_cpu_state::CpuState;
 use dspec_deeds::Config;
 use dspec_record::Schema;
 use dspec_ring::Batch;
-use dspec_side::Side;
 
 /// What is left of a CPU but its schema, which is the same for all CPUs of a session: it takes little room, so those of all CPUs can
 /// stand in one list until the words are closed.
@@ -15,7 +15,7 @@ use dspec_side::Side;
 pub struct KeptRest {
     pub(crate) config: Config,
     pub(crate) cpu: u32,
-    pub(crate) side: Side<ByteBuffer>,
+    pub(crate) side: CpuState<ByteBuffer>,
     pub(crate) held_back: Option<Batch>,
 }
 

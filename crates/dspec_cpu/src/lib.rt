@@ -8,17 +8,17 @@
 //! |---|---|
 //! | `cpu.rt`, `parts.rt`, `calls.rt` | `Cpu`, whose model keeps that no call of it is under way and that its fields show a list; `CpuParts`, its fields: the value that contracts see; its six calls, each a call of its parts |
 //! | `values.rt`, `standing.rt`, `making.rt`, `meeting.rt`, `reporting.rt` | records by their values; `stands`, `schema`, `number`; the start; meetings; reports, and the drops of a speculation |
-//! | `tracing.rt`, `speaking.rt`, `deciding.rt`, `opening.rt` | trace; speculate; commit and discard; speculation |
+//! | `tracing.rt`, `speculating.rt`, `deciding.rt`, `opening.rt` | trace; speculate; commit and discard; speculation |
 //! | `serving.rt`, `sealing.rt`, `settling.rt` | service: a batch handed on, a spare found, the active buffer sealed; `settle_due`, which settles a slot where that is due; `settle_block`, which ends a block that was decided |
 //! | `scanning.rt`, `holding.rt`, `reaching.rt` | the steps of a scan; of an identifier whether the CPU is a caller, what fits, what a block measures; `go_on`, the steps of a call on an identifier |
 //! | `rest.rt`, `rested.rt`, `resting.rt`, `kept_rest.rt` | `CpuRest` and `Cpu::part`, for the close; `KeptRest`, the same without its schema |
 //! | `listed.rt`, `callable.rt`, `shared.rt` | ghost traits; `Shared` |
 //! | `specs/`: Standing | `Identity`, which CPU it is; `Belongs`, that it is one of these words: all that a caller shows |
 //! | `specs/`: Called, OneCall | `called`: what a CPU's calls did, in the words of the page, and what one more adds by its answer; one relation for each call |
-//! | `specs/`: Lists, Keeping | `HasList`, `IsShown`, `IsSteady` (the invariant); `CallKeeps`, what each call that counts keeps; what stays of a CPU that is worn, or met the consumer |
+//! | `specs/`: Lists, Keeping | `HasList`, `IsShown`, `IsSteady` (the invariant); `CallLeaves`, what each call that counts keeps; what stays of a CPU that is worn, or met the consumer |
 //! | `specs/`: Calls, Reaching, Reached, Stops, Scans | `Goes`, a chain of a seat's steps; `Does`; a call on an identifier, while it runs and where it ended; that a stop is heeded; a call of speculation |
 //! | `specs/`: Switching, Settled, Serving, Sealed, Rests, Dropped | a switch; one slot and all slots; both together; batches by a list; the close; how many drops are told |
-//! | `proofs/` | Limits, Makes, Quiet, Shown, Ready, Traces, Mine, Outside, Retries, Reaches, Speaks, Decisions, Decided, Keeps, Commits, Discards; Slots, Scans, Openings; Seals, Switches, Heeding; OwnBlocks, Settlements, Services, ServedSlots; Closes, Rests, LegalParts, Stopping; Told, Telling (deeds told in the words of the page) |
+//! | `proofs/` | Limits, Makes, Quiet, Shown, Ready, Traces, Mine, Outside, Retries, Reaches, Speculates, Decisions, Decided, Keeps, Commits, Discards; Slots, Scans, Openings; Seals, Switches, Heeding; OwnBlocks, Settlements, Services, ServedSlots; Closes, Rests, LegalParts, Stopping; Told, Telling (deeds told in the words of the page) |
 //!
 //! How a call is proved: its steps give a chain, the seat's new list and a legal list with that as its part (`Stands`); the operation
 //! on the side says that it shows the list with the new deed in front, and so the CPU shows it (Shown); `ready_after` joins both.
@@ -45,7 +45,7 @@ mod sealing;
 mod serving;
 mod settling;
 mod shared;
-mod speaking;
+mod speculating;
 mod standing;
 mod tracing;
 mod values;

@@ -10,10 +10,10 @@ use crate::cpu::Cpu;
 use crate::listed::Listed;
 use crate::parts::CpuParts;
 use dspec_buffer::{ByteBuffer, TraceBuffer};
+use dspec_cpu_state::CpuState;
 use dspec_deeds::Config;
 use dspec_record::Schema;
 use dspec_ring::CpuEnd;
-use dspec_side::Side;
 use dspec_table::CpuSeat;
 use std::alloc::{AllocError, Global};
 
@@ -39,7 +39,7 @@ impl<S: Schema> Cpu<S> {
         ensures parts { IfOk result (λ made. (seat_of made ≡ seat) × (end_of made ≡ end) × (worn_of made ≡ 0)) }
         ensures spare { IfOk result (λ made. IsSome (spare_of made)) }
     {
-        let side = Side::<ByteBuffer>::make::<S>(alloc, config)?;
+        let side = CpuState::<ByteBuffer>::make::<S>(alloc, config)?;
         let spare = <ByteBuffer as TraceBuffer<S>>::make(alloc, config.bufsize)?;
         let parts = CpuParts {
             schema,

@@ -11,10 +11,10 @@ use crate::listed::Listed;
 use crate::parts::CpuParts;
 use crate::rest::CpuRest;
 use crate::rested::Rested;
+use dspec_cpu_state::CpuState;
 use dspec_deeds::Report;
 use dspec_record::Schema;
 use dspec_ring::{Batch, CpuEnd};
-use dspec_side::Side;
 use dspec_table::{CpuSeat, LastWords};
 
 impl<S: Schema> Cpu<S> {
@@ -83,7 +83,7 @@ impl<S: Schema> CpuRest<S> {
             held_back,
             ..
         } = self;
-        let Side { active, drops, .. } = side;
+        let CpuState { active, drops, .. } = side;
         let last = Batch {
             cpu,
             drops,

@@ -11,9 +11,9 @@ use crate::listed::Listed;
 use crate::parts::CpuParts;
 use crate::settling::serve;
 use dspec_buffer::ByteBuffer;
+use dspec_cpu_state::CpuState;
 use dspec_record::Schema;
 use dspec_ring::{Batch, CpuEnd};
-use dspec_side::Side;
 use dspec_table::Words;
 
 // Hands on the batch held back, by one push. It stays held back where the ring refuses it.
@@ -47,7 +47,7 @@ fn find_spare(end: &mut CpuEnd, spare: &mut Option<ByteBuffer>, bufsize: u32)
 }
 
 // Seals the active buffer: the spare, cleared, is active, and the one that was active a batch.
-fn seal<S: Schema>(cpu: u32, side: &mut Side<ByteBuffer>, mut spare: ByteBuffer) -> Batch
+fn seal<S: Schema>(cpu: u32, side: &mut CpuState<ByteBuffer>, mut spare: ByteBuffer) -> Batch
     requires seals { side.old.seals + 1 < 2 ^ 64 }
     ensures batch { result ≡ record { cpu = cpu; drops = side.old.drops; buffer = side.old.active } }
     ensures side { side.new ≡ record side.old { seals = side.old.seals + 1; active = emptied spare; drops = 0 } }

@@ -15,9 +15,9 @@ use crate::parts::CpuParts;
 use crate::rest::CpuRest;
 use crate::rested::Rested;
 use dspec_buffer::ByteBuffer;
+use dspec_cpu_state::{CpuState, settled_as};
 use dspec_deeds::{Config, CpuOp};
 use dspec_record::Schema;
-use dspec_side::{Side, settled_as};
 use dspec_table::{Doing, LastWords, Words};
 use dspec_word::{Act, SpecId, Word, settle_at};
 
@@ -38,7 +38,7 @@ pub(crate) fn serve(fits: bool, count: u32, mine: bool) -> Doing
 /// The call in flight tells what was measured.
 pub(crate) fn settle_block<S: Schema>(
     config: &Config,
-    side: &mut Side<ByteBuffer>,
+    side: &mut CpuState<ByteBuffer>,
     word: Word,
     slot: u32,
 ) -> Doing

@@ -23,12 +23,6 @@ first-behind f p n whole below none so_far =
     sym (ap (λ x. earlier x (first_found f (range_with_len (p + 1) (n - (p + 1))))) none)
     ∙ sym (ap (first_found f) (range-next p n below)) ∙ so_far
 
--- something at this place: it is the first
-pub first-here : {A : Type 0} (f : ℕ → Option A) (p n : ℕ) (whole : Option A) (x : A) → p < n → f p ≡ Some x
-    → first_found f (range_with_len p (n - p)) ≡ whole → whole ≡ Some x
-first-here f p n whole x below here so_far =
-    sym so_far ∙ ap (first_found f) (range-next p n below) ∙ ap (λ o. earlier o (first_found f (range_with_len (p + 1) (n - (p + 1))))) here
-
 pub none_of : {A : Type 0} (o : Option A) → is_some o ≡ false → o ≡ None
 none_of None e = refl
 none_of (Some x) e = absurd (cc)

@@ -58,12 +58,6 @@ run-more lasts mid new rs from place file r behind within is so_far goes =
     let files = subst (λ fs. Spreads lasts (take (k + 1) front) fs new) (replicate_more k file) records in
     subst (λ n. Spreads lasts (take n front) (replicate n file) new) sum files
 
--- no record goes anywhere
-pub run-none : (lasts : List ℕ) (rs : List Record) (from file : ℕ) → Spreads lasts (slice_range rs from from) (replicate (from - from) file) lasts
-run-none lasts rs from file =
-    let none : 0 ≡ from - from = omega arith in
-    subst (λ n. Spreads lasts (take n (drop from rs)) (replicate n file) lasts) none refl
-
 -- a record goes to a file, and those behind it
 pub run-first : (lasts mid new : List ℕ) (rs : List Record) (place end file : ℕ) → place < length rs → place < end
     → ((r : Record) → slice_get rs place ≡ Some r → GoesToFile lasts r.stamp file mid)

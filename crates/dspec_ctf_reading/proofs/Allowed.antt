@@ -31,7 +31,7 @@ use Rattle.dspec_ctf.specs.declared.form.Form.{Form}
 use Rattle.dspec_ctf_reading.specs.Reading.{FieldLayout}
 use Rattle.dspec_ctf_reading.specs.ReadingMetadata.{is_digit, is_word, is_quoted}
 use Rattle.dspec_ctf_reading.specs.Layouts.{names_by, given_name, given_for}
-use Rattle.dspec_ctf_reading.specs.Told.{HasNumbers}
+use Rattle.dspec_ctf_reading.specs.ToldNumbers.{HasNumbers}
 use Rattle.dspec_ctf_reading.proofs.Scanning.{decimal-digits, list_all-weaker}
 use Rattle.dspec_ctf_reading.proofs.Lines.{IsQuotable, IsWordy, IsLine, joined-map, AreLines-map, typed-line, type-back, kind-back}
 use Rattle.dspec_ctf_reading.proofs.Texts.{IsTold}

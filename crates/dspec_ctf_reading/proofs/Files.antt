@@ -19,8 +19,8 @@ use Rattle.dspec_ctf.specs.ByTime.{span_of}
 use Rattle.dspec_ctf_reading.specs.Reading.{Layout, EventRead, PacketRead, read_packet, read_file, events_of}
 use Rattle.dspec_ctf_reading.specs.Layouts.{Naming, layout_by, packet_read}
 use Rattle.dspec_ctf_reading.proofs.Bounds.{packets-on-bytes}
-use Rattle.dspec_ctf_reading.proofs.Events.{HasStamps}
-use Rattle.dspec_ctf_reading.proofs.Packets.{HasSpan, packet-back}
+use Rattle.dspec_ctf_reading.proofs.EventsRead.{HasStamps}
+use Rattle.dspec_ctf_reading.proofs.PacketsRead.{HasSpan, packet-back}
 use Rattle.dspec_ctf_reading.proofs.Joining.{join}
 
 -- a packet is a file

@@ -21,7 +21,7 @@ use Rattle.dspec_ctf_reading.specs.Reading.{EventLayout, Layout}
 use Rattle.dspec_ctf_reading.specs.ReadingMetadata.{rest_past, past, then_rest, with_part, is_digit, is_quoted, read_decimal, read_quoted, read_event_texts, header_lines}
 use Rattle.dspec_ctf_reading.specs.ReadingMetadata.{read_process, read_clock_uuid, read_clock_start, read_clock, read_streams, read_metadata}
 use Rattle.dspec_ctf_reading.specs.Layouts.{event_layout, is_timed, names_by, layout_of}
-use Rattle.dspec_ctf_reading.specs.Told.{ticks_of, HasNumbers}
+use Rattle.dspec_ctf_reading.specs.ToldNumbers.{ticks_of, HasNumbers}
 use Rattle.dspec_ctf_reading.proofs.Scanning.{read-run-back, decimal-back}
 use Rattle.dspec_ctf_reading.proofs.Lines.{IsQuotable}
 use Rattle.dspec_ctf_reading.proofs.Texts.{IsTold, texts-back}

@@ -1,8 +1,8 @@
 pub mod Bounds
 pub mod Joining
-pub mod Numbers
-pub mod Events
-pub mod Packets
+pub mod NumbersRead
+pub mod EventsRead
+pub mod PacketsRead
 pub mod Sizes
 pub mod Files
 pub mod Timed
@@ -15,3 +15,6 @@ pub mod Headings
 pub mod Allowed
 pub mod Numbered
 pub mod Shorter
+pub mod ScanLemmas
+pub mod LoopLemmas
+pub mod EventLemmas

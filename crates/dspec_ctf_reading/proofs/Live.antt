@@ -16,8 +16,8 @@ use Rattle.dspec_ctf.specs.declared.rows.Run.{Run}
 use Rattle.dspec_ctf_reading.specs.Reading.{Layout, PacketRead, read_file}
 use Rattle.dspec_ctf_reading.specs.Layouts.{Naming, event_read, layout_by, packet_read}
 use Rattle.dspec_ctf_reading.specs.Files.{FileTells, PartTells, file_bytes}
-use Rattle.dspec_ctf_reading.proofs.Events.{HasStamps}
-use Rattle.dspec_ctf_reading.proofs.Packets.{HasSpan}
+use Rattle.dspec_ctf_reading.proofs.EventsRead.{HasStamps}
+use Rattle.dspec_ctf_reading.proofs.PacketsRead.{HasSpan}
 use Rattle.dspec_ctf_reading.proofs.Joining.{join}
 use Rattle.dspec_ctf_reading.proofs.Files.{packet-read, span-low}
 

@@ -2,7 +2,7 @@
 use Rattle.std.proofs.Common.{◌≡◌, ◌≤◌, ◌<◌, ℕ, List, [], ◌∷◌, length, take, drop, Some, None, refl, ap, arith}
 use Rattle.std.specs.Int.{w32, w64, from_le_bytes}
 use Rattle.dspec_ctf_reading.specs.Reading.{read_number}
-use Rattle.dspec_ctf_reading.proofs.Numbers.{nested-4, nested-8}
+use Rattle.dspec_ctf_reading.proofs.NumbersRead.{nested-4, nested-8}
 
 pub four-there : (bs : List ℕ) → 4 ≤ length bs → read_number 4 bs ≡ Some (from_le_bytes w32 (take 4 bs), drop 4 bs)
 four-there [] long = absurd (omega (arith, long))

@@ -14,7 +14,7 @@ use Rattle.dspec_record.specs.declared.header.Header.{Header}
 use Rattle.dspec_record.specs.declared.header.Header.TheVariants as header
 use Rattle.dspec_ctf.specs.Packets.{stamp_bytes, values_bytes, event, events, event_fields}
 use Rattle.dspec_ctf.specs.Streams.{Accepts}
-use Rattle.dspec_ctf_reading.proofs.Events.{IsKnown, is-known}
+use Rattle.dspec_ctf_reading.proofs.EventsRead.{IsKnown, is-known}
 
 narrow : (f : Field) → width f ≤ 8
 narrow One = omega arith

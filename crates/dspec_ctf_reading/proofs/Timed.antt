@@ -13,8 +13,8 @@ use Rattle.dspec_ctf.specs.ByTime.{span_of, packet_count, part_at, packet_at, ti
 use Rattle.dspec_ctf_reading.specs.Reading.{PacketRead, read_file, events_of, loss_of}
 use Rattle.dspec_ctf_reading.specs.Layouts.{Naming, event_read, layout_by, packet_read}
 use Rattle.dspec_ctf_reading.specs.Files.{FileTells, last_missed}
-use Rattle.dspec_ctf_reading.proofs.Events.{HasStamps}
-use Rattle.dspec_ctf_reading.proofs.Packets.{HasSpan}
+use Rattle.dspec_ctf_reading.proofs.EventsRead.{HasStamps}
+use Rattle.dspec_ctf_reading.proofs.PacketsRead.{HasSpan}
 use Rattle.dspec_ctf_reading.proofs.Sizes.{events-small}
 use Rattle.dspec_ctf_reading.proofs.Files.{flat-read, flat-events, All-each, All-of, packet-read, span-low}
 

@@ -1,8 +1,12 @@
 pub mod Reading
 pub mod Sample
 pub mod Layouts
-pub mod Told
+pub mod ToldNumbers
 pub mod Files
 pub mod ReadingMetadata
 pub mod SampleMetadata
 pub mod Fronts
+pub mod Parts
+pub mod Told
+pub mod Faults
+pub mod Packets

@@ -1,26 +1,54 @@
--- Cited by calls. The numbers that a trace's metadata tells, as they are in memory: each has 64 bits at the most, and a uuid is made of bytes.
-use Rattle.std.specs.Prelude.{ℕ, ◌<◌, ◌≤◌, ◌^◌, [], All, length, unwrap_or}
-use Rattle.std.specs.Option.{option_map_or}
-use Rattle.dspec_record.specs.EnablingRows.{EnabledRows}
-use Rattle.dspec_ctf.specs.Packets.{event_fields}
-use Rattle.dspec_ctf.specs.Names.{labels_at}
-use Rattle.dspec_ctf.specs.declared.origin.Origin.{Origin}
-use Rattle.dspec_ctf.specs.declared.names.Names.{Names}
-use Rattle.dspec_ctf.specs.declared.form.Form.{Form}
-use Rattle.dspec_ctf.specs.declared.form.Form.TheVariants.{AsTaken, ByTime}
-use Rattle.dspec_ctf_reading.specs.Layouts.{given_for}
+-- Cited by calls. What was read in code, in the words of the definitions of reading.
+use Rattle.std.specs.Prelude.{◌≡◌, ◌<◌, ℕ, List, [], length, map, slice_index_or, is_some}
+use Rattle.std.specs.List.{zip}
+use Rattle.dspec_record.specs.Layout.{width}
+use Rattle.dspec_ctf_reading.specs.Reading.{FieldLayout, EventLayout, Layout, EventRead}
+use Rattle.dspec_ctf_reading.specs.Fronts.{PacketSplit, front_of}
+use Rattle.dspec_ctf_reading.specs.declared.fronts.Packet.{Packet}
+use Rattle.dspec_ctf_reading.specs.declared.told.Label.{Label}
+use Rattle.dspec_ctf_reading.specs.declared.told.FieldText.{FieldText}
+use Rattle.dspec_ctf_reading.specs.declared.told.EventText.{EventText}
+use Rattle.dspec_ctf_reading.specs.declared.told.Metadata.{Metadata}
+use Rattle.dspec_ctf_reading.specs.declared.events.Event.{Event}
 
-abbrev pub ticks_of : Form → ℕ
-ticks_of AsTaken = 0
-ticks_of (ByTime frequency) = frequency
+-- a label, and the number that has it
+abbrev pub told_label : Label → List ℕ × ℕ
+told_label label = (label.text.now, label.number)
 
-pub record HasNumbers (origin : Origin) (form : Form) (e : EnabledRows) (names : Names) : Type 0 where
-  pub uuid : All (λ b. b < 256) origin.uuid
-  pub pid : option_map_or (λ p. p.pid) origin.process 0 < 2 ^ 64
-  pub frequency : ticks_of form < 2 ^ 64
-  pub clock : All (λ b. b < 256) (option_map_or (λ s. unwrap_or s.clock []) origin.start [])
-  pub seconds : option_map_or (λ s. s.seconds) origin.start 0 < 2 ^ 64
-  pub ticks : option_map_or (λ s. s.ticks) origin.start 0 < 2 ^ 64
-  pub events : length e.rows < 2 ^ 64
-  pub fields : (epid : ℕ) → length (event_fields e epid) ≤ 2 ^ 64
-  pub labels : (epid place : ℕ) → option_map_or (λ n. length (labels_at n place)) (given_for names epid) 0 ≤ 2 ^ 64
+abbrev pub told_field : FieldText → FieldLayout
+told_field field = record { name = field.name.now; width = width field.width }
+
+abbrev pub told_event : EventText → EventLayout
+told_event event = record { id = event.id; name = event.name.now; fields = map told_field event.fields.items }
+
+-- the layout that the metadata tells: a trace with a clock has stamps
+abbrev pub told_layout : Metadata → Layout
+told_layout metadata = record { timed = is_some metadata.clock; events = map told_event metadata.events.items }
+
+-- ---- events
+
+abbrev pub names_of : List FieldLayout → List (List ℕ)
+names_of fields = map (λ field. field.name) fields
+
+-- what is told at a place of a layout; nothing where it has no such place
+abbrev pub text_at : List EventLayout → ℕ → EventLayout
+text_at events place = slice_index_or events place (record { id = 0; name = []; fields = [] })
+
+-- an event in memory as it is read: the text at its place, its stamp, and its values under its fields' names
+abbrev pub as_read : Layout → Event → EventRead
+as_read layout event = record {
+  id = (text_at layout.events event.place).id;
+  name = (text_at layout.events event.place).name;
+  stamp = event.stamp;
+  values = zip (names_of (text_at layout.events event.place).fields) event.values.items;
+}
+
+-- there is a text at its place, and it has a value for each field
+abbrev pub Fits : Layout → Event → Type 0
+Fits layout event = (event.place < length layout.events) × (length event.values.items ≡ length (text_at layout.events event.place).fields)
+
+-- ---- packets
+
+-- a packet in memory as it is split
+abbrev pub told_packet : Packet → PacketSplit
+told_packet packet = record { front = front_of packet.front; body = packet.body.now; behind = packet.behind.now }

@@ -22,7 +22,7 @@ ghost use Rattle.dspec_ctf_reading.specs.Reading.{Layout, PacketRead, read_packe
 ghost use Rattle.dspec_ctf_reading.specs.Fronts.{split_packet};
 ghost use Rattle.dspec_ctf_reading.specs.Layouts.{layout_of, event_of, packet_of, given_for};
 ghost use Rattle.dspec_ctf_reading.specs.Files.{FileTells, PartTells, file_bytes, last_missed};
-ghost use Rattle.dspec_ctf_reading.specs.Told.{HasNumbers};
+ghost use Rattle.dspec_ctf_reading.specs.ToldNumbers.{HasNumbers};
 ghost use Rattle.dspec_ctf_reading.specs.ReadingMetadata.{read_field, read_metadata, read_type};
 ghost use Rattle.dspec_ctf_reading.specs.SampleMetadata.{timed_text, timed_text_layout, taken_text, taken_text_layout};
 ghost use Rattle.dspec_ctf_reading.specs.Sample.{sample_layout, sample_bytes, sample_packet, sized, stamped_bytes, stamped_packet};

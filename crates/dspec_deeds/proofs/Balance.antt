@@ -3,7 +3,7 @@ use Rattle.std.proofs.Common.{◌≡◌, ℕ, ◌+◌, false, if◌then◌else�
 use Rattle.dspec_deeds.specs.declared.config.Config.{Config}
 use Rattle.dspec_deeds.specs.declared.deed.Deed.{Deed}
 use Rattle.dspec_deeds.specs.Own.{Offer, offers, held}
-use Rattle.dspec_deeds.specs.Reports.{Spoken, speculative, accepts_now, drops_now, specdrops_now, loses_now, discards_now, voids_now, report, records_of_report}
+use Rattle.dspec_deeds.specs.Reports.{Spoken, speculative, accepts_now, traces_dropped_now, specdrops_now, loses_now, discards_now, voids_now, report, records_of_report}
 use Rattle.dspec_deeds.specs.Fates.{Fate, taken, dropped, discarded, void, waiting, is_taken, is_dropped, is_discarded, is_void, is_waiting}
 use Rattle.dspec_deeds.proofs.DeedEffects.{spoken_as, next_offer, Counts, Effect, idle, offering, emptying, Accounts}
 use Rattle.dspec_deeds.proofs.SpokenRecords.{spoken_idle, spoken_offered, spoken_fewer}
@@ -18,7 +18,7 @@ one_fate (waiting id) n = omega arith
 
 -- what the counts of a deed add up to
 counted : (c : ℕ) (d : Deed) (f : Fate) (n : ℕ) → Counts c d f n
-    → accepts_now c d + drops_now c d + specdrops_now c d + loses_now c d + discards_now c d + voids_now c d + (if is_waiting f then n else 0) ≡ n
+    → accepts_now c d + traces_dropped_now c d + specdrops_now c d + loses_now c d + discards_now c d + voids_now c d + (if is_waiting f then n else 0) ≡ n
 counted c d f n s =
     let a = s.accepts in
     let b = s.drops in
@@ -54,7 +54,7 @@ balance k c worn (d ∷ h) l = step (l.1) (balance k c worn h l.0)
         let gone = m.gone in
         rw m.offered (last gone n less)
       where
-        last : is_waiting f ≡ false → accepts_now c d + drops_now c d + specdrops_now c d + loses_now c d + discards_now c d + voids_now c d +
+        last : is_waiting f ≡ false → accepts_now c d + traces_dropped_now c d + specdrops_now c d + loses_now c d + discards_now c d + voids_now c d +
             (if is_waiting f then length (held c i h) else 0) ≡ length (held c i h)
             → length (speculative c (d ∷ h)) + length (held c i h) ≡ length (speculative c h) → offers c h + 0 ≡ records_of_report (report k c worn (d ∷ h))
-        last g n less = let all : accepts_now c d + drops_now c d + specdrops_now c d + loses_now c d + discards_now c d + voids_now c d + 0 ≡ length (held c i h) = rw g at n in omega arith
+        last g n less = let all : accepts_now c d + traces_dropped_now c d + specdrops_now c d + loses_now c d + discards_now c d + voids_now c d + 0 ≡ length (held c i h) = rw g at n in omega arith

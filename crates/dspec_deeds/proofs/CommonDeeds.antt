@@ -26,13 +26,13 @@ trace_stop : (f : TraceFate) → trace_stopped (common_traced f) ≡ trace_stopp
 trace_stop traced.Kept = refl
 trace_stop f = refl
 
-speak_stop : (f : SpeculateFate) → spoken_stopped (common_spoken f) ≡ spoken_stopped f
-speak_stop spoken.Kept = refl
-speak_stop f = refl
+speculate_stop : (f : SpeculateFate) → spoken_stopped (common_spoken f) ≡ spoken_stopped f
+speculate_stop spoken.Kept = refl
+speculate_stop f = refl
 
-speak_grant : (f : SpeculateFate) → spoken_granted (common_spoken f) ≡ spoken_granted f
-speak_grant spoken.Kept = refl
-speak_grant f = refl
+speculate_grant : (f : SpeculateFate) → spoken_granted (common_spoken f) ≡ spoken_granted f
+speculate_grant spoken.Kept = refl
+speculate_grant f = refl
 
 decide_stop : (f : DecideFate) → decided_stopped (common_decided f) ≡ decided_stopped f
 decide_stop (decided.Copied n) = refl
@@ -66,7 +66,7 @@ rules id (Discard c j f) = ap (λ b. if b && same_id id j then discarded c else 
 rules id d = refl
 
 calls_it : (id : Speculation) (d : Deed) → calls_on id (common_deed d) ≡ calls_on id d
-calls_it id (Speculate c j r f) = ap (λ b. if b && same_id id j then Some c else None) (speak_grant f)
+calls_it id (Speculate c j r f) = ap (λ b. if b && same_id id j then Some c else None) (speculate_grant f)
 calls_it id d = refl
 
 ends : (c : ℕ) (id : Speculation) (d : Deed) → settles c id (common_deed d) ≡ settles c id d
@@ -195,7 +195,7 @@ answers_common x c id s t a b p q = subst (λ (r : Bool × Bool). AnswersBy x c 
 module _ (k : Config) (x : Facts) where
   to_common : (d : Deed) → FollowsBy k x d → FollowsBy k x (common_deed d)
   to_common (Trace c r f) e = (e.0, (e.1.0, trace_stop f ∙ e.1.1))
-  to_common (Speculate c id r f) e = (e.0, (e.1.0, answers_common x c id _ _ _ _ (sym (speak_stop f)) (sym (speak_grant f)) e.1.1))
+  to_common (Speculate c id r f) e = (e.0, (e.1.0, answers_common x c id _ _ _ _ (sym (speculate_stop f)) (sym (speculate_grant f)) e.1.1))
   to_common (Commit c id f) e = (e.0, (e.1.0, decide_discard f ∙ e.1.1, answers_common x c id _ _ _ _ (sym (decide_stop f)) (sym (decide_commit f)) e.1.2))
   to_common (Discard c id f) e = (e.0, (e.1.0, decide_commit f ∙ e.1.1, answers_common x c id _ _ _ _ (sym (decide_stop f)) (sym (decide_discard f)) e.1.2))
   to_common (Settle c id f) e = (e.0, (e.1.0, (e.1.1.0, (settles_common (x.ruled id) f).1 e.1.1.1, e.1.1.2, e.1.1.3)))
@@ -203,7 +203,7 @@ module _ (k : Config) (x : Facts) where
 
   from_common : (d : Deed) → FollowsBy k x (common_deed d) → FollowsBy k x d
   from_common (Trace c r f) e = (e.0, (e.1.0, sym (trace_stop f) ∙ e.1.1))
-  from_common (Speculate c id r f) e = (e.0, (e.1.0, answers_common x c id _ _ _ _ (speak_stop f) (speak_grant f) e.1.1))
+  from_common (Speculate c id r f) e = (e.0, (e.1.0, answers_common x c id _ _ _ _ (speculate_stop f) (speculate_grant f) e.1.1))
   from_common (Commit c id f) e = (e.0, (e.1.0, sym (decide_discard f) ∙ e.1.1, answers_common x c id _ _ _ _ (decide_stop f) (decide_commit f) e.1.2))
   from_common (Discard c id f) e = (e.0, (e.1.0, sym (decide_commit f) ∙ e.1.1, answers_common x c id _ _ _ _ (decide_stop f) (decide_discard f) e.1.2))
   from_common (Settle c id f) e = (e.0, (e.1.0, (e.1.1.0, (settles_common (x.ruled id) f).0 e.1.1.1, e.1.1.2, e.1.1.3)))

@@ -14,8 +14,8 @@ use Rattle.dspec_deeds.specs.declared.deed.Deed.{Deed}
 use Rattle.dspec_deeds.specs.declared.deed.Deed.TheVariants.{Trace, Speculate, Commit, Discard, Settle}
 use Rattle.dspec_deeds.specs.History.{same_id, Verdict, undecided, committed, discarded as ruled_out, verdict}
 use Rattle.dspec_deeds.specs.Own.{Offer, offered_by, offers, empties, held, accepts}
-use Rattle.dspec_deeds.specs.Legal.{SettlesAs, Follows, OwnAllows, IsAllowed}
-use Rattle.dspec_deeds.specs.Reports.{accepts_now, drops_now, specdrops_now, loses_now, discards_now, voids_now, adds_now, Spoken}
+use Rattle.dspec_deeds.specs.Legal.{SettlesAs, Follows, CpuLegal, IsAllowed}
+use Rattle.dspec_deeds.specs.Reports.{accepts_now, traces_dropped_now, specdrops_now, loses_now, discards_now, voids_now, adds_now, Spoken}
 use Rattle.dspec_deeds.specs.FateKinds.{is_commit, is_discard}
 use Rattle.dspec_deeds.specs.Fates.{Fate, taken, dropped, discarded, waiting, first_fate, fate_by, is_taken, is_dropped, is_discarded, is_void, is_waiting, offered_to}
 use Rattle.dspec_deeds.proofs.TestLemmas.{either_way, and_false, same_number, number_is_itself}
@@ -43,7 +43,7 @@ Sent f x = Unit {0}
 -- what a deed adds to the counts of a report when so many records get a fate
 pub record Counts (c : ℕ) (d : Deed) (f : Fate) (n : ℕ) : Type 0 where
   pub accepts : accepts_now c d ≡ (if is_taken f then n else 0)
-  pub drops : drops_now c d + specdrops_now c d + loses_now c d ≡ (if is_dropped f then n else 0)
+  pub drops : traces_dropped_now c d + specdrops_now c d + loses_now c d ≡ (if is_dropped f then n else 0)
   pub discards : discards_now c d ≡ (if is_discarded f then n else 0)
   pub voids : voids_now c d ≡ (if is_void f then n else 0)
 
@@ -323,7 +323,7 @@ settles_somehow (committed c) f s e = absurd (true≢false (sym s ∙ e))
 settles_somehow (ruled_out c) f s e = s
 
 -- a legal commit empties or does nothing
-own_commit : (shape : ℕ → Option Shape) (k : Config) (c : ℕ) (id : Speculation) (f : DecideFate) (h : List Deed) → OwnAllows shape k h (Commit c id f) → Effect c (Commit c id f) h
+own_commit : (shape : ℕ → Option Shape) (k : Config) (c : ℕ) (id : Speculation) (f : DecideFate) (h : List Deed) → CpuLegal shape k h (Commit c id f) → Effect c (Commit c id f) h
 own_commit shape k c id (decided.Copied n) h o = emptying id taken (copied_commit c id n h o.0)
 own_commit shape k c id (decided.Lost n) h o = emptying id dropped (lost_commit c id n h o.0)
 own_commit shape k c id (decided.Thrown n) h o = idle (undecided_commit c id (decided.Thrown n) h refl)
@@ -331,7 +331,7 @@ own_commit shape k c id decided.Void h o = idle (undecided_commit c id decided.V
 own_commit shape k c id decided.Stopped h o = idle (undecided_commit c id decided.Stopped h refl)
 
 -- a legal discard empties or does nothing
-own_discard : (shape : ℕ → Option Shape) (k : Config) (c : ℕ) (id : Speculation) (f : DecideFate) (h : List Deed) → OwnAllows shape k h (Discard c id f) → Effect c (Discard c id f) h
+own_discard : (shape : ℕ → Option Shape) (k : Config) (c : ℕ) (id : Speculation) (f : DecideFate) (h : List Deed) → CpuLegal shape k h (Discard c id f) → Effect c (Discard c id f) h
 own_discard shape k c id (decided.Copied n) h o = idle (undecided_discard c id (decided.Copied n) h refl)
 own_discard shape k c id (decided.Lost n) h o = idle (undecided_discard c id (decided.Lost n) h refl)
 own_discard shape k c id (decided.Thrown n) h o = emptying id discarded (thrown_discard c id n h o)
@@ -340,7 +340,7 @@ own_discard shape k c id decided.Stopped h o = idle (undecided_discard c id deci
 
 -- a legal settlement empties
 own_settle : (shape : ℕ → Option Shape) (k : Config) (c : ℕ) (id : Speculation) (f : DecideFate) (h : List Deed) → (is_commit f ≡ false → is_discard f ≡ true)
-    → OwnAllows shape k h (Settle c id f) → Effect c (Settle c id f) h
+    → CpuLegal shape k h (Settle c id f) → Effect c (Settle c id f) h
 own_settle shape k c id (decided.Copied n) h s o = emptying id taken (copied_settle c id n h o.0)
 own_settle shape k c id (decided.Lost n) h s o = emptying id dropped (lost_settle c id n h o.0)
 own_settle shape k c id (decided.Thrown n) h s o = emptying id discarded (thrown_settle c id n h o)
@@ -357,7 +357,7 @@ decisive k (Settle c id f) h s = settles_somehow (verdict id h) f s.1.1.1
 decisive k d h s = tt
 
 -- each deed that is legal in the own part has one of the three effects
-pub effect : (shape : ℕ → Option Shape) (k : Config) (c : ℕ) (d : Deed) (h : List Deed) → IsDecisive d → OwnAllows shape k h d → Effect c d h
+pub effect : (shape : ℕ → Option Shape) (k : Config) (c : ℕ) (d : Deed) (h : List Deed) → IsDecisive d → CpuLegal shape k h d → Effect c d h
 effect shape k c (Trace a r f) h s o = ⊎_elim
     (λ (t : (c == a) ≡ true). subst (λ x. Effect c (Trace x r f) h) (same_number c a t) (offering r (first_fate (Trace c r f)) (own_trace c r f h)))
     (λ (n : (c == a) ≡ false). idle (other_trace c a r f h n))
@@ -367,15 +367,15 @@ effect shape k c (Speculate a id r f) h s o = ⊎_elim
     (λ (n : (c == a) ≡ false). idle (other_speculate c a id r f h n))
     (either_way (c == a))
 effect shape k c (Commit a id f) h s o = ⊎_elim
-    (λ (t : (c == a) ≡ true). subst (λ x. OwnAllows shape k h (Commit x id f) → Effect c (Commit x id f) h) (same_number c a t) (own_commit shape k c id f h) o)
+    (λ (t : (c == a) ≡ true). subst (λ x. CpuLegal shape k h (Commit x id f) → Effect c (Commit x id f) h) (same_number c a t) (own_commit shape k c id f h) o)
     (λ (n : (c == a) ≡ false). idle (other_commit c a id f h n))
     (either_way (c == a))
 effect shape k c (Discard a id f) h s o = ⊎_elim
-    (λ (t : (c == a) ≡ true). subst (λ x. OwnAllows shape k h (Discard x id f) → Effect c (Discard x id f) h) (same_number c a t) (own_discard shape k c id f h) o)
+    (λ (t : (c == a) ≡ true). subst (λ x. CpuLegal shape k h (Discard x id f) → Effect c (Discard x id f) h) (same_number c a t) (own_discard shape k c id f h) o)
     (λ (n : (c == a) ≡ false). idle (other_discard c a id f h n))
     (either_way (c == a))
 effect shape k c (Settle a id f) h s o = ⊎_elim
-    (λ (t : (c == a) ≡ true). subst (λ x. OwnAllows shape k h (Settle x id f) → Effect c (Settle x id f) h) (same_number c a t) (own_settle shape k c id f h s) o)
+    (λ (t : (c == a) ≡ true). subst (λ x. CpuLegal shape k h (Settle x id f) → Effect c (Settle x id f) h) (same_number c a t) (own_settle shape k c id f h s) o)
     (λ (n : (c == a) ≡ false). idle (other_settle c a id f h n))
     (either_way (c == a))
 effect shape k c d h s o = idle (record {

@@ -1,5 +1,5 @@
 -- Where a CPU's buffer of a speculation is empty.
-use Rattle.std.proofs.Common.{◌≡◌, ◌≢◌, ◌⊎◌, ℕ, suc, ◌<◌, Bool, true, false, ◌&&◌, ◌==◌, if◌then◌else◌, List, [], ◌∷◌, Some, None, refl, sym, ap, ◌∙◌, subst, ⊎_elim, inl, inr, arith, true≢false}
+use Rattle.std.proofs.Common.{[], ◌≡◌, ◌≢◌, ◌⊎◌, ℕ, suc, ◌<◌, Bool, true, false, ◌&&◌, ◌==◌, if◌then◌else◌, List, ◌∷◌, Some, None, refl, sym, ap, ◌∙◌, subst, ⊎_elim, inl, inr, arith, true≢false}
 use Rattle.std.proofs.lemmas.Bool.Decides.{nat_tests}
 use Rattle.dspec_word.specs.SpecId.{Speculation}
 use Rattle.dspec_record.specs.Record.{Record}
@@ -8,18 +8,16 @@ use Rattle.dspec_deeds.specs.declared.deed.SpeculateFate.{SpeculateFate}
 use Rattle.dspec_deeds.specs.declared.deed.SpeculateFate.TheVariants as spoken
 use Rattle.dspec_deeds.specs.declared.deed.Deed.{Deed}
 use Rattle.dspec_deeds.specs.declared.deed.Deed.TheVariants.{Speculate, Commit, Discard, Settle, Release}
-use Rattle.dspec_deeds.specs.declared.calls.Actor.TheVariants.{Cpu}
 use Rattle.dspec_deeds.specs.FateKinds.{spoken_granted, spoken_kept, is_commit, is_discard}
-use Rattle.dspec_deeds.specs.History.{same_id, same_actor, author, is_among, issue, releases, present, opened, Verdict, undecided, committed, discarded, verdict}
+use Rattle.dspec_deeds.specs.History.{same_id, is_among, issue, releases, present, opened, Verdict, undecided, committed, discarded, verdict}
 use Rattle.dspec_deeds.specs.History.{ruling, latest, is_undecided, is_open, callers, joined, is_sole, is_sole_or_none, solo, solo_of, settled, settles}
 use Rattle.dspec_deeds.specs.Own.{Offer, keeps, empties, held}
 use Rattle.dspec_deeds.specs.Legal.{IsSound}
 use Rattle.dspec_deeds.proofs.TestLemmas.{either_way, off, and_tells, and_false, or_none, or_tells, same_number, same_id_tells, has_joined}
 use Rattle.dspec_deeds.proofs.SoundLists.{unseen}
-use Rattle.dspec_deeds.proofs.PresentIds.{past_shut, decided_shut, later_unopened}
+use Rattle.dspec_deeds.proofs.PresentIds.{past_shut, decided_shut}
 use Rattle.dspec_deeds.proofs.WordChanges.{granted_open}
 use Rattle.dspec_deeds.proofs.Acked.{settled_decided}
-use Rattle.dspec_deeds.proofs.StayingOwn.{held_other}
 
 -- a kept record was granted
 kept_granted : (f : SpeculateFate) → spoken_kept f ≡ true → spoken_granted f ≡ true
@@ -202,20 +200,3 @@ past_empty k c id (d ∷ h) lt s past = ⊎_elim
         let is : id ≡ present n h = λ i. record { issue = (now ∙ ap (λ x. issue x h) slot) i; slot = slot i } in
         ap (λ j. held c j h) is ∙ release_empty k c n h lt s
     go d s r now = absurd (true≢false (sym r))
-
--- another's deed leaves what the CPU has in its buffer of the slot's present speculation
-pub present_other : (k : Config) (c s : ℕ) (d : Deed) (h : List Deed) → c < k.cpus → IsSound k (d ∷ h) → same_actor (Cpu c) (author d h) ≡ false
-    → held c (present s (d ∷ h)) (d ∷ h) ≡ held c (present s h) h
-present_other k c s d h lt sound other = ⊎_elim
-    (λ (t : releases s d ≡ true). go d sound t)
-    (λ (f : releases s d ≡ false). ap (λ (m : ℕ). held c record { issue = m; slot = s } (d ∷ h)) (let same : issue s (d ∷ h) ≡ issue s h = rw f refl in same) ∙ held_other c (present s h) d h other)
-    (either_way (releases s d))
-  where
-    go : (d : Deed) → IsSound k (d ∷ h) → releases s d ≡ true → held c (present s (d ∷ h)) (d ∷ h) ≡ held c (present s h) h
-    go (Release n) sound t =
-        let next : Speculation = record { issue = suc (issue s h); slot = s } in
-        let up : issue s (Release n ∷ h) ≡ suc (issue s h) = rw t refl in
-        let un = later_unopened k h next sound.0 (omega arith) in
-        let was : held c (present s h) h ≡ [] = subst (λ x. held c (present x h) h ≡ []) (sym (same_number s n t)) (release_empty k c n h lt sound) in
-        ap (λ (m : ℕ). held c record { issue = m; slot = s } h) up ∙ (unopened_empty k c next h sound.0 un ∙ sym was)
-    go d sound t = absurd (true≢false (sym t))

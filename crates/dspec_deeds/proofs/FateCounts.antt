@@ -6,7 +6,7 @@ use Rattle.dspec_record.specs.Record.{Record}
 use Rattle.dspec_word.specs.SpecId.{Speculation}
 use Rattle.dspec_deeds.specs.declared.deed.Deed.{Deed}
 use Rattle.dspec_deeds.specs.Own.{Offer, offers, held}
-use Rattle.dspec_deeds.specs.Reports.{total, accepts_now, drops_now, specdrops_now, loses_now, discards_now, voids_now}
+use Rattle.dspec_deeds.specs.Reports.{total, accepts_now, traces_dropped_now, specdrops_now, loses_now, discards_now, voids_now}
 use Rattle.dspec_deeds.specs.Fates.{Fate, taken, waiting, fate, fates, fates_below, is_taken, is_dropped, is_discarded, is_void, is_waiting, times}
 use Rattle.dspec_deeds.proofs.DeedEffects.{waits_for, Counts, Idle, Offers, Empties, Effect, idle, offering, emptying, Accounts}
 use Rattle.dspec_deeds.proofs.HeldOffers.{fate_idle, fate_offered, fate_earlier, fate_emptied, tally, emptied_gains, emptied_leaves, times_held}
@@ -158,7 +158,7 @@ void_count c (d ∷ h) l =
     g.grows is_void (λ i. refl) ∙ rw (void_count c h l.0, g.counts.voids) refl
 
 -- so many were dropped as are counted in the three ways to drop
-pub dropped_count : (c : ℕ) (h : List Deed) → Accounts c h → fates is_dropped c h ≡ total (drops_now c) h + total (specdrops_now c) h + total (loses_now c) h
+pub dropped_count : (c : ℕ) (h : List Deed) → Accounts c h → fates is_dropped c h ≡ total (traces_dropped_now c) h + total (specdrops_now c) h + total (loses_now c) h
 dropped_count c [] l = refl
 dropped_count c (d ∷ h) l =
     let g = growth c d h l in

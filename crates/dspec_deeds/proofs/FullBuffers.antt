@@ -17,7 +17,7 @@ use Rattle.dspec_deeds.specs.Ranges.{is_fill}
 use Rattle.dspec_deeds.specs.FateKinds.{trace_stopped, is_commit}
 use Rattle.dspec_deeds.specs.Own.{Offer, contents, held, active, accepts, is_drop, full, growing, batches, seals, seals_now}
 use Rattle.dspec_deeds.specs.Owning.{IsOwn}
-use Rattle.dspec_deeds.specs.Legal.{is_empty, fits_principal, OwnAllows, IsFitting}
+use Rattle.dspec_deeds.specs.Legal.{is_empty, fits_principal, CpuLegal, IsFitting}
 use Rattle.dspec_deeds.specs.Reports.{total, one_if}
 use Rattle.dspec_deeds.specs.Rules.{drops_of}
 use Rattle.dspec_deeds.proofs.TestLemmas.{and_false, either_way, number_is_itself, same_number}
@@ -107,20 +107,20 @@ accepts_none shape k c d h fill was fitting = go d fitting
 
 module _ (shape : ℕ → Option Shape) (k : Config) (c : ℕ) (h : List Deed) where
   -- a trace that is refused
-  pub trace_refused : (r : Record) (f : TraceFate) → OwnAllows shape k h (Trace c r f) → trace_stopped f ≡ false → fits_principal shape k c (one r) h ≡ false → full c (Trace c r f ∷ h) ≡ true
+  pub trace_refused : (r : Record) (f : TraceFate) → CpuLegal shape k h (Trace c r f) → trace_stopped f ≡ false → fits_principal shape k c (one r) h ≡ false → full c (Trace c r f ∷ h) ≡ true
   trace_refused r traced.Kept row runs refused = absurd (true≢false (row ∙ refused))
   trace_refused r traced.Dropped row runs refused = let own = number_is_itself c in rw own refl
   trace_refused r traced.Stopped row runs refused = absurd (true≢false runs)
 
   -- a commit's block that is refused
-  pub commit_refused : (id : Speculation) (f : DecideFate) → OwnAllows shape k h (Commit c id f) → is_commit f ≡ true
+  pub commit_refused : (id : Speculation) (f : DecideFate) → CpuLegal shape k h (Commit c id f) → is_commit f ≡ true
       → fits_principal shape k c (block (contents (held c id h))) h ≡ false → full c (Commit c id f ∷ h) ≡ true
   commit_refused id (decided.Copied n) row decides refused = absurd (true≢false (row.1 ∙ refused))
   commit_refused id (decided.Lost n) row decides refused = let own = number_is_itself c in rw own refl
   commit_refused id f row decides refused = absurd (true≢false (sym decides))
 
   -- a settlement's
-  pub settle_refused : (id : Speculation) (f : DecideFate) → OwnAllows shape k h (Settle c id f) → is_commit f ≡ true
+  pub settle_refused : (id : Speculation) (f : DecideFate) → CpuLegal shape k h (Settle c id f) → is_commit f ≡ true
       → fits_principal shape k c (block (contents (held c id h))) h ≡ false → full c (Settle c id f ∷ h) ≡ true
   settle_refused id (decided.Copied n) row decides refused = absurd (true≢false (row.1 ∙ refused))
   settle_refused id (decided.Lost n) row decides refused = let own = number_is_itself c in rw own refl

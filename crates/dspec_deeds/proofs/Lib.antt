@@ -32,7 +32,7 @@ pub mod Items
 pub mod Walks
 pub mod Marks
 pub mod OwnReads
-pub mod OwnSides
+pub mod OwnStates
 pub mod BareReads
 pub mod OwnParts
 pub mod BareSound

@@ -14,7 +14,7 @@ use Rattle.dspec_deeds.proofs.TestLemmas.{either_way, same_number}
 use Rattle.dspec_deeds.proofs.DeedEffects.{Effect, idle, effect, IsDecisive, decisive, Accounts}
 use Rattle.dspec_deeds.proofs.ReportBounds.{counts_within, IsScanned, AreScanned, IsFitted, AreFitted}
 use Rattle.dspec_deeds.proofs.Headlines.{accounts_fate_law}
-use Rattle.dspec_deeds.specs.Owning.{OwnRow, IsOwn}
+use Rattle.dspec_deeds.specs.Owning.{CpuRow, IsOwn}
 use Rattle.dspec_deeds.specs.Weaving.{bare}
 use Rattle.dspec_deeds.proofs.BareReads.{seal_is}
 use Rattle.dspec_deeds.proofs.OwnReads.{reads, apart_bare}
@@ -56,7 +56,7 @@ bare_due k (d ∷ p) due = ⊎_elim
     missed d e = tt
 
 module _ (shape : ℕ → Option Shape) (k : Config) where
-  own_effect : (c : ℕ) (d : Deed) (p : List Deed) → IsDecisive d → OwnRow shape k p d → Effect c d p
+  own_effect : (c : ℕ) (d : Deed) (p : List Deed) → IsDecisive d → CpuRow shape k p d → Effect c d p
   own_effect c (Release s) p due row = idle
       (record { offered = refl; empty = λ id. refl; holds = λ id. refl; accepted = refl; added = refl; counts = record { accepts = refl; drops = refl; discards = refl; voids = refl } })
   own_effect c d p due row = effect shape k c d p due row
@@ -69,7 +69,7 @@ module _ (shape : ℕ → Option Shape) (k : Config) where
   scanned [] due = tt
   scanned (d ∷ p) due = (scanned p due.0, due.1.1)
 
-  fitted_row : (d : Deed) (p : List Deed) → OwnRow shape k p d → IsFitted shape k p d
+  fitted_row : (d : Deed) (p : List Deed) → CpuRow shape k p d → IsFitted shape k p d
   fitted_row (Release s) p row = tt
   fitted_row d p row = row
 

@@ -10,9 +10,9 @@ use Rattle.dspec_deeds.specs.declared.deed.Deed.TheVariants.{Trace, Speculate, C
 use Rattle.dspec_deeds.specs.FateKinds.{trace_stopped, trace_kept, spoken_granted, spoken_kept, is_commit, is_discard, is_copied, count_of}
 use Rattle.dspec_deeds.specs.History.{same_actor, author, part, scan}
 use Rattle.dspec_deeds.specs.Own.{Offer, contents, held, seals}
-use Rattle.dspec_deeds.specs.Legal.{HasAuthors, OwnAllows, IsFitting}
+use Rattle.dspec_deeds.specs.Legal.{HasAuthors, CpuLegal, IsFitting}
 use Rattle.dspec_deeds.proofs.TestLemmas.{either_way, same_actor_tells, cpu_is_itself, number_is_itself, same_number}
-use Rattle.dspec_deeds.specs.Owning.{is_of, OwnRow, IsOwn, ReadsAlike}
+use Rattle.dspec_deeds.specs.Owning.{is_of, CpuRow, IsOwn, ReadsAlike}
 use Rattle.dspec_deeds.proofs.OwnReads.{alike_back, fits_alike, block_alike, reads}
 
 -- what a CPU does names it, or is a Release
@@ -28,7 +28,7 @@ is_release d = false
 
 module _ (shape : ℕ → Option Shape) (k : Config) where
   -- what a row says of one list it says of one that reads alike
-  carry : (c : ℕ) (d : Deed) (g h : List Deed) → is_of c d ≡ true → is_release d ≡ false → ReadsAlike k c g h → OwnAllows shape k g d → OwnAllows shape k h d
+  carry : (c : ℕ) (d : Deed) (g h : List Deed) → is_of c d ≡ true → is_release d ≡ false → ReadsAlike k c g h → CpuLegal shape k g d → CpuLegal shape k h d
   carry c (Trace a r f) g h own kept e row =
       let now : ReadsAlike k a g h = subst (λ x. ReadsAlike k x g h) (same_number c a own) e in
       subst (λ (b : Bool). MatchBool (trace_stopped f) (Unit {0}) (trace_kept f ≡ b)) (fits_alike shape k a (one r) g h now) row
@@ -57,13 +57,13 @@ module _ (shape : ℕ → Option Shape) (k : Config) where
   carry c d g h own kept e row = row
 
   -- what a row says of the list of all it says of the CPU's own list
-  down : (c : ℕ) (d : Deed) (h : List Deed) → same_actor (Cpu c) (author d h) ≡ true → OwnAllows shape k h d → OwnRow shape k (part (Cpu c) h) d
+  down : (c : ℕ) (d : Deed) (h : List Deed) → same_actor (Cpu c) (author d h) ≡ true → CpuLegal shape k h d → CpuRow shape k (part (Cpu c) h) d
   down c (Release s) h own row = row c (sym (same_actor_tells (Cpu c) (author (Release s) h) own))
   down c Halt h own row = tt
   down c d h own row = carry c d h (part (Cpu c) h) own refl (alike_back k c (part (Cpu c) h) h (reads k c h)) row
 
   -- what each author's own row says, the row of the list of all says
-  up : (d : Deed) (h : List Deed) → ((c : ℕ) → author d h ≡ Cpu c → OwnRow shape k (part (Cpu c) h) d) → OwnAllows shape k h d
+  up : (d : Deed) (h : List Deed) → ((c : ℕ) → author d h ≡ Cpu c → CpuRow shape k (part (Cpu c) h) d) → CpuLegal shape k h d
   up (Release s) h rows = rows
   up (Trace a r f) h rows = carry a (Trace a r f) (part (Cpu a) h) h (number_is_itself a) refl (reads k a h) (rows a refl)
   up (Speculate a id r f) h rows = carry a (Speculate a id r f) (part (Cpu a) h) h (number_is_itself a) refl (reads k a h) (rows a refl)
@@ -89,7 +89,7 @@ module _ (shape : ℕ → Option Shape) (k : Config) where
       (either_way (same_actor (Cpu c) (author d h)))
 
   -- the row of its latest deed
-  own_latest : (c : ℕ) (d : Deed) (h : List Deed) → author d h ≡ Cpu c → IsOwn shape k c (part (Cpu c) (d ∷ h)) → OwnRow shape k (part (Cpu c) h) d
+  own_latest : (c : ℕ) (d : Deed) (h : List Deed) → author d h ≡ Cpu c → IsOwn shape k c (part (Cpu c) (d ∷ h)) → CpuRow shape k (part (Cpu c) h) d
   own_latest c d h by own =
       let mine : same_actor (Cpu c) (author d h) ≡ true = ap (same_actor (Cpu c)) by ∙ cpu_is_itself c in
       let now : IsOwn shape k c (d ∷ part (Cpu c) h) = subst (λ b. IsOwn shape k c (if b then d ∷ part (Cpu c) h else part (Cpu c) h)) mine own in

@@ -9,7 +9,7 @@ use Rattle.dspec_deeds.specs.declared.deed.Deed.TheVariants.{Trace, Scan, Miss, 
 use Rattle.dspec_deeds.specs.FateKinds.{trace_kept, trace_dropped, trace_stopped, spoken_kept, spoken_dropped, spoken_nowhere, spoken_stopped}
 use Rattle.dspec_deeds.specs.FateKinds.{decided_stopped, is_commit, is_discard, is_copied, is_lost, count_of}
 use Rattle.dspec_deeds.specs.History.{same_actor, author, part, scanned, is_among, joined, calls_on, callers, settles, acks, issue_of}
-use Rattle.dspec_deeds.specs.Reports.{Spoken, total, one_if, accepts_now, drops_now, specdrops_now, loses_now, discards_now, voids_now}
+use Rattle.dspec_deeds.specs.Reports.{Spoken, total, one_if, accepts_now, traces_dropped_now, specdrops_now, loses_now, discards_now, voids_now}
 use Rattle.dspec_deeds.specs.Reports.{stops_now, adds_now, speculative, missed_busy, fails_now, busy_fails, other_fails, report}
 use Rattle.dspec_deeds.specs.Own.{contents, one_if_record, offered_by, is_call, seals_now, keeps, empties, held, dropped_after, accepts, active, empty_batch, is_drop}
 use Rattle.dspec_record.specs.declared.field.Shape.{Shape}
@@ -91,7 +91,7 @@ module _ (k : Config) (c : ℕ) (d : Deed) (g h : List Deed) (e : ReadsApart k c
         reporting = λ worn. λ i. record {
           offered = e.offering i + one_if_record (offered_by c d);
           accepted = (e.reporting worn i).accepted + accepts_now c d;
-          dropped = (e.reporting worn i).dropped + drops_now c d;
+          dropped = (e.reporting worn i).dropped + traces_dropped_now c d;
           specdropped = (e.reporting worn i).specdropped + specdrops_now c d;
           lost = (e.reporting worn i).lost + loses_now c d;
           discarded = (e.reporting worn i).discarded + discards_now c d;
@@ -136,7 +136,7 @@ none_of false n = refl
 -- another's deed counts nowhere in the CPU's report
 record CountsNowhere (k : Config) (c : ℕ) (d : Deed) (h : List Deed) : Type 0 where
   pub accepted : accepts_now c d ≡ 0
-  pub dropped : drops_now c d ≡ 0
+  pub dropped : traces_dropped_now c d ≡ 0
   pub specdropped : specdrops_now c d ≡ 0
   pub lost : loses_now c d ≡ 0
   pub discarded : discards_now c d ≡ 0
@@ -176,7 +176,7 @@ counts_nowhere k c d h e = record {
     accepted (Settle a id f) e = rw e (none_of (is_copied f) (count_of f))
     accepted d e = refl
 
-    dropped : (d : Deed) → same_actor (Cpu c) (author d h) ≡ false → drops_now c d ≡ 0
+    dropped : (d : Deed) → same_actor (Cpu c) (author d h) ≡ false → traces_dropped_now c d ≡ 0
     dropped (Trace a r f) e = rw e (none_if (trace_dropped f))
     dropped d e = refl
 
@@ -223,7 +223,7 @@ report_other : (k : Config) (c worn : ℕ) (d : Deed) (h : List Deed) → same_a
 report_other k c worn d h e = let none = counts_nowhere k c d h e in λ i. record {
   offered = offers_other c d h e i;
   accepted = more (total (accepts_now c) h) (accepts_now c d) none.accepted i;
-  dropped = more (total (drops_now c) h) (drops_now c d) none.dropped i;
+  dropped = more (total (traces_dropped_now c) h) (traces_dropped_now c d) none.dropped i;
   specdropped = more (total (specdrops_now c) h) (specdrops_now c d) none.specdropped i;
   lost = more (total (loses_now c) h) (loses_now c d) none.lost i;
   discarded = more (total (discards_now c) h) (discards_now c d) none.discarded i;

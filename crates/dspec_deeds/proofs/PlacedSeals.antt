@@ -6,7 +6,7 @@ use Rattle.dspec_deeds.specs.declared.calls.Actor.TheVariants.{Cpu}
 use Rattle.dspec_deeds.specs.declared.deed.Deed.{Deed}
 use Rattle.dspec_deeds.specs.declared.deed.Deed.TheVariants.{Discard, Seal, Release, Halt}
 use Rattle.dspec_deeds.specs.History.{halted, is_halt, late, owed, author, part}
-use Rattle.dspec_deeds.specs.Legal.{HasAuthors, OwnAllows, IsSound, IsFitting, IsAllowed, is_seal, sealed_last}
+use Rattle.dspec_deeds.specs.Legal.{HasAuthors, CpuLegal, IsSound, IsFitting, IsAllowed, is_seal, sealed_last}
 use Rattle.dspec_deeds.proofs.TestLemmas.{either_way, off, number_is_itself, cpu_is_itself, or_true}
 use Rattle.dspec_deeds.specs.Owning.{IsOwn}
 use Rattle.dspec_deeds.specs.Weaving.{bare, IsLastOf, MayStand, IsPlaced, ArePlaced}
@@ -61,7 +61,7 @@ module _ (shape : ℕ → Option Shape) (k : Config) where
   IsClear h = (owed (bare h) ≡ 0) ⊎ (sealed_last h ≡ false)
 
   -- what is owed leaves no Seal before the Release
-  clear_before : (d : Deed) (h : List Deed) → ArePlaced h → IsSound k (d ∷ bare h) → OwnAllows shape k h d → IsClear h
+  clear_before : (d : Deed) (h : List Deed) → ArePlaced h → IsSound k (d ∷ bare h) → CpuLegal shape k h d → IsClear h
   clear_before d [] placed sound row = inr refl
   clear_before d (e ∷ h) placed sound row = ⊎_elim
       (λ (t : is_seal e ≡ true). ⊎_elim
@@ -73,7 +73,7 @@ module _ (shape : ℕ → Option Shape) (k : Config) where
       (λ (front : bare (bare (e ∷ h)) ≡ []). inl (owed_nothing (bare (e ∷ h)) front))
       (λ (last : IsLastOf s.0 (bare (e ∷ h))).
       let by : author (Release own.0) (e ∷ h) ≡ Cpu s.0 = author_bare (Release own.0) (e ∷ h) ∙ (ap (λ x. author x (bare (e ∷ h))) (sym own.1) ∙ own.2 s.0 last) in
-      let release : OwnAllows shape k (e ∷ h) (Release own.0) = subst (λ x. OwnAllows shape k (e ∷ h) x) own.1 row in
+      let release : CpuLegal shape k (e ∷ h) (Release own.0) = subst (λ x. CpuLegal shape k (e ∷ h) x) own.1 row in
       let unsealed : sealed_last (part (Cpu s.0) (e ∷ h)) ≡ false = release s.0 by in
       off (sealed_last (part (Cpu s.0) (Seal s.0 ∷ h))) (rw (number_is_itself s.0) refl) (subst (λ x. sealed_last (part (Cpu s.0) (x ∷ h)) ≡ false) s.1 unsealed))
       stands)

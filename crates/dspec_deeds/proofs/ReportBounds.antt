@@ -14,8 +14,8 @@ use Rattle.dspec_deeds.specs.declared.deed.Deed.TheVariants.{Trace, Scan, Opened
 use Rattle.dspec_deeds.specs.FateKinds.{trace_stopped, spoken_stopped, decided_stopped, is_copied}
 use Rattle.dspec_deeds.specs.History.{scan, scanned}
 use Rattle.dspec_deeds.specs.Own.{Offer, contents, offered_by, one_if_record, offers, is_call, calls, held, active, is_drop, seals}
-use Rattle.dspec_deeds.specs.Legal.{is_empty, is_closed, fits_principal, IsSound, OwnAllows, IsFitting, CopiesOrLoses, IsAllowed}
-use Rattle.dspec_deeds.specs.Reports.{total, one_if, drops_now, loses_now, stops_now, fails_now, missed_busy, busy_fails, other_fails, report, CountsWithin}
+use Rattle.dspec_deeds.specs.Legal.{is_empty, is_closed, fits_principal, IsSound, CpuLegal, IsFitting, CopiesOrLoses, IsAllowed}
+use Rattle.dspec_deeds.specs.Reports.{total, one_if, traces_dropped_now, loses_now, stops_now, fails_now, missed_busy, busy_fails, other_fails, report, CountsWithin}
 use Rattle.dspec_deeds.proofs.TestLemmas.{either_way, and_tells, and_false, same_number}
 use Rattle.dspec_deeds.proofs.DeedEffects.{Accounts, legal_accounts}
 use Rattle.dspec_deeds.proofs.Balance.{balance}
@@ -116,7 +116,7 @@ module _ (shape : ℕ → Option Shape) (k : Config) where
   -- legal in the own part, the places of Seals apart
   abbrev pub IsFitted : List Deed → Deed → Type 0
   IsFitted h (Release s) = Unit {0}
-  IsFitted h d = OwnAllows shape k h d
+  IsFitted h d = CpuLegal shape k h d
 
   abbrev pub AreFitted : List Deed → Type 0
   AreFitted [] = Unit {0}
@@ -126,7 +126,7 @@ module _ (shape : ℕ → Option Shape) (k : Config) where
   fitting_fitted [] s = tt
   fitting_fitted (d ∷ h) s = (fitting_fitted h s.0, fitted d s.1)
     where
-      fitted : (d : Deed) → OwnAllows shape k h d → IsFitted h d
+      fitted : (d : Deed) → CpuLegal shape k h d → IsFitted h d
       fitted (Release s) o = tt
       fitted (Trace c r f) o = o
       fitted (Speculate c id r f) o = o
@@ -193,7 +193,7 @@ module _ (shape : ℕ → Option Shape) (k : Config) where
       step (o ∷ os) e f = omega arith
 
   -- a refused reservation was of a record
-  drop_loses : (c : ℕ) (d : Deed) (h : List Deed) → AreFitted (d ∷ h) → one_if (is_drop c d) ≤ drops_now c d + loses_now c d
+  drop_loses : (c : ℕ) (d : Deed) (h : List Deed) → AreFitted (d ∷ h) → one_if (is_drop c d) ≤ traces_dropped_now c d + loses_now c d
   drop_loses c (Trace a r f) h s = omega arith
   drop_loses c (Commit a id (decided.Lost n)) h s = step (c == a) (lost_some a id n h s.0 s.1)
     where
@@ -208,7 +208,7 @@ module _ (shape : ℕ → Option Shape) (k : Config) where
   drop_loses c d h s = omega arith
 
   -- each refused reservation was of a record at least
-  pub drops_lose : (c : ℕ) (h : List Deed) → AreFitted h → total (λ d. one_if (is_drop c d)) h ≤ total (drops_now c) h + total (loses_now c) h
+  pub drops_lose : (c : ℕ) (h : List Deed) → AreFitted h → total (λ d. one_if (is_drop c d)) h ≤ total (traces_dropped_now c) h + total (loses_now c) h
   drops_lose c [] s = omega arith
   drops_lose c (d ∷ h) s = omega (arith, drops_lose c h s.0, drop_loses c d h s)
 

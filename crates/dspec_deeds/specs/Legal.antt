@@ -132,19 +132,19 @@ module _ (shape : ℕ → Option Shape) (k : Config) where
   abbrev pub CopiesOrLoses : ℕ → List Deed → List Offer → DecideFate → Type 0
   CopiesOrLoses c h os f = (count_of f ≡ length os) × (is_copied f ≡ fits_principal c (block (contents os)) h)
 
-  abbrev pub OwnAllows : List Deed → Deed → Type 0
-  OwnAllows h (Trace c r f) = MatchBool (trace_stopped f) (Unit {0}) (trace_kept f ≡ fits_principal c (one r) h)
-  OwnAllows h (Speculate c id r f) = MatchBool (spoken_granted f) (spoken_kept f ≡ fits_speculative c id r h) (Unit {0})
-  OwnAllows h (Commit c id f) = MatchBool (is_commit f) (CopiesOrLoses c h (held c id h) f) (Unit {0})
-  OwnAllows h (Discard c id f) = MatchBool (is_discard f) (count_of f ≡ length (held c id h)) (Unit {0})
-  OwnAllows h (Settle c id f) = MatchBool (is_discard f) (count_of f ≡ length (held c id h)) (CopiesOrLoses c h (held c id h) f)
-  OwnAllows h (Seal c) = (seals c h < k.max_calls) × (scan k c h ≡ 0) × (is_fill k.policy ≡ false)
-  OwnAllows h (Release s) = (c : ℕ) → author (Release s) h ≡ Cpu c → sealed_last (part (Cpu c) h) ≡ false
-  OwnAllows h d = Unit {0}
+  abbrev pub CpuLegal : List Deed → Deed → Type 0
+  CpuLegal h (Trace c r f) = MatchBool (trace_stopped f) (Unit {0}) (trace_kept f ≡ fits_principal c (one r) h)
+  CpuLegal h (Speculate c id r f) = MatchBool (spoken_granted f) (spoken_kept f ≡ fits_speculative c id r h) (Unit {0})
+  CpuLegal h (Commit c id f) = MatchBool (is_commit f) (CopiesOrLoses c h (held c id h) f) (Unit {0})
+  CpuLegal h (Discard c id f) = MatchBool (is_discard f) (count_of f ≡ length (held c id h)) (Unit {0})
+  CpuLegal h (Settle c id f) = MatchBool (is_discard f) (count_of f ≡ length (held c id h)) (CopiesOrLoses c h (held c id h) f)
+  CpuLegal h (Seal c) = (seals c h < k.max_calls) × (scan k c h ≡ 0) × (is_fill k.policy ≡ false)
+  CpuLegal h (Release s) = (c : ℕ) → author (Release s) h ≡ Cpu c → sealed_last (part (Cpu c) h) ≡ false
+  CpuLegal h d = Unit {0}
 
   abbrev pub IsFitting : List Deed → Type 0
   IsFitting [] = Unit {0}
-  IsFitting (d ∷ h) = IsFitting h × OwnAllows h d
+  IsFitting (d ∷ h) = IsFitting h × CpuLegal h d
 
   -- each deed may come behind those before it, in the common part and in its CPU's own
   abbrev pub IsAllowed : List Deed → Type 0

@@ -10,7 +10,7 @@ pub mod Headline
 pub mod Told
 pub mod Closes
 pub mod Marks
-pub mod OwnShown
+pub mod CpuShown
 pub mod Owning
 pub mod Weaving
 pub mod CommonDeeds

@@ -9,7 +9,7 @@ use Rattle.dspec_deeds.specs.History.{is_among, callers, settled, ack, scan}
 use Rattle.dspec_deeds.specs.Own.{offers, held, dropped_in, accepted, active, full, growing, batches, seals, calls}
 use Rattle.dspec_deeds.specs.Marks.{mark}
 use Rattle.dspec_deeds.specs.Reports.{missed_busy, speculative, report}
-use Rattle.dspec_deeds.specs.Legal.{OwnAllows, sealed_last}
+use Rattle.dspec_deeds.specs.Legal.{CpuLegal, sealed_last}
 
 -- the deed names the CPU, or is a Release
 abbrev pub is_of : ℕ → Deed → Bool
@@ -27,14 +27,14 @@ is_of c Halt = false
 
 module _ (shape : ℕ → Option Shape) (k : Config) where
   -- in a CPU's own list each Release is its own, and comes with no Seal directly before it
-  abbrev pub OwnRow : List Deed → Deed → Type 0
-  OwnRow p (Release s) = sealed_last p ≡ false
-  OwnRow p d = OwnAllows shape k p d
+  abbrev pub CpuRow : List Deed → Deed → Type 0
+  CpuRow p (Release s) = sealed_last p ≡ false
+  CpuRow p d = CpuLegal shape k p d
 
   -- a CPU's own list, legal in the own part
   abbrev pub IsOwn : ℕ → List Deed → Type 0
   IsOwn c [] = Unit {0}
-  IsOwn c (d ∷ p) = IsOwn c p × (is_of c d ≡ true) × OwnRow p d
+  IsOwn c (d ∷ p) = IsOwn c p × (is_of c d ≡ true) × CpuRow p d
 
 -- what is read off a CPU's own deeds, its Seals apart, is the same in both lists
 pub record ReadsApart (k : Config) (c : ℕ) (g h : List Deed) : Type 0 where

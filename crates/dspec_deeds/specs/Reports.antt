@@ -23,9 +23,9 @@ accepts_now c (Commit a id f) = if is_copied f && (c == a) then count_of f else 
 accepts_now c (Settle a id f) = if is_copied f && (c == a) then count_of f else 0
 accepts_now c d = 0
 
-abbrev pub drops_now : ℕ → Deed → ℕ
-drops_now c (Trace a r f) = one_if (trace_dropped f && (c == a))
-drops_now c d = 0
+abbrev pub traces_dropped_now : ℕ → Deed → ℕ
+traces_dropped_now c (Trace a r f) = one_if (trace_dropped f && (c == a))
+traces_dropped_now c d = 0
 
 abbrev pub specdrops_now : ℕ → Deed → ℕ
 specdrops_now c (Speculate a id r f) = one_if (spoken_dropped f && (c == a))
@@ -91,7 +91,7 @@ abbrev pub report : Config → ℕ → ℕ → List Deed → Report
 report k c worn h = record {
   offered = offers c h;
   accepted = total (accepts_now c) h;
-  dropped = total (drops_now c) h;
+  dropped = total (traces_dropped_now c) h;
   specdropped = total (specdrops_now c) h;
   lost = total (loses_now c) h;
   discarded = total (discards_now c) h;

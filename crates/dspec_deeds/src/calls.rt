@@ -22,9 +22,9 @@ pub enum CpuOp {
     Speculation,
     /// Offers a record to the CPU's own speculative buffer of an open speculation.
     Speculate(SpecId, Rec),
-    /// Decides that what was spoken to the speculation is kept, and copies this CPU's part.
+    /// Decides that what was offered to the speculation is kept, and copies this CPU's part.
     Commit(SpecId),
-    /// Decides that what was spoken to the speculation is thrown away, and empties this CPU's part.
+    /// Decides that what was offered to the speculation is thrown away, and empties this CPU's part.
     Discard(SpecId),
     /// Seals a batch where one is asked for, and settles what others decided.
     Service,

@@ -9,7 +9,7 @@ ghost use Rattle.dspec_deeds.specs.Legal.{IsLegal, HasAuthors, IsFitting, IsSoun
 ghost use Rattle.dspec_deeds.specs.Headline.{FateLaw, Headline};
 ghost use Rattle.dspec_deeds.specs.Own.{calls};
 ghost use Rattle.dspec_deeds.specs.Reports.{report, CountsWithin};
-ghost use Rattle.dspec_deeds.specs.OwnShown.{own_side, last_called, TellsPresent};
+ghost use Rattle.dspec_deeds.specs.CpuShown.{own_side, last_called, TellsPresent};
 ghost use Rattle.dspec_deeds.specs.Owning.{IsOwn, ReadsApart, ReadsAlike};
 ghost use Rattle.dspec_deeds.specs.Weaving.{bare, woven, ArePlaced, HaveLists, ShowsAlike, IsWoven};
 

@@ -6,8 +6,8 @@ use Rattle.std.specs.List.{flat_map}
 use Rattle.std.proofs.lemmas.List.Elements.{All-head, All-tail, All-nil, All-cons}
 use Rattle.dspec_ctf_reading.specs.Reading.{Layout, PacketRead, Part, read_packet, read_file}
 use Rattle.dspec_ctf_reading.proofs.Bounds.{packets-on-bytes}
-use Rattle.dspec_ctf_reader.specs.declared.events.Event.{Event}
-use Rattle.dspec_ctf_reader.specs.Told.{as_read}
+use Rattle.dspec_ctf_reading.specs.declared.events.Event.{Event}
+use Rattle.dspec_ctf_reading.specs.Told.{as_read}
 use Rattle.dspec_folder.specs.declared.packet.ReadPacket.{ReadPacket}
 use Rattle.dspec_folder.specs.Checks.{RisesFrom, last_of, stamps_of, times_of, packet_as_read, IsSoundFrom}
 

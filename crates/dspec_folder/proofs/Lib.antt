@@ -1,2 +1,3 @@
+mod Rows
 pub mod Checking
 pub mod Splitting

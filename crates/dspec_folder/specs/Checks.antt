@@ -3,9 +3,9 @@ use Rattle.std.specs.Prelude.{◌≡◌, ◌≤◌, ℕ, Bool, true, List, [], �
 use Rattle.std.specs.Option.{option_map_or}
 use Rattle.std.specs.List.{flat_map}
 use Rattle.dspec_ctf_reading.specs.Reading.{Layout, PacketRead, read_file}
-use Rattle.dspec_ctf_reader.specs.Told.{as_read}
-use Rattle.dspec_ctf_reader.specs.Faults.{is_event_fault}
-use Rattle.dspec_ctf_reader.specs.declared.events.Event.{Event}
+use Rattle.dspec_ctf_reading.specs.Told.{as_read}
+use Rattle.dspec_ctf_reading.specs.Faults.{is_event_fault}
+use Rattle.dspec_ctf_reading.specs.declared.events.Event.{Event}
 use Rattle.dspec_ctf_reading.specs.Fronts.{front_of}
 use Rattle.dspec_folder.specs.declared.packet.ReadPacket.{ReadPacket}
 use Rattle.dspec_folder.specs.declared.fault.Wrong.{Wrong}

@@ -1,6 +1,6 @@
 -- Cited by calls. The times of stamps.
 use Rattle.std.specs.Prelude.{ℕ, ◌+◌, ◌*◌, ◌/◌, ◌==◌, unwrap_or, Option, Some, None, if◌then◌else◌}
-use Rattle.dspec_ctf_reader.specs.declared.told.ClockText.{ClockText}
+use Rattle.dspec_ctf_reading.specs.declared.told.ClockText.{ClockText}
 use Rattle.dspec_folder.specs.declared.clock.Base.{Base}
 use Rattle.dspec_folder.specs.declared.clock.Base.TheVariants as base
 

@@ -3,3 +3,4 @@ pub mod Clocks
 pub mod Marks
 pub mod Values
 pub mod Whole
+pub mod Tracks

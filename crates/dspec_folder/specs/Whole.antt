@@ -1,7 +1,7 @@
 -- Cited by calls. Bytes that are whole packets, one behind another.
 use Rattle.std.specs.Prelude.{◌≡◌, ◌<◌, ℕ, Bool, List, [], ◌∷◌, length, take, drop, Some, None}
 use Rattle.dspec_ctf_reading.specs.Fronts.{PacketSplit, split_packet}
-use Rattle.dspec_ctf_reader.specs.Packets.{PacketDue}
+use Rattle.dspec_ctf_reading.specs.Packets.{PacketDue}
 use Rattle.dspec_folder.specs.declared.whole.Ending.{Ending}
 use Rattle.dspec_folder.specs.declared.whole.Ending.TheVariants.{Whole, Cut, Broken}
 

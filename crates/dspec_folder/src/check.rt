@@ -2,12 +2,12 @@
 
 ghost use Rattle.std.specs.Prelude.{◌≡◌, IfErr, IfOk, IsTrue, OnErr, OnOk, true};
 ghost use Rattle.dspec_ctf_reading.specs.Fronts.{front_of};
-ghost use Rattle.dspec_ctf_reader.specs.Told.{told_layout};
+ghost use Rattle.dspec_ctf_reading.specs.Told.{told_layout};
 ghost use Rattle.dspec_folder.specs.Checks.{IsSoundFrom, RisesFrom, is_of_bytes, last_of, packet_as_read, stamps_of, times_of};
 
 use crate::fault::{FileFault, Wrong};
 use crate::packet::{ReadPacket, read_packet};
-use dspec_ctf_reader::{Event, Metadata};
+use dspec_ctf_reading::{Event, Metadata};
 use std::alloc::Global;
 
 /// Whose packets a file should have.

@@ -3,7 +3,7 @@
 
 use crate::text::label_of;
 use crate::value::Shown;
-use dspec_ctf_reader::{EventText, FieldText};
+use dspec_ctf_reading::{EventText, FieldText};
 use json::{Writer, is_number};
 use std::alloc::{AllocError, Global};
 
@@ -17,6 +17,17 @@ pub struct Track {
     pub process: u64,
     /// Its own number, from 1 on.
     pub number: u64,
+}
+
+/// A record of a row that isn't a CPU's: on which CPU it was made, so many nanoseconds behind the picture's beginning, with which values.
+#[derive(Debug, Clone, Copy)]
+pub struct RowRecord<'v> {
+    /// The number of its CPU.
+    pub cpu: u32,
+    /// When it was made.
+    pub nanoseconds: u64,
+    /// The values of its fields.
+    pub values: &'v [u64],
 }
 
 /// A number as a JSON number, or as a string where readers would round it.
@@ -88,7 +99,24 @@ fn put_micros(out: &mut Writer, alloc: Global, nanoseconds: u64) -> Result<(), A
     out.u64(micros)
 }
 
-/// The members of a mark up to its arguments: of this name, so many nanoseconds behind the picture's beginning.
+/// The members of an event up to its arguments, behind those of its phase: of this name, so many nanoseconds behind the picture's beginning.
+fn put_front(
+    out: &mut Writer,
+    alloc: Global,
+    track: Track,
+    name: &str,
+    nanoseconds: u64,
+) -> Result<(), AllocError> {
+    put_track(out, track)?;
+    out.key("ts")?;
+    put_micros(out, alloc, nanoseconds)?;
+    out.key("name")?;
+    out.string(name)?;
+    out.key("args")?;
+    out.begin_object()
+}
+
+/// The members of a mark up to its arguments.
 fn put_mark(
     out: &mut Writer,
     alloc: Global,
@@ -100,13 +128,43 @@ fn put_mark(
     out.string("i")?;
     out.key("s")?;
     out.string("t")?;
-    put_track(out, track)?;
-    out.key("ts")?;
-    put_micros(out, alloc, nanoseconds)?;
-    out.key("name")?;
-    out.string(name)?;
-    out.key("args")?;
-    out.begin_object()
+    put_front(out, alloc, track, name, nanoseconds)
+}
+
+/// The members of a slice up to its arguments, which takes so many nanoseconds.
+fn put_slice(
+    out: &mut Writer,
+    alloc: Global,
+    track: Track,
+    name: &str,
+    nanoseconds: u64,
+    took: u64,
+) -> Result<(), AllocError> {
+    out.key("ph")?;
+    out.string("X")?;
+    out.key("dur")?;
+    put_micros(out, alloc, took)?;
+    put_front(out, alloc, track, name, nanoseconds)
+}
+
+/// Arguments: the CPU, and the values of the fields. Behind each key stands this, so that no two are one.
+fn put_values(
+    out: &mut Writer,
+    alloc: Global,
+    event: &EventText<'_>,
+    record: RowRecord<'_>,
+    behind: &str,
+) -> Result<(), AllocError> {
+    let key = format!(in alloc; "on cpu{behind}")?;
+    out.key(key.as_str())?;
+    out.u64(u64::from(record.cpu))?;
+    for (field, number) in event.fields.iter().zip(record.values) {
+        let name = field.name;
+        let key = format!(in alloc; "{name}{behind}")?;
+        out.key(key.as_str())?;
+        put_value(out, field, *number)?;
+    }
+    Ok(())
 }
 
 /// The end of the arguments and of the event, and its text.
@@ -134,6 +192,38 @@ pub fn chrome_event(
         out.key(field.name)?;
         put_value(&mut out, field, *number)?;
     }
+    ended(out)
+}
+
+/// A record as a mark of a row that isn't a CPU's: its arguments are its CPU and the values of its fields.
+pub fn chrome_record(
+    alloc: Global,
+    track: Track,
+    event: &EventText<'_>,
+    record: RowRecord<'_>,
+) -> Result<String, AllocError> {
+    let mut out = Writer::new(Vec::new(alloc));
+    out.begin_object()?;
+    put_mark(&mut out, alloc, track, event.name, record.nanoseconds)?;
+    put_values(&mut out, alloc, event, record, "")?;
+    ended(out)
+}
+
+/// Two records of one event as a slice, from the first to the second: its arguments are those of the first, and those of the second behind
+/// keys that say so.
+pub fn chrome_slice(
+    alloc: Global,
+    track: Track,
+    event: &EventText<'_>,
+    first: RowRecord<'_>,
+    second: RowRecord<'_>,
+) -> Result<String, AllocError> {
+    let took = second.nanoseconds.saturating_sub(first.nanoseconds);
+    let mut out = Writer::new(Vec::new(alloc));
+    out.begin_object()?;
+    put_slice(&mut out, alloc, track, event.name, first.nanoseconds, took)?;
+    put_values(&mut out, alloc, event, first, "")?;
+    put_values(&mut out, alloc, event, second, " at the end")?;
     ended(out)
 }
 

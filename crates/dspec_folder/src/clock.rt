@@ -4,7 +4,7 @@ ghost use Rattle.std.specs.Prelude.{◌≡◌, All, IsSome, IsTrue, Some};
 ghost use Rattle.dspec_folder.specs.Clocks.{time_of};
 ghost use Rattle.dspec_folder.specs.declared.clock.Base.TheVariants as base;
 
-use dspec_ctf_reader::ClockText;
+use dspec_ctf_reading::ClockText;
 
 /// From when on times are counted.
 #[derive(Debug, Clone, Copy, PartialEq, Eq)]

@@ -2,7 +2,7 @@
 
 use crate::fault::{FileFault, Wrong};
 use crate::packet::read_packet;
-use dspec_ctf_reader::{Event, Metadata};
+use dspec_ctf_reading::{Event, Metadata};
 use std::alloc::{AllocError, Global};
 
 /// What the files of a CPU have.

@@ -1,6 +1,6 @@
 //! What is wrong with a file.
 
-use dspec_ctf_reader::{EventFault, PacketReadFault};
+use dspec_ctf_reading::{EventFault, PacketReadFault};
 use thiserror::Error;
 
 /// What is wrong at a place of a file.

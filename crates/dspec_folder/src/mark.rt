@@ -6,7 +6,7 @@ ghost use Rattle.dspec_folder.specs.Marks.{IsByTime};
 use crate::clock::{Base, nanoseconds};
 use crate::fault::FileFault;
 use crate::packet::{ReadPacket, read_packet};
-use dspec_ctf_reader::{ClockText, Event, Metadata};
+use dspec_ctf_reading::{ClockText, Event, Metadata};
 use std::alloc::{AllocError, Global};
 
 /// What happened.

@@ -2,11 +2,11 @@
 
 ghost use Rattle.std.specs.Prelude.{◌≡◌, ◌<◌, IfErr, IfOk, IsTrue, None, Some, length};
 ghost use Rattle.dspec_ctf_reading.specs.Reading.{read_packet as packet_from};
-ghost use Rattle.dspec_ctf_reader.specs.Told.{told_layout};
+ghost use Rattle.dspec_ctf_reading.specs.Told.{told_layout};
 ghost use Rattle.dspec_folder.specs.Checks.{is_of_bytes, packet_as_read};
 
 use crate::fault::{FileFault, Wrong};
-use dspec_ctf_reader::{Event, Front, Metadata, next_packet, read_events};
+use dspec_ctf_reading::{Event, Front, Metadata, next_packet, read_events};
 use std::alloc::Global;
 
 /// A packet that was read, with all its events.

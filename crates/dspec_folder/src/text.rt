@@ -1,7 +1,7 @@
 //! What happened, in words.
 
 use crate::value::Shown;
-use dspec_ctf_reader::{EventText, FieldText};
+use dspec_ctf_reading::{EventText, FieldText};
 use std::alloc::{AllocError, Global};
 
 /// Whether a label can stand without quotes.
@@ -43,6 +43,27 @@ fn put_field(out: &mut String, field: &FieldText<'_>, number: u64) -> Result<(),
     }
     put_number(out, field, number)?;
     out.push(')')
+}
+
+/// The value of the field of that name, in words: its label, where it has one, else its number. None where the event has no such field.
+pub fn field_text(
+    alloc: Global,
+    event: &EventText<'_>,
+    values: &[u64],
+    name: &str,
+) -> Result<Option<String>, AllocError> {
+    for (field, number) in event.fields.iter().zip(values) {
+        if field.name != name {
+            continue;
+        }
+        if let Some(label) = label_of(field, *number) {
+            return Ok(Some(String::from_str(alloc, label)?));
+        }
+        let mut out = String::new(alloc);
+        put_number(&mut out, field, *number)?;
+        return Ok(Some(out));
+    }
+    Ok(None)
 }
 
 /// An event in words: its name, and each value behind its field's name. A number that is called something has its label before it.

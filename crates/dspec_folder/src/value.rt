@@ -3,7 +3,7 @@
 ghost use Rattle.std.specs.Prelude.{◌≡◌};
 ghost use Rattle.dspec_folder.specs.Values.{stands_for, signed_by};
 
-use dspec_ctf_reader::{Field, Kind};
+use dspec_ctf_reading::{Field, Kind};
 use dspec_probe::Value;
 
 /// What a number of a field stands for.

@@ -4,8 +4,8 @@ ghost use Rattle.std.specs.Prelude.{◌≡◌, ◌≤◌, None, drop, length};
 ghost use Rattle.dspec_ctf_reading.specs.Fronts.{split_packet as packet_split};
 ghost use Rattle.dspec_folder.specs.Whole.{AreWholeBefore, IsFileEnd};
 
-use dspec_ctf_reader::{PacketReadFault, next_packet};
 use dspec_ctf_reading::fronts::split_packet;
+use dspec_ctf_reading::{PacketReadFault, next_packet};
 
 /// The length of a beginning of the bytes that is whole packets, one behind another, and behind which no whole packet stands. `timed`
 /// says whether the trace has a clock.

@@ -12,7 +12,7 @@ pub fn record_in(op: CpuOp) -> Option<Rec> {
     }
 }
 
-/// The identifier that a call speaks to or decides.
+/// The identifier that a call speculates to or decides.
 pub fn identifier_in(op: CpuOp) -> Option<SpecId> {
     match op {
         CpuOp::Speculate(id, _) | CpuOp::Commit(id) | CpuOp::Discard(id) => Some(id),

@@ -1,7 +1,7 @@
 ghost use Rattle.std.specs.Prelude.{◌≡◌, [], ◌∷◌, ◌++◌, false};
 
 use dspec_deeds::{Answer, CpuOp, Decided, Opening, Served, Spoken, Traced};
-use dspec_play::Series;
+use dspec_interleaving::Series;
 use std::alloc::Global;
 
 /// A call of a CPU, and what it answered.

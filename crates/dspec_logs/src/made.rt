@@ -1,5 +1,5 @@
 //! A made-up session of two CPUs, by hand: what its calls answered, what came, and what is reported. CPU 0 commits a speculation of
-//! both, and CPU 1 discards another, to which CPU 0 alone has spoken.
+//! both, and CPU 1 discards another, to which CPU 0 alone has speculated.
 
 use crate::logging::{Called, Log};
 use crate::records::record_of;

@@ -6,7 +6,7 @@ use Rattle.dspec_deeds.specs.declared.deed.Deed.{Deed}
 use Rattle.dspec_machine.specs.declared.machine.Machine.{Machine}
 use Rattle.dspec_deeds.specs.declared.report.Report.{Report}
 use Rattle.dspec_deeds.specs.Closes.{numbers_below, streams, reports}
-use Rattle.dspec_play.specs.Coherent.{PlayState, progress_of}
+use Rattle.dspec_interleaving.specs.Coherent.{PlayState, progress_of}
 use Rattle.dspec_machine.specs.Machines.{history, state_of}
 use Rattle.dspec_deeds.specs.Own.{stream}
 use Rattle.dspec_deeds.specs.Reports.{report}

@@ -10,10 +10,10 @@ use Rattle.dspec_deeds.specs.declared.deed.Deed.{Deed}
 use Rattle.dspec_deeds.specs.declared.deed.Deed.TheVariants as deed
 use Rattle.dspec_deeds.specs.FateKinds.{is_commit, is_copied, is_discard}
 use Rattle.dspec_deeds.specs.History.{is_open, word_at}
-use Rattle.dspec_deeds.specs.Legal.{IsSound, OwnAllows}
+use Rattle.dspec_deeds.specs.Legal.{IsSound, CpuLegal}
 use Rattle.dspec_deeds.specs.Own.{contents, held, seals_now, stream}
 use Rattle.dspec_deeds.proofs.WordChanges.{commit_open, discard_open}
-use Rattle.dspec_play.specs.Coherent.{IsSlot}
+use Rattle.dspec_interleaving.specs.Coherent.{IsSlot}
 use Rattle.dspec_machine.specs.declared.decision.Decision.{Decision}
 use Rattle.dspec_machine.specs.declared.decision.Decision.TheVariants.{Commit, Discard}
 use Rattle.dspec_machine.specs.Decisions.{decides, deed_of}
@@ -44,8 +44,8 @@ module _ (k : Config) (c : ℕ) (id : Speculation) (f : DecideFate) (h : List De
   decided_unsealed Discard = refl
 
   -- what is said of either deed, where it decides
-  pub decided_either : (shape : ℕ → Option Shape) (P : Deed → Type 0) (x : Decision) → decides x f ≡ true → OwnAllows shape k h (deed_of x c id f)
-      → (is_commit f ≡ true → OwnAllows shape k h (deed.Commit c id f) → P (deed.Commit c id f)) → (is_discard f ≡ true → OwnAllows shape k h (deed.Discard c id f) → P (deed.Discard c id f))
+  pub decided_either : (shape : ℕ → Option Shape) (P : Deed → Type 0) (x : Decision) → decides x f ≡ true → CpuLegal shape k h (deed_of x c id f)
+      → (is_commit f ≡ true → CpuLegal shape k h (deed.Commit c id f) → P (deed.Commit c id f)) → (is_discard f ≡ true → CpuLegal shape k h (deed.Discard c id f) → P (deed.Discard c id f))
       → P (deed_of x c id f)
   decided_either shape P Commit e row commits discards = commits e row
   decided_either shape P Discard e row commits discards = discards e row

@@ -13,23 +13,23 @@ use Rattle.dspec_deeds.specs.declared.config.Config.{Config}
 use Rattle.dspec_deeds.specs.declared.deed.DecideFate.{DecideFate}
 use Rattle.dspec_deeds.specs.declared.deed.DecideFate.TheVariants as decided
 use Rattle.dspec_deeds.specs.declared.deed.Deed.{Deed}
-use Rattle.dspec_play.specs.declared.flight.CpuProgress.{CpuProgress}
+use Rattle.dspec_interleaving.specs.declared.flight.CpuProgress.{CpuProgress}
 use Rattle.dspec_machine.specs.declared.decision.Decision.{Decision}
 use Rattle.dspec_machine.specs.declared.decision.Decision.TheVariants.{Commit, Discard}
 use Rattle.dspec_deeds.specs.History.{author, is_among, callers, halted, in_range, issue, word_at}
 use Rattle.dspec_deeds.specs.Legal.{IsAllowed}
 use Rattle.dspec_deeds.specs.Settling.{commit_fate}
 use Rattle.dspec_deeds.specs.Told.{answer_of}
-use Rattle.dspec_play.specs.Coherent.{Expects, IsCoherent, OnItsWay, PlayState, StandsCpu, progress_of}
-use Rattle.dspec_play.specs.Play.{cpu_step, call_goes_on, ends, wears, is_worn, same_word, committed_by, discarded_by}
+use Rattle.dspec_interleaving.specs.Coherent.{Expects, IsCoherent, OnItsWay, PlayState, StandsCpu, progress_of}
+use Rattle.dspec_interleaving.specs.Play.{cpu_step, call_goes_on, ends, wears, is_worn, same_word, committed_by, discarded_by}
 use Rattle.dspec_machine.specs.Decisions.{act_of_decision, deed_of, decides, begun_of, load_of, try_of, shown_by}
 use Rattle.dspec_machine.specs.Shown.{ShowsWords}
 use Rattle.dspec_deeds.proofs.WordActs.{commit_attempt, discard_attempt}
-use Rattle.dspec_play.proofs.DecideMoves.{commit_leaves, commit_next, commit_voids, committed_deeds, discard_leaves, discard_next, discard_voids}
-use Rattle.dspec_play.proofs.StepReads.{flight_stands, step_legal}
-use Rattle.dspec_play.proofs.StepsWords.{same_word_tells}
-use Rattle.dspec_play.proofs.TableReads.{commit_reads, discard_reads}
-use Rattle.dspec_play.proofs.StepsWords.{words_test}
+use Rattle.dspec_interleaving.proofs.DecideMoves.{commit_leaves, commit_next, commit_voids, committed_deeds, discard_leaves, discard_next, discard_voids}
+use Rattle.dspec_interleaving.proofs.StepReads.{flight_stands, step_legal}
+use Rattle.dspec_interleaving.proofs.StepsWords.{same_word_tells}
+use Rattle.dspec_interleaving.proofs.TableReads.{commit_reads, discard_reads}
+use Rattle.dspec_interleaving.proofs.StepsWords.{words_test}
 use Rattle.dspec_machine.proofs.WordsShown.{words_stay}
 
 -- what is void or stopped decides nothing

@@ -5,21 +5,21 @@ use Rattle.dspec_record.specs.Record.{Record}
 use Rattle.dspec_buffer.specs.Extent.{Piece}
 use Rattle.dspec_deeds.specs.declared.calls.Answer.{Answer}
 use Rattle.dspec_deeds.specs.declared.calls.CpuOp.{CpuOp}
-use Rattle.dspec_play.specs.declared.flight.CpuProgress.{CpuProgress}
-use Rattle.dspec_play.specs.declared.flight.ConsumerFlight.{ConsumerFlight}
-use Rattle.dspec_play.specs.declared.flight.CpuFlight.{CpuFlight}
-use Rattle.dspec_play.specs.declared.flight.CpuFlight.TheVariants as flight
+use Rattle.dspec_interleaving.specs.declared.flight.CpuProgress.{CpuProgress}
+use Rattle.dspec_interleaving.specs.declared.flight.ConsumerFlight.{ConsumerFlight}
+use Rattle.dspec_interleaving.specs.declared.flight.CallPlace.{CallPlace}
+use Rattle.dspec_interleaving.specs.declared.flight.CallPlace.TheVariants as flight
 use Rattle.dspec_machine.specs.declared.machine.Machine.{Machine}
-use Rattle.dspec_play.specs.Calls.{consumer_op_of, record_passes, is_about}
-use Rattle.dspec_play.specs.Coherent.{PlayState, IsCoherent, progress_of}
-use Rattle.dspec_machine.specs.Machines.{IsShownMachine, Makes, Cleans, history, state_of}
-use Rattle.dspec_play.specs.Play.{cpu_step, consumer_step}
-use Rattle.dspec_play.specs.Turns.{begin_cpu, moved_to, cleaned_to}
-use Rattle.dspec_machine.specs.Worlds.{IsKept, IsWithin}
-use Rattle.dspec_play.proofs.Coherence.{begin_cpu_coherent, step_cpu_coherent, step_consumer_coherent}
-use Rattle.dspec_play.proofs.FlightsStay.{flights_stay}
-use Rattle.dspec_play.proofs.KeptCalls.{AllPass, some_passes, set_passes, step_passes, clean_goes}
-use Rattle.dspec_play.proofs.OwnAnswersPlay.{put}
+use Rattle.dspec_interleaving.specs.Calls.{consumer_op_of, record_passes, is_about}
+use Rattle.dspec_interleaving.specs.Coherent.{PlayState, IsCoherent, progress_of}
+use Rattle.dspec_machine.specs.Machines.{IsShownMachine, Makes, ConsumerMakes, history, state_of}
+use Rattle.dspec_interleaving.specs.Play.{cpu_step, consumer_step}
+use Rattle.dspec_interleaving.specs.Turns.{begin_cpu, moved_to, cleaned_to}
+use Rattle.dspec_machine.specs.Worlds.{WorldInvariant, IsWithin}
+use Rattle.dspec_interleaving.proofs.Coherence.{begin_cpu_coherent, step_cpu_coherent, step_consumer_coherent}
+use Rattle.dspec_interleaving.proofs.FlightsStay.{flights_stay}
+use Rattle.dspec_interleaving.proofs.KeptCalls.{AllPass, some_passes, set_passes, step_passes, clean_goes}
+use Rattle.dspec_interleaving.proofs.OwnAnswersPlay.{put}
 use Rattle.dspec_machine.proofs.Within.{AllWithin, cpu_within, consumer_within}
 
 module _ {S B : Type 0} (has : B → S → List Piece → Type 0) (capacity : B → ℕ) (shape_of : S → ℕ → Option Shape) (accepted : S → Record → Bool) where
@@ -34,11 +34,12 @@ module _ {S B : Type 0} (has : B → S → List Piece → Type 0) (capacity : B 
     pub within : AllWithin st
     pub about : (f : ConsumerFlight) → st.side.flight ≡ Some f → is_about st.config (consumer_op_of f) ≡ true
 
-  pub state_kept : (m : Machine S B) → IsKept has capacity shape_of accepted m → KeepsState m.schema (state_of m)
+  pub state_kept : (m : Machine S B) → WorldInvariant has capacity shape_of accepted m → KeepsState m.schema (state_of m)
   state_kept m was = record { coherent = was.coherent; accepted_records = was.accepted_records; within = was.within; about = was.about }
 
   -- a machine that shows its list and whose state is kept
-  pub kept_as : (m : Machine S B) (schema : S) (st : PlayState) → IsShownMachine has capacity m → state_of m ≡ st → m.schema ≡ schema → KeepsState schema st → IsKept has capacity shape_of accepted m
+  pub kept_as : (m : Machine S B) (schema : S) (st : PlayState) → IsShownMachine has capacity m → state_of m ≡ st → m.schema ≡ schema → KeepsState schema st
+      → WorldInvariant has capacity shape_of accepted m
   kept_as m schema st shown state same keeps =
       let here : KeepsState m.schema (state_of m) = subst (λ s. KeepsState s (state_of m)) (sym same) (subst (KeepsState schema) (sym state) keeps) in
       record { shown = shown; coherent = here.coherent; accepted_records = here.accepted_records; within = here.within; about = here.about }
@@ -55,7 +56,7 @@ module _ {S B : Type 0} (has : B → S → List Piece → Type 0) (capacity : B 
   }
 
   -- a step of a CPU
-  pub cpu_keeps : (schema : S) (st : PlayState) (c : ℕ) (f : CpuFlight) → c < st.config.cpus → (progress_of st.progresses c).flight ≡ Some f → KeepsState schema st
+  pub cpu_keeps : (schema : S) (st : PlayState) (c : ℕ) (f : CallPlace) → c < st.config.cpus → (progress_of st.progresses c).flight ≡ Some f → KeepsState schema st
       → KeepsState schema (moved_to st c (cpu_step (shape_of schema) st.config c st.deeds (progress_of st.progresses c) f)).state
   cpu_keeps schema st c f lt is was = record {
     coherent = step_cpu_coherent (shape_of schema) st c (Some f) was.coherent lt is;
@@ -76,12 +77,12 @@ module _ {S B : Type 0} (has : B → S → List Piece → Type 0) (capacity : B 
   }
 
   -- a machine of which a step of a CPU is made
-  pub made_kept : (m n : Machine S B) (c : ℕ) (f : CpuFlight) (a : Option Answer) → IsKept has capacity shape_of accepted m → c < m.config.cpus
+  pub made_kept : (m n : Machine S B) (c : ℕ) (f : CallPlace) (a : Option Answer) → WorldInvariant has capacity shape_of accepted m → c < m.config.cpus
       → (progress_of (state_of m).progresses c).flight ≡ Some f
-      → Makes has capacity m n c (cpu_step (shape_of m.schema) m.config c (history m) (progress_of (state_of m).progresses c) f) a → IsKept has capacity shape_of accepted n
+      → Makes has capacity m n c (cpu_step (shape_of m.schema) m.config c (history m) (progress_of (state_of m).progresses c) f) a → WorldInvariant has capacity shape_of accepted n
   made_kept m n c f a was lt is made = kept_as n m.schema _ made.shown made.state made.schema (cpu_keeps m.schema (state_of m) c f lt is (state_kept m was))
 
   -- a machine of which a step of the consumer is made
-  pub cleaned_kept : (m n : Machine S B) (f : ConsumerFlight) (a : Option Answer) → IsKept has capacity shape_of accepted m → m.consumer.flight ≡ Some f
-      → Cleans has capacity m n (consumer_step m.config (history m) m.consumer (state_of m).progresses f) a → IsKept has capacity shape_of accepted n
+  pub cleaned_kept : (m n : Machine S B) (f : ConsumerFlight) (a : Option Answer) → WorldInvariant has capacity shape_of accepted m → m.consumer.flight ≡ Some f
+      → ConsumerMakes has capacity m n (consumer_step m.config (history m) m.consumer (state_of m).progresses f) a → WorldInvariant has capacity shape_of accepted n
   cleaned_kept m n f a was is made = kept_as n m.schema _ made.shown made.state made.schema (consumer_keeps_state m.schema (state_of m) f is (state_kept m was))

@@ -1,5 +1,5 @@
 -- What is kept of a CPU shows the list after a deed: the CPU's own, another's, or a release by whomever.
-use Rattle.std.proofs.Common.{◌≡◌, ℕ, ◌+◌, ◌<◌, ◌≤◌, ◌^◌, true, false, ⊎_elim, List, [], ◌∷◌, length, reverse, take, refl, sym, ap, ◌∙◌, subst, arith, add-zero}
+use Rattle.std.proofs.Common.{[], ◌≡◌, ℕ, ◌+◌, ◌<◌, ◌≤◌, ◌^◌, true, false, ⊎_elim, List, ◌∷◌, length, reverse, take, refl, sym, ap, ◌∙◌, subst, arith, add-zero}
 use Rattle.std.specs.Prelude.{nat_lt}
 use Rattle.std.proofs.lemmas.Bool.Decides.{nat_tests}
 use Rattle.std.proofs.lemmas.List.{reverse-append, length-reverse, take-append-le}
@@ -13,19 +13,19 @@ use Rattle.dspec_deeds.specs.declared.deed.Deed.TheVariants.{Opened, Release, Se
 use Rattle.dspec_deeds.specs.declared.report.Report.{Report}
 use Rattle.dspec_deeds.specs.History.{author, part, same_actor}
 use Rattle.dspec_deeds.specs.Own.{active, batches, batch_records, contents, growing, seals, seals_now, stream}
-use Rattle.dspec_deeds.specs.OwnShown.{OwnSide, ShowsOwnSide, own_side}
+use Rattle.dspec_deeds.specs.CpuShown.{OwnState, ShowsOwnState, own_side}
 use Rattle.dspec_deeds.specs.Owning.{ReadsApart}
 use Rattle.dspec_deeds.proofs.OwnReads.{apart_other, reads}
-use Rattle.dspec_deeds.proofs.OwnSides.{side_part}
+use Rattle.dspec_deeds.proofs.OwnStates.{side_part}
 use Rattle.dspec_deeds.proofs.StayingOwn.{accepted_other, batches_other}
 use Rattle.dspec_deeds.proofs.TestLemmas.{either_way, number_is_itself}
-use Rattle.dspec_side.specs.declared.counts.Counts.{Counts}
-use Rattle.dspec_side.specs.declared.side.Side.{Side}
-use Rattle.dspec_side.specs.Counting.{counts_of, one_more_worn}
-use Rattle.dspec_side.specs.Sides.{IsFilledWith, ShowsList, parts_of_side}
-use Rattle.dspec_side.proofs.Quiet.{quiet_shown}
-use Rattle.dspec_side.proofs.Tallies.{released_counts}
-use Rattle.dspec_play.specs.declared.flight.CpuProgress.{CpuProgress}
+use Rattle.dspec_cpu_state.specs.declared.counts.Counts.{Counts}
+use Rattle.dspec_cpu_state.specs.declared.cpu_state.CpuState.{CpuState}
+use Rattle.dspec_cpu_state.specs.Counting.{counts_of, one_more_worn}
+use Rattle.dspec_cpu_state.specs.CpuStates.{IsFilledWith, ShowsList, parts_of_side}
+use Rattle.dspec_cpu_state.proofs.Quiet.{quiet_shown}
+use Rattle.dspec_cpu_state.proofs.Tallies.{released_counts}
+use Rattle.dspec_interleaving.specs.declared.flight.CpuProgress.{CpuProgress}
 use Rattle.dspec_machine.specs.declared.cpu.Cpu.{Cpu}
 use Rattle.dspec_machine.specs.Shown.{HasRecords, ShowsCpu, first_or_empty}
 use Rattle.dspec_machine.proofs.Batches.{active_grows, batches_sealed}
@@ -73,18 +73,11 @@ opened_counts k c w a id p = let n = counts_of k c w p in λ i. record n {
   stopped = add-zero n.stopped i;
 }
 
-module _ {B : Type 0} (keeps : B → List Piece → Type 0) (capacity : B → ℕ) (k : Config) (c : ℕ) (side : Side B) where
-  -- a side shows each list of which the same is read off
-  list_alike : (g h : List Deed) → own_side c g ≡ own_side c h → ReadsApart k c g h → ShowsList keeps capacity k c g side → ShowsList keeps capacity k c h side
-  list_alike g h same apart was = record {
-    parts = subst (λ (x : OwnSide). ShowsOwnSide (IsFilledWith keeps capacity) k x (parts_of_side side)) same was.parts;
-    counted = was.counted ∙ counts_alike k c side.counts.worn g h apart;
-  }
-
+module _ {B : Type 0} (keeps : B → List Piece → Type 0) (capacity : B → ℕ) (k : Config) (c : ℕ) (side : CpuState B) where
   -- it shows the CPU's own list where it shows the list of all
   pub own_list : (h : List Deed) → ShowsList keeps capacity k c h side → ShowsList keeps capacity k c (part (CpuActor c) h) side
   own_list h was = record {
-    parts = subst (λ (x : OwnSide). ShowsOwnSide (IsFilledWith keeps capacity) k x (parts_of_side side)) (sym (side_part c h)) was.parts;
+    parts = subst (λ (x : OwnState). ShowsOwnState (IsFilledWith keeps capacity) k x (parts_of_side side)) (sym (side_part c h)) was.parts;
     counted = was.counted ∙ sym (counts_alike k c side.counts.worn (part (CpuActor c) h) h (reads k c h).apart);
   }
 
@@ -93,13 +86,13 @@ module _ {B : Type 0} (keeps : B → List Piece → Type 0) (capacity : B → �
   other_list d h other was =
       let same : own_side c (d ∷ h) ≡ own_side c h = sym (side_part c (d ∷ h)) ∙ (rw other refl ∙ side_part c h) in
       record {
-        parts = subst (λ (x : OwnSide). ShowsOwnSide (IsFilledWith keeps capacity) k x (parts_of_side side)) (sym same) was.parts;
+        parts = subst (λ (x : OwnState). ShowsOwnState (IsFilledWith keeps capacity) k x (parts_of_side side)) (sym same) was.parts;
         counted = was.counted ∙ sym (counts_alike k c side.counts.worn (d ∷ h) h (apart_other k c d h other));
       }
 
 module _ {S B : Type 0} (has : B → S → List Piece → Type 0) (capacity : B → ℕ) (schema : S) (k : Config) (c : ℕ) (h : List Deed) (own : Cpu B) (was : ShowsCpu has capacity schema k c h own) where
   -- the CPU's own deed, but a Seal: its side shows it, and the stream is that of the longer list
-  pub own_deed : (d : Deed) (side : Side B) (rs : List Record) → seals_now c d ≡ false → ShowsList (λ b. has b schema) capacity k c (d ∷ h) side
+  pub own_deed : (d : Deed) (side : CpuState B) (rs : List Record) → seals_now c d ≡ false → ShowsList (λ b. has b schema) capacity k c (d ∷ h) side
       → side.counts.worn ≡ own.side.counts.worn → rs ≡ stream c (d ∷ h) → ShowsCpu has capacity schema k c (d ∷ h) (record own { side = side; accepted = rs })
   own_deed d side rs unsealed shows worn accepts =
       let sealed : batches c (d ∷ h) ≡ batches c h = rw unsealed refl in
@@ -115,9 +108,9 @@ module _ {S B : Type 0} (has : B → S → List Piece → Type 0) (capacity : B 
 
   -- the same where the stream came first
   pub put_side : (mid : Cpu B) (rs : List Record) → mid ≡ record own { accepted = rs } → ShowsList (λ b. has b schema) capacity k c h mid.side
-  put_side mid rs is = subst (λ (x : Side B). ShowsList (λ b. has b schema) capacity k c h x) (sym (ap (λ (x : Cpu B). x.side) is)) was.side
+  put_side mid rs is = subst (λ (x : CpuState B). ShowsList (λ b. has b schema) capacity k c h x) (sym (ap (λ (x : Cpu B). x.side) is)) was.side
 
-  pub put_deed : (d : Deed) (mid : Cpu B) (rs : List Record) (side : Side B) → mid ≡ record own { accepted = rs } → seals_now c d ≡ false → ShowsList (λ b. has b schema) capacity k c (d ∷ h) side
+  pub put_deed : (d : Deed) (mid : Cpu B) (rs : List Record) (side : CpuState B) → mid ≡ record own { accepted = rs } → seals_now c d ≡ false → ShowsList (λ b. has b schema) capacity k c (d ∷ h) side
       → side.counts.worn ≡ mid.side.counts.worn → rs ≡ stream c (d ∷ h) → ShowsCpu has capacity schema k c (d ∷ h) (record mid { side = side })
   put_deed d mid rs side is unsealed shows worn accepts =
       subst (λ (x : Cpu B). ShowsCpu has capacity schema k c (d ∷ h) (record x { side = side })) (sym is)
@@ -162,7 +155,7 @@ module _ {S B : Type 0} (has : B → S → List Piece → Type 0) (capacity : B 
   }
 
   -- a batch sealed, of whose CPU no more were taken than were sealed before
-  pub sealing : (side : Side B) (b : B) (n : ℕ) → ShowsList (λ x. has x schema) capacity k c (Seal c ∷ h) side → side.counts.worn ≡ own.side.counts.worn → b ≡ own.side.active → n ≡ own.side.drops
+  pub sealing : (side : CpuState B) (b : B) (n : ℕ) → ShowsList (λ x. has x schema) capacity k c (Seal c ∷ h) side → side.counts.worn ≡ own.side.counts.worn → b ≡ own.side.active → n ≡ own.side.drops
       → own.progress.takes ≤ seals c h → ShowsCpu has capacity schema k c (Seal c ∷ h) (record own { side = side; second = b; sealed_drops = n })
   sealing side b n shows worn sealed drops takes = record {
     side = shows;

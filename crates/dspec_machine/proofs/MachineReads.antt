@@ -10,8 +10,8 @@ use Rattle.dspec_machine.specs.declared.machine.Machine.{Machine}
 use Rattle.dspec_machine.specs.declared.cpu.Cpu.{Cpu}
 use Rattle.dspec_deeds.specs.History.{ack, in_range}
 use Rattle.dspec_deeds.specs.Own.{Offer, contents}
-use Rattle.dspec_play.specs.Coherent.{IsSlot}
-use Rattle.dspec_play.proofs.CleanReads.{number_there}
+use Rattle.dspec_interleaving.specs.Coherent.{IsSlot}
+use Rattle.dspec_interleaving.proofs.CleanReads.{number_there}
 use Rattle.dspec_machine.specs.Shown.{ShowsCpu}
 use Rattle.dspec_machine.specs.Machines.{IsShownMachine, history}
 

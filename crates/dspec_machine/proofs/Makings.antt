@@ -7,11 +7,11 @@ use Rattle.std.proofs.lemmas.Option.{slice_get_within}
 use Rattle.dspec_buffer.specs.Extent.{Piece}
 use Rattle.dspec_deeds.specs.declared.calls.Answer.{Answer}
 use Rattle.dspec_deeds.specs.declared.deed.Deed.{Deed}
-use Rattle.dspec_play.specs.declared.flight.CpuProgress.{CpuProgress}
+use Rattle.dspec_interleaving.specs.declared.flight.CpuProgress.{CpuProgress}
 use Rattle.dspec_machine.specs.declared.machine.Machine.{Machine}
 use Rattle.dspec_machine.specs.declared.cpu.Cpu.{Cpu}
-use Rattle.dspec_play.specs.Play.{Moved}
-use Rattle.dspec_play.specs.Coherent.{PlayState, progress_of}
+use Rattle.dspec_interleaving.specs.Play.{CpuStep}
+use Rattle.dspec_interleaving.specs.Coherent.{PlayState, progress_of}
 use Rattle.dspec_machine.specs.Shown.{ShowsCpu}
 use Rattle.dspec_machine.specs.Machines.{IsShownMachine, Adds, Makes, history, state_of}
 use Rattle.dspec_deeds.proofs.TestLemmas.{either_way, same_number, numbers_differ}
@@ -60,10 +60,10 @@ module _ {S B : Type 0} (has : B → S → List Piece → Type 0) (capacity : B 
       cpu_puts m c own _ was got (calling has capacity m.schema m.config c (history m) own (was.cpus c own got) me takes worn)
 
   -- a step that entered its deeds and then moved its CPU's progress
-  pub step_made : (m n left : Machine S B) (c : ℕ) (ds : List Deed) (change : CpuProgress → CpuProgress) (moved : Moved) (answer : Option Answer) → Adds ds m n → IsShownMachine has capacity left
+  pub step_made : (m n left : Machine S B) (c : ℕ) (ds : List Deed) (change : CpuProgress → CpuProgress) (moved : CpuStep) (answer : Option Answer) → Adds ds m n → IsShownMachine has capacity left
       → state_of left ≡ record (state_of n) { progresses = set (state_of n).progresses c (change (progress_of (state_of n).progresses c)) } → left.schema ≡ n.schema
       → record { progress = change (progress_of (state_of m).progresses c); deeds = ds; answer = answer } ≡ moved → Makes has capacity m left c moved answer
   step_made m n left c ds change moved answer adds shown state schema is =
       let Leaves : PlayState → PlayState = λ st. record st { progresses = set st.progresses c (change (progress_of st.progresses c)) } in
-      subst (λ (x : Moved). Makes has capacity m left c x answer) is
+      subst (λ (x : CpuStep). Makes has capacity m left c x answer) is
       record { shown = shown; state = state ∙ ap Leaves adds.state; schema = schema ∙ adds.schema; answered = refl }

@@ -1,5 +1,5 @@
 -- A machine with one deed more shows its list where its words do, and what it keeps of each CPU.
-use Rattle.std.proofs.Common.{◌≡◌, ℕ, zero, suc, ◌-◌, ◌<◌, ◌≤◌, true, false, ◌==◌, List, [], ◌∷◌, ◌++◌, length, map, reverse, set, get_or, Some, refl, sym, ap, ◌∙◌, subst, ⊎_elim, arith}
+use Rattle.std.proofs.Common.{[], ◌≡◌, ℕ, zero, suc, ◌-◌, ◌<◌, ◌≤◌, true, false, ◌==◌, List, ◌∷◌, ◌++◌, length, map, reverse, set, get_or, Some, refl, sym, ap, ◌∙◌, subst, ⊎_elim, arith}
 use Rattle.std.specs.Prelude.{slice_get}
 use Rattle.std.specs.Global.{Vec}
 use Rattle.std.specs.Vec.{with_item}
@@ -15,7 +15,7 @@ use Rattle.dspec_deeds.specs.declared.deed.Deed.TheVariants.{Halt, Opened, Relea
 use Rattle.dspec_machine.specs.declared.machine.Machine.{Machine}
 use Rattle.dspec_machine.specs.declared.cpu.Cpu.{Cpu}
 use Rattle.dspec_deeds.specs.History.{halted, author, same_actor, word_at}
-use Rattle.dspec_play.specs.Coherent.{progress_of}
+use Rattle.dspec_interleaving.specs.Coherent.{progress_of}
 use Rattle.dspec_machine.specs.Shown.{ShowsWords, ShowsCpu}
 use Rattle.dspec_machine.specs.Machines.{IsShownMachine, Adds, history}
 use Rattle.dspec_deeds.proofs.TestLemmas.{either_way, same_number, numbers_differ}
@@ -104,11 +104,6 @@ pub adds_own : {S B : Type 0} (m : Machine S B) (ds : List Deed) (ws : Vec SlotS
 adds_own {B = B} m ds ws d c own new is got same =
     let progresses = map_set (λ (x : Cpu B). x.progress) m.cpus.items c own new got same in
     record { state = λ i. record { config = m.config; deeds = is i; progresses = progresses i; side = m.consumer }; schema = refl }
-
--- what a play knows of a machine with one deed more
-pub adds_one : {S B : Type 0} (m n : Machine S B) (d : Deed) → n.config ≡ m.config → n.schema ≡ m.schema → n.consumer ≡ m.consumer → history n ≡ d ∷ history m
-    → map (λ s. s.progress) n.cpus.items ≡ map (λ s. s.progress) m.cpus.items → Adds (d ∷ []) m n
-adds_one m n d config schema consumer deeds progresses = record { state = λ i. record { config = config i; deeds = deeds i; progresses = progresses i; side = consumer i }; schema = schema }
 
 -- a CPU's progress in a play is the one that is kept
 pub progress_there : {B : Type 0} (sides : List (Cpu B)) (c : ℕ) (side : Cpu B) → slice_get sides c ≡ Some side → progress_of (map (λ s. s.progress) sides) c ≡ side.progress

@@ -15,9 +15,9 @@ use Rattle.dspec_deeds.specs.Own.{contents, held, seals_now, stream}
 use Rattle.dspec_deeds.specs.Ranges.{start_fault}
 use Rattle.dspec_deeds.proofs.PresentIds.{open_present}
 use Rattle.dspec_deeds.proofs.WordChanges.{granted_open}
-use Rattle.dspec_side.specs.declared.side.Side.{Side}
-use Rattle.dspec_side.specs.Sides.{ShowsList}
-use Rattle.dspec_play.specs.Coherent.{IsSlot}
+use Rattle.dspec_cpu_state.specs.declared.cpu_state.CpuState.{CpuState}
+use Rattle.dspec_cpu_state.specs.CpuStates.{ShowsList}
+use Rattle.dspec_interleaving.specs.Coherent.{IsSlot}
 use Rattle.dspec_machine.specs.declared.cpu.Cpu.{Cpu}
 use Rattle.dspec_machine.specs.declared.decision.Decision.{Decision}
 use Rattle.dspec_machine.specs.declared.machine.Machine.{Machine}
@@ -103,7 +103,7 @@ module _ {S B : Type 0} {has : B → S → List Piece → Type 0} {capacity : B 
       record { streamed = streamed; shows = put_side has capacity m.schema m.config c (history m) own block.shows mid _ streamed }
 
   -- the deed ends the block
-  pub block_ended : {f : DecideFate} {mid : Cpu B} → HasStreamed has capacity m c id own f mid → (d : Deed) (side : Side B) → seals_now c d ≡ false
+  pub block_ended : {f : DecideFate} {mid : Cpu B} → HasStreamed has capacity m c id own f mid → (d : Deed) (side : CpuState B) → seals_now c d ≡ false
       → ShowsList (λ b. has b m.schema) capacity m.config c (d ∷ history m) side → side.counts.worn ≡ mid.side.counts.worn
       → stream c (history m) ++ (if is_copied f then reverse (contents (held c id (history m))) else []) ≡ stream c (d ∷ history m)
       → ShowsCpu has capacity m.schema m.config c (d ∷ history m) (record mid { side = side })

@@ -18,19 +18,19 @@ use Rattle.dspec_deeds.specs.declared.deed.Deed.{Deed}
 use Rattle.dspec_deeds.specs.declared.deed.Deed.TheVariants.{Trace, Speculate, Commit, Discard, Settle}
 use Rattle.dspec_deeds.specs.FateKinds.{decided_stopped, is_commit, is_copied, is_discard, spoken_granted, trace_kept}
 use Rattle.dspec_deeds.specs.History.{Verdict, undecided, committed, discarded, verdict, is_undecided, is_open, issue}
-use Rattle.dspec_deeds.specs.Legal.{IsSound, OwnAllows, SettlesAs, fits_principal, fits_speculative}
+use Rattle.dspec_deeds.specs.Legal.{IsSound, CpuLegal, SettlesAs, fits_principal, fits_speculative}
 use Rattle.dspec_deeds.specs.Marks.{mark}
 use Rattle.dspec_deeds.specs.Own.{accepted, contents, held, stream}
-use Rattle.dspec_deeds.specs.OwnShown.{last_called}
+use Rattle.dspec_deeds.specs.CpuShown.{last_called}
 use Rattle.dspec_deeds.specs.Ranges.{start_fault}
-use Rattle.dspec_deeds.proofs.OwnSides.{tells_present}
+use Rattle.dspec_deeds.proofs.OwnStates.{tells_present}
 use Rattle.dspec_deeds.proofs.PresentIds.{decided_given, open_present, present_is}
 use Rattle.dspec_deeds.proofs.SetUp.{set_up}
 use Rattle.dspec_deeds.proofs.SoundLists.{opened_in_range}
 use Rattle.dspec_deeds.proofs.TestLemmas.{number_is_itself}
-use Rattle.dspec_side.specs.declared.side.Side.{Side}
-use Rattle.dspec_side.specs.Sides.{IsCaller, ShowsList}
-use Rattle.dspec_play.specs.Coherent.{IsSlot}
+use Rattle.dspec_cpu_state.specs.declared.cpu_state.CpuState.{CpuState}
+use Rattle.dspec_cpu_state.specs.CpuStates.{IsCaller, ShowsList}
+use Rattle.dspec_interleaving.specs.Coherent.{IsSlot}
 use Rattle.dspec_machine.proofs.Batches.{stream_more}
 
 -- what follows on success
@@ -90,7 +90,7 @@ stream_traces c r traced.Dropped h rs e = append-nil rs ∙ e
 stream_traces c r traced.Stopped h rs e = append-nil rs ∙ e
 
 -- what was told of a record that was traced is its fate
-pub traced_as : (shape : ℕ → Option Shape) (k : Config) (c : ℕ) (r : Record) (f : TraceFate) (fits : Bool) (h : List Deed) → (f ≡ traced.Stopped → ⊥) → OwnAllows shape k h (Trace c r f)
+pub traced_as : (shape : ℕ → Option Shape) (k : Config) (c : ℕ) (r : Record) (f : TraceFate) (fits : Bool) (h : List Deed) → (f ≡ traced.Stopped → ⊥) → CpuLegal shape k h (Trace c r f)
     → fits ≡ fits_principal shape k c (one r) h → (if fits then traced.Kept else traced.Dropped) ≡ f
 traced_as shape k c r traced.Kept fits h runs row is = let yes : fits ≡ true = is ∙ sym row in rw yes refl
 traced_as shape k c r traced.Dropped fits h runs row is = let no : fits ≡ false = is ∙ sym row in rw no refl
@@ -98,7 +98,7 @@ traced_as shape k c r traced.Stopped fits h runs row is = absurd (runs refl)
 
 -- and of one that was granted
 pub spoken_as : (shape : ℕ → Option Shape) (k : Config) (c : ℕ) (id : Speculation) (r : Record) (f : SpeculateFate) (fits : Bool) (h : List Deed) → spoken_granted f ≡ true
-    → OwnAllows shape k h (Speculate c id r f) → fits ≡ fits_speculative shape k c id r h → (if fits then spoken.Kept else spoken.Dropped) ≡ f
+    → CpuLegal shape k h (Speculate c id r f) → fits ≡ fits_speculative shape k c id r h → (if fits then spoken.Kept else spoken.Dropped) ≡ f
 spoken_as shape k c id r spoken.Kept fits h granted row is = let yes : fits ≡ true = is ∙ sym row in rw yes refl
 spoken_as shape k c id r spoken.Dropped fits h granted row is = let no : fits ≡ false = is ∙ sym row in rw no refl
 spoken_as shape k c id r spoken.Void fits h granted row is = absurd (true≢false (sym granted))
@@ -121,7 +121,7 @@ pub settles_on : (f : DecideFate) → (is_commit f || is_discard f) ≡ true →
 settles_on decided.Stopped e = absurd (true≢false (sym e))
 settles_on f e = refl
 
-module _ {B : Type 0} (keeps : B → List Piece → Type 0) (capacity : B → ℕ) (k : Config) (c : ℕ) (h : List Deed) (side : Side B) (was : ShowsList keeps capacity k c h side)
+module _ {B : Type 0} (keeps : B → List Piece → Type 0) (capacity : B → ℕ) (k : Config) (c : ℕ) (h : List Deed) (side : CpuState B) (was : ShowsList keeps capacity k c h side)
     (id : Speculation) (slot : IsSlot k id.slot) where
   -- what is asked of an identifier at its slot
   pub place_there : (1 ≤ id.slot) × (id.slot ≤ length side.speculative.items)
@@ -136,7 +136,7 @@ module _ {B : Type 0} (keeps : B → List Piece → Type 0) (capacity : B → �
   pub ack_there : (1 ≤ id.slot) × (id.slot ≤ length side.acks.items)
   ack_there = let count = was.parts.ack_count in let low = slot.0 in let high = slot.1 in (low, omega arith)
 
-module _ {B : Type 0} (keeps : B → List Piece → Type 0) (capacity : B → ℕ) (k : Config) (c : ℕ) (h : List Deed) (side : Side B) (was : ShowsList keeps capacity k c h side)
+module _ {B : Type 0} (keeps : B → List Piece → Type 0) (capacity : B → ℕ) (k : Config) (c : ℕ) (h : List Deed) (side : CpuState B) (was : ShowsList keeps capacity k c h side)
     (id : Speculation) (slot : IsSlot k id.slot) (lt : c < k.cpus) (sound : IsSound k h) (now : issue id.slot h ≡ id.issue) where
   -- the mark tells whether the CPU is a caller
   pub caller_is : (mine : Bool) → ((m : ℕ) → slice_get side.marks (id.slot - 1) ≡ Some m → mine ≡ (m == id.issue + 1)) → IsCaller c id mine h

@@ -3,9 +3,9 @@ use Rattle.std.proofs.Common.{◌≡◌, ℕ, Option, sym, subst}
 use Rattle.std.specs.Prelude.{Result, Ok, Err, IfOk, OnErr}
 use Rattle.dspec_record.specs.declared.field.Shape.{Shape}
 use Rattle.dspec_machine.specs.declared.machine.Machine.{Machine}
-use Rattle.dspec_play.specs.Coherent.{IsCoherent}
+use Rattle.dspec_interleaving.specs.Coherent.{IsCoherent}
 use Rattle.dspec_machine.specs.Machines.{state_of}
-use Rattle.dspec_play.specs.Promised.{HasHeadline}
+use Rattle.dspec_interleaving.specs.Promised.{HasHeadline}
 use Rattle.dspec_machine.specs.WorldViews.{WorldView}
 use Rattle.dspec_machine.specs.Worlds.{world_view}
 use Rattle.dspec_deeds.proofs.Headlines.{headline}

@@ -16,13 +16,13 @@ use Rattle.dspec_deeds.specs.Reports.{one_if, report, speculative, total}
 use Rattle.dspec_deeds.proofs.Balance.{balance}
 use Rattle.dspec_deeds.proofs.DeedEffects.{legal_accounts}
 use Rattle.dspec_deeds.proofs.ReportBounds.{report_within}
-use Rattle.dspec_side.specs.declared.counts.Counts.{Counts}
-use Rattle.dspec_side.specs.Counting.{HasRoom, IsRoomy, counts_of, with_decided, with_fate}
-use Rattle.dspec_side.specs.declared.side.Side.{Side}
-use Rattle.dspec_side.specs.Sides.{ShowsList}
-use Rattle.dspec_side.proofs.Tallies.{commit_counts, discard_counts, drops_since}
-use Rattle.dspec_play.proofs.CleanReads.{calls_fit}
-use Rattle.dspec_play.proofs.Counts.{calls_counted, drops_counted, one_more, seals_counted}
+use Rattle.dspec_cpu_state.specs.declared.counts.Counts.{Counts}
+use Rattle.dspec_cpu_state.specs.Counting.{HasRoom, IsRoomy, counts_of, with_decided, with_fate}
+use Rattle.dspec_cpu_state.specs.declared.cpu_state.CpuState.{CpuState}
+use Rattle.dspec_cpu_state.specs.CpuStates.{ShowsList}
+use Rattle.dspec_cpu_state.proofs.Tallies.{commit_counts, discard_counts, drops_since}
+use Rattle.dspec_interleaving.proofs.CleanReads.{calls_fit}
+use Rattle.dspec_interleaving.proofs.Counts.{calls_counted, drops_counted, one_more, seals_counted}
 use Rattle.dspec_machine.specs.declared.decision.Decision.{Decision}
 use Rattle.dspec_machine.specs.declared.decision.Decision.TheVariants as decision
 use Rattle.dspec_machine.specs.Decisions.{decides, deed_of}
@@ -96,7 +96,7 @@ module _ (shape : ℕ → Option Shape) (k : Config) (c : ℕ) where
   decided_counts decision.Discard id decided.Void w h e = absurd (true≢false (sym e))
   decided_counts decision.Discard id decided.Stopped w h e = absurd (true≢false (sym e))
 
-  module _ {B : Type 0} (keeps : B → List Piece → Type 0) (capacity : B → ℕ) (h : List Deed) (side : Side B) (was : ShowsList keeps capacity k c h side) where
+  module _ {B : Type 0} (keeps : B → List Piece → Type 0) (capacity : B → ℕ) (h : List Deed) (side : CpuState B) (was : ShowsList keeps capacity k c h side) where
     -- a call more fits the numbers of a CPU that has made no more than it may
     module _ (fine : start_fault k ≡ None) (d : Deed) (legal : IsAllowed shape k (d ∷ h)) (few : calls c h ≤ k.max_calls) where
       pub counts_fit : IsRoomy side.counts

@@ -15,13 +15,13 @@ use Rattle.dspec_deeds.specs.declared.deed.Deed.{Deed}
 use Rattle.dspec_deeds.specs.declared.deed.Deed.TheVariants.{Settle}
 use Rattle.dspec_machine.specs.declared.machine.Machine.{Machine}
 use Rattle.dspec_deeds.specs.History.{present, word_at}
-use Rattle.dspec_play.specs.Coherent.{IsSlot, PlayState}
+use Rattle.dspec_interleaving.specs.Coherent.{IsSlot, PlayState}
 use Rattle.dspec_deeds.specs.Closes.{CanClose, is_granted, closed_slot, closed_slots, closed_cpus}
 use Rattle.dspec_machine.specs.Closings.{IsClosable, ClosesTo}
 use Rattle.dspec_machine.specs.Machines.{IsShownMachine, Adds, history, state_of}
 use Rattle.dspec_deeds.specs.Settling.{settle_fate}
 use Rattle.dspec_deeds.specs.Ranges.{start_fault}
-use Rattle.dspec_play.proofs.Closing.{slot_settles}
+use Rattle.dspec_interleaving.proofs.Closing.{slot_settles}
 use Rattle.dspec_machine.proofs.SlotReads.{ShowsSlot, row_read}
 
 -- a settlement is entered where the table grants it

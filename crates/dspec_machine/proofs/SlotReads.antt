@@ -6,7 +6,7 @@ use Rattle.dspec_word.specs.Tables.{settle_at}
 use Rattle.dspec_word.specs.Word.{SlotState}
 use Rattle.dspec_deeds.specs.declared.deed.Deed.{Deed}
 use Rattle.dspec_deeds.specs.History.{ack, word_at}
-use Rattle.dspec_play.specs.Coherent.{IsSlot}
+use Rattle.dspec_interleaving.specs.Coherent.{IsSlot}
 use Rattle.dspec_machine.specs.declared.cpu.Cpu.{Cpu}
 use Rattle.dspec_machine.specs.declared.machine.Machine.{Machine}
 use Rattle.dspec_machine.specs.Machines.{IsShownMachine, history}

@@ -8,7 +8,7 @@ use Rattle.dspec_deeds.specs.declared.deed.Deed.{Deed}
 use Rattle.dspec_deeds.specs.declared.deed.Deed.TheVariants.{Discard, Release}
 use Rattle.dspec_machine.specs.declared.machine.Machine.{Machine}
 use Rattle.dspec_deeds.specs.History.{word_at}
-use Rattle.dspec_play.specs.Coherent.{IsSlot}
+use Rattle.dspec_interleaving.specs.Coherent.{IsSlot}
 use Rattle.dspec_machine.specs.Shown.{ShowsWords}
 use Rattle.dspec_machine.specs.Machines.{Adds, history}
 use Rattle.dspec_machine.proofs.WordsShown.{words_set}

@@ -10,13 +10,13 @@ use Rattle.dspec_word.specs.Word.{SlotState}
 use Rattle.dspec_deeds.specs.declared.config.Config.{Config}
 use Rattle.dspec_machine.specs.declared.machine.Machine.{Machine}
 use Rattle.dspec_machine.specs.declared.cpu.Cpu.{Cpu}
-use Rattle.dspec_play.specs.Coherent.{progress_of, idle_progress}
+use Rattle.dspec_interleaving.specs.Coherent.{progress_of, idle_progress}
 use Rattle.dspec_deeds.specs.Ranges.{start_fault}
-use Rattle.dspec_play.specs.Turns.{idle_cpus, at_start}
+use Rattle.dspec_interleaving.specs.Turns.{idle_cpus, at_start}
 use Rattle.dspec_machine.specs.Shown.{ShowsCpu}
 use Rattle.dspec_machine.specs.Machines.{IsShownMachine, history, state_of}
 use Rattle.dspec_machine.specs.Worlds.{IsWithin}
-use Rattle.dspec_play.proofs.Coherence.{start_coherent}
+use Rattle.dspec_interleaving.proofs.Coherence.{start_coherent}
 use Rattle.dspec_machine.proofs.Keepings.{KeepsState}
 use Rattle.dspec_machine.proofs.OneMore.{shown_as}
 

@@ -15,28 +15,28 @@ use Rattle.dspec_deeds.specs.Own.{calls}
 use Rattle.dspec_deeds.proofs.Going.{AllBy}
 use Rattle.dspec_deeds.proofs.StayingOwn.{calls_other}
 use Rattle.dspec_deeds.proofs.TestLemmas.{either_way, same_actor_tells}
-use Rattle.dspec_play.specs.declared.flight.CpuProgress.{CpuProgress}
-use Rattle.dspec_play.specs.declared.flight.CpuFlight.{CpuFlight}
-use Rattle.dspec_play.specs.declared.flight.CpuFlight.TheVariants as cpu
-use Rattle.dspec_play.specs.declared.flight.ConsumerFlight.{ConsumerFlight}
-use Rattle.dspec_play.specs.Calls.{op_of}
-use Rattle.dspec_play.specs.Coherent.{IsCoherent, PlayState, StandsSide, progress_of}
-use Rattle.dspec_play.specs.Play.{Moved, ConsumerStep, cpu_step, consumer_step}
-use Rattle.dspec_play.specs.Wearing.{is_counted, is_first, is_told_worn, enters_call}
-use Rattle.dspec_play.proofs.ConsumerSteps.{consumer_keeps}
-use Rattle.dspec_play.proofs.CpuSteps.{cpu_step_stands}
-use Rattle.dspec_play.proofs.FlightsStay.{flights_stay}
-use Rattle.dspec_play.proofs.KeptCalls.{step_passes}
-use Rattle.dspec_play.proofs.OwnAnswersPlay.{put}
-use Rattle.dspec_play.proofs.StepEnds.{HasEnded, HasGoneOn, cpu_advances}
-use Rattle.dspec_play.proofs.WornSteps.{ahead, enters, cpu_step_wears}
+use Rattle.dspec_interleaving.specs.declared.flight.CpuProgress.{CpuProgress}
+use Rattle.dspec_interleaving.specs.declared.flight.CallPlace.{CallPlace}
+use Rattle.dspec_interleaving.specs.declared.flight.CallPlace.TheVariants as cpu
+use Rattle.dspec_interleaving.specs.declared.flight.ConsumerFlight.{ConsumerFlight}
+use Rattle.dspec_interleaving.specs.Calls.{op_of}
+use Rattle.dspec_interleaving.specs.Coherent.{IsCoherent, PlayState, StandsState, progress_of}
+use Rattle.dspec_interleaving.specs.Play.{CpuStep, ConsumerStep, cpu_step, consumer_step}
+use Rattle.dspec_interleaving.specs.Wearing.{is_counted, is_first, is_told_worn, enters_call}
+use Rattle.dspec_interleaving.proofs.ConsumerSteps.{consumer_keeps}
+use Rattle.dspec_interleaving.proofs.CpuSteps.{cpu_step_stands}
+use Rattle.dspec_interleaving.proofs.FlightsStay.{flights_stay}
+use Rattle.dspec_interleaving.proofs.KeptCalls.{step_passes}
+use Rattle.dspec_interleaving.proofs.OwnAnswersPlay.{put}
+use Rattle.dspec_interleaving.proofs.StepEnds.{HasEnded, HasGoneOn, cpu_advances}
+use Rattle.dspec_interleaving.proofs.WornSteps.{ahead, enters, cpu_step_wears}
 use Rattle.dspec_machine.specs.Worlds.{is_due, IsWithin}
 
 -- a deed that counts was entered by the call in flight, or is to come, or neither
-abbrev spent : Option CpuFlight → ℕ
+abbrev spent : Option CallPlace → ℕ
 spent x = ahead x + (if is_due x then 1 else 0)
 
-spent_once : (x : CpuFlight) → spent (Some x) ≤ 1
+spent_once : (x : CallPlace) → spent (Some x) ≤ 1
 spent_once (cpu.Begun o) = omega arith
 spent_once (cpu.ScanLoad s) = omega arith
 spent_once (cpu.ScanTry s w) = omega arith
@@ -53,7 +53,7 @@ spent_once (cpu.ServiceLoad s sum) = omega arith
 spent_once (cpu.ServiceStore s w sum) = omega arith
 
 -- a call that doesn't count has none
-spent_never : (x : CpuFlight) → is_counted (op.Cpu (op_of x)) ≡ false → spent (Some x) ≡ 0
+spent_never : (x : CallPlace) → is_counted (op.Cpu (op_of x)) ≡ false → spent (Some x) ≡ 0
 spent_never (cpu.Begun o) e = refl
 spent_never (cpu.ScanLoad s) e = absurd (cc (e))
 spent_never (cpu.ScanTry s w) e = absurd (cc (e))
@@ -91,7 +91,7 @@ enters_unworn o (Some a) e = rw e (go (is_counted (op.Cpu o)))
     go false = refl
 
 -- a call that counts and isn't worn at its first step leaves room for one deed that counts, which it enters once
-room : (k : Config) (c : ℕ) (h : List Deed) (f : CpuFlight) (a : Option Answer) (e : ℕ) → IsWithin k c h (Some f) → is_told_worn a ≡ (is_first (Some f) && nat_le k.max_calls (calls c h))
+room : (k : Config) (c : ℕ) (h : List Deed) (f : CallPlace) (a : Option Answer) (e : ℕ) → IsWithin k c h (Some f) → is_told_worn a ≡ (is_first (Some f) && nat_le k.max_calls (calls c h))
     → e ≤ 1 → (is_counted (op.Cpu (op_of f)) ≡ false → e ≡ 0) → (is_told_worn a ≡ true → e ≡ 0) → calls c h + e ≤ k.max_calls + ahead (Some f)
 room k c h (cpu.Begun o) a e was told few uncounted unworn = ⊎_elim
     (λ (t : is_counted (op.Cpu o) ≡ true). ⊎_elim
@@ -119,10 +119,10 @@ room k c h (cpu.ServiceLoad s sum) a e was told few uncounted unworn = let none 
 room k c h (cpu.ServiceStore s w sum) a e was told few uncounted unworn = let none = uncounted refl in omega arith
 
 -- the CPU whose step it is
-step_within : (shape : ℕ → Option Shape) (k : Config) (c : ℕ) (h : List Deed) (me : CpuProgress) (f : CpuFlight) → IsWithin k c h (Some f)
+step_within : (shape : ℕ → Option Shape) (k : Config) (c : ℕ) (h : List Deed) (me : CpuProgress) (f : CallPlace) → IsWithin k c h (Some f)
     → IsWithin k c ((cpu_step shape k c h me f).deeds ++ h) (cpu_step shape k c h me f).progress.flight
 step_within shape k c h me f was =
-    let m : Moved = cpu_step shape k c h me f in
+    let m : CpuStep = cpu_step shape k c h me f in
     let wears = cpu_step_wears shape k c h me f in
     let more = wears.counts in
     ⊎_elim
@@ -153,14 +153,14 @@ AllWithin st = (c : ℕ) → c < st.config.cpus → IsWithin st.config c st.deed
 
 module _ (shape : ℕ → Option Shape) (st : PlayState) (ok : IsCoherent shape st) (was : AllWithin st) where
   -- a step of a CPU
-  pub cpu_within : (c : ℕ) (f : CpuFlight) → c < st.config.cpus → (progress_of st.progresses c).flight ≡ Some f
+  pub cpu_within : (c : ℕ) (f : CallPlace) → c < st.config.cpus → (progress_of st.progresses c).flight ≡ Some f
       → AllWithin (record st {
         deeds = (cpu_step shape st.config c st.deeds (progress_of st.progresses c) f).deeds ++ st.deeds;
         progresses = set st.progresses c (cpu_step shape st.config c st.deeds (progress_of st.progresses c) f).progress;
       })
   cpu_within c f lt is =
       let me : CpuProgress = progress_of st.progresses c in
-      let m : Moved = cpu_step shape st.config c st.deeds me f in
+      let m : CpuStep = cpu_step shape st.config c st.deeds me f in
       let did = cpu_step_stands shape st.config c st.deeds me ok.ranges ok.legal ok.rests (ok.stands c lt) f is in
       put st.config.cpus (λ b (x : CpuProgress). IsWithin st.config b (m.deeds ++ st.deeds) x.flight) st.progresses c m.progress ok.count
       (λ b less other. subst (λ n. n + (if is_due (progress_of st.progresses b).flight then 1 else 0) ≤ st.config.max_calls)
@@ -176,7 +176,7 @@ module _ (shape : ℕ → Option Shape) (st : PlayState) (ok : IsCoherent shape 
       })
   consumer_within f is =
       let m : ConsumerStep = consumer_step st.config st.deeds st.side st.progresses f in
-      let did = consumer_keeps shape st.config st.deeds st.side st.progresses ok.ranges ok.legal ok.rests ok.count ok.stands f (subst (StandsSide st.config st.deeds st.side) is ok.side) in
-      λ b less. subst (λ (x : ℕ × Option CpuFlight). x.0 + (if is_due x.1 then 1 else 0) ≤ st.config.max_calls)
+      let did = consumer_keeps shape st.config st.deeds st.side st.progresses ok.ranges ok.legal ok.rests ok.count ok.stands f (subst (StandsState st.config st.deeds st.side) is ok.side) in
+      λ b less. subst (λ (x : ℕ × Option CallPlace). x.0 + (if is_due x.1 then 1 else 0) ≤ st.config.max_calls)
       (λ i. (sym (calls_stay b actor.Consumer refl m.deeds st.deeds did.goes.by) i, sym (flights_stay st.config st.deeds st.side st.progresses ok.count f b less) i))
       (was b less)

@@ -6,7 +6,7 @@ use Rattle.dspec_word.specs.Word.{SlotState}
 use Rattle.dspec_deeds.specs.declared.config.Config.{Config}
 use Rattle.dspec_deeds.specs.declared.deed.Deed.{Deed}
 use Rattle.dspec_deeds.specs.History.{word_at}
-use Rattle.dspec_play.specs.Coherent.{IsSlot}
+use Rattle.dspec_interleaving.specs.Coherent.{IsSlot}
 use Rattle.dspec_machine.specs.Shown.{ShowsWords}
 use Rattle.dspec_deeds.proofs.TestLemmas.{either_way, same_number, numbers_differ}
 use Rattle.dspec_deeds.proofs.WordChanges.{touches, untouched, slot_of, elsewhere}

@@ -6,9 +6,9 @@ use Rattle.dspec_deeds.specs.declared.deed.Deed.{Deed}
 use Rattle.dspec_machine.specs.declared.machine.Machine.{Machine}
 use Rattle.dspec_machine.specs.declared.cpu.Cpu.{Cpu}
 use Rattle.dspec_deeds.specs.History.{halted}
-use Rattle.dspec_play.specs.Play.{Moved, ConsumerStep}
-use Rattle.dspec_play.specs.Coherent.{PlayState}
-use Rattle.dspec_play.specs.Turns.{moved_to, cleaned_to}
+use Rattle.dspec_interleaving.specs.Play.{CpuStep, ConsumerStep}
+use Rattle.dspec_interleaving.specs.Coherent.{PlayState}
+use Rattle.dspec_interleaving.specs.Turns.{moved_to, cleaned_to}
 use Rattle.dspec_machine.specs.Shown.{ShowsWords, ShowsCpu}
 
 -- the deeds of a machine, the latest first
@@ -32,14 +32,14 @@ pub record Adds {S B : Type 0} (ds : List Deed) (m n : Machine S B) : Type 0 whe
   pub schema : n.schema ≡ m.schema
 
 -- a step of a CPU makes this of a machine, with that answer
-pub record Makes {S B : Type 0} (has : B → S → List Piece → Type 0) (capacity : B → ℕ) (m n : Machine S B) (c : ℕ) (moved : Moved) (answer : Option Answer) : Type 0 where
+pub record Makes {S B : Type 0} (has : B → S → List Piece → Type 0) (capacity : B → ℕ) (m n : Machine S B) (c : ℕ) (moved : CpuStep) (answer : Option Answer) : Type 0 where
   pub shown : IsShownMachine has capacity n
   pub state : state_of n ≡ (moved_to (state_of m) c moved).state
   pub schema : n.schema ≡ m.schema
   pub answered : answer ≡ moved.answer
 
 -- a step of the consumer makes this of a machine, with that answer
-pub record Cleans {S B : Type 0} (has : B → S → List Piece → Type 0) (capacity : B → ℕ) (m n : Machine S B) (cleaned : ConsumerStep) (answer : Option Answer) : Type 0 where
+pub record ConsumerMakes {S B : Type 0} (has : B → S → List Piece → Type 0) (capacity : B → ℕ) (m n : Machine S B) (cleaned : ConsumerStep) (answer : Option Answer) : Type 0 where
   pub shown : IsShownMachine has capacity n
   pub state : state_of n ≡ (cleaned_to (state_of m) cleaned).state
   pub schema : n.schema ≡ m.schema

@@ -7,8 +7,8 @@ use Rattle.dspec_deeds.specs.declared.config.Config.{Config}
 use Rattle.dspec_deeds.specs.declared.deed.Deed.{Deed}
 use Rattle.dspec_deeds.specs.History.{word_at}
 use Rattle.dspec_deeds.specs.Own.{Batch, empty_batch, batches, contents, stream, taken}
-use Rattle.dspec_side.specs.Sides.{ShowsList}
-use Rattle.dspec_play.specs.Coherent.{IsSlot}
+use Rattle.dspec_cpu_state.specs.CpuStates.{ShowsList}
+use Rattle.dspec_interleaving.specs.Coherent.{IsSlot}
 use Rattle.dspec_machine.specs.declared.cpu.Cpu.{Cpu}
 
 -- the batch sealed last

@@ -5,10 +5,10 @@ ghost use Rattle.dspec_deeds.specs.FateKinds.{is_copied, trace_kept};
 
 use crate::walking::append_records;
 use dspec_buffer::TraceBuffer;
+use dspec_cpu_state::CpuState;
 use dspec_deeds::{DecideFate, Deed, TraceFate};
-use dspec_play::{CpuProgress, Series};
+use dspec_interleaving::{CpuProgress, Series};
 use dspec_record::{Rec, Schema};
-use dspec_side::Side;
 use std::alloc::AllocError;
 
 /// What a machine keeps of one CPU: its call in flight, its side, its second principal buffer, and what was accepted and taken.
@@ -17,7 +17,7 @@ pub struct Cpu<B> {
     /// The call in flight, and what the consumer asked, took and gave back.
     pub progress: CpuProgress,
     /// What the CPU holds by its own deeds.
-    pub side: Side<B>,
+    pub side: CpuState<B>,
     /// The other principal buffer, wherever it is.
     pub second: B,
     /// The drops of the batch sealed last.

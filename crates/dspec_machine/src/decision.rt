@@ -3,7 +3,7 @@ ghost use Rattle.dspec_word.specs.Word.{CanBeReleased};
 ghost use Rattle.dspec_machine.specs.Decisions.{act_of_decision, deed_of, load_of, try_of};
 
 use dspec_deeds::{DecideFate, Deed};
-use dspec_play::CpuFlight;
+use dspec_interleaving::CallPlace;
 use dspec_word::{Act, SpecId, Word, commit_at, discard_at};
 
 /// Which of the two calls decides a speculation.
@@ -36,22 +36,22 @@ impl Decision {
     }
 
     /// The call's place before its load of the slot's word.
-    pub fn load(self, id: SpecId) -> CpuFlight
+    pub fn load(self, id: SpecId) -> CallPlace
         ensures { result ≡ load_of self id }
     {
         match self {
-            Decision::Commit => CpuFlight::CommitLoad(id),
-            Decision::Discard => CpuFlight::DiscardLoad(id),
+            Decision::Commit => CallPlace::CommitLoad(id),
+            Decision::Discard => CallPlace::DiscardLoad(id),
         }
     }
 
     /// The call's place before an exchange that expects that word.
-    pub fn attempt(self, id: SpecId, word: Word) -> CpuFlight
+    pub fn attempt(self, id: SpecId, word: Word) -> CallPlace
         ensures { result ≡ try_of self id word }
     {
         match self {
-            Decision::Commit => CpuFlight::CommitTry(id, word),
-            Decision::Discard => CpuFlight::DiscardTry(id, word),
+            Decision::Commit => CallPlace::CommitTry(id, word),
+            Decision::Discard => CallPlace::DiscardTry(id, word),
         }
     }
 }

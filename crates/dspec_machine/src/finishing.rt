@@ -1,12 +1,12 @@
 ghost use Rattle.std.specs.Prelude.{◌≡◌, ◌<◌, IfOk, OnOk, reverse};
 ghost use Rattle.dspec_deeds.specs.Closes.{reports, streams, closed_slot, closed_slots, closing};
-ghost use Rattle.dspec_play.specs.Coherent.{IsSlot, progress_of};
+ghost use Rattle.dspec_interleaving.specs.Coherent.{IsSlot, progress_of};
 ghost use Rattle.dspec_machine.specs.Closings.{IsClosable, ClosesTo};
 ghost use Rattle.dspec_machine.specs.Machines.{history, state_of};
 
 use crate::machine::Machine;
 use dspec_buffer::TraceBuffer;
-use dspec_play::{Close, Series};
+use dspec_interleaving::{Close, Series};
 use dspec_record::{Rec, Schema};
 use dspec_word::{Act, SpecId, settle_at};
 use std::alloc::{AllocError, Global};

@@ -1,6 +1,6 @@
 use crate::cpu::Cpu;
 use dspec_deeds::{Config, Deed};
-use dspec_play::{ConsumerProgress, Series};
+use dspec_interleaving::{ConsumerProgress, Series};
 use dspec_word::Word;
 
 /// A session as its atomic steps left it: the shared words, what is kept of each CPU and of the consumer, and the

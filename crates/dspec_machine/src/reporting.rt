@@ -1,5 +1,5 @@
 ghost use Rattle.std.specs.Prelude.{◌≡◌, ◌<◌, None};
-ghost use Rattle.dspec_play.specs.Coherent.{progress_of};
+ghost use Rattle.dspec_interleaving.specs.Coherent.{progress_of};
 ghost use Rattle.dspec_deeds.specs.Legal.{IsAllowed};
 ghost use Rattle.dspec_machine.specs.Machines.{IsShownMachine, history, state_of};
 ghost use Rattle.dspec_deeds.specs.Ranges.{start_fault};

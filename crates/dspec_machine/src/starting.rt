@@ -1,18 +1,18 @@
 ghost use Rattle.std.specs.Prelude.{◌≡◌, ◌<◌, ℕ, [], None, IfOk};
 ghost use Rattle.dspec_machine.specs.Machines.{state_of};
-ghost use Rattle.dspec_play.specs.Coherent.{idle_progress};
+ghost use Rattle.dspec_interleaving.specs.Coherent.{idle_progress};
 ghost use Rattle.dspec_deeds.specs.Ranges.{start_fault};
 ghost use Rattle.dspec_machine.specs.Shown.{ShowsCpu};
-ghost use Rattle.dspec_play.specs.Turns.{at_start};
-ghost use Rattle.dspec_machine.specs.Worlds.{IsKept};
+ghost use Rattle.dspec_interleaving.specs.Turns.{at_start};
+ghost use Rattle.dspec_machine.specs.Worlds.{WorldInvariant};
 
 use crate::cpu::Cpu;
 use crate::machine::Machine;
 use dspec_buffer::TraceBuffer;
+use dspec_cpu_state::CpuState;
 use dspec_deeds::Config;
-use dspec_play::{ConsumerProgress, CpuProgress, Series, Spare};
+use dspec_interleaving::{ConsumerProgress, CpuProgress, Series, Spare};
 use dspec_record::Schema;
-use dspec_side::Side;
 use dspec_word::{Code, Word};
 use std::alloc::{AllocError, Global};
 
@@ -23,7 +23,7 @@ impl<S: Schema, B: TraceBuffer<S>> Machine<S, B> {
         ensures shown { IfOk result (λ cpu. (schema : S) (c : ℕ) → ShowsCpu B.has B.capacity schema config.now c [] cpu) }
         ensures idle { IfOk result (λ cpu. cpu.progress ≡ idle_progress) }
     {
-        let side = Side::<B>::make::<S>(alloc, config)?;
+        let side = CpuState::<B>::make::<S>(alloc, config)?;
         Ok(Cpu {
             progress: CpuProgress {
                 flight: None,
@@ -44,7 +44,7 @@ impl<S: Schema, B: TraceBuffer<S>> Machine<S, B> {
     /// A session before its first call.
     pub fn new(alloc: Global, config: Config, schema: S) -> Result<Self, AllocError>
         requires fine { start_fault config ≡ None }
-        ensures kept { IfOk result (λ machine. IsKept B.has B.capacity S.shape_of S.accepted machine) }
+        ensures kept { IfOk result (λ machine. WorldInvariant B.has B.capacity S.shape_of S.accepted machine) }
         ensures state { IfOk result (λ machine. state_of machine ≡ at_start config) }
         ensures schema { IfOk result (λ machine. machine.schema ≡ schema) }
     {

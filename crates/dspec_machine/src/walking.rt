@@ -2,7 +2,7 @@ ghost use Rattle.std.specs.Prelude.{◌≡◌, ◌++◌, List, reverse, OnOk, On
 ghost use Rattle.dspec_buffer.specs.Extent.{Piece, records};
 
 use dspec_buffer::TraceBuffer;
-use dspec_play::Series;
+use dspec_interleaving::Series;
 use dspec_record::{Rec, Schema};
 use std::alloc::AllocError;
 

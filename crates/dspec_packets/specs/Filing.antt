@@ -5,7 +5,7 @@ use Rattle.dspec_record.specs.EnablingRows.{EnabledRows}
 use Rattle.dspec_ctf.specs.Streams.{Accepts}
 use Rattle.dspec_ctf.specs.declared.rows.Run.{Run}
 
--- Each packet that is handed out counts as written once the next call but `lose` is made.
+-- Each packet that is handed out counts as written once the next `put` or `open` is made.
 pub record CpuFiling : Type 0 where
   -- the trace's
   pub uuid : List ℕ

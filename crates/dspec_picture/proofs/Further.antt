@@ -1,6 +1,6 @@
--- The deeds so far, and one more; the numbers below one, and one more.
-use Rattle.std.proofs.Common.{◌≡◌, ℕ, suc, ◌+◌, ◌*◌, ◌^◌, ◌<◌, ◌≤◌, Bool, if◌then◌else◌, List, [], ◌∷◌, ◌++◌, length, map, reverse, take, get_or, refl, sym, ap, ◌∙◌, add-one, arith}
-use Rattle.std.proofs.lemmas.List.{append-nil, map-append, reverse-append, reverse-reverse}
+-- The deeds so far, and one more; the numbers below one, and one more; the deeds that came.
+use Rattle.std.proofs.Common.{◌≡◌, ℕ, suc, ◌+◌, ◌*◌, ◌^◌, ◌<◌, ◌≤◌, Bool, if◌then◌else◌, List, [], ◌∷◌, ◌++◌, length, map, reverse, take, drop, get_or, refl, sym, ap, ◌∙◌, add-one, arith}
+use Rattle.std.proofs.lemmas.List.{append-nil, map-append, reverse-append, reverse-reverse, length-reverse}
 use Rattle.std.proofs.lemmas.Grind.{flat_map-append}
 use Rattle.std.specs.List.{flat_map}
 use Rattle.std.proofs.Math.Nat.{mul-le-mul_left}
@@ -9,6 +9,7 @@ use Rattle.dspec_deeds.specs.declared.deed.Deed.{Deed}
 use Rattle.dspec_deeds.specs.Closes.{numbers_below}
 use Rattle.dspec_picture.specs.Bars.{first_deeds}
 use Rattle.dspec_picture.specs.Grid.{count_below, band_height, bands_height}
+use Rattle.dspec_picture.specs.Steps.{new_deeds}
 
 latest_at_head : (ds new : List Deed) (d : Deed) → new ≡ ds ++ d ∷ [] → reverse new ≡ d ∷ reverse ds
 latest_at_head ds new d e = ap reverse e ∙ reverse-append ds (d ∷ [])
@@ -41,3 +42,7 @@ one_more_mapped f n = rw add-one (map-append f (numbers_below n) (n ∷ []))
 -- the first deeds
 pub first_are_first : (n : ℕ) (ds : List Deed) → first_deeds n (reverse ds) ≡ reverse (take n ds)
 first_are_first n ds = rw reverse-reverse refl
+
+-- the deeds that came, of lists in order of time
+pub same_news : (olds news : List Deed) → new_deeds (reverse olds) (reverse news) ≡ drop (length olds) news
+same_news olds news = ap (λ n. drop n (reverse (reverse news))) (length-reverse olds) ∙ ap (drop (length olds)) (rw reverse-reverse refl)

@@ -1,6 +1,9 @@
-mod Further
+pub mod Further
 mod Looks
 mod Offers
 mod Shown
 mod States
-mod Words
+mod WordsTold
+pub mod Buffers
+pub mod Tellable
+pub mod Runs

@@ -17,8 +17,8 @@ use Rattle.dspec_deeds.specs.declared.deed.Deed.TheVariants.{Trace, Speculate, C
 use Rattle.dspec_deeds.specs.Own.{offered_by, offers, empties}
 use Rattle.dspec_deeds.specs.Fates.{Fate, taken, dropped, discarded, void, waiting, first_fate, emptied_as, fate_by, next_fate, fate, is_waiting}
 use Rattle.dspec_deeds.proofs.TestLemmas.{number_is_itself, same_number}
-use Rattle.dspec_shapes.specs.declared.shape.Look.{Look}
-use Rattle.dspec_shapes.specs.declared.shape.Look.TheVariants as look
+use Rattle.dspec_picture.specs.declared.shape.Look.{Look}
+use Rattle.dspec_picture.specs.declared.shape.Look.TheVariants as look
 use Rattle.dspec_picture.specs.Marks.{IsDeedAt, look_of, look_if, offer_look}
 use Rattle.dspec_picture.proofs.Further.{one_deed_further}
 

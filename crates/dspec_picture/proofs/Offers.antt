@@ -14,12 +14,12 @@ use Rattle.dspec_deeds.specs.Closes.{numbers_below}
 use Rattle.dspec_deeds.specs.Fates.{fate, content_of}
 use Rattle.dspec_deeds.specs.Own.{offered_by, offers, one_if_record, contents, held}
 use Rattle.dspec_deeds.proofs.TestLemmas.{number_is_itself}
-use Rattle.dspec_shapes.specs.declared.shape.Look.{Look}
-use Rattle.dspec_shapes.specs.declared.shape.Look.TheVariants as look
-use Rattle.dspec_shapes.specs.declared.shape.Caption.{Caption}
-use Rattle.dspec_shapes.specs.declared.shape.Caption.TheVariants as caption
-use Rattle.dspec_shapes.specs.declared.shape.Shape.{Shape}
-use Rattle.dspec_shapes.specs.declared.shape.Shape.TheVariants.{Cross, Label, RecordBox, Tick}
+use Rattle.dspec_picture.specs.declared.shape.Look.{Look}
+use Rattle.dspec_picture.specs.declared.shape.Look.TheVariants as look
+use Rattle.dspec_picture.specs.declared.shape.Caption.{Caption}
+use Rattle.dspec_picture.specs.declared.shape.Caption.TheVariants as caption
+use Rattle.dspec_picture.specs.declared.shape.Shape.{Shape}
+use Rattle.dspec_picture.specs.declared.shape.Shape.TheVariants.{Cross, Label, RecordBox, Tick}
 use Rattle.dspec_picture.specs.declared.band.Band.{Band}
 use Rattle.dspec_picture.specs.Grid.{middle_x}
 use Rattle.dspec_picture.specs.Marks.{lane_y, look_if, offer_look, offered_here, stacked, copied_marks, decision_marks, scan_marks, deed_marks, band_marks}

@@ -10,12 +10,12 @@ use Rattle.dspec_deeds.specs.declared.deed.Deed.{Deed}
 use Rattle.dspec_deeds.specs.declared.deed.Deed.TheVariants.{Trace, Scan, Opened, Miss, Speculate, Commit, Discard, Settle, Seal, Release, Halt}
 use Rattle.dspec_deeds.specs.FateKinds.{trace_kept, is_copied}
 use Rattle.dspec_deeds.specs.Own.{Offer, offers, contents, held, accepts, accepted, stream}
-use Rattle.dspec_shapes.specs.declared.shape.Look.{Look}
-use Rattle.dspec_shapes.specs.declared.shape.Look.TheVariants as look
-use Rattle.dspec_shapes.specs.declared.shape.Caption.{Caption}
-use Rattle.dspec_shapes.specs.declared.shape.Caption.TheVariants as caption
-use Rattle.dspec_shapes.specs.declared.shape.Shape.{Shape}
-use Rattle.dspec_shapes.specs.declared.shape.Shape.TheVariants.{Cross, Label, RecordBox, Tick}
+use Rattle.dspec_picture.specs.declared.shape.Look.{Look}
+use Rattle.dspec_picture.specs.declared.shape.Look.TheVariants as look
+use Rattle.dspec_picture.specs.declared.shape.Caption.{Caption}
+use Rattle.dspec_picture.specs.declared.shape.Caption.TheVariants as caption
+use Rattle.dspec_picture.specs.declared.shape.Shape.{Shape}
+use Rattle.dspec_picture.specs.declared.shape.Shape.TheVariants.{Cross, Label, RecordBox, Tick}
 use Rattle.dspec_picture.specs.declared.band.Band.{Band}
 use Rattle.dspec_picture.specs.Grid.{middle_x}
 use Rattle.dspec_picture.specs.Marks.{lane_y, stacked, copied_marks, outcome_marks, decision_marks, scan_marks, deed_marks, band_marks}

@@ -1,8 +1,8 @@
 -- The segments of a bar, state by state.
 use Rattle.std.proofs.Common.{◌≡◌, ℕ, ◌+◌, Bool, true, false, if◌then◌else◌, List, [], ◌∷◌, ◌++◌, Option, Some, refl, ap}
 use Rattle.dspec_word.specs.Word.{SlotState}
-use Rattle.dspec_shapes.specs.declared.shape.Shape.{Shape}
-use Rattle.dspec_shapes.specs.declared.shape.Shape.TheVariants.{Segment}
+use Rattle.dspec_picture.specs.declared.shape.Shape.{Shape}
+use Rattle.dspec_picture.specs.declared.shape.Shape.TheVariants.{Segment}
 use Rattle.dspec_picture.specs.Bars.{begins, segments_from}
 use Rattle.dspec_picture.specs.Shown.{segment_states, states_in_turn}
 

@@ -6,9 +6,9 @@ use Rattle.dspec_word.specs.Word.{SlotState, word_number}
 use Rattle.dspec_deeds.specs.declared.deed.Deed.{Deed}
 use Rattle.dspec_deeds.specs.Closes.{numbers_below}
 use Rattle.dspec_deeds.specs.History.{word_at}
-use Rattle.dspec_shapes.specs.declared.shape.Caption.TheVariants as caption
-use Rattle.dspec_shapes.specs.declared.shape.Shape.{Shape}
-use Rattle.dspec_shapes.specs.declared.shape.Shape.TheVariants.{Name, Segment}
+use Rattle.dspec_picture.specs.declared.shape.Caption.TheVariants as caption
+use Rattle.dspec_picture.specs.declared.shape.Shape.{Shape}
+use Rattle.dspec_picture.specs.declared.shape.Shape.TheVariants.{Name, Segment}
 use Rattle.dspec_picture.specs.Grid.{slot_limit, columns_in, bar_top, was_given}
 
 -- the list as it was when so many deeds had been done

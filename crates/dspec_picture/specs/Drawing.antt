@@ -6,11 +6,11 @@ use Rattle.dspec_deeds.specs.declared.config.Config.{Config}
 use Rattle.dspec_deeds.specs.declared.deed.Deed.{Deed}
 use Rattle.dspec_deeds.specs.declared.deed.Deed.TheVariants.{Release, Halt}
 use Rattle.dspec_deeds.specs.Closes.{numbers_below}
-use Rattle.dspec_shapes.specs.declared.shape.Look.TheVariants.{Taken, Dropped, Discarded, Void, Abandoned}
-use Rattle.dspec_shapes.specs.declared.shape.Caption.TheVariants as caption
-use Rattle.dspec_shapes.specs.declared.shape.Shape.{Shape}
-use Rattle.dspec_shapes.specs.declared.shape.Shape.TheVariants.{Ground, Name, LaneLine, StreamLine, StopStroke, Key}
-use Rattle.dspec_shapes.specs.Svg.{Picture}
+use Rattle.dspec_picture.specs.declared.shape.Look.TheVariants.{Taken, Dropped, Discarded, Void, Abandoned}
+use Rattle.dspec_picture.specs.declared.shape.Caption.TheVariants as caption
+use Rattle.dspec_picture.specs.declared.shape.Shape.{Shape}
+use Rattle.dspec_picture.specs.declared.shape.Shape.TheVariants.{Ground, Name, LaneLine, StreamLine, StopStroke, Key}
+use Rattle.dspec_picture.specs.Svg.{Picture}
 use Rattle.dspec_picture.specs.declared.band.Band.{Band}
 use Rattle.dspec_picture.specs.Grid.{slot_limit, row_count, middle_x, row_end, picture_width, picture_height, legend_top}
 use Rattle.dspec_picture.specs.Grid.{row_height, bands_top, bands_height, band_height, bar_top, stream_top, has_lane, lane_top}

@@ -42,16 +42,16 @@ abbrev pub bars_above : ℕ → List Deed → ℕ
 bars_above s h = count_below (λ t. was_given t h) s
 
 -- a CPU has a lane for each slot that it spoke to
-abbrev pub speaks_to : ℕ → ℕ → Deed → Bool
-speaks_to c s (Speculate a id r f) = (c == a) && (s == id.slot)
-speaks_to c s (Commit a id f) = (c == a) && (s == id.slot)
-speaks_to c s (Discard a id f) = (c == a) && (s == id.slot)
-speaks_to c s (Settle a id f) = (c == a) && (s == id.slot)
-speaks_to c s d = false
+abbrev pub speculates_to : ℕ → ℕ → Deed → Bool
+speculates_to c s (Speculate a id r f) = (c == a) && (s == id.slot)
+speculates_to c s (Commit a id f) = (c == a) && (s == id.slot)
+speculates_to c s (Discard a id f) = (c == a) && (s == id.slot)
+speculates_to c s (Settle a id f) = (c == a) && (s == id.slot)
+speculates_to c s d = false
 
 abbrev pub has_lane : ℕ → ℕ → List Deed → Bool
 has_lane c s [] = false
-has_lane c s (d ∷ h) = has_lane c s h || speaks_to c s d
+has_lane c s (d ∷ h) = has_lane c s h || speculates_to c s d
 
 abbrev pub lanes_above : ℕ → ℕ → List Deed → ℕ
 lanes_above c s h = count_below (λ t. has_lane c t h) s

@@ -4,3 +4,10 @@ pub mod Seen
 pub mod Bars
 pub mod Drawing
 pub mod Shown
+pub mod Attempts
+pub mod Tellable
+pub mod Room
+pub mod Words
+pub mod Told
+pub mod Steps
+pub mod Svg

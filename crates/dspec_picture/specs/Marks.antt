@@ -11,13 +11,13 @@ use Rattle.dspec_deeds.specs.FateKinds.{trace_kept}
 use Rattle.dspec_deeds.specs.Fates.{Fate, taken, dropped, discarded, void, waiting, fate}
 use Rattle.dspec_deeds.specs.Owning.{is_of}
 use Rattle.dspec_deeds.specs.Own.{contents, offers, held, seals}
-use Rattle.dspec_shapes.specs.declared.shape.Look.{Look}
-use Rattle.dspec_shapes.specs.declared.shape.Look.TheVariants as look
-use Rattle.dspec_shapes.specs.declared.shape.Caption.{Caption}
-use Rattle.dspec_shapes.specs.declared.shape.Caption.TheVariants as caption
-use Rattle.dspec_shapes.specs.declared.shape.Offered.{Offered}
-use Rattle.dspec_shapes.specs.declared.shape.Shape.{Shape}
-use Rattle.dspec_shapes.specs.declared.shape.Shape.TheVariants.{RecordBox, Label, Arrow, Cross, Tick, SealStroke}
+use Rattle.dspec_picture.specs.declared.shape.Look.{Look}
+use Rattle.dspec_picture.specs.declared.shape.Look.TheVariants as look
+use Rattle.dspec_picture.specs.declared.shape.Caption.{Caption}
+use Rattle.dspec_picture.specs.declared.shape.Caption.TheVariants as caption
+use Rattle.dspec_picture.specs.declared.shape.Offered.{Offered}
+use Rattle.dspec_picture.specs.declared.shape.Shape.{Shape}
+use Rattle.dspec_picture.specs.declared.shape.Shape.TheVariants.{RecordBox, Label, Arrow, Cross, Tick, SealStroke}
 use Rattle.dspec_picture.specs.declared.band.Band.{Band}
 use Rattle.dspec_picture.specs.Grid.{box_x, middle_x, lane_top}
 

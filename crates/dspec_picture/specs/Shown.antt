@@ -2,10 +2,10 @@
 use Rattle.std.specs.Prelude.{Bool, ◌||◌, not, is_none, List, [], ◌∷◌, if◌then◌else◌, Option, Some}
 use Rattle.dspec_record.specs.Record.{Record}
 use Rattle.dspec_word.specs.Word.{SlotState}
-use Rattle.dspec_shapes.specs.declared.shape.Look.{Look}
-use Rattle.dspec_shapes.specs.declared.shape.Offered.{Offered}
-use Rattle.dspec_shapes.specs.declared.shape.Shape.{Shape}
-use Rattle.dspec_shapes.specs.declared.shape.Shape.TheVariants.{RecordBox, Segment}
+use Rattle.dspec_picture.specs.declared.shape.Look.{Look}
+use Rattle.dspec_picture.specs.declared.shape.Offered.{Offered}
+use Rattle.dspec_picture.specs.declared.shape.Shape.{Shape}
+use Rattle.dspec_picture.specs.declared.shape.Shape.TheVariants.{RecordBox, Segment}
 use Rattle.dspec_picture.specs.Bars.{begins}
 
 -- the records of the filled boxes

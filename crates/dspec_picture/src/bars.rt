@@ -7,10 +7,10 @@ ghost use Rattle.dspec_picture.specs.Seen.{active_seen, callers_seen, committed_
 
 use crate::fates::{commits, discards, same_id};
 use crate::grid::{COLUMNS, bar_top, columns_in, row_top, slot_limit, was_given};
+use crate::shape::{Caption, Shape};
 use crate::sheet::draw;
 use dspec_deeds::{Deed, SpeculateFate};
-use dspec_play::Series;
-use dspec_shapes::{Caption, Shape};
+use dspec_interleaving::Series;
 use dspec_word::{Code, SpecId, Word};
 use std::alloc::{AllocError, Global};
 
@@ -198,7 +198,7 @@ fn standing(ruled: Ruling, callers: Callers) -> Code
 }
 
 /// The word of the slot after these deeds.
-#[tactic(auto, using(crate::proofs::Words::standing_is_seen))]
+#[tactic(auto, using(crate::proofs::WordsTold::standing_is_seen))]
 fn word_at(slot: u32, deeds: &[Deed]) -> Word
     requires slot { slot < 64 }
     requires few { length deeds.now ≤ 2000 }

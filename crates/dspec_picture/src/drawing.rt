@@ -2,7 +2,7 @@
 ghost use Rattle.std.specs.Prelude.{ℕ, ◌≡◌, ◌+◌, ◌*◌, ◌^◌, ◌<◌, ◌≤◌, ◌↔◌, ◌++◌, All, Err, IfOk, List, OnOk, length, reverse, slice_index_or, string_bytes};
 ghost use Rattle.std.specs.List.{flat_map};
 ghost use Rattle.dspec_deeds.specs.Closes.{numbers_below};
-ghost use Rattle.dspec_shapes.specs.Svg.{svg_text};
+ghost use Rattle.dspec_picture.specs.Svg.{svg_text};
 ghost use Rattle.dspec_picture.specs.declared.drawing.PictureFault.TheVariants.{Memory};
 ghost use Rattle.dspec_picture.specs.Drawing.{all_shared_marks, band_frame, band_of, bands_of, deeds_drawn, drawing, free_marks, ground_frame, lane_frame, lane_if, legend, row_frame, rows_drawn, shared_marks, stop_marks, stream_frame};
 ghost use Rattle.dspec_picture.specs.Grid.{band_height, bands_height, bands_top, row_count, row_height, slot_limit, stream_top};
@@ -16,11 +16,12 @@ use crate::grid::{
     row_end, row_top, slot_limit,
 };
 use crate::marks::{label_above, push_band};
+use crate::shape::{Caption, Look, Shape};
 use crate::sheet::draw;
+use crate::svg::svg_text;
 use dspec_deeds::{Config, Deed};
-use dspec_play::Series;
+use dspec_interleaving::Series;
 use dspec_record::Header;
-use dspec_shapes::{Caption, Look, Shape, svg_text};
 use std::alloc::{AllocError, Global};
 
 /// How many deeds a picture shows at the most.

@@ -12,10 +12,10 @@ ghost use Rattle.dspec_picture.specs.Grid.{deepest};
 ghost use Rattle.dspec_picture.specs.Marks.{IsDeedAt, look_of, offer_look};
 
 use crate::grid::greater;
+use crate::shape::Look;
 use dspec_deeds::{DecideFate, Deed, SpeculateFate, TraceFate};
-use dspec_play::Series;
+use dspec_interleaving::Series;
 use dspec_record::Rec;
-use dspec_shapes::Look;
 use dspec_word::SpecId;
 use std::alloc::{AllocError, Global};
 

@@ -1,7 +1,7 @@
 //! Where things stand: the numbers of `specs/Grid.antt`.
 ghost use Rattle.std.specs.Prelude.{◌≡◌, ◌+◌, ◌*◌, ◌≤◌, ◌<◌, ◌^◌, max, min, reverse};
 ghost use Rattle.dspec_deeds.specs.History.{opens_slot};
-ghost use Rattle.dspec_picture.specs.Grid.{row_count, columns_in, box_x, middle_x, row_end, slot_limit, was_given, bars_above, bar_top, speaks_to, has_lane, lanes_above, lane_top, picture_width};
+ghost use Rattle.dspec_picture.specs.Grid.{row_count, columns_in, box_x, middle_x, row_end, slot_limit, was_given, bars_above, bar_top, speculates_to, has_lane, lanes_above, lane_top, picture_width};
 
 use dspec_deeds::Deed;
 
@@ -104,8 +104,8 @@ pub(crate) fn bars_above(slot: u32, deeds: &[Deed]) -> u64
 }
 
 /// Whether the deed is the CPU's, about a speculation of this slot.
-pub(crate) fn speaks_to(cpu: u32, slot: u32, deed: &Deed) -> bool
-    ensures { result ≡ speaks_to cpu slot deed.now }
+pub(crate) fn speculates_to(cpu: u32, slot: u32, deed: &Deed) -> bool
+    ensures { result ≡ speculates_to cpu slot deed.now }
 {
     match deed {
         Deed::Speculate(by, id, _, _) => cpu == *by && slot == id.slot(),
@@ -123,7 +123,7 @@ pub(crate) fn has_lane(cpu: u32, slot: u32, deeds: &[Deed]) -> bool
 {
     let mut spoke = false;
     for deed in deeds {
-        spoke = spoke || speaks_to(cpu, slot, deed);
+        spoke = spoke || speculates_to(cpu, slot, deed);
     }
     spoke
 }

@@ -8,11 +8,11 @@ ghost use Rattle.dspec_picture.specs.Marks.{IsDeedAt, IsSmall, band_marks, band_
 use crate::band::Band;
 use crate::fates::{held, seals, spoken_look, traced_look};
 use crate::grid::{COLUMNS, box_x, lane_top, middle_x, row_top};
+use crate::shape::{Caption, Look, Offered, Shape};
 use crate::sheet::draw;
 use dspec_deeds::{DecideFate, Deed, SpeculateFate, TraceFate};
-use dspec_play::Series;
+use dspec_interleaving::Series;
 use dspec_record::Rec;
-use dspec_shapes::{Caption, Look, Offered, Shape};
 use dspec_word::SpecId;
 use std::alloc::{AllocError, Global};
 

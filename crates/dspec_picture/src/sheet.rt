@@ -1,9 +1,9 @@
 //! One shape more.
 ghost use Rattle.std.specs.Prelude.{◌≡◌, ◌++◌, ◌∷◌, [], OnOk};
 
-use dspec_play::Series;
+use crate::shape::{Offered, Shape};
+use dspec_interleaving::Series;
 use dspec_record::Rec;
-use dspec_shapes::{Offered, Shape};
 use dspec_word::{SpecId, Word};
 use std::alloc::AllocError;
 

@@ -6,9 +6,9 @@ use Rattle.dspec_record.specs.declared.field.Shape.{Shape}
 use Rattle.dspec_record.specs.Schemas.{FieldTable, default_fields, enabled, table_shape, table_accepts}
 use Rattle.dspec_deeds.specs.Closes.{reports, streams}
 use Rattle.dspec_deeds.specs.Legal.{IsLegal}
-use Rattle.dspec_play.specs.declared.outcome.Outcome.{Outcome}
-use Rattle.dspec_play.specs.declared.outcome.PlayFault.{PlayFault}
-use Rattle.dspec_play.specs.Plays.{answers_of, deeds_of, play_fault, worn_count}
+use Rattle.dspec_interleaving.specs.declared.outcome.Outcome.{Outcome}
+use Rattle.dspec_interleaving.specs.declared.outcome.PlayFault.{PlayFault}
+use Rattle.dspec_interleaving.specs.Plays.{answers_of, deeds_of, play_fault, worn_count}
 use Rattle.dspec_schedule.specs.Reading.{Plan, header_of, schedule_of}
 use Rattle.dspec_schedule.specs.Schedules.{fault_as_told}
 use Rattle.dspec_schedule.specs.declared.fault.ScheduleFault.{ScheduleFault}

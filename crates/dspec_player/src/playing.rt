@@ -1,5 +1,5 @@
 ghost use Rattle.std.specs.Prelude.{◌≡◌, ◌≢◌, List, ℕ, IfErr, IfOk, Some};
-ghost use Rattle.dspec_play.specs.declared.outcome.PlayFault.TheVariants as failure;
+ghost use Rattle.dspec_interleaving.specs.declared.outcome.PlayFault.TheVariants as failure;
 ghost use Rattle.dspec_player.specs.PlayedTexts.{IsPlayOf, IsPlayedText, IsTextFault, fault_of};
 ghost use Rattle.dspec_schedule.specs.Reading.{HasOneHeader};
 ghost use Rattle.dspec_schedule.specs.Schedules.{plan_of};

@@ -1,12 +1,12 @@
 -- A record of a probe, written by the probe's own fields.
-use Rattle.std.proofs.Common.{◌≡◌, ◌≤◌, ◌∙◌, ◌++◌, ◌%◌, ℕ, List, Some, IsTrue, option_map, length, take, refl, sym, ap, subst, arith}
+use Rattle.std.proofs.Common.{◌≡◌, ◌≤◌, ◌∙◌, ℕ, List, IsTrue, option_map, length, take, refl, sym, ap, subst, arith}
 use Rattle.std.proofs.lemmas.List.{length-take-le}
 use Rattle.dspec_record.specs.EnablingRows.{EnabledRows}
 use Rattle.dspec_record.specs.LaidOut.{IsSaid}
-use Rattle.dspec_record.specs.Layout.{rounded_up, fields_start, fields_end, layout}
+use Rattle.dspec_record.specs.Layout.{fields_start, layout}
 use Rattle.dspec_record.specs.Reading.{IsShape}
 use Rattle.dspec_record.specs.Record.{Record}
-use Rattle.dspec_record.specs.RecordText.{header_text, fields_text, record_text, fits}
+use Rattle.dspec_record.specs.RecordText.{record_text, fits}
 use Rattle.dspec_record.specs.Schemas.{enabled, table_shape, table_text}
 use Rattle.dspec_record.specs.Writing.{IsClearBehind}
 use Rattle.dspec_record.specs.Laws.Layouts.{layout-IsShape}
@@ -16,7 +16,7 @@ use Rattle.dspec_record.specs.declared.field.Shape.{Shape}
 use Rattle.dspec_record.specs.declared.header.Header.{Header}
 use Rattle.dspec_record.proofs.Gets.{enabled-row, table_text-is}
 use Rattle.dspec_probe.specs.Probes.{HasProbe}
-use Rattle.dspec_probe.specs.Putting.{IsRoomFor, ArePut}
+use Rattle.dspec_probe.specs.Putting.{IsRoomFor}
 
 -- each schema that has the probe lays the record out as the probe does
 pub said_of_probe : (h : Header) (fs : List Field) (r : Record) (schema : EnabledRows) → length fs ≤ 8 → HasProbe h r.epid fs schema
@@ -44,10 +44,3 @@ room_behind h fs start bytes few at long clear =
     let shape : IsShape (layout h fs) = layout-IsShape h fs few in
     let At : ℕ → Type 0 = λ n. IsRoomFor n fs bytes in
     subst At (sym at) (record { exact = long; short = omega (arith, shape.bounded, long); clear = clear })
-
--- the front and the fields are the whole text
-pub whole_text : (h : Header) (fs : List Field) (r : Record) (vs : List ℕ) (start : ℕ) (front last : List ℕ) → start ≡ fields_start h → take (fields_start h) front ≡ header_text h r
-    → r.values ≡ vs → ArePut start fs vs front last → last ≡ record_text h fs r
-whole_text h fs r vs start front last at header tied put =
-    put ∙ ap (λ s. take s front ++ fields_text s fs vs) at ∙ ap (λ t. t ++ fields_text (fields_start h) fs vs) header
-    ∙ ap (λ us. header_text h r ++ fields_text (fields_start h) fs us) (sym tied)

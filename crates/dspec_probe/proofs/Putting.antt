@@ -1,9 +1,8 @@
 -- Values of fields, written one behind the other.
-use Rattle.std.proofs.Common.{◌≡◌, ◌≤◌, ◌<◌, ◌-◌, ◌++◌, ◌%◌, ◌^◌, ◌∙◌, ℕ, List, [], ◌∷◌, length, take, drop, replicate, sym, ap, subst, arith}
+use Rattle.std.proofs.Common.{[], ◌≡◌, ◌≤◌, ◌-◌, ◌++◌, ◌%◌, ◌∙◌, ℕ, List, ◌∷◌, length, take, drop, replicate, sym, ap, arith}
 use Rattle.std.proofs.lemmas.List.{append_assoc, take_all, take-append-drop, length-drop}
 use Rattle.dspec_record.specs.Layout.{width, rounded_up, after, fields_end}
 use Rattle.dspec_record.specs.RecordText.{little_endian, gap, fields_text}
-use Rattle.dspec_record.specs.Writing.{IsClearBehind}
 use Rattle.dspec_record.specs.Laws.Layouts.{rounded_up-ge, fields_end-ge}
 use Rattle.dspec_record.proofs.Clearing.{clear-part}
 use Rattle.dspec_record.specs.declared.field.Field.{Field}
@@ -49,7 +48,3 @@ none_put start bytes room =
     sym (take_all n (drop start bytes) (omega (arith, length-drop start bytes)))
     ∙ clear-part start n bytes (omega arith) (omega (arith, room.exact)) room.clear ∙ ap (λ m. replicate (m - start) 0) room.exact in
     sym (take-append-drop start bytes) ∙ ap (λ xs. take start bytes ++ xs) rest
-
-pub last_put : (f : Field) (v start next : ℕ) (old new : List ℕ) → IsRoomFor start (f ∷ []) old → IsPut f v start old next new → ArePut start (f ∷ []) (v ∷ []) old new
-last_put f v start next old new room put =
-    more_put f [] v [] start next old new new put (none_put next new (rest_room f [] v start next old new room put))

@@ -34,7 +34,7 @@ pub trait Recording<F: Fields>: Copy {
         ensures does { TraceOn ⟦<Cpu<Enablings> as Listed>⟧.has_list (record_is self stamp values) result lane.old lane.new };
 
     /// Offers a record of the probe to a path.
-    fn step(self, lane: &mut Lane<'_, Enablings>, path: &Path, stamp: u64, values: F) -> Spoken
+    fn record_in(self, lane: &mut Lane<'_, Enablings>, path: &Path, stamp: u64, values: F) -> Spoken
         requires of { is_of self (schema_of lane.old.cpu.now) }
         ensures same { place_of lane.new ≡ place_of lane.old }
         ensures does { SpeculateOn ⟦<Cpu<Enablings> as Listed>⟧.has_list (id_told path.now.opening) (record_is self stamp values) result lane.old lane.new };
@@ -71,7 +71,13 @@ impl<F: Fields> Recording<F> for Probe<F> {
     }
 
     #[inline(always)]
-    fn step(self, lane: &mut Lane<'_, Enablings>, path: &Path, stamp: u64, values: F) -> Spoken {
+    fn record_in(
+        self,
+        lane: &mut Lane<'_, Enablings>,
+        path: &Path,
+        stamp: u64,
+        values: F,
+    ) -> Spoken {
         self.offer(lane, path.opening().id(), stamp, values)
     }
 

@@ -33,7 +33,7 @@ pub struct Steps<'l, 'a, C> {
 impl<'l, 'a, C: Clock> Steps<'l, 'a, C> {
     /// Offers a record of the probe to the path, stamped now. The lane's schema has to have the probe, as `Recording::on` asks.
     #[inline]
-    pub fn step<F: Fields>(&mut self, probe: Probe<F>, values: F) -> Spoken
+    pub fn record<F: Fields>(&mut self, probe: Probe<F>, values: F) -> Spoken
         requires of { IsProbeOf F.fields_are probe (schema_of self.old.lane.now.cpu.now) }
         ensures same { walk_of self.new ≡ walk_of self.old }
         ensures does { StampedOn ⟦<Cpu<Enablings> as Listed>⟧.has_list (C.stamps self.old.clock.now) self.old.path.id
@@ -46,7 +46,7 @@ impl<'l, 'a, C: Clock> Steps<'l, 'a, C> {
     /// As `step`, of a probe of which nothing is known: it asks `Recording::on` each time. None, and nothing was done, where the lane's
     /// schema doesn't have the probe.
     #[inline]
-    pub fn try_step<F: Fields>(&mut self, probe: Probe<F>, values: F) -> Option<Spoken>
+    pub fn try_record<F: Fields>(&mut self, probe: Probe<F>, values: F) -> Option<Spoken>
         ensures due { IsSome result ↔ IsProbeOf F.fields_are probe (schema_of self.old.lane.now.cpu.now) }
         ensures same { walk_of self.new ≡ walk_of self.old }
         ensures does { MatchOption result (self.new.lane.now ≡ self.old.lane.now) (λ spoken. StampedOn ⟦<Cpu<Enablings> as Listed>⟧.has_list
@@ -55,7 +55,7 @@ impl<'l, 'a, C: Clock> Steps<'l, 'a, C> {
         let Ok(probe) = probe.on(self.lane) else {
             return None;
         };
-        Some(self.step(probe, values))
+        Some(self.record(probe, values))
     }
 
     /// Ends the path: it is kept where that is asked, and thrown away otherwise.
@@ -72,9 +72,9 @@ impl<'l, 'a, C: Clock> Steps<'l, 'a, C> {
         } = self;
         let path = Path::take(path);
         if keep {
-            return path.keep(lane);
+            return path.commit(lane);
         }
-        path.throw(lane)
+        path.discard(lane)
     }
 
     /// Hands the path on, as `Path::hand`; nothing is done on the lane.

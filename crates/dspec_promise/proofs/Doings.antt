@@ -16,7 +16,7 @@ use Rattle.dspec_deeds.specs.FateKinds.{is_commit, is_discard}
 use Rattle.dspec_deeds.specs.History.{Verdict, undecided, committed, discarded as ruled_out, verdict}
 use Rattle.dspec_deeds.specs.Own.{offered_by, empties, held as buffer}
 use Rattle.dspec_deeds.specs.Legal.{SettlesAs, IsAllowed}
-use Rattle.dspec_deeds.specs.Reports.{drops_now, specdrops_now}
+use Rattle.dspec_deeds.specs.Reports.{traces_dropped_now, specdrops_now}
 use Rattle.dspec_deeds.specs.Fates as told
 use Rattle.dspec_deeds.proofs.TestLemmas.{either_way, off, and_false, same_number, number_is_itself, id_is_itself}
 use Rattle.dspec_deeds.proofs.Verdicts.{Told, verdict_told}
@@ -52,7 +52,7 @@ pub record DoesNothing (c : ℕ) (d : Deed) (h : List Deed) : Type 0 where
   pub made : (ds : List Did) → handed (done_by c d ++ ds) ≡ handed ds
   pub streamed : (ds : List Did) → cpu_stream (done_by c d ++ ds) ≡ cpu_stream ds
   pub numbers : (ds : List Did) → TellNumbers ds → TellNumbers (done_by c d ++ ds)
-  pub drops : drops_now c d ≡ 0
+  pub drops : traces_dropped_now c d ≡ 0
   pub specdrops : specdrops_now c d ≡ 0
 
 -- it offers this record
@@ -63,7 +63,7 @@ pub record DoesOffer (c : ℕ) (d : Deed) (h : List Deed) (o : Handed) : Type 0 
   pub made : (ds : List Did) → handed (done_by c d ++ ds) ≡ o ∷ handed ds
   pub streamed : (ds : List Did) → cpu_stream (done_by c d ++ ds) ≡ (if same_fate taken o.fate then o.content ∷ cpu_stream ds else cpu_stream ds)
   pub numbers : (ds : List Did) → TellNumbers ds → TellNumbers (done_by c d ++ ds)
-  pub drops : drops_now c d ≡ one (same_fate dropped o.fate)
+  pub drops : traces_dropped_now c d ≡ one (same_fate dropped o.fate)
   pub specdrops : specdrops_now c d ≡ one (same_fate specdropped o.fate)
   pub follows : (id : Speculation) → o.to ≡ Some id → IsDue (d ∷ h) id o.fate
 
@@ -75,7 +75,7 @@ pub record DoesEmpty (c : ℕ) (d : Deed) (h : List Deed) (id : Speculation) (f 
   pub made : (ds : List Did) → handed (done_by c d ++ ds) ≡ map (once_emptied id f) (handed ds)
   pub streamed : (ds : List Did) → cpu_stream (done_by c d ++ ds) ≡ (if same_fate taken (emptied_fate f) then held_for id (handed ds) ++ cpu_stream ds else cpu_stream ds)
   pub numbers : (ds : List Did) → TellNumbers ds → length (buffer c id h) ≡ length (held_for id (handed ds)) → TellNumbers (done_by c d ++ ds)
-  pub drops : drops_now c d ≡ 0
+  pub drops : traces_dropped_now c d ≡ 0
   pub specdrops : specdrops_now c d ≡ 0
   pub fresh : (same_fate dropped (emptied_fate f) ≡ false) × (same_fate specdropped (emptied_fate f) ≡ false)
   pub follows : IsDue (d ∷ h) id (emptied_fate f)
@@ -93,7 +93,7 @@ idle_of c d h (emptying id f m) none never = off (empties c id d) (m.empty id �
 
 -- a deed of another CPU
 does_not : (c : ℕ) (d : Deed) (h : List Deed) → Effect c d h → offered_by c d ≡ None → ((id : Speculation) → empties c id d ≡ false) → done_by c d ≡ []
-    → drops_now c d ≡ 0 → specdrops_now c d ≡ 0 → DoesNothing c d h
+    → traces_dropped_now c d ≡ 0 → specdrops_now c d ≡ 0 → DoesNothing c d h
 does_not c d h e none never is drops specdrops = record {
   idle = idle_of c d h e none never;
   made = λ ds. rw is refl;
@@ -105,7 +105,7 @@ does_not c d h e none never is drops specdrops = record {
 
 -- a decision that decides nothing
 does_not_decide : (c : ℕ) (d : Deed) (h : List Deed) (b : By) (id : Speculation) (f : DecideFate) → Effect c d h → offered_by c d ≡ None → ((id : Speculation) → empties c id d ≡ false)
-    → done_by c d ≡ emptied b id f ∷ [] → (f ≡ decide.Void) ⊎ (f ≡ decide.Stopped) → drops_now c d ≡ 0 → specdrops_now c d ≡ 0 → DoesNothing c d h
+    → done_by c d ≡ emptied b id f ∷ [] → (f ≡ decide.Void) ⊎ (f ≡ decide.Stopped) → traces_dropped_now c d ≡ 0 → specdrops_now c d ≡ 0 → DoesNothing c d h
 does_not_decide c d h b id f e none never is which drops specdrops = record {
   idle = idle_of c d h e none never;
   made = λ ds. rw is (⊎_elim
@@ -202,7 +202,7 @@ spoken_own c id r speculate.Stopped h = let e = number_is_itself c in record {
 
 -- the emptying of one of the CPU's buffers
 copied : (c : ℕ) (d : Deed) (h : List Deed) (b : By) (id : Speculation) (n : ℕ) → n ≡ length (buffer c id h) → Empties c d h id told.taken → done_by c d ≡ emptied b id (decide.Copied n) ∷ []
-    → drops_now c d ≡ 0 → specdrops_now c d ≡ 0 → told.has_commit id (d ∷ h) ≡ true → DoesEmpty c d h id (decide.Copied n)
+    → traces_dropped_now c d ≡ 0 → specdrops_now c d ≡ 0 → told.has_commit id (d ∷ h) ≡ true → DoesEmpty c d h id (decide.Copied n)
 copied c d h b id n long m is drops specdrops ruled = record {
   emptying = m;
   gone = refl;
@@ -217,7 +217,7 @@ copied c d h b id n long m is drops specdrops ruled = record {
 }
 
 lost_whole : (c : ℕ) (d : Deed) (h : List Deed) (b : By) (id : Speculation) (n : ℕ) → n ≡ length (buffer c id h) → Empties c d h id told.dropped → done_by c d ≡ emptied b id (decide.Lost n) ∷ []
-    → drops_now c d ≡ 0 → specdrops_now c d ≡ 0 → told.has_commit id (d ∷ h) ≡ true → DoesEmpty c d h id (decide.Lost n)
+    → traces_dropped_now c d ≡ 0 → specdrops_now c d ≡ 0 → told.has_commit id (d ∷ h) ≡ true → DoesEmpty c d h id (decide.Lost n)
 lost_whole c d h b id n long m is drops specdrops ruled = record {
   emptying = m;
   gone = refl;
@@ -232,7 +232,7 @@ lost_whole c d h b id n long m is drops specdrops ruled = record {
 }
 
 thrown : (c : ℕ) (d : Deed) (h : List Deed) (b : By) (id : Speculation) (n : ℕ) → n ≡ length (buffer c id h) → Empties c d h id told.discarded → done_by c d ≡ emptied b id (decide.Thrown n) ∷ []
-    → drops_now c d ≡ 0 → specdrops_now c d ≡ 0 → told.has_discard id (d ∷ h) ≡ true → DoesEmpty c d h id (decide.Thrown n)
+    → traces_dropped_now c d ≡ 0 → specdrops_now c d ≡ 0 → told.has_discard id (d ∷ h) ≡ true → DoesEmpty c d h id (decide.Thrown n)
 thrown c d h b id n long m is drops specdrops ruled = record {
   emptying = m;
   gone = refl;

@@ -14,7 +14,7 @@ use Rattle.dspec_deeds.specs.Headline.{FateLaw}
 use Rattle.dspec_deeds.specs.History.{Verdict, undecided, committed, discarded as ruled_out, verdict, is_undecided}
 use Rattle.dspec_deeds.specs.Legal.{IsAllowed, HasAuthors, IsLegal}
 use Rattle.dspec_deeds.specs.Own.{Offer as Entry, contents, held as buffer, accepted, stream as stream_of, taken as taken_first, offers as offers_of}
-use Rattle.dspec_deeds.specs.Reports.{report, total, drops_now, specdrops_now}
+use Rattle.dspec_deeds.specs.Reports.{report, total, traces_dropped_now, specdrops_now}
 use Rattle.dspec_deeds.specs.Fates as told
 use Rattle.dspec_deeds.proofs.TestLemmas.{either_way, or_true}
 use Rattle.dspec_deeds.proofs.Verdicts.{Told, verdict_told, commit_stays, one_decision}
@@ -230,11 +230,11 @@ not_emptied g never id f other os =
     ∙ (rw other (omega arith)
     ∙ sym (number_alike (of g) (λ o. of g o && true) (λ o. plain (of g o)) os)))
 
-drops_counted : (shape : ℕ → Option Shape) (k : Config) (c : ℕ) (h : List Deed) → IsAllowed shape k h → total (drops_now c) h ≡ number (of dropped) (handed (did c h))
+drops_counted : (shape : ℕ → Option Shape) (k : Config) (c : ℕ) (h : List Deed) → IsAllowed shape k h → total (traces_dropped_now c) h ≡ number (of dropped) (handed (did c h))
 drops_counted shape k c [] l = refl
 drops_counted shape k c (d ∷ h) l = step (does shape k c d h l) (drops_counted shape k c h (legal_before shape k d h l))
   where
-    step : Does c d h → total (drops_now c) h ≡ number (of dropped) (handed (did c h)) → total (drops_now c) (d ∷ h) ≡ number (of dropped) (handed (did c (d ∷ h)))
+    step : Does c d h → total (traces_dropped_now c) h ≡ number (of dropped) (handed (did c h)) → total (traces_dropped_now c) (d ∷ h) ≡ number (of dropped) (handed (did c (d ∷ h)))
     step (nothing m) e = rw (m.made (did c h), m.drops, e) (omega arith)
     step (offers_one o m) e = rw (m.made (did c h), m.drops, e) refl
     step (empties_one id f m) e = rw (m.made (did c h), m.drops, e, not_emptied dropped refl id f m.fresh.0 (handed (did c h))) (omega arith)

@@ -1,4 +1,4 @@
--- The page at one small history: two CPUs speak to a speculation, one commits it, and the other settles that.
+-- The page at one small history: two CPUs speculate to a speculation, one commits it, and the other settles that.
 use Rattle.std.proofs.Common.{◌≡◌, ℕ, true, List, [], ◌∷◌, None, Some, refl}
 use Rattle.dspec_record.specs.Record.{Record}
 use Rattle.dspec_word.specs.SpecId.{Speculation}

@@ -1,6 +1,6 @@
 -- The greatest value of each field.
-use Rattle.std.proofs.Common.{◌≡◌, ◌≤◌, ◌<◌, ◌+◌, ◌-◌, ◌^◌, ◌++◌, ℕ, ◌&&◌, false, leb, ltb, List, [], ◌∷◌, length, map, get_or, take, drop, set, replicate, refl, sym, ◌∙◌, ap, arith}
-use Rattle.std.proofs.lemmas.List.{take_at, take-append-drop, take_more_set, append_assoc, append-nil, drop_more, drop_all, drop-drop, drop-replicate, drop-set-lt, length-set, length-map, get_or-map}
+use Rattle.std.proofs.Common.{[], ◌≡◌, ◌≤◌, ◌<◌, ◌+◌, ◌-◌, ◌^◌, ◌++◌, ℕ, ◌&&◌, false, leb, ltb, List, ◌∷◌, length, map, get_or, take, drop, set, replicate, refl, sym, ◌∙◌, ap, arith}
+use Rattle.std.proofs.lemmas.List.{take_at, take_more_set, append_assoc, drop_more, drop-drop, drop-replicate, drop-set-lt, length-set, length-map, get_or-map}
 use Rattle.dspec_record.specs.Layout.{width, limit}
 use Rattle.std.proofs.Math.Dec.{leb-suc-suc}
 use Rattle.std.proofs.lemmas.Bool.{le-leb, lt-leb}
@@ -37,15 +37,6 @@ AreKnown-next i limits fs within few is =
       rest = drop-set-lt (i + 1) limits i n past ∙ sym (drop-drop 1 i limits) ∙ ap (drop 1) is.rest
           ∙ drop-replicate 1 (8 - i) 0 ∙ ap (λ n. replicate n 0) left;
     }
-
-pub AreKnown-end : (i : ℕ) (limits : List ℕ) (fs : List Field) → i ≡ length fs → AreKnown i limits fs → limits ≡ padded_limits fs
-AreKnown-end i limits fs all is =
-    let past : length fs ≤ i = omega arith in
-    let none : map limit (drop i fs) ≡ [] = ap (map limit) (drop_all i fs past) in
-    let first : take i limits ≡ map limit fs =
-    sym (append-nil (take i limits)) ∙ ap (λ t. take i limits ++ t) (sym none) ∙ is.known in
-    sym (take-append-drop i limits) ∙ ap (λ t. t ++ drop i limits) first
-    ∙ ap (λ t. map limit fs ++ t) (is.rest ∙ ap (λ n. replicate (8 - n) 0) all)
 
 -- the limit of the field with this number
 limit-at : (fs : List Field) (limits : List ℕ) (i : ℕ) → i < length fs → limits ≡ map limit fs → get_or limits i 0 ≡ limit (get_or fs i One)

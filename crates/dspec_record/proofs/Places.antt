@@ -1,6 +1,6 @@
 -- The places of fields, also where a stamp moves them all.
-use Rattle.std.proofs.Common.{◌≡◌, ◌≤◌, ◌<◌, ◌+◌, ◌-◌, ◌*◌, ◌%◌, ◌++◌, ℕ, suc, List, [], ◌∷◌, length, get_or, take, drop, set, replicate, refl, sym, subst, ◌∙◌, ap, arith}
-use Rattle.std.proofs.lemmas.List.{take_at, take-append-drop, take_more_set, append_assoc, append-nil, drop_more, drop_all, drop-drop, drop-replicate, drop-set-lt, length-set}
+use Rattle.std.proofs.Common.{[], ◌≡◌, ◌≤◌, ◌<◌, ◌+◌, ◌-◌, ◌*◌, ◌%◌, ◌++◌, ℕ, suc, List, ◌∷◌, length, get_or, take, drop, set, replicate, refl, sym, subst, ◌∙◌, ap, arith}
+use Rattle.std.proofs.lemmas.List.{take_at, take_more_set, append_assoc, drop_more, drop-drop, drop-replicate, drop-set-lt, length-set}
 use Rattle.dspec_record.specs.Layout.{width, rounded_up, after, field_places, fields_start}
 use Rattle.dspec_record.specs.EnablingFields.{padded_places}
 use Rattle.dspec_record.specs.declared.field.Field.{Field}
@@ -60,15 +60,6 @@ ArePlaced-next i end places fs within few is =
           ∙ drop-replicate 1 (8 - i) 0 ∙ ap (λ n. replicate n 0) left;
       near = omega (arith, is.near, after-le f end);
     }
-
-pub ArePlaced-end : (i end : ℕ) (places : List ℕ) (fs : List Field) → i ≡ length fs → ArePlaced i end places fs → places ≡ padded_places fs
-ArePlaced-end i end places fs all is =
-    let past : length fs ≤ i = omega arith in
-    let none : field_places end (drop i fs) ≡ [] = ap (field_places end) (drop_all i fs past) in
-    let first : take i places ≡ field_places 4 fs =
-    sym (append-nil (take i places)) ∙ ap (λ t. take i places ++ t) (sym none) ∙ is.laid in
-    sym (take-append-drop i places) ∙ ap (λ t. t ++ drop i places) first
-    ∙ ap (λ t. field_places 4 fs ++ t) (is.rest ∙ ap (λ n. replicate (8 - n) 0) all)
 
 -- fields that begin `moved` bytes behind where these places are counted from
 pub record IsPlaced (moved end : ℕ) (fs : List Field) (places : List ℕ) : Type 0 where

@@ -7,8 +7,8 @@ use Rattle.dspec_record.specs.Record.{Record}
 use Rattle.dspec_deeds.specs.declared.calls.Turn.{Turn}
 use Rattle.dspec_deeds.specs.declared.config.Config.{Config}
 use Rattle.dspec_deeds.specs.Ranges.{start_fault}
-use Rattle.dspec_play.specs.declared.outcome.PlayFault.TheVariants as play_fault
-use Rattle.dspec_play.specs.Plays.{EndedCall}
+use Rattle.dspec_interleaving.specs.declared.outcome.PlayFault.TheVariants as play_fault
+use Rattle.dspec_interleaving.specs.Plays.{EndedCall}
 use Rattle.dspec_replay.specs.declared.session_fault.SessionFault.{SessionFault}
 use Rattle.dspec_replay.specs.declared.session_fault.SessionFault.TheVariants.{Play, NoText, NoWholeCall}
 use Rattle.dspec_replay.specs.Replayed.{IsDue, call_that_ended, first_refusal, first_of, schedule_refusal, setup_refusal, turn_refusal, whole_call_of}
@@ -80,11 +80,6 @@ module _ (accepted : Record → Bool) (k : Config) (ts : List Turn) where
     ap (λ f. first_of (setup_refusal f) (first_refusal accepted k.cpus 0 ts)) fine ∙ (sym s.refusals ∙ ap (λ l. first_refusal accepted k.cpus i l) (drop_all ts i le)),
     s.calls ∙ ap (λ l. map whole_call_of l) (take_all ts i le),
   )
-
--- a setup that is refused is why the schedule isn't played
-pub setup_refused : (accepted : Record → Bool) (k : Config) (ts : List Turn) (h : SessionFault) → IsDue (setup_refusal (start_fault k)) h → IsDue (schedule_refusal accepted k ts) h
-setup_refused accepted k ts h due =
-    due_by (setup_refusal (start_fault k)) (schedule_refusal accepted k ts) h (λ x some. ap (λ q. first_of q (first_refusal accepted k.cpus 0 ts)) some) due
 
 -- what holds of a result holds of it by what follows
 pub ok_then : {T E : Type 0} {P Q : T → Type 0} (r : Result T E) → ((x : T) → P x → Q x) → IfOk r P → IfOk r Q

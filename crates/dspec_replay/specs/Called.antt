@@ -6,12 +6,12 @@ use Rattle.dspec_deeds.specs.declared.calls.Answer.TheVariants as answer
 use Rattle.dspec_deeds.specs.declared.calls.CpuOp.{CpuOp}
 use Rattle.dspec_deeds.specs.declared.calls.CpuOp.TheVariants as op
 use Rattle.dspec_deeds.specs.declared.deed.Deed.{Deed}
-use Rattle.dspec_play.specs.Calls.{record_passes}
+use Rattle.dspec_interleaving.specs.Calls.{record_passes}
 use Rattle.dspec_promise.specs.Promise.{commit, discard}
 use Rattle.dspec_cpu.specs.declared.cpu.Cpu.{Cpu}
 use Rattle.dspec_cpu.specs.Lists.{number_in}
 use Rattle.dspec_cpu.specs.OneCall.{TracesOne, SpeculatesOne, OpensOne, DecidesOne, ServesOnce}
-use Rattle.dspec_consumer.specs.declared.session.Session.{Session}
+use Rattle.dspec_session_core.specs.declared.session.Session.{Session}
 use Rattle.dspec_replay.specs.declared.whole_calls.Uncalled.{Uncalled}
 use Rattle.dspec_replay.specs.declared.whole_calls.Uncalled.TheVariants.{BadRecord, NoSuchCpu}
 

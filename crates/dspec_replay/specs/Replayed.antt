@@ -15,9 +15,9 @@ use Rattle.dspec_deeds.specs.declared.calls.Turn.TheVariants.{RunCpu, RunConsume
 use Rattle.dspec_deeds.specs.declared.config.Config.{Config}
 use Rattle.dspec_deeds.specs.declared.config.StartFault.{StartFault}
 use Rattle.dspec_deeds.specs.Ranges.{start_fault}
-use Rattle.dspec_play.specs.declared.outcome.PlayFault.TheVariants as play_fault
-use Rattle.dspec_play.specs.Calls.{record_passes}
-use Rattle.dspec_play.specs.Plays.{EndedCall}
+use Rattle.dspec_interleaving.specs.declared.outcome.PlayFault.TheVariants as play_fault
+use Rattle.dspec_interleaving.specs.Calls.{record_passes}
+use Rattle.dspec_interleaving.specs.Plays.{EndedCall}
 use Rattle.dspec_replay.specs.declared.session_fault.SessionFault.{SessionFault}
 use Rattle.dspec_replay.specs.declared.playing.Playing.{Playing}
 use Rattle.dspec_replay.specs.declared.session_fault.SessionFault.TheVariants.{Play, NoText, NoWholeCall}

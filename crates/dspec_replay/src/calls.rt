@@ -1,14 +1,14 @@
 ghost use Rattle.std.specs.Prelude.{IfErr};
 ghost use Rattle.dspec_cpu.specs.Lists.{words_of};
-ghost use Rattle.dspec_consumer.specs.Consumers.{IsConsumerOf, IsSameConsumer};
+ghost use Rattle.dspec_session_core.specs.Consumers.{IsConsumerOf, IsSameConsumer};
 ghost use Rattle.dspec_replay.specs.Replayed.{IsSudden};
 
 use crate::session_fault::SessionFault;
 use crate::taken::Basket;
-use dspec_consumer::Consumer;
 use dspec_cpu::Shared;
 use dspec_deeds::{Answer, ConsumerOp};
 use dspec_record::Schema;
+use dspec_session_core::Consumer;
 
 /// Gives the batch of a CPU that is out longest back, and says whether it went; there may be none.
 fn give_oldest_back(shared: &Shared, consumer: &mut Consumer, basket: &mut Basket, cpu: u32) -> bool

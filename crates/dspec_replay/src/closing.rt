@@ -1,16 +1,16 @@
 ghost use Rattle.std.specs.Prelude.{◌≡◌, ◌<◌, length, IfErr, IfOk};
-ghost use Rattle.dspec_consumer.specs.Sessions.{IsSession};
+ghost use Rattle.dspec_session_core.specs.Sessions.{IsSession};
 ghost use Rattle.dspec_replay.specs.Replayed.{IsSudden};
 
 use crate::playing::Playing;
 use crate::session_fault::SessionFault;
 use crate::taken::Basket;
 use crate::texts::Replayed;
-use dspec_consumer::Closed;
 use dspec_cpu::{Cpu, Listed};
 use dspec_deeds::Report;
-use dspec_play::{Close, Outcome, Series};
+use dspec_interleaving::{Close, Outcome, Series};
 use dspec_record::Schema;
+use dspec_session_core::Closed;
 use std::alloc::Global;
 
 /// What is left of a CPU is read behind what was taken of it, and its report is put down.

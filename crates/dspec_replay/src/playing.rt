@@ -1,6 +1,6 @@
 ghost use Rattle.std.specs.Prelude.{◌≡◌, ◌++◌, ◌∷◌, [], None, Some, length, map, IfErr, IfOk, OnOk};
 ghost use Rattle.dspec_deeds.specs.Ranges.{start_fault};
-ghost use Rattle.dspec_consumer.specs.Sessions.{IsSession};
+ghost use Rattle.dspec_session_core.specs.Sessions.{IsSession};
 ghost use Rattle.dspec_deeds.specs.declared.calls.Turn.TheVariants.{RunCpu, RunConsumer};
 ghost use Rattle.dspec_replay.specs.Replayed.{IsDue, IsSamePlay, call_that_ended, setup_refusal, turn_refusal, whole_call_of};
 
@@ -8,11 +8,11 @@ use crate::calls::call_consumer;
 use crate::session_fault::SessionFault;
 use crate::taken::Basket;
 use crate::whole_calls::{Uncalled, meet_all, run_cpu};
-use dspec_consumer::Session;
 use dspec_cpu::{Cpu, Listed};
 use dspec_deeds::{Actor, Answer, Config, ConsumerOp, CpuOp, Op, StartFault, Turn};
-use dspec_play::{PlayFault, Series};
+use dspec_interleaving::{PlayFault, Series};
 use dspec_record::Schema;
+use dspec_session_core::Session;
 use std::alloc::Global;
 
 /// A schedule that is played on a session from one thread: the session, its schema, what was taken, and the calls that have

@@ -1,8 +1,8 @@
 ghost use Rattle.std.specs.Prelude.{◌≡◌};
-ghost use Rattle.dspec_play.specs.declared.outcome.PlayFault.TheVariants as play_fault;
+ghost use Rattle.dspec_interleaving.specs.declared.outcome.PlayFault.TheVariants as play_fault;
 ghost use Rattle.dspec_replay.specs.declared.session_fault.SessionFault.TheVariants as session_fault;
 
-use dspec_play::PlayFault;
+use dspec_interleaving::PlayFault;
 use std::alloc::{AllocError, AllocFailed};
 
 /// Why a session doesn't go on with a schedule. Turns are counted from 0.

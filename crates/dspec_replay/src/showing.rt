@@ -5,7 +5,7 @@ ghost use Rattle.dspec_schedule.specs.Printed.{printed_text, records_text};
 ghost use Rattle.dspec_replay.specs.Buffers.{all_buffers, buffer_front, buffer_lines, bytes_digits, bytes_line, cpu_buffers};
 
 use crate::texts::{Origin, Replayed, Text};
-use dspec_play::Series;
+use dspec_interleaving::Series;
 use dspec_record::{Header, Rec};
 use dspec_schedule::{print_record, printed};
 use std::alloc::{AllocError, Global};

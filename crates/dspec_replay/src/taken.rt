@@ -6,7 +6,7 @@ use crate::session_fault::SessionFault;
 use crate::texts::{Origin, Text};
 use dspec_buffer::read_all;
 use dspec_deeds::Answer;
-use dspec_play::Series;
+use dspec_interleaving::Series;
 use dspec_record::{Rec, Schema};
 use dspec_ring::Batch;
 use std::alloc::{AllocError, Global};

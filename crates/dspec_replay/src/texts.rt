@@ -1,7 +1,7 @@
 ghost use Rattle.std.specs.Prelude.{◌≡◌, IfOk};
 ghost use Rattle.dspec_replay.specs.Buffers.{IsTextOfBatch};
 
-use dspec_play::{Outcome, Series};
+use dspec_interleaving::{Outcome, Series};
 use dspec_record::Rec;
 use dspec_ring::Batch;
 use std::alloc::{AllocError, Global};

@@ -1,14 +1,14 @@
 ghost use Rattle.std.specs.Prelude.{◌≡◌, None, Some, length, true, IfErr, IfOk, OnErr};
-ghost use Rattle.dspec_play.specs.Calls.{record_passes};
+ghost use Rattle.dspec_interleaving.specs.Calls.{record_passes};
 ghost use Rattle.dspec_cpu.specs.Lists.{schema_of, words_of};
 ghost use Rattle.dspec_cpu.specs.Standing.{Belongs, identity};
-ghost use Rattle.dspec_consumer.specs.Sessions.{IsSession};
+ghost use Rattle.dspec_session_core.specs.Sessions.{IsSession};
 ghost use Rattle.dspec_replay.specs.Called.{Calls, IsCalled, uncalled};
 
-use dspec_consumer::Session;
 use dspec_cpu::{Cpu, Listed, Shared};
 use dspec_deeds::{Answer, CpuOp};
 use dspec_record::Schema;
+use dspec_session_core::Session;
 
 /// Why a call of a CPU isn't made. Nothing has changed then.
 #[derive(Clone, Copy, Debug, PartialEq, Eq)]

@@ -1,7 +1,8 @@
 -- Cited by calls. What a schedule in memory holds, and how the faults of reading it and of its play are told.
 use Rattle.std.specs.Prelude.{◌≡◌, ℕ, List, slice_index_or, Result, Err}
-use Rattle.dspec_play.specs.declared.outcome.PlayFault.{PlayFault}
-use Rattle.dspec_play.specs.declared.outcome.PlayFault.TheVariants.{Setup as setup, NoSuchActor as no_such_actor, Busy as busy, IdleStep as idle_step, BadRecord as bad_record, Memory as play_memory}
+use Rattle.dspec_interleaving.specs.declared.outcome.PlayFault.{PlayFault}
+use Rattle.dspec_interleaving.specs.declared.outcome.PlayFault.TheVariants.{Setup as setup, NoSuchActor as no_such_actor, Busy as busy}
+use Rattle.dspec_interleaving.specs.declared.outcome.PlayFault.TheVariants.{IdleStep as idle_step, BadRecord as bad_record, Memory as play_memory}
 use Rattle.dspec_schedule.specs.declared.fault.LineKind.{LineKind}
 use Rattle.dspec_schedule.specs.declared.fault.LineKind.TheVariants.{ConfigRefused, NoSuchActor, Busy, IdleStep, BadRecord}
 use Rattle.dspec_schedule.specs.declared.fault.ScheduleFault.{ScheduleFault}

@@ -3,7 +3,7 @@
 //!
 //! It promises that what is read is the schedule that a text says, as a function of its bytes (`specs/Reading.antt`), that
 //! a line that is told is the first one with a fault, of its first kind, and that what is printed is the text of the
-//! outcome (`specs/Printed.antt`). It plays nothing: it stands on the types of `dspec_deeds` and `dspec_play` alone, and
+//! outcome (`specs/Printed.antt`). It plays nothing: it stands on the types of `dspec_deeds` and `dspec_interleaving` alone, and
 //! the program `specplay` stands between.
 //!
 //! | File | What is in it |

@@ -5,7 +5,7 @@ ghost use Rattle.dspec_schedule.specs.Printed.{actor_text, answer_text, batch_te
 use dspec_deeds::{
     Actor, Answer, ConsumerOp, CpuOp, Decided, Op, Opening, Report, Served, Spoken, Traced,
 };
-use dspec_play::{Outcome, Series};
+use dspec_interleaving::{Outcome, Series};
 use dspec_record::{Header, Rec};
 use std::alloc::{AllocError, Global};
 

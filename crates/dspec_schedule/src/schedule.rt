@@ -8,7 +8,7 @@ use crate::grammar::turn;
 use crate::setup::{config, enabling, header, policy};
 use crate::words::{printable_text, words};
 use dspec_deeds::{Config, CpuOp, Turn};
-use dspec_play::PlayFault;
+use dspec_interleaving::PlayFault;
 use dspec_record::{Enablings, Header};
 use std::alloc::{AllocError, Global};
 

@@ -17,7 +17,7 @@ use Rattle.dspec_deeds.proofs.SoundLists.{opened_in_range, running_not_late}
 use Rattle.dspec_table.specs.declared.rule.View.{View}
 use Rattle.dspec_deeds.specs.declared.calls.CpuOp.{CpuOp}
 use Rattle.dspec_table.specs.declared.doing.Doing.{Doing}
-use Rattle.dspec_table.specs.Rule.{Kept}
+use Rattle.dspec_table.specs.Rule.{WordsRule}
 use Rattle.dspec_table.specs.Showing.{activity}
 use Rattle.dspec_table.specs.Layout.{activity_place}
 use Rattle.dspec_table.specs.Flights.{flight_after, calling}
@@ -99,7 +99,7 @@ stopped_is log m e = ap (λ (x : ℕ). x == 1) e ∙ shown (halted log)
     shown false = refl
 
 pub loads_activity : (k : Config) (slots id c : ℕ) (me : Me ℕ View) (doing : Doing) → 1 ≤ k.nspec → me.0.who ≡ of_cpu c → me.0.also ≡ [] → scan k c me.0.own ≡ 0
-    → Allows (Kept k) slots id me activity_place (λ n. n) (λ n w. LoadedActivity doing me.0 (n == 1) w.0 × (w.1 ≡ me.1))
+    → Allows (WordsRule k) slots id me activity_place (λ n. n) (λ n w. LoadedActivity doing me.0 (n == 1) w.0 × (w.1 ≡ me.1))
 loads_activity k slots id c me doing nspec who alone idle st kept homes at bound =
     let v = me.0 in
     let log = kept.log in

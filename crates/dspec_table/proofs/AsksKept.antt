@@ -10,7 +10,7 @@ use Rattle.dspec_deeds.specs.declared.deed.Deed.{Deed}
 use Rattle.dspec_table.specs.Holders.{of_cpu, of_consumer, same_holder}
 use Rattle.dspec_deeds.proofs.TestLemmas.{either_way, same_number}
 use Rattle.dspec_table.specs.declared.rule.View.{View}
-use Rattle.dspec_table.specs.Rule.{Kept, Least, KnowsAsks}
+use Rattle.dspec_table.specs.Rule.{WordsRule, Least, KnowsAsks}
 use Rattle.dspec_table.specs.Showing.{Shows}
 use Rattle.dspec_table.specs.Layout.{slot_place, activity_place, ack_place, ask_place}
 use Rattle.dspec_table.specs.Steps.{with_asks}
@@ -56,7 +56,7 @@ ask_shows k words c n log sh =
     }
 
 pub stores_ask : (k : Config) (slots id c n : ℕ) (me : Me ℕ View) → c < k.cpus → me.0.who ≡ of_consumer → me.0.also ≡ [] → slice_index me.0.asks c ≤ n
-    → Allows (Kept k) slots id me (ask_place k c) (λ _. n) (λ _ w. StoredAskAt (ask_place k c) me.0 n w.0 × (w.1 ≡ me.1))
+    → Allows (WordsRule k) slots id me (ask_place k c) (λ _. n) (λ _ w. StoredAskAt (ask_place k c) me.0 n w.0 × (w.1 ≡ me.1))
 stores_ask k slots id c n me lt who alone rises st kept homes at bound =
     let v = me.0 in
     let log = kept.log in
@@ -99,7 +99,7 @@ stores_ask k slots id c n me lt who alone rises st kept homes at bound =
     )
 
 pub loads_ask : (k : Config) (slots id c : ℕ) (me : Me ℕ View) → c < k.cpus → me.0.who ≡ of_cpu c → me.0.also ≡ []
-    → Allows (Kept k) slots id me (ask_place k c) (λ n. n) (λ n w. LoadedAsk (number_of me.0.who) me.0 n w.0 × (w.1 ≡ me.1))
+    → Allows (WordsRule k) slots id me (ask_place k c) (λ n. n) (λ n w. LoadedAsk (number_of me.0.who) me.0 n w.0 × (w.1 ≡ me.1))
 loads_ask k slots id c me lt who alone st kept homes at bound =
     let v = me.0 in
     let log = kept.log in

@@ -16,7 +16,7 @@ use Rattle.dspec_table.specs.declared.seats.CpuSeat.{CpuSeat}
 use Rattle.dspec_table.specs.Showing.{Shows, AreWords, IsWordNumber}
 use Rattle.dspec_table.proofs.Limits.{shown_number}
 use Rattle.dspec_table.specs.Layout.{ask_place}
-use Rattle.dspec_table.specs.Rule.{Kept, Parts, Remembers, Least, holdings}
+use Rattle.dspec_table.specs.Rule.{WordsRule, Parts, Remembers, Least, holdings}
 use Rattle.dspec_table.proofs.Pasts.{each_in, others_since}
 use Rattle.dspec_table.specs.Seats.{known}
 use Rattle.dspec_table.specs.Last.{In, AllAt, Joined, Recalled, Ended}
@@ -58,7 +58,7 @@ part_in log (x ∷ xs) p all i = ⊎_elim (λ (e : p ≡ x). subst (λ (y : Hold
 
 pub ends : (key k : Config) (z : TableId) (id : ℕ) (v first : View) (seats : List CpuSeat) (ws xs : List ℕ) → key ≡ k → v.who ≡ first.who → v.own ≡ first.own
     → first.who ≡ of_consumer → v.seen ≡ first.seen → v.asks ≡ first.asks
-    → ((c : ℕ) (s : CpuSeat) → slice_get seats c ≡ Some s → s.cpu ≡ c) → Joined seats v → Recalled seats v → Final (Seen (Kept key) id v) ws xs → Ended k ws seats first
+    → ((c : ℕ) (s : CpuSeat) → slice_get seats c ≡ Some s → s.cpu ≡ c) → Joined seats v → Recalled seats v → Final (Seen (WordsRule key) id v) ws xs → Ended k ws seats first
 ends key k z id v first seats ws xs is who own consumer seen asks order joined recalled final =
     let st = final.0 in
     let kept = final.1.0 in
@@ -92,7 +92,7 @@ ends key k z id v first seats ws xs is who own consumer seen asks order joined r
     }
 
 -- the places of the slots have words at the end
-pub ends_in_words : (key k : Config) (id : ℕ) (v : View) (ws xs : List ℕ) → key ≡ k → k.max_issues ≤ 2 ^ 57 → Final (Seen (Kept key) id v) ws xs → AreWords k ws
+pub ends_in_words : (key k : Config) (id : ℕ) (v : View) (ws xs : List ℕ) → key ≡ k → k.max_issues ≤ 2 ^ 57 → Final (Seen (WordsRule key) id v) ws xs → AreWords k ws
 ends_in_words key k id v ws xs is few final s one most =
     let kept = final.1.0 in
     let few' : key.max_issues ≤ 2 ^ 57 = subst (λ (x : Config). x.max_issues ≤ 2 ^ 57) (sym is) few in

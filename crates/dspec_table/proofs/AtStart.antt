@@ -11,7 +11,7 @@ use Rattle.dspec_table.specs.Holders.{of_cpu, of_consumer}
 use Rattle.dspec_deeds.proofs.TestLemmas.{either_way, same_number}
 use Rattle.dspec_table.specs.declared.rule.View.{View}
 use Rattle.dspec_table.specs.Since.{here}
-use Rattle.dspec_table.specs.Rule.{times_among, Parts, HaveSeats, Knows, KnowsAsks, Kept, cpus_from, newcomer}
+use Rattle.dspec_table.specs.Rule.{times_among, Parts, HaveSeats, Knows, KnowsAsks, WordsRule, cpus_from, newcomer}
 use Rattle.dspec_table.specs.Layout.{slot_place, word_count, activity_place, ack_place, ask_place}
 
 zeros_at : (n i : ℕ) → slice_index (replicate n 0) i ≡ 0
@@ -68,7 +68,7 @@ new_asks k ws is zero v e =
     subst (KnowsAsks k ws) (some-injective (newcomer k) v e) (record { least = λ c lt. omega arith; past = tt; exact = λ who c lt. sym (none c) })
 new_asks k ws is (suc by) v e = absurd (some-ne-none v (sym e))
 
-pub starts : (k : Config) (ws : List ℕ) → ws ≡ replicate (word_count k) 0 → Kept k (opening ws [] (newcomer k))
+pub starts : (k : Config) (ws : List ℕ) → ws ≡ replicate (word_count k) 0 → WordsRule k (opening ws [] (newcomer k))
 starts k ws is = record {
   log = [];
   sound = tt;

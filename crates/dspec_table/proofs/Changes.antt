@@ -14,7 +14,7 @@ use Rattle.dspec_table.specs.Holders.{Holder, same_holder}
 use Rattle.dspec_deeds.specs.History.{ack, owed}
 use Rattle.dspec_deeds.proofs.TestLemmas.{either_way, same_number}
 use Rattle.dspec_table.specs.declared.rule.View.{View}
-use Rattle.dspec_table.specs.Rule.{Kept}
+use Rattle.dspec_table.specs.Rule.{WordsRule}
 use Rattle.dspec_table.specs.Showing.{Shows, activity, word}
 use Rattle.dspec_table.specs.Layout.{slot_place, activity_place, group_width, group_place, ack_place, ask_place}
 use Rattle.dspec_table.specs.Flights.{AreOf, flight_after}
@@ -61,18 +61,18 @@ pub record Changes (k : Config) (w : Holder) (s n : ℕ) (log ds : List Deed) : 
 
 -- an exchange of a slot's word keeps the rule: where it hits, the deeds change that word, and else they change none
 pub exchanges : (k : Config) (slots id s old new : ℕ) (me : Me ℕ View) (T : ℕ → Bool → View → Type 0) → same_holder me.0.who me.0.who ≡ true → me.0.also ≡ [] → 1 ≤ s → s ≤ k.nspec
-    → ((st : State ℕ View) (kept : Kept k st) → get_elem? st.views id ≡ some me.0 → slice_index st.words (slot_place s) ≡ old
+    → ((st : State ℕ View) (kept : WordsRule k st) → get_elem? st.views id ≡ some me.0 → slice_index st.words (slot_place s) ≡ old
     → (ds : List Deed) × Changes k me.0.who s new kept.log ds × AreOf me.0.flight ds × (Entered (slot_place s) me.0 kept.log ds (acted (slot_place s) me.0 kept.log ds)
     → T (slice_index st.words (slot_place s)) true (acted (slot_place s) me.0 kept.log ds)))
-    → ((st : State ℕ View) (kept : Kept k st) → get_elem? st.views id ≡ some me.0 → slice_index st.words (slot_place s) ≢ old
+    → ((st : State ℕ View) (kept : WordsRule k st) → get_elem? st.views id ≡ some me.0 → slice_index st.words (slot_place s) ≢ old
     → (ds : List Deed) × Owes k me.0.who kept.log ds × AreOf me.0.flight ds
     × (Entered (slot_place s) me.0 kept.log ds (acted (slot_place s) me.0 kept.log ds)
     → T (slice_index st.words (slot_place s)) false (acted (slot_place s) me.0 kept.log ds)))
-    → Allows (Kept k) slots id me (slot_place s) (λ n. either (n == old) new n) (λ n w. T n (n == old) w.0 × (w.1 ≡ me.1))
+    → Allows (WordsRule k) slots id me (slot_place s) (λ n. either (n == old) new n) (λ n w. T n (n == old) w.0 × (w.1 ≡ me.1))
 exchanges k slots id s old new me T who alone one most hit miss st kept homes at bound =
     let n = slice_index st.words (slot_place s) in
     let Goal : Bool → Type 0 = λ b. (w : View) × (a : Rattle.atomic_table.specs.Table.Act ℕ) × Rattle.atomic_table.specs.Table.Valid st.homes me.1 a
-    × Kept k (stepped st (slot_place s) (either b new n) id me.1 w a) × (T n b w × (Rattle.atomic_table.specs.Table.carried_after me.1 a ≡ me.1)) in
+    × WordsRule k (stepped st (slot_place s) (either b new n) id me.1 w a) × (T n b w × (Rattle.atomic_table.specs.Table.carried_after me.1 a ≡ me.1)) in
     ⊎_elim
     (λ (t : (n == old) ≡ true).
     let r = hit st kept at (same_number n old t) in

@@ -7,7 +7,7 @@ use Rattle.dspec_deeds.specs.declared.config.Config.{Config}
 use Rattle.dspec_table.specs.Holders.{of_cpu}
 use Rattle.dspec_table.specs.declared.rule.View.{View}
 use Rattle.dspec_table.specs.declared.seats.CpuSeat.{CpuSeat}
-use Rattle.dspec_table.specs.Rule.{Kept, cpus_from}
+use Rattle.dspec_table.specs.Rule.{WordsRule, cpus_from}
 use Rattle.dspec_table.specs.Notes.{without, dealt, others, first_of_those}
 use Rattle.dspec_table.specs.Seats.{known, fresh_seat, dealing, DealtSeats}
 use Rattle.dspec_table.proofs.Joining.{deals}
@@ -23,8 +23,8 @@ dealt_one k c lt = ap (λ l. first_of_those k l) (more_cpus c k.cpus lt)
 pub dealt_rest : (k : Config) (c : ℕ) → c < k.cpus → without (dealing k c) ≡ dealing k (c + 1)
 dealt_rest k c lt = ap (λ l. record (dealing k c) { also = others l }) (more_cpus c k.cpus lt)
 
-pub deals_next : (key k : Config) (id c : ℕ) (v : View) → v ≡ dealing k c → c < k.cpus → Splits (Kept key) id v (without v) (dealt v)
-deals_next key k id c v is lt = subst (λ (x : View). Splits (Kept key) id x (without x) (dealt x)) (sym is)
+pub deals_next : (key k : Config) (id c : ℕ) (v : View) → v ≡ dealing k c → c < k.cpus → Splits (WordsRule key) id v (without v) (dealt v)
+deals_next key k id c v is lt = subst (λ (x : View). Splits (WordsRule key) id x (without x) (dealt x)) (sym is)
     (deals key id (dealing k c) c (cpus_from (c + 1) (k.cpus - (c + 1))) refl (more_cpus c k.cpus lt))
 
 pub got_pushed : {A : Type 0} (xs : List A) (x y : A) (c : ℕ) → slice_get (xs ++ x ∷ []) c ≡ Some y → (slice_get xs c ≡ Some y) ⊎ ((c ≡ length xs) × (x ≡ y))

@@ -18,7 +18,7 @@ use Rattle.dspec_table.specs.declared.rule.View.{View}
 use Rattle.dspec_table.specs.declared.doing.Doing.{Doing}
 use Rattle.dspec_table.specs.Holders.{of_cpu, number_of}
 use Rattle.dspec_table.specs.Since.{Since}
-use Rattle.dspec_table.specs.Acts.{at_activity, at_word, speaks, void_commit, void_discard}
+use Rattle.dspec_table.specs.Acts.{at_activity, at_word, speculates, void_commit, void_discard}
 use Rattle.dspec_table.specs.Conditions.{IsOn, IsInFlight, MayLoad, MayTry, Attempts, more_callers, joined_word}
 use Rattle.dspec_table.specs.Flights.{calling, flight_after}
 use Rattle.dspec_table.specs.Layout.{activity_place, slot_place}
@@ -57,7 +57,7 @@ quiet_activity k c doing id op.Service inside e = absurd e
 
 -- a word that is attempted enters nothing, loaded or shown by an exchange that failed
 pub quiet_word : (k : Config) (c slot : ℕ) (doing : Doing) (w to : SlotState) (o : CpuOp) → Attempts doing w to o → at_word k c doing slot w o ≡ []
-quiet_word k c slot doing w to (op.Speculate j r) a = ap (speaks c doing j r) a
+quiet_word k c slot doing w to (op.Speculate j r) a = ap (speculates c doing j r) a
 quiet_word k c slot doing w to (op.Commit j) a = ap (void_commit c j) a
 quiet_word k c slot doing w to (op.Discard j) a = ap (void_discard c j) a
 quiet_word k c slot doing w to (op.Trace r) a = absurd a

@@ -9,7 +9,7 @@ use Rattle.dspec_deeds.specs.declared.deed.Deed.{Deed}
 use Rattle.dspec_table.specs.Holders.{of_consumer, same_holder}
 use Rattle.dspec_deeds.specs.History.{halted, owed}
 use Rattle.dspec_table.specs.declared.rule.View.{View}
-use Rattle.dspec_table.specs.Rule.{Kept}
+use Rattle.dspec_table.specs.Rule.{WordsRule}
 use Rattle.dspec_table.specs.Showing.{Shows}
 use Rattle.dspec_table.specs.Layout.{slot_place, activity_place, ack_place}
 use Rattle.dspec_table.proofs.Places.{before_groups}
@@ -52,7 +52,7 @@ stop_of flight true = tt
 stop_of flight false = (tt, tt)
 
 pub stops : (k : Config) (slots id : ℕ) (me : Me ℕ View) → me.0.who ≡ of_consumer → me.0.also ≡ []
-    → Allows (Kept k) slots id me activity_place (λ _. 1) (λ _ w. StoredActivity me.0 w.0 × (w.1 ≡ me.1))
+    → Allows (WordsRule k) slots id me activity_place (λ _. 1) (λ _ w. StoredActivity me.0 w.0 × (w.1 ≡ me.1))
 stops k slots id me who alone st kept homes at bound =
     let v = me.0 in
     let log = kept.log in

@@ -16,7 +16,7 @@ use Rattle.dspec_deeds.specs.declared.deed.Deed.TheVariants.{Speculate, Commit, 
 use Rattle.dspec_deeds.specs.History.{in_range}
 use Rattle.dspec_table.specs.declared.rule.View.{View}
 use Rattle.dspec_table.specs.declared.doing.Doing.{Doing}
-use Rattle.dspec_table.specs.Acts.{at_activity, miss_at, speaks, void_commit, void_discard, at_word, at_open, discard_hits, at_hit, at_exchange}
+use Rattle.dspec_table.specs.Acts.{at_activity, miss_at, speculates, void_commit, void_discard, at_word, at_open, discard_hits, at_hit, at_exchange}
 use Rattle.dspec_table.specs.Conditions.{MayLoad}
 use Rattle.dspec_table.specs.Flights.{AreOf}
 
@@ -49,11 +49,11 @@ misses_of c slot w Granted = tt
 misses_of c slot w (Attempt to) = tt
 misses_of c slot w Idle = tt
 
-speaks_of : (c : ℕ) (doing : Doing) (id : Speculation) (r : Record) (a : Act) → AreOf (Some (op.Speculate id r)) (speaks c doing id r a)
-speaks_of c doing id r Void = (refl, tt)
-speaks_of c doing id r Granted = (refl, tt)
-speaks_of c doing id r (Attempt to) = tt
-speaks_of c doing id r Idle = tt
+speculates_of : (c : ℕ) (doing : Doing) (id : Speculation) (r : Record) (a : Act) → AreOf (Some (op.Speculate id r)) (speculates c doing id r a)
+speculates_of c doing id r Void = (refl, tt)
+speculates_of c doing id r Granted = (refl, tt)
+speculates_of c doing id r (Attempt to) = tt
+speculates_of c doing id r Idle = tt
 
 commits_of : (c : ℕ) (id : Speculation) (a : Act) → AreOf (Some (op.Commit id)) (void_commit c id a)
 commits_of c id Void = (refl, tt)
@@ -86,7 +86,7 @@ module _ (j : Config) (v : View) (x : ℕ) (doing : Doing) (slot : ℕ) where
   word_of k c w (op.Trace r) e may = tt
   word_of k c w op.Speculation e may = subst (λ f. AreOf f (miss_at c slot w (open_at w k.max_issues))) (sym may.1) (misses_of c slot w (open_at w k.max_issues))
   word_of k c w (op.Speculate id r) e may =
-      subst (λ f. AreOf f (speaks c doing id r (speculate_at w id doing.mine))) (sym (may.3 ∙ ap (λ o. Some o) e)) (speaks_of c doing id r (speculate_at w id doing.mine))
+      subst (λ f. AreOf f (speculates c doing id r (speculate_at w id doing.mine))) (sym (may.3 ∙ ap (λ o. Some o) e)) (speculates_of c doing id r (speculate_at w id doing.mine))
   word_of k c w (op.Commit id) e may = subst (λ f. AreOf f (void_commit c id (commit_at w id doing.mine))) (sym (may.3 ∙ ap (λ o. Some o) e)) (commits_of c id (commit_at w id doing.mine))
   word_of k c w (op.Discard id) e may = subst (λ f. AreOf f (void_discard c id (discard_at w id doing.mine))) (sym (may.3 ∙ ap (λ o. Some o) e)) (discards_of c id (discard_at w id doing.mine))
   word_of k c w op.Service e may = tt

@@ -14,7 +14,7 @@ use Rattle.dspec_deeds.specs.declared.calls.Actor.TheVariants.{Cpu, Consumer}
 use Rattle.dspec_table.proofs.HolderTests.{part_next}
 use Rattle.dspec_table.specs.declared.rule.View.{View}
 use Rattle.dspec_table.specs.Since.{Since, here, more}
-use Rattle.dspec_table.specs.Rule.{holdings, times_among, held_in_all, Parts, Each, Remembers, Least, Knows, KnowsAsks, Kept}
+use Rattle.dspec_table.specs.Rule.{holdings, times_among, held_in_all, Parts, Each, Remembers, Least, Knows, KnowsAsks, WordsRule}
 use Rattle.dspec_table.specs.Layout.{ask_place}
 use Rattle.dspec_table.specs.Notes.{nobody, without, dealt, greater, note, heard, answered, past_of, gathered}
 use Rattle.dspec_table.proofs.Totals.{total_set, total_snoc, same_seats}
@@ -22,10 +22,10 @@ use Rattle.dspec_table.proofs.Keeps.{since_nothing, its_config}
 use Rattle.dspec_table.proofs.Pasts.{each_append, since_part}
 
 -- new views, known of the same log
-with_views : (k : Config) (st : State ℕ View) (kept : Kept k st) (views : List View) → ((j : ℕ) (u : View) → get_elem? views j ≡ some u → Knows k kept.log u)
+with_views : (k : Config) (st : State ℕ View) (kept : WordsRule k st) (views : List View) → ((j : ℕ) (u : View) → get_elem? views j ≡ some u → Knows k kept.log u)
     → ((w : Holder) → held_in_all w views ≡ held_in_all w st.views)
     → ((j : ℕ) (u : View) → get_elem? views j ≡ some u → KnowsAsks k st.words u)
-    → Kept k record { words = st.words; homes = st.homes; views = views }
+    → WordsRule k record { words = st.words; homes = st.homes; views = views }
 with_views k st kept views knows same asks = record {
   log = kept.log;
   sound = kept.sound;
@@ -86,7 +86,8 @@ nobody_known : (k : Config) (log : List Deed) → Knows k log nobody
 nobody_known k log = record { config = inl refl; parts = (nobody_part log, tt); since = since_nothing log; told = since_nothing log; calm = refl; past = tt }
 
 -- dealing out the seat of a CPU that has done nothing
-pub deals : (k : Config) (id : ℕ) (v : View) (c : ℕ) (rest : List (Holder × List Deed)) → same_holder v.who v.who ≡ true → v.also ≡ (of_cpu c, []) ∷ rest → Splits (Kept k) id v (without v) (dealt v)
+pub deals : (k : Config) (id : ℕ) (v : View) (c : ℕ) (rest : List (Holder × List Deed)) → same_holder v.who v.who ≡ true → v.also ≡ (of_cpu c, []) ∷ rest
+    → Splits (WordsRule k) id v (without v) (dealt v)
 deals k id v c rest me also st kept at =
     let mine = kept.knows id v at in
     let config = its_config k kept.log v me mine in
@@ -125,7 +126,7 @@ nobody_times (Some Consumer) = omega arith
 nobody_times None = omega arith
 
 -- a note of what a seat has seen
-pub tells : (k : Config) (id : ℕ) (v : View) → Splits (Kept k) id v v (note v)
+pub tells : (k : Config) (id : ℕ) (v : View) → Splits (WordsRule k) id v v (note v)
 tells k id v st kept at =
     let mine = kept.knows id v at in
     let right : Knows k kept.log (note v) = record
@@ -143,7 +144,7 @@ was_at views id other x w apart e = ⊎_elim (λ (t : (other ≡ id) × (x ≡ w
 joining : (k : Config) (id : ℕ) (v : View) (other : ℕ) (w both : View)
     → ((log : List Deed) → Knows k log v → Knows k log w → Knows k log both) → ((words : List ℕ) → KnowsAsks k words v → KnowsAsks k words w → KnowsAsks k words both)
     → ((x : Holder) → times_among x (holdings both) ≡ times_among x (holdings v) + times_among x (holdings w))
-    → Joins (Kept k) id v other w both nobody
+    → Joins (WordsRule k) id v other w both nobody
 joining k id v other w both knows asks counts st kept at apart there =
     let theirs_at = was_at st.views id other both w apart there in
     let mine = kept.knows id v at in
@@ -175,7 +176,7 @@ note_times x w who also =
     subst (λ (y : Holder). (if same_holder x y then 1 else 0) + times_among x w.also ≡ 0) (sym who)
     (subst (λ l. (if same_holder x of_nobody then 1 else 0) + times_among x l ≡ 0) (sym also) (nobody_times x))
 
-pub hears : (k : Config) (id : ℕ) (v : View) (other : ℕ) (w : View) → w.who ≡ of_nobody → w.also ≡ [] → Joins (Kept k) id v other w (heard v w) nobody
+pub hears : (k : Config) (id : ℕ) (v : View) (other : ℕ) (w : View) → w.who ≡ of_nobody → w.also ≡ [] → Joins (WordsRule k) id v other w (heard v w) nobody
 hears k id v other w who also = joining k id v other w (heard v w)
     (λ log mine theirs. record { config = mine.config; parts = mine.parts; since = mine.since; told = since_nobody w.who w.seen log theirs.since; calm = mine.calm; past = mine.past })
     (λ words mine theirs. record {
@@ -189,7 +190,7 @@ hears k id v other w who also = joining k id v other w (heard v w)
     })
     (λ x. let none = note_times x w who also in omega arith)
 
-pub answers : (k : Config) (id : ℕ) (v : View) (other : ℕ) (w : View) → w.who ≡ of_nobody → w.also ≡ [] → Joins (Kept k) id v other w (answered v w) nobody
+pub answers : (k : Config) (id : ℕ) (v : View) (other : ℕ) (w : View) → w.who ≡ of_nobody → w.also ≡ [] → Joins (WordsRule k) id v other w (answered v w) nobody
 answers k id v other w who also = joining k id v other w (answered v w)
     (λ log mine theirs. record { config = mine.config; parts = mine.parts; since = mine.since; told = since_nobody w.who w.seen log theirs.since; calm = mine.calm; past = mine.past })
     (λ words mine theirs. record { least = mine.least; past = mine.past; exact = mine.exact })
@@ -203,7 +204,7 @@ times_append : (x : Holder) (ps qs : List (Holder × List Deed)) → times_among
 times_append x [] qs = omega arith
 times_append x (p ∷ ps) qs = let r = times_append x ps qs in omega arith
 
-pub gathers : (k : Config) (id : ℕ) (v : View) (other : ℕ) (w : View) → Joins (Kept k) id v other w (gathered v w) nobody
+pub gathers : (k : Config) (id : ℕ) (v : View) (other : ℕ) (w : View) → Joins (WordsRule k) id v other w (gathered v w) nobody
 gathers k id v other w = joining k id v other w (gathered v w)
     (λ log mine theirs. record {
       config = mine.config;

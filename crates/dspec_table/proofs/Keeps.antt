@@ -19,7 +19,7 @@ use Rattle.dspec_table.specs.declared.rule.View.{View}
 use Rattle.dspec_table.specs.Showing.{Shows}
 use Rattle.dspec_table.specs.Since.{Since, here, more}
 use Rattle.dspec_table.specs.declared.rule.Past.{Past}
-use Rattle.dspec_table.specs.Rule.{holdings, times_among, Parts, Each, Remembers, Least, Knows, KnowsAsks, Kept}
+use Rattle.dspec_table.specs.Rule.{holdings, times_among, Parts, Each, Remembers, Least, Knows, KnowsAsks, WordsRule}
 use Rattle.dspec_table.specs.Layout.{ask_place}
 use Rattle.dspec_table.specs.Flights.{AreOf, flight_after}
 use Rattle.dspec_table.specs.Steps.{with_asks, acted, Found, Entered}
@@ -87,11 +87,11 @@ abbrev pub flying : Option CpuOp → View → View
 flying f v = record v { flight = f }
 
 -- a step of a seat with deeds of its own, after which it knows these asks
-pub acts_asking : (k : Config) (st : State ℕ View) (kept : Kept k st) (by : ℕ) (v : View) (carried : List (ℕ × ℕ)) → get_elem? st.views by ≡ some v → v.also ≡ [] → same_holder v.who v.who ≡ true
+pub acts_asking : (k : Config) (st : State ℕ View) (kept : WordsRule k st) (by : ℕ) (v : View) (carried : List (ℕ × ℕ)) → get_elem? st.views by ≡ some v → v.also ≡ [] → same_holder v.who v.who ≡ true
     → (ds : List Deed) (i n : ℕ) (asks : List ℕ) (f : Option CpuOp) → Adds k v.who kept.log ds → owed (ds ++ kept.log) ≡ 0 → Shows k (slice_set st.words i n) (ds ++ kept.log)
     → KnowsAsks k (slice_set st.words i n) (flying f (with_asks i v kept.log ds asks))
     → ((u : View) → same_holder u.who v.who ≡ false → KnowsAsks k st.words u → KnowsAsks k (slice_set st.words i n) u)
-    → Kept k (stepped st i n by carried (flying f (with_asks i v kept.log ds asks)) keeps)
+    → WordsRule k (stepped st i n by carried (flying f (with_asks i v kept.log ds asks)) keeps)
 acts_asking k st kept by v carried at alone me ds i n asks f adds rests shows own_asks other_asks =
     let log = kept.log in
     let w = flying f (with_asks i v log ds asks) in
@@ -158,10 +158,10 @@ same_asks k words new u left knows = record {
 }
 
 -- the same where it knows the asks that it knew
-acts_flying : (k : Config) (st : State ℕ View) (kept : Kept k st) (by : ℕ) (v : View) (carried : List (ℕ × ℕ)) → get_elem? st.views by ≡ some v → v.also ≡ [] → same_holder v.who v.who ≡ true
+acts_flying : (k : Config) (st : State ℕ View) (kept : WordsRule k st) (by : ℕ) (v : View) (carried : List (ℕ × ℕ)) → get_elem? st.views by ≡ some v → v.also ≡ [] → same_holder v.who v.who ≡ true
     → (ds : List Deed) (i n : ℕ) (f : Option CpuOp) → Adds k v.who kept.log ds → owed (ds ++ kept.log) ≡ 0 → Shows k (slice_set st.words i n) (ds ++ kept.log)
     → LeavesAsks k st.words (slice_set st.words i n)
-    → Kept k (stepped st i n by carried (flying f (acted i v kept.log ds)) keeps)
+    → WordsRule k (stepped st i n by carried (flying f (acted i v kept.log ds)) keeps)
 acts_flying k st kept by v carried at alone me ds i n f adds rests shows left =
     let new = slice_set st.words i n in
     let mine = kept.asks by v at in
@@ -174,9 +174,9 @@ acts_flying k st kept by v carried at alone me ds i n f adds rests shows left =
     (λ u other knows. same_asks k st.words new u left knows)
 
 -- and the call that its deeds leave in flight
-pub acts : (k : Config) (st : State ℕ View) (kept : Kept k st) (by : ℕ) (v : View) (carried : List (ℕ × ℕ)) → get_elem? st.views by ≡ some v → v.also ≡ [] → same_holder v.who v.who ≡ true
+pub acts : (k : Config) (st : State ℕ View) (kept : WordsRule k st) (by : ℕ) (v : View) (carried : List (ℕ × ℕ)) → get_elem? st.views by ≡ some v → v.also ≡ [] → same_holder v.who v.who ≡ true
     → (ds : List Deed) (i n : ℕ) → Adds k v.who kept.log ds → owed (ds ++ kept.log) ≡ 0 → Shows k (slice_set st.words i n) (ds ++ kept.log) → LeavesAsks k st.words (slice_set st.words i n)
-    → Kept k (stepped st i n by carried (acted i v kept.log ds) keeps)
+    → WordsRule k (stepped st i n by carried (acted i v kept.log ds) keeps)
 acts k st kept by v carried at alone me ds i n = acts_flying k st kept by v carried at alone me ds i n (flight_after v.config v.flight ds)
 
 -- the seat of an actor has the configuration
@@ -188,7 +188,7 @@ pub is_cpu : (v : View) (c : ℕ) → v.who ≡ of_cpu c → same_holder v.who v
 is_cpu v c who = subst (λ x. same_holder x x ≡ true) (sym who) (number_is_itself c)
 
 -- what the step found
-pub finds : (k : Config) (st : State ℕ View) (kept : Kept k st) (by : ℕ) (v : View) → get_elem? st.views by ≡ some v → same_holder v.who v.who ≡ true → Found v kept.log
+pub finds : (k : Config) (st : State ℕ View) (kept : WordsRule k st) (by : ℕ) (v : View) → get_elem? st.views by ≡ some v → same_holder v.who v.who ≡ true → Found v kept.log
 finds k st kept by v at who =
     let mine = kept.knows by v at in record {
       since = mine.since;
@@ -209,7 +209,7 @@ pub none_owed : (k : Config) (w : Holder) (log : List Deed) → owed log ≡ 0 �
 none_owed k w log rests = record { adds = tt; rests = rests; quiet = record { active = refl; slots = λ s. refl; acks = λ a s. refl } }
 
 -- what a step on the word i leaves
-pub enters : (k : Config) (st : State ℕ View) (kept : Kept k st) (by : ℕ) (v : View) → get_elem? st.views by ≡ some v → same_holder v.who v.who ≡ true
+pub enters : (k : Config) (st : State ℕ View) (kept : WordsRule k st) (by : ℕ) (v : View) → get_elem? st.views by ≡ some v → same_holder v.who v.who ≡ true
     → (ds : List Deed) (i : ℕ) → Adds k v.who kept.log ds → owed (ds ++ kept.log) ≡ 0 → AreOf v.flight ds → Entered i v kept.log ds (acted i v kept.log ds)
 enters k st kept by v at who ds i adds rests call = record {
   sound = subst (λ (x : Config). IsSound x (ds ++ kept.log)) (sym (its_config k kept.log v who (kept.knows by v at))) (sound_adds k v.who kept.log ds kept.sound adds);
@@ -219,19 +219,19 @@ enters k st kept by v at who ds i adds rests call = record {
   view = refl;
 }
 
-pub enters_owed : (k : Config) (st : State ℕ View) (kept : Kept k st) (by : ℕ) (v : View) → get_elem? st.views by ≡ some v → same_holder v.who v.who ≡ true
+pub enters_owed : (k : Config) (st : State ℕ View) (kept : WordsRule k st) (by : ℕ) (v : View) → get_elem? st.views by ≡ some v → same_holder v.who v.who ≡ true
     → (ds : List Deed) (i : ℕ) → Owes k v.who kept.log ds → AreOf v.flight ds → Entered i v kept.log ds (acted i v kept.log ds)
 enters_owed k st kept by v at who ds i owe call = enters k st kept by v at who ds i owe.adds owe.rests call
 
-pub acts_owed : (k : Config) (st : State ℕ View) (kept : Kept k st) (by : ℕ) (v : View) (carried : List (ℕ × ℕ)) → get_elem? st.views by ≡ some v → v.also ≡ [] → same_holder v.who v.who ≡ true
-    → (ds : List Deed) (i : ℕ) (f : Option CpuOp) → Owes k v.who kept.log ds → Kept k (stepped st i (slice_index st.words i) by carried (flying f (acted i v kept.log ds)) keeps)
+pub acts_owed : (k : Config) (st : State ℕ View) (kept : WordsRule k st) (by : ℕ) (v : View) (carried : List (ℕ × ℕ)) → get_elem? st.views by ≡ some v → v.also ≡ [] → same_holder v.who v.who ≡ true
+    → (ds : List Deed) (i : ℕ) (f : Option CpuOp) → Owes k v.who kept.log ds → WordsRule k (stepped st i (slice_index st.words i) by carried (flying f (acted i v kept.log ds)) keeps)
 acts_owed k st kept by v carried at alone me ds i f owe =
     acts_flying k st kept by v carried at alone me ds i (slice_index st.words i) f owe.adds owe.rests
     (subst (λ ws. Shows k ws (ds ++ kept.log)) (sym (same_words st.words i)) (quiet_shows k st.words kept.log (ds ++ kept.log) owe.quiet kept.shows))
     (λ c lt. ap (λ ws. slice_index ws (ask_place k c)) (same_words st.words i))
 
 -- a CPU that is in no call of speculation by its own list is in none by the log
-pub idle_log : (k : Config) (st : State ℕ View) (kept : Kept k st) (by : ℕ) (v : View) (c : ℕ) → get_elem? st.views by ≡ some v → v.who ≡ of_cpu c → {n : ℕ}
+pub idle_log : (k : Config) (st : State ℕ View) (kept : WordsRule k st) (by : ℕ) (v : View) (c : ℕ) → get_elem? st.views by ≡ some v → v.who ≡ of_cpu c → {n : ℕ}
     → scan k c v.own ≡ n → scan k c kept.log ≡ n
 idle_log k st kept by v c at who {n} idle =
     let mine = kept.knows by v at in
@@ -248,8 +248,8 @@ late_since c seen (d ∷ h) e (more s other) = rw (late_since c seen h e s, othe
 
 -- a load keeps the rule, where what it adds moves no word
 pub loads : (k : Config) (slots id c i : ℕ) (me : Me ℕ View) (T : ℕ → View → Type 0) → me.0.who ≡ of_cpu c → me.0.also ≡ []
-    → ((st : State ℕ View) (kept : Kept k st) → get_elem? st.views id ≡ some me.0 → (ds : List Deed) × Owes k me.0.who kept.log ds × T (slice_index st.words i) (acted i me.0 kept.log ds))
-    → Allows (Kept k) slots id me i (λ n. n) (λ n w. T n w.0 × (w.1 ≡ me.1))
+    → ((st : State ℕ View) (kept : WordsRule k st) → get_elem? st.views id ≡ some me.0 → (ds : List Deed) × Owes k me.0.who kept.log ds × T (slice_index st.words i) (acted i me.0 kept.log ds))
+    → Allows (WordsRule k) slots id me i (λ n. n) (λ n w. T n w.0 × (w.1 ≡ me.1))
 loads k slots id c i me T who alone step st kept homes at bound =
     let r = step st kept at in
     (acted i me.0 kept.log r.0, keeps, tt, acts_owed k st kept id me.0 me.1 at alone (is_cpu me.0 c who) r.0 i (flight_after me.0.config me.0.flight r.0) r.1, (r.2, refl))

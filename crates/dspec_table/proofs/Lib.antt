@@ -12,7 +12,6 @@ pub mod Joining
 pub mod AtStart
 pub mod Dealing
 pub mod Limits
-pub mod Started
 pub mod Changes
 pub mod Opens
 pub mod Grows

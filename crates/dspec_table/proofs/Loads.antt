@@ -28,10 +28,10 @@ use Rattle.dspec_deeds.proofs.WordCodes.{busy_is, open_void}
 use Rattle.dspec_table.specs.declared.rule.View.{View}
 use Rattle.dspec_deeds.specs.declared.calls.CpuOp.{CpuOp}
 use Rattle.dspec_table.specs.declared.doing.Doing.{Doing}
-use Rattle.dspec_table.specs.Rule.{Kept}
+use Rattle.dspec_table.specs.Rule.{WordsRule}
 use Rattle.dspec_table.specs.Since.{Since}
 use Rattle.dspec_table.specs.Holders.{number_of}
-use Rattle.dspec_table.specs.Acts.{miss_at, speaks, void_commit, void_discard, at_word}
+use Rattle.dspec_table.specs.Acts.{miss_at, speculates, void_commit, void_discard, at_word}
 use Rattle.dspec_table.specs.Conditions.{IsInFlight, MayLoad}
 use Rattle.dspec_table.specs.Steps.{LoadedNumber}
 use Rattle.dspec_table.proofs.InFlight.{word_of}
@@ -85,7 +85,7 @@ module _ (k : Config) (c : ℕ) (log : List Deed) (doing : Doing) (s : IsSound k
   }
 
   spoken_at : (id : Speculation) (r : Record) → Flies k log c slot doing id → (a : Act) → speculate_at (word_at id.slot log) id (is_among c (callers id log)) ≡ a
-      → Owes k (of_cpu c) log (speaks c doing id r a)
+      → Owes k (of_cpu c) log (speculates c doing id r a)
   spoken_at id r f Void e = record {
     adds = (tt, (rests, (f.idle, (f.early, sym (speculate_void k log id (is_among c (callers id log)) s e)))), refl);
     rests = refl;
@@ -147,7 +147,7 @@ pub owes : (k : Config) (c : ℕ) (log : List Deed) (doing : Doing) (slot : ℕ)
 owes k c log doing slot s rests one (op.Trace r) f = none_owed k (of_cpu c) log rests
 owes k c log doing slot s rests one op.Speculation f = missed k c log doing s rests slot one f (open_at (word_at slot log) k.max_issues) refl
 owes k c log doing slot s rests one (op.Speculate id r) f =
-    subst (λ a. Owes k (of_cpu c) log (speaks c doing id r a)) (sym (speculate_like k log c slot doing id f))
+    subst (λ a. Owes k (of_cpu c) log (speculates c doing id r a)) (sym (speculate_like k log c slot doing id f))
     (spoken_at k c log doing s rests slot id r f (speculate_at (word_at id.slot log) id (is_among c (callers id log))) refl)
 owes k c log doing slot s rests one (op.Commit id) f =
     subst (λ a. Owes k (of_cpu c) log (void_commit c id a)) (sym (commit_like k log c slot doing id f))
@@ -158,7 +158,7 @@ owes k c log doing slot s rests one (op.Discard id) f =
 owes k c log doing slot s rests one op.Service f = none_owed k (of_cpu c) log rests
 
 -- what a seat knows of its call holds of the log
-pub flies : (k : Config) (st : State ℕ View) (kept : Kept k st) (by : ℕ) (v : View) (c slot : ℕ) (doing : Doing) (id : Speculation) → get_elem? st.views by ≡ some v
+pub flies : (k : Config) (st : State ℕ View) (kept : WordsRule k st) (by : ℕ) (v : View) (c slot : ℕ) (doing : Doing) (id : Speculation) → get_elem? st.views by ≡ some v
     → v.who ≡ of_cpu c → IsInFlight k v c doing id slot → Flies k kept.log c slot doing id
 flies k st kept by v c slot doing id at who f =
     let mine = kept.knows by v at in
@@ -175,7 +175,7 @@ flies k st kept by v c slot doing id at who f =
           f.4 recent ∙ (ap (λ l. is_among c (callers id l)) (sym own) ∙ has_part k c id kept.log);
     }
 
-pub ready : (k : Config) (st : State ℕ View) (kept : Kept k st) (by : ℕ) (v : View) (c slot : ℕ) (doing : Doing) → get_elem? st.views by ≡ some v → v.who ≡ of_cpu c
+pub ready : (k : Config) (st : State ℕ View) (kept : WordsRule k st) (by : ℕ) (v : View) (c slot : ℕ) (doing : Doing) → get_elem? st.views by ≡ some v → v.who ≡ of_cpu c
     → (o : CpuOp) → MayLoad k v c doing slot o → IsReady k c kept.log doing slot o
 ready k st kept by v c slot doing at who (op.Trace r) m = tt
 ready k st kept by v c slot doing at who op.Speculation m = idle_log k st kept by v c at who m.0
@@ -185,7 +185,7 @@ ready k st kept by v c slot doing at who (op.Discard id) m = flies k st kept by 
 ready k st kept by v c slot doing at who op.Service m = tt
 
 pub loads_word : (k : Config) (slots id c slot : ℕ) (me : Me ℕ View) (doing : Doing) → 1 ≤ slot → slot ≤ k.nspec → me.0.who ≡ of_cpu c → me.0.also ≡ [] → MayLoad k me.0 c doing slot doing.op
-    → Allows (Kept k) slots id me (slot_place slot) (λ n. n) (λ n w. LoadedNumber doing slot me.0 n w.0 × (w.1 ≡ me.1))
+    → Allows (WordsRule k) slots id me (slot_place slot) (λ n. n) (λ n w. LoadedNumber doing slot me.0 n w.0 × (w.1 ≡ me.1))
 loads_word k slots id c slot me doing one most who alone may = loads k slots id c (slot_place slot) me (LoadedNumber doing slot me.0) who alone
     (λ st kept at.
     let v = me.0 in

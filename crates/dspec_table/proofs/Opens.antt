@@ -20,7 +20,7 @@ use Rattle.dspec_deeds.proofs.SoundLists.{unseen}
 use Rattle.dspec_deeds.proofs.WordCodes.{open_attempt, open_inactive, busy_is}
 use Rattle.dspec_deeds.proofs.StayingFree.{free_or_taken}
 use Rattle.dspec_table.specs.declared.rule.View.{View}
-use Rattle.dspec_table.specs.Rule.{Kept}
+use Rattle.dspec_table.specs.Rule.{WordsRule}
 use Rattle.dspec_table.specs.Since.{Since, here, more}
 use Rattle.dspec_table.specs.Holders.{number_of}
 use Rattle.dspec_table.specs.Acts.{at_open}
@@ -69,7 +69,7 @@ missed k c s log seen sound rests one at inactive since apart = record {
 }
 
 pub opens_word : (k : Config) (slots id c slot : ℕ) (me : Me ℕ View) (from to : SlotState) → 1 ≤ slot → slot ≤ k.nspec → me.0.who ≡ of_cpu c → me.0.also ≡ [] → MayOpen k me.0 c slot from to
-    → Allows (Kept k) slots id me (slot_place slot) (λ n. either (n == word_number from) (word_number to) n)
+    → Allows (WordsRule k) slots id me (slot_place slot) (λ n. either (n == word_number from) (word_number to) n)
     (λ n w. OpenedNumber slot me.0 (word_number to) n (n == word_number from) w.0 × (w.1 ≡ me.1))
 opens_word k slots id c slot me from to one most who alone may =
     exchanges k slots id slot (word_number from) (word_number to) me (OpenedNumber slot me.0 (word_number to)) (is_cpu me.0 c who) alone one most

@@ -14,7 +14,7 @@ use Rattle.dspec_table.specs.declared.rule.View.{View}
 use Rattle.dspec_table.specs.Holders.{Holder, doer, part_of, same_holder}
 use Rattle.dspec_table.specs.Last.{In}
 use Rattle.dspec_table.specs.Owners.{HasOneSeat}
-use Rattle.dspec_table.specs.Rule.{holdings, times_among, held_in_all, HaveSeats, Kept}
+use Rattle.dspec_table.specs.Rule.{holdings, times_among, held_in_all, HaveSeats, WordsRule}
 use Rattle.dspec_table.proofs.AtEnd.{part_in}
 use Rattle.dspec_table.proofs.HolderTests.{same_holder_tells, part_next}
 use Rattle.dspec_table.proofs.Keeps.{same_turned}
@@ -60,7 +60,7 @@ has_one : (k : Config) (views : List View) → HaveSeats k views → (a : Actor)
 has_one k views seats (Cpu c) lt = seats.cpus c (lt c refl)
 has_one k views seats Consumer lt = seats.consumer
 
-pub owners : (k : Config) (st : State ℕ View) (kept : Kept k st) (later before : List Deed) (d : Deed) → kept.log ≡ later ++ d ∷ before → HasOneSeat st.views d before
+pub owners : (k : Config) (st : State ℕ View) (kept : WordsRule k st) (later before : List Deed) (d : Deed) → kept.log ≡ later ++ d ∷ before → HasOneSeat st.views d before
 owners k st kept later before d is =
     let w : Holder = doer d before in
     let one = has_one k st.views kept.seats (author d before) (within k later d before (subst (HasAuthors k) is kept.authors)) in

@@ -13,7 +13,7 @@ use Rattle.dspec_table.specs.Holders.{Holder, of_consumer, same_holder}
 use Rattle.dspec_deeds.specs.History.{issue, ack, present, settled, releaser, word_at}
 use Rattle.dspec_deeds.proofs.Awaiting.{awaiting}
 use Rattle.dspec_table.specs.declared.rule.View.{View}
-use Rattle.dspec_table.specs.Rule.{Kept}
+use Rattle.dspec_table.specs.Rule.{WordsRule}
 use Rattle.dspec_table.specs.Since.{Since, here, more}
 use Rattle.dspec_table.specs.Conditions.{MayReap}
 use Rattle.dspec_table.specs.Steps.{ReapedNumber}
@@ -39,7 +39,7 @@ awaited_below w can waits = ⊎_elim
     can
 
 pub reaps : (k : Config) (slots id slot : ℕ) (me : Me ℕ View) (from : SlotState) → me.0.who ≡ of_consumer → me.0.also ≡ [] → MayReap k me.0 slot from
-    → Allows (Kept k) slots id me (slot_place slot) (λ n. either (n == word_number from) (word_number (released from.issue)) n)
+    → Allows (WordsRule k) slots id me (slot_place slot) (λ n. either (n == word_number from) (word_number (released from.issue)) n)
     (λ n w. ReapedNumber slot me.0 n (n == word_number from) w.0 × (w.1 ≡ me.1))
 reaps k slots id s me from who alone may =
     let v = me.0 in

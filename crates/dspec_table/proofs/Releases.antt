@@ -16,7 +16,7 @@ use Rattle.dspec_deeds.specs.History.{issue, scan, present, opened, releaser, ve
 use Rattle.dspec_deeds.specs.Legal.{IsSound}
 use Rattle.dspec_deeds.proofs.StayingDecided.{WaitsFor, StandsAsBefore, waits_stays}
 use Rattle.dspec_table.specs.declared.rule.View.{View}
-use Rattle.dspec_table.specs.Rule.{Kept}
+use Rattle.dspec_table.specs.Rule.{WordsRule}
 use Rattle.dspec_table.specs.Since.{Since, here, more}
 use Rattle.dspec_table.specs.Steps.{ReleasedWord}
 use Rattle.dspec_table.specs.Conditions.{OwnCommit}
@@ -48,7 +48,7 @@ decided_word (committed a) cs c e = refl
 decided_word (discarded a) cs c e = refl
 
 pub gives_back : (k : Config) (slots id c : ℕ) (me : Me ℕ View) (spec : Speculation) → c < k.cpus → 1 ≤ spec.slot → spec.slot ≤ k.nspec → me.0.who ≡ of_cpu c → me.0.also ≡ [] → OwnCommit k me.0 c spec
-    → Allows (Kept k) slots id me (slot_place spec.slot) (λ n. either (n == word_number record { issue = spec.issue; code = Committing })
+    → Allows (WordsRule k) slots id me (slot_place spec.slot) (λ n. either (n == word_number record { issue = spec.issue; code = Committing })
     (word_number record { issue = spec.issue + 1; code = Inactive }) n) (λ n w. ReleasedWord spec.slot me.0 w.0 × (w.1 ≡ me.1))
 gives_back k slots id c me spec lt one most who alone may =
     let s = spec.slot in
@@ -59,7 +59,7 @@ gives_back k slots id c me spec lt one most who alone may =
       ruled = subst (λ j. is_undecided (verdict j v.seen) ≡ false) (sym p) (decided_word (verdict spec v.seen) (callers spec v.seen) c may.alone);
       waits = inl (subst (λ j. solo j v.seen ≡ Some c) (sym p) may.alone);
     } in
-    let stands : (st : State ℕ View) (kept : Kept k st) → get_elem? st.views id ≡ some v → WaitsFor k c s kept.log × StandsAsBefore s v.seen kept.log =
+    let stands : (st : State ℕ View) (kept : WordsRule k st) → get_elem? st.views id ≡ some v → WaitsFor k c s kept.log × StandsAsBefore s v.seen kept.log =
     λ st kept at. held_since k c s v.seen kept.log lt kept.sound (subst (λ x. Since x v.seen kept.log) who (kept.knows id v at).since) held in
     exchanges k slots id s (word_number record { issue = spec.issue; code = Committing }) (word_number record { issue = spec.issue + 1; code = Inactive }) me
     (λ n b w. ReleasedWord s v w) (is_cpu v c who) alone one most

@@ -29,7 +29,7 @@ use Rattle.dspec_deeds.proofs.Awaiting.{awaiting, settles_as}
 use Rattle.dspec_table.proofs.OwnReading.{ack_part}
 use Rattle.dspec_table.specs.declared.rule.View.{View}
 use Rattle.dspec_table.specs.declared.doing.Doing.{Doing}
-use Rattle.dspec_table.specs.Rule.{Kept}
+use Rattle.dspec_table.specs.Rule.{WordsRule}
 use Rattle.dspec_table.specs.Showing.{Shows}
 use Rattle.dspec_table.specs.Since.{Since, here, more}
 use Rattle.dspec_table.specs.Layout.{slot_place, activity_place, group_place, ack_place, ask_place}
@@ -105,7 +105,7 @@ fate_is doing ActiveMany e = absurd (true≢false (sym e))
 fate_is doing Committing e = absurd (true≢false (sym e))
 
 pub settles_word : (k : Config) (slots id c : ℕ) (me : Me ℕ View) (doing : Doing) (spec : Speculation) → c < k.cpus → me.0.who ≡ of_cpu c → me.0.also ≡ [] → MaySettle k me.0 c spec
-    → Allows (Kept k) slots id me (ack_place k c spec.slot) (λ _. spec.issue + 1) (λ _ w. ((log : List Deed) × Found me.0 log
+    → Allows (WordsRule k) slots id me (ack_place k c spec.slot) (λ _. spec.issue + 1) (λ _ w. ((log : List Deed) × Found me.0 log
     × Entered (ack_place k c spec.slot) me.0 log (Settle (number_of me.0.who) spec (fate_of_settlement doing (word_at spec.slot me.0.seen).code) ∷ []) w.0) × (w.1 ≡ me.1))
 settles_word k slots id c me doing spec lt who alone may st kept homes at bound =
     let v = me.0 in
@@ -160,7 +160,7 @@ settles_word k slots id c me doing spec lt who alone may st kept homes at bound 
 
 -- the same, where the speculation is read off the word and the number stored
 pub stores_ack : (k : Config) (slots id c : ℕ) (me : Me ℕ View) (doing : Doing) (spec : Speculation) → me.0.config ≡ k → c < k.cpus → me.0.who ≡ of_cpu c → me.0.also ≡ [] → MaySettle k me.0 c spec
-    → Allows (Kept k) slots id me (ack_place k c spec.slot) (λ _. spec.issue + 1) (λ _ w. StoredAck doing (ack_place k c spec.slot) me.0 (spec.issue + 1) w.0 × (w.1 ≡ me.1))
+    → Allows (WordsRule k) slots id me (ack_place k c spec.slot) (λ _. spec.issue + 1) (λ _ w. StoredAck doing (ack_place k c spec.slot) me.0 (spec.issue + 1) w.0 × (w.1 ≡ me.1))
 stores_ack k slots id c me doing spec config lt who alone may st kept homes at bound =
     let v = me.0 in
     let r = settles_word k slots id c me doing spec lt who alone may st kept homes at bound in

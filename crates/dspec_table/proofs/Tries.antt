@@ -27,7 +27,7 @@ use Rattle.dspec_deeds.specs.declared.calls.Actor.TheVariants.{Cpu}
 use Rattle.dspec_table.specs.declared.rule.View.{View}
 use Rattle.dspec_deeds.specs.declared.calls.CpuOp.{CpuOp}
 use Rattle.dspec_table.specs.declared.doing.Doing.{Doing}
-use Rattle.dspec_table.specs.Rule.{Kept}
+use Rattle.dspec_table.specs.Rule.{WordsRule}
 use Rattle.dspec_table.specs.Showing.{word}
 use Rattle.dspec_table.specs.Holders.{number_of}
 use Rattle.dspec_table.specs.Acts.{fate_of_commit, discard_hits, at_hit, at_exchange}
@@ -167,7 +167,7 @@ hits k c log doing slot new s rests op.Service f e = absurd e
 
 pub tries_word : (k : Config) (slots id c slot : ℕ) (me : Me ℕ View) (doing : Doing) (from to : SlotState) → 1 ≤ slot → slot ≤ k.nspec → me.0.who ≡ of_cpu c → me.0.also ≡ []
     → MayTry k me.0 c doing slot from to
-    → Allows (Kept k) slots id me (slot_place slot) (λ n. either (n == word_number from) (word_number to) n)
+    → Allows (WordsRule k) slots id me (slot_place slot) (λ n. either (n == word_number from) (word_number to) n)
     (λ n w. TriedNumber doing slot me.0 (word_number to) n (n == word_number from) w.0 × (w.1 ≡ me.1))
 tries_word k slots id c slot me doing from to one most who alone may =
     exchanges k slots id slot (word_number from) (word_number to) me (TriedNumber doing slot me.0 (word_number to)) (is_cpu me.0 c who) alone one most

@@ -41,10 +41,10 @@ abbrev pub miss_at : ℕ → ℕ → SlotState → Act → List Deed
 miss_at c slot w Void = Miss c slot (is_decided w.code) ∷ []
 miss_at c slot w a = []
 
-abbrev pub speaks : ℕ → Doing → Speculation → Record → Act → List Deed
-speaks c doing id r Void = Speculate c id r spoken.Void ∷ []
-speaks c doing id r Granted = Speculate c id r (if doing.fits then spoken.Kept else spoken.Dropped) ∷ []
-speaks c doing id r a = []
+abbrev pub speculates : ℕ → Doing → Speculation → Record → Act → List Deed
+speculates c doing id r Void = Speculate c id r spoken.Void ∷ []
+speculates c doing id r Granted = Speculate c id r (if doing.fits then spoken.Kept else spoken.Dropped) ∷ []
+speculates c doing id r a = []
 
 abbrev pub void_commit : ℕ → Speculation → Act → List Deed
 void_commit c id Void = Commit c id decided.Void ∷ []
@@ -57,7 +57,7 @@ void_discard c id a = []
 abbrev pub at_word : Config → ℕ → Doing → ℕ → SlotState → CpuOp → List Deed
 at_word k c doing slot w (op.Trace r) = []
 at_word k c doing slot w op.Speculation = miss_at c slot w (open_at w k.max_issues)
-at_word k c doing slot w (op.Speculate id r) = speaks c doing id r (speculate_at w id doing.mine)
+at_word k c doing slot w (op.Speculate id r) = speculates c doing id r (speculate_at w id doing.mine)
 at_word k c doing slot w (op.Commit id) = void_commit c id (commit_at w id doing.mine)
 at_word k c doing slot w (op.Discard id) = void_discard c id (discard_at w id doing.mine)
 at_word k c doing slot w op.Service = []

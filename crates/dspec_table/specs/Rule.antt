@@ -65,7 +65,7 @@ pub record HaveSeats (k : Config) (views : List View) : Type 0 where
   pub consumer : held_in_all of_consumer views ≡ 1
   pub beyond : (c : ℕ) → k.cpus ≤ c → held_in_all (of_cpu c) views ≡ 0
 
-pub record Kept (k : Config) (st : State ℕ View) : Type 0 where
+pub record WordsRule (k : Config) (st : State ℕ View) : Type 0 where
   pub log : List Deed
   pub sound : IsSound k log
   pub rests : owed log ≡ 0

@@ -5,8 +5,8 @@ ghost use Rattle.dspec_table.specs.Seats.{known, known_there, IsAt, IsConsumerAt
 
 use crate::doing::Doing;
 use crate::layout::ask_place;
-use crate::plays::{LoadsAsk, StoresAsk};
 use crate::seats::{ConsumerSeat, CpuSeat, Words};
+use crate::word_steps::{LoadsAsk, StoresAsk};
 
 impl ConsumerSeat {
     /// Stores how many batches the consumer wants of a CPU in all, never less than before.

@@ -7,9 +7,9 @@ ghost use Rattle.dspec_table.specs.Seats.{known_there, IsConsumerAt, set_up};
 ghost use Rattle.dspec_word.specs.Word.{CanBeReleased};
 
 use crate::layout::{ack_place, slot_place};
-use crate::plays::{LoadsAck, LooksAtWord, Reaps};
 use crate::reading::read_word;
 use crate::seats::{ConsumerSeat, Words};
+use crate::word_steps::{LoadsAck, LooksAtWord, Reaps};
 use dspec_word::{Code, Word};
 
 impl ConsumerSeat {

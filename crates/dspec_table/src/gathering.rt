@@ -3,9 +3,9 @@ ghost use Rattle.dspec_table.specs.Last.{AllAt, AreSeats, Joined, Recalled, Ende
 ghost use Rattle.dspec_table.specs.Seats.{known_there, set_up, IsConsumerAt};
 
 use crate::last::LastWords;
-use crate::plays::Gather;
 use crate::rule::{AnySeat, Board};
 use crate::seats::{ConsumerSeat, CpuSeat, Words};
+use crate::word_steps::Gather;
 
 fn collect(board: &Board, mut seats: Vec<CpuSeat>, gatherer: &mut AnySeat)
     requires gatherer { gatherer.old.table_id ≡ board.now.shared.table_id }

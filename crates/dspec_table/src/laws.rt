@@ -5,10 +5,10 @@ ghost use Rattle.dspec_deeds.specs.declared.config.Config.{Config};
 ghost use Rattle.dspec_deeds.specs.declared.deed.Deed.{Deed};
 ghost use Rattle.dspec_table.specs.declared.rule.View.{View};
 ghost use Rattle.dspec_table.specs.Owners.{HasOneSeat};
-ghost use Rattle.dspec_table.specs.Rule.{Kept};
+ghost use Rattle.dspec_table.specs.Rule.{WordsRule};
 
 /// Between any two steps every deed of the list is some seat's own, at its place among that seat's deeds, and its author has
 /// no other seat.
 pub fn deeds_have_seats()
-    ensures { (k : Config) (st : State ℕ View) (kept : Kept k st) (later before : List Deed) (d : Deed) → kept.log ≡ later ++ d ∷ before → HasOneSeat st.views d before }
+    ensures { (k : Config) (st : State ℕ View) (kept : WordsRule k st) (later before : List Deed) (d : Deed) → kept.log ≡ later ++ d ∷ before → HasOneSeat st.views d before }
 {}

@@ -9,7 +9,7 @@
 //! | File | What is in it |
 //! |---|---|
 //! | `rule.rt`, `seats.rt`, `doing.rt` | `View`, what a seat knows, as plain data, and the rule `OneList`; `Words`, `CpuSeat`, `ConsumerSeat`; `Doing`, the call in flight |
-//! | `layout.rt`, `laws.rt`, `plays.rt`, `reading.rt` | where the words lie, each slot's on a line of its own; the laws; what each kind of step tells `atomic_table`; a number back to a word |
+//! | `layout.rt`, `laws.rt`, `word_steps.rt`, `reading.rt` | where the words lie, each slot's on a line of its own; the laws; what each kind of step tells `atomic_table`; a number back to a word |
 //! | `starting.rt`, `gathering.rt`, `last.rt`, `ending.rt` | the two ends, and `LastWords` |
 //! | `loading.rt`, `opening.rt`, `trying.rt`, `releasing.rt`, `settling.rt` | a CPU's steps: activity and word loaded, `open_word`, `join_word` and `decide_word`, `release_word`, `store_ack` |
 //! | `cleaning.rt`, `stopping.rt`, `asking.rt`, `meeting.rt` | the consumer's steps, and the meeting |
@@ -32,7 +32,6 @@ mod layout;
 mod loading;
 mod meeting;
 mod opening;
-mod plays;
 mod reading;
 mod releasing;
 mod rule;
@@ -41,6 +40,7 @@ mod settling;
 mod starting;
 mod stopping;
 mod trying;
+mod word_steps;
 
 pub use doing::Doing;
 pub use last::LastWords;

@@ -7,9 +7,9 @@ ghost use Rattle.dspec_word.specs.Word.{CanBeReleased};
 
 use crate::doing::Doing;
 use crate::layout::{ACTIVITY_PLACE, slot_place};
-use crate::plays::{HasDoing, LoadsActivity, LoadsWord};
 use crate::reading::read_word;
 use crate::seats::{CpuSeat, Words};
+use crate::word_steps::{HasDoing, LoadsActivity, LoadsWord};
 use dspec_word::Word;
 use std::marker::Brand;
 

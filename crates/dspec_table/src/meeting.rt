@@ -7,9 +7,9 @@ ghost use Rattle.dspec_table.specs.Notes.{answered, heard, note};
 ghost use Rattle.dspec_table.specs.Seats.{known, known_there, IsAt, IsConsumerAt, cpu_of};
 
 use crate::layout::ACTIVITY_PLACE;
-use crate::plays::{Answer, Looks, Note};
 use crate::rule::AnySeat;
 use crate::seats::{ConsumerSeat, CpuSeat, Words};
+use crate::word_steps::{Answer, Looks, Note};
 
 impl Words {
     // A load of activity that enters nothing.

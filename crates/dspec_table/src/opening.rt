@@ -8,9 +8,9 @@ ghost use Rattle.dspec_word.specs.Word.{word_number, CanBeReleased};
 
 use crate::doing::Doing;
 use crate::layout::slot_place;
-use crate::plays::OpensWord;
 use crate::reading::read_word;
 use crate::seats::{CpuSeat, Words};
+use crate::word_steps::OpensWord;
 use dspec_word::{Code, Word};
 
 impl CpuSeat {

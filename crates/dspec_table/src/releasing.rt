@@ -6,8 +6,8 @@ ghost use Rattle.dspec_table.specs.Seats.{known, IsAt, set_up, cpu_of};
 
 use crate::doing::Doing;
 use crate::layout::slot_place;
-use crate::plays::ReleasesWord;
 use crate::seats::{CpuSeat, Words};
+use crate::word_steps::ReleasesWord;
 use dspec_deeds::CpuOp;
 use dspec_word::{Code, Word};
 

@@ -48,9 +48,9 @@ pub struct Past {
 pub struct OneList;
 
 impl TableRule<u8, View, Config> for OneList {
-    ghost use Rattle.dspec_table.specs.Rule.{Kept, newcomer};
+    ghost use Rattle.dspec_table.specs.Rule.{WordsRule, newcomer};
 
-    ghost holds = { Kept };
+    ghost holds = { WordsRule };
 
     ghost first = { newcomer };
 }

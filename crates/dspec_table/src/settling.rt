@@ -6,8 +6,8 @@ ghost use Rattle.dspec_table.specs.Seats.{known, IsAt, set_up, cpu_of};
 
 use crate::doing::Doing;
 use crate::layout::ack_place;
-use crate::plays::{HasDoing, StoresAck};
 use crate::seats::{CpuSeat, Words};
+use crate::word_steps::{HasDoing, StoresAck};
 use std::marker::Brand;
 
 impl CpuSeat {

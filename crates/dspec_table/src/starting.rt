@@ -4,9 +4,9 @@ ghost use Rattle.dspec_deeds.specs.Ranges.{start_fault};
 ghost use Rattle.dspec_table.specs.Layout.{word_count};
 ghost use Rattle.dspec_table.specs.Seats.{dealing, last_seat, set_up, DealtSeats, FreshSeats, IsConsumerAt, known_there};
 
-use crate::plays::Deal;
 use crate::rule::{AnySeat, Board};
 use crate::seats::{ConsumerSeat, CpuSeat, Words};
+use crate::word_steps::Deal;
 use dspec_deeds::{Config, StartFault};
 use std::alloc::{AllocError, Global};
 

@@ -2,8 +2,8 @@ ghost use Rattle.dspec_table.specs.Steps.{StoredActivity};
 ghost use Rattle.dspec_table.specs.Seats.{known_there, IsConsumerAt};
 
 use crate::layout::ACTIVITY_PLACE;
-use crate::plays::StoresActivity;
 use crate::seats::{ConsumerSeat, Words};
+use crate::word_steps::StoresActivity;
 
 impl ConsumerSeat {
     /// Stops the session. A second time nothing changes.

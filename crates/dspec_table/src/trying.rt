@@ -6,9 +6,9 @@ ghost use Rattle.dspec_word.specs.Word.{word_number};
 
 use crate::doing::Doing;
 use crate::layout::slot_place;
-use crate::plays::{HasDoing, TriesWord};
 use crate::reading::read_word;
 use crate::seats::{CpuSeat, Words};
+use crate::word_steps::{HasDoing, TriesWord};
 use dspec_word::{Code, Word};
 use std::marker::Brand;
 

@@ -8,7 +8,7 @@ use Rattle.dspec_cpu.specs.declared.shared.Shared.{Shared}
 use Rattle.dspec_cpu.specs.Called.{CallsMade, called}
 use Rattle.dspec_cpu.specs.Lists.{number_in, words_of}
 use Rattle.dspec_cpu.specs.Standing.{Belongs, Identity, IsCallable, identity}
-use Rattle.dspec_consumer.specs.Sessions.{IsCpuOf}
+use Rattle.dspec_session_core.specs.Sessions.{IsCpuOf}
 use Rattle.dspec.specs.Lent.{AllCallable}
 use Rattle.dspec_threads.specs.Homes.{AreBack, AreHomes, ComesHome, ComesTo, HasDone, WentHome, IsOfRank, IsHomeOf, IsLentOut, Rank, alone}
 

@@ -11,9 +11,9 @@ use Rattle.dspec_cpu.specs.declared.cpu.Cpu.{Cpu}
 use Rattle.dspec_cpu.specs.declared.shared.Shared.{Shared}
 use Rattle.dspec_cpu.specs.Called.{CallsMade, called}
 use Rattle.dspec_cpu.specs.Lists.{words_of}
-use Rattle.dspec_consumer.specs.declared.session.Session.{Session}
-use Rattle.dspec_consumer.specs.Consumers.{Consuming, pairs_of, view_of}
-use Rattle.dspec_consumer.specs.Sessions.{IsSession}
+use Rattle.dspec_session_core.specs.declared.session.Session.{Session}
+use Rattle.dspec_session_core.specs.Consumers.{Consuming, pairs_of, view_of}
+use Rattle.dspec_session_core.specs.Sessions.{IsSession}
 use Rattle.dspec.specs.Passed.{PassesOn}
 use Rattle.dspec.proofs.Passing.{passes_both, passes_nothing}
 use Rattle.dspec_threads.specs.Homes.{AreBack, AreHomes, IsOfRank, IsHomeOf, Rank, alone}

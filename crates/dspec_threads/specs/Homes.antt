@@ -9,7 +9,7 @@ use Rattle.dspec_cpu.specs.declared.shared.Shared.{Shared}
 use Rattle.dspec_cpu.specs.Called.{CallsMade, called}
 use Rattle.dspec_cpu.specs.Lists.{number_in, words_of}
 use Rattle.dspec_cpu.specs.Standing.{identity}
-use Rattle.dspec_consumer.specs.Sessions.{IsCpuOf}
+use Rattle.dspec_session_core.specs.Sessions.{IsCpuOf}
 
 -- a CPU that went through the ring alone
 abbrev pub alone : Cpu EnabledRows → List (Cpu EnabledRows)

@@ -10,7 +10,7 @@ use Rattle.dspec_cpu.specs.declared.cpu.Cpu.{Cpu}
 use Rattle.dspec_cpu.specs.declared.shared.Shared.{Shared}
 use Rattle.dspec_cpu.specs.Called.{CallsMade, called, no_calls}
 use Rattle.dspec_cpu.specs.Lists.{number_in, schema_of, words_of}
-use Rattle.dspec_consumer.specs.Consumers.{Consuming, pairs_of, view_of}
+use Rattle.dspec_session_core.specs.Consumers.{Consuming, pairs_of, view_of}
 use Rattle.dspec.specs.Passed.{PassesOn}
 use Rattle.dspec.specs.Visits.{MakesRound}
 use Rattle.dspec_threads.specs.Homes.{AreBack, AreHomes}

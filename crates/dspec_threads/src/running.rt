@@ -7,8 +7,8 @@ ghost use Rattle.dspec_table.specs.Seats.{last_seat, set_up};
 ghost use Rattle.dspec_cpu.specs.declared.cpu.Cpu.{Cpu};
 ghost use Rattle.dspec_cpu.specs.Called.{CallsMade, called, no_calls};
 ghost use Rattle.dspec_cpu.specs.Lists.{number_in, schema_of, words_of};
-ghost use Rattle.dspec_consumer.specs.Consumers.{view_of};
-ghost use Rattle.dspec_consumer.specs.Sessions.{IsSession};
+ghost use Rattle.dspec_session_core.specs.Consumers.{view_of};
+ghost use Rattle.dspec_session_core.specs.Sessions.{IsSession};
 ghost use Rattle.dspec.specs.Traced.{IsTraced};
 ghost use Rattle.dspec_threads.specs.Runs.{AreNew, BeginsRun, LooksLater, RoundMade, Run};
 

@@ -5,11 +5,11 @@ use Rattle.std.proofs.lemmas.Option.{slice_get_within, get_or_from_slice_get}
 use Rattle.dspec_record.specs.EnablingRows.{EnabledRows}
 use Rattle.dspec_ring.specs.declared.batch.Batch.{Batch}
 use Rattle.dspec.specs.Passed.{Passed, GotAll}
-use Rattle.dspec_trace.specs.Accounts.{missed_on}
-use Rattle.dspec_trace.specs.Losses.{lost_more}
-use Rattle.dspec_trace.specs.Writes.{FileWrite, Takes}
-use Rattle.dspec_trace.specs.Writing.{AddsPacket, GetsPacket, IsNothing, LosesPacket, Tracing}
-use Rattle.dspec_trace.specs.declared.losing.Loss.{Loss}
+use Rattle.dspec_ctf_sink.specs.Accounts.{missed_on}
+use Rattle.dspec_ctf_sink.specs.Losses.{lost_more}
+use Rattle.dspec_ctf_sink.specs.Writes.{FileWrite, Takes}
+use Rattle.dspec_ctf_sink.specs.Writing.{AddsPacket, GetsPacket, IsNothing, LosesPacket, Tracing}
+use Rattle.dspec_ctf_sink.specs.declared.losing.Loss.{Loss}
 
 -- what a place took stands behind what it was asked for before
 pub took : (old new : Option (List FileWrite)) (was : List FileWrite) (name bytes : List ℕ) → old ≡ Some was → Takes old name bytes new
@@ -20,7 +20,7 @@ took (Some xs) (Some ys) was name bytes e takes =
     let same : xs ≡ was = cc (e) in
     ap Some (takes ∙ ap (λ zs. zs ++ record { name = name; bytes = bytes; refused = None } ∷ []) same)
 
-some_lost : (o : Option Loss) (l : Loss) → lost_more o l ≡ None → ⊥
+pub some_lost : (o : Option Loss) (l : Loss) → lost_more o l ≡ None → ⊥
 some_lost None l e = absurd (cc (e))
 some_lost (Some first) l e = absurd (cc (e))
 

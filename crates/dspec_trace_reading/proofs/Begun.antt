@@ -6,15 +6,15 @@ use Rattle.dspec_ctf.specs.Metadata.{origin_text}
 use Rattle.dspec_ctf.specs.declared.form.Form.TheVariants.{AsTaken}
 use Rattle.dspec_ctf.specs.declared.names.Names.{Names}
 use Rattle.dspec_ctf.specs.declared.origin.Origin.{Origin}
-use Rattle.dspec_trace.specs.Accounts.{missed_on}
-use Rattle.dspec_trace.specs.Writes.{FileWrite, brought_to, file_of}
-use Rattle.dspec_trace.specs.Writing.{IsBegun, Tracing, cpu_name}
-use Rattle.dspec_trace.proofs.Written.{brought_elsewhere, brought_whole}
+use Rattle.dspec_ctf_sink.specs.Accounts.{missed_on}
+use Rattle.dspec_ctf_sink.specs.Writes.{FileWrite, brought_to, file_of}
+use Rattle.dspec_ctf_sink.specs.Writing.{IsBegun, Tracing, cpu_name}
+use Rattle.dspec_ctf_sink.proofs.Written.{brought_elsewhere, brought_whole}
 use Rattle.dspec_trace_reading.specs.AsTaken.{told_on}
 use Rattle.dspec_trace_reading.proofs.Naming.{not_metadata}
 use Rattle.dspec_trace_reading.proofs.Asking.{took}
 
-all_zero : (n i : ℕ) → slice_index (replicate n 0) i ≡ 0
+pub all_zero : (n i : ℕ) → slice_index (replicate n 0) i ≡ 0
 all_zero zero i = refl
 all_zero (suc n) zero = refl
 all_zero (suc n) (suc i) = all_zero n i

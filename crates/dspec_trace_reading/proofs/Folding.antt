@@ -16,14 +16,14 @@ use Rattle.dspec_buffer.proofs.SchemaLaws.{SchemaLaws}
 use Rattle.dspec_buffer.proofs.OneReading.{one_reading}
 use Rattle.dspec_buffer.proofs.Walks.{reads_back}
 use Rattle.dspec_ring.specs.declared.batch.Batch.{Batch}
-use Rattle.dspec_consumer.specs.Closing.{HoldInOrder}
+use Rattle.dspec_session_core.specs.Closing.{HoldInOrder}
 use Rattle.dspec.specs.Passed.{Passed, GotAll, passed_from}
 use Rattle.dspec_ctf.specs.Packets.{events, packet}
 use Rattle.dspec_ctf.specs.Streams.{Accepts, IsText}
-use Rattle.dspec_trace.specs.Accounts.{missed_on}
-use Rattle.dspec_trace.specs.Writes.{FileWrite, brought_to, file_of}
-use Rattle.dspec_trace.specs.Writing.{AddsPacket, GetsPacket, IsNothing, Tracing, cpu_name}
-use Rattle.dspec_trace.proofs.Written.{brought_elsewhere, brought_whole, file_of_more}
+use Rattle.dspec_ctf_sink.specs.Accounts.{missed_on}
+use Rattle.dspec_ctf_sink.specs.Writes.{FileWrite, brought_to, file_of}
+use Rattle.dspec_ctf_sink.specs.Writing.{AddsPacket, GetsPacket, IsNothing, Tracing, cpu_name}
+use Rattle.dspec_ctf_sink.proofs.Written.{brought_elsewhere, brought_whole, file_of_more}
 use Rattle.dspec_trace_reading.specs.AsTaken.{AreShort, HaveNumbers, drops_carried}
 use Rattle.dspec_trace_reading.proofs.Naming.{names_differ, not_metadata}
 use Rattle.dspec_trace_reading.proofs.Asking.{came_whole, few, missed_before, missed_elsewhere, missed_here, stays_wide, took, unlost}

@@ -5,12 +5,12 @@ use Rattle.dspec_record.specs.Record.{Record}
 use Rattle.dspec_record.specs.EnablingRows.{EnabledRows}
 use Rattle.dspec_ring.specs.declared.batch.Batch.{Batch}
 use Rattle.dspec_ctf.specs.Streams.{IsText}
-use Rattle.dspec_trace.specs.Accounts.{missed_on}
-use Rattle.dspec_trace.specs.Losses.{HasSoManyRecords, capped}
-use Rattle.dspec_trace.specs.Writes.{FileWrite, Refuses, file_of}
-use Rattle.dspec_trace.specs.Writing.{IsBatchFault, LosesPacket, Tracing, cpu_name}
-use Rattle.dspec_trace.specs.declared.fault.FolderFault.{FolderFault}
-use Rattle.dspec_trace.proofs.Written.{file_of_more}
+use Rattle.dspec_ctf_sink.specs.Accounts.{missed_on}
+use Rattle.dspec_ctf_sink.specs.Losses.{HasSoManyRecords, capped}
+use Rattle.dspec_ctf_sink.specs.Writes.{FileWrite, Refuses, file_of}
+use Rattle.dspec_ctf_sink.specs.Writing.{IsBatchFault, LosesPacket, Tracing, cpu_name}
+use Rattle.dspec_ctf_sink.specs.declared.fault.FolderFault.{FolderFault}
+use Rattle.dspec_ctf_sink.proofs.Written.{file_of_more}
 
 -- what a place refused stands behind what it was asked for before, and brings no file anything
 refused_there : (old new : Option (List FileWrite)) (was : List FileWrite) (name bytes : List ℕ) (fault : FolderFault) → old ≡ Some was → Refuses old name bytes new fault

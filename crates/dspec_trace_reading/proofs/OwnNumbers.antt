@@ -12,8 +12,8 @@ use Rattle.dspec_deeds.specs.declared.deed.Deed.{Deed}
 use Rattle.dspec_deeds.specs.declared.deed.Deed.TheVariants as deed
 use Rattle.dspec_ring.specs.declared.batch.Batch.{Batch}
 use Rattle.dspec_cpu.specs.Sealed.{waiting}
-use Rattle.dspec_consumer.specs.declared.left.Left.{Left}
-use Rattle.dspec_consumer.specs.Promised.{IsWithSeals}
+use Rattle.dspec_session_core.specs.declared.left.Left.{Left}
+use Rattle.dspec_session_core.specs.Promised.{IsWithSeals}
 use Rattle.dspec.specs.Passed.{AreFrom, Passed, left_batches, passed_from}
 use Rattle.dspec_trace_reading.specs.AsTaken.{HaveNumbers}
 

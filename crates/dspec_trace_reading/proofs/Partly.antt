@@ -4,7 +4,7 @@ use Rattle.std.specs.List.{flat_map}
 use Rattle.std.proofs.lemmas.List.Elements.{All-weaker}
 use Rattle.dspec_record.specs.Record.{Record}
 use Rattle.dspec_record.specs.EnablingRows.{EnabledRows}
-use Rattle.dspec_consumer.specs.declared.left.Left.{Left}
+use Rattle.dspec_session_core.specs.declared.left.Left.{Left}
 use Rattle.dspec.specs.Passed.{Passed, GotAll, passed_from}
 use Rattle.dspec_ctf.specs.Packets.{events, packet}
 use Rattle.dspec_ctf.specs.Streams.{Accepts}
@@ -14,10 +14,10 @@ use Rattle.dspec_ctf.specs.declared.origin.Origin.{Origin}
 use Rattle.dspec_ctf_reading.specs.Files.{FileTells, last_missed}
 use Rattle.dspec_ctf_reading.specs.Layouts.{event_of, layout_of}
 use Rattle.dspec_ctf_reading.specs.ReadingMetadata.{read_metadata}
-use Rattle.dspec_ctf_reading.specs.Told.{HasNumbers}
-use Rattle.dspec_trace.specs.Accounts.{missed_on}
-use Rattle.dspec_trace.specs.Writes.{file_of}
-use Rattle.dspec_trace.specs.Writing.{GetsPacket, IsBegun, Tracing, cpu_name}
+use Rattle.dspec_ctf_reading.specs.ToldNumbers.{HasNumbers}
+use Rattle.dspec_ctf_sink.specs.Accounts.{missed_on}
+use Rattle.dspec_ctf_sink.specs.Writes.{file_of}
+use Rattle.dspec_ctf_sink.specs.Writing.{GetsPacket, IsBegun, Tracing, cpu_name}
 use Rattle.dspec_trace_reading.specs.AsTaken.{AreShort, HaveNumbers, ReadsAllKept, ReadsKept, told_on}
 use Rattle.dspec_trace_reading.proofs.Begun.{asked, first, metadata_is, none_missed, none_told, nothing_yet}
 use Rattle.dspec_trace_reading.proofs.Folding.{Holds, Stays, last_from}

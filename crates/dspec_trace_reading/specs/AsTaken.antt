@@ -4,7 +4,7 @@ use Rattle.std.specs.List.{AllByRecursion}
 use Rattle.dspec_record.specs.Record.{Record}
 use Rattle.dspec_record.specs.EnablingRows.{EnabledRows}
 use Rattle.dspec_ring.specs.declared.batch.Batch.{Batch}
-use Rattle.dspec_consumer.specs.declared.left.Left.{Left}
+use Rattle.dspec_session_core.specs.declared.left.Left.{Left}
 use Rattle.dspec.specs.Passed.{Passed}
 use Rattle.dspec_ctf.specs.Packets.{events}
 use Rattle.dspec_ctf.specs.Streams.{IsText}
@@ -13,9 +13,9 @@ use Rattle.dspec_ctf.specs.declared.names.Names.{Names}
 use Rattle.dspec_ctf_reading.specs.Files.{FileTells}
 use Rattle.dspec_ctf_reading.specs.Layouts.{event_of, layout_of}
 use Rattle.dspec_ctf_reading.specs.ReadingMetadata.{read_metadata}
-use Rattle.dspec_trace.specs.Writes.{FileWrite, file_of}
-use Rattle.dspec_trace.specs.Accounts.{missed_on}
-use Rattle.dspec_trace.specs.Writing.{Tracing, cpu_name}
+use Rattle.dspec_ctf_sink.specs.Writes.{FileWrite, file_of}
+use Rattle.dspec_ctf_sink.specs.Accounts.{missed_on}
+use Rattle.dspec_ctf_sink.specs.Writing.{Tracing, cpu_name}
 
 -- the drops that these batches carry, together
 abbrev pub drops_carried : List Batch → ℕ

@@ -1,1 +1,3 @@
 pub mod AsTaken
+pub mod ByTime
+pub mod Laws

@@ -1,46 +1,49 @@
 //! The laws, as clauses of functions that have nothing to do.
 
-ghost use Rattle.std.specs.Prelude.{◌≡◌, ◌<◌, ◌+◌, ◌^◌, ℕ, List, [], Some, None, length};
-ghost use Rattle.dspec_record.specs.Schemas.{enabled, table_accepts, table_shape, table_text};
-ghost use Rattle.dspec_deeds.specs.declared.config.Config.{Config};
-ghost use Rattle.dspec_consumer.specs.declared.left.Left.{Left};
-ghost use Rattle.dspec.specs.Passed.{HasLists, passed_from};
-ghost use Rattle.dspec.specs.Traced.{IsTraced};
-ghost use Rattle.dspec_ctf.specs.declared.form.Form.TheVariants.{AsTaken};
-ghost use Rattle.dspec_ctf.specs.declared.names.Names.{Names};
-ghost use Rattle.dspec_ctf.specs.declared.origin.Origin.{Origin};
-ghost use Rattle.dspec_ctf_reading.specs.Told.{HasNumbers};
-ghost use Rattle.dspec_trace.specs.Accounts.{missed_on};
-ghost use Rattle.dspec_trace.specs.Writing.{GetsPacket, IsBegun, Tracing};
-ghost use Rattle.dspec_trace_reading.specs.AsTaken.{AreShort, ReadsAllKept, ReadsBack};
+ghost use Rattle.std.specs.Prelude.{List};
+ghost use Rattle.dspec.specs.Serving.{ThenServed};
+ghost use Rattle.dspec.specs.Workers.{WorkedBy};
+ghost use Rattle.dspec_trace_reading.specs.Laws.{KeptIsRead, TakenIsRead, TimedIsRead};
 
-use dspec::{Enablings, Work};
-use dspec_ctf_reading::laws::{metadata_reads_back, taken_file_reads_back};
+use dspec::{Enablings, Work, Worker};
+use dspec_ctf::laws::{files_have_all, runs_have_all};
+use dspec_ctf_reading::laws::{
+    files_join, live_file_reads_back, metadata_reads_back, taken_file_reads_back,
+};
 
 /// A session was traced into a folder that began empty, as its batches were taken. Where nothing was lost, the folder is read as what the
 /// page promises of each CPU: its stream, all of it, in order, and how many it dropped. Where some couldn't be written, it is read as that
 /// stream without the batches that were lost, and what it tells as missed, or the next packet would, are the drops and the records of those.
 pub fn trace_reads_back<W: Work<Enablings>>(_schema: &Enablings, _work: &W)
-    ensures taken { (origin : Origin) (names : Names) (k : Config) (begun ended : Tracing) (left : List Left)
-        → IsBegun origin _schema.now names (Some []) begun
-        → (t : IsTraced (GetsPacket _schema.now) (W.does _schema.now _work.now) (table_shape _schema.now.header (enabled _schema.now.rows))
-        (table_accepts _schema.now.header (enabled _schema.now.rows)) (table_text _schema.now.header (enabled _schema.now.rows)) k begun left ended)
-        → HasLists (GetsPacket _schema.now) (table_shape _schema.now.header (enabled _schema.now.rows))
-        (table_accepts _schema.now.header (enabled _schema.now.rows)) (table_text _schema.now.header (enabled _schema.now.rows)) k begun left ended
-        → ended.lost ≡ None
-        → length origin.uuid ≡ 16 → HasNumbers origin AsTaken _schema.now names → ((c : ℕ) → missed_on ended c < 2 ^ 64)
-        → AreShort _schema.now t.passed
-        → ReadsBack origin.uuid _schema.now names left (λ c l there. (t.promised.each c l there).seen) (λ c. passed_from c t.passed) ended.written }
-    ensures kept { (origin : Origin) (names : Names) (k : Config) (begun ended : Tracing) (left : List Left)
-        → IsBegun origin _schema.now names (Some []) begun
-        → (t : IsTraced (GetsPacket _schema.now) (W.does _schema.now _work.now) (table_shape _schema.now.header (enabled _schema.now.rows))
-        (table_accepts _schema.now.header (enabled _schema.now.rows)) (table_text _schema.now.header (enabled _schema.now.rows)) k begun left ended)
-        → HasLists (GetsPacket _schema.now) (table_shape _schema.now.header (enabled _schema.now.rows))
-        (table_accepts _schema.now.header (enabled _schema.now.rows)) (table_text _schema.now.header (enabled _schema.now.rows)) k begun left ended
-        → length origin.uuid ≡ 16 → HasNumbers origin AsTaken _schema.now names → ((c : ℕ) → missed_on ended c + 1 < 2 ^ 64)
-        → AreShort _schema.now t.passed
-        → ReadsAllKept origin.uuid _schema.now names left (λ c. passed_from c t.passed) ended }
+    ensures taken { TakenIsRead _schema.now (ThenServed (W.does _schema.now _work.now)) }
+    ensures kept { KeptIsRead _schema.now (ThenServed (W.does _schema.now _work.now)) }
 {
     metadata_reads_back();
     taken_file_reads_back();
+}
+
+/// The same by time, where nothing was lost. Each record of a CPU's stream is in one of its files, in order, and no other is; the first file
+/// tells how many the CPU dropped.
+pub fn timed_trace_reads_back<W: Work<Enablings>>(_schema: &Enablings, _work: &W)
+    ensures { TimedIsRead _schema.now (ThenServed (W.does _schema.now _work.now)) }
+{
+    metadata_reads_back();
+    live_file_reads_back();
+    files_join();
+    files_have_all();
+    runs_have_all();
+}
+
+/// So it is of a session that was traced with a worker for each CPU, which came back as its work had left it.
+pub fn workers_read_back<W: Worker<Enablings>>(_schema: &Enablings)
+    ensures taken { (workers back : List W) → TakenIsRead _schema.now (ThenServed (WorkedBy (W.does _schema.now) workers back)) }
+    ensures kept { (workers back : List W) → KeptIsRead _schema.now (ThenServed (WorkedBy (W.does _schema.now) workers back)) }
+    ensures timed { (workers back : List W) → TimedIsRead _schema.now (ThenServed (WorkedBy (W.does _schema.now) workers back)) }
+{
+    metadata_reads_back();
+    taken_file_reads_back();
+    live_file_reads_back();
+    files_join();
+    files_have_all();
+    runs_have_all();
 }

@@ -1,11 +1,14 @@
-//! What is read of a trace folder is what the session's promise calls each CPU's stream: laws above the writer (`dspec_trace`), the
+//! What is read of a trace folder is what the session's promise calls each CPU's stream: laws above the writer (`dspec_ctf_sink`), the
 //! reading (`dspec_ctf_reading`) and the session (`dspec`).
 //!
 //! | File | What is in it |
 //! |---|---|
-//! | `laws.rt` | the law, as clauses of a function that has nothing to do |
-//! | `specs/`: AsTaken | what is read of a folder that was written as batches were taken, of all of them or of those that were kept |
-//! | `proofs/` | Naming (each CPU has a file of its own), OwnNumbers (each batch has its CPU's number), Asking and Losing (what one batch asks of the folder, where nothing or some is lost), Folding and Keeping (what all batches bring to one CPU's file), Begun (the folder with its metadata alone), Whole and Partly (the two clauses) |
+//! | `laws.rt` | the laws, as clauses of functions that have nothing to do |
+//! | `specs/`: Laws | what is read of a session that was traced, whatever its work did: as taken, as taken where some was lost, by time |
+//! | `specs/`: AsTaken, ByTime | what is read of a folder that was written as batches were taken, of all of them or of those that were kept; what is read of one by time |
+//! | `proofs/` | Naming (each CPU has a file of its own), OwnNumbers (each batch has its CPU's number), Asking and Losing (what one batch asks of the folder, where nothing or some is lost), Folding and Keeping (what all batches bring to one CPU's file), Begun (the folder with its metadata alone), Whole and Partly (what is read as taken, of all or of what was kept) |
+//! | `proofs/`, by time | RowNaming (each file of a CPU has a name of its own), Sharing (records that go to files), Taking (packets that a place took), Growing (what is written behind a file), Filing (one batch, and a CPU's files), TimedAsking, TimedFolding, TimedBegun and TimedWhole |
+//! | `proofs/`: Read | the three laws, of a session whose promise is known |
 #![tactic(auto)]
 
 pub mod laws;

@@ -7,7 +7,7 @@ use crate::encoding::encoded;
 use crate::sample::Sample;
 use dspec_core::play;
 use dspec_deeds::{Config, Turn};
-use dspec_play::{Outcome, PlayFault};
+use dspec_interleaving::{Outcome, PlayFault};
 use dspec_record::{DefaultAction, Header, StampedAction};
 use dspec_replay::{SessionFault, printed_with_bytes, replay_schedule};
 use dspec_schedule::Schedule;

@@ -5,7 +5,7 @@ ghost use Rattle.std.specs.Prelude.{◌<◌};
 
 use crate::sample::Sample;
 use dspec_deeds::{Actor, Answer, ConsumerOp, DecideFate, Deed, Op, SpeculateFate, TraceFate};
-use dspec_play::{Outcome, Series};
+use dspec_interleaving::{Outcome, Series};
 use dspec_record::{Field, Header, Rec};
 use dspec_replay::{Origin, Replayed, Text};
 use dspec_word::SpecId;

@@ -25,7 +25,7 @@ mod writing;
 
 use comparing::{Verdict, both_told, verdict_of};
 use dspec_command::{CommandFault, ended, output_fault, print_text, words_of};
-use dspec_dice::Dice;
+use dspec_logs::Dice;
 use making::sample;
 use options::{Ask, Options, ask_of};
 use sample::Sample;

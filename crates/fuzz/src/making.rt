@@ -6,7 +6,7 @@ ghost use Rattle.dspec_replay.specs.Replayed.{whole_call_of};
 use crate::records::record;
 use crate::sample::{MOST_FIELDS, Probe, Sample};
 use dspec_deeds::{Config, ConsumerOp, CpuOp, Policy, Turn};
-use dspec_dice::Dice;
+use dspec_logs::Dice;
 use dspec_record::{Enablings, Field, Header};
 use dspec_schedule::Schedule;
 use dspec_word::SpecId;

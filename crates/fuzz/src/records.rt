@@ -1,7 +1,7 @@
 //! Random records.
 
 use crate::sample::{MOST_FIELDS, Probe};
-use dspec_dice::Dice;
+use dspec_logs::Dice;
 use dspec_record::{Field, Header, Rec};
 
 /// A record in so many isn't one of the schema.

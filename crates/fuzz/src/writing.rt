@@ -1,4 +1,4 @@
-//! A schedule as text, as the programs `specplay` and `replay` read it, and a difference.
+//! A schedule as text, as the programs `specplay` and `specview` read it, and a difference.
 
 use crate::comparing::Told;
 use crate::sample::{Probe, Sample};

@@ -5,8 +5,8 @@
 mod stage;
 
 use anyhow::Result;
-use dspec::{Config, Kept, closed_cpus, trace_workers};
-use dspec_belt::belt;
+use dspec::{Config, RecordSink, closed_cpus, trace_workers};
+use dspec_paths::belt;
 use dspec_probed::Probes;
 use stage::{JobProbes, Stage};
 
@@ -21,7 +21,7 @@ fn main(rt: HostRuntime) -> Result<()> {
     workers.push(Stage::new(None, Some(to_second), probes))?;
     workers.push(Stage::new(Some(from_first), Some(to_third), probes))?;
     workers.push(Stage::new(Some(from_second), None, probes))?;
-    let (schema, kept) = (declared.enablings(), Kept::new(alloc));
+    let (schema, kept) = (declared.enablings(), RecordSink::new(alloc));
     let (closed, workers, kept) = trace_workers(&rt, alloc, &config, schema, workers, kept)?;
     let (mut begun, mut staged) = (0u32, 0u32);
     for rec in kept.records()? {

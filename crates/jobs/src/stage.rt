@@ -2,7 +2,7 @@ ghost use Rattle.std.specs.Prelude.{◌≡◌};
 ghost use Rattle.dspec.specs.Lanes.{place_of};
 
 use dspec::{Enablings, Lane, Path, Worker};
-use dspec_belt::{Giver, Taker, open_within};
+use dspec_paths::{Giver, Taker, open_within};
 use dspec_probed::{Probe, ProbeFault, Probes, Recording};
 
 /// How often a worker looks for what it waits for.
@@ -54,12 +54,12 @@ impl Stage {
         };
         let Some(belt) = &mut self.from else {
             let path = open_within(lane, LOOKS);
-            begun.step(lane, &path, 0, (job,));
+            begun.record_in(lane, &path, 0, (job,));
             return Some(path);
         };
         let path = belt.take_within(lane, LOOKS)?;
         let stage = lane.number();
-        staged.step(lane, &path, 0, (job, stage));
+        staged.record_in(lane, &path, 0, (job, stage));
         Some(path)
     }
 
@@ -73,8 +73,8 @@ impl Stage {
         };
         if let Some(path) = rest {
             match job % 5 {
-                0 => path.keep(lane),
-                _ => path.throw(lane),
+                0 => path.commit(lane),
+                _ => path.discard(lane),
             };
         }
     }

@@ -8,9 +8,8 @@ mod serving;
 
 use anyhow::{Result, bail};
 use dspec::{Both, Config, closed_cpus, trace_workers};
-use dspec_clock::SystemClock;
-use dspec_probed::Probes;
-use dspec_trace::{Identity, Names, SystemFolder, Telling, TraceFolder, tell_untold};
+use dspec_ctf_sink::{Identity, Names, SystemFolder, Telling, TraceFolder, tell_untold};
+use dspec_probed::{Probes, SystemClock};
 use live::Live;
 use probes::StoreProbes;
 use serving::Server;

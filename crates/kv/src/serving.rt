@@ -4,8 +4,7 @@ ghost use Rattle.dspec_probed.specs.Walks.{walk_of};
 
 use crate::probes::StoreProbes;
 use dspec::{Enablings, Lane, Worker};
-use dspec_clock::SystemClock;
-use dspec_probed::{Clock, Steps};
+use dspec_probed::{Clock, Steps, SystemClock};
 use std::sync::atomic::{AtomicU64, Ordering};
 
 /// The values of the keys 0 to 7, which all workers share.
@@ -36,11 +35,11 @@ impl<'a, 'c> Server<'a, 'c> {
     {
         let table = self.table;
         let Some(value) = table.get(key as usize) else {
-            steps.try_step(self.probes.missing, (key,));
+            steps.try_record(self.probes.missing, (key,));
             return false;
         };
         let before = value.fetch_add(amount, Ordering::SeqCst);
-        steps.try_step(self.probes.added, (key, amount, before));
+        steps.try_record(self.probes.added, (key, amount, before));
         true
     }
 
@@ -51,10 +50,10 @@ impl<'a, 'c> Server<'a, 'c> {
         let (worker, clock, begun) = (lane.number(), self.clock, self.clock.stamp());
         let path = lane.path().hand();
         let mut steps = Steps { lane, clock, path };
-        steps.try_step(self.probes.begin, (request, worker));
+        steps.try_record(self.probes.begin, (request, worker));
         let done = self.add(&mut steps, request % 7, 1) && self.add(&mut steps, request % 9, 1);
         let micros = clock.stamp().saturating_sub(begun) / 1000;
-        steps.try_step(self.probes.end, (request, micros));
+        steps.try_record(self.probes.end, (request, micros));
         steps.end(!done || micros > 500);
         done
     }

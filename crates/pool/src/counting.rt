@@ -34,11 +34,11 @@ impl Worker<Enablings> for Counter {
                 break;
             }
             let path = lane.path();
-            let _ = path.step(lane, self.epid, 0, &[number]);
+            let _ = path.record(lane, self.epid, 0, &[number]);
             if number % 3 == 0 {
-                path.keep(lane);
+                path.commit(lane);
             } else {
-                path.throw(lane);
+                path.discard(lane);
             }
             lane.service();
             self.done = number.wrapping_add(1);

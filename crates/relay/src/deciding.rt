@@ -1,6 +1,6 @@
 use dspec::{Batch, Enablings, Handed, Rec, Sink, read_all};
+use dspec_paths::{Anything, Judge};
 use dspec_probed::Probe;
-use dspec_verdicts::{Anything, Judge};
 
 /// A request that takes more microseconds is slow, and its path is kept.
 const SLOW: u32 = 874;

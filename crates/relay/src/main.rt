@@ -18,10 +18,9 @@ mod serving;
 use anyhow::{Result, ensure};
 use belt::{Belt, REQUESTS};
 use deciding::Decider;
-use dspec::{Both, Closed, Config, Kept, Rec, closed_cpus, trace};
-use dspec_clock::SystemClock;
-use dspec_probed::Probes;
-use dspec_verdicts::{Anything, board};
+use dspec::{Both, Closed, Config, Rec, RecordSink, closed_cpus, trace};
+use dspec_paths::{Anything, board};
+use dspec_probed::{Probes, SystemClock};
 use probes::RequestProbes;
 use serving::Server;
 use std::alloc::Global;
@@ -61,7 +60,7 @@ fn relay<R: Threads + Sync>(rt: &HostRuntime, threads: &R, alloc: Global) -> Res
     let clock = SystemClock::start(rt)?;
     let work = Server::new(Belt::new(alloc)?, &clock, probes, &verdicts);
     let sink = Both {
-        first: Kept::new(alloc),
+        first: RecordSink::new(alloc),
         second: Decider::new(judge, probes.ended),
     };
     let config = Config::of(2, 16, 65536, 256);

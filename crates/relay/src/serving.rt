@@ -4,9 +4,8 @@ ghost use Rattle.dspec.specs.Lanes.{place_of};
 use crate::belt::{Belt, REQUESTS};
 use crate::probes::RequestProbes;
 use dspec::{Enablings, Handed, Lane, Opening, Path, Work};
-use dspec_clock::SystemClock;
-use dspec_probed::{Clock, Recording, Steps};
-use dspec_verdicts::{Anything, Verdicts};
+use dspec_paths::{Anything, Verdicts};
+use dspec_probed::{Clock, Recording, Steps, SystemClock};
 use std::sync::atomic::{AtomicU64, Ordering};
 use std::thread;
 
@@ -76,7 +75,7 @@ impl<'a> Server<'a> {
             if let Opening::Id(_) = path.opening() {
                 return path;
             }
-            path.throw(lane);
+            path.discard(lane);
             self.turn(lane);
         }
         lane.path()
@@ -95,7 +94,7 @@ impl<'a> Server<'a> {
             clock: self.clock,
             path,
         };
-        steps.step(accepted, (request,));
+        steps.record(accepted, (request,));
         self.belt.put(request, steps.hand());
     }
 
@@ -129,7 +128,7 @@ impl<'a> Server<'a> {
             clock: self.clock,
             path,
         };
-        steps.step(answered, (request, micros));
+        steps.record(answered, (request, micros));
         let path = steps.hand().raw();
         ended.record(lane, self.clock.stamp(), (path, micros));
     }

@@ -1,9 +1,13 @@
 -- The file of each CPU stands at its place.
-use Rattle.std.proofs.Common.{◌≡◌, ℕ, ◌+◌, ◌<◌, ◌≤◌, List, [], ◌∷◌, ◌++◌, Option, Bool, true, false, if◌then◌else◌, Some, length}
-use Rattle.std.proofs.Common.{map, reverse, slice_index_or, get_or, refl, sym, ap, ◌∙◌, subst, below_more, ⊎_elim, ◌⊎◌, zero, suc, add-one, arith}
-use Rattle.std.proofs.lemmas.List.{map-append, length-append, length-map, get_or_append_left, get_or_at, get_or_default, get_or-map}
+use Rattle.std.proofs.Common.{◌≡◌, ℕ, ◌+◌, ◌<◌, List, [], ◌∷◌, ◌++◌, Option, Bool, true, false, if◌then◌else◌, Some, length}
+use Rattle.std.proofs.Common.{reverse, get_or, refl, sym, ap, ◌∙◌, subst, below_more, ⊎_elim, ◌⊎◌, zero, suc, add-one, arith}
+use Rattle.std.proofs.Common.{None, ◌==◌, slice_get}
+use Rattle.std.proofs.lemmas.Option.{get_or_from_slice_get, slice_get_within}
+use Rattle.std.proofs.lemmas.List.{length-append, length-map, get_or_append_left, get_or_at, get_or_default, get_or-map}
 use Rattle.dspec_record.specs.Record.{Record}
 use Rattle.dspec_record.specs.EnablingRows.{EnabledRows}
+use Rattle.dspec_record.specs.declared.header.Header.{Header}
+use Rattle.dspec_record.specs.declared.header.Header.TheVariants as header
 use Rattle.dspec_deeds.specs.declared.deed.Deed.{Deed}
 use Rattle.dspec_deeds.specs.declared.report.Report.{Report}
 use Rattle.dspec_deeds.specs.Closes.{numbers_below, reports}
@@ -17,12 +21,12 @@ use Rattle.dspec_deeds.specs.Legal.{IsLegal}
 use Rattle.dspec_deeds.specs.Fates.{is_taken}
 use Rattle.dspec_deeds.proofs.DeedEffects.{next_offer, Effect, idle, offering, emptying, Accounts, legal_accounts}
 use Rattle.specview.specs.declared.fault.ViewFault.{ViewFault}
-use Rattle.specview.specs.declared.fault.ViewFault.TheVariants.{Line, NoStamp, LateStamp, NoFrequency, GreatestFrequency, NoEvent, TooMuch, Memory, Read, Write, TooLong, NotEmpty}
+use Rattle.specview.specs.declared.fault.ViewFault.TheVariants.{Line, NoStamp, LateStamp, NoFrequency, GreatestFrequency, NoEvent, Memory, Read, Write, TooLong, NotEmpty}
 use Rattle.specview.specs.Batches.{TellsCounts}
 use Rattle.specview.specs.Clocks.{IsClockFault}
 use Rattle.dspec_ctf.specs.declared.form.Form.TheVariants.{AsTaken, ByTime}
-use Rattle.specview.specs.Traces.{AreFiles, AreStreams, IsFile, HasUnknown, IsFileFault, IsFormFault, IsPlayTraceFault}
-use Rattle.dspec_ctf.specs.Names.{metadata_fault as fault_of_metadata}
+use Rattle.specview.specs.Traces.{AreFiles, AreStreams, IsFile, HasUnknown, IsFileFault, IsFormFault, IsOfNumbered, IsPlayTraceFault}
+use Rattle.dspec_ctf.specs.Names.{metadata_fault as fault_of_metadata, earlier, form_fault, names_fault}
 use Rattle.dspec_ctf.specs.declared.names.Names.TheVariants.{Numbered}
 use Rattle.dspec_ctf.specs.declared.fault.MetadataFault.{MetadataFault}
 use Rattle.dspec_ctf.specs.declared.fault.MetadataFault.TheVariants as metadata_fault
@@ -70,7 +74,6 @@ no_trace form e rss rs c LateStamp lt is why = absurd why
 no_trace form e rss rs c NoFrequency lt is why = absurd why
 no_trace form e rss rs c GreatestFrequency lt is why = absurd why
 no_trace form e rss rs c (NoEvent epid) lt is why = (c, subst (HasUnknown e epid) (is ∙ get_or_default rss c rs [] lt) why)
-no_trace form e rss rs c TooMuch lt is why = why
 no_trace form e rss rs c Memory lt is why = why
 no_trace form e rss rs c Read lt is why = why
 no_trace form e rss rs c Write lt is why = why
@@ -97,6 +100,17 @@ legal_told shape k c h legal = accounts_told c h (legal_accounts shape k c h leg
 pub reports_long : (k : Config) (worn : ℕ → ℕ) (h : List Deed) → length (reports k worn h) ≡ k.cpus
 reports_long k worn h = length-map (numbers_below k.cpus) (λ c. report k c (worn c) h) ∙ below_long k.cpus
 
+-- the report at a place is that CPU's
+pub report_at : (k : Config) (worn : ℕ → ℕ) (h : List Deed) (reps : List Report) (c : ℕ) (p : Report) → reps ≡ reports k worn h → slice_get reps c ≡ Some p → p ≡ report k c (worn c) h
+report_at k worn h reps c p are at =
+    let f : ℕ → Report = λ a. report k a (worn a) h in
+    let within = slice_get_within reps c p at in
+    let long = ap length are ∙ reports_long k worn h in
+    let all = below_long k.cpus in
+    let lt : c < k.cpus = omega arith in
+    let inside : c < length (numbers_below k.cpus) = omega arith in
+    sym (get_or_from_slice_get reps c p p at) ∙ (ap (λ xs. get_or xs c p) are ∙ (get_or-map f (numbers_below k.cpus) c 0 p inside ∙ ap f (below_at k.cpus c 0 lt)))
+
 -- a clock that readers don't take
 pub clock_told : (form : Form) (e : EnabledRows) (rss : List (List Record)) (told : ViewFault) → IsClockFault form rss told → IsPlayTraceFault form e rss told
 clock_told AsTaken e rss told why = absurd why
@@ -106,19 +120,35 @@ clock_told (ByTime hertz) e rss LateStamp why = why
 clock_told (ByTime hertz) e rss NoFrequency why = absurd why
 clock_told (ByTime hertz) e rss GreatestFrequency why = why
 clock_told (ByTime hertz) e rss (NoEvent epid) why = absurd why
-clock_told (ByTime hertz) e rss TooMuch why = absurd why
 clock_told (ByTime hertz) e rss Memory why = absurd why
 clock_told (ByTime hertz) e rss Read why = absurd why
 clock_told (ByTime hertz) e rss Write why = absurd why
 clock_told (ByTime hertz) e rss TooLong why = absurd why
 clock_told (ByTime hertz) e rss NotEmpty why = absurd why
 
+of_clock : (form : Form) (e : EnabledRows) (f : MetadataFault) → fault_of_metadata form e Numbered ≡ Some f → IsOfNumbered f
+unfolding fault_of_metadata form_fault names_fault
+of_clock AsTaken e f is = absurd (cc (is))
+of_clock (ByTime hertz) e f is = by_header e.header is
+  where
+    by_frequency : (b : Bool) → earlier (if b then Some metadata_fault.NoFrequency else None) None ≡ Some f → IsOfNumbered f
+    by_frequency true is = let same : metadata_fault.NoFrequency ≡ f = cc in subst IsOfNumbered same tt
+    by_frequency false is = absurd (cc (is))
+
+    by_header : (h : Header) → earlier (form_fault (ByTime hertz) h) None ≡ Some f → IsOfNumbered f
+    by_header header.One is = let same : metadata_fault.NoStamp ≡ f = cc in subst IsOfNumbered same tt
+    by_header header.Two is = by_frequency (hertz == 0) is
+
+-- where names are numbered, and no process is told, there are few faults of the metadata
+pub of_numbered : (form : Form) (e : EnabledRows) (f : MetadataFault) → (f ≡ metadata_fault.Memory) ⊎ (fault_of_metadata form e Numbered ≡ Some f) → IsOfNumbered f
+of_numbered form e f why = ⊎_elim (λ memory. subst IsOfNumbered (sym memory) tt) (λ is. of_clock form e f is) why
+
 -- a fault of the metadata as it is told
 pub form_told : (form : Form) (e : EnabledRows) (rss : List (List Record)) (f : MetadataFault) (told : ViewFault) → (f ≡ metadata_fault.Memory) ⊎ (fault_of_metadata form e Numbered ≡ Some f)
     → IsFormFault f told → IsPlayTraceFault form e rss told
 form_told form e rss metadata_fault.NoStamp told why is = subst (IsPlayTraceFault form e rss) (sym is) (⊎_elim (λ q. cc) (λ q. q) why)
 form_told form e rss metadata_fault.NoFrequency told why is = subst (IsPlayTraceFault form e rss) (sym is) (⊎_elim (λ q. cc) (λ q. q) why)
-form_told form e rss (metadata_fault.Name fault) told why is = subst (IsPlayTraceFault form e rss) (sym is) tt
-form_told form e rss metadata_fault.HostName told why is = subst (IsPlayTraceFault form e rss) (sym is) tt
-form_told form e rss metadata_fault.ProcessName told why is = subst (IsPlayTraceFault form e rss) (sym is) tt
+form_told form e rss (metadata_fault.Name fault) told why is = absurd is
+form_told form e rss metadata_fault.HostName told why is = absurd is
+form_told form e rss metadata_fault.ProcessName told why is = absurd is
 form_told form e rss metadata_fault.Memory told why is = subst (IsPlayTraceFault form e rss) (sym is) tt

@@ -1,7 +1,7 @@
 -- A CPU's stream, cut into its batches.
-use Rattle.std.proofs.Common.{◌≡◌, ℕ, suc, ◌+◌, ◌≤◌, ◌<◌, ◌^◌, Bool, true, false, List, [], ◌∷◌, ◌++◌}
-use Rattle.std.proofs.Common.{length, map, reverse, take, drop, get_or, refl, sym, ap, ◌∙◌, subst, append_assoc, arith, true≢false, if◌then◌else◌}
-use Rattle.std.proofs.lemmas.List.{reverse-append, append-nil, append_cancel_left, take-append-drop, take_all, take_at, drop_at, take_more, map-append, length-append, length-reverse, length-take-le}
+use Rattle.std.proofs.Common.{◌≡◌, ℕ, suc, ◌+◌, ◌≤◌, ◌<◌, Bool, true, false, List, [], ◌∷◌, ◌++◌}
+use Rattle.std.proofs.Common.{length, map, reverse, take, drop, get_or, refl, sym, ap, ◌∙◌, subst, append_assoc, arith, if◌then◌else◌}
+use Rattle.std.proofs.lemmas.List.{reverse-append, append-nil, append_cancel_left, take-append-drop, take_all, take_at, drop_at, take_more, map-append, length-append, length-reverse}
 use Rattle.dspec_record.specs.Record.{Record}
 use Rattle.dspec_deeds.specs.declared.deed.Deed.{Deed}
 use Rattle.dspec_deeds.specs.Own.{Offer, contents, accepts, accepted, stream, seals_now, is_drop, Batch, growing, batches, batch_records}

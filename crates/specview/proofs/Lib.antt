@@ -6,3 +6,4 @@ pub mod AllFiles
 pub mod Taking
 pub mod Steppings
 pub mod Uuids
+pub mod SmallPlays

@@ -1,7 +1,8 @@
 -- The records of a CPU's batches, and what is put around them.
-use Rattle.std.proofs.Common.{◌≡◌, ℕ, ◌+◌, ◌<◌, ◌≤◌, List, [], ◌∷◌, ◌++◌, length, map, reverse, Some, take, drop}
+use Rattle.std.proofs.Common.{◌≡◌, ℕ, ◌+◌, ◌<◌, List, [], ◌∷◌, ◌++◌, length, map, reverse, Some, drop}
 use Rattle.std.proofs.Common.{get_or, refl, sym, ap, ◌∙◌, subst, append_assoc, All, arith, Bool, true, false, ◌==◌, ◌&&◌, if◌then◌else◌}
-use Rattle.std.proofs.lemmas.List.{take_at, drop_at, drop_more, map-append, get_or-map, length-map}
+use Rattle.std.proofs.Common.{◌^◌, suc, add-one, drop-cons}
+use Rattle.std.proofs.lemmas.List.{take_at, drop_at, get_or-map, length-map}
 use Rattle.std.proofs.lemmas.List.Elements.{All-nil, All-cons, All-append, All-take, All-drop, All-get_or}
 use Rattle.dspec_record.specs.Record.{Record}
 use Rattle.dspec_record.specs.EnablingRows.{EnabledRows}
@@ -13,15 +14,20 @@ use Rattle.dspec_ctf.specs.declared.form.Form.{Form}
 use Rattle.dspec_ctf.specs.declared.form.Form.TheVariants.{AsTaken, ByTime}
 use Rattle.dspec_ctf.specs.declared.fault.MetadataFault.TheVariants.{NoStamp}
 use Rattle.dspec_ctf.specs.declared.names.Names.TheVariants.{Numbered}
+use Rattle.dspec_ctf.specs.declared.stream.PacketFault.{PacketFault}
+use Rattle.dspec_ctf.specs.declared.stream.PacketFault.TheVariants as packet
+use Rattle.dspec_ctf.specs.Packets.{events, packet as packet_of}
+use Rattle.dspec_ctf.specs.Streams.{HasNoRecordPacket}
 use Rattle.dspec_ctf.specs.Names.{metadata_fault, form_fault}
 use Rattle.specview.specs.declared.batches.Share.{Share}
 use Rattle.specview.specs.Batches.{ShareOf, share_of, shares, last_share, shown_share}
+use Rattle.specview.specs.Traces.{HaveShortEvents, packets_behind, refused_in}
 
 module _ (P : Record → Type 0) where
-  front_all : (xs ys : List Record) → All P (xs ++ ys) → All P xs
+  pub front_all : (xs ys : List Record) → All P (xs ++ ys) → All P xs
   front_all xs ys all = subst (All P) (take_at xs ys (length xs) refl) (All-take P (length xs) (xs ++ ys) all)
 
-  back_all : (xs ys : List Record) → All P (xs ++ ys) → All P ys
+  pub back_all : (xs ys : List Record) → All P (xs ++ ys) → All P ys
   back_all xs ys all = subst (All P) (drop_at xs ys (length xs) refl) (All-drop P (length xs) (xs ++ ys) all)
 
   -- each batch has records of which this is true
@@ -67,3 +73,37 @@ pub no_stamp : (form : Form) (e : EnabledRows) → (form ≡ AsTaken → ⊥) �
 unfolding metadata_fault form_fault
 no_stamp AsTaken e timed is = absurd (timed refl)
 no_stamp (ByTime hertz) e timed is = rw is refl
+
+module _ (e : EnabledRows) (missed : ℕ) (ss : List Share) (i : ℕ) (s : Share) (lt : i < length ss) (is : s ≡ get_or ss i s) where
+  here : map shown_share (drop i ss) ≡ shown_share s ∷ map shown_share (drop (i + 1) ss)
+  here =
+      let next : drop (suc i) ss ≡ drop (i + 1) ss = ap (λ m. drop m ss) (sym (add-one i)) in
+      ap (map shown_share) (drop-cons ss i s lt ∙ ap (λ (x : Share). x ∷ drop (suc i) ss) (sym is))
+      ∙ ap (λ l. shown_share s ∷ map shown_share l) next
+
+  -- its packet behind those so far
+  pub packet_next : (uuid : List ℕ) (cpu : ℕ) (old new bytes all : List ℕ) → new ≡ old ++ bytes → bytes ≡ packet_of uuid e (missed + s.drops) cpu s.records.now
+      → old ++ packets_behind uuid e cpu missed (map shown_share (drop i ss)) ≡ all → new ++ packets_behind uuid e cpu (missed + s.drops) (map shown_share (drop (i + 1) ss)) ≡ all
+  packet_next uuid cpu old new bytes all put is_packet before =
+      ap (λ l. l ++ packets_behind uuid e cpu (missed + s.drops) (map shown_share (drop (i + 1) ss))) (put ∙ ap (λ l. old ++ l) is_packet)
+      ∙ (append_assoc old (packet_of uuid e (missed + s.drops) cpu s.records.now) (packets_behind uuid e cpu (missed + s.drops) (map shown_share (drop (i + 1) ss)))
+      ∙ (ap (λ l. old ++ packets_behind uuid e cpu missed l) (sym here) ∙ before))
+
+  -- what was refused so far, and what the batches from this one on refuse
+  pub refused_next : missed + refused_in (map shown_share (drop i ss)) ≡ (missed + s.drops) + refused_in (map shown_share (drop (i + 1) ss))
+  refused_next = let split = ap refused_in here in omega arith
+
+-- records whose numbers are small have a packet, where memory isn't wanting
+pub memory_alone : (e : EnabledRows) (missed drops : ℕ) (rs : List Record) (f : PacketFault) → missed + drops < 2 ^ 64 → length (events e rs) < 2 ^ 60
+    → HasNoRecordPacket e missed drops rs f → f ≡ packet.Memory
+memory_alone e missed drops rs (packet.Text fault) counted short why = absurd why
+memory_alone e missed drops rs packet.Missed counted short why = absurd (omega arith)
+memory_alone e missed drops rs packet.TooLong counted short why = let long = why.1 in absurd (omega arith)
+memory_alone e missed drops rs (packet.Clock place) counted short why = absurd why
+memory_alone e missed drops rs packet.Memory counted short why = refl
+
+-- what is said of each batch is said of the one at a place
+pub short_at : (e : EnabledRows) (ss : List Share) (i : ℕ) (s : Share) → HaveShortEvents e (map shown_share ss) → i < length ss → s ≡ get_or ss i s → length (events e s.records.now) < 2 ^ 60
+short_at e ss i s all lt is =
+    subst (λ (t : ShareOf). length (events e t.records) < 2 ^ 60) (get_or-map shown_share ss i s (shown_share s) lt ∙ ap shown_share (sym is))
+    (All-get_or (λ (t : ShareOf). length (events e t.records) < 2 ^ 60) (map shown_share ss) i (shown_share s) (rw length-map lt) all)

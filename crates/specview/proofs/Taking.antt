@@ -2,15 +2,15 @@
 use Rattle.std.proofs.Common.{◌≡◌, ◌↔◌, ◌≤◌, ℕ, suc, ◌+◌, ◌<◌, if◌then◌else◌, List, [], ◌∷◌, ◌++◌, length, map, drop, get_or, refl, sym, ap, ◌∙◌, add-one, drop-cons, arith}
 use Rattle.std.proofs.lemmas.List.{map-append}
 use Rattle.dspec_deeds.specs.Closes.{numbers_below}
-use Rattle.dspec_play.specs.Plays.{EndedCall}
-use Rattle.dspec_play.specs.declared.outcome.Outcome.{Outcome}
+use Rattle.dspec_interleaving.specs.Plays.{EndedCall}
+use Rattle.dspec_interleaving.specs.declared.outcome.Outcome.{Outcome}
 use Rattle.dspec_schedule.specs.Reading.{Plan}
 use Rattle.dspec_schedule.specs.declared.fault.ScheduleFault.{ScheduleFault}
 use Rattle.dspec_schedule.specs.declared.fault.ScheduleFault.TheVariants as schedule
 use Rattle.dspec_player.specs.PlayedTexts.{IsPlayedText, IsTextFault}
 use Rattle.specview.specs.declared.ending.RunFault.{RunFault}
 use Rattle.specview.specs.declared.ending.RunFault.TheVariants.{View, TooManyDeeds}
-use Rattle.specview.specs.declared.fault.ViewFault.TheVariants.{Line, NoStamp, LateStamp, NoFrequency, GreatestFrequency, NoEvent, TooMuch, Memory, Read, Write, TooLong, NotEmpty}
+use Rattle.specview.specs.declared.fault.ViewFault.TheVariants.{Line, NoStamp, LateStamp, NoFrequency, GreatestFrequency, NoEvent, Memory, Read, Write, TooLong, NotEmpty}
 use Rattle.specview.specs.Faults.{view_of_schedule}
 use Rattle.specview.specs.Pictures.{IsPictureFault, IsPlayPictureFault, taken_batches, took_of}
 
@@ -42,7 +42,6 @@ play_fault_told text p outcome TooManyDeeds played why = record { plan = p; outc
 play_fault_told text p outcome (View (Line line kind)) played why = absurd why
 play_fault_told text p outcome (View NoStamp) played why = absurd why
 play_fault_told text p outcome (View (NoEvent epid)) played why = absurd why
-play_fault_told text p outcome (View TooMuch) played why = absurd why
 play_fault_told text p outcome (View Memory) played why = tt
 play_fault_told text p outcome (View Read) played why = absurd why
 play_fault_told text p outcome (View Write) played why = absurd why

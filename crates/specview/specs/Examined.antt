@@ -5,8 +5,8 @@ use Rattle.std.specs.declared.io.ErrorKind.{ErrorKind}
 use Rattle.std.specs.declared.io.ErrorKind.TheVariants as kind
 use Rattle.dspec_ctf_reading.specs.Reading.{Layout}
 use Rattle.dspec_ctf_reading.specs.Fronts.{split_packet}
-use Rattle.dspec_ctf_reader.specs.declared.fault.MetadataReadFault.{MetadataReadFault}
-use Rattle.dspec_ctf_reader.specs.declared.fault.MetadataReadFault.TheVariants.{Line, TooLarge, Memory as no_memory}
+use Rattle.dspec_ctf_reading.specs.declared.fault.MetadataReadFault.{MetadataReadFault}
+use Rattle.dspec_ctf_reading.specs.declared.fault.MetadataReadFault.TheVariants.{Line, TooLarge, Memory as no_memory}
 use Rattle.dspec_folder.specs.Checks.{IsSoundFrom}
 use Rattle.dspec_folder.specs.declared.check.Whose.{Whose}
 use Rattle.dspec_folder.specs.declared.fault.FileFault.{FileFault}
@@ -33,6 +33,7 @@ status_of_folder (folder.NoMetadata path) = 1
 status_of_folder (folder.Metadata path fault) = 1
 status_of_folder (folder.Uuid path) = 1
 status_of_folder folder.Clocks = 1
+status_of_folder (folder.NoField name) = 1
 status_of_folder folder.Memory = 2
 
 -- what is told of a folder whose metadata can't be read
@@ -74,7 +75,7 @@ IsMend layout whose bytes (Leave fault) = ¬ IsSoundFile layout whose bytes
 
 -- ---- uuids
 
--- the place of a uuid among these, or that it isn't among them
+-- the first place of a uuid among these, or that it isn't among them
 abbrev pub IsUuidPlace : List (List ℕ) → List ℕ → Option ℕ → Type 0
 IsUuidPlace uuids uuid None = (place : ℕ) → slice_get uuids place ≢ Some uuid
-IsUuidPlace uuids uuid (Some place) = slice_get uuids place ≡ Some uuid
+IsUuidPlace uuids uuid (Some place) = (slice_get uuids place ≡ Some uuid) × ((before : ℕ) → before < place → slice_get uuids before ≢ Some uuid)

@@ -5,7 +5,7 @@ use Rattle.dspec_player.specs.declared.input.InputFault.TheVariants as input
 use Rattle.dspec_schedule.specs.declared.fault.ScheduleFault.{ScheduleFault}
 use Rattle.dspec_schedule.specs.declared.fault.ScheduleFault.TheVariants as schedule
 use Rattle.specview.specs.declared.fault.ViewFault.{ViewFault}
-use Rattle.specview.specs.declared.fault.ViewFault.TheVariants.{Line, NoStamp, LateStamp, NoFrequency, GreatestFrequency, NoEvent, TooMuch, Memory, Read, Write, TooLong, NotEmpty}
+use Rattle.specview.specs.declared.fault.ViewFault.TheVariants.{Line, NoStamp, LateStamp, NoFrequency, GreatestFrequency, NoEvent, Memory, Read, Write, TooLong, NotEmpty}
 
 -- the exit status that tells of a fault
 abbrev pub status_of_view : ViewFault → ℕ
@@ -13,7 +13,6 @@ status_of_view (Line line kind) = 1
 status_of_view NoStamp = 1
 status_of_view LateStamp = 1
 status_of_view (NoEvent epid) = 1
-status_of_view TooMuch = 1
 status_of_view Memory = 2
 status_of_view Read = 3
 status_of_view Write = 3

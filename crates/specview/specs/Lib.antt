@@ -6,3 +6,4 @@ pub mod Folders
 pub mod Pictures
 pub mod Stepping
 pub mod Examined
+pub mod Replays

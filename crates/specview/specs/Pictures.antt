@@ -8,12 +8,12 @@ use Rattle.dspec_deeds.specs.declared.calls.Op.{Op}
 use Rattle.dspec_deeds.specs.declared.calls.Op.TheVariants.{Consumer}
 use Rattle.dspec_deeds.specs.declared.deed.Deed.{Deed}
 use Rattle.dspec_deeds.specs.Closes.{numbers_below}
-use Rattle.dspec_play.specs.declared.outcome.Outcome.{Outcome}
-use Rattle.dspec_play.specs.Plays.{EndedCall}
+use Rattle.dspec_interleaving.specs.declared.outcome.Outcome.{Outcome}
+use Rattle.dspec_interleaving.specs.Plays.{EndedCall}
 use Rattle.dspec_schedule.specs.Reading.{Plan, header_of}
 use Rattle.dspec_schedule.specs.declared.fault.ScheduleFault.TheVariants as schedule
 use Rattle.dspec_player.specs.PlayedTexts.{IsPlayedText, IsTextFault}
-use Rattle.dspec_shapes.specs.Svg.{svg_text}
+use Rattle.dspec_picture.specs.Svg.{svg_text}
 use Rattle.dspec_picture.specs.Drawing.{drawing}
 use Rattle.specview.specs.declared.ending.RunFault.{RunFault}
 use Rattle.specview.specs.declared.ending.RunFault.TheVariants.{View, TooManyDeeds}

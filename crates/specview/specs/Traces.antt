@@ -1,6 +1,6 @@
 -- Cited by calls. The trace of a play: its metadata, and the bytes of each CPU's file.
-use Rattle.std.specs.Prelude.{◌≡◌, ℕ, ◌+◌, ◌<◌, ◌==◌, ◌++◌, ◌⊎◌, List, [], ◌∷◌, length, map, reverse}
-use Rattle.std.specs.Prelude.{replicate, min, max, take, slice_get, slice_index_or, Some, unwrap_or, IfSome, Bool, true, false, if◌then◌else◌, string_bytes}
+use Rattle.std.specs.Prelude.{◌≡◌, ℕ, ◌+◌, ◌^◌, ◌<◌, ◌≤◌, ◌==◌, ◌++◌, List, [], ◌∷◌, length, map, reverse}
+use Rattle.std.specs.Prelude.{replicate, min, max, take, slice_get, slice_index_or, Some, unwrap_or, false, if◌then◌else◌, string_bytes, All}
 use Rattle.dspec_record.specs.Record.{Record}
 use Rattle.dspec_record.specs.EnablingRows.{EnabledRows}
 use Rattle.dspec_record.specs.Schemas.{enabled, table_accepts}
@@ -8,8 +8,7 @@ use Rattle.dspec_deeds.specs.declared.deed.Deed.{Deed}
 use Rattle.dspec_deeds.specs.declared.report.Report.{Report}
 use Rattle.dspec_deeds.specs.Closes.{numbers_below}
 use Rattle.dspec_deeds.specs.Own.{stream}
-use Rattle.dspec_deeds.specs.Reports.{report}
-use Rattle.dspec_play.specs.declared.outcome.Outcome.{Outcome}
+use Rattle.dspec_interleaving.specs.declared.outcome.Outcome.{Outcome}
 use Rattle.dspec_schedule.specs.Reading.{Plan, header_of}
 use Rattle.dspec_player.specs.PlayedTexts.{IsPlayedText, IsTextFault}
 use Rattle.dspec_schedule.specs.declared.fault.ScheduleFault.TheVariants as schedule
@@ -20,7 +19,7 @@ use Rattle.dspec_ctf.specs.declared.names.Names.TheVariants.{Numbered}
 use Rattle.dspec_ctf.specs.ByTime.{ArePacketsOfRecords}
 use Rattle.dspec_ctf.specs.Metadata.{metadata_text}
 use Rattle.dspec_ctf.specs.Names.{metadata_fault as fault_of_metadata}
-use Rattle.dspec_ctf.specs.Packets.{packet}
+use Rattle.dspec_ctf.specs.Packets.{events, packet}
 use Rattle.dspec_ctf.specs.declared.fault.MetadataFault.{MetadataFault}
 use Rattle.sha1.specs.Sha1.{sha1}
 use Rattle.uuid.specs.declared.Variant.TheVariants.{RFC4122}
@@ -28,7 +27,7 @@ use Rattle.uuid.specs.declared.Version.TheVariants.{Sha1}
 use Rattle.uuid.specs.Parts.{with_variant, with_version}
 use Rattle.uuid.specs.Uuid.{namespace_oid}
 use Rattle.specview.specs.declared.fault.ViewFault.{ViewFault}
-use Rattle.specview.specs.declared.fault.ViewFault.TheVariants.{Line, NoStamp, LateStamp, NoFrequency, GreatestFrequency, NoEvent, TooMuch, Memory, Read, Write, TooLong, NotEmpty}
+use Rattle.specview.specs.declared.fault.ViewFault.TheVariants.{Line, NoStamp, LateStamp, NoFrequency, GreatestFrequency, NoEvent, Memory}
 use Rattle.specview.specs.declared.trace.Trace.{Trace}
 use Rattle.specview.specs.Batches.{ShareOf, last_share, shares}
 use Rattle.specview.specs.Clocks.{IsClockFault, IsTakenByReaders}
@@ -47,21 +46,29 @@ greatest_epid (rs ∷ rss) = max (greatest_of rs) (greatest_epid rss)
 abbrev pub event_rows : Plan → List (List Record) → EnabledRows
 event_rows p rss = unwrap_or p.enablings (record { header = header_of p; rows = replicate (min (greatest_epid rss) 64) [] })
 
+-- how many records a CPU missed, by its report
+abbrev pub missed_by : Report → ℕ
+missed_by p = p.dropped + p.specdropped + p.lost
+
+-- what a CPU's file as taken has packets of: its batches; of a CPU without records one, where reservations were refused
+abbrev pub written_shares : ℕ → List Deed → ℕ → List ShareOf
+written_shares cpu h drops =
+    if length (stream cpu h) == 0 then last_share (record { drops = drops; records = [] }) else shares cpu h
+
 module _ (uuid : List ℕ) (e : EnabledRows) (cpu : ℕ) where
   -- a packet for each batch, where so many reservations were refused before
   abbrev pub packets_behind : ℕ → List ShareOf → List ℕ
   packets_behind missed [] = []
   packets_behind missed (s ∷ ss) = packet uuid e (missed + s.drops) cpu s.records ++ packets_behind (missed + s.drops) ss
 
-  -- a CPU's file as taken: of one without records, one packet where reservations were refused
+  -- a CPU's file as taken
   abbrev pub file_as_taken : List Deed → ℕ → List ℕ
-  file_as_taken h drops =
-      packets_behind 0 (if length (stream cpu h) == 0 then last_share (record { drops = drops; records = [] }) else shares cpu h)
+  file_as_taken h drops = packets_behind 0 (written_shares cpu h drops)
 
   -- The bytes of a CPU's file; none where it has no file.
   abbrev pub IsFile : Form → List Deed → Report → List ℕ → Type 0
   IsFile AsTaken h p bytes = bytes ≡ file_as_taken h p.drops
-  IsFile (ByTime hertz) h p bytes = ArePacketsOfRecords e uuid (p.dropped + p.specdropped + p.lost) cpu (stream cpu h) bytes
+  IsFile (ByTime hertz) h p bytes = ArePacketsOfRecords e uuid (missed_by p) cpu (stream cpu h) bytes
 
 -- what stands at the place of each of so many CPUs is its file
 abbrev pub AreFiles : List ℕ → EnabledRows → Form → List Deed → List Report → List (List ℕ) → ℕ → Type 0
@@ -79,11 +86,20 @@ pub record IsPlayTrace (uuid : List ℕ) (form : Form) (p : Plan) (outcome : Out
   pub count : length t.files.items ≡ p.config.cpus
   pub files : AreFiles uuid (event_rows p outcome.close.accepted) form (reverse outcome.close.deeds) outcome.close.reports (map (λ f. f.items) t.files.items) p.config.cpus
 
--- out of memory, or a size or a sum went past 64 bits
-abbrev pub IsSizeFault : ViewFault → Type 0
-IsSizeFault TooMuch = Unit {0}
-IsSizeFault Memory = Unit {0}
-IsSizeFault fault = ⊥
+-- how many reservations were refused by these batches
+abbrev pub refused_in : List ShareOf → ℕ
+refused_in [] = 0
+refused_in (s ∷ ss) = s.drops + refused_in ss
+
+-- The events of each of these batches have less than 2^60 bytes, so that their bits are a number of 64 bits.
+abbrev pub HaveShortEvents : EnabledRows → List ShareOf → Type 0
+HaveShortEvents e ss = All (λ s. length (events e s.records) < 2 ^ 60) ss
+
+-- What a CPU's file tells is of 64 bits: what was refused and missed is among what its report counts, and the events of each packet are short.
+pub record TellsSmall (e : EnabledRows) (cpu : ℕ) (h : List Deed) (p : Report) : Type 0 where
+  pub missed : missed_by p ≤ p.offered
+  pub refused : refused_in (written_shares cpu h p.drops) ≤ p.drops
+  pub short : HaveShortEvents e (written_shares cpu h p.drops)
 
 -- a record that the events don't have, with this EPID, is among these
 abbrev pub HasUnknown : EnabledRows → ℕ → List Record → Type 0
@@ -93,7 +109,8 @@ HasUnknown e epid rs = (i : ℕ) × ((r : Record) × ((slice_get rs i ≡ Some r
 abbrev pub IsFileFault : Form → EnabledRows → List Record → ViewFault → Type 0
 IsFileFault form e rs NoStamp = fault_of_metadata form e Numbered ≡ Some metadata_fault.NoStamp
 IsFileFault form e rs (NoEvent epid) = HasUnknown e epid rs
-IsFileFault form e rs fault = IsSizeFault fault
+IsFileFault form e rs Memory = Unit {0}
+IsFileFault form e rs fault = ⊥
 
 -- a record that the events don't have, with this EPID, is among those of a CPU
 abbrev pub IsUnknown : EnabledRows → ℕ → List (List Record) → Type 0
@@ -106,16 +123,22 @@ IsPlayTraceFault form e rss NoFrequency = fault_of_metadata form e Numbered ≡ 
 IsPlayTraceFault form e rss GreatestFrequency = IsClockFault form rss GreatestFrequency
 IsPlayTraceFault form e rss LateStamp = IsClockFault form rss LateStamp
 IsPlayTraceFault form e rss (NoEvent epid) = IsUnknown e epid rss
-IsPlayTraceFault form e rss fault = IsSizeFault fault
+IsPlayTraceFault form e rss Memory = Unit {0}
+IsPlayTraceFault form e rss fault = ⊥
 
--- what is told of a fault of the metadata
+-- What is told of a fault of the metadata. None is of names, since they are numbered, nor of a process, since none is told.
 abbrev pub IsFormFault : MetadataFault → ViewFault → Type 0
 IsFormFault metadata_fault.NoStamp told = told ≡ NoStamp
 IsFormFault metadata_fault.NoFrequency told = told ≡ NoFrequency
-IsFormFault (metadata_fault.Name fault) told = told ≡ TooMuch
-IsFormFault metadata_fault.HostName told = told ≡ TooMuch
-IsFormFault metadata_fault.ProcessName told = told ≡ TooMuch
 IsFormFault metadata_fault.Memory told = told ≡ Memory
+IsFormFault fault told = ⊥
+
+-- a fault that there may be
+abbrev pub IsOfNumbered : MetadataFault → Type 0
+IsOfNumbered metadata_fault.NoStamp = Unit {0}
+IsOfNumbered metadata_fault.NoFrequency = Unit {0}
+IsOfNumbered metadata_fault.Memory = Unit {0}
+IsOfNumbered fault = ⊥
 
 -- the uuid of a text's trace, by the text's bytes (version 5 of RFC 4122)
 abbrev pub trace_uuid : List ℕ → List ℕ

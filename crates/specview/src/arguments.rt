@@ -1,6 +1,7 @@
 //! What the command line asks for.
 
 use crate::folder_asking::{FolderAsk, folder_ask, folder_command};
+use crate::replay_asking::{ReplayAsk, replay_ask, replay_command};
 use clap::{Arg, ArgMatches, Command};
 use dspec_command::{Asked, CommandFault, asked_of};
 use dspec_ctf::Form;
@@ -11,7 +12,7 @@ const VERSION: &str = "0.1.0";
 
 /// How the program is called.
 const USAGE: &str =
-    "specview ctf --output FOLDER [--by-time HERTZ] [SCHEDULE], specview picture [--output FILE] [SCHEDULE], specview steps [SCHEDULE], specview folder [--check | --repair | --text | --json] DIR ..";
+    "specview ctf --output FOLDER [--by-time HERTZ] [SCHEDULE], specview picture [--output FILE] [SCHEDULE], specview steps [SCHEDULE], specview replay [--bytes] [SCHEDULE], specview folder [--check | --repair | --text | --json [--track FIELD [--slices]]] DIR ..";
 
 /// A trace to be written.
 #[derive(Debug, Clone, Copy)]
@@ -42,6 +43,8 @@ pub enum Ask<'a> {
     Picture(PictureAsk<'a>),
     /// To tell the steps of a schedule's play, of this file, or of standard input where none is named.
     Steps(Option<&'a str>),
+    /// To make a schedule's calls on a session.
+    Replay(ReplayAsk<'a>),
     /// To show or mend trace folders.
     Folder(FolderAsk<'a>),
     /// To print this text, which was asked for by `--help` or `--version`.
@@ -68,7 +71,7 @@ fn ctf_command<'a>(alloc: Global) -> Result<Command<'a>, AllocError> {
 }
 
 /// The argument that names the schedule.
-fn schedule_arg<'a>(alloc: Global) -> Arg<'a> {
+pub fn schedule_arg<'a>(alloc: Global) -> Arg<'a> {
     Arg::new(alloc, "schedule")
         .value_name("SCHEDULE")
         .help("the schedule's file; standard input where none is named")
@@ -104,6 +107,7 @@ fn command<'a>(alloc: Global) -> Result<Command<'a>, AllocError> {
         .subcommand(ctf_command(alloc)?)?
         .subcommand(picture_command(alloc)?)?
         .subcommand(steps_command(alloc)?)?
+        .subcommand(replay_command(alloc)?)?
         .subcommand(folder_command(alloc)?)
 }
 
@@ -138,6 +142,9 @@ fn ask_found<'a>(alloc: Global, found: &ArgMatches<'a>) -> Result<Option<Ask<'a>
     }
     if let Some(found) = found.subcommand_matches("steps") {
         return Ok(Some(Ask::Steps(found.get_str("schedule"))));
+    }
+    if let Some(found) = found.subcommand_matches("replay") {
+        return Ok(Some(Ask::Replay(replay_ask(found))));
     }
     let Some(found) = found.subcommand_matches("ctf") else {
         return Ok(None);

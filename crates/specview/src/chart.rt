@@ -3,17 +3,23 @@
 
 use crate::merging::{Merged, Source};
 use crate::showing::Traces;
-use dspec_ctf_reader::Metadata;
+use dspec_ctf_reading::Metadata;
 use dspec_folder::{Mark, Track, What, chrome_event, chrome_missed, chrome_name};
 use std::alloc::{AllocError, Global};
 use std::io;
 use std::io::Write;
 
+/// What stands before the events.
+pub const FRONT: &[u8] = b"{\"displayTimeUnit\":\"ns\",\"traceEvents\":[\n";
+
+/// What stands behind them.
+pub const END: &[u8] = b"\n]}\n";
+
 /// How far events of a trace without a clock are drawn from one another, in nanoseconds.
-const STEP: u64 = 1000;
+pub const STEP: u64 = 1000;
 
 /// The row of a file's events.
-fn track_of(source: &Source) -> Track {
+pub fn track_of(source: &Source) -> Track {
     Track {
         process: (source.folder as u64).saturating_add(1),
         number: u64::from(source.cpu).saturating_add(1),
@@ -32,7 +38,7 @@ fn name_of(alloc: Global, path: &str, metadata: &Metadata<'_>) -> Result<String,
 }
 
 /// The event that names a trace.
-fn process_name(
+pub fn process_name(
     alloc: Global,
     traces: &Traces<'_, '_, '_>,
     source: &Source,
@@ -47,18 +53,22 @@ fn process_name(
     chrome_name(alloc, track_of(source), "process_name", name.as_str())
 }
 
+/// What the row of a CPU is called.
+pub fn cpu_name(alloc: Global, merged: &Merged, cpu: u32) -> Result<String, AllocError> {
+    match merged.base {
+        Some(_) => format!(in alloc; "cpu {cpu}"),
+        None => format!(in alloc; "cpu {cpu} (in order, without a clock)"),
+    }
+}
+
 /// The event that names the row of a CPU.
 fn row_name(alloc: Global, merged: &Merged, source: &Source) -> Result<String, AllocError> {
-    let cpu = source.cpu;
-    let name = match merged.base {
-        Some(_) => format!(in alloc; "cpu {cpu}")?,
-        None => format!(in alloc; "cpu {cpu} (in order, without a clock)")?,
-    };
+    let name = cpu_name(alloc, merged, source.cpu)?;
     chrome_name(alloc, track_of(source), "thread_name", name.as_str())
 }
 
-/// What happened so many nanoseconds behind the picture's beginning, as an event.
-fn event_of(
+/// What happened so many nanoseconds behind the picture's beginning, as an event in the row of its CPU.
+pub fn event_of(
     alloc: Global,
     traces: &Traces<'_, '_, '_>,
     source: &Source,
@@ -88,11 +98,16 @@ fn begin_of(merged: &Merged) -> u128 {
     }
 }
 
-/// How many nanoseconds a mark is behind the picture's beginning; without a clock by its place in its file.
+/// How many nanoseconds a mark is behind the picture's beginning, by a clock.
+pub fn behind_begin(merged: &Merged, mark: &Mark) -> u64 {
+    let behind = mark.time.saturating_sub(begin_of(merged));
+    u64::try_from(behind).unwrap_or(u64::MAX)
+}
+
+/// The same; without a clock by its place in its file.
 fn nanoseconds_of(merged: &Merged, mark: &Mark, places: &mut [u64]) -> u64 {
     if merged.base.is_some() {
-        let behind = mark.time.saturating_sub(begin_of(merged));
-        return u64::try_from(behind).unwrap_or(u64::MAX);
+        return behind_begin(merged, mark);
     }
     let Some(place) = places.get_mut(mark.file) else {
         return 0;
@@ -103,7 +118,7 @@ fn nanoseconds_of(merged: &Merged, mark: &Mark, places: &mut [u64]) -> u64 {
 }
 
 /// Writes an event, behind a comma where it isn't the first.
-fn put_event<W: Write>(out: &mut W, first: bool, event: &str) -> io::Result<()> {
+pub fn put_event<W: Write>(out: &mut W, first: bool, event: &str) -> io::Result<()> {
     if !first {
         out.write_all(b",\n")?;
     }
@@ -139,7 +154,7 @@ pub fn write_chart<W: Write>(
     traces: &Traces<'_, '_, '_>,
     merged: &Merged,
 ) -> io::Result<()> {
-    out.write_all(b"{\"displayTimeUnit\":\"ns\",\"traceEvents\":[\n")?;
+    out.write_all(FRONT)?;
     put_names(alloc, out, traces, merged)?;
     let mut places = vec![in alloc; 0u64; merged.sources.len()]?;
     for mark in &merged.marks {
@@ -150,5 +165,5 @@ pub fn write_chart<W: Write>(
         let event = event_of(alloc, traces, source, &mark.what, nanoseconds)?;
         put_event(out, false, event.as_str())?;
     }
-    out.write_all(b"\n]}\n")
+    out.write_all(END)
 }

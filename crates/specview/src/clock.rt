@@ -6,7 +6,7 @@ ghost use Rattle.specview.specs.Clocks.{IsClockFault, IsTakenByReaders, has_late
 
 use crate::fault::ViewFault;
 use dspec_ctf::Form;
-use dspec_play::Series;
+use dspec_interleaving::Series;
 use dspec_record::Rec;
 
 /// How many seconds of a clock have nanoseconds that readers hold, in 63 bits.

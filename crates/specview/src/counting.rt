@@ -4,7 +4,7 @@ use crate::merging::{put_moment, tell_wrong};
 use crate::opening::Opened;
 use crate::program::ProgramFault;
 use dspec_command::print_text;
-use dspec_ctf_reader::{ClockText, Metadata};
+use dspec_ctf_reading::{ClockText, Metadata};
 use dspec_folder::{Base, CpuCounts, count_file, nanoseconds};
 use std::alloc::{AllocError, Global};
 

@@ -4,7 +4,7 @@ ghost use Rattle.std.specs.Prelude.{◌≡◌, [], min, replicate};
 ghost use Rattle.dspec_schedule.specs.Schedules.{plan_of};
 ghost use Rattle.specview.specs.Traces.{event_rows, greatest_epid, greatest_of};
 
-use dspec_play::Series;
+use dspec_interleaving::Series;
 use dspec_record::{Enablings, Header, Rec};
 use dspec_schedule::Schedule;
 

@@ -19,8 +19,6 @@ pub enum ViewFault {
     LateStamp,
     #[error("no event for EPID {0}: the schedule enables none")]
     NoEvent(u32),
-    #[error("numbers of a packet that 64 bits don't hold")]
-    TooMuch,
     #[error("out of memory")]
     Memory,
     #[error("read fault")]
@@ -48,8 +46,7 @@ impl ViewFault {
             ViewFault::Line { .. }
             | ViewFault::NoStamp
             | ViewFault::LateStamp
-            | ViewFault::NoEvent(_)
-            | ViewFault::TooMuch => 1,
+            | ViewFault::NoEvent(_) => 1,
             ViewFault::Memory => 2,
             ViewFault::Read | ViewFault::Write | ViewFault::TooLong | ViewFault::NotEmpty => 3,
             ViewFault::NoFrequency | ViewFault::GreatestFrequency => 4,

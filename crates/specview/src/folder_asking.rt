@@ -5,7 +5,7 @@ use std::alloc::{AllocError, Global};
 
 /// What is done with trace folders.
 #[derive(Debug, Clone, Copy, PartialEq, Eq)]
-pub enum FolderTask {
+pub enum FolderTask<'a> {
     /// What they have is counted.
     Count,
     /// All of their files are read, and what is wrong is told.
@@ -16,13 +16,24 @@ pub enum FolderTask {
     Text,
     /// Their events are written as a document that ui.perfetto.dev opens.
     Json,
+    /// The same with a row for each value of a field.
+    Tracks(TracksAsk<'a>),
+}
+
+/// A document with a row for each value of a field.
+#[derive(Debug, Clone, Copy, PartialEq, Eq)]
+pub struct TracksAsk<'a> {
+    /// The name of the field.
+    pub field: &'a str,
+    /// Whether two records of one event, one behind the other in a row, are a slice.
+    pub slices: bool,
 }
 
 /// Folders, and what is done with them.
 #[derive(Debug, Drop)]
 pub struct FolderAsk<'a> {
     /// What is done.
-    pub task: FolderTask,
+    pub task: FolderTask<'a>,
     /// Their paths.
     pub paths: Vec<&'a str>,
 }
@@ -69,6 +80,24 @@ fn flags<'a>(alloc: Global, command: Command<'a>) -> Result<Command<'a>, AllocEr
         .arg(json)
 }
 
+/// The options of `--json`.
+fn tracks<'a>(alloc: Global, command: Command<'a>) -> Result<Command<'a>, AllocError> {
+    let track = Arg::new(alloc, "track")
+        .long("track")
+        .value_name("FIELD")
+        .help(
+            "with --json: a row for each value of the field of this name, as that of a path's number, named `FIELD VALUE`, of all records that have it, in each folder; the other records stay in the rows of their CPUs",
+        );
+    let slices = flag(
+        alloc,
+        "slices",
+        "with --track: two records of one event, one behind the other in the row of a value, are a slice, from the first to the second; every other one is a mark",
+    );
+    command
+        .arg(track.requires_arg("json")?)?
+        .arg(slices.requires_arg("track")?)
+}
+
 /// The subcommand that shows trace folders.
 pub fn folder_command<'a>(alloc: Global) -> Result<Command<'a>, AllocError> {
     let command = Command::new(alloc, "folder").about(
@@ -80,11 +109,11 @@ pub fn folder_command<'a>(alloc: Global) -> Result<Command<'a>, AllocError> {
         .action(ArgAction::Append)
         .num_args(1..)
         .help("a trace folder");
-    flags(alloc, command)?.arg(paths)
+    tracks(alloc, flags(alloc, command)?)?.arg(paths)
 }
 
 /// What is done, by the flags.
-fn task_of(found: &ArgMatches<'_>) -> FolderTask {
+fn task_of<'a>(found: &ArgMatches<'a>) -> FolderTask<'a> {
     if found.get_flag("check") {
         return FolderTask::Check;
     }
@@ -93,6 +122,10 @@ fn task_of(found: &ArgMatches<'_>) -> FolderTask {
     }
     if found.get_flag("text") {
         return FolderTask::Text;
+    }
+    if let Some(field) = found.get_str("track") {
+        let slices = found.get_flag("slices");
+        return FolderTask::Tracks(TracksAsk { field, slices });
     }
     if found.get_flag("json") {
         return FolderTask::Json;

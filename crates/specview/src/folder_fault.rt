@@ -5,7 +5,7 @@ ghost use Rattle.std.specs.IoError.{error_kind};
 ghost use Rattle.specview.specs.Examined.{IsFileRefused, IsMetadataTold, IsTextRefused};
 
 use crate::naming::FileName;
-use dspec_ctf_reader::MetadataReadFault;
+use dspec_ctf_reading::MetadataReadFault;
 use std::io;
 use thiserror::Error;
 
@@ -40,6 +40,9 @@ pub enum FolderFault<'a> {
     /// The times of several folders can't be compared.
     #[error("folders of several clocks that don't tell when they began: their events can't be merged, name one folder at a time")]
     Clocks,
+    /// No event of the traces has a field of this name.
+    #[error("{0}: no event has a field of this name")]
+    NoField(&'a str),
     /// A growth was refused.
     #[error("out of memory")]
     Memory,
@@ -56,7 +59,8 @@ impl<'a> FolderFault<'a> {
             FolderFault::NoMetadata(_)
             | FolderFault::Metadata { .. }
             | FolderFault::Uuid(_)
-            | FolderFault::Clocks => 1,
+            | FolderFault::Clocks
+            | FolderFault::NoField(_) => 1,
             FolderFault::Memory => 2,
             FolderFault::Text { .. } | FolderFault::File { .. } => 3,
         }

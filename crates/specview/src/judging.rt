@@ -1,10 +1,10 @@
 //! What is wrong with a file of a trace, and what of it is kept where its writer was stopped.
 
 ghost use Rattle.std.specs.Prelude.{◌≡◌, ◌≢◌, true, false, IfOk};
-ghost use Rattle.dspec_ctf_reader.specs.Told.{told_layout};
+ghost use Rattle.dspec_ctf_reading.specs.Told.{told_layout};
 ghost use Rattle.specview.specs.Examined.{IsMend, IsUuidPlace, IsSoundFile, IsVerdict};
 
-use dspec_ctf_reader::Metadata;
+use dspec_ctf_reading::Metadata;
 use dspec_folder::{Ending, FileFault, Whose, check_file, ending_of};
 use std::alloc::{AllocError, Global};
 

@@ -8,7 +8,15 @@
 //! `specview picture [--output FILE] [SCHEDULE]` plays a schedule, and draws its play as an SVG: into the file, which is made, or
 //! replaced once the picture is whole, or on standard output. `specview steps [SCHEDULE]` tells each atomic step of the play in a line.
 //!
-//! `specview folder [--check | --repair | --text | --json] DIR ..` sums up trace folders of ours, whoever wrote them; or checks them, by the
+//! `specview replay [--bytes] [SCHEDULE]` makes the calls of a schedule of whole calls on a session from one thread, where the consumer meets
+//! each CPU after each call, ends the session, and prints what the player prints: the answers, the reports and the streams, which it reads
+//! back from the texts of the batches taken and of what is left. So `examples/replay` shows that both answer alike. With `--bytes` it prints
+//! more behind that: for each CPU, and of it for each batch that was taken and for what is left, a line with the records and one with the
+//! bytes, each in two digits of base 16: `batch cpu 0 drops 0 records 1: 7` and `bytes cpu 0: 07 00 00 00`, of what is left `rest` for
+//! `batch`. A schedule that the player refuses it refuses with the player's line, and one with a line that is no whole call with a status of
+//! its own.
+//!
+//! `specview folder [--check | --repair | --text | --json [--track FIELD [--slices]]] DIR ..` sums up trace folders of ours, whoever wrote them; or checks them, by the
 //! definition of what their bytes say, and cuts off what a stopped writer left; or tells or draws all that they have, merged by time. What they
 //! have is judged by functions over bytes, whose contracts say what an answer means; reading the files and printing is promised nothing of.
 //!
@@ -17,11 +25,12 @@
 //! | `arguments.rt`, `main.rt`, `fault.rt`, `program.rt`, `replacing.rt` | what the words ask (a subcommand more is one function and one arm of `Ask`); statuses; how a picture takes the place of an old one |
 //! | `clock.rt` | `see_clock`: what readers of a trace by time take (`specs/Clocks`) |
 //! | `pictured.rt`, `stepped.rt`, `ending.rt` | `picture_of`: the picture of a text's play (`specs/Pictures`); `steps_of_text`: its steps (`specs/Stepping`); how a run ends |
+//! | `replay_asking.rt`, `replaying.rt` | what is asked of a replay; `replay_text`: what is printed of a schedule that a session makes (`specs/Replays`), and why it isn't |
 //! | `trace.rt`, `batches.rt`, `events.rt`, `folder.rt` | `trace_of`: a file as taken and by time; `shares_of`: a stream cut at the seals; the events; `Folder` and `write_trace` |
 //! | `folder_asking.rt`, `folder_fault.rt`, `naming.rt`, `opening.rt` | what is asked of folders; statuses; which file is which CPU's; a folder's metadata and files |
 //! | `judging.rt`, `examining.rt` | `wrong_with`, `mend_of`: what is wrong with a file, and where it is cut (`specs/Examined`); the files of folders, one by one |
-//! | `counting.rt`, `merging.rt`, `showing.rt`, `listing.rt`, `chart.rt` | the tables; what files tell, in order of time; as lines; as Chrome's Trace Event form |
-//! | `proofs/` | Cutting (a stream cut into batches), Parts, Greatest, AllFiles, Files |
+//! | `counting.rt`, `merging.rt`, `showing.rt`, `listing.rt`, `chart.rt`, `tracks.rt` | the tables; what files tell, in order of time; as lines; as Chrome's Trace Event form, a row for each CPU, or for each value of a field |
+//! | `proofs/` | Cutting (a stream cut into batches), SmallPlays (what a play's packets tell is of 64 bits), Parts, Greatest, AllFiles, Files |
 #![tactic(auto)]
 
 mod arguments;
@@ -44,9 +53,12 @@ mod opening;
 mod pictured;
 mod program;
 mod replacing;
+mod replay_asking;
+mod replaying;
 mod showing;
 mod stepped;
 mod trace;
+mod tracks;
 
 use arguments::{Ask, PictureAsk, TraceAsk, ask_of};
 use counting::count_folders;
@@ -59,6 +71,8 @@ use folder_asking::{FolderAsk, FolderTask};
 use pictured::picture_of;
 use program::ProgramFault;
 use replacing::{see_other, write_file};
+use replay_asking::ReplayAsk;
+use replaying::replay_text;
 use showing::{Shape, show_folders};
 use std::alloc::Global;
 use std::io::Read;
@@ -122,6 +136,13 @@ fn run_steps<'a>(rt: &HostRuntime, schedule: Option<&'a str>) -> Result<(), Prog
     Ok(print_text(rt, told.as_str())?)
 }
 
+/// Makes a schedule's calls on a session.
+fn run_replay<'a>(rt: &HostRuntime, ask: &ReplayAsk<'a>) -> Result<(), ProgramFault<'a>> {
+    let text = schedule_text(rt, ask.schedule)?;
+    let printed = replay_text(rt.alloc(), text.as_slice(), ask.bytes)?;
+    Ok(print_text(rt, printed.as_str())?)
+}
+
 /// Shows or mends trace folders, and says whether nothing is wrong with them.
 fn run_folder<'a>(rt: &HostRuntime, ask: &FolderAsk<'a>) -> Result<bool, ProgramFault<'a>> {
     let paths = ask.paths.as_slice();
@@ -131,6 +152,7 @@ fn run_folder<'a>(rt: &HostRuntime, ask: &FolderAsk<'a>) -> Result<bool, Program
         FolderTask::Repair => examine_folders(rt, paths, true),
         FolderTask::Text => show_folders(rt, paths, Shape::Text),
         FolderTask::Json => show_folders(rt, paths, Shape::Json),
+        FolderTask::Tracks(ask) => show_folders(rt, paths, Shape::Tracks(ask)),
     }
 }
 
@@ -140,6 +162,7 @@ fn run<'a>(rt: &'a HostRuntime, words: &'a [String]) -> Result<bool, ProgramFaul
         Ask::Trace(ask) => run_ctf(rt, &ask)?,
         Ask::Picture(ask) => run_picture(rt, &ask)?,
         Ask::Steps(schedule) => run_steps(rt, schedule)?,
+        Ask::Replay(ask) => run_replay(rt, &ask)?,
         Ask::Folder(ask) => return run_folder(rt, &ask),
         Ask::Text(text) => print_text(rt, text.as_str())?,
     }

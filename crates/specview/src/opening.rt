@@ -4,7 +4,7 @@ use crate::folder_fault::{FolderFault, file_fault, metadata_fault, text_fault};
 use crate::naming::{FileName, file_of_name};
 use crate::program::ProgramFault;
 use dspec_command::{CommandFault, device_fault};
-use dspec_ctf_reader::{Metadata, read_metadata};
+use dspec_ctf_reading::{Metadata, read_metadata};
 use std::alloc::{AllocError, Global};
 use std::{fs, io};
 use uuid::Uuid;

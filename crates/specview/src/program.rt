@@ -1,6 +1,7 @@
 use crate::ending::RunFault;
 use crate::fault::ViewFault;
 use crate::folder_fault::FolderFault;
+use crate::replaying::ReplayFault;
 use dspec_command::{CommandFault, Ending};
 use std::alloc::{AllocError, AllocFailed};
 use thiserror::Error;
@@ -14,6 +15,8 @@ pub enum ProgramFault<'a> {
     Command(#[from] CommandFault<'a>),
     #[error("{0}")]
     Folder(#[from] FolderFault<'a>),
+    #[error("{0}")]
+    Replay(#[from] ReplayFault),
     /// The picture would take the place of its own schedule.
     #[error("{0}: the schedule's own file")]
     OwnSchedule(&'a str),
@@ -26,6 +29,7 @@ impl<'a> Ending for ProgramFault<'a> {
             ProgramFault::Run(fault) => fault.status(),
             ProgramFault::Command(fault) => fault.status(),
             ProgramFault::Folder(fault) => fault.status(),
+            ProgramFault::Replay(fault) => fault.status(),
             ProgramFault::OwnSchedule(_) => 4,
         }
     }

@@ -1,24 +1,28 @@
 //! `specview folder --text` and `--json`: all that trace folders tell, merged by time.
 
 use crate::chart::write_chart;
+use crate::folder_asking::TracksAsk;
 use crate::folder_fault::FolderFault;
 use crate::listing::write_list;
 use crate::merging::merge_all;
 use crate::opening::Opened;
 use crate::program::ProgramFault;
+use crate::tracks::write_tracks;
 use dspec_command::output_fault;
-use dspec_ctf_reader::Metadata;
+use dspec_ctf_reading::Metadata;
 use std::alloc::Global;
 use std::io;
 use std::io::{BufWriter, Write};
 
 /// How folders are shown.
 #[derive(Debug, Clone, Copy, PartialEq, Eq)]
-pub enum Shape {
+pub enum Shape<'a> {
     /// A line for each event.
     Text,
     /// A document of Chrome's Trace Event form.
     Json,
+    /// The same with a row for each value of a field.
+    Tracks(TracksAsk<'a>),
 }
 
 /// Traces with their folders.
@@ -51,6 +55,26 @@ fn read_all<'o, 'a>(
     Ok(metadatas)
 }
 
+/// Whether an event of this trace has a field of that name.
+fn has_field(metadata: &Metadata<'_>, name: &str) -> bool {
+    for event in &metadata.events {
+        if event.fields.iter().any(|field| field.name == name) {
+            return true;
+        }
+    }
+    false
+}
+
+/// Sees that an event of these traces has a field of that name.
+fn see_field<'a>(traces: &Traces<'_, '_, 'a>, name: &'a str) -> Result<(), FolderFault<'a>> {
+    for metadata in traces.metadatas {
+        if has_field(metadata, name) {
+            return Ok(());
+        }
+    }
+    Err(FolderFault::NoField(name))
+}
+
 /// What was written to standard output, or wasn't.
 fn written<'a>(outcome: io::Result<()>) -> Result<(), ProgramFault<'a>> {
     match outcome {
@@ -63,7 +87,7 @@ fn written<'a>(outcome: io::Result<()>) -> Result<(), ProgramFault<'a>> {
 pub fn show_folders<'a>(
     rt: &HostRuntime,
     paths: &[&'a str],
-    shape: Shape,
+    shape: Shape<'a>,
 ) -> Result<bool, ProgramFault<'a>> {
     let opened = open_all(rt, paths)?;
     let metadatas = read_all(rt.alloc(), opened.as_slice())?;
@@ -71,6 +95,9 @@ pub fn show_folders<'a>(
         opened: opened.as_slice(),
         metadatas: metadatas.as_slice(),
     };
+    if let Shape::Tracks(ask) = shape {
+        see_field(&traces, ask.field)?;
+    }
     let merged = merge_all(rt, &traces)?;
     let mut out = match BufWriter::new(rt.alloc(), io::writer(rt)) {
         Ok(out) => out,
@@ -79,6 +106,7 @@ pub fn show_folders<'a>(
     written(match shape {
         Shape::Text => write_list(rt.alloc(), &mut out, &traces, &merged),
         Shape::Json => write_chart(rt.alloc(), &mut out, &traces, &merged),
+        Shape::Tracks(ask) => write_tracks(rt.alloc(), &mut out, &traces, &merged, ask),
     })?;
     written(out.flush())?;
     Ok(merged.sound)

@@ -1,7 +1,7 @@
 //! The steps of a play, as text.
 
 ghost use Rattle.std.specs.Prelude.{◌≡◌, ◌≢◌, IfErr, IfOk, None, Some, string_bytes};
-ghost use Rattle.dspec_play.specs.declared.outcome.PlayFault.TheVariants as failure;
+ghost use Rattle.dspec_interleaving.specs.declared.outcome.PlayFault.TheVariants as failure;
 ghost use Rattle.dspec_player.specs.PlayedTexts.{fault_of};
 ghost use Rattle.dspec_schedule.specs.Reading.{HasOneHeader};
 ghost use Rattle.dspec_schedule.specs.Schedules.{plan_of};
@@ -9,9 +9,9 @@ ghost use Rattle.specview.specs.Stepping.{IsStepsFault, IsStepsOf, steps_told};
 
 use crate::fault::ViewFault;
 use dspec_core::PlayFault;
+use dspec_picture::steps_of;
 use dspec_record::{DefaultAction, Header, StampedAction};
 use dspec_schedule::{Schedule, read_schedule};
-use dspec_telling::steps_of;
 use std::alloc::Global;
 
 /// The steps of a schedule's play, over its enablings, or over the default action, which is stamped under header 2.

@@ -1,13 +1,15 @@
 //! The trace of a play: its metadata, and the bytes of each CPU's file.
 
-ghost use Rattle.std.specs.Prelude.{◌≡◌, ◌≢◌, ℕ, true, ◌+◌, ◌<◌, ◌==◌, [], if◌then◌else◌, map, reverse, length, All, IfOk, IfErr, string_bytes};
+ghost use Rattle.std.specs.Prelude.{◌≡◌, ◌≢◌, ℕ, ◌+◌, ◌^◌, ◌<◌, ◌≤◌, map, reverse, length, slice_get, Some, All, IfOk, IfErr};
 ghost use Rattle.dspec_ctf.specs.ByTime.{ArePacketsOfRecords};
 ghost use Rattle.dspec_ctf.specs.Streams.{Accepts};
 ghost use Rattle.dspec_deeds.specs.Own.{stream as stream_of};
 ghost use Rattle.dspec_schedule.specs.Schedules.{plan_of};
 ghost use Rattle.dspec_player.specs.PlayedTexts.{IsPlayOf};
 ghost use Rattle.specview.specs.Batches.{TellsCounts, last_share, shares, shown_share};
-ghost use Rattle.specview.specs.Traces.{AreFiles, AreStreams, IsFile, IsFileFault, IsFormFault, IsPlayTrace, IsPlayTraceFault, IsSizeFault, IsTraceFault, IsTraceOf, event_rows, file_as_taken, packets_behind};
+ghost use Rattle.dspec_deeds.specs.declared.report.Report.{Report};
+ghost use Rattle.specview.specs.Traces.{AreFiles, HaveShortEvents, AreStreams, IsFile, IsFileFault, IsFormFault, IsOfNumbered, IsPlayTrace, IsPlayTraceFault, TellsSmall, IsTraceFault, IsTraceOf};
+ghost use Rattle.specview.specs.Traces.{event_rows, file_as_taken, missed_by, packets_behind, refused_in, written_shares};
 
 use crate::batches::{Share, shares_of, with_last};
 use crate::clock::see_clock;
@@ -32,14 +34,13 @@ pub struct Trace {
     pub files: Vec<Vec<u8>>,
 }
 
-/// What is told of records that have no packet.
-fn packet_fault(fault: PacketFault) -> ViewFault
-    ensures { IsSizeFault result }
+/// Memory is wanting: there is no other reason why records whose numbers are small have no packet.
+fn no_memory(fault: PacketFault) -> AllocError
+    requires { fault ≡ PacketFault.Memory }
 {
     match fault {
-        PacketFault::Memory => ViewFault::Memory,
-        PacketFault::Text(_) | PacketFault::Missed | PacketFault::TooLong | PacketFault::Clock(_) =>
-            ViewFault::TooMuch,
+        PacketFault::Memory => AllocError,
+        _ => unreachable!(),
     }
 }
 
@@ -48,17 +49,18 @@ fn put_shares(
     alloc: Global,
     mut stream: Stream<'_>,
     shares: &[Share<'_>],
-) -> Result<Vec<u8>, ViewFault>
-    requires { All (λ s. All (Accepts stream.enablings.now) s.records) (map shown_share shares.now) }
-    ensures packets { IfOk result (λ bytes. bytes.items
+) -> Result<Vec<u8>, AllocError>
+    requires known { All (λ s. All (Accepts stream.enablings.now) s.records) (map shown_share shares.now) }
+    requires counted { stream.missed + refused_in (map shown_share shares.now) < 2 ^ 64 }
+    requires short { HaveShortEvents stream.enablings.now (map shown_share shares.now) }
+    ensures { IfOk result (λ bytes. bytes.items
         ≡ packets_behind stream.entry.uuid stream.entry.enablings.now stream.entry.cpu stream.entry.missed (map shown_share shares.now)) }
-    ensures fault { IfErr result IsSizeFault }
 {
     let mut bytes = Vec::new(alloc);
     for share in shares {
         let packet = match stream.packet_of(alloc, share.drops, share.records) {
             Ok(packet) => packet,
-            Err(fault) => return Err(packet_fault(fault)),
+            Err(fault) => return Err(no_memory(fault)),
         };
         bytes.extend_from_slice(packet.as_slice())?;
     }
@@ -75,8 +77,7 @@ fn shares_to_write<'a>(
 ) -> Result<Vec<Share<'a>>, AllocError>
     requires accepted { records.now ≡ stream_of cpu (reverse deeds.now) }
     requires told { TellsCounts cpu (reverse deeds.now) }
-    ensures { IfOk result (λ found. map shown_share found.items
-        ≡ (if length records.now == 0 then last_share (record { drops = drops; records = [] }) else shares cpu (reverse deeds.now))) }
+    ensures { IfOk result (λ found. map shown_share found.items ≡ written_shares cpu (reverse deeds.now) drops) }
 {
     if records.is_empty() {
         return with_last(Vec::new(alloc), Share { drops, records });
@@ -91,29 +92,26 @@ fn file_as_taken(
     deeds: &[Deed],
     records: &[Rec],
     drops: u64,
-) -> Result<Vec<u8>, ViewFault>
+) -> Result<Vec<u8>, AllocError>
     requires fresh { stream.missed ≡ 0 }
     requires accepted { records.now ≡ stream_of stream.cpu (reverse deeds.now) }
     requires told { TellsCounts stream.cpu (reverse deeds.now) }
     requires known { All (Accepts stream.enablings.now) records.now }
-    ensures file { IfOk result (λ bytes. bytes.items
+    requires refused { refused_in (written_shares stream.cpu (reverse deeds.now) drops) ≤ drops }
+    requires short { HaveShortEvents stream.enablings.now (written_shares stream.cpu (reverse deeds.now) drops) }
+    ensures { IfOk result (λ bytes. bytes.items
         ≡ file_as_taken stream.entry.uuid stream.entry.enablings.now stream.entry.cpu (reverse deeds.now) drops) }
-    ensures fault { IfErr result IsSizeFault }
 {
     let shares = shares_to_write(alloc, stream.cpu, deeds, records, drops)?;
     put_shares(alloc, stream, shares.as_slice())
 }
 
 /// How many records a CPU missed, by its report.
-fn missed_of(report: &Report) -> Result<u64, ViewFault>
-    ensures sum { IfOk result (λ missed. missed ≡ report.now.dropped + report.now.specdropped + report.now.lost) }
-    ensures fault { IfErr result IsSizeFault }
+fn missed_of(report: &Report) -> u64
+    requires { missed_by report.now ≤ report.now.offered }
+    ensures { result ≡ missed_by report.now }
 {
-    let missed = report
-        .dropped
-        .checked_add(report.specdropped)
-        .ok_or(ViewFault::TooMuch)?;
-    missed.checked_add(report.lost).ok_or(ViewFault::TooMuch)
+    report.dropped + report.specdropped + report.lost
 }
 
 /// A CPU's file by time, of all its records.
@@ -126,11 +124,12 @@ fn file_by_time(
 ) -> Result<Vec<u8>, ViewFault>
     requires known { All (Accepts stream.enablings.now) records.now }
     requires by_time { form ≢ Form.AsTaken }
+    requires missed { missed_by report.now ≤ report.now.offered }
     ensures file { IfOk result (λ bytes. ArePacketsOfRecords stream.entry.enablings.now stream.entry.uuid
-        (report.now.dropped + report.now.specdropped + report.now.lost) stream.entry.cpu records.now bytes.items) }
+        (missed_by report.now) stream.entry.cpu records.now bytes.items) }
     ensures fault { IfErr result (IsFileFault form stream.entry.enablings.now records.now) }
 {
-    stream.missed = missed_of(report)?;
+    stream.missed = missed_of(report);
     match stream.packets_by_time_of(alloc, records) {
         Ok(bytes) => Ok(bytes),
         Err(TimeFault::NoStamp) => Err(ViewFault::NoStamp),
@@ -151,6 +150,7 @@ fn file_of(
     requires fresh { stream.missed ≡ 0 }
     requires accepted { records.now ≡ stream_of stream.cpu (reverse deeds.now) }
     requires told { TellsCounts stream.cpu (reverse deeds.now) }
+    requires small { All (Accepts stream.enablings.now) records.now → TellsSmall stream.enablings.now stream.cpu (reverse deeds.now) report.now }
     ensures file { IfOk result (λ bytes. IsFile stream.entry.uuid stream.entry.enablings.now stream.entry.cpu form (reverse deeds.now) report.now bytes.items) }
     ensures fault { IfErr result (IsFileFault form stream.entry.enablings.now records.now) }
 {
@@ -158,7 +158,7 @@ fn file_of(
         return Err(ViewFault::NoEvent(records[place].epid()));
     }
     match form {
-        Form::AsTaken => file_as_taken(alloc, stream, deeds, records, report.drops),
+        Form::AsTaken => Ok(file_as_taken(alloc, stream, deeds, records, report.drops)?),
         Form::ByTime(_) => file_by_time(alloc, stream, form, records, report),
     }
 }
@@ -175,6 +175,8 @@ fn files_of(
     requires accepted { AreStreams cpus close.now.deeds close.now.accepted }
     requires reports { length close.now.reports ≡ cpus }
     requires told { (c : ℕ) → TellsCounts c (reverse close.now.deeds) }
+    requires small { (c : ℕ) (p : Report) → slice_get close.now.reports c ≡ Some p → All (Accepts events.now) (stream_of c (reverse close.now.deeds))
+        → TellsSmall events.now c (reverse close.now.deeds) p }
     ensures count { IfOk result (λ files. length files.items ≡ cpus) }
     ensures files { IfOk result (λ files. AreFiles uuid.now events.now form (reverse close.now.deeds) close.now.reports (map (λ f. f.items) files.items) cpus) }
     ensures fault { IfErr result (IsPlayTraceFault form events.now close.now.accepted) }
@@ -202,15 +204,16 @@ fn files_of(
 
 /// What is told of a fault of the metadata. None is of names, since they are numbered, nor of a process, since none is told.
 fn form_fault(fault: MetadataFault) -> ViewFault
+    requires { IsOfNumbered fault }
     ensures { IsFormFault fault result }
 {
     match fault {
         MetadataFault::NoStamp => ViewFault::NoStamp,
         MetadataFault::NoFrequency => ViewFault::NoFrequency,
-        MetadataFault::Name(_) | MetadataFault::HostName | MetadataFault::ProcessName => {
-            ViewFault::TooMuch
-        }
         MetadataFault::Memory => ViewFault::Memory,
+        MetadataFault::Name(_) | MetadataFault::HostName | MetadataFault::ProcessName => {
+            unreachable!()
+        }
     }
 }
 

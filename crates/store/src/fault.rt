@@ -1,7 +1,7 @@
-use dspec::{KeptFault, StartFault};
+use dspec::{RecordSinkFault, StartFault};
 use dspec_command::{CommandFault, Ending};
+use dspec_ctf_sink::{FolderFault, Loss};
 use dspec_probed::ProbeFault;
-use dspec_trace::{FolderFault, Loss};
 use std::alloc::AllocError;
 use thiserror::Error;
 
@@ -17,7 +17,7 @@ pub enum StoreFault<'a> {
     #[error("out of memory")]
     Memory(#[from(alloc)] AllocError),
     #[error("{0}")]
-    Kept(#[from] KeptFault),
+    Kept(#[from] RecordSinkFault),
     #[error("{0}")]
     Start(#[from] StartFault),
     #[error("{0}")]
@@ -34,7 +34,7 @@ impl<'a> Ending for StoreFault<'a> {
             StoreFault::Memory(_)
             | StoreFault::Probe(ProbeFault::Memory)
             | StoreFault::Start(StartFault::Memory)
-            | StoreFault::Kept(KeptFault::Memory) => 2,
+            | StoreFault::Kept(RecordSinkFault::Memory) => 2,
             StoreFault::Start(_) | StoreFault::Probe(_) | StoreFault::Kept(_) => 1,
         }
     }

@@ -1,14 +1,29 @@
 //! The trace that is written while the workers run.
 
 use crate::fault::StoreFault;
+use dspec_ctf_sink::{
+    ClockStart, FolderFault, Identity, Names, SystemFolder, Telling, TimedFolder,
+};
 use dspec_probed::Probes;
-use dspec_trace::{FolderFault, Identity, Names, SystemFolder, Telling, TimedFolder};
+use std::time::{SystemTime, UNIX_EPOCH};
 
 /// Stamps are in microseconds.
 const HERTZ: u64 = 1_000_000;
 
 /// A trace that is being written. What it loses is told on the error output while the workers run.
 pub type Begun<'a> = Telling<'a, TimedFolder<SystemFolder<'a>>>;
+
+/// Where the clock of the stamps begins. The workers make up its time, from 0 on, so it is placed at the system's time when the trace
+/// begins; None where the system doesn't tell that.
+fn clock_start(rt: &HostRuntime) -> Option<ClockStart> {
+    let now = SystemTime::now(rt).ok()?;
+    let since = now.duration_since(UNIX_EPOCH).ok()?;
+    Some(ClockStart {
+        seconds: since.as_secs(),
+        ticks: u64::from(since.subsec_micros()),
+        clock: None,
+    })
+}
 
 /// Begins a trace of this process in the folder of that path, with the names of the probes in its metadata.
 fn begun_trace<'a>(
@@ -19,7 +34,8 @@ fn begun_trace<'a>(
     let names = Names::Given(probes.names());
     let folder = SystemFolder::new(rt, name)?;
     let identity = Identity::of_system(rt)?;
-    let origin = identity.origin("store");
+    let mut origin = identity.origin("store");
+    origin.start = clock_start(rt);
     let schema = probes.enablings();
     let sink = TimedFolder::of(rt.alloc(), folder, &origin, HERTZ, &schema, &names)?;
     Ok(Telling::new(rt, name, sink))

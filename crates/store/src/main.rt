@@ -3,7 +3,8 @@
 //! the end their paths are printed in order of time, and the board of all balances. With `--ctf` what is kept is written to a folder too,
 //! as a trace by time, while the workers run.
 //!
-//! The stamps are of a clock that each worker counts for itself, so that the same is printed however the threads run. Its status is 0; 2
+//! The stamps are of a clock that each worker counts for itself, so that the same is printed however the threads run; the trace says that it
+//! began at the system's time. Its status is 0; 2
 //! for want of memory, 3 for a fault of input or output, and 4 for words that it doesn't know.
 //!
 //! | File | What is in it |
@@ -21,10 +22,10 @@ mod telling;
 
 use arguments::{Ask, ask_of};
 use board::Board;
-use dspec::{Both, Closed, Config, Kept, Rec, closed_cpus, trace};
+use dspec::{Both, Closed, Config, Rec, RecordSink, closed_cpus, trace};
 use dspec_command::{ended, output_fault, print_text, words_of};
+use dspec_ctf_sink::tell_untold;
 use dspec_probed::Probes;
-use dspec_trace::tell_untold;
 use fault::StoreFault;
 use folder::{finish, trace_asked};
 use probes::StoreProbes;
@@ -56,7 +57,7 @@ fn transfers<'a, R: Threads + Sync>(
         probes: StoreProbes::declare(&mut declared)?,
     };
     let second = trace_asked(rt, name, &declared)?;
-    let first = Kept::new(rt.alloc());
+    let first = RecordSink::new(rt.alloc());
     let sink = Both { first, second };
     let schema = declared.enablings();
     let config = Config::of(WORKERS, 16, 16384, 512);

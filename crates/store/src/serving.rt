@@ -78,7 +78,7 @@ fn withdraw(
     let balance = board.read(from);
     probes
         .read
-        .step(lane, path, later(clock, 1), (number, from, balance));
+        .record_in(lane, path, later(clock, 1), (number, from, balance));
     if balance < made.amount {
         return false;
     }
@@ -86,7 +86,7 @@ fn withdraw(
     board.write(from, left);
     probes
         .write
-        .step(lane, path, later(clock, 1), (number, from, left));
+        .record_in(lane, path, later(clock, 1), (number, from, left));
     true
 }
 
@@ -106,7 +106,7 @@ fn wait(
         server
             .probes
             .wait
-            .step(lane, path, stamp, (made.number, made.to));
+            .record_in(lane, path, stamp, (made.number, made.to));
     }
 }
 
@@ -126,12 +126,12 @@ fn deposit(
     let balance = board.read(to);
     probes
         .read
-        .step(lane, path, later(clock, 1), (number, to, balance));
+        .record_in(lane, path, later(clock, 1), (number, to, balance));
     let sum = balance.wrapping_add(made.amount);
     board.write(to, sum);
     probes
         .write
-        .step(lane, path, later(clock, 1), (number, to, sum));
+        .record_in(lane, path, later(clock, 1), (number, to, sum));
 }
 
 /// The steps of a transfer, and its outcome.
@@ -149,7 +149,7 @@ fn make_transfer(
     server
         .probes
         .begin
-        .step(lane, path, stamp, (made.number, made.worker));
+        .record_in(lane, path, stamp, (made.number, made.worker));
     if !withdraw(lane, path, server, clock, made) {
         return ABORTED;
     }
@@ -169,11 +169,11 @@ fn transact(lane: &mut Lane<'_, Enablings>, server: &Server, clock: &mut u64, ma
     server
         .probes
         .end
-        .step(lane, &path, stamp, (made.number, outcome));
+        .record_in(lane, &path, stamp, (made.number, outcome));
     if outcome == DONE {
-        path.throw(lane);
+        path.discard(lane);
     } else {
-        path.keep(lane);
+        path.commit(lane);
     }
 }
 

@@ -8,9 +8,9 @@ use Rattle.dspec_cpu.specs.declared.cpu.Cpu.{Cpu}
 use Rattle.dspec_cpu.specs.declared.shared.Shared.{Shared}
 use Rattle.dspec_cpu.specs.Lists.{words_of}
 use Rattle.dspec_cpu.specs.Standing.{identity}
-use Rattle.dspec_consumer.specs.declared.session.Session.{Session}
-use Rattle.dspec_consumer.specs.Consumers.{Stays, pairs_of}
-use Rattle.dspec_consumer.specs.Sessions.{IsCpuOf, IsSession}
+use Rattle.dspec_session_core.specs.declared.session.Session.{Session}
+use Rattle.dspec_session_core.specs.Consumers.{Stays, pairs_of}
+use Rattle.dspec_session_core.specs.Sessions.{IsCpuOf, IsSession}
 use Rattle.torture.specs.Lent.{AllCanBeCalled, AllWereCalled, CanBeCalled}
 
 -- each CPU of a session can be lent

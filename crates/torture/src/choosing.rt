@@ -1,8 +1,7 @@
 use crate::planning::{Plan, dice_of};
 use crate::sharing::Board;
 use dspec_deeds::{Answer, CpuOp, Decided, Opening, Spoken, Traced};
-use dspec_dice::Dice;
-use dspec_logs::{Called, KINDS, Log, identifier_in, record_of};
+use dspec_logs::{Called, Dice, KINDS, Log, identifier_in, record_of};
 use dspec_record::Rec;
 use dspec_word::SpecId;
 use std::alloc::Global;
@@ -18,8 +17,8 @@ pub struct Player {
     owed: Option<CpuOp>,
     /// Whether the call behind this one has to wait for others.
     waits: bool,
-    /// The speculation that was spoken to last.
-    speaks_to: SpecId,
+    /// The speculation that was offered to last.
+    speculates_to: SpecId,
     /// A speculation that was decided.
     decided: SpecId,
 }
@@ -34,7 +33,7 @@ impl Player {
             log: Log::new(alloc),
             owed: None,
             waits: false,
-            speaks_to: SpecId::NONE,
+            speculates_to: SpecId::NONE,
             decided: SpecId::NONE,
         }
     }
@@ -72,18 +71,18 @@ impl Player {
         }
     }
 
-    /// Something said to a speculation of the board: to the one that was spoken to last, as a rule. A trace, where the board has
+    /// Something said to a speculation of the board: to the one that was offered to last, as a rule. A trace, where the board has
     /// none.
-    fn speak(&mut self, board: &Board) -> CpuOp {
+    fn speculate(&mut self, board: &Board) -> CpuOp {
         if self.dice.chance(self.plan.stale) {
             let id = self.closed();
             return CpuOp::Speculate(id, self.record());
         }
         let place = self.place();
-        if self.speaks_to == SpecId::NONE || self.dice.chance(30) {
-            self.speaks_to = board.look(place).unwrap_or(SpecId::NONE);
+        if self.speculates_to == SpecId::NONE || self.dice.chance(30) {
+            self.speculates_to = board.look(place).unwrap_or(SpecId::NONE);
         }
-        let (id, rec) = (self.speaks_to, self.record());
+        let (id, rec) = (self.speculates_to, self.record());
         if id == SpecId::NONE {
             CpuOp::Trace(rec)
         } else {
@@ -116,7 +115,7 @@ impl Player {
         let mix = self.plan.mix;
         let openings = mix.services.saturating_add(mix.openings);
         let decisions = openings.saturating_add(mix.decisions);
-        let speaks = decisions.saturating_add(mix.speaks);
+        let speculates = decisions.saturating_add(mix.speculates);
         let pick = self.dice.roll(100);
         if pick < mix.services {
             CpuOp::Service
@@ -124,8 +123,8 @@ impl Player {
             CpuOp::Speculation
         } else if pick < decisions {
             self.decide(board)
-        } else if pick < speaks {
-            self.speak(board)
+        } else if pick < speculates {
+            self.speculate(board)
         } else {
             CpuOp::Trace(self.record())
         }
@@ -159,11 +158,11 @@ impl Player {
         }
     }
 
-    /// A speculation is decided: it leaves the board, and isn't spoken to any more.
+    /// A speculation is decided: it leaves the board, and isn't offered to any more.
     fn leave(&mut self, board: &Board, id: SpecId) {
         board.clear(id);
-        if self.speaks_to == id {
-            self.speaks_to = SpecId::NONE;
+        if self.speculates_to == id {
+            self.speculates_to = SpecId::NONE;
         }
     }
 

@@ -1,14 +1,14 @@
 ghost use Rattle.std.specs.Prelude.{IfOk};
 ghost use Rattle.dspec_cpu.specs.Lists.{words_of};
-ghost use Rattle.dspec_consumer.specs.Consumers.{IsConsumerOf, Stays};
+ghost use Rattle.dspec_session_core.specs.Consumers.{IsConsumerOf, Stays};
 
 use crate::planning::{CONSUMER_DICE, Plan, dice_of};
 use crate::sharing::Board;
 use crate::taken::Basket;
-use dspec_consumer::Consumer;
 use dspec_cpu::Shared;
 use dspec_deeds::ConsumerOp;
-use dspec_dice::Dice;
+use dspec_logs::Dice;
+use dspec_session_core::Consumer;
 use std::alloc::{AllocError, Global};
 use std::thread;
 

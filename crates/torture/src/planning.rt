@@ -1,5 +1,5 @@
 use dspec_deeds::{Config, Policy};
-use dspec_dice::Dice;
+use dspec_logs::Dice;
 
 /// How often a worker makes each kind of call, in a hundred; what is left of a hundred are traces.
 #[derive(Clone, Copy, Debug, PartialEq, Eq)]
@@ -7,7 +7,7 @@ pub struct Mix {
     pub services: u32,
     pub openings: u32,
     pub decisions: u32,
-    pub speaks: u32,
+    pub speculates: u32,
 }
 
 /// What a seed chooses.
@@ -61,7 +61,7 @@ fn mix_of(dice: &mut Dice) -> Mix {
         services: dice.between(8, 25),
         openings: dice.between(8, 15),
         decisions: dice.between(3, 8),
-        speaks: dice.between(25, 45),
+        speculates: dice.between(25, 45),
     }
 }
 

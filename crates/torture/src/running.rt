@@ -1,14 +1,14 @@
 ghost use Rattle.std.specs.Prelude.{◌≡◌, ◌<◌, IfOk, length};
-ghost use Rattle.dspec_consumer.specs.Sessions.{IsSession};
+ghost use Rattle.dspec_session_core.specs.Sessions.{IsSession};
 
 use crate::fault::TortureFault;
 use crate::planning::Plan;
 use crate::racing::race;
 use crate::sharing::Board;
 use crate::taken::Basket;
-use dspec_consumer::Session;
 use dspec_logs::{Log, Story, enable};
 use dspec_record::Enablings;
+use dspec_session_core::Session;
 use std::alloc::{AllocError, Global};
 use std::thread::Threads;
 

@@ -6,7 +6,7 @@ use std::alloc::{AllocError, Global};
 use std::sync::Mutex;
 use std::sync::atomic::{AtomicU64, Ordering};
 
-/// What the threads share beside the session: the identifiers that anybody may speak to or decide, how far they are, and what
+/// What the threads share beside the session: the identifiers that anybody may speculate to or decide, how far they are, and what
 /// they leave.
 #[derive(Drop)]
 pub struct Board {

@@ -6,7 +6,7 @@ use std::io;
 /// The most calls that are told of a contradiction.
 const MOST: u32 = 24;
 
-/// Whether the contradiction is about this call: the one that it names, or one that gives out, speaks to or decides its identifier.
+/// Whether the contradiction is about this call: the one that it names, or one that gives out, speculates to or decides its identifier.
 fn concerns(flaw: &Flaw, cpu: u32, number: usize, called: &Called) -> bool {
     if flaw.cpu == cpu && flaw.call == Some(number) {
         return true;

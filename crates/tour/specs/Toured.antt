@@ -9,11 +9,11 @@ use Rattle.dspec_cpu.specs.Called.{CallsMade, no_calls, settled_did}
 use Rattle.tour.specs.Requests.{MakesRequests}
 
 -- The work's calls were made on CPU 0 of a session of one CPU, with probes 1 and 2; these records came out of it, this is its report,
--- and both keep the promise of what those calls did and of what the close settled.
+-- and both keep the promise of what those calls did and of what services and the close settled behind them.
 pub record IsTour (records : List Record) (report : Report) : Type 0 where
   pub calls : CallsMade
   pub worked : MakesRequests 1 2 no_calls calls
-  pub closed : List (Speculation × DecideFate)
+  pub settled : List (Speculation × DecideFate)
   pub all : ℕ → List Did
-  pub answered : all 0 ≡ settled_did closed ++ calls.done
+  pub answered : all 0 ≡ settled_did settled ++ calls.done
   pub promise : Promise 1 all 0 records report

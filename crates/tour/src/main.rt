@@ -6,7 +6,7 @@ ghost use Rattle.std.specs.Prelude.{IfOk};
 ghost use Rattle.tour.specs.Toured.{IsTour};
 
 use anyhow::Result;
-use dspec::{Config, Enablings, Kept, Lane, Rec, Report, Work, closed_cpu, trace};
+use dspec::{Config, Enablings, Lane, Rec, RecordSink, Report, Work, closed_cpu, trace};
 use dspec_probed::{Probe, Probes, Recording};
 use std::alloc::Global;
 use std::thread::Threads;
@@ -29,12 +29,12 @@ impl Work<Enablings> for Requests {
             return;
         };
         let failed = lane.path();
-        touch.step(lane, &failed, 0, (4096, 5));
-        touch.step(lane, &failed, 0, (8192, 0));
-        failed.keep(lane);
+        touch.record_in(lane, &failed, 0, (4096, 5));
+        touch.record_in(lane, &failed, 0, (8192, 0));
+        failed.commit(lane);
         let fine = lane.path();
-        touch.step(lane, &fine, 0, (12288, 0));
-        fine.throw(lane);
+        touch.record_in(lane, &fine, 0, (12288, 0));
+        fine.discard(lane);
         request.record(lane, 0, (7,));
         request.record(lane, 0, (8,));
         request.record(lane, 0, (9,));
@@ -56,7 +56,7 @@ fn tour<R: Threads + Sync>(rt: &R, alloc: Global) -> Result<(Vec<Rec>, Report)>
         &config,
         probes.enablings(),
         &work,
-        Kept::new(alloc),
+        RecordSink::new(alloc),
     )?;
     let records = kept.records()?;
     Ok((records, *closed_cpu(&closed, 0).report))

@@ -1,7 +1,7 @@
-use dspec::{KeptFault, StartFault};
+use dspec::{RecordSinkFault, StartFault};
 use dspec_command::{CommandFault, Ending};
+use dspec_ctf_sink::{FolderFault, Loss};
 use dspec_probed::ProbeFault;
-use dspec_trace::{FolderFault, Loss};
 use std::alloc::AllocError;
 use thiserror::Error;
 
@@ -21,7 +21,7 @@ pub enum WatchFault<'a> {
     #[error("{0}")]
     Probe(#[from] ProbeFault),
     #[error("{0}")]
-    Kept(#[from] KeptFault),
+    Kept(#[from] RecordSinkFault),
     /// What was recorded isn't what the generator made.
     #[error("{0}")]
     Differs(#[from] anyhow::Error),
@@ -37,7 +37,7 @@ impl<'a> Ending for WatchFault<'a> {
             WatchFault::Memory(_)
             | WatchFault::Probe(ProbeFault::Memory)
             | WatchFault::Start(StartFault::Memory)
-            | WatchFault::Kept(KeptFault::Memory) => 2,
+            | WatchFault::Kept(RecordSinkFault::Memory) => 2,
             _ => 1,
         }
     }

@@ -20,10 +20,12 @@ mod requests;
 mod serving;
 
 use arguments::{Ask, WatchAsk, ask_of};
-use dspec::{Both, Config, Kept, closed_cpus, trace};
+use dspec::{Both, Config, RecordSink, closed_cpus, trace};
 use dspec_command::{ended, output_fault, print_text, words_of};
+use dspec_ctf_sink::{
+    FolderFault, Identity, Names, SystemFolder, Telling, TraceFolder, tell_untold,
+};
 use dspec_probed::Probes;
-use dspec_trace::{FolderFault, Identity, Names, SystemFolder, Telling, TraceFolder, tell_untold};
 use fault::WatchFault;
 use paths::{compare, tell};
 use probes::ServerProbes;
@@ -94,7 +96,7 @@ fn watch<'a, R: Threads + Sync>(
     let mut declared = Probes::unstamped(rt.alloc());
     let probes = ServerProbes::declare(&mut declared)?;
     let second = trace_asked(rt, ask.folder, &declared)?;
-    let first = Kept::new(rt.alloc());
+    let first = RecordSink::new(rt.alloc());
     let sink = Both { first, second };
     let config = Config::of(WORKERS, 16, 8192, 128);
     let server = Server { seed, probes };

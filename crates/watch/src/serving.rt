@@ -19,12 +19,12 @@ fn handle(lane: &mut Lane<'_, Enablings>, probes: &ServerProbes, request: Reques
     let path = lane.path();
     for place in 0..request.steps() {
         let (action, values) = request.step(place);
-        probes.of(action).step(lane, &path, 0, values);
+        probes.of(action).record_in(lane, &path, 0, values);
     }
     if request.fails {
-        path.keep(lane);
+        path.commit(lane);
     } else {
-        path.throw(lane);
+        path.discard(lane);
     }
 }
 

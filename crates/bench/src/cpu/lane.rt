@@ -57,7 +57,7 @@ pub fn record_over<S: Schema>(lane: &mut Lane<'_, S>, rec: &Rec, number: u32) ->
 fn step_on<S: Schema>(path: &Path, lane: &mut Lane<'_, S>, rec: &Rec) -> bool
     ensures same { place_of lane.new ≡ place_of lane.old }
 {
-    path.step(lane, rec.epid(), rec.stamp(), rec.values()) == Ok(Spoken::Kept)
+    path.record(lane, rec.epid(), rec.stamp(), rec.values()) == Ok(Spoken::Kept)
 }
 
 /// One path of twenty steps: how many records were kept.
@@ -68,7 +68,7 @@ fn keep_path<S: Schema>(lane: &mut Lane<'_, S>, rec: &Rec) -> u32
     for _ in 0..BLOCK_RECORDS {
         let _ = step_on(&path, lane, rec);
     }
-    match path.keep(lane) {
+    match path.commit(lane) {
         Decided::Copied(count) => count,
         _ => 0,
     }

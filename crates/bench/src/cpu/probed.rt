@@ -51,7 +51,7 @@ fn walk_on<F: Fields>(
     requires of { IsProbeOf F.fields_are probe (schema_of lane.old.cpu.now) }
     ensures same { place_of lane.new ≡ place_of lane.old }
 {
-    probe.step(lane, path, 0, values) == Spoken::Kept
+    probe.record_in(lane, path, 0, values) == Spoken::Kept
 }
 
 /// One path of twenty steps by a probe: how many records were kept.
@@ -63,7 +63,7 @@ fn walk_path<F: Fields>(lane: &mut Lane<'_, Enablings>, probe: Probe<F>, values:
     for _ in 0..BLOCK_RECORDS {
         let _ = walk_on(&path, lane, probe, values);
     }
-    match path.keep(lane) {
+    match path.commit(lane) {
         Decided::Copied(count) => count,
         _ => 0,
     }

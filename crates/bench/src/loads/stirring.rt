@@ -2,12 +2,12 @@
 ghost use Rattle.std.specs.Prelude.{◌≡◌, ◌<◌, ◌^◌, false, IfSome};
 ghost use Rattle.dspec_deeds.specs.declared.calls.CpuOp.TheVariants as op;
 ghost use Rattle.dspec_table.specs.Seats.{known, IsAt, set_up, cpu_of};
-ghost use Rattle.dspec_table_tests.specs.Calls.{Unused};
+ghost use Rattle.test_words.specs.Calls.{Unused};
 
 use dspec_deeds::CpuOp;
 use dspec_table::{CpuSeat, Doing, Words};
-use dspec_table_tests::calls::{begun, committed};
 use dspec_word::{Code, SpecId, Word};
+use test_words::calls::{begun, committed};
 
 /// The most rounds that one thread makes.
 const MOST_ROUNDS: u32 = 1_000_000_000;

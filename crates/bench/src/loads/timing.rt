@@ -2,7 +2,7 @@
 ghost use Rattle.std.specs.Prelude.{◌≡◌, ◌^◌};
 ghost use Rattle.dspec_deeds.specs.History.{scan};
 ghost use Rattle.dspec_table.specs.Seats.{known, IsAt, IsConsumerAt, set_up, cpu_of};
-ghost use Rattle.dspec_table_tests.specs.Calls.{Unused};
+ghost use Rattle.test_words.specs.Calls.{Unused};
 
 use crate::loads::loading::load_all;
 use crate::loads::stirring::stir;

@@ -2,7 +2,7 @@ ghost use Rattle.std.specs.Prelude.{◌≡◌, ◌<◌, ◌≤◌, ◌+◌, ◌�
 ghost use Rattle.dspec_deeds.specs.declared.deed.Deed.TheVariants as deed;
 ghost use Rattle.dspec_deeds.specs.Legal.{IsAllowed};
 ghost use Rattle.dspec_machine.specs.Machines.{Adds, IsShownMachine, history, state_of};
-ghost use Rattle.dspec_play.specs.Coherent.{progress_of};
+ghost use Rattle.dspec_interleaving.specs.Coherent.{progress_of};
 ghost use Rattle.dspec_deeds.specs.Own.{seals};
 ghost use Rattle.dspec_deeds.specs.Ranges.{start_fault};
 

@@ -64,7 +64,7 @@ impl<S: Schema, B: TraceBuffer<S>> Machine<S, B> {
     {
         self.deeds.push(Deed::Speculate(cpu, id, *rec, fate))?;
         let own = &mut self.cpus[cpu as usize];
-        own.side.speak_nowhere::<S>(fate);
+        own.side.speculate_nowhere::<S>(fate);
         Ok(())
     }
 }

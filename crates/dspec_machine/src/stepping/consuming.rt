@@ -1,21 +1,21 @@
 ghost use Rattle.std.specs.Prelude.{◌≡◌, ◌<◌, ◌≤◌, ◌+◌, ◌^◌, [], None, IfOk, OnErr};
 ghost use Rattle.dspec_deeds.specs.declared.calls.ConsumerOp.TheVariants as consumer_op;
-ghost use Rattle.dspec_play.specs.declared.flight.ConsumerFlight.TheVariants as flight;
-ghost use Rattle.dspec_play.specs.declared.flight.Spare.TheVariants as spare;
-ghost use Rattle.dspec_play.specs.Coherent.{IsSlot, progress_of};
+ghost use Rattle.dspec_interleaving.specs.declared.flight.ConsumerFlight.TheVariants as flight;
+ghost use Rattle.dspec_interleaving.specs.declared.flight.Spare.TheVariants as spare;
+ghost use Rattle.dspec_interleaving.specs.Coherent.{IsSlot, progress_of};
 ghost use Rattle.dspec_deeds.specs.Legal.{IsAllowed};
-ghost use Rattle.dspec_machine.specs.Machines.{Cleans, IsShownMachine, history, state_of};
+ghost use Rattle.dspec_machine.specs.Machines.{ConsumerMakes, IsShownMachine, history, state_of};
 ghost use Rattle.dspec_machine.specs.Standing.{ConsumerStandsAt};
-ghost use Rattle.dspec_machine.specs.Steps.{CleansAs, takes_batch};
+ghost use Rattle.dspec_machine.specs.Steps.{ConsumerStepsAs, takes_batch};
 ghost use Rattle.dspec_deeds.specs.Own.{seals};
-ghost use Rattle.dspec_play.specs.Play.{keeps_on, loads_slot, next_slot, stops};
+ghost use Rattle.dspec_interleaving.specs.Play.{keeps_on, loads_slot, next_slot, stops};
 ghost use Rattle.dspec_deeds.specs.Ranges.{start_fault};
 
 use crate::machine::Machine;
 use crate::walking::append_records;
 use dspec_buffer::TraceBuffer;
 use dspec_deeds::Answer;
-use dspec_play::{ConsumerFlight, Spare};
+use dspec_interleaving::{ConsumerFlight, Spare};
 use dspec_record::Schema;
 use dspec_word::{Act, Word, reap_at};
 use std::alloc::AllocError;
@@ -25,7 +25,7 @@ impl<S: Schema, B: TraceBuffer<S>> Machine<S, B> {
     pub fn step_ask(&mut self, cpu: u32) -> Option<Answer>
         requires stands { ConsumerStandsAt B.has B.capacity S.shape_of self.old (flight.Begun (consumer_op.Ask cpu)) }
         requires cpu { cpu < self.old.config.cpus }
-        ensures { CleansAs B.has B.capacity self.old self.new (flight.Begun (consumer_op.Ask cpu)) result }
+        ensures { ConsumerStepsAs B.has B.capacity self.old self.new (flight.Begun (consumer_op.Ask cpu)) result }
     {
         let progress = &mut self.cpus[cpu as usize].progress;
         progress.want = progress.takes + 1;
@@ -36,7 +36,7 @@ impl<S: Schema, B: TraceBuffer<S>> Machine<S, B> {
     pub fn step_take(&mut self, cpu: u32) -> Result<Option<Answer>, AllocError>
         requires stands { ConsumerStandsAt B.has B.capacity S.shape_of self.old (flight.Begun (consumer_op.Take cpu)) }
         requires cpu { cpu < self.old.config.cpus }
-        ensures cleans { IfOk result (λ answer. CleansAs B.has B.capacity self.old self.new (flight.Begun (consumer_op.Take cpu)) answer) }
+        ensures cleans { IfOk result (λ answer. ConsumerStepsAs B.has B.capacity self.old self.new (flight.Begun (consumer_op.Take cpu)) answer) }
         ensures refused { OnErr result (self.new ≡ self.old) }
     {
         let own = &self.cpus[cpu as usize];
@@ -52,7 +52,7 @@ impl<S: Schema, B: TraceBuffer<S>> Machine<S, B> {
         requires cpu { cpu < self.old.config.cpus }
         requires fits { (progress_of (state_of self.old).progresses cpu).takes + 1 < 2 ^ 64 }
         requires sealed { seals cpu (history self.old) ≡ (progress_of (state_of self.old).progresses cpu).takes + 1 }
-        ensures cleans { IfOk result (λ answer. Cleans B.has B.capacity self.old self.new (takes_batch self.old cpu spare.Handed) answer) }
+        ensures cleans { IfOk result (λ answer. ConsumerMakes B.has B.capacity self.old self.new (takes_batch self.old cpu spare.Handed) answer) }
         ensures refused { OnErr result (self.new ≡ self.old) }
     {
         let own = &mut self.cpus[cpu as usize];
@@ -72,7 +72,7 @@ impl<S: Schema, B: TraceBuffer<S>> Machine<S, B> {
     pub fn step_give_back(&mut self, cpu: u32) -> Option<Answer>
         requires stands { ConsumerStandsAt B.has B.capacity S.shape_of self.old (flight.Begun (consumer_op.GiveBack cpu)) }
         requires cpu { cpu < self.old.config.cpus }
-        ensures { CleansAs B.has B.capacity self.old self.new (flight.Begun (consumer_op.GiveBack cpu)) result }
+        ensures { ConsumerStepsAs B.has B.capacity self.old self.new (flight.Begun (consumer_op.GiveBack cpu)) result }
     {
         let own = &self.cpus[cpu as usize];
         if !matches!(&own.progress.spare, Spare::Out) {
@@ -85,7 +85,7 @@ impl<S: Schema, B: TraceBuffer<S>> Machine<S, B> {
     /// The one step of a stop: the store of activity.
     pub fn step_stop(&mut self) -> Result<Option<Answer>, AllocError>
         requires stands { ConsumerStandsAt B.has B.capacity S.shape_of self.old (flight.Begun consumer_op.Stop) }
-        ensures cleans { IfOk result (λ answer. CleansAs B.has B.capacity self.old self.new (flight.Begun consumer_op.Stop) answer) }
+        ensures cleans { IfOk result (λ answer. ConsumerStepsAs B.has B.capacity self.old self.new (flight.Begun consumer_op.Stop) answer) }
         ensures refused { OnErr result (self.new ≡ self.old) }
     {
         if !self.halted {
@@ -96,7 +96,7 @@ impl<S: Schema, B: TraceBuffer<S>> Machine<S, B> {
 
     fn stop_consumer(&mut self, answer: Answer) -> Option<Answer>
         requires shown { IsShownMachine B.has B.capacity self.old }
-        ensures { Cleans B.has B.capacity self.old self.new (stops self.old.config (history self.old) self.old.consumer (state_of self.old).progresses [] answer) result }
+        ensures { ConsumerMakes B.has B.capacity self.old self.new (stops self.old.config (history self.old) self.old.consumer (state_of self.old).progresses [] answer) result }
     {
         self.consumer.flight = None;
         self.consumer.steps = 0;
@@ -106,7 +106,7 @@ impl<S: Schema, B: TraceBuffer<S>> Machine<S, B> {
     fn keep_on(&mut self, flight: ConsumerFlight) -> Option<Answer>
         requires shown { IsShownMachine B.has B.capacity self.old }
         requires steps { self.old.consumer.steps < 2 ^ 31 }
-        ensures { Cleans B.has B.capacity self.old self.new (keeps_on self.old.config (history self.old) self.old.consumer (state_of self.old).progresses [] flight) result }
+        ensures { ConsumerMakes B.has B.capacity self.old self.new (keeps_on self.old.config (history self.old) self.old.consumer (state_of self.old).progresses [] flight) result }
     {
         self.consumer.flight = Some(flight);
         self.consumer.steps += 1;
@@ -118,7 +118,7 @@ impl<S: Schema, B: TraceBuffer<S>> Machine<S, B> {
         requires shown { IsShownMachine B.has B.capacity self.old }
         requires steps { self.old.consumer.steps < 2 ^ 31 }
         requires slot { slot ≤ self.old.config.nspec }
-        ensures { Cleans B.has B.capacity self.old self.new (next_slot self.old.config (history self.old) self.old.consumer (state_of self.old).progresses slot [] released) result }
+        ensures { ConsumerMakes B.has B.capacity self.old self.new (next_slot self.old.config (history self.old) self.old.consumer (state_of self.old).progresses slot [] released) result }
     {
         if slot == self.config.nspec {
             return self.stop_consumer(Answer::Cleaned(released));
@@ -133,7 +133,7 @@ impl<S: Schema, B: TraceBuffer<S>> Machine<S, B> {
         requires legal { IsAllowed (S.shape_of self.old.schema) self.old.config (history self.old) }
         requires steps { self.old.consumer.steps < 2 ^ 31 }
         requires slot { IsSlot self.old.config slot }
-        ensures { Cleans B.has B.capacity self.old self.new (loads_slot self.old.config (history self.old) self.old.consumer (state_of self.old).progresses slot released) result }
+        ensures { ConsumerMakes B.has B.capacity self.old self.new (loads_slot self.old.config (history self.old) self.old.consumer (state_of self.old).progresses slot released) result }
     {
         let word = self.words[(slot - 1) as usize];
         match reap_at(word, true) {
@@ -145,7 +145,7 @@ impl<S: Schema, B: TraceBuffer<S>> Machine<S, B> {
     /// The first step of a clean: the load of the first slot's word.
     pub fn step_clean(&mut self) -> Option<Answer>
         requires stands { ConsumerStandsAt B.has B.capacity S.shape_of self.old (flight.Begun consumer_op.Clean) }
-        ensures { CleansAs B.has B.capacity self.old self.new (flight.Begun consumer_op.Clean) result }
+        ensures { ConsumerStepsAs B.has B.capacity self.old self.new (flight.Begun consumer_op.Clean) result }
     {
         self.load_slot(1, 0)
     }
@@ -153,7 +153,7 @@ impl<S: Schema, B: TraceBuffer<S>> Machine<S, B> {
     /// The load of a slot's word.
     pub fn step_clean_load(&mut self, slot: u32, released: u32) -> Option<Answer>
         requires stands { ConsumerStandsAt B.has B.capacity S.shape_of self.old (flight.CleanLoad slot released) }
-        ensures { CleansAs B.has B.capacity self.old self.new (flight.CleanLoad slot released) result }
+        ensures { ConsumerStepsAs B.has B.capacity self.old self.new (flight.CleanLoad slot released) result }
     {
         self.load_slot(slot, released)
     }
@@ -167,7 +167,7 @@ impl<S: Schema, B: TraceBuffer<S>> Machine<S, B> {
         released: u32,
     ) -> Option<Answer>
         requires stands { ConsumerStandsAt B.has B.capacity S.shape_of self.old (flight.CleanAck slot word cpu released) }
-        ensures { CleansAs B.has B.capacity self.old self.new (flight.CleanAck slot word cpu released) result }
+        ensures { ConsumerStepsAs B.has B.capacity self.old self.new (flight.CleanAck slot word cpu released) result }
     {
         if self.cpus[cpu as usize].side.acks[(slot - 1) as usize] <= word.issue() {
             return self.clean_next(slot, released);
@@ -186,7 +186,7 @@ impl<S: Schema, B: TraceBuffer<S>> Machine<S, B> {
         released: u32,
     ) -> Result<Option<Answer>, AllocError>
         requires stands { ConsumerStandsAt B.has B.capacity S.shape_of self.old (flight.CleanReap slot word released) }
-        ensures cleans { IfOk result (λ answer. CleansAs B.has B.capacity self.old self.new (flight.CleanReap slot word released) answer) }
+        ensures cleans { IfOk result (λ answer. ConsumerStepsAs B.has B.capacity self.old self.new (flight.CleanReap slot word released) answer) }
         ensures refused { OnErr result (self.new ≡ self.old) }
     {
         if self.words[(slot - 1) as usize] != word {

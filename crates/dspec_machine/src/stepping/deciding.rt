@@ -1,11 +1,11 @@
 ghost use Rattle.std.specs.Prelude.{◌≡◌, ◌<◌, ◌≤◌, ◌^◌, ◌∷◌, ◌++◌, [], true, false, None, IfOk, OnErr};
 ghost use Rattle.dspec_deeds.specs.declared.deed.Deed.TheVariants as deed;
-ghost use Rattle.dspec_play.specs.declared.flight.CpuFlight.TheVariants as flight;
+ghost use Rattle.dspec_interleaving.specs.declared.flight.CallPlace.TheVariants as flight;
 ghost use Rattle.dspec_deeds.specs.Ranges.{start_fault};
 ghost use Rattle.dspec_deeds.specs.Legal.{IsAllowed, IsSound};
 ghost use Rattle.dspec_deeds.specs.History.{in_range, issue, word_at};
 ghost use Rattle.dspec_deeds.specs.Own.{calls};
-ghost use Rattle.dspec_play.specs.Coherent.{IsCoherent, progress_of};
+ghost use Rattle.dspec_interleaving.specs.Coherent.{IsCoherent, progress_of};
 ghost use Rattle.dspec_machine.specs.Decisions.{begun_of, decides, deed_of, load_of, try_of};
 ghost use Rattle.dspec_machine.specs.Machines.{Makes, IsShownMachine, history, state_of};
 ghost use Rattle.dspec_machine.specs.Standing.{StandsAt};
@@ -16,7 +16,7 @@ use crate::decision::Decision;
 use crate::machine::Machine;
 use dspec_buffer::TraceBuffer;
 use dspec_deeds::{Answer, DecideFate, Decided};
-use dspec_play::CpuFlight;
+use dspec_interleaving::CallPlace;
 use dspec_record::Schema;
 use dspec_word::{Act, Code, SpecId, Word};
 use std::alloc::AllocError;
@@ -148,7 +148,7 @@ impl<S: Schema, B: TraceBuffer<S>> Machine<S, B> {
         let fate = self.commit_fate(cpu, id);
         self.enter_decided(cpu, Decision::Commit, id, fate, word)?;
         if word.code() == Code::Committing {
-            return Ok(self.go_on(cpu, CpuFlight::CommitRelease(id, fate)));
+            return Ok(self.go_on(cpu, CallPlace::CommitRelease(id, fate)));
         }
         Ok(self.end(cpu, Answer::Decided(fate.answer())))
     }

@@ -1,17 +1,17 @@
 ghost use Rattle.std.specs.Prelude.{◌≡◌, ◌<◌, ◌^◌, None, Some};
-ghost use Rattle.dspec_play.specs.Coherent.{progress_of};
+ghost use Rattle.dspec_interleaving.specs.Coherent.{progress_of};
 ghost use Rattle.dspec_machine.specs.Machines.{IsShownMachine, state_of};
 ghost use Rattle.dspec_machine.specs.Steps.{state_with, goes_on_at, has_ended, was_worn, has_sealed};
 
 use crate::machine::Machine;
 use dspec_buffer::TraceBuffer;
 use dspec_deeds::Answer;
-use dspec_play::{CpuFlight, Spare};
+use dspec_interleaving::{CallPlace, Spare};
 use dspec_record::Schema;
 
 impl<S: Schema, B: TraceBuffer<S>> Machine<S, B> {
     /// The CPU's call goes on: its next step is at that place.
-    pub fn go_on(&mut self, cpu: u32, flight: CpuFlight) -> Option<Answer>
+    pub fn go_on(&mut self, cpu: u32, flight: CallPlace) -> Option<Answer>
         requires shown { IsShownMachine B.has B.capacity self.old }
         requires cpu { cpu < self.old.config.cpus }
         requires steps { (progress_of (state_of self.old).progresses cpu).steps < 2 ^ 31 }
@@ -69,7 +69,7 @@ impl<S: Schema, B: TraceBuffer<S>> Machine<S, B> {
         ensures answer { result ≡ None }
     {
         let progress = &mut self.cpus[cpu as usize].progress;
-        progress.flight = Some(CpuFlight::ServicePush);
+        progress.flight = Some(CallPlace::ServicePush);
         progress.steps += 1;
         progress.spare = Spare::Sealed;
         None

@@ -1,12 +1,12 @@
 ghost use Rattle.std.specs.Prelude.{◌≡◌, ◌<◌, ◌≤◌, ◌+◌, ◌^◌, ◌∷◌, ◌++◌, [], None, IfOk, OnErr};
 ghost use Rattle.dspec_deeds.specs.declared.calls.CpuOp.TheVariants as cpu_op;
 ghost use Rattle.dspec_deeds.specs.declared.deed.Deed.TheVariants as deed;
-ghost use Rattle.dspec_play.specs.declared.flight.CpuFlight.TheVariants as flight;
+ghost use Rattle.dspec_interleaving.specs.declared.flight.CallPlace.TheVariants as flight;
 ghost use Rattle.dspec_deeds.specs.Ranges.{start_fault};
 ghost use Rattle.dspec_deeds.specs.Legal.{IsAllowed};
 ghost use Rattle.dspec_deeds.specs.Own.{calls};
 ghost use Rattle.dspec_word.specs.Code.{is_decided};
-ghost use Rattle.dspec_play.specs.Coherent.{progress_of};
+ghost use Rattle.dspec_interleaving.specs.Coherent.{progress_of};
 ghost use Rattle.dspec_machine.specs.Machines.{Makes, IsShownMachine, history, state_of};
 ghost use Rattle.dspec_machine.specs.Standing.{StandsAt};
 ghost use Rattle.dspec_machine.specs.Steps.{StepsAs, moved_miss};
@@ -14,7 +14,7 @@ ghost use Rattle.dspec_machine.specs.Steps.{StepsAs, moved_miss};
 use crate::machine::Machine;
 use dspec_buffer::TraceBuffer;
 use dspec_deeds::{Answer, Opening};
-use dspec_play::CpuFlight;
+use dspec_interleaving::CallPlace;
 use dspec_record::Schema;
 use dspec_word::{Act, SpecId, Word, open_at};
 use std::alloc::AllocError;
@@ -32,7 +32,7 @@ impl<S: Schema, B: TraceBuffer<S>> Machine<S, B> {
         let running = !self.halted;
         self.enter_scan(cpu, running)?;
         if running {
-            Ok(self.go_on(cpu, CpuFlight::ScanLoad(1)))
+            Ok(self.go_on(cpu, CallPlace::ScanLoad(1)))
         } else {
             Ok(self.end(cpu, Answer::Opening(Opening::Stopped)))
         }
@@ -46,7 +46,7 @@ impl<S: Schema, B: TraceBuffer<S>> Machine<S, B> {
     {
         let word = self.words[(slot - 1) as usize];
         match open_at(word, self.config.max_issues) {
-            Act::Attempt(_) => Ok(self.go_on(cpu, CpuFlight::ScanTry(slot, word))),
+            Act::Attempt(_) => Ok(self.go_on(cpu, CallPlace::ScanTry(slot, word))),
             _ => self.miss(cpu, slot, word),
         }
     }
@@ -86,7 +86,7 @@ impl<S: Schema, B: TraceBuffer<S>> Machine<S, B> {
         let busy = word.is_decided();
         self.enter_miss(cpu, slot, busy)?;
         if slot < self.config.nspec {
-            return Ok(self.go_on(cpu, CpuFlight::ScanLoad(slot + 1)));
+            return Ok(self.go_on(cpu, CallPlace::ScanLoad(slot + 1)));
         }
         let opening = if self.cpus[cpu as usize].side.missed_busy {
             Opening::Busy

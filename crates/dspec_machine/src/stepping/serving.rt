@@ -1,8 +1,8 @@
 ghost use Rattle.std.specs.Prelude.{◌≡◌, ◌<◌, ◌≤◌, ◌^◌, false, None, IfOk, OnErr};
 ghost use Rattle.dspec_deeds.specs.declared.calls.CpuOp.TheVariants as cpu_op;
-ghost use Rattle.dspec_play.specs.declared.flight.CpuFlight.TheVariants as flight;
+ghost use Rattle.dspec_interleaving.specs.declared.flight.CallPlace.TheVariants as flight;
 ghost use Rattle.dspec_deeds.specs.Ranges.{is_fill};
-ghost use Rattle.dspec_play.specs.Coherent.{IsCoherent, IsSlot, progress_of};
+ghost use Rattle.dspec_interleaving.specs.Coherent.{IsCoherent, IsSlot, progress_of};
 ghost use Rattle.dspec_machine.specs.Machines.{IsShownMachine, Makes, state_of};
 ghost use Rattle.dspec_machine.specs.Standing.{StandsAt};
 ghost use Rattle.dspec_machine.specs.Steps.{StepsAs, loads, moved_service, state_with, goes_on_at};
@@ -10,7 +10,7 @@ ghost use Rattle.dspec_machine.specs.Steps.{StepsAs, loads, moved_service, state
 use crate::machine::Machine;
 use dspec_buffer::TraceBuffer;
 use dspec_deeds::{Answer, Served};
-use dspec_play::{CpuFlight, Spare};
+use dspec_interleaving::{CallPlace, Spare};
 use dspec_record::Schema;
 use dspec_word::{Act, SpecId, Word, settle_at};
 use std::alloc::AllocError;
@@ -44,7 +44,7 @@ impl<S: Schema, B: TraceBuffer<S>> Machine<S, B> {
             return Ok(self.serve_first(cpu));
         }
         if !matches!(&own.progress.spare, Spare::InHand) {
-            return Ok(self.go_on(cpu, CpuFlight::ServicePop));
+            return Ok(self.go_on(cpu, CallPlace::ServicePop));
         }
         self.enter_seal(cpu)?;
         Ok(self.push_next(cpu))
@@ -70,7 +70,7 @@ impl<S: Schema, B: TraceBuffer<S>> Machine<S, B> {
         ensures { StepsAs B.has B.capacity S.shape_of self.old self.new cpu (flight.ServicePush) result }
     {
         let progress = &mut self.cpus[cpu as usize].progress;
-        progress.flight = Some(CpuFlight::ServiceLoad(
+        progress.flight = Some(CallPlace::ServiceLoad(
             1,
             Served {
                 sealed: true,
@@ -103,7 +103,7 @@ impl<S: Schema, B: TraceBuffer<S>> Machine<S, B> {
         let word = self.words[place];
         let acked = self.cpus[cpu as usize].side.acks[place];
         match settle_at(word, acked) {
-            Act::Granted => self.go_on(cpu, CpuFlight::ServiceStore(slot, word, sum)),
+            Act::Granted => self.go_on(cpu, CallPlace::ServiceStore(slot, word, sum)),
             _ => self.serve_next(cpu, slot, sum),
         }
     }
@@ -142,7 +142,7 @@ impl<S: Schema, B: TraceBuffer<S>> Machine<S, B> {
     {
         self.go_on(
             cpu,
-            CpuFlight::ServiceLoad(
+            CallPlace::ServiceLoad(
                 1,
                 Served {
                     sealed: false,
@@ -166,6 +166,6 @@ impl<S: Schema, B: TraceBuffer<S>> Machine<S, B> {
         if slot == self.config.nspec {
             return self.end(cpu, Answer::Served(sum));
         }
-        self.go_on(cpu, CpuFlight::ServiceLoad(slot + 1, sum))
+        self.go_on(cpu, CallPlace::ServiceLoad(slot + 1, sum))
     }
 }

@@ -5,15 +5,15 @@ ghost use Rattle.dspec_deeds.specs.History.{callers, is_among, in_range, issue, 
 ghost use Rattle.dspec_deeds.specs.Legal.{IsSound, fits_principal, fits_speculative};
 ghost use Rattle.dspec_deeds.specs.Own.{calls, contents, held};
 ghost use Rattle.dspec_deeds.specs.Settling.{commit_fate, discard_fate, settle_fate};
-ghost use Rattle.dspec_side.specs.Sides.{ShowsList};
+ghost use Rattle.dspec_cpu_state.specs.CpuStates.{ShowsList};
 ghost use Rattle.dspec_machine.specs.declared.cpu.Cpu.{Cpu};
 ghost use Rattle.dspec_machine.specs.Machines.{IsShownMachine, history};
 
 use crate::machine::Machine;
 use dspec_buffer::TraceBuffer;
+use dspec_cpu_state::{committed_as, settled_as};
 use dspec_deeds::DecideFate;
 use dspec_record::{Rec, Schema};
-use dspec_side::{committed_as, settled_as};
 use dspec_word::{Code, SpecId, Word};
 
 impl<S: Schema, B: TraceBuffer<S>> Machine<S, B> {

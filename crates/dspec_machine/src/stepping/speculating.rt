@@ -2,19 +2,19 @@ ghost use Rattle.std.specs.Prelude.{◌≡◌, ◌<◌, ◌≤◌, ◌∷◌, �
 ghost use Rattle.dspec_deeds.specs.declared.calls.CpuOp.TheVariants as cpu_op;
 ghost use Rattle.dspec_deeds.specs.declared.deed.Deed.TheVariants as deed;
 ghost use Rattle.dspec_deeds.specs.declared.deed.SpeculateFate.TheVariants as spoken;
-ghost use Rattle.dspec_play.specs.declared.flight.CpuFlight.TheVariants as flight;
+ghost use Rattle.dspec_interleaving.specs.declared.flight.CallPlace.TheVariants as flight;
 ghost use Rattle.dspec_deeds.specs.Ranges.{start_fault};
 ghost use Rattle.dspec_deeds.specs.Legal.{IsAllowed, IsSound};
 ghost use Rattle.dspec_deeds.specs.History.{in_range, issue, word_at};
 ghost use Rattle.dspec_deeds.specs.Own.{calls};
 ghost use Rattle.dspec_machine.specs.Machines.{Makes, IsShownMachine, history};
 ghost use Rattle.dspec_machine.specs.Standing.{StandsAt};
-ghost use Rattle.dspec_machine.specs.Steps.{StepsAs, moved_speak};
+ghost use Rattle.dspec_machine.specs.Steps.{StepsAs, moved_speculate};
 
 use crate::machine::Machine;
 use dspec_buffer::TraceBuffer;
 use dspec_deeds::{Answer, SpeculateFate, Spoken};
-use dspec_play::CpuFlight;
+use dspec_interleaving::CallPlace;
 use dspec_record::{Rec, Schema};
 use dspec_word::{Act, SpecId, Word, speculate_at};
 use std::alloc::AllocError;
@@ -40,7 +40,7 @@ impl<S: Schema, B: TraceBuffer<S>> Machine<S, B> {
             return Ok(self.end(cpu, Answer::Spoken(Spoken::Stopped)));
         }
         if self.has_slot(id) {
-            return Ok(self.go_on(cpu, CpuFlight::SpeculateLoad(id, *rec)));
+            return Ok(self.go_on(cpu, CallPlace::SpeculateLoad(id, *rec)));
         }
         self.enter_unspoken(cpu, id, rec, SpeculateFate::Void)?;
         Ok(self.end(cpu, Answer::Spoken(Spoken::Void)))
@@ -61,8 +61,8 @@ impl<S: Schema, B: TraceBuffer<S>> Machine<S, B> {
         let word = self.word_of(id);
         let mine = self.is_mine(cpu, id);
         match speculate_at(word, id, mine) {
-            Act::Granted => self.speak(cpu, id, rec, word),
-            Act::Attempt(_) => Ok(self.go_on(cpu, CpuFlight::SpeculateTry(id, *rec, word))),
+            Act::Granted => self.speculate(cpu, id, rec, word),
+            Act::Attempt(_) => Ok(self.go_on(cpu, CallPlace::SpeculateTry(id, *rec, word))),
             _ => {
                 self.enter_unspoken(cpu, id, rec, SpeculateFate::Void)?;
                 Ok(self.end(cpu, Answer::Spoken(Spoken::Void)))
@@ -90,11 +90,11 @@ impl<S: Schema, B: TraceBuffer<S>> Machine<S, B> {
             let Act::Attempt(to) = act else {
                 unreachable!()
             };
-            return self.speak(cpu, id, rec, to);
+            return self.speculate(cpu, id, rec, to);
         }
         match act {
-            Act::Granted => self.speak(cpu, id, rec, word),
-            Act::Attempt(_) => Ok(self.go_on(cpu, CpuFlight::SpeculateTry(id, *rec, word))),
+            Act::Granted => self.speculate(cpu, id, rec, word),
+            Act::Attempt(_) => Ok(self.go_on(cpu, CallPlace::SpeculateTry(id, *rec, word))),
             _ => {
                 self.enter_unspoken(cpu, id, rec, SpeculateFate::Void)?;
                 Ok(self.end(cpu, Answer::Spoken(Spoken::Void)))
@@ -103,7 +103,7 @@ impl<S: Schema, B: TraceBuffer<S>> Machine<S, B> {
     }
 
     // A granted record leaves that word, and ends the call.
-    fn speak(
+    fn speculate(
         &mut self,
         cpu: u32,
         id: SpecId,
@@ -112,7 +112,7 @@ impl<S: Schema, B: TraceBuffer<S>> Machine<S, B> {
     ) -> Result<Option<Answer>, AllocError>
         requires shown { IsShownMachine B.has B.capacity self.old }
         requires ranges { start_fault self.old.config ≡ None }
-        requires legal { IsAllowed (S.shape_of self.old.schema) self.old.config ((moved_speak S.shape_of self.old cpu id rec.now).deeds ++ history self.old) }
+        requires legal { IsAllowed (S.shape_of self.old.schema) self.old.config ((moved_speculate S.shape_of self.old cpu id rec.now).deeds ++ history self.old) }
         requires cpu { cpu < self.old.config.cpus }
         requires few { calls cpu (history self.old) ≤ self.old.config.max_calls }
         requires accepted { IsTrue (S.accepted self.old.schema rec.now) }
@@ -120,7 +120,7 @@ impl<S: Schema, B: TraceBuffer<S>> Machine<S, B> {
         requires slot { in_range self.old.config id ≡ true }
         requires present { id.issue ≡ issue id.slot (history self.old) }
         requires word { word ≡ word_at id.slot (deed.Speculate cpu id rec.now spoken.Kept ∷ history self.old) }
-        ensures makes { IfOk result (λ answer. Makes B.has B.capacity self.old self.new cpu (moved_speak S.shape_of self.old cpu id rec.now) answer) }
+        ensures makes { IfOk result (λ answer. Makes B.has B.capacity self.old self.new cpu (moved_speculate S.shape_of self.old cpu id rec.now) answer) }
         ensures refused { OnErr result (self.new ≡ self.old) }
     {
         let (fate, answer) = if self.fits_speculative(cpu, id, rec) {

@@ -1,6 +1,6 @@
 ghost use Rattle.std.specs.Prelude.{◌≡◌, IsTrue, IfOk, OnErr};
 ghost use Rattle.dspec_deeds.specs.declared.calls.CpuOp.TheVariants as cpu_op;
-ghost use Rattle.dspec_play.specs.declared.flight.CpuFlight.TheVariants as flight;
+ghost use Rattle.dspec_interleaving.specs.declared.flight.CallPlace.TheVariants as flight;
 ghost use Rattle.dspec_machine.specs.Standing.{StandsAt};
 ghost use Rattle.dspec_machine.specs.Steps.{StepsAs};
 

@@ -1,6 +1,7 @@
 use Rattle.std.proofs.Common.{rules}
 use Rattle.dspec_cpu.specs.Lists.{words_of}
 use Rattle.dspec.specs.Passed.{PassesOn}
+use Rattle.dspec.specs.Serving.{ThenServed}
 use Rattle.dspec.proofs.Returning.{all_callable, session_again}
 use Rattle.dspec.proofs.running.run.Goals as goal
 
@@ -13,5 +14,5 @@ join-drained-requires-after_bounds g c =
 pub returns-clause-lent : goal.returns-clause-lent
 returns-clause-lent g c =
     let passes : PassesOn (g.K.Sink.gets c.args.schema.now) (words_of c.args.session.shared) c.args.session.consumer c.args.sink c.join-drained.result.0.0 c.join-drained.result.0.1 = search rules in
-    session_again (λ s. g.W.Work.does s c.args.work.now) c.args.schema.now c.args.session
+    session_again (λ s. ThenServed (g.W.Work.does s c.args.work.now)) c.args.schema.now c.args.session
     (record { shared = c.args.session.shared; cpus = c.join-drained.result.1; consumer = c.join-drained.result.0.0 }) c.requires (search rules) passes.stays

@@ -6,11 +6,12 @@ use Rattle.dspec_cpu.specs.declared.shared.Shared.{Shared}
 use Rattle.dspec_table.specs.declared.rule.View.{View}
 use Rattle.dspec_table.specs.Seats.{set_up}
 use Rattle.dspec_cpu.specs.Lists.{words_of}
-use Rattle.dspec_consumer.specs.Closing.{IsClosedBy}
-use Rattle.dspec_consumer.specs.Consumers.{view_of}
-use Rattle.dspec_consumer.specs.Leaving.{Has}
-use Rattle.dspec_consumer.specs.Promised.{IsPromisedBy, called_at, entered_at}
-use Rattle.dspec_consumer.specs.Sessions.{HasAt, taken_at, worn_at}
+use Rattle.dspec_session_core.specs.Closing.{IsClosedBy}
+use Rattle.dspec_session_core.specs.Consumers.{view_of}
+use Rattle.dspec_session_core.specs.Leaving.{Has}
+use Rattle.dspec_session_core.specs.Promised.{IsPromisedBy, called_at, entered_at}
+use Rattle.dspec_session_core.specs.Sessions.{HasAt, taken_at, worn_at}
+use Rattle.dspec.specs.Serving.{ThenServed}
 use Rattle.dspec.proofs.Returning.{worked}
 use Rattle.dspec.proofs.Tracing.{fresh_none, listed, traced}
 use Rattle.dspec.proofs.running.trace.Goals as goal
@@ -25,7 +26,7 @@ returns-clause-traced g c =
     let accepts : EnabledRows → _ = λ e. table_accepts e.header (enabled e.rows) in
     let text : EnabledRows → _ = λ e. table_text e.header (enabled e.rows) in
     let same = ap (λ (w : Shared). set_up (words_of w)) c.run-session.ensures.words ∙ started.config in
-    let does = λ (x : EnabledRows). g.W.Work.does x c.args.work.now in
+    let does = λ (x : EnabledRows). ThenServed (g.W.Work.does x c.args.work.now) in
     let lent = c.run-session.ensures.lent in
     traced shape accepts text (g.K.Sink.gets schema) schema (words_of s.shared) s.consumer back.consumer c.args.sink c.run-session.result.1 c.pass_rests.new.sink
     c.finish-closed.result started.consumer.1 c.run-session.ensures.passes c.pass_rests.ensures (does schema) c.args.config.now back.cpus.items

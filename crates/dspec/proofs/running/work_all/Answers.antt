@@ -6,6 +6,7 @@ use Rattle.dspec_cpu.specs.Standing.{identity}
 use Rattle.dspec_cpu.specs.Called.{called}
 use Rattle.dspec_cpu.specs.Lists.{number_in, schema_of}
 use Rattle.dspec.specs.Lent.{AllReturned, Returned}
+use Rattle.dspec.specs.Serving.{ThenServed}
 use Rattle.dspec.proofs.Returning.{there, all_returned}
 use Rattle.dspec.proofs.running.work_all.Goals as goal
 
@@ -16,7 +17,7 @@ for_each_mut-requires-clause-accepts g c κs within = λ i p lt at.
 
 pub returns : goal.returns
 returns g c =
-    let does = λ (schema : EnabledRows). g.W.Work.does schema c.args.work.now in
+    let does = λ (schema : EnabledRows). ThenServed (g.W.Work.does schema c.args.work.now) in
     let old = c.as_mut_slice.result.now in
     let new = c.for_each_mut.new.s in
     let same : length new ≡ length old = search rules in

@@ -1,6 +1,7 @@
 use Rattle.std.proofs.Common.{rules}
 use Rattle.dspec_cpu.specs.Lists.{words_of}
 use Rattle.dspec.specs.Passed.{PassesOn}
+use Rattle.dspec.specs.Serving.{ThenServed}
 use Rattle.dspec.specs.Workers.{WorkedBy}
 use Rattle.dspec.proofs.Returning.{all_callable, session_again}
 use Rattle.dspec.proofs.Working.{all_numbered}
@@ -16,7 +17,7 @@ join-drained-requires-after_bounds g c =
 pub returns-clause-lent : goal.returns-clause-lent
 returns-clause-lent g c =
     let passes : PassesOn (g.K.Sink.gets c.args.schema.now) (words_of c.args.session.shared) c.args.session.consumer c.args.sink c.join-drained.result.0.0 c.join-drained.result.0.1 = search rules in (
-      session_again (λ s. WorkedBy (g.W.Worker.does s) c.args.workers.items c.join-drained.result.1.1.items) c.args.schema.now c.args.session
+      session_again (λ s. ThenServed (WorkedBy (g.W.Worker.does s) c.args.workers.items c.join-drained.result.1.1.items)) c.args.schema.now c.args.session
           (record { shared = c.args.session.shared; cpus = c.join-drained.result.1.0; consumer = c.join-drained.result.0.0 }) c.requires.session (search rules) passes.stays,
       (search rules),
       (search rules),

@@ -6,11 +6,12 @@ use Rattle.dspec_cpu.specs.declared.shared.Shared.{Shared}
 use Rattle.dspec_table.specs.declared.rule.View.{View}
 use Rattle.dspec_table.specs.Seats.{set_up}
 use Rattle.dspec_cpu.specs.Lists.{words_of}
-use Rattle.dspec_consumer.specs.Closing.{IsClosedBy}
-use Rattle.dspec_consumer.specs.Consumers.{view_of}
-use Rattle.dspec_consumer.specs.Leaving.{Has}
-use Rattle.dspec_consumer.specs.Promised.{IsPromisedBy, called_at, entered_at}
-use Rattle.dspec_consumer.specs.Sessions.{HasAt, taken_at, worn_at}
+use Rattle.dspec_session_core.specs.Closing.{IsClosedBy}
+use Rattle.dspec_session_core.specs.Consumers.{view_of}
+use Rattle.dspec_session_core.specs.Leaving.{Has}
+use Rattle.dspec_session_core.specs.Promised.{IsPromisedBy, called_at, entered_at}
+use Rattle.dspec_session_core.specs.Sessions.{HasAt, taken_at, worn_at}
+use Rattle.dspec.specs.Serving.{ThenServed}
 use Rattle.dspec.specs.Workers.{WorkedBy, with_cpus}
 use Rattle.dspec.proofs.Returning.{worked}
 use Rattle.dspec.proofs.Tracing.{fresh_none, listed, traced}
@@ -28,7 +29,7 @@ returns-clause-traced g c =
     let count : c.in-Ok.cpus ≡ length c.args.workers.items = search rules in
     let sized = ap (λ n. with_cpus n c.args.config.now) count in
     let same = ap (λ (w : Shared). set_up (words_of w)) c.run_workers-session.ensures.lent.1 ∙ (started.config ∙ sized) in
-    let does = λ (x : EnabledRows). WorkedBy (g.W.Worker.does x) c.args.workers.items c.run_workers-session.result.1.items in
+    let does = λ (x : EnabledRows). ThenServed (WorkedBy (g.W.Worker.does x) c.args.workers.items c.run_workers-session.result.1.items) in
     let lent = c.run_workers-session.ensures.lent.0 in
     traced shape accepts text (g.K.Sink.gets schema) schema (words_of s.shared) s.consumer back.consumer c.args.sink c.run_workers-session.result.2 c.pass_rests.new.sink
     c.finish-closed.result started.consumer.1 c.run_workers-session.ensures.passes c.pass_rests.ensures (does schema) (with_cpus (length c.args.workers.items) c.args.config.now) back.cpus.items

@@ -1,7 +1,7 @@
 -- The turns that are played.
 use Rattle.std.proofs.Common.{◌≡◌}
-use Rattle.dspec_play.specs.Promised.{HasHeadline}
-use Rattle.dspec_play.proofs.PlayerRuns.{IsSoFar}
+use Rattle.dspec_interleaving.specs.Promised.{HasHeadline}
+use Rattle.dspec_interleaving.proofs.PlayerRuns.{IsSoFar}
 use Rattle.dspec_core.proofs.player.play.Given as goal
 
 abbrev pub invariant-loop-number : goal.invariant-loop-number

@@ -1,8 +1,8 @@
 -- The run so far, and what its steps keep.
 use Rattle.std.proofs.Common.{◌≡◌}
-use Rattle.dspec_play.specs.Bounds.{most_steps}
-use Rattle.dspec_play.specs.Promised.{HasHeadline}
-use Rattle.dspec_play.proofs.PlayerMoves.{RunsOn}
+use Rattle.dspec_interleaving.specs.Bounds.{most_steps}
+use Rattle.dspec_interleaving.specs.Promised.{HasHeadline}
+use Rattle.dspec_interleaving.proofs.PlayerMoves.{RunsOn}
 use Rattle.dspec_core.proofs.player.run_actor.Given as goal
 
 abbrev pub invariant-loop : goal.invariant-loop

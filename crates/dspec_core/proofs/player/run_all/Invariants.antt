@@ -1,7 +1,7 @@
 -- The CPUs that have run to their ends.
 use Rattle.std.proofs.Common.{◌≡◌}
-use Rattle.dspec_play.specs.Promised.{HasHeadline}
-use Rattle.dspec_play.proofs.PlayerRuns.{RanCpus}
+use Rattle.dspec_interleaving.specs.Promised.{HasHeadline}
+use Rattle.dspec_interleaving.proofs.PlayerRuns.{RanCpus}
 use Rattle.dspec_core.proofs.player.run_all.Given as goal
 
 abbrev pub invariant-loop-cpu : goal.invariant-loop-cpu

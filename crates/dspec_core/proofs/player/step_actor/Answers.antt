@@ -1,6 +1,6 @@
 use Rattle.std.proofs.Common.{sym, ap, ◌∙◌, ◌++◌, ◌∷◌, [], Some}
 use Rattle.dspec_deeds.specs.declared.calls.Op.{Op}
-use Rattle.dspec_play.proofs.PlayerMoves.{step_at, told_done}
+use Rattle.dspec_interleaving.proofs.PlayerMoves.{step_at, told_done}
 use Rattle.dspec_core.proofs.player.step_actor.Goals as goal
 
 pub returns-in_ok-push-in-Done-clause-stepped : goal.returns-in_ok-push-in-Done-clause-stepped

@@ -1,5 +1,5 @@
 use Rattle.dspec_ctf_reading.specs.Layouts.{names_by}
-use Rattle.dspec_ctf_reading.proofs.Events.{stamps-with-two}
+use Rattle.dspec_ctf_reading.proofs.EventsRead.{stamps-with-two}
 use Rattle.dspec_ctf_reading.proofs.Timed.{timed-back}
 use Rattle.dspec_ctf_reading.proofs.laws.timed_file_reads_back.Goals as goal
 

@@ -1,4 +1,4 @@
-use Rattle.dspec_deeds.proofs.OwnSides.{tells_present}
+use Rattle.dspec_deeds.proofs.OwnStates.{tells_present}
 use Rattle.dspec_deeds.proofs.lists.own_marks.Goals as goal
 
 pub returns : goal.returns

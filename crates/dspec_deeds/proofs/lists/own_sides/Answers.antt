@@ -1,4 +1,4 @@
-use Rattle.dspec_deeds.proofs.OwnSides.{side_part, last_bare}
+use Rattle.dspec_deeds.proofs.OwnStates.{side_part, last_bare}
 use Rattle.dspec_deeds.proofs.lists.own_sides.Goals as goal
 
 pub returns-clause-parts : goal.returns-clause-parts

@@ -1,6 +1,6 @@
 use Rattle.std.proofs.Common.{◌<◌, List, ℕ, length, rules, sym, subst}
 use Rattle.dspec_ctf_reading.specs.Reading.{Layout, PacketRead}
-use Rattle.dspec_ctf_reader.specs.Told.{told_layout}
+use Rattle.dspec_ctf_reading.specs.Told.{told_layout}
 use Rattle.dspec_folder.specs.Checks.{IsSoundFrom, packet_as_read}
 use Rattle.dspec_folder.proofs.Checking.{sound-back, sound-step}
 use Rattle.dspec_folder.proofs.check.check_file.Goals as goal

@@ -1,6 +1,6 @@
 -- The file is sound where what is left of it is.
 use Rattle.std.proofs.Common.{length}
-use Rattle.dspec_ctf_reader.specs.Told.{told_layout}
+use Rattle.dspec_ctf_reading.specs.Told.{told_layout}
 use Rattle.dspec_folder.specs.Checks.{IsSoundFrom}
 use Rattle.dspec_folder.proofs.check.check_file.Given as goal
 

@@ -3,7 +3,7 @@ use Rattle.std.specs.Prelude.{option_and_then}
 use Rattle.dspec_ctf_reading.specs.Reading.{Layout, Part, FrontRead, EventRead, PacketRead, with_events}
 use Rattle.dspec_ctf_reading.specs.Fronts.{PacketSplit, front_of, split_packet}
 use Rattle.dspec_ctf_reading.proofs.Shorter.{packet-split}
-use Rattle.dspec_ctf_reader.specs.Told.{told_layout, told_packet}
+use Rattle.dspec_ctf_reading.specs.Told.{told_layout, told_packet}
 use Rattle.dspec_folder.proofs.Splitting.{left, shorter}
 use Rattle.dspec_folder.proofs.packet.read_packet.Goals as goal
 

@@ -1,5 +1,5 @@
 use Rattle.std.proofs.Common.{◌∙◌, length-set, refl, arith}
-use Rattle.dspec_consumer.proofs.Callings.{cpu_there, met_there}
+use Rattle.dspec_session_core.proofs.Callings.{cpu_there, met_there}
 use Rattle.dspec_replay.proofs.whole_calls.meet_all.Goals as goal
 
 pub meet-requires-clause-of : goal.meet-requires-clause-of

@@ -6,7 +6,7 @@ use Rattle.specview.proofs.judging.place_of.Goals as goal
 
 pub returns-then-is_one_uuid : goal.returns-then-is_one_uuid
 returns-then-is_one_uuid c =
-    slice_get-get_or c.args.uuids.now c.loop-place.place [] c.loop-place-test.true ∙ ap Some (c.is_one_uuid.ensures.same c.if-is_one_uuid.true)
+    (slice_get-get_or c.args.uuids.now c.loop-place.place [] c.loop-place-test.true ∙ ap Some (c.is_one_uuid.ensures.same c.if-is_one_uuid.true), c.loop-place.invariant)
 
 pub loop-place-preserved : goal.loop-place-preserved
 loop-place-preserved c =

@@ -1,5 +1,5 @@
 use Rattle.std.proofs.Common.{◌≡◌, ◌≤◌, length, reverse, ap, ◌∙◌, subst}
-use Rattle.dspec_shapes.specs.Svg.{svg_text}
+use Rattle.dspec_picture.specs.Svg.{svg_text}
 use Rattle.dspec_picture.specs.Drawing.{drawing}
 use Rattle.dspec_schedule.specs.Schedules.{plan_of}
 use Rattle.dspec_schedule.specs.Reading.{header_of}

@@ -1,11 +1,24 @@
-use Rattle.std.proofs.Common.{◌∙◌, ◌==◌, ap, sym, subst, All, map, length, reverse}
+use Rattle.std.proofs.Common.{◌∙◌, ◌+◌, ◌==◌, ◌<◌, ◌^◌, ap, sym, subst, All, arith, map, length, reverse}
 use Rattle.dspec_ctf.specs.Streams.{Accepts}
+use Rattle.dspec_deeds.specs.Own.{stream}
 use Rattle.specview.specs.Batches.{shown_share}
+use Rattle.specview.specs.Traces.{HaveShortEvents, refused_in}
 use Rattle.specview.proofs.Parts.{Within, written_all}
 use Rattle.specview.proofs.trace.file_as_taken.Goals as goal
 
-pub put_shares-requires : goal.put_shares-requires
-put_shares-requires c =
+pub put_shares-requires-clause-known : goal.put_shares-requires-clause-known
+put_shares-requires-clause-known c =
     let known = Accepts c.args.stream.enablings.now in
     subst (Within known) (sym (ap (map shown_share) c.as_slice.ensures.value ∙ c.in_ok-shares.ensures))
-    (written_all known c.args.stream.cpu (reverse c.args.deeds.now) c.args.drops (length c.args.records.now == 0) (subst (All known) c.requires.accepted c.requires.known))
+    (written_all known c.args.stream.cpu (reverse c.args.deeds.now) c.args.drops (length (stream c.args.stream.cpu (reverse c.args.deeds.now)) == 0)
+    (subst (All known) c.requires.accepted c.requires.known))
+
+pub put_shares-requires-clause-counted : goal.put_shares-requires-clause-counted
+put_shares-requires-clause-counted c =
+    let few = c.requires.refused in
+    let none = c.requires.fresh in
+    subst (λ ss. c.args.stream.missed + refused_in ss < 2 ^ 64) (sym (ap (map shown_share) c.as_slice.ensures.value ∙ c.in_ok-shares.ensures)) (omega arith)
+
+pub put_shares-requires-clause-short : goal.put_shares-requires-clause-short
+put_shares-requires-clause-short c =
+    subst (HaveShortEvents c.args.stream.enablings.now) (sym (ap (map shown_share) c.as_slice.ensures.value ∙ c.in_ok-shares.ensures)) c.requires.short

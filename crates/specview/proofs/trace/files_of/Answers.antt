@@ -1,7 +1,10 @@
-use Rattle.std.proofs.Common.{◌∙◌, sym, ap, subst, reverse, length, slice_index_or, arith}
+use Rattle.std.proofs.Common.{◌∙◌, sym, ap, subst, reverse, length, slice_index_or, All, arith, slice_get}
+use Rattle.std.proofs.lemmas.Option.{slice_get-get_or}
+use Rattle.dspec_ctf.specs.Streams.{Accepts}
 use Rattle.dspec_deeds.specs.Own.{stream}
+use Rattle.dspec_deeds.specs.declared.report.Report.{Report}
 use Rattle.specview.specs.Batches.{TellsCounts}
-use Rattle.specview.specs.Traces.{AreStreams}
+use Rattle.specview.specs.Traces.{AreStreams, TellsSmall}
 use Rattle.specview.proofs.AllFiles.{stream_at, streams_long, no_trace}
 use Rattle.specview.proofs.trace.files_of.Goals as goal
 
@@ -17,6 +20,23 @@ file_of-requires-clause-accepted c =
     ∙ (stream_at c.args.cpus c.loop-cpu.cpu c.args.close.now.deeds c.as_slice-accepted.result.now c.index-accepted-cpu.result
     (subst (AreStreams c.args.cpus c.args.close.now.deeds) (sym c.as_slice-accepted.ensures) c.requires.accepted) c.loop-cpu-test.true c.index-accepted-cpu.is
     ∙ ap (λ ds. stream c.loop-cpu.cpu (reverse ds)) (sym c.as_slice-deeds.ensures))
+
+pub file_of-requires-clause-small : goal.file_of-requires-clause-small
+file_of-requires-clause-small c = λ known.
+    let e = c.args.events.now in
+    let cpu = c.loop-cpu.cpu in
+    let reports = c.as_slice-reports.result.now in
+    let none : Report =
+    record { offered = 0; accepted = 0; dropped = 0; specdropped = 0; lost = 0; discarded = 0; void = 0; held = 0; drops = 0; unavailable = 0; busy = 0; stopped = 0; worn = 0 } in
+    let report = slice_index_or reports cpu none in
+    let same = ap length c.as_slice-reports.ensures in
+    let long = c.requires.reports in
+    let own = c.as_slice-records.ensures
+    ∙ stream_at c.args.cpus cpu c.args.close.now.deeds c.as_slice-accepted.result.now c.index-accepted-cpu.result
+    (subst (AreStreams c.args.cpus c.args.close.now.deeds) (sym c.as_slice-accepted.ensures) c.requires.accepted) c.loop-cpu-test.true c.index-accepted-cpu.is in
+    let at = ap (λ reps. slice_get reps cpu) (sym c.as_slice-reports.ensures) ∙ slice_get-get_or reports cpu none (omega arith) in
+    subst (λ ds. TellsSmall e cpu (reverse ds) report) (sym c.as_slice-deeds.ensures)
+    (c.requires.small cpu report at (subst (All (Accepts e)) own known))
 
 pub file_of-requires-clause-told : goal.file_of-requires-clause-told
 file_of-requires-clause-told c = subst (λ ds. TellsCounts c.loop-cpu.cpu (reverse ds)) (sym c.as_slice-deeds.ensures) (c.requires.told c.loop-cpu.cpu)

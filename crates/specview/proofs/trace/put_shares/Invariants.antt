@@ -1,6 +1,6 @@
-use Rattle.std.proofs.Common.{◌≡◌, ◌++◌, map, drop}
+use Rattle.std.proofs.Common.{◌≡◌, ◌+◌, ◌++◌, map, drop}
 use Rattle.specview.specs.Batches.{shown_share}
-use Rattle.specview.specs.Traces.{packets_behind}
+use Rattle.specview.specs.Traces.{packets_behind, refused_in}
 use Rattle.specview.proofs.trace.put_shares.Given as goal
 
 abbrev pub invariant-loop-share : goal.invariant-loop-share
@@ -10,4 +10,5 @@ invariant-loop-share l = record {
   cpu : l.stream.cpu ≡ l.initial.stream.cpu;
   ahead : l.bytes.items ++ packets_behind l.initial.stream.uuid l.initial.stream.enablings.now l.initial.stream.cpu l.stream.missed (map shown_share (drop l.share-index l.shares))
       ≡ packets_behind l.initial.stream.uuid l.initial.stream.enablings.now l.initial.stream.cpu l.initial.stream.missed (map shown_share l.shares);
+  counted : l.stream.missed + refused_in (map shown_share (drop l.share-index l.shares)) ≡ l.initial.stream.missed + refused_in (map shown_share l.shares);
 }

@@ -1,8 +1,13 @@
-use Rattle.std.proofs.Common.{◌∙◌, ap, length, reverse}
+use Rattle.std.proofs.Common.{◌≡◌, ℕ, ◌∙◌, ap, subst, sym, All, Some, length, reverse, slice_get}
+use Rattle.dspec_ctf.specs.Streams.{Accepts}
+use Rattle.dspec_deeds.specs.Own.{stream}
+use Rattle.dspec_deeds.specs.declared.report.Report.{Report}
 use Rattle.dspec_schedule.specs.Schedules.{plan_of}
 use Rattle.dspec_player.specs.PlayedTexts.{shapes_of}
-use Rattle.dspec_play.specs.Plays.{worn_count}
-use Rattle.specview.proofs.AllFiles.{reports_long, legal_told}
+use Rattle.dspec_interleaving.specs.Plays.{worn_count}
+use Rattle.specview.specs.Traces.{TellsSmall, event_rows}
+use Rattle.specview.proofs.AllFiles.{reports_long, legal_told, of_numbered}
+use Rattle.specview.proofs.SmallPlays.{play_small}
 use Rattle.specview.proofs.trace.trace_of_play.Goals as goal
 
 pub files_of-requires-clause-reports : goal.files_of-requires-clause-reports
@@ -11,3 +16,11 @@ files_of-requires-clause-reports c = ap length c.requires.reports ∙ reports_lo
 pub files_of-requires-clause-told : goal.files_of-requires-clause-told
 files_of-requires-clause-told c = λ a.
     legal_told (shapes_of (plan_of c.args.schedule.now)) c.args.schedule.now.config a (reverse c.args.outcome.now.close.deeds) c.requires.legal
+
+pub files_of-requires-clause-small : goal.files_of-requires-clause-small
+files_of-requires-clause-small c = subst (λ e. (a : ℕ) (q : Report) → slice_get c.args.outcome.now.close.reports a ≡ Some q
+    → All (Accepts e) (stream a (reverse c.args.outcome.now.close.deeds)) → TellsSmall e a (reverse c.args.outcome.now.close.deeds) q)
+    (sym (c.events_of-events.ensures ∙ ap (event_rows (plan_of c.args.schedule.now)) c.as_slice.ensures)) (play_small (plan_of c.args.schedule.now) c.args.outcome.now c.requires)
+
+pub form_fault-requires : goal.form_fault-requires
+form_fault-requires c = of_numbered c.args.form c.events_of-events.result c.in-Err.fault c.in-Err.ensures.fault

@@ -1,6 +1,6 @@
 -- The consumer is still that of the session.
 use Rattle.dspec_cpu.specs.Lists.{words_of}
-use Rattle.dspec_consumer.specs.Consumers.{Stays}
+use Rattle.dspec_session_core.specs.Consumers.{Stays}
 use Rattle.torture.proofs.consuming.consume.Given as goal
 
 abbrev pub invariant-loop-round : goal.invariant-loop-round

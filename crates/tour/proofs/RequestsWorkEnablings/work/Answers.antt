@@ -11,12 +11,12 @@ returns-clause-did c request-has touch-has =
     let t = c.in-Ok-Ok.touch in
     let request = plain_record r c.args.self.now.request c.in-Ok-Ok.ensures.same in
     let touch = plain_record t c.args.self.now.touch c.in-Ok-Ok.ensures'.same in
-    one_by_one (epid_of_probe c.args.self.now.request) (epid_of_probe c.args.self.now.touch) c.path-failed.result.opening c.path-fine.result.opening c.step.result
-    c.step-2.result c.step-3.result c.keep.result c.throw.result c.record.result c.record-2.result c.record-3.result (called c.args.lane.now.cpu.now)
-    (called c.path-failed.new.self.cpu.now) (called c.step.new.lane.cpu.now) (called c.step-2.new.lane.cpu.now) (called c.keep.new.lane.cpu.now)
-    (called c.path-fine.new.self.cpu.now) (called c.step-3.new.lane.cpu.now) (called c.throw.new.lane.cpu.now) (called c.record.new.lane.cpu.now)
+    one_by_one (epid_of_probe c.args.self.now.request) (epid_of_probe c.args.self.now.touch) c.path-failed.result.opening c.path-fine.result.opening c.record_in.result
+    c.record_in-2.result c.record_in-3.result c.commit.result c.discard.result c.record.result c.record-2.result c.record-3.result (called c.args.lane.now.cpu.now)
+    (called c.path-failed.new.self.cpu.now) (called c.record_in.new.lane.cpu.now) (called c.record_in-2.new.lane.cpu.now) (called c.commit.new.lane.cpu.now)
+    (called c.path-fine.new.self.cpu.now) (called c.record_in-3.new.lane.cpu.now) (called c.discard.new.lane.cpu.now) (called c.record.new.lane.cpu.now)
     (called c.record-2.new.lane.cpu.now) (called c.record-3.new.lane.cpu.now) (probed_record t 0 (4096 ∷ 5 ∷ [])) (probed_record t 0 (8192 ∷ 0 ∷ []))
     (probed_record t 0 (12288 ∷ 0 ∷ [])) (probed_record r 0 (7 ∷ [])) (probed_record r 0 (8 ∷ [])) (probed_record r 0 (9 ∷ [])) (touch (4096 ∷ 5 ∷ []))
     (touch (8192 ∷ 0 ∷ [])) (touch (12288 ∷ 0 ∷ [])) (request (7 ∷ [])) (request (8 ∷ [])) (request (9 ∷ [])) c.path-failed.ensures.does.tells
-    c.step.ensures.does.tells c.step-2.ensures.does.tells c.keep.ensures.does.tells c.path-fine.ensures.does.tells c.step-3.ensures.does.tells
-    c.throw.ensures.does.tells c.record.ensures.does.tells c.record-2.ensures.does.tells c.record-3.ensures.does.tells
+    c.record_in.ensures.does.tells c.record_in-2.ensures.does.tells c.commit.ensures.does.tells c.path-fine.ensures.does.tells c.record_in-3.ensures.does.tells
+    c.discard.ensures.does.tells c.record.ensures.does.tells c.record-2.ensures.does.tells c.record-3.ensures.does.tells

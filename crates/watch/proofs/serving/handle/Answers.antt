@@ -12,4 +12,4 @@ loop-place-init c = (
 )
 
 pub loop-place-preserved : goal.loop-place-preserved
-loop-place-preserved c = (c.step.ensures.same ∙ c.loop-place.invariant.0, one_step _ c.step.result _ c.loop-place.invariant.1 c.step.ensures.does.tells)
+loop-place-preserved c = (c.record_in.ensures.same ∙ c.loop-place.invariant.0, one_step _ c.record_in.result _ c.loop-place.invariant.1 c.record_in.ensures.does.tells)

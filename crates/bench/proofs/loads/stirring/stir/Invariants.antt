@@ -1,6 +1,6 @@
 use Rattle.std.proofs.Common.{◌≡◌}
 use Rattle.dspec_table.specs.Seats.{known, IsAt, set_up, cpu_of}
-use Rattle.dspec_table_tests.specs.Calls.{Unused}
+use Rattle.test_words.specs.Calls.{Unused}
 use Rattle.bench.proofs.loads.stirring.stir.Given as goal
 
 abbrev pub invariant-loop : goal.invariant-loop

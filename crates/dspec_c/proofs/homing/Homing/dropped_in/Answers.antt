@@ -2,9 +2,9 @@ use Rattle.std.proofs.Common.{subst}
 use Rattle.dspec_record.specs.EnablingRows.{EnabledRows}
 use Rattle.dspec_cpu.specs.declared.cpu.Cpu.{Cpu}
 use Rattle.dspec_c.specs.CpuCalls.{Drops}
-use Rattle.dspec_c.specs.Homes.{Side}
+use Rattle.dspec_c.specs.Homes.{CpuSide}
 use Rattle.dspec_c.proofs.homing.Homing.dropped_in.Goals as goal
 
 pub returns : goal.returns
-returns c = subst (λ (s : Side). Drops c.args.id s.cpu c.dropped_in.result) c.self.view_is
+returns c = subst (λ (s : CpuSide). Drops c.args.id s.cpu c.dropped_in.result) c.self.view_is
     (subst (λ (x : Cpu EnabledRows). Drops c.args.id x c.dropped_in.result) c.deref.ensures c.dropped_in.ensures)

@@ -2,8 +2,8 @@ use Rattle.std.proofs.Common.{subst}
 use Rattle.dspec_record.specs.EnablingRows.{EnabledRows}
 use Rattle.dspec_cpu.specs.declared.cpu.Cpu.{Cpu}
 use Rattle.dspec_c.specs.CpuCalls.{Reports}
-use Rattle.dspec_c.specs.Homes.{Side}
+use Rattle.dspec_c.specs.Homes.{CpuSide}
 use Rattle.dspec_c.proofs.homing.Homing.report.Goals as goal
 
 pub returns : goal.returns
-returns c = subst (λ (s : Side). Reports s.cpu c.report.result) c.self.view_is (subst (λ (x : Cpu EnabledRows). Reports x c.report.result) c.deref.ensures c.report.ensures)
+returns c = subst (λ (s : CpuSide). Reports s.cpu c.report.result) c.self.view_is (subst (λ (x : Cpu EnabledRows). Reports x c.report.result) c.deref.ensures c.report.ensures)

@@ -1,6 +1,6 @@
 use Rattle.std.proofs.Common.{◌≡◌, subst}
 use Rattle.std.specs.Prelude.{MatchResult}
-use Rattle.dspec_consumer.specs.Batches.{GaveBack, IsNotTakenBack}
+use Rattle.dspec_session_core.specs.Batches.{GaveBack, IsNotTakenBack}
 use Rattle.dspec_c.specs.ConsumerCalls.{OnTheirs}
 use Rattle.dspec_c.specs.ConsumerHomes.{Theirs}
 use Rattle.dspec_c.proofs.ConsumerHomes.{kept}

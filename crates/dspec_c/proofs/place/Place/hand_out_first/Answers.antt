@@ -2,7 +2,7 @@ use Rattle.std.proofs.Common.{Option, sym, ap, ◌∙◌, subst}
 use Rattle.std.specs.Prelude.{IsSome, is_some}
 use Rattle.std.specs.Arc.{arc_value}
 use Rattle.dspec_cpu.specs.Standing.{identity}
-use Rattle.dspec_c.specs.Homes.{AtHome, CpuStay, Side}
+use Rattle.dspec_c.specs.Homes.{AtHome, CpuStay, CpuSide}
 use Rattle.dspec_c.proofs.Homes.{callable_so, free_on, goes_out, is_unused, leaves_so, left_so, same_there, went_by}
 use Rattle.dspec_c.proofs.place.Place.hand_out_first.Goals as goal
 
@@ -24,8 +24,8 @@ of-requires-2-clause-out c =
     let first = ap (λ (s : CpuStay). s.first) (sym c.self.view_is) ∙ c.self.invariant.1 in
     let used = is_unused went_by free_on _ _ c.unwrap-way.result _ c.self.invariant (sym c.take.ensures.value ∙ c.unwrap-way.ensures) in
     let at = sym c.take-2.ensures.value ∙ c.unwrap-home.ensures in
-    goes_out _ c.self.invariant.0 _ used.went (ap (λ (s : Side). s.shared) c.of.ensures ∙ (c.requires.place c.self.invariant.0 first).0)
-    (ap (λ (s : Side). identity s.cpu) c.of.ensures ∙ same_there c.self.invariant.0 _ _ c.unwrap-home.result c.self.invariant.2 at)
+    goes_out _ c.self.invariant.0 _ used.went (ap (λ (s : CpuSide). s.shared) c.of.ensures ∙ (c.requires.place c.self.invariant.0 first).0)
+    (ap (λ (s : CpuSide). identity s.cpu) c.of.ensures ∙ same_there c.self.invariant.0 _ _ c.unwrap-home.result c.self.invariant.2 at)
 
 pub of-requires-2-clause-room : goal.of-requires-2-clause-room
 of-requires-2-clause-room c = (is_unused went_by free_on _ _ c.unwrap-way.result _ c.self.invariant (sym c.take.ensures.value ∙ c.unwrap-way.ensures)).room
@@ -41,5 +41,5 @@ returns c =
     let same = same_there c.self.invariant.0 _ _ c.unwrap-home.result c.self.invariant.2 at in
     let is = c.of-2.ensures ∙ c.of.ensures in
     leaves_so (arc_value c.args.shared) _ _ c.self.invariant.0 c.self.invariant.0 c.of-2.result c.unwrap-home.result first (ap (λ (s : CpuStay). s.inside) (sym c.self.view_is) ∙ at) same is
-    c.self.invariant.1 (record { shared = ap (λ (s : Side). s.shared) is ∙ (c.requires.place c.self.invariant.0 first).0; cpu = ap (λ (s : Side). identity s.cpu) is ∙ same })
+    c.self.invariant.1 (record { shared = ap (λ (s : CpuSide). s.shared) is ∙ (c.requires.place c.self.invariant.0 first).0; cpu = ap (λ (s : CpuSide). identity s.cpu) is ∙ same })
     c.take-2.ensures.after (ap (λ o. is_some o) c.take.ensures.after)

@@ -1,6 +1,6 @@
 -- The accepted records, of the CPU's side.
 use Rattle.std.proofs.Common.{◌≡◌, ◌<◌, sym, ap, ◌∙◌, subst}
-use Rattle.dspec_play.specs.Coherent.{PlayState}
+use Rattle.dspec_interleaving.specs.Coherent.{PlayState}
 use Rattle.dspec_machine.specs.Machines.{state_of}
 use Rattle.dspec_deeds.specs.Own.{stream}
 use Rattle.dspec_machine.proofs.MachineReads.{cpu_read}

@@ -2,9 +2,9 @@
 use Rattle.std.proofs.Common.{◌≡◌, refl}
 use Rattle.dspec_deeds.specs.declared.calls.Actor.TheVariants as actor
 use Rattle.dspec_machine.specs.Machines.{state_of}
-use Rattle.dspec_machine.specs.Worlds.{IsKept, world_view}
+use Rattle.dspec_machine.specs.Worlds.{WorldInvariant, world_view}
 use Rattle.dspec_machine.proofs.PromiseKept.{holds_behind, promise_kept}
-use Rattle.dspec_play.proofs.StepCounts.{made_counted}
+use Rattle.dspec_interleaving.proofs.StepCounts.{made_counted}
 use Rattle.dspec_core.proofs.world.World.advance.Goals as goal
 
 pub returns-in-Cpu-clause-counted : goal.returns-in-Cpu-clause-counted
@@ -17,7 +17,7 @@ returns-in-Cpu-clause-counted g c =
 pub returns-in-Cpu-clause-promised : goal.returns-in-Cpu-clause-promised
 returns-in-Cpu-clause-promised g c =
     let n = c.step_cpu.new.self in
-    let kept = holds_behind (IsKept g.B.TraceBuffer.has g.B.TraceBuffer.capacity g.S.Schema.shape_of g.S.Schema.accepted) c.step_cpu.result c.self.inside.machine n c.self.invariant
+    let kept = holds_behind (WorldInvariant g.B.TraceBuffer.has g.B.TraceBuffer.capacity g.S.Schema.shape_of g.S.Schema.accepted) c.step_cpu.result c.self.inside.machine n c.self.invariant
     c.step_cpu.ensures.kept c.step_cpu.ensures.refused in
     promise_kept g.S.Schema.shape_of n (world_view n) refl kept.coherent
 
@@ -31,6 +31,6 @@ returns-in-Consumer-clause-counted g c =
 pub returns-in-Consumer-clause-promised : goal.returns-in-Consumer-clause-promised
 returns-in-Consumer-clause-promised g c =
     let n = c.step_consumer.new.self in
-    let kept = holds_behind (IsKept g.B.TraceBuffer.has g.B.TraceBuffer.capacity g.S.Schema.shape_of g.S.Schema.accepted) c.step_consumer.result c.self.inside.machine n c.self.invariant
+    let kept = holds_behind (WorldInvariant g.B.TraceBuffer.has g.B.TraceBuffer.capacity g.S.Schema.shape_of g.S.Schema.accepted) c.step_consumer.result c.self.inside.machine n c.self.invariant
     c.step_consumer.ensures.kept c.step_consumer.ensures.refused in
     promise_kept g.S.Schema.shape_of n (world_view n) refl kept.coherent

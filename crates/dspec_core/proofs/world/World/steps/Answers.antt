@@ -2,14 +2,14 @@
 use Rattle.std.proofs.Common.{◌≡◌, ◌<◌, true, refl, sym, ap, subst}
 use Rattle.dspec_deeds.specs.declared.calls.Actor.{Actor}
 use Rattle.dspec_deeds.specs.declared.calls.Actor.TheVariants as actor
-use Rattle.dspec_play.specs.declared.flight.CpuProgress.{CpuProgress}
-use Rattle.dspec_play.specs.Bounds.{steps_limit}
-use Rattle.dspec_play.specs.Calls.{is_actor}
-use Rattle.dspec_play.specs.Coherent.{PlayState}
+use Rattle.dspec_interleaving.specs.declared.flight.CpuProgress.{CpuProgress}
+use Rattle.dspec_interleaving.specs.Bounds.{steps_limit}
+use Rattle.dspec_interleaving.specs.Calls.{is_actor}
+use Rattle.dspec_interleaving.specs.Coherent.{PlayState}
 use Rattle.dspec_machine.specs.Machines.{state_of}
 use Rattle.dspec_machine.proofs.MachineReads.{cpu_got}
 use Rattle.dspec_machine.proofs.OneMore.{progress_there}
-use Rattle.dspec_play.proofs.StepCounts.{is_below, steps_below}
+use Rattle.dspec_interleaving.proofs.StepCounts.{is_below, steps_below}
 use Rattle.dspec_core.proofs.world.World.steps.Goals as goal
 
 pub returns-in-Cpu-clause-bounded : goal.returns-in-Cpu-clause-bounded

@@ -14,7 +14,7 @@ use Rattle.dspec_cpu.specs.Lists.{words_of}
 use Rattle.dspec_cpu.proofs.Limits.{has_room, limits}
 use Rattle.dspec_cpu.proofs.Reaches.{slot_inside}
 use Rattle.dspec_cpu.proofs.Ready.{roomy, few_drops}
-use Rattle.dspec_cpu.proofs.Speaks.{own_mark}
+use Rattle.dspec_cpu.proofs.Speculates.{own_mark}
 use Rattle.dspec_cpu.proofs.Decisions.{commits_now, fate_count, worn_shown}
 use Rattle.dspec_cpu.proofs.Decided.{five_steps, reached_here, undecided}
 use Rattle.dspec_cpu.proofs.Commits.{left, left_open, released}

@@ -1,6 +1,6 @@
 use Rattle.std.proofs.Common.{◌≡◌, ◌∙◌, ap, arith, refl, subst, sym}
 use Rattle.dspec_buffer.specs.Stored.{Stored}
-use Rattle.dspec_side.specs.declared.side.Side.{Side}
+use Rattle.dspec_cpu_state.specs.declared.cpu_state.CpuState.{CpuState}
 use Rattle.dspec_cpu.specs.declared.parts.CpuParts.{CpuParts as Cpu}
 use Rattle.dspec_cpu.specs.Switching.{not_asked, worn_out, buffers_of, with_buffers}
 use Rattle.dspec_cpu.proofs.Heeding.{left_held_back, none_found, sealed_now}
@@ -35,12 +35,13 @@ returns-clause-heeds g c =
     sealed_now cpu.config cpu.cpu c.args.ask (buffers_of cpu) c.if-ask-self.false c.if-self.false c.find_spare.new.end c.find_spare.new.spare c.find_spare.ensures
     c.in-Some.spare c.take.new.self c.seal.new.side.active c.seal.new.side.drops c.seal.new.side.seals c.seal.result c.hand_on.new.end c.hand_on.new.held_back
     (sym c.take.ensures.value ∙ c.in-Some.is) (sym c.is_some.ensures ∙ c.if-is_some.false) c.take.ensures.after c.seal.ensures.batch
-    (ap (λ (x : Side Stored). x.active) c.seal.ensures.side) (ap (λ (x : Side Stored). x.drops) c.seal.ensures.side) (ap (λ (x : Side Stored). x.seals) c.seal.ensures.side) c.hand_on.ensures
+    (ap (λ (x : CpuState Stored). x.active) c.seal.ensures.side) (ap (λ (x : CpuState Stored). x.drops) c.seal.ensures.side)
+    (ap (λ (x : CpuState Stored). x.seals) c.seal.ensures.side) c.hand_on.ensures
 
 pub returns-clause-beside : goal.returns-clause-beside
 returns-clause-beside g c =
     let cpu = c.args.self.now in (
-      subst (λ (x : Side Stored). ◌≡◌ {A = Cpu g.row.S.Denot} (record cpu { end = c.hand_on.new.end; spare = c.take.new.self; held_back = c.hand_on.new.held_back; side = x })
+      subst (λ (x : CpuState Stored). ◌≡◌ {A = Cpu g.row.S.Denot} (record cpu { end = c.hand_on.new.end; spare = c.take.new.self; held_back = c.hand_on.new.held_back; side = x })
           (with_buffers cpu cpu.seat (buffers_of (record cpu { end = c.hand_on.new.end; spare = c.take.new.self; held_back = c.hand_on.new.held_back; side = x })))) (sym c.seal.ensures.side) refl,
       refl,
     )

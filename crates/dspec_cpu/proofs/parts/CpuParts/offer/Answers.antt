@@ -14,11 +14,11 @@ use Rattle.dspec_cpu.specs.Lists.{words_of}
 use Rattle.dspec_cpu.proofs.Limits.{limits}
 use Rattle.dspec_cpu.proofs.Ready.{roomy, few, ready_after}
 use Rattle.dspec_cpu.proofs.Shown.{shows, shown_behind}
-use Rattle.dspec_cpu.proofs.Speaks.{asked, grants, grant_deeds, caller_of, own_mark, granted_shown}
-use Rattle.dspec_cpu.specs.Keeping.{CallKeeps}
+use Rattle.dspec_cpu.proofs.Speculates.{asked, grants, grant_deeds, caller_of, own_mark, granted_shown}
+use Rattle.dspec_cpu.specs.Keeping.{CallLeaves}
 use Rattle.dspec_cpu.specs.Touching.{of_slot}
 use Rattle.dspec_cpu.proofs.Keeps.{reached_keeps}
-use Rattle.dspec_side.specs.declared.counts.Counts.{Counts}
+use Rattle.dspec_cpu_state.specs.declared.counts.Counts.{Counts}
 use Rattle.dspec_cpu.proofs.parts.CpuParts.offer.Goals as goal
 
 pub go_on-reached-requires-clause-mine : goal.go_on-reached-requires-clause-mine
@@ -29,14 +29,14 @@ go_on-reached-requires-clause-mine g c = λ within.
     ∙ (ap (λ m. m == c.args.id.issue + 1) (own_mark cpu.cpu c.args.id.slot (known cpu.seat).own ready.steady.list cpu.config ready.steady.listed.own)
     ∙ ap (λ n. mark n c.args.id.slot (known cpu.seat).own == c.args.id.issue + 1) (sym ready.steady.seat))
 
-pub speak_nowhere-requires : goal.speak_nowhere-requires
-speak_nowhere-requires g c =
+pub speculate_nowhere-requires : goal.speculate_nowhere-requires
+speculate_nowhere-requires g c =
     let most = (limits c.args.self.now.config c.requires.ready.steady.checked).calls in
     let lt = c.requires.calls in
     record { nowhere = refl; calls = omega arith; counts = roomy _ _ _ (words_of c.args.shared.now) c.args.self.now c.requires.ready c.requires.calls }
 
-pub speak_nowhere-requires-in-Void : goal.speak_nowhere-requires-in-Void
-speak_nowhere-requires-in-Void g c =
+pub speculate_nowhere-requires-in-Void : goal.speculate_nowhere-requires-in-Void
+speculate_nowhere-requires-in-Void g c =
     let most = (limits c.args.self.now.config c.requires.ready.steady.checked).calls in
     let lt = c.requires.calls in
     record { nowhere = refl; calls = omega arith; counts = roomy _ _ _ (words_of c.args.shared.now) c.args.self.now c.requires.ready c.requires.calls }
@@ -80,8 +80,8 @@ returns-in-Stopped-clause-list g c =
     (λ i. (ready.config i, ready.steady.seat i, c.to_rec-copied.ensures i)) c.in-Stopped.ensures.reached in
     λ p had. record {
       own = ap (λ l. Speculate cpu.cpu id r spoken.Stopped ∷ l) had.own ∙ sym got.stands.own;
-      shown = shown_behind _ _ _ cpu.side p had.shown (Speculate cpu.cpu id r spoken.Stopped) refl (number_is_itself cpu.cpu) tt c.speak_nowhere.new.self
-          (c.speak_nowhere.ensures.shows cpu.schema cpu.config cpu.cpu p id r (shows _ _ _ cpu.side p had.shown));
+      shown = shown_behind _ _ _ cpu.side p had.shown (Speculate cpu.cpu id r spoken.Stopped) refl (number_is_itself cpu.cpu) tt c.speculate_nowhere.new.self
+          (c.speculate_nowhere.ensures.shows cpu.schema cpu.config cpu.cpu p id r (shows _ _ _ cpu.side p had.shown));
     }
 
 pub returns-in-Stopped-clause-ready : goal.returns-in-Stopped-clause-ready
@@ -113,8 +113,8 @@ returns-in-Void-clause-list g c =
     (λ i. (ready.config i, ready.steady.seat i, c.to_rec-copied.ensures i)) c.in-Void.ensures.reached in
     λ p had. record {
       own = ap (λ l. Speculate cpu.cpu id r spoken.Void ∷ l) had.own ∙ sym got.stands.own;
-      shown = shown_behind _ _ _ cpu.side p had.shown (Speculate cpu.cpu id r spoken.Void) refl (number_is_itself cpu.cpu) tt c.speak_nowhere-in-Void.new.self
-          (c.speak_nowhere-in-Void.ensures.shows cpu.schema cpu.config cpu.cpu p id r (shows _ _ _ cpu.side p had.shown));
+      shown = shown_behind _ _ _ cpu.side p had.shown (Speculate cpu.cpu id r spoken.Void) refl (number_is_itself cpu.cpu) tt c.speculate_nowhere-in-Void.new.self
+          (c.speculate_nowhere-in-Void.ensures.shows cpu.schema cpu.config cpu.cpu p id r (shows _ _ _ cpu.side p had.shown));
     }
 
 pub returns-in-Void-clause-ready : goal.returns-in-Void-clause-ready
@@ -296,12 +296,12 @@ returns-else-not-kept-clause-did g c =
 
 pub returns-in-Stopped-clause-keeps : goal.returns-in-Stopped-clause-keeps
 returns-in-Stopped-clause-keeps g c =
-    reached_keeps c.args.self.now c.requires.calls c.go_on-reached.new.seat c.speak_nowhere.new.self _ c.speak_nowhere.ensures.rest refl refl reach.Stopped 4 c.in-Stopped.ensures.reached refl
+    reached_keeps c.args.self.now c.requires.calls c.go_on-reached.new.seat c.speculate_nowhere.new.self _ c.speculate_nowhere.ensures.rest refl refl reach.Stopped 4 c.in-Stopped.ensures.reached refl
     c.requires.ready.config
 
 pub returns-in-Void-clause-keeps : goal.returns-in-Void-clause-keeps
 returns-in-Void-clause-keeps g c =
-    reached_keeps c.args.self.now c.requires.calls c.go_on-reached.new.seat c.speak_nowhere-in-Void.new.self _ c.speak_nowhere-in-Void.ensures.rest refl refl reach.Void 4
+    reached_keeps c.args.self.now c.requires.calls c.go_on-reached.new.seat c.speculate_nowhere-in-Void.new.self _ c.speculate_nowhere-in-Void.ensures.rest refl refl reach.Void 4
     c.in-Void.ensures.reached refl c.requires.ready.config
 
 pub returns-then-not-kept-clause-keeps : goal.returns-then-not-kept-clause-keeps
@@ -310,7 +310,7 @@ returns-then-not-kept-clause-keeps g c =
     let r = c.go_on-reached.result in
     let seat = c.go_on-reached.new.seat in
     let side = c.grant-kept.new.self in
-    subst (λ b. CallKeeps false b 4 (of_slot cpu.config c.args.id) cpu (record cpu { seat = seat; side = side })) (unstopped r (is_running r (grants r c.in-Granted.is)))
+    subst (λ b. CallLeaves false b 4 (of_slot cpu.config c.args.id) cpu (record cpu { seat = seat; side = side })) (unstopped r (is_running r (grants r c.in-Granted.is)))
     (reached_keeps cpu c.requires.calls seat side _ c.grant-kept.ensures.rest refl (ap (λ (x : Counts). x.worn) c.grant-kept.ensures.counts) r 4 c.go_on-reached.ensures.reached refl
     c.requires.ready.config)
 
@@ -320,6 +320,6 @@ returns-else-not-kept-clause-keeps g c =
     let r = c.go_on-reached.result in
     let seat = c.go_on-reached.new.seat in
     let side = c.grant-kept.new.self in
-    subst (λ b. CallKeeps false b 4 (of_slot cpu.config c.args.id) cpu (record cpu { seat = seat; side = side })) (unstopped r (is_running r (grants r c.in-Granted.is)))
+    subst (λ b. CallLeaves false b 4 (of_slot cpu.config c.args.id) cpu (record cpu { seat = seat; side = side })) (unstopped r (is_running r (grants r c.in-Granted.is)))
     (reached_keeps cpu c.requires.calls seat side _ c.grant-kept.ensures.rest refl (ap (λ (x : Counts). x.worn) c.grant-kept.ensures.counts) r 4 c.go_on-reached.ensures.reached refl
     c.requires.ready.config)

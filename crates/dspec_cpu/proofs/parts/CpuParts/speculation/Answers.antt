@@ -9,7 +9,7 @@ use Rattle.dspec_cpu.proofs.Limits.{limits}
 use Rattle.dspec_cpu.proofs.Openings.{bare_opening, opening_shown}
 use Rattle.dspec_cpu.proofs.Ready.{roomy, ready_after}
 use Rattle.dspec_cpu.proofs.Scans.{idle_again, none_flies}
-use Rattle.dspec_side.specs.declared.counts.Counts.{Counts}
+use Rattle.dspec_cpu_state.specs.declared.counts.Counts.{Counts}
 use Rattle.dspec_cpu.proofs.Keeps.{worn_keeps, scanned_keeps}
 use Rattle.dspec_cpu.proofs.parts.CpuParts.speculation.Goals as goal
 

@@ -6,8 +6,8 @@ use Rattle.dspec_buffer.specs.Stored.{Stored, HasPieces}
 use Rattle.dspec_deeds.proofs.TestLemmas.{number_is_itself}
 use Rattle.dspec_table.specs.Steps.{LoadedActivity}
 use Rattle.dspec_table.specs.Seats.{known}
-use Rattle.dspec_side.specs.declared.counts.Counts.{Counts}
-use Rattle.dspec_side.specs.Sides.{ShowsList}
+use Rattle.dspec_cpu_state.specs.declared.counts.Counts.{Counts}
+use Rattle.dspec_cpu_state.specs.CpuStates.{ShowsList}
 use Rattle.dspec_cpu.specs.Calls.{rests}
 use Rattle.dspec_cpu.specs.Lists.{words_of, worn_of}
 use Rattle.dspec_cpu.proofs.Limits.{limits}

@@ -1,7 +1,7 @@
 use Rattle.std.proofs.Common.{◌≡◌, ◌+◌, ◌∙◌, ℕ, sym, subst, arith}
 use Rattle.dspec_deeds.specs.declared.config.Config.{Config}
 use Rattle.dspec_deeds.specs.History.{word_at}
-use Rattle.dspec_play.specs.OwnClose.{own_closed, own_closed_slot}
+use Rattle.dspec_interleaving.specs.CpuClose.{own_closed, own_closed_slot}
 use Rattle.dspec_table.specs.Last.{last_words}
 use Rattle.dspec_cpu.specs.Rests.{CanCloseBehind, RestHasList}
 use Rattle.dspec_cpu.proofs.Closes.{can_close, next_closed}

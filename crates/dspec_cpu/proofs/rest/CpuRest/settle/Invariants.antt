@@ -1,7 +1,7 @@
 use Rattle.std.proofs.Common.{List}
 use Rattle.dspec_deeds.specs.declared.deed.Deed.{Deed}
 use Rattle.dspec_deeds.specs.History.{word_at}
-use Rattle.dspec_play.specs.OwnClose.{own_closed}
+use Rattle.dspec_interleaving.specs.CpuClose.{own_closed}
 use Rattle.dspec_ring.specs.declared.batch.Batch.{Batch}
 use Rattle.dspec_table.specs.Last.{last_words}
 use Rattle.dspec_table.specs.Showing.{Shows}

@@ -1,6 +1,6 @@
 use Rattle.std.proofs.Common.{Some, refl}
-use Rattle.dspec_play.specs.declared.flight.CpuProgress.{CpuProgress}
-use Rattle.dspec_play.specs.declared.flight.CpuFlight.TheVariants as flight
+use Rattle.dspec_interleaving.specs.declared.flight.CpuProgress.{CpuProgress}
+use Rattle.dspec_interleaving.specs.declared.flight.CallPlace.TheVariants as flight
 use Rattle.dspec_machine.specs.Machines.{state_of}
 use Rattle.dspec_machine.proofs.Keepings.{state_kept, kept_as, begin_keeps}
 use Rattle.dspec_machine.proofs.MachineReads.{cpu_got}

@@ -9,7 +9,7 @@ use Rattle.dspec_machine.specs.Machines.{history}
 use Rattle.dspec_machine.proofs.MachineReads.{cpu_read}
 use Rattle.dspec_machine.proofs.Settlings.{named_present, none_due, one_due, closes_still, closes_bare, closes_settled}
 use Rattle.dspec_machine.proofs.SlotReads.{slot_read}
-use Rattle.dspec_play.proofs.StepReads.{can_be_released}
+use Rattle.dspec_interleaving.proofs.StepReads.{can_be_released}
 use Rattle.dspec_machine.proofs.machine.Machine.close_slot.Goals as goal
 
 pub index-requires-2 : goal.index-requires-2

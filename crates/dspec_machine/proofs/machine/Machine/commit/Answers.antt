@@ -1,9 +1,9 @@
 -- The fate of a commit that decides is a commit's.
 use Rattle.std.proofs.Common.{◌≡◌, true, sym, subst}
 use Rattle.dspec_deeds.specs.FateKinds.{is_commit}
-use Rattle.dspec_play.specs.Coherent.{progress_of}
+use Rattle.dspec_interleaving.specs.Coherent.{progress_of}
 use Rattle.dspec_machine.specs.Machines.{history, state_of}
-use Rattle.dspec_play.proofs.DecideMoves.{commit_decides}
+use Rattle.dspec_interleaving.proofs.DecideMoves.{commit_decides}
 use Rattle.dspec_machine.proofs.machine.Machine.commit.Goals as goal
 
 pub enter_decided-requires-clause-decides : goal.enter_decided-requires-clause-decides

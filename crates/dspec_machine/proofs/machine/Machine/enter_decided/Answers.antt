@@ -3,8 +3,8 @@ use Rattle.std.proofs.Common.{◌≡◌, ◌-◌, ◌≤◌, ◌∷◌, ◌++◌
 use Rattle.std.specs.Vec.{with_item}
 use Rattle.dspec_deeds.specs.declared.deed.Deed.{Deed}
 use Rattle.dspec_deeds.proofs.Items.{kept_item}
-use Rattle.dspec_side.specs.declared.side.Side.{Side}
-use Rattle.dspec_side.specs.Sides.{ShowsList}
+use Rattle.dspec_cpu_state.specs.declared.cpu_state.CpuState.{CpuState}
+use Rattle.dspec_cpu_state.specs.CpuStates.{ShowsList}
 use Rattle.dspec_machine.specs.declared.cpu.Cpu.{Cpu}
 use Rattle.dspec_machine.specs.Decisions.{deed_of}
 use Rattle.dspec_machine.specs.Machines.{history}
@@ -89,7 +89,7 @@ returns g c =
           let side = decided_either k a id f h (g.S.Schema.shape_of m.schema) (λ x. ShowsList (λ b. g.B.TraceBuffer.has b m.schema) g.B.TraceBuffer.capacity k a (x ∷ h) c.decide.new.self) x
           c.requires.decides c.requires.legal.1.1
           (λ e row. c.decide.ensures.commits m.schema k a h after.shows caller e row) (λ e row. c.decide.ensures.discards m.schema k a h after.shows caller e row) in
-          let kept = block_ended block after d c.decide.new.self (decided_unsealed k a id f h x) side (ap (λ (x : Side g.row.B.Denot). x.counts.worn) c.decide.ensures.rest)
+          let kept = block_ended block after d c.decide.new.self (decided_unsealed k a id f h x) side (ap (λ (x : CpuState g.row.B.Denot). x.counts.worn) c.decide.ensures.rest)
           (decided_stream k a id f h x c.requires.decides) in
           let words = subst (λ n. ShowsWords k (d ∷ h) (set m.words.items (n - 1) c.args.word)) (sym c.slot.ensures.value)
           (decided_words k a id f h x m.words.items c.args.word block.slot c.requires.word c.requires.shown.words) in

@@ -1,6 +1,6 @@
 -- A missed slot is on its CPU's side, and leaves the words.
 use Rattle.std.proofs.Common.{refl, ap, rules}
-use Rattle.dspec_side.specs.declared.side.Side.{Side}
+use Rattle.dspec_cpu_state.specs.declared.cpu_state.CpuState.{CpuState}
 use Rattle.dspec_deeds.specs.declared.deed.Deed.TheVariants as deed
 use Rattle.dspec_machine.specs.Machines.{history}
 use Rattle.dspec_machine.proofs.KeptCpus.{own_deed}
@@ -38,7 +38,7 @@ returns g c =
     record {
       shown =
           let now = own_deed _ _ m.schema m.config a h own shows d c.miss.new.self own.accepted refl (c.miss.ensures.shows m.schema a h shows.side)
-          (ap (λ (x : Side g.row.B.Denot). x.counts.worn) c.miss.ensures.rest) shows.accepted in
+          (ap (λ (x : CpuState g.row.B.Denot). x.counts.worn) c.miss.ensures.rest) shows.accepted in
           enters _ _ m c.push.new.self m.words d a _ was c.requires.cpu (latest_first m.deeds c.push.new.self d c.in_ok-push.ensures.ok) refl refl
           (words_stay m.config d h m.words.items (λ t. refl) was.words) now;
       entered = adds_own m c.push.new.self m.words d a own _ (latest_first m.deeds c.push.new.self d c.in_ok-push.ensures.ok) got refl;

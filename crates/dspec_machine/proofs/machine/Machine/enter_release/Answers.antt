@@ -7,7 +7,7 @@ use Rattle.dspec_machine.specs.Machines.{history}
 use Rattle.dspec_deeds.proofs.SetUp.{set_up}
 use Rattle.dspec_deeds.proofs.SoundLists.{opened_in_range}
 use Rattle.dspec_deeds.proofs.PresentIds.{decided_given}
-use Rattle.dspec_play.proofs.Counts.{issue_below, issues_fit}
+use Rattle.dspec_interleaving.proofs.Counts.{issue_below, issues_fit}
 use Rattle.dspec_deeds.proofs.WordChanges.{released_word}
 use Rattle.dspec_machine.proofs.WordsShown.{words_set}
 use Rattle.dspec_machine.proofs.OneMore.{latest_first, shown_as, cpus_released, word_there}

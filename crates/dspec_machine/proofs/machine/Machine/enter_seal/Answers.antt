@@ -2,9 +2,9 @@
 use Rattle.std.proofs.Common.{◌≤◌, [], refl, ap, ◌∙◌, subst, rules}
 use Rattle.dspec_deeds.specs.declared.deed.Deed.TheVariants as deed
 use Rattle.dspec_deeds.specs.Own.{seals}
-use Rattle.dspec_play.specs.declared.flight.CpuProgress.{CpuProgress}
-use Rattle.dspec_side.specs.declared.side.Side.{Side}
-use Rattle.dspec_side.specs.Sides.{IsFilledWith}
+use Rattle.dspec_interleaving.specs.declared.flight.CpuProgress.{CpuProgress}
+use Rattle.dspec_cpu_state.specs.declared.cpu_state.CpuState.{CpuState}
+use Rattle.dspec_cpu_state.specs.CpuStates.{IsFilledWith}
 use Rattle.dspec_machine.specs.Machines.{history}
 use Rattle.dspec_machine.proofs.KeptCpus.{sealing}
 use Rattle.dspec_machine.proofs.MachineReads.{cpu_got}
@@ -41,7 +41,7 @@ returns g c =
           c.clear.new.self = record { sized = c.clear.ensures.size ∙ shows.second.sized; has = c.clear.ensures.empty m.schema } in
           let takes = subst (λ (x : CpuProgress). x.takes ≤ seals a h) (progress_there m.cpus.items a own got) c.requires.takes in
           let now = sealing _ _ m.schema m.config a h own shows c.seal-own.new.self c.seal-own.new.next c.seal-own.result (c.seal-own.ensures.shows m.schema m.config a h shows.side next)
-          (ap (λ (x : Side g.row.B.Denot). x.counts.worn) c.seal-own.ensures.rest) c.seal-own.ensures.sealed c.seal-own.ensures.drops takes in
+          (ap (λ (x : CpuState g.row.B.Denot). x.counts.worn) c.seal-own.ensures.rest) c.seal-own.ensures.sealed c.seal-own.ensures.drops takes in
           enters _ _ m c.push.new.self m.words d a _ was c.requires.cpu (latest_first m.deeds c.push.new.self d c.in_ok-push.ensures.ok) refl refl
           (words_stay m.config d h m.words.items (λ t. refl) was.words) now;
       entered = adds_own m c.push.new.self m.words d a own _ (latest_first m.deeds c.push.new.self d c.in_ok-push.ensures.ok) got refl;

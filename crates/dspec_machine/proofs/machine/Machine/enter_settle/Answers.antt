@@ -3,8 +3,8 @@ use Rattle.std.proofs.Common.{◌≤◌, refl, sym, ap, ◌∙◌, subst, rules}
 use Rattle.std.specs.Vec.{with_item}
 use Rattle.dspec_deeds.specs.declared.deed.Deed.TheVariants.{Settle}
 use Rattle.dspec_deeds.proofs.Items.{kept_item}
-use Rattle.dspec_side.specs.declared.side.Side.{Side}
-use Rattle.dspec_side.proofs.Tallies.{settle_counts}
+use Rattle.dspec_cpu_state.specs.declared.cpu_state.CpuState.{CpuState}
+use Rattle.dspec_cpu_state.proofs.Tallies.{settle_counts}
 use Rattle.dspec_machine.specs.declared.cpu.Cpu.{Cpu}
 use Rattle.dspec_machine.specs.Machines.{history}
 use Rattle.dspec_machine.proofs.OneMore.{adds_own, enters, latest_first}
@@ -74,7 +74,7 @@ returns g c =
       shown =
           let caller = caller_is _ _ _ _ _ _ after.shows id block.slot block.cpu block.sound block.now c.is_mine-mine.result c.is_mine-mine.ensures.tells in
           let side = c.settle.ensures.shows m.schema m.config a h after.shows caller (settles_as m.config a id f h c.requires.legal.0) c.requires.legal.1.1 in
-          let kept = block_ended block after d c.settle.new.self refl side (ap (λ (x : Side g.row.B.Denot). x.counts.worn) c.settle.ensures.rest) (stream_settles a id f h) in
+          let kept = block_ended block after d c.settle.new.self refl side (ap (λ (x : CpuState g.row.B.Denot). x.counts.worn) c.settle.ensures.rest) (stream_settles a id f h) in
           enters _ _ m c.enter_block.new.deeds m.words d a _ c.requires.shown c.requires.cpu deeds refl refl (words_stay m.config d h m.words.items (λ t. refl) c.requires.shown.words) kept;
       entered = adds_own m c.enter_block.new.deeds m.words d a c.index_mut-own.result.now _ deeds block.got (ap (λ (x : Cpu g.row.B.Denot). x.progress) after.streamed);
       refused = search rules;

@@ -3,7 +3,7 @@ use Rattle.std.proofs.Common.{◌≡◌, ◌-◌, ◌≤◌, [], ◌∷◌, ◌+
 use Rattle.std.proofs.lemmas.List.{length-set}
 use Rattle.dspec_deeds.specs.declared.deed.Deed.TheVariants.{Discard, Release}
 use Rattle.dspec_deeds.proofs.Results.{of_ok}
-use Rattle.dspec_side.specs.declared.side.Side.{Side}
+use Rattle.dspec_cpu_state.specs.declared.cpu_state.CpuState.{CpuState}
 use Rattle.dspec_machine.specs.declared.decision.Decision.TheVariants as decision
 use Rattle.dspec_machine.specs.Machines.{history}
 use Rattle.dspec_machine.specs.Shown.{ShowsWords}
@@ -73,7 +73,7 @@ returns g c =
       shown =
           let caller = caller_is _ _ _ _ _ _ block.shows.side id block.slot block.cpu block.sound block.now c.is_mine-mine.result c.is_mine-mine.ensures.tells in
           let side = c.decide.ensures.discards m.schema k a h block.shows.side caller c.requires.discard c.requires.legal.1.0.1 in
-          let kept = own_deed _ _ m.schema k a h own block.shows d c.decide.new.self own.accepted refl side (ap (λ (x : Side g.row.B.Denot). x.counts.worn) c.decide.ensures.rest)
+          let kept = own_deed _ _ m.schema k a h own block.shows d c.decide.new.self own.accepted refl side (ap (λ (x : CpuState g.row.B.Denot). x.counts.worn) c.decide.ensures.rest)
           block.shows.accepted in
           let count = was.cpu_count in
           let all = cpus_set _ _ m.schema k h m.cpus.items was.cpus d a _ refl (let lt = c.requires.cpu in omega arith) kept in

@@ -1,8 +1,8 @@
 -- A granted record is on its CPU's side, which is a caller from then on, and leaves its word.
 use Rattle.std.proofs.Common.{◌-◌, ◌≤◌, ◌∷◌, set, refl, sym, ap, ◌∙◌, subst, rules}
 use Rattle.dspec_deeds.specs.declared.deed.Deed.TheVariants.{Speculate}
-use Rattle.dspec_side.specs.declared.counts.Counts.{Counts}
-use Rattle.dspec_side.specs.Sides.{ShowsList}
+use Rattle.dspec_cpu_state.specs.declared.counts.Counts.{Counts}
+use Rattle.dspec_cpu_state.specs.CpuStates.{ShowsList}
 use Rattle.dspec_machine.specs.Machines.{history}
 use Rattle.dspec_machine.specs.Shown.{ShowsWords}
 use Rattle.dspec_machine.proofs.KeptCpus.{own_deed}

@@ -4,9 +4,9 @@ use Rattle.std.specs.Vec.{with_item}
 use Rattle.dspec_deeds.specs.declared.deed.Deed.TheVariants as deed
 use Rattle.dspec_deeds.specs.declared.deed.TraceFate.TheVariants as traced
 use Rattle.dspec_deeds.proofs.Items.{kept_item}
-use Rattle.dspec_side.specs.declared.counts.Counts.{Counts}
-use Rattle.dspec_side.specs.declared.side.Side.{Side}
-use Rattle.dspec_side.specs.Sides.{ShowsList}
+use Rattle.dspec_cpu_state.specs.declared.counts.Counts.{Counts}
+use Rattle.dspec_cpu_state.specs.declared.cpu_state.CpuState.{CpuState}
+use Rattle.dspec_cpu_state.specs.CpuStates.{ShowsList}
 use Rattle.dspec_machine.specs.declared.cpu.Cpu.{Cpu}
 use Rattle.dspec_machine.specs.Machines.{history}
 use Rattle.dspec_machine.proofs.KeptCpus.{put_deed, put_side}
@@ -75,7 +75,7 @@ returns-then-matches g c =
           let side = subst (λ f. ShowsList (λ b. g.B.TraceBuffer.has b m.schema) g.B.TraceBuffer.capacity k a (deed.Trace a r f ∷ h) c.trace_stopped.new.self) (sym stopped)
           (c.trace_stopped.ensures.shows m.schema k a h r mid) in
           let now = put_deed _ _ m.schema k a h own shows d c.enter_record.new.self _ c.trace_stopped.new.self streamed refl side
-          (ap (λ (x : Side g.row.B.Denot). x.counts.worn) c.trace_stopped.ensures.rest) (stream_traces a r f h own.accepted shows.accepted) in
+          (ap (λ (x : CpuState g.row.B.Denot). x.counts.worn) c.trace_stopped.ensures.rest) (stream_traces a r f h own.accepted shows.accepted) in
           enters _ _ m c.enter_record.new.deeds m.words d a _ c.requires.shown c.requires.cpu deeds refl refl (words_stay k d h m.words.items (λ t. refl) c.requires.shown.words) now;
       entered = adds_own m c.enter_record.new.deeds m.words d a own _ deeds (cpu_got _ _ m c.requires.shown a own c.requires.cpu c.index_mut-own.ensures.value)
           (ap (λ (x : Cpu g.row.B.Denot). x.progress) streamed);

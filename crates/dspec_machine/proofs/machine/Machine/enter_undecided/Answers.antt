@@ -1,8 +1,8 @@
 -- A call that decided nothing is counted by its CPU's side, and leaves the words.
 use Rattle.std.proofs.Common.{◌≡◌, [], ◌∷◌, ◌++◌, refl, ap, ◌∙◌, rules}
 use Rattle.dspec_deeds.specs.declared.deed.Deed.{Deed}
-use Rattle.dspec_side.specs.declared.side.Side.{Side}
-use Rattle.dspec_side.specs.Sides.{ShowsList}
+use Rattle.dspec_cpu_state.specs.declared.cpu_state.CpuState.{CpuState}
+use Rattle.dspec_cpu_state.specs.CpuStates.{ShowsList}
 use Rattle.dspec_machine.specs.Decisions.{deed_of}
 use Rattle.dspec_machine.specs.Machines.{history}
 use Rattle.dspec_machine.proofs.DecidedCpus.{decided_unsealed, nothing_decided, undecided_either, undecided_stream}
@@ -50,7 +50,7 @@ returns g c =
           c.args.decision
           (c.leave_undecided.ensures.commits m.schema m.config a h id shows.side) (c.leave_undecided.ensures.discards m.schema m.config a h id shows.side) in
           let now = own_deed _ _ m.schema m.config a h own shows d c.leave_undecided.new.self own.accepted (decided_unsealed m.config a id c.args.fate h c.args.decision) side
-          (ap (λ (x : Side g.row.B.Denot). x.counts.worn) c.leave_undecided.ensures.rest)
+          (ap (λ (x : CpuState g.row.B.Denot). x.counts.worn) c.leave_undecided.ensures.rest)
           (shows.accepted ∙ undecided_stream m.config a id c.args.fate h c.args.decision c.requires.nothing) in
           enters _ _ m c.push.new.self m.words d a _ was c.requires.cpu (latest_first m.deeds c.push.new.self d pushed) (by_its_cpu c.args.decision a id c.args.fate h) (halted_still
           c.args.decision a id c.args.fate h)

@@ -1,6 +1,6 @@
 -- A record that is granted nothing is counted by its CPU's side, and leaves the words.
 use Rattle.std.proofs.Common.{refl, ap, rules}
-use Rattle.dspec_side.specs.declared.side.Side.{Side}
+use Rattle.dspec_cpu_state.specs.declared.cpu_state.CpuState.{CpuState}
 use Rattle.dspec_deeds.specs.declared.deed.Deed.TheVariants as deed
 use Rattle.dspec_machine.specs.Machines.{history}
 use Rattle.dspec_machine.proofs.KeptCpus.{own_deed}
@@ -10,8 +10,8 @@ use Rattle.dspec_machine.proofs.Rooms.{call_fits, counts_fit}
 use Rattle.dspec_machine.proofs.WordsShown.{words_stay}
 use Rattle.dspec_machine.proofs.machine.Machine.enter_unspoken.Goals as goal
 
-pub speak_nowhere-requires : goal.speak_nowhere-requires
-speak_nowhere-requires g c =
+pub speculate_nowhere-requires : goal.speculate_nowhere-requires
+speculate_nowhere-requires g c =
     let m = c.args.self.now in
     let a = c.args.cpu in
     let h = history m in
@@ -39,9 +39,9 @@ returns g c =
     let shows = was.cpus a own got in
     record {
       shown =
-          let now = own_deed _ _ m.schema m.config a h own shows d c.speak_nowhere.new.self own.accepted refl (c.speak_nowhere.ensures.shows m.schema m.config a h c.args.id
+          let now = own_deed _ _ m.schema m.config a h own shows d c.speculate_nowhere.new.self own.accepted refl (c.speculate_nowhere.ensures.shows m.schema m.config a h c.args.id
           c.args.rec.now shows.side)
-          (ap (λ (x : Side g.row.B.Denot). x.counts.worn) c.speak_nowhere.ensures.rest) shows.accepted in
+          (ap (λ (x : CpuState g.row.B.Denot). x.counts.worn) c.speculate_nowhere.ensures.rest) shows.accepted in
           enters _ _ m c.push.new.self m.words d a _ was c.requires.cpu (latest_first m.deeds c.push.new.self d c.in_ok-push.ensures.ok) refl refl
           (words_stay m.config d h m.words.items (λ t. rw c.requires.granted refl) was.words) now;
       entered = adds_own m c.push.new.self m.words d a own _ (latest_first m.deeds c.push.new.self d c.in_ok-push.ensures.ok) got refl;

@@ -1,7 +1,7 @@
 -- The streams and the reports of the CPUs so far.
 use Rattle.std.proofs.Common.{◌≡◌, map}
 use Rattle.dspec_deeds.specs.Closes.{numbers_below}
-use Rattle.dspec_play.specs.Coherent.{progress_of}
+use Rattle.dspec_interleaving.specs.Coherent.{progress_of}
 use Rattle.dspec_machine.specs.Machines.{history, state_of}
 use Rattle.dspec_deeds.specs.Own.{stream}
 use Rattle.dspec_deeds.specs.Reports.{report}

@@ -1,6 +1,6 @@
 use Rattle.std.proofs.Common.{◌+◌, Some, refl, sym, rules}
 use Rattle.std.proofs.lemmas.Option.{slice_get_read}
-use Rattle.dspec_play.specs.declared.flight.CpuProgress.{CpuProgress}
+use Rattle.dspec_interleaving.specs.declared.flight.CpuProgress.{CpuProgress}
 use Rattle.dspec_machine.proofs.Makings.{state_moves, progress_moves}
 use Rattle.dspec_machine.proofs.machine.Machine.go_on.Goals as goal
 

@@ -1,16 +1,16 @@
 -- Whether the CPU is asked for a batch, and has a spare in hand.
 use Rattle.std.proofs.Common.{◌≡◌, ◌≢◌, ◌<◌, ◌≤◌, ◌+◌, true, false, ◌&&◌, [], Some, sym, ap, ◌∙◌, subst}
 use Rattle.std.specs.Prelude.{nat_lt}
-use Rattle.dspec_play.specs.declared.flight.CpuProgress.{CpuProgress}
-use Rattle.dspec_play.specs.declared.flight.CpuFlight.TheVariants as flight
-use Rattle.dspec_play.specs.declared.flight.Spare.TheVariants as spare
+use Rattle.dspec_interleaving.specs.declared.flight.CpuProgress.{CpuProgress}
+use Rattle.dspec_interleaving.specs.declared.flight.CallPlace.TheVariants as flight
+use Rattle.dspec_interleaving.specs.declared.flight.Spare.TheVariants as spare
 use Rattle.dspec_deeds.specs.Own.{seals}
-use Rattle.dspec_play.specs.Coherent.{progress_of}
+use Rattle.dspec_interleaving.specs.Coherent.{progress_of}
 use Rattle.dspec_machine.specs.Machines.{history, state_of}
 use Rattle.dspec_machine.proofs.MachineReads.{cpu_got, cpu_read}
 use Rattle.dspec_machine.proofs.Makings.{adds_none, step_made}
 use Rattle.dspec_machine.proofs.OneMore.{progress_there}
-use Rattle.dspec_play.proofs.ServiceMoves.{unwanted, full, wanted, asks_first, asks_none, asks_spare}
+use Rattle.dspec_interleaving.proofs.ServiceMoves.{unwanted, full, wanted, asks_first, asks_none, asks_spare}
 use Rattle.dspec_machine.proofs.machine.Machine.load_ask.Goals.{then-own-via-then-own, then-own-via-else-own+then-own-self, in-InHand, in_default}
 use Rattle.dspec_machine.proofs.machine.Machine.load_ask.Goals as goal
 

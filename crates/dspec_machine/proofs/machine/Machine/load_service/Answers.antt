@@ -2,17 +2,17 @@
 use Rattle.std.proofs.Common.{◌+◌, [], Some, sym, ap, ◌∙◌, subst, arith}
 use Rattle.dspec_word.specs.Word.{CanBeReleased}
 use Rattle.dspec_word.specs.Tables.{settle_at}
-use Rattle.dspec_play.specs.declared.flight.CpuProgress.{CpuProgress}
-use Rattle.dspec_play.specs.declared.flight.CpuFlight.TheVariants as flight
+use Rattle.dspec_interleaving.specs.declared.flight.CpuProgress.{CpuProgress}
+use Rattle.dspec_interleaving.specs.declared.flight.CallPlace.TheVariants as flight
 use Rattle.dspec_deeds.specs.History.{ack, word_at}
-use Rattle.dspec_play.specs.Coherent.{progress_of}
+use Rattle.dspec_interleaving.specs.Coherent.{progress_of}
 use Rattle.dspec_machine.specs.Machines.{Makes, history, state_of}
-use Rattle.dspec_play.specs.Play.{Moved, served}
+use Rattle.dspec_interleaving.specs.Play.{CpuStep, served}
 use Rattle.dspec_machine.proofs.MachineReads.{cpu_read}
 use Rattle.dspec_machine.proofs.Makings.{adds_none, step_made}
 use Rattle.dspec_machine.proofs.SlotReads.{row_read, slot_read}
-use Rattle.dspec_play.proofs.ServiceMoves.{served_deeds, store_next, passed_by}
-use Rattle.dspec_play.proofs.StepReads.{can_be_released}
+use Rattle.dspec_interleaving.proofs.ServiceMoves.{served_deeds, store_next, passed_by}
+use Rattle.dspec_interleaving.proofs.StepReads.{can_be_released}
 use Rattle.dspec_machine.proofs.machine.Machine.load_service.Goals as goal
 
 pub index-acked-requires : goal.index-acked-requires
@@ -63,9 +63,9 @@ returns-in_default g c =
     let moved = served shape k a h me s [] c.args.sum in
     let made : Makes has capacity m c.serve_next.new.self a moved c.serve_next.result = record {
       shown = c.serve_next.ensures.shown;
-      state = c.serve_next.ensures.state ∙ ap (λ ds. (Rattle.dspec_play.specs.Turns.moved_to (state_of m) a record
+      state = c.serve_next.ensures.state ∙ ap (λ ds. (Rattle.dspec_interleaving.specs.Turns.moved_to (state_of m) a record
           { progress = moved.progress; deeds = ds; answer = moved.answer }).state) (sym (served_deeds shape k a h me s [] c.args.sum));
       schema = c.serve_next.ensures.schema;
       answered = c.serve_next.ensures.answer;
     } in
-    subst (λ (x : Moved). Makes has capacity m c.serve_next.new.self a x c.serve_next.result) (sym is) made
+    subst (λ (x : CpuStep). Makes has capacity m c.serve_next.new.self a x c.serve_next.result) (sym is) made

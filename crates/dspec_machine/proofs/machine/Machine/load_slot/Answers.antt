@@ -2,12 +2,12 @@
 use Rattle.std.proofs.Common.{◌∙◌, sym, subst, [], if◌then◌else◌}
 use Rattle.dspec_word.specs.Code.{awaits}
 use Rattle.dspec_word.specs.Word.{SlotState, CanBeReleased}
-use Rattle.dspec_play.specs.declared.flight.ConsumerFlight.TheVariants as flight
-use Rattle.dspec_machine.specs.Machines.{Cleans, history, state_of}
-use Rattle.dspec_play.specs.Play.{keeps_on, next_slot}
-use Rattle.dspec_play.proofs.CleanReads.{tried_awaits, untried_awaits}
+use Rattle.dspec_interleaving.specs.declared.flight.ConsumerFlight.TheVariants as flight
+use Rattle.dspec_machine.specs.Machines.{ConsumerMakes, history, state_of}
+use Rattle.dspec_interleaving.specs.Play.{keeps_on, next_slot}
+use Rattle.dspec_interleaving.proofs.CleanReads.{tried_awaits, untried_awaits}
 use Rattle.dspec_machine.proofs.OneMore.{word_there}
-use Rattle.dspec_play.proofs.StepReads.{can_be_released}
+use Rattle.dspec_interleaving.proofs.StepReads.{can_be_released}
 use Rattle.dspec_machine.proofs.machine.Machine.load_slot.Goals as goal
 
 pub reap_at-requires : goal.reap_at-requires
@@ -24,7 +24,7 @@ returns-in-Attempt g c =
     let word = c.index-word.result.now in
     let is = word_there m.config h m.words.items c.args.slot word c.requires.slot.0 c.requires.slot.1 c.requires.shown.words c.index-word.ensures in
     let awaited = tried_awaits word _ (sym c.reap_at.ensures ∙ c.in-Attempt.is) in
-    subst (λ (w : SlotState). Cleans g.B.TraceBuffer.has g.B.TraceBuffer.capacity m c.keep_on.new.self
+    subst (λ (w : SlotState). ConsumerMakes g.B.TraceBuffer.has g.B.TraceBuffer.capacity m c.keep_on.new.self
     (if awaits w.code then keeps_on m.config h m.consumer (state_of m).progresses [] (flight.CleanAck c.args.slot w 0 c.args.released) else next_slot m.config h m.consumer
     (state_of m).progresses c.args.slot [] c.args.released) c.keep_on.result)
     is (rw awaited c.keep_on.ensures)
@@ -36,7 +36,7 @@ returns-in_default g c =
     let word = c.index-word.result.now in
     let is = word_there m.config h m.words.items c.args.slot word c.requires.slot.0 c.requires.slot.1 c.requires.shown.words c.index-word.ensures in
     let awaited = untried_awaits word (λ to e. c.in_default.not-Attempt to (c.reap_at.ensures ∙ e)) in
-    subst (λ (w : SlotState). Cleans g.B.TraceBuffer.has g.B.TraceBuffer.capacity m c.clean_next.new.self
+    subst (λ (w : SlotState). ConsumerMakes g.B.TraceBuffer.has g.B.TraceBuffer.capacity m c.clean_next.new.self
     (if awaits w.code then keeps_on m.config h m.consumer (state_of m).progresses [] (flight.CleanAck c.args.slot w 0 c.args.released) else next_slot m.config h m.consumer
     (state_of m).progresses c.args.slot [] c.args.released) c.clean_next.result)
     is (rw awaited c.clean_next.ensures)

@@ -11,11 +11,11 @@ use Rattle.dspec_deeds.specs.declared.calls.Opening.TheVariants as opening
 use Rattle.dspec_deeds.specs.declared.config.Config.{Config}
 use Rattle.dspec_deeds.specs.declared.deed.Deed.{Deed}
 use Rattle.dspec_deeds.specs.declared.deed.Deed.TheVariants.{Miss}
-use Rattle.dspec_play.specs.declared.flight.CpuProgress.{CpuProgress}
-use Rattle.dspec_play.specs.declared.flight.CpuFlight.TheVariants as flight
-use Rattle.dspec_play.specs.Coherent.{progress_of, PlayState}
+use Rattle.dspec_interleaving.specs.declared.flight.CpuProgress.{CpuProgress}
+use Rattle.dspec_interleaving.specs.declared.flight.CallPlace.TheVariants as flight
+use Rattle.dspec_interleaving.specs.Coherent.{progress_of, PlayState}
 use Rattle.dspec_machine.specs.Machines.{history, state_of}
-use Rattle.dspec_play.specs.Play.{missed}
+use Rattle.dspec_interleaving.specs.Play.{missed}
 use Rattle.dspec_deeds.specs.Reports.{missed_busy}
 use Rattle.dspec_machine.proofs.MachineReads.{cpu_read}
 use Rattle.dspec_machine.proofs.Makings.{step_made}

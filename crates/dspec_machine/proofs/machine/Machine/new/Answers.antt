@@ -1,7 +1,7 @@
 -- The words are free, what is kept of each CPU shows the empty list, and all is idle.
 use Rattle.std.proofs.Common.{◌≡◌, false, None, refl, subst, arith}
 use Rattle.dspec_machine.specs.declared.machine.Machine.{Machine}
-use Rattle.dspec_play.specs.Turns.{at_start}
+use Rattle.dspec_interleaving.specs.Turns.{at_start}
 use Rattle.dspec_machine.proofs.Keepings.{kept_as}
 use Rattle.dspec_machine.proofs.Starts.{Made, IsFree, HasBegun, none_made, one_made, machine_at_start, state_at_start, start_keeps}
 use Rattle.dspec_machine.proofs.machine.Machine.new.Goals as goal

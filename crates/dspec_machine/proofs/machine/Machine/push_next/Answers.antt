@@ -1,8 +1,8 @@
 use Rattle.std.proofs.Common.{◌+◌, Some, refl, sym, rules}
 use Rattle.std.proofs.lemmas.Option.{slice_get_read}
-use Rattle.dspec_play.specs.declared.flight.CpuProgress.{CpuProgress}
-use Rattle.dspec_play.specs.declared.flight.CpuFlight.TheVariants as flight
-use Rattle.dspec_play.specs.declared.flight.Spare.TheVariants as spare
+use Rattle.dspec_interleaving.specs.declared.flight.CpuProgress.{CpuProgress}
+use Rattle.dspec_interleaving.specs.declared.flight.CallPlace.TheVariants as flight
+use Rattle.dspec_interleaving.specs.declared.flight.Spare.TheVariants as spare
 use Rattle.dspec_machine.proofs.Makings.{state_moves, progress_moves}
 use Rattle.dspec_machine.proofs.machine.Machine.push_next.Goals as goal
 

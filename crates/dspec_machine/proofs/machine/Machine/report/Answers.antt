@@ -1,7 +1,7 @@
 -- The side counts what the list counts.
 use Rattle.std.proofs.Common.{◌≡◌, sym, ap, ◌∙◌}
-use Rattle.dspec_play.specs.declared.flight.CpuProgress.{CpuProgress}
-use Rattle.dspec_play.specs.Coherent.{progress_of}
+use Rattle.dspec_interleaving.specs.declared.flight.CpuProgress.{CpuProgress}
+use Rattle.dspec_interleaving.specs.Coherent.{progress_of}
 use Rattle.dspec_machine.specs.Machines.{history, state_of}
 use Rattle.dspec_machine.proofs.MachineReads.{cpu_got, cpu_read}
 use Rattle.dspec_machine.proofs.OneMore.{progress_there}

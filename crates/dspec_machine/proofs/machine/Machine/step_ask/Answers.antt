@@ -1,10 +1,10 @@
 -- One batch more is wanted than was taken.
 use Rattle.std.proofs.Common.{◌+◌, ◌<◌, ◌^◌, refl, subst, arith}
 use Rattle.dspec_deeds.specs.declared.calls.Answer.TheVariants as answer
-use Rattle.dspec_play.specs.declared.flight.CpuProgress.{CpuProgress}
+use Rattle.dspec_interleaving.specs.declared.flight.CpuProgress.{CpuProgress}
 use Rattle.dspec_machine.specs.Machines.{state_of}
 use Rattle.dspec_machine.proofs.CleanMakings.{puts_stops}
-use Rattle.dspec_play.proofs.CleanReads.{takes_fit}
+use Rattle.dspec_interleaving.proofs.CleanReads.{takes_fit}
 use Rattle.dspec_machine.proofs.MachineReads.{cpu_got}
 use Rattle.dspec_machine.proofs.OneMore.{progress_there}
 use Rattle.dspec_machine.proofs.Makings.{progress_moves, state_moves}

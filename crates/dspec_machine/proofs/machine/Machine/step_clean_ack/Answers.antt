@@ -5,7 +5,7 @@ use Rattle.std.proofs.lemmas.Bool.{eq-eqb, le-ltb, lt-ltb}
 use Rattle.dspec_deeds.proofs.TestLemmas.{other_number}
 use Rattle.dspec_deeds.specs.History.{ack}
 use Rattle.dspec_machine.specs.Machines.{history, state_of}
-use Rattle.dspec_play.proofs.CleanReads.{clean_stands, clean_steps_fit}
+use Rattle.dspec_interleaving.proofs.CleanReads.{clean_stands, clean_steps_fit}
 use Rattle.dspec_machine.proofs.MachineReads.{ack_read, cpu_read, place_within}
 use Rattle.dspec_machine.proofs.machine.Machine.step_clean_ack.Goals as goal
 

@@ -2,12 +2,12 @@
 use Rattle.std.proofs.Common.{◌≡◌, ◌+◌, ◌∙◌, Bool, true, false, not, [], ◌∷◌, if◌then◌else◌, refl, sym, ap, subst}
 use Rattle.dspec_deeds.specs.declared.deed.Deed.TheVariants.{Release}
 use Rattle.dspec_deeds.specs.History.{word_at}
-use Rattle.dspec_play.specs.declared.flight.ConsumerFlight.TheVariants as flight
-use Rattle.dspec_machine.specs.Machines.{Cleans, history, state_of}
-use Rattle.dspec_play.specs.Play.{next_slot, same_word}
-use Rattle.dspec_play.proofs.CleanReads.{clean_stands, reap_legal}
+use Rattle.dspec_interleaving.specs.declared.flight.ConsumerFlight.TheVariants as flight
+use Rattle.dspec_machine.specs.Machines.{ConsumerMakes, history, state_of}
+use Rattle.dspec_interleaving.specs.Play.{next_slot, same_word}
+use Rattle.dspec_interleaving.proofs.CleanReads.{clean_stands, reap_legal}
 use Rattle.dspec_machine.proofs.OneMore.{word_there}
-use Rattle.dspec_play.proofs.StepsWords.{words_test}
+use Rattle.dspec_interleaving.proofs.StepsWords.{words_test}
 use Rattle.dspec_machine.proofs.machine.Machine.step_clean_reap.Goals as goal
 
 -- what a test denied tells
@@ -44,7 +44,7 @@ returns-then-ne-clause-cleans g c =
     let word = word_there m.config (history m) m.words.items s w at.0.0 at.0.1 c.requires.stands.shown.words c.index.ensures in
     let test : not (same_word w from) ≡ true = ap not (sym (words_test w from)) ∙ (sym c.ne.ensures ∙ c.if-ne.true) in
     let other : same_word (word_at s (history m)) from ≡ false = ap (λ x. same_word x from) (sym word) ∙ was_not (same_word w from) test in
-    subst (λ b. Cleans g.B.TraceBuffer.has g.B.TraceBuffer.capacity m c.clean_next.new.self
+    subst (λ b. ConsumerMakes g.B.TraceBuffer.has g.B.TraceBuffer.capacity m c.clean_next.new.self
     (if b then next_slot m.config (history m) m.consumer (state_of m).progresses s (Release s ∷ []) (c.args.released + 1) else next_slot m.config (history m) m.consumer
     (state_of m).progresses s [] c.args.released)
     c.clean_next.result) (sym other) c.clean_next.ensures

@@ -2,8 +2,8 @@ use Rattle.std.proofs.Common.{◌≡◌, true, subst, arith}
 use Rattle.std.proofs.lemmas.Bool.Decides.{nat_tests}
 use Rattle.std.specs.Prelude.{nat_lt}
 use Rattle.dspec_deeds.specs.declared.calls.ConsumerOp.{ConsumerOp}
-use Rattle.dspec_play.specs.declared.flight.ConsumerFlight.TheVariants as consumer
-use Rattle.dspec_play.specs.Calls.{is_about}
+use Rattle.dspec_interleaving.specs.declared.flight.ConsumerFlight.TheVariants as consumer
+use Rattle.dspec_interleaving.specs.Calls.{is_about}
 use Rattle.dspec_machine.proofs.machine.Machine.step_consumer_begun.Goals as goal
 
 pub step_ask-requires-clause-cpu : goal.step_ask-requires-clause-cpu

@@ -5,11 +5,11 @@ use Rattle.dspec_deeds.specs.declared.deed.DecideFate.TheVariants as decided
 use Rattle.dspec_deeds.specs.History.{halted, in_range}
 use Rattle.dspec_deeds.specs.Own.{calls}
 use Rattle.dspec_deeds.specs.Told.{answer_of}
-use Rattle.dspec_play.specs.Coherent.{progress_of}
-use Rattle.dspec_play.specs.Play.{cpu_step, ends}
+use Rattle.dspec_interleaving.specs.Coherent.{progress_of}
+use Rattle.dspec_interleaving.specs.Play.{cpu_step, ends}
 use Rattle.dspec_machine.specs.Decisions.{begun_of, deed_of}
 use Rattle.dspec_machine.specs.Machines.{history, state_of}
-use Rattle.dspec_play.proofs.StepReads.{step_legal}
+use Rattle.dspec_interleaving.proofs.StepReads.{step_legal}
 use Rattle.dspec_machine.proofs.DecisionMoves.{begins, stopped_decides_not, void_decides_not}
 use Rattle.dspec_machine.proofs.machine.Machine.step_decision.Goals as goal
 

@@ -1,11 +1,11 @@
 -- Where the call stands, and what its step is.
 use Rattle.std.proofs.Common.{sym, subst}
 use Rattle.std.specs.Prelude.{IfOk}
-use Rattle.dspec_play.specs.Coherent.{progress_of}
-use Rattle.dspec_play.specs.Play.{Moved}
+use Rattle.dspec_interleaving.specs.Coherent.{progress_of}
+use Rattle.dspec_interleaving.specs.Play.{CpuStep}
 use Rattle.dspec_machine.specs.Decisions.{load_of}
 use Rattle.dspec_machine.specs.Machines.{Makes, history, state_of}
-use Rattle.dspec_play.proofs.StepReads.{flight_stands, steps_fit, step_legal}
+use Rattle.dspec_interleaving.proofs.StepReads.{flight_stands, steps_fit, step_legal}
 use Rattle.dspec_machine.proofs.DecisionMoves.{load_shows, load_stands}
 use Rattle.dspec_machine.proofs.machine.Machine.step_decision_load.Goals as goal
 
@@ -36,4 +36,4 @@ returns-clause-makes g c =
     let m = c.args.self.now in
     let a = c.args.cpu in
     let is = load_shows (g.S.Schema.shape_of m.schema) m.config a (history m) (progress_of (state_of m).progresses a) c.args.id c.args.decision in
-    subst (λ (x : Moved). IfOk c.look.result (λ answer. Makes g.B.TraceBuffer.has g.B.TraceBuffer.capacity m c.look.new.self a x answer)) (sym is) c.look.ensures.makes
+    subst (λ (x : CpuStep). IfOk c.look.result (λ answer. Makes g.B.TraceBuffer.has g.B.TraceBuffer.capacity m c.look.new.self a x answer)) (sym is) c.look.ensures.makes

@@ -2,10 +2,10 @@
 use Rattle.std.proofs.Common.{sym, ◌∙◌, subst}
 use Rattle.std.specs.Prelude.{IfOk}
 use Rattle.dspec_word.specs.Word.{CanBeReleased}
-use Rattle.dspec_play.specs.Play.{Moved}
+use Rattle.dspec_interleaving.specs.Play.{CpuStep}
 use Rattle.dspec_machine.specs.Decisions.{try_of}
 use Rattle.dspec_machine.specs.Machines.{Makes, history, state_of}
-use Rattle.dspec_play.proofs.StepReads.{can_be_released, steps_fit, step_legal}
+use Rattle.dspec_interleaving.proofs.StepReads.{can_be_released, steps_fit, step_legal}
 use Rattle.dspec_machine.proofs.DecisionMoves.{attempts, commit_is, commit_legal, commit_present, commit_word, discard_is, discard_legal, discard_present, discard_word, fails, tried_slot}
 use Rattle.dspec_machine.proofs.machine.Machine.step_decision_try.Goals as goal
 
@@ -58,7 +58,7 @@ returns-then-ne-clause-makes g c =
     let m = c.args.self.now in
     let at = c.requires.stands in
     let is = fails at.coherent c.args.cpu at.cpu c.args.decision c.args.id c.args.from at.flight c.word_of-word.ensures c.ne.ensures c.if-ne.true in
-    subst (λ (x : Moved). IfOk c.look.result (λ answer. Makes g.B.TraceBuffer.has g.B.TraceBuffer.capacity m c.look.new.self c.args.cpu x answer)) (sym is) c.look.ensures.makes
+    subst (λ (x : CpuStep). IfOk c.look.result (λ answer. Makes g.B.TraceBuffer.has g.B.TraceBuffer.capacity m c.look.new.self c.args.cpu x answer)) (sym is) c.look.ensures.makes
 
 pub act-requires : goal.act-requires
 act-requires g c =
@@ -96,7 +96,7 @@ returns-in-Commit-clause-makes g c =
     let at = c.requires.stands in
     let is = commit_is at.coherent c.args.cpu at.cpu c.args.decision c.args.id c.args.from at.flight c.word_of-word.ensures c.ne.ensures c.is_mine-mine.result c.is_mine-mine.ensures
     c.in-Attempt.to c.if-ne.false (sym c.act.ensures ∙ c.in-Attempt.is) c.in-Commit.is in
-    subst (λ (x : Moved). IfOk c.commit.result (λ answer. Makes g.B.TraceBuffer.has g.B.TraceBuffer.capacity m c.commit.new.self c.args.cpu x answer)) (sym is) c.commit.ensures.makes
+    subst (λ (x : CpuStep). IfOk c.commit.result (λ answer. Makes g.B.TraceBuffer.has g.B.TraceBuffer.capacity m c.commit.new.self c.args.cpu x answer)) (sym is) c.commit.ensures.makes
 
 pub discard-requires-clause-legal : goal.discard-requires-clause-legal
 discard-requires-clause-legal g c =
@@ -122,4 +122,4 @@ returns-in-Discard-clause-makes g c =
     let at = c.requires.stands in
     let is = discard_is at.coherent c.args.cpu at.cpu c.args.decision c.args.id c.args.from at.flight c.word_of-word.ensures c.ne.ensures c.is_mine-mine.result c.is_mine-mine.ensures
     c.in-Attempt.to c.if-ne.false (sym c.act.ensures ∙ c.in-Attempt.is) c.in-Discard.is in
-    subst (λ (x : Moved). IfOk c.discard.result (λ answer. Makes g.B.TraceBuffer.has g.B.TraceBuffer.capacity m c.discard.new.self c.args.cpu x answer)) (sym is) c.discard.ensures.makes
+    subst (λ (x : CpuStep). IfOk c.discard.result (λ answer. Makes g.B.TraceBuffer.has g.B.TraceBuffer.capacity m c.discard.new.self c.args.cpu x answer)) (sym is) c.discard.ensures.makes

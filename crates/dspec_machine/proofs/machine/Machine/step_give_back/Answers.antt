@@ -1,12 +1,12 @@
 -- The buffer that is out is pushed back.
 use Rattle.std.proofs.Common.{◌≡◌, ◌∙◌, true, refl, sym, ap, subst}
 use Rattle.dspec_deeds.specs.declared.calls.Answer.TheVariants as answer
-use Rattle.dspec_play.specs.declared.flight.CpuProgress.{CpuProgress}
-use Rattle.dspec_play.specs.declared.flight.Spare.{Spare}
-use Rattle.dspec_play.specs.declared.flight.Spare.TheVariants as spare
-use Rattle.dspec_play.specs.Coherent.{progress_of}
-use Rattle.dspec_machine.specs.Machines.{Cleans, history, state_of}
-use Rattle.dspec_play.specs.Play.{gives_at}
+use Rattle.dspec_interleaving.specs.declared.flight.CpuProgress.{CpuProgress}
+use Rattle.dspec_interleaving.specs.declared.flight.Spare.{Spare}
+use Rattle.dspec_interleaving.specs.declared.flight.Spare.TheVariants as spare
+use Rattle.dspec_interleaving.specs.Coherent.{progress_of}
+use Rattle.dspec_machine.specs.Machines.{ConsumerMakes, history, state_of}
+use Rattle.dspec_interleaving.specs.Play.{gives_at}
 use Rattle.dspec_machine.proofs.CleanMakings.{puts_stops}
 use Rattle.dspec_machine.proofs.MachineReads.{cpu_got}
 use Rattle.dspec_machine.proofs.Makings.{progress_moves, state_moves}
@@ -33,6 +33,6 @@ returns g c =
     let own = c.index_mut.result.now in
     let got = cpu_got g.B.TraceBuffer.has g.B.TraceBuffer.capacity m c.requires.stands.shown a own c.requires.cpu c.index_mut.ensures.value in
     let moves = state_moves m a own _ (λ (me : CpuProgress). record me { spare = spare.GivenBack }) got refl in
-    subst (λ (p : Spare). Cleans g.B.TraceBuffer.has g.B.TraceBuffer.capacity m c.stop_consumer-2.new.self
+    subst (λ (p : Spare). ConsumerMakes g.B.TraceBuffer.has g.B.TraceBuffer.capacity m c.stop_consumer-2.new.self
     (gives_at m.config (history m) m.consumer (state_of m).progresses a me p) c.stop_consumer-2.result) (sym out)
     (puts_stops g.B.TraceBuffer.has g.B.TraceBuffer.capacity m _ _ a _ (answer.GaveBack true) _ moves refl c.stop_consumer-2.ensures)

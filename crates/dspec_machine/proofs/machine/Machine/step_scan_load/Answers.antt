@@ -6,17 +6,17 @@ use Rattle.dspec_word.specs.Word.{SlotState, CanBeReleased}
 use Rattle.dspec_word.specs.Tables.{open_at}
 use Rattle.dspec_deeds.specs.declared.deed.Deed.{Deed}
 use Rattle.dspec_deeds.specs.declared.deed.Deed.TheVariants.{Miss}
-use Rattle.dspec_play.specs.declared.flight.CpuProgress.{CpuProgress}
-use Rattle.dspec_play.specs.declared.flight.CpuFlight.TheVariants as flight
+use Rattle.dspec_interleaving.specs.declared.flight.CpuProgress.{CpuProgress}
+use Rattle.dspec_interleaving.specs.declared.flight.CallPlace.TheVariants as flight
 use Rattle.dspec_deeds.specs.History.{word_at}
 use Rattle.dspec_deeds.specs.Legal.{IsAllowed}
-use Rattle.dspec_play.specs.Coherent.{progress_of}
+use Rattle.dspec_interleaving.specs.Coherent.{progress_of}
 use Rattle.dspec_machine.specs.Machines.{Makes, history, state_of}
-use Rattle.dspec_play.specs.Play.{Moved, missed}
+use Rattle.dspec_interleaving.specs.Play.{CpuStep, missed}
 use Rattle.dspec_machine.proofs.Makings.{adds_none, step_made}
 use Rattle.dspec_machine.proofs.OneMore.{word_there}
-use Rattle.dspec_play.proofs.ScanMoves.{missed_deeds, shown_misses, scan_tried}
-use Rattle.dspec_play.proofs.StepReads.{can_be_released, flight_stands, steps_fit, step_legal}
+use Rattle.dspec_interleaving.proofs.ScanMoves.{missed_deeds, shown_misses, scan_tried}
+use Rattle.dspec_interleaving.proofs.StepReads.{can_be_released, flight_stands, steps_fit, step_legal}
 use Rattle.dspec_machine.proofs.machine.Machine.step_scan_load.Goals as goal
 
 pub open_at-requires : goal.open_at-requires
@@ -87,7 +87,7 @@ returns-in_default g c =
     let is = shown_misses shape k a h me s (word_at s h) (open_at (word_at s h) k.max_issues)
     (λ to e. c.in_default.not-Attempt to (c.open_at.ensures ∙ (ap (λ (w : SlotState). open_at w k.max_issues) word ∙ e))) in
     record {
-      makes = subst (λ (x : Moved). IfOk c.miss.result (λ answer. Makes g.B.TraceBuffer.has g.B.TraceBuffer.capacity m c.miss.new.self a x answer))
+      makes = subst (λ (x : CpuStep). IfOk c.miss.result (λ answer. Makes g.B.TraceBuffer.has g.B.TraceBuffer.capacity m c.miss.new.self a x answer))
           (ap (missed shape k a h me s) word ∙ sym is) c.miss.ensures.makes;
       refused = c.miss.ensures.refused;
     }

@@ -8,19 +8,19 @@ use Rattle.dspec_deeds.specs.declared.calls.Answer.TheVariants as answer
 use Rattle.dspec_deeds.specs.declared.calls.Opening.TheVariants as opening
 use Rattle.dspec_deeds.specs.declared.deed.Deed.{Deed}
 use Rattle.dspec_deeds.specs.declared.deed.Deed.TheVariants.{Opened, Miss}
-use Rattle.dspec_play.specs.declared.flight.CpuProgress.{CpuProgress}
-use Rattle.dspec_play.specs.declared.flight.CpuFlight.TheVariants as flight
+use Rattle.dspec_interleaving.specs.declared.flight.CpuProgress.{CpuProgress}
+use Rattle.dspec_interleaving.specs.declared.flight.CallPlace.TheVariants as flight
 use Rattle.dspec_deeds.specs.History.{word_at}
 use Rattle.dspec_deeds.specs.Legal.{IsAllowed}
-use Rattle.dspec_play.specs.Coherent.{IsCoherent, PlayState, progress_of}
+use Rattle.dspec_interleaving.specs.Coherent.{IsCoherent, PlayState, progress_of}
 use Rattle.dspec_machine.specs.Machines.{Makes, history, state_of}
 use Rattle.dspec_machine.specs.Shown.{ShowsWords}
-use Rattle.dspec_play.specs.Play.{Moved, same_word, ends, missed, cpu_step}
+use Rattle.dspec_interleaving.specs.Play.{CpuStep, same_word, ends, missed, cpu_step}
 use Rattle.dspec_machine.proofs.DecisionMoves.{another, expected}
 use Rattle.dspec_machine.proofs.Makings.{step_made}
 use Rattle.dspec_machine.proofs.OneMore.{word_there}
-use Rattle.dspec_play.proofs.ScanMoves.{missed_deeds, scan_opened}
-use Rattle.dspec_play.proofs.StepReads.{flight_stands, step_legal}
+use Rattle.dspec_interleaving.proofs.ScanMoves.{missed_deeds, scan_opened}
+use Rattle.dspec_interleaving.proofs.StepReads.{flight_stands, step_legal}
 use Rattle.dspec_machine.proofs.machine.Machine.step_scan_try.Goals as goal
 
 module _ {shape : ℕ → Option Shape} {st : PlayState} (coherent : IsCoherent shape st) (c : ℕ) (lt : c < st.config.cpus) {s : ℕ} {from : SlotState}
@@ -61,7 +61,7 @@ returns-then-ne-clause-makes g c =
     let at = c.requires.stands in
     let is = misses at.coherent a at.cpu at.flight at.shown.words c.index.ensures c.ne.ensures c.if-ne.true in
     let word = word_read at.coherent a at.cpu at.flight at.shown.words c.index.ensures in
-    subst (λ (x : Moved). IfOk c.miss.result (λ answer. Makes g.B.TraceBuffer.has g.B.TraceBuffer.capacity m c.miss.new.self a x answer))
+    subst (λ (x : CpuStep). IfOk c.miss.result (λ answer. Makes g.B.TraceBuffer.has g.B.TraceBuffer.capacity m c.miss.new.self a x answer))
     (ap (missed (g.S.Schema.shape_of m.schema) m.config a (history m) (progress_of (state_of m).progresses a) s) word ∙ sym is) c.miss.ensures.makes
 
 pub enter_opened-requires-clause-legal : goal.enter_opened-requires-clause-legal

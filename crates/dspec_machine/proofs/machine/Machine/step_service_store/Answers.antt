@@ -4,13 +4,13 @@ use Rattle.dspec_word.specs.SpecId.{Speculation}
 use Rattle.dspec_deeds.specs.declared.deed.Deed.{Deed}
 use Rattle.dspec_deeds.specs.declared.deed.Deed.TheVariants.{Settle}
 use Rattle.dspec_deeds.specs.declared.deed.DecideFate.{DecideFate}
-use Rattle.dspec_play.specs.declared.flight.CpuFlight.TheVariants as flight
+use Rattle.dspec_interleaving.specs.declared.flight.CallPlace.TheVariants as flight
 use Rattle.dspec_deeds.specs.Legal.{IsAllowed}
-use Rattle.dspec_play.specs.Coherent.{progress_of}
+use Rattle.dspec_interleaving.specs.Coherent.{progress_of}
 use Rattle.dspec_machine.specs.Machines.{history, state_of}
 use Rattle.dspec_deeds.specs.Settling.{settle_fate}
-use Rattle.dspec_play.proofs.StepReads.{step_legal}
-use Rattle.dspec_play.proofs.ServiceMoves.{served_deeds}
+use Rattle.dspec_interleaving.proofs.StepReads.{step_legal}
+use Rattle.dspec_interleaving.proofs.ServiceMoves.{served_deeds}
 use Rattle.dspec_machine.proofs.machine.Machine.step_service_store.Goals as goal
 
 pub enter_settle-requires-clause-legal : goal.enter_settle-requires-clause-legal

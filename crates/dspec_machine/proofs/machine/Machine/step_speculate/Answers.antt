@@ -5,13 +5,13 @@ use Rattle.dspec_deeds.specs.declared.calls.CpuOp.TheVariants as cpu_op
 use Rattle.dspec_deeds.specs.declared.calls.Spoken.TheVariants as spoken_answer
 use Rattle.dspec_deeds.specs.declared.deed.Deed.TheVariants.{Speculate}
 use Rattle.dspec_deeds.specs.declared.deed.SpeculateFate.TheVariants as spoken
-use Rattle.dspec_play.specs.declared.flight.CpuFlight.TheVariants as flight
+use Rattle.dspec_interleaving.specs.declared.flight.CallPlace.TheVariants as flight
 use Rattle.dspec_deeds.specs.History.{halted, in_range}
 use Rattle.dspec_deeds.specs.Own.{calls}
-use Rattle.dspec_play.specs.Coherent.{progress_of}
+use Rattle.dspec_interleaving.specs.Coherent.{progress_of}
 use Rattle.dspec_machine.specs.Machines.{history, state_of}
-use Rattle.dspec_play.specs.Play.{cpu_step, ends}
-use Rattle.dspec_play.proofs.StepReads.{step_legal}
+use Rattle.dspec_interleaving.specs.Play.{cpu_step, ends}
+use Rattle.dspec_interleaving.proofs.StepReads.{step_legal}
 use Rattle.dspec_machine.proofs.machine.Machine.step_speculate.Goals as goal
 
 pub enter_unspoken-requires-2-clause-legal : goal.enter_unspoken-requires-2-clause-legal

@@ -3,14 +3,14 @@ use Rattle.std.proofs.Common.{◌≡◌, refl, sym, ◌∙◌, subst}
 use Rattle.dspec_word.specs.declared.act.Act.TheVariants.{Granted}
 use Rattle.dspec_word.specs.Word.{CanBeReleased}
 use Rattle.dspec_word.specs.Tables.{speculate_at}
-use Rattle.dspec_play.specs.declared.flight.CpuFlight.TheVariants as flight
+use Rattle.dspec_interleaving.specs.declared.flight.CallPlace.TheVariants as flight
 use Rattle.dspec_deeds.specs.History.{is_among, callers, word_at}
-use Rattle.dspec_play.specs.Coherent.{progress_of}
+use Rattle.dspec_interleaving.specs.Coherent.{progress_of}
 use Rattle.dspec_machine.specs.Machines.{history, state_of}
-use Rattle.dspec_play.specs.Play.{cpu_step, spoken_at}
-use Rattle.dspec_play.proofs.StepReads.{can_be_released, flight_stands, step_legal}
-use Rattle.dspec_play.proofs.TableReads.{speculate_reads}
-use Rattle.dspec_play.proofs.SpeculateMoves.{shown_voids, word_granted}
+use Rattle.dspec_interleaving.specs.Play.{cpu_step, spoken_at}
+use Rattle.dspec_interleaving.proofs.StepReads.{can_be_released, flight_stands, step_legal}
+use Rattle.dspec_interleaving.proofs.TableReads.{speculate_reads}
+use Rattle.dspec_interleaving.proofs.SpeculateMoves.{shown_voids, word_granted}
 use Rattle.dspec_machine.proofs.machine.Machine.step_speculate_load.Goals as goal
 
 pub speculate_at-requires : goal.speculate_at-requires
@@ -18,8 +18,8 @@ speculate_at-requires g c =
     let m = c.args.self.now in
     subst CanBeReleased (sym c.word_of-word.ensures) (can_be_released m.config c.args.id.slot (history m) c.requires.stands.coherent.ranges c.requires.stands.coherent.legal.0)
 
-pub speak-requires-clause-legal : goal.speak-requires-clause-legal
-speak-requires-clause-legal g c =
+pub speculate-requires-clause-legal : goal.speculate-requires-clause-legal
+speculate-requires-clause-legal g c =
     let m = c.args.self.now in
     let a = c.args.cpu in
     let h = history m in
@@ -33,8 +33,8 @@ speak-requires-clause-legal g c =
     let is : cpu_step shape m.config a h me f ≡ spoken_at shape m.config a h me id r = rw act refl in
     step_legal shape (state_of m) c.requires.stands.coherent a c.requires.stands.cpu f c.requires.stands.flight _ is
 
-pub speak-requires-clause-word : goal.speak-requires-clause-word
-speak-requires-clause-word g c =
+pub speculate-requires-clause-word : goal.speculate-requires-clause-word
+speculate-requires-clause-word g c =
     let m = c.args.self.now in
     let a = c.args.cpu in
     let h = history m in

@@ -6,17 +6,17 @@ use Rattle.dspec_word.specs.Tables.{speculate_at}
 use Rattle.dspec_deeds.specs.declared.calls.Answer.{Answer}
 use Rattle.dspec_deeds.specs.declared.deed.Deed.TheVariants.{Speculate}
 use Rattle.dspec_deeds.specs.declared.deed.SpeculateFate.TheVariants as spoken
-use Rattle.dspec_play.specs.declared.flight.CpuProgress.{CpuProgress}
-use Rattle.dspec_play.specs.declared.flight.CpuFlight.TheVariants as flight
+use Rattle.dspec_interleaving.specs.declared.flight.CpuProgress.{CpuProgress}
+use Rattle.dspec_interleaving.specs.declared.flight.CallPlace.TheVariants as flight
 use Rattle.dspec_deeds.specs.History.{is_among, callers, word_at}
-use Rattle.dspec_play.specs.Coherent.{progress_of}
+use Rattle.dspec_interleaving.specs.Coherent.{progress_of}
 use Rattle.dspec_machine.specs.Machines.{history, state_of}
-use Rattle.dspec_play.specs.Play.{Moved, cpu_step, same_word, shown_speculate, spoken_at}
+use Rattle.dspec_interleaving.specs.Play.{CpuStep, cpu_step, same_word, shown_speculate, spoken_at}
 use Rattle.dspec_machine.proofs.Makings.{adds_none, step_made}
-use Rattle.dspec_play.proofs.StepReads.{can_be_released, flight_stands, step_legal}
-use Rattle.dspec_play.proofs.TableReads.{speculate_reads}
-use Rattle.dspec_play.proofs.StepsWords.{words_test}
-use Rattle.dspec_play.proofs.SpeculateMoves.{shown_voids, speculate_tried, word_granted, word_joined}
+use Rattle.dspec_interleaving.proofs.StepReads.{can_be_released, flight_stands, step_legal}
+use Rattle.dspec_interleaving.proofs.TableReads.{speculate_reads}
+use Rattle.dspec_interleaving.proofs.StepsWords.{words_test}
+use Rattle.dspec_interleaving.proofs.SpeculateMoves.{shown_voids, speculate_tried, word_granted, word_joined}
 use Rattle.dspec_machine.proofs.machine.Machine.step_speculate_try.Goals as goal
 
 pub speculate_at-act-requires : goal.speculate_at-act-requires
@@ -24,8 +24,8 @@ speculate_at-act-requires g c =
     let m = c.args.self.now in
     subst CanBeReleased (sym c.word_of-word.ensures) (can_be_released m.config c.args.id.slot (history m) c.requires.stands.coherent.ranges c.requires.stands.coherent.legal.0)
 
-pub speak-requires-clause-legal : goal.speak-requires-clause-legal
-speak-requires-clause-legal g c =
+pub speculate-requires-clause-legal : goal.speculate-requires-clause-legal
+speculate-requires-clause-legal g c =
     let m = c.args.self.now in
     let a = c.args.cpu in
     let h = history m in
@@ -39,8 +39,8 @@ speak-requires-clause-legal g c =
     let is : cpu_step shape m.config a h me f ≡ spoken_at shape m.config a h me id r = rw same refl in
     step_legal shape (state_of m) c.requires.stands.coherent a c.requires.stands.cpu f c.requires.stands.flight _ is
 
-pub speak-requires-clause-word : goal.speak-requires-clause-word
-speak-requires-clause-word g c =
+pub speculate-requires-clause-word : goal.speculate-requires-clause-word
+speculate-requires-clause-word g c =
     let m = c.args.self.now in
     let a = c.args.cpu in
     let h = history m in
@@ -52,8 +52,8 @@ speak-requires-clause-word g c =
     sym (speculate_reads h a id c.word_of-word.result c.is_mine-mine.result c.word_of-word.ensures c.is_mine-mine.ensures) ∙ (sym c.speculate_at-act.ensures ∙ c.in-Attempt.is) in
     word_joined m.config a h id r coherent.legal.0 coherent.rests at.0 c.in-Attempt.to act
 
-pub speak-requires-in-Granted-clause-legal : goal.speak-requires-in-Granted-clause-legal
-speak-requires-in-Granted-clause-legal g c =
+pub speculate-requires-in-Granted-clause-legal : goal.speculate-requires-in-Granted-clause-legal
+speculate-requires-in-Granted-clause-legal g c =
     let m = c.args.self.now in
     let a = c.args.cpu in
     let h = history m in
@@ -69,8 +69,8 @@ speak-requires-in-Granted-clause-legal g c =
     let is : cpu_step shape m.config a h me f ≡ spoken_at shape m.config a h me id r = rw other (rw act refl) in
     step_legal shape (state_of m) c.requires.stands.coherent a c.requires.stands.cpu f c.requires.stands.flight _ is
 
-pub speak-requires-in-Granted-clause-word : goal.speak-requires-in-Granted-clause-word
-speak-requires-in-Granted-clause-word g c =
+pub speculate-requires-in-Granted-clause-word : goal.speculate-requires-in-Granted-clause-word
+speculate-requires-in-Granted-clause-word g c =
     let m = c.args.self.now in
     let a = c.args.cpu in
     let h = history m in
@@ -134,7 +134,7 @@ returns-in_ok-enter_unspoken-in_default-act-clause-makes g c =
     let act = speculate_at (word_at id.slot h) id (is_among a (callers id h)) in
     let shown : cpu_step shape m.config a h me (flight.SpeculateTry id r c.args.from) ≡ shown_speculate shape m.config a h me id r (word_at id.slot h) act = rw other refl in
     let is = shown_voids shape m.config a h me id r (word_at id.slot h) act (λ e. c.in_default-act.not-Granted (acts ∙ e)) (λ to e. c.in_default-act.not-Attempt to (acts ∙ e)) in
-    let Ends : Option Answer → Moved = λ x. record { progress = record me { flight = None; steps = 0 }; deeds = Speculate a id r spoken.Void ∷ []; answer = x } in
+    let Ends : Option Answer → CpuStep = λ x. record { progress = record me { flight = None; steps = 0 }; deeds = Speculate a id r spoken.Void ∷ []; answer = x } in
     step_made g.B.TraceBuffer.has g.B.TraceBuffer.capacity m c.enter_unspoken.new.self c.end.new.self a (Speculate a id r spoken.Void ∷ [])
     (λ (x : CpuProgress). record x { flight = None; steps = 0 }) _ c.end.result
     c.in_ok-enter_unspoken-in_default-act.ensures.entered c.end.ensures.shown c.end.ensures.state c.end.ensures.schema (ap Ends c.end.ensures.answer ∙ sym (shown ∙ is))

@@ -1,6 +1,6 @@
 -- No more batches are taken than can be counted.
 use Rattle.dspec_machine.specs.Machines.{state_of}
-use Rattle.dspec_play.proofs.CleanReads.{takes_fit}
+use Rattle.dspec_interleaving.proofs.CleanReads.{takes_fit}
 use Rattle.dspec_machine.proofs.machine.Machine.step_take.Goals as goal
 
 pub take_batch-requires-clause-fits : goal.take_batch-requires-clause-fits

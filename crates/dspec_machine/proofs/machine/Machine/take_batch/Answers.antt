@@ -4,11 +4,11 @@ use Rattle.std.specs.Vec.{with_item}
 use Rattle.dspec_record.specs.Record.{Record}
 use Rattle.dspec_deeds.specs.declared.calls.Answer.{Answer}
 use Rattle.dspec_deeds.specs.declared.calls.Answer.TheVariants as answer
-use Rattle.dspec_play.specs.declared.flight.CpuProgress.{CpuProgress}
-use Rattle.dspec_play.specs.declared.flight.Spare.TheVariants as spare
+use Rattle.dspec_interleaving.specs.declared.flight.CpuProgress.{CpuProgress}
+use Rattle.dspec_interleaving.specs.declared.flight.Spare.TheVariants as spare
 use Rattle.dspec_deeds.specs.Own.{Batch, contents, seals, taken}
-use Rattle.dspec_machine.specs.Machines.{Cleans, history, state_of}
-use Rattle.dspec_play.specs.Play.{batch_at, changes}
+use Rattle.dspec_machine.specs.Machines.{ConsumerMakes, history, state_of}
+use Rattle.dspec_interleaving.specs.Play.{batch_at, changes}
 use Rattle.dspec_machine.specs.Shown.{batch_of_last_seal}
 use Rattle.dspec_machine.proofs.CleanMakings.{puts_stops}
 use Rattle.dspec_deeds.proofs.Items.{kept_item}
@@ -71,8 +71,8 @@ returns-clause-cleans g c =
     ≡ answer.Took (batch_at a own.progress.takes h).drops (length (taken own.progress.takes a h)) (length (batch_at a own.progress.takes h).offers)
     = λ i. answer.Took (drops i) (from i) (count i) in
     let new = record own { progress = record own.progress { spare = spare.Out; takes = own.progress.takes + 1 }; taken = c.append_records.new.to } in
-    subst (λ (x : CpuProgress). Cleans g.B.TraceBuffer.has g.B.TraceBuffer.capacity m c.stop_consumer.new.self
+    subst (λ (x : CpuProgress). ConsumerMakes g.B.TraceBuffer.has g.B.TraceBuffer.capacity m c.stop_consumer.new.self
     (changes k h m.consumer all a (record x { spare = spare.Out; takes = x.takes + 1 })
     (answer.Took (batch_at a x.takes h).drops (length (taken x.takes a h)) (length (batch_at a x.takes h).offers))) c.stop_consumer.result) (sym is)
-    (subst (λ (x : Answer). Cleans g.B.TraceBuffer.has g.B.TraceBuffer.capacity m c.stop_consumer.new.self (changes k h m.consumer all a new.progress x) c.stop_consumer.result) said
+    (subst (λ (x : Answer). ConsumerMakes g.B.TraceBuffer.has g.B.TraceBuffer.capacity m c.stop_consumer.new.self (changes k h m.consumer all a new.progress x) c.stop_consumer.result) said
     (puts_stops g.B.TraceBuffer.has g.B.TraceBuffer.capacity m _ _ a new.progress _ _ (state_puts m a new) refl c.stop_consumer.ensures))

@@ -1,6 +1,6 @@
 -- The session is still one behind a call of its consumer.
 use Rattle.std.proofs.Common.{refl}
-use Rattle.dspec_consumer.proofs.Callings.{consumer_called}
+use Rattle.dspec_session_core.proofs.Callings.{consumer_called}
 use Rattle.dspec_replay.proofs.playing.Playing.run_consumer.Goals as goal
 
 pub returns-clause-session : goal.returns-clause-session

@@ -7,10 +7,10 @@ use Rattle.dspec_table.specs.declared.rule.View.{View}
 use Rattle.dspec_table.specs.Seats.{set_up}
 use Rattle.dspec_cpu.specs.declared.shared.Shared.{Shared}
 use Rattle.dspec_cpu.specs.Lists.{words_of}
-use Rattle.dspec_consumer.specs.declared.session.Session.{Session}
-use Rattle.dspec_consumer.specs.Consumers.{view_of}
-use Rattle.dspec_consumer.specs.Promised.{IsPromisedBy, called_at, entered_at}
-use Rattle.dspec_consumer.specs.Sessions.{IsSession, taken_at}
+use Rattle.dspec_session_core.specs.declared.session.Session.{Session}
+use Rattle.dspec_session_core.specs.Consumers.{view_of}
+use Rattle.dspec_session_core.specs.Promised.{IsPromisedBy, called_at, entered_at}
+use Rattle.dspec_session_core.specs.Sessions.{IsSession, taken_at}
 use Rattle.dspec.specs.Traced.{IsTraced}
 use Rattle.dspec.proofs.Tracing.{traced}
 use Rattle.dspec_threads.specs.Homes.{came_by}

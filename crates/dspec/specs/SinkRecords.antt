@@ -1,0 +1,37 @@
+-- Cited by calls. What a sink keeps of the batches that it gets.
+use Rattle.std.specs.Prelude.{ℕ, ◌≡◌, List, [], ◌++◌, Option, Some, None}
+use Rattle.dspec_record.specs.Record.{Record}
+use Rattle.dspec_record.specs.EnablingRows.{EnabledRows}
+use Rattle.dspec_record.specs.Schemas.{enabled, table_shape, table_accepts, table_text}
+use Rattle.dspec_buffer.specs.BufferText.{BufferText}
+use Rattle.dspec_buffer.specs.Faults.{StopsAt}
+use Rattle.dspec_ring.specs.declared.batch.Batch.{Batch}
+use Rattle.dspec.specs.declared.record_sink.RecordSinkFault.{RecordSinkFault}
+use Rattle.dspec.specs.declared.record_sink.RecordSinkFault.TheVariants.{Text, Memory}
+
+-- the records, in the order in which they came, and why not all were kept
+pub record SinkRecords : Type 0 where
+  pub records : List Record
+  pub fault : Option RecordSinkFault
+
+abbrev pub no_records : SinkRecords
+no_records = record { records = []; fault = None }
+
+module _ (e : EnabledRows) where
+  -- the records of the text came behind those before
+  pub record AddsText (text : List ℕ) (before after : List Record) : Type 0 where
+    pub added : List Record
+    pub is_text : BufferText (table_shape e.header (enabled e.rows)) (table_accepts e.header (enabled e.rows)) (table_text e.header (enabled e.rows)) 0 text added
+    pub behind : after ≡ before ++ added
+
+  -- why the records of a batch weren't kept: it has a text that stops there, or memory was wanting
+  abbrev pub IsRecordSinkFault : Batch → RecordSinkFault → Type 0
+  IsRecordSinkFault b (Text cpu fault) =
+      (cpu ≡ b.cpu) × StopsAt (table_shape e.header (enabled e.rows)) (table_accepts e.header (enabled e.rows)) (table_text e.header (enabled e.rows)) b.buffer.text fault
+  IsRecordSinkFault b Memory = Unit
+
+  -- All records of the batch are kept, or why not; behind a fault nothing more is.
+  pub record KeepsBatch (old : SinkRecords) (b : Batch) (new : SinkRecords) : Type 0 where
+    pub stopped : (fault : RecordSinkFault) → old.fault ≡ Some fault → new ≡ old
+    pub kept : old.fault ≡ None → new.fault ≡ None → AddsText b.buffer.text old.records new.records
+    pub why : (fault : RecordSinkFault) → old.fault ≡ None → new.fault ≡ Some fault → IsRecordSinkFault b fault

@@ -1,0 +1,122 @@
+ghost use Rattle.std.specs.Prelude.{◌≡◌, ◌++◌, IfOk, IfErr, OnOk, Some, None};
+ghost use Rattle.dspec.specs.SinkRecords.{AddsText, KeepsBatch, IsRecordSinkFault, no_records};
+ghost use Rattle.dspec.specs.declared.record_sink.RecordSinkFault.TheVariants.{Memory};
+
+use crate::work::Sink;
+use dspec_buffer::{ReadFault, Records, read_all};
+use dspec_record::{Enablings, Rec};
+use dspec_ring::Batch;
+use std::alloc::{AllocError, Global};
+use std::error::Error;
+use std::fmt;
+use std::marker::Model;
+
+/// Why records weren't kept.
+#[derive(Debug, Clone, Copy, PartialEq, Eq)]
+pub enum RecordSinkFault {
+    /// A batch of this CPU can't be read; as `read_all` tells it.
+    Text { cpu: u32, fault: ReadFault },
+    /// A growth was refused.
+    Memory,
+}
+
+impl Error for RecordSinkFault {}
+
+impl fmt::Display for RecordSinkFault {
+    fn fmt<W: fmt::Write>(&self, f: &mut fmt::Formatter<W>) -> fmt::Result {
+        match *self {
+            RecordSinkFault::Text { cpu, fault } => write!(f, "a batch of cpu {cpu}: {fault}"),
+            RecordSinkFault::Memory => f.pad("out of memory"),
+        }
+    }
+}
+
+impl From<AllocError> for RecordSinkFault {
+    ghost from_gives = { λ _ fault. fault ≡ Memory };
+
+    fn from(_refused: AllocError) -> Self {
+        RecordSinkFault::Memory
+    }
+}
+
+/// A sink that keeps every record, in the order in which they come, in memory that grows with them. Behind the first batch of which
+/// it can't keep all records it keeps no more. Contracts see its records and that fault.
+#[derive(Drop)]
+pub struct RecordSink {
+    records: Vec<Rec>,
+    fault: Option<RecordSinkFault>,
+}
+
+impl Model for RecordSink {
+    ghost use Rattle.dspec.specs.SinkRecords.{SinkRecords};
+
+    ghost Value = { SinkRecords };
+
+    ghost view = { λ i. record { records = i.records.items; fault = i.fault } };
+}
+
+// All of these records come behind those that are kept.
+fn keep_all(kept: &mut Vec<Rec>, came: Records<'_, Enablings>) -> Result<(), AllocError>
+    ensures { OnOk result (kept.new.items ≡ kept.old.items ++ came.entry) }
+{
+    for rec in came {
+        kept.push(rec)?;
+    }
+    Ok(())
+}
+
+// So do those of a batch.
+fn keep_batch(kept: &mut Vec<Rec>, schema: &Enablings, batch: &Batch) -> Result<(), RecordSinkFault>
+    ensures added { OnOk result (AddsText schema.now batch.now.buffer.text kept.old.items kept.new.items) }
+    ensures fault { IfErr result (IsRecordSinkFault schema.now batch.now) }
+{
+    let came = match read_all(schema, batch.buffer.bytes()) {
+        Ok(came) => came,
+        Err(fault) => {
+            return Err(RecordSinkFault::Text {
+                cpu: batch.cpu,
+                fault,
+            });
+        }
+    };
+    keep_all(kept, came)?;
+    Ok(())
+}
+
+impl RecordSink {
+    /// Nothing is kept yet.
+    pub fn new(alloc: Global) -> RecordSink
+        ensures { result ≡ no_records }
+    {
+        RecordSink {
+            records: Vec::new(alloc),
+            fault: None,
+        }
+    }
+
+    /// All records that came, or why not all were kept.
+    pub fn records(self) -> Result<Vec<Rec>, RecordSinkFault>
+        ensures records { IfOk result (λ records. (records.items ≡ self.records) × (self.fault ≡ None)) }
+        ensures fault { IfErr result (λ fault. self.fault ≡ Some fault) }
+    {
+        let RecordSink { records, fault } = self;
+        match fault {
+            None => Ok(records),
+            Some(fault) => Err(fault),
+        }
+    }
+}
+
+impl Sink<Enablings> for RecordSink {
+    ghost gets = { KeepsBatch };
+
+    fn batch(&mut self, schema: &Enablings, batch: &Batch) {
+        if self.fault.is_some() {
+            return;
+        }
+        let Err(fault) = keep_batch(&mut self.records, schema, batch) else {
+            return;
+        };
+        self.fault = Some(fault);
+    }
+}

@@ -1,2 +1,0 @@
-pub mod Belts
-pub mod Waits

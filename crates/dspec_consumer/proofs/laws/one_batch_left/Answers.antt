@@ -1,5 +1,0 @@
-use Rattle.dspec_consumer.proofs.ClosingRests.{one_left}
-use Rattle.dspec_consumer.proofs.laws.one_batch_left.Goals as goal
-
-pub returns : goal.returns
-returns c = one_left

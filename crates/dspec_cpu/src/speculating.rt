@@ -1,0 +1,104 @@
+ghost use Rattle.std.specs.Prelude.{◌≡◌, ◌<◌, ◌+◌, ◌-◌, ◌==◌, ◌++◌, true, List, IsTrue, Some, slice_get};
+ghost use Rattle.dspec_record.specs.LaidOut.{IsLaidBy};
+ghost use Rattle.dspec_deeds.specs.declared.deed.Deed.{Deed};
+ghost use Rattle.dspec_deeds.specs.History.{in_range};
+ghost use Rattle.dspec_deeds.specs.Marks.{mark};
+ghost use Rattle.dspec_table.specs.Seats.{known};
+ghost use Rattle.dspec_cpu.specs.Calls.{Goes, spoken_deeds, is_worn_spoken};
+ghost use Rattle.dspec_cpu.specs.Keeping.{CallLeaves};
+ghost use Rattle.dspec_cpu.specs.Lists.{IsSameCpu, config_of, number_in, schema_of, seat_of, words_of};
+ghost use Rattle.dspec_cpu.specs.Stops.{is_stopped_spoken};
+ghost use Rattle.dspec_cpu.specs.Touching.{of_slot};
+
+use crate::callable::Callable;
+use crate::cpu::Cpu;
+use crate::listed::Listed;
+use crate::parts::CpuParts;
+use crate::reaching::{Reach, go_on};
+use crate::shared::Shared;
+use dspec_deeds::{CpuOp, SpeculateFate, Spoken};
+use dspec_record::{Recorded, Schema};
+use dspec_table::Doing;
+use dspec_word::SpecId;
+
+impl<S: Schema> CpuParts<S> {
+    // As `Cpu::speculate`.
+    #[inline(always)]
+    pub(crate) fn speculate<R: Recorded>(&mut self, shared: &Shared, id: SpecId, rec: R) -> Spoken
+        requires ready { ⟦<CpuParts<S> as Callable>⟧.is_ready (words_of shared.now) self.old }
+        requires accepted { IsTrue (S.accepted (schema_of self.old) (R.as_record rec)) }
+        requires laid { IsLaidBy (S.shape_of (schema_of self.old)) (S.text (schema_of self.old)) (R.as_record rec) (R.laid_as rec) }
+        ensures ready { ⟦<CpuParts<S> as Callable>⟧.is_ready (words_of shared.now) self.new }
+        ensures same { IsSameCpu self.old self.new }
+        ensures keeps { CallLeaves (is_worn_spoken result) (is_stopped_spoken result) 4 (of_slot (config_of self.old) id) self.old self.new }
+        ensures did { Goes (known (seat_of self.old)) (spoken_deeds (number_in self.old) id (R.as_record rec) result) (known (seat_of self.new)) }
+        ensures list { (p : List Deed) → ⟦<Cpu<S> as Listed>⟧.has_list self.old p
+            → ⟦<Cpu<S> as Listed>⟧.has_list self.new (spoken_deeds (number_in self.old) id (R.as_record rec) result ++ p) }
+    {
+        if self.side.calls >= self.config.max_calls {
+            self.side.counts.wear();
+            return Spoken::Worn;
+        }
+        let mine = self.is_mine(id);
+        // the call once for a caller and once for another CPU, so that neither asks which it is; a caller's slot is one of the session's
+        if mine {
+            self.offer(shared, id, rec, true, true)
+        } else {
+            let inside = self.is_inside(id);
+            self.offer(shared, id, rec, inside, false)
+        }
+    }
+
+    // A call that isn't worn, of a CPU of which it is known whether it is a caller.
+    #[inline(always)]
+    fn offer<R: Recorded>(
+        &mut self,
+        shared: &Shared,
+        id: SpecId,
+        rec: R,
+        inside: bool,
+        mine: bool,
+    ) -> Spoken
+        requires ready { ⟦<CpuParts<S> as Callable>⟧.is_ready (words_of shared.now) self.old }
+        requires calls { self.old.side.calls < self.old.config.max_calls }
+        requires accepted { IsTrue (S.accepted self.old.schema (R.as_record rec)) }
+        requires laid { IsLaidBy (S.shape_of self.old.schema) (S.text self.old.schema) (R.as_record rec) (R.laid_as rec) }
+        requires inside { inside ≡ in_range self.old.config id }
+        requires mine { inside ≡ true → (p : List Deed) → ⟦<Cpu<S> as Listed>⟧.is_shown self.old p → mine ≡ (mark self.old.cpu id.slot p == id.issue + 1) }
+        requires marked { mine ≡ true → slice_get self.old.side.marks (id.slot - 1) ≡ Some (id.issue + 1) }
+        ensures ready { ⟦<CpuParts<S> as Callable>⟧.is_ready (words_of shared.now) self.new }
+        ensures same { IsSameCpu self.old self.new }
+        ensures keeps { CallLeaves (is_worn_spoken result) (is_stopped_spoken result) 4 (of_slot (config_of self.old) id) self.old self.new }
+        ensures did { Goes (known (seat_of self.old)) (spoken_deeds (number_in self.old) id (R.as_record rec) result) (known (seat_of self.new)) }
+        ensures list { (p : List Deed) → ⟦<Cpu<S> as Listed>⟧.has_list self.old p
+            → ⟦<Cpu<S> as Listed>⟧.has_list self.new (spoken_deeds (number_in self.old) id (R.as_record rec) result ++ p) }
+    {
+        let fits = self.fits_slot(id, rec, mine, inside);
+        let copied = rec.to_rec();
+        let doing = Doing {
+            mine,
+            op: CpuOp::Speculate(id, copied),
+            fits,
+            count: 0,
+        };
+        let reached = go_on(&mut self.seat, &shared.words, id, inside, &doing);
+        match reached {
+            Reach::Stopped => {
+                self.side.speculate_nowhere::<S>(SpeculateFate::Stopped);
+                Spoken::Stopped
+            }
+            Reach::Void => {
+                self.side.speculate_nowhere::<S>(SpeculateFate::Void);
+                Spoken::Void
+            }
+            Reach::Granted | Reach::Done(_) => {
+                // It answers as the test before the load did, which no running code asks any more.
+                let kept = self.side.grant(&self.schema, id, rec, mine);
+                if !kept {
+                    return Spoken::Dropped;
+                }
+                Spoken::Kept
+            }
+        }
+    }
+}

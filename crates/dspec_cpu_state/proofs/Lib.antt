@@ -1,0 +1,9 @@
+pub mod Places
+pub mod Ones
+pub mod Starts
+pub mod Tallies
+pub mod Quiet
+pub mod Drops
+pub mod Grants
+pub mod EndedBlocks
+pub mod Unanswered

@@ -1,0 +1,53 @@
+-- Cited by calls. What a CPU's side shows of a list of that CPU's own deeds.
+use Rattle.std.specs.Prelude.{ℕ, ◌≡◌, ◌+◌, ◌==◌, Bool, false, List, [], if◌then◌else◌}
+use Rattle.dspec_buffer.specs.Extent.{Piece}
+use Rattle.dspec_word.specs.declared.code.Code.{Code}
+use Rattle.dspec_word.specs.declared.code.Code.TheVariants.{Discarding}
+use Rattle.dspec_word.specs.SpecId.{Speculation}
+use Rattle.dspec_deeds.specs.declared.config.Config.{Config}
+use Rattle.dspec_deeds.specs.declared.deed.DecideFate.{DecideFate}
+use Rattle.dspec_deeds.specs.declared.deed.DecideFate.TheVariants as decided
+use Rattle.dspec_deeds.specs.declared.deed.Deed.{Deed}
+use Rattle.dspec_deeds.specs.Marks.{mark}
+use Rattle.dspec_deeds.specs.Own.{held}
+use Rattle.dspec_deeds.specs.CpuShown.{StateParts, ShowsOwnState, own_side}
+use Rattle.dspec_cpu_state.specs.declared.cpu_state.CpuState.{CpuState}
+use Rattle.dspec_cpu_state.specs.Counting.{counts_of}
+
+-- the numbers and buffers of a side
+abbrev pub parts_of_side : {B : Type 0} → CpuState B → StateParts B
+parts_of_side side = record {
+  calls = side.calls;
+  seals = side.seals;
+  drops = side.drops;
+  missed_busy = side.missed_busy;
+  active = side.active;
+  speculative = side.speculative.items;
+  marks = side.marks;
+  specdrops = side.specdrops.items;
+  acks = side.acks.items;
+}
+
+-- what becomes of a block that fits or doesn't, of so many records: committed, and settled by the code of the word that was shown
+abbrev pub committed_fate : Bool → ℕ → DecideFate
+committed_fate fit n = if fit then decided.Copied n else decided.Lost n
+
+abbrev pub settled_fate : Code → Bool → ℕ → DecideFate
+settled_fate Discarding fit n = decided.Thrown n
+settled_fate code fit n = committed_fate fit n
+
+module _ {B : Type 0} (keeps : B → List Piece → Type 0) (capacity : B → ℕ) where
+  -- a buffer of that size has these pieces
+  pub record IsFilledWith (size : ℕ) (ps : List Piece) (b : B) : Type 0 where
+    pub sized : capacity b ≡ size
+    pub has : keeps b ps
+
+  -- numbers and buffers are what the list tells of the CPU, and so are the counts, of which that of worn calls rests on no deed
+  pub record ShowsList (k : Config) (c : ℕ) (p : List Deed) (side : CpuState B) : Type 0 where
+    pub parts : ShowsOwnState IsFilledWith k (own_side c p) (parts_of_side side)
+    pub counted : side.counts ≡ counts_of k c side.counts.worn p
+
+-- whether the CPU is a caller of the speculation, as its mark tells; where it is none, it holds nothing of it
+pub record IsCaller (c : ℕ) (id : Speculation) (mine : Bool) (p : List Deed) : Type 0 where
+  pub marked : mine ≡ (mark c id.slot p == id.issue + 1)
+  pub empty : mine ≡ false → held c id p ≡ []

@@ -1,0 +1,129 @@
+ghost use Rattle.std.specs.Prelude.{◌≡◌, ◌≤◌, ◌&&◌, ◌<◌, not, true, ℕ, List, [], ◌∷◌, length, IsTrue, if◌then◌else◌};
+ghost use Rattle.std.specs.Bool.{OnTrue, OnFalse};
+ghost use Rattle.dspec_record.specs.LaidOut.{IsLaidBy};
+ghost use Rattle.dspec_buffer.specs.Extent.{Piece, one, piece_fits};
+ghost use Rattle.dspec_deeds.specs.declared.deed.Deed.{Deed};
+ghost use Rattle.dspec_deeds.specs.Legal.{fits_principal, fits_speculative, is_closed};
+ghost use Rattle.dspec_cpu_state.specs.Counting.{counts_of};
+ghost use Rattle.dspec_cpu_state.specs.CpuStates.{IsCaller, ShowsList};
+
+use crate::cpu_state::CpuState;
+use dspec_buffer::TraceBuffer;
+use dspec_deeds::Config;
+use dspec_record::{Recorded, Schema};
+use dspec_word::SpecId;
+
+// Whether a record would fit.
+#[inline]
+fn would_fit<S: Schema, B: TraceBuffer<S>, R: Recorded>(buffer: &B, schema: &S, rec: R) -> bool
+    requires accepted { IsTrue (S.accepted schema.now (R.as_record rec)) }
+    ensures { (ps : List Piece) → B.has buffer.now schema.now ps → result ≡ piece_fits (S.shape_of schema.now) ps (one (R.as_record rec)) (B.capacity buffer.now) }
+{
+    // An accepted record has a shape. Told so, where nobody asks for the answer no running code is left of the question.
+    let Some(shape) = schema.shape(rec.epid()) else {
+        return false;
+    };
+    buffer.fits(shape.align, shape.size)
+}
+
+// Whether a record would fit an empty buffer of this size.
+fn would_fit_empty<S: Schema, R: Recorded>(schema: &S, rec: R, size: u32) -> bool
+    requires accepted { IsTrue (S.accepted schema.now (R.as_record rec)) }
+    ensures { result ≡ piece_fits (S.shape_of schema.now) [] (one (R.as_record rec)) size }
+{
+    let Some(shape) = schema.shape(rec.epid()) else {
+        return false;
+    };
+    shape.size <= size
+}
+
+/// Keeps a record in a buffer, which is emptied before where what it has isn't of the same speculation. False where it doesn't
+/// fit.
+#[inline(always)]
+pub(crate) fn keep_in<S: Schema, B: TraceBuffer<S>, R: Recorded>(
+    buffer: &mut B,
+    schema: &S,
+    rec: R,
+    mine: bool,
+) -> bool
+    requires accepted { IsTrue (S.accepted schema.now (R.as_record rec)) }
+    requires laid { IsLaidBy (S.shape_of schema.now) (S.text schema.now) (R.as_record rec) (R.laid_as rec) }
+    ensures size { B.capacity buffer.new ≡ B.capacity buffer.old }
+    ensures answer { (ps : List Piece) → B.has buffer.old schema.now ps
+        → result ≡ piece_fits (S.shape_of schema.now) (if mine then ps else []) (one (R.as_record rec)) (B.capacity buffer.old) }
+    ensures has { (ps : List Piece) → B.has buffer.old schema.now ps
+        → B.has buffer.new schema.now (if result then one (R.as_record rec) ∷ (if mine then ps else []) else (if mine then ps else [])) }
+{
+    if !mine {
+        buffer.clear();
+    }
+    buffer.push_recorded(schema, rec)
+}
+
+/// Keeps a record in a principal buffer, where that isn't closed and the record fits.
+#[inline]
+pub(crate) fn keep_open<S: Schema, B: TraceBuffer<S>, R: Recorded>(
+    active: &mut B,
+    schema: &S,
+    rec: R,
+    closed: bool,
+) -> bool
+    requires accepted { IsTrue (S.accepted schema.now (R.as_record rec)) }
+    requires laid { IsLaidBy (S.shape_of schema.now) (S.text schema.now) (R.as_record rec) (R.laid_as rec) }
+    ensures size { B.capacity active.new ≡ B.capacity active.old }
+    ensures answer { (ps : List Piece) → B.has active.old schema.now ps
+        → result ≡ (piece_fits (S.shape_of schema.now) ps (one (R.as_record rec)) (B.capacity active.old) && not closed) }
+    ensures kept { OnTrue result ((ps : List Piece) → B.has active.old schema.now ps → B.has active.new schema.now (one (R.as_record rec) ∷ ps)) }
+    ensures refused { OnFalse result (active.new ≡ active.old) }
+{
+    if closed {
+        return false;
+    }
+    active.push_recorded(schema, rec)
+}
+
+impl<B> CpuState<B> {
+    /// Whether the active principal buffer takes nothing more but empty blocks: under Fill, once it has refused a reservation.
+    #[inline]
+    pub fn is_closed(&self, config: &Config) -> bool
+        ensures { (c worn : ℕ) (p : List Deed) → self.now.counts ≡ counts_of config.now c worn p → result ≡ is_closed config.now c p }
+    {
+        config.policy.is_fill() && self.counts.drops > 0
+    }
+
+    /// Whether the active principal buffer would take a record.
+    #[inline]
+    pub fn fits<S: Schema, R: Recorded>(&self, config: &Config, schema: &S, rec: R) -> bool
+    where
+        B: TraceBuffer<S>,
+        requires accepted { IsTrue (S.accepted schema.now (R.as_record rec)) }
+        ensures { (c : ℕ) (p : List Deed) → ShowsList (λ b. B.has b schema.now) B.capacity config.now c p self.now
+            → result ≡ fits_principal (S.shape_of schema.now) config.now c (one (R.as_record rec)) p }
+    {
+        would_fit(&self.active, schema, rec) && !self.is_closed(config)
+    }
+
+    /// Whether the CPU's buffer of the speculation would take a record; it is empty where the CPU is no caller.
+    #[inline]
+    pub fn fits_slot<S: Schema, R: Recorded>(
+        &self,
+        config: &Config,
+        schema: &S,
+        id: SpecId,
+        rec: R,
+        mine: bool,
+    ) -> bool
+    where
+        B: TraceBuffer<S>,
+        requires slot { (1 ≤ id.slot) × (id.slot ≤ length self.now.speculative.items) }
+        requires accepted { IsTrue (S.accepted schema.now (R.as_record rec)) }
+        ensures { (c : ℕ) (p : List Deed) → ShowsList (λ b. B.has b schema.now) B.capacity config.now c p self.now → IsCaller c id mine p
+            → result ≡ fits_speculative (S.shape_of schema.now) config.now c id (R.as_record rec) p }
+    {
+        if mine {
+            would_fit(&self.speculative[id.slot() as usize - 1], schema, rec)
+        } else {
+            would_fit_empty(schema, rec, config.specsize)
+        }
+    }
+}

@@ -1,3 +1,0 @@
-pub mod ScanLemmas
-pub mod LoopLemmas
-pub mod EventLemmas

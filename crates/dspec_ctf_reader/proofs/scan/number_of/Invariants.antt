@@ -1,6 +1,0 @@
-use Rattle.std.proofs.Common.{◌≡◌, drop}
-use Rattle.dspec_ctf_reading.specs.ReadingMetadata.{digits_number}
-use Rattle.dspec_ctf_reader.proofs.scan.number_of.Given as goal
-
-abbrev pub invariant-loop-digit : goal.invariant-loop-digit
-invariant-loop-digit l = digits_number 0 l.digits ≡ digits_number l.number (drop l.digit-index l.digits)

@@ -1,4 +1,0 @@
-pub mod Parts
-pub mod Told
-pub mod Faults
-pub mod Packets

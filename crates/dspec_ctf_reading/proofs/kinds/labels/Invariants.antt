@@ -1,0 +1,8 @@
+use Rattle.std.proofs.Common.{◌≡◌, length, map, ◌-◌}
+use Rattle.dspec_ctf_reading.specs.ReadingMetadata.{read_labels}
+use Rattle.dspec_ctf_reading.specs.Told.{told_label}
+use Rattle.dspec_ctf_reading.proofs.LoopLemmas.{found_before}
+use Rattle.dspec_ctf_reading.proofs.kinds.labels.Given as goal
+
+abbrev pub invariant-loop : goal.invariant-loop
+invariant-loop l = read_labels (length l.bytes) l.bytes ≡ found_before (map told_label l.found.items) (read_labels (length l.bytes - l.counter) l.rest)

@@ -1,0 +1,26 @@
+-- Cited by calls. The numbers that a trace's metadata tells, as they are in memory: each has 64 bits at the most, and a uuid is made of bytes.
+use Rattle.std.specs.Prelude.{ℕ, ◌<◌, ◌≤◌, ◌^◌, [], All, length, unwrap_or}
+use Rattle.std.specs.Option.{option_map_or}
+use Rattle.dspec_record.specs.EnablingRows.{EnabledRows}
+use Rattle.dspec_ctf.specs.Packets.{event_fields}
+use Rattle.dspec_ctf.specs.Names.{labels_at}
+use Rattle.dspec_ctf.specs.declared.origin.Origin.{Origin}
+use Rattle.dspec_ctf.specs.declared.names.Names.{Names}
+use Rattle.dspec_ctf.specs.declared.form.Form.{Form}
+use Rattle.dspec_ctf.specs.declared.form.Form.TheVariants.{AsTaken, ByTime}
+use Rattle.dspec_ctf_reading.specs.Layouts.{given_for}
+
+abbrev pub ticks_of : Form → ℕ
+ticks_of AsTaken = 0
+ticks_of (ByTime frequency) = frequency
+
+pub record HasNumbers (origin : Origin) (form : Form) (e : EnabledRows) (names : Names) : Type 0 where
+  pub uuid : All (λ b. b < 256) origin.uuid
+  pub pid : option_map_or (λ p. p.pid) origin.process 0 < 2 ^ 64
+  pub frequency : ticks_of form < 2 ^ 64
+  pub clock : All (λ b. b < 256) (option_map_or (λ s. unwrap_or s.clock []) origin.start [])
+  pub seconds : option_map_or (λ s. s.seconds) origin.start 0 < 2 ^ 64
+  pub ticks : option_map_or (λ s. s.ticks) origin.start 0 < 2 ^ 64
+  pub events : length e.rows < 2 ^ 64
+  pub fields : (epid : ℕ) → length (event_fields e epid) ≤ 2 ^ 64
+  pub labels : (epid place : ℕ) → option_map_or (λ n. length (labels_at n place)) (given_for names epid) 0 ≤ 2 ^ 64

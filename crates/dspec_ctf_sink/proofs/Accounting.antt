@@ -1,0 +1,77 @@
+-- Nothing is lost uncounted.
+use Rattle.std.proofs.Common.{◌≡◌, ◌≢◌, ◌⊎◌, ◌<◌, ◌+◌, ◌^◌, ◌∙◌, ℕ, List, [], ap, arith, inl, inr, length, refl}
+use Rattle.std.specs.Prelude.{None, slice_index, slice_set}
+use Rattle.std.proofs.lemmas.List.{get_or-set_same, get_or-set_other}
+use Rattle.std.proofs.lemmas.Option.{get_or_from_slice_get}
+use Rattle.dspec_record.specs.Record.{Record}
+use Rattle.dspec_record.specs.EnablingRows.{EnabledRows}
+use Rattle.dspec_ring.specs.declared.batch.Batch.{Batch}
+use Rattle.dspec_ctf.specs.Streams.{IsText}
+use Rattle.dspec_ctf_sink.specs.Losses.{HasSoManyRecords, capped}
+use Rattle.dspec_ctf_sink.specs.Writing.{AddsPacket, GetsPacket, IsNothing, LosesPacket, Tracing}
+use Rattle.dspec_ctf_sink.specs.Accounts.{Accounts, missed_on}
+
+-- what fits isn't capped
+pub capped_below : (n : ℕ) → n < 2 ^ 64 → capped n ≡ n
+capped_below n below = omega arith
+
+module _ (e : EnabledRows) (old new : Tracing) (b : Batch) (there : b.cpu < length old.missed) where
+  changed : (n : ℕ) → new.missed ≡ slice_set old.missed b.cpu n → missed_on new b.cpu ≡ n
+  changed n is = ap (λ ms. slice_index ms b.cpu) is ∙ get_or-set_same old.missed b.cpu n 0 there
+
+  other : (n : ℕ) → new.missed ≡ slice_set old.missed b.cpu n → (c : ℕ) → c ≢ b.cpu → missed_on new c ≡ missed_on old c
+  other n is c differs = ap (λ ms. slice_index ms c) is ∙ get_or-set_other old.missed b.cpu c n 0 differs
+
+  of_nothing : IsNothing old b → new ≡ record old { last = None } → Accounts e old b new
+  of_nothing (text, drops, told) is =
+      let same : missed_on new b.cpu ≡ missed_on old b.cpu = ap (λ t. missed_on t b.cpu) is in
+      record {
+        read = [];
+        is_text = text;
+        packed = 0;
+        packed_is = inr refl;
+        sum = omega (arith, same, drops);
+        others = λ c differs. ap (λ t. missed_on t c) is;
+      }
+
+  of_added : AddsPacket e old b new → Accounts e old b new
+  of_added adds =
+      let now : missed_on new b.cpu ≡ adds.total = changed adds.total adds.missed in
+      let was : missed_on old b.cpu ≡ adds.packet_is.before = get_or_from_slice_get old.missed b.cpu adds.packet_is.before 0 adds.packet_is.there in
+      let sum : adds.total ≡ adds.packet_is.before + b.drops = adds.packet_is.missed_is in
+      record {
+        read = adds.packet_is.packet_is.read;
+        is_text = adds.packet_is.packet_is.is_text;
+        packed = length adds.packet_is.packet_is.read;
+        packed_is = inl (adds, refl);
+        sum = omega (arith, now, was, sum);
+        others = other adds.total adds.missed;
+      }
+
+  module _ (is_one : (rs : List Record) × IsText e b.buffer.text rs)
+      (fits : (rs : List Record) → IsText e b.buffer.text rs → missed_on old b.cpu + b.drops + length rs < 2 ^ 64) where
+    of_lost : (n : ℕ) → HasSoManyRecords e b n → new.missed ≡ slice_set old.missed b.cpu (capped (missed_on old b.cpu + (b.drops + n))) → Accounts e old b new
+    of_lost n (inl (rs, (text, is))) missed =
+        let below : missed_on old b.cpu + b.drops + length rs < 2 ^ 64 = fits rs text in
+        let all : n ≡ length rs = is ∙ capped_below (length rs) (omega (arith, below)) in
+        let whole : capped (missed_on old b.cpu + (b.drops + n)) ≡ missed_on old b.cpu + (b.drops + n) =
+        capped_below (missed_on old b.cpu + (b.drops + n)) (omega (arith, below, all)) in
+        let now : missed_on new b.cpu ≡ capped (missed_on old b.cpu + (b.drops + n)) = changed (capped (missed_on old b.cpu + (b.drops + n))) missed in
+        let counted : missed_on new b.cpu ≡ missed_on old b.cpu + (b.drops + n) = now ∙ whole in
+        record {
+          read = rs;
+          is_text = text;
+          packed = 0;
+          packed_is = inr refl;
+          sum = omega (arith, counted, all);
+          others = other (capped (missed_on old b.cpu + (b.drops + n))) missed;
+        }
+    of_lost n (inr (unread, is)) missed = elim (unread is_one.0 is_one.1) [ ]
+
+    came : (IsNothing old b × (new ≡ record old { last = None })) ⊎ ((IsNothing old b → ⊥) × (AddsPacket e old b new ⊎ LosesPacket e old b new)) → Accounts e old b new
+    came (inl (nothing, is)) = of_nothing nothing is
+    came (inr (some, inl adds)) = of_added adds
+    came (inr (some, inr loses)) = of_lost loses.counted.records loses.counted.has loses.counted.missed
+
+    pub accounts : GetsPacket e old b new → Accounts e old b new
+    accounts gets = came gets.came

@@ -1,0 +1,32 @@
+-- Cited by calls. Nothing is lost uncounted.
+use Rattle.std.specs.Prelude.{ℕ, ◌≡◌, ◌≢◌, ◌+◌, ◌⊎◌, List, length, slice_index, Some}
+use Rattle.dspec_record.specs.Record.{Record}
+use Rattle.dspec_record.specs.EnablingRows.{EnabledRows}
+use Rattle.dspec_ring.specs.declared.batch.Batch.{Batch}
+use Rattle.dspec_ctf.specs.Streams.{IsText}
+use Rattle.dspec_ctf_sink.specs.Timed.{AddsBatch, TimedTracing}
+use Rattle.dspec_ctf_sink.specs.Writing.{AddsPacket, Tracing}
+use Rattle.dspec_ctf_sink.specs.declared.losing.Loss.{Loss}
+
+-- how many events of a CPU a trace counts as missed so far
+abbrev pub missed_on : Tracing → ℕ → ℕ
+missed_on t cpu = slice_index t.missed cpu
+
+-- What came of a batch: its records are in the packet that was written of it, or none of them is. Those in the packet, and what is counted as
+-- missed then, are together what was counted before, the batch's drops, and its records. Of other CPUs the count stays.
+pub record Accounts (e : EnabledRows) (old : Tracing) (b : Batch) (new : Tracing) : Type 0 where
+  pub read : List Record
+  pub is_text : IsText e b.buffer.text read
+  pub packed : ℕ
+  pub packed_is : (AddsPacket e old b new × (packed ≡ length read)) ⊎ (packed ≡ 0)
+  pub sum : packed + missed_on new b.cpu ≡ missed_on old b.cpu + b.drops + length read
+  pub others : (c : ℕ) → c ≢ b.cpu → missed_on new c ≡ missed_on old c
+
+-- The same by time: the records of a batch that aren't lost are in the packets that were written.
+pub record TimedAccounts (e : EnabledRows) (old : TimedTracing) (b : Batch) (new : TimedTracing) : Type 0 where
+  pub read : List Record
+  pub is_text : IsText e b.buffer.text read
+  pub packed : ℕ
+  pub packed_is : (AddsBatch e old b new × (packed ≡ length read)) ⊎ ((loss : Loss) × ((new.last ≡ Some loss) × (packed + loss.records ≡ length read)))
+  pub sum : packed + slice_index new.missed b.cpu ≡ slice_index old.missed b.cpu + b.drops + length read
+  pub others : (c : ℕ) → c ≢ b.cpu → slice_index new.missed c ≡ slice_index old.missed c

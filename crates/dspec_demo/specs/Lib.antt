@@ -1,0 +1,6 @@
+pub mod Demonstrated
+pub mod Rising
+pub mod Visits
+pub mod Crews
+pub mod Races
+pub mod Results

@@ -1,0 +1,290 @@
+-- What a CPU's call has entered tells its answer: each of its own steps keeps it so, and so do the deeds of others.
+use Rattle.std.proofs.Common.{◌≡◌, ℕ, ◌+◌, ◌-◌, ◌^◌, Bool, true, false, ◌==◌, ◌&&◌, List, [], ◌∷◌, ◌++◌, Option, Some, None, if◌then◌else◌, refl, sym, ap, ◌∙◌, subst}
+use Rattle.std.specs.Prelude.{nat_lt, min}
+use Rattle.dspec_record.specs.declared.field.Shape.{Shape}
+use Rattle.dspec_record.specs.Record.{Record}
+use Rattle.dspec_buffer.specs.Extent.{one}
+use Rattle.dspec_word.specs.declared.act.Act.{Act}
+use Rattle.dspec_word.specs.declared.act.Act.TheVariants.{Void, Granted, Attempt, Idle}
+use Rattle.dspec_word.specs.Code.{is_decided}
+use Rattle.dspec_word.specs.SpecId.{Speculation}
+use Rattle.dspec_word.specs.Word.{SlotState}
+use Rattle.dspec_word.specs.Tables.{speculate_at, commit_at, discard_at, open_at, settle_at}
+use Rattle.dspec_deeds.specs.declared.config.Config.{Config}
+use Rattle.dspec_deeds.specs.declared.calls.Actor.{Actor}
+use Rattle.dspec_deeds.specs.declared.calls.Actor.TheVariants.{Cpu}
+use Rattle.dspec_deeds.specs.declared.calls.Answer.{Answer}
+use Rattle.dspec_deeds.specs.declared.calls.Answer.TheVariants as answer
+use Rattle.dspec_deeds.specs.declared.calls.CpuOp.{CpuOp}
+use Rattle.dspec_deeds.specs.declared.calls.CpuOp.TheVariants as cpu_op
+use Rattle.dspec_deeds.specs.declared.calls.Decided.TheVariants as decided_answer
+use Rattle.dspec_deeds.specs.declared.calls.Opening.TheVariants as opening
+use Rattle.dspec_deeds.specs.declared.calls.Served.{Served}
+use Rattle.dspec_deeds.specs.declared.calls.Spoken.TheVariants as spoken_answer
+use Rattle.dspec_deeds.specs.declared.calls.Traced.TheVariants as traced_answer
+use Rattle.dspec_deeds.specs.declared.deed.DecideFate.{DecideFate}
+use Rattle.dspec_deeds.specs.declared.deed.DecideFate.TheVariants as decided
+use Rattle.dspec_deeds.specs.declared.deed.SpeculateFate.TheVariants as spoken
+use Rattle.dspec_deeds.specs.declared.deed.TraceFate.TheVariants as traced
+use Rattle.dspec_deeds.specs.declared.deed.Deed.{Deed}
+use Rattle.dspec_deeds.specs.declared.deed.Deed.TheVariants.{Trace, Scan, Miss, Speculate, Commit, Discard, Settle, Seal, Release}
+use Rattle.dspec_interleaving.specs.declared.flight.CpuProgress.{CpuProgress}
+use Rattle.dspec_interleaving.specs.declared.flight.CallPlace.{CallPlace}
+use Rattle.dspec_interleaving.specs.declared.flight.CallPlace.TheVariants as cpu
+use Rattle.dspec_interleaving.specs.declared.flight.Spare.{Spare}
+use Rattle.dspec_interleaving.specs.declared.flight.Spare.TheVariants as spare
+use Rattle.dspec_interleaving.specs.ReadOff.{is_busy_among, has_seal, settle_count, answer_of_cpu}
+use Rattle.dspec_interleaving.specs.Calls.{op_of}
+use Rattle.dspec_deeds.specs.Ranges.{is_fill}
+use Rattle.dspec_deeds.specs.History.{author, same_actor, halted, in_range, word_at, ack}
+use Rattle.dspec_deeds.specs.Own.{seals}
+use Rattle.dspec_deeds.specs.Legal.{fits_principal, fits_speculative}
+use Rattle.dspec_interleaving.specs.Play.{CpuStep, same_word, is_alone, is_release, is_worn, is_mine, ends, wears, call_goes_on, spoken_at, shown_speculate}
+use Rattle.dspec_interleaving.specs.Play.{shown_commit, shown_discard, missed, shown_scan, asked, begun, popped, served, shown_service, cpu_step}
+use Rattle.dspec_deeds.specs.Settling.{commit_fate, discard_fate, settle_fate}
+use Rattle.dspec_deeds.specs.Told.{answer_of}
+use Rattle.dspec_interleaving.specs.Plays.{is_worn_answer}
+use Rattle.dspec_deeds.specs.Reports.{missed_busy}
+use Rattle.dspec_deeds.proofs.StayingOwn.{missed_other}
+use Rattle.dspec_deeds.proofs.TestLemmas.{number_is_itself, same_actor_tells}
+use Rattle.dspec_deeds.proofs.Going.{AllBy}
+
+-- what a service has done so far
+abbrev pub HasServed : Served → List Deed → Type 0
+HasServed sum ds = (has_seal ds ≡ sum.sealed) × (settle_count ds ≡ sum.settled)
+
+-- what a CPU's call in flight has entered, the latest first
+abbrev pub OwnDeeds : ℕ → List Deed → CallPlace → List Deed → Type 0
+OwnDeeds c h (cpu.Begun o) ds = ds ≡ []
+OwnDeeds c h (cpu.ScanLoad s) ds = is_busy_among ds ≡ missed_busy c h
+OwnDeeds c h (cpu.ScanTry s w) ds = is_busy_among ds ≡ missed_busy c h
+OwnDeeds c h (cpu.SpeculateLoad id r) ds = ds ≡ []
+OwnDeeds c h (cpu.SpeculateTry id r w) ds = ds ≡ []
+OwnDeeds c h (cpu.CommitLoad id) ds = ds ≡ []
+OwnDeeds c h (cpu.CommitTry id w) ds = ds ≡ []
+OwnDeeds c h (cpu.CommitRelease id f) ds = ds ≡ Commit c id f ∷ []
+OwnDeeds c h (cpu.DiscardLoad id) ds = ds ≡ []
+OwnDeeds c h (cpu.DiscardTry id w) ds = ds ≡ []
+OwnDeeds c h cpu.ServicePop ds = ds ≡ []
+OwnDeeds c h cpu.ServicePush ds = ds ≡ Seal c ∷ []
+OwnDeeds c h (cpu.ServiceLoad s sum) ds = HasServed sum ds
+OwnDeeds c h (cpu.ServiceStore s w sum) ds = HasServed sum ds
+
+-- the same, if a call is in flight
+abbrev pub OwnsCall : ℕ → List Deed → Option CallPlace → List Deed → Type 0
+OwnsCall c h None ds = Unit {0}
+OwnsCall c h (Some f) ds = OwnDeeds c h f ds
+
+-- the answer, where there is one
+abbrev pub Tells : Option Answer → Answer → Type 0
+Tells None x = Unit {0}
+Tells (Some a) x = a ≡ x
+
+-- the count of a CPU's worn calls behind a step
+abbrev pub worn_behind : ℕ → Option Answer → ℕ
+worn_behind n None = n
+worn_behind n (Some a) = if is_worn_answer a then min (n + 1) (2 ^ 64 - 1) else n
+
+-- what a step makes of a call that had entered those deeds
+pub record ReadsOff (c : ℕ) (h : List Deed) (me : CpuProgress) (o : CpuOp) (own : List Deed) (m : CpuStep) : Type 0 where
+  pub holds : OwnsCall c (m.deeds ++ h) m.progress.flight (m.deeds ++ own)
+  pub reads : Tells m.answer (answer_of_cpu o (m.deeds ++ own))
+  pub wears : m.progress.worn ≡ worn_behind me.worn m.answer
+
+-- another's deeds leave what the CPU's call has missed
+missed_stays : (c : ℕ) (w : Actor) → same_actor (Cpu c) w ≡ false → (ds h : List Deed) → AllBy w ds h → missed_busy c (ds ++ h) ≡ missed_busy c h
+missed_stays c w other [] h by = refl
+missed_stays c w other (d ∷ ds) h by =
+    missed_other c d (ds ++ h) (subst (λ (x : Actor). same_actor (Cpu c) x ≡ false) (same_actor_tells w (author d (ds ++ h)) by.1) other) ∙ missed_stays c w other ds h by.0
+
+-- another's deeds leave what a CPU's call has entered as it was
+pub others_own : (c : ℕ) (w : Actor) → same_actor (Cpu c) w ≡ false → (ds h : List Deed) → AllBy w ds h → (x : Option CallPlace) (own : List Deed) → OwnsCall c h x own → OwnsCall c (ds ++ h) x own
+others_own c w other ds h by (Some (cpu.ScanLoad s)) own was = was ∙ sym (missed_stays c w other ds h by)
+others_own c w other ds h by (Some (cpu.ScanTry s v)) own was = was ∙ sym (missed_stays c w other ds h by)
+others_own c w other ds h by x own was = was
+
+-- a slot missed now, among those missed
+busy_now : (c s : ℕ) (b : Bool) (h own : List Deed) → is_busy_among own ≡ missed_busy c h → is_busy_among (Miss c s b ∷ own) ≡ missed_busy c (Miss c s b ∷ h)
+busy_now c s true h own e = rw (number_is_itself c) refl
+busy_now c s false h own e = e
+
+-- how a call of speculation that misses the last slot fails is no Worn
+pub fails_unworn : (b : Bool) → is_worn_answer (answer.Opening (if b then opening.Busy else opening.Unavailable)) ≡ false
+fails_unworn true = refl
+fails_unworn false = refl
+
+-- no decision's fate is a Worn
+pub told_unworn : (f : DecideFate) → is_worn_answer (answer_of f) ≡ false
+told_unworn (decided.Copied n) = refl
+told_unworn (decided.Lost n) = refl
+told_unworn (decided.Thrown n) = refl
+told_unworn decided.Void = refl
+told_unworn decided.Stopped = refl
+
+module _ (shape : ℕ → Option Shape) (k : Config) (c : ℕ) (h : List Deed) (me : CpuProgress) where
+  -- what a step does
+  abbrev Does : CpuOp → List Deed → CpuStep → Type 0
+  Does o own m = ReadsOff c h me o own m
+
+  either : (o : CpuOp) (own : List Deed) (b : Bool) (x y : CpuStep) → Does o own x → Does o own y → Does o own (if b then x else y)
+  either o own true x y p q = p
+  either o own false x y p q = q
+
+  -- a call that ends unworn
+  done : (o : CpuOp) (own ds : List Deed) (a : Answer) → a ≡ answer_of_cpu o (ds ++ own) → is_worn_answer a ≡ false → Does o own (ends shape k c h me ds a)
+  done o own ds a is unworn = record { holds = tt; reads = is; wears = rw unworn refl }
+
+  -- a worn call
+  worn_out : (o : CpuOp) (a : Answer) → a ≡ answer_of_cpu o [] → is_worn_answer a ≡ true → Does o [] (wears shape k c h me a)
+  worn_out o a is worn = record { holds = tt; reads = is; wears = rw worn refl }
+
+  -- a call that goes on
+  on : (o : CpuOp) (own ds : List Deed) (f : CallPlace) → OwnDeeds c (ds ++ h) f (ds ++ own) → Does o own (call_goes_on shape k c h me ds f)
+  on o own ds f owns = record { holds = owns; reads = tt; wears = refl }
+
+  -- a decision's fate is its answer
+  decides : (o : CpuOp) (own ds : List Deed) (f : DecideFate) → answer_of f ≡ answer_of_cpu o (ds ++ own) → Does o own (ends shape k c h me ds (answer_of f))
+  decides o own ds f is = done o own ds (answer_of f) is (told_unworn f)
+
+  spoken_reads : (id : Speculation) (r : Record) → Does (cpu_op.Speculate id r) [] (spoken_at shape k c h me id r)
+  spoken_reads id r = either (cpu_op.Speculate id r) [] (fits_speculative shape k c id r h) _ _ (done _ [] _ _ refl refl) (done _ [] _ _ refl refl)
+
+  speculate_reads : (id : Speculation) (r : Record) (w : SlotState) (a : Act) → Does (cpu_op.Speculate id r) [] (shown_speculate shape k c h me id r w a)
+  speculate_reads id r w Void = done _ [] _ _ refl refl
+  speculate_reads id r w Granted = spoken_reads id r
+  speculate_reads id r w (Attempt to) = on _ [] [] _ refl
+  speculate_reads id r w Idle = done _ [] _ _ refl refl
+
+  commit_reads : (id : Speculation) (w : SlotState) (a : Act) → Does (cpu_op.Commit id) [] (shown_commit shape k c h me id w a)
+  commit_reads id w Void = done _ [] _ _ refl refl
+  commit_reads id w Granted = done _ [] _ _ refl refl
+  commit_reads id w (Attempt to) = on _ [] [] _ refl
+  commit_reads id w Idle = done _ [] _ _ refl refl
+
+  discard_reads : (id : Speculation) (w : SlotState) (a : Act) → Does (cpu_op.Discard id) [] (shown_discard shape k c h me id w a)
+  discard_reads id w Void = done _ [] _ _ refl refl
+  discard_reads id w Granted = done _ [] _ _ refl refl
+  discard_reads id w (Attempt to) = on _ [] [] _ refl
+  discard_reads id w Idle = done _ [] _ _ refl refl
+
+  missed_reads : (own : List Deed) (s : ℕ) (w : SlotState) → is_busy_among own ≡ missed_busy c h → Does cpu_op.Speculation own (missed shape k c h me s w)
+  missed_reads own s w e =
+      let now = busy_now c s (is_decided w.code) h own e in
+      either cpu_op.Speculation own (s == k.nspec) _ _
+      (done cpu_op.Speculation own (Miss c s (is_decided w.code) ∷ []) _ (ap (λ (b : Bool). answer.Opening (if b then opening.Busy else opening.Unavailable)) (sym now))
+      (fails_unworn (missed_busy c (Miss c s (is_decided w.code) ∷ h))))
+      (on cpu_op.Speculation own (Miss c s (is_decided w.code) ∷ []) (cpu.ScanLoad (s + 1)) now)
+
+  scan_reads : (own : List Deed) (s : ℕ) (w : SlotState) (a : Act) → is_busy_among own ≡ missed_busy c h → Does cpu_op.Speculation own (shown_scan shape k c h me s w a)
+  scan_reads own s w Void e = missed_reads own s w e
+  scan_reads own s w Granted e = missed_reads own s w e
+  scan_reads own s w (Attempt to) e = on cpu_op.Speculation own [] (cpu.ScanTry s w) e
+  scan_reads own s w Idle e = missed_reads own s w e
+
+  asked_reads : (p : Spare) (b : Bool) → Does cpu_op.Service [] (asked shape k c h me p b)
+  asked_reads spare.InHand true = record { holds = refl; reads = tt; wears = refl }
+  asked_reads spare.Sealed true = on _ [] [] _ refl
+  asked_reads spare.Handed true = on _ [] [] _ refl
+  asked_reads spare.Out true = on _ [] [] _ refl
+  asked_reads spare.GivenBack true = on _ [] [] _ refl
+  asked_reads spare.InHand false = on _ [] [] _ (refl, refl)
+  asked_reads spare.Sealed false = on _ [] [] _ (refl, refl)
+  asked_reads spare.Handed false = on _ [] [] _ (refl, refl)
+  asked_reads spare.Out false = on _ [] [] _ (refl, refl)
+  asked_reads spare.GivenBack false = on _ [] [] _ (refl, refl)
+
+  popped_reads : (p : Spare) → Does cpu_op.Service [] (popped shape k c h me p)
+  popped_reads spare.InHand = on _ [] [] _ (refl, refl)
+  popped_reads spare.Sealed = on _ [] [] _ (refl, refl)
+  popped_reads spare.Handed = on _ [] [] _ (refl, refl)
+  popped_reads spare.Out = on _ [] [] _ (refl, refl)
+  popped_reads spare.GivenBack = record { holds = refl; reads = tt; wears = refl }
+
+  served_reads : (own : List Deed) (s : ℕ) (ds : List Deed) (sum : Served) → HasServed sum (ds ++ own) → Does cpu_op.Service own (served shape k c h me s ds sum)
+  served_reads own s ds sum now =
+      let p = sym now.0 in
+      let q = sym now.1 in
+      either cpu_op.Service own (s == k.nspec) _ _
+      (done cpu_op.Service own ds (answer.Served sum) (λ i. answer.Served record { sealed = p i; settled = q i }) refl)
+      (on cpu_op.Service own ds (cpu.ServiceLoad (s + 1) sum) now)
+
+  service_reads : (own : List Deed) (s : ℕ) (sum : Served) (w : SlotState) (a : Act) → HasServed sum own → Does cpu_op.Service own (shown_service shape k c h me s sum w a)
+  service_reads own s sum w Void now = served_reads own s [] sum now
+  service_reads own s sum w Granted now = on cpu_op.Service own [] (cpu.ServiceStore s w sum) now
+  service_reads own s sum w (Attempt to) now = served_reads own s [] sum now
+  service_reads own s sum w Idle now = served_reads own s [] sum now
+
+  opens_with : (o : CpuOp) (worn stopped : Bool) (x y z : CpuStep) → Does o [] x → Does o [] y → Does o [] z → Does o [] (if worn then x else if stopped then y else z)
+  opens_with o worn stopped x y z p q r = either o [] worn x _ p (either o [] stopped y z q r)
+
+  begun_reads : (o : CpuOp) → Does o [] (begun shape k c h me o)
+  begun_reads (cpu_op.Trace r) =
+      let o = cpu_op.Trace r in
+      opens_with o (is_worn k c h) (halted h) (wears shape k c h me (answer.Traced traced_answer.Worn)) _ _ (worn_out o (answer.Traced traced_answer.Worn) refl refl)
+      (done o [] (Trace c r traced.Stopped ∷ []) (answer.Traced traced_answer.Stopped) refl refl)
+      (either o [] (fits_principal shape k c (one r) h) _ _ (done o [] (Trace c r traced.Kept ∷ []) (answer.Traced traced_answer.Kept) refl refl)
+      (done o [] (Trace c r traced.Dropped ∷ []) (answer.Traced traced_answer.Dropped) refl refl))
+  begun_reads cpu_op.Speculation =
+      let o = cpu_op.Speculation in
+      let fresh : false ≡ missed_busy c (Scan c true ∷ h) = rw (number_is_itself c) refl in
+      opens_with o (is_worn k c h) (halted h) (wears shape k c h me (answer.Opening opening.Worn)) _ _ (worn_out o (answer.Opening opening.Worn) refl refl)
+      (done o [] (Scan c false ∷ []) (answer.Opening opening.Stopped) refl refl)
+      (on o [] (Scan c true ∷ []) (cpu.ScanLoad 1) fresh)
+  begun_reads (cpu_op.Speculate id r) =
+      let o = cpu_op.Speculate id r in
+      opens_with o (is_worn k c h) (halted h) (wears shape k c h me (answer.Spoken spoken_answer.Worn)) _ _ (worn_out o (answer.Spoken spoken_answer.Worn) refl refl)
+      (done o [] (Speculate c id r spoken.Stopped ∷ []) (answer.Spoken spoken_answer.Stopped) refl refl)
+      (either o [] (in_range k id) _ _ (on o [] [] (cpu.SpeculateLoad id r) refl) (done o [] (Speculate c id r spoken.Void ∷ []) (answer.Spoken spoken_answer.Void) refl refl))
+  begun_reads (cpu_op.Commit id) =
+      let o = cpu_op.Commit id in
+      opens_with o (is_worn k c h) (halted h) (wears shape k c h me (answer.Decided decided_answer.Worn)) _ _ (worn_out o (answer.Decided decided_answer.Worn) refl refl)
+      (done o [] (Commit c id decided.Stopped ∷ []) (answer.Decided decided_answer.Stopped) refl refl)
+      (either o [] (in_range k id) _ _ (on o [] [] (cpu.CommitLoad id) refl) (done o [] (Commit c id decided.Void ∷ []) (answer.Decided decided_answer.Void) refl refl))
+  begun_reads (cpu_op.Discard id) =
+      let o = cpu_op.Discard id in
+      opens_with o (is_worn k c h) (halted h) (wears shape k c h me (answer.Decided decided_answer.Worn)) _ _ (worn_out o (answer.Decided decided_answer.Worn) refl refl)
+      (done o [] (Discard c id decided.Stopped ∷ []) (answer.Decided decided_answer.Stopped) refl refl)
+      (either o [] (in_range k id) _ _ (on o [] [] (cpu.DiscardLoad id) refl) (done o [] (Discard c id decided.Void ∷ []) (answer.Decided decided_answer.Void) refl refl))
+  begun_reads cpu_op.Service =
+      either cpu_op.Service [] (is_fill k.policy) _ _
+      (service_reads [] 1 record { sealed = false; settled = 0 } (word_at 1 h) (settle_at (word_at 1 h) (ack c 1 h)) (refl, refl))
+      (asked_reads me.spare (nat_lt (seals c h) me.want && nat_lt (seals c h) k.max_calls))
+
+  -- from what a call has entered
+  from : (o : CpuOp) (own ds : List Deed) (m : CpuStep) → own ≡ ds → Does o ds m → Does o own m
+  from o own ds m e does = subst (λ (x : List Deed). Does o x m) (sym e) does
+
+  -- a step of a CPU's call in flight goes on so, and its answer is read off what the call entered
+  pub cpu_step_reads : (f : CallPlace) (own : List Deed) → OwnDeeds c h f own → Does (op_of f) own (cpu_step shape k c h me f)
+  cpu_step_reads (cpu.Begun o) own was = from o own [] _ was (begun_reads o)
+  cpu_step_reads (cpu.ScanLoad s) own was = scan_reads own s (word_at s h) (open_at (word_at s h) k.max_issues) was
+  cpu_step_reads (cpu.ScanTry s w) own was = either cpu_op.Speculation own (same_word (word_at s h) w) _ _ (done _ own _ _ refl refl) (missed_reads own s (word_at s h) was)
+  cpu_step_reads (cpu.SpeculateLoad id r) own was =
+      from (cpu_op.Speculate id r) own [] _ was (speculate_reads id r (word_at id.slot h) (speculate_at (word_at id.slot h) id (is_mine shape k c h me id)))
+  cpu_step_reads (cpu.SpeculateTry id r w) own was =
+      from (cpu_op.Speculate id r) own [] _ was
+      (either (cpu_op.Speculate id r) [] (same_word (word_at id.slot h) w) _ _ (spoken_reads id r)
+      (speculate_reads id r (word_at id.slot h) (speculate_at (word_at id.slot h) id (is_mine shape k c h me id))))
+  cpu_step_reads (cpu.CommitLoad id) own was = from (cpu_op.Commit id) own [] _ was (commit_reads id (word_at id.slot h) (commit_at (word_at id.slot h) id (is_mine shape k c h me id)))
+  cpu_step_reads (cpu.CommitTry id w) own was =
+      let f = commit_fate shape k c h id in
+      from (cpu_op.Commit id) own [] _ was
+      (either (cpu_op.Commit id) [] (same_word (word_at id.slot h) w) _ _
+      (either (cpu_op.Commit id) [] (is_alone (commit_at w id (is_mine shape k c h me id))) _ _ (on (cpu_op.Commit id) [] (Commit c id f ∷ []) (cpu.CommitRelease id f) refl)
+      (decides (cpu_op.Commit id) [] (Commit c id f ∷ []) f refl))
+      (commit_reads id (word_at id.slot h) (commit_at (word_at id.slot h) id (is_mine shape k c h me id))))
+  cpu_step_reads (cpu.CommitRelease id f) own was = from (cpu_op.Commit id) own (Commit c id f ∷ []) _ was (decides (cpu_op.Commit id) (Commit c id f ∷ []) (Release id.slot ∷ []) f refl)
+  cpu_step_reads (cpu.DiscardLoad id) own was = from (cpu_op.Discard id) own [] _ was (discard_reads id (word_at id.slot h) (discard_at (word_at id.slot h) id (is_mine shape k c h me id)))
+  cpu_step_reads (cpu.DiscardTry id w) own was =
+      let f = discard_fate shape k c h id in
+      from (cpu_op.Discard id) own [] _ was
+      (either (cpu_op.Discard id) [] (same_word (word_at id.slot h) w) _ _
+      (either (cpu_op.Discard id) [] (is_release (discard_at w id (is_mine shape k c h me id))) _ _
+      (decides (cpu_op.Discard id) [] (Release id.slot ∷ Discard c id f ∷ []) f refl) (decides (cpu_op.Discard id) [] (Discard c id f ∷ []) f refl))
+      (discard_reads id (word_at id.slot h) (discard_at (word_at id.slot h) id (is_mine shape k c h me id))))
+  cpu_step_reads cpu.ServicePop own was = from cpu_op.Service own [] _ was (popped_reads me.spare)
+  cpu_step_reads cpu.ServicePush own was = from cpu_op.Service own (Seal c ∷ []) _ was record { holds = (refl, refl); reads = tt; wears = refl }
+  cpu_step_reads (cpu.ServiceLoad s sum) own was = service_reads own s sum (word_at s h) (settle_at (word_at s h) (ack c s h)) was
+  cpu_step_reads (cpu.ServiceStore s w sum) own was =
+      served_reads own s (Settle c record { issue = w.issue; slot = s } (settle_fate shape k c h record { issue = w.issue; slot = s } w.code) ∷ []) record
+      { sealed = sum.sealed; settled = sum.settled + 1 } (was.0, ap (λ n. n + 1) was.1)

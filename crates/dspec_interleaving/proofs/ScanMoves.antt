@@ -1,0 +1,48 @@
+-- What a step of a call of speculation makes at a slot, by the table's act.
+use Rattle.std.proofs.Common.{◌≡◌, ℕ, ◌+◌, ◌==◌, Bool, true, false, List, [], ◌∷◌, Option, Some, None, if◌then◌else◌, refl}
+use Rattle.dspec_record.specs.declared.field.Shape.{Shape}
+use Rattle.dspec_word.specs.declared.act.Act.{Act}
+use Rattle.dspec_word.specs.declared.act.Act.TheVariants.{Void, Granted, Attempt, Idle}
+use Rattle.dspec_word.specs.Code.{is_decided}
+use Rattle.dspec_word.specs.SpecId.{Speculation}
+use Rattle.dspec_word.specs.Word.{SlotState}
+use Rattle.dspec_deeds.specs.declared.config.Config.{Config}
+use Rattle.dspec_deeds.specs.declared.calls.Answer.{Answer}
+use Rattle.dspec_deeds.specs.declared.calls.Answer.TheVariants as answer
+use Rattle.dspec_deeds.specs.declared.calls.Opening.TheVariants as opening
+use Rattle.dspec_deeds.specs.declared.deed.Deed.{Deed}
+use Rattle.dspec_deeds.specs.declared.deed.Deed.TheVariants.{Opened, Miss}
+use Rattle.dspec_interleaving.specs.declared.flight.CpuProgress.{CpuProgress}
+use Rattle.dspec_interleaving.specs.declared.flight.CallPlace.TheVariants as cpu
+use Rattle.dspec_deeds.specs.History.{word_at}
+use Rattle.dspec_deeds.specs.Reports.{missed_busy}
+use Rattle.dspec_interleaving.specs.Play.{ends, call_goes_on, missed, shown_scan, same_word, cpu_step}
+
+module _ (shape : ℕ → Option Shape) (k : Config) (c : ℕ) (h : List Deed) (me : CpuProgress) (s : ℕ) where
+  -- the one deed of a slot that can't be given
+  pub missed_deeds : (w : SlotState) → (missed shape k c h me s w).deeds ≡ Miss c s (is_decided w.code) ∷ []
+  missed_deeds w = go (s == k.nspec)
+    where
+      go : (last : Bool) → (if last then ends shape k c h me (Miss c s (is_decided w.code) ∷ [])
+          (answer.Opening (if missed_busy c (Miss c s (is_decided w.code) ∷ h) then opening.Busy else opening.Unavailable))
+          else call_goes_on shape k c h me (Miss c s (is_decided w.code) ∷ []) (cpu.ScanLoad (s + 1))).deeds ≡ Miss c s (is_decided w.code) ∷ []
+      go true = refl
+      go false = refl
+
+  -- the table opens nothing
+  pub shown_misses : (w : SlotState) (act : Act) → ((to : SlotState) → act ≡ Attempt to → ⊥) → shown_scan shape k c h me s w act ≡ missed shape k c h me s w
+  shown_misses w Void none = refl
+  shown_misses w Granted none = refl
+  shown_misses w (Attempt to) none = absurd (none to refl)
+  shown_misses w Idle none = refl
+
+  -- the table attempts an exchange, which is next
+  pub scan_tried : (w now to : SlotState) (act : Act) (a : Option Answer) → w ≡ now → act ≡ Attempt to → a ≡ None
+      → record { progress = record me { flight = Some (cpu.ScanTry s w); steps = me.steps + 1 }; deeds = []; answer = a } ≡ shown_scan shape k c h me s now act
+  scan_tried w now to act a is attempts none = rw (is, attempts, none) refl
+
+  -- the exchange succeeds
+  pub scan_opened : (from : SlotState) (id : Speculation) (a : Option Answer) → same_word (word_at s h) from ≡ true → id ≡ record { issue = from.issue; slot = s }
+      → a ≡ Some (answer.Opening (opening.Id id))
+      → record { progress = record me { flight = None; steps = 0 }; deeds = Opened c id ∷ []; answer = a } ≡ cpu_step shape k c h me (cpu.ScanTry s from)
+  scan_opened from id a same is tells = rw (same, tells, is) refl

@@ -1,0 +1,65 @@
+-- What a step of a call of speculate makes, by the table's act, and the word that it leaves.
+use Rattle.std.proofs.Common.{◌≡◌, ◌≢◌, ℕ, true, List, [], ◌∷◌, Option, Some, if◌then◌else◌, refl, sym, ap, ◌∙◌, false, None, ◌+◌}
+use Rattle.dspec_record.specs.declared.field.Shape.{Shape}
+use Rattle.dspec_record.specs.Record.{Record}
+use Rattle.dspec_word.specs.declared.act.Act.{Act}
+use Rattle.dspec_word.specs.declared.act.Act.TheVariants.{Void, Granted, Attempt, Idle}
+use Rattle.dspec_word.specs.declared.code.Code.{Code}
+use Rattle.dspec_word.specs.declared.code.Code.TheVariants.{Inactive}
+use Rattle.dspec_word.specs.SpecId.{Speculation}
+use Rattle.dspec_word.specs.Word.{SlotState}
+use Rattle.dspec_word.specs.Tables.{speculate_at}
+use Rattle.dspec_deeds.specs.declared.config.Config.{Config}
+use Rattle.dspec_deeds.specs.declared.calls.Answer.TheVariants as answer
+use Rattle.dspec_deeds.specs.declared.calls.Spoken.TheVariants as spoken_answer
+use Rattle.dspec_deeds.specs.declared.deed.Deed.{Deed}
+use Rattle.dspec_deeds.specs.declared.deed.Deed.TheVariants.{Speculate}
+use Rattle.dspec_deeds.specs.declared.deed.SpeculateFate.TheVariants as spoken
+use Rattle.dspec_interleaving.specs.declared.flight.CpuProgress.{CpuProgress}
+use Rattle.dspec_deeds.specs.declared.calls.Answer.{Answer}
+use Rattle.dspec_interleaving.specs.declared.flight.CallPlace.TheVariants as cpu
+use Rattle.dspec_deeds.specs.History.{undecided, standing, joined, is_among, callers, verdict, present, issue, is_open, owed, code_at, word_at}
+use Rattle.dspec_deeds.specs.Legal.{IsSound}
+use Rattle.dspec_interleaving.specs.Play.{cpu_step, same_word, ends, shown_speculate}
+use Rattle.dspec_interleaving.specs.Coherent.{OnItsWay}
+use Rattle.dspec_deeds.proofs.PresentIds.{open_present}
+use Rattle.dspec_deeds.proofs.WordActs.{speculate_granted, speculate_attempt}
+use Rattle.dspec_deeds.proofs.WordChanges.{granted_word}
+
+-- the table grants nothing and attempts nothing
+pub shown_voids : (shape : ℕ → Option Shape) (k : Config) (c : ℕ) (h : List Deed) (me : CpuProgress) (id : Speculation) (r : Record) (w : SlotState) (act : Act) → act ≢ Granted
+    → ((to : SlotState) → act ≢ Attempt to)
+    → shown_speculate shape k c h me id r w act ≡ ends shape k c h me (Speculate c id r spoken.Void ∷ []) (answer.Spoken spoken_answer.Void)
+shown_voids shape k c h me id r w Void bare none = refl
+shown_voids shape k c h me id r w Granted bare none = absurd (bare refl)
+shown_voids shape k c h me id r w (Attempt to) bare none = absurd (none to refl)
+shown_voids shape k c h me id r w Idle bare none = refl
+
+-- the table attempts an exchange, which is next, behind a word that wasn't expected
+pub speculate_tried : (shape : ℕ → Option Shape) (k : Config) (c : ℕ) (h : List Deed) (me : CpuProgress) (id : Speculation) (r : Record) (from w to : SlotState)
+    (a : Option Answer) → same_word (word_at id.slot h) from ≡ false
+    → speculate_at (word_at id.slot h) id (is_among c (callers id h)) ≡ Attempt to → w ≡ word_at id.slot h → a ≡ None
+    → record { progress = record me { flight = Some (cpu.SpeculateTry id r w); steps = me.steps + 1 }; deeds = []; answer = a } ≡ cpu_step shape k c h me (cpu.SpeculateTry id r from)
+speculate_tried shape k c h me id r from w to a other act is none = rw (is, none) (rw other (rw act refl))
+
+module _ (k : Config) (c : ℕ) (h : List Deed) (id : Speculation) (r : Record) (sound : IsSound k h) (rests : owed h ≡ 0) (way : OnItsWay k c h id) where
+  -- a record of an open speculation may come
+  comes : is_open id h ≡ true → IsSound k (Speculate c id r spoken.Kept ∷ h)
+  comes now = (sound, (rests, (way.scans_not, (way.early, sym now))))
+
+  -- granted at once: the word stays
+  pub word_granted : speculate_at (word_at id.slot h) id (is_among c (callers id h)) ≡ Granted → word_at id.slot h ≡ word_at id.slot (Speculate c id r spoken.Kept ∷ h)
+  word_granted e =
+      let granted = speculate_granted k h id c sound e in
+      let at = open_present k h id sound granted.0 in
+      let With : Code → SlotState = λ x. record { issue = issue id.slot h; code = x } in
+      let now : code_at id h ≡ standing (verdict id h) (callers id h) = ap (λ b. if b then standing (verdict id h) (callers id h) else Inactive) at.given in
+      let code : code_at (present id.slot h) h ≡ standing undecided (joined (Some c) (callers id h)) =
+      ap (λ j. code_at j h) at.is ∙ (now ∙ (sym granted.1 ∙ ap (λ v. standing v (joined (Some c) (callers id h))) at.free)) in
+      ap With code ∙ sym (granted_word k c id r spoken.Kept h (comes granted.0) refl)
+
+  -- granted by an exchange: its word is left
+  pub word_joined : (to : SlotState) → speculate_at (word_at id.slot h) id (is_among c (callers id h)) ≡ Attempt to → to ≡ word_at id.slot (Speculate c id r spoken.Kept ∷ h)
+  word_joined to e =
+      let attempt = speculate_attempt k h id c to sound e in
+      attempt.2 ∙ sym (granted_word k c id r spoken.Kept h (comes attempt.1) refl)

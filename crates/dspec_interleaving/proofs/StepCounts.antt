@@ -1,0 +1,76 @@
+-- The steps of the call in flight: below its bound, and one more at each step after which it goes on.
+use Rattle.std.proofs.Common.{◌≡◌, ℕ, ◌+◌, ◌<◌, ◌≤◌, true, false, List, Option, Some, None, sym, ap, ◌∙◌, subst, ⊎_elim, arith}
+use Rattle.std.specs.Prelude.{Result, Ok, Err, IfOk, is_none, slice_set}
+use Rattle.std.proofs.lemmas.List.{get_or-set_same}
+use Rattle.std.proofs.lemmas.Bool.Decides.{nat_tests}
+use Rattle.dspec_record.specs.declared.field.Shape.{Shape}
+use Rattle.dspec_deeds.specs.declared.config.Config.{Config}
+use Rattle.dspec_deeds.specs.declared.calls.Actor.{Actor}
+use Rattle.dspec_deeds.specs.declared.calls.Actor.TheVariants as actor
+use Rattle.dspec_deeds.specs.declared.calls.Answer.{Answer}
+use Rattle.dspec_interleaving.specs.declared.flight.CpuProgress.{CpuProgress}
+use Rattle.dspec_interleaving.specs.declared.flight.ConsumerFlight.{ConsumerFlight}
+use Rattle.dspec_interleaving.specs.declared.flight.ConsumerProgress.{ConsumerProgress}
+use Rattle.dspec_interleaving.specs.declared.flight.CallPlace.{CallPlace}
+use Rattle.dspec_deeds.specs.declared.deed.Deed.{Deed}
+use Rattle.dspec_interleaving.specs.Bounds.{cpu_limit, consumer_limit, steps_limit, flight_bound, clean_bound}
+use Rattle.dspec_interleaving.specs.Calls.{is_actor, is_idle, steps_of}
+use Rattle.dspec_interleaving.specs.Coherent.{StandsProgress, StandsState, progress_of, PlayState, IsCoherent, idle_progress}
+use Rattle.dspec_interleaving.specs.Play.{cpu_step, consumer_step}
+use Rattle.dspec_interleaving.specs.Turns.{step_cpu, step_consumer, step}
+use Rattle.dspec_interleaving.proofs.Bounded.{cpu_below, clean_below}
+use Rattle.dspec_deeds.proofs.SetUp.{set_up}
+use Rattle.dspec_interleaving.proofs.StepEnds.{HasEnded, HasGoneOn, HasClosed, HasKeptOn, cpu_advances, clean_advances}
+
+-- a CPU that there is
+pub is_below : (k : Config) (c : ℕ) → is_actor k (actor.Cpu c) ≡ true → c < k.cpus
+is_below k c e = grind (arith, nat_tests)
+
+cpu_few : (k : Config) (c : ℕ) (h : List Deed) (me : CpuProgress) (f : Option CallPlace) → 1 ≤ k.nspec → StandsProgress k c h me f → me.steps < cpu_limit k f
+cpu_few k c h me None some at = let none = at.1 in omega arith
+cpu_few k c h me (Some f) some at = cpu_below k c h me some f at
+
+clean_few : (k : Config) (h : List Deed) (side : ConsumerProgress) (f : Option ConsumerFlight) → 1 ≤ k.nspec → StandsState k h side f → side.steps < consumer_limit k f
+clean_few k h side None some at = omega arith
+clean_few k h side (Some f) some at = clean_below k h side some f at
+
+-- the call in flight has made fewer steps than its bound
+pub steps_below : (shape : ℕ → Option Shape) (st : PlayState) (a : Actor) → IsCoherent shape st → is_actor st.config a ≡ true → steps_of a st < steps_limit a st
+steps_below shape st (actor.Cpu c) ok there =
+    cpu_few st.config c st.deeds (progress_of st.progresses c) (progress_of st.progresses c).flight (set_up st.config ok.ranges).1 (ok.stands c (is_below st.config c there)).flight
+steps_below shape st actor.Consumer ok there = clean_few st.config st.deeds st.side st.side.flight (set_up st.config ok.ranges).1 ok.side
+
+no_answer : {P : Type 0} (a : Answer) (r : Option Answer) → r ≡ Some a → r ≡ None → P
+no_answer a r e n = absurd (cc (e, n))
+
+-- a step after which the call goes on is counted
+pub step_counted : (shape : ℕ → Option Shape) (st : PlayState) (a : Actor) → IsCoherent shape st → is_actor st.config a ≡ true → is_idle a st ≡ false
+    → (step shape a st).answer ≡ None → steps_of a (step shape a st).state ≡ steps_of a st + 1
+step_counted shape st (actor.Cpu c) ok there busy = go (progress_of st.progresses c).flight busy
+  where
+    go : (f : Option CallPlace) → is_none f ≡ false → (step_cpu shape c st f).answer ≡ None → steps_of (actor.Cpu c) (step_cpu shape c st f).state ≡ (progress_of st.progresses c).steps + 1
+    go None b n = absurd (cc (b))
+    go (Some f) b n =
+        let m = cpu_step shape st.config c st.deeds (progress_of st.progresses c) f in
+        let lt = is_below st.config c there in
+        let here : progress_of (slice_set st.progresses c m.progress) c ≡ m.progress = get_or-set_same st.progresses c m.progress idle_progress (let count = ok.count in omega arith) in
+        ap (λ (x : CpuProgress). x.steps) here
+        ∙ ⊎_elim (λ (e : HasEnded m). no_answer e.told m.answer e.answers n) (λ (g : HasGoneOn st.config (progress_of st.progresses c) (flight_bound st.config f) m). g.counted)
+        (cpu_advances shape st.config c st.deeds (progress_of st.progresses c) f)
+step_counted shape st actor.Consumer ok there busy = go st.side.flight busy
+  where
+    go : (f : Option ConsumerFlight) → is_none f ≡ false → (step_consumer shape st f).answer ≡ None → (step_consumer shape st f).state.side.steps ≡ st.side.steps + 1
+    go None b n = absurd (cc (b))
+    go (Some f) b n =
+        let m = consumer_step st.config st.deeds st.side st.progresses f in
+        ⊎_elim (λ (e : HasClosed m). no_answer e.told m.answer e.answers n) (λ (g : HasKeptOn st.config st.side (clean_bound st.config f) m). g.counted)
+        (clean_advances st.config st.deeds st.side st.progresses f)
+
+-- the same, of a step that a machine makes or a refused growth prevents
+pub made_counted : {E : Type 0} (shape : ℕ → Option Shape) (at st new : PlayState) (a b : Actor) (r : Result (Option Answer) E)
+    → at ≡ st → a ≡ b → IsCoherent shape at → is_actor st.config a ≡ true → is_idle a st ≡ false
+    → IfOk r (λ _. new ≡ (step shape b at).state) → IfOk r (λ x. x ≡ (step shape b at).answer) → IfOk r (λ x. x ≡ None → steps_of a new ≡ steps_of a st + 1)
+made_counted shape at st new a b (Err x) same who ok there busy moved answered = tt
+made_counted shape at st new a b (Ok x) same who ok there busy moved answered =
+    let Counts : Actor → PlayState → Type 0 = λ d s. is_actor s.config d ≡ true → is_idle d s ≡ false → steps_of d new ≡ steps_of d s + 1 in
+    λ none. subst (λ s. Counts a s) same (subst (λ d. Counts d at) (sym who) (λ t i. ap (steps_of b) moved ∙ step_counted shape at b ok t i (sym answered ∙ none))) there busy

@@ -1,0 +1,131 @@
+-- What the steps of a CPU's calls have in common.
+use Rattle.std.proofs.Common.{◌≡◌, ◌≢◌, ◌≤◌, ◌+◌, ℕ, true, false, List, [], ◌∷◌, ◌++◌, Option, Some, None, refl, sym, ap, ◌∙◌, subst, ⊎_elim, arith}
+use Rattle.std.specs.Prelude.{nat_le}
+use Rattle.std.proofs.lemmas.Bool.Decides.{nat_tests}
+use Rattle.dspec_record.specs.declared.field.Shape.{Shape}
+use Rattle.dspec_word.specs.SpecId.{Speculation}
+use Rattle.dspec_deeds.specs.declared.config.Config.{Config}
+use Rattle.dspec_deeds.specs.declared.calls.Actor.TheVariants.{Cpu}
+use Rattle.dspec_deeds.specs.declared.calls.Answer.{Answer}
+use Rattle.dspec_deeds.specs.declared.deed.Deed.{Deed}
+use Rattle.dspec_interleaving.specs.declared.flight.CpuProgress.{CpuProgress}
+use Rattle.dspec_interleaving.specs.declared.flight.CallPlace.{CallPlace}
+use Rattle.dspec_interleaving.specs.declared.flight.CallPlace.TheVariants as cpu
+use Rattle.dspec_interleaving.specs.declared.flight.Spare.{Spare}
+use Rattle.dspec_interleaving.specs.declared.flight.Spare.TheVariants as spare
+use Rattle.dspec_deeds.specs.Ranges.{start_fault}
+use Rattle.dspec_deeds.specs.History.{author, same_actor, owed, owing, scan, in_range, opened, is_undecided, verdict, is_open, releaser}
+use Rattle.dspec_deeds.specs.Own.{seals, seals_now}
+use Rattle.dspec_deeds.specs.Legal.{IsSound, IsAllowed, CpuLegal, MayComeBy, Pays, facts}
+use Rattle.dspec_interleaving.specs.Play.{CpuStep, call_goes_on, ends, wears}
+use Rattle.dspec_interleaving.specs.Coherent.{IsSlot, StandsCpu, SpareCounts, PushesNext, ProgressStands}
+use Rattle.dspec_deeds.proofs.TestLemmas.{either_way, off, and_tells, cpu_is_itself}
+use Rattle.dspec_deeds.proofs.SoundLists.{opened_in_range}
+use Rattle.dspec_deeds.proofs.SetUp.{set_up}
+use Rattle.dspec_deeds.proofs.Going.{GoesOn}
+use Rattle.dspec_interleaving.proofs.StepsAlone.{KeepsSoloRule, DecidesBeside, beside_rests, none_rules, one_rules}
+
+-- the deed may be next behind this list
+abbrev pub MayCome : Config → List Deed → Deed → Type 0
+MayCome k h d = MayComeBy k (facts k h) d
+
+-- a play at a CPU whose step isn't the push of a sealed batch
+pub record IsUnderWay (shape : ℕ → Option Shape) (k : Config) (c : ℕ) (h : List Deed) (me : CpuProgress) : Type 0 where
+  pub ranges : start_fault k ≡ None
+  pub legal : IsAllowed shape k h
+  pub rests : owed h ≡ 0
+  pub counts : SpareCounts (seals c h) me.takes me.spare
+  pub pushes : (next : Option CallPlace) → PushesNext me.spare next
+  pub want : me.want ≤ me.takes + 1
+
+-- a step keeps a play at its own CPU
+pub record StepStands (shape : ℕ → Option Shape) (k : Config) (c : ℕ) (h : List Deed) (m : CpuStep) : Type 0 where
+  pub goes : GoesOn shape k (Cpu c) m.deeds h
+  pub stands : ProgressStands k c (m.deeds ++ h) m.progress
+  pub solo_rule : KeepsSoloRule c h m.deeds m.progress.flight m.answer
+
+-- no sealed batch waits for its push outside the step that pushes it
+pub pushes_not : (place : Spare) (f : CallPlace) (flight : Option CallPlace) → flight ≡ Some f → f ≢ cpu.ServicePush → PushesNext place flight → (next : Option CallPlace) → PushesNext place next
+pushes_not spare.InHand f flight is other p next = tt
+pushes_not spare.Sealed f flight is other p next = absurd (other (cc (p, is)))
+pushes_not spare.Handed f flight is other p next = tt
+pushes_not spare.Out f flight is other p next = tt
+pushes_not spare.GivenBack f flight is other p next = tt
+
+-- a deed that seals nothing
+seals_stay : (c : ℕ) (d : Deed) (h : List Deed) → seals_now c d ≡ false → seals c (d ∷ h) ≡ seals c h
+seals_stay c d h e = rw e (omega arith)
+
+module _ (shape : ℕ → Option Shape) (k : Config) (c : ℕ) (h : List Deed) (me : CpuProgress) (play : IsUnderWay shape k c h me) where
+  none_comes : GoesOn shape k (Cpu c) [] h
+  none_comes = record { legal = play.legal; rests = play.rests; by = tt }
+
+  pub one_comes : (d : Deed) → Pays (owed h) d → MayCome k h d → CpuLegal shape k h d → author d h ≡ Cpu c → owing d h ≡ 0 → GoesOn shape k (Cpu c) (d ∷ []) h
+  one_comes d pays may own is rests = record
+      { legal = ((play.legal.0, (pays, may)), (play.legal.1, own)); rests = rests; by = (tt, subst (λ w. same_actor (Cpu c) w ≡ true) (sym is) (cpu_is_itself c)) }
+
+  -- the call goes on behind deeds that seal nothing
+  goes_stand : (ds : List Deed) (next : CallPlace) → GoesOn shape k (Cpu c) ds h → seals c (ds ++ h) ≡ seals c h
+      → StandsCpu k c (ds ++ h) (record me { flight = Some next; steps = me.steps + 1 }) next → KeepsSoloRule c h ds (Some next) None → StepStands shape k c h (call_goes_on shape k c h me ds next)
+  goes_stand ds next goes same at rules = record {
+    goes = goes;
+    stands = record { flight = at; counts = subst (λ n. SpareCounts n me.takes me.spare) (sym same) play.counts; pushes = play.pushes (Some next); want = play.want };
+    solo_rule = rules;
+  }
+
+  -- the call ends behind deeds that seal nothing
+  pub ends_stand : (ds : List Deed) (a : Answer) → GoesOn shape k (Cpu c) ds h → seals c (ds ++ h) ≡ seals c h → scan k c (ds ++ h) ≡ 0 → KeepsSoloRule c h ds None (Some a)
+      → StepStands shape k c h (ends shape k c h me ds a)
+  ends_stand ds a goes same idle rules = record {
+    goes = goes;
+    stands = record { flight = (idle, refl); counts = subst (λ n. SpareCounts n me.takes me.spare) (sym same) play.counts; pushes = play.pushes None; want = play.want };
+    solo_rule = rules;
+  }
+
+  pub goes_by_none : (next : CallPlace) → StandsCpu k c h (record me { flight = Some next; steps = me.steps + 1 }) next → StepStands shape k c h (call_goes_on shape k c h me [] next)
+  goes_by_none next at = goes_stand [] next none_comes refl at (none_rules c h (Some next) None)
+
+  pub goes_by : (d : Deed) (next : CallPlace) → Pays (owed h) d → MayCome k h d → CpuLegal shape k h d → author d h ≡ Cpu c → DecidesBeside d h (Some next) → seals_now c d ≡ false
+      → StandsCpu k c (d ∷ h) (record me { flight = Some next; steps = me.steps + 1 }) next → StepStands shape k c h (call_goes_on shape k c h me (d ∷ []) next)
+  goes_by d next pays may own is beside seals at =
+      goes_stand (d ∷ []) next (one_comes d pays may own is (beside_rests d h (Some next) beside)) (seals_stay c d h seals) at
+      (one_rules k c d h (Some next) None (play.legal.0, (pays, may)) is beside)
+
+  pub ends_by_none : (a : Answer) → scan k c h ≡ 0 → StepStands shape k c h (ends shape k c h me [] a)
+  ends_by_none a idle = ends_stand [] a none_comes refl idle (none_rules c h None (Some a))
+
+  pub ends_by : (d : Deed) (a : Answer) → Pays (owed h) d → MayCome k h d → CpuLegal shape k h d → author d h ≡ Cpu c → DecidesBeside d h None → seals_now c d ≡ false
+      → scan k c (d ∷ h) ≡ 0 → StepStands shape k c h (ends shape k c h me (d ∷ []) a)
+  ends_by d a pays may own is beside seals idle =
+      ends_stand (d ∷ []) a (one_comes d pays may own is (beside_rests d h None beside)) (seals_stay c d h seals) idle (one_rules k c d h None (Some a) (play.legal.0, (pays, may)) is beside)
+
+  pub wears_stand : (a : Answer) → scan k c h ≡ 0 → StepStands shape k c h (wears shape k c h me a)
+  wears_stand a idle = record {
+    goes = none_comes;
+    stands = record { flight = (idle, refl); counts = play.counts; pushes = play.pushes None; want = play.want };
+    solo_rule = none_rules c h None (Some a);
+  }
+
+-- an identifier out of range is not open
+pub out_not_open : (k : Config) (h : List Deed) (id : Speculation) → start_fault k ≡ None → IsSound k h → in_range k id ≡ false → is_open id h ≡ false
+out_not_open k h id ranges s out = ⊎_elim
+    (λ (t : is_open id h ≡ true).
+    let given = (and_tells (opened id h) (is_undecided (verdict id h)) t).0 in
+    let r = opened_in_range k h id (set_up k ranges).1 s given in
+    let low : 1 ≤ id.slot = r.0 in
+    let high : id.slot ≤ k.nspec = r.1 in
+    let is : in_range k id ≡ true = grind (arith, nat_tests) in
+    off (in_range k id) is out)
+    (λ f. f)
+    (either_way (is_open id h))
+
+pub slot_in_range : (k : Config) (id : Speculation) → in_range k id ≡ true → IsSlot k id.slot
+slot_in_range k id e =
+    let both = and_tells (nat_le 1 id.slot) (nat_le id.slot k.nspec) e in
+    let low = both.0 in
+    let high = both.1 in
+    (grind (arith, nat_tests), grind (arith, nat_tests))
+
+-- what holds of the CPU that decided alone holds of every releaser
+pub only_cpu : (c : ℕ) (P : ℕ → Type 0) (alone : Option ℕ) → alone ≡ Some c → P c → (a : ℕ) → releaser alone ≡ Cpu a → P a
+only_cpu c P alone is p a e = let by : Cpu c ≡ Cpu a = sym (ap releaser is) ∙ e in let same : c ≡ a = cc in subst P same p

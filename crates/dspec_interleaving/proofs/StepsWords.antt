@@ -1,0 +1,157 @@
+-- What a word that was shown tells of the exchange that expects it.
+use Rattle.std.proofs.Common.{◌≡◌, ◌≢◌, ◌≤◌, ◌<◌, ◌==◌, ℕ, Bool, true, false, ◌&&◌, if◌then◌else◌, refl, sym, ap, ◌∙◌, subst, ⊎_elim, arith, true≢false}
+use Rattle.std.specs.Prelude.{nat_lt, nat_le}
+use Rattle.std.proofs.lemmas.Bool.Decides.{nat_tests}
+use Rattle.dspec_word.specs.declared.act.Act.{Act}
+use Rattle.dspec_word.specs.declared.act.Act.TheVariants.{Void, Granted, Attempt, Idle}
+use Rattle.dspec_word.specs.declared.code.Code.{Code}
+use Rattle.dspec_word.specs.declared.code.Code.TheVariants.{Inactive, Active, ActiveOne, ActiveMany, Committing, CommittingMany, Discarding}
+use Rattle.dspec_word.specs.Code.{code_number, is_inactive, awaits}
+use Rattle.dspec_word.specs.SpecId.{Speculation}
+use Rattle.dspec_word.specs.Word.{SlotState, word_number}
+use Rattle.dspec_word.specs.Tables.{speculate_at, speculate_act, commit_at, commit_act, discard_at, discard_act, open_at, settle_at}
+use Rattle.dspec_interleaving.specs.Play.{same_word, is_alone}
+use Rattle.dspec_word.proofs.Numbers.{one_code, one_word}
+use Rattle.dspec_deeds.proofs.TestLemmas.{either_way, off, and_tells, same_number, number_is_itself}
+
+pub word_is_itself : (w : SlotState) → same_word w w ≡ true
+word_is_itself w = let a = number_is_itself w.issue in let b = number_is_itself (code_number w.code) in rw (a, b) refl
+
+-- equal words
+pub same_word_tells : (v w : SlotState) → same_word v w ≡ true → v ≡ w
+same_word_tells v w e =
+    let both = and_tells (v.issue == w.issue) (code_number v.code == code_number w.code) e in
+    let codes = one_code v.code w.code (same_number (code_number v.code) (code_number w.code) both.1) in
+    λ i. record { issue = same_number v.issue w.issue both.0 i; code = codes i }
+
+-- words are tested by their numbers, plays test them by their parts
+pub words_test : (v w : SlotState) → (word_number v == word_number w) ≡ same_word v w
+words_test v w = ⊎_elim
+    (λ (e : same_word v w ≡ true). ap (λ x. word_number v == word_number x) (sym (same_word_tells v w e)) ∙ number_is_itself (word_number v) ∙ sym e)
+    (λ e. ⊎_elim (λ t. t ∙ sym (ap (same_word v) (sym (one_word v w (same_number (word_number v) (word_number w) t))) ∙ word_is_itself v)) (λ f. f ∙ sym e)
+    (either_way (word_number v == word_number w)))
+    (either_way (same_word v w))
+
+-- another word of the same issue that is no less has a greater code
+pub code_rises : (from w : SlotState) (n : ℕ) → from.issue ≡ n → w.issue ≡ n → word_number from ≤ word_number w → same_word w from ≡ false → code_number from.code < code_number w.code
+code_rises from w n a b le other = ⊎_elim
+    (λ (t : (code_number w.code == code_number from.code) ≡ true).
+    let now : (w.issue == from.issue) ≡ true = rw (a, b) (number_is_itself n) in
+    let all : same_word w from ≡ true = rw (now, t) refl in
+    off (same_word w from) all other)
+    (λ (f : (code_number w.code == code_number from.code) ≡ false).
+    let apart : code_number w.code ≢ code_number from.code = grind (arith, nat_tests) in
+    let issues : w.issue ≡ from.issue = b ∙ sym a in
+    omega arith)
+    (either_way (code_number w.code == code_number from.code))
+
+-- a table that attempts nothing at an inactive word
+attempts_tell : (w to : SlotState) (id : Speculation) (table : Code → Act) → table Inactive ≡ Void → (if w.issue == id.issue then table w.code else Void) ≡ Attempt to
+    → (w.issue ≡ id.issue) × (1 ≤ code_number w.code)
+attempts_tell w to id table none e = ⊎_elim
+    (λ (t : (w.issue == id.issue) ≡ true). (same_number w.issue id.issue t, go w.code (subst (λ b. (if b then table w.code else Void) ≡ Attempt to) t e)))
+    (λ (f : (w.issue == id.issue) ≡ false). absurd (cc (subst (λ b. (if b then table w.code else Void) ≡ Attempt to) f e)))
+    (either_way (w.issue == id.issue))
+  where
+    go : (code : Code) → table code ≡ Attempt to → 1 ≤ code_number code
+    go Inactive e = absurd (cc (none, e))
+    go Active e = omega arith
+    go ActiveOne e = omega arith
+    go ActiveMany e = omega arith
+    go Committing e = omega arith
+    go CommittingMany e = omega arith
+    go Discarding e = omega arith
+
+pub speculate_tells : (w to : SlotState) (id : Speculation) (mine : Bool) → speculate_at w id mine ≡ Attempt to → (w.issue ≡ id.issue) × (1 ≤ code_number w.code)
+speculate_tells w to id mine e = attempts_tell w to id (speculate_act w.issue mine) refl e
+
+pub commit_tells : (w to : SlotState) (id : Speculation) (mine : Bool) → commit_at w id mine ≡ Attempt to → (w.issue ≡ id.issue) × (1 ≤ code_number w.code)
+commit_tells w to id mine e = attempts_tell w to id (commit_act w.issue mine) refl e
+
+pub discard_tells : (w to : SlotState) (id : Speculation) (mine : Bool) → discard_at w id mine ≡ Attempt to → (w.issue ≡ id.issue) × (1 ≤ code_number w.code)
+discard_tells w to id mine e = attempts_tell w to id (discard_act w.issue mine) refl e
+
+-- a call of speculate is never idle
+pub speculate_not_idle : (w : SlotState) (id : Speculation) (mine : Bool) → speculate_at w id mine ≢ Idle
+speculate_not_idle w id mine = go (w.issue == id.issue) mine w.code
+  where
+    go : (b m : Bool) (code : Code) → (if b then speculate_act w.issue m code else Void) ≢ Idle
+    go false m code e = cc (e)
+    go true m Inactive e = cc (e)
+    go true m Active e = cc (e)
+    go true true ActiveOne e = cc (e)
+    go true false ActiveOne e = cc (e)
+    go true m ActiveMany e = cc (e)
+    go true m Committing e = cc (e)
+    go true m CommittingMany e = cc (e)
+    go true m Discarding e = cc (e)
+
+-- the other tables attempt an exchange or do nothing
+abbrev pub is_plain : Act → Bool
+is_plain Void = true
+is_plain (Attempt to) = true
+is_plain act = false
+
+pub commit_plain : (w : SlotState) (id : Speculation) (mine : Bool) → is_plain (commit_at w id mine) ≡ true
+commit_plain w id mine = go (w.issue == id.issue) mine w.code
+  where
+    go : (b m : Bool) (code : Code) → is_plain (if b then commit_act w.issue m code else Void) ≡ true
+    go false m code = refl
+    go true m Inactive = refl
+    go true m Active = refl
+    go true true ActiveOne = refl
+    go true false ActiveOne = refl
+    go true m ActiveMany = refl
+    go true m Committing = refl
+    go true m CommittingMany = refl
+    go true m Discarding = refl
+
+pub discard_plain : (w : SlotState) (id : Speculation) (mine : Bool) → is_plain (discard_at w id mine) ≡ true
+discard_plain w id mine = go (w.issue == id.issue) mine w.code
+  where
+    go : (b m : Bool) (code : Code) → is_plain (if b then discard_act w.issue m code else Void) ≡ true
+    go false m code = refl
+    go true m Inactive = refl
+    go true m Active = refl
+    go true true ActiveOne = refl
+    go true false ActiveOne = refl
+    go true m ActiveMany = refl
+    go true m Committing = refl
+    go true m CommittingMany = refl
+    go true m Discarding = refl
+
+pub open_plain : (w : SlotState) (most : ℕ) → is_plain (open_at w most) ≡ true
+open_plain w most = go (is_inactive w.code && nat_lt w.issue most)
+  where
+    go : (b : Bool) → is_plain (if b then Attempt record { issue = w.issue; code = Active } else Void) ≡ true
+    go true = refl
+    go false = refl
+
+-- such a table answers no other act
+pub not_plain : {P : Type 0} (act is : Act) → is_plain act ≡ true → act ≡ is → is_plain is ≡ false → P
+not_plain act is plain e none = off (is_plain act) plain (ap is_plain e ∙ none)
+
+-- a commit that waits for no other CPU is attempted at an active word, or at its one caller's
+pub alone_early : (w : SlotState) (id : Speculation) (mine : Bool) → is_alone (commit_at w id mine) ≡ true → code_number w.code ≤ 2
+alone_early w id mine e = go (w.issue == id.issue) mine w.code e
+  where
+    go : (b m : Bool) (code : Code) → is_alone (if b then commit_act w.issue m code else Void) ≡ true → code_number code ≤ 2
+    go false m code e = absurd (true≢false (sym e))
+    go true m Inactive e = omega arith
+    go true m Active e = omega arith
+    go true m ActiveOne e = omega arith
+    go true m ActiveMany e = absurd (true≢false (sym e))
+    go true m Committing e = absurd (true≢false (sym e))
+    go true m CommittingMany e = absurd (true≢false (sym e))
+    go true m Discarding e = absurd (true≢false (sym e))
+
+-- what a settlement is granted at
+pub settle_tells : (w : SlotState) (acked : ℕ) → settle_at w acked ≡ Granted → (awaits w.code ≡ true) × (acked ≤ w.issue)
+settle_tells w acked e =
+    let both = and_tells (awaits w.code) (nat_le acked w.issue) (go (awaits w.code && nat_le acked w.issue) e) in
+    let least = both.1 in
+    (both.0, grind (arith, nat_tests))
+  where
+    go : (b : Bool) → (if b then Granted else Idle) ≡ Granted → b ≡ true
+    go true e = refl
+    go false e = absurd (cc (e))

@@ -1,0 +1,286 @@
+-- A clean that runs alone.
+use Prim.Native.Nat.{zero, suc}
+use Rattle.std.proofs.Common.{◌≡◌, ◌≤◌, ◌<◌, ◌+◌, inl, inr, ℕ, Bool, true, false, not, ◌&&◌, ◌==◌, List, []}
+use Rattle.std.proofs.Common.{◌∷◌, ◌++◌, Option, Some, None, is_none, if◌then◌else◌, refl, sym, ap, ◌∙◌, subst, ⊎_elim, arith, true≢false}
+use Rattle.std.specs.Prelude.{nat_lt}
+use Rattle.std.proofs.lemmas.Bool.Decides.{nat_tests}
+use Rattle.dspec_record.specs.declared.field.Shape.{Shape}
+use Rattle.dspec_word.specs.SpecId.{Speculation}
+use Rattle.dspec_word.specs.Code.{awaits}
+use Rattle.dspec_deeds.specs.declared.config.Config.{Config}
+use Rattle.dspec_deeds.specs.declared.calls.Actor.{Actor}
+use Rattle.dspec_deeds.specs.declared.calls.Actor.TheVariants as actor
+use Rattle.dspec_deeds.specs.declared.calls.Answer.{Answer}
+use Rattle.dspec_deeds.specs.declared.calls.Answer.TheVariants as answer
+use Rattle.dspec_deeds.specs.declared.deed.Deed.{Deed}
+use Rattle.dspec_deeds.specs.declared.deed.Deed.TheVariants.{Release}
+use Rattle.dspec_interleaving.specs.declared.flight.CpuProgress.{CpuProgress}
+use Rattle.dspec_interleaving.specs.declared.flight.ConsumerFlight.{ConsumerFlight}
+use Rattle.dspec_interleaving.specs.declared.flight.ConsumerFlight.TheVariants as consumer
+use Rattle.dspec_interleaving.specs.declared.flight.ConsumerProgress.{ConsumerProgress}
+use Rattle.dspec_deeds.specs.History.{issue, present, verdict, is_undecided, solo, settled, is_busy, owed, releaser, ack, word_at}
+use Rattle.dspec_deeds.specs.Legal.{IsSound}
+use Rattle.dspec_interleaving.specs.Coherent.{PlayState}
+use Rattle.dspec_interleaving.specs.Play.{ConsumerStep, consumer_step, keeps_on, stops, next_slot, loads_slot, loads_ack, reaps, same_word}
+use Rattle.dspec_interleaving.specs.Turns.{Stepped, step, on_to_end}
+use Rattle.dspec_interleaving.specs.Whole.{WholeConsumer, all_settled, is_reapable, cleaned_at, cleaned_up, releases_up}
+use Rattle.dspec_deeds.proofs.TestLemmas.{either_way, off, and_tells, number_is_itself}
+use Rattle.dspec_deeds.proofs.Acked.{acked_is}
+use Rattle.dspec_interleaving.proofs.WholeTrace.{same_word_is}
+use Rattle.dspec_interleaving.proofs.WholeService.{awaits_is}
+
+-- behind a step that no other call overlaps, no release is owed
+pub record IsQuiet (k : Config) (h : List Deed) : Type 0 where
+  pub sound : IsSound k h
+  pub rests : owed h ≡ 0
+
+module _ (shape : ℕ → Option Shape) where
+  pub ended_stays : (n : ℕ) (a : Actor) (st : PlayState) (r : Answer) → on_to_end shape n a st (Some r) ≡ record { state = st; answer = Some r }
+  ended_stays zero a st r = refl
+  ended_stays (suc n) a st r = refl
+
+  more_steps : (n m : ℕ) (a : Actor) (st : PlayState) (r : Option Answer) (to : PlayState) (x : Answer) → n ≤ m
+      → on_to_end shape n a st r ≡ record { state = to; answer = Some x } → on_to_end shape m a st r ≡ record { state = to; answer = Some x }
+  more_steps zero m a st r to x le e =
+      let at : r ≡ Some x = ap (λ (l : Stepped). l.answer) e in
+      ap (on_to_end shape m a st) at ∙ (ended_stays m a st x ∙ (sym (λ i. record { state = st; answer = at i }) ∙ e))
+  more_steps (suc n) zero a st r to x le e = absurd (omega arith)
+  more_steps (suc n) (suc m) a st (Some r) to x le e = e
+  more_steps (suc n) (suc m) a st None to x le e = more_steps n m a (step shape a st).state (step shape a st).answer to x (omega arith) e
+
+module _ (shape : ℕ → Option Shape) (st : PlayState) where
+  -- the consumer's side, the CPUs' and the list
+  abbrev pub stands_at : ConsumerProgress → List CpuProgress → List Deed → PlayState
+  stands_at side all h = record { config = st.config; deeds = h; progresses = all; side = side }
+
+  abbrev pub at_rest : ConsumerProgress
+  at_rest = record { flight = None; steps = 0 }
+
+  -- what the state becomes behind a whole call of the consumer
+  abbrev pub left_by : WholeConsumer → Stepped
+  left_by w = record { state = stands_at at_rest w.progresses w.list; answer = Some w.answer }
+
+  -- behind a step, so many more steps of the call lead to what the whole call leaves
+  pub record Clears (n : ℕ) (h : List Deed) (m : ConsumerStep) (w : WholeConsumer) : Type 0 where
+    pub is : on_to_end shape n actor.Consumer (stands_at m.side m.progresses (m.deeds ++ h)) m.answer ≡ left_by w
+
+  pub clear_ended : (n : ℕ) (h : List Deed) (side : ConsumerProgress) (all : List CpuProgress) (ds : List Deed) (a : Answer)
+      → Clears n h (stops st.config h side all ds a) record { list = ds ++ h; progresses = all; answer = a }
+  clear_ended n h side all ds a = record { is = ended_stays shape n actor.Consumer _ a }
+
+  abbrev pub later_side : ConsumerProgress → ConsumerFlight → ConsumerProgress
+  later_side side f = record { flight = Some f; steps = side.steps + 1 }
+
+  pub clear_goes : (n : ℕ) (h : List Deed) (side : ConsumerProgress) (all : List CpuProgress) (ds : List Deed) (f : ConsumerFlight) (w : WholeConsumer)
+      → Clears n (ds ++ h) (consumer_step st.config (ds ++ h) (later_side side f) all f) w → Clears (suc n) h (keeps_on st.config h side all ds f) w
+  clear_goes n h side all ds f w l = record { is = l.is }
+
+  pub clear_more : (n m : ℕ) (h : List Deed) (to : ConsumerStep) (w : WholeConsumer) → n ≤ m → Clears n h to w → Clears m h to w
+  clear_more n m h to w le l = record { is = more_steps shape n m actor.Consumer _ _ _ _ le l.is }
+
+  pub clear_true : (n : ℕ) (h : List Deed) (b : Bool) (x y : ConsumerStep) (w : WholeConsumer) → b ≡ true → Clears n h x w → Clears n h (if b then x else y) w
+  clear_true n h true x y w e l = l
+  clear_true n h false x y w e l = absurd (true≢false (sym e))
+
+  pub clear_false : (n : ℕ) (h : List Deed) (b : Bool) (x y : ConsumerStep) (w : WholeConsumer) → b ≡ false → Clears n h y w → Clears n h (if b then x else y) w
+  clear_false n h true x y w e l = absurd (true≢false e)
+  clear_false n h false x y w e l = l
+
+  pub clear_test : (n : ℕ) (h : List Deed) (b : Bool) (x y : ConsumerStep) (w : WholeConsumer) → (b ≡ true → Clears n h x w) → (b ≡ false → Clears n h y w) → Clears n h (if b then x else y) w
+  clear_test n h true x y w t f = t refl
+  clear_test n h false x y w t f = f refl
+
+assoc : (x y z : Bool) → ((x && y) && z) ≡ (x && (y && z))
+assoc true y z = refl
+assoc false y z = refl
+
+module _ (k : Config) where
+  -- where a word waits, its slot can be released exactly once every CPU has settled
+  reapable_is : (s : ℕ) (h : List Deed) → IsQuiet k h → is_reapable k s h ≡ (awaits (word_at s h).code && all_settled k k.cpus (present s h) h)
+  reapable_is s h q = sym (assoc (is_busy s h) (is_none (solo (present s h) h)) (all_settled k k.cpus (present s h) h)) ∙ ap (λ b. b && all_settled k k.cpus (present s h) h)
+      (sym (awaits_is k s h q.sound q.rests))
+
+  pub each_settled : (n : ℕ) (id : Speculation) (h : List Deed) → all_settled k n id h ≡ true → (c : ℕ) → c < n → settled c id h ≡ true
+  each_settled zero id h e c lt = absurd (omega arith)
+  each_settled (suc n) id h e c lt =
+      let both = and_tells (all_settled k n id h) (settled n id h) e in
+      ⊎_elim
+      (λ (t : (c == n) ≡ true). let same : c ≡ n = grind (arith, nat_tests) in subst (λ x. settled x id h ≡ true) (sym same) both.1)
+      (λ (f : (c == n) ≡ false). let below : c < n = grind (arith, nat_tests) in each_settled n id h both.0 c below)
+      (either_way (c == n))
+
+  -- one CPU's settlement that is missing
+  one_missing : (n j : ℕ) (id : Speculation) (h : List Deed) → settled n id h ≡ false → all_settled k (suc n + j) id h ≡ false
+  one_missing n zero id h e = let same : suc n + 0 ≡ suc n =
+      omega arith in ap (λ m. all_settled k m id h) same ∙ (ap (λ b. all_settled k n id h && b) e ∙ Rattle.dspec_deeds.proofs.TestLemmas.and_false (all_settled k n id h))
+  one_missing n (suc j) id h e = let up : suc n + suc j ≡ suc (suc n + j) = omega arith in ap (λ m. all_settled k m id h) up ∙ ap (λ b. b && settled (suc n + j) id h) (one_missing n j id h e)
+
+  -- a slot that can be released may be, by the consumer
+  release_rests : (s : ℕ) (h : List Deed) → IsQuiet k h → is_reapable k s h ≡ true → IsQuiet k (Release s ∷ h)
+  release_rests s h q e =
+      let a = and_tells (is_busy s h) _ e in
+      let b = and_tells (is_none (solo (present s h) h)) _ a.1 in
+      let alone = none_is (solo (present s h) h) b.0 in
+      record {
+        sound = (
+          q.sound,
+          (
+            inl q.rests,
+            ((unnot (is_undecided (verdict (present s h) h)) a.0, inr (each_settled k.cpus (present s h) h b.1)), λ c by. absurd (consumer_no c (ap releaser (sym alone) ∙ by))),
+          ),
+        );
+        rests = refl;
+      }
+    where
+      unnot : (b : Bool) → not b ≡ true → b ≡ false
+      unnot true e = absurd (true≢false (sym e))
+      unnot false e = refl
+
+      none_is : (x : Option ℕ) → is_none x ≡ true → x ≡ None
+      none_is None e = refl
+      none_is (Some a) e = absurd (true≢false (sym e))
+
+      consumer_no : (c : ℕ) → ◌≡◌ {A = Actor} actor.Consumer (actor.Cpu c) → ⊥
+      consumer_no c e = cc (e)
+
+  pub cleaned_at_rests : (s : ℕ) (h : List Deed) → IsQuiet k h → IsQuiet k (cleaned_at k s h)
+  cleaned_at_rests s h q = go (is_reapable k s h) refl
+    where
+      go : (b : Bool) → is_reapable k s h ≡ b → IsQuiet k (if b then Release s ∷ h else h)
+      go true e = release_rests s h q e
+      go false e = q
+
+  pub cleaned_up_rests : (n : ℕ) (h : List Deed) → IsQuiet k h → IsQuiet k (cleaned_up k n h)
+  cleaned_up_rests zero h q = q
+  cleaned_up_rests (suc n) h q = cleaned_at_rests (suc n) (cleaned_up k n h) (cleaned_up_rests n h q)
+
+-- so many more
+abbrev pub plus : ℕ → ℕ → ℕ
+plus zero m = m
+plus (suc n) m = suc (plus n m)
+
+pub plus_is : (n m : ℕ) → plus n m ≡ n + m
+plus_is zero m = omega arith
+plus_is (suc n) m = let e = plus_is n m in omega arith
+
+-- the steps for so many slots
+abbrev pub steps_for : ℕ → ℕ → ℕ
+steps_for cpus zero = 0
+steps_for cpus (suc j) = suc (suc (plus cpus (steps_for cpus j)))
+
+module _ (shape : ℕ → Option Shape) (st : PlayState) (all : List CpuProgress) (h : List Deed) (q : IsQuiet st.config h) (i0 : ℕ) (cpus : suc i0 ≡ st.config.cpus) where
+  -- the list once the first slots are cleaned
+  abbrev upto : ℕ → List Deed
+  upto n = cleaned_up st.config n h
+
+  abbrev cleaned : WholeConsumer
+  cleaned = record { list = upto st.config.nspec; progresses = all; answer = answer.Cleaned (releases_up st.config st.config.nspec h) }
+
+  -- behind a slot, with so many slots left
+  abbrev NextLeads : ℕ → ℕ → Type 0
+  NextLeads j n = (f : ℕ) → steps_for st.config.cpus j ≤ f → (side : ConsumerProgress) (ds : List Deed) (count : ℕ) → (ds ++ upto n) ≡ upto (suc n) → count ≡ releases_up st.config (suc n) h
+      → Clears shape st f (upto n) (next_slot st.config (upto n) side all (suc n) ds count) cleaned
+
+  next_last : (n : ℕ) → suc n ≡ st.config.nspec → NextLeads zero n
+  next_last n last f le side ds count list is =
+      let left : record { list = ds ++ upto n; progresses = all; answer = answer.Cleaned count } ≡ cleaned =
+      λ i. record { list = (list ∙ ap upto last) i; progresses = all; answer = answer.Cleaned ((is ∙ ap (λ m. releases_up st.config m h) last) i) } in
+      clear_true shape st f _ (suc n == st.config.nspec) _ _ _ (subst (λ m. (suc n == m) ≡ true) last (number_is_itself (suc n)))
+      (subst (λ (w : WholeConsumer). Clears shape st f (upto n) (stops st.config (upto n) side all ds (answer.Cleaned count)) w) left (clear_ended shape st f (upto n) side all ds _))
+
+  next_more : (j n : ℕ) → suc n < st.config.nspec
+      → ((side : ConsumerProgress) → Clears shape st (suc (plus st.config.cpus (steps_for st.config.cpus j))) (upto (suc n))
+      (loads_slot st.config (upto (suc n)) side all (suc (suc n)) (releases_up st.config (suc n) h)) cleaned)
+      → NextLeads (suc j) n
+  next_more j n more rest f le side ds count list is =
+      let other : (suc n == st.config.nspec) ≡ false = grind (arith, nat_tests) in
+      let next : suc (suc n) ≡ suc n + 1 = omega arith in
+      clear_more shape st (suc (suc (plus st.config.cpus (steps_for st.config.cpus j)))) f _ _ _ le
+      (clear_false shape st _ _ (suc n == st.config.nspec) _ _ _ other
+      (clear_goes shape st (suc (plus st.config.cpus (steps_for st.config.cpus j))) (upto n) side all ds _ _
+      (subst (λ (p : List Deed × ℕ × ℕ). Clears shape st (suc (plus st.config.cpus (steps_for st.config.cpus j))) p.0
+      (loads_slot st.config p.0 (later_side shape st side (consumer.CleanLoad p.1 p.2)) all p.1 p.2) cleaned)
+      (λ i. (sym list i, next i, sym is i)) (rest (later_side shape st side (consumer.CleanLoad (suc (suc n)) (releases_up st.config (suc n) h)))))))
+
+  module _ (j n : ℕ) (next : NextLeads j n) where
+    passes : (f : ℕ) → steps_for st.config.cpus j ≤ f → (side : ConsumerProgress) → is_reapable st.config (suc n) (upto n) ≡ false
+        → Clears shape st f (upto n) (next_slot st.config (upto n) side all (suc n) [] (releases_up st.config n h)) cleaned
+    passes f le side e =
+        let none : releases_up st.config n h ≡ releases_up st.config n h + 0 = omega arith in
+        next f le side [] _ (sym (ap (λ (b : Bool). if b then Release (suc n) ∷ upto n else upto n) e)) (none ∙ sym (ap (λ (b : Bool). releases_up st.config n h + (if b then 1 else 0)) e))
+
+    reap_leads : (side : ConsumerProgress) → is_reapable st.config (suc n) (upto n) ≡ true
+        → Clears shape st (steps_for st.config.cpus j) (upto n) (reaps st.config (upto n) side all (suc n) (word_at (suc n) (upto n)) (releases_up st.config n h)) cleaned
+    reap_leads side e =
+        clear_true shape st _ _ (same_word (word_at (suc n) (upto n)) (word_at (suc n) (upto n))) _ _ _ (same_word_is (word_at (suc n) (upto n)))
+        (next (steps_for st.config.cpus j) (omega arith) side (Release (suc n) ∷ []) _ (sym (ap (λ (b : Bool). if b then Release (suc n) ∷ upto n else upto n) e))
+        (sym (ap (λ (b : Bool). releases_up st.config n h + (if b then 1 else 0)) e)))
+
+    reapable_by : (b : Bool) → awaits (word_at (suc n) (upto n)).code ≡ true → all_settled st.config st.config.cpus (present (suc n) (upto n)) (upto n) ≡ b → is_reapable st.config (suc n) (upto n) ≡ b
+    reapable_by b waits e = reapable_is st.config (suc n) (upto n) (cleaned_up_rests st.config n h q)
+        ∙ (ap (λ x. x && all_settled st.config st.config.cpus (present (suc n) (upto n)) (upto n)) waits ∙ e)
+
+    abbrev acked_by : ℕ → Bool
+    acked_by a = nat_lt (issue (suc n) (upto n)) (ack a (suc n) (upto n))
+
+    -- one more CPU's acknowledgement was there
+    one_more : (a : ℕ) → all_settled st.config a (present (suc n) (upto n)) (upto n) ≡ true → acked_by a ≡ true → all_settled st.config (suc a) (present (suc n) (upto n)) (upto n) ≡ true
+    one_more a below e = ap (λ x. x && settled a (present (suc n) (upto n)) (upto n)) below ∙ (sym (acked_is st.config a (suc n) (upto n) (cleaned_up_rests st.config n h q).sound) ∙ e)
+
+    -- an acknowledgement is missing
+    is_missing : (i a : ℕ) → a + suc i ≡ st.config.cpus → acked_by a ≡ false → all_settled st.config st.config.cpus (present (suc n) (upto n)) (upto n) ≡ false
+    is_missing i a count e =
+        let all_cpus : suc a + i ≡ st.config.cpus = omega arith in
+        subst (λ m. all_settled st.config m (present (suc n) (upto n)) (upto n) ≡ false) all_cpus
+        (one_missing st.config a i (present (suc n) (upto n)) (upto n) (sym (acked_is st.config a (suc n) (upto n) (cleaned_up_rests st.config n h q).sound) ∙ e))
+
+    enough : (i : ℕ) → steps_for st.config.cpus j ≤ suc (plus i (steps_for st.config.cpus j))
+    enough i = let e = plus_is i (steps_for st.config.cpus j) in omega arith
+
+    -- the acknowledgements, from a CPU to the last one
+    ack_leads : (i a : ℕ) (side : ConsumerProgress) → awaits (word_at (suc n) (upto n)).code ≡ true → a + suc i ≡ st.config.cpus → all_settled st.config a (present (suc n) (upto n)) (upto n) ≡ true
+        → Clears shape st (suc (plus i (steps_for st.config.cpus j))) (upto n) (loads_ack st.config (upto n) side all (suc n) (word_at (suc n) (upto n)) a (releases_up st.config n h)) cleaned
+    ack_leads zero a side waits count below =
+        let last : suc a ≡ st.config.cpus = omega arith in
+        let at_last : (a + 1 == st.config.cpus) ≡ true = grind (arith, nat_tests) in
+        clear_test shape st _ _ (acked_by a) _ _ _
+        (λ e. clear_true shape st _ _ (a + 1 == st.config.cpus) _ _ _ at_last
+        (clear_goes shape st (steps_for st.config.cpus j) (upto n) side all [] _ _
+        (reap_leads (later_side shape st side (consumer.CleanReap (suc n) (word_at (suc n) (upto n)) (releases_up st.config n h)))
+        (reapable_by true waits (subst (λ m. all_settled st.config m (present (suc n) (upto n)) (upto n) ≡ true) last (one_more a below e))))))
+        (λ e. passes _ (enough zero) side (reapable_by false waits (is_missing zero a count e)))
+    ack_leads (suc i) a side waits count below =
+        let other : (a + 1 == st.config.cpus) ≡ false = grind (arith, nat_tests) in
+        let next : suc a ≡ a + 1 = omega arith in
+        let rest : suc a + suc i ≡ st.config.cpus = omega arith in
+        clear_test shape st _ _ (acked_by a) _ _ _
+        (λ e. clear_false shape st _ _ (a + 1 == st.config.cpus) _ _ _ other
+        (clear_goes shape st (suc (plus i (steps_for st.config.cpus j))) (upto n) side all [] _ _
+        (subst (λ m. Clears shape st (suc (plus i (steps_for st.config.cpus j))) (upto n)
+        (loads_ack st.config (upto n) (later_side shape st side (consumer.CleanAck (suc n) (word_at (suc n) (upto n)) m (releases_up st.config n h))) all (suc n)
+        (word_at (suc n) (upto n)) m (releases_up st.config n h)) cleaned) next
+        (ack_leads i (suc a) (later_side shape st side (consumer.CleanAck (suc n) (word_at (suc n) (upto n)) (suc a) (releases_up st.config n h))) waits rest (one_more a below e)))))
+        (λ e. passes _ (enough (suc i)) side (reapable_by false waits (is_missing (suc i) a count e)))
+
+    -- a slot, from the load of its word
+    slot_leads : (side : ConsumerProgress) → Clears shape st (suc (plus st.config.cpus (steps_for st.config.cpus j))) (upto n)
+        (loads_slot st.config (upto n) side all (suc n) (releases_up st.config n h)) cleaned
+    slot_leads side =
+        let rest : zero + suc i0 ≡ st.config.cpus = omega arith in
+        clear_test shape st _ _ (awaits (word_at (suc n) (upto n)).code) _ _ _
+        (λ waits. clear_goes shape st (plus st.config.cpus (steps_for st.config.cpus j)) (upto n) side all [] _ _
+        (subst (λ m. Clears shape st (plus m (steps_for st.config.cpus j)) (upto n)
+        (loads_ack st.config (upto n) (later_side shape st side (consumer.CleanAck (suc n) (word_at (suc n) (upto n)) 0 (releases_up st.config n h))) all (suc n)
+        (word_at (suc n) (upto n)) 0 (releases_up st.config n h)) cleaned) cpus
+        (ack_leads i0 zero (later_side shape st side (consumer.CleanAck (suc n) (word_at (suc n) (upto n)) 0 (releases_up st.config n h))) waits rest refl)))
+        (λ idle. passes _ (enough st.config.cpus) side
+        (reapable_is st.config (suc n) (upto n) (cleaned_up_rests st.config n h q) ∙ ap (λ x. x && all_settled st.config st.config.cpus (present (suc n) (upto n)) (upto n)) idle))
+
+  -- the slots from one to the last
+  pub clean_leads : (j n : ℕ) (side : ConsumerProgress) → suc (n + j) ≡ st.config.nspec
+      → Clears shape st (suc (plus st.config.cpus (steps_for st.config.cpus j))) (upto n) (loads_slot st.config (upto n) side all (suc n) (releases_up st.config n h)) cleaned
+  clean_leads zero n side last = let at_last : suc n ≡ st.config.nspec = omega arith in slot_leads zero n (next_last n at_last) side
+  clean_leads (suc j) n side last =
+      let more : suc n < st.config.nspec = omega arith in
+      let rest : suc (suc n + j) ≡ st.config.nspec = omega arith in
+      slot_leads (suc j) n (next_more j n more (λ other. clean_leads j (suc n) other rest)) side

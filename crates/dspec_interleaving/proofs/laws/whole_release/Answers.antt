@@ -1,0 +1,12 @@
+use Rattle.std.proofs.Common.{subst, sym, ◌<◌}
+use Rattle.dspec_interleaving.specs.Turns.{at_start}
+use Rattle.dspec_interleaving.specs.Whole.{AreCalls}
+use Rattle.dspec_interleaving.proofs.WholeStates.{start_rests, rest_all, config_all}
+use Rattle.dspec_interleaving.proofs.WholeRelease.{whole_release}
+use Rattle.dspec_interleaving.proofs.laws.whole_release.Goals as goal
+
+pub returns : goal.returns
+returns c shape k id ws xs ys fine all_ws all_xs all_ys ruled each =
+    let same = sym (config_all shape ws (at_start k)) in
+    whole_release shape id _ (rest_all shape ws (at_start k) all_ws (start_rests shape k fine)) ruled xs ys
+    (subst (λ m. AreCalls m xs) same all_xs) (subst (λ m. AreCalls m ys) same all_ys) (λ cpu lt. each cpu (subst (λ m. cpu < m.cpus) (sym same) lt))

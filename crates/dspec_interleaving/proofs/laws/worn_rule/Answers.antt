@@ -1,0 +1,11 @@
+use Rattle.dspec_interleaving.proofs.WornCalls.{step_wears, clean_wears, played_worn}
+use Rattle.dspec_interleaving.proofs.laws.worn_rule.Goals as goal
+
+pub returns-clause-cpu : goal.returns-clause-cpu
+returns-clause-cpu c = step_wears
+
+pub returns-clause-consumer : goal.returns-clause-consumer
+returns-clause-consumer c = clean_wears
+
+pub returns-clause-played : goal.returns-clause-played
+returns-clause-played c = played_worn

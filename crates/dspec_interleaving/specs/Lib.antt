@@ -1,0 +1,13 @@
+pub mod Play
+pub mod Coherent
+pub mod Turns
+pub mod Whole
+pub mod Bounds
+pub mod SoloRule
+pub mod Calls
+pub mod ReadOff
+pub mod Plays
+pub mod Wearing
+pub mod WholePlays
+pub mod Promised
+pub mod CpuClose

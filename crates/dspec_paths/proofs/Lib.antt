@@ -1,0 +1,2 @@
+mod MoreVerdicts
+mod MoreWaits

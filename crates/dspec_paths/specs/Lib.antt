@@ -1,0 +1,4 @@
+pub mod Belts
+pub mod Waits
+pub mod Said
+pub mod Settled

@@ -1,0 +1,134 @@
+-- A call in flight of a machine that is kept can be told.
+use Rattle.std.proofs.Common.{◌≡◌, ℕ, suc, ◌<◌, ◌≤◌, ◌^◌, Bool, true, false, true≢false, List, [], ◌∷◌, Option, Some, None, refl, sym, ap, ◌∙◌, subst, ⊎_elim, inl, inr, arith}
+use Rattle.dspec_record.specs.declared.field.Shape.{Shape}
+use Rattle.dspec_record.specs.Record.{Record}
+use Rattle.dspec_buffer.specs.Extent.{Piece}
+use Rattle.dspec_word.specs.declared.act.Act.{Act}
+use Rattle.dspec_word.specs.declared.code.Code.{Code}
+use Rattle.dspec_word.specs.declared.code.Code.TheVariants.{Inactive, Active, ActiveOne, ActiveMany, Committing, CommittingMany, Discarding}
+use Rattle.dspec_word.specs.Code.{code_number, is_inactive}
+use Rattle.dspec_word.specs.SpecId.{Speculation}
+use Rattle.dspec_word.specs.Word.{SlotState, word_number, CanBeReleased}
+use Rattle.dspec_word.proofs.Numbers.{code_below}
+use Rattle.dspec_deeds.specs.declared.config.Config.{Config}
+use Rattle.dspec_deeds.specs.declared.deed.Deed.{Deed}
+use Rattle.dspec_deeds.specs.declared.deed.Deed.TheVariants.{Release}
+use Rattle.dspec_deeds.specs.Ranges.{start_fault}
+use Rattle.dspec_deeds.specs.History.{issue, is_undecided, present, releases, verdict, word_at}
+use Rattle.dspec_deeds.specs.Legal.{IsSound, Follows}
+use Rattle.dspec_deeds.proofs.PresentIds.{decided_given}
+use Rattle.dspec_deeds.proofs.SetUp.{set_up}
+use Rattle.dspec_deeds.proofs.TestLemmas.{either_way, same_number}
+use Rattle.dspec_deeds.proofs.WordCodes.{open_inactive}
+use Rattle.dspec_interleaving.specs.declared.flight.CpuProgress.{CpuProgress}
+use Rattle.dspec_interleaving.specs.declared.flight.ConsumerFlight.{ConsumerFlight}
+use Rattle.dspec_interleaving.specs.declared.flight.ConsumerFlight.TheVariants as consumer
+use Rattle.dspec_interleaving.specs.declared.flight.ConsumerProgress.{ConsumerProgress}
+use Rattle.dspec_interleaving.specs.declared.flight.CallPlace.{CallPlace}
+use Rattle.dspec_interleaving.specs.declared.flight.CallPlace.TheVariants as cpu
+use Rattle.dspec_interleaving.specs.Calls.{consumer_op_of, is_about}
+use Rattle.dspec_interleaving.specs.Coherent.{Expects, StandsConsumer, StandsCpu, progress_of}
+use Rattle.dspec_interleaving.proofs.CleanReads.{clean_stands}
+use Rattle.dspec_interleaving.proofs.Counts.{issue_below, issues_fit}
+use Rattle.dspec_interleaving.proofs.StepReads.{can_be_released, flight_stands, slots_fit}
+use Rattle.dspec_machine.specs.declared.machine.Machine.{Machine}
+use Rattle.dspec_machine.specs.Machines.{history, state_of}
+use Rattle.dspec_machine.specs.Worlds.{WorldInvariant}
+use Rattle.dspec_machine.proofs.MachineReads.{slot_in_range}
+use Rattle.dspec_picture.specs.Tellable.{CanBeTold, ConsumerCanBeTold, IsTellable}
+
+-- what is released was decided
+was_decided : (k : Config) (s : ℕ) (d : Deed) (h : List Deed) → Follows k h d → releases s d ≡ true → is_undecided (verdict (present s h) h) ≡ false
+was_decided k s (Release n) h f t = subst (λ (x : ℕ). is_undecided (verdict (present x h) h) ≡ false) (sym (same_number s n t)) f.1.0.0
+was_decided k s d h f t = absurd (true≢false (sym t))
+
+-- a slot is released that many times at most
+most_releases : (k : Config) (s : ℕ) (h : List Deed) → IsSound k h → issue s h ≤ k.max_issues
+most_releases k s [] sound = omega arith
+most_releases k s (d ∷ h) sound = ⊎_elim
+    (λ (t : releases s d ≡ true).
+    let less = issue_below k h (present s h) sound.0 (decided_given k h (present s h) sound.0 (was_decided k s d h sound.1 t)) in
+    let up : issue s (d ∷ h) ≡ suc (issue s h) = rw t refl in
+    omega arith)
+    (λ (f : releases s d ≡ false). let same : issue s (d ∷ h) ≡ issue s h = rw f refl in let before = most_releases k s h sound.0 in omega arith)
+    (either_way (releases s d))
+
+-- a word that isn't above one that can be released
+expected : (from w : SlotState) → word_number from ≤ word_number w → w.issue ≤ 2 ^ 57 → CanBeReleased w → CanBeReleased from
+expected from w rises most can = go from.code refl
+  where
+    below : 1 ≤ code_number from.code → from.issue < 2 ^ 57
+    below some =
+        let code = code_below w.code in
+        ⊎_elim
+        (λ (less : w.issue < 2 ^ 57). let is : from.issue < 2 ^ 57 = omega arith in is)
+        (λ (e : w.code ≡ Inactive). let none : code_number w.code ≡ 0 = ap code_number e in let is : from.issue < 2 ^ 57 = omega arith in is)
+        can
+
+    go : (x : Code) → from.code ≡ x → CanBeReleased from
+    go Inactive e = inr e
+    go Active e = inl (below (let n = ap code_number e in omega arith))
+    go ActiveOne e = inl (below (let n = ap code_number e in omega arith))
+    go ActiveMany e = inl (below (let n = ap code_number e in omega arith))
+    go Committing e = inl (below (let n = ap code_number e in omega arith))
+    go CommittingMany e = inl (below (let n = ap code_number e in omega arith))
+    go Discarding e = inl (below (let n = ap code_number e in omega arith))
+
+-- an inactive word
+inactive_can : (w : SlotState) → is_inactive w.code ≡ true → CanBeReleased w
+inactive_can w t = inr (go w.code refl)
+  where
+    go : (x : Code) → w.code ≡ x → w.code ≡ Inactive
+    go Inactive is = is
+    go Active is = absurd (true≢false (sym t ∙ ap is_inactive is))
+    go ActiveOne is = absurd (true≢false (sym t ∙ ap is_inactive is))
+    go ActiveMany is = absurd (true≢false (sym t ∙ ap is_inactive is))
+    go Committing is = absurd (true≢false (sym t ∙ ap is_inactive is))
+    go CommittingMany is = absurd (true≢false (sym t ∙ ap is_inactive is))
+    go Discarding is = absurd (true≢false (sym t ∙ ap is_inactive is))
+
+module _ (k : Config) (h : List Deed) (ranges : start_fault k ≡ None) (sound : IsSound k h) where
+  tried : (id : Speculation) (from : SlotState) (act : Act) → Expects act from id h → CanBeReleased from
+  tried id from act expects =
+      let most = issues_fit k ranges in
+      let within = most_releases k id.slot h sound in
+      expected from (word_at id.slot h) expects.rises (omega arith) (can_be_released k id.slot h ranges sound)
+
+  cpu_told : (c : ℕ) (me : CpuProgress) (f : CallPlace) → StandsCpu k c h me f → CanBeTold k f
+  cpu_told c me (cpu.Begun o) at = tt
+  cpu_told c me (cpu.ScanLoad s) at = at.0
+  cpu_told c me (cpu.ScanTry s from) at = (at.0, inactive_can from (open_inactive from at.3.0 k.max_issues at.3.1))
+  cpu_told c me (cpu.SpeculateLoad id r) at = slot_in_range k id at.0.in_range
+  cpu_told c me (cpu.SpeculateTry id r from) at = (slot_in_range k id at.0.in_range, tried id from _ at.1)
+  cpu_told c me (cpu.CommitLoad id) at = slot_in_range k id at.0.in_range
+  cpu_told c me (cpu.CommitTry id from) at = (slot_in_range k id at.0.in_range, tried id from _ at.1)
+  cpu_told c me (cpu.CommitRelease id f) at = tt
+  cpu_told c me (cpu.DiscardLoad id) at = slot_in_range k id at.0.in_range
+  cpu_told c me (cpu.DiscardTry id from) at = (slot_in_range k id at.0.in_range, tried id from _ at.1)
+  cpu_told c me cpu.ServicePop at = tt
+  cpu_told c me cpu.ServicePush at = tt
+  cpu_told c me (cpu.ServiceLoad s sum) at = at.0
+  cpu_told c me (cpu.ServiceStore s w sum) at = at.0
+
+  consumer_told : (side : ConsumerProgress) (f : ConsumerFlight) → is_about k (consumer_op_of f) ≡ true → StandsConsumer k h side f → ConsumerCanBeTold k f
+  consumer_told side (consumer.Begun o) about at = about
+  consumer_told side (consumer.CleanLoad s n) about at = at.0
+  consumer_told side (consumer.CleanAck s w c n) about at = (at.0, at.2)
+  consumer_told side (consumer.CleanReap s w n) about at = (at.0, subst CanBeReleased at.2.0 (can_be_released k s h ranges sound))
+
+module _ {S B : Type 0} (has : B → S → List Piece → Type 0) (capacity : B → ℕ) (shape_of : S → ℕ → Option Shape) (accepted : S → Record → Bool) (m : Machine S B)
+    (kept : WorldInvariant has capacity shape_of accepted m) where
+  pub kept_tells : IsTellable has capacity m
+  kept_tells = record {
+    shown = kept.shown;
+    least = (set_up m.config kept.coherent.ranges).1;
+    most = let fit = slots_fit m.config kept.coherent.ranges in omega arith;
+  }
+
+  pub cpu_can_be_told : (c : ℕ) (f : CallPlace) → c < m.config.cpus → (progress_of (state_of m).progresses c).flight ≡ Some f → CanBeTold m.config f
+  cpu_can_be_told c f lt is = cpu_told m.config (history m) kept.coherent.ranges kept.coherent.legal.0 c (progress_of (state_of m).progresses c) f
+      (flight_stands (shape_of m.schema) (state_of m) kept.coherent c lt f is)
+
+  pub consumer_can_be_told : (f : ConsumerFlight) → m.consumer.flight ≡ Some f → ConsumerCanBeTold m.config f
+  consumer_can_be_told f is = consumer_told m.config (history m) kept.coherent.ranges kept.coherent.legal.0 m.consumer f (kept.about f is)
+      (clean_stands (shape_of m.schema) (state_of m) kept.coherent f is)

@@ -1,0 +1,16 @@
+use Rattle.std.proofs.Common.{ap, ◌∙◌}
+use Rattle.dspec_interleaving.specs.declared.flight.CpuProgress.{CpuProgress}
+use Rattle.dspec_machine.proofs.MachineReads.{cpu_got}
+use Rattle.dspec_machine.proofs.OneMore.{progress_there}
+use Rattle.dspec_picture.proofs.Tellable.{cpu_can_be_told}
+use Rattle.dspec_picture.proofs.room.aimed_bytes.Goals as goal
+
+pub aim_bytes-requires-clause-told : goal.aim_bytes-requires-clause-told
+aim_bytes-requires-clause-told g c =
+    let has = g.B.TraceBuffer.has in
+    let capacity = g.B.TraceBuffer.capacity in
+    let m = c.args.machine.now in
+    let own = c.index.result.now in
+    let got = cpu_got has capacity m c.requires.kept.shown c.args.cpu own c.requires.cpu c.index.ensures in
+    cpu_can_be_told has capacity g.S.Schema.shape_of g.S.Schema.accepted m c.requires.kept c.args.cpu c.in-Some.flight c.requires.cpu
+    (ap (λ (me : CpuProgress). me.flight) (progress_there m.cpus.items c.args.cpu own got) ∙ c.in-Some.is)

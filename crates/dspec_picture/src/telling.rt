@@ -1,0 +1,416 @@
+//! What the next step of a call in flight does, in words, as the machine shows it.
+ghost use Rattle.std.specs.Prelude.{◌≡◌, ◌<◌, ◌++◌, nat_lt, true, if◌then◌else◌, codes, decimal, OnOk, string_bytes};
+ghost use Rattle.dspec_deeds.specs.Ranges.{is_fill};
+ghost use Rattle.dspec_deeds.specs.Own.{seals};
+ghost use Rattle.dspec_interleaving.specs.Calls.{is_about, is_actor};
+ghost use Rattle.dspec_interleaving.specs.Coherent.{IsSlot, progress_of};
+ghost use Rattle.dspec_interleaving.specs.Whole.{is_out};
+ghost use Rattle.dspec_machine.specs.Machines.{IsShownMachine, history, state_of};
+ghost use Rattle.dspec_machine.specs.Worlds.{WorldInvariant};
+ghost use Rattle.dspec_schedule.specs.Printed.{consumer_op_text, cpu_op_text};
+ghost use Rattle.dspec_word.specs.SpecId.{id_number};
+ghost use Rattle.dspec_picture.specs.Tellable.{CanBeTold, ConsumerCanBeTold, IsTellable};
+ghost use Rattle.dspec_picture.specs.Told.{ack_head, ack_told, ask_told, begun_told, consumer_begun_told, consumer_call_told, consumer_flight_told, consumer_told, cpu_call_told, cpu_flight_told, cpu_told, exchanges_told, is_given_back, is_handed, is_service, loads_told, running_told, step_told};
+
+use crate::showing::{ack, attempted, is_marked, word_at};
+use crate::words::{tell_exchange, tell_load};
+use dspec_buffer::TraceBuffer;
+use dspec_deeds::{Actor, ConsumerOp, CpuOp, Policy};
+use dspec_interleaving::{CallPlace, ConsumerFlight, Spare};
+use dspec_machine::Machine;
+use dspec_record::Schema;
+use dspec_word::{Act, SpecId, Word, commit_at, discard_at, open_at, reap_at, speculate_at};
+use std::alloc::AllocError;
+
+/// A load of a slot's word.
+fn tell_slot<S: Schema, B: TraceBuffer<S>>(
+    text: &mut String,
+    machine: &Machine<S, B>,
+    slot: u32,
+) -> Result<(), AllocError>
+    requires tellable { IsTellable B.has B.capacity machine.now }
+    requires slot { IsSlot machine.now.config slot }
+    ensures { OnOk result (string_bytes text.new ≡ string_bytes text.old ++ loads_told (history machine.now) slot) }
+{
+    tell_load(text, slot, word_at(machine, slot))
+}
+
+/// An exchange of a slot's word, by what the call does at the word that it was shown.
+fn tell_try<S: Schema, B: TraceBuffer<S>>(
+    text: &mut String,
+    machine: &Machine<S, B>,
+    slot: u32,
+    from: Word,
+    act: Act,
+) -> Result<(), AllocError>
+    requires tellable { IsTellable B.has B.capacity machine.now }
+    requires slot { IsSlot machine.now.config slot }
+    ensures { OnOk result (string_bytes text.new ≡ string_bytes text.old ++ exchanges_told (history machine.now) slot from act) }
+{
+    tell_exchange(
+        text,
+        slot,
+        from,
+        attempted(act, from),
+        word_at(machine, slot),
+    )
+}
+
+fn tell_running(text: &mut String, stopped: bool) -> Result<(), AllocError>
+    ensures { OnOk result (string_bytes text.new ≡ string_bytes text.old ++ running_told stopped) }
+{
+    if stopped {
+        return text.push_str("loads that the session is stopped");
+    }
+    text.push_str("loads that the session runs")
+}
+
+fn tell_ask(text: &mut String, wanted: bool) -> Result<(), AllocError>
+    ensures { OnOk result (string_bytes text.new ≡ string_bytes text.old ++ ask_told wanted) }
+{
+    if wanted {
+        return text.push_str("loads the ask: a batch is wanted");
+    }
+    text.push_str("loads the ask: no batch is wanted")
+}
+
+/// Whether the consumer asked for a batch that the CPU hasn't sealed.
+fn is_wanted<S: Schema, B: TraceBuffer<S>>(machine: &Machine<S, B>, cpu: u32) -> bool
+    requires shown { IsShownMachine B.has B.capacity machine.now }
+    requires cpu { cpu < machine.now.config.cpus }
+    ensures { result ≡ nat_lt (seals cpu (history machine.now)) (progress_of (state_of machine.now).progresses cpu).want }
+{
+    let own = &machine.cpus[cpu as usize];
+    own.side.seals < own.progress.want
+}
+
+/// The first step of a service.
+fn tell_service<S: Schema, B: TraceBuffer<S>>(
+    text: &mut String,
+    machine: &Machine<S, B>,
+    cpu: u32,
+) -> Result<(), AllocError>
+    requires tellable { IsTellable B.has B.capacity machine.now }
+    requires cpu { cpu < machine.now.config.cpus }
+    ensures { OnOk result (string_bytes text.new ≡ string_bytes text.old ++ (if is_fill machine.now.config.policy then loads_told (history machine.now) 1
+        else ask_told (nat_lt (seals cpu (history machine.now)) (progress_of (state_of machine.now).progresses cpu).want))) }
+{
+    match machine.config.policy {
+        Policy::Fill => tell_slot(text, machine, 1),
+        Policy::Switch => tell_ask(text, is_wanted(machine, cpu)),
+    }
+}
+
+fn is_service(op: CpuOp) -> bool
+    ensures { result ≡ is_service op }
+{
+    matches!(op, CpuOp::Service)
+}
+
+/// The first step of a CPU's call.
+fn tell_begun<S: Schema, B: TraceBuffer<S>>(
+    text: &mut String,
+    machine: &Machine<S, B>,
+    cpu: u32,
+    op: CpuOp,
+) -> Result<(), AllocError>
+    requires tellable { IsTellable B.has B.capacity machine.now }
+    requires cpu { cpu < machine.now.config.cpus }
+    ensures { OnOk result (string_bytes text.new ≡ string_bytes text.old ++ begun_told machine.now.config (history machine.now) cpu (progress_of (state_of machine.now).progresses cpu) op) }
+{
+    if is_service(op) {
+        return tell_service(text, machine, cpu);
+    }
+    if machine.is_worn(cpu) {
+        return text.push_str("has made all its calls");
+    }
+    tell_running(text, machine.halted)
+}
+
+/// Where the CPU's second principal buffer is.
+fn spare_of<S: Schema, B: TraceBuffer<S>>(machine: &Machine<S, B>, cpu: u32) -> Spare
+    requires shown { IsShownMachine B.has B.capacity machine.now }
+    requires cpu { cpu < machine.now.config.cpus }
+    ensures { result ≡ (progress_of (state_of machine.now).progresses cpu).spare }
+{
+    machine.cpus[cpu as usize].progress.spare
+}
+
+fn tell_pop(text: &mut String, spare: Spare) -> Result<(), AllocError>
+    ensures { OnOk result (string_bytes text.new ≡ string_bytes text.old
+        ++ (if is_given_back spare then codes "pops a spare buffer" else codes "finds no spare buffer to pop")) }
+{
+    match spare {
+        Spare::GivenBack => text.push_str("pops a spare buffer"),
+        _ => text.push_str("finds no spare buffer to pop"),
+    }
+}
+
+fn tell_take(text: &mut String, spare: Spare, cpu: u32) -> Result<(), AllocError>
+    ensures { OnOk result (string_bytes text.new ≡ string_bytes text.old
+        ++ ((if is_handed spare then codes "pops a batch of cpu " else codes "finds no batch to pop of cpu ") ++ decimal cpu)) }
+{
+    match spare {
+        Spare::Handed => write!(text, "pops a batch of cpu {cpu}"),
+        _ => write!(text, "finds no batch to pop of cpu {cpu}"),
+    }
+}
+
+fn tell_give_back(text: &mut String, spare: Spare, cpu: u32) -> Result<(), AllocError>
+    ensures { OnOk result (string_bytes text.new ≡ string_bytes text.old
+        ++ ((if is_out spare then codes "pushes a spare buffer to cpu " else codes "has no buffer to push to cpu ") ++ decimal cpu)) }
+{
+    match spare {
+        Spare::Out => write!(text, "pushes a spare buffer to cpu {cpu}"),
+        _ => write!(text, "has no buffer to push to cpu {cpu}"),
+    }
+}
+
+/// The next step of a CPU's call.
+fn tell_cpu<S: Schema, B: TraceBuffer<S>>(
+    text: &mut String,
+    machine: &Machine<S, B>,
+    cpu: u32,
+    flight: CallPlace,
+) -> Result<(), AllocError>
+    requires tellable { IsTellable B.has B.capacity machine.now }
+    requires cpu { cpu < machine.now.config.cpus }
+    requires told { CanBeTold machine.now.config flight }
+    ensures { OnOk result (string_bytes text.new ≡ string_bytes text.old ++ cpu_told machine.now.config (history machine.now) cpu (progress_of (state_of machine.now).progresses cpu) flight) }
+{
+    match flight {
+        CallPlace::Begun(op) => tell_begun(text, machine, cpu, op),
+        CallPlace::ScanLoad(slot) => tell_slot(text, machine, slot),
+        CallPlace::ScanTry(slot, from) => {
+            let act = open_at(from, machine.config.max_issues);
+            tell_try(text, machine, slot, from, act)
+        }
+        CallPlace::SpeculateLoad(id, _) => tell_slot(text, machine, id.slot()),
+        CallPlace::SpeculateTry(id, _, from) => {
+            let act = speculate_at(from, id, is_marked(machine, cpu, id));
+            tell_try(text, machine, id.slot(), from, act)
+        }
+        CallPlace::CommitLoad(id) => tell_slot(text, machine, id.slot()),
+        CallPlace::CommitTry(id, from) => {
+            let act = commit_at(from, id, is_marked(machine, cpu, id));
+            tell_try(text, machine, id.slot(), from, act)
+        }
+        CallPlace::CommitRelease(id, _) => write!(text, "releases slot {}", id.slot()),
+        CallPlace::DiscardLoad(id) => tell_slot(text, machine, id.slot()),
+        CallPlace::DiscardTry(id, from) => {
+            let act = discard_at(from, id, is_marked(machine, cpu, id));
+            tell_try(text, machine, id.slot(), from, act)
+        }
+        CallPlace::ServicePop => tell_pop(text, spare_of(machine, cpu)),
+        CallPlace::ServicePush => text.push_str("pushes the batch"),
+        CallPlace::ServiceLoad(slot, _) => tell_slot(text, machine, slot),
+        CallPlace::ServiceStore(slot, _, _) => {
+            write!(text, "stores its acknowledgement of slot {slot}")
+        }
+    }
+}
+
+/// The first step of the consumer's call.
+fn tell_consumer_begun<S: Schema, B: TraceBuffer<S>>(
+    text: &mut String,
+    machine: &Machine<S, B>,
+    op: ConsumerOp,
+) -> Result<(), AllocError>
+    requires tellable { IsTellable B.has B.capacity machine.now }
+    requires about { is_about machine.now.config op ≡ true }
+    ensures { OnOk result (string_bytes text.new ≡ string_bytes text.old
+        ++ consumer_begun_told (history machine.now) (state_of machine.now).progresses op) }
+{
+    match op {
+        ConsumerOp::Ask(cpu) => write!(text, "stores the ask of cpu {cpu}"),
+        ConsumerOp::Take(cpu) => tell_take(text, spare_of(machine, cpu), cpu),
+        ConsumerOp::GiveBack(cpu) => tell_give_back(text, spare_of(machine, cpu), cpu),
+        ConsumerOp::Clean => tell_slot(text, machine, 1),
+        ConsumerOp::Stop => text.push_str("stores the stop"),
+    }
+}
+
+#[tactic(auto, unfolding(crate::specs::Told::ack_head))]
+fn tell_ack_head(text: &mut String, cpu: u32) -> Result<(), AllocError>
+    ensures { OnOk result (string_bytes text.new ≡ string_bytes text.old ++ ack_head cpu) }
+{
+    write!(text, "loads whether cpu {cpu} acknowledged ")
+}
+
+fn tell_id(text: &mut String, id: SpecId) -> Result<(), AllocError>
+    ensures { OnOk result (string_bytes text.new ≡ string_bytes text.old ++ decimal (id_number id)) }
+{
+    let number = id.raw();
+    write!(text, "{number}")
+}
+
+/// The load of an acknowledgement of a speculation.
+fn tell_ack(text: &mut String, cpu: u32, id: SpecId, there: bool) -> Result<(), AllocError>
+    ensures { OnOk result (string_bytes text.new ≡ string_bytes text.old ++ ack_told cpu id there) }
+{
+    tell_ack_head(text, cpu)?;
+    tell_id(text, id)?;
+    if there {
+        return text.push_str(": yes");
+    }
+    text.push_str(": no")
+}
+
+/// The next step of the consumer's call.
+fn tell_consumer<S: Schema, B: TraceBuffer<S>>(
+    text: &mut String,
+    machine: &Machine<S, B>,
+    flight: ConsumerFlight,
+) -> Result<(), AllocError>
+    requires tellable { IsTellable B.has B.capacity machine.now }
+    requires told { ConsumerCanBeTold machine.now.config flight }
+    ensures { OnOk result (string_bytes text.new ≡ string_bytes text.old ++ consumer_told (history machine.now) (state_of machine.now).progresses flight) }
+{
+    match flight {
+        ConsumerFlight::Begun(op) => tell_consumer_begun(text, machine, op),
+        ConsumerFlight::CleanLoad(slot, _) => tell_slot(text, machine, slot),
+        ConsumerFlight::CleanAck(slot, word, cpu, _) => {
+            let id = SpecId::of(word.issue(), slot);
+            tell_ack(text, cpu, id, word.issue() < ack(machine, cpu, slot))
+        }
+        ConsumerFlight::CleanReap(slot, word, _) => {
+            tell_try(text, machine, slot, word, reap_at(word, true))
+        }
+    }
+}
+
+/// A call about a speculation, behind its name and a space.
+fn tell_about(text: &mut String, verb: &str, id: SpecId) -> Result<(), AllocError>
+    ensures { OnOk result (string_bytes text.new ≡ string_bytes text.old ++ (verb.now ++ decimal (id_number id))) }
+{
+    let number = id.raw();
+    write!(text, "{verb}{number}")
+}
+
+/// A call of a CPU, as a play's lines name it.
+fn tell_cpu_op(text: &mut String, op: CpuOp) -> Result<(), AllocError>
+    ensures { OnOk result (string_bytes text.new ≡ string_bytes text.old ++ cpu_op_text op) }
+{
+    match op {
+        CpuOp::Service => text.push_str("service"),
+        CpuOp::Trace(_) => text.push_str("trace"),
+        CpuOp::Speculation => text.push_str("speculation"),
+        CpuOp::Speculate(id, _) => tell_about(text, "speculate ", id),
+        CpuOp::Commit(id) => tell_about(text, "commit ", id),
+        CpuOp::Discard(id) => tell_about(text, "discard ", id),
+    }
+}
+
+/// A call of the consumer, as a play's lines name it.
+fn tell_consumer_op(text: &mut String, op: ConsumerOp) -> Result<(), AllocError>
+    ensures { OnOk result (string_bytes text.new ≡ string_bytes text.old ++ consumer_op_text op) }
+{
+    match op {
+        ConsumerOp::Clean => text.push_str("clean"),
+        ConsumerOp::Stop => text.push_str("stop"),
+        ConsumerOp::Ask(cpu) => write!(text, "ask {cpu}"),
+        ConsumerOp::Take(cpu) => write!(text, "take {cpu}"),
+        ConsumerOp::GiveBack(cpu) => write!(text, "giveback {cpu}"),
+    }
+}
+
+/// A call of a CPU, between what is told before it and its step.
+fn tell_cpu_name(text: &mut String, op: CpuOp) -> Result<(), AllocError>
+    ensures { OnOk result (string_bytes text.new ≡ string_bytes text.old ++ (codes " " ++ cpu_op_text op ++ codes ": ")) }
+{
+    text.push_str(" ")?;
+    tell_cpu_op(text, op)?;
+    text.push_str(": ")
+}
+
+/// The same of a call of the consumer.
+fn tell_consumer_name(text: &mut String, op: ConsumerOp) -> Result<(), AllocError>
+    ensures { OnOk result (string_bytes text.new ≡ string_bytes text.old ++ (codes " " ++ consumer_op_text op ++ codes ": ")) }
+{
+    text.push_str(" ")?;
+    tell_consumer_op(text, op)?;
+    text.push_str(": ")
+}
+
+/// The CPU's call; nothing where none is in flight.
+fn tell_cpu_call<S: Schema, B: TraceBuffer<S>>(
+    text: &mut String,
+    machine: &Machine<S, B>,
+    cpu: u32,
+) -> Result<(), AllocError>
+    requires shown { IsShownMachine B.has B.capacity machine.now }
+    requires cpu { cpu < machine.now.config.cpus }
+    ensures { OnOk result (string_bytes text.new ≡ string_bytes text.old ++ cpu_call_told (progress_of (state_of machine.now).progresses cpu).flight) }
+{
+    match machine.cpus[cpu as usize].progress.flight {
+        None => Ok(()),
+        Some(flight) => tell_cpu_name(text, flight.op()),
+    }
+}
+
+/// The consumer's call; nothing where none is in flight.
+fn tell_consumer_call<S: Schema, B: TraceBuffer<S>>(
+    text: &mut String,
+    machine: &Machine<S, B>,
+) -> Result<(), AllocError>
+    ensures { OnOk result (string_bytes text.new ≡ string_bytes text.old ++ consumer_call_told machine.now.consumer.flight) }
+{
+    match machine.consumer.flight {
+        None => Ok(()),
+        Some(flight) => tell_consumer_name(text, flight.op()),
+    }
+}
+
+/// The next step of the CPU; nothing where no call is in flight.
+#[tactic(auto, using(crate::proofs::Tellable::kept_tells, crate::proofs::Tellable::cpu_can_be_told))]
+fn tell_cpu_step<S: Schema, B: TraceBuffer<S>>(
+    text: &mut String,
+    machine: &Machine<S, B>,
+    cpu: u32,
+) -> Result<(), AllocError>
+    requires kept { WorldInvariant B.has B.capacity S.shape_of S.accepted machine.now }
+    requires cpu { cpu < machine.now.config.cpus }
+    ensures { OnOk result (string_bytes text.new ≡ string_bytes text.old ++ cpu_flight_told cpu (state_of machine.now) (progress_of (state_of machine.now).progresses cpu).flight) }
+{
+    match machine.cpus[cpu as usize].progress.flight {
+        None => Ok(()),
+        Some(flight) => tell_cpu(text, machine, cpu, flight),
+    }
+}
+
+/// The next step of the consumer; nothing where no call is in flight.
+#[tactic(auto, using(crate::proofs::Tellable::kept_tells, crate::proofs::Tellable::consumer_can_be_told))]
+fn tell_consumer_step<S: Schema, B: TraceBuffer<S>>(
+    text: &mut String,
+    machine: &Machine<S, B>,
+) -> Result<(), AllocError>
+    requires kept { WorldInvariant B.has B.capacity S.shape_of S.accepted machine.now }
+    ensures { OnOk result (string_bytes text.new ≡ string_bytes text.old ++ consumer_flight_told (state_of machine.now) machine.now.consumer.flight) }
+{
+    match machine.consumer.flight {
+        None => Ok(()),
+        Some(flight) => tell_consumer(text, machine, flight),
+    }
+}
+
+/// The actor's call, and its next step.
+pub(crate) fn tell_step<S: Schema, B: TraceBuffer<S>>(
+    text: &mut String,
+    machine: &Machine<S, B>,
+    actor: Actor,
+) -> Result<(), AllocError>
+    requires kept { WorldInvariant B.has B.capacity S.shape_of S.accepted machine.now }
+    requires exists { is_actor machine.now.config actor ≡ true }
+    ensures { OnOk result (string_bytes text.new ≡ string_bytes text.old ++ step_told actor (state_of machine.now)) }
+{
+    match actor {
+        Actor::Cpu(cpu) => {
+            tell_cpu_call(text, machine, cpu)?;
+            tell_cpu_step(text, machine, cpu)
+        }
+        Actor::Consumer => {
+            tell_consumer_call(text, machine)?;
+            tell_consumer_step(text, machine)
+        }
+    }
+}

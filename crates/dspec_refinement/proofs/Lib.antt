@@ -1,0 +1,3 @@
+pub mod SameDeeds
+pub mod SeatsDid
+pub mod ConsumerMakes

@@ -1,5 +1,0 @@
-use Rattle.std.proofs.Common.{◌≡◌}
-use Rattle.dspec_ring_tests.proofs.tests.crossing.take_waiting.Given as goal
-
-abbrev pub invariant-loop : goal.invariant-loop
-invariant-loop g l = (l.end.pair ≡ l.initial.end.pair) × (l.end.taken ≡ l.initial.end.taken)

@@ -1,3 +1,0 @@
-mod batches;
-mod crossing;
-mod moves;

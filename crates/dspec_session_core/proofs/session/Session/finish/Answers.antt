@@ -1,0 +1,66 @@
+use Rattle.std.proofs.Common.{◌<◌, ◌≤◌, ◌∙◌, length, sym, ap, subst}
+use Rattle.std.proofs.lemmas.List.{length-reverse}
+use Rattle.dspec_deeds.proofs.SetUp.{most_cpus}
+use Rattle.dspec_table.specs.Seats.{set_up}
+use Rattle.dspec_cpu.specs.Lists.{words_of}
+use Rattle.dspec_session_core.proofs.Ends.{none_in}
+use Rattle.dspec_session_core.proofs.Ending.{some_lists, begins_parting, finished}
+use Rattle.dspec_cpu.specs.Called.{CallsMade}
+use Rattle.dspec_session_core.specs.Consumers.{view_of}
+use Rattle.dspec_session_core.specs.Promised.{called_at, entered_at}
+use Rattle.dspec_session_core.specs.Sessions.{taken_at, worn_at}
+use Rattle.dspec_session_core.proofs.PromisedBy.{there_is, called_there, entered_there, same_worn, had_tells, promised_by}
+use Rattle.dspec_session_core.proofs.session.Session.finish.Goals as goal
+
+pub part_all-last-requires-clause-parting : goal.part_all-last-requires-clause-parting
+part_all-last-requires-clause-parting g c =
+    let s = c.requires.session in
+    let consumer = c.consumer.inside in
+    let lists = some_lists g.S.Schema.shape_of g.S.Schema.accepted g.S.Schema.text s.0 c.args.self s.1 c.all_stand.ensures in
+    let none = none_in consumer.seats.items consumer.seats.len consumer.seats.ok.0 c.consumer.invariant.seats.0 in (
+      s.0,
+      lists.0,
+      begins_parting g.S.Schema.shape_of g.S.Schema.accepted g.S.Schema.text s.0 c.args.self s.1 c.all_stand.ensures c.into_words.result consumer.seats.items record
+          { seat = consumer.seat; ends = consumer.ends.items } consumer.config
+          c.into_words.ensures none c.consumer.view_is c.consumer.invariant.all c.consumer.invariant.config lists.0 lists.1,
+    )
+
+pub returns-clause-closed : goal.returns-clause-closed
+returns-clause-closed g c = λ schema is.
+    let consumer = c.consumer.inside in
+    let none = none_in consumer.seats.items consumer.seats.len consumer.seats.ok.0 c.consumer.invariant.seats.0 in
+    let last = c.part_all-last in
+    finished g.S.Schema.shape_of g.S.Schema.accepted g.S.Schema.text schema c.args.self is c.all_stand.ensures c.into_words.result consumer.seats.items record
+    { seat = consumer.seat; ends = consumer.ends.items } consumer.config
+    c.into_words.ensures none c.consumer.view_is c.consumer.invariant.all c.consumer.invariant.config _ last.result.1.items c.reverse.new.self.items last.ensures.ended
+    (sym last.result.1.ok.0 ∙ (last.ensures.count ∙ c.args.self.cpus.ok.0)) last.ensures.left c.reverse.ensures.items
+
+pub returns-clause-promised : goal.returns-clause-promised
+returns-clause-promised g c = λ schema is.
+    let shape_of = g.S.Schema.shape_of in
+    let accepted = g.S.Schema.accepted in
+    let text = g.S.Schema.text in
+    let k = set_up (words_of c.args.self.shared) in
+    let cpus = c.args.self.cpus.items in
+    let lists = some_lists shape_of accepted text schema c.args.self is c.all_stand.ensures in
+    let closed = returns-clause-closed g c schema is lists.0 (λ n lt cpu at. lists.1 n cpu at) in
+    promised_by (shape_of schema) (accepted schema) (text schema) k (worn_at cpus) (taken_at c.args.self.consumer) (view_of c.args.self.consumer).own _ lists.0 closed.0 is.checked
+    closed.1
+    (entered_at cpus) (called_at cpus)
+    (λ n lt.
+    let (cpu, at) = there_is cpus n (subst (λ m. n < m) (sym is.all) lt) in
+    (lists.1 n cpu at).own ∙ sym (entered_there cpus n cpu at))
+    (λ n lt.
+    let (cpu, at) = there_is cpus n (subst (λ m. n < m) (sym is.all) lt) in
+    had_tells shape_of accepted text n cpu (lists.0 n) (is.each n cpu at).number (lists.1 n cpu at) ∙ sym (ap (λ (x : CallsMade). x.done) (called_there cpus n cpu at)))
+    (λ n lt.
+    let (cpu, at) = there_is cpus n (subst (λ m. n < m) (sym is.all) lt) in
+    same_worn cpus n cpu at)
+
+pub invariant_of-result : goal.invariant_of-result
+invariant_of-result g c =
+    let session = c.requires.session.1 in
+    let last = c.part_all-last in
+    let count = sym last.result.1.ok.0 ∙ (last.ensures.count ∙ c.args.self.cpus.ok.0) in
+    let all = ap length c.reverse.ensures.items ∙ (length-reverse last.result.1.items ∙ (count ∙ session.all)) in
+    (subst (λ n. n ≤ 64) (sym all) (most_cpus (set_up (words_of c.args.self.shared)) session.checked), tt)

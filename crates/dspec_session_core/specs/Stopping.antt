@@ -1,0 +1,13 @@
+-- Cited by calls. What a stop does.
+use Rattle.std.specs.Prelude.{◌≡◌, ◌++◌}
+use Rattle.dspec_deeds.specs.History.{halted}
+use Rattle.dspec_table.specs.Acts.{at_stop}
+use Rattle.dspec_table.specs.Steps.{StoredActivity}
+use Rattle.dspec_session_core.specs.Consumers.{Consuming, view_of}
+
+-- One store, which enters a Halt unless the consumer's list has it.
+pub record Stopped (x y : Consuming) : Type 0 where
+  pub stored : StoredActivity (view_of x) (view_of y)
+  pub own : (view_of y).own ≡ at_stop (halted (view_of x).own) ++ (view_of x).own
+  pub asks : (view_of y).asks ≡ (view_of x).asks
+  pub ends : y.ends ≡ x.ends

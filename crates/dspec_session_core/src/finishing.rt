@@ -1,0 +1,55 @@
+ghost use Rattle.std.specs.Prelude.{◌≡◌, length};
+ghost use Rattle.dspec_table.specs.Seats.{set_up};
+ghost use Rattle.dspec_cpu.specs.Lists.{words_of};
+ghost use Rattle.dspec_session_core.specs.Closing.{IsClosedBy};
+ghost use Rattle.dspec_session_core.specs.Consumers.{view_of};
+ghost use Rattle.dspec_session_core.specs.Promised.{IsPromisedBy, called_at, entered_at};
+ghost use Rattle.dspec_session_core.specs.Sessions.{HasAt, IsSession, taken_at, worn_at};
+
+use crate::closed::Closed;
+use crate::consumer::Consumer;
+use crate::parting::{all_stand, part_all};
+use crate::session::Session;
+use dspec_cpu::{Cpu, Listed};
+use dspec_record::Schema;
+
+impl<S: Schema> Session<S> {
+    /// Ends the session, once none of its calls is under way: the CPUs settle what was decided and waits for them, and what nobody
+    /// took is handed out with their reports. It takes no memory.
+    pub fn finish(self) -> Closed
+        requires session { (schema : S) × IsSession schema self }
+        ensures all { length result ≡ (set_up (words_of self.shared)).cpus }
+        ensures closed { (schema : S) → IsSession schema self
+            → IsClosedBy (S.shape_of schema) (S.accepted schema) (S.text schema) (set_up (words_of self.shared))
+            (HasAt ⟦<Cpu<S> as Listed>⟧.has_list self.cpus.items) (worn_at self.cpus.items) (taken_at self.consumer) (view_of self.consumer).own result }
+        ensures promised { (schema : S) → IsSession schema self
+            → IsPromisedBy (S.shape_of schema) (S.accepted schema) (S.text schema) (set_up (words_of self.shared))
+            (entered_at self.cpus.items) (view_of self.consumer).own (called_at self.cpus.items) (taken_at self.consumer) result }
+    {
+        let Session {
+            shared,
+            cpus,
+            consumer,
+        } = self;
+        all_stand(&cpus);
+        let Consumer {
+            config: _,
+            seat,
+            ends,
+            seats,
+            parted,
+            left,
+        } = consumer;
+        let (_last, mut left) = part_all(
+            shared.into_words(),
+            cpus,
+            ends,
+            seats,
+            parted,
+            seat,
+            left,
+        );
+        left.reverse();
+        Closed { left }
+    }
+}

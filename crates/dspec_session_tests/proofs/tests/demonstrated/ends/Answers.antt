@@ -1,8 +1,0 @@
--- What was demonstrated is a session of its schema.
-use Rattle.std.proofs.Common.{sym, subst}
-use Rattle.dspec_record.specs.EnablingRows.{EnabledRows}
-use Rattle.dspec_consumer.specs.Sessions.{IsSession}
-use Rattle.dspec_session_tests.proofs.tests.demonstrated.ends.Goals as goal
-
-pub is_stopped-requires : goal.is_stopped-requires
-is_stopped-requires g c = subst (λ (s : EnabledRows). IsSession s c.args.shown.session) (sym c.requires.schema) c.requires.session

@@ -1,9 +1,0 @@
-use Rattle.std.proofs.Common.{refl}
-use Rattle.dspec_consumer.proofs.Callings.{consumer_called}
-use Rattle.dspec_session_tests.proofs.tests.staging.Stage.refuses.Goals as goal
-
-pub returns : goal.returns
-returns g c =
-    record {
-      session = consumer_called _ c.args.self.now.session _ c.requires.session c.comes_back-back.ensures.session c.comes_back-back.ensures.same refl refl;
-    }

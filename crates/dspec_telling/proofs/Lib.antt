@@ -1,4 +1,0 @@
-pub mod Further
-pub mod Buffers
-pub mod Tellable
-pub mod Runs

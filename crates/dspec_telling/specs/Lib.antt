@@ -1,6 +1,0 @@
-pub mod Attempts
-pub mod Tellable
-pub mod Room
-pub mod Words
-pub mod Told
-pub mod Steps

@@ -1,0 +1,47 @@
+-- What is read of a session that was traced, by what it promises of the batches that its sink got.
+use Rattle.std.proofs.Common.{◌≡◌, ◌<◌, ℕ, List, [], ◌∷◌, ◌∙◌, append_assoc, slice_get, Some, subst, sym}
+use Rattle.dspec_record.specs.EnablingRows.{EnabledRows}
+use Rattle.dspec_record.specs.Schemas.{enabled, table_accepts, table_shape, table_text}
+use Rattle.dspec_deeds.specs.declared.config.Config.{Config}
+use Rattle.dspec_ring.specs.declared.batch.Batch.{Batch}
+use Rattle.dspec_cpu.specs.Called.{CallsMade}
+use Rattle.dspec_cpu.specs.Sealed.{waiting}
+use Rattle.dspec_session_core.specs.declared.left.Left.{Left}
+use Rattle.dspec.specs.Passed.{passed_from}
+use Rattle.dspec_trace_reading.specs.AsTaken.{HaveNumbers}
+use Rattle.dspec_trace_reading.specs.Laws.{KeptIsRead, ListedBy, TakenIsRead, TimedIsRead, TracedBy}
+use Rattle.dspec_trace_reading.proofs.Filing.{FilesLaws}
+use Rattle.dspec_trace_reading.proofs.Folding.{Holds}
+use Rattle.dspec_trace_reading.proofs.OwnNumbers.{Numbered, have_numbers, is_there, taken_numbered}
+use Rattle.dspec_trace_reading.proofs.Partly.{reads_kept}
+use Rattle.dspec_trace_reading.proofs.TimedWhole.{reads_by_time}
+use Rattle.dspec_trace_reading.proofs.Whole.{FilesRead, MetadataReads, reads_back}
+
+module _ (e : EnabledRows) (does : ℕ → CallsMade → CallsMade → Type 0) where
+  module _ {K : Type 0} (gets : K → Batch → K → Type 0) (k : Config) (begun : K) (left : List Left) (ended : K) (t : TracedBy e does gets k begun left ended) where
+    -- by the lists that the session has
+    numbered : ListedBy e does gets k begun left ended → HaveNumbers t.passed
+    numbered h = have_numbers k.cpus t.passed t.from (λ d lt.
+        let found = is_there left d (subst (λ n. d < n) (sym h.closes.all) lt) in
+        subst (λ bs. Numbered d bs) (sym (t.whole d found.0 found.1))
+        (taken_numbered (table_shape e.header (enabled e.rows)) (table_accepts e.header (enabled e.rows)) (table_text e.header (enabled e.rows)) k d (t.promised.own d) (t.entered d) (t.taken d)
+        found.0 (t.promised.sealed d found.0 found.1) (h.closes.each d found.0 found.1).last.of_cpu))
+
+    held : (c : ℕ) (l : Left) (there : slice_get left c ≡ Some l) → Holds e (passed_from c t.passed) (t.promised.each c l there).seen
+    held c l there =
+        subst (λ bs. Holds e bs (t.promised.each c l there).seen) (append_assoc (t.taken c) (waiting l.rest) (l.last ∷ []) ∙ sym (t.whole c l there)) (t.promised.each c l there).hold
+
+  pub taken_read : MetadataReads → FilesRead → TakenIsRead e does
+  taken_read metadata files origin names k begun ended left is t h none long numbers small short =
+      reads_back metadata files origin e names begun ended is t.passed t.got none left (λ c l there. (t.promised.each c l there).seen) long numbers small
+      (numbered _ k begun left ended t h) short (held _ k begun left ended t)
+
+  pub kept_read : MetadataReads → FilesRead → KeptIsRead e does
+  kept_read metadata files origin names k begun ended left is t h long numbers small short =
+      reads_kept metadata files origin e names begun ended is t.passed t.got left (λ c l there. (t.promised.each c l there).seen) long numbers small
+      (numbered _ k begun left ended t h) short (held _ k begun left ended t)
+
+  pub timed_read : MetadataReads → FilesLaws → TimedIsRead e does
+  timed_read metadata laws origin hertz names k begun ended left is t h none long numbers small short =
+      reads_by_time metadata laws origin hertz e names begun ended is t.passed t.got none left (λ c l there. (t.promised.each c l there).seen) long numbers small
+      (numbered _ k begun left ended t h) short (held _ k begun left ended t)

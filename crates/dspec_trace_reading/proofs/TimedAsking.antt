@@ -1,0 +1,95 @@
+-- What one batch asks of a folder by time, where nothing is lost.
+use Rattle.std.proofs.Common.{◌≡◌, ◌≢◌, ◌<◌, ◌+◌, ℕ, ◌⊎◌, inl, inr, List, [], ◌∷◌, ◌++◌, Some, None, get_or, sym, ap, ◌∙◌, subst, length, length-set, slice_index}
+use Rattle.std.proofs.lemmas.List.{get_or-set_same, get_or-set_other}
+use Rattle.std.proofs.lemmas.Option.{slice_get_within, get_or_from_slice_get}
+use Rattle.dspec_record.specs.EnablingRows.{EnabledRows}
+use Rattle.dspec_ring.specs.declared.batch.Batch.{Batch}
+use Rattle.dspec.specs.Passed.{Passed, GotAll}
+use Rattle.dspec_ctf.specs.Rows.{run_packets}
+use Rattle.dspec_ctf_sink.specs.Timed.{AddsBatch, GetsRuns, LosesBatch, TimedTracing, row_name}
+use Rattle.dspec_ctf_sink.specs.Writes.{FileWrite, file_of}
+use Rattle.dspec_trace_reading.specs.ByTime.{missed_by_time}
+use Rattle.dspec_trace_reading.proofs.Asking.{some_lost}
+use Rattle.dspec_trace_reading.proofs.Taking.{Telling, row_writes, stays_elsewhere, telling, took_all}
+
+-- the last stamps of a CPU's files
+abbrev pub lasts_of : TimedTracing → ℕ → List ℕ
+lasts_of t c = get_or t.lasts c []
+
+module _ (e : EnabledRows) where
+  -- the batch was written whole
+  pub came : (old new : TimedTracing) (b : Batch) → GetsRuns e old b new → new.lost ≡ None → AddsBatch e old b new
+  came old new b gets none = go gets.came where
+    go : AddsBatch e old b new ⊎ LosesBatch e old b new → AddsBatch e old b new
+    go (inl adds) = adds
+    go (inr loses) = absurd (some_lost old.lost loses.loss (sym loses.lost ∙ none))
+
+  pub none_before : (bs : List Passed) (old new : TimedTracing) → GotAll (GetsRuns e) old bs new → new.lost ≡ None → old.lost ≡ None
+  none_before [] old new got none = ap (λ (t : TimedTracing). t.lost) got ∙ none
+  none_before (x ∷ xs) old new (mid, gets, rest) none =
+      let then = none_before xs mid new rest none in
+      sym (came old mid x.batch gets then).lost ∙ then
+
+  module _ (old new : TimedTracing) (b : Batch) (adds : AddsBatch e old b new) where
+    -- what the place was asked for then
+    tells : Telling old.uuid adds.files.told (adds.before + b.drops) b.cpu adds.files.lasts adds.files.written adds.added.mid
+    tells = telling old.uuid adds.files.told (adds.before + b.drops) b.cpu adds.files.lasts adds.files.written adds.added.mid adds.added.tells
+
+    run_parts : List (ℕ × List ℕ)
+    run_parts = run_packets old.uuid e (adds.before + b.drops) b.cpu adds.added.read 0 adds.added.added.runs
+
+    pub writes_then : List FileWrite → List FileWrite
+    writes_then was = (was ++ row_writes b.cpu tells.packets) ++ row_writes b.cpu run_parts
+
+    pub asked_then : (was : List FileWrite) → old.written ≡ Some was → new.written ≡ Some (writes_then was)
+    unfolding writes_then run_parts
+    asked_then was asked =
+        adds.changes.written
+        ∙ took_all b.cpu run_parts adds.added.mid adds.after.written (was ++ row_writes b.cpu tells.packets)
+        (took_all b.cpu tells.packets adds.files.written adds.added.mid was (adds.has.written ∙ asked) tells.takes) adds.added.added.taken
+
+    pub stays_then : (name : List ℕ) → ((file : ℕ) → row_name b.cpu file ≢ name) → (was : List FileWrite) → file_of name (writes_then was) ≡ file_of name was
+    unfolding writes_then
+    stays_then name apart was =
+        stays_elsewhere b.cpu name apart (was ++ row_writes b.cpu tells.packets) run_parts ∙ stays_elsewhere b.cpu name apart was tells.packets
+
+    -- what is known of the CPU's files
+    within : b.cpu < length old.missed
+    within = slice_get_within old.missed b.cpu adds.before adds.has.missed
+
+    pub few : length old.missed ≡ 64 → b.cpu < 64
+    few wide = subst (λ n. b.cpu < n) wide within
+
+    pub stays_wide : length old.missed ≡ 64 → length new.missed ≡ 64
+    stays_wide wide = ap length adds.missed ∙ length-set old.missed b.cpu (adds.before + b.drops) ∙ wide
+
+    pub missed_here : missed_by_time new b.cpu ≡ adds.before + b.drops
+    missed_here = ap (λ (xs : List ℕ). slice_index xs b.cpu) adds.missed ∙ get_or-set_same old.missed b.cpu (adds.before + b.drops) 0 within
+
+    pub missed_before : adds.before ≡ missed_by_time old b.cpu
+    missed_before = sym (get_or_from_slice_get old.missed b.cpu adds.before 0 adds.has.missed)
+
+    pub missed_elsewhere : (c : ℕ) → b.cpu ≢ c → missed_by_time new c ≡ missed_by_time old c
+    missed_elsewhere c apart = ap (λ (xs : List ℕ). slice_index xs c) adds.missed ∙ get_or-set_other old.missed b.cpu c (adds.before + b.drops) 0 (λ s. apart (sym s))
+
+    pub told_here : slice_index new.told b.cpu ≡ adds.before + b.drops
+    told_here =
+        ap (λ (xs : List ℕ). slice_index xs b.cpu) adds.changes.told
+        ∙ get_or-set_same old.told b.cpu adds.after.told 0 (slice_get_within old.told b.cpu adds.files.told adds.has.told) ∙ adds.added.told
+
+    pub told_before : adds.files.told ≡ slice_index old.told b.cpu
+    told_before = sym (get_or_from_slice_get old.told b.cpu adds.files.told 0 adds.has.told)
+
+    pub told_elsewhere : (c : ℕ) → b.cpu ≢ c → slice_index new.told c ≡ slice_index old.told c
+    told_elsewhere c apart = ap (λ (xs : List ℕ). slice_index xs c) adds.changes.told ∙ get_or-set_other old.told b.cpu c adds.after.told 0 (λ s. apart (sym s))
+
+    pub lasts_here : lasts_of new b.cpu ≡ adds.after.lasts
+    lasts_here =
+        ap (λ (xs : List (List ℕ)). get_or xs b.cpu []) adds.changes.lasts
+        ∙ get_or-set_same old.lasts b.cpu adds.after.lasts [] (slice_get_within old.lasts b.cpu adds.files.lasts adds.has.lasts)
+
+    pub lasts_before : adds.files.lasts ≡ lasts_of old b.cpu
+    lasts_before = sym (get_or_from_slice_get old.lasts b.cpu adds.files.lasts [] adds.has.lasts)
+
+    pub lasts_elsewhere : (c : ℕ) → b.cpu ≢ c → lasts_of new c ≡ lasts_of old c
+    lasts_elsewhere c apart = ap (λ (xs : List (List ℕ)). get_or xs c []) adds.changes.lasts ∙ get_or-set_other old.lasts b.cpu c adds.after.lasts [] (λ s. apart (sym s))

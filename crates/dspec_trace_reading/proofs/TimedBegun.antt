@@ -1,0 +1,101 @@
+-- A folder by time in which the metadata was written, and no packet yet.
+use Rattle.std.proofs.Common.{◌≡◌, ◌<◌, ◌≤◌, ◌^◌, ◌==◌, ◌∙◌, ℕ, zero, suc, Bool, true, false, cond, get_or, Option, List, [], ◌∷◌, Some, None, refl, sym, ap, subst, arith}
+use Rattle.std.proofs.Common.{length, codes, replicate, slice_index}
+use Rattle.std.proofs.lemmas.List.{append-nil}
+use Rattle.std.proofs.lemmas.List.Elements.{All-nil}
+use Rattle.dspec_record.specs.EnablingRows.{EnabledRows}
+use Rattle.dspec_record.specs.declared.header.Header.{Header}
+use Rattle.dspec_record.specs.declared.header.Header.TheVariants as header
+use Rattle.dspec_ctf.specs.Metadata.{origin_text}
+use Rattle.dspec_ctf.specs.Names.{earlier, form_fault, metadata_fault, origin_fault}
+use Rattle.dspec_ctf.specs.Rows.{told_by}
+use Rattle.dspec_ctf.specs.declared.form.Form.TheVariants.{ByTime}
+use Rattle.dspec_ctf.specs.declared.names.Names.{Names}
+use Rattle.dspec_ctf.specs.declared.origin.Origin.{Origin}
+use Rattle.dspec_ctf_reading.specs.Files.{FileTells}
+use Rattle.dspec_ctf_reading.specs.Layouts.{layout_of}
+use Rattle.dspec_ctf_reading.specs.Reading.{PacketRead}
+use Rattle.dspec_ctf_sink.specs.Timed.{IsTimedBegun, TimedTracing, row_name}
+use Rattle.dspec_ctf_sink.specs.Writes.{FileWrite, brought_to, file_of}
+use Rattle.dspec_ctf_sink.proofs.Written.{brought_elsewhere, brought_whole}
+use Rattle.dspec_trace_reading.specs.ByTime.{missed_by_time}
+use Rattle.dspec_trace_reading.proofs.Asking.{took}
+use Rattle.dspec_trace_reading.proofs.Begun.{all_zero}
+use Rattle.dspec_trace_reading.proofs.RowNaming.{row_not_metadata}
+use Rattle.dspec_trace_reading.proofs.TimedAsking.{lasts_of}
+use Rattle.dspec_trace_reading.proofs.TimedFolding.{Stands}
+
+all_empty : (n i : ℕ) (d : List ℕ) → get_or (replicate n d) i d ≡ d
+all_empty zero i d = refl
+all_empty (suc n) zero d = refl
+all_empty (suc n) (suc i) d = all_empty n i d
+
+told_same : (b : Bool) (n : ℕ) → cond b n n ≡ n
+told_same true n = refl
+told_same false n = refl
+
+first_none : {A : Type 0} (o later : Option A) → earlier o later ≡ None → o ≡ None
+first_none None later e = refl
+first_none (Some x) later e = e
+
+-- the write of the metadata
+abbrev pub timed_first : Origin → ℕ → EnabledRows → Names → FileWrite
+timed_first origin hertz e names = record { name = codes "metadata"; bytes = origin_text origin (ByTime hertz) e names; refused = None }
+
+module _ (origin : Origin) (hertz : ℕ) (e : EnabledRows) (names : Names) where
+  -- where it could be written, records have stamps
+  without_stamps : (h : Header) → e.header ≡ h → origin_fault origin (ByTime hertz) e names ≡ None → e.header ≡ header.Two
+  unfolding origin_fault metadata_fault form_fault
+  without_stamps header.Two is none = is
+  without_stamps header.One is none =
+      let form : form_fault (ByTime hertz) e.header ≡ None = first_none (form_fault (ByTime hertz) e.header) _ (first_none (metadata_fault (ByTime hertz) e names) _ none) in
+      let clash : form_fault (ByTime hertz) header.One ≡ None = subst (λ h. form_fault (ByTime hertz) h ≡ None) is form in
+      absurd (cc (clash))
+
+  pub stamped : origin_fault origin (ByTime hertz) e names ≡ None → e.header ≡ header.Two
+  stamped none = without_stamps e.header refl none
+
+  pub metadata_is : file_of (codes "metadata") (timed_first origin hertz e names ∷ []) ≡ origin_text origin (ByTime hertz) e names
+  metadata_is =
+      append-nil (brought_to (codes "metadata") (timed_first origin hertz e names)) ∙ brought_whole (codes "metadata") (codes "metadata") (origin_text origin (ByTime hertz) e names) refl
+
+  nothing_yet : (c file : ℕ) → file_of (row_name c file) (timed_first origin hertz e names ∷ []) ≡ []
+  nothing_yet c file =
+      append-nil (brought_to (row_name c file) (timed_first origin hertz e names)) ∙ brought_elsewhere (row_name c file) (timed_first origin hertz e names) (λ s. row_not_metadata c file (sym s))
+
+  module _ (begun : TimedTracing) (is : IsTimedBegun origin hertz e names (Some []) begun) where
+    pub asked : begun.written ≡ Some (timed_first origin hertz e names ∷ [])
+    asked = took (Some []) begun.written [] (codes "metadata") (origin_text origin (ByTime hertz) e names) refl is.written
+
+    pub none_missed : (c : ℕ) → missed_by_time begun c ≡ 0
+    none_missed c = ap (λ (xs : List ℕ). slice_index xs c) is.missed ∙ all_zero 64 c
+
+    none_told : (c : ℕ) → slice_index begun.told c ≡ 0
+    none_told c = ap (λ (xs : List ℕ). slice_index xs c) is.told ∙ all_zero 64 c
+
+    no_lasts : (c : ℕ) → lasts_of begun c ≡ []
+    no_lasts c = ap (λ (xs : List (List ℕ)). get_or xs c []) is.lasts ∙ all_empty 64 c []
+
+    -- no file tells anything
+    pub begins : (uuid : List ℕ) (c : ℕ) → Stands uuid e names hertz c begun []
+    begins uuid c = record {
+      told = none_told c ∙ sym (none_missed c);
+      filed = record {
+        writes = timed_first origin hertz e names ∷ [];
+        asked = asked;
+        few = subst (λ (xs : List ℕ). length xs ≤ 64) (sym (no_lasts c)) (omega arith);
+        first = subst (λ (xs : List ℕ). slice_index xs 0 < 2 ^ 64) (sym (no_lasts c)) (omega arith);
+        files = [];
+        each = refl;
+        below = All-nil (λ file. file < 64);
+        tells = λ file few.
+            subst (λ n. FileTells (layout_of e names (ByTime hertz)) uuid c (file_of (row_name c file) (timed_first origin hertz e names ∷ [])) [] (told_by file n)) (sym (none_missed c))
+            (subst (λ xs. FileTells (layout_of e names (ByTime hertz)) uuid c xs [] (told_by file 0)) (sym (nothing_yet c file)) (record {
+              packets = [];
+              read = refl;
+              has = refl;
+              misses = sym (told_same (file == 0) 0);
+              whose = All-nil (λ (p : PacketRead). (p.uuid ≡ uuid) × (p.cpu ≡ c));
+            }));
+      };
+    }

@@ -1,0 +1,151 @@
+-- What all batches of a session bring to one CPU's files by time, where nothing is lost.
+use Rattle.std.proofs.Common.{◌≡◌, ◌≢◌, ◌<◌, ◌≤◌, ◌+◌, ◌^◌, ◌==◌, ℕ, Bool, true, false, if◌then◌else◌, List, [], ◌∷◌, ◌++◌, Some, None, refl, sym, ap, ◌∙◌, subst, arith}
+use Rattle.std.proofs.Common.{length, map, codes, append_assoc, slice_index}
+use Rattle.std.proofs.lemmas.List.{append-nil}
+use Rattle.std.proofs.lemmas.Bool.{eqb-true, eqb-false}
+use Rattle.dspec_record.specs.Record.{Record}
+use Rattle.dspec_record.specs.EnablingRows.{EnabledRows}
+use Rattle.dspec_record.specs.declared.header.Header.TheVariants as header
+use Rattle.dspec_ring.specs.declared.batch.Batch.{Batch}
+use Rattle.dspec.specs.Passed.{Passed, GotAll, passed_from}
+use Rattle.dspec_ctf.specs.Packets.{events}
+use Rattle.dspec_ctf.specs.Rows.{of_file, told_by}
+use Rattle.dspec_ctf.specs.Streams.{IsText}
+use Rattle.dspec_ctf.specs.declared.form.Form.TheVariants.{ByTime}
+use Rattle.dspec_ctf.specs.declared.names.Names.{Names}
+use Rattle.dspec_ctf_reading.specs.Files.{FileTells}
+use Rattle.dspec_ctf_reading.specs.Layouts.{event_of, layout_of}
+use Rattle.dspec_ctf_sink.specs.Timed.{AddsAll, AddsBatch, GetsRuns, TellsMissed, TimedTracing, row_name}
+use Rattle.dspec_ctf_sink.specs.Writes.{FileWrite, file_of}
+use Rattle.dspec_trace_reading.specs.AsTaken.{AreShort, HaveNumbers, drops_carried}
+use Rattle.dspec_trace_reading.specs.ByTime.{missed_by_time}
+use Rattle.dspec_trace_reading.proofs.Filing.{Filed, FilesLaws, add, tell}
+use Rattle.dspec_trace_reading.proofs.Folding.{Holds, all_accepted, one_text}
+use Rattle.dspec_trace_reading.proofs.RowNaming.{cpus_differ, row_not_metadata}
+use Rattle.dspec_trace_reading.proofs.TimedAsking.{asked_then, came, few, lasts_before, lasts_elsewhere, lasts_here, lasts_of, missed_before, missed_elsewhere, missed_here, none_before}
+use Rattle.dspec_trace_reading.proofs.TimedAsking.{stays_then, stays_wide, told_before, told_elsewhere, told_here, writes_then}
+
+module _ (e : EnabledRows) where
+  -- the place took writes, which left the metadata's file as it was
+  abbrev pub TimedStays : TimedTracing → List FileWrite → Type 0
+  TimedStays new was = (writes : List FileWrite) × ((new.written ≡ Some writes) × (file_of (codes "metadata") writes ≡ file_of (codes "metadata") was))
+
+  pub metadata_stays : (bs : List Passed) (old new : TimedTracing) (was : List FileWrite) → GotAll (GetsRuns e) old bs new → new.lost ≡ None → old.written ≡ Some was → TimedStays new was
+  metadata_stays [] old new was got none asked = (was, (ap (λ (t : TimedTracing). t.written) (sym got) ∙ asked, refl))
+  metadata_stays (x ∷ xs) old new was (mid, gets, rest) none asked =
+      let adds = came e old mid x.batch gets (none_before e xs mid new rest none) in
+      let all = metadata_stays xs mid new (writes_then e old mid x.batch adds was) rest none (asked_then e old mid x.batch adds was asked) in
+      (all.0, (all.1.0, all.1.1 ∙ stays_then e old mid x.batch adds (codes "metadata") (λ file. row_not_metadata x.batch.cpu file) was))
+
+  -- what a CPU missed in all is what its batches carried
+  module _ (c : ℕ) where
+    missed_with : (old mid new : TimedTracing) (x : Passed) (xs : List Passed) (adds : AddsBatch e old x.batch mid) → x.batch.cpu ≡ x.from
+        → missed_by_time new c ≡ missed_by_time mid c + drops_carried (passed_from c xs) → (q : Bool) → (x.from == c) ≡ q
+        → missed_by_time new c ≡ missed_by_time old c + drops_carried (if q then x.batch ∷ passed_from c xs else passed_from c xs)
+    missed_with old mid new x xs adds own more true is =
+        let here : x.batch.cpu ≡ c = own ∙ eqb-true x.from c is in
+        let one : missed_by_time mid c ≡ adds.before + x.batch.drops = subst (λ n. missed_by_time mid n ≡ adds.before + x.batch.drops) here (missed_here e old mid x.batch adds) in
+        let before : adds.before ≡ missed_by_time old c = subst (λ n. adds.before ≡ missed_by_time old n) here (missed_before e old mid x.batch adds) in
+        omega (arith, more, one, before)
+    missed_with old mid new x xs adds own more false is =
+        omega (arith, more, missed_elsewhere e old mid x.batch adds c (λ s. eqb-false x.from c is (sym own ∙ s)))
+
+    pub counted : (bs : List Passed) (old new : TimedTracing) → GotAll (GetsRuns e) old bs new → new.lost ≡ None → HaveNumbers bs
+        → missed_by_time new c ≡ missed_by_time old c + drops_carried (passed_from c bs)
+    counted [] old new got none own =
+        let same : missed_by_time old c ≡ missed_by_time new c = ap (λ (t : TimedTracing). missed_by_time t c) got in
+        omega (arith, same)
+    counted (x ∷ xs) old new (mid, gets, rest) none (own, owns) =
+        missed_with old mid new x xs (came e old mid x.batch gets (none_before e xs mid new rest none)) own (counted xs mid new rest none owns) (x.from == c) refl
+
+-- what is known of a CPU after some batches, of which this is its stream so far
+pub record Stands (uuid : List ℕ) (e : EnabledRows) (names : Names) (hertz c : ℕ) (t : TimedTracing) (stream : List Record) : Type 0 where
+  pub told : slice_index t.told c ≡ missed_by_time t c
+  pub filed : Filed uuid e names hertz c t.written (lasts_of t c) (missed_by_time t c) stream
+
+module _ (laws : FilesLaws) (uuid : List ℕ) (e : EnabledRows) (names : Names) (hertz c : ℕ) (low : c < 64) (long : length uuid ≡ 16) (stamped : e.header ≡ header.Two) where
+  -- a batch of another CPU changes nothing of it
+  passes : (old new : TimedTracing) (b : Batch) (adds : AddsBatch e old b new) (stream : List Record) → length old.missed ≡ 64 → b.cpu ≢ c
+      → Stands uuid e names hertz c old stream → Stands uuid e names hertz c new stream
+  passes old new b adds stream wide apart s =
+      let f = s.filed in
+      let missed : missed_by_time old c ≡ missed_by_time new c = sym (missed_elsewhere e old new b adds c apart) in
+      let lasts : lasts_of old c ≡ lasts_of new c = sym (lasts_elsewhere e old new b adds c apart) in
+      record {
+        told = told_elsewhere e old new b adds c apart ∙ s.told ∙ missed;
+        filed = record {
+          writes = writes_then e old new b adds f.writes;
+          asked = asked_then e old new b adds f.writes f.asked;
+          few = subst (λ (xs : List ℕ). length xs ≤ 64) lasts f.few;
+          first = subst (λ (xs : List ℕ). slice_index xs 0 < 2 ^ 64) lasts f.first;
+          files = f.files;
+          each = f.each;
+          below = f.below;
+          tells = λ file is.
+              subst (λ n. FileTells (layout_of e names (ByTime hertz)) uuid c (file_of (row_name c file) (writes_then e old new b adds f.writes))
+              (map (event_of e names (ByTime hertz)) (of_file file f.files stream)) (told_by file n)) missed
+              (subst (λ xs. FileTells (layout_of e names (ByTime hertz)) uuid c xs (map (event_of e names (ByTime hertz)) (of_file file f.files stream)) (told_by file (missed_by_time old c)))
+              (sym (stays_then e old new b adds (row_name c file) (λ g. cpus_differ b.cpu c g file (few e old new b adds wide) low apart) f.writes)) (f.tells file is));
+        };
+      }
+
+  -- a batch of the CPU brings its records behind those of the stream
+  goes_on : (old new : TimedTracing) (b : Batch) (adds : AddsBatch e old b new) (stream : List Record) → old.uuid ≡ uuid → b.cpu ≡ c → missed_by_time new c < 2 ^ 64
+      → ((read : List Record) → IsText e b.buffer.text read → length (events e read) < 2 ^ 60) → Stands uuid e names hertz c old stream
+      → Stands uuid e names hertz c new (stream ++ adds.added.read)
+  goes_on old new b adds stream u here small short s =
+      let missed : ℕ = adds.before + b.drops in
+      let read : List Record = adds.added.read in
+      let missed_is : missed_by_time new c ≡ missed = subst (λ n. missed_by_time new n ≡ missed) here (missed_here e old new b adds) in
+      let before_is : adds.before ≡ missed_by_time old c = subst (λ n. adds.before ≡ missed_by_time old n) here (missed_before e old new b adds) in
+      let told_was : adds.files.told ≡ slice_index old.told c = subst (λ n. adds.files.told ≡ slice_index old.told n) here (told_before e old new b adds) in
+      let told_is : slice_index new.told c ≡ missed = subst (λ n. slice_index new.told n ≡ missed) here (told_here e old new b adds) in
+      let lasts_was : adds.files.lasts ≡ lasts_of old c = subst (λ n. adds.files.lasts ≡ lasts_of old n) here (lasts_before e old new b adds) in
+      let lasts_is : lasts_of new c ≡ adds.after.lasts = subst (λ n. lasts_of new n ≡ adds.after.lasts) here (lasts_here e old new b adds) in
+      let first : Filed uuid e names hertz c adds.files.written adds.files.lasts adds.files.told stream =
+      subst (λ o. Filed uuid e names hertz c o adds.files.lasts adds.files.told stream) (sym adds.has.written)
+      (subst (λ xs. Filed uuid e names hertz c old.written xs adds.files.told stream) (sym lasts_was)
+      (subst (λ n. Filed uuid e names hertz c old.written (lasts_of old c) n stream) (sym (told_was ∙ s.told)) s.filed)) in
+      let tells : TellsMissed uuid adds.files.told missed c adds.files.lasts adds.files.written adds.added.mid =
+      subst (λ n. TellsMissed uuid adds.files.told missed n adds.files.lasts adds.files.written adds.added.mid) here
+      (subst (λ id. TellsMissed id adds.files.told missed b.cpu adds.files.lasts adds.files.written adds.added.mid) u adds.added.tells) in
+      let all : AddsAll uuid e missed c read 0 adds.files.lasts adds.added.mid adds.after.lasts adds.after.written =
+      subst (λ n. AddsAll uuid e missed n read 0 adds.files.lasts adds.added.mid adds.after.lasts adds.after.written) here
+      (subst (λ id. AddsAll id e missed b.cpu read 0 adds.files.lasts adds.added.mid adds.after.lasts adds.after.written) u adds.added.added) in
+      let told : Filed uuid e names hertz c adds.added.mid adds.files.lasts missed stream =
+      tell laws uuid e names hertz c low long stamped adds.files.written adds.added.mid adds.files.lasts adds.files.told missed stream (omega (arith, told_was, s.told, before_is))
+      (omega (arith, small, missed_is)) first tells in
+      let more : Filed uuid e names hertz c adds.after.written adds.after.lasts missed (stream ++ read) =
+      add laws uuid e names hertz c low long stamped adds.added.mid adds.after.written adds.files.lasts adds.after.lasts missed stream read (omega (arith, small, missed_is))
+      (short read adds.added.is_text) (all_accepted e read 0 b.buffer.text adds.added.is_text) told all in
+      record {
+        told = told_is ∙ sym missed_is;
+        filed = subst (λ o. Filed uuid e names hertz c o (lasts_of new c) (missed_by_time new c) (stream ++ read)) (sym adds.changes.written)
+            (subst (λ xs. Filed uuid e names hertz c adds.after.written xs (missed_by_time new c) (stream ++ read)) (sym lasts_is)
+            (subst (λ n. Filed uuid e names hertz c adds.after.written adds.after.lasts n (stream ++ read)) (sym missed_is) more));
+      }
+
+  one : (old mid new : TimedTracing) (x : Passed) (xs : List Passed) (adds : AddsBatch e old x.batch mid) (stream rest : List Record) → old.uuid ≡ uuid → length old.missed ≡ 64
+      → x.batch.cpu ≡ x.from → missed_by_time mid c < 2 ^ 64 → ((read : List Record) → IsText e x.batch.buffer.text read → length (events e read) < 2 ^ 60)
+      → ((so_far more : List Record) → Holds e (passed_from c xs) more → Stands uuid e names hertz c mid so_far → Stands uuid e names hertz c new (so_far ++ more))
+      → Stands uuid e names hertz c old stream → (q : Bool) → (x.from == c) ≡ q
+      → Holds e (if q then x.batch ∷ passed_from c xs else passed_from c xs) rest → Stands uuid e names hertz c new (stream ++ rest)
+  one old mid new x xs adds stream rest u wide own small short on s false is holds =
+      on stream rest holds (passes old mid x.batch adds stream wide (λ same. eqb-false x.from c is (sym own ∙ same)) s)
+  one old mid new x xs adds stream rest u wide own small short on s true is (ps, more, has, sum, holds) =
+      let read : List Record = adds.added.read in
+      let whole : rest ≡ read ++ more = sum ∙ ap (λ ys. ys ++ more) (sym (one_text e x.batch ps read has adds.added.is_text)) in
+      subst (λ rs. Stands uuid e names hertz c new (stream ++ rs)) (sym whole)
+      (subst (λ rs. Stands uuid e names hertz c new rs) (append_assoc stream read more)
+      (on (stream ++ read) more holds (goes_on old mid x.batch adds stream u (own ∙ eqb-true x.from c is) small short s)))
+
+  pub folded : (bs : List Passed) (old new : TimedTracing) (stream rest : List Record) → GotAll (GetsRuns e) old bs new → new.lost ≡ None → old.uuid ≡ uuid → length old.missed ≡ 64
+      → missed_by_time new c < 2 ^ 64 → HaveNumbers bs → AreShort e bs → Holds e (passed_from c bs) rest
+      → Stands uuid e names hertz c old stream → Stands uuid e names hertz c new (stream ++ rest)
+  folded [] old new stream rest got none u wide small own short hold s =
+      subst (λ t. Stands uuid e names hertz c t (stream ++ rest)) got (subst (λ rs. Stands uuid e names hertz c old rs) (sym (ap (λ ys. stream ++ ys) hold ∙ append-nil stream)) s)
+  folded (x ∷ xs) old new stream rest (mid, gets, after) none u wide small (own, owns) (short, shorts) hold s =
+      let adds = came e old mid x.batch gets (none_before e xs mid new after none) in
+      let below : missed_by_time mid c < 2 ^ 64 = omega (arith, counted e c xs mid new after none owns, small) in
+      one old mid new x xs adds stream rest u wide own below short
+      (λ so_far more holds so. folded xs mid new so_far more after none (gets.uuid ∙ u) (stays_wide e old mid x.batch adds wide) small owns shorts holds so) s (x.from == c) refl hold

@@ -1,0 +1,67 @@
+-- A folder that was written by time, and what is read of it.
+use Rattle.std.proofs.Common.{◌≡◌, ◌<◌, ◌^◌, ℕ, List, [], ◌∷◌, Some, None, sym, ap, ◌∙◌, subst, arith, length, map, slice_get}
+use Rattle.dspec_record.specs.Record.{Record}
+use Rattle.dspec_record.specs.EnablingRows.{EnabledRows}
+use Rattle.dspec_session_core.specs.declared.left.Left.{Left}
+use Rattle.dspec.specs.Passed.{Passed, GotAll, passed_from}
+use Rattle.dspec_ctf.specs.Rows.{of_file, told_by}
+use Rattle.dspec_ctf.specs.declared.form.Form.TheVariants.{ByTime}
+use Rattle.dspec_ctf.specs.declared.names.Names.{Names}
+use Rattle.dspec_ctf.specs.declared.origin.Origin.{Origin}
+use Rattle.dspec_ctf_reading.specs.Files.{FileTells}
+use Rattle.dspec_ctf_reading.specs.Layouts.{event_of, layout_of}
+use Rattle.dspec_ctf_reading.specs.ReadingMetadata.{read_metadata}
+use Rattle.dspec_ctf_reading.specs.ToldNumbers.{HasNumbers}
+use Rattle.dspec_ctf_sink.specs.Timed.{GetsRuns, IsTimedBegun, TimedTracing, row_name}
+use Rattle.dspec_ctf_sink.specs.Writes.{file_of}
+use Rattle.dspec_trace_reading.specs.AsTaken.{AreShort, HaveNumbers, drops_carried}
+use Rattle.dspec_trace_reading.specs.ByTime.{ReadsByTime, ReadsFiles, missed_by_time}
+use Rattle.dspec_trace_reading.proofs.Filing.{FilesLaws}
+use Rattle.dspec_trace_reading.proofs.Folding.{Holds}
+use Rattle.dspec_trace_reading.proofs.TimedBegun.{asked, begins, metadata_is, none_missed, stamped, timed_first}
+use Rattle.dspec_trace_reading.proofs.TimedFolding.{Stands, TimedStays, counted, folded, metadata_stays}
+use Rattle.dspec_trace_reading.proofs.Whole.{MetadataReads}
+
+module _ (metadata_law : MetadataReads) (laws : FilesLaws) (origin : Origin) (hertz : ℕ) (e : EnabledRows) (names : Names) (begun ended : TimedTracing)
+    (is : IsTimedBegun origin hertz e names (Some []) begun) (passed : List Passed) (got : GotAll (GetsRuns e) begun passed ended) (none : ended.lost ≡ None) where
+  all : TimedStays e ended (timed_first origin hertz e names ∷ [])
+  all = metadata_stays e passed begun ended (timed_first origin hertz e names ∷ []) got none (asked origin hertz e names begun is)
+
+  module _ (c : ℕ) (low : c < 64) (rs : List Record) (long : length origin.uuid ≡ 16) (small : missed_by_time ended c < 2 ^ 64) (own : HaveNumbers passed) (short : AreShort e passed)
+      (hold : Holds e (passed_from c passed) rs) where
+    stands : Stands origin.uuid e names hertz c ended rs
+    stands =
+        folded laws origin.uuid e names hertz c low long (stamped origin hertz e names is.allowed) passed begun ended [] rs got none is.uuid_is (ap length is.missed) small own short hold
+        (begins origin hertz e names begun is origin.uuid c)
+
+    missed_is : missed_by_time ended c ≡ drops_carried (passed_from c passed)
+    missed_is = omega (arith, counted e c passed begun ended got none own, none_missed origin hertz e names begun is c)
+
+    same_writes : stands.filed.writes ≡ all.0
+    same_writes =
+        let both : Some stands.filed.writes ≡ Some all.0 = sym stands.filed.asked ∙ all.1.0 in
+        cc (both)
+
+    files_read : ReadsFiles origin.uuid e names hertz c rs (drops_carried (passed_from c passed)) all.0
+    files_read = record {
+      files = stands.filed.files;
+      each = stands.filed.each;
+      few = stands.filed.below;
+      tells = λ file few.
+          subst (λ ws. FileTells (layout_of e names (ByTime hertz)) origin.uuid c (file_of (row_name c file) ws) (map (event_of e names (ByTime hertz)) (of_file file stands.filed.files rs))
+          (told_by file (drops_carried (passed_from c passed)))) same_writes
+          (subst (λ n. FileTells (layout_of e names (ByTime hertz)) origin.uuid c (file_of (row_name c file) stands.filed.writes)
+          (map (event_of e names (ByTime hertz)) (of_file file stands.filed.files rs)) (told_by file n)) missed_is
+          (stands.filed.tells file few));
+    }
+
+  pub reads_by_time : (left : List Left) (seen : (c : ℕ) (l : Left) → slice_get left c ≡ Some l → List Record) → length origin.uuid ≡ 16 → HasNumbers origin (ByTime hertz) e names
+      → ((c : ℕ) → missed_by_time ended c < 2 ^ 64) → HaveNumbers passed → AreShort e passed
+      → ((c : ℕ) (l : Left) (there : slice_get left c ≡ Some l) → Holds e (passed_from c passed) (seen c l there))
+      → ReadsByTime origin.uuid e names hertz left seen (λ c. passed_from c passed) ended.written
+  reads_by_time left seen long numbers small own short holds = record {
+    writes = all.0;
+    asked = all.1.0;
+    metadata = ap read_metadata (all.1.1 ∙ metadata_is origin hertz e names) ∙ metadata_law origin (ByTime hertz) e names is.allowed numbers;
+    streams = λ c l low there. files_read c low (seen c l there) long (small c) own short (holds c l there);
+  }

@@ -1,0 +1,39 @@
+-- Cited by calls. What is read of a folder that was written by time while a session ran.
+use Rattle.std.specs.Prelude.{ℕ, ◌≡◌, ◌<◌, slice_index, All, List, length, map, slice_get, codes, Option, Some}
+use Rattle.dspec_record.specs.Record.{Record}
+use Rattle.dspec_record.specs.EnablingRows.{EnabledRows}
+use Rattle.dspec_ring.specs.declared.batch.Batch.{Batch}
+use Rattle.dspec_session_core.specs.declared.left.Left.{Left}
+use Rattle.dspec_ctf.specs.Rows.{of_file, told_by}
+use Rattle.dspec_ctf.specs.declared.form.Form.TheVariants.{ByTime}
+use Rattle.dspec_ctf.specs.declared.names.Names.{Names}
+use Rattle.dspec_ctf_reading.specs.Files.{FileTells}
+use Rattle.dspec_ctf_reading.specs.Layouts.{event_of, layout_of}
+use Rattle.dspec_ctf_reading.specs.ReadingMetadata.{read_metadata}
+use Rattle.dspec_ctf_sink.specs.Timed.{TimedTracing, row_name}
+use Rattle.dspec_ctf_sink.specs.Writes.{FileWrite, file_of}
+use Rattle.dspec_trace_reading.specs.AsTaken.{drops_carried}
+
+-- how many events a CPU missed so far
+abbrev pub missed_by_time : TimedTracing → ℕ → ℕ
+missed_by_time t cpu = slice_index t.missed cpu
+
+-- A CPU's files: each record of its stream went to one of 64 files. What these writes leave of a file is read as the events of exactly the records that
+-- went to it, in order, of this trace and this CPU; and the first file alone tells what was missed.
+pub record ReadsFiles (uuid : List ℕ) (e : EnabledRows) (names : Names) (hertz c : ℕ) (stream : List Record) (missed : ℕ) (writes : List FileWrite) : Type 0 where
+  pub files : List ℕ
+  pub each : length files ≡ length stream
+  pub few : All (λ file. file < 64) files
+  pub tells : (file : ℕ) → file < 64 → FileTells (layout_of e names (ByTime hertz)) uuid c (file_of (row_name c file) writes)
+      (map (event_of e names (ByTime hertz)) (of_file file files stream)) (told_by file missed)
+
+-- It is known what the folder was asked for. What that leaves of the file `metadata` is read as the layout of these enablings and names, with a clock; and
+-- what it leaves of a CPU's files, by that layout, as the records that came out of that CPU, each in one file, with as many missed as the CPU's batches
+-- carried drops.
+pub record ReadsByTime (uuid : List ℕ) (e : EnabledRows) (names : Names) (hertz : ℕ) (left : List Left)
+    (seen : (c : ℕ) (l : Left) → slice_get left c ≡ Some l → List Record) (batches : ℕ → List Batch) (written : Option (List FileWrite)) : Type 0 where
+  pub writes : List FileWrite
+  pub asked : written ≡ Some writes
+  pub metadata : read_metadata (file_of (codes "metadata") writes) ≡ Some (layout_of e names (ByTime hertz))
+  pub streams : (c : ℕ) (l : Left) → c < 64 → (there : slice_get left c ≡ Some l)
+      → ReadsFiles uuid e names hertz c (seen c l there) (drops_carried (batches c)) writes

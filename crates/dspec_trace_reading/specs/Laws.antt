@@ -1,0 +1,51 @@
+-- Cited by calls. What is read of a folder in which a session was traced, whatever its work did.
+use Rattle.std.specs.Prelude.{ℕ, ◌≡◌, ◌<◌, ◌+◌, ◌^◌, List, [], Some, None, length}
+use Rattle.dspec_record.specs.EnablingRows.{EnabledRows}
+use Rattle.dspec_record.specs.Schemas.{enabled, table_accepts, table_shape, table_text}
+use Rattle.dspec_deeds.specs.declared.config.Config.{Config}
+use Rattle.dspec_ring.specs.declared.batch.Batch.{Batch}
+use Rattle.dspec_cpu.specs.Called.{CallsMade}
+use Rattle.dspec_session_core.specs.declared.left.Left.{Left}
+use Rattle.dspec.specs.Passed.{HasLists, passed_from}
+use Rattle.dspec.specs.Traced.{IsTraced}
+use Rattle.dspec_ctf.specs.declared.form.Form.TheVariants.{AsTaken, ByTime}
+use Rattle.dspec_ctf.specs.declared.names.Names.{Names}
+use Rattle.dspec_ctf.specs.declared.origin.Origin.{Origin}
+use Rattle.dspec_ctf_reading.specs.ToldNumbers.{HasNumbers}
+use Rattle.dspec_ctf_sink.specs.Accounts.{missed_on}
+use Rattle.dspec_ctf_sink.specs.Timed.{GetsRuns, IsTimedBegun, TimedTracing}
+use Rattle.dspec_ctf_sink.specs.Writing.{GetsPacket, IsBegun, Tracing}
+use Rattle.dspec_trace_reading.specs.AsTaken.{AreShort, ReadsAllKept, ReadsBack}
+use Rattle.dspec_trace_reading.specs.ByTime.{ReadsByTime, missed_by_time}
+
+module _ (e : EnabledRows) (does : ℕ → CallsMade → CallsMade → Type 0) where
+  -- a session of these enablings was traced, in which the work did that, and its sink went from one state to another
+  abbrev pub TracedBy : {K : Type 0} → (K → Batch → K → Type 0) → Config → K → List Left → K → Type 0
+  TracedBy gets k begun left ended =
+      IsTraced gets does (table_shape e.header (enabled e.rows)) (table_accepts e.header (enabled e.rows)) (table_text e.header (enabled e.rows)) k begun left ended
+
+  -- and one list of all deeds closes it
+  abbrev pub ListedBy : {K : Type 0} → (K → Batch → K → Type 0) → Config → K → List Left → K → Type 0
+  ListedBy gets k begun left ended =
+      HasLists gets (table_shape e.header (enabled e.rows)) (table_accepts e.header (enabled e.rows)) (table_text e.header (enabled e.rows)) k begun left ended
+
+  -- It was traced into a folder that began empty, as its batches were taken, and nothing was lost: the folder is read as each CPU's stream.
+  abbrev pub TakenIsRead : Type 0
+  TakenIsRead = (origin : Origin) (names : Names) (k : Config) (begun ended : Tracing) (left : List Left) → IsBegun origin e names (Some []) begun
+      → (t : TracedBy (GetsPacket e) k begun left ended) → ListedBy (GetsPacket e) k begun left ended → ended.lost ≡ None
+      → length origin.uuid ≡ 16 → HasNumbers origin AsTaken e names → ((c : ℕ) → missed_on ended c < 2 ^ 64) → AreShort e t.passed
+      → ReadsBack origin.uuid e names left (λ c l there. (t.promised.each c l there).seen) (λ c. passed_from c t.passed) ended.written
+
+  -- Some of it may have been lost: the folder is read as each CPU's stream without the batches that were.
+  abbrev pub KeptIsRead : Type 0
+  KeptIsRead = (origin : Origin) (names : Names) (k : Config) (begun ended : Tracing) (left : List Left) → IsBegun origin e names (Some []) begun
+      → (t : TracedBy (GetsPacket e) k begun left ended) → ListedBy (GetsPacket e) k begun left ended
+      → length origin.uuid ≡ 16 → HasNumbers origin AsTaken e names → ((c : ℕ) → missed_on ended c + 1 < 2 ^ 64) → AreShort e t.passed
+      → ReadsAllKept origin.uuid e names left (λ c. passed_from c t.passed) ended
+
+  -- It was traced into a folder that began empty, by time, and nothing was lost: the folder is read as each CPU's stream, shared out to its files.
+  abbrev pub TimedIsRead : Type 0
+  TimedIsRead = (origin : Origin) (hertz : ℕ) (names : Names) (k : Config) (begun ended : TimedTracing) (left : List Left) → IsTimedBegun origin hertz e names (Some []) begun
+      → (t : TracedBy (GetsRuns e) k begun left ended) → ListedBy (GetsRuns e) k begun left ended → ended.lost ≡ None
+      → length origin.uuid ≡ 16 → HasNumbers origin (ByTime hertz) e names → ((c : ℕ) → missed_by_time ended c < 2 ^ 64) → AreShort e t.passed
+      → ReadsByTime origin.uuid e names hertz left (λ c l there. (t.promised.each c l there).seen) (λ c. passed_from c t.passed) ended.written

@@ -1,0 +1,379 @@
+-- The packets of a play tell small numbers: what was refused and missed is among what a report counts, and each batch comes out of a buffer of a
+-- mebibyte at the most.
+use Rattle.std.proofs.Common.{◌≡◌, ◌≤◌, ◌<◌, ◌+◌, ◌*◌, ◌^◌, ◌==◌, ◌&&◌, ◌⊎◌, ℕ, zero, suc, Bool, true, false, IsTrue, if◌then◌else◌, ltb, nat_le, List, [], ◌∷◌, ◌++◌, length, map, reverse}
+use Rattle.std.proofs.Common.{Option, Some, None, refl, sym, ap, ◌∙◌, subst, inl, inr, ⊎_elim, arith, All, length-append}
+use Rattle.std.specs.Option.{option_map_or}
+use Rattle.std.proofs.lemmas.Bool.{leb-true}
+use Rattle.std.proofs.lemmas.Bool.Decides.{eqb_tells}
+use Rattle.std.proofs.lemmas.List.{map-append, reverse-append, reverse-reverse, length-reverse}
+use Rattle.std.proofs.lemmas.List.Elements.{All-nil, All-cons, All-head, All-tail, All-append, All-push, All-map, All-weaker}
+use Rattle.dspec_record.specs.Record.{Record}
+use Rattle.dspec_record.specs.EnablingRows.{EnabledRows}
+use Rattle.dspec_record.specs.RecordText.{fits, little_endian}
+use Rattle.dspec_record.specs.Layout.{layout, width}
+use Rattle.dspec_record.specs.Laws.Layouts.{layout-IsShape}
+use Rattle.dspec_record.specs.Laws.Tables.{accepted-parts}
+use Rattle.dspec_record.specs.Laws.Texts.{both, length-little_endian}
+use Rattle.std.specs.Prelude.{option_and_then, unwrap_or, min, replicate, slice_get, ◌%◌, not}
+use Rattle.std.specs.Option.{option_map}
+use Rattle.dspec_record.specs.Schemas.{default_fields, enabled, enabling_of, table_shape, within_limit}
+use Rattle.dspec_record.specs.declared.field.Field.{Field}
+use Rattle.dspec_record.specs.declared.field.Field.TheVariants.{One, Two, Four, Eight}
+use Rattle.dspec_record.specs.declared.field.Shape.{Shape}
+use Rattle.dspec_record.specs.declared.header.Header.{Header}
+use Rattle.dspec_record.specs.declared.header.Header.TheVariants as header
+use Rattle.dspec_buffer.specs.Extent.{Piece, one, block, records, reserved, size_of, align_of, extent, extent_of_records}
+use Rattle.dspec_buffer.proofs.Keeping.{shape_says}
+use Rattle.dspec_ctf.specs.Packets.{event, event_fields, events, stamp_bytes, values_bytes}
+use Rattle.dspec_ctf.specs.Streams.{Accepts}
+use Rattle.dspec_deeds.specs.declared.config.Config.{Config}
+use Rattle.dspec_deeds.specs.declared.deed.Deed.{Deed}
+use Rattle.dspec_deeds.specs.Legal.{IsAllowed}
+use Rattle.dspec_deeds.specs.Own.{Offer, contents, accepted, accepts, active, Batch, empty_batch, growing, batches, is_drop, offers, seals_now, stream}
+use Rattle.dspec_deeds.specs.Reports.{one_if, report, total}
+use Rattle.dspec_deeds.specs.Ranges.{is_between, is_size, start_fault}
+use Rattle.dspec_deeds.specs.declared.config.StartFault.{StartFault}
+use Rattle.dspec_deeds.specs.declared.config.StartFault.TheVariants.{Cpus, Specs, BufSize}
+use Rattle.dspec_deeds.specs.declared.report.Report.{Report}
+use Rattle.dspec_interleaving.specs.declared.outcome.Outcome.{Outcome}
+use Rattle.dspec_interleaving.specs.declared.outcome.PlayFault.{PlayFault}
+use Rattle.dspec_interleaving.specs.Plays.{or_else, setup_fault, worn_count}
+use Rattle.dspec_schedule.specs.Reading.{Plan, header_of}
+use Rattle.dspec_player.specs.PlayedTexts.{IsPlayOf, shapes_of, table_of}
+use Rattle.dspec_deeds.proofs.TestLemmas.{and_tells}
+use Rattle.dspec_deeds.proofs.Balance.{balance}
+use Rattle.dspec_deeds.proofs.DeedEffects.{legal_accounts}
+use Rattle.dspec_deeds.proofs.ReportBounds.{AreFitted, active_within, fitting_fitted}
+use Rattle.dspec_machine.proofs.Batches.{active_grows}
+use Rattle.specview.specs.Batches.{ShareOf, last_share, share_of, shares}
+use Rattle.specview.specs.Traces.{HaveShortEvents, TellsSmall, event_rows, greatest_epid, missed_by, refused_in, written_shares}
+use Rattle.specview.proofs.AllFiles.{report_at}
+use Rattle.specview.proofs.Parts.{Within, back_all, front_all, written_all}
+
+-- ---- what is refused
+
+-- what a CPU missed is at most what it offered
+missed_few : (shape : ℕ → Option Shape) (k : Config) (c worn : ℕ) (h : List Deed) → IsAllowed shape k h → missed_by (report k c worn h) ≤ offers c h
+missed_few shape k c worn h allowed =
+    let sum = balance k c worn h (legal_accounts shape k c h allowed) in
+    omega arith
+
+abbrev drops_of : List Batch → ℕ
+drops_of [] = 0
+drops_of (b ∷ bs) = b.drops + drops_of bs
+
+refused_in-append : (xs ys : List ShareOf) → refused_in (xs ++ ys) ≡ refused_in xs + refused_in ys
+refused_in-append [] ys = omega arith
+refused_in-append (x ∷ xs) ys = let before = refused_in-append xs ys in omega arith
+
+sealed_drops : (bs : List Batch) → refused_in (map share_of (reverse bs)) ≡ drops_of bs
+sealed_drops [] = refl
+sealed_drops (b ∷ bs) =
+    let split : map share_of (reverse (b ∷ bs)) ≡ map share_of (reverse bs) ++ share_of b ∷ [] =
+    ap (map share_of) (reverse-append (b ∷ []) bs) ∙ map-append share_of (reverse bs) (b ∷ []) in
+    let whole = ap refused_in split in
+    let sum = refused_in-append (map share_of (reverse bs)) (share_of b ∷ []) in
+    let before = sealed_drops bs in
+    omega arith
+
+last_drops : (s : ShareOf) → refused_in (last_share s) ≤ s.drops
+last_drops s = step (s.drops == 0 && length s.records == 0)
+  where
+    step : (b : Bool) → refused_in (if b then [] else s ∷ []) ≤ s.drops
+    step true = omega arith
+    step false = omega arith
+
+abbrev drops : ℕ → List Deed → ℕ
+drops c h = total (λ d. one_if (is_drop c d)) h
+
+-- the batches of a list refuse what it refuses
+batches_drop : (c : ℕ) (h : List Deed) → (growing c h).drops + drops_of (batches c h) ≤ drops c h
+batches_drop c [] = omega arith
+batches_drop c (d ∷ h) = step (seals_now c d) (batches_drop c h)
+  where
+    step : (b : Bool) → (growing c h).drops + drops_of (batches c h) ≤ drops c h
+        → (if b then empty_batch else record { offers = accepts c d h ++ (growing c h).offers; drops = (growing c h).drops + one_if (is_drop c d) }).drops
+        + drops_of (if b then growing c h ∷ batches c h else batches c h) ≤ drops c h + one_if (is_drop c d)
+    step true before = omega arith
+    step false before = omega arith
+
+shares_drop : (c : ℕ) (h : List Deed) → refused_in (shares c h) ≤ drops c h
+shares_drop c h =
+    let split = refused_in-append (map share_of (reverse (batches c h))) (last_share (share_of (growing c h))) in
+    let sealed = sealed_drops (batches c h) in
+    let last = last_drops (share_of (growing c h)) in
+    let few = batches_drop c h in
+    omega arith
+
+written_drop : (c : ℕ) (h : List Deed) → refused_in (written_shares c h (drops c h)) ≤ drops c h
+written_drop c h = step (length (stream c h) == 0)
+  where
+    step : (b : Bool) → refused_in (if b then last_share (record { drops = drops c h; records = [] }) else shares c h) ≤ drops c h
+    step true = last_drops (record { drops = drops c h; records = [] })
+    step false = shares_drop c h
+
+-- ---- how far records reach
+
+reserved-more : (o a n : ℕ) → (a ≡ 4) ⊎ (a ≡ 8) → o + n ≤ reserved o a n
+reserved-more o a n aligned =
+    ⊎_elim (λ none. rw none.0 (let zero_long = none.1 in omega arith)) (λ some. rw some.0 (⊎_elim (λ four. rw four (omega arith)) (λ eight. rw eight (omega arith)) aligned)) (eqb_tells n 0)
+
+contents_both : (xs ys : List Offer) → contents (xs ++ ys) ≡ contents xs ++ contents ys
+contents_both [] ys = refl
+contents_both (x ∷ xs) ys = ap (λ rs. x.content ∷ rs) (contents_both xs ys)
+
+module _ (shape : ℕ → Option Shape) where
+  -- a record that takes a byte at least, at a multiple of 4 or 8
+  abbrev pub TakesRoom : Record → Type 0
+  TakesRoom r = (1 ≤ size_of shape r) × ((align_of shape r ≡ 4) ⊎ (align_of shape r ≡ 8))
+
+  records_reach : (rs : List Record) → All TakesRoom rs → length rs ≤ extent_of_records shape rs
+  records_reach [] all = omega arith
+  records_reach (r ∷ rs) all =
+      let own : TakesRoom r = All-head TakesRoom r rs all in
+      let some = own.0 in
+      let more = reserved-more (extent_of_records shape rs) (align_of shape r) (size_of shape r) own.1 in
+      let before = records_reach rs (All-tail TakesRoom r rs all) in
+      omega arith
+
+  pieces_reach : (ps : List Piece) → All TakesRoom (records ps) → length (records ps) ≤ extent shape ps
+  pieces_reach [] all = omega arith
+  pieces_reach (one r ∷ ps) all =
+      let own : TakesRoom r = All-head TakesRoom r (records ps) all in
+      let some = own.0 in
+      let more = reserved-more (extent shape ps) (align_of shape r) (size_of shape r) own.1 in
+      let before = pieces_reach ps (All-tail TakesRoom r (records ps) all) in
+      omega arith
+  pieces_reach (block rs ∷ ps) all =
+      let own = records_reach rs (front_all TakesRoom rs (records ps) all) in
+      let more = reserved-more (extent shape ps) 8 (extent_of_records shape rs) (inr refl) in
+      let before = pieces_reach ps (back_all TakesRoom rs (records ps) all) in
+      let long = length-append rs (records ps) in
+      omega arith
+
+  module _ (k : Config) (c : ℕ) where
+    abbrev HasRoom : List Deed → Type 0
+    HasRoom h = All TakesRoom (contents (accepted c h))
+
+    room_before : (d : Deed) (h : List Deed) → HasRoom (d ∷ h) → HasRoom h
+    room_before d h room =
+        back_all TakesRoom (contents (accepts c d h)) (contents (accepted c h)) (subst (All TakesRoom) (contents_both (accepts c d h) (accepted c h)) room)
+
+    growing_room : (h : List Deed) → HasRoom h → All TakesRoom (contents (growing c h).offers)
+    growing_room [] room = All-nil TakesRoom
+    growing_room (d ∷ h) room = step (seals_now c d) (growing_room h (room_before d h room))
+      where
+        own : All TakesRoom (contents (accepts c d h))
+        own = front_all TakesRoom (contents (accepts c d h)) (contents (accepted c h)) (subst (All TakesRoom) (contents_both (accepts c d h) (accepted c h)) room)
+
+        step : (b : Bool) → All TakesRoom (contents (growing c h).offers)
+            → All TakesRoom (contents (if b then empty_batch else record { offers = accepts c d h ++ (growing c h).offers; drops = (growing c h).drops + (if is_drop c d then 1 else 0) }).offers)
+        step true before = All-nil TakesRoom
+        step false before =
+            subst (All TakesRoom) (sym (contents_both (accepts c d h) (growing c h).offers))
+            (All-append TakesRoom (contents (accepts c d h)) (contents (growing c h).offers) own before)
+
+    growing_few : (h : List Deed) → AreFitted shape k h → HasRoom h → length (contents (growing c h).offers) ≤ k.bufsize
+    growing_few h fitted room =
+        let reach = pieces_reach (active c h) (subst (All TakesRoom) (sym (active_grows c h)) (growing_room h room)) in
+        let same = ap length (active_grows c h) in
+        let within = leb-true (extent shape (active c h)) k.bufsize (active_within shape k c h fitted) in
+        omega arith
+
+    -- each batch has as many records at the most as the buffer has bytes
+    abbrev Few : Batch → Type 0
+    Few b = length (contents b.offers) ≤ k.bufsize
+
+    batches_few : (h : List Deed) → AreFitted shape k h → HasRoom h → All Few (batches c h)
+    batches_few [] fitted room = All-nil Few
+    batches_few (d ∷ h) fitted room =
+        step (seals_now c d) (batches_few h fitted.0 (room_before d h room)) (growing_few h fitted.0 (room_before d h room))
+      where
+        step : (b : Bool) → All Few (batches c h) → Few (growing c h) → All Few (if b then growing c h ∷ batches c h else batches c h)
+        step true others own = All-cons Few (growing c h) (batches c h) own others
+        step false others own = others
+
+    all_reversed : (bs : List Batch) → All Few bs → All Few (reverse bs)
+    all_reversed [] all = All-nil Few
+    all_reversed (b ∷ bs) all =
+        subst (All Few) (sym (reverse-append (b ∷ []) bs)) (All-push Few (reverse bs) b (all_reversed bs (All-tail Few b bs all)) (All-head Few b bs all))
+
+    abbrev pub FewOf : ShareOf → Type 0
+    FewOf s = length s.records ≤ k.bufsize
+
+    share_few : (b : Batch) → Few b → FewOf (share_of b)
+    share_few b few = let long = length-reverse (contents b.offers) in omega arith
+
+    last_few : (s : ShareOf) → FewOf s → All FewOf (last_share s)
+    last_few s few = step (s.drops == 0 && length s.records == 0)
+      where
+        step : (b : Bool) → All FewOf (if b then [] else s ∷ [])
+        step true = All-nil FewOf
+        step false = All-cons FewOf s [] few (All-nil FewOf)
+
+    shares_few : (h : List Deed) → AreFitted shape k h → HasRoom h → All FewOf (shares c h)
+    shares_few h fitted room =
+        let sealed = reverse (batches c h) in
+        All-append FewOf (map share_of sealed) (last_share (share_of (growing c h)))
+        (All-map FewOf share_of sealed (All-weaker Few (λ b. FewOf (share_of b)) share_few sealed (all_reversed (batches c h) (batches_few h fitted room))))
+        (last_few (share_of (growing c h)) (share_few (growing c h) (growing_few h fitted room)))
+
+    pub written_few : (refused : ℕ) (h : List Deed) → AreFitted shape k h → HasRoom h → All FewOf (written_shares c h refused)
+    written_few refused h fitted room = step (length (stream c h) == 0)
+      where
+        step : (b : Bool) → All FewOf (if b then last_share (record { drops = refused; records = [] }) else shares c h)
+        step true = last_few (record { drops = refused; records = [] }) (omega arith)
+        step false = shares_few h fitted room
+
+module _ (P : Record → Type 0) where
+  all_turned : (rs : List Record) → All P rs → All P (reverse rs)
+  all_turned [] all = All-nil P
+  all_turned (r ∷ rs) all =
+      subst (All P) (sym (reverse-append (r ∷ []) rs)) (All-push P (reverse rs) r (all_turned rs (All-tail P r rs all)) (All-head P r rs all))
+
+-- ---- how long events are
+
+fits-long : (fs : List Field) (vs : List ℕ) → IsTrue (fits fs vs) → length vs ≡ length fs
+fits-long [] [] h = refl
+fits-long (f ∷ fs) (v ∷ vs) h = ap suc (fits-long fs vs (both (ltb v (256 ^ width f)) (fits fs vs) h).1)
+fits-long [] (v ∷ vs) h = absurd (cc)
+fits-long (f ∷ fs) [] h = absurd (cc)
+
+-- the fields of a record that is accepted, of which there are eight at the most
+pub record HasFields (e : EnabledRows) (r : Record) : Type 0 where
+  pub fields : List Field
+  pub are : enabled e.rows r.epid ≡ Some fields
+  pub few : length fields ≤ 8
+  pub values : length r.values ≡ length fields
+
+limited : (o : Option (List Field)) (fs : List Field) → option_and_then within_limit o ≡ Some fs → length fs ≤ 8
+limited None fs is = absurd (cc)
+limited (Some gs) fs is = step (nat_le (length gs) 8) refl is
+  where
+    step : (b : Bool) → nat_le (length gs) 8 ≡ b → (if b then Some gs else None) ≡ Some fs → length fs ≤ 8
+    step true few is = let same : gs ≡ fs = cc in subst (λ xs. length xs ≤ 8) same (leb-true (length gs) 8 few)
+    step false few is = absurd (cc)
+
+pub fields_of : (e : EnabledRows) (r : Record) → Accepts e r → HasFields e r
+fields_of e r ok = step (enabled e.rows r.epid) refl (accepted-parts e.header (enabled e.rows) r ok).values
+  where
+    step : (o : Option (List Field)) → enabled e.rows r.epid ≡ o → IsTrue (option_map_or (λ fs. fits fs r.values) o false) → HasFields e r
+    step None is h = absurd (cc)
+    step (Some fs) is h = record { fields = fs; are = is; few = limited (enabling_of e.rows r.epid) fs is; values = fits-long fs r.values h }
+
+width_most : (f : Field) → width f ≤ 8
+width_most One = omega arith
+width_most Two = omega arith
+width_most Four = omega arith
+width_most Eight = omega arith
+
+stamp_most : (h : Header) (stamp : ℕ) → length (stamp_bytes h stamp) ≤ 8
+stamp_most header.One stamp = omega arith
+stamp_most header.Two stamp = let long = length-little_endian Eight stamp in omega arith
+
+values_most : (fs : List Field) (vs : List ℕ) → length (values_bytes fs vs) ≤ 8 * length vs
+values_most [] vs = omega arith
+values_most (f ∷ fs) [] = omega arith
+values_most (f ∷ fs) (v ∷ vs) =
+    let long = length-append (little_endian (width f) v) (values_bytes fs vs) in
+    let own = length-little_endian f v in
+    let most = width_most f in
+    let before = values_most fs vs in
+    omega arith
+
+event_most : (e : EnabledRows) (r : Record) → length r.values ≤ 8 → length (event e r) ≤ 76
+event_most e r few =
+    let stamp : List ℕ = stamp_bytes e.header r.stamp in
+    let values : List ℕ = values_bytes (event_fields e r.epid) r.values in
+    let epid = length-little_endian Four r.epid in
+    let front = length-append (little_endian 4 r.epid) (stamp ++ values) in
+    let back = length-append stamp values in
+    let short = stamp_most e.header r.stamp in
+    let most = values_most (event_fields e r.epid) r.values in
+    omega arith
+
+events_small : (e : EnabledRows) (rs : List Record) → All (Accepts e) rs → length (events e rs) ≤ 76 * length rs
+events_small e [] all = omega arith
+events_small e (r ∷ rs) all =
+    let own = fields_of e r (All-head (Accepts e) r rs all) in
+    let few = own.few in
+    let values = own.values in
+    let eight : length r.values ≤ 8 = omega arith in
+    let one = event_most e r eight in
+    let long = length-append (event e r) (events e rs) in
+    let before = events_small e rs (All-tail (Accepts e) r rs all) in
+    omega arith
+
+-- a record with these fields takes room
+pub room_of_shape : (shape : ℕ → Option Shape) (h : Header) (r : Record) (fs : List Field) → shape r.epid ≡ Some (layout h fs) → length fs ≤ 8 → TakesRoom shape r
+room_of_shape shape h r fs is few =
+    let says = shape_says shape r (layout h fs) is in
+    let shaped = layout-IsShape h fs few in
+    let size = says.0 in
+    let least = shaped.with_epid in
+    (omega arith, ⊎_elim (λ four. inl (says.1 ∙ four)) (λ eight. inr (says.1 ∙ eight)) shaped.aligned)
+
+-- a record that the events of a plan have takes room in its play
+plan_room : (p : Plan) (rss : List (List Record)) (r : Record) → Accepts (event_rows p rss) r → TakesRoom (shapes_of p) r
+plan_room p rss r ok = step p.enablings ok
+  where
+    plain : EnabledRows
+    plain = record { header = header_of p; rows = replicate (min (greatest_epid rss) 64) [] }
+
+    default_room : (n : ℕ) → r.epid ≡ n → (fs : List Field) → enabled plain.rows n ≡ Some fs → TakesRoom (table_shape (header_of p) default_fields) r
+    default_room zero at fs is = absurd (cc (is))
+    default_room (suc n) at fs is = room_of_shape (table_shape (header_of p) default_fields) (header_of p) r [] (ap (table_shape (header_of p) default_fields) at) (omega arith)
+
+    step : (o : Option EnabledRows) → Accepts (unwrap_or o plain) r → TakesRoom (table_shape (header_of p) (table_of o)) r
+    step (Some e) ok =
+        let own = fields_of e r ok in
+        room_of_shape (table_shape (header_of p) (enabled e.rows)) (header_of p) r own.fields (ap (option_map (layout (header_of p))) own.are) own.few
+    step None ok = let own = fields_of plain r ok in default_room r.epid refl own.fields own.are
+
+-- batches that have few records have short events
+short_events : (e : EnabledRows) (n : ℕ) (ss : List ShareOf) → 76 * n < 2 ^ 60 → All (λ s. length s.records ≤ n) ss → Within (Accepts e) ss → HaveShortEvents e ss
+short_events e n [] small few known = All-nil (λ s. length (events e s.records) < 2 ^ 60)
+short_events e n (s ∷ ss) small few known =
+    let own = events_small e s.records (All-head (λ t. All (Accepts e) t.records) s ss known) in
+    let count : length s.records ≤ n = All-head (λ t. length t.records ≤ n) s ss few in
+    All-cons (λ t. length (events e t.records) < 2 ^ 60) s ss (omega arith)
+    (short_events e n ss small (All-tail (λ t. length t.records ≤ n) s ss few) (All-tail (λ t. All (Accepts e) t.records) s ss known))
+
+-- a buffer has a mebibyte at the most
+size_tells : (b0 b1 b2 : Bool) (rest : Option StartFault) → (if not b0 then Some Cpus else (if not b1 then Some Specs else (if not b2 then Some BufSize else rest))) ≡ None → b2 ≡ true
+size_tells true true true rest is = refl
+size_tells true true false rest is = absurd (cc (is))
+size_tells true false b2 rest is = absurd (cc (is))
+size_tells false b1 b2 rest is = absurd (cc (is))
+
+buffer_fits : (k : Config) → start_fault k ≡ None → k.bufsize ≤ 1048576
+buffer_fits k is =
+    let sized = size_tells (is_between 1 64 k.cpus) (is_between 1 63 k.nspec) (is_size k.bufsize) _ is in
+    let between = (and_tells (is_between 8 1048576 k.bufsize) (k.bufsize % 8 == 0) sized).0 in
+    leb-true k.bufsize 1048576 (and_tells (nat_le 8 k.bufsize) (nat_le k.bufsize 1048576) between).1
+
+set_up : (o : Option StartFault) (rest : Option PlayFault) → or_else (setup_fault o) rest ≡ None → o ≡ None
+set_up None rest is = refl
+set_up (Some fault) rest is = absurd (cc (is))
+
+-- so what the file of each CPU of a play tells is of 64 bits
+pub play_small : (p : Plan) (outcome : Outcome) → IsPlayOf p outcome → (c : ℕ) (q : Report) → slice_get outcome.close.reports c ≡ Some q
+    → All (Accepts (event_rows p outcome.close.accepted)) (stream c (reverse outcome.close.deeds)) → TellsSmall (event_rows p outcome.close.accepted) c (reverse outcome.close.deeds) q
+play_small p outcome play c q at known =
+    let e = event_rows p outcome.close.accepted in
+    let h = reverse outcome.close.deeds in
+    let shape = shapes_of p in
+    let worn = worn_count outcome.answers in
+    let allowed = play.legal.0 in
+    let size = buffer_fits p.config (set_up (start_fault p.config) _ play.allowed) in
+    let turned : reverse (stream c h) ≡ contents (accepted c h) = reverse-reverse (contents (accepted c h)) in
+    let room : All (TakesRoom shape) (contents (accepted c h)) =
+    subst (All (TakesRoom shape)) turned (all_turned (TakesRoom shape) (stream c h) (All-weaker (Accepts e) (TakesRoom shape) (plan_room p outcome.close.accepted) (stream c h) known)) in
+    subst (TellsSmall e c h) (sym (report_at p.config worn h outcome.close.reports c q play.reports at))
+    record {
+      missed = missed_few shape p.config c (worn c) h allowed;
+      refused = written_drop c h;
+      short = short_events e p.config.bufsize (written_shares c h (drops c h)) (omega arith)
+          (written_few shape p.config c (drops c h) h (fitting_fitted shape p.config h allowed.1) room)
+          (written_all (Accepts e) c h (drops c h) (length (stream c h) == 0) known);
+    }

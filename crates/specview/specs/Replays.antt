@@ -1,0 +1,30 @@
+-- Cited by calls. What is printed of a text's schedule that a session made.
+use Rattle.std.specs.Prelude.{◌≡◌, ◌++◌, ℕ, Bool, true, false, List, map, Ok}
+use Rattle.dspec_record.specs.declared.header.Header.{Header}
+use Rattle.dspec_schedule.specs.Printed.{printed_text}
+use Rattle.dspec_schedule.specs.Reading.{Plan, header_of, schedule_of}
+use Rattle.dspec_replay.specs.declared.texts.Replayed.{Replayed}
+use Rattle.dspec_replay.specs.Buffers.{all_buffers}
+use Rattle.dspec_replay.specs.Replayed.{call_that_ended, whole_call_of}
+use Rattle.specview.specs.declared.replaying.ReplayFault.{ReplayFault}
+use Rattle.specview.specs.declared.replaying.ReplayFault.TheVariants.{View, NoWholeCall, NoText}
+use Rattle.specview.specs.Faults.{status_of_view}
+
+-- the exit status that tells of a fault
+abbrev pub status_of_replay : ReplayFault → ℕ
+status_of_replay (View fault) = status_of_view fault
+status_of_replay (NoWholeCall line) = 5
+status_of_replay (NoText cpu) = 6
+
+-- what is printed: what a play prints, and behind it the bytes of each buffer where they are wanted
+abbrev pub replay_printed : Bool → Header → Replayed → List ℕ
+replay_printed true header replayed = printed_text header replayed.outcome ++ all_buffers header replayed.texts
+replay_printed false header replayed = printed_text header replayed.outcome
+
+-- the text is that of a session which made each turn of this schedule, in order, by its actor
+pub record IsReplayOf (text : List ℕ) (bytes : Bool) (told : List ℕ) : Type 0 where
+  pub plan : Plan
+  pub replayed : Replayed
+  pub read : schedule_of text ≡ Ok plan
+  pub answered : map call_that_ended replayed.outcome.answers ≡ map whole_call_of plan.turns
+  pub printed : told ≡ replay_printed bytes (header_of plan) replayed

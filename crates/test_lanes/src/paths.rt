@@ -1,0 +1,169 @@
+//! Two lanes: each keeps a path, throws one away, and traces a record; one that the schema refuses isn't offered.
+use dspec::{
+    BadRecord, Batch, Both, Config, Decided, Enablings, Field, Lane, Policy, Rec, RecordSink,
+    Report, Sink, Traced, Work, closed_cpu, closed_cpus, trace,
+};
+use std::sync::atomic::{AtomicU64, Ordering};
+use std::test::Fail;
+
+const CONFIG: Config = Config {
+    cpus: 2,
+    nspec: 4,
+    bufsize: 64,
+    specsize: 64,
+    max_issues: 8,
+    max_calls: 100,
+    policy: Policy::Switch,
+};
+
+/// What each lane does; it counts the answers that are due.
+#[derive(Drop)]
+struct Requests {
+    due: AtomicU64,
+}
+
+impl Requests {
+    /// Counts an answer that is due.
+    fn count(&self, is_due: bool) {
+        if is_due {
+            self.due.fetch_add(1, Ordering::SeqCst);
+        }
+    }
+}
+
+impl Work<Enablings> for Requests {
+    fn work(&self, lane: &mut Lane<'_, Enablings>) {
+        let kept = lane.path();
+        let _ = kept.record(lane, 1, 0, &[7]);
+        let thrown = lane.path();
+        let _ = thrown.record(lane, 1, 0, &[8]);
+        self.count(kept.commit(lane) == Decided::Copied(1));
+        self.count(thrown.discard(lane) == Decided::Thrown(1));
+        self.count(lane.record(1, 0, &[9]) == Ok(Traced::Kept));
+        self.count(lane.record(1, 0, &[256]) == Err(BadRecord));
+        self.count(lane.report().offered == 3);
+    }
+}
+
+/// A path of three records where two of eight bytes have room: its end is cut by one. It counts the answers that are due.
+#[derive(Drop)]
+struct LongPath {
+    due: AtomicU64,
+}
+
+impl LongPath {
+    fn count(&self, is_due: bool) {
+        if is_due {
+            self.due.fetch_add(1, Ordering::SeqCst);
+        }
+    }
+}
+
+impl Work<Enablings> for LongPath {
+    fn work(&self, lane: &mut Lane<'_, Enablings>) {
+        let path = lane.path();
+        let _ = path.record(lane, 1, 0, &[1]);
+        let _ = path.record(lane, 1, 0, &[2]);
+        self.count(path.dropped(lane) == 0);
+        let _ = path.record(lane, 1, 0, &[3]);
+        self.count(path.dropped(lane) == 1);
+        self.count(path.commit(lane) == Decided::Copied(2));
+    }
+}
+
+/// How many bytes of records came.
+#[derive(Drop)]
+pub struct Counted {
+    pub bytes: u64,
+}
+
+impl Sink<Enablings> for Counted {
+    fn batch(&mut self, _schema: &Enablings, batch: &Batch) {
+        self.bytes = self.bytes.wrapping_add(batch.buffer.bytes().len() as u64);
+    }
+}
+
+#[test]
+fn two_lanes(rt: HostRuntime) -> Result<(), Fail> {
+    let mut schema = Enablings::new();
+    assert!(rt; schema.enable(&[Field::One]).is_ok());
+    let work = Requests {
+        due: AtomicU64::new(0),
+    };
+    let Ok((closed, counted)) = trace(
+        &rt,
+        rt.alloc(),
+        &CONFIG,
+        schema,
+        &work,
+        Counted { bytes: 0 },
+    ) else {
+        return Err("no session".into());
+    };
+    assert!(rt; work.due.load(Ordering::SeqCst) == 10);
+    assert!(rt; counted.bytes == 32);
+    let report = Report {
+        offered: 3,
+        accepted: 2,
+        discarded: 1,
+        ..Report::default()
+    };
+    let mut numbers = 0..2;
+    for cpu in closed_cpus(&closed) {
+        assert!(rt; numbers.next() == Some(cpu.number) && *cpu.report == report);
+    }
+    assert!(rt; numbers.next().is_none());
+    Ok(())
+}
+
+/// One lane records, and two sinks get the same, of which one keeps the records.
+#[test]
+fn records_are_kept(rt: HostRuntime) -> Result<(), Fail> {
+    let mut schema = Enablings::new();
+    assert!(rt; schema.enable(&[Field::One]).is_ok());
+    let work = Requests {
+        due: AtomicU64::new(0),
+    };
+    let sink = Both {
+        first: RecordSink::new(rt.alloc()),
+        second: Some(Counted { bytes: 0 }),
+    };
+    let config = Config::of(1, 4, 64, 64);
+    let Ok((closed, sink)) = trace(&rt, rt.alloc(), &config, schema, &work, sink) else {
+        return Err("no session".into());
+    };
+    assert!(rt; closed_cpu(&closed, 0).report.accepted == 2);
+    assert!(rt; sink.second.map(|counted| counted.bytes) == Some(16));
+    let Ok(records) = sink.first.records() else {
+        return Err("records are missing".into());
+    };
+    assert!(rt; records.len() == 2);
+    assert!(rt; records.first().copied() == Rec::new(1, &[7]));
+    assert!(rt; records.last().copied() == Rec::new(1, &[9]));
+    Ok(())
+}
+
+/// A path that outgrows its buffer says so before it is kept.
+#[test]
+fn end_of_a_path_is_cut(rt: HostRuntime) -> Result<(), Fail> {
+    let mut schema = Enablings::new();
+    assert!(rt; schema.enable(&[Field::One]).is_ok());
+    let work = LongPath {
+        due: AtomicU64::new(0),
+    };
+    let config = Config::of(1, 4, 64, 16);
+    let Ok((closed, counted)) = trace(
+        &rt,
+        rt.alloc(),
+        &config,
+        schema,
+        &work,
+        Counted { bytes: 0 },
+    ) else {
+        return Err("no session".into());
+    };
+    assert!(rt; work.due.load(Ordering::SeqCst) == 3);
+    assert!(rt; counted.bytes == 16);
+    assert!(rt; closed.report(0).specdropped == 1);
+    Ok(())
+}

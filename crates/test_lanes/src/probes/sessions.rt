@@ -1,0 +1,61 @@
+//! A session whose work records by probes, and reads what was kept by them.
+use crate::same::same;
+use dspec::{Config, Enablings, Lane, Rec, RecordSink, Work, closed_cpu, trace};
+use dspec_probed::{Probe, Probes, Recording};
+use std::test::Fail;
+
+/// What the CPU does, by its probes.
+#[derive(Drop)]
+struct Requests {
+    query: Probe<(u64, u32)>,
+    failed: Probe<(i32, bool, f64)>,
+}
+
+impl Work<Enablings> for Requests {
+    /// A path is kept, one is thrown away, and records are traced before and behind them.
+    fn work(&self, lane: &mut Lane<'_, Enablings>) {
+        let (Ok(query), Ok(failed)) = (self.query.on(lane), self.failed.on(lane)) else {
+            return;
+        };
+        query.record(lane, 10, (1, 500));
+        let path = lane.path();
+        query.record_in(lane, &path, 11, (2, 600));
+        failed.record_in(lane, &path, 12, (-5, true, -0.5));
+        path.commit(lane);
+        let fine = lane.path();
+        query.record_in(lane, &fine, 13, (3, 700));
+        fine.discard(lane);
+        query.record(lane, 14, (u64::MAX, u32::MAX));
+    }
+}
+
+#[test]
+fn records_of_probes(rt: HostRuntime) -> Result<(), Fail> {
+    let mut probes = Probes::new(rt.alloc());
+    let query: Probe<(u64, u32)> = probes.probe("query", &["request", "micros"])?;
+    let failed: Probe<(i32, bool, f64)> = probes.probe("failed", &["code", "late", "load"])?;
+    let work = Requests { query, failed };
+    let config = Config::of(1, 2, 256, 128);
+    let kept = RecordSink::new(rt.alloc());
+    let (closed, kept) = trace(&rt, rt.alloc(), &config, probes.enablings(), &work, kept)?;
+    let records = kept.records()?;
+    let [first, second, third, last] = records.as_slice() else {
+        return Err(Fail::from("four records"));
+    };
+    assert!(rt; query.read(first) == Some((1, 500)));
+    assert!(rt; query.read(second) == Some((2, 600)));
+    assert!(rt; failed.read(third) == Some((-5, true, -0.5)));
+    assert!(rt; query.read(last) == Some((u64::MAX, u32::MAX)));
+    assert!(rt; query.read(third).is_none() && failed.read(first).is_none());
+    let stamps = [first.stamp(), second.stamp(), third.stamp(), last.stamp()];
+    same(&rt, stamps, [10, 11, 12, 14]);
+    let bits = [0xffff_fffb, 1, 0xbfe0_0000_0000_0000];
+    same(&rt, Some(*third), Rec::stamped(2, 12, &bits));
+    let report = closed_cpu(&closed, 0).report;
+    same(
+        &rt,
+        (report.offered, report.accepted, report.discarded),
+        (5, 4, 1),
+    );
+    Ok(())
+}

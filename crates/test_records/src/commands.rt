@@ -1,0 +1,3 @@
+//! Command lines of programs, and how a fault is told.
+mod asking;
+mod telling;

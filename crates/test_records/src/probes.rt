@@ -1,0 +1,4 @@
+//! Typed probes: how they are declared, and what records of them stand for.
+mod declaring;
+mod numbers;
+mod reading;

@@ -1,0 +1,84 @@
+//! What happened, by time, in words and in Chrome's Trace Event form.
+use super::samples::{FILE, metadata};
+use crate::same::same;
+use dspec_folder::{
+    Base, Track, What, chrome_event, chrome_missed, chrome_name, event_text, marks_of, missed_text,
+    sort_by_time,
+};
+use std::test::Fail;
+
+/// The row of all events here.
+const TRACK: Track = Track {
+    process: 1,
+    number: 2,
+};
+
+#[test]
+fn merged(rt: HostRuntime) -> Result<(), Fail> {
+    let alloc = rt.alloc();
+    let metadata = metadata(alloc)?;
+    let mut marks = Vec::new(alloc);
+    let first = marks_of(alloc, &metadata, Base::Clock, 0, &FILE[83..], &mut marks)?;
+    let second = marks_of(alloc, &metadata, Base::Clock, 1, &FILE[..84], &mut marks)?;
+    same(
+        &rt,
+        (first.is_none(), second.map(|fault| fault.at)),
+        (true, Some(83)),
+    );
+    sort_by_time(&mut marks)?;
+    let mut told = Vec::new(alloc);
+    for mark in &marks {
+        told.push((mark.time, mark.file, matches!(&mark.what, What::Missed(4))))?;
+    }
+    let wanted = [
+        (5u128, 0usize, false),
+        (5, 1, false),
+        (9, 0, false),
+        (9, 0, true),
+    ];
+    same(&rt, told.as_slice() == wanted.as_slice(), true);
+    Ok(())
+}
+
+#[test]
+fn lines(rt: HostRuntime) -> Result<(), Fail> {
+    let alloc = rt.alloc();
+    let metadata = metadata(alloc)?;
+    let event = metadata.events.first().expect(&rt, "the event");
+    same(
+        &rt,
+        event_text(alloc, event, &[1, 65_534])?.as_str(),
+        "step status=\"not found\"(1) delta=-2",
+    );
+    same(
+        &rt,
+        event_text(alloc, event, &[2, 7])?.as_str(),
+        "step status=2 delta=7",
+    );
+    same(&rt, missed_text(alloc, 4)?.as_str(), "(4 missed)");
+    Ok(())
+}
+
+#[test]
+fn chrome(rt: HostRuntime) -> Result<(), Fail> {
+    let alloc = rt.alloc();
+    let metadata = metadata(alloc)?;
+    let step = metadata.events.first().expect(&rt, "the event");
+    let event = chrome_event(alloc, TRACK, step, 1_002_003, &[1, 65_534])?;
+    same(
+        &rt,
+        event.as_str(),
+        "{\"ph\":\"i\",\"s\":\"t\",\"pid\":1,\"tid\":2,\"ts\":1002.003,\"name\":\"step\",\"args\":{\"status\":\"not found\",\"delta\":-2}}",
+    );
+    same(
+        &rt,
+        chrome_missed(alloc, TRACK, 7, 1 << 53)?.as_str(),
+        "{\"ph\":\"i\",\"s\":\"t\",\"pid\":1,\"tid\":2,\"ts\":0.007,\"name\":\"events missed\",\"args\":{\"missed\":\"9007199254740992\"}}",
+    );
+    same(
+        &rt,
+        chrome_name(alloc, TRACK, "process_name", "a\"b\\c\n")?.as_str(),
+        "{\"ph\":\"M\",\"pid\":1,\"tid\":2,\"name\":\"process_name\",\"args\":{\"name\":\"a\\\"b\\\\c\\n\"}}",
+    );
+    Ok(())
+}

@@ -1,0 +1,3 @@
+//! Traces as they are read.
+mod metadata;
+mod packets;

@@ -1,0 +1,125 @@
+-- What a CPU may do next on the first slot, and what its own list tells then.
+use Rattle.std.proofs.Common.{◌≡◌, ℕ, zero, suc, ◌<◌, ◌&&◌, ◌≤◌, Bool, true, false, if◌then◌else◌, List, [], ◌∷◌, ◌++◌, sym, ap, ◌∙◌, subst, arith, refl}
+use Rattle.std.proofs.lemmas.Bool.Decides.{nat_tests}
+use Rattle.dspec_record.specs.Record.{Record}
+use Rattle.dspec_word.specs.SpecId.{Speculation}
+use Rattle.dspec_word.specs.Word.{SlotState, released}
+use Rattle.dspec_word.specs.Code.{is_inactive, awaits}
+use Rattle.dspec_word.specs.declared.act.Act.{Act}
+use Rattle.dspec_word.specs.declared.act.Act.TheVariants.{Void, Granted, Attempt, Idle}
+use Rattle.dspec_word.specs.Tables.{speculate_at, commit_at, discard_at, reap_at}
+use Rattle.dspec_deeds.specs.declared.config.Config.{Config}
+use Rattle.dspec_deeds.specs.declared.calls.CpuOp.{CpuOp}
+use Rattle.dspec_deeds.specs.declared.calls.CpuOp.TheVariants as op
+use Rattle.dspec_deeds.specs.declared.deed.Deed.{Deed}
+use Rattle.dspec_deeds.specs.History.{in_range, is_among, callers, ack}
+use Rattle.dspec_table.specs.declared.rule.View.{View}
+use Rattle.dspec_table.specs.declared.doing.Doing.{Doing}
+use Rattle.dspec_table.specs.Holders.{number_of}
+use Rattle.dspec_table.specs.Acts.{at_activity, at_word, at_hit, void_commit, void_discard, discard_hits}
+use Rattle.dspec_table.specs.Conditions.{IsOn, IsInFlight, MayLoad, MayTry, Attempts, IsDeciding, joined_word}
+use Rattle.dspec_table.specs.Flights.{calling}
+use Rattle.dspec_table.specs.Layout.{activity_place}
+use Rattle.dspec_table.specs.Steps.{acted, LoadedActivity, TriedWord, LoadedAck}
+use Rattle.dspec_table.proofs.Flights.{quiet_activity, loads_next, in_flight, speculate_joins}
+use Rattle.dspec_table.proofs.Reaping.{acked_since}
+use Rattle.test_words.specs.Calls.{Unused, Next}
+
+first_in_range : (k : Config) (id : Speculation) → 1 ≤ k.nspec → id.slot ≡ 1 → in_range k id ≡ true
+first_in_range k id low is = grind (arith, nat_tests)
+
+-- behind a load of activity that is running
+pub begins : (k : Config) (v w : View) (c : ℕ) (doing : Doing) (id : Speculation) → v.config ≡ k → 1 ≤ k.nspec → id.slot ≡ 1 → IsOn id doing.op → Unused k c v.own → doing.mine ≡ false
+    → LoadedActivity doing v false w → MayLoad k w c doing 1 doing.op × Unused k c w.own
+begins k v w c doing id config low is on unused mine step =
+    let inside = first_in_range k id low is in
+    let none : at_activity v.config (number_of v.who) doing doing.op false ≡ [] =
+    quiet_activity v.config (number_of v.who) doing id doing.op (subst (λ (x : Config). in_range x id ≡ true) (sym config) inside) on in
+    let own : w.own ≡ v.own = ap (λ (x : View). x.own) (step.3.view ∙ ap (acted activity_place (calling doing.op v) step.0) none) in
+    let no_caller : doing.mine ≡ is_among c (callers id v.own) = mine ∙ sym (ap (is_among c) (unused.1 id)) in
+    let flight : IsInFlight k w c doing id id.slot = in_flight k v w c doing id config inside on unused.0 (λ recent. no_caller) step in
+    (subst (λ (s : ℕ). MayLoad k w c doing s doing.op) is (loads_next k w c id.slot doing id on flight), subst (Unused k c) (sym own) unused)
+
+-- what the table attempts, by the kind of call
+pub joins : (k : Config) (v w : View) (c : ℕ) (doing : Doing) (id : Speculation) (r : Record) (from to : SlotState) → doing.op ≡ op.Speculate id r
+    → speculate_at from id doing.mine ≡ Attempt to → Next k v w c doing from
+    → MayTry k w c doing 1 from (joined_word from) × (w.own ≡ v.own)
+joins k v w c doing id r from to is attempts next =
+    let t = next to (subst (Attempts doing from to) (sym is) attempts) in
+    (subst (MayTry k w c doing 1 from) (speculate_joins from to id doing.mine attempts) t.0, t.1)
+
+pub commits : (k : Config) (v w : View) (c : ℕ) (doing : Doing) (id : Speculation) (from to : SlotState) → doing.op ≡ op.Commit id → commit_at from id doing.mine ≡ Attempt to → Next k v w c doing from
+    → MayTry k w c doing 1 from to × (w.own ≡ v.own)
+commits k v w c doing id from to is attempts next = next to (subst (Attempts doing from to) (sym is) attempts)
+
+pub discards : (k : Config) (v w : View) (c : ℕ) (doing : Doing) (id : Speculation) (from to : SlotState) → doing.op ≡ op.Discard id
+    → discard_at from id doing.mine ≡ Attempt to → Next k v w c doing from
+    → MayTry k w c doing 1 from to × (w.own ≡ v.own)
+discards k v w c doing id from to is attempts next = next to (subst (Attempts doing from to) (sym is) attempts)
+
+-- a decision, had or missed, leaves the CPU in no call, a caller of nothing, with nothing settled
+module _ (k j : Config) (x c : ℕ) (doing : Doing) (w : SlotState) (own : List Deed) (u : Unused k x own) where
+  void_commit_rests : (id : Speculation) (a : Act) → Unused k x (void_commit c id a ++ own)
+  void_commit_rests id Void = u
+  void_commit_rests id Granted = u
+  void_commit_rests id (Attempt to) = u
+  void_commit_rests id Idle = u
+
+  void_discard_rests : (id : Speculation) (a : Act) → Unused k x (void_discard c id a ++ own)
+  void_discard_rests id Void = u
+  void_discard_rests id Granted = u
+  void_discard_rests id (Attempt to) = u
+  void_discard_rests id Idle = u
+
+  thrown_rests : (id : Speculation) (a : Act) → Unused k x (discard_hits c doing id a ++ own)
+  thrown_rests id Void = u
+  thrown_rests id Granted = u
+  thrown_rests id (Attempt to) = go (is_inactive to.code)
+    where
+      go : (b : Bool) → Unused k x ((if b then Rattle.dspec_deeds.specs.declared.deed.Deed.TheVariants.Release id.slot
+          ∷ Rattle.dspec_deeds.specs.declared.deed.Deed.TheVariants.Discard c id (Rattle.dspec_deeds.specs.declared.deed.DecideFate.TheVariants.Thrown doing.count)
+          ∷ [] else Rattle.dspec_deeds.specs.declared.deed.Deed.TheVariants.Discard c id (Rattle.dspec_deeds.specs.declared.deed.DecideFate.TheVariants.Thrown doing.count) ∷ []) ++ own)
+      go true = u
+      go false = u
+  thrown_rests id Idle = u
+
+  hit_rests : (o : CpuOp) → IsDeciding o → Unused k x (at_hit c doing w o ++ own)
+  hit_rests (op.Commit id) d = u
+  hit_rests (op.Discard id) d = thrown_rests id (discard_at w id doing.mine)
+  hit_rests (op.Trace r) d = absurd d
+  hit_rests op.Speculation d = absurd d
+  hit_rests (op.Speculate id r) d = absurd d
+  hit_rests op.Service d = absurd d
+
+  word_rests : (o : CpuOp) → IsDeciding o → Unused k x (at_word j c doing 1 w o ++ own)
+  word_rests (op.Commit id) d = void_commit_rests id (commit_at w id doing.mine)
+  word_rests (op.Discard id) d = void_discard_rests id (discard_at w id doing.mine)
+  word_rests (op.Trace r) d = absurd d
+  word_rests op.Speculation d = absurd d
+  word_rests (op.Speculate id r) d = absurd d
+  word_rests op.Service d = absurd d
+
+pub tried_rests : (k : Config) (x : ℕ) (v w : View) (doing : Doing) (shown : SlotState) (hit : Bool) → IsDeciding doing.op → Unused k x v.own → TriedWord doing 1 v shown hit w → Unused k x w.own
+tried_rests k x v w doing shown true d u step =
+    subst (Unused k x) (sym (ap (λ (y : View). y.own) step.3.view)) (hit_rests k v.config x (number_of v.who) doing shown v.own u doing.op d)
+tried_rests k x v w doing shown false d u step =
+    subst (Unused k x) (sym (ap (λ (y : View). y.own) step.3.view)) (word_rests k v.config x (number_of v.who) doing shown v.own u doing.op d)
+
+-- both acknowledgements that were shown stand
+pub both_acked : (k : Config) (v w u : View) (i a b : ℕ) → k.cpus ≡ 2 → LoadedAck 0 1 v a w → LoadedAck 1 1 w b u → i < a → i < b → (c : ℕ) → c < k.cpus → i < ack c 1 u.seen
+both_acked k v w u i a b two one other first second zero lt =
+    let before : a ≡ ack 0 1 w.seen = one.2 ∙ ap (λ (x : View). ack 0 1 x.seen) (sym one.3) in
+    let since = acked_since w.config w.who 0 1 w.seen other.0 other.1.sound other.1.since in
+    let now : ack 0 1 u.seen ≡ ack 0 1 other.0 = ap (λ (x : View). ack 0 1 x.seen) other.3 in
+    omega arith
+both_acked k v w u i a b two one other first second (suc zero) lt =
+    let now : b ≡ ack 1 1 u.seen = other.2 ∙ ap (λ (x : View). ack 1 1 x.seen) (sym other.3) in
+    omega arith
+both_acked k v w u i a b two one other first second (suc (suc c)) lt = absurd (omega arith)
+
+pub reaps_waits : (w to : SlotState) → reap_at w true ≡ Attempt to → awaits w.code ≡ true
+reaps_waits w to e = go (awaits w.code) e
+  where
+    go : (b : Bool) → (if (b && true) then Attempt (released w.issue) else Idle) ≡ Attempt to → b ≡ true
+    go true e = refl
+    go false e = absurd (cc (e))

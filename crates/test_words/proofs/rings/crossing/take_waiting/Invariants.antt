@@ -1,0 +1,5 @@
+use Rattle.std.proofs.Common.{◌≡◌}
+use Rattle.test_words.proofs.rings.crossing.take_waiting.Given as goal
+
+abbrev pub invariant-loop : goal.invariant-loop
+invariant-loop g l = (l.end.pair ≡ l.initial.end.pair) × (l.end.taken ≡ l.initial.end.taken)
