@@ -93,9 +93,13 @@ fn tracks<'a>(alloc: Global, command: Command<'a>) -> Result<Command<'a>, AllocE
         "slices",
         "with --track: two records of one event, one behind the other in the row of a value, are a slice, from the first to the second; every other one is a mark",
     );
-    command
-        .arg(track.requires_arg("json")?)?
-        .arg(slices.requires_arg("track")?)
+    // A flag that is asked for is no longer wanted where another excludes it, so each of those is named.
+    let track = track
+        .requires_arg("json")?
+        .conflicts_with("check")?
+        .conflicts_with("repair")?
+        .conflicts_with("text")?;
+    command.arg(track)?.arg(slices.requires_arg("track")?)
 }
 
 /// The subcommand that shows trace folders.
