@@ -32,7 +32,7 @@ picture:
 check:
 	@cd "crates/$(CRATE)" && rt check
 
-# The line of crates.txt for a program that uses these crates, as in make crates-line CRATE=app CRATES="dspec dspec_probed anyhow". With
+# The line of crates.txt for a program that uses these crates, as in make crates-line CRATE=app CRATES="dspec anyhow". With
 # INTO=FOLDER, a repository of its own, it copies the crates there too, and writes their lines and this one into its crates.txt.
 crates-line:
 	@INTO="$(INTO)" tools/crates_line "$(CRATE)" $(CRATES)

@@ -46,6 +46,14 @@ program_of() {
     build "crates/$1/out/$1" "$1" rt run
 }
 
+# Prints how a program is called, in words without spaces: that of the crate of its name, or an example by its word: called NAME
+called() {
+    case $1 in
+    watch | store | kv | relay | jobs | pool) echo "crates/examples/out/examples $1" ;;
+    *) echo "crates/$1/out/$1" ;;
+    esac
+}
+
 # Builds the tests of a crate where they aren't there: tests_of CRATE
 tests_of() {
     build "crates/$1/out/$1_tests" "$1" rt test

@@ -1,5 +1,5 @@
 # Reads the sources of one crate twice, lib.rt first each time, and prints its part of docs/API.md; see tools/api. The first
-# time (round 1) it only learns which names are public.
+# time (round 1) it only learns which names are public. With `base` the crate is a module of that name, and its file stands for lib.rt.
 
 # The text without spaces around it.
 function trimmed(text) { sub(/^[ \t]+/, "", text); sub(/[ \t]+$/, "", text); return text }
@@ -118,6 +118,7 @@ function end_clause(kind, name, text) {
 
 FNR == 1 {
     where = FILENAME; sub(/^crates\/[^\/]*\/src\//, "", where); sub(/\.rt$/, "", where)
+    if (base != "") sub("^" base "/?", "", where)
     if (where == "lib") where = ""
     state = ""; doc = ""; owner = ""; is_trait = 0; body = ""
 }

@@ -10,3 +10,5 @@ pub mod Visits
 pub mod Traced
 pub mod Works
 pub mod Workers
+pub mod Counts
+pub mod Walks

@@ -1,7 +1,9 @@
 -- Believed. What a sink got of a session.
 use Rattle.std.specs.Prelude.{ℕ, ◌≡◌, ◌+◌, ◌<◌, ◌==◌, Bool, List, [], ◌∷◌, ◌++◌, map, slice_get, Option, Some, None, if◌then◌else◌}
 use Rattle.std.specs.List.{All}
+use Rattle.dspec_record.specs.EnablingRows.{EnabledRows}
 use Rattle.dspec_record.specs.Record.{Record}
+use Rattle.dspec_record.specs.Schemas.{enabled, table_accepts, table_shape, table_text}
 use Rattle.dspec_record.specs.declared.field.Shape.{Shape}
 use Rattle.dspec_deeds.specs.declared.config.Config.{Config}
 use Rattle.dspec_deeds.specs.declared.deed.Deed.{Deed}
@@ -80,3 +82,7 @@ module _ {K : Type 0} (gets : K → Batch → K → Type 0) (shape : ℕ → Opt
     pub closes : ClosesAs shape accepted text k worn taken consumer left own deeds
     pub whole : (c : ℕ) (l : Left) → slice_get left c ≡ Some l → passed_from c passed ≡ taken c ++ left_batches l
     pub accepts : (c : ℕ) (l : Left) → slice_get left c ≡ Some l → HoldInOrder shape accepted text (passed_from c passed) (stream c deeds)
+
+-- the same, of a session whose records are those of enablings
+abbrev pub HasListsWith : {K : Type 0} → EnabledRows → (K → Batch → K → Type 0) → Config → K → List Left → K → Type 0
+HasListsWith s gets = HasLists gets (table_shape s.header (enabled s.rows)) (table_accepts s.header (enabled s.rows)) (table_text s.header (enabled s.rows))

@@ -1,6 +1,8 @@
 -- Believed. What a session that was traced whole promises, in the words of the page.
 use Rattle.std.specs.Prelude.{ℕ, ◌≡◌, ◌<◌, Bool, List, ◌++◌, map, slice_get, Option, Some}
+use Rattle.dspec_record.specs.EnablingRows.{EnabledRows}
 use Rattle.dspec_record.specs.Record.{Record}
+use Rattle.dspec_record.specs.Schemas.{enabled, table_accepts, table_shape, table_text}
 use Rattle.dspec_record.specs.declared.field.Shape.{Shape}
 use Rattle.dspec_deeds.specs.declared.config.Config.{Config}
 use Rattle.dspec_deeds.specs.declared.deed.Deed.{Deed}
@@ -30,3 +32,8 @@ module _ {K : Type 0} (gets : K → Batch → K → Type 0) (does : ℕ → Call
     pub taken : ℕ → List Batch
     pub whole : (c : ℕ) (l : Left) → slice_get left c ≡ Some l → passed_from c passed ≡ taken c ++ left_batches l
     pub promised : IsPromisedBy shape accepted text k entered (map (λ s. Release s) released) calls taken left
+
+-- the same, of a session whose records are those of enablings
+abbrev pub IsTracedWith : {K : Type 0} → EnabledRows → (K → Batch → K → Type 0) → (ℕ → CallsMade → CallsMade → Type 0) → Config → K → List Left → K → Type 0
+IsTracedWith s gets does =
+    IsTraced gets does (table_shape s.header (enabled s.rows)) (table_accepts s.header (enabled s.rows)) (table_text s.header (enabled s.rows))

@@ -8,9 +8,9 @@ ghost use Rattle.dspec_cpu.specs.Standing.{IsCallable, identity};
 ghost use Rattle.dspec_session_core.specs.Consumers.{IsConsumerOf};
 ghost use Rattle.dspec_session_core.specs.Sessions.{IsSession};
 ghost use Rattle.dspec.specs.Lent.{AllCallable, AllReturned};
-ghost use Rattle.dspec.specs.Passed.{HasLists, PassesOn};
+ghost use Rattle.dspec.specs.Passed.{HasListsWith, PassesOn};
 ghost use Rattle.dspec.specs.Serving.{ThenServed};
-ghost use Rattle.dspec.specs.Traced.{IsTraced};
+ghost use Rattle.dspec.specs.Traced.{IsTracedWith};
 ghost use Rattle.dspec.specs.Workers.{AllNumbered, AllWorked, WorkedBy, WorkedOne, cpus_of, with_cpus, workers_of};
 
 use crate::lane::Lane;
@@ -196,10 +196,8 @@ pub fn trace_workers<R: Threads + Sync, W: Worker<Enablings>, K: Sink<Enablings>
     ensures refused { IfErr result (λ fault. fault ≢ start.Memory → start_fault (with_cpus (length workers.items) config.now) ≡ Some fault) }
     ensures memory { IfErr result (λ fault. fault ≡ start.Memory → start_fault (with_cpus (length workers.items) config.now) ≡ None) }
     ensures all { IfOk result (λ r. (length r.0 ≡ length workers.items) × (length r.1.items ≡ length workers.items)) }
-    ensures traced { IfOk result (λ r. IsTraced (K.gets schema) (ThenServed (WorkedBy (W.does schema) workers.items r.1.items)) (⟦<Enablings as Schema>⟧.shape_of schema)
-        (⟦<Enablings as Schema>⟧.accepted schema) (⟦<Enablings as Schema>⟧.text schema) (with_cpus (length workers.items) config.now) sink r.0 r.2) }
-    ensures listed { IfOk result (λ r. HasLists (K.gets schema) (⟦<Enablings as Schema>⟧.shape_of schema) (⟦<Enablings as Schema>⟧.accepted schema)
-        (⟦<Enablings as Schema>⟧.text schema) (with_cpus (length workers.items) config.now) sink r.0 r.2) }
+    ensures traced { IfOk result (λ r. IsTracedWith schema (K.gets schema) (ThenServed (WorkedBy (W.does schema) workers.items r.1.items)) (with_cpus (length workers.items) config.now) sink r.0 r.2) }
+    ensures listed { IfOk result (λ r. HasListsWith schema (K.gets schema) (with_cpus (length workers.items) config.now) sink r.0 r.2) }
 {
     let Ok(cpus) = u32::try_from(workers.len()) else {
         return Err(StartFault::Cpus);

@@ -7,7 +7,7 @@ use Rattle.dspec_buffer.specs.BufferText.{BufferText}
 use Rattle.dspec_buffer.specs.Walking.{Steps}
 use Rattle.std.specs.Coded.{le_prop}
 use Rattle.dspec_buffer.specs.Stored.{HasAhead}
-use Rattle.dspec_buffer.specs.Remaining.{IsOneText, Remaining}
+use Rattle.dspec_buffer.specs.Remaining.{IsOneText, Remaining, StepsOn}
 use Rattle.dspec_buffer.specs.Laws.Remaining.{records_set, Remaining-prop}
 use Rattle.dspec_buffer.proofs.SchemaLaws.{SchemaLaws}
 use Rattle.dspec_buffer.proofs.OneReading.{one_reading}
@@ -23,10 +23,6 @@ module _ (shape : ℕ → Option Shape) (accepted : Record → Bool) (text : Rec
 
   pub remaining_at_start : (b : List ℕ) (rs : List Record) → BufferText shape accepted text 0 b rs → Remaining shape accepted text b 0
   remaining_at_start b rs h = (rs, one_text_at_start b rs h)
-
-  -- what a step says where the records ahead are known to be there
-  abbrev pub StepsOn : List ℕ → ℕ → Option (Record × ℕ) → Type 0
-  StepsOn b o step = (rs : List Record) → HasAhead shape accepted text b o rs → Steps (HasAhead shape accepted text b) rs step
 
   record GoesOver (b : List ℕ) (found : Record × ℕ) (rs : List Record) : Type 0 where
     others : List Record
@@ -45,22 +41,23 @@ module _ (shape : ℕ → Option Shape) (accepted : Record → Bool) (text : Rec
   stays b [] s = refl
   stays b (r ∷ rs) s = let e = s.1.0 in cc
 
-  pub within_next : (b : List ℕ) (o : ℕ) (found : Record × ℕ) → Remaining shape accepted text b o → StepsOn b o (Some found) → found.1 ≤ length b
+  pub within_next : (b : List ℕ) (o : ℕ) (found : Record × ℕ) → Remaining shape accepted text b o → StepsOn shape accepted text b o (Some found) → found.1 ≤ length b
   within_next b o found m s =
       ∥∥₁_elim m.1.0 le_prop (λ h. (goes_over b found m.0 (s m.0 h)).ahead.within)
 
   -- one record on
-  pub remaining_next : (b : List ℕ) (o : ℕ) (found : Record × ℕ) → Remaining shape accepted text b o → StepsOn b o (Some found) → Remaining shape accepted text b found.1
+  pub remaining_next : (b : List ℕ) (o : ℕ) (found : Record × ℕ) → Remaining shape accepted text b o → StepsOn shape accepted text b o (Some found) → Remaining shape accepted text b found.1
   remaining_next b o found m s =
       ∥∥₁_elim m.1.0 (Remaining-prop shape accepted text b found.1) (λ h.
       let a = goes_over b found m.0 (s m.0 h) in
       remaining_of b found.1 a.others a.ahead)
 
-  pub first_left : (b : List ℕ) (o : ℕ) (found : Record × ℕ) (m : Remaining shape accepted text b o) (m' : Remaining shape accepted text b found.1) → StepsOn b o (Some found) → m.0 ≡ found.0 ∷ m'.0
+  pub first_left : (b : List ℕ) (o : ℕ) (found : Record × ℕ) (m : Remaining shape accepted text b o) (m' : Remaining shape accepted text b found.1)
+      → StepsOn shape accepted text b o (Some found) → m.0 ≡ found.0 ∷ m'.0
   first_left b o found m m' s =
       ∥∥₁_elim m.1.0 (records_set m.0 (found.0 ∷ m'.0)) (λ h.
       let a = goes_over b found m.0 (s m.0 h) in
       a.all ∙ ap (λ z. found.0 ∷ z) (m'.1.1 a.others a.ahead))
 
-  pub none_left : (b : List ℕ) (o : ℕ) (m : Remaining shape accepted text b o) → StepsOn b o None → m.0 ≡ []
+  pub none_left : (b : List ℕ) (o : ℕ) (m : Remaining shape accepted text b o) → StepsOn shape accepted text b o None → m.0 ≡ []
   none_left b o m s = ∥∥₁_elim m.1.0 (records_set m.0 []) (λ h. stays b m.0 (s m.0 h))

@@ -21,3 +21,7 @@ module _ (shape : ℕ → Option Shape) (accepted : Record → Bool) (text : Rec
   BufferText o bytes [] = bytes ≡ []
   BufferText o bytes (r ∷ rs) =
       (gap : List ℕ) × ((rest : List ℕ) × (StandsNext o bytes gap r rest × BufferText (o + length gap + length (text r)) rest rs))
+
+  -- bytes are the text of one list of records at most, wherever they stand
+  abbrev pub HasOneReading : Type 0
+  HasOneReading = (o : ℕ) (bytes : List ℕ) (rs qs : List Record) → BufferText o bytes rs → BufferText o bytes qs → rs ≡ qs

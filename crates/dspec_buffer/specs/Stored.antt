@@ -1,5 +1,5 @@
 -- Believed. A buffer of bytes as contracts see it, and the pieces that it has.
-use Rattle.std.specs.Prelude.{◌≡◌, ◌≤◌, ℕ, Bool, IsTrue, All, List, length, drop, Option}
+use Rattle.std.specs.Prelude.{◌≡◌, ◌≤◌, ℕ, Bool, IsTrue, All, List, length, drop, reverse, Option}
 use Rattle.dspec_record.specs.Record.{Record}
 use Rattle.dspec_record.specs.declared.field.Shape.{Shape}
 use Rattle.dspec_buffer.specs.Extent.{Piece, records, bytes}
@@ -21,3 +21,12 @@ pub record HasPieces (shape : ℕ → Option Shape) (accepted : Record → Bool)
 pub record HasAhead (shape : ℕ → Option Shape) (accepted : Record → Bool) (text : Record → List ℕ) (bytes : List ℕ) (place : ℕ) (rs : List Record) : Type 0 where
   pub within : place ≤ length bytes
   pub ahead : BufferText shape accepted text place (drop place bytes) rs
+
+module _ (shape : ℕ → Option Shape) (accepted : Record → Bool) (text : Record → List ℕ) where
+  -- the records of the pieces are accepted, the bytes are those of the pieces, and the count is the number of their records
+  abbrev pub BytesSay : Stored → List Piece → Type 0
+  BytesSay b ps = All (λ r. IsTrue (accepted r)) (records ps) × (b.text ≡ bytes shape text ps) × (b.count ≡ length (records ps))
+
+  -- the bytes are the text of the pieces' records, in the order in which these came
+  abbrev pub ReadsAs : Stored → List Piece → Type 0
+  ReadsAs b ps = BufferText shape accepted text 0 b.text (reverse (records ps))

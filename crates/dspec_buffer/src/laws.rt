@@ -1,9 +1,9 @@
 //! What follows from the definitions, as clauses of functions that have next to nothing to do.
 
-ghost use Rattle.std.specs.Prelude.{◌≡◌, ◌↔◌, ℕ, List, length, reverse, All, IsTrue, IsOkAnd, IfErr};
-ghost use Rattle.dspec_record.specs.Record.{Record};
-ghost use Rattle.dspec_buffer.specs.Extent.{Piece, records, bytes};
-ghost use Rattle.dspec_buffer.specs.BufferText.{BufferText};
+ghost use Rattle.std.specs.Prelude.{◌≡◌, ◌↔◌, List, reverse, IsOkAnd, IfErr};
+ghost use Rattle.dspec_buffer.specs.Extent.{Piece, records};
+ghost use Rattle.dspec_buffer.specs.BufferText.{HasOneReading};
+ghost use Rattle.dspec_buffer.specs.Stored.{BytesSay, ReadsAs};
 ghost use Rattle.dspec_buffer.specs.Faults.{StopsAt};
 
 use crate::{ByteBuffer, ReadFault, Records, TraceBuffer, read_all};
@@ -11,10 +11,7 @@ use dspec_record::Schema;
 
 /// Bytes are the text of one list of records at most, wherever they stand.
 pub fn one_reading<S: Schema>(_schema: &S)
-    ensures { (place : ℕ) (text : List ℕ) (rs qs : List Record)
-        → BufferText (S.shape_of _schema.now) (S.accepted _schema.now) (S.text _schema.now) place text rs
-        → BufferText (S.shape_of _schema.now) (S.accepted _schema.now) (S.text _schema.now) place text qs
-        → rs ≡ qs }
+    ensures { HasOneReading (S.shape_of _schema.now) (S.accepted _schema.now) (S.text _schema.now) }
 {}
 
 /// A `ByteBuffer` has a list of pieces exactly where its records are accepted, its bytes are those of the buffer
@@ -22,12 +19,10 @@ pub fn one_reading<S: Schema>(_schema: &S)
 pub fn has_what_bytes_say<S: Schema>(_schema: &S, _buffer: &ByteBuffer)
     ensures exactly { (ps : List Piece)
         → ⟦<ByteBuffer as TraceBuffer<S>>⟧.has _buffer.now _schema.now ps
-        ↔ (All (λ r. IsTrue (S.accepted _schema.now r)) (records ps)
-        × (_buffer.now.text ≡ bytes (S.shape_of _schema.now) (S.text _schema.now) ps)
-        × (_buffer.now.count ≡ length (records ps))) }
+        ↔ BytesSay (S.shape_of _schema.now) (S.accepted _schema.now) (S.text _schema.now) _buffer.now ps }
     ensures text { (ps : List Piece)
         → ⟦<ByteBuffer as TraceBuffer<S>>⟧.has _buffer.now _schema.now ps
-        → BufferText (S.shape_of _schema.now) (S.accepted _schema.now) (S.text _schema.now) 0 _buffer.now.text (reverse (records ps)) }
+        → ReadsAs (S.shape_of _schema.now) (S.accepted _schema.now) (S.text _schema.now) _buffer.now ps }
 {}
 
 /// The records that were pushed, alone or in blocks, in their order: never a fault where the buffer has any pieces

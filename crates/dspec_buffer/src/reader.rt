@@ -3,8 +3,7 @@ ghost use Rattle.dspec_record.specs.Record.{Record};
 ghost use Rattle.dspec_record.specs.Reading.{front_epid};
 ghost use Rattle.dspec_buffer.specs.BufferText.{BufferText};
 ghost use Rattle.dspec_buffer.specs.Faults.{FaultHere, StopsAt};
-ghost use Rattle.dspec_buffer.specs.Stored.{HasAhead};
-ghost use Rattle.dspec_buffer.specs.Walking.{Steps};
+ghost use Rattle.dspec_buffer.specs.Remaining.{StepsOn};
 ghost use Rattle.dspec_buffer.specs.ReadingOn.{NoGapAt, SkipsGap, ReadsNext, ReadsHere};
 
 use crate::{ReadFault, Records};
@@ -100,8 +99,7 @@ pub(crate) fn read_next<S: Schema>(
 /// The next record of bytes that are known to be a text from this place on, and the place behind it; None at the end.
 #[inline]
 pub(crate) fn next_of_text<S: Schema>(schema: &S, text: &[u8], place: usize) -> Option<(Rec, usize)>
-    ensures { (rs : List Record) → HasAhead (S.shape_of schema.now) (S.accepted schema.now) (S.text schema.now) text.now place rs
-        → Steps (HasAhead (S.shape_of schema.now) (S.accepted schema.now) (S.text schema.now) text.now) rs result }
+    ensures { StepsOn (S.shape_of schema.now) (S.accepted schema.now) (S.text schema.now) text.now place result }
 {
     if place > text.len() {
         return None;

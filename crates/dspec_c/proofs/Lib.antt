@@ -4,6 +4,7 @@ pub mod Calls
 pub mod ConsumerHomes
 pub mod Counted
 pub mod Each
+mod EndingPlaces
 mod Ending
 pub mod Finishing
 pub mod Handing

@@ -70,3 +70,6 @@ pub record RefusesClose (status : ℕ) (old new : Closing) : Type 0 where
 
 abbrev pub CloseAnswers : ℕ → Closing → Closing → Type 0
 CloseAnswers status old new = MatchBool (can_close old) (Closes status old new) (RefusesClose status old new)
+
+abbrev pub closing_of : Handle → List (MutBor Handle) → Handle → Handle → Closing
+closing_of session cpus consumer closed = record { session = session; cpus = cpus; consumer = consumer; closed = closed }

@@ -3,13 +3,13 @@ use Rattle.std.specs.Prelude.{ℕ, ◌≡◌, ◌≢◌, ◌⊎◌, true, List, 
 use Rattle.dspec_record.specs.EnablingRows.{EnabledRows}
 use Rattle.dspec_record.specs.declared.header.Header.TheVariants.{One, Two}
 use Rattle.dspec_ctf.specs.declared.stream.PacketFault.{PacketFault}
-use Rattle.dspec_packets.specs.Filing.{CpuFiling, no_packets, unwritten}
-use Rattle.dspec_packets.specs.Calls.{Hands, HandsNone, HasNoBatch, OpensBatch, with_more_missed, without_rest}
-use Rattle.dspec_packets.specs.Naming.{PutsMetadata, PutsNone}
-use Rattle.dspec_packets.specs.declared.fault.PutFault.{PutFault}
-use Rattle.dspec_packets.specs.declared.fault.TextFault.{TextFault}
-use Rattle.dspec_packets.specs.declared.identity.Identity.{Identity}
-use Rattle.dspec_packets.specs.declared.packet.Packet.{Packet}
+use Rattle.dspec_ctf.specs.InMemory.Filing.{CpuFiling, no_packets, unwritten}
+use Rattle.dspec_ctf.specs.InMemory.Calls.{Hands, HandsNone, HasNoBatch, OpensBatch, with_more_missed, without_rest}
+use Rattle.dspec_ctf.specs.InMemory.Naming.{PutsMetadata, PutsNone}
+use Rattle.dspec_ctf.specs.declared.in_memory.fault.PutFault.{PutFault}
+use Rattle.dspec_ctf.specs.declared.in_memory.fault.TextFault.{TextFault}
+use Rattle.dspec_ctf.specs.declared.in_memory.identity.Identity.{Identity}
+use Rattle.dspec_ctf.specs.declared.in_memory.packet.Packet.{Packet}
 use Rattle.dspec_c.specs.CtfStatuses.{needed_of, no_packet, no_stamp, packet_status, put_status, text_size, text_status}
 use Rattle.dspec_c.specs.Handles.{held_in, is_full}
 use Rattle.dspec_c.specs.Statuses.{bad_handle, no_memory, no_such_cpu}
@@ -23,6 +23,9 @@ use Rattle.dspec_c.specs.declared.held.Held.TheVariants as held
 pub record Text : Type 0 where
   pub room : List ℕ
   pub size : ℕ
+
+abbrev pub text_in : List ℕ → ℕ → Text
+text_in room size = record { room = room; size = size }
 
 -- a room of the caller's, and what it is told of the packet in it
 pub record CallersBytes : Type 0 where

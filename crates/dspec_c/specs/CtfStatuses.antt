@@ -4,10 +4,10 @@ use Rattle.dspec_ctf.specs.declared.fault.MetadataFault.{MetadataFault}
 use Rattle.dspec_ctf.specs.declared.fault.MetadataFault.TheVariants as metadata
 use Rattle.dspec_ctf.specs.declared.stream.PacketFault.{PacketFault}
 use Rattle.dspec_ctf.specs.declared.stream.PacketFault.TheVariants as packet
-use Rattle.dspec_packets.specs.declared.fault.PutFault.{PutFault}
-use Rattle.dspec_packets.specs.declared.fault.PutFault.TheVariants as put
-use Rattle.dspec_packets.specs.declared.fault.TextFault.{TextFault}
-use Rattle.dspec_packets.specs.declared.fault.TextFault.TheVariants as text
+use Rattle.dspec_ctf.specs.declared.in_memory.fault.PutFault.{PutFault}
+use Rattle.dspec_ctf.specs.declared.in_memory.fault.PutFault.TheVariants as put
+use Rattle.dspec_ctf.specs.declared.in_memory.fault.TextFault.{TextFault}
+use Rattle.dspec_ctf.specs.declared.in_memory.fault.TextFault.TheVariants as text
 
 -- records have no stamps; no packet is left
 abbrev pub no_stamp : ℕ

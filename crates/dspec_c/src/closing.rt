@@ -1,7 +1,7 @@
 //! The end of a session in one call: its CPUs and its consumer go home, and it ends.
 
 ghost use Rattle.std.specs.Prelude.{◌≡◌, true, false};
-ghost use Rattle.dspec_c.specs.Closing.{CloseAnswers, EmptiesAll, KeepAll, KeepsHeld, are_cpus_in, is_session_in};
+ghost use Rattle.dspec_c.specs.Closing.{CloseAnswers, EmptiesAll, KeepAll, KeepsHeld, are_cpus_in, closing_of, is_session_in};
 ghost use Rattle.dspec_c.specs.Handles.{held_in, is_full};
 ghost use Rattle.dspec_c.specs.SessionCalls.{is_consumer_in, is_cpu_in};
 
@@ -74,9 +74,7 @@ pub extern "C" fn dspec_close(
     closed: &mut Handle,
 ) -> u32
     ensures full { is_full closed.old ≡ true → (result ≡ 18) × (session.new ≡ session.old) × (cpus.new ≡ cpus.old) × (consumer.new ≡ consumer.old) × (closed.new ≡ closed.old) }
-    ensures answers { is_full closed.old ≡ false → CloseAnswers result
-        (record { session = session.old; cpus = cpus.old; consumer = consumer.old; closed = closed.old })
-        (record { session = session.new; cpus = cpus.new; consumer = consumer.new; closed = closed.new }) }
+    ensures answers { is_full closed.old ≡ false → CloseAnswers result (closing_of session.old cpus.old consumer.old closed.old) (closing_of session.new cpus.new consumer.new closed.new) }
 {
     if closed.is_held() {
         return FULL_HANDLE;

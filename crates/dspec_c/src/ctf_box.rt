@@ -1,5 +1,4 @@
-use dspec_ctf::PacketFault;
-use dspec_packets::{CpuPackets, Packet, PutFault};
+use dspec_ctf::{CpuPackets, Packet, PacketFault, PutFault};
 use dspec_record::Enablings;
 use std::alloc::Global;
 use std::marker::Model;
@@ -11,7 +10,7 @@ pub struct CtfBox {
 }
 
 impl Model for CtfBox {
-    ghost use Rattle.dspec_packets.specs.Filing.{CpuFiling};
+    ghost use Rattle.dspec_ctf.specs.InMemory.Filing.{CpuFiling};
 
     ghost Value = { CpuFiling };
 
@@ -29,8 +28,8 @@ pub enum NoFiles {
 
 impl CtfBox {
     ghost use Rattle.std.specs.Prelude.{◌≡◌, IfOk, IfErr, OnOk, OnErr, MatchResult};
-    ghost use Rattle.dspec_packets.specs.Filing.{unwritten};
-    ghost use Rattle.dspec_packets.specs.Calls.{Hands, HandsNone, HasNoBatch, OpensBatch, with_more_missed, without_rest};
+    ghost use Rattle.dspec_ctf.specs.InMemory.Filing.{unwritten};
+    ghost use Rattle.dspec_ctf.specs.InMemory.Calls.{Hands, HandsNone, HasNoBatch, OpensBatch, with_more_missed, without_rest};
     ghost use Rattle.dspec_c.specs.CtfCalls.{BeginsFiles, HasNoFiles};
 
     /// No packets yet of this CPU.

@@ -2,14 +2,14 @@
 
 ghost use Rattle.std.specs.Prelude.{◌≡◌, MatchResult, map, true, false};
 ghost use Rattle.dspec_c.specs.Handles.{held_in, is_full};
-ghost use Rattle.dspec_c.specs.CtfCalls.{CtfLoseAnswers, CtfMetadataAnswers, CtfMissAnswers, CtfNewAnswers, CtfOpenAnswers, CtfPutAnswers, LooksAtSchema, MakesFiles, MakesNoFiles, OpensSo, PutsSo, TellsMetadata};
+ghost use Rattle.dspec_c.specs.CtfCalls.{CtfLoseAnswers, CtfMetadataAnswers, CtfMissAnswers, CtfNewAnswers, CtfOpenAnswers, CtfPutAnswers, LooksAtSchema, MakesFiles, MakesNoFiles, OpensSo, PutsSo, TellsMetadata, text_in};
 
 use crate::ctf_box::{CtfBox, NoFiles};
 use crate::ctf_statuses::{NO_PACKET, NO_STAMP, needed_of, of_packet, of_put, of_text, text_size};
 use crate::handle::{Handle, Room};
 use crate::held::Held;
 use crate::statuses::{BAD_HANDLE, FULL_HANDLE, NO_MEMORY, NO_SUCH_CPU, OK};
-use dspec_packets::{Identity, Packet, put_metadata};
+use dspec_ctf::{Identity, Packet, put_metadata};
 use dspec_record::Enablings;
 use std::alloc::Global;
 
@@ -22,7 +22,7 @@ fn metadata(
     room: &mut [u8],
     size: &mut usize,
 ) -> u32
-    ensures { TellsMetadata identity.now schema.now (map (λ name. name.now) names.now) kinds.now result
+    ensures { TellsMetadata identity.now schema.now (map (λ n. n.now) names.now) kinds.now result
         (record { room = room.old; size = size.old }) (record { room = room.new; size = size.new }) }
 {
     match put_metadata(alloc, identity, schema, names, kinds, room) {
@@ -46,8 +46,7 @@ fn held_metadata(
     room: &mut [u8],
     size: &mut usize,
 ) -> u32
-    ensures { CtfMetadataAnswers identity.now (map (λ name. name.now) names.now) kinds.now held.old result
-        (record { room = room.old; size = size.old }) (record { room = room.new; size = size.new }) held.new }
+    ensures { CtfMetadataAnswers identity.now (map (λ n. n.now) names.now) kinds.now held.old result (text_in room.old size.old) (text_in room.new size.new) held.new }
 {
     match held {
         Held::Schema(schema) => metadata(
@@ -74,8 +73,7 @@ pub extern "C" fn dspec_ctf_metadata(
     room: &mut [u8],
     size: &mut usize,
 ) -> u32
-    ensures answers { CtfMetadataAnswers identity.now (map (λ name. name.now) names.now) kinds.now (held_in schema.old) result
-        (record { room = room.old; size = size.old }) (record { room = room.new; size = size.new }) (held_in schema.new) }
+    ensures answers { CtfMetadataAnswers identity.now (map (λ n. n.now) names.now) kinds.now (held_in schema.old) result (text_in room.old size.old) (text_in room.new size.new) (held_in schema.new) }
     ensures stays { is_full schema.new ≡ is_full schema.old }
 {
     if !schema.is_held() {

@@ -3,8 +3,7 @@
 ghost use Rattle.std.specs.Prelude.{◌≡◌};
 ghost use Rattle.dspec_c.specs.CtfStatuses.{metadata_status, needed_of, packet_status, put_status, text_size, text_status};
 
-use dspec_ctf::{MetadataFault, PacketFault};
-use dspec_packets::{PutFault, TextFault};
+use dspec_ctf::{MetadataFault, PacketFault, PutFault, TextFault};
 
 pub const NO_STAMP: u32 = 12;
 

@@ -11,14 +11,14 @@ pub use Rattle.dspec_interleaving.specs.Play
 pub use Rattle.dspec_interleaving.specs.Coherent
 pub use Rattle.dspec_interleaving.specs.Turns
 pub use Rattle.dspec_interleaving.specs.Whole
-pub use Rattle.dspec_machine.specs.Shown
-pub use Rattle.dspec_machine.specs.Machines
+pub mod Shown
+pub mod Machines
 pub use Rattle.dspec_deeds.specs.Told
 pub use Rattle.dspec_interleaving.specs.Bounds
 pub use Rattle.dspec_interleaving.specs.SoloRule
 pub use Rattle.dspec_interleaving.specs.Calls
-pub use Rattle.dspec_machine.specs.WorldViews
-pub use Rattle.dspec_machine.specs.Worlds
+pub mod WorldViews
+pub mod Worlds
 pub use Rattle.dspec_deeds.specs.Closes
 pub use Rattle.dspec_interleaving.specs.ReadOff
 pub use Rattle.dspec_interleaving.specs.Plays
@@ -34,3 +34,8 @@ pub use Rattle.dspec_deeds.specs.WordSteps
 pub use Rattle.dspec_deeds.specs.OthersDeeds
 pub use Rattle.dspec_deeds.specs.Rules
 pub use Rattle.dspec_interleaving.specs.CpuClose
+pub mod Closings
+pub mod Decisions
+pub mod Standing
+pub mod Steps
+pub use Rattle.dspec_interleaving.specs.Laws

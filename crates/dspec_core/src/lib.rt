@@ -3,18 +3,27 @@
 //!
 //! It promises that each begin and each step leaves what the definition of a play says (`specs/Play.antt` and
 //! `specs/Turns.antt` of `dspec_interleaving`), that the list of deeds is legal throughout (`specs/Legal.antt` of `dspec_deeds`), that
-//! words, buffers and counts show it (`specs/Machines.antt` of `dspec_machine`), and that the headline is true of it: `World`
+//! words, buffers and counts show it (`specs/Machines.antt`), and that the headline is true of it: `World`
 //! for every interleaving over any schema and any buffer, `play` for whole schedules over lists. Users `use` this crate alone:
-//! it gives what the three below it have. Where a `Series` is gone over by `for`, or a deed or a fault is printed, crates.txt
-//! names `dspec_deeds` and `dspec_interleaving` too, in which those impls stand.
+//! it gives what `dspec_deeds` and `dspec_interleaving` have. Where a `Series` is gone over by `for`, or a deed or a fault is printed,
+//! crates.txt names both too, since those impls stand there.
 //!
 //! | File | What is in it |
 //! |---|---|
 //! | `world.rt` | `World`, the public session, over any schema and buffer |
 //! | `player.rt`, `actor.rt` | `play`, over lists; whether there is an actor |
+//! | `machine.rt`, `machine/cpu.rt` | `Machine`, the state behind a world; `Cpu`: the call in flight, the side, the second principal buffer, the stream and what was taken. `enter_record` and `enter_block` take the room of a deed first |
+//! | `machine/`: `decision.rt`, `walking.rt` | commit and discard as one; a walk over the slots |
+//! | `machine/`: `entering/`, `stepping/`, `dispatching.rt` | what one deed makes of a machine; the steps of each call; which step it is |
+//! | `machine/`: `starting.rt`, `beginning.rt`, `reporting.rt`, `finishing.rt` | the start, a begin, a report, the close |
+//! | `specs/`: Shown, Machines, Standing, Closings | `ShowsCpu`: the side shows the list of all; the machine; that a CPU has made no more calls than it may; what can be closed, and what the close makes of it |
+//! | `specs/`: Worlds, Steps, Decisions, WorldViews | `WorldInvariant`, with `IsWithin`; the steps; decisions; what a world keeps |
+//! | `proofs/`, of a CPU | KeptCpus (behind its own deed, another's, a release, a slot given out, a seal, a worn call), OwnSlots, OwnBlocks, DecidedCpus, Rooms, Within, Batches, WordsShown, OneMore, SlotReads |
+//! | `proofs/`, of a machine and a world | Makings, CleanMakings, MachineReads, DecisionMoves, SoloDiscards, TakenBatches; Starts, Keepings, PromiseKept, Settlings, Collected |
 #![tactic(auto)]
 
 mod actor;
+pub mod machine;
 mod player;
 mod world;
 

@@ -14,16 +14,16 @@ ghost use Rattle.dspec_deeds.specs.Own.{stream, taken};
 ghost use Rattle.dspec_interleaving.specs.Promised.{HasHeadline};
 ghost use Rattle.dspec_deeds.specs.Ranges.{start_fault};
 ghost use Rattle.dspec_deeds.specs.Reports.{report};
-ghost use Rattle.dspec_machine.specs.Shown.{ShowsWords};
+ghost use Rattle.dspec_core.specs.Shown.{ShowsWords};
 ghost use Rattle.dspec_cpu_state.specs.CpuStates.{ShowsList};
 ghost use Rattle.dspec_interleaving.specs.Turns.{at_start, begin_consumer, begin_cpu, step};
 
 use crate::actor::is_actor;
+use crate::machine::Machine;
 use dspec_buffer::TraceBuffer;
 use dspec_cpu_state::CpuState;
 use dspec_deeds::{Actor, Answer, Config, ConsumerOp, CpuOp, Deed, Op, Report, StartFault};
 use dspec_interleaving::{BeginFault, Close, StepFault, Stepped};
-use dspec_machine::Machine;
 use dspec_record::{Rec, Schema};
 use dspec_word::Word;
 use std::alloc::{AllocError, Global};
@@ -37,11 +37,11 @@ pub struct World<S: Schema, B: TraceBuffer<S>> {
 }
 
 impl<S: Schema, B: TraceBuffer<S>> Model for World<S, B> {
-    ghost use Rattle.dspec_machine.specs.WorldViews.{WorldView};
+    ghost use Rattle.dspec_core.specs.WorldViews.{WorldView};
 
     ghost Value = { WorldView S };
 
-    ghost use Rattle.dspec_machine.specs.Worlds.{WorldInvariant, world_view};
+    ghost use Rattle.dspec_core.specs.Worlds.{WorldInvariant, world_view};
 
     ghost view = { λ w. world_view w.machine };
 

@@ -1,9 +1,8 @@
 -- What shows a CPU's list behind a call of speculation.
-use Rattle.std.proofs.Common.{◌≡◌, ℕ, ◌+◌, ◌<◌, ◌≤◌, ◌==◌, Bool, true, false, not, ◌&&◌, List, [], ◌∷◌}
+use Rattle.std.proofs.Common.{◌≡◌, ℕ, ◌+◌, ◌<◌, ◌≤◌, ◌==◌, Bool, true, false, List, [], ◌∷◌}
 use Rattle.std.proofs.Common.{◌++◌, length, Option, if◌then◌else◌, refl, sym, ap, ◌∙◌, subst, ⊎_elim, arith, add-zero, true≢false}
 use Rattle.dspec_record.specs.Record.{Record}
 use Rattle.dspec_record.specs.declared.field.Shape.{Shape}
-use Rattle.dspec_word.specs.SpecId.{Speculation}
 use Rattle.dspec_deeds.specs.declared.config.Config.{Config}
 use Rattle.dspec_deeds.specs.declared.calls.Opening.{Opening}
 use Rattle.dspec_deeds.specs.declared.calls.Opening.TheVariants as opening
@@ -11,7 +10,7 @@ use Rattle.dspec_deeds.specs.declared.deed.Deed.{Deed}
 use Rattle.dspec_deeds.specs.declared.deed.Deed.TheVariants.{Scan, Opened, Miss}
 use Rattle.dspec_deeds.specs.Own.{calls, growing}
 use Rattle.dspec_deeds.specs.Owning.{CpuRow, is_of}
-use Rattle.dspec_deeds.specs.Reports.{missed_busy, one_if}
+use Rattle.dspec_deeds.specs.Reports.{missed_busy}
 use Rattle.dspec_deeds.specs.Weaving.{bare}
 use Rattle.dspec_deeds.proofs.TestLemmas.{either_way, number_is_itself, same_number}
 use Rattle.dspec_table.specs.declared.seats.CpuSeat.{CpuSeat}
@@ -21,117 +20,7 @@ use Rattle.dspec_cpu_state.specs.Counting.{counts_of, with_opening}
 use Rattle.dspec_cpu.specs.Lists.{IsShown}
 use Rattle.dspec_cpu.specs.Scans.{misses, any_busy, opening_deeds, IsOpening, is_worn_opening}
 use Rattle.dspec_cpu.proofs.Quiet.{quiet, quiet_shown}
-
--- what the deeds of a scan add to the counts
-module _ (k : Config) (c w : ℕ) where
-  -- a deed of a scan that ends no call
-  scan_counts : (p : List Deed) → counts_of k c w (Scan c true ∷ p) ≡ counts_of k c w p
-  scan_counts p = let n : Counts = counts_of k c w p in λ i. record n {
-    offered = add-zero n.offered i;
-    accepted = add-zero n.accepted i;
-    dropped = add-zero n.dropped i;
-    specdropped = add-zero n.specdropped i;
-    lost = add-zero n.lost i;
-    discarded = add-zero n.discarded i;
-    void = add-zero n.void i;
-    drops = add-zero n.drops i;
-    unavailable = add-zero n.unavailable i;
-    busy = add-zero n.busy i;
-    stopped = add-zero n.stopped i;
-  }
-
-  stop_counts : (p : List Deed) → counts_of k c w (Scan c false ∷ p) ≡ with_opening opening.Stopped (counts_of k c w p)
-  stop_counts p = let n : Counts = counts_of k c w p in rw (number_is_itself c)
-      (λ i. record n {
-        offered = add-zero n.offered i;
-        accepted = add-zero n.accepted i;
-        dropped = add-zero n.dropped i;
-        specdropped = add-zero n.specdropped i;
-        lost = add-zero n.lost i;
-        discarded = add-zero n.discarded i;
-        void = add-zero n.void i;
-        drops = add-zero n.drops i;
-        unavailable = n.unavailable + 0;
-        busy = n.busy + 0;
-        stopped = n.stopped + 1;
-      })
-
-  given_counts : (id : Speculation) (p : List Deed) → counts_of k c w (Opened c id ∷ p) ≡ with_opening (opening.Id id) (counts_of k c w p)
-  given_counts id p = let n : Counts = counts_of k c w p in λ i. record n {
-    offered = add-zero n.offered i;
-    accepted = add-zero n.accepted i;
-    dropped = add-zero n.dropped i;
-    specdropped = add-zero n.specdropped i;
-    lost = add-zero n.lost i;
-    discarded = add-zero n.discarded i;
-    void = add-zero n.void i;
-    drops = add-zero n.drops i;
-    unavailable = n.unavailable + 0;
-    busy = n.busy + 0;
-    stopped = n.stopped + 0;
-  }
-
-  module _ (s : ℕ) (b : Bool) (p : List Deed) where
-    abbrev n : Counts
-    n = counts_of k c w p
-
-    abbrev misses_now : Bool
-    misses_now = missed_busy c (Miss c s b ∷ p)
-
-    -- the Miss of a slot that isn't the last
-    miss_counts : (s == k.nspec) ≡ false → counts_of k c w (Miss c s b ∷ p) ≡ n
-    miss_counts at =
-        let one : n.unavailable + one_if (((s == k.nspec) && (c == c)) && not misses_now) ≡ n.unavailable =
-        ap (λ x. n.unavailable + one_if ((x && (c == c)) && not misses_now)) at ∙ add-zero n.unavailable in
-        let two : n.busy + one_if (((s == k.nspec) && (c == c)) && misses_now) ≡ n.busy = ap (λ x. n.busy + one_if ((x && (c == c)) && misses_now)) at ∙ add-zero n.busy in
-        λ i. record n {
-          offered = add-zero n.offered i;
-          accepted = add-zero n.accepted i;
-          dropped = add-zero n.dropped i;
-          specdropped = add-zero n.specdropped i;
-          lost = add-zero n.lost i;
-          discarded = add-zero n.discarded i;
-          void = add-zero n.void i;
-          drops = add-zero n.drops i;
-          unavailable = one i;
-          busy = two i;
-          stopped = add-zero n.stopped i;
-        }
-
-    -- the Miss of the last slot
-    last_busy : (s == k.nspec) ≡ true → misses_now ≡ true → counts_of k c w (Miss c s b ∷ p) ≡ with_opening opening.Busy n
-    last_busy at was =
-        λ i. record n {
-          offered = add-zero n.offered i;
-          accepted = add-zero n.accepted i;
-          dropped = add-zero n.dropped i;
-          specdropped = add-zero n.specdropped i;
-          lost = add-zero n.lost i;
-          discarded = add-zero n.discarded i;
-          void = add-zero n.void i;
-          drops = add-zero n.drops i;
-          unavailable =
-              n.unavailable + one_if ((at i && number_is_itself c i) && not (was i));
-          busy = n.busy + one_if ((at i && number_is_itself c i) && was i);
-          stopped = n.stopped + 0;
-        }
-
-    last_unavailable : (s == k.nspec) ≡ true → misses_now ≡ false → counts_of k c w (Miss c s b ∷ p) ≡ with_opening opening.Unavailable n
-    last_unavailable at was =
-        λ i. record n {
-          offered = add-zero n.offered i;
-          accepted = add-zero n.accepted i;
-          dropped = add-zero n.dropped i;
-          specdropped = add-zero n.specdropped i;
-          lost = add-zero n.lost i;
-          discarded = add-zero n.discarded i;
-          void = add-zero n.void i;
-          drops = add-zero n.drops i;
-          unavailable =
-              n.unavailable + one_if ((at i && number_is_itself c i) && not (was i));
-          busy = n.busy + one_if ((at i && number_is_itself c i) && was i);
-          stopped = n.stopped + 0;
-        }
+use Rattle.dspec_cpu.proofs.OpeningCounts.{given_counts, last_busy, last_unavailable, miss_counts, scan_counts, stop_counts}
 
 -- the same of all Misses
 module _ (k : Config) (c : ℕ) (p : List Deed) where

@@ -23,7 +23,7 @@ use Rattle.dspec_cpu.specs.Stops.{StopsWhereMet}
 use Rattle.dspec_cpu.specs.Scans.{any_busy, LookedAtSlot, Scanned, misses, opening_deeds, IsOpening, is_worn_opening}
 use Rattle.dspec_cpu.specs.Touching.{Touches, of_slots}
 use Rattle.dspec_cpu.proofs.Ready.{stands_behind, stands_called}
-use Rattle.dspec_cpu.proofs.Reaches.{goes_on}
+use Rattle.dspec_cpu.proofs.ReachDeeds.{goes_on}
 use Rattle.dspec_cpu.proofs.Stopping.{shown_stop, shown_running, heeded}
 use Rattle.dspec_cpu.proofs.Slots.{asked, stands_more}
 use Rattle.dspec_cpu.proofs.Touching.{slot_touched, touched_one}

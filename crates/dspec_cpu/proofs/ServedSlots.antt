@@ -5,7 +5,7 @@ use Rattle.dspec_word.specs.Word.{SlotState}
 use Rattle.dspec_table.specs.declared.rule.View.{View}
 use Rattle.dspec_cpu.specs.Calls.{rests}
 use Rattle.dspec_cpu.specs.Settled.{Settled, SettledBehind, SettledSlot, SettledSlots, SlotDone}
-use Rattle.dspec_cpu.proofs.Reaches.{goes_on}
+use Rattle.dspec_cpu.proofs.ReachDeeds.{goes_on}
 
 -- one Settle where the slot was settled, and none where it was passed
 here_count : (hit : Bool) (c slot : ℕ) (shown : SlotState) (u : View) (ds : List Deed) (w : View) → SettledBehind hit c slot shown u ds w → length ds ≡ (if hit then 1 else 0)

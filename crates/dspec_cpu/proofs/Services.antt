@@ -26,7 +26,7 @@ use Rattle.dspec_cpu.specs.Calls.{Goes, rests, steps}
 use Rattle.dspec_cpu.specs.Lists.{HasList, IsReady}
 use Rattle.dspec_cpu.specs.Reached.{Stands}
 use Rattle.dspec_cpu.specs.Settled.{DueSettled, IsDueAt, SlotDone, serving}
-use Rattle.dspec_cpu.proofs.Reaches.{goes_on}
+use Rattle.dspec_cpu.proofs.ReachDeeds.{goes_on}
 use Rattle.dspec_cpu.proofs.Settlements.{grant_tells}
 use Rattle.dspec_cpu.proofs.Ready.{holder, ready_after, set_up_is, stands_behind}
 

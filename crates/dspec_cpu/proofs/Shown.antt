@@ -16,18 +16,18 @@ use Rattle.dspec_cpu.proofs.Quiet.{sealed_on}
 
 module _ (shape : ℕ → Option Shape) (accepted : Record → Bool) (text : Record → List ℕ) {k : Config} {c : ℕ} {batches : List Batch} (side : CpuState Stored) (p : List Deed)
     (was : AreShown shape accepted text k c (parts_of_side side) batches side.counts p) where
-  abbrev pub keeps : Stored → List Piece → Type 0
-  keeps = HasPieces shape accepted text
+  abbrev pub stores : Stored → List Piece → Type 0
+  stores = HasPieces shape accepted text
 
   abbrev pub size_of : Stored → ℕ
   size_of = λ b. b.size
 
   -- what a side shows of the list
-  pub shows : ShowsList keeps size_of k c p side
+  pub shows : ShowsList stores size_of k c p side
   shows = record { parts = was.side; counted = was.counted }
 
   -- a side that shows a deed of the CPU's in front, which is no Seal, and the batches show it
-  pub shown_behind : (d : Deed) → is_seal d ≡ false → is_of c d ≡ true → CpuRow shape k p d → (now : CpuState Stored) → ShowsList keeps size_of k c (d ∷ p) now
+  pub shown_behind : (d : Deed) → is_seal d ≡ false → is_of c d ≡ true → CpuRow shape k p d → (now : CpuState Stored) → ShowsList stores size_of k c (d ∷ p) now
       → AreShown shape accepted text k c (parts_of_side now) batches now.counts (d ∷ p)
   shown_behind d unsealed mine row now shown = record {
     legal = (was.legal, mine, row);

@@ -25,7 +25,7 @@ use Rattle.dspec_cpu.specs.declared.reaching.Reach.TheVariants as reach
 use Rattle.dspec_cpu.specs.Lists.{AreShown}
 use Rattle.dspec_cpu.specs.Reaching.{IsPresentAt, is_reached, reached_deeds}
 use Rattle.dspec_cpu.proofs.Mine.{unmarked_empty}
-use Rattle.dspec_cpu.proofs.Shown.{keeps, size_of, shown_behind}
+use Rattle.dspec_cpu.proofs.Shown.{stores, size_of, shown_behind}
 
 abbrev pub asked : Speculation → Record → Bool → Bool → Doing
 asked id r fit mine = record { op = op.Speculate id r; fits = fit; count = 0; mine = mine }
@@ -55,7 +55,7 @@ module _ (shape : ℕ → Option Shape) (accepted : Record → Bool) (text : Rec
     (was : AreShown shape accepted text k c (parts_of_side side) batches side.counts p) where
   -- a record that was granted, and kept or dropped
   pub granted_shown : (id : Speculation) (r : Record) (kept b : Bool) → kept ≡ b → kept ≡ fits_speculative shape k c id r p → (now : CpuState Stored)
-      → ShowsList (keeps shape accepted text side p was) (size_of shape accepted text side p was) k c (Speculate c id r (if kept then spoken.Kept else spoken.Dropped) ∷ p) now
+      → ShowsList (stores shape accepted text side p was) (size_of shape accepted text side p was) k c (Speculate c id r (if kept then spoken.Kept else spoken.Dropped) ∷ p) now
       → AreShown shape accepted text k c (parts_of_side now) batches now.counts (Speculate c id r (if b then spoken.Kept else spoken.Dropped) ∷ p)
   granted_shown id r kept b is fitting now shown =
       subst (λ x. AreShown shape accepted text k c (parts_of_side now) batches now.counts (Speculate c id r (if x then spoken.Kept else spoken.Dropped) ∷ p)) is

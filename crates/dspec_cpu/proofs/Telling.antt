@@ -58,24 +58,24 @@ module _ {S : Type 0} (has : Cpu S → List Deed → Type 0) (old new : Cpu S) (
   pub traces_one : (r : Record) (a : Traced) → CallLeaves (is_worn_trace a) (is_stopped_trace a) 1 of_activity old new
       → Goes (known (seat_of old)) (traced_deeds (number_in old) r a) (known (seat_of new)) → ((p : List Deed) → has old p → has new (traced_deeds (number_in old) r a ++ p))
       → TracesOne has r a old new
-  traces_one r a k g l = record { tells = tells _ _ _ (goes_own g) k.wears (trace_told (number_in old) r a); keeps = k; does = record { did = g; list = l } }
+  traces_one r a k g l = record { tells = tells _ _ _ (goes_own g) k.wears (trace_told (number_in old) r a); leaves = k; does = record { did = g; list = l } }
 
   pub speculates_one : (id : Speculation) (r : Record) (a : Spoken) → CallLeaves (is_worn_spoken a) (is_stopped_spoken a) 4 (of_slot (config_of old) id) old new
       → Goes (known (seat_of old)) (spoken_deeds (number_in old) id r a) (known (seat_of new)) → ((p : List Deed) → has old p → has new (spoken_deeds (number_in old) id r a ++ p))
       → SpeculatesOne has id r a old new
-  speculates_one id r a k g l = record { tells = tells _ _ _ (goes_own g) k.wears (speculate_told (number_in old) id r a); keeps = k; does = record { did = g; list = l } }
+  speculates_one id r a k g l = record { tells = tells _ _ _ (goes_own g) k.wears (speculate_told (number_in old) id r a); leaves = k; does = record { did = g; list = l } }
 
   pub opens_one : (a : Opening) → CallLeaves (is_worn_opening a) (is_stopped_opening a) (1 + 2 * (config_of old).nspec) (of_slots (last_looked (config_of old).nspec a)) old new
       → Opens (config_of old) (number_in old) a (has old) (known (seat_of old)) (has new) (known (seat_of new)) → OpensOne has a old new
-  opens_one a k o = record { tells = tells [] _ _ (goes_own o.did) k.wears (opening_told (number_in old) o.missed a); keeps = k; opens = o }
+  opens_one a k o = record { tells = tells [] _ _ (goes_own o.did) k.wears (opening_told (number_in old) o.missed a); leaves = k; opens = o }
 
   pub commits_one : (id : Speculation) (a : Decided) → CallLeaves (is_worn_decided a) (is_stopped_decided a) 5 (of_slot (config_of old) id) old new
       → Decides (decision_deed commit (number_in old) id) id a (has old) (known (seat_of old)) (has new) (known (seat_of new)) → DecidesOne has commit id a old new
-  commits_one id a k d = record { tells = tells _ _ _ (goes_own d.did) k.wears (commit_told (number_in old) id d.alone a); keeps = k; decides = d }
+  commits_one id a k d = record { tells = tells _ _ _ (goes_own d.did) k.wears (commit_told (number_in old) id d.alone a); leaves = k; decides = d }
 
   pub discards_one : (id : Speculation) (a : Decided) → CallLeaves (is_worn_decided a) (is_stopped_decided a) 5 (of_slot (config_of old) id) old new
       → Decides (decision_deed discard (number_in old) id) id a (has old) (known (seat_of old)) (has new) (known (seat_of new)) → DecidesOne has discard id a old new
-  discards_one id a k d = record { tells = tells _ _ _ (goes_own d.did) k.wears (discard_told (number_in old) id d.alone a); keeps = k; decides = d }
+  discards_one id a k d = record { tells = tells _ _ _ (goes_own d.did) k.wears (discard_told (number_in old) id d.alone a); leaves = k; decides = d }
 
 -- settlements, one behind the other
 settles_append : (c : ℕ) (ss ts : List (Speculation × DecideFate)) → settles c (ss ++ ts) ≡ settles c ss ++ settles c ts

@@ -17,3 +17,4 @@ pub mod Keeping
 pub mod Standing
 pub mod Called
 pub mod OneCall
+pub mod Between

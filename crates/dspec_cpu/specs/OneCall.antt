@@ -39,25 +39,25 @@ module _ {S : Type 0} (has : Cpu S → List Deed → Type 0) where
   -- a record was traced
   pub record TracesOne (r : Record) (a : Traced) (old new : Cpu S) : Type 0 where
     pub tells : called new ≡ with_trace r a (called old)
-    pub keeps : CallLeaves (is_worn_trace a) (is_stopped_trace a) 1 of_activity old new
+    pub leaves : CallLeaves (is_worn_trace a) (is_stopped_trace a) 1 of_activity old new
     pub does : Does (traced_deeds (number_in old) r a) (has old) (known (seat_of old)) (has new) (known (seat_of new))
 
   -- a record was offered to a speculation
   pub record SpeculatesOne (id : Speculation) (r : Record) (a : Spoken) (old new : Cpu S) : Type 0 where
     pub tells : called new ≡ with_speculate id r a (called old)
-    pub keeps : CallLeaves (is_worn_spoken a) (is_stopped_spoken a) 4 (of_slot (config_of old) id) old new
+    pub leaves : CallLeaves (is_worn_spoken a) (is_stopped_spoken a) 4 (of_slot (config_of old) id) old new
     pub does : Does (spoken_deeds (number_in old) id r a) (has old) (known (seat_of old)) (has new) (known (seat_of new))
 
   -- a speculation was asked for
   pub record OpensOne (a : Opening) (old new : Cpu S) : Type 0 where
     pub tells : called new ≡ with_speculation a (called old)
-    pub keeps : CallLeaves (is_worn_opening a) (is_stopped_opening a) (1 + 2 * (config_of old).nspec) (of_slots (last_looked (config_of old).nspec a)) old new
+    pub leaves : CallLeaves (is_worn_opening a) (is_stopped_opening a) (1 + 2 * (config_of old).nspec) (of_slots (last_looked (config_of old).nspec a)) old new
     pub opens : Opens (config_of old) (number_in old) a (has old) (known (seat_of old)) (has new) (known (seat_of new))
 
   -- a speculation was committed or discarded
   pub record DecidesOne (b : By) (id : Speculation) (a : Decided) (old new : Cpu S) : Type 0 where
     pub tells : called new ≡ with_decision b id a (called old)
-    pub keeps : CallLeaves (is_worn_decided a) (is_stopped_decided a) 5 (of_slot (config_of old) id) old new
+    pub leaves : CallLeaves (is_worn_decided a) (is_stopped_decided a) 5 (of_slot (config_of old) id) old new
     pub decides : Decides (decision_deed b (number_in old) id) id a (has old) (known (seat_of old)) (has new) (known (seat_of new))
 
   -- the CPU did what it owed

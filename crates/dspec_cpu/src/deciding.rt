@@ -2,7 +2,8 @@ ghost use Rattle.std.specs.Prelude.{◌≡◌, if◌then◌else◌};
 ghost use Rattle.dspec_deeds.specs.declared.calls.CpuOp.TheVariants as op;
 ghost use Rattle.dspec_deeds.specs.declared.deed.Deed.TheVariants.{Commit, Discard};
 ghost use Rattle.dspec_table.specs.Seats.{known};
-ghost use Rattle.dspec_cpu.specs.Calls.{Decides, is_worn_decided};
+ghost use Rattle.dspec_cpu.specs.Calls.{is_worn_decided};
+ghost use Rattle.dspec_cpu.specs.Between.{DecidesBetween};
 ghost use Rattle.dspec_cpu.specs.Keeping.{CallLeaves};
 ghost use Rattle.dspec_cpu.specs.Lists.{IsSameCpu, config_of, number_in, seat_of, words_of};
 ghost use Rattle.dspec_cpu.specs.Stops.{is_stopped_decided};
@@ -49,8 +50,8 @@ impl<S: Schema> CpuParts<S> {
         requires ready { ⟦<CpuParts<S> as Callable>⟧.is_ready (words_of shared.now) self.old }
         ensures ready { ⟦<CpuParts<S> as Callable>⟧.is_ready (words_of shared.now) self.new }
         ensures same { IsSameCpu self.old self.new }
-        ensures keeps { CallLeaves (is_worn_decided result) (is_stopped_decided result) 5 (of_slot (config_of self.old) id) self.old self.new }
-        ensures decides { Decides (Commit (number_in self.old) id) id result (⟦<Cpu<S> as Listed>⟧.has_list self.old) (known (seat_of self.old)) (⟦<Cpu<S> as Listed>⟧.has_list self.new) (known (seat_of self.new)) }
+        ensures leaves { CallLeaves (is_worn_decided result) (is_stopped_decided result) 5 (of_slot (config_of self.old) id) self.old self.new }
+        ensures decides { DecidesBetween ⟦<Cpu<S> as Listed>⟧.has_list (Commit (number_in self.old) id) id result self.old self.new }
     {
         self.decide(shared, id, true)
     }
@@ -60,8 +61,8 @@ impl<S: Schema> CpuParts<S> {
         requires ready { ⟦<CpuParts<S> as Callable>⟧.is_ready (words_of shared.now) self.old }
         ensures ready { ⟦<CpuParts<S> as Callable>⟧.is_ready (words_of shared.now) self.new }
         ensures same { IsSameCpu self.old self.new }
-        ensures keeps { CallLeaves (is_worn_decided result) (is_stopped_decided result) 5 (of_slot (config_of self.old) id) self.old self.new }
-        ensures decides { Decides (Discard (number_in self.old) id) id result (⟦<Cpu<S> as Listed>⟧.has_list self.old) (known (seat_of self.old)) (⟦<Cpu<S> as Listed>⟧.has_list self.new) (known (seat_of self.new)) }
+        ensures leaves { CallLeaves (is_worn_decided result) (is_stopped_decided result) 5 (of_slot (config_of self.old) id) self.old self.new }
+        ensures decides { DecidesBetween ⟦<Cpu<S> as Listed>⟧.has_list (Discard (number_in self.old) id) id result self.old self.new }
     {
         self.decide(shared, id, false)
     }
@@ -72,8 +73,8 @@ impl<S: Schema> CpuParts<S> {
         requires ready { ⟦<CpuParts<S> as Callable>⟧.is_ready (words_of shared.now) self.old }
         ensures ready { ⟦<CpuParts<S> as Callable>⟧.is_ready (words_of shared.now) self.new }
         ensures same { IsSameCpu self.old self.new }
-        ensures keeps { CallLeaves (is_worn_decided result) (is_stopped_decided result) 5 (of_slot (config_of self.old) id) self.old self.new }
-        ensures decides { Decides (if commits then Commit (number_in self.old) id else Discard (number_in self.old) id) id result (⟦<Cpu<S> as Listed>⟧.has_list self.old) (known (seat_of self.old)) (⟦<Cpu<S> as Listed>⟧.has_list self.new) (known (seat_of self.new)) }
+        ensures leaves { CallLeaves (is_worn_decided result) (is_stopped_decided result) 5 (of_slot (config_of self.old) id) self.old self.new }
+        ensures decides { DecidesBetween ⟦<Cpu<S> as Listed>⟧.has_list (if commits then Commit (number_in self.old) id else Discard (number_in self.old) id) id result self.old self.new }
     {
         if self.side.calls >= self.config.max_calls {
             self.side.counts.wear();

@@ -1,11 +1,10 @@
 ghost use Rattle.std.specs.Prelude.{◌≡◌, ◌+◌, ◌-◌, ◌==◌, true, List, length, IsTrue, Some, slice_get};
-ghost use Rattle.dspec_buffer.specs.Extent.{block};
 ghost use Rattle.dspec_deeds.specs.declared.deed.Deed.{Deed};
 ghost use Rattle.dspec_deeds.specs.History.{in_range};
-ghost use Rattle.dspec_deeds.specs.Legal.{fits_principal, fits_speculative};
+ghost use Rattle.dspec_deeds.specs.Legal.{fits_speculative};
 ghost use Rattle.dspec_deeds.specs.Marks.{mark};
-ghost use Rattle.dspec_deeds.specs.Own.{contents, held};
-ghost use Rattle.dspec_cpu_state.specs.CpuStates.{IsCaller};
+ghost use Rattle.dspec_deeds.specs.Own.{held};
+ghost use Rattle.dspec_cpu.specs.Between.{OfCaller, cpu_block_fits};
 
 use crate::cpu::Cpu;
 use crate::listed::Listed;
@@ -44,8 +43,7 @@ impl<S: Schema> CpuParts<S> {
         requires inside { inside ≡ in_range self.now.config id }
         requires some { (p : List Deed) × ⟦<Cpu<S> as Listed>⟧.is_shown self.now p }
         requires accepted { IsTrue (S.accepted self.now.schema (R.as_record rec)) }
-        ensures { inside ≡ true → (p : List Deed) → ⟦<Cpu<S> as Listed>⟧.is_shown self.now p → IsCaller self.now.cpu id mine p
-            → result ≡ fits_speculative (S.shape_of self.now.schema) self.now.config self.now.cpu id (R.as_record rec) p }
+        ensures { inside ≡ true → OfCaller ⟦<Cpu<S> as Listed>⟧.is_shown self.now id mine (λ p. result ≡ fits_speculative (S.shape_of self.now.schema) self.now.config self.now.cpu id (R.as_record rec) p) }
     {
         if !inside {
             return false;
@@ -59,10 +57,8 @@ impl<S: Schema> CpuParts<S> {
     pub(crate) fn measure_slot(&self, id: SpecId, mine: bool, inside: bool) -> (bool, u32)
         requires inside { inside ≡ in_range self.now.config id }
         requires some { (p : List Deed) × ⟦<Cpu<S> as Listed>⟧.is_shown self.now p }
-        ensures fits { inside ≡ true → (p : List Deed) → ⟦<Cpu<S> as Listed>⟧.is_shown self.now p → IsCaller self.now.cpu id mine p
-            → result.0 ≡ fits_principal (S.shape_of self.now.schema) self.now.config self.now.cpu (block (contents (held self.now.cpu id p))) p }
-        ensures count { inside ≡ true → (p : List Deed) → ⟦<Cpu<S> as Listed>⟧.is_shown self.now p → IsCaller self.now.cpu id mine p
-            → result.1 ≡ length (held self.now.cpu id p) }
+        ensures fits { inside ≡ true → OfCaller ⟦<Cpu<S> as Listed>⟧.is_shown self.now id mine (λ p. result.0 ≡ cpu_block_fits (S.shape_of self.now.schema) self.now id p) }
+        ensures count { inside ≡ true → OfCaller ⟦<Cpu<S> as Listed>⟧.is_shown self.now id mine (λ p. result.1 ≡ length (held self.now.cpu id p)) }
     {
         if !inside {
             return (false, 0);

@@ -20,7 +20,7 @@ impl<S: Schema> Cpu<S> {
         requires consumer { IsConsumerAt (words_of shared.now) consumer.old }
         ensures consumer { IsConsumerAt (words_of shared.now) consumer.new }
         ensures same { (identity self.new ≡ identity self.old) × (worn_of self.new ≡ worn_of self.old) }
-        ensures keeps { MovesItsSeat self.old self.new }
+        ensures leaves { MovesItsSeat self.old self.new }
         ensures met { Met (known (seat_of self.old)) (known_there consumer.old) (known (seat_of self.new)) (known_there consumer.new) }
         ensures list { (p : List Deed) → ⟦<Cpu<S> as Listed>⟧.has_list self.old p → ⟦<Cpu<S> as Listed>⟧.has_list self.new p }
     {

@@ -3,7 +3,8 @@ ghost use Rattle.dspec_table.specs.Seats.{known};
 ghost use Rattle.dspec_cpu_state.specs.Counting.{is_stopped_opening};
 ghost use Rattle.dspec_cpu.specs.Keeping.{CallLeaves};
 ghost use Rattle.dspec_cpu.specs.Lists.{IsSameCpu, config_of, number_in, seat_of, words_of};
-ghost use Rattle.dspec_cpu.specs.Scans.{Opens, is_worn_opening};
+ghost use Rattle.dspec_cpu.specs.Scans.{is_worn_opening};
+ghost use Rattle.dspec_cpu.specs.Between.{OpensBetween};
 ghost use Rattle.dspec_cpu.specs.Touching.{last_looked, of_slots};
 
 use crate::callable::Callable;
@@ -21,8 +22,8 @@ impl<S: Schema> CpuParts<S> {
         requires ready { ⟦<CpuParts<S> as Callable>⟧.is_ready (words_of shared.now) self.old }
         ensures ready { ⟦<CpuParts<S> as Callable>⟧.is_ready (words_of shared.now) self.new }
         ensures same { IsSameCpu self.old self.new }
-        ensures keeps { CallLeaves (is_worn_opening result) (is_stopped_opening result) (1 + 2 * (config_of self.old).nspec) (of_slots (last_looked (config_of self.old).nspec result)) self.old self.new }
-        ensures opens { Opens (config_of self.old) (number_in self.old) result (⟦<Cpu<S> as Listed>⟧.has_list self.old) (known (seat_of self.old)) (⟦<Cpu<S> as Listed>⟧.has_list self.new) (known (seat_of self.new)) }
+        ensures leaves { CallLeaves (is_worn_opening result) (is_stopped_opening result) (1 + 2 * (config_of self.old).nspec) (of_slots (last_looked (config_of self.old).nspec result)) self.old self.new }
+        ensures opens { OpensBetween ⟦<Cpu<S> as Listed>⟧.has_list result self.old self.new }
     {
         if self.side.calls >= self.config.max_calls {
             self.side.counts.wear();

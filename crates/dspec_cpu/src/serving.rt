@@ -1,7 +1,7 @@
 ghost use Rattle.std.specs.Prelude.{◌≡◌, ◌≤◌, ◌+◌, ◌*◌};
 ghost use Rattle.dspec_table.specs.Seats.{known};
 ghost use Rattle.dspec_cpu.specs.Lists.{IsSameCpu, config_of, end_of, held_back_of, number_in, seat_of, words_of, worn_of};
-ghost use Rattle.dspec_cpu.specs.Serving.{Serves};
+ghost use Rattle.dspec_cpu.specs.Between.{ServesBetween};
 ghost use Rattle.dspec_cpu.specs.Switching.{buffers_of, most_moves};
 ghost use Rattle.dspec_cpu.specs.Touching.{Touches, of_service};
 
@@ -23,7 +23,7 @@ impl<S: Schema> CpuParts<S> {
         ensures bounded { (known (seat_of self.new)).steps ≤ (known (seat_of self.old)).steps + 1 + 2 * (config_of self.old).nspec }
         ensures touches { Touches (of_service (config_of self.old) (number_in self.old)) (known (seat_of self.old)) (known (seat_of self.new)) }
         ensures moves { (end_of self.new).moves ≤ (end_of self.old).moves + most_moves (held_back_of self.old) }
-        ensures serves { Serves (config_of self.old) (number_in self.old) result (⟦<Cpu<S> as Listed>⟧.has_list self.old) (known (seat_of self.old)) (buffers_of self.old) (⟦<Cpu<S> as Listed>⟧.has_list self.new) (known (seat_of self.new)) (buffers_of self.new) }
+        ensures serves { ServesBetween ⟦<Cpu<S> as Listed>⟧.has_list result self.old self.new }
     {
         let sealed = self.switch(&shared.words);
         let settled = self.settle_slots(&shared.words);

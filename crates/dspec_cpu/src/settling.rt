@@ -6,7 +6,8 @@ ghost use Rattle.dspec_table.specs.Seats.{known};
 ghost use Rattle.dspec_cpu.specs.Closing.{CanSettleSlot, SettlesSlot};
 ghost use Rattle.dspec_cpu.specs.Lists.{IsSameCpu, config_of, number_in, seat_of, worn_of};
 ghost use Rattle.dspec_cpu.specs.Rests.{AreItsWords, IsSameRest, config_of_rest, number_of_rest};
-ghost use Rattle.dspec_cpu.specs.Settled.{BlockSettled, CanSettle, DueSettled, IsDueAt, KeepsBatches, Settled, SlotDone, serving, shown_at};
+ghost use Rattle.dspec_cpu.specs.Settled.{CanSettle, DueSettled, IsDueAt, KeepsBatches, SlotDone, serving, shown_at};
+ghost use Rattle.dspec_cpu.specs.Between.{SettlesBetween, SettlesBlock};
 
 use crate::callable::Callable;
 use crate::cpu::Cpu;
@@ -48,9 +49,7 @@ pub(crate) fn settle_block<S: Schema>(
     ensures op { result.op ≡ CpuOp.Service }
     ensures worn { side.new.counts.worn ≡ side.old.counts.worn }
     ensures seals { side.new.seals ≡ side.old.seals }
-    ensures settled { (s : S) (c : ℕ) (batches : List Batch) (p : List Deed)
-        → CanSettle (S.shape_of s) (S.accepted s) (S.text s) config.now c side.old batches (shown_at slot word) word.code p
-        → BlockSettled (S.shape_of s) (S.accepted s) (S.text s) config.now c side.new batches (shown_at slot word) word.code result p }
+    ensures settled { SettlesBlock S.shape_of S.accepted S.text config.now (shown_at slot word) word.code result side.old side.new }
 {
     let id = SpecId::of(word.issue(), slot);
     let mine = side.is_mine(id);
@@ -69,7 +68,7 @@ impl<S: Schema> CpuParts<S> {
         requires due { IsDueAt (number_in self.old) slot word (known (seat_of self.old)) }
         ensures ready { ⟦<CpuParts<S> as Callable>⟧.is_ready words.now self.new }
         ensures same { IsSameCpu self.old self.new × (worn_of self.new ≡ worn_of self.old) }
-        ensures keeps { KeepsBatches self.old self.new }
+        ensures leaves { KeepsBatches self.old self.new }
         ensures settled { DueSettled (number_in self.old) slot word (⟦<Cpu<S> as Listed>⟧.has_list self.old) (known (seat_of self.old)) (⟦<Cpu<S> as Listed>⟧.has_list self.new) (known (seat_of self.new)) }
     {
         // Read for its range: no count is above it.
@@ -84,7 +83,7 @@ impl<S: Schema> CpuParts<S> {
         requires slot { (1 ≤ slot) × (slot ≤ (config_of self.old).nspec) }
         ensures ready { ⟦<CpuParts<S> as Callable>⟧.is_ready words.now self.new }
         ensures same { IsSameCpu self.old self.new × (worn_of self.new ≡ worn_of self.old) }
-        ensures keeps { KeepsBatches self.old self.new }
+        ensures leaves { KeepsBatches self.old self.new }
         ensures settled { SlotDone (number_in self.old) slot result (⟦<Cpu<S> as Listed>⟧.has_list self.old) (known (seat_of self.old)) (⟦<Cpu<S> as Listed>⟧.has_list self.new) (known (seat_of self.new)) }
     {
         let word = self.seat.load_word(words, slot, &serve(false, 0, false));
@@ -107,8 +106,8 @@ impl<S: Schema> CpuParts<S> {
         requires ready { ⟦<CpuParts<S> as Callable>⟧.is_ready words.now self.old }
         ensures ready { ⟦<CpuParts<S> as Callable>⟧.is_ready words.now self.new }
         ensures same { IsSameCpu self.old self.new × (worn_of self.new ≡ worn_of self.old) }
-        ensures keeps { KeepsBatches self.old self.new }
-        ensures settled { Settled (number_in self.old) (config_of self.old).nspec result (⟦<Cpu<S> as Listed>⟧.has_list self.old) (known (seat_of self.old)) (⟦<Cpu<S> as Listed>⟧.has_list self.new) (known (seat_of self.new)) }
+        ensures leaves { KeepsBatches self.old self.new }
+        ensures settled { SettlesBetween ⟦<Cpu<S> as Listed>⟧.has_list result self.old self.new }
     {
         let mut settled = 0;
         for slot in 1..self.config.nspec + 1 {

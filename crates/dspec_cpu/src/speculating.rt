@@ -30,7 +30,7 @@ impl<S: Schema> CpuParts<S> {
         requires laid { IsLaidBy (S.shape_of (schema_of self.old)) (S.text (schema_of self.old)) (R.as_record rec) (R.laid_as rec) }
         ensures ready { ⟦<CpuParts<S> as Callable>⟧.is_ready (words_of shared.now) self.new }
         ensures same { IsSameCpu self.old self.new }
-        ensures keeps { CallLeaves (is_worn_spoken result) (is_stopped_spoken result) 4 (of_slot (config_of self.old) id) self.old self.new }
+        ensures leaves { CallLeaves (is_worn_spoken result) (is_stopped_spoken result) 4 (of_slot (config_of self.old) id) self.old self.new }
         ensures did { Goes (known (seat_of self.old)) (spoken_deeds (number_in self.old) id (R.as_record rec) result) (known (seat_of self.new)) }
         ensures list { (p : List Deed) → ⟦<Cpu<S> as Listed>⟧.has_list self.old p
             → ⟦<Cpu<S> as Listed>⟧.has_list self.new (spoken_deeds (number_in self.old) id (R.as_record rec) result ++ p) }
@@ -68,7 +68,7 @@ impl<S: Schema> CpuParts<S> {
         requires marked { mine ≡ true → slice_get self.old.side.marks (id.slot - 1) ≡ Some (id.issue + 1) }
         ensures ready { ⟦<CpuParts<S> as Callable>⟧.is_ready (words_of shared.now) self.new }
         ensures same { IsSameCpu self.old self.new }
-        ensures keeps { CallLeaves (is_worn_spoken result) (is_stopped_spoken result) 4 (of_slot (config_of self.old) id) self.old self.new }
+        ensures leaves { CallLeaves (is_worn_spoken result) (is_stopped_spoken result) 4 (of_slot (config_of self.old) id) self.old self.new }
         ensures did { Goes (known (seat_of self.old)) (spoken_deeds (number_in self.old) id (R.as_record rec) result) (known (seat_of self.new)) }
         ensures list { (p : List Deed) → ⟦<Cpu<S> as Listed>⟧.has_list self.old p
             → ⟦<Cpu<S> as Listed>⟧.has_list self.new (spoken_deeds (number_in self.old) id (R.as_record rec) result ++ p) }

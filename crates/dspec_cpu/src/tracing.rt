@@ -24,7 +24,7 @@ impl<S: Schema> CpuParts<S> {
         requires accepted { IsTrue (S.accepted (schema_of self.old) rec.now) }
         ensures ready { ⟦<CpuParts<S> as Callable>⟧.is_ready (words_of shared.now) self.new }
         ensures same { IsSameCpu self.old self.new }
-        ensures keeps { CallLeaves (is_worn_trace result) (is_stopped_trace result) 1 of_activity self.old self.new }
+        ensures leaves { CallLeaves (is_worn_trace result) (is_stopped_trace result) 1 of_activity self.old self.new }
         ensures did { Goes (known (seat_of self.old)) (traced_deeds (number_in self.old) rec.now result) (known (seat_of self.new)) }
         ensures list { (p : List Deed) → ⟦<Cpu<S> as Listed>⟧.has_list self.old p
             → ⟦<Cpu<S> as Listed>⟧.has_list self.new (traced_deeds (number_in self.old) rec.now result ++ p) }
@@ -40,7 +40,7 @@ impl<S: Schema> CpuParts<S> {
         requires laid { IsLaidBy (S.shape_of (schema_of self.old)) (S.text (schema_of self.old)) (R.as_record rec) (R.laid_as rec) }
         ensures ready { ⟦<CpuParts<S> as Callable>⟧.is_ready (words_of shared.now) self.new }
         ensures same { IsSameCpu self.old self.new }
-        ensures keeps { CallLeaves (is_worn_trace result) (is_stopped_trace result) 1 of_activity self.old self.new }
+        ensures leaves { CallLeaves (is_worn_trace result) (is_stopped_trace result) 1 of_activity self.old self.new }
         ensures did { Goes (known (seat_of self.old)) (traced_deeds (number_in self.old) (R.as_record rec) result) (known (seat_of self.new)) }
         ensures list { (p : List Deed) → ⟦<Cpu<S> as Listed>⟧.has_list self.old p
             → ⟦<Cpu<S> as Listed>⟧.has_list self.new (traced_deeds (number_in self.old) (R.as_record rec) result ++ p) }

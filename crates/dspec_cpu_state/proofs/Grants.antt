@@ -26,7 +26,7 @@ use Rattle.dspec_cpu_state.specs.declared.cpu_state.CpuState.{CpuState}
 use Rattle.dspec_cpu_state.specs.Counting.{counts_of, with_spoken}
 use Rattle.dspec_cpu_state.specs.CpuStates.{IsFilledWith, IsCaller, ShowsList}
 use Rattle.dspec_cpu_state.proofs.Drops.{AreDropped}
-use Rattle.dspec_cpu_state.proofs.Tallies.{spoken_counts}
+use Rattle.dspec_cpu_state.proofs.OfferTallies.{spoken_counts}
 use Rattle.dspec_cpu_state.proofs.Places.{got_set, got_other}
 
 module _ {B : Type 0} (keeps : B → List Piece → Type 0) (capacity : B → ℕ) (shape : ℕ → Option Shape) {k : Config} {c : ℕ} {side : CpuState B} (p : List Deed)

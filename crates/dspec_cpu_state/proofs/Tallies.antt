@@ -1,128 +1,21 @@
--- What one deed more adds to the counts.
+-- What a decision, a settlement and a release add to the counts; how drops are counted.
 use Rattle.std.proofs.Common.{◌≡◌, ℕ, ◌+◌, ◌≤◌, Bool, true, false, List, [], ◌∷◌, ◌++◌, if◌then◌else◌, arith, add-zero, true≢false}
-use Rattle.dspec_record.specs.Record.{Record}
-use Rattle.dspec_deeds.specs.declared.config.Config.{Config}
-use Rattle.dspec_deeds.specs.declared.deed.TraceFate.{TraceFate}
-use Rattle.dspec_deeds.specs.declared.deed.TraceFate.TheVariants as traced
 use Rattle.dspec_word.specs.SpecId.{Speculation}
-use Rattle.dspec_deeds.specs.declared.deed.SpeculateFate.{SpeculateFate}
-use Rattle.dspec_deeds.specs.declared.deed.SpeculateFate.TheVariants as spoken
+use Rattle.dspec_deeds.specs.declared.config.Config.{Config}
 use Rattle.dspec_deeds.specs.declared.deed.DecideFate.{DecideFate}
 use Rattle.dspec_deeds.specs.declared.deed.DecideFate.TheVariants as decided
 use Rattle.dspec_deeds.specs.FateKinds.{is_commit, is_discard, decided_stopped}
 use Rattle.dspec_deeds.specs.declared.deed.Deed.{Deed}
-use Rattle.dspec_deeds.specs.declared.deed.Deed.TheVariants.{Trace, Speculate, Commit, Discard, Settle, Release}
+use Rattle.dspec_deeds.specs.declared.deed.Deed.TheVariants.{Commit, Discard, Settle, Release}
 use Rattle.dspec_deeds.specs.Own.{empty_batch, growing, is_drop, seals_now, accepts}
 use Rattle.dspec_deeds.specs.Reports.{total, one_if}
 use Rattle.dspec_deeds.proofs.TestLemmas.{number_is_itself}
 use Rattle.dspec_cpu_state.specs.declared.counts.Counts.{Counts}
-use Rattle.dspec_cpu_state.specs.Counting.{counts_of, with_traced, with_spoken, with_decided}
+use Rattle.dspec_cpu_state.specs.Counting.{counts_of, with_decided}
 
 module _ (k : Config) (c w : ℕ) (p : List Deed) where
   abbrev n : Counts
   n = counts_of k c w p
-
-  pub traced_counts : (r : Record) (f : TraceFate) → counts_of k c w (Trace c r f ∷ p) ≡ with_traced f n
-  traced_counts r traced.Kept = rw (number_is_itself c)
-      (λ i. record n {
-        offered = n.offered + 1;
-        accepted = n.accepted + 1;
-        dropped = n.dropped + 0;
-        specdropped = add-zero n.specdropped i;
-        lost = add-zero n.lost i;
-        discarded = add-zero n.discarded i;
-        void = n.void + 0;
-        drops = n.drops + 0;
-        unavailable = add-zero n.unavailable i;
-        busy = add-zero n.busy i;
-        stopped = n.stopped + 0;
-      })
-  traced_counts r traced.Dropped = rw (number_is_itself c)
-      (λ i. record n {
-        offered = n.offered + 1;
-        accepted = n.accepted + 0;
-        dropped = n.dropped + 1;
-        specdropped = add-zero n.specdropped i;
-        lost = add-zero n.lost i;
-        discarded = add-zero n.discarded i;
-        void = n.void + 0;
-        drops = n.drops + 1;
-        unavailable = add-zero n.unavailable i;
-        busy = add-zero n.busy i;
-        stopped = n.stopped + 0;
-      })
-  traced_counts r traced.Stopped = rw (number_is_itself c)
-      (λ i. record n {
-        offered = n.offered + 1;
-        accepted = n.accepted + 0;
-        dropped = n.dropped + 0;
-        specdropped = add-zero n.specdropped i;
-        lost = add-zero n.lost i;
-        discarded = add-zero n.discarded i;
-        void = n.void + 1;
-        drops = n.drops + 0;
-        unavailable = add-zero n.unavailable i;
-        busy = add-zero n.busy i;
-        stopped = n.stopped + 1;
-      })
-
-  pub spoken_counts : (id : Speculation) (r : Record) (f : SpeculateFate) → counts_of k c w (Speculate c id r f ∷ p) ≡ with_spoken f n
-  spoken_counts id r spoken.Kept = rw (number_is_itself c)
-      (λ i. record n {
-        offered = n.offered + 1;
-        accepted = add-zero n.accepted i;
-        dropped = add-zero n.dropped i;
-        specdropped = n.specdropped + 0;
-        lost = add-zero n.lost i;
-        discarded = add-zero n.discarded i;
-        void = n.void + 0;
-        drops = add-zero n.drops i;
-        unavailable = add-zero n.unavailable i;
-        busy = add-zero n.busy i;
-        stopped = n.stopped + 0;
-      })
-  spoken_counts id r spoken.Dropped = rw (number_is_itself c)
-      (λ i. record n {
-        offered = n.offered + 1;
-        accepted = add-zero n.accepted i;
-        dropped = add-zero n.dropped i;
-        specdropped = n.specdropped + 1;
-        lost = add-zero n.lost i;
-        discarded = add-zero n.discarded i;
-        void = n.void + 0;
-        drops = add-zero n.drops i;
-        unavailable = add-zero n.unavailable i;
-        busy = add-zero n.busy i;
-        stopped = n.stopped + 0;
-      })
-  spoken_counts id r spoken.Void = rw (number_is_itself c)
-      (λ i. record n {
-        offered = n.offered + 1;
-        accepted = add-zero n.accepted i;
-        dropped = add-zero n.dropped i;
-        specdropped = n.specdropped + 0;
-        lost = add-zero n.lost i;
-        discarded = add-zero n.discarded i;
-        void = n.void + 1;
-        drops = add-zero n.drops i;
-        unavailable = add-zero n.unavailable i;
-        busy = add-zero n.busy i;
-        stopped = n.stopped + 0;
-      })
-  spoken_counts id r spoken.Stopped = rw (number_is_itself c)
-      (λ i. record n {
-        offered = n.offered + 1;
-        accepted = add-zero n.accepted i;
-        dropped = add-zero n.dropped i;
-        specdropped = n.specdropped + 0;
-        lost = add-zero n.lost i;
-        discarded = add-zero n.discarded i;
-        void = n.void + 1;
-        drops = add-zero n.drops i;
-        unavailable = add-zero n.unavailable i;
-        busy = add-zero n.busy i;
-        stopped = n.stopped + 1;
-      })
 
   -- a commit is never thrown
   pub commit_counts : (id : Speculation) (f : DecideFate) → is_discard f ≡ false → counts_of k c w (Commit c id f ∷ p) ≡ with_decided f n

@@ -16,7 +16,8 @@ use Rattle.dspec_cpu_state.specs.declared.counts.Counts.{Counts}
 use Rattle.dspec_cpu_state.specs.declared.cpu_state.CpuState.{CpuState}
 use Rattle.dspec_cpu_state.specs.Counting.{counts_of, with_decided, with_spoken}
 use Rattle.dspec_cpu_state.specs.CpuStates.{ShowsList}
-use Rattle.dspec_cpu_state.proofs.Tallies.{commit_counts, discard_counts, spoken_counts}
+use Rattle.dspec_cpu_state.proofs.OfferTallies.{spoken_counts}
+use Rattle.dspec_cpu_state.proofs.Tallies.{commit_counts, discard_counts}
 use Rattle.dspec_cpu_state.proofs.Quiet.{quiet_shown}
 
 one_call : (c n : ℕ) → n + 1 ≡ n + (if c == c then 1 else 0)

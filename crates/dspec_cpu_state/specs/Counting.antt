@@ -1,11 +1,12 @@
 -- Cited by calls. The counts that a CPU keeps, read off its own list. The records held are what is left of those offered.
-use Rattle.std.specs.Prelude.{ℕ, ◌+◌, ◌^◌, ◌<◌, Bool, true, false, not, ◌&&◌, nat_lt, List, if◌then◌else◌}
+use Rattle.std.specs.Prelude.{ℕ, ◌+◌, ◌-◌, ◌^◌, ◌<◌, Bool, true, false, not, ◌&&◌, nat_lt, List, if◌then◌else◌}
 use Rattle.dspec_deeds.specs.declared.config.Config.{Config}
 use Rattle.dspec_deeds.specs.declared.deed.TraceFate.{TraceFate}
 use Rattle.dspec_deeds.specs.declared.deed.SpeculateFate.{SpeculateFate}
 use Rattle.dspec_deeds.specs.declared.deed.DecideFate.{DecideFate}
 use Rattle.dspec_deeds.specs.declared.deed.Deed.{Deed}
 use Rattle.dspec_deeds.specs.declared.calls.Opening.{Opening}
+use Rattle.dspec_deeds.specs.declared.report.Report.{Report}
 use Rattle.dspec_deeds.specs.declared.calls.Opening.TheVariants as opening
 use Rattle.dspec_deeds.specs.FateKinds.{trace_kept, trace_dropped, trace_stopped, spoken_dropped, spoken_nowhere, spoken_stopped, is_copied, is_lost, is_discard, count_of, decided_stopped}
 use Rattle.dspec_deeds.specs.Own.{offers, is_drop}
@@ -100,6 +101,24 @@ with_missed last busy n = record n {
 -- the records that are not held
 abbrev pub with_fate : Counts → ℕ
 with_fate n = n.accepted + n.dropped + n.specdropped + n.lost + n.discarded + n.void
+
+-- the report of the counts: the records that have no other fate are held
+abbrev pub report_of : Counts → Report
+report_of n = record {
+  offered = n.offered;
+  accepted = n.accepted;
+  dropped = n.dropped;
+  specdropped = n.specdropped;
+  lost = n.lost;
+  discarded = n.discarded;
+  void = n.void;
+  held = n.offered - with_fate n;
+  drops = n.drops;
+  unavailable = n.unavailable;
+  busy = n.busy;
+  stopped = n.stopped;
+  worn = n.worn;
+}
 
 -- one call more can be counted, of at most 2 ^ 32 records
 pub record IsRoomy (n : Counts) : Type 0 where

@@ -1,3 +1,4 @@
 pub mod Counting
 pub mod CpuStates
+pub mod Showing
 mod MarkPlaces

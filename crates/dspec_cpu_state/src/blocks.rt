@@ -1,16 +1,15 @@
-ghost use Rattle.std.specs.Prelude.{◌≡◌, ◌<◌, ◌≤◌, ◌+◌, ◌-◌, ◌^◌, ◌||◌, ◌∷◌, [], ℕ, true, false, List, length, map, slice_get, slice_set, Option, Some, if◌then◌else◌};
+ghost use Rattle.std.specs.Prelude.{◌≡◌, ◌<◌, ◌≤◌, ◌+◌, ◌-◌, ◌^◌, [], ℕ, false, List, length, map, if◌then◌else◌};
 ghost use Rattle.dspec_record.specs.Record.{Record};
-ghost use Rattle.dspec_record.specs.declared.field.Shape.{Shape};
-ghost use Rattle.dspec_buffer.specs.Extent.{Piece, one, block, piece_fits};
+ghost use Rattle.dspec_buffer.specs.Extent.{Piece, one};
 ghost use Rattle.dspec_word.specs.SpecId.{Speculation};
 ghost use Rattle.dspec_deeds.specs.declared.config.Config.{Config};
 ghost use Rattle.dspec_deeds.specs.declared.deed.Deed.{Deed};
 ghost use Rattle.dspec_deeds.specs.declared.deed.Deed.TheVariants.{Commit, Discard, Settle};
 ghost use Rattle.dspec_deeds.specs.FateKinds.{is_commit, is_copied, is_discard, is_lost};
-ghost use Rattle.dspec_deeds.specs.Legal.{CpuLegal, fits_principal};
-ghost use Rattle.dspec_deeds.specs.Own.{active, contents, held};
-ghost use Rattle.dspec_cpu_state.specs.Counting.{HasRoom, IsRoomy, counts_of, with_decided};
+ghost use Rattle.dspec_deeds.specs.Own.{held};
+ghost use Rattle.dspec_cpu_state.specs.Counting.{HasRoom, IsRoomy, with_decided};
 ghost use Rattle.dspec_cpu_state.specs.CpuStates.{IsCaller, ShowsList, committed_fate, settled_fate};
+ghost use Rattle.dspec_cpu_state.specs.Showing.{ChangesAt, ShowsEnded, ShowsNext, TakesBlock, TellsBlock, TellsBlockRoom, block_fits, decided_side, ends_block, settled_side};
 
 use crate::cpu_state::CpuState;
 use dspec_buffer::TraceBuffer;
@@ -63,7 +62,7 @@ fn drops_of(fate: DecideFate) -> u64
 #[inline]
 fn measure<S: Schema, B: TraceBuffer<S>>(active: &B, buffer: &B, mine: bool) -> (bool, u32)
     ensures fits { (s : S) (ps : List Piece) (rs : List Record) → B.has active.now s ps → B.has buffer.now s (map one rs)
-        → result.0 ≡ piece_fits (S.shape_of s) ps (block (if mine then rs else [])) (B.capacity active.now) }
+        → result.0 ≡ block_fits (S.shape_of s) ps mine rs (B.capacity active.now) }
     ensures count { (s : S) (rs : List Record) → B.has buffer.now s (map one rs) → result.1 ≡ length (if mine then rs else []) }
 {
     if !mine {
@@ -86,13 +85,9 @@ fn end_block<S: Schema, B: TraceBuffer<S>>(
 )
     requires place { place < length buffers.old.items }
     ensures size { B.capacity active.new ≡ B.capacity active.old }
-    ensures active { (s : S) (ps : List Piece) (rs : List Record) (b : B) → slice_get buffers.old.items place ≡ Some b
-        → B.has active.old s ps → B.has b s (map one rs)
-        → (fit ≡ true → piece_fits (S.shape_of s) ps (block (if mine then rs else [])) (B.capacity active.old) ≡ true)
-        → B.has active.new s (if fit then block (if mine then rs else []) ∷ ps else ps) }
-    ensures buffer { (b : B) → slice_get buffers.old.items place ≡ Some b
-        → (n : B) × (B.capacity n ≡ B.capacity b) × (buffers.new.items ≡ slice_set buffers.old.items place n)
-        × ((s : S) (ps : List Piece) → B.has b s ps → B.has n s (if mine then [] else ps)) }
+    ensures active { (s : S) → TakesBlock (λ b. B.has b s) B.capacity (S.shape_of s) mine fit place buffers.old.items active.old active.new }
+    ensures buffer { ChangesAt B.capacity place buffers.old.items buffers.new.items
+        (λ b n. (s : S) (ps : List Piece) → B.has b s ps → B.has n s (if mine then [] else ps)) }
 {
     if !mine {
         return;
@@ -109,8 +104,7 @@ impl<B> CpuState<B> {
     // empty one.
     #[inline]
     fn takes(&self, config: &Config, room: bool, count: u32) -> bool
-        ensures { (shape : ℕ → Option Shape) (c worn : ℕ) (p : List Deed) (rs : List Record) → self.now.counts ≡ counts_of config.now c worn p → count ≡ length rs
-            → room ≡ piece_fits shape (active c p) (block rs) config.now.bufsize → result ≡ fits_principal shape config.now c (block rs) p }
+        ensures { TellsBlock config.now self.now.counts room count result }
     {
         let closed = self.is_closed(config);
         room && (count == 0 || !closed)
@@ -123,8 +117,8 @@ impl<B> CpuState<B> {
     where
         B: TraceBuffer<S>,
         requires slot { (1 ≤ id.slot) × (id.slot ≤ length self.now.speculative.items) }
-        ensures fits { (s : S) (c : ℕ) (p : List Deed) → ShowsList (λ b. B.has b s) B.capacity config.now c p self.now → IsCaller c id mine p
-            → result.0 ≡ fits_principal (S.shape_of s) config.now c (block (contents (held c id p))) p }
+        ensures fits { (s : S) (c : ℕ) (p : List Deed)
+            → TellsBlockRoom (λ b. B.has b s) B.capacity config.now c p (S.shape_of s) id mine self.now result.0 }
         ensures count { (s : S) (c : ℕ) (p : List Deed) → ShowsList (λ b. B.has b s) B.capacity config.now c p self.now → IsCaller c id mine p
             → result.1 ≡ length (held c id p) }
     {
@@ -142,11 +136,11 @@ impl<B> CpuState<B> {
         requires calls { self.old.calls + 1 < 2 ^ 64 }
         requires drops { self.old.drops + 1 < 2 ^ 64 }
         requires room { HasRoom fate self.old.counts }
-        ensures commits { (s : S) (k : Config) (c : ℕ) (p : List Deed) → ShowsList (λ b. B.has b s) B.capacity k c p self.old → IsCaller c id mine p → is_commit fate ≡ true
-            → CpuLegal (S.shape_of s) k p (Commit c id fate) → ShowsList (λ b. B.has b s) B.capacity k c (Commit c id fate ∷ p) self.new }
-        ensures discards { (s : S) (k : Config) (c : ℕ) (p : List Deed) → ShowsList (λ b. B.has b s) B.capacity k c p self.old → IsCaller c id mine p → is_discard fate ≡ true
-            → CpuLegal (S.shape_of s) k p (Discard c id fate) → ShowsList (λ b. B.has b s) B.capacity k c (Discard c id fate ∷ p) self.new }
-        ensures rest { self.new ≡ record self.old { calls = self.old.calls + 1; active = self.new.active; speculative = self.new.speculative; drops = self.old.drops + (if is_lost fate then 1 else 0); counts = with_decided fate self.old.counts } }
+        ensures commits { (s : S) (k : Config) (c : ℕ) (p : List Deed)
+            → ShowsEnded (λ b. B.has b s) B.capacity k c p (S.shape_of s) id mine (is_commit fate) (Commit c id fate) self.old self.new }
+        ensures discards { (s : S) (k : Config) (c : ℕ) (p : List Deed)
+            → ShowsEnded (λ b. B.has b s) B.capacity k c p (S.shape_of s) id mine (is_discard fate) (Discard c id fate) self.old self.new }
+        ensures rest { self.new ≡ decided_side fate self.old self.new }
     {
         let place = id.slot() as usize - 1;
         end_block(
@@ -170,9 +164,9 @@ impl<B> CpuState<B> {
         requires slot { (1 ≤ id.slot) × (id.slot ≤ length self.old.speculative.items) × (id.slot ≤ length self.old.acks.items) }
         requires drops { self.old.drops + (if is_lost fate then 1 else 0) < 2 ^ 64 }
         requires room { HasRoom fate self.old.counts }
-        ensures shows { (s : S) (k : Config) (c : ℕ) (p : List Deed) → ShowsList (λ b. B.has b s) B.capacity k c p self.old → IsCaller c id mine p → (is_commit fate || is_discard fate) ≡ true
-            → CpuLegal (S.shape_of s) k p (Settle c id fate) → ShowsList (λ b. B.has b s) B.capacity k c (Settle c id fate ∷ p) self.new }
-        ensures rest { self.new ≡ record self.old { acks = self.new.acks; active = self.new.active; speculative = self.new.speculative; drops = self.old.drops + (if is_lost fate then 1 else 0); counts = with_decided fate self.old.counts } }
+        ensures shows { (s : S) (k : Config) (c : ℕ) (p : List Deed) → ShowsEnded (λ b. B.has b s) B.capacity k c p
+            (S.shape_of s) id mine (ends_block fate) (Settle c id fate) self.old self.new }
+        ensures rest { self.new ≡ settled_side fate self.old self.new }
     {
         let place = id.slot() as usize - 1;
         end_block(
@@ -192,13 +186,13 @@ impl<B> CpuState<B> {
     pub fn leave_undecided<S: Schema>(&mut self, fate: DecideFate)
     where
         B: TraceBuffer<S>,
-        requires nothing { (is_commit fate || is_discard fate) ≡ false }
+        requires nothing { ends_block fate ≡ false }
         requires calls { self.old.calls + 1 < 2 ^ 64 }
         requires counts { IsRoomy self.old.counts }
-        ensures commits { (s : S) (k : Config) (c : ℕ) (p : List Deed) (id : Speculation) → ShowsList (λ b. B.has b s) B.capacity k c p self.old
-            → ShowsList (λ b. B.has b s) B.capacity k c (Commit c id fate ∷ p) self.new }
-        ensures discards { (s : S) (k : Config) (c : ℕ) (p : List Deed) (id : Speculation) → ShowsList (λ b. B.has b s) B.capacity k c p self.old
-            → ShowsList (λ b. B.has b s) B.capacity k c (Discard c id fate ∷ p) self.new }
+        ensures commits { (s : S) (k : Config) (c : ℕ) (p : List Deed) (id : Speculation)
+            → ShowsNext (λ b. B.has b s) B.capacity k c p (Commit c id fate) self.old self.new }
+        ensures discards { (s : S) (k : Config) (c : ℕ) (p : List Deed) (id : Speculation)
+            → ShowsNext (λ b. B.has b s) B.capacity k c p (Discard c id fate) self.old self.new }
         ensures rest { self.new ≡ record self.old { calls = self.old.calls + 1; counts = with_decided fate self.old.counts } }
     {
         self.calls += 1;

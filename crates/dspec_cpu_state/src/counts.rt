@@ -1,7 +1,7 @@
-ghost use Rattle.std.specs.Prelude.{◌≡◌, ◌<◌, ◌≤◌, ◌-◌, ◌^◌, ℕ, []};
+ghost use Rattle.std.specs.Prelude.{◌≡◌, ◌<◌, ◌≤◌, ◌^◌, ℕ, []};
 ghost use Rattle.dspec_deeds.specs.declared.config.Config.{Config};
 ghost use Rattle.dspec_deeds.specs.FateKinds.{count_of};
-ghost use Rattle.dspec_cpu_state.specs.Counting.{IsRoomy, HasRoom, counts_of, one_more_worn, with_decided, with_fate, with_missed, with_opening, with_scanned, with_spoken, with_traced};
+ghost use Rattle.dspec_cpu_state.specs.Counting.{IsRoomy, HasRoom, counts_of, one_more_worn, report_of, with_decided, with_fate, with_missed, with_opening, with_scanned, with_spoken, with_traced};
 
 use dspec_deeds::{DecideFate, Opening, Report, SpeculateFate, TraceFate};
 
@@ -162,21 +162,7 @@ impl Counts {
     /// The report of what was counted: the records that have no other fate are held.
     pub fn report(&self) -> Report
         requires enough { with_fate self.now ≤ self.now.offered }
-        ensures { result ≡ record {
-          offered = self.now.offered;
-          accepted = self.now.accepted;
-          dropped = self.now.dropped;
-          specdropped = self.now.specdropped;
-          lost = self.now.lost;
-          discarded = self.now.discarded;
-          void = self.now.void;
-          held = self.now.offered - with_fate self.now;
-          drops = self.now.drops;
-          unavailable = self.now.unavailable;
-          busy = self.now.busy;
-          stopped = self.now.stopped;
-          worn = self.now.worn;
-        } }
+        ensures { result ≡ report_of self.now }
     {
         let fated = self.accepted
             + self.dropped

@@ -3,9 +3,10 @@ ghost use Rattle.std.specs.Bool.{OnTrue, OnFalse};
 ghost use Rattle.dspec_record.specs.LaidOut.{IsLaidBy};
 ghost use Rattle.dspec_buffer.specs.Extent.{Piece, one, piece_fits};
 ghost use Rattle.dspec_deeds.specs.declared.deed.Deed.{Deed};
-ghost use Rattle.dspec_deeds.specs.Legal.{fits_principal, fits_speculative, is_closed};
+ghost use Rattle.dspec_deeds.specs.Legal.{fits_principal, is_closed};
 ghost use Rattle.dspec_cpu_state.specs.Counting.{counts_of};
-ghost use Rattle.dspec_cpu_state.specs.CpuStates.{IsCaller, ShowsList};
+ghost use Rattle.dspec_cpu_state.specs.CpuStates.{ShowsList};
+ghost use Rattle.dspec_cpu_state.specs.Showing.{TellsSlotRoom};
 
 use crate::cpu_state::CpuState;
 use dspec_buffer::TraceBuffer;
@@ -117,8 +118,8 @@ impl<B> CpuState<B> {
         B: TraceBuffer<S>,
         requires slot { (1 ≤ id.slot) × (id.slot ≤ length self.now.speculative.items) }
         requires accepted { IsTrue (S.accepted schema.now (R.as_record rec)) }
-        ensures { (c : ℕ) (p : List Deed) → ShowsList (λ b. B.has b schema.now) B.capacity config.now c p self.now → IsCaller c id mine p
-            → result ≡ fits_speculative (S.shape_of schema.now) config.now c id (R.as_record rec) p }
+        ensures { (c : ℕ) (p : List Deed) → TellsSlotRoom (λ b. B.has b schema.now) B.capacity config.now c p
+            (S.shape_of schema.now) id mine (R.as_record rec) self.now result }
     {
         if mine {
             would_fit(&self.speculative[id.slot() as usize - 1], schema, rec)

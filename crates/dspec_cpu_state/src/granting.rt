@@ -1,16 +1,15 @@
-ghost use Rattle.std.specs.Prelude.{◌≡◌, ◌<◌, ◌≤◌, ◌+◌, ◌-◌, ◌^◌, ◌==◌, ◌∷◌, [], ℕ, true, false, List, length, slice_get, slice_set, Some, IsTrue, if◌then◌else◌};
+ghost use Rattle.std.specs.Prelude.{◌≡◌, ◌<◌, ◌≤◌, ◌+◌, ◌-◌, ◌^◌, ◌==◌, ℕ, true, false, List, length, slice_get, slice_set, Some, IsTrue, if◌then◌else◌};
 ghost use Rattle.dspec_record.specs.LaidOut.{IsLaidBy};
-ghost use Rattle.dspec_buffer.specs.Extent.{Piece, one, piece_fits};
 ghost use Rattle.dspec_record.specs.Record.{Record};
 ghost use Rattle.dspec_word.specs.SpecId.{Speculation};
 ghost use Rattle.dspec_deeds.specs.declared.config.Config.{Config};
 ghost use Rattle.dspec_deeds.specs.declared.deed.Deed.{Deed};
 ghost use Rattle.dspec_deeds.specs.declared.deed.Deed.TheVariants.{Speculate};
 ghost use Rattle.dspec_deeds.specs.FateKinds.{spoken_granted};
-ghost use Rattle.dspec_deeds.specs.Legal.{fits_speculative};
 ghost use Rattle.dspec_deeds.specs.Own.{dropped_in};
 ghost use Rattle.dspec_cpu_state.specs.Counting.{IsRoomy, with_spoken};
-ghost use Rattle.dspec_cpu_state.specs.CpuStates.{IsCaller, ShowsList};
+ghost use Rattle.dspec_cpu_state.specs.CpuStates.{ShowsList};
+ghost use Rattle.dspec_cpu_state.specs.Showing.{ChangesAt, KeepsRecord, ShowsGrant, ShowsNext, TellsSlotRoom, kept_grant};
 
 use crate::cpu_state::CpuState;
 use crate::fitting::keep_in;
@@ -38,11 +37,8 @@ fn mark_and_keep<S: Schema, B: TraceBuffer<S>, R: Recorded>(
     requires laid { IsLaidBy (S.shape_of schema.now) (S.text schema.now) (R.as_record rec) (R.laid_as rec) }
     ensures marks { marks.new ≡ slice_set marks.old (id.slot - 1) (id.issue + 1) }
     ensures specdrops { specdrops.new.items ≡ (if mine then specdrops.old.items else slice_set specdrops.old.items (id.slot - 1) 0) }
-    ensures buffer { (b : B) → slice_get buffers.old.items (id.slot - 1) ≡ Some b
-        → (n : B) × (B.capacity n ≡ B.capacity b) × (buffers.new.items ≡ slice_set buffers.old.items (id.slot - 1) n)
-        × ((ps : List Piece) → B.has b schema.now ps
-        → (result ≡ piece_fits (S.shape_of schema.now) (if mine then ps else []) (one (R.as_record rec)) (B.capacity b))
-        × B.has n schema.now (if result then one (R.as_record rec) ∷ (if mine then ps else []) else (if mine then ps else []))) }
+    ensures buffer { ChangesAt B.capacity (id.slot - 1) buffers.old.items buffers.new.items
+        (KeepsRecord (λ b. B.has b schema.now) B.capacity (S.shape_of schema.now) mine (R.as_record rec) result) }
 {
     let place = id.slot() as usize - 1;
     if !mine {
@@ -111,11 +107,11 @@ impl<B> CpuState<B> {
         requires laid { IsLaidBy (S.shape_of schema.now) (S.text schema.now) (R.as_record rec) (R.laid_as rec) }
         requires calls { self.old.calls + 1 < 2 ^ 64 }
         requires counts { IsRoomy self.old.counts }
-        ensures answer { (k : Config) (c : ℕ) (p : List Deed) → ShowsList (λ b. B.has b schema.now) B.capacity k c p self.old → IsCaller c id mine p
-            → result ≡ fits_speculative (S.shape_of schema.now) k c id (R.as_record rec) p }
-        ensures shows { (k : Config) (c : ℕ) (p : List Deed) → ShowsList (λ b. B.has b schema.now) B.capacity k c p self.old → IsCaller c id mine p
-            → ShowsList (λ b. B.has b schema.now) B.capacity k c (Speculate c id (R.as_record rec) (if result then SpeculateFate.Kept else SpeculateFate.Dropped) ∷ p) self.new }
-        ensures counts { self.new.counts ≡ with_spoken (if result then SpeculateFate.Kept else SpeculateFate.Dropped) self.old.counts }
+        ensures answer { (k : Config) (c : ℕ) (p : List Deed) → TellsSlotRoom (λ b. B.has b schema.now) B.capacity k c p
+            (S.shape_of schema.now) id mine (R.as_record rec) self.old result }
+        ensures shows { (k : Config) (c : ℕ) (p : List Deed) → ShowsGrant (λ b. B.has b schema.now) B.capacity k c p
+            id mine (R.as_record rec) result self.old self.new }
+        ensures counts { self.new.counts ≡ with_spoken (kept_grant result) self.old.counts }
         ensures rest { self.new ≡ record self.old { calls = self.old.calls + 1; marks = self.new.marks; specdrops = self.new.specdrops; speculative = self.new.speculative; counts = self.new.counts } }
     {
         self.calls += 1;
@@ -144,8 +140,8 @@ impl<B> CpuState<B> {
         requires nowhere { spoken_granted fate ≡ false }
         requires calls { self.old.calls + 1 < 2 ^ 64 }
         requires counts { IsRoomy self.old.counts }
-        ensures shows { (s : S) (k : Config) (c : ℕ) (p : List Deed) (id : Speculation) (r : Record) → ShowsList (λ b. B.has b s) B.capacity k c p self.old
-            → ShowsList (λ b. B.has b s) B.capacity k c (Speculate c id r fate ∷ p) self.new }
+        ensures shows { (s : S) (k : Config) (c : ℕ) (p : List Deed) (id : Speculation) (r : Record)
+            → ShowsNext (λ b. B.has b s) B.capacity k c p (Speculate c id r fate) self.old self.new }
         ensures rest { self.new ≡ record self.old { calls = self.old.calls + 1; counts = with_spoken fate self.old.counts } }
     {
         self.calls += 1;

@@ -1,9 +1,8 @@
-ghost use Rattle.std.specs.Prelude.{◌≡◌, ◌<◌, ◌+◌, ◌^◌, ◌∷◌, [], ℕ, List};
+ghost use Rattle.std.specs.Prelude.{◌≡◌, ◌<◌, ◌+◌, ◌^◌, ℕ, List};
 ghost use Rattle.dspec_deeds.specs.declared.config.Config.{Config};
 ghost use Rattle.dspec_deeds.specs.declared.deed.Deed.{Deed};
-ghost use Rattle.dspec_deeds.specs.declared.deed.Deed.TheVariants.{Seal};
-ghost use Rattle.dspec_deeds.specs.Own.{active, growing};
-ghost use Rattle.dspec_cpu_state.specs.CpuStates.{IsFilledWith, ShowsList};
+ghost use Rattle.dspec_cpu_state.specs.CpuStates.{ShowsList};
+ghost use Rattle.dspec_cpu_state.specs.Showing.{IsGrown, ShowsSeal};
 
 use crate::cpu_state::CpuState;
 use dspec_buffer::TraceBuffer;
@@ -18,10 +17,9 @@ impl<B> CpuState<B> {
     where
         B: TraceBuffer<S>,
         requires seals { self.old.seals + 1 < 2 ^ 64 }
-        ensures shows { (s : S) (k : Config) (c : ℕ) (p : List Deed) → ShowsList (λ b. B.has b s) B.capacity k c p self.old → IsFilledWith (λ b. B.has b s) B.capacity k.bufsize [] next.old
-            → ShowsList (λ b. B.has b s) B.capacity k c (Seal c ∷ p) self.new }
+        ensures shows { (s : S) (k : Config) (c : ℕ) (p : List Deed) → ShowsSeal (λ b. B.has b s) B.capacity k c p next.old self.old self.new }
         ensures batch { (s : S) (k : Config) (c : ℕ) (p : List Deed) → ShowsList (λ b. B.has b s) B.capacity k c p self.old
-            → IsFilledWith (λ b. B.has b s) B.capacity k.bufsize (active c p) next.new × (result ≡ (growing c p).drops) }
+            → IsGrown (λ b. B.has b s) B.capacity k c p next.new result }
         ensures sealed { next.new ≡ self.old.active }
         ensures drops { result ≡ self.old.drops }
         ensures rest { self.new ≡ record self.old { seals = self.old.seals + 1; active = next.old; drops = 0 } }

@@ -1,13 +1,11 @@
-ghost use Rattle.std.specs.Prelude.{◌≡◌, ◌<◌, ◌+◌, ◌^◌, ◌∷◌, ℕ, List, IsTrue, if◌then◌else◌};
+ghost use Rattle.std.specs.Prelude.{◌≡◌, ◌<◌, ◌+◌, ◌^◌, ℕ, List, IsTrue};
 ghost use Rattle.dspec_record.specs.LaidOut.{IsLaidBy};
-ghost use Rattle.dspec_buffer.specs.Extent.{one};
 ghost use Rattle.dspec_record.specs.Record.{Record};
 ghost use Rattle.dspec_deeds.specs.declared.config.Config.{Config};
 ghost use Rattle.dspec_deeds.specs.declared.deed.Deed.{Deed};
 ghost use Rattle.dspec_deeds.specs.declared.deed.Deed.TheVariants.{Trace};
-ghost use Rattle.dspec_deeds.specs.Legal.{fits_principal, is_closed};
 ghost use Rattle.dspec_cpu_state.specs.Counting.{IsRoomy, with_traced};
-ghost use Rattle.dspec_cpu_state.specs.CpuStates.{ShowsList};
+ghost use Rattle.dspec_cpu_state.specs.Showing.{ShowsNext, TellsRecordRoom, kept_trace};
 
 use crate::cpu_state::CpuState;
 use crate::fitting::keep_open;
@@ -26,11 +24,11 @@ impl<B> CpuState<B> {
         requires calls { self.old.calls + 1 < 2 ^ 64 }
         requires drops { self.old.drops + 1 < 2 ^ 64 }
         requires counts { IsRoomy self.old.counts }
-        ensures answer { (k : Config) (c : ℕ) (p : List Deed) → ShowsList (λ b. B.has b schema.now) B.capacity k c p self.old → closed ≡ is_closed k c p
-            → result ≡ fits_principal (S.shape_of schema.now) k c (one (R.as_record rec)) p }
-        ensures shows { (k : Config) (c : ℕ) (p : List Deed) → ShowsList (λ b. B.has b schema.now) B.capacity k c p self.old
-            → ShowsList (λ b. B.has b schema.now) B.capacity k c (Trace c (R.as_record rec) (if result then TraceFate.Kept else TraceFate.Dropped) ∷ p) self.new }
-        ensures counts { self.new.counts ≡ with_traced (if result then TraceFate.Kept else TraceFate.Dropped) self.old.counts }
+        ensures answer { (k : Config) (c : ℕ) (p : List Deed) → TellsRecordRoom (λ b. B.has b schema.now) B.capacity k c p
+            (S.shape_of schema.now) closed (R.as_record rec) self.old result }
+        ensures shows { (k : Config) (c : ℕ) (p : List Deed) → ShowsNext (λ b. B.has b schema.now) B.capacity k c p
+            (Trace c (R.as_record rec) (kept_trace result)) self.old self.new }
+        ensures counts { self.new.counts ≡ with_traced (kept_trace result) self.old.counts }
         ensures rest { self.new ≡ record self.old { calls = self.old.calls + 1; active = self.new.active; drops = self.new.drops; counts = self.new.counts } }
     {
         self.calls += 1;
@@ -50,8 +48,8 @@ impl<B> CpuState<B> {
         B: TraceBuffer<S>,
         requires calls { self.old.calls + 1 < 2 ^ 64 }
         requires counts { IsRoomy self.old.counts }
-        ensures shows { (s : S) (k : Config) (c : ℕ) (p : List Deed) (r : Record) → ShowsList (λ b. B.has b s) B.capacity k c p self.old
-            → ShowsList (λ b. B.has b s) B.capacity k c (Trace c r TraceFate.Stopped ∷ p) self.new }
+        ensures shows { (s : S) (k : Config) (c : ℕ) (p : List Deed) (r : Record)
+            → ShowsNext (λ b. B.has b s) B.capacity k c p (Trace c r TraceFate.Stopped) self.old self.new }
         ensures rest { self.new ≡ record self.old { calls = self.old.calls + 1; counts = with_traced TraceFate.Stopped self.old.counts } }
     {
         self.calls += 1;

@@ -8,3 +8,4 @@ mod Spreading
 mod Rising
 mod Texts
 mod Sample
+mod InMemory

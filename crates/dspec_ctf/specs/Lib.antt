@@ -4,3 +4,5 @@ pub mod Packets
 pub mod Streams
 pub mod ByTime
 pub mod Rows
+pub mod Laws
+pub mod InMemory

@@ -1,51 +1,40 @@
 //! What follows from the definitions, as clauses of functions that have nothing to do.
 
-ghost use Rattle.std.specs.Prelude.{◌≡◌, ◌<◌, ◌≤◌, ◌++◌, ℕ, List, All, length, map, slice_index, slice_range, zip};
-ghost use Rattle.std.specs.List.Sorted.{IsNonDecreasingBy};
+ghost use Rattle.std.specs.Prelude.{◌≤◌, ◌++◌, ℕ, List, length};
 ghost use Rattle.dspec_record.specs.Record.{Record};
-ghost use Rattle.dspec_ctf.specs.Packets.{packet};
-ghost use Rattle.dspec_ctf.specs.Streams.{Accepts};
-ghost use Rattle.dspec_ctf.specs.ByTime.{timed_packets};
-ghost use Rattle.dspec_ctf.specs.Rows.{AreRuns, Spreads, of_file, run_files, run_records};
+ghost use Rattle.dspec_ctf.specs.Laws.{AreFiled, HaveAllBetween, PacketIsOfOneList, StampsRise, StreamIsOfOneList};
+ghost use Rattle.dspec_ctf.specs.Rows.{AreRuns, Spreads};
 ghost use Rattle.dspec_ctf.specs.declared.rows.Run.{Run};
 
 use dspec_record::Enablings;
 
 /// Bytes are the packet of one list of records at most, as they are taken, whatever the packet says else.
 pub fn one_packet(_enablings: &Enablings)
-    ensures { (uuid : List ℕ) (missed cpu told other : ℕ) (rs qs : List Record)
-        → All (Accepts _enablings.now) rs → All (Accepts _enablings.now) qs
-        → packet uuid _enablings.now missed cpu rs ≡ packet uuid _enablings.now told other qs
-        → rs ≡ qs }
+    ensures { PacketIsOfOneList _enablings.now }
 {}
 
 /// Bytes are the packets by time of one list of records at most.
 pub fn one_stream(_enablings: &Enablings)
-    ensures { (uuid : List ℕ) (missed cpu told other : ℕ) (rs qs : List Record)
-        → All (Accepts _enablings.now) rs → All (Accepts _enablings.now) qs
-        → timed_packets uuid _enablings.now missed cpu rs ≡ timed_packets uuid _enablings.now told other qs
-        → rs ≡ qs }
+    ensures { StreamIsOfOneList _enablings.now }
 {}
 
 /// In each file of a CPU stamps don't fall, nor to before the last stamp that it had.
 pub fn files_rise()
     ensures { (lasts : List ℕ) (rs : List Record) (files new : List ℕ) → Spreads lasts rs files new
-        → (file : ℕ) → IsNonDecreasingBy (λ r. r.stamp) (of_file file files rs)
-        × (file < length lasts → All (λ r. slice_index lasts file ≤ r.stamp) (of_file file files rs)) }
+        → (file : ℕ) → StampsRise lasts rs files file }
 {}
 
 /// Each record is in one file, of 64 at most: records and the numbers of their files, side by side, are all the records in their order.
 pub fn files_have_all()
     ensures { (lasts : List ℕ) (rs : List Record) (files new : List ℕ) → length lasts ≤ 64 → Spreads lasts rs files new
-        → (map (λ p. p.1) (zip files rs) ≡ rs) × (map (λ p. p.0) (zip files rs) ≡ files)
-        × All (λ file. file < length new) files × (length new ≤ 64) }
+        → AreFiled rs files (length new) }
 {}
 
 /// Runs from one place to another, one behind another, have all the records between, in their order, each once; and each record goes to
 /// the file of its run.
 pub fn runs_have_all()
     ensures { (lasts new : List ℕ) (rs : List Record) (from to : ℕ) (runs : List Run) → AreRuns lasts rs from runs to new
-        → (run_records rs from runs ≡ slice_range rs from to) × Spreads lasts (slice_range rs from to) (run_files from runs) new }
+        → HaveAllBetween lasts rs from runs to new }
 {}
 
 /// Records of one batch behind those of another go to files as those of a single batch.

@@ -11,6 +11,8 @@
 //! | `packet.rt`, `stream.rt`, `by_time.rt` | the bytes of events and packets; `Stream`, which sums the drops of a CPU's batches; its packets by time |
 //! | `rows.rt` | `Rows`: a CPU's files in a trace by time that is written while it runs; the runs of a batch, the packet of one, what tells what was missed |
 //! | `records.rt`, `laws.rt`, `fault.rt` | packets of records in memory; the laws; the faults |
+//! | `in_memory.rt`, `in_memory/` | traces by time for a program that writes its files itself: `CpuPackets` and its batches, `Packet`, `Identity`, `put_metadata`; their law and faults |
+//! | `specs/InMemory/` | Filing (what is known of a CPU's files), Calls (what each call makes of it), Batches (all packets of one), Naming (the metadata by plain bytes and numbers) |
 //! | `specs/`: Packets, Streams, ByTime, Rows, Metadata, Names | the bytes; which packet is a batch's and why there is none; a CPU's packets by time; which file each record goes to; the text; the first thing that is wrong with names or a form |
 //! | `proofs/` | Sizes (what an event has at the most), Collecting (one text more), Ranges (a loop that writes a piece each), Lines, OneList, Spreading (records go to files), Rising (what the files have then), Texts |
 #![tactic(auto)]
@@ -20,6 +22,7 @@ mod checking;
 pub mod fault;
 pub mod form;
 mod heading;
+pub mod in_memory;
 pub mod laws;
 pub mod names;
 pub mod origin;
@@ -34,6 +37,7 @@ pub use by_time::TimeFault;
 pub use dspec_probe::{Kind, ProbeNames};
 pub use fault::{MetadataFault, NameFault, NameKind};
 pub use form::Form;
+pub use in_memory::{CpuPackets, Identity, Packet, PutFault, TextFault, put_metadata};
 pub use names::Names;
 pub use origin::{ClockStart, Origin, Process};
 pub use records::first_refused;

@@ -1,11 +1,10 @@
 -- Names that the metadata may have can be read.
-use Rattle.std.proofs.Common.{◌≡◌, ◌≢◌, ◌≤◌, ◌<◌, ◌+◌, ◌-◌, ◌^◌, ◌&&◌, ◌||◌, ◌==◌, ◌++◌, ◌⊎◌, inl, inr, ℕ, zero, suc, Bool, true, false, cond, leb, not, List, [], ◌∷◌, length}
-use Rattle.std.proofs.Common.{map, take, Option, Some, None, option_map, refl, ap, sym, subst, ◌∙◌, arith, All, length-append}
+use Rattle.std.proofs.Common.{◌≡◌, ◌≤◌, ◌<◌, ◌+◌, ◌-◌, ◌^◌, ◌==◌, ◌++◌, ℕ, Bool, true, false, not, List, [], length}
+use Rattle.std.proofs.Common.{map, Option, Some, None, option_map, refl, ap, sym, subst, ◌∙◌, arith, All, length-append}
 use Rattle.std.specs.Prelude.{option_and_then, slice_get, slice_index_or, codes, decimal}
 use Rattle.std.specs.Option.{option_map_or}
 use Rattle.std.specs.List.{list_all, range_with_len, enumerate_from}
-use Rattle.std.proofs.lemmas.Bool.{eqb-true, eqb-false, leb-true, le-leb, ne_eqb, and_parts, and_from, or_cases, or_from, or_right, not_from_false}
-use Rattle.std.proofs.lemmas.List.Elements.{All-nil, All-cons}
+use Rattle.std.proofs.lemmas.Bool.{eqb-true, and_from}
 use Rattle.std.proofs.lemmas.List.Folds.{list_all-append}
 use Rattle.std.proofs.lemmas.Fmt.{decimal_nonempty}
 use Rattle.dspec_record.specs.Layout.{width}
@@ -16,8 +15,8 @@ use Rattle.dspec_probe.specs.declared.kind.Kind.TheVariants.{Unsigned}
 use Rattle.dspec_probe.specs.declared.probes.ProbeNames.{ProbeNames}
 use Rattle.dspec_ctf.specs.Packets.{event_fields}
 use Rattle.dspec_ctf.specs.Metadata.{type_name, labelled_type, typed_line, field_line, given_line, given_lines, event_name, field_lines}
-use Rattle.dspec_ctf.specs.Names.{is_letter, is_word_byte, begins_well, is_identifier, unfit, earlier, first_found, bad_name, bad_at, first_bad, has_stamp, is_label_byte}
-use Rattle.dspec_ctf.specs.Names.{is_label, labels_at, bad_label_at, first_bad_label, label_fault_at, labels_fault, fields_fault, fault_at, events_fault, names_fault}
+use Rattle.dspec_ctf.specs.Names.{earlier, first_found, first_bad, has_stamp}
+use Rattle.dspec_ctf.specs.Names.{is_label, labels_at, first_bad_label, label_fault_at, labels_fault, fields_fault, fault_at, events_fault, names_fault}
 use Rattle.dspec_ctf.specs.Names.{form_fault, metadata_fault, process_fault, origin_fault}
 use Rattle.dspec_ctf.specs.declared.origin.Process.{Process}
 use Rattle.dspec_ctf.specs.declared.origin.Origin.{Origin}
@@ -29,152 +28,15 @@ use Rattle.dspec_ctf.specs.declared.fault.NameFault.TheVariants.{FieldCount, Fie
 use Rattle.dspec_ctf.specs.declared.fault.MetadataFault.TheVariants.{Name}
 use Rattle.dspec_ctf.specs.declared.form.Form.{Form}
 use Rattle.dspec_ctf_reading.specs.Reading.{FieldLayout}
-use Rattle.dspec_ctf_reading.specs.ReadingMetadata.{is_digit, is_word, is_quoted}
+use Rattle.dspec_ctf_reading.specs.ReadingMetadata.{is_digit, is_word}
 use Rattle.dspec_ctf_reading.specs.Layouts.{names_by, given_name, given_for}
 use Rattle.dspec_ctf_reading.specs.ToldNumbers.{HasNumbers}
 use Rattle.dspec_ctf_reading.proofs.Scanning.{decimal-digits, list_all-weaker}
 use Rattle.dspec_ctf_reading.proofs.Lines.{IsQuotable, IsWordy, IsLine, joined-map, AreLines-map, typed-line, type-back, kind-back}
 use Rattle.dspec_ctf_reading.proofs.Texts.{IsTold}
 use Rattle.dspec_ctf_reading.proofs.Headings.{IsShown}
-
--- where nothing is wrong
-earlier-none : {A : Type 0} (a b : Option A) → earlier a b ≡ None → (a ≡ None) × (b ≡ None)
-earlier-none None b is = (refl, is)
-earlier-none (Some x) b is = absurd (cc)
-
-map-none : {A B : Type 0} (f : A → B) (o : Option A) → option_map f o ≡ None → o ≡ None
-map-none f None is = refl
-map-none f (Some x) is = absurd (cc)
-
-else-none : {A : Type 0} (b : Bool) (x : A) (o : Option A) → cond b (Some x) o ≡ None → (b ≡ false) × (o ≡ None)
-else-none true x o is = absurd (cc)
-else-none false x o is = (refl, is)
-
-then-none : {A : Type 0} (b : Bool) (x : A) (o : Option A) → cond b o (Some x) ≡ None → (b ≡ true) × (o ≡ None)
-then-none true x o is = (refl, is)
-then-none false x o is = absurd (cc)
-
-eqb-false' : (m n : ℕ) → (m == n) ≡ false → m ≢ n
-eqb-false' m n is = eqb-false m n is
-
-none-found : {A : Type 0} (f : ℕ → Option A) (k a place : ℕ) → first_found f (range_with_len a k) ≡ None → a ≤ place → place < a + k → f place ≡ None
-none-found f zero a place is low high = absurd (omega (arith, low, high))
-none-found f (suc k) a place is low high =
-    let parts = earlier-none (f a) (first_found f (range_with_len (a + 1) k)) is in
-    go (a == place) refl parts.0 (λ above. none-found f k (a + 1) place parts.1 above (omega (arith, high)))
-  where
-    go : (b : Bool) → (a == place) ≡ b → f a ≡ None → (a + 1 ≤ place → f place ≡ None) → f place ≡ None
-    go true same first later = subst (λ n. f n ≡ None) (eqb-true a place same) first
-    go false other first later = later (omega (arith, low, eqb-false' a place other))
-
--- a part of a list by its place
-index-map : {A : Type 0} (f : A → List ℕ) (xs : List A) (k : ℕ) → slice_index_or (map f xs) k [] ≡ option_map_or f (slice_get xs k) []
-index-map f [] zero = refl
-index-map f [] (suc k) = refl
-index-map f (x ∷ xs) zero = refl
-index-map f (x ∷ xs) (suc k) = index-map f xs k
-
-get-some : {A : Type 0} (xs : List A) (k : ℕ) → k < length xs → (x : A) × (slice_get xs k ≡ Some x)
-get-some [] k within = absurd (omega (arith, within))
-get-some (x ∷ xs) zero within = (x, refl)
-get-some (x ∷ xs) (suc k) within = get-some xs k (omega (arith, within))
-
-map-long : {A B : Type 0} (f : A → B) (xs : List A) → length (map f xs) ≡ length xs
-map-long f [] = refl
-map-long f (x ∷ xs) = ap suc (map-long f xs)
-
--- what is a word can stand in quotes
-quoted-of : (b : ℕ) → 48 ≤ b → b ≤ 122 → b ≢ 92 → is_quoted b ≡ true
-unfolding is_quoted
-quoted-of b low high other =
-    and_from _ _ (and_from _ _ (le-leb 32 b (omega (arith, low))) (le-leb b 126 (omega (arith, high))))
-    (not_from_false _ (or_from _ _ (ne_eqb b 34 (λ same. omega (arith, same, low))) (ne_eqb b 92 other)))
-
-between : (low high b : ℕ) → (leb low b && leb b high) ≡ true → (low ≤ b) × (b ≤ high)
-between low high b is =
-    let parts = and_parts (leb low b) (leb b high) is in
-    (leb-true low b parts.0, leb-true b high parts.1)
-
-digit-quoted : (b : ℕ) → is_digit b ≡ true → is_quoted b ≡ true
-unfolding is_digit
-digit-quoted b is =
-    let range = between 48 57 b is in
-    quoted-of b range.0 (omega (arith, range.1)) (λ same. omega (arith, same, range.1))
-
-digit-word : (b : ℕ) → is_digit b ≡ true → is_word b ≡ true
-unfolding is_word
-digit-word b is = or_right _ (is_digit b) is
-
-word-quoted : (b : ℕ) → is_word b ≡ true → is_quoted b ≡ true
-unfolding is_word
-word-quoted b is = by_digit (or_cases _ (is_digit b) is)
-  where
-    by_score : ((leb 97 b && leb b 122) ≡ true) ⊎ ((b == 95) ≡ true) → is_quoted b ≡ true
-    by_score (inl small) = let range = between 97 122 b small in quoted-of b (omega (arith, range.0)) range.1 (λ same. omega (arith, same, range.0))
-    by_score (inr score) = let same : b ≡ 95 = eqb-true b 95 score in quoted-of b (omega (arith, same)) (omega (arith, same)) (λ other. omega (arith, same, other))
-
-    by_letter : ((leb 65 b && leb b 90) ≡ true) ⊎ (((leb 97 b && leb b 122) || (b == 95)) ≡ true) → is_quoted b ≡ true
-    by_letter (inl big) = let range = between 65 90 b big in quoted-of b (omega (arith, range.0)) (omega (arith, range.1)) (λ same. omega (arith, same, range.1))
-    by_letter (inr other) = by_score (or_cases _ _ other)
-
-    by_digit : (((leb 65 b && leb b 90) || ((leb 97 b && leb b 122) || (b == 95))) ≡ true) ⊎ (is_digit b ≡ true) → is_quoted b ≡ true
-    by_digit (inl letter) = by_letter (or_cases _ _ letter)
-    by_digit (inr digit) = digit-quoted b digit
-
--- identifiers
-begins-long : (name : List ℕ) → begins_well name ≡ true → 0 < length name
-unfolding begins_well
-begins-long [] is = absurd (cc)
-begins-long (b ∷ name) is = omega arith
-
-wordy : (name : List ℕ) → is_identifier name ≡ true → IsWordy name
-unfolding IsWordy is_word is_digit is_word_byte is_letter
-wordy name is =
-    let parts = and_parts (begins_well name) (list_all is_word_byte name) is in
-    (parts.1, begins-long name parts.0)
-
-wordy-quotable : (name : List ℕ) → IsWordy name → IsQuotable name
-unfolding IsWordy IsQuotable
-wordy-quotable name fit = (list_all-weaker is_word is_quoted word-quoted name fit.0, fit.1)
-
-fit-name : (name : List ℕ) → unfit name ≡ None → IsWordy name
-unfolding unfit
-fit-name name is =
-    let first = else-none _ _ _ is in
-    let second = else-none (not (is_identifier name)) _ _ first.1 in
-    wordy name (not-not (is_identifier name) second.0)
-  where
-    not-not : (b : Bool) → not b ≡ false → b ≡ true
-    not-not true is = refl
-    not-not false is = absurd (cc)
-
-names-fit : (stamped : Bool) (names : List (List ℕ)) → first_bad stamped names ≡ None → (place : ℕ) → place < length names → IsWordy (slice_index_or names place [])
-unfolding first_bad bad_at bad_name
-names-fit stamped names is place within =
-    let none = none-found (bad_at stamped names) (length names) 0 place is (omega arith) (omega (arith, within)) in
-    let bad = map-none _ (bad_name stamped (take place names) (slice_index_or names place [])) none in
-    fit-name (slice_index_or names place []) (earlier-none (unfit (slice_index_or names place [])) _ bad).0
-
--- labels
-label-fits : (label : List ℕ) → is_label label ≡ true → IsQuotable label
-unfolding is_label is_label_byte is_quoted IsQuotable
-label-fits label is =
-    let parts = and_parts (leb 1 (length label) && leb (length label) 255) (list_all is_label_byte label) is in
-    (parts.1, leb-true 1 (length label) (and_parts (leb 1 (length label)) (leb (length label) 255) parts.0).0)
-
-each-label : (labels : List (List ℕ)) → ((k : ℕ) → k < length labels → IsQuotable (slice_index_or labels k [])) → All IsQuotable labels
-each-label [] each = All-nil IsQuotable
-each-label (label ∷ labels) each = All-cons IsQuotable label labels (each 0 (omega arith)) (each-label labels (λ k within. each (suc k) (omega (arith, within))))
-
-labels-fit : (labels : List (List ℕ)) → first_bad_label labels ≡ None → All IsQuotable labels
-unfolding first_bad_label bad_label_at
-labels-fit labels is =
-    each-label labels (λ k within. label-fits (slice_index_or labels k [])
-    (good (is_label (slice_index_or labels k [])) k (none-found (bad_label_at labels) (length labels) 0 k is (omega arith) (omega (arith, within)))))
-  where
-    good : (b : Bool) (k : ℕ) → cond b None (Some k) ≡ None → b ≡ true
-    good true k is = refl
-    good false k is = absurd (cc)
+use Rattle.dspec_ctf_reading.proofs.AllowedWords.{digit-word, earlier-none, else-none, get-some, index-map, label-fits}
+use Rattle.dspec_ctf_reading.proofs.AllowedWords.{labels-fit, map-long, map-none, names-fit, none-found, then-none, wordy-quotable}
 
 -- the process
 shown : (process : Option Process) → option_and_then process_fault process ≡ None → option_map_or (λ p. p.pid) process 0 < 2 ^ 64 → IsShown process

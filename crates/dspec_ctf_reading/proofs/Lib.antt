@@ -12,9 +12,11 @@ pub mod Scanning
 pub mod Lines
 pub mod Texts
 pub mod Headings
+pub mod AllowedWords
 pub mod Allowed
 pub mod Numbered
 pub mod Shorter
 pub mod ScanLemmas
 pub mod LoopLemmas
 pub mod EventLemmas
+pub mod Folders

@@ -10,3 +10,5 @@ pub mod Parts
 pub mod Told
 pub mod Faults
 pub mod Packets
+pub mod Laws
+pub mod Folders

@@ -1,27 +1,20 @@
 //! What follows from the definitions, as clauses of functions that have nothing to do.
 
-ghost use Rattle.std.specs.Prelude.{◌≡◌, ◌≤◌, ◌<◌, ◌^◌, ◌++◌, ◌∷◌, [], ◌-◌, ℕ, true, false, All, List, map, length, codes, drop, take, slice_index, slice_set, Option, Some, None};
-ghost use Rattle.std.specs.Option.{option_map, option_and_then};
-ghost use Rattle.std.specs.List.{flat_map};
+ghost use Rattle.std.specs.Prelude.{◌≡◌, ◌≤◌, ◌++◌, ◌∷◌, [], ◌-◌, ℕ, true, false, List, length, codes, drop, take, slice_set, Option, Some, None};
+ghost use Rattle.std.specs.Option.{option_and_then};
 ghost use Rattle.dspec_record.specs.Record.{Record};
 ghost use Rattle.dspec_record.specs.EnablingRows.{EnabledRows};
-ghost use Rattle.dspec_record.specs.declared.header.Header.TheVariants as header;
-ghost use Rattle.dspec_ctf.specs.Packets.{events, packet, packet_around};
-ghost use Rattle.dspec_ctf.specs.Streams.{Accepts};
-ghost use Rattle.dspec_ctf.specs.ByTime.{timed_packets};
-ghost use Rattle.dspec_ctf.specs.Rows.{AreRuns, missed_packets, of_file, run_files, run_packets, run_records, told_by};
-ghost use Rattle.dspec_ctf.specs.Metadata.{origin_text};
 ghost use Rattle.dspec_ctf.specs.Names.{origin_fault};
 ghost use Rattle.dspec_ctf.specs.declared.form.Form.{Form};
 ghost use Rattle.dspec_ctf.specs.declared.origin.Origin.{Origin};
 ghost use Rattle.dspec_ctf.specs.declared.form.Form.TheVariants.{AsTaken, ByTime};
 ghost use Rattle.dspec_ctf.specs.declared.names.Names.{Names};
-ghost use Rattle.dspec_ctf.specs.declared.rows.Run.{Run};
 ghost use Rattle.dspec_probe.specs.declared.probes.ProbeNames.{ProbeNames};
-ghost use Rattle.dspec_ctf_reading.specs.Reading.{Layout, PacketRead, read_packets_within, read_events_within, read_event, read_events, read_packet, read_file, with_events};
+ghost use Rattle.dspec_ctf_reading.specs.Reading.{Layout, PacketRead, read_packets_within, read_events_within, read_event, read_events, read_packet, read_file};
 ghost use Rattle.dspec_ctf_reading.specs.Fronts.{split_packet};
-ghost use Rattle.dspec_ctf_reading.specs.Layouts.{layout_of, event_of, packet_of, given_for};
-ghost use Rattle.dspec_ctf_reading.specs.Files.{FileTells, PartTells, file_bytes, last_missed};
+ghost use Rattle.dspec_ctf_reading.specs.Layouts.{event_of, given_for};
+ghost use Rattle.dspec_ctf_reading.specs.Laws.{IsCalledBy, IsReadAs, IsReadAsTaken, MetadataTells, MissedReadsBack, RunsReadBack, then_others, with_its_events};
+ghost use Rattle.dspec_ctf_reading.specs.Laws.{TakenFilesReadBack, TakenPacketsReadBack, TimedFilesReadBack, TimedPacketsReadBack};
 ghost use Rattle.dspec_ctf_reading.specs.ToldNumbers.{HasNumbers};
 ghost use Rattle.dspec_ctf_reading.specs.ReadingMetadata.{read_field, read_metadata, read_type};
 ghost use Rattle.dspec_ctf_reading.specs.SampleMetadata.{timed_text, timed_text_layout, taken_text, taken_text_layout};
@@ -29,22 +22,19 @@ ghost use Rattle.dspec_ctf_reading.specs.Sample.{sample_layout, sample_bytes, sa
 
 /// The number that shows that reading comes to an end changes nothing, from the number of bytes on.
 pub fn bound_is_enough()
-    ensures { (layout : Layout) (most : ℕ) (bytes : List ℕ) → length bytes ≤ most
-        → (read_events_within most layout bytes ≡ read_events layout bytes) × (read_packets_within most layout bytes ≡ read_file layout bytes) }
+    ensures events { (layout : Layout) (most : ℕ) (bytes : List ℕ) → length bytes ≤ most → read_events_within most layout bytes ≡ read_events layout bytes }
+    ensures packets { (layout : Layout) (most : ℕ) (bytes : List ℕ) → length bytes ≤ most → read_packets_within most layout bytes ≡ read_file layout bytes }
 {}
 
 /// Where bytes are left, one event is read, or one packet, and then the others; no number bounds how many.
 pub fn reads_on()
-    ensures events { (layout : Layout) (b : ℕ) (bytes : List ℕ) → read_events layout (b ∷ bytes)
-        ≡ option_and_then (λ p. option_map (λ events. p.0 ∷ events) (read_events layout p.1)) (read_event layout (b ∷ bytes)) }
-    ensures packets { (layout : Layout) (b : ℕ) (bytes : List ℕ) → read_file layout (b ∷ bytes)
-        ≡ option_and_then (λ p. option_map (λ packets. p.0 ∷ packets) (read_file layout p.1)) (read_packet layout (b ∷ bytes)) }
+    ensures events { (layout : Layout) (b : ℕ) (bytes : List ℕ) → read_events layout (b ∷ bytes) ≡ then_others (read_events layout) (read_event layout (b ∷ bytes)) }
+    ensures packets { (layout : Layout) (b : ℕ) (bytes : List ℕ) → read_file layout (b ∷ bytes) ≡ then_others (read_file layout) (read_packet layout (b ∷ bytes)) }
 {}
 
 /// To read a packet is to split it and to read its events.
 pub fn packet_is_split()
-    ensures { (layout : Layout) (bytes : List ℕ) → read_packet layout bytes
-        ≡ option_and_then (λ s. option_map (λ packet. (packet, s.behind)) (with_events layout s.front s.body)) (split_packet layout.timed bytes) }
+    ensures { (layout : Layout) (bytes : List ℕ) → read_packet layout bytes ≡ option_and_then (λ s. with_its_events layout s) (split_packet layout.timed bytes) }
 {}
 
 /// What is written behind a file changes nothing of what the file has, and is read behind it.
@@ -81,56 +71,36 @@ pub fn worked_refusals()
 /// What is read of a packet that was written is the records that were written, each with its values under its names, in order, with what
 /// was missed, the CPU and the trace; and what stands behind the packet is left.
 pub fn packet_reads_back()
-    ensures taken { (e : EnabledRows) (names : Names) (uuid : List ℕ) (missed cpu : ℕ) (rs : List Record) (rest : List ℕ)
-        → length uuid ≡ 16 → missed < 2 ^ 64 → cpu < 2 ^ 32 → length (events e rs) < 2 ^ 60 → All (Accepts e) rs
-        → read_packet (layout_of e names AsTaken) (packet uuid e missed cpu rs ++ rest) ≡ Some (packet_of e names AsTaken uuid None missed cpu rs, rest) }
-    ensures timed { (e : EnabledRows) (names : Names) (frequency : ℕ) (uuid : List ℕ) (span : ℕ × ℕ) (missed cpu : ℕ) (rs : List Record) (rest : List ℕ)
-        → e.header ≡ header.Two → length uuid ≡ 16 → span.0 < 2 ^ 64 → span.1 < 2 ^ 64 → missed < 2 ^ 64 → cpu < 2 ^ 32 → length (events e rs) < 2 ^ 60 → All (Accepts e) rs
-        → read_packet (layout_of e names (ByTime frequency)) (packet_around uuid (Some span) missed cpu (events e rs) ++ rest)
-        ≡ Some (packet_of e names (ByTime frequency) uuid (Some span) missed cpu rs, rest) }
+    ensures taken { (e : EnabledRows) (names : Names) → TakenPacketsReadBack e names }
+    ensures timed { (e : EnabledRows) (names : Names) → TimedPacketsReadBack e names }
 {}
 
 /// An event that is read of a record has its EPID, its stamp, and its values in order; the stamp is the first value where the trace has no
 /// clock. Its name and its fields' names are those given for the EPID.
 pub fn event_is_its_record()
-    ensures timed { (e : EnabledRows) (names : Names) (frequency : ℕ) (r : Record) → ((event_of e names (ByTime frequency) r).id ≡ r.epid)
-        × ((event_of e names (ByTime frequency) r).stamp ≡ Some r.stamp) × (map (λ v. v.1) (event_of e names (ByTime frequency) r).values ≡ r.values) }
-    ensures taken { (e : EnabledRows) (names : Names) (r : Record) → ((event_of e names AsTaken r).id ≡ r.epid) × ((event_of e names AsTaken r).stamp ≡ None)
-        × (e.header ≡ header.One → map (λ v. v.1) (event_of e names AsTaken r).values ≡ r.values)
-        × (e.header ≡ header.Two → map (λ v. v.1) (event_of e names AsTaken r).values ≡ r.stamp ∷ r.values) }
+    ensures timed { (e : EnabledRows) (names : Names) (frequency : ℕ) (r : Record) → IsReadAs (event_of e names (ByTime frequency) r) r.epid (Some r.stamp) r.values }
+    ensures taken { (e : EnabledRows) (names : Names) (r : Record) → IsReadAsTaken e.header r (event_of e names AsTaken r) }
     ensures named { (e : EnabledRows) (names : Names) (frequency : ℕ) (r : Record) (n : ProbeNames) → given_for names r.epid ≡ Some n
-        → length n.fields.now ≡ length r.values → ((event_of e names (ByTime frequency) r).name ≡ n.event.now)
-        × (map (λ v. v.0) (event_of e names (ByTime frequency) r).values ≡ map (λ name. name.now) n.fields.now) }
+        → IsCalledBy n r.values (event_of e names (ByTime frequency) r) }
 {}
 
 /// A CPU's file as taken, of batches that have each so many missed so far: it tells all records of the batches in order, and what was
 /// missed up to the last.
 pub fn taken_file_reads_back()
-    ensures { (e : EnabledRows) (names : Names) (uuid : List ℕ) (cpu : ℕ) (batches : List (ℕ × List Record)) → length uuid ≡ 16 → cpu < 2 ^ 32
-        → All (λ b. (b.0 < 2 ^ 64) × (length (events e b.1) < 2 ^ 60) × All (Accepts e) b.1) batches
-        → FileTells (layout_of e names AsTaken) uuid cpu (flat_map (λ b. packet uuid e b.0 cpu b.1) batches)
-        (map (event_of e names AsTaken) (flat_map (λ b. b.1) batches)) (last_missed batches) }
+    ensures { (e : EnabledRows) (names : Names) → TakenFilesReadBack e names }
 {}
 
 /// A CPU's file by time: it tells these records in order, and what was missed.
 pub fn timed_file_reads_back()
-    ensures { (e : EnabledRows) (names : Names) (frequency : ℕ) (uuid : List ℕ) (missed cpu : ℕ) (rs : List Record)
-        → e.header ≡ header.Two → length uuid ≡ 16 → missed < 2 ^ 64 → cpu < 2 ^ 32 → All (Accepts e) rs
-        → FileTells (layout_of e names (ByTime frequency)) uuid cpu (timed_packets uuid e missed cpu rs) (map (event_of e names (ByTime frequency)) rs) missed }
+    ensures { (e : EnabledRows) (names : Names) → TimedFilesReadBack e names }
 {}
 
 /// What a batch adds to a CPU's files while it runs: each file tells those of the records that go to it, in order, and the first alone what
 /// was missed. Two packets without events tell what was missed where no records come. What is added to a file is read behind what it has
 /// (`files_join`).
 pub fn live_file_reads_back()
-    ensures runs { (e : EnabledRows) (names : Names) (frequency : ℕ) (uuid : List ℕ) (missed cpu : ℕ) (rs : List Record) (file : ℕ)
-        (lasts new : List ℕ) (from to : ℕ) (runs : List Run) → e.header ≡ header.Two → length uuid ≡ 16 → missed < 2 ^ 64 → cpu < 2 ^ 32
-        → length (events e rs) < 2 ^ 60 → All (Accepts e) rs → AreRuns lasts rs from runs to new
-        → PartTells (layout_of e names (ByTime frequency)) uuid cpu (file_bytes file (run_packets uuid e missed cpu rs from runs))
-        (map (event_of e names (ByTime frequency)) (of_file file (run_files from runs) (run_records rs from runs))) (told_by file missed) }
-    ensures missed { (e : EnabledRows) (names : Names) (frequency : ℕ) (uuid : List ℕ) (before missed cpu : ℕ) (lasts : List ℕ)
-        → e.header ≡ header.Two → length uuid ≡ 16 → before < 2 ^ 64 → missed < 2 ^ 64 → cpu < 2 ^ 32 → slice_index lasts 0 < 2 ^ 64
-        → FileTells (layout_of e names (ByTime frequency)) uuid cpu (missed_packets uuid before missed cpu lasts) [] missed }
+    ensures runs { (e : EnabledRows) (names : Names) → RunsReadBack e names }
+    ensures missed { (e : EnabledRows) (names : Names) → MissedReadsBack e names }
 {}
 
 /// Two texts of metadata by hand tell their layouts.
@@ -154,5 +124,5 @@ pub fn worked_metadata_refusals()
 /// written at all (`origin_fault` has nothing to say).
 pub fn metadata_reads_back()
     ensures { (origin : Origin) (form : Form) (e : EnabledRows) (names : Names) → origin_fault origin form e names ≡ None → HasNumbers origin form e names
-        → read_metadata (origin_text origin form e names) ≡ Some (layout_of e names form) }
+        → MetadataTells origin form e names }
 {}

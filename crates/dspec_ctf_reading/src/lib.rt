@@ -1,6 +1,6 @@
 //! Reading a trace in the Common Trace Format, version 1.8: its definition, `specs/Reading.antt`, which knows nothing of the writer's
 //! definitions; laws that say what reading gives of what the writer writes; and code that reads: the text of the metadata, packets and
-//! their events. What that code reads is what the definition reads.
+//! their events. What that code reads is what the definition reads. `folder` has what programs tell of whole trace folders.
 //!
 //! | File | What is in it |
 //! |---|---|
@@ -9,19 +9,22 @@
 //! | `told.rt`, `fault.rt` | what a trace's metadata tells, in memory; why a text or bytes can't be read |
 //! | `metadata.rt` | `read_metadata`, by the parts of `scan.rt`, `kinds.rt`, `entries.rt` and `heading.rt` |
 //! | `events.rt`, `packets.rt`, `numbers.rt` | the events of a packet, and packets one after another; numbers of bytes |
+//! | `folder.rt`, `folder/` | what trace folders hold: counted, checked, merged by time, told in lines and in Chrome's Trace Event form |
 //! | `specs/`: Reading, ReadingMetadata | what the bytes of packets and files say, and what the text of the metadata tells of them: over std alone |
 //! | `specs/`: Sample, SampleMetadata | packets and texts by hand, and what they say |
 //! | `specs/`: Fronts | a front in memory; a packet that is split and not yet read |
 //! | `specs/`: Layouts, Files, ToldNumbers | the layout that a trace of some enablings, names and a form has, and a record as it is read; what a file tells; the numbers that the metadata tells, as they are in memory |
 //! | `specs/`: Parts, Told, Faults, Packets | of the code that reads: what a part of the text gives; what was read, in the words of the definition; which fault is due, of events and of packets |
+//! | `specs/Folders/` | Checks (when nothing is wrong with a file), Whole (bytes that are whole packets), Clocks, Values (times of stamps, what numbers stand for), Marks, Tracks (what happened, by time and by rows) |
 //! | `proofs/`, of packets | Bounds (each part takes some bytes), Joining (what follows a file changes nothing in it), NumbersRead, EventsRead, PacketsRead, Sizes, Files, Timed, Live, Named; Numbered and Shorter (what `fronts.rt` needs) |
-//! | `proofs/`, of the metadata | Scanning (what stands in a text is found there), Lines (of fields), Texts (of events), Headings (what stands before them), Allowed (names in which nothing is wrong) |
+//! | `proofs/`, of the metadata | Scanning (what stands in a text is found there), Lines (of fields), Texts (of events), Headings (what stands before them), AllowedWords, Allowed (names in which nothing is wrong) |
 //! | `proofs/`, of the code that reads | ScanLemmas (a text in parts), LoopLemmas (fields, events and labels one after another), EventLemmas (an event's number, stamp and values) |
 #![tactic(auto)]
 
 mod entries;
 pub mod events;
 pub mod fault;
+pub mod folder;
 pub mod fronts;
 mod heading;
 mod kinds;

@@ -1,5 +1,5 @@
 -- Cited by calls. Nothing is lost uncounted.
-use Rattle.std.specs.Prelude.{ℕ, ◌≡◌, ◌≢◌, ◌+◌, ◌⊎◌, List, length, slice_index, Some}
+use Rattle.std.specs.Prelude.{ℕ, ◌≡◌, ◌≢◌, ◌<◌, ◌+◌, ◌^◌, ◌⊎◌, List, length, slice_index, Some}
 use Rattle.dspec_record.specs.Record.{Record}
 use Rattle.dspec_record.specs.EnablingRows.{EnabledRows}
 use Rattle.dspec_ring.specs.declared.batch.Batch.{Batch}
@@ -11,6 +11,14 @@ use Rattle.dspec_ctf_sink.specs.declared.losing.Loss.{Loss}
 -- how many events of a CPU a trace counts as missed so far
 abbrev pub missed_on : Tracing → ℕ → ℕ
 missed_on t cpu = slice_index t.missed cpu
+
+-- the bytes of a batch are the text of records
+abbrev pub HasText : EnabledRows → Batch → Type 0
+HasText e b = (rs : List Record) × IsText e b.buffer.text rs
+
+-- what each CPU missed before: of the batch's CPU it is, with the batch's drops and its records, a number of 64 bits
+abbrev pub IsCountable : EnabledRows → Batch → List ℕ → Type 0
+IsCountable e b missed = (rs : List Record) → IsText e b.buffer.text rs → slice_index missed b.cpu + b.drops + length rs < 2 ^ 64
 
 -- What came of a batch: its records are in the packet that was written of it, or none of them is. Those in the packet, and what is counted as
 -- missed then, are together what was counted before, the batch's drops, and its records. Of other CPUs the count stays.

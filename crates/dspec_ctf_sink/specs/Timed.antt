@@ -8,6 +8,7 @@ use Rattle.dspec_ctf.specs.declared.names.Names.{Names}
 use Rattle.dspec_ctf.specs.declared.origin.Origin.{Origin}
 use Rattle.dspec_ctf.specs.declared.rows.Run.{Run}
 use Rattle.dspec_ctf.specs.declared.stream.PacketFault.{PacketFault}
+use Rattle.dspec_ctf.specs.declared.stream.Stream.{Stream}
 use Rattle.dspec_ctf.specs.declared.stream.PacketFault.TheVariants as packet
 use Rattle.dspec_ctf.specs.Metadata.{origin_text}
 use Rattle.dspec_ctf.specs.Names.{origin_fault}
@@ -132,6 +133,10 @@ pub record CpuFiles : Type 0 where
   pub lasts : List ℕ
   pub written : Option (List FileWrite)
 
+-- the files of a CPU by what is known of them
+abbrev pub files_with : ℕ → List ℕ → Option (List FileWrite) → CpuFiles
+files_with told lasts written = record { told = told; lasts = lasts; written = written }
+
 -- Why a batch has no packets, where its CPU missed so many before: the sum goes past 64 bits, its bytes are no text, or memory was wanting.
 abbrev pub HasNoRuns : EnabledRows → ℕ → Batch → PacketFault → Type 0
 HasNoRuns e before b packet.Missed = 2 ^ 64 ≤ before + b.drops
@@ -179,6 +184,13 @@ module _ (uuid : List ℕ) (e : EnabledRows) (before : ℕ) (b : Batch) (old : C
   -- some of the batch is lost
   abbrev pub LosesRuns : CpuFiles → Loss → Type 0
   LosesRuns new loss = HasNoFile new loss ⊎ (LosesAll new loss ⊎ LosesRest new loss)
+
+-- the same two of what a stream missed before the batch: all of it is added, or some is lost
+abbrev pub AddsToStream : Stream → Batch → CpuFiles → CpuFiles → Type 0
+AddsToStream s b old new = AddsRuns s.uuid s.enablings.now s.missed b old new
+
+abbrev pub LosesOfStream : Stream → Batch → CpuFiles → CpuFiles → Loss → Type 0
+LosesOfStream s b old new loss = LosesRuns s.uuid s.enablings.now s.missed b old new loss
 
 -- how many events the batch's CPU missed before it, and the files of that CPU
 pub record HasFiles (t : TimedTracing) (b : Batch) (before : ℕ) (files : CpuFiles) : Type 0 where

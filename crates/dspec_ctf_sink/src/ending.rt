@@ -49,7 +49,8 @@ fn tell<K: Sink<Enablings>>(
 
 /// Tells a sink, behind the close of its session, what the reports count as lost beyond what batches told: a batch tells each refused reservation, so a
 /// lost block as one, and nothing of what speculative buffers had no room for. Each CPU's batch has no records, and as many drops as records are to be told
-/// still. So the trace of a sink of this crate ends by telling `dropped + specdropped + lost` of each report, and what it couldn't write.
+/// still. So where the sink is the session's own and its last writes are taken, its trace tells `dropped + specdropped + lost` of each report, and
+/// what it couldn't write. The contract says which batches the sink gets.
 pub fn tell_untold<K: Sink<Enablings>>(
     alloc: Global,
     schema: &Enablings,

@@ -1,21 +1,17 @@
 //! What follows from the definitions, as clauses of functions that have nothing to do.
 
-ghost use Rattle.std.specs.Prelude.{◌<◌, ◌+◌, ◌^◌, List, length, slice_index};
-ghost use Rattle.dspec_record.specs.Record.{Record};
+ghost use Rattle.std.specs.Prelude.{◌<◌, length};
 ghost use Rattle.dspec_record.specs.EnablingRows.{EnabledRows};
 ghost use Rattle.dspec_ring.specs.declared.batch.Batch.{Batch};
-ghost use Rattle.dspec_ctf.specs.Streams.{IsText};
-ghost use Rattle.dspec_ctf_sink.specs.Accounts.{Accounts, TimedAccounts, missed_on};
+ghost use Rattle.dspec_ctf_sink.specs.Accounts.{Accounts, HasText, IsCountable, TimedAccounts};
 ghost use Rattle.dspec_ctf_sink.specs.Timed.{GetsRuns, TimedTracing};
 ghost use Rattle.dspec_ctf_sink.specs.Writing.{GetsPacket, Tracing};
 
 /// Nothing is lost uncounted: of each batch whose bytes are a text, the records are in the packet that was written of it, or are counted as
 /// missed with its drops, up to 2^64 of them.
 pub fn nothing_is_lost_uncounted()
-    ensures taken { (e : EnabledRows) (old new : Tracing) (b : Batch) → b.cpu < length old.missed → ((rs : List Record) × IsText e b.buffer.text rs)
-        → ((rs : List Record) → IsText e b.buffer.text rs → missed_on old b.cpu + b.drops + length rs < 2 ^ 64)
-        → GetsPacket e old b new → Accounts e old b new }
-    ensures timed { (e : EnabledRows) (old new : TimedTracing) (b : Batch) → b.cpu < length old.missed → ((rs : List Record) × IsText e b.buffer.text rs)
-        → ((rs : List Record) → IsText e b.buffer.text rs → slice_index old.missed b.cpu + b.drops + length rs < 2 ^ 64)
-        → GetsRuns e old b new → TimedAccounts e old b new }
+    ensures taken { (e : EnabledRows) (old new : Tracing) (b : Batch) → b.cpu < length old.missed → HasText e b
+        → IsCountable e b old.missed → GetsPacket e old b new → Accounts e old b new }
+    ensures timed { (e : EnabledRows) (old new : TimedTracing) (b : Batch) → b.cpu < length old.missed → HasText e b
+        → IsCountable e b old.missed → GetsRuns e old b new → TimedAccounts e old b new }
 {}

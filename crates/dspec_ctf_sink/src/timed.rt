@@ -2,7 +2,7 @@ ghost use Rattle.std.specs.Prelude.{◌≡◌, ◌+◌, ◌<◌, [], All, IfOk, 
 ghost use Rattle.dspec_ctf.specs.Streams.{Accepts};
 ghost use Rattle.dspec_ctf_sink.specs.Losses.{HasSoManyRecords};
 ghost use Rattle.dspec_ctf_sink.specs.Writes.{IsNotTaken, Takes};
-ghost use Rattle.dspec_ctf_sink.specs.Timed.{AddsAll, AddsBatch, AddsRun, AddsRuns, GetsRuns, IsTimedBegun, IsBatchLoss, IsTimedFault, LosesRuns, StopsRun, StopsRuns, TellsMissed, TellsNone, row_name};
+ghost use Rattle.dspec_ctf_sink.specs.Timed.{AddsAll, AddsBatch, AddsRun, AddsToStream, GetsRuns, IsTimedBegun, IsBatchLoss, IsTimedFault, LosesOfStream, StopsRun, StopsRuns, TellsMissed, TellsNone, files_with, row_name};
 ghost use Rattle.dspec_ctf_sink.specs.declared.fault.FolderFault.TheVariants.{Memory, Packet};
 
 use crate::fault::FolderFault;
@@ -202,13 +202,9 @@ fn add_batch<F: Folder>(
     requires { stream.now.cpu ≡ batch.now.cpu }
     ensures counted { IfOk result (λ total. total ≡ stream.now.missed + batch.now.drops) }
     ensures added { OnOk result
-        (AddsRuns stream.now.uuid stream.now.enablings.now stream.now.missed batch.now
-        (record { told = told.old; lasts = rows.old; written = F.written folder.old })
-        (record { told = told.new; lasts = rows.new; written = F.written folder.new })) }
+        (AddsToStream stream.now batch.now (files_with told.old rows.old (F.written folder.old)) (files_with told.new rows.new (F.written folder.new))) }
     ensures lost { IfErr result
-        (LosesRuns stream.now.uuid stream.now.enablings.now stream.now.missed batch.now
-        (record { told = told.old; lasts = rows.old; written = F.written folder.old })
-        (record { told = told.new; lasts = rows.new; written = F.written folder.new })) }
+        (LosesOfStream stream.now batch.now (files_with told.old rows.old (F.written folder.old)) (files_with told.new rows.new (F.written folder.new))) }
 {
     let (schema, cpu) = (stream.enablings, batch.cpu);
     let Some(missed) = stream.missed.checked_add(batch.drops) else {

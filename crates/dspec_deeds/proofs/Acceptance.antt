@@ -17,7 +17,8 @@ use Rattle.dspec_deeds.specs.Fates.{Fate, taken, dropped, discarded, void, waiti
 use Rattle.dspec_deeds.specs.Headline.{AcceptanceLaw}
 use Rattle.dspec_deeds.proofs.TestLemmas.{either_way, off, and_tells, id_is_itself, same_number, same_id_tells}
 use Rattle.dspec_deeds.proofs.Verdicts.{commit_stays, one_decision, settled_commit, verdict_told}
-use Rattle.dspec_deeds.proofs.DeedEffects.{Sent, Empties, Effect, idle, offering, emptying, legal_before, legal_accounts, legal_effect}
+use Rattle.dspec_deeds.proofs.DeedOffers.{Sent, Empties, Effect, idle, offering, emptying}
+use Rattle.dspec_deeds.proofs.DeedEffects.{legal_before, legal_accounts, legal_effect}
 use Rattle.dspec_deeds.proofs.HeldOffers.{fate_idle, fate_offered, fate_earlier, fate_emptied, settled_as, tally, times_taken}
 
 -- a waiting record was offered to what it waits for, and one that was taken to nothing or to what was committed

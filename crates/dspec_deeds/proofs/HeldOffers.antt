@@ -9,7 +9,8 @@ use Rattle.dspec_deeds.specs.History.{same_id}
 use Rattle.dspec_deeds.specs.Own.{Offer, offered_by, offers, empties, held, accepted}
 use Rattle.dspec_deeds.specs.Fates.{Fate, taken, dropped, discarded, void, waiting, next_fate, fate, is_taken, is_waiting, has_fate, times}
 use Rattle.dspec_deeds.proofs.TestLemmas.{either_way, same_id_tells, number_is_itself, same_number}
-use Rattle.dspec_deeds.proofs.DeedEffects.{waits_for, next_offer, Idle, Offers, Empties, Effect, idle, offering, emptying, Accounts}
+use Rattle.dspec_deeds.proofs.DeedOffers.{waits_for, next_offer, Idle, Offers, Empties, Effect, idle, offering, emptying}
+use Rattle.dspec_deeds.proofs.DeedEffects.{Accounts}
 
 -- no record has a number beyond those offered
 pub fate_beyond : (c j : ℕ) (h : List Deed) → offers c h ≤ j → fate c j h ≡ None

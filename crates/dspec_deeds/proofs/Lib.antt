@@ -18,6 +18,7 @@ pub mod SetUp
 pub mod Places
 pub mod Acceptance
 pub mod Balance
+pub mod DeedOffers
 pub mod DeedEffects
 pub mod FateCounts
 pub mod Headlines
@@ -31,6 +32,7 @@ pub mod Results
 pub mod Items
 pub mod Walks
 pub mod Marks
+pub mod DeedReads
 pub mod OwnReads
 pub mod OwnStates
 pub mod BareReads

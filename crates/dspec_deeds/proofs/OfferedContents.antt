@@ -9,7 +9,8 @@ use Rattle.dspec_deeds.specs.History.{same_id}
 use Rattle.dspec_deeds.specs.Own.{Offer, offered_by, offers, held, accepts, accepted}
 use Rattle.dspec_deeds.specs.Fates.{is_taken, content_of}
 use Rattle.dspec_deeds.proofs.TestLemmas.{number_is_itself}
-use Rattle.dspec_deeds.proofs.DeedEffects.{waits_for, next_offer, Effect, idle, offering, emptying, Accounts}
+use Rattle.dspec_deeds.proofs.DeedOffers.{waits_for, next_offer, Effect, idle, offering, emptying}
+use Rattle.dspec_deeds.proofs.DeedEffects.{Accounts}
 
 -- it has the number and the content of an offered record
 pub record IsOffered (c : ℕ) (h : List Deed) (o : Offer) : Type 0 where

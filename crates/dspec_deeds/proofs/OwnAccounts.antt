@@ -11,7 +11,8 @@ use Rattle.dspec_deeds.specs.Reports.{report, CountsWithin}
 use Rattle.dspec_deeds.specs.Headline.{FateLaw}
 use Rattle.dspec_deeds.specs.Legal.{IsSound, is_seal}
 use Rattle.dspec_deeds.proofs.TestLemmas.{either_way, same_number}
-use Rattle.dspec_deeds.proofs.DeedEffects.{Effect, idle, effect, IsDecisive, decisive, Accounts}
+use Rattle.dspec_deeds.proofs.DeedOffers.{Effect, idle}
+use Rattle.dspec_deeds.proofs.DeedEffects.{effect, IsDecisive, decisive, Accounts}
 use Rattle.dspec_deeds.proofs.ReportBounds.{counts_within, IsScanned, AreScanned, IsFitted, AreFitted}
 use Rattle.dspec_deeds.proofs.Headlines.{accounts_fate_law}
 use Rattle.dspec_deeds.specs.Owning.{CpuRow, IsOwn}

@@ -9,7 +9,8 @@ use Rattle.dspec_deeds.specs.Own.{Offer, empties, held}
 use Rattle.dspec_deeds.specs.Reports.{Spoken, speculative}
 use Rattle.dspec_deeds.specs.Fates.{Fate, taken, dropped, discarded, void, waiting, fates, is_waiting}
 use Rattle.dspec_deeds.proofs.TestLemmas.{same_id_tells}
-use Rattle.dspec_deeds.proofs.DeedEffects.{waits_for, spoken_as, next_offer, Idle, Offers, Empties, Effect, idle, offering, emptying, Accounts}
+use Rattle.dspec_deeds.proofs.DeedOffers.{waits_for, spoken_as, next_offer, Idle, Offers, Empties, Effect, idle, offering, emptying}
+use Rattle.dspec_deeds.proofs.DeedEffects.{Accounts}
 use Rattle.dspec_deeds.proofs.HeldOffers.{same_id_back}
 use Rattle.dspec_deeds.proofs.FateCounts.{fates_idle, fates_offered, left_waiting}
 

@@ -17,3 +17,4 @@ pub mod CommonDeeds
 pub mod WordSteps
 pub mod Rules
 pub mod OthersDeeds
+pub mod Refusals

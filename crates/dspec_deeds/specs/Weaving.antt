@@ -16,6 +16,14 @@ abbrev pub bare : List Deed → List Deed
 bare [] = []
 bare (d ∷ h) = if is_seal d then bare h else d ∷ bare h
 
+-- without its Seals the list is the CPU's part of the list of all
+abbrev pub IsBarePart : ℕ → List Deed → List Deed → Type 0
+IsBarePart c p h = bare p ≡ part (Cpu c) h
+
+-- the part of each of the session's CPUs is legal in the own part
+abbrev pub HaveOwnParts : (ℕ → Option Shape) → Config → List Deed → Type 0
+HaveOwnParts shape k h = (c : ℕ) → c < k.cpus → IsOwn shape k c (part (Cpu c) h)
+
 -- the list's latest deed is the CPU's
 abbrev pub IsLastOf : ℕ → List Deed → Type 0
 IsLastOf c [] = ⊥

@@ -9,11 +9,12 @@ ghost use Rattle.dspec_deeds.specs.declared.deed.Deed.{Deed};
 ghost use Rattle.dspec_deeds.specs.declared.deed.Deed.TheVariants.{Trace, Commit, Settle};
 ghost use Rattle.dspec_deeds.specs.declared.deed.DecideFate.{DecideFate};
 ghost use Rattle.dspec_deeds.specs.declared.deed.TraceFate.{TraceFate};
-ghost use Rattle.dspec_deeds.specs.FateKinds.{trace_stopped, is_commit};
+ghost use Rattle.dspec_deeds.specs.FateKinds.{trace_stopped};
 ghost use Rattle.dspec_deeds.specs.Ranges.{is_fill};
-ghost use Rattle.dspec_deeds.specs.Own.{accepts, contents, full, growing, held, seals};
+ghost use Rattle.dspec_deeds.specs.Own.{accepts, full, growing, seals};
 ghost use Rattle.dspec_deeds.specs.Owning.{IsOwn};
 ghost use Rattle.dspec_deeds.specs.Legal.{IsFitting, fits_principal};
+ghost use Rattle.dspec_deeds.specs.Refusals.{BlockRefusalFills, RefusalFills};
 ghost use Rattle.dspec_deeds.specs.Reports.{report};
 
 /// A CPU's principal buffer has refused a reservation exactly where its report counts a drop. Under Fill, where nothing is
@@ -47,10 +48,10 @@ pub fn empty_fits()
 /// Each reservation in a CPU's principal buffer that is refused is in `full`: a record that is traced, or the block of a commit
 /// or of a settlement, where it doesn't fit.
 pub fn refused_closes()
-    ensures traced { (shape : ℕ → Option Shape) (k : Config) (c : ℕ) (r : Record) (f : TraceFate) (h : List Deed) → IsFitting shape k (Trace c r f ∷ h)
-        → trace_stopped f ≡ false → fits_principal shape k c (one r) h ≡ false → full c (Trace c r f ∷ h) ≡ true }
-    ensures committed { (shape : ℕ → Option Shape) (k : Config) (c : ℕ) (id : Speculation) (f : DecideFate) (h : List Deed) → IsFitting shape k (Commit c id f ∷ h)
-        → is_commit f ≡ true → fits_principal shape k c (block (contents (held c id h))) h ≡ false → full c (Commit c id f ∷ h) ≡ true }
-    ensures settled { (shape : ℕ → Option Shape) (k : Config) (c : ℕ) (id : Speculation) (f : DecideFate) (h : List Deed) → IsFitting shape k (Settle c id f ∷ h)
-        → is_commit f ≡ true → fits_principal shape k c (block (contents (held c id h))) h ≡ false → full c (Settle c id f ∷ h) ≡ true }
+    ensures traced { (shape : ℕ → Option Shape) (k : Config) (c : ℕ) (r : Record) (f : TraceFate) (h : List Deed)
+        → RefusalFills shape k c h (Trace c r f) (trace_stopped f ≡ false) (one r) }
+    ensures committed { (shape : ℕ → Option Shape) (k : Config) (c : ℕ) (id : Speculation) (f : DecideFate) (h : List Deed)
+        → BlockRefusalFills shape k c h (Commit c id f) id f }
+    ensures settled { (shape : ℕ → Option Shape) (k : Config) (c : ℕ) (id : Speculation) (f : DecideFate) (h : List Deed)
+        → BlockRefusalFills shape k c h (Settle c id f) id f }
 {}

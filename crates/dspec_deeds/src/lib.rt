@@ -15,12 +15,13 @@
 //! | `specs/`: History, Own | open, decided, callers, words, acknowledgements; what rests on a CPU's own deeds: its offers, buffers, batches |
 //! | `specs/`: Legal | which deed may come next, in a common part over `Facts` and in a CPU's own part; `IsLegal` is both |
 //! | `specs/`: Settling, Reports, Fates, Headline | what becomes of a buffer once its speculation is decided; counts, fates, the three laws |
+//! | `specs/`: Refusals | a reservation that is refused, and the buffer that has refused one |
 //! | `specs/`: Closes, Told, Ranges | the close; a fate as it is told; the configuration |
 //! | `specs/`: Owning, Marks, CpuShown, Weaving | the own part over one CPU's list; the mark of a slot; what a CPU's side shows; the lists of the CPUs put together |
 //! | `specs/`: CommonDeeds, WordSteps, OthersDeeds, Rules | a deed as the common part sees it; the word behind a deed; what stands behind another's deed; what the conditions come to over a whole list |
 //! | `proofs/`, sound lists | SoundLists, PresentIds, Word.., Staying.., Acked, Awaiting, Debtless, Emptied |
-//! | `proofs/`, the headline | Prefixes, DeedEffects, HeldOffers, FateCounts, Acceptance, Balance, ReportBounds, Headlines |
-//! | `proofs/`, own lists and weaving | OwnReads, Marks, Dropping, OwnStates, OwnParts, OwnAccounts, BareReads, BareSound, SealsPut, SoloOwed, WovenLists, PlacedSeals; Sample, a small list on which the premises are met |
+//! | `proofs/`, the headline | Prefixes, DeedOffers, DeedEffects, HeldOffers, FateCounts, Acceptance, Balance, ReportBounds, Headlines |
+//! | `proofs/`, own lists and weaving | DeedReads, OwnReads, Marks, Dropping, OwnStates, OwnParts, OwnAccounts, BareReads, BareSound, SealsPut, SoloOwed, WovenLists, PlacedSeals; Sample, a small list on which the premises are met |
 //! | `proofs/`, the rest | CommonDeeds and WordsMade (words), WholeLists (rules), FullBuffers (policy Fill) |
 #![tactic(auto)]
 

@@ -11,7 +11,7 @@ ghost use Rattle.dspec_deeds.specs.Own.{calls};
 ghost use Rattle.dspec_deeds.specs.Reports.{report, CountsWithin};
 ghost use Rattle.dspec_deeds.specs.CpuShown.{own_side, last_called, TellsPresent};
 ghost use Rattle.dspec_deeds.specs.Owning.{IsOwn, ReadsApart, ReadsAlike};
-ghost use Rattle.dspec_deeds.specs.Weaving.{bare, woven, ArePlaced, HaveLists, ShowsAlike, IsWoven};
+ghost use Rattle.dspec_deeds.specs.Weaving.{bare, woven, ArePlaced, HaveLists, HaveOwnParts, IsBarePart, ShowsAlike, IsWoven};
 
 /// What is read off a CPU's own deeds is the same off the list of all and off the CPU's own list; and, Seals apart, off a
 /// list and off that list without its Seals.
@@ -36,18 +36,18 @@ pub fn own_marks()
 /// A list of deeds of the session's CPUs is legal in the own part exactly where each CPU's part is.
 pub fn own_parts()
     ensures parts { (shape : ℕ → Option Shape) (k : Config) (h : List Deed) → IsFitting shape k h
-        → (c : ℕ) → c < k.cpus → IsOwn shape k c (part (actor.Cpu c) h) }
+        → HaveOwnParts shape k h }
     ensures whole { (shape : ℕ → Option Shape) (k : Config) (h : List Deed) → HasAuthors k h
-        → ((c : ℕ) → c < k.cpus → IsOwn shape k c (part (actor.Cpu c) h)) → IsFitting shape k h }
+        → HaveOwnParts shape k h → IsFitting shape k h }
 {}
 
 /// Of a CPU's own list alone, which without its Seals is that CPU's part of a list that is legal in its common part: each count
 /// of its report but that of worn calls is at most the calls, and each of its records has one fate.
 pub fn own_report()
     ensures counts { (shape : ℕ → Option Shape) (k : Config) (h p : List Deed) (c worn : ℕ) → IsSound k h → IsOwn shape k c p
-        → bare p ≡ part (actor.Cpu c) h → CountsWithin (calls c p) (report k c worn p) }
+        → IsBarePart c p h → CountsWithin (calls c p) (report k c worn p) }
     ensures fates { (shape : ℕ → Option Shape) (k : Config) (h p : List Deed) (c : ℕ) → IsSound k h → IsOwn shape k c p
-        → bare p ≡ part (actor.Cpu c) h → FateLaw k c p }
+        → IsBarePart c p h → FateLaw k c p }
 {}
 
 /// What is read off the deeds of all, words, acknowledgements and activity among it, is the same without the Seals.
@@ -59,9 +59,9 @@ pub fn bare_shows()
 /// stands directly behind the deed before it in its CPU's part, and each CPU's part is legal in the own part.
 pub fn placed_seals()
     ensures legal { (shape : ℕ → Option Shape) (k : Config) (w : List Deed) → ArePlaced w → IsSound k (bare w) → owed (bare w) ≡ 0
-        → HasAuthors k w → ((c : ℕ) → c < k.cpus → IsOwn shape k c (part (actor.Cpu c) w)) → IsLegal shape k w }
+        → HasAuthors k w → HaveOwnParts shape k w → IsLegal shape k w }
     ensures rests { (shape : ℕ → Option Shape) (k : Config) (w : List Deed) → ArePlaced w → IsSound k (bare w) → owed (bare w) ≡ 0
-        → HasAuthors k w → ((c : ℕ) → c < k.cpus → IsOwn shape k c (part (actor.Cpu c) w)) → owed w ≡ 0 }
+        → HasAuthors k w → HaveOwnParts shape k w → owed w ≡ 0 }
 {}
 
 /// A list that is legal in its common part, and the CPUs' own lists, are woven into one legal list: each Seal comes directly

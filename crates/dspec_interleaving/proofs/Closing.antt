@@ -30,7 +30,8 @@ use Rattle.dspec_deeds.proofs.WordCodes.{decided_awaits}
 use Rattle.dspec_deeds.specs.Closes.{CanClose, is_granted, closed_slot, closed_slots, closed_cpus, closing, WaitsUndecided}
 use Rattle.dspec_deeds.proofs.Acked.{settled_stays, ack_tells}
 use Rattle.dspec_deeds.specs.Fates.{waiting, fate, times}
-use Rattle.dspec_deeds.proofs.DeedEffects.{waits_for, legal_accounts}
+use Rattle.dspec_deeds.proofs.DeedOffers.{waits_for}
+use Rattle.dspec_deeds.proofs.DeedEffects.{legal_accounts}
 use Rattle.dspec_deeds.proofs.HeldOffers.{tally, times_held}
 use Rattle.dspec_deeds.proofs.Emptied.{settled_empty, solo_empty, past_empty}
 use Rattle.dspec_deeds.proofs.Going.{GoesOn}

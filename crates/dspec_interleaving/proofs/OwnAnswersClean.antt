@@ -25,7 +25,7 @@ use Rattle.dspec_deeds.specs.Own.{seals}
 use Rattle.dspec_interleaving.specs.Play.{ConsumerStep, same_word, keeps_on, stops, changes, takes_at, gives_at, next_slot, loads_slot, loads_ack, reaps, consumer_begun, consumer_step, took}
 use Rattle.dspec_interleaving.specs.Whole.{is_out}
 use Rattle.dspec_deeds.proofs.TestLemmas.{either_way, same_number, numbers_differ}
-use Rattle.dspec_interleaving.proofs.OwnAnswers.{Tells}
+use Rattle.dspec_interleaving.proofs.OwnTelling.{Tells}
 
 -- what the consumer's call in flight has entered, the latest first; the CPU that it is about exists
 abbrev pub OwnCleaned : Config → ConsumerFlight → List Deed → Type 0

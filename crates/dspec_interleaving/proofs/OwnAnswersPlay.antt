@@ -31,7 +31,8 @@ use Rattle.dspec_interleaving.proofs.Coherence.{idle_at, start_coherent}
 use Rattle.dspec_interleaving.proofs.CpuSteps.{cpu_step_stands}
 use Rattle.dspec_interleaving.proofs.ConsumerSteps.{consumer_keeps}
 use Rattle.dspec_interleaving.proofs.FlightsStay.{flights_stay}
-use Rattle.dspec_interleaving.proofs.OwnAnswers.{OwnsCall, Tells, worn_behind, ReadsOff, others_own, cpu_step_reads}
+use Rattle.dspec_interleaving.proofs.OwnTelling.{OwnsCall, Tells, worn_behind, ReadsOff, others_own}
+use Rattle.dspec_interleaving.proofs.OwnAnswers.{cpu_step_reads}
 use Rattle.dspec_interleaving.proofs.OwnAnswersClean.{OwnsClean, CleanReads, consumer_step_reads}
 use Rattle.dspec_interleaving.proofs.PlaysCarry.{behind_cpu_step, behind_consumer_step, PlayInvariant, play_carries}
 use Rattle.dspec_interleaving.proofs.PlaysEnd.{IsCoherentPlay, coherence_carried, coherence_kept}

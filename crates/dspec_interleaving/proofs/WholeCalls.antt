@@ -33,8 +33,10 @@ use Rattle.dspec_interleaving.proofs.WholeTrace.{begins, idle, trace_alone}
 use Rattle.dspec_interleaving.proofs.WholeSpeculate.{speculate_alone}
 use Rattle.dspec_interleaving.proofs.WholeCommit.{commit_alone, discard_alone}
 use Rattle.dspec_interleaving.proofs.WholeScan.{double, double_is, speculation_alone}
-use Rattle.dspec_interleaving.proofs.WholeService.{IsAtRest, service_alone}
-use Rattle.dspec_interleaving.proofs.WholeClean.{Clears, clear_ended, clear_more, plus, plus_is, steps_for, clean_leads}
+use Rattle.dspec_interleaving.proofs.WholeSettling.{IsAtRest}
+use Rattle.dspec_interleaving.proofs.WholeService.{service_alone}
+use Rattle.dspec_interleaving.proofs.CleanedParts.{Clears, clear_ended, clear_more}
+use Rattle.dspec_interleaving.proofs.WholeClean.{plus, plus_is, steps_for, clean_leads}
 
 -- one less
 pub less : (n : ℕ) → 1 ≤ n → (j : ℕ) × (suc j ≡ n)

@@ -1,158 +1,25 @@
 -- A clean that runs alone.
 use Prim.Native.Nat.{zero, suc}
-use Rattle.std.proofs.Common.{◌≡◌, ◌≤◌, ◌<◌, ◌+◌, inl, inr, ℕ, Bool, true, false, not, ◌&&◌, ◌==◌, List, []}
-use Rattle.std.proofs.Common.{◌∷◌, ◌++◌, Option, Some, None, is_none, if◌then◌else◌, refl, sym, ap, ◌∙◌, subst, ⊎_elim, arith, true≢false}
+use Rattle.std.proofs.Common.{◌≡◌, ◌≤◌, ◌<◌, ◌+◌, ℕ, Bool, true, false, ◌&&◌, ◌==◌, List, []}
+use Rattle.std.proofs.Common.{◌∷◌, ◌++◌, Option, if◌then◌else◌, refl, sym, ap, ◌∙◌, subst, arith}
 use Rattle.std.specs.Prelude.{nat_lt}
 use Rattle.std.proofs.lemmas.Bool.Decides.{nat_tests}
 use Rattle.dspec_record.specs.declared.field.Shape.{Shape}
-use Rattle.dspec_word.specs.SpecId.{Speculation}
 use Rattle.dspec_word.specs.Code.{awaits}
-use Rattle.dspec_deeds.specs.declared.config.Config.{Config}
-use Rattle.dspec_deeds.specs.declared.calls.Actor.{Actor}
-use Rattle.dspec_deeds.specs.declared.calls.Actor.TheVariants as actor
-use Rattle.dspec_deeds.specs.declared.calls.Answer.{Answer}
 use Rattle.dspec_deeds.specs.declared.calls.Answer.TheVariants as answer
 use Rattle.dspec_deeds.specs.declared.deed.Deed.{Deed}
 use Rattle.dspec_deeds.specs.declared.deed.Deed.TheVariants.{Release}
 use Rattle.dspec_interleaving.specs.declared.flight.CpuProgress.{CpuProgress}
-use Rattle.dspec_interleaving.specs.declared.flight.ConsumerFlight.{ConsumerFlight}
 use Rattle.dspec_interleaving.specs.declared.flight.ConsumerFlight.TheVariants as consumer
 use Rattle.dspec_interleaving.specs.declared.flight.ConsumerProgress.{ConsumerProgress}
-use Rattle.dspec_deeds.specs.History.{issue, present, verdict, is_undecided, solo, settled, is_busy, owed, releaser, ack, word_at}
-use Rattle.dspec_deeds.specs.Legal.{IsSound}
+use Rattle.dspec_deeds.specs.History.{issue, present, settled, ack, word_at}
 use Rattle.dspec_interleaving.specs.Coherent.{PlayState}
-use Rattle.dspec_interleaving.specs.Play.{ConsumerStep, consumer_step, keeps_on, stops, next_slot, loads_slot, loads_ack, reaps, same_word}
-use Rattle.dspec_interleaving.specs.Turns.{Stepped, step, on_to_end}
-use Rattle.dspec_interleaving.specs.Whole.{WholeConsumer, all_settled, is_reapable, cleaned_at, cleaned_up, releases_up}
-use Rattle.dspec_deeds.proofs.TestLemmas.{either_way, off, and_tells, number_is_itself}
+use Rattle.dspec_interleaving.specs.Play.{stops, next_slot, loads_slot, loads_ack, reaps, same_word}
+use Rattle.dspec_interleaving.specs.Whole.{WholeConsumer, all_settled, is_reapable, cleaned_up, releases_up}
+use Rattle.dspec_deeds.proofs.TestLemmas.{number_is_itself}
 use Rattle.dspec_deeds.proofs.Acked.{acked_is}
 use Rattle.dspec_interleaving.proofs.WholeTrace.{same_word_is}
-use Rattle.dspec_interleaving.proofs.WholeService.{awaits_is}
-
--- behind a step that no other call overlaps, no release is owed
-pub record IsQuiet (k : Config) (h : List Deed) : Type 0 where
-  pub sound : IsSound k h
-  pub rests : owed h ≡ 0
-
-module _ (shape : ℕ → Option Shape) where
-  pub ended_stays : (n : ℕ) (a : Actor) (st : PlayState) (r : Answer) → on_to_end shape n a st (Some r) ≡ record { state = st; answer = Some r }
-  ended_stays zero a st r = refl
-  ended_stays (suc n) a st r = refl
-
-  more_steps : (n m : ℕ) (a : Actor) (st : PlayState) (r : Option Answer) (to : PlayState) (x : Answer) → n ≤ m
-      → on_to_end shape n a st r ≡ record { state = to; answer = Some x } → on_to_end shape m a st r ≡ record { state = to; answer = Some x }
-  more_steps zero m a st r to x le e =
-      let at : r ≡ Some x = ap (λ (l : Stepped). l.answer) e in
-      ap (on_to_end shape m a st) at ∙ (ended_stays m a st x ∙ (sym (λ i. record { state = st; answer = at i }) ∙ e))
-  more_steps (suc n) zero a st r to x le e = absurd (omega arith)
-  more_steps (suc n) (suc m) a st (Some r) to x le e = e
-  more_steps (suc n) (suc m) a st None to x le e = more_steps n m a (step shape a st).state (step shape a st).answer to x (omega arith) e
-
-module _ (shape : ℕ → Option Shape) (st : PlayState) where
-  -- the consumer's side, the CPUs' and the list
-  abbrev pub stands_at : ConsumerProgress → List CpuProgress → List Deed → PlayState
-  stands_at side all h = record { config = st.config; deeds = h; progresses = all; side = side }
-
-  abbrev pub at_rest : ConsumerProgress
-  at_rest = record { flight = None; steps = 0 }
-
-  -- what the state becomes behind a whole call of the consumer
-  abbrev pub left_by : WholeConsumer → Stepped
-  left_by w = record { state = stands_at at_rest w.progresses w.list; answer = Some w.answer }
-
-  -- behind a step, so many more steps of the call lead to what the whole call leaves
-  pub record Clears (n : ℕ) (h : List Deed) (m : ConsumerStep) (w : WholeConsumer) : Type 0 where
-    pub is : on_to_end shape n actor.Consumer (stands_at m.side m.progresses (m.deeds ++ h)) m.answer ≡ left_by w
-
-  pub clear_ended : (n : ℕ) (h : List Deed) (side : ConsumerProgress) (all : List CpuProgress) (ds : List Deed) (a : Answer)
-      → Clears n h (stops st.config h side all ds a) record { list = ds ++ h; progresses = all; answer = a }
-  clear_ended n h side all ds a = record { is = ended_stays shape n actor.Consumer _ a }
-
-  abbrev pub later_side : ConsumerProgress → ConsumerFlight → ConsumerProgress
-  later_side side f = record { flight = Some f; steps = side.steps + 1 }
-
-  pub clear_goes : (n : ℕ) (h : List Deed) (side : ConsumerProgress) (all : List CpuProgress) (ds : List Deed) (f : ConsumerFlight) (w : WholeConsumer)
-      → Clears n (ds ++ h) (consumer_step st.config (ds ++ h) (later_side side f) all f) w → Clears (suc n) h (keeps_on st.config h side all ds f) w
-  clear_goes n h side all ds f w l = record { is = l.is }
-
-  pub clear_more : (n m : ℕ) (h : List Deed) (to : ConsumerStep) (w : WholeConsumer) → n ≤ m → Clears n h to w → Clears m h to w
-  clear_more n m h to w le l = record { is = more_steps shape n m actor.Consumer _ _ _ _ le l.is }
-
-  pub clear_true : (n : ℕ) (h : List Deed) (b : Bool) (x y : ConsumerStep) (w : WholeConsumer) → b ≡ true → Clears n h x w → Clears n h (if b then x else y) w
-  clear_true n h true x y w e l = l
-  clear_true n h false x y w e l = absurd (true≢false (sym e))
-
-  pub clear_false : (n : ℕ) (h : List Deed) (b : Bool) (x y : ConsumerStep) (w : WholeConsumer) → b ≡ false → Clears n h y w → Clears n h (if b then x else y) w
-  clear_false n h true x y w e l = absurd (true≢false e)
-  clear_false n h false x y w e l = l
-
-  pub clear_test : (n : ℕ) (h : List Deed) (b : Bool) (x y : ConsumerStep) (w : WholeConsumer) → (b ≡ true → Clears n h x w) → (b ≡ false → Clears n h y w) → Clears n h (if b then x else y) w
-  clear_test n h true x y w t f = t refl
-  clear_test n h false x y w t f = f refl
-
-assoc : (x y z : Bool) → ((x && y) && z) ≡ (x && (y && z))
-assoc true y z = refl
-assoc false y z = refl
-
-module _ (k : Config) where
-  -- where a word waits, its slot can be released exactly once every CPU has settled
-  reapable_is : (s : ℕ) (h : List Deed) → IsQuiet k h → is_reapable k s h ≡ (awaits (word_at s h).code && all_settled k k.cpus (present s h) h)
-  reapable_is s h q = sym (assoc (is_busy s h) (is_none (solo (present s h) h)) (all_settled k k.cpus (present s h) h)) ∙ ap (λ b. b && all_settled k k.cpus (present s h) h)
-      (sym (awaits_is k s h q.sound q.rests))
-
-  pub each_settled : (n : ℕ) (id : Speculation) (h : List Deed) → all_settled k n id h ≡ true → (c : ℕ) → c < n → settled c id h ≡ true
-  each_settled zero id h e c lt = absurd (omega arith)
-  each_settled (suc n) id h e c lt =
-      let both = and_tells (all_settled k n id h) (settled n id h) e in
-      ⊎_elim
-      (λ (t : (c == n) ≡ true). let same : c ≡ n = grind (arith, nat_tests) in subst (λ x. settled x id h ≡ true) (sym same) both.1)
-      (λ (f : (c == n) ≡ false). let below : c < n = grind (arith, nat_tests) in each_settled n id h both.0 c below)
-      (either_way (c == n))
-
-  -- one CPU's settlement that is missing
-  one_missing : (n j : ℕ) (id : Speculation) (h : List Deed) → settled n id h ≡ false → all_settled k (suc n + j) id h ≡ false
-  one_missing n zero id h e = let same : suc n + 0 ≡ suc n =
-      omega arith in ap (λ m. all_settled k m id h) same ∙ (ap (λ b. all_settled k n id h && b) e ∙ Rattle.dspec_deeds.proofs.TestLemmas.and_false (all_settled k n id h))
-  one_missing n (suc j) id h e = let up : suc n + suc j ≡ suc (suc n + j) = omega arith in ap (λ m. all_settled k m id h) up ∙ ap (λ b. b && settled (suc n + j) id h) (one_missing n j id h e)
-
-  -- a slot that can be released may be, by the consumer
-  release_rests : (s : ℕ) (h : List Deed) → IsQuiet k h → is_reapable k s h ≡ true → IsQuiet k (Release s ∷ h)
-  release_rests s h q e =
-      let a = and_tells (is_busy s h) _ e in
-      let b = and_tells (is_none (solo (present s h) h)) _ a.1 in
-      let alone = none_is (solo (present s h) h) b.0 in
-      record {
-        sound = (
-          q.sound,
-          (
-            inl q.rests,
-            ((unnot (is_undecided (verdict (present s h) h)) a.0, inr (each_settled k.cpus (present s h) h b.1)), λ c by. absurd (consumer_no c (ap releaser (sym alone) ∙ by))),
-          ),
-        );
-        rests = refl;
-      }
-    where
-      unnot : (b : Bool) → not b ≡ true → b ≡ false
-      unnot true e = absurd (true≢false (sym e))
-      unnot false e = refl
-
-      none_is : (x : Option ℕ) → is_none x ≡ true → x ≡ None
-      none_is None e = refl
-      none_is (Some a) e = absurd (true≢false (sym e))
-
-      consumer_no : (c : ℕ) → ◌≡◌ {A = Actor} actor.Consumer (actor.Cpu c) → ⊥
-      consumer_no c e = cc (e)
-
-  pub cleaned_at_rests : (s : ℕ) (h : List Deed) → IsQuiet k h → IsQuiet k (cleaned_at k s h)
-  cleaned_at_rests s h q = go (is_reapable k s h) refl
-    where
-      go : (b : Bool) → is_reapable k s h ≡ b → IsQuiet k (if b then Release s ∷ h else h)
-      go true e = release_rests s h q e
-      go false e = q
-
-  pub cleaned_up_rests : (n : ℕ) (h : List Deed) → IsQuiet k h → IsQuiet k (cleaned_up k n h)
-  cleaned_up_rests zero h q = q
-  cleaned_up_rests (suc n) h q = cleaned_at_rests (suc n) (cleaned_up k n h) (cleaned_up_rests n h q)
+use Rattle.dspec_interleaving.proofs.CleanedParts.{Clears, IsQuiet, cleaned_up_rests, clear_ended, clear_false, clear_goes, clear_more, clear_test, clear_true, later_side, one_missing, reapable_is}
 
 -- so many more
 abbrev pub plus : ℕ → ℕ → ℕ

@@ -1,13 +1,11 @@
 -- Of the calls of a play exactly those are answered Worn whose CPU had entered as many calls before as it may make.
-use Rattle.std.proofs.Common.{◌≡◌, ℕ, ◌+◌, ◌<◌, Bool, true, false, ◌&&◌, List, [], ◌∷◌, ◌++◌, Option, Some, None, refl, sym, ap, ◌∙◌, subst, ⊎_elim, arith}
+use Rattle.std.proofs.Common.{◌≡◌, ℕ, ◌+◌, ◌<◌, Bool, true, ◌&&◌, List, [], ◌∷◌, ◌++◌, Option, Some, None, refl, sym, ap, ◌∙◌, subst}
 use Rattle.std.specs.Prelude.{map, nat_le, reverse}
 use Rattle.std.proofs.lemmas.List.{reverse-append, map-append}
 use Rattle.dspec_record.specs.declared.field.Shape.{Shape}
 use Rattle.dspec_record.specs.Record.{Record}
 use Rattle.dspec_deeds.specs.declared.config.Config.{Config}
-use Rattle.dspec_deeds.specs.declared.calls.Actor.{Actor}
 use Rattle.dspec_deeds.specs.declared.calls.Actor.TheVariants as actor
-use Rattle.dspec_deeds.specs.declared.calls.Answer.{Answer}
 use Rattle.dspec_deeds.specs.declared.calls.ConsumerOp.{ConsumerOp}
 use Rattle.dspec_deeds.specs.declared.calls.CpuOp.{CpuOp}
 use Rattle.dspec_deeds.specs.declared.calls.Op.{Op}
@@ -18,160 +16,23 @@ use Rattle.dspec_interleaving.specs.declared.flight.CpuProgress.{CpuProgress}
 use Rattle.dspec_interleaving.specs.declared.flight.ConsumerFlight.{ConsumerFlight}
 use Rattle.dspec_interleaving.specs.declared.flight.CallPlace.{CallPlace}
 use Rattle.dspec_interleaving.specs.declared.flight.CallPlace.TheVariants as cpu
-use Rattle.dspec_deeds.specs.History.{author, same_actor}
 use Rattle.dspec_deeds.specs.Own.{calls}
 use Rattle.dspec_deeds.specs.Ranges.{start_fault}
 use Rattle.dspec_interleaving.specs.Calls.{op_of, consumer_op_of, is_about}
 use Rattle.dspec_interleaving.specs.Coherent.{StandsState, PlayState, progress_of}
 use Rattle.dspec_interleaving.specs.Play.{CpuStep, ConsumerStep, cpu_step, consumer_step}
-use Rattle.dspec_interleaving.specs.Plays.{EndedCall, Noted, ended, Playing, with_note, playing_at_start, begun_cpu, begun_consumer, played, answers_of, play_fault, is_by, is_worn_answer}
-use Rattle.dspec_interleaving.specs.Turns.{step_cpu, step_consumer, step}
-use Rattle.dspec_interleaving.specs.Wearing.{is_counted, is_first, is_told_worn, entered_calls, is_worn_behind, AreWornRightly}
-use Rattle.dspec_deeds.proofs.Going.{AllBy}
-use Rattle.dspec_deeds.proofs.StayingOwn.{calls_other}
-use Rattle.dspec_deeds.proofs.TestLemmas.{number_is_itself, same_actor_tells}
+use Rattle.dspec_interleaving.specs.Plays.{Noted, ended, Playing, with_note, playing_at_start, begun_cpu, begun_consumer, played, answers_of, play_fault}
+use Rattle.dspec_interleaving.specs.Wearing.{is_first, is_told_worn, is_worn_behind, AreWornRightly}
 use Rattle.dspec_interleaving.proofs.Coherence.{idle_at, start_coherent}
 use Rattle.dspec_interleaving.proofs.ConsumerSteps.{consumer_keeps}
 use Rattle.dspec_interleaving.proofs.CpuSteps.{cpu_step_stands}
 use Rattle.dspec_interleaving.proofs.FlightsStay.{flights_stay}
-use Rattle.dspec_interleaving.proofs.KeptCalls.{step_passes}
 use Rattle.dspec_interleaving.proofs.OwnAnswersPlay.{put}
 use Rattle.dspec_interleaving.proofs.PlaysCarry.{behind_cpu_step, behind_consumer_step, PlayInvariant, play_carries}
-use Rattle.dspec_interleaving.proofs.PlaysEnd.{IsCoherentPlay, coherence_carried, coherence_kept}
-use Rattle.dspec_interleaving.proofs.StepEnds.{HasEnded, HasGoneOn, cpu_advances}
-use Rattle.dspec_interleaving.proofs.WornSteps.{ahead, enters, cpu_step_wears, consumer_unworn}
-
--- a step of a CPU answers Worn exactly where it is the first of a call that counts, and the CPU has entered as many as it may
-pub step_wears : (shape : ℕ → Option Shape) (st : PlayState) (c : ℕ)
-    → is_told_worn (step shape (actor.Cpu c) st).answer ≡ (is_first (progress_of st.progresses c).flight && nat_le st.config.max_calls (calls c st.deeds))
-step_wears shape st c = go (progress_of st.progresses c).flight
-  where
-    go : (x : Option CallPlace) → is_told_worn (step_cpu shape c st x).answer ≡ (is_first x && nat_le st.config.max_calls (calls c st.deeds))
-    go None = refl
-    go (Some f) = (cpu_step_wears shape st.config c st.deeds (progress_of st.progresses c) f).told
-
-pub clean_wears : (shape : ℕ → Option Shape) (st : PlayState) → is_told_worn (step shape actor.Consumer st).answer ≡ false
-clean_wears shape st = go st.side.flight
-  where
-    go : (x : Option ConsumerFlight) → is_told_worn (step_consumer shape st x).answer ≡ false
-    go None = refl
-    go (Some f) = consumer_unworn st.config st.deeds st.side st.progresses f
-
--- a call that counts is past its first step
-abbrev pub is_on : Option CallPlace → Bool
-is_on None = false
-is_on (Some (cpu.Begun o)) = false
-is_on (Some f) = is_counted (op.Cpu (op_of f))
-
--- what a CPU has entered, by its ended calls and the one in flight, which was unworn at its first step
-pub record HasEntered (k : Config) (c : ℕ) (h : List Deed) (x : Option CallPlace) (es : List EndedCall) : Type 0 where
-  pub counts : calls c h ≡ entered_calls c es + ahead x
-  pub unworn : is_on x ≡ true → nat_le k.max_calls (entered_calls c es) ≡ false
-
--- the test of a step is that of its call
-same_test : (k : Config) (c : ℕ) (h : List Deed) (f : CallPlace) (es : List EndedCall) → HasEntered k c h (Some f) es
-    → (is_first (Some f) && nat_le k.max_calls (calls c h)) ≡ is_worn_behind k (actor.Cpu c) (op.Cpu (op_of f)) es
-same_test k c h (cpu.Begun o) es was =
-    let counts = was.counts in
-    let same : calls c h ≡ entered_calls c es = omega arith in
-    ap (λ n. is_counted (op.Cpu o) && nat_le k.max_calls n) same
-same_test k c h (cpu.ScanLoad s) es was = sym (was.unworn refl)
-same_test k c h (cpu.ScanTry s w) es was = sym (was.unworn refl)
-same_test k c h (cpu.SpeculateLoad id r) es was = sym (was.unworn refl)
-same_test k c h (cpu.SpeculateTry id r w) es was = sym (was.unworn refl)
-same_test k c h (cpu.CommitLoad id) es was = sym (was.unworn refl)
-same_test k c h (cpu.CommitTry id w) es was = sym (was.unworn refl)
-same_test k c h (cpu.CommitRelease id d) es was = sym (was.unworn refl)
-same_test k c h (cpu.DiscardLoad id) es was = sym (was.unworn refl)
-same_test k c h (cpu.DiscardTry id w) es was = sym (was.unworn refl)
-same_test k c h cpu.ServicePop es was = refl
-same_test k c h cpu.ServicePush es was = refl
-same_test k c h (cpu.ServiceLoad s sum) es was = refl
-same_test k c h (cpu.ServiceStore s w sum) es was = refl
-
--- a call that counts and goes on is past its first step, whatever its step was
-is_counted_on : (o : CpuOp) (x : CallPlace) → op_of x ≡ o → is_on (Some x) ≡ true → is_counted (op.Cpu o) ≡ true
-is_counted_on o (cpu.Begun p) is now = absurd (cc (now))
-is_counted_on o (cpu.ScanLoad s) is now = ap (λ y. is_counted (op.Cpu y)) (sym is)
-is_counted_on o (cpu.ScanTry s w) is now = ap (λ y. is_counted (op.Cpu y)) (sym is)
-is_counted_on o (cpu.SpeculateLoad id r) is now = ap (λ y. is_counted (op.Cpu y)) (sym is)
-is_counted_on o (cpu.SpeculateTry id r w) is now = ap (λ y. is_counted (op.Cpu y)) (sym is)
-is_counted_on o (cpu.CommitLoad id) is now = ap (λ y. is_counted (op.Cpu y)) (sym is)
-is_counted_on o (cpu.CommitTry id w) is now = ap (λ y. is_counted (op.Cpu y)) (sym is)
-is_counted_on o (cpu.CommitRelease id d) is now = ap (λ y. is_counted (op.Cpu y)) (sym is)
-is_counted_on o (cpu.DiscardLoad id) is now = ap (λ y. is_counted (op.Cpu y)) (sym is)
-is_counted_on o (cpu.DiscardTry id w) is now = ap (λ y. is_counted (op.Cpu y)) (sym is)
-is_counted_on o cpu.ServicePop is now = absurd (cc (now))
-is_counted_on o cpu.ServicePush is now = absurd (cc (now))
-is_counted_on o (cpu.ServiceLoad s sum) is now = absurd (cc (now))
-is_counted_on o (cpu.ServiceStore s w sum) is now = absurd (cc (now))
-
--- a call that isn't worn at a step isn't worn behind it, where it counts
-unworn_on : (k : Config) (c : ℕ) (o : CpuOp) (es : List EndedCall) → is_counted (op.Cpu o) ≡ true → is_worn_behind k (actor.Cpu c) (op.Cpu o) es ≡ false
-    → nat_le k.max_calls (entered_calls c es) ≡ false
-unworn_on k c o es counted e = ap (λ b. b && nat_le k.max_calls (entered_calls c es)) (sym counted) ∙ e
-
--- a call that is noted where it ended
-note_counts : (c : ℕ) (o : Op) (ds : List Deed) (st : PlayState) (r : Option Answer) (ns : List Noted)
-    → entered_calls c (map ended (with_note (actor.Cpu c) o ds st r ns)) ≡ entered_calls c (map ended ns) + enters o r
-note_counts c o ds st None ns = omega arith
-note_counts c o ds st (Some a) ns = rw (number_is_itself c) refl
-
--- another's call counts nothing
-note_beside : (b : ℕ) (a : Actor) (o : Op) (ds : List Deed) (st : PlayState) (r : Option Answer) (ns : List Noted) → is_by b a ≡ false
-    → entered_calls b (map ended (with_note a o ds st r ns)) ≡ entered_calls b (map ended ns)
-note_beside b a o ds st None ns other = refl
-note_beside b a o ds st (Some x) ns other = rw other (omega arith)
-
-note_right : (k : Config) (a : Actor) (o : Op) (ds : List Deed) (st : PlayState) (r : Option Answer) (ns : List Noted)
-    → ((x : Answer) → r ≡ Some x → is_worn_answer x ≡ is_worn_behind k a o (map ended ns))
-    → AreWornRightly k (map ended ns) → AreWornRightly k (map ended (with_note a o ds st r ns))
-note_right k a o ds st None ns is was = was
-note_right k a o ds st (Some x) ns is was = (is x refl, was)
-
--- another's deeds are no calls of the CPU
-calls_stay : (c : ℕ) (w : Actor) → same_actor (actor.Cpu c) w ≡ false → (ds h : List Deed) → AllBy w ds h → calls c (ds ++ h) ≡ calls c h
-calls_stay c w other [] h by = refl
-calls_stay c w other (d ∷ ds) h by =
-    calls_other c d (ds ++ h) (subst (λ (x : Actor). same_actor (actor.Cpu c) x ≡ false) (same_actor_tells w (author d (ds ++ h)) by.1) other) ∙ calls_stay c w other ds h by.0
-
--- what a CPU has entered stays behind another's step
-entered_beside : (k : Config) (b : ℕ) (h g : List Deed) (x : Option CallPlace) (es fs : List EndedCall) → calls b g ≡ calls b h → entered_calls b fs ≡ entered_calls b es
-    → HasEntered k b h x es → HasEntered k b g x fs
-entered_beside k b h g x es fs same count was = record {
-  counts = same ∙ (was.counts ∙ ap (λ n. n + ahead x) (sym count));
-  unworn = λ on. ap (nat_le k.max_calls) count ∙ was.unworn on;
-}
-
--- what a CPU has entered behind its own step
-entered_now : (shape : ℕ → Option Shape) (k : Config) (c : ℕ) (h : List Deed) (me : CpuProgress) (f : CallPlace) (ds : List Deed) (st : PlayState) (ns : List Noted)
-    → HasEntered k c h (Some f) (map ended ns)
-    → HasEntered k c ((cpu_step shape k c h me f).deeds ++ h) (cpu_step shape k c h me f).progress.flight
-    (map ended (with_note (actor.Cpu c) (op.Cpu (op_of f)) ds st (cpu_step shape k c h me f).answer ns))
-entered_now shape k c h me f ds st ns was =
-    let m = cpu_step shape k c h me f in
-    let wears = cpu_step_wears shape k c h me f in
-    let more = wears.counts in
-    let before = was.counts in
-    let noted = note_counts c (op.Cpu (op_of f)) ds st m.answer ns in
-    record {
-      counts = omega arith;
-      unworn = λ on. ⊎_elim
-          (λ (e : HasEnded m). let idle = e.idle in absurd (cc (idle, on)))
-          (λ (g : HasGoneOn k me _ m).
-          let same : op_of g.next ≡ op_of f = step_passes (λ o. o ≡ op_of f) shape k c h me f refl g.next g.flight in
-          let counted = is_counted_on (op_of f) g.next same (ap is_on (sym g.flight) ∙ on) in
-          let unworn : is_worn_behind k (actor.Cpu c) (op.Cpu (op_of f)) (map ended ns) ≡ false = sym (same_test k c h f (map ended ns) was) ∙ (sym wears.told ∙ ap is_told_worn g.answers) in
-          subst (λ r. nat_le k.max_calls (entered_calls c (map ended (with_note (actor.Cpu c) (op.Cpu (op_of f)) ds st r ns))) ≡ false) (sym g.answers)
-          (unworn_on k c (op_of f) (map ended ns) counted unworn))
-          (cpu_advances shape k c h me f);
-    }
-
--- a play whose ended calls are worn where they have to be
-pub record IsWornPlay (shape : ℕ → Option Shape) (k : Config) (p : Playing) : Type 0 where
-  pub play : IsCoherentPlay shape k p
-  pub right : AreWornRightly k (map ended p.noted)
-  pub entered : (c : ℕ) → c < p.state.config.cpus → HasEntered k c p.state.deeds (progress_of p.state.progresses c).flight (map ended p.noted)
+use Rattle.dspec_interleaving.proofs.PlaysEnd.{coherence_carried, coherence_kept}
+use Rattle.dspec_interleaving.proofs.WornCpuSteps.{cpu_step_wears}
+use Rattle.dspec_interleaving.proofs.WornSteps.{consumer_unworn}
+use Rattle.dspec_interleaving.proofs.WornCounts.{HasEntered, IsWornPlay, calls_stay, entered_beside, entered_now, note_beside, note_right, same_test}
 
 module _ (shape : ℕ → Option Shape) (k : Config) where
   start_worn : start_fault k ≡ None → IsWornPlay shape k (playing_at_start k)

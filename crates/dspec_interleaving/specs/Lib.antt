@@ -11,3 +11,4 @@ pub mod Wearing
 pub mod WholePlays
 pub mod Promised
 pub mod CpuClose
+pub mod Laws

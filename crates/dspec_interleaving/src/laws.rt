@@ -1,12 +1,11 @@
 //! The laws of plays, each a function without a body.
-ghost use Rattle.std.specs.Prelude.{◌≡◌, ◌≢◌, ◌<◌, ◌+◌, ◌∷◌, ◌++◌, ℕ, Bool, false, List, map, reverse, nat_le, ◌&&◌, Option, Some, None};
+ghost use Rattle.std.specs.Prelude.{◌≡◌, ◌<◌, ℕ, Bool, false, List, map, reverse, Option, Some, None};
 ghost use Rattle.std.specs.List.{AllByRecursion};
 ghost use Rattle.dspec_record.specs.Record.{Record};
 ghost use Rattle.dspec_record.specs.declared.field.Shape.{Shape};
 ghost use Rattle.dspec_word.specs.SpecId.{Speculation};
 ghost use Rattle.dspec_deeds.specs.declared.calls.Actor.TheVariants as actor;
 ghost use Rattle.dspec_deeds.specs.declared.calls.ConsumerOp.{ConsumerOp};
-ghost use Rattle.dspec_deeds.specs.declared.calls.ConsumerOp.TheVariants as consumer_op;
 ghost use Rattle.dspec_deeds.specs.declared.calls.CpuOp.{CpuOp};
 ghost use Rattle.dspec_deeds.specs.declared.calls.Turn.{Turn};
 ghost use Rattle.dspec_deeds.specs.declared.config.Config.{Config};
@@ -14,29 +13,26 @@ ghost use Rattle.dspec_deeds.specs.declared.deed.DecideFate.{DecideFate};
 ghost use Rattle.dspec_deeds.specs.declared.deed.Deed.{Deed};
 ghost use Rattle.dspec_interleaving.specs.declared.flight.ConsumerFlight.{ConsumerFlight};
 ghost use Rattle.dspec_interleaving.specs.declared.flight.CallPlace.{CallPlace};
-ghost use Rattle.dspec_interleaving.specs.declared.flight.CallPlace.TheVariants as flight;
 ghost use Rattle.dspec_deeds.specs.Ranges.{start_fault};
-ghost use Rattle.dspec_deeds.specs.History.{solo, verdict, is_undecided, part, owed, scan};
+ghost use Rattle.dspec_deeds.specs.History.{owed};
 ghost use Rattle.dspec_deeds.specs.Legal.{IsLegal, HasAuthors, IsSound};
-ghost use Rattle.dspec_deeds.specs.Own.{calls};
-ghost use Rattle.dspec_interleaving.specs.Wearing.{is_first, is_told_worn, AreWornRightly};
+ghost use Rattle.dspec_interleaving.specs.Wearing.{is_told_worn, AreWornRightly};
 ghost use Rattle.dspec_interleaving.specs.Coherent.{IsCoherent, PlayState, progress_of};
-ghost use Rattle.dspec_interleaving.specs.Turns.{at_start, begin_cpu, begin_consumer, step, on_to_end};
+ghost use Rattle.dspec_interleaving.specs.Turns.{at_start, begin_cpu, begin_consumer, step};
 ghost use Rattle.dspec_deeds.specs.Closes.{closing, CanClose, WaitsUndecided};
-ghost use Rattle.dspec_interleaving.specs.Bounds.{flight_bound, clean_bound, op_bound, consumer_bound};
-ghost use Rattle.dspec_interleaving.specs.SoloRule.{IsReleasing, ReleasesLast, DecidesNothing};
-ghost use Rattle.dspec_interleaving.specs.Whole.{behind_cpu, cpu_call, Call, of_consumer, behind_consumer, behind_all, consumer_call, IsApart, AreCalls, HasService, IsReleased};
+ghost use Rattle.dspec_interleaving.specs.Bounds.{clean_bound};
+ghost use Rattle.dspec_interleaving.specs.SoloRule.{DecidesNothing};
+ghost use Rattle.dspec_interleaving.specs.Whole.{Call, behind_all, IsApart, AreCalls};
 ghost use Rattle.dspec_interleaving.specs.WholePlays.{turn_of, AreAccepted, all_ended};
-ghost use Rattle.dspec_interleaving.specs.Plays.{IsReadOff, answers_of, play_fault, played, worn_count};
-ghost use Rattle.dspec_interleaving.specs.CpuClose.{IsCloseOf};
-ghost use Rattle.dspec_deeds.specs.Weaving.{woven, HaveLists};
+ghost use Rattle.dspec_interleaving.specs.Plays.{IsReadOff, answers_of, play_fault, played};
+ghost use Rattle.dspec_interleaving.specs.Laws.{AreCpusIdle, ArePlayed, ClosesWoven, CountsWorn, IsBelowBound, IsCpuIdle, IsReleasedBy, ReleasesAsItDecides, ReleasesAtNextStep, RunsAsWholeConsumer, RunsAsWholeCpu, is_worn_next};
 
 /// A play begins coherent, and every begin and every atomic step of whichever actor keeps it so: its list of deeds is
 /// legal throughout.
 pub fn schedule_legality()
     ensures start { (shape : ℕ → Option Shape) (k : Config) → start_fault k ≡ None → IsCoherent shape (at_start k) }
     ensures cpu_begins { (shape : ℕ → Option Shape) (st : PlayState) (c : ℕ) (o : CpuOp) → IsCoherent shape st
-        → c < st.config.cpus → (progress_of st.progresses c).flight ≡ None → IsCoherent shape (begin_cpu c o st) }
+        → c < st.config.cpus → IsCpuIdle c st → IsCoherent shape (begin_cpu c o st) }
     ensures consumer_begins { (shape : ℕ → Option Shape) (st : PlayState) (o : ConsumerOp) → IsCoherent shape st
         → IsCoherent shape (begin_consumer o st) }
     ensures cpu_steps { (shape : ℕ → Option Shape) (st : PlayState) (c : ℕ) → IsCoherent shape st
@@ -50,7 +46,7 @@ pub fn schedule_legality()
 pub fn bounded_steps()
     ensures cpu { (shape : ℕ → Option Shape) (st : PlayState) (c : ℕ) (f : CallPlace) → IsCoherent shape st
         → c < st.config.cpus → (progress_of st.progresses c).flight ≡ Some f
-        → (progress_of st.progresses c).steps < flight_bound st.config f }
+        → IsBelowBound c f st }
     ensures consumer { (shape : ℕ → Option Shape) (st : PlayState) (f : ConsumerFlight) → IsCoherent shape st
         → st.side.flight ≡ Some f → st.side.steps < clean_bound st.config f }
 {}
@@ -59,11 +55,9 @@ pub fn bounded_steps()
 /// consumer decides nothing.
 pub fn solo_rule()
     ensures decided { (shape : ℕ → Option Shape) (st : PlayState) (c : ℕ) (id : Speculation) → IsCoherent shape st
-        → c < st.config.cpus → solo id st.deeds ≡ None → solo id (step shape (actor.Cpu c) st).state.deeds ≢ None
-        → IsReleasing c id st.deeds (step shape (actor.Cpu c) st) }
+        → c < st.config.cpus → ReleasesAsItDecides shape st c id }
     ensures released { (shape : ℕ → Option Shape) (st : PlayState) (c : ℕ) (id : Speculation) (f : DecideFate) → IsCoherent shape st
-        → c < st.config.cpus → (progress_of st.progresses c).flight ≡ Some (flight.CommitRelease id f)
-        → ReleasesLast c id f st.deeds (step shape (actor.Cpu c) st) }
+        → c < st.config.cpus → ReleasesAtNextStep shape st c id f }
     ensures consumer { (shape : ℕ → Option Shape) (st : PlayState) → IsCoherent shape st
         → DecidesNothing st.deeds (step shape actor.Consumer st).state.deeds }
 {}
@@ -72,7 +66,7 @@ pub fn solo_rule()
 /// calls of a play, exactly those are Worn whose CPU had so many calls before that weren't. A service never is.
 pub fn worn_rule()
     ensures cpu { (shape : ℕ → Option Shape) (st : PlayState) (c : ℕ) → is_told_worn (step shape (actor.Cpu c) st).answer
-        ≡ (is_first (progress_of st.progresses c).flight && nat_le st.config.max_calls (calls c st.deeds)) }
+        ≡ is_worn_next c st }
     ensures consumer { (shape : ℕ → Option Shape) (st : PlayState)
         → is_told_worn (step shape actor.Consumer st).answer ≡ false }
     ensures played { (shape : ℕ → Option Shape) (accepts : Record → Bool) (k : Config) (ts : List Turn) → play_fault shape accepts k ts ≡ None
@@ -82,10 +76,9 @@ pub fn worn_rule()
 /// The settlements of the close keep the list legal, and what waits behind them waits for a speculation that is undecided.
 pub fn close_is_legal()
     ensures legal { (shape : ℕ → Option Shape) (st : PlayState) → IsCoherent shape st
-        → ((c : ℕ) → c < st.config.cpus → (progress_of st.progresses c).flight ≡ None)
-        → IsLegal shape st.config (closing shape st.config st.deeds) }
+        → AreCpusIdle st → IsLegal shape st.config (closing shape st.config st.deeds) }
     ensures can_close { (shape : ℕ → Option Shape) (st : PlayState) → IsCoherent shape st
-        → ((c : ℕ) → c < st.config.cpus → (progress_of st.progresses c).flight ≡ None) → CanClose shape st.config st.deeds }
+        → AreCpusIdle st → CanClose shape st.config st.deeds }
     ensures waits { (shape : ℕ → Option Shape) (k : Config) (h : List Deed) → start_fault k ≡ None → CanClose shape k h
         → WaitsUndecided k (closing shape k h) }
 {}
@@ -93,13 +86,9 @@ pub fn close_is_legal()
 /// A call that runs alone does what the definition of whole calls says.
 pub fn whole_calls()
     ensures cpu { (shape : ℕ → Option Shape) (st : PlayState) (c : ℕ) (o : CpuOp) → IsCoherent shape st
-        → c < st.config.cpus → (progress_of st.progresses c).flight ≡ None
-        → on_to_end shape (op_bound st.config o) (actor.Cpu c) (begin_cpu c o st) None
-        ≡ record { state = behind_cpu c (cpu_call shape c o st) st; answer = Some (cpu_call shape c o st).answer } }
+        → c < st.config.cpus → IsCpuIdle c st → RunsAsWholeCpu shape st c o }
     ensures consumer { (shape : ℕ → Option Shape) (st : PlayState) (o : ConsumerOp) → IsCoherent shape st
-        → IsApart o st
-        → on_to_end shape (consumer_bound st.config o) actor.Consumer (begin_consumer o st) None
-        ≡ record { state = behind_consumer (consumer_call shape o st) st; answer = Some (consumer_call shape o st).answer } }
+        → IsApart o st → RunsAsWholeConsumer shape st o }
 {}
 
 /// Each ended call of a play answers what is read off its own deeds, whatever was done between its steps; and so many
@@ -108,14 +97,14 @@ pub fn schedule_answers()
     ensures read_off { (shape : ℕ → Option Shape) (accepts : Record → Bool) (k : Config) (ts : List Turn) → play_fault shape accepts k ts ≡ None
         → AllByRecursion IsReadOff (played shape k ts).noted }
     ensures worn { (shape : ℕ → Option Shape) (accepts : Record → Bool) (k : Config) (ts : List Turn) (c : ℕ) → play_fault shape accepts k ts ≡ None
-        → c < k.cpus → (progress_of (played shape k ts).state.progresses c).worn ≡ worn_count (answers_of shape k ts) c }
+        → c < k.cpus → CountsWorn shape k ts c }
 {}
 
 /// A schedule of whole calls, one after another, is refused nowhere, and plays what the definition of whole calls says,
 /// call by call.
 pub fn whole_plays()
     ensures unrefused { (shape : ℕ → Option Shape) (accepts : Record → Bool) (k : Config) (xs : List Call) → start_fault k ≡ None
-        → AreCalls k xs → AreAccepted accepts xs → play_fault shape accepts k (map turn_of xs) ≡ None }
+        → AreCalls k xs → AreAccepted accepts xs → ArePlayed shape accepts k xs }
     ensures state { (shape : ℕ → Option Shape) (k : Config) (xs : List Call) → start_fault k ≡ None
         → AreCalls k xs → (played shape k (map turn_of xs)).state ≡ behind_all shape xs (at_start k) }
     ensures answers { (shape : ℕ → Option Shape) (k : Config) (xs : List Call) → start_fault k ≡ None
@@ -128,9 +117,7 @@ pub fn whole_plays()
 pub fn whole_release()
     ensures { (shape : ℕ → Option Shape) (k : Config) (id : Speculation) (ws xs ys : List Call) → start_fault k ≡ None
         → AreCalls k ws → AreCalls k xs → AreCalls k ys
-        → is_undecided (verdict id (behind_all shape ws (at_start k)).deeds) ≡ false
-        → ((c : ℕ) → c < k.cpus → HasService c xs)
-        → IsReleased id (behind_all shape (xs ++ (of_consumer consumer_op.Clean ∷ ys)) (behind_all shape ws (at_start k))).deeds }
+        → IsReleasedBy shape k id ws xs ys }
 {}
 
 /// Where no call of speculation is under way, the close of the woven list is legal; each CPU's part of it is that CPU's list
@@ -138,8 +125,7 @@ pub fn whole_release()
 /// undecided.
 pub fn woven_close()
     ensures { (shape : ℕ → Option Shape) (k : Config) (h : List Deed) (p : ℕ → List Deed) → start_fault k ≡ None → IsSound k h
-        → owed h ≡ 0 → HasAuthors k h → HaveLists shape k p h → ((c : ℕ) → c < k.cpus → scan k c h ≡ 0)
-        → IsCloseOf shape k p h (closing shape k (woven k.cpus p h)) }
+        → owed h ≡ 0 → HasAuthors k h → ClosesWoven shape k p h }
 {
     dspec_deeds::prefix_law();
     dspec_deeds::acceptance_law();

@@ -13,7 +13,7 @@
 //! | `specs/`: SoloRule, Whole, WholePlays, Promised, CpuClose | the solo rule; whole calls, said of the list that they find; what is promised of every state; the close by the CPUs' own lists |
 //! | `proofs/`, each step keeps a play coherent | Steps.., CpuSteps, OthersStand, StateStands, ConsumerSteps, Coherence |
 //! | `proofs/`, bounds and the close | Bounded, StepEnds, CallsEnd, Closing, ClosedAuthors, ClosedParts |
-//! | `proofs/`, whole calls and plays | Whole.., PlayerMoves, PlayerRuns, PlaysCarry, PlaysEnd, OwnAnswers.., WornSteps, WornCalls |
+//! | `proofs/`, whole calls and plays | Whole.., PlayerMoves, PlayerRuns, PlaysCarry, PlaysEnd, OwnTelling, OwnAnswers.., WornCpuSteps, WornSteps, WornCounts, WornCalls |
 #![tactic(auto)]
 
 pub mod flight;

@@ -31,10 +31,10 @@ use Rattle.dspec_interleaving.specs.Coherent.{Expects, StandsConsumer, StandsCpu
 use Rattle.dspec_interleaving.proofs.CleanReads.{clean_stands}
 use Rattle.dspec_interleaving.proofs.Counts.{issue_below, issues_fit}
 use Rattle.dspec_interleaving.proofs.StepReads.{can_be_released, flight_stands, slots_fit}
-use Rattle.dspec_machine.specs.declared.machine.Machine.{Machine}
-use Rattle.dspec_machine.specs.Machines.{history, state_of}
-use Rattle.dspec_machine.specs.Worlds.{WorldInvariant}
-use Rattle.dspec_machine.proofs.MachineReads.{slot_in_range}
+use Rattle.dspec_core.specs.declared.machine.Machine.{Machine}
+use Rattle.dspec_core.specs.Machines.{history, state_of}
+use Rattle.dspec_core.specs.Worlds.{WorldInvariant}
+use Rattle.dspec_core.proofs.MachineReads.{slot_in_range}
 use Rattle.dspec_picture.specs.Tellable.{CanBeTold, ConsumerCanBeTold, IsTellable}
 
 -- what is released was decided

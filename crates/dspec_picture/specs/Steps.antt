@@ -1,6 +1,6 @@
 -- Cited by calls. The steps of a play, a line each.
 use Prim.Native.Nat.{zero, suc}
-use Rattle.std.specs.Prelude.{ℕ, ◌+◌, ◌==◌, List, [], ◌∷◌, ◌++◌, length, drop, reverse, if◌then◌else◌, codes, decimal, Option}
+use Rattle.std.specs.Prelude.{◌≡◌, ℕ, ◌+◌, ◌==◌, List, [], ◌∷◌, ◌++◌, length, drop, reverse, if◌then◌else◌, codes, decimal, Option}
 use Rattle.std.specs.List.{flat_map}
 use Rattle.dspec_record.specs.declared.field.Shape.{Shape}
 use Rattle.dspec_record.specs.declared.header.Header.{Header}
@@ -51,6 +51,10 @@ module _ (shape : ℕ → Option Shape) (header : Header) where
   turn_lines n (Step a) p = line_at n a p
   turn_lines n (RunCpu c o) p = ran_lines n (actor.Cpu c) (begun_cpu c o p)
   turn_lines n (RunConsumer o) p = ran_lines n actor.Consumer (begun_consumer o p)
+
+  -- wherever a play is in this state, the turn's lines stand behind a text
+  abbrev pub TellsTurn : ℕ → Turn → PlayState → List ℕ → List ℕ → Type 0
+  TellsTurn n t state old new = (p : Playing) → state ≡ p.state → new ≡ old ++ turn_lines n t p
 
   -- all turns, numbered from n on
   abbrev pub all_lines : ℕ → List Turn → Playing → List ℕ

@@ -9,8 +9,8 @@ use Rattle.dspec_interleaving.specs.declared.flight.CallPlace.{CallPlace}
 use Rattle.dspec_interleaving.specs.declared.flight.CallPlace.TheVariants as cpu
 use Rattle.dspec_interleaving.specs.Calls.{is_about}
 use Rattle.dspec_interleaving.specs.Coherent.{IsSlot}
-use Rattle.dspec_machine.specs.declared.machine.Machine.{Machine}
-use Rattle.dspec_machine.specs.Machines.{IsShownMachine}
+use Rattle.dspec_core.specs.declared.machine.Machine.{Machine}
+use Rattle.dspec_core.specs.Machines.{IsShownMachine}
 
 -- the machine shows its list of deeds, and has a slot, and no slot that an identifier has no room for
 pub record IsTellable {S B : Type 0} (has : B → S → List Piece → Type 0) (capacity : B → ℕ) (m : Machine S B) : Type 0 where

@@ -11,6 +11,7 @@ use Rattle.dspec_deeds.specs.declared.calls.ConsumerOp.TheVariants as consumer_o
 use Rattle.dspec_deeds.specs.declared.calls.CpuOp.{CpuOp}
 use Rattle.dspec_deeds.specs.declared.calls.CpuOp.TheVariants as cpu_op
 use Rattle.dspec_deeds.specs.declared.config.Config.{Config}
+use Rattle.dspec_deeds.specs.declared.config.Policy.{Policy}
 use Rattle.dspec_deeds.specs.declared.deed.Deed.{Deed}
 use Rattle.dspec_deeds.specs.History.{ack, halted, word_at}
 use Rattle.dspec_deeds.specs.Own.{seals}
@@ -63,11 +64,15 @@ loads_told h s = load_told s (word_at s h)
 abbrev pub exchanges_told : List Deed → ℕ → SlotState → Act → List ℕ
 exchanges_told h s from act = exchange_told s from (attempted act from) (word_at s h)
 
+-- the first step of a service, of a CPU that was asked for so many batches
+abbrev pub service_told : Policy → List Deed → ℕ → ℕ → List ℕ
+service_told policy h c want = if is_fill policy then loads_told h 1 else ask_told (nat_lt (seals c h) want)
+
 module _ (k : Config) (h : List Deed) where
   -- the first step of a call of a CPU
   abbrev pub begun_told : ℕ → CpuProgress → CpuOp → List ℕ
   begun_told c me o =
-      if is_service o then (if is_fill k.policy then loads_told h 1 else ask_told (nat_lt (seals c h) me.want))
+      if is_service o then service_told k.policy h c me.want
       else (if is_worn k c h then codes "has made all its calls" else running_told (halted h))
 
   abbrev pub cpu_told : ℕ → CpuProgress → CallPlace → List ℕ

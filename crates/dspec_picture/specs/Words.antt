@@ -92,11 +92,18 @@ refused_behind size reach a n = bytes_told (reserved reach a n - reach) (size - 
 abbrev pub refused_principal : Config → Room → ℕ → ℕ → List ℕ
 refused_principal k room a n = if room.closed then codes ": the buffer is closed" else refused_behind k.bufsize room.reach a n
 
+-- behind a record that the principal buffer refused, and behind one that the buffer of a speculation refused
+abbrev pub trace_refusal : (ℕ → Option Shape) → Config → Room → Record → TraceFate → List ℕ
+trace_refusal shape k room r f = if trace_dropped f then refused_principal k room (align_of shape r) (size_of shape r) else []
+
+abbrev pub speculate_refusal : (ℕ → Option Shape) → Config → Room → Record → SpeculateFate → List ℕ
+speculate_refusal shape k room r f = if spoken_dropped f then refused_behind k.specsize room.held (align_of shape r) (size_of shape r) else []
+
 module _ (shape : ℕ → Option Shape) (k : Config) (room : Room) where
   -- behind a deed by which a buffer refused a record, or a block of a speculation
   abbrev pub refusal_told : Deed → List ℕ
-  refusal_told (Trace c r f) = if trace_dropped f then refused_principal k room (align_of shape r) (size_of shape r) else []
-  refusal_told (Speculate c id r f) = if spoken_dropped f then refused_behind k.specsize room.held (align_of shape r) (size_of shape r) else []
+  refusal_told (Trace c r f) = trace_refusal shape k room r f
+  refusal_told (Speculate c id r f) = speculate_refusal shape k room r f
   refusal_told (Commit c id f) = if is_lost f then refused_principal k room 8 room.held else []
   refusal_told (Settle c id f) = if is_lost f then refused_principal k room 8 room.held else []
   refusal_told d = []

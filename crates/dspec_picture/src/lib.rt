@@ -10,14 +10,14 @@
 //!
 //! It promises that the text in words is that of the definitions for the play of the turns (`specs/Steps.antt`), and that a play is
 //! refused where the player refuses it. A word that is loaded is the one that the list of deeds before the step tells
-//! (`specs/Told.antt`). It steps the machine of `dspec_machine` itself, since only that shows which call is in flight.
+//! (`specs/Told.antt`). It steps the machine of `dspec_core` itself, since only that shows which call is in flight.
 //!
 //! | File | What is in it |
 //! |---|---|
 //! | `shape.rt`, `style.rt`, `svg.rt` | `Shape` and what is in one (`Look`, `Caption`, `Offered`); the head and the style sheet; each shape's text |
 //! | `grid.rt`, `fates.rt`, `marks.rt` | where things stand; what became of each offer; what a deed shows in its CPU's band |
 //! | `bars.rt`, `band.rt`, `drawing.rt`, `sheet.rt`, `laws.rt` | the segments of a slot; a band; the whole; one shape more; the three laws |
-//! | `walking.rt` | `steps_of`: the turns, over the machine of dspec_machine; a line a step |
+//! | `walking.rt` | `steps_of`: the turns, over the machine of dspec_core; a line a step |
 //! | `showing.rt`, `telling.rt`, `room.rt`, `words.rt` | what the machine shows of slots, and the word attempted; what a step does, in words; how many bytes a refused record or block needed; deeds and words as text |
 //! | `specs/` of pictures | Svg (the text, letter by letter), Grid, Marks, Bars, Drawing, Seen (what is kept of verdicts and callers), Shown (what the laws read off), over the definitions of dspec_deeds |
 //! | `specs/` of words | Steps, Told, Room, Words (the text, over the definitions of plays; a step; the room; deeds), Attempts, Tellable (who is a caller by its mark, and the word attempted; what a call in flight keeps so that its step can be told) |

@@ -6,16 +6,16 @@ ghost use Rattle.dspec_deeds.specs.Legal.{is_closed};
 ghost use Rattle.dspec_deeds.specs.Own.{active};
 ghost use Rattle.dspec_interleaving.specs.Calls.{is_actor};
 ghost use Rattle.dspec_interleaving.specs.Coherent.{IsSlot, progress_of};
-ghost use Rattle.dspec_machine.specs.Machines.{IsShownMachine, history, state_of};
-ghost use Rattle.dspec_machine.specs.Worlds.{WorldInvariant};
+ghost use Rattle.dspec_core.specs.Machines.{IsShownMachine, history, state_of};
+ghost use Rattle.dspec_core.specs.Worlds.{WorldInvariant};
 ghost use Rattle.dspec_picture.specs.Tellable.{CanBeTold, IsTellable};
 ghost use Rattle.dspec_picture.specs.Room.{aim_bytes, aimed_bytes, held_bytes, room_at};
 
 use crate::showing::is_marked;
 use dspec_buffer::TraceBuffer;
+use dspec_core::machine::Machine;
 use dspec_deeds::Actor;
 use dspec_interleaving::CallPlace;
-use dspec_machine::Machine;
 use dspec_record::Schema;
 use dspec_word::SpecId;
 

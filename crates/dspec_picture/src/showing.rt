@@ -2,11 +2,11 @@
 ghost use Rattle.std.specs.Prelude.{◌≡◌, ◌<◌};
 ghost use Rattle.dspec_deeds.specs.History.{ack, word_at};
 ghost use Rattle.dspec_interleaving.specs.Coherent.{IsSlot};
-ghost use Rattle.dspec_machine.specs.Machines.{IsShownMachine, history};
+ghost use Rattle.dspec_core.specs.Machines.{IsShownMachine, history};
 ghost use Rattle.dspec_picture.specs.Attempts.{attempted, is_marked};
 
 use dspec_buffer::TraceBuffer;
-use dspec_machine::Machine;
+use dspec_core::machine::Machine;
 use dspec_record::Schema;
 use dspec_word::{Act, SpecId, Word};
 

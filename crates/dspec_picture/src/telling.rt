@@ -1,23 +1,22 @@
 //! What the next step of a call in flight does, in words, as the machine shows it.
 ghost use Rattle.std.specs.Prelude.{◌≡◌, ◌<◌, ◌++◌, nat_lt, true, if◌then◌else◌, codes, decimal, OnOk, string_bytes};
-ghost use Rattle.dspec_deeds.specs.Ranges.{is_fill};
 ghost use Rattle.dspec_deeds.specs.Own.{seals};
 ghost use Rattle.dspec_interleaving.specs.Calls.{is_about, is_actor};
 ghost use Rattle.dspec_interleaving.specs.Coherent.{IsSlot, progress_of};
 ghost use Rattle.dspec_interleaving.specs.Whole.{is_out};
-ghost use Rattle.dspec_machine.specs.Machines.{IsShownMachine, history, state_of};
-ghost use Rattle.dspec_machine.specs.Worlds.{WorldInvariant};
+ghost use Rattle.dspec_core.specs.Machines.{IsShownMachine, history, state_of};
+ghost use Rattle.dspec_core.specs.Worlds.{WorldInvariant};
 ghost use Rattle.dspec_schedule.specs.Printed.{consumer_op_text, cpu_op_text};
 ghost use Rattle.dspec_word.specs.SpecId.{id_number};
 ghost use Rattle.dspec_picture.specs.Tellable.{CanBeTold, ConsumerCanBeTold, IsTellable};
-ghost use Rattle.dspec_picture.specs.Told.{ack_head, ack_told, ask_told, begun_told, consumer_begun_told, consumer_call_told, consumer_flight_told, consumer_told, cpu_call_told, cpu_flight_told, cpu_told, exchanges_told, is_given_back, is_handed, is_service, loads_told, running_told, step_told};
+ghost use Rattle.dspec_picture.specs.Told.{ack_head, ack_told, ask_told, begun_told, consumer_begun_told, consumer_call_told, consumer_flight_told, consumer_told, cpu_call_told, cpu_flight_told, cpu_told, exchanges_told, is_given_back, is_handed, is_service, loads_told, running_told, service_told, step_told};
 
 use crate::showing::{ack, attempted, is_marked, word_at};
 use crate::words::{tell_exchange, tell_load};
 use dspec_buffer::TraceBuffer;
+use dspec_core::machine::Machine;
 use dspec_deeds::{Actor, ConsumerOp, CpuOp, Policy};
 use dspec_interleaving::{CallPlace, ConsumerFlight, Spare};
-use dspec_machine::Machine;
 use dspec_record::Schema;
 use dspec_word::{Act, SpecId, Word, commit_at, discard_at, open_at, reap_at, speculate_at};
 use std::alloc::AllocError;
@@ -92,8 +91,8 @@ fn tell_service<S: Schema, B: TraceBuffer<S>>(
 ) -> Result<(), AllocError>
     requires tellable { IsTellable B.has B.capacity machine.now }
     requires cpu { cpu < machine.now.config.cpus }
-    ensures { OnOk result (string_bytes text.new ≡ string_bytes text.old ++ (if is_fill machine.now.config.policy then loads_told (history machine.now) 1
-        else ask_told (nat_lt (seals cpu (history machine.now)) (progress_of (state_of machine.now).progresses cpu).want))) }
+    ensures { OnOk result (string_bytes text.new ≡ string_bytes text.old
+        ++ service_told machine.now.config.policy (history machine.now) cpu (progress_of (state_of machine.now).progresses cpu).want) }
 {
     match machine.config.policy {
         Policy::Fill => tell_slot(text, machine, 1),

@@ -7,19 +7,19 @@ ghost use Rattle.dspec_interleaving.specs.Bounds.{most_steps};
 ghost use Rattle.dspec_interleaving.specs.Calls.{begin_consumer_fault, begin_cpu_fault, idle_step_fault, is_about, is_actor, is_idle, record_passes};
 ghost use Rattle.dspec_interleaving.specs.Plays.{Playing, begin_refusal, play_fault, ran, refusal, step_refusal, stepped, turned};
 ghost use Rattle.dspec_interleaving.specs.Turns.{at_start, begin_consumer, begin_cpu, step};
-ghost use Rattle.dspec_machine.specs.Machines.{state_of};
-ghost use Rattle.dspec_machine.specs.Worlds.{WorldInvariant};
+ghost use Rattle.dspec_core.specs.Machines.{state_of};
+ghost use Rattle.dspec_core.specs.Worlds.{WorldInvariant};
 ghost use Rattle.dspec_schedule.specs.Printed.{actor_text};
-ghost use Rattle.dspec_picture.specs.Steps.{last_lines, line_at, ran_lines, step_line, steps_text, turn_lines, turn_told};
+ghost use Rattle.dspec_picture.specs.Steps.{TellsTurn, last_lines, line_at, ran_lines, step_line, steps_text, turn_lines, turn_told};
 ghost use Rattle.dspec_picture.specs.Words.{deed_behind};
 
 use crate::room::{Room, room_at};
 use crate::telling::tell_step;
 use crate::words::tell_behind;
 use dspec_buffer::{ListBuffer, TraceBuffer};
+use dspec_core::machine::Machine;
 use dspec_deeds::{Actor, Config, ConsumerOp, CpuOp, Deed, StartFault, Turn};
 use dspec_interleaving::PlayFault;
-use dspec_machine::Machine;
 use dspec_record::{Header, Schema};
 use std::alloc::{AllocError, Global};
 
@@ -324,8 +324,8 @@ fn take_turn<S: Schema, B: TraceBuffer<S>>(
     ensures kept { OnOk result (WorldInvariant B.has B.capacity S.shape_of S.accepted machine.new) }
     ensures allowed { OnOk result (refusal (S.shape_of machine.old.schema) (S.accepted machine.old.schema) number turn.now (state_of machine.old) ≡ None) }
     ensures turned { OnOk result ((p : Playing) → state_of machine.old ≡ p.state → state_of machine.new ≡ (turned (S.shape_of machine.old.schema) turn.now p).state) }
-    ensures told { OnOk result ((p : Playing) → state_of machine.old ≡ p.state
-        → string_bytes text.new ≡ string_bytes text.old ++ turn_lines (S.shape_of machine.old.schema) header (number + 1) turn.now p) }
+    ensures told { OnOk result (TellsTurn (S.shape_of machine.old.schema) header (number + 1) turn.now (state_of machine.old)
+        (string_bytes text.old) (string_bytes text.new)) }
     ensures schema { machine.new.schema ≡ machine.old.schema }
     ensures config { OnOk result (machine.new.config ≡ config.now) }
     ensures refused { IfErr result (λ fault. fault ≢ failure.Memory

@@ -1,9 +1,9 @@
 //! The words in which a step is told.
 ghost use Rattle.std.specs.Prelude.{◌≡◌, ◌<◌, [], ◌++◌, ◌⊎◌, if◌then◌else◌, OnOk, codes, decimal, string_bytes};
 ghost use Rattle.dspec_word.specs.SpecId.{id_number};
-ghost use Rattle.dspec_deeds.specs.FateKinds.{is_lost, spoken_dropped, trace_dropped};
+ghost use Rattle.dspec_deeds.specs.FateKinds.{is_lost};
 ghost use Rattle.dspec_buffer.specs.Extent.{align_of, size_of};
-ghost use Rattle.dspec_picture.specs.Words.{bytes_told, decided_told, deed_behind, deed_told, exchange_told, exchanged_told, is_that_word, load_head, load_told, needed_told, refusal_told, refused_behind, refused_principal, speculate_told, spoken_told, standing_word, trace_told, traced_told, verb_told, word_told};
+ghost use Rattle.dspec_picture.specs.Words.{bytes_told, decided_told, deed_behind, deed_told, exchange_told, exchanged_told, is_that_word, load_head, load_told, needed_told, refusal_told, refused_behind, refused_principal, speculate_refusal, speculate_told, spoken_told, standing_word, trace_refusal, trace_told, traced_told, verb_told, word_told};
 
 use crate::room::{Room, bytes_needed};
 use dspec_deeds::{Config, DecideFate, Deed, SpeculateFate, TraceFate};
@@ -225,8 +225,7 @@ fn tell_undropped<S: Schema>(
     rec: &Rec,
     fate: TraceFate,
 ) -> Result<(), AllocError>
-    ensures { OnOk result (string_bytes text.new ≡ string_bytes text.old
-        ++ (if trace_dropped fate then refused_principal config.now room (align_of (S.shape_of schema.now) rec.now) (size_of (S.shape_of schema.now) rec.now) else [])) }
+    ensures { OnOk result (string_bytes text.new ≡ string_bytes text.old ++ trace_refusal (S.shape_of schema.now) config.now room rec.now fate) }
 {
     if !matches!(fate, TraceFate::Dropped) {
         return Ok(());
@@ -244,8 +243,7 @@ fn tell_unspoken<S: Schema>(
     rec: &Rec,
     fate: SpeculateFate,
 ) -> Result<(), AllocError>
-    ensures { OnOk result (string_bytes text.new ≡ string_bytes text.old
-        ++ (if spoken_dropped fate then refused_behind config.now.specsize room.held (align_of (S.shape_of schema.now) rec.now) (size_of (S.shape_of schema.now) rec.now) else [])) }
+    ensures { OnOk result (string_bytes text.new ≡ string_bytes text.old ++ speculate_refusal (S.shape_of schema.now) config.now room rec.now fate) }
 {
     if !matches!(fate, SpeculateFate::Dropped) {
         return Ok(());

@@ -2,7 +2,8 @@
 use Rattle.std.specs.Prelude.{◌≡◌, ℕ, nat_eq, List, Option, Some, None, if◌then◌else◌}
 use Rattle.dspec_record.specs.EnablingRows.{EnabledRows}
 use Rattle.dspec_record.specs.Record.{Record}
-use Rattle.dspec_record.specs.Schemas.{enabling_of}
+use Rattle.dspec_record.specs.LaidOut.{IsLaidBy, Laid}
+use Rattle.dspec_record.specs.Schemas.{enabled, enabling_of, table_shape, table_text}
 use Rattle.dspec_record.specs.declared.field.Field.{Field}
 use Rattle.dspec_record.specs.declared.header.Header.{Header}
 use Rattle.dspec_record.specs.declared.header.Header.TheVariants as header
@@ -35,3 +36,8 @@ pub record HasProbe (h : Header) (epid : ℕ) (fields : List Field) (schema : En
 
 abbrev pub IsProbeOf : {F : Type 0} → List Field → Probe F → EnabledRows → Type 0
 IsProbeOf fields p schema = HasProbe p.header p.epid fields schema
+
+-- the record says itself what its shape and its bytes are in each schema that has the probe, if it says anything
+abbrev pub IsLaidByProbe : Header → ℕ → List Field → Record → Option Laid → Type 0
+IsLaidByProbe h epid fields r laid = (schema : EnabledRows) → HasProbe h epid fields schema
+    → IsLaidBy (table_shape schema.header (enabled schema.rows)) (table_text schema.header (enabled schema.rows)) r laid

@@ -3,7 +3,7 @@ ghost use Rattle.dspec_record.specs.RecordText.{fits};
 
 use crate::{Fields, KnownHeader};
 use dspec_record::laid_out::{laid_shape, put_front};
-use dspec_record::{Enablings, Rec, Recorded, Schema, Shape};
+use dspec_record::{Rec, Recorded, Shape};
 use std::alloc::AllocError;
 use std::marker::PhantomData;
 
@@ -31,10 +31,8 @@ impl<'a, F: Fields, H: KnownHeader> Clone for Fired<'a, F, H> {
 
 impl<'a, F: Fields, H: KnownHeader> Fired<'a, F, H> {
     ghost use Rattle.std.specs.Prelude.{◌≡◌, IsTrue};
-    ghost use Rattle.dspec_record.specs.EnablingRows.{EnabledRows};
-    ghost use Rattle.dspec_record.specs.LaidOut.{IsLaidBy};
     ghost use Rattle.dspec_record.specs.RecordText.{fits};
-    ghost use Rattle.dspec_probe.specs.Probes.{HasProbe};
+    ghost use Rattle.dspec_probe.specs.Probes.{IsLaidByProbe};
 
     /// The record with these values.
     #[inline(always)]
@@ -42,8 +40,7 @@ impl<'a, F: Fields, H: KnownHeader> Fired<'a, F, H> {
         requires tied { rec.now.values ≡ F.numbers_of values }
         requires fit { IsTrue (fits F.fields_are (F.numbers_of values)) }
         ensures rec { ⟦<Fired<'a, F, H> as Recorded>⟧.as_record result ≡ rec.now }
-        ensures laid { (schema : EnabledRows) → HasProbe H.header_is rec.now.epid F.fields_are schema → IsLaidBy (⟦<Enablings as Schema>⟧.shape_of schema)
-            (⟦<Enablings as Schema>⟧.text schema) (⟦<Fired<'a, F, H> as Recorded>⟧.as_record result) (⟦<Fired<'a, F, H> as Recorded>⟧.laid_as result) }
+        ensures laid { IsLaidByProbe H.header_is rec.now.epid F.fields_are (⟦<Fired<'a, F, H> as Recorded>⟧.as_record result) (⟦<Fired<'a, F, H> as Recorded>⟧.laid_as result) }
     {
         Fired {
             rec,

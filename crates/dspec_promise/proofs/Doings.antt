@@ -1,5 +1,5 @@
 -- What each deed of a legal list does for a CPU, as the page tells it: nothing, it offers a record, or it empties a buffer.
-use Rattle.std.proofs.Common.{◌≡◌, ◌⊎◌, ℕ, true, false, ◌==◌, if◌then◌else◌, List, [], ◌∷◌, ◌++◌, map, length, Option, None, Some, refl, sym, ◌∙◌, subst, inl, inr, ⊎_elim, true≢false}
+use Rattle.std.proofs.Common.{◌≡◌, ◌⊎◌, ℕ, true, false, ◌==◌, List, [], ◌∷◌, length, Option, None, Some, refl, sym, ◌∙◌, subst, inl, inr, ⊎_elim, true≢false}
 use Rattle.dspec_record.specs.declared.field.Shape.{Shape}
 use Rattle.dspec_record.specs.Record.{Record}
 use Rattle.dspec_word.specs.SpecId.{Speculation}
@@ -14,109 +14,20 @@ use Rattle.dspec_deeds.specs.declared.deed.Deed.{Deed}
 use Rattle.dspec_deeds.specs.declared.deed.Deed.TheVariants.{Trace, Speculate, Commit, Discard, Settle}
 use Rattle.dspec_deeds.specs.FateKinds.{is_commit, is_discard}
 use Rattle.dspec_deeds.specs.History.{Verdict, undecided, committed, discarded as ruled_out, verdict}
-use Rattle.dspec_deeds.specs.Own.{offered_by, empties, held as buffer}
+use Rattle.dspec_deeds.specs.Own.{held as buffer}
 use Rattle.dspec_deeds.specs.Legal.{SettlesAs, IsAllowed}
 use Rattle.dspec_deeds.specs.Reports.{traces_dropped_now, specdrops_now}
 use Rattle.dspec_deeds.specs.Fates as told
-use Rattle.dspec_deeds.proofs.TestLemmas.{either_way, off, and_false, same_number, number_is_itself, id_is_itself}
+use Rattle.dspec_deeds.proofs.TestLemmas.{either_way, and_false, same_number, number_is_itself, id_is_itself}
 use Rattle.dspec_deeds.proofs.Verdicts.{Told, verdict_told}
-use Rattle.dspec_deeds.proofs.DeedEffects.{Idle, Offers, Empties, Effect, idle, offering, emptying, own_trace}
-use Rattle.dspec_deeds.proofs.DeedEffects.{own_speculate, copied_commit, lost_commit, thrown_discard, copied_settle, lost_settle, thrown_settle, legal_effect}
+use Rattle.dspec_deeds.proofs.DeedOffers.{Empties, offering, emptying, own_trace}
+use Rattle.dspec_deeds.proofs.DeedOffers.{own_speculate}
+use Rattle.dspec_deeds.proofs.DeedEffects.{copied_commit, lost_commit, thrown_discard, copied_settle, lost_settle, thrown_settle, legal_effect}
 use Rattle.dspec_promise.specs.Deeds.{done_by}
-use Rattle.dspec_promise.specs.Promise.{By, commit, discard, service, Did, emptied, RecordFate, taken, dropped, specdropped, lost, discarded, void, held}
-use Rattle.dspec_promise.specs.Promise.{traced_fate, speculated_fate, emptied_fate, same_fate, Handed, once_emptied, handed, held_for, cpu_stream, TellNumbers}
-use Rattle.dspec_promise.specs.SameFates.{IsFate}
-use Rattle.dspec_promise.proofs.Emptying.{one, nothing_emptied}
-
--- the fate as the list of deeds tells it
-abbrev pub as_told : RecordFate → Option Speculation → told.Fate
-as_told taken x = told.taken
-as_told dropped x = told.dropped
-as_told specdropped x = told.dropped
-as_told lost x = told.dropped
-as_told discarded x = told.discarded
-as_told void x = told.void
-as_told held (Some id) = told.waiting id
-as_told held None = told.void
-
--- what must have been decided where a record for the speculation has such a fate
-abbrev pub IsDue : List Deed → Speculation → RecordFate → Type 0
-IsDue h id taken = told.has_commit id h ≡ true
-IsDue h id lost = told.has_commit id h ≡ true
-IsDue h id discarded = told.has_discard id h ≡ true
-IsDue h id f = Unit {0}
-
--- nothing
-pub record DoesNothing (c : ℕ) (d : Deed) (h : List Deed) : Type 0 where
-  pub idle : Idle c d h
-  pub made : (ds : List Did) → handed (done_by c d ++ ds) ≡ handed ds
-  pub streamed : (ds : List Did) → cpu_stream (done_by c d ++ ds) ≡ cpu_stream ds
-  pub numbers : (ds : List Did) → TellNumbers ds → TellNumbers (done_by c d ++ ds)
-  pub drops : traces_dropped_now c d ≡ 0
-  pub specdrops : specdrops_now c d ≡ 0
-
--- it offers this record
-pub record DoesOffer (c : ℕ) (d : Deed) (h : List Deed) (o : Handed) : Type 0 where
-  pub offering : Offers c d h o.content (as_told o.fate o.to)
-  pub fate : IsFate o.fate o.to (as_told o.fate o.to)
-  pub to : told.offered_to d ≡ o.to
-  pub made : (ds : List Did) → handed (done_by c d ++ ds) ≡ o ∷ handed ds
-  pub streamed : (ds : List Did) → cpu_stream (done_by c d ++ ds) ≡ (if same_fate taken o.fate then o.content ∷ cpu_stream ds else cpu_stream ds)
-  pub numbers : (ds : List Did) → TellNumbers ds → TellNumbers (done_by c d ++ ds)
-  pub drops : traces_dropped_now c d ≡ one (same_fate dropped o.fate)
-  pub specdrops : specdrops_now c d ≡ one (same_fate specdropped o.fate)
-  pub follows : (id : Speculation) → o.to ≡ Some id → IsDue (d ∷ h) id o.fate
-
--- it empties the buffer of this speculation
-pub record DoesEmpty (c : ℕ) (d : Deed) (h : List Deed) (id : Speculation) (f : DecideFate) : Type 0 where
-  pub emptying : Empties c d h id (as_told (emptied_fate f) None)
-  pub gone : same_fate held (emptied_fate f) ≡ false
-  pub fate : (x : Option Speculation) → IsFate (emptied_fate f) x (as_told (emptied_fate f) None)
-  pub made : (ds : List Did) → handed (done_by c d ++ ds) ≡ map (once_emptied id f) (handed ds)
-  pub streamed : (ds : List Did) → cpu_stream (done_by c d ++ ds) ≡ (if same_fate taken (emptied_fate f) then held_for id (handed ds) ++ cpu_stream ds else cpu_stream ds)
-  pub numbers : (ds : List Did) → TellNumbers ds → length (buffer c id h) ≡ length (held_for id (handed ds)) → TellNumbers (done_by c d ++ ds)
-  pub drops : traces_dropped_now c d ≡ 0
-  pub specdrops : specdrops_now c d ≡ 0
-  pub fresh : (same_fate dropped (emptied_fate f) ≡ false) × (same_fate specdropped (emptied_fate f) ≡ false)
-  pub follows : IsDue (d ∷ h) id (emptied_fate f)
-
-pub data Does (c : ℕ) (d : Deed) (h : List Deed) : Type 0 where
-  nothing : DoesNothing c d h → Does c d h
-  offers_one : (o : Handed) → DoesOffer c d h o → Does c d h
-  empties_one : (id : Speculation) (f : DecideFate) → DoesEmpty c d h id f → Does c d h
-
--- a deed that neither offers nor empties is idle
-idle_of : (c : ℕ) (d : Deed) (h : List Deed) → Effect c d h → offered_by c d ≡ None → ((id : Speculation) → empties c id d ≡ false) → Idle c d h
-idle_of c d h (idle i) none never = i
-idle_of c d h (offering r f o) none never = let clash : Some r ≡ None = sym o.offered ∙ none in absurd (cc)
-idle_of c d h (emptying id f m) none never = off (empties c id d) (m.empty id ∙ id_is_itself id) (never id)
-
--- a deed of another CPU
-does_not : (c : ℕ) (d : Deed) (h : List Deed) → Effect c d h → offered_by c d ≡ None → ((id : Speculation) → empties c id d ≡ false) → done_by c d ≡ []
-    → traces_dropped_now c d ≡ 0 → specdrops_now c d ≡ 0 → DoesNothing c d h
-does_not c d h e none never is drops specdrops = record {
-  idle = idle_of c d h e none never;
-  made = λ ds. rw is refl;
-  streamed = λ ds. rw is refl;
-  numbers = λ ds t. rw is t;
-  drops = drops;
-  specdrops = specdrops;
-}
-
--- a decision that decides nothing
-does_not_decide : (c : ℕ) (d : Deed) (h : List Deed) (b : By) (id : Speculation) (f : DecideFate) → Effect c d h → offered_by c d ≡ None → ((id : Speculation) → empties c id d ≡ false)
-    → done_by c d ≡ emptied b id f ∷ [] → (f ≡ decide.Void) ⊎ (f ≡ decide.Stopped) → traces_dropped_now c d ≡ 0 → specdrops_now c d ≡ 0 → DoesNothing c d h
-does_not_decide c d h b id f e none never is which drops specdrops = record {
-  idle = idle_of c d h e none never;
-  made = λ ds. rw is (⊎_elim
-      (λ (v : f ≡ decide.Void). rw v (nothing_emptied id decide.Void refl (handed ds)))
-      (λ (s : f ≡ decide.Stopped). rw s (nothing_emptied id decide.Stopped refl (handed ds)))
-      which);
-  streamed = λ ds. rw is (⊎_elim (λ (v : f ≡ decide.Void). rw v refl) (λ (s : f ≡ decide.Stopped). rw s refl) which);
-  numbers = λ ds t. rw is (⊎_elim (λ (v : f ≡ decide.Void). rw v (t, tt)) (λ (s : f ≡ decide.Stopped). rw s (t, tt)) which);
-  drops = drops;
-  specdrops = specdrops;
-}
+use Rattle.dspec_promise.specs.Promise.{By, commit, discard, service, emptied, taken, dropped, discarded}
+use Rattle.dspec_promise.specs.Promise.{traced_fate, speculated_fate}
+use Rattle.dspec_promise.proofs.Emptying.{one}
+use Rattle.dspec_promise.proofs.DoingKinds.{Does, DoesEmpty, DoesOffer, does_not, does_not_decide, empties_one, nothing, offers_one}
 
 -- the CPU's own offers
 traced_own : (c : ℕ) (r : Record) (f : TraceFate) (h : List Deed) → DoesOffer c (Trace c r f) h record { content = r; to = None; fate = traced_fate f }

@@ -18,7 +18,8 @@ use Rattle.dspec_promise.specs.Promise.{RecordFate, taken, dropped, specdropped,
 use Rattle.dspec_promise.specs.Promise.{emptied_fate, same_fate, is_same_id, Handed, is_for, waits_for, once_emptied, handed, number}
 use Rattle.dspec_promise.specs.SameFates.{IsFate, IsOffer, AreOffers}
 use Rattle.dspec_promise.proofs.Emptying.{waits_tells, emptied_one, emptied_other}
-use Rattle.dspec_promise.proofs.Doings.{as_told, DoesEmpty, Does, nothing, offers_one, empties_one, does}
+use Rattle.dspec_promise.proofs.DoingKinds.{as_told, DoesEmpty, Does, nothing, offers_one, empties_one}
+use Rattle.dspec_promise.proofs.Doings.{does}
 
 -- a deed that offers none of these, and changes none of their fates
 kept_offers : (c : ℕ) (d : Deed) (h : List Deed) (n : ℕ) (os : List Handed) → ((j : ℕ) → j < n → told.is_offer c j d h ≡ false)

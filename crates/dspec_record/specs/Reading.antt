@@ -1,6 +1,6 @@
 -- Cited by calls. What reading a record at the front of some bytes answers, for any schema. A schema is seen here by three
 -- functions: the shape of an EPID, which records it accepts, and the text of a record.
-use Rattle.std.specs.Prelude.{◌≡◌, ◌≢◌, ◌≤◌, ◌<◌, ◌%◌, ◌^◌, ◌⊎◌, All, ℕ, Bool, IsTrue, List, length, take, Option, Some, None, Result, Ok, Err}
+use Rattle.std.specs.Prelude.{◌≡◌, ◌≢◌, ◌≤◌, ◌<◌, ◌%◌, ◌^◌, ◌⊎◌, ◌++◌, All, ℕ, Bool, IsTrue, List, length, take, Option, Some, None, Result, Ok, Err}
 use Rattle.std.specs.Int.{w32, from_le_bytes}
 use Rattle.dspec_record.specs.Record.{Record}
 use Rattle.dspec_record.specs.RecordText.{little_endian}
@@ -57,3 +57,9 @@ Answers shape accepted text bytes (Err UnknownEpid) =
 Answers shape accepted text bytes (Err GapNotZero) =
     (s : Shape) × NamesShape shape bytes s × HasNoText accepted text bytes s
 Answers shape accepted text bytes (Err Misaligned) = ⊥
+
+-- the only answer where an accepted record's text is at the front, whatever follows it, is that record and its size
+abbrev pub GivesBack : (ℕ → Option Shape) → (Record → Bool) → (Record → List ℕ) → Type 0
+GivesBack shape accepted text =
+    (r : Record) (rest : List ℕ) (answer : Result (Record × ℕ) ReadKind) → IsTrue (accepted r)
+    → Answers shape accepted text (text r ++ rest) answer → answer ≡ Ok (r, length (text r))

@@ -1,3 +1,4 @@
 pub mod Buffers
 pub mod Called
 pub mod Replayed
+pub mod PlayedTexts

@@ -16,7 +16,7 @@
 //! How a crate above uses it: a struct with a `CpuEnd` sees `end.handed`, `end.spares`, `end.pair`; each call's clauses `pair` and
 //! `handed`/`spares` (`given`/`taken` of the consumer) say what stays. Whoever moves an end to a thread keeps its identity by a promise
 //! (`kept_by = { λ taken end. end.pair ≡ taken.0.value.pair }` over a `Snapshot` of it), and so meets the condition of `drain_beside`
-//! when both are back: `dspec_ring_tests/src/tests/crossing.rt` does. In specs of a crate above an end is
+//! when both are back: `test_words/src/rings/crossing.rt` does. In specs of a crate above an end is
 //! `Rattle.dspec_ring.specs.declared.cpu_end.CpuEnd.{CpuEnd}` (or `Known.{CpuKnows}`), a batch `declared.batch.Batch.{Batch}`.
 #![tactic(auto)]
 

@@ -10,9 +10,10 @@ pub use Rattle.dspec_session_core.specs.Sessions
 pub use Rattle.dspec_session_core.specs.Closing
 pub use Rattle.dspec_session_core.specs.Promised
 pub use Rattle.dspec_session_core.specs.Leaving
-pub use Rattle.dspec_demo.specs.Demonstrated
-pub use Rattle.dspec_demo.specs.Rising
-pub use Rattle.dspec_demo.specs.Visits
-pub use Rattle.dspec_demo.specs.Crews
-pub use Rattle.dspec_demo.specs.Races
-pub use Rattle.dspec_demo.specs.Results
+pub use Rattle.dspec_session_core.specs.Finishing
+pub mod Demonstrated
+pub mod Rising
+pub mod Visits
+pub mod Crews
+pub mod Races
+pub mod Results

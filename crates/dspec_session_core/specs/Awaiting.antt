@@ -1,9 +1,10 @@
 -- Cited by calls. For how many slots a session waits for one CPU: those whose speculation is decided and that it hasn't acknowledged.
-use Rattle.std.specs.Prelude.{ℕ, zero, suc, ◌≡◌, ◌≤◌, ◌+◌, ◌*◌, Bool, true, false, nat_le, if◌then◌else◌}
+use Rattle.std.specs.Prelude.{ℕ, zero, suc, ◌≡◌, ◌<◌, ◌≤◌, ◌+◌, ◌*◌, Bool, true, false, nat_le, if◌then◌else◌}
 use Rattle.dspec_word.specs.Word.{SlotState}
 use Rattle.dspec_word.specs.Code.{awaits}
 use Rattle.dspec_table.specs.declared.rule.View.{View}
 use Rattle.dspec_table.specs.Steps.{LookedWord, LoadedAck}
+use Rattle.dspec_session_core.specs.Consumers.{Consuming, set_up_of, view_of}
 
 -- One slot: its word is loaded, and where that is decided and waits for every CPU, this CPU's acknowledgement, which is of an earlier
 -- issue or of this one.
@@ -24,3 +25,7 @@ pub record Awaited (cpu count : ℕ) (v w : View) : Type 0 where
   pub own : w.own ≡ v.own
   pub asks : w.asks ≡ v.asks
   pub few : w.steps ≤ v.steps + v.config.nspec * 2
+
+-- there is such a CPU, and so many slots wait for it
+abbrev pub AwaitedOf : Consuming → ℕ → ℕ → Consuming → Type 0
+AwaitedOf old cpu count new = (cpu < (set_up_of old).cpus) × Awaited cpu count (view_of old) (view_of new)

@@ -1,5 +1,5 @@
 -- Cited by calls. What a clean does: which steps the consumer's seat makes, and which slots it releases.
-use Rattle.std.specs.Prelude.{ℕ, zero, suc, ◌≡◌, ◌<◌, ◌≤◌, ◌+◌, ◌*◌, Bool, true, false, List, [], ◌∷◌, ◌++◌, length, map, if◌then◌else◌}
+use Rattle.std.specs.Prelude.{ℕ, zero, suc, ◌≡◌, ◌<◌, ◌≤◌, ◌+◌, ◌*◌, Bool, true, false, MatchBool, List, [], ◌∷◌, ◌++◌, length, map, if◌then◌else◌}
 use Rattle.dspec_word.specs.Word.{SlotState}
 use Rattle.dspec_word.specs.Code.{awaits}
 use Rattle.dspec_deeds.specs.declared.config.Config.{Config}
@@ -16,6 +16,10 @@ Acknowledged slot issue v (suc n) w = (u : View) × (a : ℕ) × Acknowledged sl
 abbrev pub MissesOne : Config → ℕ → ℕ → View → View → Type 0
 MissesOne k slot issue v w =
     (c : ℕ) × (a : ℕ) × (u : View) × (c < k.cpus) × Acknowledged slot issue v c u × LoadedAck c slot u a w × (a ≤ issue)
+
+-- whether all have, by such loads
+abbrev pub IsAcknowledgedBy : Bool → Config → ℕ → ℕ → View → View → Type 0
+IsAcknowledgedBy all k slot issue v w = MatchBool all (Acknowledged slot issue v k.cpus w) (MissesOne k slot issue v w)
 
 -- one slot: its word is loaded; where that is decided and waits for every CPU, the acknowledgements, up to the first that is
 -- missing; and where none is, the exchange, which releases it

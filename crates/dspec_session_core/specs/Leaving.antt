@@ -37,6 +37,11 @@ pub record IsClosing (shape : ℕ → Option Shape) (k : Config) (words : List �
   pub legal : IsLegal shape k g
   pub closed : part (CpuActor c) g ≡ own_closed shape k (λ s. word_at s log) c k.nspec p
 
+-- one of these lists, of a CPU that was parted into this, can be closed by the last words
+abbrev pub CanLeave : {S : Type 0} → (ℕ → Option Shape) → (List Deed → Type 0) → List ℕ → CpuRest S → Type 0
+CanLeave shape had words rest =
+    (p : List Deed) × (log : List Deed) × (g : List Deed) × had p × IsClosing shape (config_of_rest rest) words (number_of_rest rest) p log g
+
 -- the seat of a CPU that has the list, no call of which is under way
 pub record IsParted (shape : ℕ → Option Shape) (words : Words) (c : ℕ) (p : List Deed) (s : CpuSeat) : Type 0 where
   pub at : IsAt words s
@@ -82,6 +87,10 @@ module _ {S : Type 0} (shape_of : S → ℕ → Option Shape) (accepted : S → 
   abbrev pub Leaves : (List Deed → Type 0) → List ℕ → List Batch → Left → S → Config → ℕ → ℕ → Type 0
   Leaves had words taken l schema k c worn = (p log g : List Deed) → had p → IsClosing (shape_of schema) k words c p log g
       → LeftShows (shape_of schema) (accepted schema) (text schema) k c worn taken (own_closed (shape_of schema) k (λ s. word_at s log) c k.nspec p) l
+
+  -- the same, of what a CPU was parted into
+  abbrev pub LeavesRest : (List Deed → Type 0) → List ℕ → List Batch → Left → CpuRest S → Type 0
+  LeavesRest had words taken l rest = Leaves had words taken l (schema_of_rest rest) (config_of_rest rest) (number_of_rest rest) (worn_of_rest rest)
 
   -- this is left of the CPU
   abbrev pub IsLeft : Config → List ℕ → ℕ → Cpu S → List Batch → Left → Type 0

@@ -10,3 +10,4 @@ pub mod Sessions
 pub mod Closing
 pub mod Promised
 pub mod Leaving
+pub mod Finishing

@@ -1,6 +1,6 @@
 ghost use Rattle.std.specs.Prelude.{◌≡◌, ◌<◌, ◌≤◌, MatchOption};
 ghost use Rattle.dspec_table.specs.Seats.{known_there, IsConsumerAt, set_up};
-ghost use Rattle.dspec_session_core.specs.Awaiting.{AwaitedIn, Awaited};
+ghost use Rattle.dspec_session_core.specs.Awaiting.{AwaitedIn, Awaited, AwaitedOf};
 ghost use Rattle.dspec_cpu.specs.Lists.{words_of};
 ghost use Rattle.dspec_session_core.specs.Consumers.{IsConsumerOf, IsSameConsumer, set_up_of, view_of};
 
@@ -52,7 +52,7 @@ impl Consumer {
         ensures same { IsSameConsumer self.old self.new }
         ensures awaited { MatchOption result
             (((set_up_of self.old).cpus ≤ cpu) × (self.new ≡ self.old))
-            (λ count. (cpu < (set_up_of self.old).cpus) × Awaited cpu count (view_of self.old) (view_of self.new)) }
+            (λ count. AwaitedOf self.old cpu count self.new) }
         ensures ends { self.new.ends ≡ self.old.ends }
     {
         if cpu >= self.config.cpus {

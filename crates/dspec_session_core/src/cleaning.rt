@@ -1,8 +1,8 @@
-ghost use Rattle.std.specs.Prelude.{◌≡◌, ◌<◌, ◌≤◌, true, MatchBool};
+ghost use Rattle.std.specs.Prelude.{◌≡◌, ◌<◌, ◌≤◌, true};
 ghost use Rattle.dspec_deeds.specs.History.{word_at};
 ghost use Rattle.dspec_table.specs.Seats.{known_there, IsConsumerAt, set_up};
 ghost use Rattle.dspec_word.specs.Code.{awaits};
-ghost use Rattle.dspec_session_core.specs.Cleaning.{Acknowledged, MissesOne, CleanedSlot, Cleaned};
+ghost use Rattle.dspec_session_core.specs.Cleaning.{IsAcknowledgedBy, CleanedSlot, Cleaned};
 ghost use Rattle.dspec_cpu.specs.Lists.{words_of};
 ghost use Rattle.dspec_session_core.specs.Consumers.{IsConsumerOf, IsSameConsumer, view_of};
 
@@ -31,9 +31,7 @@ fn is_acknowledged(
     requires config { config.now ≡ set_up words.now }
     requires slot { (1 ≤ slot) × (slot ≤ config.now.nspec) }
     ensures seat { IsConsumerAt words.now seat.new }
-    ensures looked { MatchBool result
-        (Acknowledged slot issue (known_there seat.old) config.now.cpus (known_there seat.new))
-        (MissesOne config.now slot issue (known_there seat.old) (known_there seat.new)) }
+    ensures looked { IsAcknowledgedBy result config.now slot issue (known_there seat.old) (known_there seat.new) }
 {
     for cpu in 0..config.cpus {
         if seat.load_ack(words, cpu, slot) <= issue {

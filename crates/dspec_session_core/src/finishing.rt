@@ -1,10 +1,8 @@
 ghost use Rattle.std.specs.Prelude.{◌≡◌, length};
 ghost use Rattle.dspec_table.specs.Seats.{set_up};
 ghost use Rattle.dspec_cpu.specs.Lists.{words_of};
-ghost use Rattle.dspec_session_core.specs.Closing.{IsClosedBy};
-ghost use Rattle.dspec_session_core.specs.Consumers.{view_of};
-ghost use Rattle.dspec_session_core.specs.Promised.{IsPromisedBy, called_at, entered_at};
-ghost use Rattle.dspec_session_core.specs.Sessions.{HasAt, IsSession, taken_at, worn_at};
+ghost use Rattle.dspec_session_core.specs.Finishing.{FinishCloses, FinishPromises};
+ghost use Rattle.dspec_session_core.specs.Sessions.{IsSession};
 
 use crate::closed::Closed;
 use crate::consumer::Consumer;
@@ -20,11 +18,9 @@ impl<S: Schema> Session<S> {
         requires session { (schema : S) × IsSession schema self }
         ensures all { length result ≡ (set_up (words_of self.shared)).cpus }
         ensures closed { (schema : S) → IsSession schema self
-            → IsClosedBy (S.shape_of schema) (S.accepted schema) (S.text schema) (set_up (words_of self.shared))
-            (HasAt ⟦<Cpu<S> as Listed>⟧.has_list self.cpus.items) (worn_at self.cpus.items) (taken_at self.consumer) (view_of self.consumer).own result }
+            → FinishCloses S.shape_of S.accepted S.text ⟦<Cpu<S> as Listed>⟧.has_list schema self result }
         ensures promised { (schema : S) → IsSession schema self
-            → IsPromisedBy (S.shape_of schema) (S.accepted schema) (S.text schema) (set_up (words_of self.shared))
-            (entered_at self.cpus.items) (view_of self.consumer).own (called_at self.cpus.items) (taken_at self.consumer) result }
+            → FinishPromises S.shape_of S.accepted S.text schema self result }
     {
         let Session {
             shared,

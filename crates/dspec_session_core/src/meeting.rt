@@ -20,7 +20,7 @@ impl Consumer {
         ensures session { IsConsumerOf (words_of shared.now) self.new }
         ensures same { IsSameConsumer self.old self.new }
         ensures same_cpu { (identity cpu.new ≡ identity cpu.old) × (worn_of cpu.new ≡ worn_of cpu.old) }
-        ensures keeps { MovesItsSeat cpu.old cpu.new }
+        ensures leaves { MovesItsSeat cpu.old cpu.new }
         ensures list { (p : List Deed) → ⟦<Cpu<S> as Listed>⟧.has_list cpu.old p → ⟦<Cpu<S> as Listed>⟧.has_list cpu.new p }
         ensures met { Met (known (seat_of cpu.old)) (view_of self.old) (known (seat_of cpu.new)) (view_of self.new) }
         ensures asks { (view_of self.new).asks ≡ (view_of self.old).asks }

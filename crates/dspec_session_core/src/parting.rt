@@ -7,7 +7,7 @@ ghost use Rattle.dspec_cpu.specs.KeptRests.{rest_with};
 ghost use Rattle.dspec_cpu.specs.Lists.{seat_of};
 ghost use Rattle.dspec_cpu.specs.Rests.{AreItsWords, config_of_rest, held_back_of_rest, number_of_rest, schema_of_rest, worn_of_rest};
 ghost use Rattle.dspec_cpu.specs.Sealed.{waiting};
-ghost use Rattle.dspec_session_core.specs.Leaving.{AllSteady, AreLeft, AreParting, HasParted, IsClosing, Leaves};
+ghost use Rattle.dspec_session_core.specs.Leaving.{AllSteady, AreLeft, AreParting, CanLeave, HasParted, LeavesRest};
 
 use crate::counted::CountedEnd;
 use crate::left::Left;
@@ -22,10 +22,8 @@ fn leave<S: Schema>(rest: CpuRest<S>, end: CpuEnd, other: CountedEnd, last: &Las
     requires pair { other.pair ≡ end.pair }
     requires few { length (waiting (held_back_of_rest rest) ++ reverse end.handed) ≤ 1 + length end.spares }
     requires words { AreItsWords last.now (config_of_rest rest) (number_of_rest rest) }
-    requires some { (p : List Deed) × (log : List Deed) × (g : List Deed) × ⟦<CpuRest<S> as Rested>⟧.has_list rest end.handed p
-        × IsClosing (S.shape_of (schema_of_rest rest)) (config_of_rest rest) (last_words last.now) (number_of_rest rest) p log g }
-    ensures { Leaves S.shape_of S.accepted S.text (⟦<CpuRest<S> as Rested>⟧.has_list rest end.handed) (last_words last.now) other.taken result
-        (schema_of_rest rest) (config_of_rest rest) (number_of_rest rest) (worn_of_rest rest) }
+    requires some { CanLeave (S.shape_of (schema_of_rest rest)) (⟦<CpuRest<S> as Rested>⟧.has_list rest end.handed) (last_words last.now) rest }
+    ensures { LeavesRest S.shape_of S.accepted S.text (⟦<CpuRest<S> as Rested>⟧.has_list rest end.handed) (last_words last.now) other.taken result rest }
 {
     let mut rest = rest;
     rest.settle(last);
@@ -52,10 +50,8 @@ fn leave_kept<S: Schema>(
     requires pair { other.pair ≡ end.pair }
     requires few { length (waiting (held_back_of_rest (rest_with schema.now rest)) ++ reverse end.handed) ≤ 1 + length end.spares }
     requires words { AreItsWords last.now (config_of_rest (rest_with schema.now rest)) (number_of_rest (rest_with schema.now rest)) }
-    requires some { (p : List Deed) × (log : List Deed) × (g : List Deed) × ⟦<CpuRest<S> as Rested>⟧.has_list (rest_with schema.now rest) end.handed p
-        × IsClosing (S.shape_of schema.now) (config_of_rest (rest_with schema.now rest)) (last_words last.now) (number_of_rest (rest_with schema.now rest)) p log g }
-    ensures { Leaves S.shape_of S.accepted S.text (⟦<CpuRest<S> as Rested>⟧.has_list (rest_with schema.now rest) end.handed) (last_words last.now) other.taken result
-        schema.now (config_of_rest (rest_with schema.now rest)) (number_of_rest (rest_with schema.now rest)) (worn_of_rest (rest_with schema.now rest)) }
+    requires some { CanLeave (S.shape_of schema.now) (⟦<CpuRest<S> as Rested>⟧.has_list (rest_with schema.now rest) end.handed) (last_words last.now) (rest_with schema.now rest) }
+    ensures { LeavesRest S.shape_of S.accepted S.text (⟦<CpuRest<S> as Rested>⟧.has_list (rest_with schema.now rest) end.handed) (last_words last.now) other.taken result (rest_with schema.now rest) }
 {
     leave(rest.with_schema(*schema), end, other, last)
 }

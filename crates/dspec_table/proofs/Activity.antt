@@ -25,7 +25,8 @@ use Rattle.dspec_table.specs.Steps.{acted, Entered, LoadedActivity}
 use Rattle.dspec_table.specs.Acts.{at_activity}
 use Rattle.dspec_table.specs.Holders.{number_of}
 use Rattle.dspec_table.proofs.InFlight.{activity_of}
-use Rattle.dspec_table.proofs.Keeps.{Owes, sound_adds, part_adds, none_owed, acts_owed, finds, idle_log, is_cpu, its_config}
+use Rattle.dspec_table.proofs.Adding.{sound_adds, part_adds}
+use Rattle.dspec_table.proofs.Keeps.{Owes, none_owed, acts_owed, finds, idle_log, is_cpu, its_config}
 use Rattle.dspec_deeds.specs.declared.deed.TraceFate.TheVariants as traced
 use Rattle.dspec_deeds.specs.declared.deed.SpeculateFate.TheVariants as spoken
 use Rattle.dspec_deeds.specs.declared.deed.DecideFate.TheVariants as decided

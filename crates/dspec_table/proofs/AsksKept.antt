@@ -18,7 +18,8 @@ use Rattle.dspec_table.specs.Asks.{with_ask, StoredAskAt, LoadedAsk}
 use Rattle.dspec_table.specs.Holders.{number_of}
 use Rattle.dspec_table.proofs.Quiet.{same_words}
 use Rattle.dspec_table.proofs.Pasts.{each_map}
-use Rattle.dspec_table.proofs.Keeps.{acts_asking, finds, is_cpu, its_config}
+use Rattle.dspec_table.proofs.Adding.{acts_asking}
+use Rattle.dspec_table.proofs.Keeps.{finds, is_cpu, its_config}
 use Rattle.dspec_table.proofs.Places.{before_groups, ask_within, one_ask, no_ask}
 
 pub with_ask_same : (xs : List ℕ) (c n : ℕ) → slice_index (with_ask xs c n) c ≡ n

@@ -20,7 +20,8 @@ use Rattle.dspec_table.specs.Layout.{slot_place, activity_place, group_width, gr
 use Rattle.dspec_table.specs.Flights.{AreOf, flight_after}
 use Rattle.dspec_table.specs.Steps.{acted, Entered}
 use Rattle.dspec_table.proofs.Places.{slot_within}
-use Rattle.dspec_table.proofs.Keeps.{Adds, Owes, LeavesAsks, acts, acts_owed, enters, enters_owed}
+use Rattle.dspec_table.proofs.Adding.{Adds}
+use Rattle.dspec_table.proofs.Keeps.{Owes, LeavesAsks, acts, acts_owed, enters, enters_owed}
 
 -- only the word of this slot changes
 pub record IsChange (s : ℕ) (log new : List Deed) : Type 0 where

@@ -17,7 +17,8 @@ use Rattle.dspec_table.specs.Steps.{acted, StoredActivity}
 use Rattle.dspec_deeds.specs.declared.calls.CpuOp.{CpuOp}
 use Rattle.dspec_table.specs.Acts.{at_stop}
 use Rattle.dspec_table.specs.Flights.{AreOf}
-use Rattle.dspec_table.proofs.Keeps.{Adds, acts, enters, finds}
+use Rattle.dspec_table.proofs.Adding.{Adds}
+use Rattle.dspec_table.proofs.Keeps.{acts, enters, finds}
 use Rattle.dspec_table.proofs.Changes.{leaves_asks}
 
 stop_shows : (k : Config) (words : List ℕ) (log : List Deed) (b : Bool) → halted log ≡ b → Shows k words log → Shows k (slice_set words activity_place 1) (at_stop b ++ log)

@@ -18,7 +18,8 @@ use Rattle.dspec_table.specs.Rule.{holdings, times_among, held_in_all, Parts, Ea
 use Rattle.dspec_table.specs.Layout.{ask_place}
 use Rattle.dspec_table.specs.Notes.{nobody, without, dealt, greater, note, heard, answered, past_of, gathered}
 use Rattle.dspec_table.proofs.Totals.{total_set, total_snoc, same_seats}
-use Rattle.dspec_table.proofs.Keeps.{since_nothing, its_config}
+use Rattle.dspec_table.proofs.Adding.{since_nothing}
+use Rattle.dspec_table.proofs.Keeps.{its_config}
 use Rattle.dspec_table.proofs.Pasts.{each_append, since_part}
 
 -- new views, known of the same log

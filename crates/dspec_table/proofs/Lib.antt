@@ -3,6 +3,7 @@ pub mod OwnReading
 pub mod Pasts
 pub mod Quiet
 pub mod Totals
+pub mod Adding
 pub mod Keeps
 pub mod InFlight
 pub mod Activity
@@ -28,3 +29,6 @@ pub mod Reaping
 pub mod Waiting
 pub mod Settlements
 pub mod AsksKept
+pub mod SameDeeds
+pub mod SeatsDid
+pub mod ConsumerMakes

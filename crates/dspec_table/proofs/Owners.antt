@@ -17,7 +17,7 @@ use Rattle.dspec_table.specs.Owners.{HasOneSeat}
 use Rattle.dspec_table.specs.Rule.{holdings, times_among, held_in_all, HaveSeats, WordsRule}
 use Rattle.dspec_table.proofs.AtEnd.{part_in}
 use Rattle.dspec_table.proofs.HolderTests.{same_holder_tells, part_next}
-use Rattle.dspec_table.proofs.Keeps.{same_turned}
+use Rattle.dspec_table.proofs.Adding.{same_turned}
 
 -- who is counted stands there
 among_those : (w : Holder) (ps : List (Holder × List Deed)) → 1 ≤ times_among w ps → (p : Holder × List Deed) × In p ps × (same_holder w p.0 ≡ true)

@@ -37,7 +37,8 @@ use Rattle.dspec_table.specs.Steps.{acted, Found, Entered, StoredAck}
 use Rattle.dspec_table.specs.Holders.{number_of}
 use Rattle.dspec_table.specs.Acts.{fate_of_settlement}
 use Rattle.dspec_table.specs.Conditions.{MaySettle}
-use Rattle.dspec_table.proofs.Keeps.{Adds, LeavesAsks, acts, enters, finds, is_cpu, idle_log}
+use Rattle.dspec_table.proofs.Adding.{Adds}
+use Rattle.dspec_table.proofs.Keeps.{LeavesAsks, acts, enters, finds, is_cpu, idle_log}
 use Rattle.dspec_table.proofs.Releases.{held_since}
 
 -- only this acknowledgement changes

@@ -13,3 +13,5 @@ pub mod Meeting
 pub mod Seats
 pub mod Last
 pub mod Owners
+pub mod SameSteps
+pub mod OneList

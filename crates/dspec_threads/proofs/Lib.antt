@@ -1,2 +1,4 @@
 mod Homes
+mod MoreVerdicts
+mod MoreWaits
 mod Runs

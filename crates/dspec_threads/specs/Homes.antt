@@ -70,3 +70,8 @@ pub record IsHomeOf (r : Rank) (c : ℕ) (came : List (Cpu EnabledRows)) : Type 
 -- the homes of the CPUs from this number on
 abbrev pub AreHomes : Rank → ℕ → List (List (Cpu EnabledRows)) → Type 0
 AreHomes r n homes = (i : ℕ) (came : List (Cpu EnabledRows)) → slice_get homes i ≡ Some came → IsHomeOf r (n + i) came
+
+-- of whichever session they are: CPUs that are back, in order, and the homes of the others are more of those back and the homes that are left
+abbrev pub Gathers : (ℕ → CallsMade → Type 0) → List (Cpu EnabledRows) → List (List (Cpu EnabledRows)) → List (Cpu EnabledRows) → List (List (Cpu EnabledRows)) → Type 0
+Gathers done back homes more left =
+    (r : Rank) → AreBack done r back → AreHomes r (length back) homes → AreBack done r more × AreHomes r (length more) left

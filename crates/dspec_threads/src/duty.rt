@@ -13,7 +13,7 @@ pub trait Duty {
     ghost done: { ℕ → CallsMade → Type 0 } = { λ _ _. Unit {0} };
 }
 
-/// Anything may have been done with a lane.
+/// Anything may have been done with a lane, and anything be said of a path.
 #[derive(Clone, Copy, Debug)]
 pub struct Anything;
 

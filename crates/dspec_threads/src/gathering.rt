@@ -1,5 +1,5 @@
 ghost use Rattle.std.specs.Prelude.{◌≡◌, ◌≤◌, ◌<◌, ◌+◌, ◌∷◌, [], ℕ, IfSome, IfNone, MatchOption, length, vec_capacity};
-ghost use Rattle.dspec_threads.specs.Homes.{AreBack, AreHomes, ComesTo, Rank, came_by};
+ghost use Rattle.dspec_threads.specs.Homes.{ComesTo, Gathers, came_by};
 
 use crate::duty::Duty;
 use crate::opening::Home;
@@ -23,8 +23,7 @@ fn next_back<D: Duty>(homes: &mut Vec<Home<D>>) -> Option<Cpu<Enablings>>
 /// Takes in the CPUs that have come, in order, until one is missing.
 pub(crate) fn gather<D: Duty>(homes: &mut Vec<Home<D>>, back: &mut Vec<Cpu<Enablings>>)
     requires room { length back.old.items + length homes.old.items ≤ vec_capacity back.old }
-    ensures gathered { (rank : Rank) → AreBack D.done rank back.old.items → AreHomes rank (length back.old.items) (came_by homes.old.items)
-        → AreBack D.done rank back.new.items × AreHomes rank (length back.new.items) (came_by homes.new.items) }
+    ensures gathered { Gathers D.done back.old.items (came_by homes.old.items) back.new.items (came_by homes.new.items) }
     ensures count { (length back.new.items + length homes.new.items ≡ length back.old.items + length homes.old.items) × (length back.old.items ≤ length back.new.items) }
     ensures room { vec_capacity back.new ≡ vec_capacity back.old }
 {

@@ -3,85 +3,65 @@
 //! makes of the player's deeds (`encoding`). At the first difference it takes turns out of the schedule while the difference stays, prints
 //! what is left, with what each of the two made of it, and ends with status 1. The last line counts.
 //!
-//! It promises that it ends, that the turns are whole calls, and that a schedule passes only where both printed the same text or
-//! refused it alike. One seed gives the same schedules on every machine.
+//! `fuzz threads FIRST COUNT` makes random calls on running threads: for each of COUNT seeds from FIRST on, a session of two to eight
+//! CPUs, each in a thread of its own, whose workers share identifiers, while the consumer makes its own calls in another. Once a
+//! session has ended, all that its calls answered is compared with what was recorded and reported, and the first contradiction is
+//! told, with the calls that it is about; the status is 1 then. `fuzz threads made` compares made-up sessions, one of them healthy.
+//!
+//! It promises that it ends, that the turns of a schedule are whole calls, that a schedule passes only where both printed the same text or
+//! refused it alike, and that the threads give back the session that they were lent, so that it may be ended. That what the calls on threads
+//! answered, what was recorded and what is reported agree isn't promised: the program compares it. One seed gives the same
+//! schedules, and the same choices of threads, on every machine.
 //!
 //! | File | What is in it |
 //! |---|---|
-//! | `options.rt` | what the words ask; statuses |
+//! | `schedules.rt`, `options.rt` | schedules: what the words ask, plays and comparisons, statuses |
 //! | `making.rt`, `records.rt`, `sample.rt` | configurations, schemas, turns (identifiers are guessed); records, a few of them none of the schema |
-//! | `comparing.rt`, `shortening.rt`, `writing.rt`, `tally.rt`, `options.rt` | what both make of it; turns taken out while both differ; a schedule as text. `specs/Comparing`: when both told the same |
+//! | `comparing.rt`, `encoding.rt`, `shortening.rt`, `writing.rt`, `tally.rt` | what both make of a schedule; the bytes of the player's deeds; turns taken out while both differ; a schedule as text. `specs/Comparing`: when both told the same |
+//! | `threads.rt`, `arguments.rt`, `fault.rt` | threads: what the words ask, seed after seed; statuses |
+//! | `planning.rt`, `choosing.rt`, `sharing.rt`, `working.rt` | what a seed chooses; the calls of a CPU; the board that threads share; a worker |
+//! | `taken.rt`, `consuming.rt`, `racing.rt`, `running.rt`, `telling.rt` | the consumer and what it took; the threads; a session from start to end. `specs/Lent`: what the threads are lent and give back |
 #![tactic(auto)]
 
+mod arguments;
+mod choosing;
 mod comparing;
+mod consuming;
 mod encoding;
+mod fault;
 mod making;
 mod options;
+mod planning;
+mod racing;
 mod records;
+mod running;
 mod sample;
+mod schedules;
+mod sharing;
 mod shortening;
+mod taken;
 mod tally;
+mod telling;
+mod threads;
+mod working;
 mod writing;
 
-use comparing::{Verdict, both_told, verdict_of};
-use dspec_command::{CommandFault, ended, output_fault, print_text, words_of};
-use dspec_logs::Dice;
-use making::sample;
-use options::{Ask, Options, ask_of};
-use sample::Sample;
-use shortening::shorten;
-use std::alloc::{AllocError, Global};
+use dspec_command::{CommandFault, ended, words_of};
+use schedules::compare_schedules;
 use std::process::ExitCode;
-use tally::Tally;
-use writing::difference;
+use threads::{asks_for_threads, has_terminal, try_threads};
 
-/// Plays random schedules until both players differ, and gives the counts and the schedule at which they do, shortened.
-fn play_all(alloc: Global, options: Options) -> Result<(Tally, Option<Sample>), AllocError> {
-    let mut dice = Dice::new(options.seed);
-    let mut tally = Tally::default();
-    for _ in 0..options.count {
-        let mut sample = sample(alloc, &mut dice)?;
-        let (player, session) = both_told(alloc, &sample)?;
-        let verdict = verdict_of(&player, &session);
-        tally.count(verdict, sample.schedule.turns.len() as u64);
-        if verdict == Verdict::Differ {
-            shorten(alloc, &mut sample)?;
-            return Ok((tally, Some(sample)));
-        }
-    }
-    Ok((tally, None))
-}
-
-/// Plays, and prints the difference, where there is one, and the counts. Says whether there was none.
-fn play_options<'a>(rt: &HostRuntime, options: Options) -> Result<bool, CommandFault<'a>> {
-    let (tally, found) = play_all(rt.alloc(), options)?;
-    if let Some(sample) = &found {
-        let (player, session) = both_told(rt.alloc(), sample)?;
-        let text = difference(rt.alloc(), sample, &player, &session)?;
-        print_text(rt, text.as_str())?;
-    }
-    match println!(rt; "{tally}") {
-        Ok(()) => Ok(found.is_none()),
-        Err(reason) => Err(output_fault(reason)),
-    }
-}
-
-/// Does what the words ask for, and says whether there was no difference.
-fn run<'a>(rt: &HostRuntime, words: &'a [String]) -> Result<bool, CommandFault<'a>> {
-    let options = match ask_of(rt.alloc(), words)? {
-        Ask::Play(options) => options,
-        Ask::Text(text) => {
-            print_text(rt, text.as_str())?;
-            return Ok(true);
-        }
-    };
-    play_options(rt, options)
-}
-
-/// Compares by the words of the command line; a difference is status 1.
+/// Does what the words of the command line ask for; a difference or a contradiction is status 1.
 fn main(rt: HostRuntime) -> ExitCode {
-    match words_of(&rt) {
-        Ok(words) => ended(&rt, "fuzz", run(&rt, words.as_slice())),
-        Err(fault) => ended(&rt, "fuzz", Err(fault)),
+    let words = match words_of(&rt) {
+        Ok(words) => words,
+        Err(fault) => return ended(&rt, "fuzz", Err::<bool, CommandFault<'_>>(fault)),
+    };
+    match words.as_slice().split_first() {
+        Some((_, rest)) if asks_for_threads(rest) => {
+            let shows = has_terminal(&rt);
+            ended(&rt, "fuzz", try_threads(&rt, rt.alloc(), shows, rest))
+        }
+        _ => ended(&rt, "fuzz", compare_schedules(&rt, words.as_slice())),
     }
 }

@@ -5,7 +5,7 @@ use dspec_command::{Asked, CommandFault, asked_of};
 use std::alloc::{AllocError, Global};
 
 /// How the program is called.
-const USAGE: &str = "fuzz SEED COUNT";
+const USAGE: &str = "fuzz SEED COUNT, fuzz threads made, fuzz threads FIRST COUNT";
 
 /// What a run is asked for by its arguments.
 #[derive(Debug, Clone, Copy, PartialEq, Eq)]

@@ -1,8 +1,8 @@
 //! Random records.
 
 use crate::sample::{MOST_FIELDS, Probe};
-use dspec_logs::Dice;
 use dspec_record::{Field, Header, Rec};
+use dspec_samples::Dice;
 
 /// A record in so many isn't one of the schema.
 const STRANGE_IN: u32 = 400;

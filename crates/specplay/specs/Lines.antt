@@ -2,7 +2,7 @@
 use Rattle.std.specs.Prelude.{ℕ, ◌≡◌, List, ◌++◌, length, Option, codes, decimal}
 use Rattle.std.specs.List.{flat_map}
 use Rattle.std.specs.Io.KnownBytes.{Appends}
-use Rattle.dspec_demo.specs.declared.demonstration.lines.DemoLine.{DemoLine}
+use Rattle.dspec_session.specs.declared.demonstration.lines.DemoLine.{DemoLine}
 use Rattle.dspec_session.specs.Races.{AllBalanced}
 use Rattle.dspec_schedule.specs.Printed.{yes_no}
 use Rattle.specplay.specs.Written.{AppendsBeginning}

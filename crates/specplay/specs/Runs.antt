@@ -2,8 +2,8 @@
 use Rattle.std.specs.Prelude.{ℕ}
 use Rattle.dspec_schedule.specs.declared.fault.ScheduleFault.{ScheduleFault}
 use Rattle.dspec_schedule.specs.declared.fault.ScheduleFault.TheVariants as schedule
-use Rattle.dspec_player.specs.declared.input.InputFault.{InputFault}
-use Rattle.dspec_player.specs.declared.input.InputFault.TheVariants as input
+use Rattle.dspec_replay.specs.declared.input.InputFault.{InputFault}
+use Rattle.dspec_replay.specs.declared.input.InputFault.TheVariants as input
 use Rattle.specplay.specs.declared.fault.RunFault.{RunFault}
 use Rattle.specplay.specs.declared.fault.RunFault.TheVariants.{Line, Memory, TooLong, Read, Write}
 

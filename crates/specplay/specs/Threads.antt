@@ -1,7 +1,7 @@
 -- Cited by calls. What a failed demonstration is told as.
 use Rattle.std.specs.Prelude.{ℕ}
-use Rattle.dspec_demo.specs.declared.demonstration.DemoFault.{DemoFault}
-use Rattle.dspec_demo.specs.declared.demonstration.DemoFault.TheVariants as demo
+use Rattle.dspec_session.specs.declared.demonstration.DemoFault.{DemoFault}
+use Rattle.dspec_session.specs.declared.demonstration.DemoFault.TheVariants as demo
 use Rattle.specplay.specs.declared.threads.ThreadsFault.{ThreadsFault}
 use Rattle.specplay.specs.declared.threads.ThreadsFault.TheVariants.{GateShut, Memory, Write}
 

@@ -2,7 +2,7 @@ ghost use Rattle.std.specs.Prelude.{◌≡◌};
 ghost use Rattle.specplay.specs.declared.fault.RunFault.TheVariants.{Memory};
 ghost use Rattle.specplay.specs.Runs.{run_fault_of};
 
-use dspec_player::InputFault;
+use dspec_replay::InputFault;
 pub use dspec_schedule::LineKind;
 use dspec_schedule::ScheduleFault;
 use std::alloc::AllocError;

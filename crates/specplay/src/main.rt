@@ -5,7 +5,7 @@
 //! It promises, for any reader and any writer (`runner::run`), that nothing is written before the whole play has
 //! succeeded, and that an input over the limit never succeeds (specs/Runs.antt). What is written is the print of the
 //! play of the schedule that the input's bytes say, and a line that is told is the first one at which they say none, or
-//! the one whose turn the play refuses (specs/Schedules.antt). Stands on `dspec_player`, which reads the input and plays the
+//! the one whose turn the play refuses (specs/Schedules.antt). Stands on `dspec_replay`, which reads the input and plays the
 //! schedule, and on `dspec_schedule`, which prints.
 //!
 //! | File | What is in it |

@@ -5,8 +5,8 @@ ghost use Rattle.specplay.specs.Schedules.{IsCutOff, IsToldOf, Prints};
 ghost use Rattle.specplay.specs.Written.{AppendsBeginning};
 
 use crate::fault::RunFault;
-use dspec_player::input::MAX_INPUT;
-use dspec_player::{play_text, read_whole};
+use dspec_replay::input::MAX_INPUT;
+use dspec_replay::{play_text, read_whole};
 use dspec_schedule::printed;
 use std::alloc::Global;
 use std::io::{self, Read, Write};

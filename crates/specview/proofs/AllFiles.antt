@@ -19,7 +19,8 @@ use Rattle.dspec_deeds.specs.Own.{Offer, accepts, held}
 use Rattle.dspec_deeds.specs.Reports.{accepts_now, report}
 use Rattle.dspec_deeds.specs.Legal.{IsLegal}
 use Rattle.dspec_deeds.specs.Fates.{is_taken}
-use Rattle.dspec_deeds.proofs.DeedEffects.{next_offer, Effect, idle, offering, emptying, Accounts, legal_accounts}
+use Rattle.dspec_deeds.proofs.DeedOffers.{next_offer, Effect, idle, offering, emptying}
+use Rattle.dspec_deeds.proofs.DeedEffects.{Accounts, legal_accounts}
 use Rattle.specview.specs.declared.fault.ViewFault.{ViewFault}
 use Rattle.specview.specs.declared.fault.ViewFault.TheVariants.{Line, NoStamp, LateStamp, NoFrequency, GreatestFrequency, NoEvent, Memory, Read, Write, TooLong, NotEmpty}
 use Rattle.specview.specs.Batches.{TellsCounts}

@@ -2,7 +2,7 @@
 use Rattle.std.proofs.Common.{ℕ, List}
 use Rattle.dspec_schedule.specs.declared.fault.ScheduleFault.{ScheduleFault}
 use Rattle.dspec_schedule.specs.declared.fault.ScheduleFault.TheVariants as schedule
-use Rattle.dspec_player.specs.PlayedTexts.{IsTextFault}
+use Rattle.dspec_replay.specs.PlayedTexts.{IsTextFault}
 use Rattle.specview.specs.Faults.{view_of_schedule}
 use Rattle.specview.specs.Stepping.{IsStepsFault}
 

@@ -7,7 +7,7 @@ use Rattle.dspec_interleaving.specs.declared.outcome.Outcome.{Outcome}
 use Rattle.dspec_schedule.specs.Reading.{Plan}
 use Rattle.dspec_schedule.specs.declared.fault.ScheduleFault.{ScheduleFault}
 use Rattle.dspec_schedule.specs.declared.fault.ScheduleFault.TheVariants as schedule
-use Rattle.dspec_player.specs.PlayedTexts.{IsPlayedText, IsTextFault}
+use Rattle.dspec_replay.specs.PlayedTexts.{IsPlayedText, IsTextFault}
 use Rattle.specview.specs.declared.ending.RunFault.{RunFault}
 use Rattle.specview.specs.declared.ending.RunFault.TheVariants.{View, TooManyDeeds}
 use Rattle.specview.specs.declared.fault.ViewFault.TheVariants.{Line, NoStamp, LateStamp, NoFrequency, GreatestFrequency, NoEvent, Memory, Read, Write, TooLong, NotEmpty}

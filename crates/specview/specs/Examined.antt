@@ -7,9 +7,9 @@ use Rattle.dspec_ctf_reading.specs.Reading.{Layout}
 use Rattle.dspec_ctf_reading.specs.Fronts.{split_packet}
 use Rattle.dspec_ctf_reading.specs.declared.fault.MetadataReadFault.{MetadataReadFault}
 use Rattle.dspec_ctf_reading.specs.declared.fault.MetadataReadFault.TheVariants.{Line, TooLarge, Memory as no_memory}
-use Rattle.dspec_folder.specs.Checks.{IsSoundFrom}
-use Rattle.dspec_folder.specs.declared.check.Whose.{Whose}
-use Rattle.dspec_folder.specs.declared.fault.FileFault.{FileFault}
+use Rattle.dspec_ctf_reading.specs.Folders.Checks.{IsSoundFrom}
+use Rattle.dspec_ctf_reading.specs.declared.folder.check.Whose.{Whose}
+use Rattle.dspec_ctf_reading.specs.declared.folder.fault.FileFault.{FileFault}
 use Rattle.specview.specs.declared.folder_fault.FolderFault.{FolderFault}
 use Rattle.specview.specs.declared.folder_fault.FolderFault.TheVariants as folder
 use Rattle.specview.specs.declared.judging.Mend.{Mend}

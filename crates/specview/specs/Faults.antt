@@ -1,7 +1,7 @@
 -- Cited by calls. What the program tells of the faults of its parts, and its exit status.
 use Rattle.std.specs.Prelude.{ℕ}
-use Rattle.dspec_player.specs.declared.input.InputFault.{InputFault}
-use Rattle.dspec_player.specs.declared.input.InputFault.TheVariants as input
+use Rattle.dspec_replay.specs.declared.input.InputFault.{InputFault}
+use Rattle.dspec_replay.specs.declared.input.InputFault.TheVariants as input
 use Rattle.dspec_schedule.specs.declared.fault.ScheduleFault.{ScheduleFault}
 use Rattle.dspec_schedule.specs.declared.fault.ScheduleFault.TheVariants as schedule
 use Rattle.specview.specs.declared.fault.ViewFault.{ViewFault}

@@ -12,7 +12,7 @@ use Rattle.dspec_interleaving.specs.declared.outcome.Outcome.{Outcome}
 use Rattle.dspec_interleaving.specs.Plays.{EndedCall}
 use Rattle.dspec_schedule.specs.Reading.{Plan, header_of}
 use Rattle.dspec_schedule.specs.declared.fault.ScheduleFault.TheVariants as schedule
-use Rattle.dspec_player.specs.PlayedTexts.{IsPlayedText, IsTextFault}
+use Rattle.dspec_replay.specs.PlayedTexts.{IsPlayedText, IsTextFault}
 use Rattle.dspec_picture.specs.Svg.{svg_text}
 use Rattle.dspec_picture.specs.Drawing.{drawing}
 use Rattle.specview.specs.declared.ending.RunFault.{RunFault}

@@ -21,7 +21,7 @@ abbrev pub replay_printed : Bool → Header → Replayed → List ℕ
 replay_printed true header replayed = printed_text header replayed.outcome ++ all_buffers header replayed.texts
 replay_printed false header replayed = printed_text header replayed.outcome
 
--- the text is that of a session which made each turn of this schedule, in order, by its actor
+-- the text has an answer for each turn of this schedule, in order, by its actor; no session is named that gave it
 pub record IsReplayOf (text : List ℕ) (bytes : Bool) (told : List ℕ) : Type 0 where
   pub plan : Plan
   pub replayed : Replayed

@@ -2,7 +2,7 @@
 use Rattle.std.specs.Prelude.{◌≡◌, ℕ, List, None, Ok}
 use Rattle.dspec_schedule.specs.Reading.{Plan, header_of, schedule_of}
 use Rattle.dspec_schedule.specs.declared.fault.ScheduleFault.TheVariants as schedule
-use Rattle.dspec_player.specs.PlayedTexts.{IsTextFault, fault_of, shapes_of}
+use Rattle.dspec_replay.specs.PlayedTexts.{IsTextFault, fault_of, shapes_of}
 use Rattle.dspec_picture.specs.Steps.{steps_text}
 use Rattle.specview.specs.declared.fault.ViewFault.{ViewFault}
 use Rattle.specview.specs.declared.fault.ViewFault.TheVariants.{Line, Memory}

@@ -10,7 +10,7 @@ use Rattle.dspec_deeds.specs.Closes.{numbers_below}
 use Rattle.dspec_deeds.specs.Own.{stream}
 use Rattle.dspec_interleaving.specs.declared.outcome.Outcome.{Outcome}
 use Rattle.dspec_schedule.specs.Reading.{Plan, header_of}
-use Rattle.dspec_player.specs.PlayedTexts.{IsPlayedText, IsTextFault}
+use Rattle.dspec_replay.specs.PlayedTexts.{IsPlayedText, IsTextFault}
 use Rattle.dspec_schedule.specs.declared.fault.ScheduleFault.TheVariants as schedule
 use Rattle.dspec_ctf.specs.declared.form.Form.{Form}
 use Rattle.dspec_ctf.specs.declared.form.Form.TheVariants.{AsTaken, ByTime}
@@ -20,6 +20,7 @@ use Rattle.dspec_ctf.specs.ByTime.{ArePacketsOfRecords}
 use Rattle.dspec_ctf.specs.Metadata.{metadata_text}
 use Rattle.dspec_ctf.specs.Names.{metadata_fault as fault_of_metadata}
 use Rattle.dspec_ctf.specs.Packets.{events, packet}
+use Rattle.dspec_ctf.specs.Streams.{Accepts}
 use Rattle.dspec_ctf.specs.declared.fault.MetadataFault.{MetadataFault}
 use Rattle.sha1.specs.Sha1.{sha1}
 use Rattle.uuid.specs.declared.Variant.TheVariants.{RFC4122}
@@ -100,6 +101,10 @@ pub record TellsSmall (e : EnabledRows) (cpu : ℕ) (h : List Deed) (p : Report)
   pub missed : missed_by p ≤ p.offered
   pub refused : refused_in (written_shares cpu h p.drops) ≤ p.drops
   pub short : HaveShortEvents e (written_shares cpu h p.drops)
+
+-- so it is of each CPU whose records the events have
+abbrev pub AllTellSmall : EnabledRows → List Deed → List Report → Type 0
+AllTellSmall e h reports = (c : ℕ) (p : Report) → slice_get reports c ≡ Some p → All (Accepts e) (stream c h) → TellsSmall e c h p
 
 -- a record that the events don't have, with this EPID, is among these
 abbrev pub HasUnknown : EnabledRows → ℕ → List Record → Type 0

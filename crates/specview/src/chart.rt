@@ -4,7 +4,7 @@
 use crate::merging::{Merged, Source};
 use crate::showing::Traces;
 use dspec_ctf_reading::Metadata;
-use dspec_folder::{Mark, Track, What, chrome_event, chrome_missed, chrome_name};
+use dspec_ctf_reading::folder::{Mark, Track, What, chrome_event, chrome_missed, chrome_name};
 use std::alloc::{AllocError, Global};
 use std::io;
 use std::io::Write;

@@ -4,8 +4,8 @@ use crate::merging::{put_moment, tell_wrong};
 use crate::opening::Opened;
 use crate::program::ProgramFault;
 use dspec_command::print_text;
+use dspec_ctf_reading::folder::{Base, CpuCounts, count_file, nanoseconds};
 use dspec_ctf_reading::{ClockText, Metadata};
-use dspec_folder::{Base, CpuCounts, count_file, nanoseconds};
 use std::alloc::{AllocError, Global};
 
 /// What all files of a folder have, CPU by CPU, and whether each could be read to its end.

@@ -7,7 +7,7 @@ use crate::opening::{Opened, path_of};
 use crate::program::ProgramFault;
 use dspec_command::{CommandFault, output_fault};
 use dspec_ctf_reading::Metadata;
-use dspec_folder::Whose;
+use dspec_ctf_reading::folder::Whose;
 use std::fs::OpenOptions;
 use std::io;
 

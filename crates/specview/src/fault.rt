@@ -2,7 +2,7 @@ ghost use Rattle.std.specs.Prelude.{◌≡◌};
 ghost use Rattle.specview.specs.Faults.{IsReadFault, IsWritingFault};
 ghost use Rattle.specview.specs.declared.fault.ViewFault.TheVariants.{Memory};
 
-use dspec_player::InputFault;
+use dspec_replay::InputFault;
 use dspec_schedule::{LineKind, ScheduleFault};
 use std::alloc::{AllocError, AllocFailed};
 use std::io;

@@ -5,7 +5,7 @@ ghost use Rattle.dspec_ctf_reading.specs.Told.{told_layout};
 ghost use Rattle.specview.specs.Examined.{IsMend, IsUuidPlace, IsSoundFile, IsVerdict};
 
 use dspec_ctf_reading::Metadata;
-use dspec_folder::{Ending, FileFault, Whose, check_file, ending_of};
+use dspec_ctf_reading::folder::{Ending, FileFault, Whose, check_file, ending_of};
 use std::alloc::{AllocError, Global};
 
 /// What is wrong with a file of a trace, if anything.

@@ -3,7 +3,7 @@
 use crate::merging::{Merged, put_moment};
 use crate::showing::Traces;
 use dspec_ctf_reading::Metadata;
-use dspec_folder::{Mark, What, event_text, missed_text};
+use dspec_ctf_reading::folder::{Mark, What, event_text, missed_text};
 use std::alloc::{AllocError, Global};
 use std::io;
 use std::io::Write;

@@ -30,7 +30,7 @@
 //! | `folder_asking.rt`, `folder_fault.rt`, `naming.rt`, `opening.rt` | what is asked of folders; statuses; which file is which CPU's; a folder's metadata and files |
 //! | `judging.rt`, `examining.rt` | `wrong_with`, `mend_of`: what is wrong with a file, and where it is cut (`specs/Examined`); the files of folders, one by one |
 //! | `counting.rt`, `merging.rt`, `showing.rt`, `listing.rt`, `chart.rt`, `tracks.rt` | the tables; what files tell, in order of time; as lines; as Chrome's Trace Event form, a row for each CPU, or for each value of a field |
-//! | `proofs/` | Cutting (a stream cut into batches), SmallPlays (what a play's packets tell is of 64 bits), Parts, Greatest, AllFiles, Files |
+//! | `proofs/` | Cutting (a stream cut into batches), SmallShares, SmallPlays (what a play's packets tell is of 64 bits), Parts, Greatest, AllFiles, Files |
 #![tactic(auto)]
 
 mod arguments;
@@ -63,7 +63,7 @@ mod tracks;
 use arguments::{Ask, PictureAsk, TraceAsk, ask_of};
 use counting::count_folders;
 use dspec_command::{Input, ended, open, print_text, words_of};
-use dspec_player::read_whole;
+use dspec_replay::read_whole;
 use examining::examine_folders;
 use fault::ViewFault;
 use folder::{SystemFolder, write_trace};

@@ -6,7 +6,7 @@ use crate::opening::Opened;
 use crate::program::ProgramFault;
 use crate::showing::Traces;
 use dspec_ctf_reading::Metadata;
-use dspec_folder::{Base, FileFault, Mark, Moment, base_of, marks_of, sort_by_time};
+use dspec_ctf_reading::folder::{Base, FileFault, Mark, Moment, base_of, marks_of, sort_by_time};
 use std::alloc::{AllocError, Global};
 
 /// A file that was read.

@@ -8,7 +8,7 @@ use crate::ending::RunFault;
 use crate::fault::ViewFault;
 use dspec_core::{Actor, Answer, ConsumerOp, Op, Outcome};
 use dspec_picture::{PictureFault, picture};
-use dspec_player::play_text;
+use dspec_replay::play_text;
 use dspec_schedule::Schedule;
 use std::alloc::{AllocError, Global};
 

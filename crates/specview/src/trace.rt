@@ -1,14 +1,13 @@
 //! The trace of a play: its metadata, and the bytes of each CPU's file.
 
-ghost use Rattle.std.specs.Prelude.{◌≡◌, ◌≢◌, ℕ, ◌+◌, ◌^◌, ◌<◌, ◌≤◌, map, reverse, length, slice_get, Some, All, IfOk, IfErr};
+ghost use Rattle.std.specs.Prelude.{◌≡◌, ◌≢◌, ℕ, ◌+◌, ◌^◌, ◌<◌, ◌≤◌, map, reverse, length, All, IfOk, IfErr};
 ghost use Rattle.dspec_ctf.specs.ByTime.{ArePacketsOfRecords};
 ghost use Rattle.dspec_ctf.specs.Streams.{Accepts};
 ghost use Rattle.dspec_deeds.specs.Own.{stream as stream_of};
 ghost use Rattle.dspec_schedule.specs.Schedules.{plan_of};
-ghost use Rattle.dspec_player.specs.PlayedTexts.{IsPlayOf};
+ghost use Rattle.dspec_replay.specs.PlayedTexts.{IsPlayOf};
 ghost use Rattle.specview.specs.Batches.{TellsCounts, last_share, shares, shown_share};
-ghost use Rattle.dspec_deeds.specs.declared.report.Report.{Report};
-ghost use Rattle.specview.specs.Traces.{AreFiles, HaveShortEvents, AreStreams, IsFile, IsFileFault, IsFormFault, IsOfNumbered, IsPlayTrace, IsPlayTraceFault, TellsSmall, IsTraceFault, IsTraceOf};
+ghost use Rattle.specview.specs.Traces.{AllTellSmall, AreFiles, HaveShortEvents, AreStreams, IsFile, IsFileFault, IsFormFault, IsOfNumbered, IsPlayTrace, IsPlayTraceFault, TellsSmall, IsTraceFault, IsTraceOf};
 ghost use Rattle.specview.specs.Traces.{event_rows, file_as_taken, missed_by, packets_behind, refused_in, written_shares};
 
 use crate::batches::{Share, shares_of, with_last};
@@ -19,8 +18,8 @@ use dspec_core::{Close, Deed, Outcome, Report};
 use dspec_ctf::{
     Form, MetadataFault, Names, PacketFault, Stream, TimeFault, first_refused, metadata,
 };
-use dspec_player::play_text;
 use dspec_record::{Enablings, Rec};
+use dspec_replay::play_text;
 use dspec_schedule::Schedule;
 use std::alloc::{AllocError, Global};
 use uuid::Uuid;
@@ -175,8 +174,7 @@ fn files_of(
     requires accepted { AreStreams cpus close.now.deeds close.now.accepted }
     requires reports { length close.now.reports ≡ cpus }
     requires told { (c : ℕ) → TellsCounts c (reverse close.now.deeds) }
-    requires small { (c : ℕ) (p : Report) → slice_get close.now.reports c ≡ Some p → All (Accepts events.now) (stream_of c (reverse close.now.deeds))
-        → TellsSmall events.now c (reverse close.now.deeds) p }
+    requires small { AllTellSmall events.now (reverse close.now.deeds) close.now.reports }
     ensures count { IfOk result (λ files. length files.items ≡ cpus) }
     ensures files { IfOk result (λ files. AreFiles uuid.now events.now form (reverse close.now.deeds) close.now.reports (map (λ f. f.items) files.items) cpus) }
     ensures fault { IfErr result (IsPlayTraceFault form events.now close.now.accepted) }

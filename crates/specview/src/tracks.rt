@@ -8,7 +8,7 @@ use crate::folder_asking::TracksAsk;
 use crate::merging::{Merged, Source};
 use crate::showing::Traces;
 use dspec_ctf_reading::EventText;
-use dspec_folder::{
+use dspec_ctf_reading::folder::{
     Mark, RowPart, RowRecord, Track, What, chrome_name, chrome_record, chrome_slice, field_text,
     row_parts_of,
 };

@@ -4,7 +4,7 @@ ghost use Rattle.std.specs.Prelude.{◌≡◌};
 ghost use Rattle.dspec.specs.Lanes.{place_of};
 
 use dspec::{Config, Enablings, Field, Lane, RecordSink, Work, trace};
-use dspec_paths::{Barrier, open_within};
+use dspec_threads::{Barrier, open_within};
 use std::alloc::Global;
 use std::sync::atomic::{AtomicU64, Ordering};
 use std::test::Fail;

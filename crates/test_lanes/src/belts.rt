@@ -4,7 +4,7 @@ ghost use Rattle.dspec.specs.Lanes.{place_of};
 
 use dspec::{Config, Enablings, Field, Lane, Path, Rec, RecordSink, Work, closed_cpu, trace};
 use dspec_deeds::Opening;
-use dspec_paths::{belt, open_within};
+use dspec_threads::{belt, open_within};
 use std::alloc::Global;
 use std::sync::atomic::{AtomicU64, Ordering};
 use std::test::Fail;

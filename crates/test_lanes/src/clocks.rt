@@ -1,5 +1,5 @@
 //! What a `SystemClock` counts, over a system whose time is the test's own, and over the machine's.
-use dspec_probed::{Clock, SystemClock};
+use dspec::{Clock, SystemClock};
 use std::sync::atomic::{AtomicU64, Ordering};
 use std::test::Fail;
 use std::time::{Duration, Instant};

@@ -7,11 +7,11 @@
 //! | `refusals` | dspec: why there is no session, and what is told where records weren't kept |
 //! | `folders`, `timed_folders`, `losses`, `endings` | dspec_ctf_sink in memory: what a session writes, what is lost where a write is refused, what the end tells |
 //! | `disk` | dspec_ctf_sink on the system's disk |
-//! | `verdicts` | dspec_paths |
-//! | `belts`, `barriers` | dspec_paths |
-//! | `clocks` | dspec_probed |
+//! | `verdicts` | dspec_threads |
+//! | `belts`, `barriers` | dspec_threads |
+//! | `clocks` | dspec |
 //! | `lanes_out` | dspec_threads |
-//! | `probes` | dspec_probed: `sessions`, `bytes`, `steps`, `foreign` |
+//! | `probes` | dspec: `sessions`, `bytes`, `steps`, `foreign` |
 //! | `same` | a comparison that some of them share |
 #![tactic(auto)]
 

@@ -5,7 +5,7 @@ ghost use Rattle.dspec.specs.Lanes.{place_of};
 use dspec::{
     Config, Enablings, Field, Handed, Lane, Rec, RecordSink, Report, Work, closed_cpu, trace,
 };
-use dspec_paths::{Anything, Verdict, board, pair};
+use dspec_threads::{Anything, Verdict, board, pair};
 use std::alloc::Global;
 use std::sync::atomic::{AtomicU64, Ordering};
 use std::test::Fail;

@@ -1,6 +1,6 @@
 //! Random numbers of the seeds 0 and 1, by the published steps of SplitMix64 and xoshiro256++.
 use crate::same::same;
-use dspec_logs::Dice;
+use dspec_samples::Dice;
 
 #[test]
 fn drawn_numbers(rt: HostRuntime) {

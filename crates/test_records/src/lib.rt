@@ -8,7 +8,7 @@
 //! | `words` | dspec_word: the rows of its tables, identifiers |
 //! | `texts` | what values of these print |
 //! | `probes` | dspec_probe: `declaring`, `numbers`, `reading` |
-//! | `dice`, `logs` | dspec_logs |
+//! | `dice`, `logs` | dspec_samples |
 //! | `commands` | dspec_command: `asking`, `telling` |
 //! | `same` | the one comparison of all |
 #![tactic(auto)]

@@ -1,6 +1,6 @@
 //! A session made up by hand, whole and with each damage: what is found in it.
 use crate::same::same;
-use dspec_logs::{Damage, Kind, Number, found};
+use dspec_samples::{Damage, Kind, Number, found};
 use std::alloc::AllocError;
 
 const FINDINGS: [(Damage, Option<Kind>); 16] = [

@@ -4,9 +4,9 @@
 //! | Module | Tests of |
 //! |---|---|
 //! | `writing` | dspec_ctf: `packets` (as taken), `by_time`, `rows` (files by time while it runs), `metadata_texts`; dspec_ctf_reading: `fronts` |
-//! | `in_memory` | dspec_packets: `packets` of batches, what is lost and told again; the `metadata` in a room |
+//! | `in_memory` | dspec_ctf: `packets` of batches, what is lost and told again; the `metadata` in a room |
 //! | `reading` | dspec_ctf_reading: `metadata`, `packets` |
-//! | `folders` | dspec_folder: `files`, `telling`, `times`, over the file and metadata of `samples` |
+//! | `folders` | dspec_ctf_reading: `files`, `telling`, `times`, over the file and metadata of `samples` |
 //! | `same` | the one comparison of all, and what more than one module has |
 #![tactic(auto)]
 

@@ -1,4 +1,5 @@
 pub mod Pairs
+pub mod OneAuthor
 pub mod OneOpener
 pub mod Openers
 pub mod Turns

@@ -6,8 +6,10 @@ ghost use Rattle.std.specs.Prelude.{IfOk};
 ghost use Rattle.tour.specs.Toured.{IsTour};
 
 use anyhow::Result;
-use dspec::{Config, Enablings, Lane, Rec, RecordSink, Report, Work, closed_cpu, trace};
-use dspec_probed::{Probe, Probes, Recording};
+use dspec::{
+    Config, Enablings, Lane, Probe, Probes, Rec, RecordSink, Recording, Report, Work, closed_cpu,
+    trace,
+};
 use std::alloc::Global;
 use std::thread::Threads;
 

@@ -5,9 +5,8 @@ ghost use Rattle.dspec_probe.specs.Probes.{IsProbeOf};
 ghost use Rattle.dspec.specs.Lanes.{place_of};
 
 use crate::cpu::way::BLOCK_RECORDS;
-use dspec::{Lane, Path};
+use dspec::{Fields, Lane, Path, Probe, Recording};
 use dspec_deeds::{Decided, Spoken, Traced};
-use dspec_probed::{Fields, Probe, Recording};
 use dspec_record::Enablings;
 
 /// One record by a probe, which stays a call.

@@ -1,6 +1,7 @@
 //! Records of probes have the bytes and the counts of the records by their numbers, behind either header.
-use dspec::{Batch, Config, Enablings, Lane, Report, Sink, Work, closed_cpu, trace};
-use dspec_probed::{Probe, Probes, Recording};
+use dspec::{
+    Batch, Config, Enablings, Lane, Probe, Probes, Recording, Report, Sink, Work, closed_cpu, trace,
+};
 use std::alloc::Global;
 use std::test::Fail;
 use std::thread::Threads;

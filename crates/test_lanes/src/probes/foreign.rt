@@ -1,7 +1,9 @@
 //! Probes that a lane's schema doesn't have.
 use crate::same::same;
-use dspec::{Config, Enablings, Lane, Rec, RecordSink, Spoken, Work, trace};
-use dspec_probed::{Clock, ForeignProbe, Probe, Probes, Recording, Steps};
+use dspec::{
+    Clock, Config, Enablings, ForeignProbe, Lane, Probe, Probes, Rec, RecordSink, Recording,
+    Spoken, Steps, Work, trace,
+};
 use std::test::Fail;
 
 /// A clock that stands.

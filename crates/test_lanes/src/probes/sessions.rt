@@ -1,7 +1,8 @@
 //! A session whose work records by probes, and reads what was kept by them.
 use crate::same::same;
-use dspec::{Config, Enablings, Lane, Rec, RecordSink, Work, closed_cpu, trace};
-use dspec_probed::{Probe, Probes, Recording};
+use dspec::{
+    Config, Enablings, Lane, Probe, Probes, Rec, RecordSink, Recording, Work, closed_cpu, trace,
+};
 use std::test::Fail;
 
 /// What the CPU does, by its probes.

@@ -4,9 +4,9 @@ ghost use Rattle.dspec.specs.Lanes.{place_of};
 
 use crate::same::same;
 use dspec::{
-    Config, Decided, Enablings, Handed, Lane, Rec, RecordSink, Spoken, Work, closed_cpu, trace,
+    Clock, Config, Decided, Enablings, Handed, Lane, Probe, Probes, Rec, RecordSink, Recording,
+    Spoken, Steps, Work, closed_cpu, trace,
 };
-use dspec_probed::{Clock, Probe, Probes, Recording, Steps};
 use std::sync::atomic::{AtomicU64, Ordering};
 use std::test::Fail;
 

@@ -2,7 +2,7 @@
 use super::samples::{FILE, metadata};
 use crate::same::{UUID, same};
 use dspec_ctf_reading::PacketReadFault;
-use dspec_folder::{
+use dspec_ctf_reading::folder::{
     CpuCounts, Ending, FileFault, Whose, Wrong, check_file, count_file, ending_of, whole_len,
 };
 use std::alloc::Global;

@@ -1,7 +1,7 @@
 //! What happened, by time, in words and in Chrome's Trace Event form.
 use super::samples::{FILE, metadata};
 use crate::same::same;
-use dspec_folder::{
+use dspec_ctf_reading::folder::{
     Base, Track, What, chrome_event, chrome_missed, chrome_name, event_text, marks_of, missed_text,
     sort_by_time,
 };

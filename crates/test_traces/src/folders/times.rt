@@ -1,8 +1,8 @@
 //! Times, dates and values.
 use super::samples::CLOCK;
 use crate::same::same;
+use dspec_ctf_reading::folder::{Base, Moment, Shown, base_of, nanoseconds};
 use dspec_ctf_reading::{ClockText, Field, Kind};
-use dspec_folder::{Base, Moment, Shown, base_of, nanoseconds};
 use std::test::Fail;
 
 /// Dates by `date -u -d @SECONDS`.

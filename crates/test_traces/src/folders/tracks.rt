@@ -1,7 +1,7 @@
 //! Rows of a field's values in Chrome's Trace Event form.
 use super::samples::metadata;
 use crate::same::same;
-use dspec_folder::{
+use dspec_ctf_reading::folder::{
     RowPart, RowRecord, Track, chrome_record, chrome_slice, field_text, row_parts_of,
 };
 use std::test::Fail;

@@ -2,10 +2,9 @@
 use super::one_enabling;
 use crate::same::{UUID, same};
 use dspec_ctf::{
-    ClockStart, Form, Kind, MetadataFault, NameFault, NameKind, Names, Origin, ProbeNames, Process,
-    metadata_from,
+    ClockStart, CpuPackets, Form, Identity, Kind, MetadataFault, NameFault, NameKind, Names,
+    Origin, ProbeNames, Process, TextFault, metadata_from, put_metadata,
 };
-use dspec_packets::{CpuPackets, Identity, TextFault, put_metadata};
 use dspec_record::Enablings;
 use std::alloc::Global;
 use std::test::Fail;

@@ -1,8 +1,7 @@
 //! Packets of batches.
 use super::one_enabling;
 use crate::same::{UUID, same};
-use dspec_ctf::PacketFault;
-use dspec_packets::{CpuPackets, Packet, PutFault};
+use dspec_ctf::{CpuPackets, Packet, PacketFault, PutFault};
 use std::alloc::{AllocError, Global};
 use std::ops::Range;
 use std::process::Abort;

@@ -2,7 +2,7 @@
 ghost use Rattle.std.specs.Prelude.{◌≡◌, ◌≤◌, IfSome};
 ghost use Rattle.dspec_table.specs.Conditions.{MayLoad};
 ghost use Rattle.dspec_table.specs.Seats.{known, IsAt, set_up, cpu_of};
-ghost use Rattle.test_words.specs.Calls.{Next, Unused};
+ghost use Rattle.test_words.specs.Calls.{MayBegin, Next, Unused};
 ghost use Rattle.dspec_word.specs.Word.{CanBeReleased};
 
 use super::*;
@@ -31,8 +31,8 @@ pub(super) fn both_decided(
     commit: &Doing,
     discard: &Doing,
 ) -> Option<Word>
-    requires first { IsAt words.now first.old × MayLoad (set_up words.now) (known first.old) (cpu_of first.old) commit.now 1 commit.now.op × Unused (set_up words.now) (cpu_of first.old) (known first.old).own }
-    requires second { IsAt words.now second.old × MayLoad (set_up words.now) (known second.old) (cpu_of second.old) discard.now 1 discard.now.op × Unused (set_up words.now) (cpu_of second.old) (known second.old).own }
+    requires first { MayBegin words.now first.old commit.now }
+    requires second { MayBegin words.now second.old discard.now }
     requires slots { 1 ≤ (set_up words.now).nspec }
     requires commit { commit.now.op ≡ CpuOp.Commit id }
     requires discard { discard.now.op ≡ CpuOp.Discard id }

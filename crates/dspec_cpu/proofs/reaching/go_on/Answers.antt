@@ -4,7 +4,8 @@ use Rattle.dspec_table.specs.Conditions.{IsInFlight}
 use Rattle.dspec_table.specs.Seats.{known, set_up, cpu_of}
 use Rattle.dspec_table.specs.Steps.{LoadedActivity}
 use Rattle.dspec_cpu.specs.declared.reaching.Reach.TheVariants as reach
-use Rattle.dspec_cpu.proofs.Reaches.{at_stop, outside, flight, behind, is_running, void_running, at_seat, never_idle}
+use Rattle.dspec_cpu.proofs.ReachDeeds.{never_idle}
+use Rattle.dspec_cpu.proofs.Reaches.{at_stop, outside, flight, behind, is_running, void_running, at_seat}
 use Rattle.dspec_cpu.proofs.reaching.go_on.Goals as goal
 
 pub returns-then-not-load_activity-clause-reached : goal.returns-then-not-load_activity-clause-reached

@@ -1,5 +1,5 @@
-use Rattle.dspec_machine.specs.Machines.{history}
-use Rattle.dspec_machine.proofs.MachineReads.{cpu_read}
+use Rattle.dspec_core.specs.Machines.{history}
+use Rattle.dspec_core.proofs.MachineReads.{cpu_read}
 use Rattle.dspec_picture.proofs.room.is_closed.Goals as goal
 
 pub returns : goal.returns

@@ -1,6 +1,6 @@
 use Rattle.dspec_deeds.specs.Own.{active}
-use Rattle.dspec_machine.specs.Machines.{history}
-use Rattle.dspec_machine.proofs.MachineReads.{cpu_read}
+use Rattle.dspec_core.specs.Machines.{history}
+use Rattle.dspec_core.proofs.MachineReads.{cpu_read}
 use Rattle.dspec_picture.proofs.room.reach.Goals as goal
 
 pub returns : goal.returns

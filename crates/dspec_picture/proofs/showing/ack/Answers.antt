@@ -1,8 +1,8 @@
 use Rattle.std.proofs.Common.{◌-◌, arith}
 use Rattle.dspec_deeds.specs.History.{ack}
 use Rattle.dspec_interleaving.proofs.CleanReads.{number_there}
-use Rattle.dspec_machine.specs.Machines.{history}
-use Rattle.dspec_machine.proofs.MachineReads.{cpu_read}
+use Rattle.dspec_core.specs.Machines.{history}
+use Rattle.dspec_core.proofs.MachineReads.{cpu_read}
 use Rattle.dspec_picture.proofs.showing.ack.Goals as goal
 
 pub index-requires-2 : goal.index-requires-2

@@ -1,7 +1,7 @@
 use Rattle.dspec_deeds.specs.Marks.{mark}
-use Rattle.dspec_machine.specs.Machines.{history}
-use Rattle.dspec_machine.proofs.MachineReads.{cpu_read}
-use Rattle.dspec_machine.proofs.OwnSlots.{mark_there}
+use Rattle.dspec_core.specs.Machines.{history}
+use Rattle.dspec_core.proofs.MachineReads.{cpu_read}
+use Rattle.dspec_core.proofs.OwnSlots.{mark_there}
 use Rattle.dspec_picture.proofs.showing.is_marked.Goals as goal
 
 pub is_mine-requires : goal.is_mine-requires

@@ -1,9 +1,9 @@
 use Rattle.std.proofs.Common.{sym, ap, ◌∙◌, nat_lt}
 use Rattle.dspec_deeds.specs.Own.{seals}
 use Rattle.dspec_interleaving.specs.declared.flight.CpuProgress.{CpuProgress}
-use Rattle.dspec_machine.specs.Machines.{history}
-use Rattle.dspec_machine.proofs.MachineReads.{cpu_got, cpu_read}
-use Rattle.dspec_machine.proofs.OneMore.{progress_there}
+use Rattle.dspec_core.specs.Machines.{history}
+use Rattle.dspec_core.proofs.MachineReads.{cpu_got, cpu_read}
+use Rattle.dspec_core.proofs.OneMore.{progress_there}
 use Rattle.dspec_picture.proofs.telling.is_wanted.Goals as goal
 
 pub returns : goal.returns

@@ -1,7 +1,7 @@
 use Rattle.std.proofs.Common.{ap, ◌∙◌}
 use Rattle.dspec_interleaving.specs.declared.flight.CpuProgress.{CpuProgress}
-use Rattle.dspec_machine.proofs.MachineReads.{cpu_got}
-use Rattle.dspec_machine.proofs.OneMore.{progress_there}
+use Rattle.dspec_core.proofs.MachineReads.{cpu_got}
+use Rattle.dspec_core.proofs.OneMore.{progress_there}
 use Rattle.dspec_picture.proofs.Tellable.{cpu_can_be_told}
 use Rattle.dspec_picture.proofs.telling.tell_cpu_step.Goals as goal
 

@@ -1,6 +1,6 @@
 use Rattle.std.proofs.Common.{string_bytes, refl, ap}
 use Rattle.dspec_interleaving.specs.Coherent.{PlayState}
-use Rattle.dspec_machine.specs.Machines.{state_of}
+use Rattle.dspec_core.specs.Machines.{state_of}
 use Rattle.dspec_picture.proofs.Runs.{told_first}
 use Rattle.dspec_picture.proofs.walking.play_in_words.Goals as goal
 

@@ -1,7 +1,7 @@
 -- The turns that are told.
 use Rattle.std.proofs.Common.{◌≡◌, string_bytes}
-use Rattle.dspec_machine.specs.Machines.{state_of}
-use Rattle.dspec_machine.specs.Worlds.{WorldInvariant}
+use Rattle.dspec_core.specs.Machines.{state_of}
+use Rattle.dspec_core.specs.Worlds.{WorldInvariant}
 use Rattle.dspec_picture.proofs.Runs.{IsToldSoFar}
 use Rattle.dspec_picture.proofs.walking.play_in_words.Given as goal
 

@@ -3,7 +3,7 @@ use Rattle.dspec_interleaving.specs.Bounds.{most_steps}
 use Rattle.dspec_interleaving.specs.Coherent.{PlayState}
 use Rattle.dspec_interleaving.specs.Plays.{to_end}
 use Rattle.dspec_interleaving.specs.Turns.{step}
-use Rattle.dspec_machine.specs.Machines.{state_of}
+use Rattle.dspec_core.specs.Machines.{state_of}
 use Rattle.dspec_picture.specs.Steps.{run_lines, step_line}
 use Rattle.dspec_picture.proofs.Runs.{run_first, run_more, run_idle, run_out}
 use Rattle.dspec_picture.proofs.walking.run_in_words.Goals as goal

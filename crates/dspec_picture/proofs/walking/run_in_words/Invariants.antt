@@ -1,8 +1,8 @@
 -- The run so far, and its lines.
 use Rattle.std.proofs.Common.{◌≡◌, string_bytes}
 use Rattle.dspec_interleaving.specs.Bounds.{most_steps}
-use Rattle.dspec_machine.specs.Machines.{state_of}
-use Rattle.dspec_machine.specs.Worlds.{WorldInvariant}
+use Rattle.dspec_core.specs.Machines.{state_of}
+use Rattle.dspec_core.specs.Worlds.{WorldInvariant}
 use Rattle.dspec_picture.proofs.Runs.{RunsTold}
 use Rattle.dspec_picture.proofs.walking.run_in_words.Given as goal
 

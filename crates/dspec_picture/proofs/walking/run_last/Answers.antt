@@ -1,8 +1,8 @@
 use Rattle.std.proofs.Common.{◌≡◌, ◌++◌, string_bytes, subst, arith}
 use Rattle.dspec_deeds.specs.declared.calls.Actor.TheVariants as actor
 use Rattle.dspec_interleaving.specs.Plays.{Playing}
-use Rattle.dspec_machine.specs.Machines.{state_of}
-use Rattle.dspec_machine.proofs.OwnSlots.{on_ok}
+use Rattle.dspec_core.specs.Machines.{state_of}
+use Rattle.dspec_core.proofs.OwnSlots.{on_ok}
 use Rattle.dspec_picture.specs.Steps.{ran_lines}
 use Rattle.dspec_picture.proofs.Runs.{last_told}
 use Rattle.dspec_picture.proofs.walking.run_last.Goals as goal

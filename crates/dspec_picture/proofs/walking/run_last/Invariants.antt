@@ -1,7 +1,7 @@
 -- The CPUs that have run to their ends.
 use Rattle.std.proofs.Common.{◌≡◌, string_bytes}
-use Rattle.dspec_machine.specs.Machines.{state_of}
-use Rattle.dspec_machine.specs.Worlds.{WorldInvariant}
+use Rattle.dspec_core.specs.Machines.{state_of}
+use Rattle.dspec_core.specs.Worlds.{WorldInvariant}
 use Rattle.dspec_picture.proofs.Runs.{CpusRan, CpusTold}
 use Rattle.dspec_picture.proofs.walking.run_last.Given as goal
 

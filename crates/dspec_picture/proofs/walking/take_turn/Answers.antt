@@ -3,7 +3,7 @@ use Rattle.dspec_deeds.specs.declared.calls.Actor.TheVariants as actor
 use Rattle.dspec_deeds.specs.declared.calls.Turn.{Turn}
 use Rattle.dspec_interleaving.specs.Plays.{begun_cpu, begun_consumer, ran, turned}
 use Rattle.dspec_interleaving.specs.Turns.{begin_cpu, begin_consumer}
-use Rattle.dspec_machine.specs.Machines.{state_of}
+use Rattle.dspec_core.specs.Machines.{state_of}
 use Rattle.dspec_picture.specs.Steps.{ran_lines, turn_lines}
 use Rattle.dspec_picture.proofs.walking.take_turn.Goals as goal
 

@@ -3,7 +3,7 @@ use Rattle.dspec_ctf.specs.Streams.{Accepts}
 use Rattle.dspec_deeds.specs.Own.{stream}
 use Rattle.dspec_deeds.specs.declared.report.Report.{Report}
 use Rattle.dspec_schedule.specs.Schedules.{plan_of}
-use Rattle.dspec_player.specs.PlayedTexts.{shapes_of}
+use Rattle.dspec_replay.specs.PlayedTexts.{shapes_of}
 use Rattle.dspec_interleaving.specs.Plays.{worn_count}
 use Rattle.specview.specs.Traces.{TellsSmall, event_rows}
 use Rattle.specview.proofs.AllFiles.{reports_long, legal_told, of_numbered}

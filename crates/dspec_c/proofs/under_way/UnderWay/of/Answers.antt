@@ -3,7 +3,7 @@ use Rattle.std.specs.Arc.{arc_value}
 use Rattle.std.proofs.lemmas.List.{length-map}
 use Rattle.dspec_c.specs.ConsumerHomes.{Theirs}
 use Rattle.dspec_c.specs.Whole.{they_wait_so, waiting_so}
-use Rattle.dspec_c.proofs.Ending.{whole_at_first}
+use Rattle.dspec_c.proofs.EndingPlaces.{whole_at_first}
 use Rattle.dspec_c.proofs.under_way.UnderWay.of.Goals as goal
 
 pub invariant_of-result : goal.invariant_of-result

@@ -1,7 +1,7 @@
 use Rattle.std.proofs.Common.{◌≤◌, ◌+◌, refl, sym, subst}
 use Rattle.std.specs.Prelude.{vec_capacity, vec_len}
 use Rattle.std.specs.Arc.{arc_value}
-use Rattle.dspec_c.proofs.Ending.{place_first}
+use Rattle.dspec_c.proofs.EndingPlaces.{place_first}
 use Rattle.dspec_c.proofs.Tends.{places_counted, tended_firsts, tended_length, tended_so, whole_on}
 use Rattle.dspec_c.proofs.under_way.UnderWay.tend.Goals as goal
 

@@ -1,7 +1,7 @@
 -- What is promised, from coherence.
 use Rattle.std.proofs.Common.{refl}
-use Rattle.dspec_machine.specs.Worlds.{world_view}
-use Rattle.dspec_machine.proofs.PromiseKept.{promise_kept}
+use Rattle.dspec_core.specs.Worlds.{world_view}
+use Rattle.dspec_core.proofs.PromiseKept.{promise_kept}
 use Rattle.dspec_core.proofs.world.World.begin_cpu.Goals as goal
 
 pub returns-then-cpu-self-clause-promised : goal.returns-then-cpu-self-clause-promised

@@ -1,5 +1,5 @@
 -- What is promised, from coherence.
-use Rattle.dspec_machine.proofs.PromiseKept.{promise_kept}
+use Rattle.dspec_core.proofs.PromiseKept.{promise_kept}
 use Rattle.dspec_core.proofs.world.World.deeds.Goals as goal
 
 pub returns-clause-promised : goal.returns-clause-promised

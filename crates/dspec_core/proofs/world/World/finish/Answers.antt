@@ -9,7 +9,7 @@ use Rattle.dspec_deeds.specs.Closes.{reports, streams, closing}
 use Rattle.dspec_interleaving.specs.Coherent.{PlayState, progress_of}
 use Rattle.dspec_deeds.specs.Headline.{Headline}
 use Rattle.dspec_deeds.specs.Legal.{IsLegal}
-use Rattle.dspec_machine.specs.Machines.{history, state_of}
+use Rattle.dspec_core.specs.Machines.{history, state_of}
 use Rattle.dspec_deeds.proofs.Headlines.{headline}
 use Rattle.dspec_interleaving.proofs.SessionCloses.{closes_legally, idle_closes, told_in_order}
 use Rattle.dspec_core.proofs.world.World.finish.Goals as goal

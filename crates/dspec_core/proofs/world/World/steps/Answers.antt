@@ -6,9 +6,9 @@ use Rattle.dspec_interleaving.specs.declared.flight.CpuProgress.{CpuProgress}
 use Rattle.dspec_interleaving.specs.Bounds.{steps_limit}
 use Rattle.dspec_interleaving.specs.Calls.{is_actor}
 use Rattle.dspec_interleaving.specs.Coherent.{PlayState}
-use Rattle.dspec_machine.specs.Machines.{state_of}
-use Rattle.dspec_machine.proofs.MachineReads.{cpu_got}
-use Rattle.dspec_machine.proofs.OneMore.{progress_there}
+use Rattle.dspec_core.specs.Machines.{state_of}
+use Rattle.dspec_core.proofs.MachineReads.{cpu_got}
+use Rattle.dspec_core.proofs.OneMore.{progress_there}
 use Rattle.dspec_interleaving.proofs.StepCounts.{is_below, steps_below}
 use Rattle.dspec_core.proofs.world.World.steps.Goals as goal
 

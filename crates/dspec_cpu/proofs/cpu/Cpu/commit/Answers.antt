@@ -14,4 +14,4 @@ returns-clause-does g c =
     let after = c.commit.new.self in
     let done = c.commit.ensures in
     subst (λ (x : Cpu g.row.S.Denot). DecidesOne has commit c.args.id c.commit.result x after) c.self.view_is
-    (commits_one has before after done.same.number c.args.id c.commit.result done.keeps done.decides)
+    (commits_one has before after done.same.number c.args.id c.commit.result done.leaves done.decides)

@@ -14,4 +14,4 @@ returns-clause-does g c =
     let after = c.discard.new.self in
     let done = c.discard.ensures in
     subst (λ (x : Cpu g.row.S.Denot). DecidesOne has discard c.args.id c.discard.result x after) c.self.view_is
-    (discards_one has before after done.same.number c.args.id c.discard.result done.keeps done.decides)
+    (discards_one has before after done.same.number c.args.id c.discard.result done.leaves done.decides)

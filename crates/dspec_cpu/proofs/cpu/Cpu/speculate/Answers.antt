@@ -13,4 +13,4 @@ returns-clause-does g c =
     let after = c.speculate.new.self in
     let done = c.speculate.ensures in
     subst (λ (x : Cpu g.row.S.Denot). SpeculatesOne has c.args.id c.args.rec.now c.speculate.result x after) c.self.view_is
-    (speculates_one has before after done.same.number c.args.id c.args.rec.now c.speculate.result done.keeps done.did done.list)
+    (speculates_one has before after done.same.number c.args.id c.args.rec.now c.speculate.result done.leaves done.did done.list)

@@ -13,4 +13,4 @@ returns-clause-does g c =
     let after = c.speculation.new.self in
     let done = c.speculation.ensures in
     subst (λ (x : Cpu g.row.S.Denot). OpensOne has c.speculation.result x after) c.self.view_is
-    (opens_one has before after done.same.number c.speculation.result done.keeps done.opens)
+    (opens_one has before after done.same.number c.speculation.result done.leaves done.opens)

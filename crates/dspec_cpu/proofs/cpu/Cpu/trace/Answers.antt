@@ -13,4 +13,4 @@ returns-clause-does g c =
     let after = c.trace_rec.new.self in
     let done = c.trace_rec.ensures in
     subst (λ (x : Cpu g.row.S.Denot). TracesOne has c.args.rec.now c.trace_rec.result x after) c.self.view_is
-    (traces_one has before after done.same.number c.args.rec.now c.trace_rec.result done.keeps done.did done.list)
+    (traces_one has before after done.same.number c.args.rec.now c.trace_rec.result done.leaves done.did done.list)

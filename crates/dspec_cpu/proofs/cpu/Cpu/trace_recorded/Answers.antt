@@ -13,4 +13,4 @@ returns-clause-does g c =
     let after = c.trace.new.self in
     let done = c.trace.ensures in
     subst (λ (x : Cpu g.row.S.Denot). TracesOne has (g.R.Recorded.as_record c.args.rec) c.trace.result x after) c.self.view_is
-    (traces_one has before after done.same.number _ c.trace.result done.keeps done.did done.list)
+    (traces_one has before after done.same.number _ c.trace.result done.leaves done.did done.list)

@@ -19,7 +19,7 @@ use Rattle.dspec_cpu.proofs.Decisions.{commits_now, fate_count, worn_shown}
 use Rattle.dspec_cpu.proofs.Decided.{five_steps, reached_here, undecided}
 use Rattle.dspec_cpu.proofs.Commits.{left, left_open, released}
 use Rattle.dspec_cpu.proofs.Discards.{thrown}
-use Rattle.dspec_cpu.proofs.Keeps.{worn_keeps, reached_keeps, released_keeps, copied_keeps}
+use Rattle.dspec_cpu.proofs.Leaves.{worn_leaves, reached_leaves, released_leaves, copied_leaves}
 use Rattle.dspec_cpu.proofs.parts.CpuParts.decide.Goals as goal
 
 pub returns-then-self-clause-decides : goal.returns-then-self-clause-decides
@@ -31,8 +31,8 @@ returns-then-self-clause-decides g c = record {
       { own = had.own; shown = worn_shown _ _ _ c.args.self.now p had.shown _ c.wear.new.self c.wear.ensures };
 }
 
-pub returns-then-self-clause-keeps : goal.returns-then-self-clause-keeps
-returns-then-self-clause-keeps g c = worn_keeps c.args.self.now 5 c.wear.new.self c.if-self.true c.wear.ensures
+pub returns-then-self-clause-leaves : goal.returns-then-self-clause-leaves
+returns-then-self-clause-leaves g c = worn_leaves c.args.self.now 5 c.wear.new.self c.if-self.true c.wear.ensures
 
 pub go_on-reached-requires-clause-mine : goal.go_on-reached-requires-clause-mine
 go_on-reached-requires-clause-mine g c = λ within.
@@ -71,7 +71,7 @@ returns-in-Stopped g c =
     record {
       ready = ended.ready;
       same = record { schema = refl; config = refl; number = refl; pair = refl };
-      keeps = reached_keeps cpu c.if-self.false seat side.new.self _ side.ensures.rest refl refl reach.Stopped 5 got (five_steps c.args.commits id) refl;
+      leaves = reached_leaves cpu c.if-self.false seat side.new.self _ side.ensures.rest refl refl reach.Stopped 5 got (five_steps c.args.commits id) refl;
       decides = ended.decides;
     }
 
@@ -92,7 +92,7 @@ returns-in-Void g c =
     record {
       ready = ended.ready;
       same = record { schema = refl; config = refl; number = refl; pair = refl };
-      keeps = reached_keeps cpu c.if-self.false seat side.new.self _ side.ensures.rest refl refl reach.Void 5 got (five_steps c.args.commits id) refl;
+      leaves = reached_leaves cpu c.if-self.false seat side.new.self _ side.ensures.rest refl refl reach.Void 5 got (five_steps c.args.commits id) refl;
       decides = ended.decides;
     }
 
@@ -144,7 +144,7 @@ returns-then-not-commits g c =
     record {
       ready = ended.ready;
       same = record { schema = refl; config = refl; number = refl; pair = refl };
-      keeps = reached_keeps cpu c.if-self.false seat side.new.self _ side.ensures.rest refl refl (reach.Done to) 5 got refl refl;
+      leaves = reached_leaves cpu c.if-self.false seat side.new.self _ side.ensures.rest refl refl (reach.Done to) 5 got refl refl;
       decides = ended.decides;
     }
 
@@ -188,8 +188,8 @@ returns-in_default g c =
     record {
       ready = ended.ready;
       same = record { schema = refl; config = refl; number = refl; pair = refl };
-      keeps = copied_keeps answer.result fit n 5 cpu _ answer.ensures
-          (reached_keeps cpu c.if-self.false seat side.new.self _ side.ensures.rest refl refl (reach.Done to) 5 got refl refl);
+      leaves = copied_leaves answer.result fit n 5 cpu _ answer.ensures
+          (reached_leaves cpu c.if-self.false seat side.new.self _ side.ensures.rest refl refl (reach.Done to) 5 got refl refl);
       decides = ended.decides;
     }
 
@@ -216,8 +216,8 @@ returns-in-Committing g c =
     record {
       ready = ended.ready;
       same = record { schema = refl; config = refl; number = refl; pair = refl };
-      keeps = copied_keeps answer.result fit n 5 cpu _ answer.ensures
-          (released_keeps cpu c.if-self.false c.release_word.new.self side.new.self _ side.ensures.rest refl refl to (known seat) c.slot.result 5 got
+      leaves = copied_leaves answer.result fit n 5 cpu _ answer.ensures
+          (released_leaves cpu c.if-self.false c.release_word.new.self side.new.self _ side.ensures.rest refl refl to (known seat) c.slot.result 5 got
           (sym c.code.ensures ∙ c.in-Committing.is) c.release_word.ensures.step refl refl c.slot.ensures.value);
       decides = ended.decides;
     }

@@ -8,7 +8,8 @@ use Rattle.dspec_table.specs.Seats.{known}
 use Rattle.dspec_cpu.specs.Calls.{Goes}
 use Rattle.dspec_cpu.specs.declared.reaching.Reach.TheVariants as reach
 use Rattle.dspec_cpu.specs.Reached.{Stands, Reached}
-use Rattle.dspec_cpu.proofs.Reaches.{slot_inside, unstopped, is_running}
+use Rattle.dspec_cpu.proofs.ReachDeeds.{unstopped}
+use Rattle.dspec_cpu.proofs.Reaches.{slot_inside, is_running}
 use Rattle.dspec_deeds.proofs.TestLemmas.{number_is_itself}
 use Rattle.dspec_cpu.specs.Lists.{words_of}
 use Rattle.dspec_cpu.proofs.Limits.{limits}
@@ -17,7 +18,7 @@ use Rattle.dspec_cpu.proofs.Shown.{shows, shown_behind}
 use Rattle.dspec_cpu.proofs.Speculates.{asked, grants, grant_deeds, caller_of, own_mark, granted_shown}
 use Rattle.dspec_cpu.specs.Keeping.{CallLeaves}
 use Rattle.dspec_cpu.specs.Touching.{of_slot}
-use Rattle.dspec_cpu.proofs.Keeps.{reached_keeps}
+use Rattle.dspec_cpu.proofs.Leaves.{reached_leaves}
 use Rattle.dspec_cpu_state.specs.declared.counts.Counts.{Counts}
 use Rattle.dspec_cpu.proofs.parts.CpuParts.offer.Goals as goal
 
@@ -294,32 +295,32 @@ returns-else-not-kept-clause-did g c =
     let deeds = grant_deeds cpu.cpu (asked id r fit mine) id r c.go_on-reached.result true grant fit_is in
     subst (λ ds. Goes (known cpu.seat) ds w) deeds got.goes
 
-pub returns-in-Stopped-clause-keeps : goal.returns-in-Stopped-clause-keeps
-returns-in-Stopped-clause-keeps g c =
-    reached_keeps c.args.self.now c.requires.calls c.go_on-reached.new.seat c.speculate_nowhere.new.self _ c.speculate_nowhere.ensures.rest refl refl reach.Stopped 4 c.in-Stopped.ensures.reached refl
+pub returns-in-Stopped-clause-leaves : goal.returns-in-Stopped-clause-leaves
+returns-in-Stopped-clause-leaves g c =
+    reached_leaves c.args.self.now c.requires.calls c.go_on-reached.new.seat c.speculate_nowhere.new.self _ c.speculate_nowhere.ensures.rest refl refl reach.Stopped 4 c.in-Stopped.ensures.reached refl
     c.requires.ready.config
 
-pub returns-in-Void-clause-keeps : goal.returns-in-Void-clause-keeps
-returns-in-Void-clause-keeps g c =
-    reached_keeps c.args.self.now c.requires.calls c.go_on-reached.new.seat c.speculate_nowhere-in-Void.new.self _ c.speculate_nowhere-in-Void.ensures.rest refl refl reach.Void 4
+pub returns-in-Void-clause-leaves : goal.returns-in-Void-clause-leaves
+returns-in-Void-clause-leaves g c =
+    reached_leaves c.args.self.now c.requires.calls c.go_on-reached.new.seat c.speculate_nowhere-in-Void.new.self _ c.speculate_nowhere-in-Void.ensures.rest refl refl reach.Void 4
     c.in-Void.ensures.reached refl c.requires.ready.config
 
-pub returns-then-not-kept-clause-keeps : goal.returns-then-not-kept-clause-keeps
-returns-then-not-kept-clause-keeps g c =
+pub returns-then-not-kept-clause-leaves : goal.returns-then-not-kept-clause-leaves
+returns-then-not-kept-clause-leaves g c =
     let cpu = c.args.self.now in
     let r = c.go_on-reached.result in
     let seat = c.go_on-reached.new.seat in
     let side = c.grant-kept.new.self in
     subst (λ b. CallLeaves false b 4 (of_slot cpu.config c.args.id) cpu (record cpu { seat = seat; side = side })) (unstopped r (is_running r (grants r c.in-Granted.is)))
-    (reached_keeps cpu c.requires.calls seat side _ c.grant-kept.ensures.rest refl (ap (λ (x : Counts). x.worn) c.grant-kept.ensures.counts) r 4 c.go_on-reached.ensures.reached refl
+    (reached_leaves cpu c.requires.calls seat side _ c.grant-kept.ensures.rest refl (ap (λ (x : Counts). x.worn) c.grant-kept.ensures.counts) r 4 c.go_on-reached.ensures.reached refl
     c.requires.ready.config)
 
-pub returns-else-not-kept-clause-keeps : goal.returns-else-not-kept-clause-keeps
-returns-else-not-kept-clause-keeps g c =
+pub returns-else-not-kept-clause-leaves : goal.returns-else-not-kept-clause-leaves
+returns-else-not-kept-clause-leaves g c =
     let cpu = c.args.self.now in
     let r = c.go_on-reached.result in
     let seat = c.go_on-reached.new.seat in
     let side = c.grant-kept.new.self in
     subst (λ b. CallLeaves false b 4 (of_slot cpu.config c.args.id) cpu (record cpu { seat = seat; side = side })) (unstopped r (is_running r (grants r c.in-Granted.is)))
-    (reached_keeps cpu c.requires.calls seat side _ c.grant-kept.ensures.rest refl (ap (λ (x : Counts). x.worn) c.grant-kept.ensures.counts) r 4 c.go_on-reached.ensures.reached refl
+    (reached_leaves cpu c.requires.calls seat side _ c.grant-kept.ensures.rest refl (ap (λ (x : Counts). x.worn) c.grant-kept.ensures.counts) r 4 c.go_on-reached.ensures.reached refl
     c.requires.ready.config)

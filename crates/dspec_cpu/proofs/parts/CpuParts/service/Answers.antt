@@ -29,7 +29,7 @@ returns-clause-bounded g c =
 pub returns-clause-moves : goal.returns-clause-moves
 returns-clause-moves g c =
     let first = c.switch-sealed.ensures.moves in
-    let same = ap (λ (e : CpuKnows). e.moves) c.settle_slots-settled.ensures.keeps.end in
+    let same = ap (λ (e : CpuKnows). e.moves) c.settle_slots-settled.ensures.leaves.end in
     omega arith
 
 pub returns-clause-serves : goal.returns-clause-serves
@@ -38,7 +38,7 @@ returns-clause-serves g c =
     let new = c.settle_slots-settled.new.self in
     let same = c.switch-sealed.ensures.same in
     let settled = c.settle_slots-settled.ensures.settled in
-    let keeps = c.settle_slots-settled.ensures.keeps in
+    let leaves = c.settle_slots-settled.ensures.leaves in
     record {
       between = known mid.seat;
       passed = buffers_of mid;
@@ -47,7 +47,7 @@ returns-clause-serves g c =
       slots = subst (λ (x : ℕ × Config). SettledSlots x.0 (known mid.seat) x.1.nspec settled.settles (known new.seat)) (λ i. (same.number i, same.config i)) settled.slots;
       goes = settled.goes;
       number = settled.number;
-      leaves = record { end = keeps.end; held_back = keeps.held_back; spare = keeps.spare; seals = keeps.seals };
+      leaves = record { end = leaves.end; held_back = leaves.held_back; spare = leaves.spare; seals = leaves.seals };
       list = λ p had. settled.list _ (c.switch-sealed.ensures.list p had);
     }
 

@@ -30,7 +30,7 @@ returns-in_default g c =
       ready = loaded_ready _ _ _ c.args.words.now c.args.self.now c.requires.ready c.args.slot c.requires.slot.0 c.requires.slot.1 c.load_word-word.new.self
           c.load_word-word.result c.serve.result c.serve.ensures c.load_word-word.ensures.step c.load_word-word.ensures.seat;
       same = (record { schema = refl; config = refl; number = refl; pair = refl }, refl);
-      keeps = record { end = refl; spare = refl; held_back = refl; seals = refl };
+      leaves = record { end = refl; spare = refl; held_back = refl; seals = refl };
       settled = passed _ _ _ c.args.words.now c.args.self.now c.requires.ready c.args.slot c.requires.slot.0 c.requires.slot.1 c.load_word-word.new.self
           c.load_word-word.result c.serve.result c.serve.ensures c.load_word-word.ensures.step c.index.result.now c.index.ensures none;
     }
@@ -42,7 +42,7 @@ returns-then-not-is_decided g c =
       ready = loaded_ready _ _ _ c.args.words.now c.args.self.now c.requires.ready c.args.slot c.requires.slot.0 c.requires.slot.1 c.load_word-word.new.self
           c.load_word-word.result c.serve.result c.serve.ensures c.load_word-word.ensures.step c.load_word-word.ensures.seat;
       same = (record { schema = refl; config = refl; number = refl; pair = refl }, refl);
-      keeps = record { end = refl; spare = refl; held_back = refl; seals = refl };
+      leaves = record { end = refl; spare = refl; held_back = refl; seals = refl };
       settled = passed_early _ _ _ c.args.words.now c.args.self.now c.requires.ready c.args.slot c.requires.slot.0 c.requires.slot.1 c.load_word-word.new.self
           c.load_word-word.result c.serve.result c.serve.ensures c.load_word-word.ensures.step none;
     }

@@ -14,7 +14,7 @@ loop-slot-init g c =
       from = omega arith;
       ready = c.requires.ready;
       same = (record { schema = refl; config = refl; number = refl; pair = refl }, refl);
-      keeps = record { end = refl; spare = refl; held_back = refl; seals = refl };
+      leaves = record { end = refl; spare = refl; held_back = refl; seals = refl };
       settled = none_settled cpu.cpu (λ p. HasList (g.S.Schema.shape_of cpu.schema) (g.S.Schema.accepted cpu.schema) (g.S.Schema.text cpu.schema) cpu p) (known cpu.seat);
     }
 
@@ -65,11 +65,11 @@ loop-slot-preserved g c =
         },
         now.same.1 ∙ was.same.1,
       );
-      keeps = record {
-        end = now.keeps.end ∙ was.keeps.end;
-        spare = now.keeps.spare ∙ was.keeps.spare;
-        held_back = now.keeps.held_back ∙ was.keeps.held_back;
-        seals = now.keeps.seals ∙ was.keeps.seals;
+      leaves = record {
+        end = now.leaves.end ∙ was.leaves.end;
+        spare = now.leaves.spare ∙ was.leaves.spare;
+        held_back = now.leaves.held_back ∙ was.leaves.held_back;
+        seals = now.leaves.seals ∙ was.leaves.seals;
       };
       settled = subst (λ (m : ℕ). Settled cpu.cpu m c.if-settle_slot.settled had (known cpu.seat) has (known new.seat)) there
           (subst (λ (n : ℕ). Settled cpu.cpu (c.loop-slot.slot - 1 + 1) n had (known cpu.seat) has (known new.seat)) (sym counted) more);

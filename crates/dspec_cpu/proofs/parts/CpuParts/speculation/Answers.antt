@@ -10,7 +10,7 @@ use Rattle.dspec_cpu.proofs.Openings.{bare_opening, opening_shown}
 use Rattle.dspec_cpu.proofs.Ready.{roomy, ready_after}
 use Rattle.dspec_cpu.proofs.Scans.{idle_again, none_flies}
 use Rattle.dspec_cpu_state.specs.declared.counts.Counts.{Counts}
-use Rattle.dspec_cpu.proofs.Keeps.{worn_keeps, scanned_keeps}
+use Rattle.dspec_cpu.proofs.Leaves.{worn_leaves, scanned_leaves}
 use Rattle.dspec_cpu.proofs.parts.CpuParts.speculation.Goals as goal
 
 pub returns-then-self-clause-opens : goal.returns-then-self-clause-opens
@@ -55,12 +55,12 @@ returns-clause-ready g c =
     (none_flies cpu.config cpu.cpu (known cpu.seat).flight got.missed a some got.answer got.unworn) ready.steady.spare ready.steady.few
     (opening_deeds cpu.cpu got.missed a ++ ready.steady.list) ((returns-clause-opens g c).list ready.steady.list ready.steady.listed)
 
-pub returns-then-self-clause-keeps : goal.returns-then-self-clause-keeps
-returns-then-self-clause-keeps g c = worn_keeps c.args.self.now _ c.wear.new.self c.if-self.true c.wear.ensures
+pub returns-then-self-clause-leaves : goal.returns-then-self-clause-leaves
+returns-then-self-clause-leaves g c = worn_leaves c.args.self.now _ c.wear.new.self c.if-self.true c.wear.ensures
 
-pub returns-clause-keeps : goal.returns-clause-keeps
-returns-clause-keeps g c =
+pub returns-clause-leaves : goal.returns-clause-leaves
+returns-clause-leaves g c =
     let cpu = c.args.self.now in
     let side = record cpu.side { calls = cpu.side.calls + 1; missed_busy = c.scan_slots-answer.result.1; counts = c.open.new.self } in
-    scanned_keeps cpu c.if-self.false c.scan_slots-answer.new.seat side side refl refl (ap (λ (x : Counts). x.worn) c.open.ensures) c.scan_slots-answer.result.0 cpu.config.nspec
+    scanned_leaves cpu c.if-self.false c.scan_slots-answer.new.seat side side refl refl (ap (λ (x : Counts). x.worn) c.open.ensures) c.scan_slots-answer.result.0 cpu.config.nspec
     c.scan_slots-answer.ensures.scanned (ap (λ (k : Config). k.nspec) c.requires.ready.config)

@@ -14,7 +14,7 @@ use Rattle.dspec_cpu.proofs.Limits.{limits}
 use Rattle.dspec_cpu.proofs.Ready.{roomy, few_drops, ready_after, set_up_is, holder}
 use Rattle.dspec_cpu.proofs.Shown.{shows, shown_behind}
 use Rattle.dspec_cpu.proofs.Traces.{traces, asked}
-use Rattle.dspec_cpu.proofs.Keeps.{worn_keeps, loaded_keeps}
+use Rattle.dspec_cpu.proofs.Leaves.{worn_leaves, loaded_leaves}
 use Rattle.dspec_cpu.proofs.parts.CpuParts.trace.Goals as goal
 
 pub returns-then-self-clause-did : goal.returns-then-self-clause-did
@@ -192,32 +192,32 @@ returns-clause-ready g c =
     did.stands ready.steady.idle refl
     ready.steady.spare ready.steady.few (Trace cpu.cpu (g.R.Recorded.as_record c.args.rec) traced.Kept ∷ ready.steady.list) (returns-clause-list g c ready.steady.list ready.steady.listed)
 
-pub returns-then-self-clause-keeps : goal.returns-then-self-clause-keeps
-returns-then-self-clause-keeps g c = worn_keeps c.args.self.now 1 c.wear.new.self c.if-self.true c.wear.ensures
+pub returns-then-self-clause-leaves : goal.returns-then-self-clause-leaves
+returns-then-self-clause-leaves g c = worn_leaves c.args.self.now 1 c.wear.new.self c.if-self.true c.wear.ensures
 
-pub returns-then-not-runs-clause-keeps : goal.returns-then-not-runs-clause-keeps
-returns-then-not-runs-clause-keeps g c =
+pub returns-then-not-runs-clause-leaves : goal.returns-then-not-runs-clause-leaves
+returns-then-not-runs-clause-leaves g c =
     let cpu = c.args.self.now in
     let doing = asked (g.R.Recorded.as_record c.args.rec) c.fits-fits.result in
     let seat = c.load_activity-runs.new.self in
     let step = subst (λ (x : Record × Bool). LoadedActivity (asked x.0 c.fits-fits.result) (known cpu.seat) (not x.1) (known seat))
     (λ i. (c.to_rec-copied.ensures i, c.if-not-runs.true i)) c.load_activity-runs.ensures.step in
-    loaded_keeps cpu c.if-self.false seat c.trace_stopped.new.self _ c.trace_stopped.ensures.rest refl refl doing true step
+    loaded_leaves cpu c.if-self.false seat c.trace_stopped.new.self _ c.trace_stopped.ensures.rest refl refl doing true step
 
-pub returns-then-not-trace-clause-keeps : goal.returns-then-not-trace-clause-keeps
-returns-then-not-trace-clause-keeps g c =
+pub returns-then-not-trace-clause-leaves : goal.returns-then-not-trace-clause-leaves
+returns-then-not-trace-clause-leaves g c =
     let cpu = c.args.self.now in
     let doing = asked (g.R.Recorded.as_record c.args.rec) c.fits-fits.result in
     let seat = c.load_activity-runs.new.self in
     let step = subst (λ (x : Record × Bool). LoadedActivity (asked x.0 c.fits-fits.result) (known cpu.seat) (not x.1) (known seat))
     (λ i. (c.to_rec-copied.ensures i, c.if-not-runs.false i)) c.load_activity-runs.ensures.step in
-    loaded_keeps cpu c.if-self.false seat c.trace.new.self _ c.trace.ensures.rest refl (ap (λ (x : Counts). x.worn) c.trace.ensures.counts) doing false step
+    loaded_leaves cpu c.if-self.false seat c.trace.new.self _ c.trace.ensures.rest refl (ap (λ (x : Counts). x.worn) c.trace.ensures.counts) doing false step
 
-pub returns-clause-keeps : goal.returns-clause-keeps
-returns-clause-keeps g c =
+pub returns-clause-leaves : goal.returns-clause-leaves
+returns-clause-leaves g c =
     let cpu = c.args.self.now in
     let doing = asked (g.R.Recorded.as_record c.args.rec) c.fits-fits.result in
     let seat = c.load_activity-runs.new.self in
     let step = subst (λ (x : Record × Bool). LoadedActivity (asked x.0 c.fits-fits.result) (known cpu.seat) (not x.1) (known seat))
     (λ i. (c.to_rec-copied.ensures i, c.if-not-runs.false i)) c.load_activity-runs.ensures.step in
-    loaded_keeps cpu c.if-self.false seat c.trace.new.self _ c.trace.ensures.rest refl (ap (λ (x : Counts). x.worn) c.trace.ensures.counts) doing false step
+    loaded_leaves cpu c.if-self.false seat c.trace.new.self _ c.trace.ensures.rest refl (ap (λ (x : Counts). x.worn) c.trace.ensures.counts) doing false step

@@ -1,0 +1,12 @@
+-- Cited by calls. What the system's clock counts.
+use Rattle.std.specs.Prelude.{ℕ, ◌-◌, ◌^◌, min}
+use Rattle.std.specs.Time.{instant_nanos}
+use Rattle.dspec.specs.declared.system.SystemClock.{SystemClock}
+
+-- the reading at which it started, in nanoseconds
+abbrev pub start_of : {R : Type 0} → SystemClock R → ℕ
+start_of c = instant_nanos c.start
+
+-- nanoseconds from a start to a reading, as many as a stamp can say
+abbrev pub count_at : ℕ → ℕ → ℕ
+count_at start reading = min (reading - start) (2 ^ 64 - 1)

@@ -1,0 +1,42 @@
+ghost use Rattle.std.specs.Prelude.{◌≡◌, ◌≤◌, ℕ};
+ghost use Rattle.std.specs.Time.{instant_nanos};
+ghost use Rattle.dspec.specs.Counts.{count_at, start_of};
+
+use crate::clock::Clock;
+use std::time::Instant;
+use std::{io, time};
+
+/// Counts nanoseconds from its start on, up to `u64::MAX`, which is some 584 years. It never falls, on whichever threads it is read,
+/// as far as the system's own clock never goes back: that is a monotonic one.
+#[derive(Drop)]
+pub struct SystemClock<'a, R = HostRuntime> {
+    rt: &'a R,
+    start: Instant,
+}
+
+impl<'a, R: time::Clock> SystemClock<'a, R> {
+    /// A clock that starts now. It fails where the system's clock can't be read.
+    pub fn start(rt: &'a R) -> io::Result<SystemClock<'a, R>> {
+        let start = Instant::now(rt)?;
+        Ok(SystemClock { rt, start })
+    }
+
+    /// What it counts at a reading of the same system's clock: 0 at one from before its start.
+    pub fn count(&self, reading: Instant) -> u64
+        ensures counts { result ≡ count_at (start_of self.now) (instant_nanos reading) }
+        ensures never_falls { (earlier : ℕ) → earlier ≤ instant_nanos reading → count_at (start_of self.now) earlier ≤ result }
+    {
+        let nanos = reading.duration_since(self.start).as_nanos();
+        u64::try_from(nanos).unwrap_or(u64::MAX)
+    }
+}
+
+impl<'a, R: time::Clock> Clock for SystemClock<'a, R> {
+    /// What it counts now; 0 where the system's clock can't be read any more.
+    fn stamp(&self) -> u64 {
+        match Instant::now(self.rt) {
+            Ok(reading) => self.count(reading),
+            Err(_) => 0,
+        }
+    }
+}

@@ -1,0 +1,71 @@
+-- What a commit or a discard leaves of a CPU, said of both as one.
+use Rattle.std.proofs.Common.{◌≡◌, ℕ, ◌-◌, Bool, true, false, ◌||◌, List, ◌∷◌, ◌++◌, [], reverse, set, if◌then◌else◌, Option, refl, true≢false}
+use Rattle.dspec_record.specs.declared.field.Shape.{Shape}
+use Rattle.dspec_word.specs.SpecId.{Speculation}
+use Rattle.dspec_word.specs.Word.{SlotState}
+use Rattle.dspec_deeds.specs.declared.config.Config.{Config}
+use Rattle.dspec_deeds.specs.declared.deed.DecideFate.{DecideFate}
+use Rattle.dspec_deeds.specs.declared.deed.DecideFate.TheVariants as decided
+use Rattle.dspec_deeds.specs.declared.deed.Deed.{Deed}
+use Rattle.dspec_deeds.specs.declared.deed.Deed.TheVariants as deed
+use Rattle.dspec_deeds.specs.FateKinds.{is_commit, is_copied, is_discard}
+use Rattle.dspec_deeds.specs.History.{is_open, word_at}
+use Rattle.dspec_deeds.specs.Legal.{IsSound, CpuLegal}
+use Rattle.dspec_deeds.specs.Own.{contents, held, seals_now, stream}
+use Rattle.dspec_deeds.proofs.WordChanges.{commit_open, discard_open}
+use Rattle.dspec_interleaving.specs.Coherent.{IsSlot}
+use Rattle.dspec_core.specs.declared.machine.decision.Decision.{Decision}
+use Rattle.dspec_core.specs.declared.machine.decision.Decision.TheVariants.{Commit, Discard}
+use Rattle.dspec_core.specs.Decisions.{decides, deed_of}
+use Rattle.dspec_core.specs.Shown.{ShowsWords}
+use Rattle.dspec_core.proofs.OwnSlots.{stream_commits, stream_discards}
+use Rattle.dspec_core.proofs.WordsShown.{words_set}
+
+module _ (k : Config) (c : ℕ) (id : Speculation) (f : DecideFate) (h : List Deed) where
+  -- what is decided was open
+  pub decided_open : (x : Decision) → decides x f ≡ true → IsSound k (deed_of x c id f ∷ h) → is_open id h ≡ true
+  decided_open Commit e sound = commit_open k c id f h sound e
+  decided_open Discard e sound = discard_open k c id f h sound e
+
+  -- the words
+  pub decided_words : (x : Decision) (words : List SlotState) (w : SlotState) → IsSlot k id.slot → w ≡ word_at id.slot (deed_of x c id f ∷ h) → ShowsWords k h words
+      → ShowsWords k (deed_of x c id f ∷ h) (set words (id.slot - 1) w)
+  decided_words Commit words w slot is was = words_set k (deed.Commit c id f) h words w slot.0 slot.1 is was
+  decided_words Discard words w slot is was = words_set k (deed.Discard c id f) h words w slot.0 slot.1 is was
+
+  -- the stream
+  pub decided_stream : (x : Decision) → decides x f ≡ true → stream c h ++ (if is_copied f then reverse (contents (held c id h)) else []) ≡ stream c (deed_of x c id f ∷ h)
+  decided_stream Commit e = stream_commits c id f h
+  decided_stream Discard e = stream_discards c id f h e
+
+  -- it is no Seal
+  pub decided_unsealed : (x : Decision) → seals_now c (deed_of x c id f) ≡ false
+  decided_unsealed Commit = refl
+  decided_unsealed Discard = refl
+
+  -- what is said of either deed, where it decides
+  pub decided_either : (shape : ℕ → Option Shape) (P : Deed → Type 0) (x : Decision) → decides x f ≡ true → CpuLegal shape k h (deed_of x c id f)
+      → (is_commit f ≡ true → CpuLegal shape k h (deed.Commit c id f) → P (deed.Commit c id f)) → (is_discard f ≡ true → CpuLegal shape k h (deed.Discard c id f) → P (deed.Discard c id f))
+      → P (deed_of x c id f)
+  decided_either shape P Commit e row commits discards = commits e row
+  decided_either shape P Discard e row commits discards = discards e row
+
+  -- and where it decides nothing
+  pub undecided_either : (P : Deed → Type 0) (x : Decision) → P (deed.Commit c id f) → P (deed.Discard c id f) → P (deed_of x c id f)
+  undecided_either P Commit commits discards = commits
+  undecided_either P Discard commits discards = discards
+
+  pub undecided_stream : (x : Decision) → decides x f ≡ false → stream c h ≡ stream c (deed_of x c id f ∷ h)
+  undecided_stream Commit e = go f e
+    where
+      go : (f : DecideFate) → is_commit f ≡ false → stream c h ≡ stream c (deed.Commit c id f ∷ h)
+      go (decided.Copied n) e = absurd (true≢false e)
+      go f e = refl
+  undecided_stream Discard e = refl
+
+  undecided_is : (a b : Bool) → a ≡ false → b ≡ false → (a || b) ≡ false
+  undecided_is a b e g = rw (e, g) refl
+
+  pub nothing_decided : (x : Decision) → decides x f ≡ false → IsSound k (deed_of x c id f ∷ h) → (is_commit f || is_discard f) ≡ false
+  nothing_decided Commit e sound = undecided_is (is_commit f) (is_discard f) e sound.1.1.1
+  nothing_decided Discard e sound = undecided_is (is_commit f) (is_discard f) sound.1.1.1 e

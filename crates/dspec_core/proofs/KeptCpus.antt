@@ -1,0 +1,218 @@
+-- What is kept of a CPU shows the list after a deed: the CPU's own, another's, or a release by whomever.
+use Rattle.std.proofs.Common.{[], ◌≡◌, ℕ, ◌+◌, ◌<◌, ◌≤◌, ◌^◌, true, false, ⊎_elim, List, ◌∷◌, length, reverse, take, refl, sym, ap, ◌∙◌, subst, arith, add-zero}
+use Rattle.std.specs.Prelude.{nat_lt}
+use Rattle.std.proofs.lemmas.Bool.Decides.{nat_tests}
+use Rattle.std.proofs.lemmas.List.{reverse-append, length-reverse, take-append-le}
+use Rattle.dspec_record.specs.Record.{Record}
+use Rattle.dspec_buffer.specs.Extent.{Piece}
+use Rattle.dspec_word.specs.SpecId.{Speculation}
+use Rattle.dspec_deeds.specs.declared.config.Config.{Config}
+use Rattle.dspec_deeds.specs.declared.calls.Actor.TheVariants.{Cpu as CpuActor}
+use Rattle.dspec_deeds.specs.declared.deed.Deed.{Deed}
+use Rattle.dspec_deeds.specs.declared.deed.Deed.TheVariants.{Opened, Release, Seal}
+use Rattle.dspec_deeds.specs.declared.report.Report.{Report}
+use Rattle.dspec_deeds.specs.History.{author, part, same_actor}
+use Rattle.dspec_deeds.specs.Own.{active, batches, batch_records, contents, growing, seals, seals_now, stream}
+use Rattle.dspec_deeds.specs.CpuShown.{OwnState, ShowsOwnState, own_side}
+use Rattle.dspec_deeds.specs.Owning.{ReadsApart}
+use Rattle.dspec_deeds.proofs.OwnReads.{apart_other, reads}
+use Rattle.dspec_deeds.proofs.OwnStates.{side_part}
+use Rattle.dspec_deeds.proofs.StayingOwn.{accepted_other, batches_other}
+use Rattle.dspec_deeds.proofs.TestLemmas.{either_way, number_is_itself}
+use Rattle.dspec_cpu_state.specs.declared.counts.Counts.{Counts}
+use Rattle.dspec_cpu_state.specs.declared.cpu_state.CpuState.{CpuState}
+use Rattle.dspec_cpu_state.specs.Counting.{counts_of, one_more_worn}
+use Rattle.dspec_cpu_state.specs.CpuStates.{IsFilledWith, ShowsList, parts_of_side}
+use Rattle.dspec_cpu_state.proofs.Quiet.{quiet_shown}
+use Rattle.dspec_cpu_state.proofs.Tallies.{released_counts}
+use Rattle.dspec_interleaving.specs.declared.flight.CpuProgress.{CpuProgress}
+use Rattle.dspec_core.specs.declared.machine.cpu.Cpu.{Cpu}
+use Rattle.dspec_core.specs.Shown.{HasRecords, ShowsCpu, first_or_empty}
+use Rattle.dspec_core.proofs.Batches.{active_grows, batches_sealed}
+
+-- the counts of which a report tells
+abbrev told_counts : Report → Counts
+told_counts p = record {
+  offered = p.offered;
+  accepted = p.accepted;
+  dropped = p.dropped;
+  specdropped = p.specdropped;
+  lost = p.lost;
+  discarded = p.discarded;
+  void = p.void;
+  drops = p.drops;
+  unavailable = p.unavailable;
+  busy = p.busy;
+  stopped = p.stopped;
+  worn = p.worn;
+}
+
+counts_alike : (k : Config) (c w : ℕ) (g h : List Deed) → ReadsApart k c g h → counts_of k c w g ≡ counts_of k c w h
+counts_alike k c w g h e = ap told_counts (e.reporting w)
+
+-- the count of worn calls stays within 64 bits
+one_more_fits : (n : ℕ) → n < 2 ^ 64 → one_more_worn n < 2 ^ 64
+one_more_fits n lt = ⊎_elim
+    (λ (t : nat_lt (n + 1) (2 ^ 64) ≡ true). rw t (grind (arith, nat_tests)))
+    (λ (f : nat_lt (n + 1) (2 ^ 64) ≡ false). rw f lt)
+    (either_way (nat_lt (n + 1) (2 ^ 64)))
+
+-- a slot given out counts nothing
+opened_counts : (k : Config) (c w : ℕ) (a : ℕ) (id : Speculation) (p : List Deed) → counts_of k c w (Opened a id ∷ p) ≡ counts_of k c w p
+opened_counts k c w a id p = let n = counts_of k c w p in λ i. record n {
+  offered = add-zero n.offered i;
+  accepted = add-zero n.accepted i;
+  dropped = add-zero n.dropped i;
+  specdropped = add-zero n.specdropped i;
+  lost = add-zero n.lost i;
+  discarded = add-zero n.discarded i;
+  void = add-zero n.void i;
+  drops = add-zero n.drops i;
+  unavailable = add-zero n.unavailable i;
+  busy = add-zero n.busy i;
+  stopped = add-zero n.stopped i;
+}
+
+module _ {B : Type 0} (keeps : B → List Piece → Type 0) (capacity : B → ℕ) (k : Config) (c : ℕ) (side : CpuState B) where
+  -- it shows the CPU's own list where it shows the list of all
+  pub own_list : (h : List Deed) → ShowsList keeps capacity k c h side → ShowsList keeps capacity k c (part (CpuActor c) h) side
+  own_list h was = record {
+    parts = subst (λ (x : OwnState). ShowsOwnState (IsFilledWith keeps capacity) k x (parts_of_side side)) (sym (side_part c h)) was.parts;
+    counted = was.counted ∙ sym (counts_alike k c side.counts.worn (part (CpuActor c) h) h (reads k c h).apart);
+  }
+
+  -- another's deed
+  other_list : (d : Deed) (h : List Deed) → same_actor (CpuActor c) (author d h) ≡ false → ShowsList keeps capacity k c h side → ShowsList keeps capacity k c (d ∷ h) side
+  other_list d h other was =
+      let same : own_side c (d ∷ h) ≡ own_side c h = sym (side_part c (d ∷ h)) ∙ (rw other refl ∙ side_part c h) in
+      record {
+        parts = subst (λ (x : OwnState). ShowsOwnState (IsFilledWith keeps capacity) k x (parts_of_side side)) (sym same) was.parts;
+        counted = was.counted ∙ sym (counts_alike k c side.counts.worn (d ∷ h) h (apart_other k c d h other));
+      }
+
+module _ {S B : Type 0} (has : B → S → List Piece → Type 0) (capacity : B → ℕ) (schema : S) (k : Config) (c : ℕ) (h : List Deed) (own : Cpu B) (was : ShowsCpu has capacity schema k c h own) where
+  -- the CPU's own deed, but a Seal: its side shows it, and the stream is that of the longer list
+  pub own_deed : (d : Deed) (side : CpuState B) (rs : List Record) → seals_now c d ≡ false → ShowsList (λ b. has b schema) capacity k c (d ∷ h) side
+      → side.counts.worn ≡ own.side.counts.worn → rs ≡ stream c (d ∷ h) → ShowsCpu has capacity schema k c (d ∷ h) (record own { side = side; accepted = rs })
+  own_deed d side rs unsealed shows worn accepts =
+      let sealed : batches c (d ∷ h) ≡ batches c h = rw unsealed refl in
+      record {
+        side = shows;
+        worn = worn ∙ was.worn;
+        few_worn = was.few_worn;
+        second = subst (λ bs. HasRecords has capacity schema k.bufsize (contents (first_or_empty bs).offers) own.second) (sym sealed) was.second;
+        accepted = accepts;
+        took = was.took ∙ ap (λ bs. batch_records (take own.progress.takes (reverse bs))) (sym sealed);
+        sealed_drops = was.sealed_drops ∙ ap (λ bs. (first_or_empty bs).drops) (sym sealed);
+      }
+
+  -- the same where the stream came first
+  pub put_side : (mid : Cpu B) (rs : List Record) → mid ≡ record own { accepted = rs } → ShowsList (λ b. has b schema) capacity k c h mid.side
+  put_side mid rs is = subst (λ (x : CpuState B). ShowsList (λ b. has b schema) capacity k c h x) (sym (ap (λ (x : Cpu B). x.side) is)) was.side
+
+  pub put_deed : (d : Deed) (mid : Cpu B) (rs : List Record) (side : CpuState B) → mid ≡ record own { accepted = rs } → seals_now c d ≡ false → ShowsList (λ b. has b schema) capacity k c (d ∷ h) side
+      → side.counts.worn ≡ mid.side.counts.worn → rs ≡ stream c (d ∷ h) → ShowsCpu has capacity schema k c (d ∷ h) (record mid { side = side })
+  put_deed d mid rs side is unsealed shows worn accepts =
+      subst (λ (x : Cpu B). ShowsCpu has capacity schema k c (d ∷ h) (record x { side = side })) (sym is)
+      (own_deed d side rs unsealed shows (worn ∙ ap (λ (x : Cpu B). x.side.counts.worn) is) accepts)
+
+  -- another's deed
+  pub other_deed : (d : Deed) → same_actor (CpuActor c) (author d h) ≡ false → ShowsCpu has capacity schema k c (d ∷ h) own
+  other_deed d other = record {
+    side = other_list (λ b. has b schema) capacity k c own.side d h other was.side;
+    worn = was.worn;
+    few_worn = was.few_worn;
+    second = subst (λ bs. HasRecords has capacity schema k.bufsize (contents (first_or_empty bs).offers) own.second) (sym (batches_other c d h other)) was.second;
+    accepted = was.accepted ∙ ap (λ os. reverse (contents os)) (sym (accepted_other c d h other));
+    took = was.took ∙ ap (λ bs. batch_records (take own.progress.takes (reverse bs))) (sym (batches_other c d h other));
+    sealed_drops = was.sealed_drops ∙ ap (λ bs. (first_or_empty bs).drops) (sym (batches_other c d h other));
+  }
+
+  -- a slot given out
+  pub opening : (a : ℕ) (id : Speculation) → ShowsCpu has capacity schema k c (Opened a id ∷ h) own
+  opening a id = record {
+    side = quiet_shown (λ b. has b schema) capacity h was.side (Opened a id) refl own.side.calls own.side.missed_busy own.side.drops own.side.counts
+        (was.side.parts.called ∙ sym (add-zero _)) was.side.parts.missed (was.side.parts.drops ∙ sym (add-zero _)) (was.side.counted ∙ sym (opened_counts k c own.side.counts.worn a id h));
+    worn = was.worn;
+    few_worn = was.few_worn;
+    second = was.second;
+    accepted = was.accepted;
+    took = was.took;
+    sealed_drops = was.sealed_drops;
+  }
+
+  -- a slot released
+  pub releasing : (s : ℕ) → ShowsCpu has capacity schema k c (Release s ∷ h) own
+  releasing s = record {
+    side = quiet_shown (λ b. has b schema) capacity h was.side (Release s) refl own.side.calls own.side.missed_busy own.side.drops own.side.counts
+        (was.side.parts.called ∙ sym (add-zero _)) was.side.parts.missed (was.side.parts.drops ∙ sym (add-zero _)) (was.side.counted ∙ sym (released_counts k c own.side.counts.worn h s));
+    worn = was.worn;
+    few_worn = was.few_worn;
+    second = was.second;
+    accepted = was.accepted;
+    took = was.took;
+    sealed_drops = was.sealed_drops;
+  }
+
+  -- a batch sealed, of whose CPU no more were taken than were sealed before
+  pub sealing : (side : CpuState B) (b : B) (n : ℕ) → ShowsList (λ x. has x schema) capacity k c (Seal c ∷ h) side → side.counts.worn ≡ own.side.counts.worn → b ≡ own.side.active → n ≡ own.side.drops
+      → own.progress.takes ≤ seals c h → ShowsCpu has capacity schema k c (Seal c ∷ h) (record own { side = side; second = b; sealed_drops = n })
+  sealing side b n shows worn sealed drops takes = record {
+    side = shows;
+    worn = worn ∙ was.worn;
+    few_worn = was.few_worn;
+    second = subst (HasRecords has capacity schema k.bufsize (contents (first_or_empty (batches c (Seal c ∷ h))).offers)) (sym sealed)
+        (record { sized = was.side.parts.principal.sized; pieces = active c h; has_pieces = was.side.parts.principal.has; are = rw (number_is_itself c) (active_grows c h) });
+    accepted = was.accepted;
+    took = rw (number_is_itself c) (was.took ∙ ap batch_records (sym taken_before));
+    sealed_drops = rw (number_is_itself c) (drops ∙ was.side.parts.drops);
+  }
+    where
+      taken_before : take own.progress.takes (reverse (growing c h ∷ batches c h)) ≡ take own.progress.takes (reverse (batches c h))
+      taken_before =
+          let count = length-reverse (batches c h) ∙ batches_sealed c h in
+          let within : own.progress.takes ≤ length (reverse (batches c h)) = omega arith in
+          ap (take own.progress.takes) (reverse-append (growing c h ∷ []) (batches c h)) ∙ take-append-le own.progress.takes (reverse (batches c h)) (growing c h ∷ []) within
+
+  -- whatever its progress is next
+  pub calling : (me : CpuProgress) → me.takes ≡ own.progress.takes → me.worn ≡ own.progress.worn → ShowsCpu has capacity schema k c h (record own { progress = me })
+  calling me takes worn = record {
+    side = was.side;
+    worn = was.worn ∙ sym worn;
+    few_worn = subst (λ n. n < 2 ^ 64) (sym worn) was.few_worn;
+    second = was.second;
+    accepted = was.accepted;
+    took = was.took ∙ ap (λ n. batch_records (take n (reverse (batches c h)))) (sym takes);
+    sealed_drops = was.sealed_drops;
+  }
+
+  -- a batch more was taken
+  pub taking : (me : CpuProgress) (rs : List Record) → rs ≡ batch_records (take me.takes (reverse (batches c h))) → me.worn ≡ own.progress.worn
+      → ShowsCpu has capacity schema k c h (record own { progress = me; taken = rs })
+  taking me rs took worn = record {
+    side = was.side;
+    worn = was.worn ∙ sym worn;
+    few_worn = subst (λ n. n < 2 ^ 64) (sym worn) was.few_worn;
+    second = was.second;
+    accepted = was.accepted;
+    took = took;
+    sealed_drops = was.sealed_drops;
+  }
+
+  -- a call more was worn
+  pub wearing : (counts : Counts) (me : CpuProgress) → counts ≡ record own.side.counts { worn = one_more_worn own.side.counts.worn } → me.takes ≡ own.progress.takes → me.worn ≡ counts.worn
+      → ShowsCpu has capacity schema k c h (record own { progress = me; side = record own.side { counts = counts } })
+  wearing counts me is takes worn =
+      let n = one_more_worn own.side.counts.worn in
+      let told : counts.worn ≡ n = ap (λ (x : Counts). x.worn) is in
+      let before : own.side.counts.worn < 2 ^ 64 = subst (λ m. m < 2 ^ 64) (sym was.worn) was.few_worn in
+      let recounted : counts ≡ counts_of k c counts.worn h = is ∙ (ap (λ (x : Counts). record x { worn = n }) was.side.counted ∙ ap (λ m. counts_of k c m h) (sym told)) in
+      record {
+        side = record { parts = was.side.parts; counted = recounted };
+        worn = sym worn;
+        few_worn = subst (λ m. m < 2 ^ 64) (sym (worn ∙ told)) (one_more_fits own.side.counts.worn before);
+        second = was.second;
+        accepted = was.accepted;
+        took = was.took ∙ ap (λ m. batch_records (take m (reverse (batches c h)))) (sym takes);
+        sealed_drops = was.sealed_drops;
+      }

@@ -1,0 +1,43 @@
+-- What a read of a machine's parts shows.
+use Rattle.std.proofs.Common.{ℕ, ◌≡◌, ◌-◌, ◌<◌, ◌≤◌, true, List, [], ◌∷◌, length, get_or, Some, refl, sym, arith}
+use Rattle.std.specs.Prelude.{slice_get}
+use Rattle.std.proofs.lemmas.Option.{slice_get_read}
+use Rattle.std.proofs.lemmas.Bool.Decides.{nat_tests}
+use Rattle.dspec_buffer.specs.Extent.{Piece}
+use Rattle.dspec_word.specs.SpecId.{Speculation}
+use Rattle.dspec_deeds.specs.declared.config.Config.{Config}
+use Rattle.dspec_core.specs.declared.machine.Machine.{Machine}
+use Rattle.dspec_core.specs.declared.machine.cpu.Cpu.{Cpu}
+use Rattle.dspec_deeds.specs.History.{ack, in_range}
+use Rattle.dspec_deeds.specs.Own.{Offer, contents}
+use Rattle.dspec_interleaving.specs.Coherent.{IsSlot}
+use Rattle.dspec_interleaving.proofs.CleanReads.{number_there}
+use Rattle.dspec_core.specs.Shown.{ShowsCpu}
+use Rattle.dspec_core.specs.Machines.{IsShownMachine, history}
+
+pub slot_in_range : (k : Config) (id : Speculation) → in_range k id ≡ true → IsSlot k id.slot
+slot_in_range k id e = (grind (arith, nat_tests), grind (arith, nat_tests))
+
+-- the place of a slot's number in what has an element for each slot
+pub place_within : (n s most count : ℕ) → n ≡ s → 1 ≤ s → s ≤ most → count ≡ most → n - 1 < count
+place_within n s most count is low high counted = omega arith
+
+pub length_contents : (os : List Offer) → length (contents os) ≡ length os
+length_contents [] = refl
+length_contents (o ∷ os) = grind (arith, length_contents os)
+
+module _ {S B : Type 0} (has : B → S → List Piece → Type 0) (capacity : B → ℕ) (m : Machine S B) (shown : IsShownMachine has capacity m) where
+  -- where what an index reads stands
+  pub cpu_got : (c : ℕ) (own : Cpu B) → c < m.config.cpus → own ≡ get_or m.cpus.items c own → slice_get m.cpus.items c ≡ Some own
+  cpu_got c own lt e = slice_get_read m.cpus.items m.config.cpus c own (sym shown.cpu_count) lt e
+
+  -- and what it shows
+  pub cpu_read : (c : ℕ) (own : Cpu B) → c < m.config.cpus → own ≡ get_or m.cpus.items c own → ShowsCpu has capacity m.schema m.config c (history m) own
+  cpu_read c own lt e = shown.cpus c own (cpu_got c own lt e)
+
+  -- the acknowledgement that an index reads
+  pub ack_read : (c s : ℕ) (own : Cpu B) (a : ℕ) → c < m.config.cpus → IsSlot m.config s → own ≡ get_or m.cpus.items c own → a ≡ get_or own.side.acks.items (s - 1) a → a ≡ ack c s (history m)
+  ack_read c s own a lt slot is e =
+      let shows = (cpu_read c own lt is).side.parts in
+      number_there own.side.acks.items m.config.nspec (s - 1) a (ack c s (history m)) shows.ack_count (place_within s s m.config.nspec m.config.nspec refl slot.0 slot.1 refl) e
+      (shows.acks s slot.0 slot.1)

@@ -1,0 +1,69 @@
+-- How an atomic step is put together: what its deeds enter, and then what becomes of its CPU's progress.
+use Rattle.std.proofs.Common.{◌≡◌, ℕ, ◌==◌, true, false, List, [], set, Option, Some, refl, sym, ap, ◌∙◌, subst, ⊎_elim}
+use Rattle.std.specs.Prelude.{slice_get}
+use Rattle.std.specs.Vec.{with_item}
+use Rattle.std.proofs.lemmas.List.{length-set, map-set}
+use Rattle.std.proofs.lemmas.Option.{slice_get_within}
+use Rattle.dspec_buffer.specs.Extent.{Piece}
+use Rattle.dspec_deeds.specs.declared.calls.Answer.{Answer}
+use Rattle.dspec_deeds.specs.declared.deed.Deed.{Deed}
+use Rattle.dspec_interleaving.specs.declared.flight.CpuProgress.{CpuProgress}
+use Rattle.dspec_core.specs.declared.machine.Machine.{Machine}
+use Rattle.dspec_core.specs.declared.machine.cpu.Cpu.{Cpu}
+use Rattle.dspec_interleaving.specs.Play.{CpuStep}
+use Rattle.dspec_interleaving.specs.Coherent.{PlayState, progress_of}
+use Rattle.dspec_core.specs.Shown.{ShowsCpu}
+use Rattle.dspec_core.specs.Machines.{IsShownMachine, Adds, Makes, history, state_of}
+use Rattle.dspec_deeds.proofs.TestLemmas.{either_way, same_number, numbers_differ}
+use Rattle.dspec_deeds.proofs.Places.{got_set, got_other}
+use Rattle.dspec_core.proofs.OneMore.{progress_there}
+use Rattle.dspec_core.proofs.KeptCpus.{calling}
+
+-- no deed was entered
+pub adds_none : {S B : Type 0} (m : Machine S B) → Adds [] m m
+adds_none m = record { state = refl; schema = refl }
+
+-- what a play knows of a machine where what is kept of one CPU is another
+pub state_puts : {S B : Type 0} (m : Machine S B) (c : ℕ) (new : Cpu B)
+    → state_of (record m { cpus = with_item m.cpus c new }) ≡ record (state_of m) { progresses = set (state_of m).progresses c new.progress }
+state_puts {B = B} m c new = ap (λ x. record (state_of m) { progresses = x }) (map-set (λ (own : Cpu B). own.progress) m.cpus.items c new)
+
+-- where a CPU's progress is changed
+pub state_moves : {S B : Type 0} (m : Machine S B) (c : ℕ) (own new : Cpu B) (change : CpuProgress → CpuProgress) → slice_get m.cpus.items c ≡ Some own → new.progress ≡ change own.progress
+    → state_of (record m { cpus = with_item m.cpus c new }) ≡ record (state_of m) { progresses = set (state_of m).progresses c (change (progress_of (state_of m).progresses c)) }
+state_moves m c own new change got is =
+    state_puts m c new ∙ ap (λ (x : CpuProgress). record (state_of m) { progresses = set (state_of m).progresses c x }) (is ∙ ap change (sym (progress_there m.cpus.items c own got)))
+
+module _ {S B : Type 0} (has : B → S → List Piece → Type 0) (capacity : B → ℕ) where
+  -- a machine shows its list with what shows it kept of one CPU
+  pub cpu_puts : (m : Machine S B) (c : ℕ) (own new : Cpu B) → IsShownMachine has capacity m → slice_get m.cpus.items c ≡ Some own → ShowsCpu has capacity m.schema m.config c (history m) new
+      → IsShownMachine has capacity (record m { cpus = with_item m.cpus c new })
+  cpu_puts m c own new was got shows = record {
+    words = was.words;
+    active = was.active;
+    cpu_count = length-set m.cpus.items c _ ∙ was.cpu_count;
+    cpus = λ a x now. ⊎_elim
+        (λ (t : (a == c) ≡ true).
+        let is = same_number a c t in
+        let here : slice_get (set m.cpus.items c new) c ≡ Some new = got_set m.cpus.items c new (slice_get_within m.cpus.items c own got) in
+        let now' : slice_get (set m.cpus.items c new) c ≡ Some x = subst (λ b. slice_get (set m.cpus.items c new) b ≡ Some x) is now in
+        let same : new ≡ x = cc in
+        subst (λ b. ShowsCpu has capacity m.schema m.config b (history m) x) (sym is) (subst (ShowsCpu has capacity m.schema m.config c (history m)) same shows))
+        (λ (f : (a == c) ≡ false). was.cpus a x (sym (got_other m.cpus.items c a new (numbers_differ a c f)) ∙ now))
+        (either_way (a == c));
+  }
+
+  -- a machine shows its list whatever a CPU's progress is next
+  pub progress_moves : (m : Machine S B) (c : ℕ) (own : Cpu B) (me : CpuProgress) → IsShownMachine has capacity m → slice_get m.cpus.items c ≡ Some own → me.takes ≡ own.progress.takes
+      → me.worn ≡ own.progress.worn → IsShownMachine has capacity (record m { cpus = with_item m.cpus c (record own { progress = me }) })
+  progress_moves m c own me was got takes worn =
+      cpu_puts m c own _ was got (calling has capacity m.schema m.config c (history m) own (was.cpus c own got) me takes worn)
+
+  -- a step that entered its deeds and then moved its CPU's progress
+  pub step_made : (m n left : Machine S B) (c : ℕ) (ds : List Deed) (change : CpuProgress → CpuProgress) (moved : CpuStep) (answer : Option Answer) → Adds ds m n → IsShownMachine has capacity left
+      → state_of left ≡ record (state_of n) { progresses = set (state_of n).progresses c (change (progress_of (state_of n).progresses c)) } → left.schema ≡ n.schema
+      → record { progress = change (progress_of (state_of m).progresses c); deeds = ds; answer = answer } ≡ moved → Makes has capacity m left c moved answer
+  step_made m n left c ds change moved answer adds shown state schema is =
+      let Leaves : PlayState → PlayState = λ st. record st { progresses = set st.progresses c (change (progress_of st.progresses c)) } in
+      subst (λ (x : CpuStep). Makes has capacity m left c x answer) is
+      record { shown = shown; state = state ∙ ap Leaves adds.state; schema = schema ∙ adds.schema; answered = refl }

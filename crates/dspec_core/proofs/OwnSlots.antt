@@ -1,0 +1,165 @@
+-- What a CPU's side tells of a slot's present speculation: whether the CPU is a caller, and its records.
+use Rattle.std.proofs.Common.{◌≡◌, ℕ, zero, suc, ◌+◌, ◌-◌, ◌<◌, ◌≤◌, ◌==◌, Bool, true, false, ◌&&◌, ◌||◌, List, []}
+use Rattle.std.proofs.Common.{◌∷◌, ◌++◌, length, map, reverse, if◌then◌else◌, Option, Some, None, refl, sym, ap, ◌∙◌, subst, arith, append-nil, true≢false}
+use Rattle.std.specs.Prelude.{Result, Ok, Err, OnOk, OnErr, slice_get}
+use Rattle.std.proofs.lemmas.List.{reverse-append}
+use Rattle.dspec_record.specs.Record.{Record}
+use Rattle.dspec_record.specs.declared.field.Shape.{Shape}
+use Rattle.dspec_buffer.specs.Extent.{Piece, one}
+use Rattle.dspec_word.specs.SpecId.{Speculation}
+use Rattle.dspec_deeds.specs.declared.config.Config.{Config}
+use Rattle.dspec_deeds.specs.declared.deed.DecideFate.{DecideFate}
+use Rattle.dspec_deeds.specs.declared.deed.DecideFate.TheVariants as decided
+use Rattle.dspec_deeds.specs.declared.deed.SpeculateFate.{SpeculateFate}
+use Rattle.dspec_deeds.specs.declared.deed.SpeculateFate.TheVariants as spoken
+use Rattle.dspec_deeds.specs.declared.deed.TraceFate.{TraceFate}
+use Rattle.dspec_deeds.specs.declared.deed.TraceFate.TheVariants as traced
+use Rattle.dspec_deeds.specs.declared.deed.Deed.{Deed}
+use Rattle.dspec_deeds.specs.declared.deed.Deed.TheVariants.{Trace, Speculate, Commit, Discard, Settle}
+use Rattle.dspec_deeds.specs.FateKinds.{decided_stopped, is_commit, is_copied, is_discard, spoken_granted, trace_kept}
+use Rattle.dspec_deeds.specs.History.{Verdict, undecided, committed, discarded, verdict, is_undecided, is_open, issue}
+use Rattle.dspec_deeds.specs.Legal.{IsSound, CpuLegal, SettlesAs, fits_principal, fits_speculative}
+use Rattle.dspec_deeds.specs.Marks.{mark}
+use Rattle.dspec_deeds.specs.Own.{accepted, contents, held, stream}
+use Rattle.dspec_deeds.specs.CpuShown.{last_called}
+use Rattle.dspec_deeds.specs.Ranges.{start_fault}
+use Rattle.dspec_deeds.proofs.OwnStates.{tells_present}
+use Rattle.dspec_deeds.proofs.PresentIds.{decided_given, open_present, present_is}
+use Rattle.dspec_deeds.proofs.SetUp.{set_up}
+use Rattle.dspec_deeds.proofs.SoundLists.{opened_in_range}
+use Rattle.dspec_deeds.proofs.TestLemmas.{number_is_itself}
+use Rattle.dspec_cpu_state.specs.declared.cpu_state.CpuState.{CpuState}
+use Rattle.dspec_cpu_state.specs.CpuStates.{IsCaller, ShowsList}
+use Rattle.dspec_interleaving.specs.Coherent.{IsSlot}
+use Rattle.dspec_core.proofs.Batches.{stream_more}
+
+-- what follows on success
+pub on_ok : {T E P Q : Type 0} (r : Result T E) → (P → Q) → OnOk r P → OnOk r Q
+on_ok (Ok x) f p = f p
+on_ok (Err x) f p = p
+
+-- what holds on a failure holds of each result
+pub on_err : {T E P : Type 0} (r : Result T E) → P → OnErr r P
+on_err (Ok x) p = cc
+on_err (Err x) p = p
+
+-- what stands at a place of a list
+pub stands : {A : Type 0} (xs : List A) (i : ℕ) → i < length xs → (x : A) × (slice_get xs i ≡ Some x)
+stands [] i lt = absurd (omega arith)
+stands (x ∷ xs) zero lt = (x, refl)
+stands (x ∷ xs) (suc i) lt = stands xs i (omega arith)
+
+-- an open speculation is of a slot of the session
+pub open_slot : (k : Config) (h : List Deed) (id : Speculation) → start_fault k ≡ None → IsSound k h → is_open id h ≡ true → IsSlot k id.slot
+open_slot k h id fine sound opens = opened_in_range k h id (set_up k fine).1 sound (open_present k h id sound opens).given
+
+-- a settlement is of a decided speculation
+settles_decided : (v : Verdict) (f : DecideFate) → SettlesAs v f → is_undecided v ≡ false
+settles_decided undecided f e = absurd e
+settles_decided (committed c) f e = refl
+settles_decided (discarded c) f e = refl
+
+-- so it is of a slot of the session
+pub settled_slot : (k : Config) (c : ℕ) (id : Speculation) (f : DecideFate) (h : List Deed) → start_fault k ≡ None → IsSound k (Settle c id f ∷ h) → IsSlot k id.slot
+settled_slot k c id f h fine sound =
+    opened_in_range k h id (set_up k fine).1 sound.0 (decided_given k h id sound.0 (settles_decided (verdict id h) f sound.1.1.1.1))
+
+-- a test of the CPU itself
+own_test : (c : ℕ) (b : Bool) → (b && (c == c)) ≡ b
+own_test c true = number_is_itself c
+own_test c false = refl
+
+-- the stream behind a commit, and behind a settlement: a copied block is behind it
+pub stream_commits : (c : ℕ) (id : Speculation) (f : DecideFate) (h : List Deed) → stream c h ++ (if is_copied f then reverse (contents (held c id h)) else []) ≡ stream c (Commit c id f ∷ h)
+stream_commits c id f h = stream_more c (is_copied f) (held c id h) h ∙ ap (λ b. reverse (contents ((if b then held c id h else []) ++ accepted c h))) (sym (own_test c (is_copied f)))
+
+pub stream_settles : (c : ℕ) (id : Speculation) (f : DecideFate) (h : List Deed) → stream c h ++ (if is_copied f then reverse (contents (held c id h)) else []) ≡ stream c (Settle c id f ∷ h)
+stream_settles c id f h = stream_more c (is_copied f) (held c id h) h ∙ ap (λ b. reverse (contents ((if b then held c id h else []) ++ accepted c h))) (sym (own_test c (is_copied f)))
+
+-- and behind a discard, which copies nothing
+pub stream_discards : (c : ℕ) (id : Speculation) (f : DecideFate) (h : List Deed) → is_discard f ≡ true
+    → stream c h ++ (if is_copied f then reverse (contents (held c id h)) else []) ≡ stream c (Discard c id f ∷ h)
+stream_discards c id (decided.Thrown n) h e = append-nil (stream c h)
+stream_discards c id (decided.Copied n) h e = absurd (true≢false (sym e))
+stream_discards c id f h e = append-nil (stream c h)
+
+-- the stream behind a traced record: one that is kept is behind it
+pub stream_traces : (c : ℕ) (r : Record) (f : TraceFate) (h : List Deed) (rs : List Record) → rs ≡ stream c h → rs ++ (if trace_kept f then r ∷ [] else []) ≡ stream c (Trace c r f ∷ h)
+stream_traces c r traced.Kept h rs e = rw (number_is_itself c, e) (sym (reverse-append (r ∷ []) (contents (accepted c h))))
+stream_traces c r traced.Dropped h rs e = append-nil rs ∙ e
+stream_traces c r traced.Stopped h rs e = append-nil rs ∙ e
+
+-- what was told of a record that was traced is its fate
+pub traced_as : (shape : ℕ → Option Shape) (k : Config) (c : ℕ) (r : Record) (f : TraceFate) (fits : Bool) (h : List Deed) → (f ≡ traced.Stopped → ⊥) → CpuLegal shape k h (Trace c r f)
+    → fits ≡ fits_principal shape k c (one r) h → (if fits then traced.Kept else traced.Dropped) ≡ f
+traced_as shape k c r traced.Kept fits h runs row is = let yes : fits ≡ true = is ∙ sym row in rw yes refl
+traced_as shape k c r traced.Dropped fits h runs row is = let no : fits ≡ false = is ∙ sym row in rw no refl
+traced_as shape k c r traced.Stopped fits h runs row is = absurd (runs refl)
+
+-- and of one that was granted
+pub spoken_as : (shape : ℕ → Option Shape) (k : Config) (c : ℕ) (id : Speculation) (r : Record) (f : SpeculateFate) (fits : Bool) (h : List Deed) → spoken_granted f ≡ true
+    → CpuLegal shape k h (Speculate c id r f) → fits ≡ fits_speculative shape k c id r h → (if fits then spoken.Kept else spoken.Dropped) ≡ f
+spoken_as shape k c id r spoken.Kept fits h granted row is = let yes : fits ≡ true = is ∙ sym row in rw yes refl
+spoken_as shape k c id r spoken.Dropped fits h granted row is = let no : fits ≡ false = is ∙ sym row in rw no refl
+spoken_as shape k c id r spoken.Void fits h granted row is = absurd (true≢false (sym granted))
+spoken_as shape k c id r spoken.Stopped fits h granted row is = absurd (true≢false (sym granted))
+
+-- a settlement commits or discards
+pub settles_as : (k : Config) (c : ℕ) (id : Speculation) (f : DecideFate) (h : List Deed) → IsSound k (Settle c id f ∷ h) → (is_commit f || is_discard f) ≡ true
+settles_as k c id f h sound = go (verdict id h) f sound.1.1.1.1
+  where
+    go : (v : Verdict) (f : DecideFate) → SettlesAs v f → (is_commit f || is_discard f) ≡ true
+    go undecided f e = absurd e
+    go (committed a) f e = rw e refl
+    go (discarded a) (decided.Thrown n) e = refl
+    go (discarded a) (decided.Copied n) e = refl
+    go (discarded a) (decided.Lost n) e = refl
+    go (discarded a) decided.Void e = e
+    go (discarded a) decided.Stopped e = e
+
+pub settles_on : (f : DecideFate) → (is_commit f || is_discard f) ≡ true → decided_stopped f ≡ false
+settles_on decided.Stopped e = absurd (true≢false (sym e))
+settles_on f e = refl
+
+module _ {B : Type 0} (keeps : B → List Piece → Type 0) (capacity : B → ℕ) (k : Config) (c : ℕ) (h : List Deed) (side : CpuState B) (was : ShowsList keeps capacity k c h side)
+    (id : Speculation) (slot : IsSlot k id.slot) where
+  -- what is asked of an identifier at its slot
+  pub place_there : (1 ≤ id.slot) × (id.slot ≤ length side.speculative.items)
+  place_there = let count = was.parts.buffer_count in let low = slot.0 in let high = slot.1 in (low, omega arith)
+
+  pub mark_there : (1 ≤ id.slot) × (id.slot ≤ length side.marks)
+  mark_there = let count = was.parts.mark_count in let low = slot.0 in let high = slot.1 in (low, omega arith)
+
+  pub specdrop_there : (1 ≤ id.slot) × (id.slot ≤ length side.specdrops.items)
+  specdrop_there = let count = was.parts.specdrop_count in let low = slot.0 in let high = slot.1 in (low, omega arith)
+
+  pub ack_there : (1 ≤ id.slot) × (id.slot ≤ length side.acks.items)
+  ack_there = let count = was.parts.ack_count in let low = slot.0 in let high = slot.1 in (low, omega arith)
+
+module _ {B : Type 0} (keeps : B → List Piece → Type 0) (capacity : B → ℕ) (k : Config) (c : ℕ) (h : List Deed) (side : CpuState B) (was : ShowsList keeps capacity k c h side)
+    (id : Speculation) (slot : IsSlot k id.slot) (lt : c < k.cpus) (sound : IsSound k h) (now : issue id.slot h ≡ id.issue) where
+  -- the mark tells whether the CPU is a caller
+  pub caller_is : (mine : Bool) → ((m : ℕ) → slice_get side.marks (id.slot - 1) ≡ Some m → mine ≡ (m == id.issue + 1)) → IsCaller c id mine h
+  caller_is mine tells =
+      let marked = tells (mark c id.slot h) (was.parts.marks id.slot slot.0 slot.1) in
+      record {
+        marked = marked;
+        empty = λ e. subst (λ j. held c j h ≡ []) (present_is id h now)
+            ((tells_present k c id.slot h lt sound).unmarked (ap (λ n. mark c id.slot h == n + 1) now ∙ (sym marked ∙ e)));
+      }
+
+  -- the slot's buffer has the records that the CPU holds of it
+  pub block_there : (b : B) → slice_get side.speculative.items (id.slot - 1) ≡ Some b → keeps b (map one (contents (held c id h)))
+  block_there b got =
+      let holds : held c (last_called c id.slot h) h ≡ held c id h = (tells_present k c id.slot h lt sound).holds ∙ ap (λ j. held c j h) (present_is id h now) in
+      subst (λ os. keeps b (map one (contents os))) holds (was.parts.speculative id.slot b slot.0 slot.1 got).has
+
+  -- so what is said of the records of the buffer at the slot's place is said of those
+  pub blocks_there : (place : ℕ) (P : List Record → Type 0) → place ≡ id.slot - 1 → ((rs : List Record) (b : B) → slice_get side.speculative.items place ≡ Some b → keeps b (map one rs) → P rs)
+      → P (contents (held c id h))
+  blocks_there place P at told =
+      let count = was.parts.buffer_count in
+      let low = slot.0 in
+      let high = slot.1 in
+      let there = stands side.speculative.items place (omega arith) in
+      told (contents (held c id h)) there.0 there.1 (block_there there.0 (subst (λ n. slice_get side.speculative.items n ≡ Some there.0) at there.1))

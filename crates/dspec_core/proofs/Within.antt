@@ -1,0 +1,182 @@
+-- A step leaves each CPU within the most calls that it may make.
+use Rattle.std.proofs.Common.{◌≡◌, ℕ, ◌+◌, ◌<◌, ◌≤◌, Bool, true, false, ◌&&◌, List, [], ◌∷◌, ◌++◌, set, if◌then◌else◌, Option, Some, None, refl, sym, ap, ◌∙◌, subst, ⊎_elim, arith}
+use Rattle.std.specs.Prelude.{nat_le}
+use Rattle.std.proofs.lemmas.Bool.Decides.{nat_tests}
+use Rattle.dspec_record.specs.declared.field.Shape.{Shape}
+use Rattle.dspec_deeds.specs.declared.calls.Actor.{Actor}
+use Rattle.dspec_deeds.specs.declared.calls.Actor.TheVariants as actor
+use Rattle.dspec_deeds.specs.declared.calls.Answer.{Answer}
+use Rattle.dspec_deeds.specs.declared.calls.CpuOp.{CpuOp}
+use Rattle.dspec_deeds.specs.declared.calls.Op.TheVariants as op
+use Rattle.dspec_deeds.specs.declared.config.Config.{Config}
+use Rattle.dspec_deeds.specs.declared.deed.Deed.{Deed}
+use Rattle.dspec_deeds.specs.History.{author, same_actor}
+use Rattle.dspec_deeds.specs.Own.{calls}
+use Rattle.dspec_deeds.proofs.Going.{AllBy}
+use Rattle.dspec_deeds.proofs.StayingOwn.{calls_other}
+use Rattle.dspec_deeds.proofs.TestLemmas.{either_way, same_actor_tells}
+use Rattle.dspec_interleaving.specs.declared.flight.CpuProgress.{CpuProgress}
+use Rattle.dspec_interleaving.specs.declared.flight.CallPlace.{CallPlace}
+use Rattle.dspec_interleaving.specs.declared.flight.CallPlace.TheVariants as cpu
+use Rattle.dspec_interleaving.specs.declared.flight.ConsumerFlight.{ConsumerFlight}
+use Rattle.dspec_interleaving.specs.Calls.{op_of}
+use Rattle.dspec_interleaving.specs.Coherent.{IsCoherent, PlayState, StandsState, progress_of}
+use Rattle.dspec_interleaving.specs.Play.{CpuStep, ConsumerStep, cpu_step, consumer_step}
+use Rattle.dspec_interleaving.specs.Wearing.{is_counted, is_first, is_told_worn, enters_call}
+use Rattle.dspec_interleaving.proofs.ConsumerSteps.{consumer_keeps}
+use Rattle.dspec_interleaving.proofs.CpuSteps.{cpu_step_stands}
+use Rattle.dspec_interleaving.proofs.FlightsStay.{flights_stay}
+use Rattle.dspec_interleaving.proofs.KeptCalls.{step_passes}
+use Rattle.dspec_interleaving.proofs.OwnAnswersPlay.{put}
+use Rattle.dspec_interleaving.proofs.StepEnds.{HasEnded, HasGoneOn, cpu_advances}
+use Rattle.dspec_interleaving.proofs.WornCpuSteps.{ahead, enters, cpu_step_wears}
+use Rattle.dspec_core.specs.Worlds.{is_due, IsWithin}
+
+-- a deed that counts was entered by the call in flight, or is to come, or neither
+abbrev spent : Option CallPlace → ℕ
+spent x = ahead x + (if is_due x then 1 else 0)
+
+spent_once : (x : CallPlace) → spent (Some x) ≤ 1
+spent_once (cpu.Begun o) = omega arith
+spent_once (cpu.ScanLoad s) = omega arith
+spent_once (cpu.ScanTry s w) = omega arith
+spent_once (cpu.SpeculateLoad id r) = omega arith
+spent_once (cpu.SpeculateTry id r w) = omega arith
+spent_once (cpu.CommitLoad id) = omega arith
+spent_once (cpu.CommitTry id w) = omega arith
+spent_once (cpu.CommitRelease id f) = omega arith
+spent_once (cpu.DiscardLoad id) = omega arith
+spent_once (cpu.DiscardTry id w) = omega arith
+spent_once cpu.ServicePop = omega arith
+spent_once cpu.ServicePush = omega arith
+spent_once (cpu.ServiceLoad s sum) = omega arith
+spent_once (cpu.ServiceStore s w sum) = omega arith
+
+-- a call that doesn't count has none
+spent_never : (x : CallPlace) → is_counted (op.Cpu (op_of x)) ≡ false → spent (Some x) ≡ 0
+spent_never (cpu.Begun o) e = refl
+spent_never (cpu.ScanLoad s) e = absurd (cc (e))
+spent_never (cpu.ScanTry s w) e = absurd (cc (e))
+spent_never (cpu.SpeculateLoad id r) e = absurd (cc (e))
+spent_never (cpu.SpeculateTry id r w) e = absurd (cc (e))
+spent_never (cpu.CommitLoad id) e = absurd (cc (e))
+spent_never (cpu.CommitTry id w) e = absurd (cc (e))
+spent_never (cpu.CommitRelease id f) e = absurd (cc (e))
+spent_never (cpu.DiscardLoad id) e = absurd (cc (e))
+spent_never (cpu.DiscardTry id w) e = absurd (cc (e))
+spent_never cpu.ServicePop e = refl
+spent_never cpu.ServicePush e = refl
+spent_never (cpu.ServiceLoad s sum) e = refl
+spent_never (cpu.ServiceStore s w sum) e = refl
+
+-- one at the most, and none of a call that doesn't count, or was worn
+enters_one : (o : CpuOp) (a : Option Answer) → enters (op.Cpu o) a ≤ 1
+enters_one o None = omega arith
+enters_one o (Some a) = go (enters_call (op.Cpu o) a)
+  where
+    go : (b : Bool) → (if b then 1 else 0) ≤ 1
+    go true = omega arith
+    go false = omega arith
+
+enters_never : (o : CpuOp) (a : Option Answer) → is_counted (op.Cpu o) ≡ false → enters (op.Cpu o) a ≡ 0
+enters_never o None e = refl
+enters_never o (Some a) e = rw e refl
+
+enters_unworn : (o : CpuOp) (a : Option Answer) → is_told_worn a ≡ true → enters (op.Cpu o) a ≡ 0
+enters_unworn o None e = refl
+enters_unworn o (Some a) e = rw e (go (is_counted (op.Cpu o)))
+  where
+    go : (b : Bool) → ◌≡◌ {A = ℕ} (if b && false then 1 else 0) 0
+    go true = refl
+    go false = refl
+
+-- a call that counts and isn't worn at its first step leaves room for one deed that counts, which it enters once
+room : (k : Config) (c : ℕ) (h : List Deed) (f : CallPlace) (a : Option Answer) (e : ℕ) → IsWithin k c h (Some f) → is_told_worn a ≡ (is_first (Some f) && nat_le k.max_calls (calls c h))
+    → e ≤ 1 → (is_counted (op.Cpu (op_of f)) ≡ false → e ≡ 0) → (is_told_worn a ≡ true → e ≡ 0) → calls c h + e ≤ k.max_calls + ahead (Some f)
+room k c h (cpu.Begun o) a e was told few uncounted unworn = ⊎_elim
+    (λ (t : is_counted (op.Cpu o) ≡ true). ⊎_elim
+    (λ (full : nat_le k.max_calls (calls c h) ≡ true).
+    let none = unworn (told ∙ (ap (λ b. b && nat_le k.max_calls (calls c h)) t ∙ full)) in
+    omega arith)
+    (λ (left : nat_le k.max_calls (calls c h) ≡ false).
+    let less : calls c h < k.max_calls = grind (arith, nat_tests) in
+    omega arith)
+    (either_way (nat_le k.max_calls (calls c h))))
+    (λ (t : is_counted (op.Cpu o) ≡ false). let none = uncounted t in omega arith)
+    (either_way (is_counted (op.Cpu o)))
+room k c h (cpu.ScanLoad s) a e was told few uncounted unworn = omega arith
+room k c h (cpu.ScanTry s w) a e was told few uncounted unworn = omega arith
+room k c h (cpu.SpeculateLoad id r) a e was told few uncounted unworn = omega arith
+room k c h (cpu.SpeculateTry id r w) a e was told few uncounted unworn = omega arith
+room k c h (cpu.CommitLoad id) a e was told few uncounted unworn = omega arith
+room k c h (cpu.CommitTry id w) a e was told few uncounted unworn = omega arith
+room k c h (cpu.CommitRelease id f) a e was told few uncounted unworn = omega arith
+room k c h (cpu.DiscardLoad id) a e was told few uncounted unworn = omega arith
+room k c h (cpu.DiscardTry id w) a e was told few uncounted unworn = omega arith
+room k c h cpu.ServicePop a e was told few uncounted unworn = let none = uncounted refl in omega arith
+room k c h cpu.ServicePush a e was told few uncounted unworn = let none = uncounted refl in omega arith
+room k c h (cpu.ServiceLoad s sum) a e was told few uncounted unworn = let none = uncounted refl in omega arith
+room k c h (cpu.ServiceStore s w sum) a e was told few uncounted unworn = let none = uncounted refl in omega arith
+
+-- the CPU whose step it is
+step_within : (shape : ℕ → Option Shape) (k : Config) (c : ℕ) (h : List Deed) (me : CpuProgress) (f : CallPlace) → IsWithin k c h (Some f)
+    → IsWithin k c ((cpu_step shape k c h me f).deeds ++ h) (cpu_step shape k c h me f).progress.flight
+step_within shape k c h me f was =
+    let m : CpuStep = cpu_step shape k c h me f in
+    let wears = cpu_step_wears shape k c h me f in
+    let more = wears.counts in
+    ⊎_elim
+    (λ (e : HasEnded m).
+    let entered = room k c h f m.answer (enters (op.Cpu (op_of f)) m.answer) was wears.told (enters_one (op_of f) m.answer) (enters_never (op_of f) m.answer) (enters_unworn (op_of f) m.answer) in
+    let none : ahead m.progress.flight ≡ 0 = ap ahead e.idle in
+    let left : calls c (m.deeds ++ h) + 0 ≤ k.max_calls = omega arith in
+    subst (λ x. IsWithin k c (m.deeds ++ h) x) (sym e.idle) left)
+    (λ (g : HasGoneOn k me _ m).
+    let same : op_of g.next ≡ op_of f = step_passes (λ o. o ≡ op_of f) shape k c h me f refl g.next g.flight in
+    let spends = room k c h f m.answer (spent (Some g.next)) was wears.told (spent_once g.next)
+    (λ e. spent_never g.next (ap (λ o. is_counted (op.Cpu o)) same ∙ e)) (λ e. absurd (cc (ap is_told_worn g.answers, e))) in
+    let none : enters (op.Cpu (op_of f)) m.answer ≡ 0 = ap (enters (op.Cpu (op_of f))) g.answers in
+    let on : ahead m.progress.flight ≡ ahead (Some g.next) = ap ahead g.flight in
+    let left : calls c (m.deeds ++ h) + (if is_due (Some g.next) then 1 else 0) ≤ k.max_calls = omega arith in
+    subst (λ x. IsWithin k c (m.deeds ++ h) x) (sym g.flight) left)
+    (cpu_advances shape k c h me f)
+
+-- another's deeds are no calls of the CPU
+calls_stay : (c : ℕ) (w : Actor) → same_actor (actor.Cpu c) w ≡ false → (ds h : List Deed) → AllBy w ds h → calls c (ds ++ h) ≡ calls c h
+calls_stay c w other [] h by = refl
+calls_stay c w other (d ∷ ds) h by =
+    calls_other c d (ds ++ h) (subst (λ (x : Actor). same_actor (actor.Cpu c) x ≡ false) (same_actor_tells w (author d (ds ++ h)) by.1) other) ∙ calls_stay c w other ds h by.0
+
+-- every CPU is within the most calls that it may make
+abbrev pub AllWithin : PlayState → Type 0
+AllWithin st = (c : ℕ) → c < st.config.cpus → IsWithin st.config c st.deeds (progress_of st.progresses c).flight
+
+module _ (shape : ℕ → Option Shape) (st : PlayState) (ok : IsCoherent shape st) (was : AllWithin st) where
+  -- a step of a CPU
+  pub cpu_within : (c : ℕ) (f : CallPlace) → c < st.config.cpus → (progress_of st.progresses c).flight ≡ Some f
+      → AllWithin (record st {
+        deeds = (cpu_step shape st.config c st.deeds (progress_of st.progresses c) f).deeds ++ st.deeds;
+        progresses = set st.progresses c (cpu_step shape st.config c st.deeds (progress_of st.progresses c) f).progress;
+      })
+  cpu_within c f lt is =
+      let me : CpuProgress = progress_of st.progresses c in
+      let m : CpuStep = cpu_step shape st.config c st.deeds me f in
+      let did = cpu_step_stands shape st.config c st.deeds me ok.ranges ok.legal ok.rests (ok.stands c lt) f is in
+      put st.config.cpus (λ b (x : CpuProgress). IsWithin st.config b (m.deeds ++ st.deeds) x.flight) st.progresses c m.progress ok.count
+      (λ b less other. subst (λ n. n + (if is_due (progress_of st.progresses b).flight then 1 else 0) ≤ st.config.max_calls)
+      (sym (calls_stay b (actor.Cpu c) other m.deeds st.deeds did.goes.by)) (was b less))
+      (λ less. step_within shape st.config c st.deeds me f (subst (λ x. IsWithin st.config c st.deeds x) is (was c less)))
+
+  -- a step of the consumer
+  pub consumer_within : (f : ConsumerFlight) → st.side.flight ≡ Some f
+      → AllWithin (record st {
+        deeds = (consumer_step st.config st.deeds st.side st.progresses f).deeds ++ st.deeds;
+        progresses = (consumer_step st.config st.deeds st.side st.progresses f).progresses;
+        side = (consumer_step st.config st.deeds st.side st.progresses f).side;
+      })
+  consumer_within f is =
+      let m : ConsumerStep = consumer_step st.config st.deeds st.side st.progresses f in
+      let did = consumer_keeps shape st.config st.deeds st.side st.progresses ok.ranges ok.legal ok.rests ok.count ok.stands f (subst (StandsState st.config st.deeds st.side) is ok.side) in
+      λ b less. subst (λ (x : ℕ × Option CallPlace). x.0 + (if is_due x.1 then 1 else 0) ≤ st.config.max_calls)
+      (λ i. (sym (calls_stay b actor.Consumer refl m.deeds st.deeds did.goes.by) i, sym (flights_stay st.config st.deeds st.side st.progresses ok.count f b less) i))
+      (was b less)

@@ -1,0 +1,62 @@
+-- What is read, and the settlement that the table grants.
+use Rattle.std.proofs.Common.{◌≡◌, List, refl, sym, subst, arith}
+use Rattle.dspec_word.specs.SpecId.{Speculation}
+use Rattle.dspec_word.specs.Word.{CanBeReleased}
+use Rattle.dspec_deeds.specs.declared.deed.Deed.{Deed}
+use Rattle.dspec_deeds.specs.History.{issue}
+use Rattle.dspec_deeds.specs.Legal.{IsAllowed}
+use Rattle.dspec_core.specs.Machines.{history}
+use Rattle.dspec_core.proofs.MachineReads.{cpu_read}
+use Rattle.dspec_core.proofs.Settlings.{named_present, none_due, one_due, closes_still, closes_bare, closes_settled}
+use Rattle.dspec_core.proofs.SlotReads.{slot_read}
+use Rattle.dspec_interleaving.proofs.StepReads.{can_be_released}
+use Rattle.dspec_core.proofs.machine.Machine.close_slot.Goals as goal
+
+pub index-requires-2 : goal.index-requires-2
+index-requires-2 g c =
+    let own = cpu_read g.B.TraceBuffer.has g.B.TraceBuffer.capacity c.args.self.now c.requires.closable.shown c.args.cpu c.index.result.now c.requires.cpu c.index.ensures in
+    let n = own.side.parts.ack_count in
+    let least = c.requires.slot.0 in
+    let most = c.requires.slot.1 in
+    omega (arith, n, least, most)
+
+pub settle_at-requires : goal.settle_at-requires
+settle_at-requires g c =
+    let m = c.args.self.now in
+    let s = c.args.slot in
+    let reads = slot_read c.requires.closable.shown c.args.cpu s c.requires.cpu c.requires.slot c.index.ensures c.index-word.ensures c.index-2.ensures in
+    subst CanBeReleased (sym reads.word) (can_be_released m.config s (history m) c.requires.closable.fine c.requires.closable.can_close.legal.0)
+
+pub returns-in_default : goal.returns-in_default
+returns-in_default g c =
+    let m = c.args.self.now in
+    let a = c.args.cpu in
+    let s = c.args.slot in
+    let reads = slot_read c.requires.closable.shown a s c.requires.cpu c.requires.slot c.index.ensures c.index-word.ensures c.index-2.ensures in
+    closes_bare c.requires.closable a s c.requires.cpu c.requires.slot
+    (none_due reads (g.S.Schema.shape_of m.schema) m.config c.settle_at.ensures c.in_default.not-Granted)
+
+pub settle_fate-fate-requires-clause-present : goal.settle_fate-fate-requires-clause-present
+settle_fate-fate-requires-clause-present g c =
+    let h = history c.args.self.now in
+    let reads = slot_read c.requires.closable.shown c.args.cpu c.args.slot c.requires.cpu c.requires.slot c.index.ensures c.index-word.ensures c.index-2.ensures in
+    subst (λ (id : Speculation). id.issue ≡ issue id.slot h) (sym (named_present reads c.of-id.ensures c.issue.ensures.value)) refl
+
+pub enter_settle-requires-clause-legal : goal.enter_settle-requires-clause-legal
+enter_settle-requires-clause-legal g c =
+    let m = c.args.self.now in
+    let a = c.args.cpu in
+    let s = c.args.slot in
+    let shape = g.S.Schema.shape_of m.schema in
+    let reads = slot_read c.requires.closable.shown a s c.requires.cpu c.requires.slot c.index.ensures c.index-word.ensures c.index-2.ensures in
+    let due = one_due reads shape m.config c.settle_at.ensures c.in-Granted.is c.of-id.ensures c.issue.ensures.value c.code.ensures c.settle_fate-fate.ensures in
+    subst (λ (ds : List Deed). IsAllowed shape m.config ds) (sym due) (closes_still c.requires.closable a s c.requires.cpu c.requires.slot).legal
+
+pub returns : goal.returns
+returns g c =
+    let m = c.args.self.now in
+    let a = c.args.cpu in
+    let s = c.args.slot in
+    let reads = slot_read c.requires.closable.shown a s c.requires.cpu c.requires.slot c.index.ensures c.index-word.ensures c.index-2.ensures in
+    let due = one_due reads (g.S.Schema.shape_of m.schema) m.config c.settle_at.ensures c.in-Granted.is c.of-id.ensures c.issue.ensures.value c.code.ensures c.settle_fate-fate.ensures in
+    closes_settled c.requires.closable a s c.requires.cpu c.requires.slot c.enter_settle.result c.enter_settle.new.self due c.enter_settle.ensures.shown c.enter_settle.ensures.entered

@@ -1,0 +1,49 @@
+-- A sealed batch is the second buffer; the words stay.
+use Rattle.std.proofs.Common.{◌≤◌, [], refl, ap, ◌∙◌, subst, rules}
+use Rattle.dspec_deeds.specs.declared.deed.Deed.TheVariants as deed
+use Rattle.dspec_deeds.specs.Own.{seals}
+use Rattle.dspec_interleaving.specs.declared.flight.CpuProgress.{CpuProgress}
+use Rattle.dspec_cpu_state.specs.declared.cpu_state.CpuState.{CpuState}
+use Rattle.dspec_cpu_state.specs.CpuStates.{IsFilledWith}
+use Rattle.dspec_core.specs.Machines.{history}
+use Rattle.dspec_core.proofs.KeptCpus.{sealing}
+use Rattle.dspec_core.proofs.MachineReads.{cpu_got}
+use Rattle.dspec_core.proofs.OneMore.{adds_own, progress_there, enters, latest_first}
+use Rattle.dspec_core.proofs.Rooms.{seal_counts}
+use Rattle.dspec_core.proofs.WordsShown.{words_stay}
+use Rattle.dspec_core.proofs.machine.Machine.enter_seal.Goals as goal
+
+pub seal-own-requires : goal.seal-own-requires
+seal-own-requires g c =
+    let m = c.args.self.now in
+    let a = c.args.cpu in
+    let h = history m in
+    let d = deed.Seal c.args.cpu in
+    let was = c.requires.shown in
+    let own = c.index_mut-own.result.now in
+    let got = cpu_got _ _ m was a own c.requires.cpu c.index_mut-own.ensures.value in
+    let shows = was.cpus a own got in
+    record { seals = seal_counts (g.S.Schema.shape_of m.schema) m.config a _ _ h own.side shows.side m.deeds c.push.new.self d c.in_ok-push.ensures.ok c.in_ok-push.ensures.countable refl }
+
+pub returns : goal.returns
+returns g c =
+    let m = c.args.self.now in
+    let a = c.args.cpu in
+    let h = history m in
+    let d = deed.Seal c.args.cpu in
+    let was = c.requires.shown in
+    let own = c.index_mut-own.result.now in
+    let got = cpu_got _ _ m was a own c.requires.cpu c.index_mut-own.ensures.value in
+    let shows = was.cpus a own got in
+    record {
+      shown =
+          let next : IsFilledWith (λ b. g.B.TraceBuffer.has b m.schema) g.B.TraceBuffer.capacity m.config.bufsize []
+          c.clear.new.self = record { sized = c.clear.ensures.size ∙ shows.second.sized; has = c.clear.ensures.empty m.schema } in
+          let takes = subst (λ (x : CpuProgress). x.takes ≤ seals a h) (progress_there m.cpus.items a own got) c.requires.takes in
+          let now = sealing _ _ m.schema m.config a h own shows c.seal-own.new.self c.seal-own.new.next c.seal-own.result (c.seal-own.ensures.shows m.schema m.config a h shows.side next)
+          (ap (λ (x : CpuState g.row.B.Denot). x.counts.worn) c.seal-own.ensures.rest) c.seal-own.ensures.sealed c.seal-own.ensures.drops takes in
+          enters _ _ m c.push.new.self m.words d a _ was c.requires.cpu (latest_first m.deeds c.push.new.self d c.in_ok-push.ensures.ok) refl refl
+          (words_stay m.config d h m.words.items (λ t. refl) was.words) now;
+      entered = adds_own m c.push.new.self m.words d a own _ (latest_first m.deeds c.push.new.self d c.in_ok-push.ensures.ok) got refl;
+      refused = search rules;
+    }

@@ -1,0 +1,56 @@
+-- Cited by calls. A machine shows its list of deeds.
+use Rattle.std.specs.Prelude.{ℕ, ◌≡◌, ◌<◌, ◌++◌, List, [], length, map, reverse, slice_get, Option, Some, if◌then◌else◌}
+use Rattle.dspec_record.specs.Record.{Record}
+use Rattle.dspec_buffer.specs.Extent.{Piece, one}
+use Rattle.dspec_deeds.specs.declared.calls.Answer.{Answer}
+use Rattle.dspec_deeds.specs.declared.deed.DecideFate.{DecideFate}
+use Rattle.dspec_deeds.specs.declared.deed.Deed.{Deed}
+use Rattle.dspec_core.specs.declared.machine.Machine.{Machine}
+use Rattle.dspec_core.specs.declared.machine.cpu.Cpu.{Cpu}
+use Rattle.dspec_deeds.specs.FateKinds.{is_copied}
+use Rattle.dspec_deeds.specs.History.{halted}
+use Rattle.dspec_interleaving.specs.Play.{CpuStep, ConsumerStep}
+use Rattle.dspec_interleaving.specs.Coherent.{PlayState}
+use Rattle.dspec_interleaving.specs.Turns.{moved_to, cleaned_to}
+use Rattle.dspec_core.specs.Shown.{ShowsWords, ShowsCpu}
+
+-- the deeds of a machine, the latest first
+abbrev pub history : {S B : Type 0} → Machine S B → List Deed
+history m = reverse m.deeds
+
+-- what a play knows of a machine
+abbrev pub state_of : {S B : Type 0} → Machine S B → PlayState
+state_of m = record { config = m.config; deeds = history m; progresses = map (λ own. own.progress) m.cpus.items; side = m.consumer }
+
+module _ {S B : Type 0} (has : B → S → List Piece → Type 0) (capacity : B → ℕ) where
+  pub record IsShownMachine (m : Machine S B) : Type 0 where
+    pub words : ShowsWords m.config (history m) m.words.items
+    pub active : m.halted ≡ halted (history m)
+    pub cpu_count : length m.cpus.items ≡ m.config.cpus
+    pub cpus : (c : ℕ) (own : Cpu B) → slice_get m.cpus.items c ≡ Some own → ShowsCpu has capacity m.schema m.config c (history m) own
+
+module _ {S B : Type 0} (has : B → S → List Piece → Type 0) (schema : S) where
+  -- the records of the slot's speculative buffer go to the CPU's stream where the fate copies them, and nothing else of the CPU moves
+  abbrev pub StreamsBlock : ℕ → DecideFate → Cpu B → Cpu B → Type 0
+  StreamsBlock place fate old new =
+      (rs : List Record) (b : B) → slice_get old.side.speculative.items place ≡ Some b → has b schema (map one rs)
+      → new ≡ record old { accepted = old.accepted ++ (if is_copied fate then reverse rs else []) }
+
+-- one machine is another with deeds in front of its list, and all else that a play knows the same
+pub record Adds {S B : Type 0} (ds : List Deed) (m n : Machine S B) : Type 0 where
+  pub state : state_of n ≡ record (state_of m) { deeds = ds ++ history m }
+  pub schema : n.schema ≡ m.schema
+
+-- a step of a CPU makes this of a machine, with that answer
+pub record Makes {S B : Type 0} (has : B → S → List Piece → Type 0) (capacity : B → ℕ) (m n : Machine S B) (c : ℕ) (moved : CpuStep) (answer : Option Answer) : Type 0 where
+  pub shown : IsShownMachine has capacity n
+  pub state : state_of n ≡ (moved_to (state_of m) c moved).state
+  pub schema : n.schema ≡ m.schema
+  pub answered : answer ≡ moved.answer
+
+-- a step of the consumer makes this of a machine, with that answer
+pub record ConsumerMakes {S B : Type 0} (has : B → S → List Piece → Type 0) (capacity : B → ℕ) (m n : Machine S B) (cleaned : ConsumerStep) (answer : Option Answer) : Type 0 where
+  pub shown : IsShownMachine has capacity n
+  pub state : state_of n ≡ (cleaned_to (state_of m) cleaned).state
+  pub schema : n.schema ≡ m.schema
+  pub answered : answer ≡ cleaned.answer

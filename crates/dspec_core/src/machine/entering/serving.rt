@@ -1,0 +1,85 @@
+ghost use Rattle.std.specs.Prelude.{◌≡◌, ◌<◌, ◌≤◌, ◌+◌, ◌∷◌, ◌++◌, [], None, OnOk, OnErr};
+ghost use Rattle.dspec_deeds.specs.declared.deed.Deed.TheVariants as deed;
+ghost use Rattle.dspec_deeds.specs.Legal.{IsAllowed};
+ghost use Rattle.dspec_core.specs.Machines.{Adds, IsShownMachine, history, state_of};
+ghost use Rattle.dspec_interleaving.specs.Coherent.{progress_of};
+ghost use Rattle.dspec_deeds.specs.Own.{seals};
+ghost use Rattle.dspec_deeds.specs.Ranges.{start_fault};
+
+use crate::machine::Machine;
+use dspec_buffer::TraceBuffer;
+use dspec_deeds::{DecideFate, Deed};
+use dspec_record::Schema;
+use dspec_word::{Code, SpecId, Word};
+use std::alloc::AllocError;
+
+impl<S: Schema, B: TraceBuffer<S>> Machine<S, B> {
+    /// Enters a settlement: the CPU's buffer of the speculation is copied, lost or thrown away, and acknowledged.
+    pub fn enter_settle(&mut self, cpu: u32, id: SpecId, fate: DecideFate) -> Result<(), AllocError>
+        requires shown { IsShownMachine B.has B.capacity self.old }
+        requires ranges { start_fault self.old.config ≡ None }
+        requires legal { IsAllowed (S.shape_of self.old.schema) self.old.config (deed.Settle cpu id fate ∷ [] ++ history self.old) }
+        requires cpu { cpu < self.old.config.cpus }
+        requires slot { id.slot ≤ self.old.config.nspec }
+        ensures shown { OnOk result (IsShownMachine B.has B.capacity self.new) }
+        ensures entered { OnOk result (Adds (deed.Settle cpu id fate ∷ []) self.old self.new) }
+        ensures refused { OnErr result (self.new ≡ self.old) }
+    {
+        let own = &mut self.cpus[cpu as usize];
+        let deed = Deed::Settle(cpu, id, fate);
+        let place = (id.slot() - 1) as usize;
+        own.enter_block(&mut self.deeds, deed, &self.schema, place, fate)?;
+        let mine = own.side.is_mine(id);
+        own.side.settle::<S>(id, mine, fate);
+        Ok(())
+    }
+
+    /// Enters that the active buffer is sealed: the other principal buffer, which is spare, becomes active.
+    pub fn enter_seal(&mut self, cpu: u32) -> Result<(), AllocError>
+        requires shown { IsShownMachine B.has B.capacity self.old }
+        requires ranges { start_fault self.old.config ≡ None }
+        requires legal { IsAllowed (S.shape_of self.old.schema) self.old.config (deed.Seal cpu ∷ [] ++ history self.old) }
+        requires cpu { cpu < self.old.config.cpus }
+        requires takes { (progress_of (state_of self.old).progresses cpu).takes ≤ seals cpu (history self.old) }
+        ensures shown { OnOk result (IsShownMachine B.has B.capacity self.new) }
+        ensures entered { OnOk result (Adds (deed.Seal cpu ∷ []) self.old self.new) }
+        ensures refused { OnErr result (self.new ≡ self.old) }
+    {
+        self.deeds.push(Deed::Seal(cpu))?;
+        let own = &mut self.cpus[cpu as usize];
+        own.second.clear();
+        own.sealed_drops = own.side.seal::<S>(&mut own.second);
+        Ok(())
+    }
+
+    /// Enters that a slot is released.
+    pub fn enter_release(&mut self, slot: u32) -> Result<(), AllocError>
+        requires shown { IsShownMachine B.has B.capacity self.old }
+        requires ranges { start_fault self.old.config ≡ None }
+        requires legal { IsAllowed (S.shape_of self.old.schema) self.old.config (deed.Release slot ∷ [] ++ history self.old) }
+        requires slot { slot ≤ self.old.config.nspec }
+        ensures shown { OnOk result (IsShownMachine B.has B.capacity self.new) }
+        ensures entered { OnOk result (Adds (deed.Release slot ∷ []) self.old self.new) }
+        ensures refused { OnErr result (self.new ≡ self.old) }
+    {
+        self.deeds.push(Deed::Release(slot))?;
+        let place = (slot - 1) as usize;
+        let issue = self.words[place].issue();
+        self.words[place] = Word::of(issue + 1, Code::Inactive);
+        Ok(())
+    }
+
+    /// Enters that the session stops.
+    pub fn enter_halt(&mut self) -> Result<(), AllocError>
+        requires shown { IsShownMachine B.has B.capacity self.old }
+        requires ranges { start_fault self.old.config ≡ None }
+        requires legal { IsAllowed (S.shape_of self.old.schema) self.old.config (deed.Halt ∷ [] ++ history self.old) }
+        ensures shown { OnOk result (IsShownMachine B.has B.capacity self.new) }
+        ensures entered { OnOk result (Adds (deed.Halt ∷ []) self.old self.new) }
+        ensures refused { OnErr result (self.new ≡ self.old) }
+    {
+        self.deeds.push(Deed::Halt)?;
+        self.halted = true;
+        Ok(())
+    }
+}

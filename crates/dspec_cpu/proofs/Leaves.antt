@@ -1,0 +1,112 @@
+-- What a call that counts keeps, by how it ended.
+use Rattle.std.proofs.Common.{◌≡◌, ℕ, ◌+◌, ◌*◌, ◌<◌, ◌≤◌, Bool, true, false, if◌then◌else◌, refl, sym, ap, ◌∙◌, subst, inr, arith, true≢false}
+use Rattle.dspec_buffer.specs.Stored.{Stored}
+use Rattle.dspec_word.specs.SpecId.{Speculation}
+use Rattle.dspec_word.specs.Word.{SlotState}
+use Rattle.dspec_word.specs.declared.code.Code.TheVariants.{Committing}
+use Rattle.dspec_word.specs.declared.act.Act.TheVariants.{Attempt}
+use Rattle.dspec_deeds.specs.declared.config.Config.{Config}
+use Rattle.dspec_deeds.specs.declared.calls.Decided.{Decided}
+use Rattle.dspec_deeds.specs.declared.calls.Opening.{Opening}
+use Rattle.dspec_deeds.specs.History.{in_range}
+use Rattle.dspec_table.specs.declared.rule.View.{View}
+use Rattle.dspec_table.specs.declared.doing.Doing.{Doing}
+use Rattle.dspec_table.specs.declared.seats.CpuSeat.{CpuSeat}
+use Rattle.dspec_table.specs.Seats.{known}
+use Rattle.dspec_table.specs.Layout.{activity_place, slot_place}
+use Rattle.dspec_table.specs.Steps.{LoadedActivity, ReleasedWord}
+use Rattle.dspec_cpu_state.specs.declared.counts.Counts.{Counts}
+use Rattle.dspec_cpu_state.specs.declared.cpu_state.CpuState.{CpuState}
+use Rattle.dspec_cpu_state.specs.Counting.{one_more_worn, is_stopped_opening}
+use Rattle.dspec_cpu.specs.declared.parts.CpuParts.{CpuParts as Cpu}
+use Rattle.dspec_cpu.specs.declared.reaching.Reach.{Reach}
+use Rattle.dspec_cpu.specs.declared.reaching.Reach.TheVariants as reach
+use Rattle.dspec_cpu.specs.Calls.{is_worn_decided}
+use Rattle.dspec_cpu.specs.Keeping.{CallLeaves}
+use Rattle.dspec_cpu.specs.Reached.{Reached}
+use Rattle.dspec_cpu.specs.Reaching.{is_committing, releases_next, turns}
+use Rattle.dspec_cpu.specs.Scans.{Scanned, is_worn_opening}
+use Rattle.dspec_cpu.specs.Stops.{StopsWhereMet, is_stopped_decided, is_stopped_reach}
+use Rattle.dspec_cpu.specs.Touching.{Touches, last_looked, of_activity, of_slot, of_slots}
+use Rattle.dspec_cpu.proofs.Decisions.{block_answer}
+use Rattle.dspec_cpu.proofs.Stopping.{worn_out, shown_stop, shown_running, heeded}
+use Rattle.dspec_cpu.proofs.Touching.{none_touched, touched_more, touched_one}
+
+-- it was worn
+pub worn_leaves : {S : Type 0} {within : ℕ → Type 0} (cpu : Cpu S) (most : ℕ) (counts : Counts) → cpu.config.max_calls ≤ cpu.side.calls
+    → counts ≡ record cpu.side.counts { worn = one_more_worn cpu.side.counts.worn } → CallLeaves true false most within cpu (record cpu { side = record cpu.side { counts = counts } })
+worn_leaves {within = within} cpu most counts all is = record {
+  batches = record { end = refl; spare = refl; held_back = refl; seals = refl };
+  worn = (λ t. all, λ le. refl);
+  untouched = λ t. ap (λ (x : Counts). record cpu { side = record cpu.side { counts = x } }) is;
+  wears = ap (λ (x : Counts). x.worn) is;
+  bounded = omega arith;
+  touches = none_touched within (known cpu.seat);
+  stops = worn_out (known cpu.seat) (known cpu.seat);
+}
+
+-- it wasn't: it moved its seat and its side, which has as many batches sealed and as many calls worn
+module _ {S : Type 0} (cpu : Cpu S) (fewer : cpu.side.calls < cpu.config.max_calls) (seat : CpuSeat) (side was : CpuState Stored) (is : side ≡ was)
+    (seals : was.seals ≡ cpu.side.seals) (worn : was.counts.worn ≡ cpu.side.counts.worn) where
+  pub unworn_leaves : (stopped : Bool) (most : ℕ) (within : ℕ → Type 0) → (known seat).steps ≤ (known cpu.seat).steps + most → Touches within (known cpu.seat) (known seat)
+      → StopsWhereMet (known cpu.seat) false stopped (known seat) → CallLeaves false stopped most within cpu (record cpu { seat = seat; side = side })
+  unworn_leaves stopped most within bounded touches stops = record {
+    batches = record { end = refl; spare = refl; held_back = refl; seals = ap (λ (s : CpuState Stored). s.seals) is ∙ seals };
+    worn = (λ t. absurd (true≢false (sym t)), λ le. absurd (omega arith));
+    untouched = λ t. absurd (true≢false (sym t));
+    wears = ap (λ (s : CpuState Stored). s.counts.worn) is ∙ worn;
+    bounded = bounded;
+    touches = touches;
+    stops = stops;
+  }
+
+  -- it loaded activity alone
+  pub loaded_leaves : (doing : Doing) (stopped : Bool) → LoadedActivity doing (known cpu.seat) stopped (known seat)
+      → CallLeaves false stopped 1 of_activity cpu (record cpu { seat = seat; side = side })
+  loaded_leaves doing stopped step =
+      let one : (known seat).steps ≡ (known cpu.seat).steps + 1 = ap (λ (x : View). x.steps) step.3.view in
+      unworn_leaves stopped 1 of_activity (omega arith)
+      (touched_one of_activity (known cpu.seat) (known seat) activity_place (ap (λ (x : View). x.touched) step.3.view) refl) (go stopped step)
+    where
+      go : (b : Bool) → LoadedActivity doing (known cpu.seat) b (known seat) → StopsWhereMet (known cpu.seat) false b (known seat)
+      go true shown = shown_stop doing (known cpu.seat) (known seat) shown
+      go false shown = shown_running doing (known cpu.seat) (known seat) (known seat) shown
+
+  -- its scan came to this answer
+  pub scanned_leaves : {k : Config} {c : ℕ} {busy : Bool} (a : Opening) (slots : ℕ) → Scanned k c (known cpu.seat) a busy (known seat) → k.nspec ≡ slots
+      → CallLeaves (is_worn_opening a) (is_stopped_opening a) (1 + 2 * slots) (of_slots (last_looked slots a)) cpu (record cpu { seat = seat; side = side })
+  scanned_leaves a slots got same =
+      let le = got.bounded in
+      subst (λ b. CallLeaves b (is_stopped_opening a) (1 + 2 * slots) (of_slots (last_looked slots a)) cpu (record cpu { seat = seat; side = side })) (sym got.unworn)
+      (unworn_leaves (is_stopped_opening a) (1 + 2 * slots) (of_slots (last_looked slots a)) (omega arith)
+      (subst (λ (n : ℕ). Touches (of_slots (last_looked n a)) (known cpu.seat) (known seat)) same got.touches) got.stops)
+
+  -- on an identifier it came so far
+  pub reached_leaves : {k : Config} {c : ℕ} {doing : Doing} {id : Speculation} (r : Reach) (most : ℕ) → Reached k c doing id (known cpu.seat) r (known seat) → most ≡ 1 + turns doing.op
+      → k ≡ cpu.config → CallLeaves false (is_stopped_reach r) most (of_slot cpu.config id) cpu (record cpu { seat = seat; side = side })
+  reached_leaves {id = id} r most got same its =
+      let le = got.bounded in
+      unworn_leaves (is_stopped_reach r) most (of_slot cpu.config id) (omega arith)
+      (subst (λ (x : Config). Touches (of_slot x id) (known cpu.seat) (known seat)) its got.touches) got.stops
+
+  -- and released the slot behind its exchange
+  pub released_leaves : {k : Config} {c : ℕ} {doing : Doing} {id : Speculation} (to : SlotState) (w : View) (slot most : ℕ) → Reached k c doing id (known cpu.seat) (reach.Done to) w
+      → to.code ≡ Committing → ReleasedWord slot w (known seat) → most ≡ 1 + turns doing.op → k ≡ cpu.config → slot ≡ id.slot
+      → CallLeaves false false most (of_slot cpu.config id) cpu (record cpu { seat = seat; side = side })
+  released_leaves {id = id} to w slot most got alone step same its there =
+      let next : releases_next (Attempt to) ≡ 1 = ap (λ x. if is_committing x then 1 else 0) alone in
+      let one : (known seat).steps ≡ w.steps + 1 = ap (λ (x : View). x.steps) step.2.view in
+      let le = got.bounded in
+      let inside = ap (λ (x : Config). in_range x id) (sym its) ∙ (got.present refl).1 in
+      unworn_leaves false most (of_slot cpu.config id) (omega arith)
+      (touched_more (of_slot cpu.config id) (known cpu.seat) w (known seat) (slot_place slot) (subst (λ (x : Config). Touches (of_slot x id) (known cpu.seat) w) its got.touches)
+      (ap (λ (x : View). x.touched) step.2.view) (inr (inside, ap (λ (s : ℕ). slot_place s) there))) (heeded (known cpu.seat) w (known seat) got.stops)
+
+-- it copied or lost a block
+pub copied_leaves : {S : Type 0} {within : ℕ → Type 0} (a : Decided) (fit : Bool) (n most : ℕ) (old new : Cpu S) → a ≡ block_answer fit n → CallLeaves false false most within old new
+    → CallLeaves (is_worn_decided a) (is_stopped_decided a) most within old new
+copied_leaves {within = within} a fit n most old new is leaves = subst (λ x. CallLeaves (is_worn_decided x) (is_stopped_decided x) most within old new) (sym is) (go fit)
+  where
+    go : (b : Bool) → CallLeaves (is_worn_decided (block_answer b n)) (is_stopped_decided (block_answer b n)) most within old new
+    go true = leaves
+    go false = leaves

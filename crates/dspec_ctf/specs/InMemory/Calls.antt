@@ -1,0 +1,144 @@
+-- Cited by calls. What each call makes of a CPU's files.
+use Rattle.std.specs.Prelude.{◌≡◌, ◌≢◌, ℕ, ◌+◌, ◌-◌, ◌^◌, ◌<◌, ◌≤◌, ◌++◌, ◌⊎◌, List, length, drop, slice_range, Option, Some, None}
+use Rattle.dspec_record.specs.Record.{Record}
+use Rattle.dspec_ctf.specs.Packets.{events}
+use Rattle.dspec_ctf.specs.Streams.{HasNoRecords, IsText, IsTooLong}
+use Rattle.dspec_ctf.specs.Rows.{HasNoRun, IsFileRun, missed_packets, run_packet}
+use Rattle.dspec_ctf.specs.declared.rows.Run.{Run}
+use Rattle.dspec_ctf.specs.declared.stream.PacketFault.{PacketFault}
+use Rattle.dspec_ctf.specs.declared.stream.PacketFault.TheVariants.{Text, Missed, TooLong, Clock, Memory}
+use Rattle.dspec_ctf.specs.InMemory.Filing.{CpuFiling, IsRunWithin, as_counted, left, unwritten}
+use Rattle.dspec_ctf.specs.declared.in_memory.packet.Packet.{Packet}
+use Rattle.dspec_ctf.specs.declared.in_memory.fault.PutFault.{PutFault}
+use Rattle.dspec_ctf.specs.declared.in_memory.putting.Next.{Next}
+use Rattle.dspec_ctf.specs.declared.in_memory.putting.Next.TheVariants as next
+use Rattle.dspec_ctf.specs.declared.in_memory.fault.PutFault.TheVariants as put
+
+-- A batch is open now, which has the records of this text. What its CPU missed is counted: what it dropped, and the records of the batch
+-- before that no packet has.
+pub record OpensBatch (old : CpuFiling) (drops : ℕ) (text : List ℕ) (new : CpuFiling) : Type 0 where
+  pub read : List Record
+  pub is_text : IsText old.schema text read
+  pub is : new ≡ record old { missed = old.missed + left old + drops; told_before = old.told; records = read; from = 0; place = 0; run = None }
+
+-- why no batch is opened: more was missed than 64 bits count, the bytes are no text, or memory was wanting
+abbrev pub HasNoBatch : CpuFiling → ℕ → List ℕ → PacketFault → Type 0
+HasNoBatch f drops text Missed = 2 ^ 64 ≤ f.missed + left f + drops
+HasNoBatch f drops text (Text fault) = (f.missed + left f + drops < 2 ^ 64) × HasNoRecords f.schema text (Text fault)
+HasNoBatch f drops text Memory = Unit {0}
+HasNoBatch f drops text (Clock place) = ⊥
+HasNoBatch f drops text TooLong = ⊥
+
+-- the packet that was handed out last counts as written
+abbrev pub as_written : CpuFiling → CpuFiling
+as_written f = record f { told_before = f.told; from = f.place }
+
+-- the run of the next packet, and the last stamps with it: it was found before, or it is what comes next of the records
+abbrev pub IsFoundRun : Option Run → CpuFiling → Run → List ℕ → Type 0
+IsFoundRun (Some found) f run lasts = (run ≡ found) × (lasts ≡ f.lasts)
+IsFoundRun None f run lasts = IsFileRun f.lasts f.records f.place run lasts
+
+-- The next packet tells what was missed: not all of it is told.
+abbrev pub IsToTell : CpuFiling → Type 0
+IsToTell f = f.missed ≢ f.told
+
+-- the next packet is of a run, which is found now: all that was missed is told
+pub record FindsRun (f : CpuFiling) (run : Run) (found : CpuFiling) : Type 0 where
+  pub told : f.missed ≡ f.told
+  pub lasts : List ℕ
+  pub is_run : IsFoundRun f.run f run lasts
+  pub within : IsRunWithin f.records f.place run
+  pub is : found ≡ record f { lasts = lasts; run = Some run }
+
+-- all that was missed is told, and all records of the batch were handed out
+abbrev pub IsAllHanded : CpuFiling → Type 0
+IsAllHanded f = (f.missed ≡ f.told) × (length f.records ≤ f.place)
+
+-- what the next packet is, of which the run is found now
+abbrev pub FindsNext : CpuFiling → Next → CpuFiling → Type 0
+FindsNext f next.Missed found = IsToTell f × (found ≡ f)
+FindsNext f (next.Run run) found = FindsRun f run found
+FindsNext f next.Done found = IsAllHanded f × (found ≡ f)
+
+-- the packet that tells what was missed, for the CPU's first file
+abbrev pub missed_bytes : CpuFiling → List ℕ
+missed_bytes f = missed_packets f.uuid f.told f.missed f.cpu f.lasts
+
+-- the packet of a run, for its file
+abbrev pub run_bytes : CpuFiling → Run → List ℕ
+run_bytes f run = run_packet f.uuid f.schema f.missed f.cpu run.file (slice_range f.records f.place run.end)
+
+-- the bytes stand at the front of the room, and behind them is what was there
+pub record Fills (old bytes new : List ℕ) : Type 0 where
+  pub fits : length bytes ≤ length old
+  pub is : new ≡ bytes ++ drop (length bytes) old
+
+-- what was missed is handed out
+pub record HandsMissed (f : CpuFiling) (room : List ℕ) (p : Packet) (filled : List ℕ) (new : CpuFiling) : Type 0 where
+  pub packet_is : p ≡ record { file = 0; size = length (missed_bytes f); records = 0 }
+  pub bytes : Fills room (missed_bytes f) filled
+  pub is : new ≡ record f { told = f.missed }
+
+-- the packet of this run is handed out
+pub record HandsRun (f : CpuFiling) (run : Run) (room : List ℕ) (p : Packet) (filled : List ℕ) (new : CpuFiling) : Type 0 where
+  pub packet_is : p ≡ record { file = run.file; size = length (run_bytes f run); records = run.end - f.place }
+  pub bytes : Fills room (run_bytes f run) filled
+  pub is : new ≡ record f { place = run.end; run = None }
+
+-- the run's packet is handed out, once the run was found
+pub record FindsAndHands (f : CpuFiling) (room : List ℕ) (p : Packet) (filled : List ℕ) (new : CpuFiling) : Type 0 where
+  pub run : Run
+  pub found : CpuFiling
+  pub finds : FindsRun f run found
+  pub hands : HandsRun found run room p filled new
+
+-- What a call hands out: what was missed, where some of that isn't told, else the packet of the next run; nothing behind the last of them.
+-- Either way what was handed out before counts as written.
+abbrev pub Hands : CpuFiling → List ℕ → Option Packet → List ℕ → CpuFiling → Type 0
+Hands f room (Some p) filled new =
+    (IsToTell f × HandsMissed (as_written f) room p filled new) ⊎ FindsAndHands (as_written f) room p filled new
+Hands f room None filled new = IsAllHanded f × (filled ≡ room) × (new ≡ as_written f)
+
+-- these bytes have no room of so many, which they need
+abbrev pub HasNoRoom : List ℕ → List ℕ → ℕ → Type 0
+HasNoRoom room bytes needed = (needed ≡ length bytes) × (length room < needed)
+
+-- why these bytes aren't handed out: they have no room, or memory was wanting for them
+abbrev pub HasNoMissed : CpuFiling → List ℕ → PutFault → Type 0
+HasNoMissed f room (put.TooSmall needed) = HasNoRoom room (missed_bytes f) needed
+HasNoMissed f room (put.Packet fault) = fault ≡ Memory
+
+-- why the packet of this run isn't handed out: it has no room, it is too long for the format, or memory was wanting for it
+abbrev pub HasNoRunPacket : CpuFiling → Run → List ℕ → PutFault → Type 0
+HasNoRunPacket f run room (put.TooSmall needed) = HasNoRoom room (run_bytes f run) needed
+HasNoRunPacket f run room (put.Packet fault) = IsTooLong (events f.schema (slice_range f.records f.place run.end)) fault
+
+-- the next packet is of this run, which is found now, and isn't handed out
+pub record FindsAlone (f : CpuFiling) (room : List ℕ) (fault : PutFault) (new : CpuFiling) : Type 0 where
+  pub run : Run
+  pub finds : FindsRun f run new
+  pub why : HasNoRunPacket new run room fault
+
+-- there is no next run, for that
+pub record FindsNone (f : CpuFiling) (fault : PutFault) (new : CpuFiling) : Type 0 where
+  pub why : PacketFault
+  pub fault_is : fault ≡ put.Packet why
+  pub told : f.missed ≡ f.told
+  pub none : HasNoRun f.lasts f.records f.place why
+  pub is : new ≡ f
+
+-- Why nothing is handed out. Nothing is changed but that what was handed out before counts as written, and that the next run is found.
+abbrev pub HandsNone : CpuFiling → List ℕ → PutFault → CpuFiling → Type 0
+HandsNone f room fault new =
+    (IsToTell f × HasNoMissed (as_written f) room fault × (new ≡ as_written f))
+    ⊎ (FindsAlone (as_written f) room fault new ⊎ FindsNone (as_written f) fault new)
+
+-- The packet that was handed out last wasn't written, nor will be those behind it: what it told isn't told, and its records and those that
+-- come behind are missed.
+abbrev pub without_rest : CpuFiling → CpuFiling
+without_rest f =
+    record f { missed = as_counted (f.missed + unwritten f); told = f.told_before; from = length f.records; place = length f.records; run = None }
+
+-- so many events more were missed
+abbrev pub with_more_missed : CpuFiling → ℕ → CpuFiling
+with_more_missed f count = record f { missed = as_counted (f.missed + count) }

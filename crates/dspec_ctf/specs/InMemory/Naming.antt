@@ -1,0 +1,120 @@
+-- Cited by calls. The metadata of a trace by what a caller says of it in plain bytes and numbers.
+use Rattle.std.specs.Prelude.{◌≡◌, ◌<◌, ◌⊎◌, ℕ, All, Bool, true, false, List, [], ◌∷◌, length, map, take, Option, Some, None}
+use Rattle.std.specs.List.{flat_map}
+use Rattle.std.specs.Str.{IsUtf8}
+use Rattle.dspec_record.specs.EnablingRows.{EnabledRows}
+use Rattle.dspec_probe.specs.declared.kind.Kind.{Kind}
+use Rattle.dspec_probe.specs.declared.kind.Kind.TheVariants.{Unsigned, Signed, Float}
+use Rattle.dspec_probe.specs.declared.probes.ProbeNames.{ProbeNames}
+use Rattle.dspec_ctf.specs.Metadata.{origin_text}
+use Rattle.dspec_ctf.specs.Names.{origin_fault}
+use Rattle.dspec_ctf.specs.declared.fault.MetadataFault.{MetadataFault}
+use Rattle.dspec_ctf.specs.declared.fault.MetadataFault.TheVariants as metadata
+use Rattle.dspec_ctf.specs.declared.form.Form.TheVariants.{ByTime}
+use Rattle.dspec_ctf.specs.declared.names.Names.{Names}
+use Rattle.dspec_ctf.specs.declared.names.Names.TheVariants.{Numbered, Given}
+use Rattle.dspec_ctf.specs.declared.origin.Process.{Process}
+use Rattle.dspec_ctf.specs.declared.origin.Origin.{Origin}
+use Rattle.dspec_ctf.specs.InMemory.Calls.{Fills}
+use Rattle.dspec_ctf.specs.declared.in_memory.identity.Identity.{Identity}
+use Rattle.dspec_ctf.specs.declared.in_memory.fault.TextFault.{TextFault}
+use Rattle.dspec_ctf.specs.declared.in_memory.fault.TextFault.TheVariants.{TooSmall, NotText, BadKind, Count, Metadata}
+
+-- what numbers of a kind are called at the door
+abbrev pub kind_number : Kind → ℕ
+kind_number Unsigned = 0
+kind_number Signed = 1
+kind_number Float = 2
+
+-- the name of an event and those of its fields
+abbrev pub texts_in : ProbeNames → List (List ℕ)
+texts_in n = n.event.now ∷ map (λ name. name.now) n.fields.now
+
+-- what the numbers of its fields mean
+abbrev pub kinds_in : ProbeNames → List ℕ
+kinds_in n = map kind_number (take (length n.fields.now) n.kinds)
+
+-- The names are those of these events and their fields, one event's behind another's, and what the fields' numbers mean are these kinds; no field
+-- has labels.
+pub record AreEvents (names : List (List ℕ)) (kinds : List ℕ) (events : List ProbeNames) : Type 0 where
+  pub texts : names ≡ flat_map texts_in events
+  pub meaning : kinds ≡ flat_map kinds_in events
+  pub bare : All (λ n. n.labels ≡ None) events
+
+-- what events and fields are called by these names; where there is none they are numbered
+abbrev pub AreNames : List (List ℕ) → List ℕ → Names → Type 0
+AreNames names kinds Numbered = names ≡ []
+AreNames names kinds (Given events) = AreEvents names kinds events.now
+
+-- the process is that of this identity
+abbrev pub IsProcess : Identity → Option Process → Type 0
+IsProcess identity (Some p) = (p.host.now ≡ identity.host.now) × ((p.name.now ≡ identity.name.now) × (p.pid ≡ identity.pid))
+IsProcess identity None = ⊥
+
+abbrev pub clock_of : List ℕ → Bool → Option (List ℕ)
+clock_of clock true = Some clock
+clock_of clock false = None
+
+-- the origin is that of this identity
+pub record IsOrigin (identity : Identity) (origin : Origin) : Type 0 where
+  pub uuid : origin.uuid ≡ identity.uuid
+  pub process : IsProcess identity origin.process
+  pub start : origin.start ≡ Some (record { seconds = identity.seconds; ticks = identity.ticks; clock = clock_of identity.clock identity.has_clock })
+
+-- the text is the metadata of a trace by time of this identity and schema, whose events and fields are called so
+pub record IsMetadata (identity : Identity) (e : EnabledRows) (names : List (List ℕ)) (kinds : List ℕ) (text : List ℕ) : Type 0 where
+  pub origin : Origin
+  pub is_origin : IsOrigin identity origin
+  pub called : Names
+  pub are_names : AreNames names kinds called
+  pub allowed : origin_fault origin (ByTime identity.hertz) e called ≡ None
+  pub text_is : text ≡ origin_text origin (ByTime identity.hertz) e called
+
+-- the metadata stands at the front of the room, and behind it is what was there
+pub record PutsMetadata (identity : Identity) (e : EnabledRows) (names : List (List ℕ)) (kinds room : List ℕ) (size : ℕ) (filled : List ℕ) : Type 0 where
+  pub text : List ℕ
+  pub is_metadata : IsMetadata identity e names kinds text
+  pub size_is : size ≡ length text
+  pub fills : Fills room text filled
+
+-- these names aren't all texts, or memory was wanting
+abbrev pub HasNoTexts : List (List ℕ) → TextFault → Type 0
+HasNoTexts names NotText = All IsUtf8 names → ⊥
+HasNoTexts names (Metadata fault) = fault ≡ metadata.Memory
+HasNoTexts names (TooSmall needed) = ⊥
+HasNoTexts names BadKind = ⊥
+HasNoTexts names Count = ⊥
+
+-- these numbers aren't all of kinds, or there aren't as many as are wanted, or memory was wanting
+abbrev pub HasNoEvents : List ℕ → TextFault → Type 0
+HasNoEvents kinds BadKind = All (λ kind. kind < 3) kinds → ⊥
+HasNoEvents kinds Count = Unit {0}
+HasNoEvents kinds (Metadata fault) = fault ≡ metadata.Memory
+HasNoEvents kinds (TooSmall needed) = ⊥
+HasNoEvents kinds NotText = ⊥
+
+-- a text of the identity isn't UTF-8
+abbrev pub HasNoOrigin : Identity → Type 0
+HasNoOrigin identity = (IsUtf8 identity.host.now → ⊥) ⊎ (IsUtf8 identity.name.now → ⊥)
+
+-- so these, or so called, have no metadata
+abbrev pub IsRefused : Identity → EnabledRows → List (List ℕ) → List ℕ → MetadataFault → Type 0
+IsRefused identity e names kinds fault =
+    (origin : Origin) × (IsOrigin identity origin × ((called : Names) × (AreNames names kinds called × (origin_fault origin (ByTime identity.hertz) e called ≡ Some fault))))
+
+-- why there is no metadata
+abbrev pub HasNoMetadata : Identity → EnabledRows → List (List ℕ) → List ℕ → TextFault → Type 0
+HasNoMetadata identity e names kinds (Metadata fault) = (fault ≡ metadata.Memory) ⊎ IsRefused identity e names kinds fault
+HasNoMetadata identity e names kinds NotText = HasNoOrigin identity
+HasNoMetadata identity e names kinds BadKind = All (λ kind. kind < 3) kinds → ⊥
+HasNoMetadata identity e names kinds Count = Unit {0}
+HasNoMetadata identity e names kinds (TooSmall needed) = ⊥
+
+-- why it isn't put into a room of so many bytes
+abbrev pub PutsNone : Identity → EnabledRows → List (List ℕ) → List ℕ → ℕ → TextFault → Type 0
+PutsNone identity e names kinds room (TooSmall needed) =
+    ((text : List ℕ) × (IsMetadata identity e names kinds text × (needed ≡ length text))) × (room < needed)
+PutsNone identity e names kinds room NotText = HasNoOrigin identity ⊎ (All IsUtf8 names → ⊥)
+PutsNone identity e names kinds room BadKind = HasNoMetadata identity e names kinds BadKind
+PutsNone identity e names kinds room Count = HasNoMetadata identity e names kinds Count
+PutsNone identity e names kinds room (Metadata fault) = HasNoMetadata identity e names kinds (Metadata fault)

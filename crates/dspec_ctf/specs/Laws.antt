@@ -1,0 +1,36 @@
+-- Cited by calls. What the laws say, each by its name.
+use Rattle.std.specs.Prelude.{◌≡◌, ◌<◌, ◌≤◌, ℕ, List, All, length, map, slice_index, slice_range, zip}
+use Rattle.std.specs.List.Sorted.{IsNonDecreasingBy}
+use Rattle.dspec_record.specs.EnablingRows.{EnabledRows}
+use Rattle.dspec_record.specs.Record.{Record}
+use Rattle.dspec_ctf.specs.ByTime.{timed_packets}
+use Rattle.dspec_ctf.specs.Packets.{packet}
+use Rattle.dspec_ctf.specs.Rows.{Spreads, of_file, run_files, run_records}
+use Rattle.dspec_ctf.specs.Streams.{Accepts}
+use Rattle.dspec_ctf.specs.declared.rows.Run.{Run}
+
+module _ (e : EnabledRows) where
+  -- two lists of records with the same packet are one list
+  abbrev pub PacketIsOfOneList : Type 0
+  PacketIsOfOneList = (uuid : List ℕ) (missed cpu told other : ℕ) (rs qs : List Record) → All (Accepts e) rs → All (Accepts e) qs
+      → packet uuid e missed cpu rs ≡ packet uuid e told other qs → rs ≡ qs
+
+  -- two lists of records with the same packets by time are one list
+  abbrev pub StreamIsOfOneList : Type 0
+  StreamIsOfOneList = (uuid : List ℕ) (missed cpu told other : ℕ) (rs qs : List Record) → All (Accepts e) rs → All (Accepts e) qs
+      → timed_packets uuid e missed cpu rs ≡ timed_packets uuid e told other qs → rs ≡ qs
+
+-- in this file stamps don't fall, nor to before the last stamp that it had
+abbrev pub StampsRise : List ℕ → List Record → List ℕ → ℕ → Type 0
+StampsRise lasts rs files file =
+    IsNonDecreasingBy (λ r. r.stamp) (of_file file files rs) × (file < length lasts → All (λ r. slice_index lasts file ≤ r.stamp) (of_file file files rs))
+
+-- side by side with the numbers of their files, of which there are so many, 64 at most, these are all the records in their order
+abbrev pub AreFiled : List Record → List ℕ → ℕ → Type 0
+AreFiled rs files count =
+    (map (λ p. p.1) (zip files rs) ≡ rs) × (map (λ p. p.0) (zip files rs) ≡ files) × All (λ file. file < count) files × (count ≤ 64)
+
+-- these runs have all the records from one place to another, and each record goes to the file of its run
+abbrev pub HaveAllBetween : List ℕ → List Record → ℕ → List Run → ℕ → List ℕ → Type 0
+HaveAllBetween lasts rs from runs to new =
+    (run_records rs from runs ≡ slice_range rs from to) × Spreads lasts (slice_range rs from to) (run_files from runs) new

@@ -1,0 +1,118 @@
+-- A file that is sound is one packet that is, and then the others.
+use Rattle.std.proofs.Common.{◌≡◌, ◌≤◌, ◌<◌, ◌++◌, ℕ, List, [], ◌∷◌, length, map, Option, Some, None, option_map, refl, ap, sym, subst, ◌∙◌, arith}
+use Rattle.std.specs.Prelude.{All, option_and_then, unwrap_or}
+use Rattle.std.specs.Option.{option_map_or}
+use Rattle.std.specs.List.{flat_map}
+use Rattle.std.proofs.lemmas.List.Elements.{All-head, All-tail, All-nil, All-cons}
+use Rattle.dspec_ctf_reading.specs.Reading.{Layout, PacketRead, Part, read_packet, read_file}
+use Rattle.dspec_ctf_reading.proofs.Bounds.{packets-on-bytes}
+use Rattle.dspec_ctf_reading.specs.declared.events.Event.{Event}
+use Rattle.dspec_ctf_reading.specs.Told.{as_read}
+use Rattle.dspec_ctf_reading.specs.declared.folder.packet.ReadPacket.{ReadPacket}
+use Rattle.dspec_ctf_reading.specs.Folders.Checks.{RisesFrom, last_of, stamps_of, times_of, packet_as_read, IsSoundFrom}
+
+-- a list that rises, in two parts
+pub rises-append : (before : ℕ) (xs ys : List ℕ) → RisesFrom before xs → RisesFrom (last_of before xs) ys → RisesFrom before (xs ++ ys)
+rises-append before [] ys first second = second
+rises-append before (x ∷ xs) ys first second = (first.0, rises-append x xs ys first.1 second)
+
+pub rises-first : (before : ℕ) (xs ys : List ℕ) → RisesFrom before (xs ++ ys) → RisesFrom before xs
+rises-first before [] ys rises = tt
+rises-first before (x ∷ xs) ys rises = (rises.0, rises-first x xs ys rises.1)
+
+pub rises-second : (before : ℕ) (xs ys : List ℕ) → RisesFrom before (xs ++ ys) → RisesFrom (last_of before xs) ys
+rises-second before [] ys rises = rises
+rises-second before (x ∷ xs) ys rises = rises-second x xs ys rises.1
+
+pub last-append : (before : ℕ) (xs ys : List ℕ) → last_of before (xs ++ ys) ≡ last_of (last_of before xs) ys
+last-append before [] ys = refl
+last-append before (x ∷ xs) ys = last-append x xs ys
+
+-- the stamps of events as they are read
+pub stamps-read : (layout : Layout) (events : List Event) → map (λ e. unwrap_or e.stamp 0) (map (as_read layout) events) ≡ stamps_of events
+stamps-read layout [] = refl
+stamps-read layout (e ∷ events) = ap (λ more. unwrap_or e.stamp 0 ∷ more) (stamps-read layout events)
+
+-- the times of a packet with stamps, whose events are these
+module _ (layout : Layout) (p : ReadPacket) (events : List Event) (begin end last : ℕ) (is : p.front.span ≡ Some (begin, end)) (are : events ≡ p.events.items) where
+  times : times_of (packet_as_read layout p) ≡ begin ∷ (stamps_of events ++ end ∷ [])
+  times =
+      ap (λ o. option_map_or (λ span. span.0 ∷ (map (λ e. unwrap_or e.stamp 0) (map (as_read layout) p.events.items) ++ span.1 ∷ [])) o []) is
+      ∙ ap (λ more. begin ∷ (more ++ end ∷ [])) (stamps-read layout p.events.items ∙ ap stamps_of (sym are))
+
+  pub falls-end : (from : ℕ) → from ≡ last_of begin (stamps_of events) → end < from → ¬ RisesFrom last (times_of (packet_as_read layout p))
+  falls-end from same less rises =
+      let all : RisesFrom last (begin ∷ (stamps_of events ++ end ∷ [])) = subst (RisesFrom last) times rises in
+      let behind : RisesFrom (last_of begin (stamps_of events)) (end ∷ []) = rises-second begin (stamps_of events) (end ∷ []) all.1 in
+      absurd (omega (arith, same, less, behind.0))
+
+  pub falls-within : ¬ RisesFrom begin (stamps_of events) → ¬ RisesFrom last (times_of (packet_as_read layout p))
+  falls-within none rises =
+      let all : RisesFrom last (begin ∷ (stamps_of events ++ end ∷ [])) = subst (RisesFrom last) times rises in
+      none (rises-first begin (stamps_of events) (end ∷ []) all.1)
+
+  pub rises-whole : (from : ℕ) → last ≤ begin → RisesFrom begin (stamps_of events) → from ≡ last_of begin (stamps_of events) → from ≤ end
+      → RisesFrom last (times_of (packet_as_read layout p)) × (end ≡ last_of last (times_of (packet_as_read layout p)))
+  rises-whole from low rises same high =
+      let second : RisesFrom (last_of begin (stamps_of events)) (end ∷ []) = (omega (arith, same, high), tt) in
+      let all : RisesFrom last (begin ∷ (stamps_of events ++ end ∷ [])) = (low, rises-append begin (stamps_of events) (end ∷ []) rises second) in
+      let ends : last_of last (begin ∷ (stamps_of events ++ end ∷ [])) ≡ end = last-append begin (stamps_of events) (end ∷ []) in
+      (subst (RisesFrom last) (sym times) all, sym ends ∙ ap (last_of last) (sym times))
+
+-- reading goes on behind a packet
+abbrev file_by : Layout → Part PacketRead → Option (List PacketRead)
+file_by layout part = option_and_then (λ p. option_map (λ packets. p.0 ∷ packets) (read_file layout p.1)) part
+
+-- the parts of what was read in two
+record Parts (p : PacketRead) (o : Option (List PacketRead)) (ps : List PacketRead) : Type 0 where
+  rest : List PacketRead
+  is : o ≡ Some rest
+  all : ps ≡ p ∷ rest
+
+parts : (p : PacketRead) (o : Option (List PacketRead)) (ps : List PacketRead) → option_map (λ packets. p ∷ packets) o ≡ Some ps → Parts p o ps
+parts p None ps is = absurd (cc)
+parts p (Some rest) ps is = let same : p ∷ rest ≡ ps = cc in record { rest = rest; is = refl; all = sym same }
+
+module _ (layout : Layout) (uuid : List ℕ) (cpu : ℕ) where
+  pub sound-nil : (last : ℕ) (rest : List ℕ) → length rest ≡ 0 → IsSoundFrom layout uuid cpu last rest
+  sound-nil last [] none = record { packets = []; read = refl; whose = All-nil (λ p. (p.uuid ≡ uuid) × (p.cpu ≡ cpu)); rises = tt }
+  sound-nil last (b ∷ rest) none = absurd (omega (arith, none))
+
+  pub sound-step : (last : ℕ) (rest behind : List ℕ) (p : PacketRead) → 0 < length rest → read_packet layout rest ≡ Some (p, behind) → p.uuid ≡ uuid → p.cpu ≡ cpu → RisesFrom last (times_of p)
+      → IsSoundFrom layout uuid cpu (last_of last (times_of p)) behind → IsSoundFrom layout uuid cpu last rest
+  sound-step last rest behind p some is of_uuid of_cpu rises sound = record {
+    packets = p ∷ sound.packets;
+    read = packets-on-bytes layout rest some ∙ ap (file_by layout) is ∙ ap (option_map (λ packets. p ∷ packets)) sound.read;
+    whose = All-cons (λ q. (q.uuid ≡ uuid) × (q.cpu ≡ cpu)) p sound.packets (of_uuid, of_cpu) sound.whose;
+    rises = rises-append last (times_of p) (flat_map times_of sound.packets) rises sound.rises;
+  }
+
+  pub record Back (last : ℕ) (behind : List ℕ) (p : PacketRead) : Type 0 where
+    pub of_uuid : p.uuid ≡ uuid
+    pub of_cpu : p.cpu ≡ cpu
+    pub rises : RisesFrom last (times_of p)
+    pub sound : IsSoundFrom layout uuid cpu (last_of last (times_of p)) behind
+
+  pub sound-back : (last : ℕ) (rest behind : List ℕ) (p : PacketRead) → 0 < length rest → read_packet layout rest ≡ Some (p, behind) → IsSoundFrom layout uuid cpu last rest → Back last behind p
+  sound-back last rest behind p some is sound =
+      let two : Parts p (read_file layout behind) sound.packets =
+      parts p (read_file layout behind) sound.packets (sym (ap (file_by layout) is) ∙ sym (packets-on-bytes layout rest some) ∙ sound.read) in
+      let whose : All (λ q. (q.uuid ≡ uuid) × (q.cpu ≡ cpu)) (p ∷ two.rest) = subst (All (λ q. (q.uuid ≡ uuid) × (q.cpu ≡ cpu))) two.all sound.whose in
+      let rises : RisesFrom last (times_of p ++ flat_map times_of two.rest) = subst (λ ps. RisesFrom last (flat_map times_of ps)) two.all sound.rises in
+      let first = All-head (λ q. (q.uuid ≡ uuid) × (q.cpu ≡ cpu)) p two.rest whose in
+      record {
+        of_uuid = first.0;
+        of_cpu = first.1;
+        rises = rises-first last (times_of p) (flat_map times_of two.rest) rises;
+        sound = record {
+          packets = two.rest;
+          read = two.is;
+          whose = All-tail (λ q. (q.uuid ≡ uuid) × (q.cpu ≡ cpu)) p two.rest whose;
+          rises = rises-second last (times_of p) (flat_map times_of two.rest) rises;
+        };
+      }
+
+  pub sound-none : (last : ℕ) (rest : List ℕ) → 0 < length rest → read_packet layout rest ≡ None → ¬ IsSoundFrom layout uuid cpu last rest
+  sound-none last rest some is sound =
+      let none : None ≡ Some sound.packets = sym (ap (file_by layout) is) ∙ sym (packets-on-bytes layout rest some) ∙ sound.read in
+      absurd (cc)

@@ -1,0 +1,85 @@
+-- A packet that is split off leaves fewer bytes, those from its end on.
+use Rattle.std.proofs.Common.{◌≡◌, ◌≤◌, ◌<◌, ◌+◌, ◌-◌, ◌/◌, ◌%◌, ◌==◌, ◌++◌, ℕ, Bool, true, false, cond, List, [], ◌∷◌, length, take, drop, Some, None}
+use Rattle.std.proofs.Common.{leb, refl, ap, sym, ◌∙◌, arith, length-drop}
+use Rattle.std.specs.Prelude.{option_and_then}
+use Rattle.std.proofs.lemmas.Bool.{leb-true, and_parts}
+use Rattle.std.proofs.lemmas.List.{drop-drop}
+use Rattle.dspec_ctf_reading.specs.Reading.{FrontRead, Part, read_front, sizes_agree}
+use Rattle.dspec_ctf_reading.specs.Fronts.{PacketSplit, split_behind, split_packet}
+use Rattle.dspec_ctf_reading.proofs.Bounds.{Leaves, front-leaves}
+use Rattle.dspec_ctf_reading.specs.Folders.Whole.{SplitsInto, AreWholeBefore}
+
+-- what a packet leaves
+pub record Left (bytes behind : List ℕ) : Type 0 where
+  pub end : ℕ
+  pub some : 0 < end
+  pub within : end ≤ length bytes
+  pub is : behind ≡ drop end bytes
+
+go-split : (bytes : List ℕ) (front : FrontRead) (rest : List ℕ) (s : PacketSplit) → length rest ≤ length bytes - 4 → 0 < length bytes → split_behind bytes front rest ≡ Some s → Left bytes s.behind
+go-split bytes front rest s few some is = go (sizes_agree front read (length bytes)) refl is
+  where
+    read : ℕ
+    read = length bytes - length rest
+
+    end : ℕ
+    end = front.packet_size / 8
+
+    split : PacketSplit
+    split = record { front = front; body = take (end - read) rest; behind = drop end bytes }
+
+    go : (b : Bool) → sizes_agree front read (length bytes) ≡ b → cond b (Some split) None ≡ Some s → Left bytes s.behind
+    go true agree same =
+        let first = and_parts (front.content_size == front.packet_size) _ agree in
+        let second = and_parts (front.packet_size % 8 == 0) _ first.1 in
+        let third = and_parts (leb read end) (leb end (length bytes)) second.1 in
+        let low : read ≤ end = leb-true read end third.0 in
+        let high : end ≤ length bytes = leb-true end (length bytes) third.1 in
+        let this : split ≡ s = cc in
+        record { end = end; some = omega (arith, low, few, some); within = high; is = sym (ap (λ p. p.behind) this) }
+    go false agree same = absurd (cc)
+
+pub left : (timed : Bool) (bytes : List ℕ) (s : PacketSplit) → split_packet timed bytes ≡ Some s → Left bytes s.behind
+unfolding Leaves
+left timed [] s is = absurd (cc)
+left timed (b ∷ bytes) s is = go (read_front timed (b ∷ bytes)) (front-leaves timed (b ∷ bytes)) is
+  where
+    go : (part : Part FrontRead) → Leaves (length (b ∷ bytes) - 4) part → option_and_then (λ p. split_behind (b ∷ bytes) p.0 p.1) part ≡ Some s → Left (b ∷ bytes) s.behind
+    go None few same = absurd (cc)
+    go (Some p) few same = go-split (b ∷ bytes) p.0 p.1 s few (omega arith) same
+
+-- these bytes are the others from some place on
+pub record IsTail (bytes rest : List ℕ) : Type 0 where
+  pub from : ℕ
+  pub within : from ≤ length bytes
+  pub is : rest ≡ drop from bytes
+
+pub tail-on : (bytes rest behind : List ℕ) → IsTail bytes rest → Left rest behind → IsTail bytes behind
+tail-on bytes rest behind tail left = record {
+  from = tail.from + left.end;
+  within = omega (arith, tail.within, left.within, ap length tail.is, length-drop tail.from bytes);
+  is = left.is ∙ ap (drop left.end) tail.is ∙ drop-drop left.end tail.from bytes;
+}
+
+pub tail-whole : (bytes : List ℕ) → IsTail bytes bytes
+tail-whole bytes = record { from = 0; within = omega arith; is = refl }
+
+pub tail-dropped : (bytes rest : List ℕ) → IsTail bytes rest → drop (length bytes - length rest) bytes ≡ rest
+tail-dropped bytes rest tail =
+    let same : length bytes - length rest ≡ tail.from = omega (arith, tail.within, ap length tail.is, length-drop tail.from bytes) in
+    ap (λ k. drop k bytes) same ∙ sym tail.is
+
+pub shorter : (bytes behind : List ℕ) → Left bytes behind → length behind < length bytes
+shorter bytes behind left = omega (arith, left.some, left.within, ap length left.is, length-drop left.end bytes)
+
+-- one packet more
+more-split : (timed : Bool) (bytes : List ℕ) (packets : List PacketSplit) (rest : List ℕ) (s : PacketSplit) → SplitsInto timed bytes packets rest → split_packet timed rest ≡ Some s
+    → SplitsInto timed bytes (packets ++ s ∷ []) s.behind
+more-split timed bytes [] rest s are is = (ap (split_packet timed) are ∙ is, refl)
+more-split timed bytes (packet ∷ packets) rest s are is = (are.0, more-split timed packet.behind packets rest s are.1 is)
+
+pub whole-more : (timed : Bool) (bytes rest : List ℕ) (s : PacketSplit) → AreWholeBefore timed bytes rest → split_packet timed rest ≡ Some s → AreWholeBefore timed bytes s.behind
+whole-more timed bytes rest s before is = record { packets = before.packets ++ s ∷ []; are = more-split timed bytes before.packets rest s before.are is }
+
+pub whole-none : (timed : Bool) (bytes : List ℕ) → AreWholeBefore timed bytes bytes
+whole-none timed bytes = record { packets = []; are = refl }

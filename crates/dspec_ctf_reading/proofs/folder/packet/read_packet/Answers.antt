@@ -1,0 +1,30 @@
+use Rattle.std.proofs.Common.{◌≡◌, ℕ, List, Option, Some, rules, ap, ◌∙◌, option_map}
+use Rattle.std.specs.Prelude.{option_and_then}
+use Rattle.dspec_ctf_reading.specs.Reading.{Layout, Part, FrontRead, EventRead, PacketRead, with_events}
+use Rattle.dspec_ctf_reading.specs.Fronts.{PacketSplit, front_of, split_packet}
+use Rattle.dspec_ctf_reading.proofs.Shorter.{packet-split}
+use Rattle.dspec_ctf_reading.specs.Told.{told_layout, told_packet}
+use Rattle.dspec_ctf_reading.proofs.Folders.Splitting.{left, shorter}
+use Rattle.dspec_ctf_reading.proofs.folder.packet.read_packet.Goals as goal
+
+-- a packet of these events
+abbrev whole : FrontRead → Option (List EventRead) → Option PacketRead
+whole front events = option_map (λ es. record { uuid = front.uuid; cpu = front.cpu; discarded = front.discarded; span = front.span; events = es }) events
+
+-- a packet with what is behind it
+abbrev beside : List ℕ → Option PacketRead → Part PacketRead
+beside behind packet = option_map (λ p. (p, behind)) packet
+
+abbrev of_split : Layout → Option PacketSplit → Part PacketRead
+of_split layout split = option_and_then (λ s. beside s.behind (with_events layout s.front s.body)) split
+
+pub returns-in-Ok-read_events-clause-read : goal.returns-in-Ok-read_events-clause-read
+returns-in-Ok-read_events-clause-read c =
+    let layout : Layout = told_layout c.args.metadata.now in
+    let timed : layout.timed ≡ c.is_some.result = search rules in
+    let split : split_packet layout.timed c.args.bytes.now ≡ Some (told_packet c.in-Ok.packet) = ap (λ t. split_packet t c.args.bytes.now) timed ∙ c.in-Ok.ensures.read in
+    packet-split layout c.args.bytes.now ∙ ap (of_split layout) split
+    ∙ ap (λ events. beside c.in-Ok.packet.behind.now (whole (front_of c.in-Ok.packet.front) events)) c.in-Ok-read_events.ensures.read
+
+pub returns-in-Ok-read_events-clause-shorter : goal.returns-in-Ok-read_events-clause-shorter
+returns-in-Ok-read_events-clause-shorter c = shorter _ _ (left _ _ _ c.in-Ok.ensures.read)

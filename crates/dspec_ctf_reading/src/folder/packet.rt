@@ -1,0 +1,62 @@
+//! A file, packet by packet.
+
+ghost use Rattle.std.specs.Prelude.{◌≡◌, ◌<◌, IfErr, IfOk, IsTrue, None, Some, length};
+ghost use Rattle.dspec_ctf_reading.specs.Reading.{read_packet as packet_from};
+ghost use Rattle.dspec_ctf_reading.specs.Told.{told_layout};
+ghost use Rattle.dspec_ctf_reading.specs.Folders.Checks.{is_of_bytes, packet_as_read};
+
+use super::fault::{FileFault, Wrong};
+use crate::{Event, Front, Metadata, next_packet, read_events};
+use std::alloc::Global;
+
+/// A packet that was read, with all its events.
+#[derive(Debug, Drop)]
+pub struct ReadPacket<'b> {
+    /// What it tells before its events.
+    pub front: Front,
+    /// Its events, in order.
+    pub events: Vec<Event>,
+    /// Where its events begin in its file, in bytes.
+    pub body_at: usize,
+    /// The bytes behind it.
+    pub behind: &'b [u8],
+}
+
+/// The packet with which these bytes begin, which begin at this byte of their file.
+pub fn read_packet<'b>(
+    alloc: Global,
+    metadata: &Metadata<'_>,
+    at: usize,
+    bytes: &'b [u8],
+) -> Result<ReadPacket<'b>, FileFault>
+    ensures read { IfOk result (λ packet. packet_from (told_layout metadata.now) bytes.now ≡ Some (packet_as_read (told_layout metadata.now) packet, packet.behind.now)) }
+    ensures none { IfErr result (λ fault. IsTrue (is_of_bytes fault.wrong) → packet_from (told_layout metadata.now) bytes.now ≡ None) }
+    ensures shorter { IfOk result (λ packet. length packet.behind.now < length bytes.now) }
+{
+    let packet = match next_packet(metadata.clock.is_some(), bytes) {
+        Ok(packet) => packet,
+        Err(fault) => {
+            return Err(FileFault {
+                at,
+                wrong: Wrong::Packet(fault),
+            });
+        }
+    };
+    let front_size = bytes
+        .len()
+        .saturating_sub(packet.behind.len())
+        .saturating_sub(packet.body.len());
+    let body_at = at.saturating_add(front_size);
+    match read_events(alloc, metadata, packet.body) {
+        Ok(events) => Ok(ReadPacket {
+            front: packet.front,
+            events,
+            body_at,
+            behind: packet.behind,
+        }),
+        Err(fault) => Err(FileFault {
+            at: body_at.saturating_add(fault.at),
+            wrong: Wrong::Event(fault.fault),
+        }),
+    }
+}

@@ -1,7 +1,0 @@
-use Rattle.std.proofs.Common.{subst}
-use Rattle.dspec_record.specs.EnablingRows.{EnabledRows}
-use Rattle.dspec_demo.specs.Results.{AllFollow}
-use Rattle.dspec_demo.proofs.demonstration.showing.Demonstration.lines.Goals as goal
-
-pub returns-clause-ordered : goal.returns-clause-ordered
-returns-clause-ordered c = subst (λ (s : EnabledRows). AllFollow s c.args.self.session c.args.self.orders c.tell.result) c.requires.schema c.tell.ensures.ordered

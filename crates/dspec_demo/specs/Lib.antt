@@ -1,6 +1,0 @@
-pub mod Demonstrated
-pub mod Rising
-pub mod Visits
-pub mod Crews
-pub mod Races
-pub mod Results

@@ -1,3 +1,0 @@
-mod Rows
-pub mod Checking
-pub mod Splitting

@@ -1,0 +1,86 @@
+-- Cited by calls. What the laws of plays say of a state, of a call and of whole calls, where it is long.
+use Rattle.std.specs.Prelude.{ℕ, ◌≡◌, ◌≢◌, ◌<◌, ◌∷◌, ◌++◌, Bool, false, nat_le, ◌&&◌, List, map, Option, Some, None}
+use Rattle.dspec_record.specs.Record.{Record}
+use Rattle.dspec_record.specs.declared.field.Shape.{Shape}
+use Rattle.dspec_word.specs.SpecId.{Speculation}
+use Rattle.dspec_deeds.specs.declared.calls.Actor.TheVariants as actor
+use Rattle.dspec_deeds.specs.declared.calls.ConsumerOp.{ConsumerOp}
+use Rattle.dspec_deeds.specs.declared.calls.ConsumerOp.TheVariants as consumer_op
+use Rattle.dspec_deeds.specs.declared.calls.CpuOp.{CpuOp}
+use Rattle.dspec_deeds.specs.declared.calls.Turn.{Turn}
+use Rattle.dspec_deeds.specs.declared.config.Config.{Config}
+use Rattle.dspec_deeds.specs.declared.deed.DecideFate.{DecideFate}
+use Rattle.dspec_deeds.specs.declared.deed.Deed.{Deed}
+use Rattle.dspec_deeds.specs.Closes.{closing}
+use Rattle.dspec_deeds.specs.History.{solo, verdict, is_undecided, scan}
+use Rattle.dspec_deeds.specs.Own.{calls}
+use Rattle.dspec_deeds.specs.Weaving.{woven, HaveLists}
+use Rattle.dspec_interleaving.specs.declared.flight.CallPlace.{CallPlace}
+use Rattle.dspec_interleaving.specs.declared.flight.CallPlace.TheVariants as flight
+use Rattle.dspec_interleaving.specs.Bounds.{flight_bound, op_bound, consumer_bound}
+use Rattle.dspec_interleaving.specs.Coherent.{PlayState, progress_of}
+use Rattle.dspec_interleaving.specs.CpuClose.{IsCloseOf}
+use Rattle.dspec_interleaving.specs.Plays.{answers_of, play_fault, played, worn_count}
+use Rattle.dspec_interleaving.specs.SoloRule.{IsReleasing, ReleasesLast}
+use Rattle.dspec_interleaving.specs.Turns.{at_start, begin_cpu, begin_consumer, step, on_to_end}
+use Rattle.dspec_interleaving.specs.Wearing.{is_first}
+use Rattle.dspec_interleaving.specs.Whole.{Call, of_consumer, behind_cpu, cpu_call, behind_consumer, consumer_call, behind_all, HasService, IsReleased}
+use Rattle.dspec_interleaving.specs.WholePlays.{turn_of}
+
+-- no call of the CPU is in flight
+abbrev pub IsCpuIdle : ℕ → PlayState → Type 0
+IsCpuIdle c st = (progress_of st.progresses c).flight ≡ None
+
+-- no call of any CPU is in flight
+abbrev pub AreCpusIdle : PlayState → Type 0
+AreCpusIdle st = (c : ℕ) → c < st.config.cpus → IsCpuIdle c st
+
+-- the CPU's call in flight, which stands there, has made fewer steps than its bound
+abbrev pub IsBelowBound : ℕ → CallPlace → PlayState → Type 0
+IsBelowBound c f st = (progress_of st.progresses c).steps < flight_bound st.config f
+
+-- the CPU's next step is the first of a call, and the CPU has entered as many calls as it may
+abbrev pub is_worn_next : ℕ → PlayState → Bool
+is_worn_next c st = is_first (progress_of st.progresses c).flight && nat_le st.config.max_calls (calls c st.deeds)
+
+module _ (shape : ℕ → Option Shape) where
+  -- where the CPU's step decides the speculation alone, it releases the slot, or its call's next step does
+  abbrev pub ReleasesAsItDecides : PlayState → ℕ → Speculation → Type 0
+  ReleasesAsItDecides st c id =
+      solo id st.deeds ≡ None → solo id (step shape (actor.Cpu c) st).state.deeds ≢ None → IsReleasing c id st.deeds (step shape (actor.Cpu c) st)
+
+  -- where the CPU's call has to release yet what it decided alone, its step does, and is the call's last
+  abbrev pub ReleasesAtNextStep : PlayState → ℕ → Speculation → DecideFate → Type 0
+  ReleasesAtNextStep st c id f =
+      (progress_of st.progresses c).flight ≡ Some (flight.CommitRelease id f) → ReleasesLast c id f st.deeds (step shape (actor.Cpu c) st)
+
+  -- the CPU's call, which begins here and runs alone, leaves and answers what the definition of whole calls says
+  abbrev pub RunsAsWholeCpu : PlayState → ℕ → CpuOp → Type 0
+  RunsAsWholeCpu st c o =
+      on_to_end shape (op_bound st.config o) (actor.Cpu c) (begin_cpu c o st) None
+      ≡ record { state = behind_cpu c (cpu_call shape c o st) st; answer = Some (cpu_call shape c o st).answer }
+
+  -- the same of a call of the consumer
+  abbrev pub RunsAsWholeConsumer : PlayState → ConsumerOp → Type 0
+  RunsAsWholeConsumer st o =
+      on_to_end shape (consumer_bound st.config o) actor.Consumer (begin_consumer o st) None
+      ≡ record { state = behind_consumer (consumer_call shape o st) st; answer = Some (consumer_call shape o st).answer }
+
+  -- behind the play as many of the CPU's calls are counted as worn as were answered Worn
+  abbrev pub CountsWorn : Config → List Turn → ℕ → Type 0
+  CountsWorn k ts c = (progress_of (played shape k ts).state.progresses c).worn ≡ worn_count (answers_of shape k ts) c
+
+  -- where the calls ws decide the speculation, and the calls xs behind them have a service of each CPU, a clean behind those has released its
+  -- slot, and so it stays behind the calls ys
+  abbrev pub IsReleasedBy : Config → Speculation → List Call → List Call → List Call → Type 0
+  IsReleasedBy k id ws xs ys =
+      is_undecided (verdict id (behind_all shape ws (at_start k)).deeds) ≡ false → ((c : ℕ) → c < k.cpus → HasService c xs)
+      → IsReleased id (behind_all shape (xs ++ (of_consumer consumer_op.Clean ∷ ys)) (behind_all shape ws (at_start k))).deeds
+
+  -- where p has each CPU's list of those, and no call of speculation is under way, the close of the woven list is that of these lists
+  abbrev pub ClosesWoven : Config → (ℕ → List Deed) → List Deed → Type 0
+  ClosesWoven k p h = HaveLists shape k p h → ((c : ℕ) → c < k.cpus → scan k c h ≡ 0) → IsCloseOf shape k p h (closing shape k (woven k.cpus p h))
+
+-- a schedule of these whole calls is refused nowhere
+abbrev pub ArePlayed : (ℕ → Option Shape) → (Record → Bool) → Config → List Call → Type 0
+ArePlayed shape accepts k xs = play_fault shape accepts k (map turn_of xs) ≡ None

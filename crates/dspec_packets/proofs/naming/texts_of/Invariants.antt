@@ -1,6 +1,0 @@
-use Rattle.std.proofs.Common.{◌≡◌, map, take}
-use Rattle.dspec_packets.proofs.naming.texts_of.Given as goal
-
--- the texts so far are the names so far
-abbrev pub invariant-loop-name : goal.invariant-loop-name
-invariant-loop-name l = map (λ t. t.now) l.texts.items ≡ take l.name-index (map (λ n. n.now) l.names)

@@ -1,4 +1,0 @@
-pub mod Batches
-pub mod Calls
-pub mod Filing
-pub mod Naming

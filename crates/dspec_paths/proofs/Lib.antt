@@ -1,2 +1,0 @@
-mod MoreVerdicts
-mod MoreWaits

@@ -1,4 +1,0 @@
-use Rattle.dspec_paths.proofs.barrier.Barrier.serve.Goals as goal
-
-pub returns-clause-serves : goal.returns-clause-serves
-returns-clause-serves g c = record { answer = c.service.result; serves = c.service.ensures.does }

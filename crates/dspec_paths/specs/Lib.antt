@@ -1,4 +1,0 @@
-pub mod Belts
-pub mod Waits
-pub mod Said
-pub mod Settled

@@ -1,3 +1,0 @@
-pub mod SameDeeds
-pub mod SeatsDid
-pub mod ConsumerMakes

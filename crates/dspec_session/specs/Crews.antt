@@ -1,0 +1,21 @@
+-- Serves proofs. What four workers are given, and give back.
+use Rattle.std.specs.Prelude.{Bool}
+use Rattle.dspec_record.specs.EnablingRows.{EnabledRows}
+use Rattle.dspec_cpu.specs.declared.cpu.Cpu.{Cpu}
+use Rattle.dspec_cpu.specs.declared.shared.Shared.{Shared}
+use Rattle.dspec_session.specs.declared.demonstration.four.Four.{Four}
+use Rattle.dspec_session.specs.Demonstrated.{CameBack, CanWork}
+
+-- each can make its rounds
+pub record AllCanWork (shared : Shared) (cpus : Four (Cpu EnabledRows)) : Type 0 where
+  pub first : CanWork shared 400 cpus.first
+  pub second : CanWork shared 400 cpus.second
+  pub third : CanWork shared 400 cpus.third
+  pub fourth : CanWork shared 400 cpus.fourth
+
+-- each came back to its place
+pub record AllWorked (cpus : Four (Cpu EnabledRows)) (back : Four (Cpu EnabledRows × Bool)) : Type 0 where
+  pub first : CameBack cpus.first back.first.0 back.first.1
+  pub second : CameBack cpus.second back.second.0 back.second.1
+  pub third : CameBack cpus.third back.third.0 back.third.1
+  pub fourth : CameBack cpus.fourth back.fourth.0 back.fourth.1

@@ -1,0 +1,156 @@
+-- Serves proofs. The deeds of a step of a play, and those of the same step of a seat at the words.
+use Rattle.std.specs.Prelude.{ℕ, ◌≡◌, ◌≤◌, ◌<◌, ◌+◌, Bool, true, false, List, [], ◌∷◌, ◌++◌, length, Option, ◌⊎◌, if◌then◌else◌}
+use Rattle.dspec_record.specs.declared.field.Shape.{Shape}
+use Rattle.dspec_buffer.specs.Extent.{one, block}
+use Rattle.dspec_word.specs.SpecId.{Speculation}
+use Rattle.dspec_word.specs.Word.{SlotState, word_number}
+use Rattle.dspec_deeds.specs.declared.config.Config.{Config}
+use Rattle.dspec_deeds.specs.declared.calls.Actor.TheVariants.{Cpu}
+use Rattle.dspec_deeds.specs.declared.calls.CpuOp.TheVariants as cpu_op
+use Rattle.dspec_deeds.specs.declared.deed.Deed.{Deed}
+use Rattle.dspec_deeds.specs.declared.deed.Deed.TheVariants.{Settle, Release}
+use Rattle.dspec_deeds.specs.History.{halted, is_among, callers, part, word_at}
+use Rattle.dspec_deeds.specs.Own.{contents, held}
+use Rattle.dspec_deeds.specs.Legal.{IsSound, fits_principal, fits_speculative}
+use Rattle.dspec_deeds.specs.Marks.{mark}
+use Rattle.dspec_deeds.specs.Weaving.{bare}
+use Rattle.dspec_interleaving.specs.declared.flight.CpuProgress.{CpuProgress}
+use Rattle.dspec_interleaving.specs.declared.flight.ConsumerFlight.{ConsumerFlight}
+use Rattle.dspec_interleaving.specs.declared.flight.ConsumerFlight.TheVariants as consumer
+use Rattle.dspec_interleaving.specs.declared.flight.ConsumerProgress.{ConsumerProgress}
+use Rattle.dspec_interleaving.specs.declared.flight.CallPlace.{CallPlace}
+use Rattle.dspec_interleaving.specs.declared.flight.CallPlace.TheVariants as cpu
+use Rattle.dspec_deeds.specs.declared.calls.ConsumerOp.TheVariants as consumer_op
+use Rattle.dspec_interleaving.specs.Calls.{op_of}
+use Rattle.dspec_interleaving.specs.Coherent.{StandsCpu}
+use Rattle.dspec_interleaving.specs.Play.{same_word, cpu_step, consumer_step}
+use Rattle.dspec_interleaving.specs.Wearing.{is_told_worn}
+use Rattle.dspec_table.specs.declared.doing.Doing.{Doing}
+use Rattle.dspec_table.specs.declared.rule.View.{View}
+use Rattle.dspec_table.specs.Asks.{LoadedAsk, StoredAsk}
+use Rattle.dspec_table.specs.Holders.{number_of}
+use Rattle.dspec_table.specs.Steps.{LoadedActivity, LoadedWord, OpenedWord, TriedWord, ReleasedWord, SettledWord, StoredActivity, LookedWord, LoadedAck, ReapedWord}
+use Rattle.dspec_table.specs.Acts.{at_activity, at_word, at_open, at_exchange, at_stop, fate_of_settlement}
+
+-- the slot whose word the next step is on
+abbrev pub slot_of : CallPlace → ℕ
+slot_of (cpu.ScanLoad s) = s
+slot_of (cpu.ScanTry s from) = s
+slot_of (cpu.SpeculateLoad id r) = id.slot
+slot_of (cpu.SpeculateTry id r from) = id.slot
+slot_of (cpu.CommitLoad id) = id.slot
+slot_of (cpu.CommitTry id from) = id.slot
+slot_of (cpu.DiscardLoad id) = id.slot
+slot_of (cpu.DiscardTry id from) = id.slot
+slot_of (cpu.ServiceLoad s sum) = s
+slot_of f = 0
+
+-- the deeds that a seat enters at each place of a call, by the activity and the word that its step shows
+abbrev pub seat_deeds : Config → ℕ → Doing → Bool → SlotState → CallPlace → List Deed
+seat_deeds k c doing stopped shown (cpu.Begun o) = at_activity k c doing doing.op stopped
+seat_deeds k c doing stopped shown (cpu.ScanLoad s) = at_word k c doing s shown doing.op
+seat_deeds k c doing stopped shown (cpu.ScanTry s from) = at_open c s shown (same_word shown from)
+seat_deeds k c doing stopped shown (cpu.SpeculateLoad id r) = at_word k c doing id.slot shown doing.op
+seat_deeds k c doing stopped shown (cpu.SpeculateTry id r from) = at_exchange k c doing id.slot shown (same_word shown from)
+seat_deeds k c doing stopped shown (cpu.CommitLoad id) = at_word k c doing id.slot shown doing.op
+seat_deeds k c doing stopped shown (cpu.CommitTry id from) = at_exchange k c doing id.slot shown (same_word shown from)
+seat_deeds k c doing stopped shown (cpu.CommitRelease id f) = Release id.slot ∷ []
+seat_deeds k c doing stopped shown (cpu.DiscardLoad id) = at_word k c doing id.slot shown doing.op
+seat_deeds k c doing stopped shown (cpu.DiscardTry id from) = at_exchange k c doing id.slot shown (same_word shown from)
+seat_deeds k c doing stopped shown cpu.ServicePop = []
+seat_deeds k c doing stopped shown cpu.ServicePush = []
+seat_deeds k c doing stopped shown (cpu.ServiceLoad s sum) = at_word k c doing s shown doing.op
+seat_deeds k c doing stopped shown (cpu.ServiceStore s w sum) = Settle c record { issue = w.issue; slot = s } (fate_of_settlement doing w.code) ∷ []
+
+-- a play's step at a place enters, Seals apart, what the seat's step enters there by the activity and the word that the list shows
+abbrev pub EntersSame : (ℕ → Option Shape) → Config → ℕ → List Deed → CpuProgress → CallPlace → Doing → Type 0
+EntersSame shape k c h me f doing = bare (cpu_step shape k c h me f).deeds ≡ seat_deeds k c doing (halted (bare h)) (word_at (slot_of f) (bare h)) f
+
+-- whether the CPU is a caller, where the identifier isn't older than the last speculation of the slot that was granted to it
+abbrev pub IsMine : ℕ → List Deed → Speculation → Doing → Type 0
+IsMine c h id doing = mark c id.slot h ≤ id.issue + 1 → doing.mine ≡ is_among c (callers id h)
+
+module _ (shape : ℕ → Option Shape) (k : Config) (c : ℕ) (h : List Deed) where
+  abbrev pub MeasuresBlock : Speculation → Doing → Type 0
+  MeasuresBlock id doing = (doing.fits ≡ fits_principal shape k c (block (contents (held c id h))) h) × (doing.count ≡ length (held c id h))
+
+  -- what was measured for the call is what the list has
+  abbrev pub Measures : Doing → CallPlace → Type 0
+  Measures doing (cpu.Begun (cpu_op.Trace r)) = doing.fits ≡ fits_principal shape k c (one r) h
+  Measures doing (cpu.SpeculateLoad id r) = (doing.fits ≡ fits_speculative shape k c id r h) × IsMine c h id doing
+  Measures doing (cpu.SpeculateTry id r from) = (doing.fits ≡ fits_speculative shape k c id r h) × IsMine c h id doing
+  Measures doing (cpu.CommitLoad id) = IsMine c h id doing
+  Measures doing (cpu.CommitTry id from) = MeasuresBlock id doing × IsMine c h id doing
+  Measures doing (cpu.DiscardLoad id) = IsMine c h id doing
+  Measures doing (cpu.DiscardTry id from) = (doing.count ≡ length (held c id h)) × IsMine c h id doing
+  Measures doing (cpu.ServiceStore s w sum) = MeasuresBlock record { issue = w.issue; slot = s } doing
+  Measures doing f = Unit {0}
+
+-- a CPU's call in flight, which isn't worn, and what its seat has of it, measured by the CPU's own list
+pub record IsSameCall (shape : ℕ → Option Shape) (k : Config) (c : ℕ) (h : List Deed) (me : CpuProgress) (f : CallPlace) (doing : Doing) : Type 0 where
+  pub sound : IsSound k h
+  pub stands : StandsCpu k c h me f
+  pub worn : is_told_worn (cpu_step shape k c h me f).answer ≡ false
+  pub op : doing.op ≡ op_of f
+  pub measured : Measures shape k c (part (Cpu c) h) doing f
+
+-- the consumer's: the deeds that its seat enters, by the word that its step shows
+abbrev pub slot_there : ConsumerFlight → ℕ
+slot_there (consumer.CleanReap s w n) = s
+slot_there f = 0
+
+abbrev pub consumer_deeds : Bool → SlotState → ConsumerFlight → List Deed
+consumer_deeds stopped shown (consumer.Begun consumer_op.Stop) = at_stop stopped
+consumer_deeds stopped shown (consumer.CleanReap s w n) = if same_word shown w then Release s ∷ [] else []
+consumer_deeds stopped shown f = []
+
+-- those that it enters by the activity and the word that a list shows
+abbrev pub deeds_cleaned : List Deed → ConsumerFlight → List Deed
+deeds_cleaned h f = consumer_deeds (halted (bare h)) (word_at (slot_there f) (bare h)) f
+
+-- an exchange, as the words' functions promise it: it hits at the word that it expected, or misses at a greater one, which it shows
+abbrev pub Exchanges : (SlotState → Bool → Type 0) → SlotState → Type 0
+Exchanges P from = P from true ⊎ ((shown : SlotState) × (word_number from < word_number shown) × P shown false)
+
+-- the step on the words that a seat makes at each place of a call, as the words' functions promise it
+abbrev pub SeatStep : Doing → View → CallPlace → View → Type 0
+SeatStep doing v (cpu.Begun cpu_op.Service) w = ((shown : SlotState) × LoadedWord doing 1 v shown w) ⊎ ((n : ℕ) × LoadedAsk (number_of v.who) v n w)
+SeatStep doing v (cpu.Begun o) w = (stopped : Bool) × LoadedActivity doing v stopped w
+SeatStep doing v (cpu.ScanLoad s) w = (shown : SlotState) × LoadedWord doing s v shown w
+SeatStep doing v (cpu.ScanTry s from) w = Exchanges (λ shown hit. OpenedWord s v shown hit w) from
+SeatStep doing v (cpu.SpeculateLoad id r) w = (shown : SlotState) × LoadedWord doing id.slot v shown w
+SeatStep doing v (cpu.SpeculateTry id r from) w = Exchanges (λ shown hit. TriedWord doing id.slot v shown hit w) from
+SeatStep doing v (cpu.CommitLoad id) w = (shown : SlotState) × LoadedWord doing id.slot v shown w
+SeatStep doing v (cpu.CommitTry id from) w = Exchanges (λ shown hit. TriedWord doing id.slot v shown hit w) from
+SeatStep doing v (cpu.CommitRelease id f) w = ReleasedWord id.slot v w
+SeatStep doing v (cpu.DiscardLoad id) w = (shown : SlotState) × LoadedWord doing id.slot v shown w
+SeatStep doing v (cpu.DiscardTry id from) w = Exchanges (λ shown hit. TriedWord doing id.slot v shown hit w) from
+SeatStep doing v cpu.ServicePop w = ⊥
+SeatStep doing v cpu.ServicePush w = ⊥
+SeatStep doing v (cpu.ServiceLoad s sum) w = (shown : SlotState) × LoadedWord doing s v shown w
+SeatStep doing v (cpu.ServiceStore s from sum) w = (from ≡ word_at s v.seen) × SettledWord doing record { issue = from.issue; slot = s } (word_at s v.seen).code v w
+
+abbrev pub ConsumerSeatStep : View → ConsumerFlight → View → Type 0
+ConsumerSeatStep v (consumer.Begun (consumer_op.Ask c)) w = (n : ℕ) × StoredAsk c n v w
+ConsumerSeatStep v (consumer.Begun (consumer_op.Take c)) w = ⊥
+ConsumerSeatStep v (consumer.Begun (consumer_op.GiveBack c)) w = ⊥
+ConsumerSeatStep v (consumer.Begun consumer_op.Clean) w = (shown : SlotState) × LookedWord 1 v shown w
+ConsumerSeatStep v (consumer.Begun consumer_op.Stop) w = StoredActivity v w
+ConsumerSeatStep v (consumer.CleanLoad s n) w = (shown : SlotState) × LookedWord s v shown w
+ConsumerSeatStep v (consumer.CleanAck s from c n) w = (acked : ℕ) × LoadedAck c s v acked w
+ConsumerSeatStep v (consumer.CleanReap s from n) w = ReapedWord s v from true w
+
+-- behind a step of the play, whose list is h: Seals apart, its deeds are the seat's latest, and the seat has seen the play's list
+pub record IsStepOfPlay (ds h : List Deed) (v w : View) : Type 0 where
+  pub own : w.own ≡ bare ds ++ v.own
+  pub seen : w.seen ≡ bare (ds ++ h)
+
+-- a CPU's step at the words, which found the list `log`, is the play's step at the same place, whatever list, Seals apart, is `log`
+abbrev pub IsCpuStepFrom : List Deed → Doing → View → CallPlace → View → Type 0
+IsCpuStepFrom log doing v f w = (shape : ℕ → Option Shape) (h : List Deed) (me : CpuProgress) → bare h ≡ log → IsSameCall shape v.config (number_of v.who) h me f doing
+    → IsStepOfPlay (cpu_step shape v.config (number_of v.who) h me f).deeds h v w
+
+-- the same of the consumer's step
+abbrev pub IsConsumerStepFrom : List Deed → View → ConsumerFlight → View → Type 0
+IsConsumerStepFrom log v f w = (h : List Deed) (side : ConsumerProgress) (all : List CpuProgress) → bare h ≡ log
+    → IsStepOfPlay (consumer_step v.config h side all f).deeds h v w

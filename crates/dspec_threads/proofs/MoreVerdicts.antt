@@ -1,0 +1,43 @@
+-- A verdict more is said to one lane, and done behind others.
+use Rattle.std.proofs.Common.{◌≡◌, ℕ, ◌+◌, ◌<◌, Bool, true, false, List, [], ◌∷◌, ◌++◌, length, refl, ap, ◌∙◌, subst, arith, append_assoc, get_or}
+use Rattle.std.specs.Prelude.{MatchBool, slice_set, option_map}
+use Rattle.std.proofs.lemmas.List.{map-set, length-append}
+use Rattle.std.proofs.lemmas.Option.{slice_get-map, slice_get_read}
+use Rattle.std.proofs.Math.Seq.{map-set_same}
+use Rattle.dspec_record.specs.declared.schema.Schema.{Ghosts}
+use Rattle.dspec_word.specs.SpecId.{Speculation}
+use Rattle.dspec_deeds.specs.declared.deed.Deed.{Deed}
+use Rattle.dspec_cpu.specs.declared.cpu.Cpu.{Cpu}
+use Rattle.dspec.specs.declared.lane.Lane.{Lane}
+use Rattle.dspec_threads.specs.Said.{SaysTo, said_by, said_to_each}
+use Rattle.dspec_threads.specs.Settled.{DoesVerdict, DoesVerdicts, SettlesNext}
+use Rattle.dspec_threads.specs.declared.saying.Sayer.{Sayer}
+use Rattle.dspec_threads.specs.declared.verdict.Verdict.{Verdict}
+
+module _ {S : Type 0} {g : Ghosts S} (has : Cpu S → List Deed → Type 0) (may : Speculation → Bool → Type 0) where
+  does_snoc : (vs : List Verdict) (v : Verdict) (old mid new : Lane S g) → DoesVerdicts has may vs old mid → may v.path.id v.keep → DoesVerdict has v mid new
+      → DoesVerdicts has may (vs ++ v ∷ []) old new
+  does_snoc [] v old mid new same said one = (said, (new, subst (λ (l : Lane S g). DoesVerdict has v l new) same one, refl))
+  does_snoc (x ∷ xs) v old mid new (its, (next, first, rest)) said one = (its, (next, first, does_snoc xs v next mid new rest said one))
+
+  pub one_more_settled : (before mid after : List Verdict) (n : ℕ) (v : Verdict) (old between new : Lane S g) → SettlesNext has may before mid n old between
+      → after ≡ mid ++ v ∷ [] → may v.path.id v.keep → DoesVerdict has v between new → SettlesNext has may before after (n + 1) old new
+  one_more_settled before mid after n v old between new so came said one = record {
+    these = so.these ++ v ∷ [];
+    came = came ∙ (ap (λ xs. xs ++ v ∷ []) so.came ∙ append_assoc before so.these (v ∷ []));
+    count = (let long = length-append so.these (v ∷ []) in let count = so.count in omega arith);
+    does = does_snoc so.these v old between new so.does said one;
+  }
+
+module _ {J : Type 0} where
+  -- what was said to one of the lanes
+  pub said_to_one : (ss : List (Sayer J)) (i : ℕ) (s t : Sayer J) (v : Verdict) (a : Bool) → i < length ss → s ≡ get_or ss i s
+      → MatchBool a (said_by t ≡ said_by s ++ v ∷ []) (said_by t ≡ said_by s) → SaysTo i v a ss (slice_set ss i t)
+  said_to_one ss i s t v true lt is said =
+      let f : Sayer J → List Verdict = said_by in (
+        said_by s,
+        slice_get-map f ss i ∙ ap (option_map f) (slice_get_read ss (length ss) i s refl lt is),
+        map-set f ss i t ∙ ap (λ x. slice_set (said_to_each ss) i x) said,
+      )
+  said_to_one ss i s t v false lt is said =
+      let f : Sayer J → List Verdict = said_by in map-set_same f ss i t s (said ∙ ap f is)

@@ -1,0 +1,12 @@
+-- As many services as rounds.
+use Rattle.std.proofs.Common.{◌≡◌}
+use Rattle.dspec_cpu.specs.Lists.{HasList}
+use Rattle.dspec.specs.Lanes.{place_of}
+use Rattle.dspec_threads.specs.Waits.{ServesTimes}
+use Rattle.dspec_threads.proofs.barrier.Barrier.wait.Given as goal
+
+abbrev pub invariant-loop : goal.invariant-loop
+invariant-loop g l = record {
+  same : place_of l.lane ≡ place_of l.fn.lane;
+  serves : ServesTimes (λ cpu p. HasList (g.S.Schema.shape_of cpu.schema) (g.S.Schema.accepted cpu.schema) (g.S.Schema.text cpu.schema) cpu p) l.counter l.fn.lane l.lane;
+}

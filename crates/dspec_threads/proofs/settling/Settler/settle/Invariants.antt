@@ -1,0 +1,16 @@
+-- As many are left in the ring as rounds are left, and what came out before was done.
+use Rattle.std.proofs.Common.{◌≡◌, ◌+◌, length}
+use Rattle.rtrb.specs.Ring.{known_items}
+use Rattle.dspec_cpu.specs.Lists.{HasList}
+use Rattle.dspec.specs.Lanes.{place_of}
+use Rattle.dspec_threads.specs.Settled.{SettlesNext, settled_by, settled_from}
+use Rattle.dspec_threads.proofs.settling.Settler.settle.Given as goal
+
+abbrev pub invariant-loop : goal.invariant-loop
+invariant-loop g l = record {
+  left : l.counter + length (known_items l.self.coming) ≡ l.count;
+  same : place_of l.lane ≡ place_of l.fn.lane;
+  ring : settled_from l.self ≡ settled_from l.fn.self;
+  settled : SettlesNext (λ cpu p. HasList (g.S.Schema.shape_of cpu.schema) (g.S.Schema.accepted cpu.schema) (g.S.Schema.text cpu.schema) cpu p)
+      g.J.Judging.may (settled_by l.fn.self) (settled_by l.self) l.counter l.fn.lane l.lane;
+}

@@ -1,0 +1,29 @@
+-- Cited by calls. What went over a belt, by its ends.
+use Rattle.std.specs.Prelude.{List}
+use Rattle.rtrb.specs.Ring.{received, sent}
+use Rattle.dspec_deeds.specs.Told.{id_told}
+use Rattle.dspec_ring.specs.EndFields.{popped_from, pushed_into}
+use Rattle.dspec_ring.specs.Known.{Ring}
+use Rattle.dspec.specs.declared.handing.Handed.{Handed}
+use Rattle.dspec.specs.declared.path.Path.{Path}
+use Rattle.dspec_threads.specs.declared.ends.Giver.{Giver}
+use Rattle.dspec_threads.specs.declared.ends.Taker.{Taker}
+
+-- a path as a word
+abbrev pub handed_of : Path → Handed
+handed_of p = record { id = id_told p.opening }
+
+-- what this end gave so far, the oldest first
+abbrev pub given_by : Giver → List Handed
+given_by g = sent g.going
+
+-- onto which belt: the end that takes from it has the same
+abbrev pub given_onto : Giver → Ring
+given_onto g = pushed_into g.going
+
+-- what this end took so far, the oldest first
+abbrev pub taken_by : Taker → List Handed
+taken_by t = received t.coming
+
+abbrev pub taken_from_belt : Taker → Ring
+taken_from_belt t = popped_from t.coming

@@ -1,0 +1,50 @@
+-- Cited by calls. What was settled on a lane.
+use Rattle.std.specs.Prelude.{ℕ, ◌≡◌, Bool, List, [], ◌∷◌, ◌++◌, length, if◌then◌else◌}
+use Rattle.dspec_record.specs.declared.schema.Schema.{Ghosts}
+use Rattle.dspec_word.specs.SpecId.{Speculation}
+use Rattle.dspec_deeds.specs.declared.calls.Decided.{Decided}
+use Rattle.dspec_deeds.specs.declared.deed.Deed.{Deed}
+use Rattle.dspec_promise.specs.Promise.{commit, discard}
+use Rattle.dspec_cpu.specs.declared.cpu.Cpu.{Cpu}
+use Rattle.rtrb.specs.Ring.{received}
+use Rattle.dspec_ring.specs.EndFields.{popped_from}
+use Rattle.dspec_ring.specs.Known.{Ring}
+use Rattle.dspec.specs.declared.lane.Lane.{Lane}
+use Rattle.dspec.specs.LaneCalls.{DecisionOn}
+use Rattle.dspec.specs.Lanes.{place_of}
+use Rattle.dspec_threads.specs.declared.settling.Settler.{Settler}
+use Rattle.dspec_threads.specs.declared.verdict.Verdict.{Verdict}
+
+-- what was settled by this end so far, the oldest first
+abbrev pub settled_by : {J : Type 0} → Settler J → List Verdict
+settled_by s = received s.coming
+
+-- out of which ring
+abbrev pub settled_from : {J : Type 0} → Settler J → Ring
+settled_from s = popped_from s.coming
+
+module _ {S : Type 0} {g : Ghosts S} (has : Cpu S → List Deed → Type 0) where
+  -- the path of a verdict was decided as it says, by one call on the lane
+  pub record DoesVerdict (v : Verdict) (old new : Lane S g) : Type 0 where
+    pub answer : Decided
+    pub same : place_of new ≡ place_of old
+    pub decides : DecisionOn has (if v.keep then commit else discard) v.path.id answer old new
+
+  module _ (may : Speculation → Bool → Type 0) where
+    -- these were done, one after another, and each might be said
+    abbrev pub DoesVerdicts : List Verdict → Lane S g → Lane S g → Type 0
+    DoesVerdicts [] old new = new ≡ old
+    DoesVerdicts (v ∷ vs) old new = may v.path.id v.keep × ((mid : Lane S g) × DoesVerdict v old mid × DoesVerdicts vs mid new)
+
+    -- so many were done: just those that came out behind the ones settled before
+    pub record SettlesNext (before after : List Verdict) (n : ℕ) (old new : Lane S g) : Type 0 where
+      pub these : List Verdict
+      pub came : after ≡ before ++ these
+      pub count : n ≡ length these
+      pub does : DoesVerdicts these old new
+
+    -- or of those which is told by no end
+    pub record SettlesSome (n : ℕ) (old new : Lane S g) : Type 0 where
+      pub these : List Verdict
+      pub count : n ≡ length these
+      pub does : DoesVerdicts these old new

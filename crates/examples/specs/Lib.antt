@@ -1,0 +1,4 @@
+pub mod StoreProbes
+pub mod WatchProbes
+pub mod WatchRequests
+pub mod WatchServing

@@ -1,0 +1,68 @@
+//! The trace that is written while the workers run.
+
+use crate::store::fault::StoreFault;
+use dspec::Probes;
+use dspec_ctf_sink::{
+    ClockStart, FolderFault, Identity, Names, SystemFolder, Telling, TimedFolder,
+};
+use std::time::{SystemTime, UNIX_EPOCH};
+
+/// Stamps are in microseconds.
+const HERTZ: u64 = 1_000_000;
+
+/// A trace that is being written. What it loses is told on the error output while the workers run.
+pub type Begun<'a> = Telling<'a, TimedFolder<SystemFolder<'a>>>;
+
+/// Where the clock of the stamps begins. The workers make up its time, from 0 on, so it is placed at the system's time when the trace
+/// begins; None where the system doesn't tell that.
+fn clock_start(rt: &HostRuntime) -> Option<ClockStart> {
+    let now = SystemTime::now(rt).ok()?;
+    let since = now.duration_since(UNIX_EPOCH).ok()?;
+    Some(ClockStart {
+        seconds: since.as_secs(),
+        ticks: u64::from(since.subsec_micros()),
+        clock: None,
+    })
+}
+
+/// Begins a trace of this process in the folder of that path, with the names of the probes in its metadata.
+fn begun_trace<'a>(
+    rt: &'a HostRuntime,
+    name: &'a str,
+    probes: &Probes<'_>,
+) -> Result<Begun<'a>, FolderFault> {
+    let names = Names::Given(probes.names());
+    let folder = SystemFolder::new(rt, name)?;
+    let identity = Identity::of_system(rt)?;
+    let mut origin = identity.origin("store");
+    origin.start = clock_start(rt);
+    let schema = probes.enablings();
+    let sink = TimedFolder::of(rt.alloc(), folder, &origin, HERTZ, &schema, &names)?;
+    Ok(Telling::new(rt, name, sink))
+}
+
+/// The trace in the folder that is asked for, if one is.
+pub fn trace_asked<'a>(
+    rt: &'a HostRuntime,
+    folder: Option<&'a str>,
+    probes: &Probes<'_>,
+) -> Result<Option<Begun<'a>>, StoreFault<'a>> {
+    let Some(name) = folder else {
+        return Ok(None);
+    };
+    match begun_trace(rt, name, probes) {
+        Ok(begun) => Ok(Some(begun)),
+        Err(fault) => Err(StoreFault::Folder { name, fault }),
+    }
+}
+
+/// Ends a trace.
+pub fn finish<'a>(folder: Option<&'a str>, begun: Option<Begun<'a>>) -> Result<(), StoreFault<'a>> {
+    let (Some(name), Some(begun)) = (folder, begun) else {
+        return Ok(());
+    };
+    match begun.sink.finish() {
+        Ok(()) => Ok(()),
+        Err(loss) => Err(StoreFault::Lost { name, loss }),
+    }
+}

@@ -1,7 +1,0 @@
--- It is the same lane.
-use Rattle.std.proofs.Common.{◌≡◌}
-use Rattle.dspec.specs.Lanes.{place_of}
-use Rattle.jobs.proofs.stage.StageWorkerEnablings.work.Given as goal
-
-abbrev pub invariant-loop-job : goal.invariant-loop-job
-invariant-loop-job l = place_of l.lane ≡ place_of l.fn.lane

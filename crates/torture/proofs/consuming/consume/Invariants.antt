@@ -1,7 +1,0 @@
--- The consumer is still that of the session.
-use Rattle.dspec_cpu.specs.Lists.{words_of}
-use Rattle.dspec_session_core.specs.Consumers.{Stays}
-use Rattle.torture.proofs.consuming.consume.Given as goal
-
-abbrev pub invariant-loop-round : goal.invariant-loop-round
-invariant-loop-round l = Stays (words_of l.shared) l.fn.consumer l.consumer

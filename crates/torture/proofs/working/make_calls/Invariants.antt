@@ -1,7 +1,0 @@
--- It is the same CPU.
-use Rattle.std.proofs.Common.{◌≡◌}
-use Rattle.dspec_cpu.specs.Standing.{identity}
-use Rattle.torture.proofs.working.make_calls.Given as goal
-
-abbrev pub invariant-loop-round : goal.invariant-loop-round
-invariant-loop-round l = identity l.cpu ≡ identity l.fn.cpu

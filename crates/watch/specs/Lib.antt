@@ -1,3 +1,0 @@
-pub mod Probes
-pub mod Requests
-pub mod Serving
