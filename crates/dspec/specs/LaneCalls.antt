@@ -13,7 +13,7 @@ use Rattle.dspec_deeds.specs.declared.deed.Deed.{Deed}
 use Rattle.dspec_deeds.specs.declared.report.Report.{Report}
 use Rattle.dspec_deeds.specs.Own.{dropped_in}
 use Rattle.dspec_deeds.specs.Reports.{report}
-use Rattle.dspec_deeds.specs.Told.{id_told}
+use Rattle.dspec_deeds.specs.FateAnswers.{id_given}
 use Rattle.dspec_promise.specs.Promise.{By}
 use Rattle.dspec_cpu.specs.declared.cpu.Cpu.{Cpu}
 use Rattle.dspec_cpu.specs.Dropped.{drops_told}
@@ -49,10 +49,10 @@ module _ {S : Type 0} {g : Ghosts S} (has : Cpu S → List Deed → Type 0) wher
 
   -- the end of a path, kept or thrown away, and how many of the CPU's records of it were dropped
   abbrev pub EndOn : By → Path → Decided → Lane S g → Lane S g → Type 0
-  EndOn b path a old new = DecisionOn b (id_told path.opening) a old new
+  EndOn b path a old new = DecisionOn b (id_given path.opening) a old new
 
   abbrev pub PathDropsOn : Path → ℕ → Lane S g → Type 0
-  PathDropsOn path n lane = DropsOn (id_told path.opening) n lane
+  PathDropsOn path n lane = DropsOn (id_given path.opening) n lane
 
   module _ (accepted : S → Record → Bool) where
     -- a record by its values is traced; an error says that the schema doesn't accept it
@@ -65,4 +65,4 @@ module _ {S : Type 0} {g : Ghosts S} (has : Cpu S → List Deed → Type 0) wher
 
     -- or to a path
     abbrev pub PathRecordOn : Path → ℕ → ℕ → List ℕ → Result Spoken BadRecord → Lane S g → Lane S g → Type 0
-    PathRecordOn path epid stamp values a old new = OfferOn (id_told path.opening) epid stamp values a old new
+    PathRecordOn path epid stamp values a old new = OfferOn (id_given path.opening) epid stamp values a old new

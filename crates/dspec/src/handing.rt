@@ -1,6 +1,6 @@
 ghost use Rattle.std.specs.Prelude.{◌≡◌, ◌<◌, ℕ};
 ghost use Rattle.dspec_word.specs.SpecId.{Speculation, id_number};
-ghost use Rattle.dspec_deeds.specs.Told.{id_told};
+ghost use Rattle.dspec_deeds.specs.FateAnswers.{id_given};
 ghost use Rattle.dspec.specs.Handing.{opening_of};
 
 use crate::path::Path;
@@ -53,7 +53,7 @@ impl Path {
     /// it wasn't, the reports tell by `held`.
     #[inline]
     pub fn hand(self) -> Handed
-        ensures { result.id ≡ id_told self.opening }
+        ensures { result.id ≡ id_given self.opening }
     {
         let Path { opening } = self;
         Handed { id: opening.id() }
@@ -68,7 +68,7 @@ impl Path {
     #[inline]
     #[tactic(auto, using(crate::proofs::TakenUp::none_of_zero))]
     pub fn take(handed: Handed) -> Path
-        ensures speculation { id_told result.opening ≡ handed.id }
+        ensures speculation { id_given result.opening ≡ handed.id }
         ensures opening { result.opening ≡ opening_of handed.id }
     {
         let Handed { id } = handed;

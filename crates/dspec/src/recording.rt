@@ -1,7 +1,7 @@
 ghost use Rattle.std.specs.Prelude.{◌≡◌, ◌↔◌, ℕ, IfOk, IsOk};
 ghost use Rattle.dspec_record.specs.EnablingRows.{EnabledRows};
 ghost use Rattle.dspec_record.specs.Record.{Record};
-ghost use Rattle.dspec_deeds.specs.Told.{id_told};
+ghost use Rattle.dspec_deeds.specs.FateAnswers.{id_given};
 ghost use Rattle.dspec_cpu.specs.Lists.{schema_of};
 ghost use Rattle.dspec.specs.LaneCalls.{TraceOn, SpeculateOn};
 ghost use Rattle.dspec.specs.Lanes.{place_of};
@@ -38,7 +38,7 @@ pub trait Recording<F: Fields>: Copy {
     fn record_in(self, lane: &mut Lane<'_, Enablings>, path: &Path, stamp: u64, values: F) -> Spoken
         requires of { is_of self (schema_of lane.old.cpu.now) }
         ensures same { place_of lane.new ≡ place_of lane.old }
-        ensures does { SpeculateOn ⟦<Cpu<Enablings> as Listed>⟧.has_list (id_told path.now.opening) (record_is self stamp values) result lane.old lane.new };
+        ensures does { SpeculateOn ⟦<Cpu<Enablings> as Listed>⟧.has_list (id_given path.now.opening) (record_is self stamp values) result lane.old lane.new };
 
     /// Offers a record of the probe to a speculation.
     fn offer(self, lane: &mut Lane<'_, Enablings>, id: SpecId, stamp: u64, values: F) -> Spoken

@@ -168,7 +168,7 @@ pub(crate) fn all_stand<S: Schema>(cpus: &Vec<Cpu<S>>)
     ensures { AllSteady S.shape_of S.accepted S.text cpus.now.items }
 {
     for each in cpus {
-        each.stands();
+        each.invariant();
     }
 }
 

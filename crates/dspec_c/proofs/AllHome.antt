@@ -27,10 +27,10 @@ one_same hs at new d same = map-set_same (λ (h : One). h.ghost_name) hs at new 
 
 -- one of them has what it had
 pub one_kept : (hs : List One) (at : ℕ) (new d : One) → new.ghost_name ≡ (slice_index_or hs at d).ghost_name → KeepsHeld (slice_index_or hs at d).now new.now → KeepAll hs (slice_set hs at new)
-one_kept hs at new d same keeps = record {
+one_kept hs at new d same leaves = record {
   same = one_same hs at new d same;
-  full = map-set_same (λ (h : One). is_full h.now) hs at new d keeps.full;
-  hold = map-set_same (λ (h : One). held_in h.now) hs at new d keeps.holds;
+  full = map-set_same (λ (h : One). is_full h.now) hs at new d leaves.full;
+  hold = map-set_same (λ (h : One). held_in h.now) hs at new d leaves.holds;
 }
 
 -- how many there are

@@ -1,5 +1,5 @@
 -- Cited by calls. The calls on a CPU's files in a trace, and the metadata of one.
-use Rattle.std.specs.Prelude.{ℕ, ◌≡◌, ◌≢◌, ◌⊎◌, true, List, Option, Some, None, length}
+use Rattle.std.specs.Prelude.{ℕ, ◌≡◌, ◌≢◌, ◌⊎◌, true, List, Some, None, length}
 use Rattle.dspec_record.specs.EnablingRows.{EnabledRows}
 use Rattle.dspec_record.specs.declared.header.Header.TheVariants.{One, Two}
 use Rattle.dspec_ctf.specs.declared.stream.PacketFault.{PacketFault}
@@ -13,42 +13,43 @@ use Rattle.dspec_ctf.specs.declared.in_memory.packet.Packet.{Packet}
 use Rattle.dspec_c.specs.CtfStatuses.{needed_of, no_packet, no_stamp, packet_status, put_status, text_size, text_status}
 use Rattle.dspec_c.specs.Handles.{held_in, is_full}
 use Rattle.dspec_c.specs.Statuses.{bad_handle, no_memory, no_such_cpu}
-use Rattle.dspec_c.specs.declared.ctf_box.NoFiles.{NoFiles}
-use Rattle.dspec_c.specs.declared.ctf_box.NoFiles.TheVariants as no_files
 use Rattle.dspec_c.specs.declared.handle.Handle.{Handle}
 use Rattle.dspec_c.specs.declared.held.Held.{Held}
 use Rattle.dspec_c.specs.declared.held.Held.TheVariants as held
 
 -- a room of the caller's, and how many bytes it is told
-pub record Text : Type 0 where
+pub record TextRoom : Type 0 where
   pub room : List ℕ
   pub size : ℕ
 
-abbrev pub text_in : List ℕ → ℕ → Text
-text_in room size = record { room = room; size = size }
+abbrev pub text_room : List ℕ → ℕ → TextRoom
+text_room room size = record { room = room; size = size }
 
 -- a room of the caller's, and what it is told of the packet in it
-pub record CallersBytes : Type 0 where
+pub record PacketRoom : Type 0 where
   pub room : List ℕ
   pub packet : Packet
 
+abbrev pub packet_room : List ℕ → Packet → PacketRoom
+packet_room room packet = record { room = room; packet = packet }
+
 -- the metadata stands in the room, and its size is told
-pub record HasMetadata (identity : Identity) (e : EnabledRows) (names : List (List ℕ)) (kinds : List ℕ) (status : ℕ) (before now : Text) : Type 0 where
+pub record HasMetadata (identity : Identity) (e : EnabledRows) (names : List (List ℕ)) (kinds : List ℕ) (status : ℕ) (before now : TextRoom) : Type 0 where
   pub fine : status ≡ 0
   pub puts : PutsMetadata identity e names kinds before.room now.size now.room
 
 -- it doesn't, for that; where the room is too small, it is told how many bytes are needed
-pub record LacksMetadata (identity : Identity) (e : EnabledRows) (names : List (List ℕ)) (kinds : List ℕ) (status : ℕ) (before now : Text) : Type 0 where
+pub record LacksMetadata (identity : Identity) (e : EnabledRows) (names : List (List ℕ)) (kinds : List ℕ) (status : ℕ) (before now : TextRoom) : Type 0 where
   pub fault : TextFault
   pub numbered : status ≡ text_status fault
   pub why : PutsNone identity e names kinds (length before.room) fault
-  pub told : now ≡ record { room = before.room; size = text_size fault before.size }
+  pub told : now ≡ text_room before.room (text_size fault before.size)
 
-abbrev pub TellsMetadata : Identity → EnabledRows → List (List ℕ) → List ℕ → ℕ → Text → Text → Type 0
+abbrev pub TellsMetadata : Identity → EnabledRows → List (List ℕ) → List ℕ → ℕ → TextRoom → TextRoom → Type 0
 TellsMetadata identity e names kinds status before now = HasMetadata identity e names kinds status before now ⊎ LacksMetadata identity e names kinds status before now
 
 -- a schema is looked at, and stays as it was
-abbrev pub CtfMetadataAnswers : Identity → List (List ℕ) → List ℕ → Held → ℕ → Text → Text → Held → Type 0
+abbrev pub CtfMetadataAnswers : Identity → List (List ℕ) → List ℕ → Held → ℕ → TextRoom → TextRoom → Held → Type 0
 CtfMetadataAnswers identity names kinds (held.Schema e) status before now left = (left ≡ held.Schema e) × TellsMetadata identity e names kinds status before now
 CtfMetadataAnswers identity names kinds was status before now left = (left ≡ was) × ((status ≡ bad_handle) × (now ≡ before))
 
@@ -57,29 +58,14 @@ abbrev pub BeginsFiles : List ℕ → EnabledRows → ℕ → CpuFiling → Type
 BeginsFiles uuid e cpu files = (files ≡ no_packets uuid e cpu) × (e.header ≡ Two)
 
 -- there are none: records have no stamps, or memory was wanting for them
-abbrev pub HasNoFiles : EnabledRows → NoFiles → Type 0
-HasNoFiles e no_files.NoStamp = e.header ≡ One
-HasNoFiles e no_files.Memory = e.header ≡ Two
+abbrev pub HasNoFiles : EnabledRows → ℕ → Type 0
+HasNoFiles e why = ((why ≡ no_stamp) × (e.header ≡ One)) ⊎ ((why ≡ no_memory) × (e.header ≡ Two))
 
 -- the handle has them; or not, and that stays as it was
 abbrev pub FilesSo : List ℕ → EnabledRows → ℕ → ℕ → Handle → Handle → Type 0
 FilesSo uuid e cpu status was now =
     ((status ≡ 0) × ((e.header ≡ Two) × ((is_full now ≡ true) × (held_in now ≡ held.Files (no_packets uuid e cpu)))))
     ⊎ (((status ≡ no_stamp) × ((e.header ≡ One) × (now ≡ was))) ⊎ ((status ≡ no_memory) × ((e.header ≡ Two) × (now ≡ was))))
-
--- a schema that is held is looked at
-abbrev pub LooksAtSchema : Held → Option EnabledRows → Held → Type 0
-LooksAtSchema (held.Schema e) found now = (found ≡ Some e) × (now ≡ held.Schema e)
-LooksAtSchema was found now = (found ≡ None) × (now ≡ was)
-
--- what is made of a schema, and why nothing is
-abbrev pub MakesFiles : List ℕ → ℕ → Held → CpuFiling → Type 0
-MakesFiles uuid cpu (held.Schema e) files = BeginsFiles uuid e cpu files
-MakesFiles uuid cpu was files = ⊥
-
-abbrev pub MakesNoFiles : Held → ℕ → Type 0
-MakesNoFiles (held.Schema e) why = ((why ≡ no_stamp) × (e.header ≡ One)) ⊎ ((why ≡ no_memory) × (e.header ≡ Two))
-MakesNoFiles was why = why ≡ bad_handle
 
 -- a schema is looked at, and stays as it was
 abbrev pub CtfNewAnswers : List ℕ → ℕ → Held → ℕ → Held → Handle → Handle → Type 0
@@ -103,22 +89,22 @@ CtfOpenAnswers cpu drops bytes (held.Files old) status now = (new : CpuFiling) �
 CtfOpenAnswers cpu drops bytes was status now = (status ≡ bad_handle) × (now ≡ was)
 
 -- a packet is put, and told; there is none left; or none is put, for that, and where the room is too small its size is told
-abbrev pub PutsOne : CpuFiling → ℕ → CallersBytes → CallersBytes → CpuFiling → Type 0
+abbrev pub PutsOne : CpuFiling → ℕ → PacketRoom → PacketRoom → CpuFiling → Type 0
 PutsOne old status before now new = (status ≡ 0) × Hands old before.room (Some now.packet) now.room new
 
-abbrev pub PutsNoMore : CpuFiling → ℕ → CallersBytes → CallersBytes → CpuFiling → Type 0
+abbrev pub PutsNoMore : CpuFiling → ℕ → PacketRoom → PacketRoom → CpuFiling → Type 0
 PutsNoMore old status before now new = (status ≡ no_packet) × ((now ≡ before) × Hands old before.room None before.room new)
 
-pub record PutsNot (old : CpuFiling) (status : ℕ) (before now : CallersBytes) (new : CpuFiling) : Type 0 where
+pub record PutsNot (old : CpuFiling) (status : ℕ) (before now : PacketRoom) (new : CpuFiling) : Type 0 where
   pub fault : PutFault
   pub numbered : status ≡ put_status fault
   pub why : HandsNone old before.room fault new
-  pub told : now ≡ record { room = before.room; packet = record before.packet { size = needed_of fault before.packet.size } }
+  pub told : now ≡ packet_room before.room (record before.packet { size = needed_of fault before.packet.size })
 
-abbrev pub PutsSo : CpuFiling → ℕ → CallersBytes → CallersBytes → CpuFiling → Type 0
+abbrev pub PutsSo : CpuFiling → ℕ → PacketRoom → PacketRoom → CpuFiling → Type 0
 PutsSo old status before now new = PutsOne old status before now new ⊎ (PutsNoMore old status before now new ⊎ PutsNot old status before now new)
 
-abbrev pub CtfPutAnswers : Held → ℕ → CallersBytes → CallersBytes → Held → Type 0
+abbrev pub CtfPutAnswers : Held → ℕ → PacketRoom → PacketRoom → Held → Type 0
 CtfPutAnswers (held.Files old) status before now left = (new : CpuFiling) × ((left ≡ held.Files new) × PutsSo old status before now new)
 CtfPutAnswers was status before now left = (status ≡ bad_handle) × ((left ≡ was) × (now ≡ before))
 

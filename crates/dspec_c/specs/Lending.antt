@@ -1,7 +1,13 @@
 -- Cited by calls. What lending keeps: a handle is lent for a call, and has what the call left.
-use Rattle.std.specs.Borrow.{Lends, MutBor, Fml}
+use Rattle.std.specs.Prelude.{Option, ⊤}
+use Rattle.std.specs.Borrow.{Lends, LendsIf, MutBor, Fml}
+use Rattle.dspec_record.specs.EnablingRows.{EnabledRows}
+use Rattle.dspec_record.specs.contracts.enabling.Enablings.{the_row as schema_row}
+use Rattle.dspec_ctf.specs.InMemory.Filing.{CpuFiling}
+use Rattle.dspec_ctf.specs.contracts.in_memory.cpu_packets.CpuPackets.{the_row as files_row}
 use Rattle.dspec_c.specs.declared.handle.Handle.{Handle}
 use Rattle.dspec_c.specs.declared.held.Held.{Held}
+use Rattle.dspec_c.specs.declared.held.Held.TheVariants as held
 use Rattle.dspec_c.specs.declared.handle.Contents.{Contents}
 use Rattle.dspec_c.specs.declared.seal.Seal.{Seal}
 use Rattle.dspec_c.specs.contracts.handle.Handle.{the_row as handle_row}
@@ -30,3 +36,19 @@ LendsContents k r = Lends kept_row held_row k r (with_contents k.now)
 
 abbrev pub LendsHeld : MutBor Handle → MutBor Held → Fml
 LendsHeld h r = Lends handle_row held_row h r (with_held h.now)
+
+-- a schema that is held is lent, or the files of a CPU; what is held otherwise stays
+abbrev pub LendsSchema : MutBor Held → Option (MutBor EnabledRows) → Fml
+LendsSchema h r = LendsIf held_row schema_row h r (λ e. held.Schema e) h.now
+
+abbrev pub LendsFiles : MutBor Held → Option (MutBor CpuFiling) → Fml
+LendsFiles h r = LendsIf held_row files_row h r (λ files. held.Files files) h.now
+
+-- something else is held
+abbrev pub IsNoSchema : Held → Type 0
+IsNoSchema (held.Schema e) = ⊥
+IsNoSchema h = ⊤
+
+abbrev pub AreNoFiles : Held → Type 0
+AreNoFiles (held.Files files) = ⊥
+AreNoFiles h = ⊤

@@ -19,6 +19,11 @@ use Rattle.dspec_c.specs.declared.held.Held.TheVariants as held
 abbrev pub new_schema : EnabledRows
 new_schema = record { header = One; rows = [] }
 
+-- a schema that is held is looked at
+abbrev pub LooksAtSchema : Held → Option EnabledRows → Held → Type 0
+LooksAtSchema (held.Schema e) found now = (found ≡ Some e) × (now ≡ held.Schema e)
+LooksAtSchema was found now = (found ≡ None) × (now ≡ was)
+
 -- a schema's records have a stamp from then on; nothing else changes
 abbrev pub StampAnswers : Held → ℕ → Held → Type 0
 StampAnswers (held.Schema e) status now = (status ≡ 0) × (now ≡ held.Schema (record { header = Two; rows = e.rows }))

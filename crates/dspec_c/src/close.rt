@@ -4,8 +4,8 @@ ghost use Rattle.dspec_cpu.specs.Lists.{words_of};
 ghost use Rattle.dspec_record.specs.EnablingRows.{EnabledRows};
 ghost use Rattle.dspec_c.specs.Whole.{AllInside, ClosedBy, IsEnding, firsts, insides};
 
+use crate::cpu_place::CpuPlace;
 use crate::gather::gather;
-use crate::place::Place;
 use dspec_cpu::{Cpu, Shared};
 use dspec_record::Enablings;
 use dspec_session_core::{Closed, Consumer, Session};
@@ -13,7 +13,7 @@ use dspec_session_core::{Closed, Consumer, Session};
 /// Ends a session whose CPUs are at their places, and whose consumer is home.
 pub fn close(
     shared: Shared,
-    places: Vec<Place>,
+    places: Vec<CpuPlace>,
     room: Vec<Cpu<Enablings>>,
     consumer: Consumer,
 ) -> Closed

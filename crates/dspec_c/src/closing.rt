@@ -20,21 +20,21 @@ fn is_session(held: &Held) -> bool
 
 fn has_session(session: &mut Handle) -> bool
     ensures has { result ≡ is_session_in (held_in session.old) }
-    ensures keeps { KeepsHeld session.old session.new }
+    ensures leaves { KeepsHeld session.old session.new }
 {
     session.is_held() && is_session(session.lend())
 }
 
 fn has_consumer(consumer: &mut Handle) -> bool
     ensures has { result ≡ is_consumer_in (held_in consumer.old) }
-    ensures keeps { KeepsHeld consumer.old consumer.new }
+    ensures leaves { KeepsHeld consumer.old consumer.new }
 {
     consumer.is_held() && is_consumer(consumer.lend())
 }
 
 fn has_cpu(cpu: &mut Handle) -> bool
     ensures has { result ≡ is_cpu_in (held_in cpu.old) }
-    ensures keeps { KeepsHeld cpu.old cpu.new }
+    ensures leaves { KeepsHeld cpu.old cpu.new }
 {
     cpu.is_held() && is_cpu(cpu.lend())
 }
@@ -42,7 +42,7 @@ fn has_cpu(cpu: &mut Handle) -> bool
 // Whether each of the handles has a CPU.
 fn have_cpus(cpus: &mut [&mut Handle]) -> bool
     ensures have { result ≡ are_cpus_in cpus.old }
-    ensures keep { KeepAll cpus.old cpus.new }
+    ensures leave { KeepAll cpus.old cpus.new }
 {
     for at in 0..cpus.len() {
         let cpu = &mut cpus[at];

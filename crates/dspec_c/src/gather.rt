@@ -6,8 +6,8 @@ ghost use Rattle.dspec_ring.specs.Known.{Pair};
 ghost use Rattle.dspec_c.specs.Homes.{CpuStay, IsPlaceWith};
 ghost use Rattle.dspec_c.specs.Whole.{AllInside, AreCame, EachFrom, IsCpuAt, IsPlaceOf, LeavesOne, LooksAt, OneOutside, cpu_inside, firsts, inside_at, insides, refusals};
 
+use crate::cpu_place::CpuPlace;
 use crate::out_cpu::OutCpu;
-use crate::place::Place;
 use dspec_cpu::{Cpu, Shared};
 use dspec_record::Enablings;
 use std::alloc::{AllocError, Global};
@@ -16,7 +16,7 @@ use std::sync::Arc;
 /// The CPU, with what it shares, which is at its place. It stays there, as it was, where memory is refused.
 pub fn hand_out(
     alloc: Global,
-    places: &mut Vec<Place>,
+    places: &mut Vec<CpuPlace>,
     cpu: usize,
     shared: Arc<Shared, Global>,
 ) -> Result<OutCpu, AllocError>
@@ -29,7 +29,7 @@ pub fn hand_out(
 }
 
 /// Whether the CPU at this place is inside.
-pub fn is_in(places: &mut Vec<Place>, cpu: usize) -> bool
+pub fn is_in(places: &mut Vec<CpuPlace>, cpu: usize) -> bool
     requires { cpu < length places.old.items }
     ensures looked { LooksAt cpu places.old.items places.new.items }
     ensures inside { result ≡ inside_at cpu places.new.items }
@@ -38,7 +38,7 @@ pub fn is_in(places: &mut Vec<Place>, cpu: usize) -> bool
 }
 
 /// Whether each CPU is at its place.
-pub fn all_home(places: &mut Vec<Place>) -> bool
+pub fn all_home(places: &mut Vec<CpuPlace>) -> bool
     ensures came { AreCame places.old.items places.new.items }
     ensures home { MatchBool result (AllInside places.new.items) (OneOutside places.new.items) }
 {
@@ -50,14 +50,14 @@ pub fn all_home(places: &mut Vec<Place>) -> bool
     true
 }
 
-fn next_place(places: &mut Vec<Place>) -> Place
+fn next_place(places: &mut Vec<CpuPlace>) -> CpuPlace
     requires { 0 < length places.old.items }
     ensures cons { places.old.items ≡ result ∷ places.new.items }
 {
     places.remove(0)
 }
 
-fn cpu_of(place: Place) -> Cpu<Enablings>
+fn cpu_of(place: CpuPlace) -> Cpu<Enablings>
     requires { IsSome place.inside }
     ensures is { cpu_inside place ≡ Some result }
     ensures of { (shared : Shared) (schema : EnabledRows) (pairs : List Pair) (c : ℕ) → IsPlaceOf shared schema pairs c place.first → IsCpuAt shared schema pairs c result }
@@ -66,7 +66,7 @@ fn cpu_of(place: Place) -> Cpu<Enablings>
 }
 
 /// How many records each CPU refused, which are at their places, in order.
-pub fn count_refusals(places: &[Place], room: Vec<u64>) -> Vec<u64>
+pub fn count_refusals(places: &[CpuPlace], room: Vec<u64>) -> Vec<u64>
     requires empty { room.items ≡ [] }
     requires room { length places.now + vec_len room ≤ vec_capacity room }
     ensures { result.items ≡ refusals places.now }
@@ -80,7 +80,7 @@ pub fn count_refusals(places: &[Place], room: Vec<u64>) -> Vec<u64>
 
 /// All CPUs, in order, which are at their places.
 #[inline(never)]
-pub fn gather(places: Vec<Place>, room: Vec<Cpu<Enablings>>) -> Vec<Cpu<Enablings>>
+pub fn gather(places: Vec<CpuPlace>, room: Vec<Cpu<Enablings>>) -> Vec<Cpu<Enablings>>
     requires inside { AllInside places.items }
     requires empty { room.items ≡ [] }
     requires room { length places.items + vec_len room ≤ vec_capacity room }

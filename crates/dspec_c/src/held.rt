@@ -1,16 +1,20 @@
+ghost use Rattle.std.specs.Prelude.{◌≡◌, MatchOption};
+ghost use Rattle.std.specs.Borrow.{sem};
+
+use crate::boxed::Boxed;
 use crate::consumer_side::ConsumerSide;
-use crate::ctf_box::CtfBox;
 use crate::ended::Ended;
 use crate::out_cpu::OutCpu;
-use crate::schema_box::SchemaBox;
 use crate::under_way::UnderWay;
+use dspec_ctf::CpuPackets;
+use dspec_record::Enablings;
 
 /// What a handle can hold. It can't be let go as it is: a CPU or the consumer that was handed out has to go home.
 pub enum Held {
     /// Nothing yet, or nothing any more.
     Nothing,
     /// A schema, which grows.
-    Schema(SchemaBox),
+    Schema(Boxed<Enablings>),
     /// A session.
     Session(UnderWay),
     /// One CPU.
@@ -20,10 +24,35 @@ pub enum Held {
     /// A session that has ended.
     Closed(Ended),
     /// The files of a CPU in a trace.
-    Files(CtfBox),
+    Files(Boxed<CpuPackets>),
 }
 
 impl Held {
+    ghost use Rattle.dspec_c.specs.Lending.{AreNoFiles, IsNoSchema, LendsFiles, LendsSchema};
+    ghost use Rattle.dspec_c.specs.declared.held.Held.TheVariants as held_as;
+
+    /// The schema, for a call.
+    pub fn schema(&mut self) -> Option<&mut Enablings>
+        ensures* writes_back { sem 𝓛 (LendsSchema self.entry result) }
+        ensures found { MatchOption result (IsNoSchema self.old) (λ schema. self.old ≡ held_as.Schema schema.now) }
+    {
+        match self {
+            Held::Schema(schema) => Some(schema.lend()),
+            _ => None,
+        }
+    }
+
+    /// The files of a CPU in a trace, for a call.
+    pub fn files(&mut self) -> Option<&mut CpuPackets>
+        ensures* writes_back { sem 𝓛 (LendsFiles self.entry result) }
+        ensures found { MatchOption result (AreNoFiles self.old) (λ files. self.old ≡ held_as.Files files.now) }
+    {
+        match self {
+            Held::Files(files) => Some(files.lend()),
+            _ => None,
+        }
+    }
+
     /// Lets it go. A CPU or the consumer that was handed out goes home.
     pub fn let_go(self) {
         match self {

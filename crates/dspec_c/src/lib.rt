@@ -3,15 +3,15 @@
 //!
 //! | File | What is in it |
 //! |---|---|
-//! | `handle.rt`, `seal.rt`, `parts.rt`, `held.rt`, `schema_box.rt` | a box in C's memory, which is lent for a call (the walks over raw pointers in `proofs/seal` and `proofs/parts`); room for what a handle can hold, which can't be let go but by going home where it was handed out; a schema in a box of its own |
-//! | `homing.rt`, `out_cpu.rt`, `desk.rt`, `place.rt` | how a CPU goes out and comes home, again and again, each time by a ring of its own; `consumer_homing.rt`, `out_consumer.rt`, `consumer_desk.rt`, `consumer_place.rt`, `consumer_side.rt` the same of the consumer, with the batches that are out |
+//! | `handle.rt`, `seal.rt`, `parts.rt`, `held.rt`, `boxed.rt` | a box in C's memory, which is lent for a call (the walks over raw pointers in `proofs/seal` and `proofs/parts`); room for what a handle can hold, which can't be let go but by going home where it was handed out; a schema, or the files of a CPU, in a box of its own |
+//! | `homing.rt`, `out_cpu.rt`, `cpu_desk.rt`, `cpu_place.rt` | how a CPU goes out and comes home, again and again, each time by a ring of its own; `consumer_homing.rt`, `out_consumer.rt`, `consumer_desk.rt`, `consumer_place.rt`, `consumer_side.rt` the same of the consumer, with the batches that are out |
 //! | `under_way.rt`, `places.rt`, `gather.rt`, `close.rt`, `ended.rt` | a session from its start to its end |
 //! | `tending.rt` | the services of CPUs that are at their places (`specs/Tending`) |
 //! | `closing.rt` | the end in one call (`specs/Closing`, `proofs/AllHome`) |
 //! | `statuses.rt`, `configs.rt`, `reports.rt`, `batches.rt` | what crosses |
 //! | `schema_calls.rt`, `session_calls.rt`, `cpu_calls.rt`, `consumer_calls.rt`, `home_calls.rt`, `rest_calls.rt` | the exports |
 //! | `held_calls.rt`, `held_consumer_calls.rt` | the calls of a CPU and of the consumer on what a handle holds, by cases |
-//! | `ctf_box.rt`, `ctf_calls.rt`, `ctf_statuses.rt` | the files of a CPU in a trace that C writes, in a box of their own; the exports of a trace, and what they answer (`specs/CtfCalls`, `specs/CtfStatuses`) |
+//! | `ctf_calls.rt`, `ctf_statuses.rt` | the exports of a trace that C writes, and what they answer (`specs/CtfCalls`, `specs/CtfStatuses`) |
 //! | `signatures.rt`, `firing.rt` | the fields of an EPID in one word (`specs/Signatures`); a record by its EPID and values, traced or fired: each stands whole in its export, since what is fired has a type of its own |
 //! | `specs/`: Homes, Statuses, Shows, Handles, Lending | that a call leaves the same CPU of the same session; which number an answer is, and what goes out; what C reads, field by field; which handles are full, and of what; what lending keeps |
 //! | `specs/`: Answered, CpuCalls, ConsumerCalls | what a status and an out parameter tell of an answer; what each call of a CPU and of the consumer did, by what its handle held before and after |
@@ -21,6 +21,7 @@
 #![tactic(auto)]
 
 mod batches;
+mod boxed;
 mod close;
 mod closing;
 mod configs;
@@ -30,10 +31,10 @@ mod consumer_homing;
 mod consumer_place;
 mod consumer_side;
 mod cpu_calls;
-mod ctf_box;
+mod cpu_desk;
+mod cpu_place;
 mod ctf_calls;
 mod ctf_statuses;
-mod desk;
 mod ended;
 mod firing;
 mod gather;
@@ -47,11 +48,9 @@ mod homing;
 mod out_consumer;
 mod out_cpu;
 mod parts;
-mod place;
 mod places;
 mod reports;
 mod rest_calls;
-mod schema_box;
 mod schema_calls;
 mod seal;
 mod session_calls;

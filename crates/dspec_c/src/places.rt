@@ -3,9 +3,9 @@ ghost use Rattle.std.specs.Arc.{arc_value};
 ghost use Rattle.dspec_cpu.specs.Standing.{IsCallable};
 ghost use Rattle.dspec_c.specs.Whole.{AllCalled, waiting_so};
 
+use crate::cpu_place::CpuPlace;
 use crate::home_cpu::HomeCpu;
 use crate::homing::Homing;
-use crate::place::Place;
 use dspec_cpu::{Cpu, Shared};
 use dspec_record::Enablings;
 use std::alloc::{AllocError, Global};
@@ -30,12 +30,12 @@ fn place(
     alloc: Global,
     shared: &Arc<Shared, Global>,
     cpu: Box<Cpu<Enablings>>,
-) -> Result<Place, AllocError>
+) -> Result<CpuPlace, AllocError>
     requires { IsCallable (arc_value shared.now) cpu.value }
     ensures { IfOk result (λ r. r ≡ waiting_so (arc_value shared.now) cpu.value) }
 {
     let shared = Arc::try_clone(shared)?;
-    Place::make(alloc, Homing::of(shared, HomeCpu::of(cpu, 0)))
+    CpuPlace::make(alloc, Homing::of(shared, HomeCpu::of(cpu, 0)))
 }
 
 /// The places of all CPUs, in order, with the CPUs in them, which wait.
@@ -43,7 +43,7 @@ pub fn places(
     alloc: Global,
     shared: &Arc<Shared, Global>,
     cpus: Vec<Cpu<Enablings>>,
-) -> Result<Vec<Place>, AllocError>
+) -> Result<Vec<CpuPlace>, AllocError>
     requires { AllCalled (arc_value shared.now) cpus.items }
     ensures { IfOk result (λ r. r.items ≡ map (waiting_so (arc_value shared.now)) cpus.items) }
 {

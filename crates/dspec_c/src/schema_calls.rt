@@ -2,17 +2,17 @@
 
 ghost use Rattle.std.specs.Prelude.{◌≡◌, ◌≤◌, ◌⊎◌, true, false, MatchOption, MatchResult, length, take, Some, None};
 ghost use Rattle.dspec_c.specs.Handles.{held_in, is_full};
-ghost use Rattle.dspec_c.specs.SessionCalls.{StampAnswers, new_schema};
+ghost use Rattle.dspec_c.specs.SessionCalls.{LooksAtSchema, StampAnswers, new_schema};
 ghost use Rattle.dspec_c.specs.Widths.{EnableAnswers, Enables, EnablesSo, enable_fault, field_of_width, fields_of_widths};
 ghost use Rattle.dspec_c.specs.declared.held.Held.TheVariants as held_as;
 
+use crate::boxed::Boxed;
 use crate::handle::{Handle, Room};
 use crate::held::Held;
-use crate::schema_box::SchemaBox;
 use crate::statuses::{
     BAD_HANDLE, BAD_WIDTH, FULL_HANDLE, NO_MEMORY, OK, TOO_MANY_ENABLINGS, TOO_MANY_FIELDS,
 };
-use dspec_record::{Field, SchemaFault};
+use dspec_record::{Enablings, Field, SchemaFault};
 use std::alloc::Global;
 
 /// The version, as the header has it: the major number from bit 16 on, the minor one from bit 8 on.
@@ -37,7 +37,7 @@ pub extern "C" fn dspec_schema_new(alloc: Global, schema: &mut Handle) -> u32
     if schema.is_held() {
         return FULL_HANDLE;
     }
-    let Ok(made) = SchemaBox::new(alloc) else {
+    let Ok(made) = Boxed::new(alloc, Enablings::new()) else {
         return NO_MEMORY;
     };
     let Ok(room) = Room::new(alloc) else {
@@ -75,7 +75,7 @@ fn fields_of(widths: &[u8]) -> Option<[Field; 8]>
     Some(fields)
 }
 
-fn enable(schema: &mut SchemaBox, widths: &[u8]) -> Result<u32, u32>
+fn enable(schema: &mut Enablings, widths: &[u8]) -> Result<u32, u32>
     ensures { MatchResult result (λ epid. Enables widths.now epid schema.old schema.new)
         (λ why. (enable_fault widths.now schema.old ≡ Some why) × (schema.new ≡ schema.old)) }
 {
@@ -92,7 +92,7 @@ fn enable(schema: &mut SchemaBox, widths: &[u8]) -> Result<u32, u32>
     }
 }
 
-fn enable_told(schema: &mut SchemaBox, widths: &[u8], epid: &mut u32) -> u32
+fn enable_told(schema: &mut Enablings, widths: &[u8], epid: &mut u32) -> u32
     ensures { EnablesSo widths.now (enable_fault widths.now schema.old) schema.old result epid.old epid.new schema.new }
 {
     match enable(schema, widths) {
@@ -104,13 +104,18 @@ fn enable_told(schema: &mut SchemaBox, widths: &[u8], epid: &mut u32) -> u32
     }
 }
 
-fn held_enable(held: &mut Held, widths: &[u8], epid: &mut u32) -> u32
-    ensures { EnableAnswers widths.now held.old result epid.old epid.new held.new }
+/// The schema in a handle, as it is now.
+pub fn schema_in(schema: &mut Handle) -> Option<Enablings>
+    ensures looks { LooksAtSchema (held_in schema.old) result (held_in schema.new) }
+    ensures stays { is_full schema.new ≡ is_full schema.old }
 {
-    match held {
-        Held::Schema(schema) => enable_told(schema, widths, epid),
-        _ => BAD_HANDLE,
+    if !schema.is_held() {
+        return None;
     }
+    let Some(schema) = schema.lend().schema() else {
+        return None;
+    };
+    Some(*schema)
 }
 
 /// Enables records with fields of these widths.
@@ -122,19 +127,10 @@ pub extern "C" fn dspec_schema_enable(schema: &mut Handle, widths: &[u8], epid: 
     if !schema.is_held() {
         return BAD_HANDLE;
     }
-    held_enable(schema.lend(), widths, epid)
-}
-
-fn held_stamp(held: &mut Held) -> u32
-    ensures { StampAnswers held.old result held.new }
-{
-    match held {
-        Held::Schema(schema) => {
-            schema.stamp();
-            OK
-        }
-        _ => BAD_HANDLE,
-    }
+    let Some(schema) = schema.lend().schema() else {
+        return BAD_HANDLE;
+    };
+    enable_told(schema, widths, epid)
 }
 
 /// Records have a stamp from now on.
@@ -146,5 +142,9 @@ pub extern "C" fn dspec_schema_stamp(schema: &mut Handle) -> u32
     if !schema.is_held() {
         return BAD_HANDLE;
     }
-    held_stamp(schema.lend())
+    let Some(schema) = schema.lend().schema() else {
+        return BAD_HANDLE;
+    };
+    *schema = schema.stamped();
+    OK
 }

@@ -13,6 +13,7 @@ use crate::consumer_side::{ConsumerSide, places_for_batches};
 use crate::ended::Ended;
 use crate::handle::{Handle, Room};
 use crate::held::Held;
+use crate::schema_calls::schema_in;
 use crate::statuses::{
     BAD_HANDLE, BAD_POLICY, BUSY, FULL_HANDLE, NO_MEMORY, NO_SUCH_CPU, NOT_HOME, OK, OUT, of_start,
 };
@@ -47,16 +48,6 @@ fn start(alloc: Global, config: &CConfig, schema: &Enablings, session: &mut Hand
     keep(alloc, whole, session)
 }
 
-fn held_start(alloc: Global, config: &CConfig, schema: &mut Held, session: &mut Handle) -> u32
-    requires { is_full session.old ≡ false }
-    ensures { StartAnswers (asked_for config.now) schema.old result schema.new session.old session.new }
-{
-    match schema {
-        Held::Schema(schema) => start(alloc, config, schema.schema(), session),
-        _ => BAD_HANDLE,
-    }
-}
-
 /// Starts a session over the schema as it is now.
 #[unsafe(no_mangle)]
 pub extern "C" fn dspec_start(
@@ -72,10 +63,10 @@ pub extern "C" fn dspec_start(
     if session.is_held() {
         return FULL_HANDLE;
     }
-    if !schema.is_held() {
+    let Some(schema) = schema_in(schema) else {
         return BAD_HANDLE;
-    }
-    held_start(alloc, config, schema.lend(), session)
+    };
+    start(alloc, config, &schema, session)
 }
 
 // All memory comes first: the CPU stays where it is, as it was, where any is refused.

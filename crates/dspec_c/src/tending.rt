@@ -5,10 +5,10 @@ ghost use Rattle.dspec_c.specs.Homes.{IsPlaceWith, CpuSide};
 ghost use Rattle.dspec_c.specs.Tending.{AreTended, TendsOne};
 ghost use Rattle.dspec_c.specs.Whole.{firsts};
 
-use crate::place::Place;
+use crate::cpu_place::CpuPlace;
 use dspec_cpu::Shared;
 
-fn tend_one(places: &mut Vec<Place>, cpu: usize, shared: &Shared) -> u64
+fn tend_one(places: &mut Vec<CpuPlace>, cpu: usize, shared: &Shared) -> u64
     requires some { cpu < length places.old.items }
     requires place { (first : Option CpuSide) → slice_get (firsts places.old.items) cpu ≡ Some first → IsPlaceWith shared.now first }
     ensures tends { TendsOne cpu result places.old.items places.new.items }
@@ -18,7 +18,7 @@ fn tend_one(places: &mut Vec<Place>, cpu: usize, shared: &Shared) -> u64
 }
 
 /// A service of each CPU that is at its place; how many speculations they settled in all.
-pub fn tend_all(places: &mut Vec<Place>, count: u32, shared: &Shared) -> u64
+pub fn tend_all(places: &mut Vec<CpuPlace>, count: u32, shared: &Shared) -> u64
     requires count { count ≡ length places.old.items }
     requires place { (c : ℕ) (first : Option CpuSide) → slice_get (firsts places.old.items) c ≡ Some first → IsPlaceWith shared.now first }
     ensures { AreTended count result places.old.items places.new.items }

@@ -1,11 +1,11 @@
 use crate::close::close;
 use crate::consumer_homing::ConsumerHoming;
 use crate::consumer_place::ConsumerPlace;
+use crate::cpu_place::CpuPlace;
 use crate::ended::Ended;
 use crate::gather::{all_home, count_refusals, hand_out, is_in};
 use crate::out_consumer::OutConsumer;
 use crate::out_cpu::OutCpu;
-use crate::place::Place;
 use crate::places::places;
 use crate::tending::tend_all;
 use dspec_cpu::{Cpu, Shared};
@@ -22,7 +22,7 @@ use std::sync::Arc;
 pub struct UnderWay {
     common: Arc<Shared, Global>,
     cpus: u32,
-    places: Vec<Place>,
+    places: Vec<CpuPlace>,
     place: ConsumerPlace,
     /// Empty, with room for all CPUs.
     room: Vec<Cpu<Enablings>>,

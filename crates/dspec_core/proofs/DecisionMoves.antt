@@ -19,7 +19,7 @@ use Rattle.dspec_core.specs.declared.machine.decision.Decision.TheVariants.{Comm
 use Rattle.dspec_deeds.specs.History.{author, is_among, callers, halted, in_range, issue, word_at}
 use Rattle.dspec_deeds.specs.Legal.{IsAllowed}
 use Rattle.dspec_deeds.specs.Settling.{commit_fate}
-use Rattle.dspec_deeds.specs.Told.{answer_of}
+use Rattle.dspec_deeds.specs.FateAnswers.{answer_of}
 use Rattle.dspec_interleaving.specs.Coherent.{Expects, IsCoherent, OnItsWay, PlayState, StandsCpu, progress_of}
 use Rattle.dspec_interleaving.specs.Play.{cpu_step, call_goes_on, ends, wears, is_worn, same_word, committed_by, discarded_by}
 use Rattle.dspec_core.specs.Decisions.{act_of_decision, deed_of, decides, begun_of, load_of, try_of, shown_by}

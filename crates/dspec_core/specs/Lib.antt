@@ -13,7 +13,7 @@ pub use Rattle.dspec_interleaving.specs.Turns
 pub use Rattle.dspec_interleaving.specs.Whole
 pub mod Shown
 pub mod Machines
-pub use Rattle.dspec_deeds.specs.Told
+pub use Rattle.dspec_deeds.specs.FateAnswers
 pub use Rattle.dspec_interleaving.specs.Bounds
 pub use Rattle.dspec_interleaving.specs.SoloRule
 pub use Rattle.dspec_interleaving.specs.Calls

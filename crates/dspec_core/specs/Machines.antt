@@ -1,5 +1,6 @@
 -- Cited by calls. A machine shows its list of deeds.
-use Rattle.std.specs.Prelude.{ℕ, ◌≡◌, ◌<◌, ◌++◌, List, [], length, map, reverse, slice_get, Option, Some, if◌then◌else◌}
+use Rattle.std.specs.Prelude.{ℕ, ◌≡◌, ◌<◌, ◌++◌, List, [], length, map, reverse, slice_get, Option, Some, None, if◌then◌else◌}
+use Rattle.dspec_record.specs.declared.field.Shape.{Shape}
 use Rattle.dspec_record.specs.Record.{Record}
 use Rattle.dspec_buffer.specs.Extent.{Piece, one}
 use Rattle.dspec_deeds.specs.declared.calls.Answer.{Answer}
@@ -9,6 +10,8 @@ use Rattle.dspec_core.specs.declared.machine.Machine.{Machine}
 use Rattle.dspec_core.specs.declared.machine.cpu.Cpu.{Cpu}
 use Rattle.dspec_deeds.specs.FateKinds.{is_copied}
 use Rattle.dspec_deeds.specs.History.{halted}
+use Rattle.dspec_deeds.specs.Legal.{IsAllowed}
+use Rattle.dspec_deeds.specs.Ranges.{start_fault}
 use Rattle.dspec_interleaving.specs.Play.{CpuStep, ConsumerStep}
 use Rattle.dspec_interleaving.specs.Coherent.{PlayState}
 use Rattle.dspec_interleaving.specs.Turns.{moved_to, cleaned_to}
@@ -35,6 +38,20 @@ module _ {S B : Type 0} (has : B → S → List Piece → Type 0) (schema : S) w
   StreamsBlock place fate old new =
       (rs : List Record) (b : B) → slice_get old.side.speculative.items place ≡ Some b → has b schema (map one rs)
       → new ≡ record old { accepted = old.accepted ++ (if is_copied fate then reverse rs else []) }
+
+module _ {S B : Type 0} (has : B → S → List Piece → Type 0) (capacity : B → ℕ) (shape_of : S → ℕ → Option Shape) (m : Machine S B) where
+  -- deeds may be entered: the machine shows its list, its configuration is in range, and the list with them in front is legal
+  pub record MayEnter (ds : List Deed) : Type 0 where
+    pub shown : IsShownMachine has capacity m
+    pub ranges : start_fault m.config ≡ None
+    pub legal : IsAllowed (shape_of m.schema) m.config (ds ++ history m)
+
+  -- the same, by a CPU that there is
+  pub record MayEnterOn (c : ℕ) (ds : List Deed) : Type 0 where
+    pub shown : IsShownMachine has capacity m
+    pub ranges : start_fault m.config ≡ None
+    pub legal : IsAllowed (shape_of m.schema) m.config (ds ++ history m)
+    pub cpu : c < m.config.cpus
 
 -- one machine is another with deeds in front of its list, and all else that a play knows the same
 pub record Adds {S B : Type 0} (ds : List Deed) (m n : Machine S B) : Type 0 where

@@ -23,7 +23,8 @@ use Rattle.dspec_table.specs.declared.seats.CpuSeat.{CpuSeat}
 use Rattle.dspec_table.specs.Seats.{known, set_up, IsAt, cpu_of}
 use Rattle.dspec_table.specs.Steps.{ReleasedWord}
 use Rattle.dspec_cpu_state.specs.declared.cpu_state.CpuState.{CpuState}
-use Rattle.dspec_cpu_state.specs.CpuStates.{IsCaller, ShowsList, committed_fate}
+use Rattle.dspec_cpu_state.specs.CpuStates.{IsCaller, ShowsList}
+use Rattle.dspec_deeds.specs.Settling.{committed_fate}
 use Rattle.dspec_cpu.specs.declared.parts.CpuParts.{CpuParts as Cpu}
 use Rattle.dspec_cpu.specs.declared.reaching.Reach.TheVariants as reach
 use Rattle.dspec_cpu.specs.Calls.{Goes, steps, decided_deeds}

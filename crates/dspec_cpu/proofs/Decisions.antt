@@ -29,7 +29,7 @@ use Rattle.dspec_cpu.specs.declared.parts.CpuParts.{CpuParts as Cpu}
 use Rattle.dspec_cpu_state.specs.declared.counts.Counts.{Counts}
 use Rattle.dspec_cpu.specs.Calls.{decision, decided_deeds}
 use Rattle.dspec_cpu_state.specs.Counting.{counts_of}
-use Rattle.dspec_cpu_state.specs.CpuStates.{committed_fate}
+use Rattle.dspec_deeds.specs.Settling.{committed_fate}
 use Rattle.dspec_cpu.specs.Lists.{IsShown}
 use Rattle.dspec_cpu.specs.Reaching.{OwnsCommit}
 use Rattle.dspec_cpu_state.proofs.Tallies.{released_counts}

@@ -13,11 +13,11 @@ use Rattle.dspec_deeds.specs.declared.deed.Deed.TheVariants.{Settle}
 use Rattle.dspec_deeds.specs.Closes.{is_granted}
 use Rattle.dspec_deeds.specs.History.{ack, scan, word_at}
 use Rattle.dspec_deeds.proofs.OwnReads.{apart_bare}
+use Rattle.dspec_deeds.specs.Settling.{settled_fate}
 use Rattle.dspec_table.specs.declared.doing.Doing.{Doing}
 use Rattle.dspec_table.specs.declared.rule.View.{View}
 use Rattle.dspec_table.specs.declared.seats.CpuSeat.{CpuSeat}
 use Rattle.dspec_table.specs.declared.seats.Words.{Words}
-use Rattle.dspec_table.specs.Acts.{fate_of_settlement}
 use Rattle.dspec_table.specs.Conditions.{MaySettle}
 use Rattle.dspec_table.specs.Seats.{known, IsAt, cpu_of}
 use Rattle.dspec_table.specs.Holders.{number_of}
@@ -79,13 +79,14 @@ module _ (shape : ℕ → Option Shape) (accepted : Record → Bool) (text : Rec
     w = known last
 
     abbrev deed : Deed
-    deed = Settle cpu.cpu id (fate_of_settlement own word.code)
+    deed = Settle cpu.cpu id (settled_fate word.code own.fits own.count)
 
     stores : SettledWord own id word.code v w
     stores = subst (λ (x : ℕ × SlotState). SettledWord own record { issue = x.0; slot = slot } x.1.code v w) (λ j. (i_is j, due.here j)) stored
 
     entered : Entered (ack_place v.config (number_of v.who) slot) v stores.0 (deed ∷ []) w
-    entered = subst (λ n. Entered (ack_place v.config (number_of v.who) slot) v stores.0 (Settle n id (fate_of_settlement own word.code) ∷ []) w) (number shape accepted text words cpu ready) stores.2
+    entered = subst (λ n. Entered (ack_place v.config (number_of v.who) slot) v stores.0 (Settle n id (settled_fate word.code own.fits own.count) ∷ []) w)
+        (number shape accepted text words cpu ready) stores.2
 
     stands : Stands cpu.config cpu.cpu v (deed ∷ []) w
     stands = stands_behind cpu.config cpu.cpu v w stores.0 (deed ∷ []) (set_up_is shape accepted text words cpu ready) (holder shape accepted text words cpu ready) entered

@@ -22,10 +22,10 @@ use Rattle.dspec_deeds.specs.Owning.{CpuRow}
 use Rattle.dspec_deeds.specs.Settling as settling
 use Rattle.dspec_deeds.proofs.TestLemmas.{number_is_itself}
 use Rattle.dspec_table.specs.declared.doing.Doing.{Doing}
-use Rattle.dspec_table.specs.Acts.{fate_of_settlement}
 use Rattle.dspec_cpu_state.specs.declared.cpu_state.CpuState.{CpuState}
 use Rattle.dspec_cpu_state.specs.Counting.{HasRoom}
-use Rattle.dspec_cpu_state.specs.CpuStates.{IsCaller, ShowsList, committed_fate, settled_fate}
+use Rattle.dspec_cpu_state.specs.CpuStates.{IsCaller, ShowsList}
+use Rattle.dspec_deeds.specs.Settling.{settled_fate}
 use Rattle.dspec_cpu.specs.Settled.{BlockSettled, CanSettle, serving}
 use Rattle.dspec_cpu.proofs.Shown.{shows, shown_behind}
 
@@ -46,16 +46,6 @@ goes_on shape k c p id code = go (fits_principal shape k c (extent.block (conten
     go : (b : Bool) → decided_stopped (if b then fated.Copied (length (held c id p)) else fated.Lost (length (held c id p))) ≡ false
     go true = refl
     go false = refl
-
--- the call in flight tells of the block what was measured
-served_as : (fit : Bool) (n : ℕ) (mine : Bool) (code : Code) → fate_of_settlement (serving fit n mine) code ≡ settled_fate code fit n
-served_as fit n mine Discarding = refl
-served_as fit n mine Inactive = refl
-served_as fit n mine Active = refl
-served_as fit n mine ActiveOne = refl
-served_as fit n mine ActiveMany = refl
-served_as fit n mine Committing = refl
-served_as fit n mine CommittingMany = refl
 
 ends : (fit : Bool) (n : ℕ) (code : Code) → (is_commit (settled_fate code fit n) || is_discard (settled_fate code fit n)) ≡ true
 ends fit n Discarding = refl
@@ -95,25 +85,13 @@ module _ (shape : ℕ → Option Shape) (accepted : Record → Bool) (text : Rec
         (counts_all : ShowsList (HasPieces shape accepted text) (λ b. b.size) k c p side → IsCaller c j mine p → n ≡ length (held c j p)) where
       -- the fate by what was measured is the one by the CPU's own list
       pub fate_is : settled_fate code fit n ≡ settling.settle_fate shape k c p id code
-      fate_is = go code
+      fate_is = λ i. settled_fate code (room i) (all i)
         where
           all : n ≡ length (held c id p)
           all = counts_all (shows shape accepted text side p can.shown) caller ∙ ap (λ x. length (held c x p)) named
 
           room : fit ≡ fits_principal shape k c (extent.block (contents (held c id p))) p
           room = fits_all (shows shape accepted text side p can.shown) caller ∙ ap (λ x. fits_principal shape k c (extent.block (contents (held c x p))) p) named
-
-          commits : committed_fate fit n ≡ settling.commit_fate shape k c p id
-          commits = λ i. if room i then fated.Copied (all i) else fated.Lost (all i)
-
-          go : (x : Code) → settled_fate x fit n ≡ settling.settle_fate shape k c p id x
-          go Discarding = ap fated.Thrown all
-          go Inactive = commits
-          go Active = commits
-          go ActiveOne = commits
-          go ActiveMany = commits
-          go Committing = commits
-          go CommittingMany = commits
 
       module _ (fate : DecideFate) (is : fate ≡ settled_fate code fit n) where
         same : fate ≡ settling.settle_fate shape k c p id code
@@ -137,7 +115,7 @@ module _ (shape : ℕ → Option Shape) (accepted : Record → Bool) (text : Rec
             subst (λ (x : Speculation × DecideFate). CpuLegal shape k p (Settle c x.0 x.1)) (λ i. (sym named i, sym same i)) (lawful shape k c p id code) in
             let was = shown (shows shape accepted text side p can.shown) caller (ap (λ g. is_commit g || is_discard g) is ∙ ends fit n code) allows in
             record {
-              fate = ap (λ (d : Doing). fate_of_settlement d code) served ∙ (served_as fit n mine code ∙ fate_is);
+              fate = ap (λ (d : Doing). settled_fate code d.fits d.count) served ∙ fate_is;
               shown = shown_behind shape accepted text side p can.shown (Settle c id f) refl (number_is_itself c) (lawful shape k c p id code) now
                   (subst (λ (x : Speculation × DecideFate). ShowsList (HasPieces shape accepted text) (λ b. b.size) k c (Settle c x.0 x.1 ∷ p) now) (λ i. (named i, same i)) was);
             }

@@ -27,7 +27,7 @@ use Rattle.dspec_deeds.specs.Reports.{CountsWithin, report}
 use Rattle.dspec_deeds.specs.Settling as settling
 use Rattle.dspec_deeds.specs.Weaving.{bare}
 use Rattle.dspec_deeds.proofs.Acked.{ack_tells}
-use Rattle.dspec_deeds.proofs.Awaiting.{awaiting, settles_as}
+use Rattle.dspec_deeds.proofs.Awaiting.{awaiting, goes_with}
 use Rattle.dspec_deeds.proofs.OwnAccounts.{own_report}
 use Rattle.dspec_deeds.proofs.OwnReads.{apart_bare}
 use Rattle.dspec_deeds.proofs.TestLemmas.{cpu_is_itself, number_is_itself}
@@ -51,7 +51,7 @@ grant_tells w acked e = go (awaits w.code) (nat_le acked w.issue) e
     go true false e = absurd (true≢false (sym e))
     go false b e = absurd (true≢false (sym e))
 
-fate_fits : (shape : ℕ → Option Shape) (k : Config) (c : ℕ) (p : List Deed) (id : Speculation) (code : Code) → awaits code ≡ true → settles_as code (settling.settle_fate shape k c p id code) ≡ true
+fate_fits : (shape : ℕ → Option Shape) (k : Config) (c : ℕ) (p : List Deed) (id : Speculation) (code : Code) → awaits code ≡ true → goes_with code (settling.settle_fate shape k c p id code) ≡ true
 fate_fits shape k c p id Discarding e = refl
 fate_fits shape k c p id CommittingMany e =
     go (Rattle.dspec_deeds.specs.Legal.fits_principal shape k c (Rattle.dspec_buffer.specs.Extent.block (Rattle.dspec_deeds.specs.Own.contents (held c id p))) p)

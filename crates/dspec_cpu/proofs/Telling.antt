@@ -12,11 +12,11 @@ use Rattle.dspec_deeds.specs.declared.config.Config.{Config}
 use Rattle.dspec_deeds.specs.declared.deed.DecideFate.{DecideFate}
 use Rattle.dspec_deeds.specs.declared.deed.Deed.{Deed}
 use Rattle.dspec_deeds.specs.declared.deed.Deed.TheVariants.{Settle}
+use Rattle.dspec_deeds.specs.Settling.{settled_fate}
 use Rattle.dspec_promise.specs.Deeds.{did}
 use Rattle.dspec_promise.specs.Promise.{commit, discard, Did}
 use Rattle.dspec_cpu_state.specs.Counting.{is_stopped_opening}
 use Rattle.dspec_table.specs.declared.rule.View.{View}
-use Rattle.dspec_table.specs.Acts.{fate_of_settlement}
 use Rattle.dspec_table.specs.Flights.{calling}
 use Rattle.dspec_table.specs.Seats.{known}
 use Rattle.dspec_table.specs.Steps.{Entered, EnteredIn}
@@ -88,7 +88,7 @@ settles_length c (s ∷ ss) = omega (arith, settles_length c ss)
 
 settled_behind : (hit : Bool) (c slot : ℕ) (shown : SlotState) (v w : View) (ds : List Deed) → SettledBehind hit c slot shown v ds w
     → (ss : List (Speculation × DecideFate)) × (ds ≡ settles c ss)
-settled_behind true c slot shown v w ds s = ((shown_at slot shown, fate_of_settlement s.0 shown.code) ∷ [], s.2)
+settled_behind true c slot shown v w ds s = ((shown_at slot shown, settled_fate shown.code s.0.fits s.0.count) ∷ [], s.2)
 settled_behind false c slot shown v w ds s = ([], s.0)
 
 settled_slots : (c : ℕ) (v w : View) (n : ℕ) (ds : List Deed) → SettledSlots c v n ds w → (ss : List (Speculation × DecideFate)) × (ds ≡ settles c ss)

@@ -18,9 +18,9 @@ use Rattle.dspec_deeds.specs.declared.deed.Deed.{Deed}
 use Rattle.dspec_deeds.specs.declared.deed.Deed.TheVariants.{Speculate, Commit, Discard, Release}
 use Rattle.dspec_deeds.specs.History.{issue, part, word_at}
 use Rattle.dspec_deeds.specs.Legal.{IsSound}
+use Rattle.dspec_deeds.specs.Settling.{committed_fate}
 use Rattle.dspec_table.specs.declared.rule.View.{View}
 use Rattle.dspec_table.specs.declared.doing.Doing.{Doing}
-use Rattle.dspec_table.specs.Acts.{fate_of_commit}
 use Rattle.dspec_table.specs.Conditions.{IsInFlight, IfCommitting, OwnCommit}
 use Rattle.dspec_table.specs.Steps.{TriedWord}
 use Rattle.dspec_cpu.specs.declared.reaching.Reach.{Reach}
@@ -83,7 +83,7 @@ reached_deeds c doing (op.Speculate id r) reach.Void = Speculate c id r spoken.V
 reached_deeds c doing (op.Speculate id r) x = Speculate c id r (if doing.fits then spoken.Kept else spoken.Dropped) ∷ []
 reached_deeds c doing (op.Commit id) reach.Stopped = Commit c id decided.Stopped ∷ []
 reached_deeds c doing (op.Commit id) reach.Void = Commit c id decided.Void ∷ []
-reached_deeds c doing (op.Commit id) x = Commit c id (fate_of_commit doing) ∷ []
+reached_deeds c doing (op.Commit id) x = Commit c id (committed_fate doing.fits doing.count) ∷ []
 reached_deeds c doing (op.Discard id) reach.Stopped = Discard c id decided.Stopped ∷ []
 reached_deeds c doing (op.Discard id) reach.Void = Discard c id decided.Void ∷ []
 reached_deeds c doing (op.Discard id) (reach.Done to) = if is_inactive to.code then Release id.slot ∷ Discard c id (decided.Thrown doing.count) ∷ [] else Discard c id (decided.Thrown doing.count) ∷ []

@@ -23,9 +23,9 @@ use Rattle.dspec_deeds.specs.Marks.{mark}
 use Rattle.dspec_deeds.specs.Own.{held}
 use Rattle.dspec_deeds.specs.Settling as settling
 use Rattle.dspec_deeds.specs.Weaving.{bare}
+use Rattle.dspec_deeds.specs.Settling.{settled_fate}
 use Rattle.dspec_table.specs.declared.doing.Doing.{Doing}
 use Rattle.dspec_table.specs.declared.rule.View.{View}
-use Rattle.dspec_table.specs.Acts.{fate_of_settlement}
 use Rattle.dspec_table.specs.Steps.{LoadedWord, SettledWord}
 use Rattle.dspec_cpu_state.specs.declared.cpu_state.CpuState.{CpuState}
 use Rattle.dspec_cpu_state.specs.CpuStates.{parts_of_side}
@@ -46,7 +46,7 @@ serving fit n mine = record { op = op.Service; fits = fit; count = n; mine = min
 abbrev pub SettledBehind : Bool → ℕ → ℕ → SlotState → View → List Deed → View → Type 0
 SettledBehind false c slot shown v ds w = (ds ≡ []) × (v ≡ w)
 SettledBehind true c slot shown v ds w =
-    (doing : Doing) × (doing.op ≡ op.Service) × (ds ≡ Settle c (shown_at slot shown) (fate_of_settlement doing shown.code) ∷ [])
+    (doing : Doing) × (doing.op ≡ op.Service) × (ds ≡ Settle c (shown_at slot shown) (settled_fate shown.code doing.fits doing.count) ∷ [])
     × SettledWord doing (shown_at slot shown) shown.code v w
 
 -- behind the load of a slot's word, which can be released: no release is owed, and the table grants to the CPU's own
@@ -125,5 +125,5 @@ module _ (shape : ℕ → Option Shape) (accepted : Record → Bool) (text : Rec
 
   -- the block is settled: as the code says, by whether it fits and how many records it has; and the Settle is shown too
   pub record BlockSettled (k : Config) (c : ℕ) (new : CpuState Stored) (batches : List Batch) (id : Speculation) (code : Code) (doing : Doing) (p : List Deed) : Type 0 where
-    pub fate : fate_of_settlement doing code ≡ settling.settle_fate shape k c p id code
+    pub fate : settled_fate code doing.fits doing.count ≡ settling.settle_fate shape k c p id code
     pub shown : AreShown shape accepted text k c (parts_of_side new) batches new.counts (Settle c id (settling.settle_fate shape k c p id code) ∷ p)

@@ -7,7 +7,7 @@
 //! | File | What is in it |
 //! |---|---|
 //! | `cpu.rt`, `parts.rt`, `calls.rt` | `Cpu`, whose model keeps that no call of it is under way and that its fields show a list; `CpuParts`, its fields: the value that contracts see; its six calls, each a call of its parts |
-//! | `values.rt`, `standing.rt`, `making.rt`, `meeting.rt`, `reporting.rt` | records by their values; `stands`, `schema`, `number`; the start; meetings; reports, and the drops of a speculation |
+//! | `values.rt`, `standing.rt`, `making.rt`, `meeting.rt`, `reporting.rt` | records by their values; `invariant`, `schema`, `number`; the start; meetings; reports, and the drops of a speculation |
 //! | `tracing.rt`, `speculating.rt`, `deciding.rt`, `opening.rt` | trace; speculate; commit and discard; speculation |
 //! | `serving.rt`, `sealing.rt`, `settling.rt` | service: a batch handed on, a spare found, the active buffer sealed; `settle_due`, which settles a slot where that is due; `settle_block`, which ends a block that was decided |
 //! | `scanning.rt`, `holding.rt`, `reaching.rt` | the steps of a scan; of an identifier whether the CPU is a caller, what fits, what a block measures; `go_on`, the steps of a call on an identifier |

@@ -7,7 +7,7 @@ use dspec_record::Schema;
 impl<S: Schema> Cpu<S> {
     /// Tells what holds of the CPU, as of every one between two calls. It does nothing.
     #[inline]
-    pub fn stands(&self)
+    pub fn invariant(&self)
         ensures steady { IsSteady (S.shape_of (schema_of self.now)) (S.accepted (schema_of self.now)) (S.text (schema_of self.now)) self.now }
     {
         let _ = &self.parts;

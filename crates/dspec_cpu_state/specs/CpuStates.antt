@@ -1,12 +1,8 @@
 -- Cited by calls. What a CPU's side shows of a list of that CPU's own deeds.
-use Rattle.std.specs.Prelude.{ℕ, ◌≡◌, ◌+◌, ◌==◌, Bool, false, List, [], if◌then◌else◌}
+use Rattle.std.specs.Prelude.{ℕ, ◌≡◌, ◌+◌, ◌==◌, Bool, false, List, []}
 use Rattle.dspec_buffer.specs.Extent.{Piece}
-use Rattle.dspec_word.specs.declared.code.Code.{Code}
-use Rattle.dspec_word.specs.declared.code.Code.TheVariants.{Discarding}
 use Rattle.dspec_word.specs.SpecId.{Speculation}
 use Rattle.dspec_deeds.specs.declared.config.Config.{Config}
-use Rattle.dspec_deeds.specs.declared.deed.DecideFate.{DecideFate}
-use Rattle.dspec_deeds.specs.declared.deed.DecideFate.TheVariants as decided
 use Rattle.dspec_deeds.specs.declared.deed.Deed.{Deed}
 use Rattle.dspec_deeds.specs.Marks.{mark}
 use Rattle.dspec_deeds.specs.Own.{held}
@@ -27,14 +23,6 @@ parts_of_side side = record {
   specdrops = side.specdrops.items;
   acks = side.acks.items;
 }
-
--- what becomes of a block that fits or doesn't, of so many records: committed, and settled by the code of the word that was shown
-abbrev pub committed_fate : Bool → ℕ → DecideFate
-committed_fate fit n = if fit then decided.Copied n else decided.Lost n
-
-abbrev pub settled_fate : Code → Bool → ℕ → DecideFate
-settled_fate Discarding fit n = decided.Thrown n
-settled_fate code fit n = committed_fate fit n
 
 module _ {B : Type 0} (keeps : B → List Piece → Type 0) (capacity : B → ℕ) where
   -- a buffer of that size has these pieces

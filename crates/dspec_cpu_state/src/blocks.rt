@@ -8,7 +8,8 @@ ghost use Rattle.dspec_deeds.specs.declared.deed.Deed.TheVariants.{Commit, Disca
 ghost use Rattle.dspec_deeds.specs.FateKinds.{is_commit, is_copied, is_discard, is_lost};
 ghost use Rattle.dspec_deeds.specs.Own.{held};
 ghost use Rattle.dspec_cpu_state.specs.Counting.{HasRoom, IsRoomy, with_decided};
-ghost use Rattle.dspec_cpu_state.specs.CpuStates.{IsCaller, ShowsList, committed_fate, settled_fate};
+ghost use Rattle.dspec_cpu_state.specs.CpuStates.{IsCaller, ShowsList};
+ghost use Rattle.dspec_deeds.specs.Settling.{committed_fate, settled_fate};
 ghost use Rattle.dspec_cpu_state.specs.Showing.{ChangesAt, ShowsEnded, ShowsNext, TakesBlock, TellsBlock, TellsBlockRoom, block_fits, decided_side, ends_block, settled_side};
 
 use crate::cpu_state::CpuState;

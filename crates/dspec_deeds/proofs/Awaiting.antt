@@ -16,16 +16,16 @@ use Rattle.dspec_deeds.proofs.WordCodes.{decided_awaits}
 use Rattle.dspec_deeds.proofs.Debtless.{debtless}
 
 -- the fate that goes with the code
-abbrev pub settles_as : Code → DecideFate → Bool
-settles_as CommittingMany f = is_commit f
-settles_as Discarding f = is_discard f
-settles_as c f = false
+abbrev pub goes_with : Code → DecideFate → Bool
+goes_with CommittingMany f = is_commit f
+goes_with Discarding f = is_discard f
+goes_with c f = false
 
 -- a decided speculation that waits for every CPU, at that code
 pub record IsAwaiting (s : ℕ) (h : List Deed) (c : Code) : Type 0 where
   pub given : opened (present s h) h ≡ true
   pub ruled : is_undecided (verdict (present s h) h) ≡ false
-  pub fate : (f : DecideFate) → settles_as c f ≡ true → SettlesAs (verdict (present s h) h) f
+  pub fate : (f : DecideFate) → goes_with c f ≡ true → SettlesAs (verdict (present s h) h) f
   pub alone : solo (present s h) h ≡ None
 
 -- where no release is owed, a word that waits is of a decided speculation that no CPU decided alone
@@ -54,7 +54,7 @@ awaiting k s h c sound rests is a = go (opened (present s h) h) (verdict (presen
         record {
           given = eo;
           ruled = ap is_undecided ev;
-          fate = λ f m. subst (λ v. SettlesAs v f) (sym ev) (subst (λ x. settles_as x f ≡ true) (sym c_is) m);
+          fate = λ f m. subst (λ v. SettlesAs v f) (sym ev) (subst (λ x. goes_with x f ≡ true) (sym c_is) m);
           alone = (λ i. solo_of (ev i) (ec i)) ∙ ap (λ x. if x then Some b else None) not_sole;
         }
     go true (discarded b) cs eo ev ec e =
@@ -63,7 +63,7 @@ awaiting k s h c sound rests is a = go (opened (present s h) h) (verdict (presen
         record {
           given = eo;
           ruled = ap is_undecided ev;
-          fate = λ f m. subst (λ v. SettlesAs v f) (sym ev) (subst (λ x. settles_as x f ≡ true) (sym c_is) m);
+          fate = λ f m. subst (λ v. SettlesAs v f) (sym ev) (subst (λ x. goes_with x f ≡ true) (sym c_is) m);
           alone = (λ i. solo_of (ev i) (ec i)) ∙ ap (λ x. if x then Some b else None) not_sole;
         }
 

@@ -7,7 +7,7 @@ pub mod Settling
 pub mod Reports
 pub mod Fates
 pub mod Headline
-pub mod Told
+pub mod FateAnswers
 pub mod Closes
 pub mod Marks
 pub mod CpuShown

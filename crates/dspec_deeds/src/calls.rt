@@ -1,5 +1,5 @@
 ghost use Rattle.std.specs.Prelude.{◌≡◌};
-ghost use Rattle.dspec_deeds.specs.Told.{id_told};
+ghost use Rattle.dspec_deeds.specs.FateAnswers.{id_given};
 
 use dspec_record::Rec;
 use dspec_word::SpecId;
@@ -169,7 +169,7 @@ pub enum Turn {
 impl Opening {
     /// The identifier that was given out, or NONE, which is never open.
     pub fn id(self) -> SpecId
-        ensures { result ≡ id_told self }
+        ensures { result ≡ id_given self }
     {
         match self {
             Opening::Id(id) => id,

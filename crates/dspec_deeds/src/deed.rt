@@ -1,5 +1,5 @@
 ghost use Rattle.std.specs.Prelude.{◌≡◌};
-ghost use Rattle.dspec_deeds.specs.Told.{told};
+ghost use Rattle.dspec_deeds.specs.FateAnswers.{answer_of_fate};
 
 use crate::calls::Decided;
 use dspec_record::Rec;
@@ -139,7 +139,7 @@ impl fmt::Display for Deed {
 impl DecideFate {
     /// The answer of a call that had this fate.
     pub fn answer(self) -> Decided
-        ensures { result ≡ told self }
+        ensures { result ≡ answer_of_fate self }
     {
         match self {
             DecideFate::Copied(count) => Decided::Copied(count),

@@ -16,7 +16,7 @@
 //! | `specs/`: Legal | which deed may come next, in a common part over `Facts` and in a CPU's own part; `IsLegal` is both |
 //! | `specs/`: Settling, Reports, Fates, Headline | what becomes of a buffer once its speculation is decided; counts, fates, the three laws |
 //! | `specs/`: Refusals | a reservation that is refused, and the buffer that has refused one |
-//! | `specs/`: Closes, Told, Ranges | the close; a fate as it is told; the configuration |
+//! | `specs/`: Closes, FateAnswers, Ranges | the close; what a fate is answered as; the configuration |
 //! | `specs/`: Owning, Marks, CpuShown, Weaving | the own part over one CPU's list; the mark of a slot; what a CPU's side shows; the lists of the CPUs put together |
 //! | `specs/`: CommonDeeds, WordSteps, OthersDeeds, Rules | a deed as the common part sees it; the word behind a deed; what stands behind another's deed; what the conditions come to over a whole list |
 //! | `proofs/`, sound lists | SoundLists, PresentIds, Word.., Staying.., Acked, Awaiting, Debtless, Emptied |

@@ -27,7 +27,7 @@ use Rattle.dspec_deeds.specs.Own.{contents, held}
 use Rattle.dspec_deeds.specs.Legal.{IsSound, fits_principal}
 use Rattle.dspec_interleaving.specs.Play.{ends, shown_commit, shown_discard, is_alone, committed_by, discarded_by}
 use Rattle.dspec_deeds.specs.Settling.{commit_fate, discard_fate}
-use Rattle.dspec_deeds.specs.Told.{answer_of}
+use Rattle.dspec_deeds.specs.FateAnswers.{answer_of}
 use Rattle.dspec_deeds.proofs.TestLemmas.{either_way}
 use Rattle.dspec_deeds.proofs.WordActs.{commit_attempt, discard_attempt}
 use Rattle.dspec_deeds.proofs.WordChanges.{committed_word, discarded_word, released_word}

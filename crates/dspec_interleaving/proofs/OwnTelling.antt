@@ -21,7 +21,7 @@ use Rattle.dspec_interleaving.specs.ReadOff.{is_busy_among, has_seal, settle_cou
 use Rattle.dspec_deeds.specs.History.{author, same_actor}
 use Rattle.dspec_interleaving.specs.Play.{CpuStep, wears}
 use Rattle.dspec_interleaving.specs.Play.{missed}
-use Rattle.dspec_deeds.specs.Told.{answer_of}
+use Rattle.dspec_deeds.specs.FateAnswers.{answer_of}
 use Rattle.dspec_interleaving.specs.Plays.{is_worn_answer}
 use Rattle.dspec_deeds.specs.Reports.{missed_busy}
 use Rattle.dspec_deeds.proofs.StayingOwn.{missed_other}

@@ -13,7 +13,7 @@ use Rattle.dspec_interleaving.specs.declared.flight.CallPlace.TheVariants as cpu
 use Rattle.dspec_deeds.specs.FateKinds.{spoken_granted, is_commit, is_discard}
 use Rattle.dspec_deeds.specs.History.{same_id, undecided, committed, discarded, verdict, latest, callers, joined, is_sole, is_sole_or_none, solo, solo_of, author, owing}
 use Rattle.dspec_deeds.specs.Legal.{IsSound}
-use Rattle.dspec_deeds.specs.Told.{answer_of}
+use Rattle.dspec_deeds.specs.FateAnswers.{answer_of}
 use Rattle.dspec_deeds.proofs.TestLemmas.{either_way, and_tells, same_id_tells}
 use Rattle.dspec_deeds.proofs.PresentIds.{open_present}
 use Rattle.dspec_deeds.proofs.WordChanges.{granted_open}

@@ -26,7 +26,7 @@ use Rattle.dspec_deeds.specs.History.{releaser, part, standing, callers, present
 use Rattle.dspec_deeds.specs.Own.{contents, held}
 use Rattle.dspec_deeds.specs.Legal.{fits_principal, sealed_last}
 use Rattle.dspec_interleaving.specs.Play.{is_worn, begun, wears, ends, call_goes_on, committed_by, is_alone, shown_commit, same_word, cpu_step}
-use Rattle.dspec_deeds.specs.Told.{answer_of}
+use Rattle.dspec_deeds.specs.FateAnswers.{answer_of}
 use Rattle.dspec_interleaving.specs.Coherent.{OnItsWay, StandsCpu}
 use Rattle.dspec_deeds.proofs.TestLemmas.{number_is_itself, id_is_itself}
 use Rattle.dspec_deeds.proofs.SoundLists.{running_not_late}

@@ -22,7 +22,7 @@ use Rattle.dspec_deeds.specs.History.{halted, in_range, is_among, callers, is_op
 use Rattle.dspec_deeds.specs.Legal.{IsSound}
 use Rattle.dspec_interleaving.specs.Play.{is_worn, shown_commit, shown_discard, is_alone, is_release, same_word, call_goes_on, ends}
 use Rattle.dspec_deeds.specs.Settling.{commit_fate, discard_fate}
-use Rattle.dspec_deeds.specs.Told.{answer_of}
+use Rattle.dspec_deeds.specs.FateAnswers.{answer_of}
 use Rattle.dspec_interleaving.specs.Whole.{WholeCpu, whole_cpu, enters}
 use Rattle.dspec_deeds.proofs.TestLemmas.{off}
 use Rattle.dspec_deeds.proofs.WordActs.{commit_void, commit_attempt, discard_void, discard_attempt}

@@ -27,7 +27,7 @@ use Rattle.dspec_deeds.specs.Ranges.{start_fault}
 use Rattle.dspec_deeds.specs.Own.{seals}
 use Rattle.dspec_deeds.specs.Legal.{IsSound, IsLegal}
 use Rattle.dspec_interleaving.specs.Coherent.{PlayState, IsCoherent, StandsProgress, progress_of, idle_progress}
-use Rattle.dspec_deeds.specs.Told.{answer_of}
+use Rattle.dspec_deeds.specs.FateAnswers.{answer_of}
 use Rattle.dspec_interleaving.specs.SoloRule.{IsLast, ReleasesThen}
 use Rattle.dspec_interleaving.specs.Turns.{Stepped, at_start, begin_cpu, begin_consumer, step, step_cpu, step_consumer, on_to_end}
 use Rattle.dspec_interleaving.specs.Whole.{WholeConsumer, is_out, Call, of_cpu, of_consumer, behind_call, behind_all, cpu_call}

@@ -39,7 +39,7 @@ use Rattle.dspec_deeds.specs.Own.{calls, seals}
 use Rattle.dspec_deeds.specs.Legal.{fits_principal, fits_speculative}
 use Rattle.dspec_deeds.specs.Reports.{missed_busy}
 use Rattle.dspec_deeds.specs.Settling.{commit_fate, discard_fate, settle_fate}
-use Rattle.dspec_deeds.specs.Told.{answer_of}
+use Rattle.dspec_deeds.specs.FateAnswers.{answer_of}
 use Rattle.dspec_interleaving.specs.Play.{CpuStep, same_word, is_alone, is_release, is_worn, is_mine, ends, wears, call_goes_on, spoken_at, shown_speculate, shown_commit, shown_discard}
 use Rattle.dspec_interleaving.specs.Play.{missed, shown_scan, asked, begun, popped, served, shown_service, cpu_step}
 use Rattle.dspec_interleaving.specs.Plays.{is_worn_answer}

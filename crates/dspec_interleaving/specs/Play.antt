@@ -42,7 +42,7 @@ use Rattle.dspec_interleaving.specs.Coherent.{progress_of}
 use Rattle.dspec_deeds.specs.Legal.{fits_principal, fits_speculative}
 use Rattle.dspec_deeds.specs.Reports.{missed_busy}
 use Rattle.dspec_deeds.specs.Settling.{commit_fate, discard_fate, settle_fate}
-use Rattle.dspec_deeds.specs.Told.{answer_of}
+use Rattle.dspec_deeds.specs.FateAnswers.{answer_of}
 
 abbrev pub same_word : SlotState → SlotState → Bool
 same_word v w = (v.issue == w.issue) && (code_number v.code == code_number w.code)

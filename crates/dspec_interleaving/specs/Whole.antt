@@ -29,7 +29,7 @@ use Rattle.dspec_deeds.specs.History.{halted, issue, present, Verdict, discarded
 use Rattle.dspec_deeds.specs.Own.{seals}
 use Rattle.dspec_deeds.specs.Legal.{fits_principal, fits_speculative}
 use Rattle.dspec_deeds.specs.Settling.{commit_fate, discard_fate}
-use Rattle.dspec_deeds.specs.Told.{answer_of}
+use Rattle.dspec_deeds.specs.FateAnswers.{answer_of}
 use Rattle.dspec_interleaving.specs.Coherent.{progress_of, PlayState}
 use Rattle.dspec_interleaving.specs.Play.{is_worn, took}
 

@@ -9,6 +9,7 @@ use Rattle.dspec_word.specs.SpecId.{Speculation, id_number}
 use Rattle.dspec_word.specs.Word.{SlotState}
 use Rattle.dspec_schedule.specs.Printed.{printed_record}
 use Rattle.dspec_picture.specs.declared.style.TheConstants.{STYLE}
+use Rattle.dspec_picture.specs.Words.{standing_word}
 use Rattle.dspec_picture.specs.declared.shape.Look.{Look}
 use Rattle.dspec_picture.specs.declared.shape.Look.TheVariants as look
 use Rattle.dspec_picture.specs.declared.shape.Caption.{Caption}
@@ -110,15 +111,6 @@ words_text class x y t =
 abbrev pub level_text : List ℕ → ℕ → ℕ → List ℕ
 level_text class y end = codes "<path class='" ++ class ++ codes "' d='M100 " ++ decimal y ++ codes "H" ++ decimal end ++ codes "'/>\n"
 
-abbrev pub code_word : Code → List ℕ
-code_word Inactive = codes "inactive"
-code_word Active = codes "active"
-code_word ActiveOne = codes "one"
-code_word ActiveMany = codes "many"
-code_word Committing = codes "committing"
-code_word CommittingMany = codes "committing many"
-code_word Discarding = codes "discarding"
-
 -- the class of a segment, which its colour goes by
 abbrev pub code_class : Code → List ℕ
 code_class Inactive = codes "s0"
@@ -154,7 +146,7 @@ unfoldable pub state_head : List ℕ
 state_head = codes "<text class='state' x='5' y='14'>"
 
 unfoldable pub state_end : Code → List ℕ
-state_end code = code_word code ++ codes "</text>"
+state_end code = standing_word code ++ codes "</text>"
 
 -- the identifier and the state's name, and the identifier alone
 abbrev pub both_told : ℕ → SlotState → List ℕ
@@ -173,7 +165,7 @@ abbrev pub state_told : ℕ → SlotState → List ℕ
 state_told s x = if has_id x.code then codes ", speculation " ++ decimal (slot_id s x) ++ codes ", " else codes ", "
 
 unfoldable pub segment_title : ℕ → SlotState → List ℕ
-segment_title s x = codes "<title>slot " ++ decimal s ++ state_told s x ++ code_word x.code ++ codes "</title>"
+segment_title s x = codes "<title>slot " ++ decimal s ++ state_told s x ++ standing_word x.code ++ codes "</title>"
 
 unfoldable pub segment_rect : ℕ → List ℕ
 segment_rect width = codes "<rect width='" ++ decimal width ++ codes "' height='20' rx='3'/>"

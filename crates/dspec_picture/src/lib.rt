@@ -14,7 +14,8 @@
 //!
 //! | File | What is in it |
 //! |---|---|
-//! | `shape.rt`, `style.rt`, `svg.rt` | `Shape` and what is in one (`Look`, `Caption`, `Offered`); the head and the style sheet; each shape's text |
+//! | `shape.rt`, `style.rt` | `Shape` and what is in one (`Look`, `Caption`, `Offered`); the style sheet |
+//! | `svg.rt`, `boxes.rt`, `segments.rt`, `group.rt` | the text of shapes: head, words, lines and strokes; records and the legend; states of slots; what groups have in common |
 //! | `grid.rt`, `fates.rt`, `marks.rt` | where things stand; what became of each offer; what a deed shows in its CPU's band |
 //! | `bars.rt`, `band.rt`, `drawing.rt`, `sheet.rt`, `laws.rt` | the segments of a slot; a band; the whole; one shape more; the three laws |
 //! | `walking.rt` | `steps_of`: the turns, over the machine of dspec_core; a line a step |
@@ -26,12 +27,15 @@
 
 pub mod band;
 mod bars;
+mod boxes;
 mod drawing;
 mod fates;
 mod grid;
+mod group;
 mod laws;
 mod marks;
 mod room;
+mod segments;
 pub mod shape;
 mod sheet;
 mod showing;

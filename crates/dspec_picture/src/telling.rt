@@ -12,7 +12,7 @@ ghost use Rattle.dspec_picture.specs.Tellable.{CanBeTold, ConsumerCanBeTold, IsT
 ghost use Rattle.dspec_picture.specs.Told.{ack_head, ack_told, ask_told, begun_told, consumer_begun_told, consumer_call_told, consumer_flight_told, consumer_told, cpu_call_told, cpu_flight_told, cpu_told, exchanges_told, is_given_back, is_handed, is_service, loads_told, running_told, service_told, step_told};
 
 use crate::showing::{ack, attempted, is_marked, word_at};
-use crate::words::{tell_exchange, tell_load};
+use crate::words::{tell_about, tell_exchange, tell_load};
 use dspec_buffer::TraceBuffer;
 use dspec_core::machine::Machine;
 use dspec_deeds::{Actor, ConsumerOp, CpuOp, Policy};
@@ -276,14 +276,6 @@ fn tell_consumer<S: Schema, B: TraceBuffer<S>>(
             tell_try(text, machine, slot, word, reap_at(word, true))
         }
     }
-}
-
-/// A call about a speculation, behind its name and a space.
-fn tell_about(text: &mut String, verb: &str, id: SpecId) -> Result<(), AllocError>
-    ensures { OnOk result (string_bytes text.new ≡ string_bytes text.old ++ (verb.now ++ decimal (id_number id))) }
-{
-    let number = id.raw();
-    write!(text, "{verb}{number}")
 }
 
 /// A call of a CPU, as a play's lines name it.

@@ -13,7 +13,7 @@ use dspec_word::{Code, SpecId, Word};
 use std::alloc::AllocError;
 
 /// Where a speculation stands.
-fn standing_name(code: Code) -> &'static str
+pub(crate) fn standing_name(code: Code) -> &'static str
     ensures { result.now ≡ standing_word code }
 {
     match code {
@@ -104,12 +104,19 @@ fn tell_speculate(
     text.push_str(spoken_name(fate))
 }
 
+/// A speculation, behind what is done with it and a space.
+pub(crate) fn tell_about(text: &mut String, verb: &str, id: SpecId) -> Result<(), AllocError>
+    ensures { OnOk result (string_bytes text.new ≡ string_bytes text.old ++ (verb.now ++ decimal (id_number id))) }
+{
+    let number = id.raw();
+    write!(text, "{verb}{number}")
+}
+
 /// A decision or a settlement, behind its name and a space.
 fn tell_verb(text: &mut String, verb: &str, id: SpecId, fate: DecideFate) -> Result<(), AllocError>
     ensures { OnOk result (string_bytes text.new ≡ string_bytes text.old ++ verb_told verb.now id fate) }
 {
-    let number = id.raw();
-    write!(text, "{verb}{number}")?;
+    tell_about(text, verb, id)?;
     tell_decided(text, fate)
 }
 
@@ -131,13 +138,6 @@ fn tell_miss(text: &mut String, slot: u32, busy: bool) -> Result<(), AllocError>
     write!(text, "miss slot {slot}")
 }
 
-fn tell_opened(text: &mut String, id: SpecId) -> Result<(), AllocError>
-    ensures { OnOk result (string_bytes text.new ≡ string_bytes text.old ++ (codes "opened " ++ decimal (id_number id))) }
-{
-    let number = id.raw();
-    write!(text, "opened {number}")
-}
-
 /// A deed, without the CPU that the line is of.
 fn tell_deed(text: &mut String, header: Header, deed: &Deed) -> Result<(), AllocError>
     ensures { OnOk result (string_bytes text.new ≡ string_bytes text.old ++ deed_told header deed.now) }
@@ -145,7 +145,7 @@ fn tell_deed(text: &mut String, header: Header, deed: &Deed) -> Result<(), Alloc
     match *deed {
         Deed::Trace(_, rec, fate) => tell_trace(text, header, &rec, fate),
         Deed::Scan(_, running) => tell_scan(text, running),
-        Deed::Opened(_, id) => tell_opened(text, id),
+        Deed::Opened(_, id) => tell_about(text, "opened ", id),
         Deed::Miss(_, slot, busy) => tell_miss(text, slot, busy),
         Deed::Speculate(_, id, rec, fate) => tell_speculate(text, header, id, &rec, fate),
         Deed::Commit(_, id, fate) => tell_verb(text, "commit ", id, fate),

@@ -1,4 +1,4 @@
--- Cited by calls. Enablings as contracts see them, and how `Enablings` holds them.
+-- Believed. Enablings as contracts see them, and how `Enablings` holds them.
 use Rattle.std.specs.Prelude.{◌≡◌, ◌≤◌, ◌+◌, ◌-◌, ◌++◌, List, [], length, take, drop, replicate}
 use Rattle.dspec_record.specs.Layout.{fields_start}
 use Rattle.dspec_record.specs.declared.field.Field.{Field}

@@ -1,4 +1,4 @@
--- Cited by calls. The bytes of a record: its header, then each value at its place, little-endian, and zero elsewhere.
+-- Believed. The bytes of a record: its header, then each value at its place, little-endian, and zero elsewhere.
 use Rattle.std.specs.Prelude.{◌≡◌, IsTrue, ℕ, ◌-◌, ◌/◌, ◌%◌, ◌==◌, ◌++◌, ◌^◌, Bool, true, false, ◌&&◌, nat_lt, List, [], ◌∷◌, replicate}
 use Rattle.std.specs.Int.{bytes_low_first}
 use Rattle.dspec_record.specs.Record.{Record}

@@ -1,4 +1,4 @@
--- Cited by calls. A schema that is a header and a table of fields: which fields the records of an EPID have, if there are any. Its
+-- Believed. A schema that is a header and a table of fields: which fields the records of an EPID have, if there are any. Its
 -- shapes are their layouts, and its texts their record texts.
 use Rattle.std.specs.Prelude.{ℕ, zero, suc, ◌^◌, Bool, false, ◌&&◌, nat_lt, nat_le, List, [], length, slice_get, Option, Some, None, unwrap_or, option_and_then, if◌then◌else◌}
 use Rattle.std.specs.Option.{option_map, option_map_or}

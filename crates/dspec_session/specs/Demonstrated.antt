@@ -14,7 +14,7 @@ use Rattle.dspec_deeds.specs.declared.deed.DecideFate.{DecideFate}
 use Rattle.dspec_deeds.specs.declared.deed.Deed.{Deed}
 use Rattle.dspec_deeds.specs.declared.deed.Deed.TheVariants.{Commit, Discard}
 use Rattle.dspec_deeds.specs.Own.{offers}
-use Rattle.dspec_deeds.specs.Told.{id_told}
+use Rattle.dspec_deeds.specs.FateAnswers.{id_given}
 use Rattle.dspec_table.specs.Seats.{known}
 use Rattle.dspec_cpu.specs.Calls.{decided_deeds, spoken_deeds, traced_deeds}
 use Rattle.dspec_cpu.specs.Scans.{opening_deeds}
@@ -77,7 +77,7 @@ Traces value old new = (a : Traced) × WorkerAdds (traced_deeds (number_in old) 
 
 -- of a call of speculation, by its answer, which tells this identifier, or none
 abbrev pub WorkerOpens : Speculation → Cpu EnabledRows → Cpu EnabledRows → Type 0
-WorkerOpens id old new = (missed : List Bool) × (a : Opening) × (id ≡ id_told a) × WorkerAdds (opening_deeds (number_in old) missed a) old new
+WorkerOpens id old new = (missed : List Bool) × (a : Opening) × (id ≡ id_given a) × WorkerAdds (opening_deeds (number_in old) missed a) old new
 
 -- of record 2 with this value, offered to this speculation
 abbrev pub Speculates : Speculation → ℕ → Cpu EnabledRows → Cpu EnabledRows → Type 0

@@ -10,6 +10,7 @@ pub use Rattle.dspec_session_core.specs.Sessions
 pub use Rattle.dspec_session_core.specs.Closing
 pub use Rattle.dspec_session_core.specs.Promised
 pub use Rattle.dspec_session_core.specs.Leaving
+pub use Rattle.dspec_session_core.specs.Finish
 pub use Rattle.dspec_session_core.specs.Finishing
 pub mod Demonstrated
 pub mod Rising

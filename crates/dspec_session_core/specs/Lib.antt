@@ -10,4 +10,5 @@ pub mod Sessions
 pub mod Closing
 pub mod Promised
 pub mod Leaving
+pub mod Finish
 pub mod Finishing

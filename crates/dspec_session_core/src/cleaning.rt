@@ -59,7 +59,7 @@ fn clean_slot(seat: &mut ConsumerSeat, words: &Words, config: &Config, slot: u32
     seat.reap_word(words, slot, word).is_ok()
 }
 
-// ConsumerMakes each slot, upwards, and answers how many it released.
+// Cleans each slot, upwards, and answers how many it released.
 fn clean_slots(seat: &mut ConsumerSeat, words: &Words, config: &Config) -> u32
     requires seat { IsConsumerAt words.now seat.old }
     requires config { config.now ≡ set_up words.now }

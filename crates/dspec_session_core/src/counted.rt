@@ -27,7 +27,7 @@ impl CountedEnd {
     ghost use Rattle.dspec_session_core.specs.Batches.{TookFrom, GivenTo};
 
     /// An end through which nothing went yet.
-    pub(crate) fn new(end: ConsumerEnd) -> CountedEnd
+    pub(crate) fn of(end: ConsumerEnd) -> CountedEnd
         requires { IsUnusedConsumer end }
         ensures { result ≡ end }
     {

@@ -1,7 +1,7 @@
 ghost use Rattle.std.specs.Prelude.{◌≡◌, length};
 ghost use Rattle.dspec_table.specs.Seats.{set_up};
 ghost use Rattle.dspec_cpu.specs.Lists.{words_of};
-ghost use Rattle.dspec_session_core.specs.Finishing.{FinishCloses, FinishPromises};
+ghost use Rattle.dspec_session_core.specs.Finish.{FinishCloses, FinishPromises};
 ghost use Rattle.dspec_session_core.specs.Sessions.{IsSession};
 
 use crate::closed::Closed;

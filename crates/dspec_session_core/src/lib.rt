@@ -14,6 +14,7 @@
 //! | `consumer.rt`, `counted.rt`, `making.rt` | `Consumer`, which has the room that the close needs; an end of a ring with the numbers of batches taken and given back |
 //! | `asking.rt`, `awaiting.rt`, `batches.rt`, `cleaning.rt`, `stopping.rt`, `meeting.rt` | its calls |
 //! | `specs/`: Sessions, Closing, Leaving | what a session is, by the identities of its CPUs; what its end promises, a clause for each sentence; the parts of the close between its steps |
+//! | `specs/`: Finish, Finishing | `FinishPromises` and `FinishCloses`, which the two clauses of `finish` name, said of the session that is ended; the laws of the close, as sentences |
 //! | `specs/`: Promised | `IsPromisedBy`: what the close promises each CPU, by what its calls did (`called_at`); which settlements the close makes (`owes_settlement`, `closed_up`, `closed_for`) |
 //! | `specs/`: Consumers, ConsumerFields | a consumer as its seat and the list of what its ends know; its invariant; `Stays` |
 //! | `specs/`: Asking, Awaiting, Batches, Cleaning, Stopping | one relation a call: `Asked`, `Awaited`, `Took` and `GaveBack`, `Cleaned` (the whole chain of the seat's steps), `Stopped` |

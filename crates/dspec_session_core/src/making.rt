@@ -17,7 +17,7 @@ fn counted(alloc: Global, ends: Vec<ConsumerEnd>) -> Result<Vec<CountedEnd>, All
     let mut rest = ends;
     let mut all = Vec::with_capacity(alloc, rest.len())?;
     while !rest.is_empty() {
-        all.push(CountedEnd::new(rest.remove(0)))?;
+        all.push(CountedEnd::of(rest.remove(0)))?;
     }
     Ok(all)
 }

@@ -61,7 +61,7 @@ pub(crate) fn all_stand<S: Schema>(cpus: &Vec<Cpu<S>>)
     ensures { AllSteady S.shape_of S.accepted S.text cpus.now.items }
 {
     for cpu in cpus {
-        cpu.stands();
+        cpu.invariant();
     }
 }
 

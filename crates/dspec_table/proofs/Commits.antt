@@ -16,10 +16,11 @@ use Rattle.dspec_deeds.specs.History.{scan, present, opened, verdict, committed,
 use Rattle.dspec_deeds.specs.Legal.{IsSound}
 use Rattle.dspec_deeds.proofs.TestLemmas.{same_number, id_is_itself}
 use Rattle.dspec_deeds.proofs.WordCodes.{committing_tells}
+use Rattle.dspec_deeds.specs.Settling.{committed_fate}
 use Rattle.dspec_table.specs.declared.rule.View.{View}
 use Rattle.dspec_table.specs.declared.doing.Doing.{Doing}
 use Rattle.dspec_table.specs.Holders.{of_cpu, number_of}
-use Rattle.dspec_table.specs.Acts.{fate_of_commit, at_hit}
+use Rattle.dspec_table.specs.Acts.{at_hit}
 use Rattle.dspec_table.specs.Conditions.{MayLoad, Attempts, IsDeciding, OwnCommit, IfCommitting}
 use Rattle.dspec_table.specs.Layout.{slot_place}
 use Rattle.dspec_table.specs.Steps.{acted, Entered}
@@ -67,7 +68,7 @@ discards_apart from to id mine e w = go (from.issue == id.issue) e
 committed_is : (a b : ℕ) → committed a ≡ committed b → a ≡ b
 committed_is a b e = cc
 
-fate_commits : (doing : Doing) → is_commit (fate_of_commit doing) ≡ true
+fate_commits : (doing : Doing) → is_commit (committed_fate doing.fits doing.count) ≡ true
 fate_commits doing = go doing.fits
   where
     go : (b : Bool) → is_commit (if b then Rattle.dspec_deeds.specs.declared.deed.DecideFate.TheVariants.Copied
@@ -76,10 +77,10 @@ fate_commits doing = go doing.fits
     go false = refl
 
 module _ (k : Config) (c slot : ℕ) (v w : View) (doing : Doing) (from to : SlotState) (log : List Deed) (who : v.who ≡ of_cpu c) (same : v.config ≡ k) (shown : word_at slot w.seen ≡ to) where
-  own_commit : (id : Speculation) → Entered (slot_place slot) v log (Commit (number_of v.who) id (fate_of_commit doing) ∷ []) w → id.slot ≡ slot → scan k c v.own ≡ 0 → to.issue ≡ id.issue
-      → to.code ≡ Committing → OwnCommit k w c record { issue = to.issue; slot = slot }
+  own_commit : (id : Speculation) → Entered (slot_place slot) v log (Commit (number_of v.who) id (committed_fate doing.fits doing.count) ∷ []) w → id.slot ≡ slot
+      → scan k c v.own ≡ 0 → to.issue ≡ id.issue → to.code ≡ Committing → OwnCommit k w c record { issue = to.issue; slot = slot }
   own_commit id entered at idle issues is =
-      let f = fate_of_commit doing in
+      let f = committed_fate doing.fits doing.count in
       let d : Deed = Commit c id f in
       let me : number_of v.who ≡ c = ap number_of who in
       let view : w ≡ acted (slot_place slot) v log (d ∷ []) = entered.view ∙ ap (λ (n : ℕ). acted (slot_place slot) v log (Commit n id f ∷ [])) me in

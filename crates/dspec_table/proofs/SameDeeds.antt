@@ -36,6 +36,7 @@ use Rattle.dspec_interleaving.specs.declared.flight.CallPlace.TheVariants as cpu
 use Rattle.dspec_interleaving.specs.declared.flight.Spare.{Spare}
 use Rattle.dspec_interleaving.specs.declared.flight.Spare.TheVariants as spare
 use Rattle.dspec_deeds.specs.declared.calls.Served.{Served}
+use Rattle.dspec_deeds.specs.Settling.{committed_fate, settled_fate}
 use Rattle.dspec_interleaving.specs.Wearing.{is_told_worn}
 use Rattle.dspec_interleaving.specs.Play.{same_word, cpu_step, shown_speculate, shown_commit, shown_discard, shown_scan, shown_service, missed, served}
 use Rattle.dspec_interleaving.specs.Play.{asked, popped, committed_by, discarded_by, is_alone, spoken_at, is_worn, begun}
@@ -253,13 +254,13 @@ module _ (shape : ℕ → Option Shape) (k : Config) (c : ℕ) (h : List Deed) (
       go (Attempt to) e = refl
       go Idle e = not_plain (discard_at (word_at id.slot h) id (is_among c (callers id h))) Idle plain e refl
 
-  block_fate : (id : Speculation) → MeasuresBlock shape k c h id doing → settling.commit_fate shape k c h id ≡ acts.fate_of_commit doing
+  block_fate : (id : Speculation) → MeasuresBlock shape k c h id doing → settling.commit_fate shape k c h id ≡ committed_fate doing.fits doing.count
   block_fate id block = rw (block.0, block.1) refl
 
-  committed : (id : Speculation) (act : Act) → MeasuresBlock shape k c h id doing → bare (committed_by shape k c h me id act).deeds ≡ Commit c id (acts.fate_of_commit doing) ∷ []
+  committed : (id : Speculation) (act : Act) → MeasuresBlock shape k c h id doing → bare (committed_by shape k c h me id act).deeds ≡ Commit c id (committed_fate doing.fits doing.count) ∷ []
   committed id act block = go (is_alone act) refl
     where
-      go : (b : Bool) → is_alone act ≡ b → bare (committed_by shape k c h me id act).deeds ≡ Commit c id (acts.fate_of_commit doing) ∷ []
+      go : (b : Bool) → is_alone act ≡ b → bare (committed_by shape k c h me id act).deeds ≡ Commit c id (committed_fate doing.fits doing.count) ∷ []
       go true e = rw e (ap (λ f. Commit c id f ∷ []) (block_fate id block))
       go false e = rw e (ap (λ f. Commit c id f ∷ []) (block_fate id block))
 
@@ -271,14 +272,14 @@ module _ (shape : ℕ → Option Shape) (k : Config) (c : ℕ) (h : List Deed) (
       go false e = rw (e, count) refl
 
   -- settlements
-  settled_fate : (id : Speculation) (code : Code) → MeasuresBlock shape k c h id doing → settling.settle_fate shape k c h id code ≡ acts.fate_of_settlement doing code
-  settled_fate id Discarding block = rw block.1 refl
-  settled_fate id Inactive block = block_fate id block
-  settled_fate id Active block = block_fate id block
-  settled_fate id ActiveOne block = block_fate id block
-  settled_fate id ActiveMany block = block_fate id block
-  settled_fate id Committing block = block_fate id block
-  settled_fate id CommittingMany block = block_fate id block
+  same_settlement : (id : Speculation) (code : Code) → MeasuresBlock shape k c h id doing → settling.settle_fate shape k c h id code ≡ settled_fate code doing.fits doing.count
+  same_settlement id Discarding block = rw block.1 refl
+  same_settlement id Inactive block = block_fate id block
+  same_settlement id Active block = block_fate id block
+  same_settlement id ActiveOne block = block_fate id block
+  same_settlement id ActiveMany block = block_fate id block
+  same_settlement id Committing block = block_fate id block
+  same_settlement id CommittingMany block = block_fate id block
 
   -- each place of a call, by what the list of the play shows
   by_place : (f : CallPlace) → IsSameCall shape k c h me f doing → Measures shape k c h doing f → bare (cpu_step shape k c h me f).deeds ≡ seat_deeds k c doing (halted h) (word_at (slot_of f) h) f
@@ -320,7 +321,7 @@ module _ (shape : ℕ → Option Shape) (k : Config) (c : ℕ) (h : List Deed) (
   by_place (cpu.ServiceLoad s sum) same m = service_loaded s sum (word_at s h) (settle_at (word_at s h) (ack c s h)) ∙ ap (at_word k c doing s (word_at s h)) (sym same.op)
   by_place (cpu.ServiceStore s w sum) same m =
       ap bare (served_deeds s _ record { sealed = sum.sealed; settled = sum.settled + 1 }) ∙ ap (λ f. Settle c record { issue = w.issue; slot = s } f ∷ [])
-      (settled_fate record { issue = w.issue; slot = s } w.code m)
+      (same_settlement record { issue = w.issue; slot = s } w.code m)
 
   -- and by what the words show
   pub same_deeds : (f : CallPlace) → IsSameCall shape k c h me f doing → bare (cpu_step shape k c h me f).deeds ≡ seat_deeds k c doing (halted (bare h)) (word_at (slot_of f) (bare h)) f

@@ -22,8 +22,9 @@ use Rattle.dspec_interleaving.specs.Play.{same_word, cpu_step}
 use Rattle.dspec_interleaving.proofs.StepsWords.{word_is_itself, words_test}
 use Rattle.dspec_table.specs.declared.doing.Doing.{Doing}
 use Rattle.dspec_table.specs.declared.rule.View.{View}
-use Rattle.dspec_table.specs.Acts.{at_activity, at_word, at_open, at_exchange, fate_of_settlement}
+use Rattle.dspec_table.specs.Acts.{at_activity, at_word, at_open, at_exchange}
 use Rattle.dspec_deeds.specs.declared.deed.Deed.TheVariants.{Settle}
+use Rattle.dspec_deeds.specs.Settling.{settled_fate}
 use Rattle.dspec_table.specs.Holders.{number_of}
 use Rattle.dspec_table.specs.Flights.{calling}
 use Rattle.dspec_table.specs.Steps.{Found, Entered, LoadedWord, OpenedWord, TriedWord}
@@ -120,7 +121,7 @@ seat_did doing v w cpu.ServicePop step = absurd step
 seat_did doing v w cpu.ServicePush step = absurd step
 seat_did doing v w (cpu.ServiceLoad s sum) step = let d = loaded doing s v w step in (d.0, d.1, λ op. d.2)
 seat_did doing v w (cpu.ServiceStore s from sum) (last, (log, found, entered)) =
-    (log, found, λ op. did (λ x. Settle (number_of v.who) record { issue = from.issue; slot = s } (fate_of_settlement doing x.code) ∷ []) (word_at s v.seen) from v w log (sym last) entered)
+    (log, found, λ op. did (λ x. Settle (number_of v.who) record { issue = from.issue; slot = s } (settled_fate x.code doing.fits doing.count) ∷ []) (word_at s v.seen) from v w log (sym last) entered)
 
 -- so a step of the play leaves what the seat's step leaves
 pub seat_plays : (doing : Doing) (v w : View) (f : CallPlace) → SeatStep doing v f w

@@ -25,7 +25,8 @@ use Rattle.dspec_deeds.specs.declared.calls.Actor.TheVariants.{Cpu}
 use Rattle.dspec_word.specs.Tables.{settle_at}
 use Rattle.dspec_word.specs.declared.act.Act.TheVariants.{Granted, Idle}
 use Rattle.std.specs.Prelude.{nat_le, not}
-use Rattle.dspec_deeds.proofs.Awaiting.{awaiting, settles_as}
+use Rattle.dspec_deeds.proofs.Awaiting.{awaiting, goes_with}
+use Rattle.dspec_deeds.specs.Settling.{settled_fate}
 use Rattle.dspec_table.proofs.OwnReading.{ack_part}
 use Rattle.dspec_table.specs.declared.rule.View.{View}
 use Rattle.dspec_table.specs.declared.doing.Doing.{Doing}
@@ -35,7 +36,6 @@ use Rattle.dspec_table.specs.Since.{Since, here, more}
 use Rattle.dspec_table.specs.Layout.{slot_place, activity_place, group_place, ack_place, ask_place}
 use Rattle.dspec_table.specs.Steps.{acted, Found, Entered, StoredAck}
 use Rattle.dspec_table.specs.Holders.{number_of}
-use Rattle.dspec_table.specs.Acts.{fate_of_settlement}
 use Rattle.dspec_table.specs.Conditions.{MaySettle}
 use Rattle.dspec_table.proofs.Adding.{Adds}
 use Rattle.dspec_table.proofs.Keeps.{LeavesAsks, acts, enters, finds, is_cpu, idle_log}
@@ -91,7 +91,7 @@ settle_granted w acked e = go (awaits w.code) (nat_le acked w.issue) e
     go true false e = absurd (cc (e))
     go false b e = absurd (cc (e))
 
-fate_is : (doing : Doing) (code : Code) → awaits code ≡ true → settles_as code (fate_of_settlement doing code) ≡ true
+fate_is : (doing : Doing) (code : Code) → awaits code ≡ true → goes_with code (settled_fate code doing.fits doing.count) ≡ true
 fate_is doing Discarding e = refl
 fate_is doing CommittingMany e = go doing.fits
   where
@@ -107,7 +107,7 @@ fate_is doing Committing e = absurd (true≢false (sym e))
 
 pub settles_word : (k : Config) (slots id c : ℕ) (me : Me ℕ View) (doing : Doing) (spec : Speculation) → c < k.cpus → me.0.who ≡ of_cpu c → me.0.also ≡ [] → MaySettle k me.0 c spec
     → Allows (WordsRule k) slots id me (ack_place k c spec.slot) (λ _. spec.issue + 1) (λ _ w. ((log : List Deed) × Found me.0 log
-    × Entered (ack_place k c spec.slot) me.0 log (Settle (number_of me.0.who) spec (fate_of_settlement doing (word_at spec.slot me.0.seen).code) ∷ []) w.0) × (w.1 ≡ me.1))
+    × Entered (ack_place k c spec.slot) me.0 log (Settle (number_of me.0.who) spec (settled_fate (word_at spec.slot me.0.seen).code doing.fits doing.count) ∷ []) w.0) × (w.1 ≡ me.1))
 settles_word k slots id c me doing spec lt who alone may st kept homes at bound =
     let v = me.0 in
     let log = kept.log in
@@ -127,7 +127,7 @@ settles_word k slots id c me doing spec lt who alone may st kept homes at bound 
     let not_seen : settled c (present s v.seen) v.seen ≡ false = not_yet (settled c (present s v.seen) v.seen) (sym (ack_tells k c s v.seen sound_seen) ∙ untold) in
     let held = held_since k c s v.seen log lt kept.sound seen_by (record { given = waits.given; ruled = waits.ruled; waits = inr (waits.alone, not_seen) }) in
     let q : present s log ≡ spec = (λ i. record { issue = held.1.issues i; slot = s }) ∙ p in
-    let f = fate_of_settlement doing code in
+    let f = settled_fate code doing.fits doing.count in
     let unsettled : settled c spec log ≡ false = settled_since c spec v.seen log seen_by ∙ (ap (λ j. settled c j v.seen) (sym p) ∙ not_seen) in
     let fate : SettlesAs (verdict spec log) f = subst (λ x. SettlesAs x f) (sym held.1.verdicts ∙ ap (λ j. verdict j log) q) (waits.fate f (fate_is doing code due.0)) in
     let none : solo spec log ≡ None = sym (ap (λ j. solo j log) q) ∙ (held.1.solos ∙ waits.alone) in
@@ -165,7 +165,7 @@ pub stores_ack : (k : Config) (slots id c : ℕ) (me : Me ℕ View) (doing : Doi
 stores_ack k slots id c me doing spec config lt who alone may st kept homes at bound =
     let v = me.0 in
     let r = settles_word k slots id c me doing spec lt who alone may st kept homes at bound in
-    let deed : Speculation → Deed = λ x. Settle (number_of v.who) x (fate_of_settlement doing (word_at x.slot v.seen).code) in (
+    let deed : Speculation → Deed = λ x. Settle (number_of v.who) x (settled_fate (word_at x.slot v.seen).code doing.fits doing.count) in (
       r.0,
       r.1,
       r.2,

@@ -30,7 +30,7 @@ use Rattle.dspec_table.specs.declared.doing.Doing.{Doing}
 use Rattle.dspec_table.specs.Rule.{WordsRule}
 use Rattle.dspec_table.specs.Showing.{word}
 use Rattle.dspec_table.specs.Holders.{number_of}
-use Rattle.dspec_table.specs.Acts.{fate_of_commit, discard_hits, at_hit, at_exchange}
+use Rattle.dspec_table.specs.Acts.{discard_hits, at_hit, at_exchange}
 use Rattle.dspec_table.specs.Conditions.{Attempts, MayTry}
 use Rattle.dspec_table.specs.Steps.{TriedNumber}
 use Rattle.dspec_table.proofs.InFlight.{exchange_of}
@@ -40,6 +40,7 @@ use Rattle.dspec_table.proofs.Loads.{Flies, IsReady, ready, owes, speculate_like
 use Rattle.dspec_deeds.specs.declared.deed.SpeculateFate.TheVariants as spoken
 use Rattle.dspec_deeds.specs.declared.deed.DecideFate.TheVariants as decided
 use Rattle.dspec_deeds.specs.declared.calls.CpuOp.TheVariants as op
+use Rattle.dspec_deeds.specs.Settling.{committed_fate}
 
 -- a word with the present issue, whose code is what a list shows for the speculation
 shows_code : (id : Speculation) (log new : List Deed) (w : Code) → present id.slot log ≡ id → issue id.slot new ≡ issue id.slot log → code_at id new ≡ w
@@ -158,7 +159,7 @@ hits k c log doing slot new s rests (op.Speculate id r) f e =
     (joins k c log doing s rests slot id r doing.fits new f e')
 hits k c log doing slot new s rests (op.Commit id) f e =
     let e' : commit_at (word_at id.slot log) id (is_among c (callers id log)) ≡ Attempt new = sym (commit_like k log c slot doing id f) ∙ e in
-    subst (λ t. Changes k (of_cpu c) t (word_number new) log (Commit c id (fate_of_commit doing) ∷ [])) f.at (commits k c log doing s rests slot id doing.fits doing.count new f e')
+    subst (λ t. Changes k (of_cpu c) t (word_number new) log (Commit c id (committed_fate doing.fits doing.count) ∷ [])) f.at (commits k c log doing s rests slot id doing.fits doing.count new f e')
 hits k c log doing slot new s rests (op.Discard id) f e =
     let e' : discard_at (word_at id.slot log) id (is_among c (callers id log)) ≡ Attempt new = sym (discard_like k log c slot doing id f) ∙ e in
     subst (λ a. Changes k (of_cpu c) slot (word_number new) log (discard_hits c doing id a)) (sym e)

@@ -2,8 +2,6 @@
 use Rattle.std.specs.Prelude.{ℕ, Bool, true, false, List, [], ◌∷◌, if◌then◌else◌}
 use Rattle.dspec_word.specs.SpecId.{Speculation}
 use Rattle.dspec_word.specs.Word.{SlotState}
-use Rattle.dspec_word.specs.declared.code.Code.{Code}
-use Rattle.dspec_word.specs.declared.code.Code.TheVariants.{Discarding}
 use Rattle.dspec_word.specs.declared.act.Act.{Act}
 use Rattle.dspec_word.specs.declared.act.Act.TheVariants.{Void, Granted, Attempt}
 use Rattle.dspec_word.specs.Code.{is_inactive, is_decided}
@@ -14,11 +12,11 @@ use Rattle.dspec_deeds.specs.declared.calls.CpuOp.{CpuOp}
 use Rattle.dspec_deeds.specs.declared.calls.CpuOp.TheVariants as op
 use Rattle.dspec_deeds.specs.declared.deed.TraceFate.TheVariants as traced
 use Rattle.dspec_deeds.specs.declared.deed.SpeculateFate.TheVariants as spoken
-use Rattle.dspec_deeds.specs.declared.deed.DecideFate.{DecideFate}
 use Rattle.dspec_deeds.specs.declared.deed.DecideFate.TheVariants as decided
 use Rattle.dspec_deeds.specs.declared.deed.Deed.{Deed}
 use Rattle.dspec_deeds.specs.declared.deed.Deed.TheVariants.{Trace, Scan, Opened, Miss, Speculate, Commit, Discard, Release, Halt}
 use Rattle.dspec_deeds.specs.History.{in_range}
+use Rattle.dspec_deeds.specs.Settling.{committed_fate}
 use Rattle.dspec_table.specs.declared.doing.Doing.{Doing}
 
 abbrev pub nothing : Doing
@@ -68,9 +66,6 @@ at_open c slot shown true = Opened c record { issue = shown.issue; slot = slot }
 at_open c slot shown false = Miss c slot (is_decided shown.code) ∷ []
 
 -- an exchange that succeeded, by the word that it found
-abbrev pub fate_of_commit : Doing → DecideFate
-fate_of_commit doing = if doing.fits then decided.Copied doing.count else decided.Lost doing.count
-
 abbrev pub discard_hits : ℕ → Doing → Speculation → Act → List Deed
 discard_hits c doing id (Attempt w) = if is_inactive w.code then Release id.slot ∷ Discard c id (decided.Thrown doing.count) ∷ [] else Discard c id (decided.Thrown doing.count) ∷ []
 discard_hits c doing id a = []
@@ -79,7 +74,7 @@ abbrev pub at_hit : ℕ → Doing → SlotState → CpuOp → List Deed
 at_hit c doing shown (op.Trace r) = []
 at_hit c doing shown op.Speculation = []
 at_hit c doing shown (op.Speculate id r) = Speculate c id r (if doing.fits then spoken.Kept else spoken.Dropped) ∷ []
-at_hit c doing shown (op.Commit id) = Commit c id (fate_of_commit doing) ∷ []
+at_hit c doing shown (op.Commit id) = Commit c id (committed_fate doing.fits doing.count) ∷ []
 at_hit c doing shown (op.Discard id) = discard_hits c doing id (discard_at shown id doing.mine)
 at_hit c doing shown op.Service = []
 
@@ -87,11 +82,6 @@ at_hit c doing shown op.Service = []
 abbrev pub at_exchange : Config → ℕ → Doing → ℕ → SlotState → Bool → List Deed
 at_exchange k c doing slot shown true = at_hit c doing shown doing.op
 at_exchange k c doing slot shown false = at_word k c doing slot shown doing.op
-
--- a settlement, by the code that was shown
-abbrev pub fate_of_settlement : Doing → Code → DecideFate
-fate_of_settlement doing Discarding = decided.Thrown doing.count
-fate_of_settlement doing c = fate_of_commit doing
 
 -- the stop is a deed the first time
 abbrev pub at_stop : Bool → List Deed

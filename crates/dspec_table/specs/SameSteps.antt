@@ -21,6 +21,7 @@ use Rattle.dspec_interleaving.specs.declared.flight.ConsumerProgress.{ConsumerPr
 use Rattle.dspec_interleaving.specs.declared.flight.CallPlace.{CallPlace}
 use Rattle.dspec_interleaving.specs.declared.flight.CallPlace.TheVariants as cpu
 use Rattle.dspec_deeds.specs.declared.calls.ConsumerOp.TheVariants as consumer_op
+use Rattle.dspec_deeds.specs.Settling.{settled_fate}
 use Rattle.dspec_interleaving.specs.Calls.{op_of}
 use Rattle.dspec_interleaving.specs.Coherent.{StandsCpu}
 use Rattle.dspec_interleaving.specs.Play.{same_word, cpu_step, consumer_step}
@@ -30,7 +31,7 @@ use Rattle.dspec_table.specs.declared.rule.View.{View}
 use Rattle.dspec_table.specs.Asks.{LoadedAsk, StoredAsk}
 use Rattle.dspec_table.specs.Holders.{number_of}
 use Rattle.dspec_table.specs.Steps.{LoadedActivity, LoadedWord, OpenedWord, TriedWord, ReleasedWord, SettledWord, StoredActivity, LookedWord, LoadedAck, ReapedWord}
-use Rattle.dspec_table.specs.Acts.{at_activity, at_word, at_open, at_exchange, at_stop, fate_of_settlement}
+use Rattle.dspec_table.specs.Acts.{at_activity, at_word, at_open, at_exchange, at_stop}
 
 -- the slot whose word the next step is on
 abbrev pub slot_of : CallPlace → ℕ
@@ -60,7 +61,7 @@ seat_deeds k c doing stopped shown (cpu.DiscardTry id from) = at_exchange k c do
 seat_deeds k c doing stopped shown cpu.ServicePop = []
 seat_deeds k c doing stopped shown cpu.ServicePush = []
 seat_deeds k c doing stopped shown (cpu.ServiceLoad s sum) = at_word k c doing s shown doing.op
-seat_deeds k c doing stopped shown (cpu.ServiceStore s w sum) = Settle c record { issue = w.issue; slot = s } (fate_of_settlement doing w.code) ∷ []
+seat_deeds k c doing stopped shown (cpu.ServiceStore s w sum) = Settle c record { issue = w.issue; slot = s } (settled_fate w.code doing.fits doing.count) ∷ []
 
 -- a play's step at a place enters, Seals apart, what the seat's step enters there by the activity and the word that the list shows
 abbrev pub EntersSame : (ℕ → Option Shape) → Config → ℕ → List Deed → CpuProgress → CallPlace → Doing → Type 0

@@ -7,6 +7,7 @@ use Rattle.dspec_deeds.specs.declared.deed.Deed.{Deed}
 use Rattle.dspec_deeds.specs.declared.deed.Deed.TheVariants.{Settle, Release}
 use Rattle.dspec_deeds.specs.History.{owed, halted, word_at, ack}
 use Rattle.dspec_deeds.specs.Legal.{IsSound}
+use Rattle.dspec_deeds.specs.Settling.{settled_fate}
 use Rattle.dspec_table.specs.declared.rule.View.{View}
 use Rattle.dspec_table.specs.declared.doing.Doing.{Doing}
 use Rattle.dspec_table.specs.declared.seats.CpuSeat.{CpuSeat}
@@ -15,7 +16,7 @@ use Rattle.dspec_table.specs.Holders.{part_of, of_nobody, number_of}
 use Rattle.dspec_table.specs.Since.{Since}
 use Rattle.dspec_table.specs.Layout.{activity_place, slot_place, ack_place}
 use Rattle.dspec_table.specs.Flights.{AreOf, flight_after, calling}
-use Rattle.dspec_table.specs.Acts.{at_activity, at_word, at_open, at_exchange, fate_of_settlement, at_stop}
+use Rattle.dspec_table.specs.Acts.{at_activity, at_word, at_open, at_exchange, at_stop}
 use Rattle.dspec_table.specs.Seats.{known, IsAt, cpu_of}
 
 -- the view after a step on the word at that place, with deeds of its own behind the list that the step found, where it then knows
@@ -117,14 +118,14 @@ ReleasedWord slot v w = (log : List Deed) × Found v log × Entered (slot_place 
 abbrev pub SettledWord : Doing → Speculation → Code → View → View → Type 0
 SettledWord doing id code v w =
     (log : List Deed) × Found v log
-    × Entered (ack_place v.config (number_of v.who) id.slot) v log (Settle (number_of v.who) id (fate_of_settlement doing code) ∷ []) w
+    × Entered (ack_place v.config (number_of v.who) id.slot) v log (Settle (number_of v.who) id (settled_fate code doing.fits doing.count) ∷ []) w
 
 -- the same, of whichever speculation the word and the number stored are of
 abbrev pub StoredAck : Doing → ℕ → View → ℕ → View → Type 0
 StoredAck doing place v n w =
     (log : List Deed) × (d : Deed) × Found v log
     × ((id : Speculation) → place ≡ ack_place v.config (number_of v.who) id.slot → n ≡ id.issue + 1
-    → d ≡ Settle (number_of v.who) id (fate_of_settlement doing (word_at id.slot v.seen).code))
+    → d ≡ Settle (number_of v.who) id (settled_fate (word_at id.slot v.seen).code doing.fits doing.count))
     × Entered place v log (d ∷ []) w
 
 -- the steps of the consumer

@@ -1,7 +1,7 @@
 -- Cited by calls. What went over a belt, by its ends.
 use Rattle.std.specs.Prelude.{List}
 use Rattle.rtrb.specs.Ring.{received, sent}
-use Rattle.dspec_deeds.specs.Told.{id_told}
+use Rattle.dspec_deeds.specs.FateAnswers.{id_given}
 use Rattle.dspec_ring.specs.EndFields.{popped_from, pushed_into}
 use Rattle.dspec_ring.specs.Known.{Ring}
 use Rattle.dspec.specs.declared.handing.Handed.{Handed}
@@ -11,7 +11,7 @@ use Rattle.dspec_threads.specs.declared.ends.Taker.{Taker}
 
 -- a path as a word
 abbrev pub handed_of : Path → Handed
-handed_of p = record { id = id_told p.opening }
+handed_of p = record { id = id_given p.opening }
 
 -- what this end gave so far, the oldest first
 abbrev pub given_by : Giver → List Handed

@@ -2,7 +2,7 @@
 use Rattle.std.specs.Prelude.{ℕ, ◌≡◌, ◌≤◌, ◌++◌, zero, suc, List, [], ◌∷◌, Option, MatchOption}
 use Rattle.dspec_record.specs.declared.schema.Schema.{Ghosts}
 use Rattle.dspec_word.specs.SpecId.{id_number}
-use Rattle.dspec_deeds.specs.Told.{id_told}
+use Rattle.dspec_deeds.specs.FateAnswers.{id_given}
 use Rattle.dspec_deeds.specs.declared.calls.Opening.{Opening}
 use Rattle.dspec_deeds.specs.declared.calls.Served.{Served}
 use Rattle.dspec_deeds.specs.declared.deed.Deed.{Deed}
@@ -24,7 +24,7 @@ module _ {S : Type 0} {g : Ghosts S} (has : Cpu S → List Deed → Type 0) wher
     pub answer : Opening
     pub between : Lane S g
     pub asks : OpeningOn has answer old between
-    pub refused : id_number (id_told answer) ≡ 0
+    pub refused : id_number (id_given answer) ≡ 0
     pub serves : ServesAgain between new
 
   -- a path that was opened, or an ask in vain

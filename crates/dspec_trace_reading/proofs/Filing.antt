@@ -10,12 +10,12 @@ use Rattle.dspec_record.specs.Record.{Record}
 use Rattle.dspec_record.specs.EnablingRows.{EnabledRows}
 use Rattle.dspec_record.specs.declared.header.Header.TheVariants as header
 use Rattle.dspec_ctf.specs.Packets.{events}
-use Rattle.dspec_ctf.specs.Rows.{AreRuns, missed_packets, of_file, run_files, run_packets, run_records, told_by}
+use Rattle.dspec_ctf.specs.Rows.{missed_packets, of_file, run_files, run_packets, told_by}
 use Rattle.dspec_ctf.specs.Streams.{Accepts}
 use Rattle.dspec_ctf.specs.declared.form.Form.TheVariants.{ByTime}
 use Rattle.dspec_ctf.specs.declared.names.Names.{Names}
-use Rattle.dspec_ctf.specs.declared.rows.Run.{Run}
 use Rattle.dspec_ctf_reading.specs.Files.{FileTells, PartTells, file_bytes}
+use Rattle.dspec_ctf_reading.specs.Laws.{MissedReadsBack, RunsReadBack}
 use Rattle.dspec_ctf_reading.specs.Layouts.{event_of, layout_of}
 use Rattle.dspec_ctf_reading.specs.Reading.{EventRead}
 use Rattle.dspec_ctf_sink.specs.Timed.{AddsAll, TellsMissed, row_name}
@@ -26,15 +26,10 @@ use Rattle.dspec_trace_reading.proofs.Taking.{grows_here, row_writes, took_all}
 
 -- that the packets of runs are read as their records, and what tells what was missed as that
 abbrev pub RunsRead : Type 0
-RunsRead = (e : EnabledRows) (names : Names) (frequency : ℕ) (uuid : List ℕ) (missed cpu : ℕ) (rs : List Record) (file : ℕ) (lasts new : List ℕ) (from to : ℕ) (runs : List Run)
-    → e.header ≡ header.Two → length uuid ≡ 16 → missed < 2 ^ 64 → cpu < 2 ^ 32 → length (events e rs) < 2 ^ 60 → All (Accepts e) rs → AreRuns lasts rs from runs to new
-    → PartTells (layout_of e names (ByTime frequency)) uuid cpu (file_bytes file (run_packets uuid e missed cpu rs from runs))
-    (map (event_of e names (ByTime frequency)) (of_file file (run_files from runs) (run_records rs from runs))) (told_by file missed)
+RunsRead = (e : EnabledRows) (names : Names) → RunsReadBack e names
 
 abbrev pub MissedRead : Type 0
-MissedRead = (e : EnabledRows) (names : Names) (frequency : ℕ) (uuid : List ℕ) (before missed cpu : ℕ) (lasts : List ℕ) → e.header ≡ header.Two → length uuid ≡ 16
-    → before < 2 ^ 64 → missed < 2 ^ 64 → cpu < 2 ^ 32 → slice_index lasts 0 < 2 ^ 64
-    → FileTells (layout_of e names (ByTime frequency)) uuid cpu (missed_packets uuid before missed cpu lasts) [] missed
+MissedRead = (e : EnabledRows) (names : Names) → MissedReadsBack e names
 
 -- the laws on which this stands
 pub record FilesLaws : Type 0 where

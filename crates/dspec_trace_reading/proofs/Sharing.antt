@@ -12,6 +12,7 @@ use Rattle.dspec_record.specs.EnablingRows.{EnabledRows}
 use Rattle.dspec_record.specs.Laws.Tables.{accepted-parts}
 use Rattle.dspec_record.specs.declared.header.Header.{Header}
 use Rattle.dspec_record.specs.declared.header.Header.TheVariants as header
+use Rattle.dspec_ctf.specs.Laws.{AreFiled, HaveAllBetween}
 use Rattle.dspec_ctf.specs.Streams.{Accepts}
 use Rattle.dspec_ctf.specs.Rows.{AreRuns, GoesToFile, IsFileRun, Spreads, of_file, run_files, run_packets, run_records}
 use Rattle.dspec_ctf.specs.declared.rows.Run.{Run}
@@ -91,11 +92,11 @@ pub record Shared (lasts : List ℕ) (rs : List Record) (runs : List Run) (new :
 -- that files have all records, and runs too
 abbrev pub FilesHaveAll : Type 0
 FilesHaveAll = (lasts : List ℕ) (rs : List Record) (files new : List ℕ) → length lasts ≤ 64 → Spreads lasts rs files new
-    → (map (λ p. p.1) (zip files rs) ≡ rs) × (map (λ p. p.0) (zip files rs) ≡ files) × All (λ file. file < length new) files × (length new ≤ 64)
+    → AreFiled rs files (length new)
 
 abbrev pub RunsHaveAll : Type 0
 RunsHaveAll = (lasts new : List ℕ) (rs : List Record) (from to : ℕ) (runs : List Run) → AreRuns lasts rs from runs to new
-    → (run_records rs from runs ≡ slice_range rs from to) × Spreads lasts (slice_range rs from to) (run_files from runs) new
+    → HaveAllBetween lasts rs from runs to new
 
 module _ (files_law : FilesHaveAll) (runs_law : RunsHaveAll) where
   run_few : (lasts : List ℕ) (rs : List Record) (place : ℕ) (run : Run) (new : List ℕ) → length lasts ≤ 64 → IsFileRun lasts rs place run new → (run.file < 64) × (length new ≤ 64)

@@ -7,7 +7,6 @@ use Rattle.dspec_record.specs.EnablingRows.{EnabledRows}
 use Rattle.dspec_session_core.specs.declared.left.Left.{Left}
 use Rattle.dspec.specs.Passed.{Passed, GotAll, passed_from}
 use Rattle.dspec_ctf.specs.Packets.{events, packet}
-use Rattle.dspec_ctf.specs.Metadata.{origin_text}
 use Rattle.dspec_ctf.specs.Streams.{Accepts}
 use Rattle.dspec_ctf.specs.Names.{origin_fault}
 use Rattle.dspec_ctf.specs.declared.form.Form.{Form}
@@ -15,6 +14,7 @@ use Rattle.dspec_ctf.specs.declared.form.Form.TheVariants.{AsTaken}
 use Rattle.dspec_ctf.specs.declared.names.Names.{Names}
 use Rattle.dspec_ctf.specs.declared.origin.Origin.{Origin}
 use Rattle.dspec_ctf_reading.specs.Files.{FileTells, last_missed}
+use Rattle.dspec_ctf_reading.specs.Laws.{MetadataTells, TakenFilesReadBack}
 use Rattle.dspec_ctf_reading.specs.Layouts.{event_of, layout_of}
 use Rattle.dspec_ctf_reading.specs.ReadingMetadata.{read_metadata}
 use Rattle.dspec_ctf_reading.specs.ToldNumbers.{HasNumbers}
@@ -36,12 +36,10 @@ last_same (p ∷ ps) = last_of p ps
 -- that metadata is read as its layout, and a file of packets as their events
 abbrev pub MetadataReads : Type 0
 MetadataReads = (origin : Origin) (form : Form) (e : EnabledRows) (names : Names) → origin_fault origin form e names ≡ None → HasNumbers origin form e names
-    → read_metadata (origin_text origin form e names) ≡ Some (layout_of e names form)
+    → MetadataTells origin form e names
 
 abbrev pub FilesRead : Type 0
-FilesRead = (e : EnabledRows) (names : Names) (uuid : List ℕ) (cpu : ℕ) (batches : List (ℕ × List Record)) → length uuid ≡ 16 → cpu < 2 ^ 32
-    → All (λ b. (b.0 < 2 ^ 64) × (length (events e b.1) < 2 ^ 60) × All (Accepts e) b.1) batches
-    → FileTells (layout_of e names AsTaken) uuid cpu (flat_map (λ b. packet uuid e b.0 cpu b.1) batches) (map (event_of e names AsTaken) (flat_map (λ b. b.1) batches)) (last_missed batches)
+FilesRead = (e : EnabledRows) (names : Names) → TakenFilesReadBack e names
 
 module _ (metadata_law : MetadataReads) (files_law : FilesRead) (origin : Origin) (e : EnabledRows) (names : Names) (begun ended : Tracing)
     (is : IsBegun origin e names (Some []) begun) (passed : List Passed) (got : GotAll (GetsPacket e) begun passed ended)

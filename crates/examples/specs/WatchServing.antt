@@ -6,7 +6,7 @@ use Rattle.dspec_deeds.specs.declared.calls.Decided.{Decided}
 use Rattle.dspec_deeds.specs.declared.calls.Opening.{Opening}
 use Rattle.dspec_deeds.specs.declared.calls.Served.{Served}
 use Rattle.dspec_deeds.specs.declared.calls.Spoken.{Spoken}
-use Rattle.dspec_deeds.specs.Told.{id_told}
+use Rattle.dspec_deeds.specs.FateAnswers.{id_given}
 use Rattle.dspec_promise.specs.Promise.{commit, discard}
 use Rattle.dspec_cpu.specs.Called.{CallsMade, WithService, with_decision, with_speculate, with_speculation}
 use Rattle.examples.specs.WatchRequests.{fails_with, request_number}
@@ -20,9 +20,9 @@ pub data OffersAlone (id : Speculation) (x : CallsMade) : CallsMade → Type 0 w
 pub record HandlesRequest (fails : Bool) (x y : CallsMade) : Type 0 where
   pub opening : Opening
   pub stepped : CallsMade
-  pub steps : OffersAlone (id_told opening) (with_speculation opening x) stepped
+  pub steps : OffersAlone (id_given opening) (with_speculation opening x) stepped
   pub answer : Decided
-  pub decided : y ≡ with_decision (if fails then commit else discard) (id_told opening) answer stepped
+  pub decided : y ≡ with_decision (if fails then commit else discard) (id_given opening) answer stepped
 
 -- The worker's requests of so many rounds were handled since these calls, one after another, and the consumer was served after each. The
 -- path of a request was kept where the request of that number fails, by the seed, and nowhere else.

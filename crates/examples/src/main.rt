@@ -13,6 +13,7 @@
 //! A name that is none of these, or none: a line on standard error, and status 4.
 #![tactic(auto)]
 
+mod fault;
 mod jobs;
 mod kv;
 mod pool;

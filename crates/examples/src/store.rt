@@ -9,25 +9,24 @@
 //!
 //! | File | What is in it |
 //! |---|---|
-//! | `arguments.rt`, `fault.rt` of `store/` | what the words ask; statuses |
+//! | `store/arguments.rt`, `fault.rt` | what the words ask; statuses |
 
 mod arguments;
 mod board;
-mod fault;
 mod folder;
 mod probes;
 mod serving;
 mod telling;
 
-use crate::store::arguments::{Ask, ask_of};
+use crate::fault::ExampleFault;
+use crate::store::arguments::asked;
 use crate::store::board::Board;
-use crate::store::fault::StoreFault;
 use crate::store::folder::{finish, trace_asked};
 use crate::store::probes::StoreProbes;
 use crate::store::serving::{Server, WORKERS};
 use crate::store::telling::{tell_paths, tell_report};
 use dspec::{Both, Closed, Config, Probes, Rec, RecordSink, closed_cpus, trace};
-use dspec_command::{ended, output_fault, print_text};
+use dspec_command::{Asked, ended, output_fault, print_text};
 use dspec_ctf_sink::tell_untold;
 use std::io;
 use std::process::ExitCode;
@@ -48,7 +47,7 @@ fn transfers<'a, R: Threads + Sync>(
     rt: &'a HostRuntime,
     threads: &R,
     name: Option<&'a str>,
-) -> Result<(), StoreFault<'a>> {
+) -> Result<(), ExampleFault<'a>> {
     let mut declared = Probes::new(rt.alloc());
     let server = Server {
         board: Board::new(),
@@ -67,7 +66,7 @@ fn transfers<'a, R: Threads + Sync>(
     records.sort_by_key(|rec: &Rec| rec.stamp())?;
     match tell_all(rt, &records, &server, &closed) {
         Ok(()) => Ok(()),
-        Err(reason) => Err(StoreFault::Command(output_fault(reason))),
+        Err(reason) => Err(ExampleFault::Command(output_fault(reason))),
     }
 }
 
@@ -76,10 +75,10 @@ fn run<'a, R: Threads + Sync>(
     rt: &'a HostRuntime,
     threads: &R,
     words: &'a [String],
-) -> Result<bool, StoreFault<'a>> {
-    match ask_of(rt.alloc(), words)? {
-        Ask::Transfers(folder) => transfers(rt, threads, folder)?,
-        Ask::Text(text) => print_text(rt, text.as_str())?,
+) -> Result<bool, ExampleFault<'a>> {
+    match asked(rt.alloc(), words)? {
+        Asked::Found(found) => transfers(rt, threads, found.get_str("ctf"))?,
+        Asked::Text(text) => print_text(rt, text.as_str())?,
     }
     Ok(true)
 }

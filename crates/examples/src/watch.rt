@@ -9,17 +9,16 @@
 //!
 //! | File | What is in it |
 //! |---|---|
-//! | `arguments.rt`, `fault.rt` of `watch/` | what the words ask; statuses |
+//! | `watch/arguments.rt`, `fault.rt` | what the words ask; statuses |
 
 mod arguments;
-mod fault;
 mod paths;
 mod probes;
 mod requests;
 mod serving;
 
+use crate::fault::{ExampleFault, told_end};
 use crate::watch::arguments::{Ask, WatchAsk, ask_of};
-use crate::watch::fault::WatchFault;
 use crate::watch::paths::{compare, tell};
 use crate::watch::probes::ServerProbes;
 use crate::watch::requests::WORKERS;
@@ -54,10 +53,10 @@ fn begin_trace<'a>(
     rt: &'a HostRuntime,
     name: &'a str,
     probes: &Probes<'_>,
-) -> Result<Begun<'a>, WatchFault<'a>> {
+) -> Result<Begun<'a>, ExampleFault<'a>> {
     match begun_trace(rt, probes, name) {
         Ok(begun) => Ok(begun),
-        Err(fault) => Err(WatchFault::Folder { name, fault }),
+        Err(fault) => Err(ExampleFault::Folder { name, fault }),
     }
 }
 
@@ -66,7 +65,7 @@ fn trace_asked<'a>(
     rt: &'a HostRuntime,
     folder: Option<&'a str>,
     probes: &Probes<'_>,
-) -> Result<Option<Begun<'a>>, WatchFault<'a>> {
+) -> Result<Option<Begun<'a>>, ExampleFault<'a>> {
     match folder {
         Some(name) => Ok(Some(begin_trace(rt, name, probes)?)),
         None => Ok(None),
@@ -74,13 +73,10 @@ fn trace_asked<'a>(
 }
 
 /// Ends a trace.
-fn finish<'a>(folder: Option<&'a str>, begun: Option<Begun<'a>>) -> Result<(), WatchFault<'a>> {
-    let (Some(name), Some(begun)) = (folder, begun) else {
-        return Ok(());
-    };
-    match begun.sink.finish() {
-        Ok(()) => Ok(()),
-        Err(loss) => Err(WatchFault::Lost { name, loss }),
+fn finish<'a>(folder: Option<&'a str>, begun: Option<Begun<'a>>) -> Result<(), ExampleFault<'a>> {
+    match begun {
+        Some(begun) => told_end(folder, begun.sink.finish()),
+        None => Ok(()),
     }
 }
 
@@ -89,7 +85,7 @@ fn watch<'a, R: Threads + Sync>(
     rt: &'a HostRuntime,
     threads: &R,
     ask: WatchAsk<'a>,
-) -> Result<(), WatchFault<'a>> {
+) -> Result<(), ExampleFault<'a>> {
     let seed = ask.seed;
     let mut declared = Probes::unstamped(rt.alloc());
     let probes = ServerProbes::declare(&mut declared)?;
@@ -106,7 +102,7 @@ fn watch<'a, R: Threads + Sync>(
     let seen = first.records()?;
     for cpu in closed_cpus(&closed) {
         if let Err(reason) = tell(rt, &server, cpu.number, seen.as_slice(), cpu.report) {
-            return Err(WatchFault::Command(output_fault(reason)));
+            return Err(ExampleFault::Command(output_fault(reason)));
         }
         compare(&server, cpu.number, seen.as_slice(), cpu.report)?;
     }
@@ -118,7 +114,7 @@ fn run<'a, R: Threads + Sync>(
     rt: &'a HostRuntime,
     threads: &R,
     words: &'a [String],
-) -> Result<bool, WatchFault<'a>> {
+) -> Result<bool, ExampleFault<'a>> {
     match ask_of(rt.alloc(), words)? {
         Ask::Watch(ask) => watch(rt, threads, ask)?,
         Ask::Text(text) => print_text(rt, text.as_str())?,

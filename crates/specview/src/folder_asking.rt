@@ -46,60 +46,81 @@ fn flag<'a>(alloc: Global, name: &'a str, help: &'a str) -> Arg<'a> {
         .help(help)
 }
 
-/// The flags, of which one at most is given.
-fn flags<'a>(alloc: Global, command: Command<'a>) -> Result<Command<'a>, AllocError> {
-    let check = flag(
+/// The flag of a check, which excludes the others.
+fn check_flag<'a>(alloc: Global) -> Result<Arg<'a>, AllocError> {
+    flag(
         alloc,
         "check",
         "read each packet of each file, and tell which file is wrong at which byte",
-    );
-    let repair = flag(
+    )
+    .conflicts_with("repair")?
+    .conflicts_with("text")?
+    .conflicts_with("json")
+}
+
+/// The flag of a repair.
+fn repair_flag<'a>(alloc: Global) -> Result<Arg<'a>, AllocError> {
+    flag(
         alloc,
         "repair",
         "the same, and cut off what a stopped writer left behind the last whole packet of a file; of folders that nobody writes to any more",
-    );
-    let text = flag(
+    )
+    .conflicts_with("text")?
+    .conflicts_with("json")
+}
+
+/// The flag of lines.
+fn text_flag<'a>(alloc: Global) -> Result<Arg<'a>, AllocError> {
+    flag(
         alloc,
         "text",
         "tell all events, a line each; those of several folders by time, all of them in memory",
-    );
-    let json = flag(
+    )
+    .conflicts_with("json")
+}
+
+/// The flag of a document.
+fn json_flag<'a>(alloc: Global) -> Arg<'a> {
+    flag(
         alloc,
         "json",
         "the same as a document of Chrome's Trace Event form, which ui.perfetto.dev opens",
-    );
-    command
-        .arg(
-            check
-                .conflicts_with("repair")?
-                .conflicts_with("text")?
-                .conflicts_with("json")?,
-        )?
-        .arg(repair.conflicts_with("text")?.conflicts_with("json")?)?
-        .arg(text.conflicts_with("json")?)?
-        .arg(json)
+    )
 }
 
-/// The options of `--json`.
-fn tracks<'a>(alloc: Global, command: Command<'a>) -> Result<Command<'a>, AllocError> {
-    let track = Arg::new(alloc, "track")
+/// The flags, of which one at most is given.
+fn flags<'a>(alloc: Global, command: Command<'a>) -> Result<Command<'a>, AllocError> {
+    command
+        .arg(check_flag(alloc)?)?
+        .arg(repair_flag(alloc)?)?
+        .arg(text_flag(alloc)?)?
+        .arg(json_flag(alloc))
+}
+
+/// The option of `--json` that draws rows. A flag that is asked for is no longer wanted where another excludes it, so each of those is named.
+fn track_arg<'a>(alloc: Global) -> Result<Arg<'a>, AllocError> {
+    Arg::new(alloc, "track")
         .long("track")
         .value_name("FIELD")
         .help(
             "with --json: a row for each value of the field of this name, as that of a path's number, named `FIELD VALUE`, of all records that have it, in each folder; the other records stay in the rows of their CPUs",
-        );
+        )
+        .requires_arg("json")?
+        .conflicts_with("check")?
+        .conflicts_with("repair")?
+        .conflicts_with("text")
+}
+
+/// The options of `--json`.
+fn tracks<'a>(alloc: Global, command: Command<'a>) -> Result<Command<'a>, AllocError> {
     let slices = flag(
         alloc,
         "slices",
         "with --track: two records of one event, one behind the other in the row of a value, are a slice, from the first to the second; every other one is a mark",
     );
-    // A flag that is asked for is no longer wanted where another excludes it, so each of those is named.
-    let track = track
-        .requires_arg("json")?
-        .conflicts_with("check")?
-        .conflicts_with("repair")?
-        .conflicts_with("text")?;
-    command.arg(track)?.arg(slices.requires_arg("track")?)
+    command
+        .arg(track_arg(alloc)?)?
+        .arg(slices.requires_arg("track")?)
 }
 
 /// The subcommand that shows trace folders.

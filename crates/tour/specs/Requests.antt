@@ -8,7 +8,7 @@ use Rattle.dspec_deeds.specs.declared.calls.Decided.{Decided}
 use Rattle.dspec_deeds.specs.declared.calls.Opening.{Opening}
 use Rattle.dspec_deeds.specs.declared.calls.Spoken.{Spoken}
 use Rattle.dspec_deeds.specs.declared.calls.Traced.{Traced}
-use Rattle.dspec_deeds.specs.Told.{id_told}
+use Rattle.dspec_deeds.specs.FateAnswers.{id_given}
 use Rattle.dspec_promise.specs.Promise.{commit, discard}
 use Rattle.dspec_cpu.specs.Called.{CallsMade, with_decision, with_speculate, with_speculation, with_trace}
 use Rattle.dspec_cpu.specs.OneCall.{with_values}
@@ -40,12 +40,12 @@ pub record MakesRequests (request touch : ℕ) (x y : CallsMade) : Type 0 where
   pub eighth : Traced
   pub ninth : Traced
   pub told :
-      let of_failed = with_speculate (id_told failed) (plain touch (8192 ∷ 0 ∷ [])) second
-      (with_speculate (id_told failed) (plain touch (4096 ∷ 5 ∷ [])) first (with_speculation failed x)) in
-      let of_fine = with_speculate (id_told fine) (plain touch (12288 ∷ 0 ∷ [])) third
-      (with_speculation fine (with_decision commit (id_told failed) kept of_failed)) in
+      let of_failed = with_speculate (id_given failed) (plain touch (8192 ∷ 0 ∷ [])) second
+      (with_speculate (id_given failed) (plain touch (4096 ∷ 5 ∷ [])) first (with_speculation failed x)) in
+      let of_fine = with_speculate (id_given fine) (plain touch (12288 ∷ 0 ∷ [])) third
+      (with_speculation fine (with_decision commit (id_given failed) kept of_failed)) in
       y ≡ with_trace (plain request (9 ∷ [])) ninth (with_trace (plain request (8 ∷ [])) eighth
-      (with_trace (plain request (7 ∷ [])) seventh (with_decision discard (id_told fine) thrown of_fine)))
+      (with_trace (plain request (7 ∷ [])) seventh (with_decision discard (id_given fine) thrown of_fine)))
 
 -- where the schema has both probes
 abbrev pub DoesRequests : EnabledRows → Requests → CallsMade → CallsMade → Type 0

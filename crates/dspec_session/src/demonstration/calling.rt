@@ -12,7 +12,7 @@ pub(crate) fn trace(cpu: &mut Cpu<Enablings>, shared: &Shared, value: u32)
     ensures called { Called 1 cpu.old cpu.new }
     ensures traces { Traces value cpu.old cpu.new }
 {
-    cpu.stands();
+    cpu.invariant();
     cpu.trace(shared, &valued_record(1, value));
 }
 
@@ -22,7 +22,7 @@ pub(crate) fn speculation(cpu: &mut Cpu<Enablings>, shared: &Shared) -> SpecId
     ensures called { Called 0 cpu.old cpu.new }
     ensures opens { WorkerOpens result cpu.old cpu.new }
 {
-    cpu.stands();
+    cpu.invariant();
     cpu.speculation(shared).id()
 }
 
@@ -32,7 +32,7 @@ pub(crate) fn speculate(cpu: &mut Cpu<Enablings>, shared: &Shared, id: SpecId, v
     ensures called { Called 1 cpu.old cpu.new }
     ensures speculates { Speculates id value cpu.old cpu.new }
 {
-    cpu.stands();
+    cpu.invariant();
     cpu.speculate(shared, id, &valued_record(2, value));
 }
 
@@ -42,7 +42,7 @@ pub(crate) fn decide(cpu: &mut Cpu<Enablings>, shared: &Shared, id: SpecId, comm
     ensures called { Called 0 cpu.old cpu.new }
     ensures decides { WorkerDecides commits id cpu.old cpu.new }
 {
-    cpu.stands();
+    cpu.invariant();
     if commits {
         cpu.commit(shared, id);
     } else {
@@ -56,6 +56,6 @@ pub(crate) fn service(cpu: &mut Cpu<Enablings>, shared: &Shared)
     ensures served { WorkerServed cpu.old cpu.new }
     ensures services { Serviced cpu.old cpu.new }
 {
-    cpu.stands();
+    cpu.invariant();
     cpu.service(shared);
 }

@@ -7,15 +7,6 @@ use std::alloc::{AllocError, Global};
 /// How the program is called.
 const USAGE: &str = "examples store [--ctf FOLDER]";
 
-/// What there is to do.
-#[derive(Debug, Drop)]
-pub enum Ask<'a> {
-    /// To make the transfers, and to write a trace to this folder, if one is named.
-    Transfers(Option<&'a str>),
-    /// To print this text, which was asked for by `--help`.
-    Text(String),
-}
-
 /// The command line.
 fn command<'a>(alloc: Global) -> Result<Command<'a>, AllocError> {
     Command::new(alloc, "store")
@@ -24,10 +15,7 @@ fn command<'a>(alloc: Global) -> Result<Command<'a>, AllocError> {
         .arg(folder_arg(alloc))
 }
 
-/// What these words ask for, the first of which is the program's name.
-pub fn ask_of<'a>(alloc: Global, words: &'a [String]) -> Result<Ask<'a>, CommandFault<'a>> {
-    match asked_of(alloc, command(alloc)?, USAGE, words)? {
-        Asked::Found(found) => Ok(Ask::Transfers(found.get_str("ctf"))),
-        Asked::Text(text) => Ok(Ask::Text(text)),
-    }
+/// What these words ask for, the first of which is the program's name: the transfers, with a trace where `ctf` is found in them, or a text.
+pub fn asked<'a>(alloc: Global, words: &'a [String]) -> Result<Asked<'a>, CommandFault<'a>> {
+    asked_of(alloc, command(alloc)?, USAGE, words)
 }

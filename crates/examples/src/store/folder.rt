@@ -1,6 +1,6 @@
 //! The trace that is written while the workers run.
 
-use crate::store::fault::StoreFault;
+use crate::fault::{ExampleFault, told_end};
 use dspec::Probes;
 use dspec_ctf_sink::{
     ClockStart, FolderFault, Identity, Names, SystemFolder, Telling, TimedFolder,
@@ -46,23 +46,23 @@ pub fn trace_asked<'a>(
     rt: &'a HostRuntime,
     folder: Option<&'a str>,
     probes: &Probes<'_>,
-) -> Result<Option<Begun<'a>>, StoreFault<'a>> {
+) -> Result<Option<Begun<'a>>, ExampleFault<'a>> {
     let Some(name) = folder else {
         return Ok(None);
     };
     match begun_trace(rt, name, probes) {
         Ok(begun) => Ok(Some(begun)),
-        Err(fault) => Err(StoreFault::Folder { name, fault }),
+        Err(fault) => Err(ExampleFault::Folder { name, fault }),
     }
 }
 
 /// Ends a trace.
-pub fn finish<'a>(folder: Option<&'a str>, begun: Option<Begun<'a>>) -> Result<(), StoreFault<'a>> {
-    let (Some(name), Some(begun)) = (folder, begun) else {
-        return Ok(());
-    };
-    match begun.sink.finish() {
-        Ok(()) => Ok(()),
-        Err(loss) => Err(StoreFault::Lost { name, loss }),
+pub fn finish<'a>(
+    folder: Option<&'a str>,
+    begun: Option<Begun<'a>>,
+) -> Result<(), ExampleFault<'a>> {
+    match begun {
+        Some(begun) => told_end(folder, begun.sink.finish()),
+        None => Ok(()),
     }
 }

@@ -33,7 +33,7 @@ struct Transfer {
 
 impl Transfer {
     /// The transfer of a worker in a round.
-    fn make(worker: u64, round: u64) -> Transfer {
+    fn of(worker: u64, round: u64) -> Transfer {
         let number = round.wrapping_mul(u64::from(WORKERS)).wrapping_add(worker);
         let noise = noise_of(number);
         let first = worker.wrapping_mul(ACCOUNTS);
@@ -184,7 +184,7 @@ impl Work<Enablings> for Server {
         let worker = u64::from(lane.number());
         let mut clock = worker;
         for round in 0..ROUNDS {
-            transact(lane, self, &mut clock, Transfer::make(worker, round));
+            transact(lane, self, &mut clock, Transfer::of(worker, round));
             lane.service();
         }
     }

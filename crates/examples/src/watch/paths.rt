@@ -26,7 +26,7 @@ fn steps_of(probes: &ServerProbes, seen: &[Rec], request: Request) -> Result<u64
 pub fn compare(server: &Server, worker: u32, seen: &[Rec], report: &Report) -> Result<()> {
     let (mut offered, mut kept, mut missing) = (0u64, 0u64, 0u64);
     for round in 0..ROUNDS {
-        let request = Request::make(server.seed, u64::from(worker), round);
+        let request = Request::of(server.seed, u64::from(worker), round);
         let (steps, recorded) = (request.steps(), steps_of(&server.probes, seen, request)?);
         let whole = recorded == 0 || (request.fails && recorded == steps);
         let number = request.number;
@@ -75,7 +75,7 @@ pub fn tell<R: Print>(
     report: &Report,
 ) -> io::Result<()> {
     for round in 0..ROUNDS {
-        let request = Request::make(server.seed, u64::from(worker), round);
+        let request = Request::of(server.seed, u64::from(worker), round);
         if request.fails {
             tell_path(rt, &server.probes, seen, request)?;
         }

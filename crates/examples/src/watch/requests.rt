@@ -29,7 +29,7 @@ pub struct Request {
 
 impl Request {
     /// The request of a worker in a round, which the seed decides.
-    pub fn make(seed: u64, worker: u64, round: u64) -> Request
+    pub fn of(seed: u64, worker: u64, round: u64) -> Request
         ensures number { result.number ≡ request_number worker round }
         ensures fails { result.fails ≡ fails_with seed (request_number worker round) }
     {

@@ -46,7 +46,7 @@ impl Work<Enablings> for Server {
         }
         let worker = u64::from(lane.number());
         for round in 0..ROUNDS {
-            handle(lane, &self.probes, Request::make(self.seed, worker, round));
+            handle(lane, &self.probes, Request::of(self.seed, worker, round));
             lane.service();
         }
     }

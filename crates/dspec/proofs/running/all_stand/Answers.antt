@@ -9,7 +9,7 @@ use Rattle.dspec.proofs.running.all_stand.Goals as goal
 pub loop-each-preserved : goal.loop-each-preserved
 loop-each-preserved g c =
     one_more_stands (λ (x : Cpu g.row.S.Denot). IsSteady (g.S.Schema.shape_of x.schema) (g.S.Schema.accepted x.schema) (g.S.Schema.text x.schema) x)
-    c.deref-each-items.result.now c.loop-each.each-index c.each-item.result c.each-item.is c.loop-each.invariant c.stands.ensures.steady
+    c.deref-each-items.result.now c.loop-each.each-index c.each-item.result c.each-item.is c.loop-each.invariant c.invariant.ensures.steady
 
 pub returns : goal.returns
 returns g c = λ n cpu e.

@@ -1,12 +1,10 @@
-ghost use Rattle.std.specs.Prelude.{◌≡◌, ◌<◌, ◌≤◌, ◌∷◌, ◌++◌, [], true, false, None, OnOk, OnErr};
+ghost use Rattle.std.specs.Prelude.{◌≡◌, ◌≤◌, ◌∷◌, [], true, false, OnOk, OnErr};
 ghost use Rattle.dspec_deeds.specs.declared.deed.Deed.TheVariants as deed;
 ghost use Rattle.dspec_deeds.specs.FateKinds.{is_discard};
 ghost use Rattle.dspec_deeds.specs.History.{word_at};
-ghost use Rattle.dspec_deeds.specs.Legal.{IsAllowed};
 ghost use Rattle.dspec_deeds.specs.Own.{calls};
 ghost use Rattle.dspec_core.specs.Decisions.{decides, deed_of};
-ghost use Rattle.dspec_core.specs.Machines.{Adds, IsShownMachine, history};
-ghost use Rattle.dspec_deeds.specs.Ranges.{start_fault};
+ghost use Rattle.dspec_core.specs.Machines.{Adds, IsShownMachine, MayEnterOn, history};
 
 use crate::machine::Machine;
 use crate::machine::decision::Decision;
@@ -27,10 +25,7 @@ impl<S: Schema, B: TraceBuffer<S>> Machine<S, B> {
         fate: DecideFate,
         word: Word,
     ) -> Result<(), AllocError>
-        requires shown { IsShownMachine B.has B.capacity self.old }
-        requires ranges { start_fault self.old.config ≡ None }
-        requires legal { IsAllowed (S.shape_of self.old.schema) self.old.config (deed_of decision cpu id fate ∷ [] ++ history self.old) }
-        requires cpu { cpu < self.old.config.cpus }
+        requires may { MayEnterOn B.has B.capacity S.shape_of self.old cpu (deed_of decision cpu id fate ∷ []) }
         requires decides { decides decision fate ≡ true }
         requires word { word ≡ word_at id.slot (deed_of decision cpu id fate ∷ history self.old) }
         ensures shown { OnOk result (IsShownMachine B.has B.capacity self.new) }
@@ -55,10 +50,7 @@ impl<S: Schema, B: TraceBuffer<S>> Machine<S, B> {
         fate: DecideFate,
         word: Word,
     ) -> Result<(), AllocError>
-        requires shown { IsShownMachine B.has B.capacity self.old }
-        requires ranges { start_fault self.old.config ≡ None }
-        requires legal { IsAllowed (S.shape_of self.old.schema) self.old.config (deed.Release id.slot ∷ deed.Discard cpu id fate ∷ [] ++ history self.old) }
-        requires cpu { cpu < self.old.config.cpus }
+        requires may { MayEnterOn B.has B.capacity S.shape_of self.old cpu (deed.Release id.slot ∷ deed.Discard cpu id fate ∷ []) }
         requires discard { is_discard fate ≡ true }
         requires word { word ≡ word_at id.slot (deed.Release id.slot ∷ deed.Discard cpu id fate ∷ history self.old) }
         ensures shown { OnOk result (IsShownMachine B.has B.capacity self.new) }
@@ -86,10 +78,7 @@ impl<S: Schema, B: TraceBuffer<S>> Machine<S, B> {
         id: SpecId,
         fate: DecideFate,
     ) -> Result<(), AllocError>
-        requires shown { IsShownMachine B.has B.capacity self.old }
-        requires ranges { start_fault self.old.config ≡ None }
-        requires legal { IsAllowed (S.shape_of self.old.schema) self.old.config (deed_of decision cpu id fate ∷ [] ++ history self.old) }
-        requires cpu { cpu < self.old.config.cpus }
+        requires may { MayEnterOn B.has B.capacity S.shape_of self.old cpu (deed_of decision cpu id fate ∷ []) }
         requires few { calls cpu (history self.old) ≤ self.old.config.max_calls }
         requires nothing { decides decision fate ≡ false }
         ensures shown { OnOk result (IsShownMachine B.has B.capacity self.new) }

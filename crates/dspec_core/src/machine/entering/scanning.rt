@@ -1,9 +1,7 @@
-ghost use Rattle.std.specs.Prelude.{◌≡◌, ◌<◌, ◌≤◌, ◌∷◌, ◌++◌, [], None, OnOk, OnErr};
+ghost use Rattle.std.specs.Prelude.{◌≡◌, ◌≤◌, ◌∷◌, [], OnOk, OnErr};
 ghost use Rattle.dspec_deeds.specs.declared.deed.Deed.TheVariants as deed;
-ghost use Rattle.dspec_deeds.specs.Legal.{IsAllowed};
 ghost use Rattle.dspec_deeds.specs.Own.{calls};
-ghost use Rattle.dspec_core.specs.Machines.{Adds, IsShownMachine, history};
-ghost use Rattle.dspec_deeds.specs.Ranges.{start_fault};
+ghost use Rattle.dspec_core.specs.Machines.{Adds, IsShownMachine, MayEnterOn, history};
 
 use crate::machine::Machine;
 use dspec_buffer::TraceBuffer;
@@ -15,10 +13,7 @@ use std::alloc::AllocError;
 impl<S: Schema, B: TraceBuffer<S>> Machine<S, B> {
     /// Enters the beginning of a call of speculation.
     pub fn enter_scan(&mut self, cpu: u32, running: bool) -> Result<(), AllocError>
-        requires shown { IsShownMachine B.has B.capacity self.old }
-        requires ranges { start_fault self.old.config ≡ None }
-        requires legal { IsAllowed (S.shape_of self.old.schema) self.old.config (deed.Scan cpu running ∷ [] ++ history self.old) }
-        requires cpu { cpu < self.old.config.cpus }
+        requires may { MayEnterOn B.has B.capacity S.shape_of self.old cpu (deed.Scan cpu running ∷ []) }
         requires few { calls cpu (history self.old) ≤ self.old.config.max_calls }
         ensures shown { OnOk result (IsShownMachine B.has B.capacity self.new) }
         ensures entered { OnOk result (Adds (deed.Scan cpu running ∷ []) self.old self.new) }
@@ -32,10 +27,7 @@ impl<S: Schema, B: TraceBuffer<S>> Machine<S, B> {
 
     /// Enters that a slot's present speculation is given out.
     pub fn enter_opened(&mut self, cpu: u32, id: SpecId) -> Result<(), AllocError>
-        requires shown { IsShownMachine B.has B.capacity self.old }
-        requires ranges { start_fault self.old.config ≡ None }
-        requires legal { IsAllowed (S.shape_of self.old.schema) self.old.config (deed.Opened cpu id ∷ [] ++ history self.old) }
-        requires cpu { cpu < self.old.config.cpus }
+        requires may { MayEnterOn B.has B.capacity S.shape_of self.old cpu (deed.Opened cpu id ∷ []) }
         requires slot { id.slot ≤ self.old.config.nspec }
         ensures shown { OnOk result (IsShownMachine B.has B.capacity self.new) }
         ensures entered { OnOk result (Adds (deed.Opened cpu id ∷ []) self.old self.new) }
@@ -50,10 +42,7 @@ impl<S: Schema, B: TraceBuffer<S>> Machine<S, B> {
 
     /// Enters that a slot couldn't be given.
     pub fn enter_miss(&mut self, cpu: u32, slot: u32, busy: bool) -> Result<(), AllocError>
-        requires shown { IsShownMachine B.has B.capacity self.old }
-        requires ranges { start_fault self.old.config ≡ None }
-        requires legal { IsAllowed (S.shape_of self.old.schema) self.old.config (deed.Miss cpu slot busy ∷ [] ++ history self.old) }
-        requires cpu { cpu < self.old.config.cpus }
+        requires may { MayEnterOn B.has B.capacity S.shape_of self.old cpu (deed.Miss cpu slot busy ∷ []) }
         requires few { calls cpu (history self.old) ≤ self.old.config.max_calls }
         ensures shown { OnOk result (IsShownMachine B.has B.capacity self.new) }
         ensures entered { OnOk result (Adds (deed.Miss cpu slot busy ∷ []) self.old self.new) }

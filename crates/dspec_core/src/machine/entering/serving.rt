@@ -1,10 +1,8 @@
-ghost use Rattle.std.specs.Prelude.{◌≡◌, ◌<◌, ◌≤◌, ◌+◌, ◌∷◌, ◌++◌, [], None, OnOk, OnErr};
+ghost use Rattle.std.specs.Prelude.{◌≡◌, ◌≤◌, ◌+◌, ◌∷◌, [], OnOk, OnErr};
 ghost use Rattle.dspec_deeds.specs.declared.deed.Deed.TheVariants as deed;
-ghost use Rattle.dspec_deeds.specs.Legal.{IsAllowed};
-ghost use Rattle.dspec_core.specs.Machines.{Adds, IsShownMachine, history, state_of};
+ghost use Rattle.dspec_core.specs.Machines.{Adds, IsShownMachine, MayEnter, MayEnterOn, history, state_of};
 ghost use Rattle.dspec_interleaving.specs.Coherent.{progress_of};
 ghost use Rattle.dspec_deeds.specs.Own.{seals};
-ghost use Rattle.dspec_deeds.specs.Ranges.{start_fault};
 
 use crate::machine::Machine;
 use dspec_buffer::TraceBuffer;
@@ -16,10 +14,7 @@ use std::alloc::AllocError;
 impl<S: Schema, B: TraceBuffer<S>> Machine<S, B> {
     /// Enters a settlement: the CPU's buffer of the speculation is copied, lost or thrown away, and acknowledged.
     pub fn enter_settle(&mut self, cpu: u32, id: SpecId, fate: DecideFate) -> Result<(), AllocError>
-        requires shown { IsShownMachine B.has B.capacity self.old }
-        requires ranges { start_fault self.old.config ≡ None }
-        requires legal { IsAllowed (S.shape_of self.old.schema) self.old.config (deed.Settle cpu id fate ∷ [] ++ history self.old) }
-        requires cpu { cpu < self.old.config.cpus }
+        requires may { MayEnterOn B.has B.capacity S.shape_of self.old cpu (deed.Settle cpu id fate ∷ []) }
         requires slot { id.slot ≤ self.old.config.nspec }
         ensures shown { OnOk result (IsShownMachine B.has B.capacity self.new) }
         ensures entered { OnOk result (Adds (deed.Settle cpu id fate ∷ []) self.old self.new) }
@@ -36,10 +31,7 @@ impl<S: Schema, B: TraceBuffer<S>> Machine<S, B> {
 
     /// Enters that the active buffer is sealed: the other principal buffer, which is spare, becomes active.
     pub fn enter_seal(&mut self, cpu: u32) -> Result<(), AllocError>
-        requires shown { IsShownMachine B.has B.capacity self.old }
-        requires ranges { start_fault self.old.config ≡ None }
-        requires legal { IsAllowed (S.shape_of self.old.schema) self.old.config (deed.Seal cpu ∷ [] ++ history self.old) }
-        requires cpu { cpu < self.old.config.cpus }
+        requires may { MayEnterOn B.has B.capacity S.shape_of self.old cpu (deed.Seal cpu ∷ []) }
         requires takes { (progress_of (state_of self.old).progresses cpu).takes ≤ seals cpu (history self.old) }
         ensures shown { OnOk result (IsShownMachine B.has B.capacity self.new) }
         ensures entered { OnOk result (Adds (deed.Seal cpu ∷ []) self.old self.new) }
@@ -54,9 +46,7 @@ impl<S: Schema, B: TraceBuffer<S>> Machine<S, B> {
 
     /// Enters that a slot is released.
     pub fn enter_release(&mut self, slot: u32) -> Result<(), AllocError>
-        requires shown { IsShownMachine B.has B.capacity self.old }
-        requires ranges { start_fault self.old.config ≡ None }
-        requires legal { IsAllowed (S.shape_of self.old.schema) self.old.config (deed.Release slot ∷ [] ++ history self.old) }
+        requires may { MayEnter B.has B.capacity S.shape_of self.old (deed.Release slot ∷ []) }
         requires slot { slot ≤ self.old.config.nspec }
         ensures shown { OnOk result (IsShownMachine B.has B.capacity self.new) }
         ensures entered { OnOk result (Adds (deed.Release slot ∷ []) self.old self.new) }
@@ -71,9 +61,7 @@ impl<S: Schema, B: TraceBuffer<S>> Machine<S, B> {
 
     /// Enters that the session stops.
     pub fn enter_halt(&mut self) -> Result<(), AllocError>
-        requires shown { IsShownMachine B.has B.capacity self.old }
-        requires ranges { start_fault self.old.config ≡ None }
-        requires legal { IsAllowed (S.shape_of self.old.schema) self.old.config (deed.Halt ∷ [] ++ history self.old) }
+        requires may { MayEnter B.has B.capacity S.shape_of self.old (deed.Halt ∷ []) }
         ensures shown { OnOk result (IsShownMachine B.has B.capacity self.new) }
         ensures entered { OnOk result (Adds (deed.Halt ∷ []) self.old self.new) }
         ensures refused { OnErr result (self.new ≡ self.old) }

@@ -1,11 +1,9 @@
-ghost use Rattle.std.specs.Prelude.{◌≡◌, ◌<◌, ◌≤◌, ◌∷◌, ◌++◌, [], true, false, None, IsTrue, OnOk, OnErr};
+ghost use Rattle.std.specs.Prelude.{◌≡◌, ◌≤◌, ◌∷◌, [], true, false, IsTrue, OnOk, OnErr};
 ghost use Rattle.dspec_deeds.specs.declared.deed.Deed.TheVariants as deed;
 ghost use Rattle.dspec_deeds.specs.FateKinds.{spoken_granted};
 ghost use Rattle.dspec_deeds.specs.History.{word_at};
-ghost use Rattle.dspec_deeds.specs.Legal.{IsAllowed};
 ghost use Rattle.dspec_deeds.specs.Own.{calls};
-ghost use Rattle.dspec_core.specs.Machines.{Adds, IsShownMachine, history};
-ghost use Rattle.dspec_deeds.specs.Ranges.{start_fault};
+ghost use Rattle.dspec_core.specs.Machines.{Adds, IsShownMachine, MayEnterOn, history};
 
 use crate::machine::Machine;
 use dspec_buffer::TraceBuffer;
@@ -24,10 +22,7 @@ impl<S: Schema, B: TraceBuffer<S>> Machine<S, B> {
         fate: SpeculateFate,
         word: Word,
     ) -> Result<(), AllocError>
-        requires shown { IsShownMachine B.has B.capacity self.old }
-        requires ranges { start_fault self.old.config ≡ None }
-        requires legal { IsAllowed (S.shape_of self.old.schema) self.old.config (deed.Speculate cpu id rec.now fate ∷ [] ++ history self.old) }
-        requires cpu { cpu < self.old.config.cpus }
+        requires may { MayEnterOn B.has B.capacity S.shape_of self.old cpu (deed.Speculate cpu id rec.now fate ∷ []) }
         requires few { calls cpu (history self.old) ≤ self.old.config.max_calls }
         requires accepted { IsTrue (S.accepted self.old.schema rec.now) }
         requires granted { spoken_granted fate ≡ true }
@@ -52,10 +47,7 @@ impl<S: Schema, B: TraceBuffer<S>> Machine<S, B> {
         rec: &Rec,
         fate: SpeculateFate,
     ) -> Result<(), AllocError>
-        requires shown { IsShownMachine B.has B.capacity self.old }
-        requires ranges { start_fault self.old.config ≡ None }
-        requires legal { IsAllowed (S.shape_of self.old.schema) self.old.config (deed.Speculate cpu id rec.now fate ∷ [] ++ history self.old) }
-        requires cpu { cpu < self.old.config.cpus }
+        requires may { MayEnterOn B.has B.capacity S.shape_of self.old cpu (deed.Speculate cpu id rec.now fate ∷ []) }
         requires few { calls cpu (history self.old) ≤ self.old.config.max_calls }
         requires granted { spoken_granted fate ≡ false }
         ensures shown { OnOk result (IsShownMachine B.has B.capacity self.new) }

@@ -1,9 +1,7 @@
-ghost use Rattle.std.specs.Prelude.{◌≡◌, ◌<◌, ◌≤◌, ◌∷◌, ◌++◌, [], None, IsTrue, OnOk, OnErr};
+ghost use Rattle.std.specs.Prelude.{◌≡◌, ◌≤◌, ◌∷◌, [], IsTrue, OnOk, OnErr};
 ghost use Rattle.dspec_deeds.specs.declared.deed.Deed.TheVariants as deed;
-ghost use Rattle.dspec_deeds.specs.Legal.{IsAllowed};
 ghost use Rattle.dspec_deeds.specs.Own.{calls};
-ghost use Rattle.dspec_core.specs.Machines.{Adds, IsShownMachine, history};
-ghost use Rattle.dspec_deeds.specs.Ranges.{start_fault};
+ghost use Rattle.dspec_core.specs.Machines.{Adds, IsShownMachine, MayEnterOn, history};
 
 use crate::machine::Machine;
 use dspec_buffer::TraceBuffer;
@@ -14,10 +12,7 @@ use std::alloc::AllocError;
 impl<S: Schema, B: TraceBuffer<S>> Machine<S, B> {
     /// Enters what became of a traced record.
     pub fn enter_trace(&mut self, cpu: u32, rec: &Rec, fate: TraceFate) -> Result<(), AllocError>
-        requires shown { IsShownMachine B.has B.capacity self.old }
-        requires ranges { start_fault self.old.config ≡ None }
-        requires legal { IsAllowed (S.shape_of self.old.schema) self.old.config (deed.Trace cpu rec.now fate ∷ [] ++ history self.old) }
-        requires cpu { cpu < self.old.config.cpus }
+        requires may { MayEnterOn B.has B.capacity S.shape_of self.old cpu (deed.Trace cpu rec.now fate ∷ []) }
         requires few { calls cpu (history self.old) ≤ self.old.config.max_calls }
         requires accepted { IsTrue (S.accepted self.old.schema rec.now) }
         ensures shown { OnOk result (IsShownMachine B.has B.capacity self.new) }

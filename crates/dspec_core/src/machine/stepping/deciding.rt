@@ -1,12 +1,11 @@
-ghost use Rattle.std.specs.Prelude.{◌≡◌, ◌<◌, ◌≤◌, ◌^◌, ◌∷◌, ◌++◌, [], true, false, None, IfOk, OnErr};
+ghost use Rattle.std.specs.Prelude.{◌≡◌, ◌<◌, ◌≤◌, ◌^◌, ◌∷◌, ◌++◌, [], true, false, IfOk, OnErr};
 ghost use Rattle.dspec_interleaving.specs.declared.flight.CallPlace.TheVariants as flight;
-ghost use Rattle.dspec_deeds.specs.Ranges.{start_fault};
 ghost use Rattle.dspec_deeds.specs.Legal.{IsAllowed, IsSound};
 ghost use Rattle.dspec_deeds.specs.History.{in_range, issue, word_at};
 ghost use Rattle.dspec_deeds.specs.Own.{calls};
 ghost use Rattle.dspec_interleaving.specs.Coherent.{IsCoherent, progress_of};
 ghost use Rattle.dspec_core.specs.Decisions.{begun_of, decides, deed_of, load_of, try_of};
-ghost use Rattle.dspec_core.specs.Machines.{Makes, IsShownMachine, history, state_of};
+ghost use Rattle.dspec_core.specs.Machines.{Makes, IsShownMachine, MayEnterOn, history, state_of};
 ghost use Rattle.dspec_core.specs.Standing.{StandsAt};
 ghost use Rattle.dspec_core.specs.Steps.{StepsAs, commit_deed, moved_commit, moved_discard, ends_with, shows};
 
@@ -116,12 +115,9 @@ impl<S: Schema, B: TraceBuffer<S>> Machine<S, B> {
         id: SpecId,
         fate: DecideFate,
     ) -> Result<Option<Answer>, AllocError>
-        requires shown { IsShownMachine B.has B.capacity self.old }
-        requires ranges { start_fault self.old.config ≡ None }
-        requires legal { IsAllowed (S.shape_of self.old.schema) self.old.config (deed_of decision cpu id fate ∷ [] ++ history self.old) }
+        requires may { MayEnterOn B.has B.capacity S.shape_of self.old cpu (deed_of decision cpu id fate ∷ []) }
         requires nothing { decides decision fate ≡ false }
         requires few { calls cpu (history self.old) ≤ self.old.config.max_calls }
-        requires cpu { cpu < self.old.config.cpus }
         ensures makes { IfOk result (λ answer. Makes B.has B.capacity self.old self.new cpu (ends_with S.shape_of self.old cpu decision id fate) answer) }
         ensures refused { OnErr result (self.new ≡ self.old) }
     {
@@ -132,14 +128,11 @@ impl<S: Schema, B: TraceBuffer<S>> Machine<S, B> {
     // The commit decides, and leaves that word.
     #[tactic(auto, unfolding(crate::specs::Steps::commit_deed))]
     fn commit(&mut self, cpu: u32, id: SpecId, word: Word) -> Result<Option<Answer>, AllocError>
-        requires shown { IsShownMachine B.has B.capacity self.old }
-        requires ranges { start_fault self.old.config ≡ None }
-        requires cpu { cpu < self.old.config.cpus }
+        requires may { MayEnterOn B.has B.capacity S.shape_of self.old cpu (commit_deed S.shape_of self.old cpu id ∷ []) }
         requires sound { IsSound self.old.config (history self.old) }
         requires slot { in_range self.old.config id ≡ true }
         requires present { id.issue ≡ issue id.slot (history self.old) }
         requires steps { (progress_of (state_of self.old).progresses cpu).steps < 2 ^ 31 }
-        requires legal { IsAllowed (S.shape_of self.old.schema) self.old.config (commit_deed S.shape_of self.old cpu id ∷ [] ++ history self.old) }
         requires word { word ≡ word_at id.slot (commit_deed S.shape_of self.old cpu id ∷ history self.old) }
         ensures makes { IfOk result (λ answer. Makes B.has B.capacity self.old self.new cpu (moved_commit S.shape_of self.old cpu id word) answer) }
         ensures refused { OnErr result (self.new ≡ self.old) }
@@ -154,13 +147,10 @@ impl<S: Schema, B: TraceBuffer<S>> Machine<S, B> {
 
     // The discard decides, and leaves that word.
     fn discard(&mut self, cpu: u32, id: SpecId, word: Word) -> Result<Option<Answer>, AllocError>
-        requires shown { IsShownMachine B.has B.capacity self.old }
-        requires ranges { start_fault self.old.config ≡ None }
-        requires cpu { cpu < self.old.config.cpus }
+        requires may { MayEnterOn B.has B.capacity S.shape_of self.old cpu (moved_discard S.shape_of self.old cpu id word).deeds }
         requires sound { IsSound self.old.config (history self.old) }
         requires slot { in_range self.old.config id ≡ true }
         requires present { id.issue ≡ issue id.slot (history self.old) }
-        requires legal { IsAllowed (S.shape_of self.old.schema) self.old.config ((moved_discard S.shape_of self.old cpu id word).deeds ++ history self.old) }
         requires word { word ≡ word_at id.slot ((moved_discard S.shape_of self.old cpu id word).deeds ++ history self.old) }
         ensures makes { IfOk result (λ answer. Makes B.has B.capacity self.old self.new cpu (moved_discard S.shape_of self.old cpu id word) answer) }
         ensures refused { OnErr result (self.new ≡ self.old) }

@@ -1,13 +1,11 @@
-ghost use Rattle.std.specs.Prelude.{◌≡◌, ◌<◌, ◌≤◌, ◌+◌, ◌^◌, ◌∷◌, ◌++◌, [], None, IfOk, OnErr};
+ghost use Rattle.std.specs.Prelude.{◌≡◌, ◌<◌, ◌≤◌, ◌+◌, ◌^◌, ◌∷◌, [], IfOk, OnErr};
 ghost use Rattle.dspec_deeds.specs.declared.calls.CpuOp.TheVariants as cpu_op;
 ghost use Rattle.dspec_deeds.specs.declared.deed.Deed.TheVariants as deed;
 ghost use Rattle.dspec_interleaving.specs.declared.flight.CallPlace.TheVariants as flight;
-ghost use Rattle.dspec_deeds.specs.Ranges.{start_fault};
-ghost use Rattle.dspec_deeds.specs.Legal.{IsAllowed};
 ghost use Rattle.dspec_deeds.specs.Own.{calls};
 ghost use Rattle.dspec_word.specs.Code.{is_decided};
 ghost use Rattle.dspec_interleaving.specs.Coherent.{progress_of};
-ghost use Rattle.dspec_core.specs.Machines.{Makes, IsShownMachine, history, state_of};
+ghost use Rattle.dspec_core.specs.Machines.{Makes, MayEnterOn, history, state_of};
 ghost use Rattle.dspec_core.specs.Standing.{StandsAt};
 ghost use Rattle.dspec_core.specs.Steps.{StepsAs, moved_miss};
 
@@ -73,10 +71,7 @@ impl<S: Schema, B: TraceBuffer<S>> Machine<S, B> {
 
     // A slot that couldn't be given: the next one, or the call has failed.
     fn miss(&mut self, cpu: u32, slot: u32, word: Word) -> Result<Option<Answer>, AllocError>
-        requires shown { IsShownMachine B.has B.capacity self.old }
-        requires ranges { start_fault self.old.config ≡ None }
-        requires legal { IsAllowed (S.shape_of self.old.schema) self.old.config (deed.Miss cpu slot (is_decided word.code) ∷ [] ++ history self.old) }
-        requires cpu { cpu < self.old.config.cpus }
+        requires may { MayEnterOn B.has B.capacity S.shape_of self.old cpu (deed.Miss cpu slot (is_decided word.code) ∷ []) }
         requires few { calls cpu (history self.old) ≤ self.old.config.max_calls }
         requires slot { slot ≤ self.old.config.nspec }
         requires steps { (progress_of (state_of self.old).progresses cpu).steps < 2 ^ 31 }

@@ -1,13 +1,12 @@
-ghost use Rattle.std.specs.Prelude.{◌≡◌, ◌<◌, ◌≤◌, ◌∷◌, ◌++◌, true, None, IsTrue, IfOk, OnErr};
+ghost use Rattle.std.specs.Prelude.{◌≡◌, ◌≤◌, ◌∷◌, true, IsTrue, IfOk, OnErr};
 ghost use Rattle.dspec_deeds.specs.declared.calls.CpuOp.TheVariants as cpu_op;
 ghost use Rattle.dspec_deeds.specs.declared.deed.Deed.TheVariants as deed;
 ghost use Rattle.dspec_deeds.specs.declared.deed.SpeculateFate.TheVariants as spoken;
 ghost use Rattle.dspec_interleaving.specs.declared.flight.CallPlace.TheVariants as flight;
-ghost use Rattle.dspec_deeds.specs.Ranges.{start_fault};
-ghost use Rattle.dspec_deeds.specs.Legal.{IsAllowed, IsSound};
+ghost use Rattle.dspec_deeds.specs.Legal.{IsSound};
 ghost use Rattle.dspec_deeds.specs.History.{in_range, issue, word_at};
 ghost use Rattle.dspec_deeds.specs.Own.{calls};
-ghost use Rattle.dspec_core.specs.Machines.{Makes, IsShownMachine, history};
+ghost use Rattle.dspec_core.specs.Machines.{Makes, MayEnterOn, history};
 ghost use Rattle.dspec_core.specs.Standing.{StandsAt};
 ghost use Rattle.dspec_core.specs.Steps.{StepsAs, moved_speculate};
 
@@ -110,10 +109,7 @@ impl<S: Schema, B: TraceBuffer<S>> Machine<S, B> {
         rec: &Rec,
         word: Word,
     ) -> Result<Option<Answer>, AllocError>
-        requires shown { IsShownMachine B.has B.capacity self.old }
-        requires ranges { start_fault self.old.config ≡ None }
-        requires legal { IsAllowed (S.shape_of self.old.schema) self.old.config ((moved_speculate S.shape_of self.old cpu id rec.now).deeds ++ history self.old) }
-        requires cpu { cpu < self.old.config.cpus }
+        requires may { MayEnterOn B.has B.capacity S.shape_of self.old cpu (moved_speculate S.shape_of self.old cpu id rec.now).deeds }
         requires few { calls cpu (history self.old) ≤ self.old.config.max_calls }
         requires accepted { IsTrue (S.accepted self.old.schema rec.now) }
         requires sound { IsSound self.old.config (history self.old) }

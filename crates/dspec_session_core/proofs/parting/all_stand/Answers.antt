@@ -9,7 +9,7 @@ use Rattle.dspec_session_core.proofs.parting.all_stand.Goals as goal
 pub loop-cpu-preserved : goal.loop-cpu-preserved
 loop-cpu-preserved g c =
     one_more_stands (λ (x : Cpu g.row.S.Denot). IsSteady (g.S.Schema.shape_of x.schema) (g.S.Schema.accepted x.schema) (g.S.Schema.text x.schema) x)
-    c.deref-cpu-items.result.now c.loop-cpu.cpu-index c.cpu-item.result c.cpu-item.is c.loop-cpu.invariant c.stands.ensures.steady
+    c.deref-cpu-items.result.now c.loop-cpu.cpu-index c.cpu-item.result c.cpu-item.is c.loop-cpu.invariant c.invariant.ensures.steady
 
 pub returns : goal.returns
 returns g c = λ n cpu e.

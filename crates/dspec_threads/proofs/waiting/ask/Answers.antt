@@ -1,6 +1,6 @@
 use Rattle.std.proofs.Common.{◌≡◌, ◌∙◌, ap, sym, arith}
 use Rattle.dspec_word.specs.SpecId.{id_number}
-use Rattle.dspec_deeds.specs.Told.{id_told}
+use Rattle.dspec_deeds.specs.FateAnswers.{id_given}
 use Rattle.dspec_threads.proofs.waiting.ask.Goals as goal
 
 pub returns-clause-asks : goal.returns-clause-asks
@@ -10,6 +10,6 @@ returns-clause-asks g c =
       answer = c.path-path.result.opening;
       between = c.path-path.new.self;
       asks = c.path-path.ensures.does;
-      refused = ap (λ o. id_number (id_told o)) (sym c.opening.ensures) ∙ (ap id_number (sym c.id.ensures) ∙ (sym c.raw.ensures ∙ zero));
+      refused = ap (λ o. id_number (id_given o)) (sym c.opening.ensures) ∙ (ap id_number (sym c.id.ensures) ∙ (sym c.raw.ensures ∙ zero));
       serves = record { answer = c.service.result; serves = c.service.ensures.does };
     }

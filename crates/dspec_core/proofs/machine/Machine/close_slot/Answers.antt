@@ -42,15 +42,20 @@ settle_fate-fate-requires-clause-present g c =
     let reads = slot_read c.requires.closable.shown c.args.cpu c.args.slot c.requires.cpu c.requires.slot c.index.ensures c.index-word.ensures c.index-2.ensures in
     subst (λ (id : Speculation). id.issue ≡ issue id.slot h) (sym (named_present reads c.of-id.ensures c.issue.ensures.value)) refl
 
-pub enter_settle-requires-clause-legal : goal.enter_settle-requires-clause-legal
-enter_settle-requires-clause-legal g c =
+pub enter_settle-requires-clause-may : goal.enter_settle-requires-clause-may
+enter_settle-requires-clause-may g c =
     let m = c.args.self.now in
     let a = c.args.cpu in
     let s = c.args.slot in
     let shape = g.S.Schema.shape_of m.schema in
     let reads = slot_read c.requires.closable.shown a s c.requires.cpu c.requires.slot c.index.ensures c.index-word.ensures c.index-2.ensures in
     let due = one_due reads shape m.config c.settle_at.ensures c.in-Granted.is c.of-id.ensures c.issue.ensures.value c.code.ensures c.settle_fate-fate.ensures in
-    subst (λ (ds : List Deed). IsAllowed shape m.config ds) (sym due) (closes_still c.requires.closable a s c.requires.cpu c.requires.slot).legal
+    record {
+      shown = c.requires.closable.shown;
+      ranges = c.requires.closable.fine;
+      legal = subst (λ (ds : List Deed). IsAllowed shape m.config ds) (sym due) (closes_still c.requires.closable a s c.requires.cpu c.requires.slot).legal;
+      cpu = c.requires.cpu;
+    }
 
 pub returns : goal.returns
 returns g c =

@@ -20,12 +20,14 @@ use Rattle.dspec_core.proofs.machine.Machine.enter_decided.Goals as goal
 
 pub overflow_sub-place : goal.overflow_sub-place
 overflow_sub-place g c =
-    let block = decided_block c.requires.shown c.args.cpu c.requires.cpu c.index_mut-own.ensures.value c.requires.ranges c.args.id c.args.fate c.args.decision c.requires.decides c.requires.legal.0 in
+    let may = c.requires.may in
+    let block = decided_block may.shown c.args.cpu may.cpu c.index_mut-own.ensures.value may.ranges c.args.id c.args.fate c.args.decision c.requires.decides may.legal.0 in
     subst (λ n. 1 ≤ n) (sym c.slot.ensures.value) block.slot.0
 
 pub enter_block-requires : goal.enter_block-requires
 enter_block-requires g c =
-    let block = decided_block c.requires.shown c.args.cpu c.requires.cpu c.index_mut-own.ensures.value c.requires.ranges c.args.id c.args.fate c.args.decision c.requires.decides c.requires.legal.0 in
+    let may = c.requires.may in
+    let block = decided_block may.shown c.args.cpu may.cpu c.index_mut-own.ensures.value may.ranges c.args.id c.args.fate c.args.decision c.requires.decides may.legal.0 in
     record { place = block_place block c.slot.result c.slot.ensures.value }
 
 pub returns-in_err-enter_block-clause-refused : goal.returns-in_err-enter_block-clause-refused
@@ -38,20 +40,22 @@ returns-in_err-enter_block-clause-refused g c =
 
 pub is_mine-mine-requires : goal.is_mine-mine-requires
 is_mine-mine-requires g c =
+    let may = c.requires.may in
     let id = c.args.id in
-    let block = decided_block c.requires.shown c.args.cpu c.requires.cpu c.index_mut-own.ensures.value c.requires.ranges id c.args.fate c.args.decision c.requires.decides c.requires.legal.0 in
+    let block = decided_block may.shown c.args.cpu may.cpu c.index_mut-own.ensures.value may.ranges id c.args.fate c.args.decision c.requires.decides may.legal.0 in
     let after = block_streamed block c.slot.result c.slot.ensures.value c.args.fate c.enter_block.new.self c.in_ok-enter_block.ensures.streamed in
     record { slot = mark_there _ _ _ _ _ _ after.shows id block.slot }
 
 pub decide-requires : goal.decide-requires
 decide-requires g c =
+    let may = c.requires.may in
     let m = c.args.self.now in
     let a = c.args.cpu in
     let id = c.args.id in
     let f = c.args.fate in
     let d = deed_of c.args.decision a id f in
     let shape = g.S.Schema.shape_of m.schema in
-    let block = decided_block c.requires.shown a c.requires.cpu c.index_mut-own.ensures.value c.requires.ranges id f c.args.decision c.requires.decides c.requires.legal.0 in
+    let block = decided_block may.shown a may.cpu c.index_mut-own.ensures.value may.ranges id f c.args.decision c.requires.decides may.legal.0 in
     let after = block_streamed block c.slot.result c.slot.ensures.value f c.enter_block.new.self c.in_ok-enter_block.ensures.streamed in
     let pushed : c.enter_block.new.deeds ≡ m.deeds ++ d ∷ [] = c.in_ok-enter_block.ensures.deeds ∙ ap (λ (x : Deed). m.deeds ++ x ∷ []) c.deed-deed.ensures in
     let lt = c.in_ok-enter_block.ensures.countable in
@@ -60,17 +64,19 @@ decide-requires g c =
       calls = call_counts shape m.config a _ _ _ _ after.shows m.deeds c.enter_block.new.deeds d pushed lt refl;
       drops = drop_counts shape m.config a _ _ _ _ after.shows m.deeds c.enter_block.new.deeds d pushed lt refl;
       room = decide_counts shape m.config a _ _ _ _ after.shows m.deeds c.enter_block.new.deeds d pushed lt refl f
-          (λ w. decided_counts shape m.config a c.args.decision id f w (history m) c.requires.decides) c.requires.legal;
+          (λ w. decided_counts shape m.config a c.args.decision id f w (history m) c.requires.decides) may.legal;
     }
 
 pub index_mut-requires : goal.index_mut-requires
 index_mut-requires g c =
+    let may = c.requires.may in
     let m = c.args.self.now in
-    let block = decided_block c.requires.shown c.args.cpu c.requires.cpu c.index_mut-own.ensures.value c.requires.ranges c.args.id c.args.fate c.args.decision c.requires.decides c.requires.legal.0 in
-    place_within c.slot.result c.args.id.slot m.config.nspec m.words.len c.slot.ensures.value block.slot.0 block.slot.1 (m.words.ok.0 ∙ c.requires.shown.words.count)
+    let block = decided_block may.shown c.args.cpu may.cpu c.index_mut-own.ensures.value may.ranges c.args.id c.args.fate c.args.decision c.requires.decides may.legal.0 in
+    place_within c.slot.result c.args.id.slot m.config.nspec m.words.len c.slot.ensures.value block.slot.0 block.slot.1 (m.words.ok.0 ∙ may.shown.words.count)
 
 pub returns : goal.returns
 returns g c =
+    let may = c.requires.may in
     let m = c.args.self.now in
     let k = m.config in
     let a = c.args.cpu in
@@ -79,7 +85,7 @@ returns g c =
     let f = c.args.fate in
     let x = c.args.decision in
     let d = deed_of x a id f in
-    let block = decided_block c.requires.shown a c.requires.cpu c.index_mut-own.ensures.value c.requires.ranges id f x c.requires.decides c.requires.legal.0 in
+    let block = decided_block may.shown a may.cpu c.index_mut-own.ensures.value may.ranges id f x c.requires.decides may.legal.0 in
     let after = block_streamed block c.slot.result c.slot.ensures.value f c.enter_block.new.self c.in_ok-enter_block.ensures.streamed in
     let pushed : c.enter_block.new.deeds ≡ m.deeds ++ d ∷ [] = c.in_ok-enter_block.ensures.deeds ∙ ap (λ (x : Deed). m.deeds ++ x ∷ []) c.deed-deed.ensures in
     let deeds = latest_first m.deeds c.enter_block.new.deeds d pushed in
@@ -87,13 +93,13 @@ returns g c =
       shown =
           let caller = caller_is _ _ _ _ _ _ after.shows id block.slot block.cpu block.sound block.now c.is_mine-mine.result c.is_mine-mine.ensures.tells in
           let side = decided_either k a id f h (g.S.Schema.shape_of m.schema) (λ x. ShowsList (λ b. g.B.TraceBuffer.has b m.schema) g.B.TraceBuffer.capacity k a (x ∷ h) c.decide.new.self) x
-          c.requires.decides c.requires.legal.1.1
+          c.requires.decides may.legal.1.1
           (λ e row. c.decide.ensures.commits m.schema k a h after.shows caller e row) (λ e row. c.decide.ensures.discards m.schema k a h after.shows caller e row) in
           let kept = block_ended block after d c.decide.new.self (decided_unsealed k a id f h x) side (ap (λ (x : CpuState g.row.B.Denot). x.counts.worn) c.decide.ensures.rest)
           (decided_stream k a id f h x c.requires.decides) in
           let words = subst (λ n. ShowsWords k (d ∷ h) (set m.words.items (n - 1) c.args.word)) (sym c.slot.ensures.value)
-          (decided_words k a id f h x m.words.items c.args.word block.slot c.requires.word c.requires.shown.words) in
-          enters _ _ m c.enter_block.new.deeds _ d a _ c.requires.shown c.requires.cpu deeds (by_its_cpu x a id f h) (halted_still x a id f h) words kept;
+          (decided_words k a id f h x m.words.items c.args.word block.slot c.requires.word may.shown.words) in
+          enters _ _ m c.enter_block.new.deeds _ d a _ may.shown may.cpu deeds (by_its_cpu x a id f h) (halted_still x a id f h) words kept;
       entered = adds_own m c.enter_block.new.deeds _ d a c.index_mut-own.result.now _ deeds block.got (ap (λ (x : Cpu g.row.B.Denot). x.progress) after.streamed);
       refused = search rules;
     }

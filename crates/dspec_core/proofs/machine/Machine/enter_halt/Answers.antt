@@ -10,7 +10,7 @@ pub returns-clause-shown : goal.returns-clause-shown
 returns-clause-shown g c =
     let m = c.args.self.now in
     let h = history m in
-    let was = c.requires.shown in
+    let was = c.requires.may.shown in
     shown_as g.B.TraceBuffer.has g.B.TraceBuffer.capacity _ (deed.Halt ∷ h) (latest_first m.deeds c.push.new.self deed.Halt c.in_ok-push.ensures.ok) record {
       words = words_stay m.config deed.Halt h m.words.items (λ t. refl) was.words;
       active = refl;

@@ -12,34 +12,36 @@ use Rattle.dspec_core.proofs.machine.Machine.enter_miss.Goals as goal
 
 pub miss-requires : goal.miss-requires
 miss-requires g c =
+    let may = c.requires.may in
     let m = c.args.self.now in
     let a = c.args.cpu in
     let h = history m in
     let d = deed.Miss c.args.cpu c.args.slot c.args.busy in
-    let was = c.requires.shown in
+    let was = may.shown in
     let own = c.index_mut-own.result.now in
-    let got = cpu_got _ _ m was a own c.requires.cpu c.index_mut-own.ensures.value in
+    let got = cpu_got _ _ m was a own may.cpu c.index_mut-own.ensures.value in
     let shows = was.cpus a own got in
-    let legal = c.requires.legal in
+    let legal = may.legal in
     record {
-      counts = counts_fit (g.S.Schema.shape_of m.schema) m.config a _ _ h own.side shows.side c.requires.ranges d legal c.requires.few;
+      counts = counts_fit (g.S.Schema.shape_of m.schema) m.config a _ _ h own.side shows.side may.ranges d legal c.requires.few;
     }
 
 pub returns : goal.returns
 returns g c =
+    let may = c.requires.may in
     let m = c.args.self.now in
     let a = c.args.cpu in
     let h = history m in
     let d = deed.Miss c.args.cpu c.args.slot c.args.busy in
-    let was = c.requires.shown in
+    let was = may.shown in
     let own = c.index_mut-own.result.now in
-    let got = cpu_got _ _ m was a own c.requires.cpu c.index_mut-own.ensures.value in
+    let got = cpu_got _ _ m was a own may.cpu c.index_mut-own.ensures.value in
     let shows = was.cpus a own got in
     record {
       shown =
           let now = own_deed _ _ m.schema m.config a h own shows d c.miss.new.self own.accepted refl (c.miss.ensures.shows m.schema a h shows.side)
           (ap (λ (x : CpuState g.row.B.Denot). x.counts.worn) c.miss.ensures.rest) shows.accepted in
-          enters _ _ m c.push.new.self m.words d a _ was c.requires.cpu (latest_first m.deeds c.push.new.self d c.in_ok-push.ensures.ok) refl refl
+          enters _ _ m c.push.new.self m.words d a _ was may.cpu (latest_first m.deeds c.push.new.self d c.in_ok-push.ensures.ok) refl refl
           (words_stay m.config d h m.words.items (λ t. refl) was.words) now;
       entered = adds_own m c.push.new.self m.words d a own _ (latest_first m.deeds c.push.new.self d c.in_ok-push.ensures.ok) got refl;
       refused = search rules;

@@ -12,12 +12,13 @@ use Rattle.dspec_core.proofs.machine.Machine.enter_opened.Goals as goal
 
 pub returns-clause-shown : goal.returns-clause-shown
 returns-clause-shown g c =
+    let may = c.requires.may in
     let m = c.args.self.now in
     let h = history m in
     let id = c.args.id in
     let d = deed.Opened c.args.cpu id in
-    let was = c.requires.shown in
-    let sound = c.requires.legal.0 in
+    let was = may.shown in
+    let sound = may.legal.0 in
     let least : 1 ≤ c.slot.result = let a = sound.1.1.1 in let b = c.slot.ensures.value in omega arith in
     let most : c.slot.result ≤ m.config.nspec = let a = c.requires.slot in let b = c.slot.ensures.value in omega arith in
     let read = word_there m.config h m.words.items c.slot.result c.index.result.now least most was.words c.index.ensures in

@@ -16,12 +16,14 @@ use Rattle.dspec_core.proofs.machine.Machine.enter_settle.Goals as goal
 
 pub overflow_sub-place : goal.overflow_sub-place
 overflow_sub-place g c =
-    let block = settled_block c.requires.shown c.args.cpu c.requires.cpu c.index_mut-own.ensures.value c.requires.ranges c.args.id c.args.fate c.requires.legal.0 in
+    let may = c.requires.may in
+    let block = settled_block may.shown c.args.cpu may.cpu c.index_mut-own.ensures.value may.ranges c.args.id c.args.fate may.legal.0 in
     subst (λ n. 1 ≤ n) (sym c.slot.ensures.value) block.slot.0
 
 pub enter_block-requires : goal.enter_block-requires
 enter_block-requires g c =
-    let block = settled_block c.requires.shown c.args.cpu c.requires.cpu c.index_mut-own.ensures.value c.requires.ranges c.args.id c.args.fate c.requires.legal.0 in
+    let may = c.requires.may in
+    let block = settled_block may.shown c.args.cpu may.cpu c.index_mut-own.ensures.value may.ranges c.args.id c.args.fate may.legal.0 in
     record { place = block_place block c.slot.result c.slot.ensures.value }
 
 pub returns-in_err-enter_block-clause-refused : goal.returns-in_err-enter_block-clause-refused
@@ -34,19 +36,21 @@ returns-in_err-enter_block-clause-refused g c =
 
 pub is_mine-mine-requires : goal.is_mine-mine-requires
 is_mine-mine-requires g c =
+    let may = c.requires.may in
     let id = c.args.id in
-    let block = settled_block c.requires.shown c.args.cpu c.requires.cpu c.index_mut-own.ensures.value c.requires.ranges id c.args.fate c.requires.legal.0 in
+    let block = settled_block may.shown c.args.cpu may.cpu c.index_mut-own.ensures.value may.ranges id c.args.fate may.legal.0 in
     let after = block_streamed block c.slot.result c.slot.ensures.value c.args.fate c.enter_block.new.self c.in_ok-enter_block.ensures.streamed in
     record { slot = mark_there _ _ _ _ _ _ after.shows id block.slot }
 
 pub settle-requires : goal.settle-requires
 settle-requires g c =
+    let may = c.requires.may in
     let m = c.args.self.now in
     let a = c.args.cpu in
     let id = c.args.id in
     let f = c.args.fate in
     let shape = g.S.Schema.shape_of m.schema in
-    let block = settled_block c.requires.shown a c.requires.cpu c.index_mut-own.ensures.value c.requires.ranges id f c.requires.legal.0 in
+    let block = settled_block may.shown a may.cpu c.index_mut-own.ensures.value may.ranges id f may.legal.0 in
     let after = block_streamed block c.slot.result c.slot.ensures.value f c.enter_block.new.self c.in_ok-enter_block.ensures.streamed in
     let place = place_there _ _ _ _ _ _ after.shows id block.slot in
     let acks = ack_there _ _ _ _ _ _ after.shows id block.slot in
@@ -56,26 +60,27 @@ settle-requires g c =
       slot = (place.0, place.1, acks.1);
       drops = lost_counts shape m.config a _ _ _ _ after.shows m.deeds c.enter_block.new.deeds (Settle a id f) pushed lt refl f;
       room = decide_counts shape m.config a _ _ _ _ after.shows m.deeds c.enter_block.new.deeds (Settle a id f) pushed lt refl f
-          (λ w. settle_counts m.config a w (history m) id f (settles_on f (settles_as m.config a id f (history m) c.requires.legal.0))) c.requires.legal;
+          (λ w. settle_counts m.config a w (history m) id f (settles_on f (settles_as m.config a id f (history m) may.legal.0))) may.legal;
     }
 
 pub returns : goal.returns
 returns g c =
+    let may = c.requires.may in
     let m = c.args.self.now in
     let a = c.args.cpu in
     let h = history m in
     let id = c.args.id in
     let f = c.args.fate in
     let d = Settle a id f in
-    let block = settled_block c.requires.shown a c.requires.cpu c.index_mut-own.ensures.value c.requires.ranges id f c.requires.legal.0 in
+    let block = settled_block may.shown a may.cpu c.index_mut-own.ensures.value may.ranges id f may.legal.0 in
     let after = block_streamed block c.slot.result c.slot.ensures.value f c.enter_block.new.self c.in_ok-enter_block.ensures.streamed in
     let deeds = latest_first m.deeds c.enter_block.new.deeds d c.in_ok-enter_block.ensures.deeds in
     record {
       shown =
           let caller = caller_is _ _ _ _ _ _ after.shows id block.slot block.cpu block.sound block.now c.is_mine-mine.result c.is_mine-mine.ensures.tells in
-          let side = c.settle.ensures.shows m.schema m.config a h after.shows caller (settles_as m.config a id f h c.requires.legal.0) c.requires.legal.1.1 in
+          let side = c.settle.ensures.shows m.schema m.config a h after.shows caller (settles_as m.config a id f h may.legal.0) may.legal.1.1 in
           let kept = block_ended block after d c.settle.new.self refl side (ap (λ (x : CpuState g.row.B.Denot). x.counts.worn) c.settle.ensures.rest) (stream_settles a id f h) in
-          enters _ _ m c.enter_block.new.deeds m.words d a _ c.requires.shown c.requires.cpu deeds refl refl (words_stay m.config d h m.words.items (λ t. refl) c.requires.shown.words) kept;
+          enters _ _ m c.enter_block.new.deeds m.words d a _ may.shown may.cpu deeds refl refl (words_stay m.config d h m.words.items (λ t. refl) may.shown.words) kept;
       entered = adds_own m c.enter_block.new.deeds m.words d a c.index_mut-own.result.now _ deeds block.got (ap (λ (x : Cpu g.row.B.Denot). x.progress) after.streamed);
       refused = search rules;
     }

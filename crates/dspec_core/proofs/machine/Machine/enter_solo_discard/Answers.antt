@@ -18,32 +18,36 @@ use Rattle.dspec_core.proofs.machine.Machine.enter_solo_discard.Goals as goal
 
 pub overflow_sub-slot : goal.overflow_sub-slot
 overflow_sub-slot g c =
-    let block = decided_block c.requires.shown c.args.cpu c.requires.cpu c.index_mut-own.ensures.value c.requires.ranges c.args.id c.args.fate decision.Discard c.requires.discard
-    c.requires.legal.0.0 in
+    let may = c.requires.may in
+    let block = decided_block may.shown c.args.cpu may.cpu c.index_mut-own.ensures.value may.ranges c.args.id c.args.fate decision.Discard c.requires.discard
+    may.legal.0.0 in
     subst (λ n. 1 ≤ n) (sym c.slot-2.ensures.value) block.slot.0
 
 pub index_mut-requires : goal.index_mut-requires
 index_mut-requires g c =
+    let may = c.requires.may in
     let m = c.args.self.now in
-    let block = decided_block c.requires.shown c.args.cpu c.requires.cpu c.index_mut-own.ensures.value c.requires.ranges c.args.id c.args.fate decision.Discard c.requires.discard
-    c.requires.legal.0.0 in
-    place_within c.slot-2.result c.args.id.slot m.config.nspec m.words.len c.slot-2.ensures.value block.slot.0 block.slot.1 (m.words.ok.0 ∙ c.requires.shown.words.count)
+    let block = decided_block may.shown c.args.cpu may.cpu c.index_mut-own.ensures.value may.ranges c.args.id c.args.fate decision.Discard c.requires.discard
+    may.legal.0.0 in
+    place_within c.slot-2.result c.args.id.slot m.config.nspec m.words.len c.slot-2.ensures.value block.slot.0 block.slot.1 (m.words.ok.0 ∙ may.shown.words.count)
 
 pub is_mine-mine-requires : goal.is_mine-mine-requires
 is_mine-mine-requires g c =
-    let block = decided_block c.requires.shown c.args.cpu c.requires.cpu c.index_mut-own.ensures.value c.requires.ranges c.args.id c.args.fate decision.Discard c.requires.discard
-    c.requires.legal.0.0 in
+    let may = c.requires.may in
+    let block = decided_block may.shown c.args.cpu may.cpu c.index_mut-own.ensures.value may.ranges c.args.id c.args.fate decision.Discard c.requires.discard
+    may.legal.0.0 in
     record { slot = mark_there _ _ _ _ _ _ block.shows.side c.args.id block.slot }
 
 pub decide-requires : goal.decide-requires
 decide-requires g c =
+    let may = c.requires.may in
     let m = c.args.self.now in
     let a = c.args.cpu in
     let id = c.args.id in
     let f = c.args.fate in
     let d = Discard a id f in
     let shape = g.S.Schema.shape_of m.schema in
-    let block = decided_block c.requires.shown a c.requires.cpu c.index_mut-own.ensures.value c.requires.ranges id f decision.Discard c.requires.discard c.requires.legal.0.0 in
+    let block = decided_block may.shown a may.cpu c.index_mut-own.ensures.value may.ranges id f decision.Discard c.requires.discard may.legal.0.0 in
     let pushed = c.in_ok-push.ensures.ok in
     let lt = c.in_ok-push.ensures.countable in
     record {
@@ -51,11 +55,12 @@ decide-requires g c =
       calls = call_counts shape m.config a _ _ _ _ block.shows.side m.deeds c.push.new.self d pushed lt refl;
       drops = drop_counts shape m.config a _ _ _ _ block.shows.side m.deeds c.push.new.self d pushed lt refl;
       room = decide_counts shape m.config a _ _ _ _ block.shows.side m.deeds c.push.new.self d pushed lt refl f
-          (λ w. decided_counts shape m.config a decision.Discard id f w (history m) c.requires.discard) (c.requires.legal.0.0, c.requires.legal.1.0);
+          (λ w. decided_counts shape m.config a decision.Discard id f w (history m) c.requires.discard) (may.legal.0.0, may.legal.1.0);
     }
 
 pub returns : goal.returns
 returns g c =
+    let may = c.requires.may in
     let m = c.args.self.now in
     let k = m.config in
     let a = c.args.cpu in
@@ -63,20 +68,20 @@ returns g c =
     let id = c.args.id in
     let f = c.args.fate in
     let d = Discard a id f in
-    let was = c.requires.shown in
+    let was = may.shown in
     let own = c.index_mut-own.result.now in
-    let block = decided_block was a c.requires.cpu c.index_mut-own.ensures.value c.requires.ranges id f decision.Discard c.requires.discard c.requires.legal.0.0 in
+    let block = decided_block was a may.cpu c.index_mut-own.ensures.value may.ranges id f decision.Discard c.requires.discard may.legal.0.0 in
     let deeds : reverse c.push-2.new.self ≡ Release id.slot ∷ d ∷ h = latest_first c.push.new.self c.push-2.new.self (Release id.slot)
     (of_ok c.push-2.result (sym c.if-is_err.ensures.value) c.push-2.ensures.ok ∙ ap (λ n. c.push.new.self ++ Release n ∷ []) c.slot.ensures.value)
     ∙ ap (λ ds. Release id.slot ∷ ds) (latest_first m.deeds c.push.new.self d c.in_ok-push.ensures.ok) in
     record {
       shown =
           let caller = caller_is _ _ _ _ _ _ block.shows.side id block.slot block.cpu block.sound block.now c.is_mine-mine.result c.is_mine-mine.ensures.tells in
-          let side = c.decide.ensures.discards m.schema k a h block.shows.side caller c.requires.discard c.requires.legal.1.0.1 in
+          let side = c.decide.ensures.discards m.schema k a h block.shows.side caller c.requires.discard may.legal.1.0.1 in
           let kept = own_deed _ _ m.schema k a h own block.shows d c.decide.new.self own.accepted refl side (ap (λ (x : CpuState g.row.B.Denot). x.counts.worn) c.decide.ensures.rest)
           block.shows.accepted in
           let count = was.cpu_count in
-          let all = cpus_set _ _ m.schema k h m.cpus.items was.cpus d a _ refl (let lt = c.requires.cpu in omega arith) kept in
+          let all = cpus_set _ _ m.schema k h m.cpus.items was.cpus d a _ refl (let lt = may.cpu in omega arith) kept in
           shown_as g.B.TraceBuffer.has g.B.TraceBuffer.capacity _ (Release id.slot ∷ d ∷ h) deeds record {
             words = subst (λ n. ShowsWords k (Release id.slot ∷ d ∷ h) (set m.words.items (n - 1) c.args.word)) (sym c.slot-2.ensures.value)
                 (solo_words k a id f h m.words.items c.args.word block.slot c.requires.word was.words);

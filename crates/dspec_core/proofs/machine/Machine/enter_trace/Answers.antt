@@ -28,35 +28,38 @@ returns-in_err-enter_record-clause-refused g c =
 
 pub trace_stopped-requires : goal.trace_stopped-requires
 trace_stopped-requires g c =
+    let may = c.requires.may in
     let m = c.args.self.now in
     let a = c.args.cpu in
     let d = deed.Trace a c.args.rec.now c.args.fate in
     let shape = g.S.Schema.shape_of m.schema in
-    let shows = cpu_read _ _ m c.requires.shown a _ c.requires.cpu c.index_mut-own.ensures.value in
+    let shows = cpu_read _ _ m may.shown a _ may.cpu c.index_mut-own.ensures.value in
     let mid = put_side _ _ _ _ _ _ _ shows c.enter_record.new.self _ c.in_ok-enter_record.ensures.streamed in
     record {
-      calls = call_fits shape m.config a _ _ _ _ mid c.requires.ranges d c.requires.legal c.requires.few;
-      counts = counts_fit shape m.config a _ _ _ _ mid c.requires.ranges d c.requires.legal c.requires.few;
+      calls = call_fits shape m.config a _ _ _ _ mid may.ranges d may.legal c.requires.few;
+      counts = counts_fit shape m.config a _ _ _ _ mid may.ranges d may.legal c.requires.few;
     }
 
 pub trace-requires : goal.trace-requires
 trace-requires g c =
+    let may = c.requires.may in
     let m = c.args.self.now in
     let a = c.args.cpu in
     let d = deed.Trace a c.args.rec.now c.args.fate in
     let shape = g.S.Schema.shape_of m.schema in
-    let shows = cpu_read _ _ m c.requires.shown a _ c.requires.cpu c.index_mut-own.ensures.value in
+    let shows = cpu_read _ _ m may.shown a _ may.cpu c.index_mut-own.ensures.value in
     let mid = put_side _ _ _ _ _ _ _ shows c.enter_record.new.self _ c.in_ok-enter_record.ensures.streamed in
     record {
       accepted = c.requires.accepted;
       laid = tt;
-      calls = call_fits shape m.config a _ _ _ _ mid c.requires.ranges d c.requires.legal c.requires.few;
-      drops = drop_fits shape m.config a _ _ _ _ mid c.requires.ranges d c.requires.legal c.requires.few;
-      counts = counts_fit shape m.config a _ _ _ _ mid c.requires.ranges d c.requires.legal c.requires.few;
+      calls = call_fits shape m.config a _ _ _ _ mid may.ranges d may.legal c.requires.few;
+      drops = drop_fits shape m.config a _ _ _ _ mid may.ranges d may.legal c.requires.few;
+      counts = counts_fit shape m.config a _ _ _ _ mid may.ranges d may.legal c.requires.few;
     }
 
 pub returns-then-matches : goal.returns-then-matches
 returns-then-matches g c =
+    let may = c.requires.may in
     let m = c.args.self.now in
     let k = m.config in
     let a = c.args.cpu in
@@ -69,21 +72,22 @@ returns-then-matches g c =
     let deeds = latest_first m.deeds c.enter_record.new.deeds d c.in_ok-enter_record.ensures.deeds in
     record {
       shown =
-          let shows = cpu_read _ _ m c.requires.shown a own c.requires.cpu c.index_mut-own.ensures.value in
+          let shows = cpu_read _ _ m may.shown a own may.cpu c.index_mut-own.ensures.value in
           let mid = put_side _ _ _ _ _ _ _ shows c.enter_record.new.self _ streamed in
           let stopped : f ≡ traced.Stopped = elim c.match-matches.branch [ in-Stopped w ↦ w.in-Stopped.is | in_default w ↦ absurd (true≢false (sym c.if-matches.true ∙ w.matches-is)) ] in
           let side = subst (λ f. ShowsList (λ b. g.B.TraceBuffer.has b m.schema) g.B.TraceBuffer.capacity k a (deed.Trace a r f ∷ h) c.trace_stopped.new.self) (sym stopped)
           (c.trace_stopped.ensures.shows m.schema k a h r mid) in
           let now = put_deed _ _ m.schema k a h own shows d c.enter_record.new.self _ c.trace_stopped.new.self streamed refl side
           (ap (λ (x : CpuState g.row.B.Denot). x.counts.worn) c.trace_stopped.ensures.rest) (stream_traces a r f h own.accepted shows.accepted) in
-          enters _ _ m c.enter_record.new.deeds m.words d a _ c.requires.shown c.requires.cpu deeds refl refl (words_stay k d h m.words.items (λ t. refl) c.requires.shown.words) now;
-      entered = adds_own m c.enter_record.new.deeds m.words d a own _ deeds (cpu_got _ _ m c.requires.shown a own c.requires.cpu c.index_mut-own.ensures.value)
+          enters _ _ m c.enter_record.new.deeds m.words d a _ may.shown may.cpu deeds refl refl (words_stay k d h m.words.items (λ t. refl) may.shown.words) now;
+      entered = adds_own m c.enter_record.new.deeds m.words d a own _ deeds (cpu_got _ _ m may.shown a own may.cpu c.index_mut-own.ensures.value)
           (ap (λ (x : Cpu g.row.B.Denot). x.progress) streamed);
       refused = search rules;
     }
 
 pub returns : goal.returns
 returns g c =
+    let may = c.requires.may in
     let m = c.args.self.now in
     let k = m.config in
     let a = c.args.cpu in
@@ -96,7 +100,7 @@ returns g c =
     let deeds = latest_first m.deeds c.enter_record.new.deeds d c.in_ok-enter_record.ensures.deeds in
     record {
       shown =
-          let shows = cpu_read _ _ m c.requires.shown a own c.requires.cpu c.index_mut-own.ensures.value in
+          let shows = cpu_read _ _ m may.shown a own may.cpu c.index_mut-own.ensures.value in
           let mid = put_side _ _ _ _ _ _ _ shows c.enter_record.new.self _ streamed in
           let runs : f ≡ traced.Stopped → ⊥ = elim c.match-matches.branch [
             | in-Stopped w ↦ (λ e. true≢false
@@ -104,13 +108,13 @@ returns g c =
             | in_default w ↦ w.in_default.not-Stopped
           ] in
           let closed = c.is_closed-closed.ensures a c.enter_record.new.self.side.counts.worn h mid.counted in
-          let is = traced_as (g.S.Schema.shape_of m.schema) k a r f c.trace.result h runs c.requires.legal.1.1 (c.trace.ensures.answer k a h mid closed) in
+          let is = traced_as (g.S.Schema.shape_of m.schema) k a r f c.trace.result h runs may.legal.1.1 (c.trace.ensures.answer k a h mid closed) in
           let side = subst (λ f. ShowsList (λ b. g.B.TraceBuffer.has b m.schema) g.B.TraceBuffer.capacity k a (deed.Trace a r f ∷ h) c.trace.new.self) is
           (c.trace.ensures.shows k a h mid) in
           let now = put_deed _ _ m.schema k a h own shows d c.enter_record.new.self _ c.trace.new.self streamed refl side
           (ap (λ (n : Counts). n.worn) c.trace.ensures.counts) (stream_traces a r f h own.accepted shows.accepted) in
-          enters _ _ m c.enter_record.new.deeds m.words d a _ c.requires.shown c.requires.cpu deeds refl refl (words_stay k d h m.words.items (λ t. refl) c.requires.shown.words) now;
-      entered = adds_own m c.enter_record.new.deeds m.words d a own _ deeds (cpu_got _ _ m c.requires.shown a own c.requires.cpu c.index_mut-own.ensures.value)
+          enters _ _ m c.enter_record.new.deeds m.words d a _ may.shown may.cpu deeds refl refl (words_stay k d h m.words.items (λ t. refl) may.shown.words) now;
+      entered = adds_own m c.enter_record.new.deeds m.words d a own _ deeds (cpu_got _ _ m may.shown a own may.cpu c.index_mut-own.ensures.value)
           (ap (λ (x : Cpu g.row.B.Denot). x.progress) streamed);
       refused = search rules;
     }

@@ -15,32 +15,34 @@ use Rattle.dspec_core.proofs.machine.Machine.enter_undecided.Goals as goal
 
 pub leave_undecided-requires : goal.leave_undecided-requires
 leave_undecided-requires g c =
+    let may = c.requires.may in
     let m = c.args.self.now in
     let a = c.args.cpu in
     let h = history m in
     let d = deed_of c.args.decision c.args.cpu c.args.id c.args.fate in
-    let was = c.requires.shown in
+    let was = may.shown in
     let own = c.index_mut-own.result.now in
-    let got = cpu_got _ _ m was a own c.requires.cpu c.index_mut-own.ensures.value in
+    let got = cpu_got _ _ m was a own may.cpu c.index_mut-own.ensures.value in
     let shows = was.cpus a own got in
     let id = c.args.id in
     let pushed : c.push.new.self ≡ m.deeds ++ d ∷ [] = c.in_ok-push.ensures.ok ∙ ap (λ (x : Deed). m.deeds ++ x ∷ []) c.deed.ensures in
-    let legal = c.requires.legal in
+    let legal = may.legal in
     record {
       nothing = nothing_decided m.config a id c.args.fate h c.args.decision c.requires.nothing legal.0;
-      calls = call_fits (g.S.Schema.shape_of m.schema) m.config a _ _ h own.side shows.side c.requires.ranges d legal c.requires.few;
-      counts = counts_fit (g.S.Schema.shape_of m.schema) m.config a _ _ h own.side shows.side c.requires.ranges d legal c.requires.few;
+      calls = call_fits (g.S.Schema.shape_of m.schema) m.config a _ _ h own.side shows.side may.ranges d legal c.requires.few;
+      counts = counts_fit (g.S.Schema.shape_of m.schema) m.config a _ _ h own.side shows.side may.ranges d legal c.requires.few;
     }
 
 pub returns : goal.returns
 returns g c =
+    let may = c.requires.may in
     let m = c.args.self.now in
     let a = c.args.cpu in
     let h = history m in
     let d = deed_of c.args.decision c.args.cpu c.args.id c.args.fate in
-    let was = c.requires.shown in
+    let was = may.shown in
     let own = c.index_mut-own.result.now in
-    let got = cpu_got _ _ m was a own c.requires.cpu c.index_mut-own.ensures.value in
+    let got = cpu_got _ _ m was a own may.cpu c.index_mut-own.ensures.value in
     let shows = was.cpus a own got in
     let id = c.args.id in
     let pushed : c.push.new.self ≡ m.deeds ++ d ∷ [] = c.in_ok-push.ensures.ok ∙ ap (λ (x : Deed). m.deeds ++ x ∷ []) c.deed.ensures in
@@ -52,7 +54,7 @@ returns g c =
           let now = own_deed _ _ m.schema m.config a h own shows d c.leave_undecided.new.self own.accepted (decided_unsealed m.config a id c.args.fate h c.args.decision) side
           (ap (λ (x : CpuState g.row.B.Denot). x.counts.worn) c.leave_undecided.ensures.rest)
           (shows.accepted ∙ undecided_stream m.config a id c.args.fate h c.args.decision c.requires.nothing) in
-          enters _ _ m c.push.new.self m.words d a _ was c.requires.cpu (latest_first m.deeds c.push.new.self d pushed) (by_its_cpu c.args.decision a id c.args.fate h) (halted_still
+          enters _ _ m c.push.new.self m.words d a _ was may.cpu (latest_first m.deeds c.push.new.self d pushed) (by_its_cpu c.args.decision a id c.args.fate h) (halted_still
           c.args.decision a id c.args.fate h)
           (undecided_words c.args.decision m.config a id c.args.fate h m.words.items c.requires.nothing was.words) now;
       entered = adds_own m c.push.new.self m.words d a own _ (latest_first m.deeds c.push.new.self d pushed) got refl;

@@ -18,8 +18,8 @@ act-requires g c =
     let m = c.args.self.now in
     subst CanBeReleased (sym c.word_of-word.ensures) (can_be_released m.config c.args.id.slot (history m) c.requires.coherent.ranges c.requires.coherent.legal.0)
 
-pub decide_nothing-requires-clause-legal : goal.decide_nothing-requires-clause-legal
-decide_nothing-requires-clause-legal g c =
+pub decide_nothing-requires-clause-may : goal.decide_nothing-requires-clause-may
+decide_nothing-requires-clause-may g c =
     let m = c.args.self.now in
     let a = c.args.cpu in
     let h = history m in
@@ -28,7 +28,12 @@ decide_nothing-requires-clause-legal g c =
     let me = progress_of (state_of m).progresses a in
     let acts = c.act.ensures ∙ act_reads c.args.decision h a id c.word_of-word.result c.is_mine-mine.result c.word_of-word.ensures c.is_mine-mine.ensures in
     let is = shown_voids shape m.config a h me id c.args.decision (λ to e. c.in_default.not-Attempt to (acts ∙ e)) in
-    subst (λ (x : CpuStep). IsAllowed shape m.config (x.deeds ++ h)) is c.requires.legal
+    record {
+      shown = c.requires.shown;
+      ranges = c.requires.coherent.ranges;
+      legal = subst (λ (x : CpuStep). IsAllowed shape m.config (x.deeds ++ h)) is c.requires.legal;
+      cpu = c.requires.cpu;
+    }
 
 pub decide_nothing-requires-clause-nothing : goal.decide_nothing-requires-clause-nothing
 decide_nothing-requires-clause-nothing g c = void_decides_not c.args.decision

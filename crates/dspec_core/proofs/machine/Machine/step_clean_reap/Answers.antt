@@ -20,8 +20,8 @@ was_not : (b : Bool) → not b ≡ true → b ≡ false
 was_not true e = cc (e)
 was_not false e = refl
 
-pub enter_release-requires-clause-legal : goal.enter_release-requires-clause-legal
-enter_release-requires-clause-legal g c =
+pub enter_release-requires-clause-may : goal.enter_release-requires-clause-may
+enter_release-requires-clause-may g c =
     let m = c.args.self.now in
     let s = c.args.slot in
     let from = c.args.word in
@@ -31,7 +31,11 @@ enter_release-requires-clause-legal g c =
     let word = word_there m.config (history m) m.words.items s w at.0.0 at.0.1 c.requires.stands.shown.words c.index.ensures in
     let test : not (same_word w from) ≡ false = ap not (sym (words_test w from)) ∙ (sym c.ne.ensures ∙ c.if-ne.false) in
     let same = was (same_word w from) test in
-    reap_legal shape (state_of m) c.requires.stands.coherent s c.args.released from c.requires.stands.flight (ap (λ x. same_word x from) (sym word) ∙ same)
+    record {
+      shown = c.requires.stands.shown;
+      ranges = c.requires.stands.coherent.ranges;
+      legal = reap_legal shape (state_of m) c.requires.stands.coherent s c.args.released from c.requires.stands.flight (ap (λ x. same_word x from) (sym word) ∙ same);
+    }
 
 pub returns-then-ne-clause-cleans : goal.returns-then-ne-clause-cleans
 returns-then-ne-clause-cleans g c =

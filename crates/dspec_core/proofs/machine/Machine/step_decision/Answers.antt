@@ -4,13 +4,14 @@ use Rattle.std.specs.Prelude.{nat_le}
 use Rattle.dspec_deeds.specs.declared.deed.DecideFate.TheVariants as decided
 use Rattle.dspec_deeds.specs.History.{halted, in_range}
 use Rattle.dspec_deeds.specs.Own.{calls}
-use Rattle.dspec_deeds.specs.Told.{answer_of}
+use Rattle.dspec_deeds.specs.FateAnswers.{answer_of}
 use Rattle.dspec_interleaving.specs.Coherent.{progress_of}
 use Rattle.dspec_interleaving.specs.Play.{cpu_step, ends}
 use Rattle.dspec_core.specs.Decisions.{begun_of, deed_of}
 use Rattle.dspec_core.specs.Machines.{history, state_of}
 use Rattle.dspec_interleaving.proofs.StepReads.{step_legal}
 use Rattle.dspec_core.proofs.DecisionMoves.{begins, stopped_decides_not, void_decides_not}
+use Rattle.dspec_core.proofs.Makings.{may_enter}
 use Rattle.dspec_core.proofs.machine.Machine.step_decision.Goals as goal
 
 pub decide_nothing-requires-clause-nothing : goal.decide_nothing-requires-clause-nothing
@@ -19,8 +20,8 @@ decide_nothing-requires-clause-nothing g c = stopped_decides_not c.args.decision
 pub decide_nothing-requires-2-clause-nothing : goal.decide_nothing-requires-2-clause-nothing
 decide_nothing-requires-2-clause-nothing g c = void_decides_not c.args.decision
 
-pub decide_nothing-requires-2-clause-legal : goal.decide_nothing-requires-2-clause-legal
-decide_nothing-requires-2-clause-legal g c =
+pub decide_nothing-requires-2-clause-may : goal.decide_nothing-requires-2-clause-may
+decide_nothing-requires-2-clause-may g c =
     let m = c.args.self.now in
     let k = m.config in
     let a = c.args.cpu in
@@ -34,4 +35,4 @@ decide_nothing-requires-2-clause-legal g c =
     let out : in_range k id ≡ false = sym c.has_slot.ensures ∙ c.if-has_slot.false in
     let is : cpu_step shape k a h me (begun_of d id) ≡ ends shape k a h me (deed_of d a id decided.Void ∷ []) (answer_of decided.Void) = begins shape k a h me id d ∙ rw
     (worn, runs, out) refl in
-    step_legal shape (state_of m) c.requires.stands.coherent a c.requires.stands.cpu (begun_of d id) c.requires.stands.flight _ is
+    may_enter c.requires.stands (step_legal shape (state_of m) c.requires.stands.coherent a c.requires.stands.cpu (begun_of d id) c.requires.stands.flight _ is)

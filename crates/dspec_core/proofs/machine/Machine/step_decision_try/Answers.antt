@@ -7,6 +7,7 @@ use Rattle.dspec_core.specs.Decisions.{try_of}
 use Rattle.dspec_core.specs.Machines.{Makes, history, state_of}
 use Rattle.dspec_interleaving.proofs.StepReads.{can_be_released, steps_fit, step_legal}
 use Rattle.dspec_core.proofs.DecisionMoves.{attempts, commit_is, commit_legal, commit_present, commit_word, discard_is, discard_legal, discard_present, discard_word, fails, tried_slot}
+use Rattle.dspec_core.proofs.Makings.{may_enter}
 use Rattle.dspec_core.proofs.machine.Machine.step_decision_try.Goals as goal
 
 pub word_of-word-requires-clause-slot : goal.word_of-word-requires-clause-slot
@@ -72,11 +73,11 @@ unreachable-requires g c =
     attempts at.coherent c.args.cpu at.cpu c.args.decision c.args.id c.args.from at.flight c.word_of-word.ensures c.ne.ensures c.is_mine-mine.result c.is_mine-mine.ensures c.if-ne.false
     (λ to e. c.in_default.not-Attempt to (c.act.ensures ∙ e))
 
-pub commit-requires-clause-legal : goal.commit-requires-clause-legal
-commit-requires-clause-legal g c =
+pub commit-requires-clause-may : goal.commit-requires-clause-may
+commit-requires-clause-may g c =
     let at = c.requires.stands in
-    commit_legal at.coherent c.args.cpu at.cpu c.args.decision c.args.id c.args.from at.flight c.word_of-word.ensures c.ne.ensures c.is_mine-mine.result c.is_mine-mine.ensures
-    c.in-Attempt.to c.if-ne.false (sym c.act.ensures ∙ c.in-Attempt.is) c.in-Commit.is
+    may_enter at (commit_legal at.coherent c.args.cpu at.cpu c.args.decision c.args.id c.args.from at.flight c.word_of-word.ensures c.ne.ensures c.is_mine-mine.result c.is_mine-mine.ensures
+    c.in-Attempt.to c.if-ne.false (sym c.act.ensures ∙ c.in-Attempt.is) c.in-Commit.is)
 
 pub commit-requires-clause-word : goal.commit-requires-clause-word
 commit-requires-clause-word g c =
@@ -98,11 +99,11 @@ returns-in-Commit-clause-makes g c =
     c.in-Attempt.to c.if-ne.false (sym c.act.ensures ∙ c.in-Attempt.is) c.in-Commit.is in
     subst (λ (x : CpuStep). IfOk c.commit.result (λ answer. Makes g.B.TraceBuffer.has g.B.TraceBuffer.capacity m c.commit.new.self c.args.cpu x answer)) (sym is) c.commit.ensures.makes
 
-pub discard-requires-clause-legal : goal.discard-requires-clause-legal
-discard-requires-clause-legal g c =
+pub discard-requires-clause-may : goal.discard-requires-clause-may
+discard-requires-clause-may g c =
     let at = c.requires.stands in
-    discard_legal at.coherent c.args.cpu at.cpu c.args.decision c.args.id c.args.from at.flight c.word_of-word.ensures c.ne.ensures c.is_mine-mine.result c.is_mine-mine.ensures
-    c.in-Attempt.to c.if-ne.false (sym c.act.ensures ∙ c.in-Attempt.is) c.in-Discard.is
+    may_enter at (discard_legal at.coherent c.args.cpu at.cpu c.args.decision c.args.id c.args.from at.flight c.word_of-word.ensures c.ne.ensures c.is_mine-mine.result c.is_mine-mine.ensures
+    c.in-Attempt.to c.if-ne.false (sym c.act.ensures ∙ c.in-Attempt.is) c.in-Discard.is)
 
 pub discard-requires-clause-word : goal.discard-requires-clause-word
 discard-requires-clause-word g c =

@@ -13,7 +13,7 @@ use Rattle.dspec_deeds.specs.Legal.{IsAllowed}
 use Rattle.dspec_interleaving.specs.Coherent.{progress_of}
 use Rattle.dspec_core.specs.Machines.{Makes, history, state_of}
 use Rattle.dspec_interleaving.specs.Play.{CpuStep, missed}
-use Rattle.dspec_core.proofs.Makings.{adds_none, step_made}
+use Rattle.dspec_core.proofs.Makings.{adds_none, may_enter, step_made}
 use Rattle.dspec_core.proofs.OneMore.{word_there}
 use Rattle.dspec_interleaving.proofs.ScanMoves.{missed_deeds, shown_misses, scan_tried}
 use Rattle.dspec_interleaving.proofs.StepReads.{can_be_released, flight_stands, steps_fit, step_legal}
@@ -45,11 +45,8 @@ miss-requires g c =
     (λ to e. c.in_default.not-Attempt to (c.open_at.ensures ∙ (ap (λ (w : SlotState). open_at w k.max_issues) word ∙ e))) in
     let legal = step_legal shape (state_of m) coherent a c.requires.stands.cpu f c.requires.stands.flight (missed shape k a h me s (word_at s h)) is in
     record {
-      shown = c.requires.stands.shown;
-      ranges = coherent.ranges;
-      legal = subst (λ (w : SlotState). IsAllowed shape k (Miss a s (is_decided w.code) ∷ h)) (sym word)
-          (subst (λ (ds : List Deed). IsAllowed shape k (ds ++ h)) (missed_deeds shape k a h me s (word_at s h)) legal);
-      cpu = c.requires.stands.cpu;
+      may = may_enter c.requires.stands (subst (λ (w : SlotState). IsAllowed shape k (Miss a s (is_decided w.code) ∷ h)) (sym word)
+          (subst (λ (ds : List Deed). IsAllowed shape k (ds ++ h)) (missed_deeds shape k a h me s (word_at s h)) legal));
       few = c.requires.stands.few;
       slot = at.0.1;
       steps = steps_fit shape (state_of m) coherent a c.requires.stands.cpu f c.requires.stands.flight;

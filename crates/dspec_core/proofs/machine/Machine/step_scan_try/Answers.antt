@@ -17,7 +17,7 @@ use Rattle.dspec_core.specs.Machines.{Makes, history, state_of}
 use Rattle.dspec_core.specs.Shown.{ShowsWords}
 use Rattle.dspec_interleaving.specs.Play.{CpuStep, same_word, ends, missed, cpu_step}
 use Rattle.dspec_core.proofs.DecisionMoves.{another, expected}
-use Rattle.dspec_core.proofs.Makings.{step_made}
+use Rattle.dspec_core.proofs.Makings.{may_enter, step_made}
 use Rattle.dspec_core.proofs.OneMore.{word_there}
 use Rattle.dspec_interleaving.proofs.ScanMoves.{missed_deeds, scan_opened}
 use Rattle.dspec_interleaving.proofs.StepReads.{flight_stands, step_legal}
@@ -39,8 +39,8 @@ module _ {shape : ℕ → Option Shape} {st : PlayState} (coherent : IsCoherent 
     opens : test ≡ false → same_word (word_at s st.deeds) from ≡ true
     opens e = expected (word_at s st.deeds) w from test word_read tests e
 
-pub miss-requires-clause-legal : goal.miss-requires-clause-legal
-miss-requires-clause-legal g c =
+pub miss-requires-clause-may : goal.miss-requires-clause-may
+miss-requires-clause-may g c =
     let m = c.args.self.now in
     let k = m.config in
     let a = c.args.cpu in
@@ -50,8 +50,8 @@ miss-requires-clause-legal g c =
     let at = c.requires.stands in
     let is = misses at.coherent a at.cpu at.flight at.shown.words c.index.ensures c.ne.ensures c.if-ne.true in
     let legal = step_legal shape (state_of m) at.coherent a at.cpu (flight.ScanTry s c.args.from) at.flight _ is in
-    subst (λ (x : SlotState). IsAllowed shape k (Miss a s (is_decided x.code) ∷ h)) (sym (word_read at.coherent a at.cpu at.flight at.shown.words c.index.ensures))
-    (subst (λ (ds : List Deed). IsAllowed shape k (ds ++ h)) (missed_deeds shape k a h (progress_of (state_of m).progresses a) s (word_at s h)) legal)
+    may_enter at (subst (λ (x : SlotState). IsAllowed shape k (Miss a s (is_decided x.code) ∷ h)) (sym (word_read at.coherent a at.cpu at.flight at.shown.words c.index.ensures))
+    (subst (λ (ds : List Deed). IsAllowed shape k (ds ++ h)) (missed_deeds shape k a h (progress_of (state_of m).progresses a) s (word_at s h)) legal))
 
 pub returns-then-ne-clause-makes : goal.returns-then-ne-clause-makes
 returns-then-ne-clause-makes g c =
@@ -64,8 +64,8 @@ returns-then-ne-clause-makes g c =
     subst (λ (x : CpuStep). IfOk c.miss.result (λ answer. Makes g.B.TraceBuffer.has g.B.TraceBuffer.capacity m c.miss.new.self a x answer))
     (ap (missed (g.S.Schema.shape_of m.schema) m.config a (history m) (progress_of (state_of m).progresses a) s) word ∙ sym is) c.miss.ensures.makes
 
-pub enter_opened-requires-clause-legal : goal.enter_opened-requires-clause-legal
-enter_opened-requires-clause-legal g c =
+pub enter_opened-requires-clause-may : goal.enter_opened-requires-clause-may
+enter_opened-requires-clause-may g c =
     let m = c.args.self.now in
     let k = m.config in
     let a = c.args.cpu in
@@ -80,7 +80,7 @@ enter_opened-requires-clause-legal g c =
     let is : cpu_step shape k a h me (flight.ScanTry s from) ≡ ends shape k a h me (Opened a record { issue = from.issue; slot = s } ∷ [])
     (answer.Opening (opening.Id record { issue = from.issue; slot = s })) = rw same refl in
     let legal = step_legal shape (state_of m) at.coherent a at.cpu (flight.ScanTry s from) at.flight _ is in
-    subst (λ (id : Speculation). IsAllowed shape k (Opened a id ∷ h)) (sym named) legal
+    may_enter at (subst (λ (id : Speculation). IsAllowed shape k (Opened a id ∷ h)) (sym named) legal)
 
 pub returns-clause-makes : goal.returns-clause-makes
 returns-clause-makes g c =

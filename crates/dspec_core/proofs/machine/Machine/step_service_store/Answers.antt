@@ -11,10 +11,11 @@ use Rattle.dspec_core.specs.Machines.{history, state_of}
 use Rattle.dspec_deeds.specs.Settling.{settle_fate}
 use Rattle.dspec_interleaving.proofs.StepReads.{step_legal}
 use Rattle.dspec_interleaving.proofs.ServiceMoves.{served_deeds}
+use Rattle.dspec_core.proofs.Makings.{may_enter}
 use Rattle.dspec_core.proofs.machine.Machine.step_service_store.Goals as goal
 
-pub enter_settle-requires-clause-legal : goal.enter_settle-requires-clause-legal
-enter_settle-requires-clause-legal g c =
+pub enter_settle-requires-clause-may : goal.enter_settle-requires-clause-may
+enter_settle-requires-clause-may g c =
     let m = c.args.self.now in
     let k = m.config in
     let a = c.args.cpu in
@@ -31,4 +32,5 @@ enter_settle-requires-clause-legal g c =
     let deeds = served_deeds shape k a h me s (Settle a named (settle_fate shape k a h named w.code) ∷ []) record { sealed = c.args.sum.sealed; settled = c.args.sum.settled + 1 } in
     let legal = step_legal shape (state_of m) c.requires.stands.coherent a c.requires.stands.cpu f c.requires.stands.flight _ refl in
     let now : IsAllowed shape k (Settle a named (settle_fate shape k a h named w.code) ∷ h) = subst (λ (ds : List Deed). IsAllowed shape k (ds ++ h)) deeds legal in
-    subst (λ (j : Speculation). IsAllowed shape k (Settle a j c.settle_fate-fate.result ∷ h)) (sym is) (subst (λ (x : DecideFate). IsAllowed shape k (Settle a named x ∷ h)) (sym fate) now)
+    may_enter c.requires.stands (subst (λ (j : Speculation). IsAllowed shape k (Settle a j c.settle_fate-fate.result ∷ h)) (sym is)
+    (subst (λ (x : DecideFate). IsAllowed shape k (Settle a named x ∷ h)) (sym fate) now))

@@ -12,10 +12,11 @@ use Rattle.dspec_interleaving.specs.Coherent.{progress_of}
 use Rattle.dspec_core.specs.Machines.{history, state_of}
 use Rattle.dspec_interleaving.specs.Play.{cpu_step, ends}
 use Rattle.dspec_interleaving.proofs.StepReads.{step_legal}
+use Rattle.dspec_core.proofs.Makings.{may_enter}
 use Rattle.dspec_core.proofs.machine.Machine.step_speculate.Goals as goal
 
-pub enter_unspoken-requires-2-clause-legal : goal.enter_unspoken-requires-2-clause-legal
-enter_unspoken-requires-2-clause-legal g c =
+pub enter_unspoken-requires-2-clause-may : goal.enter_unspoken-requires-2-clause-may
+enter_unspoken-requires-2-clause-may g c =
     let m = c.args.self.now in
     let k = m.config in
     let a = c.args.cpu in
@@ -27,4 +28,4 @@ enter_unspoken-requires-2-clause-legal g c =
     let runs : halted h ≡ false = sym c.requires.stands.shown.active ∙ c.if-self.false in
     let out : in_range k c.args.id ≡ false = sym c.has_slot.ensures ∙ c.if-has_slot.false in
     let is : cpu_step shape k a h me f ≡ ends shape k a h me (Speculate a c.args.id c.args.rec.now spoken.Void ∷ []) (answer.Spoken spoken_answer.Void) = rw (worn, runs, out) refl in
-    step_legal shape (state_of m) c.requires.stands.coherent a c.requires.stands.cpu f c.requires.stands.flight _ is
+    may_enter c.requires.stands (step_legal shape (state_of m) c.requires.stands.coherent a c.requires.stands.cpu f c.requires.stands.flight _ is)

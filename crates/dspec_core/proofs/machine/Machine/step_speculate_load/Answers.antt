@@ -11,6 +11,7 @@ use Rattle.dspec_interleaving.specs.Play.{cpu_step, spoken_at}
 use Rattle.dspec_interleaving.proofs.StepReads.{can_be_released, flight_stands, step_legal}
 use Rattle.dspec_interleaving.proofs.TableReads.{speculate_reads}
 use Rattle.dspec_interleaving.proofs.SpeculateMoves.{shown_voids, word_granted}
+use Rattle.dspec_core.proofs.Makings.{may_enter}
 use Rattle.dspec_core.proofs.machine.Machine.step_speculate_load.Goals as goal
 
 pub speculate_at-requires : goal.speculate_at-requires
@@ -18,8 +19,8 @@ speculate_at-requires g c =
     let m = c.args.self.now in
     subst CanBeReleased (sym c.word_of-word.ensures) (can_be_released m.config c.args.id.slot (history m) c.requires.stands.coherent.ranges c.requires.stands.coherent.legal.0)
 
-pub speculate-requires-clause-legal : goal.speculate-requires-clause-legal
-speculate-requires-clause-legal g c =
+pub speculate-requires-clause-may : goal.speculate-requires-clause-may
+speculate-requires-clause-may g c =
     let m = c.args.self.now in
     let a = c.args.cpu in
     let h = history m in
@@ -31,7 +32,7 @@ speculate-requires-clause-legal g c =
     let act : speculate_at (word_at id.slot h) id (is_among a (callers id h)) ≡ Granted =
     sym (speculate_reads h a id c.word_of-word.result c.is_mine-mine.result c.word_of-word.ensures c.is_mine-mine.ensures) ∙ (sym c.speculate_at.ensures ∙ c.in-Granted.is) in
     let is : cpu_step shape m.config a h me f ≡ spoken_at shape m.config a h me id r = rw act refl in
-    step_legal shape (state_of m) c.requires.stands.coherent a c.requires.stands.cpu f c.requires.stands.flight _ is
+    may_enter c.requires.stands (step_legal shape (state_of m) c.requires.stands.coherent a c.requires.stands.cpu f c.requires.stands.flight _ is)
 
 pub speculate-requires-clause-word : goal.speculate-requires-clause-word
 speculate-requires-clause-word g c =
@@ -46,8 +47,8 @@ speculate-requires-clause-word g c =
     sym (speculate_reads h a id c.word_of-word.result c.is_mine-mine.result c.word_of-word.ensures c.is_mine-mine.ensures) ∙ (sym c.speculate_at.ensures ∙ c.in-Granted.is) in
     c.word_of-word.ensures ∙ word_granted m.config a h id r coherent.legal.0 coherent.rests at.0 act
 
-pub enter_unspoken-requires-clause-legal : goal.enter_unspoken-requires-clause-legal
-enter_unspoken-requires-clause-legal g c =
+pub enter_unspoken-requires-clause-may : goal.enter_unspoken-requires-clause-may
+enter_unspoken-requires-clause-may g c =
     let m = c.args.self.now in
     let a = c.args.cpu in
     let h = history m in
@@ -59,4 +60,4 @@ enter_unspoken-requires-clause-legal g c =
     let acts = c.speculate_at.ensures ∙ speculate_reads h a id c.word_of-word.result c.is_mine-mine.result c.word_of-word.ensures c.is_mine-mine.ensures in
     let is = shown_voids shape m.config a h me id r (word_at id.slot h) (speculate_at (word_at id.slot h) id (is_among a (callers id h)))
     (λ e. c.in_default.not-Granted (acts ∙ e)) (λ to e. c.in_default.not-Attempt to (acts ∙ e)) in
-    step_legal shape (state_of m) c.requires.stands.coherent a c.requires.stands.cpu f c.requires.stands.flight _ is
+    may_enter c.requires.stands (step_legal shape (state_of m) c.requires.stands.coherent a c.requires.stands.cpu f c.requires.stands.flight _ is)

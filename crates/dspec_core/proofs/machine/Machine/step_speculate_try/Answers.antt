@@ -12,7 +12,7 @@ use Rattle.dspec_deeds.specs.History.{is_among, callers, word_at}
 use Rattle.dspec_interleaving.specs.Coherent.{progress_of}
 use Rattle.dspec_core.specs.Machines.{history, state_of}
 use Rattle.dspec_interleaving.specs.Play.{CpuStep, cpu_step, same_word, shown_speculate, spoken_at}
-use Rattle.dspec_core.proofs.Makings.{adds_none, step_made}
+use Rattle.dspec_core.proofs.Makings.{adds_none, may_enter, step_made}
 use Rattle.dspec_interleaving.proofs.StepReads.{can_be_released, flight_stands, step_legal}
 use Rattle.dspec_interleaving.proofs.TableReads.{speculate_reads}
 use Rattle.dspec_interleaving.proofs.StepsWords.{words_test}
@@ -24,8 +24,8 @@ speculate_at-act-requires g c =
     let m = c.args.self.now in
     subst CanBeReleased (sym c.word_of-word.ensures) (can_be_released m.config c.args.id.slot (history m) c.requires.stands.coherent.ranges c.requires.stands.coherent.legal.0)
 
-pub speculate-requires-clause-legal : goal.speculate-requires-clause-legal
-speculate-requires-clause-legal g c =
+pub speculate-requires-clause-may : goal.speculate-requires-clause-may
+speculate-requires-clause-may g c =
     let m = c.args.self.now in
     let a = c.args.cpu in
     let h = history m in
@@ -37,7 +37,7 @@ speculate-requires-clause-legal g c =
     let same : same_word (word_at id.slot h) c.args.from ≡ true =
     ap (λ w. same_word w c.args.from) (sym c.word_of-word.ensures) ∙ (sym (words_test c.word_of-word.result c.args.from) ∙ (sym c.eq.ensures ∙ c.if-eq.true)) in
     let is : cpu_step shape m.config a h me f ≡ spoken_at shape m.config a h me id r = rw same refl in
-    step_legal shape (state_of m) c.requires.stands.coherent a c.requires.stands.cpu f c.requires.stands.flight _ is
+    may_enter c.requires.stands (step_legal shape (state_of m) c.requires.stands.coherent a c.requires.stands.cpu f c.requires.stands.flight _ is)
 
 pub speculate-requires-clause-word : goal.speculate-requires-clause-word
 speculate-requires-clause-word g c =
@@ -52,8 +52,8 @@ speculate-requires-clause-word g c =
     sym (speculate_reads h a id c.word_of-word.result c.is_mine-mine.result c.word_of-word.ensures c.is_mine-mine.ensures) ∙ (sym c.speculate_at-act.ensures ∙ c.in-Attempt.is) in
     word_joined m.config a h id r coherent.legal.0 coherent.rests at.0 c.in-Attempt.to act
 
-pub speculate-requires-in-Granted-clause-legal : goal.speculate-requires-in-Granted-clause-legal
-speculate-requires-in-Granted-clause-legal g c =
+pub speculate-requires-in-Granted-clause-may : goal.speculate-requires-in-Granted-clause-may
+speculate-requires-in-Granted-clause-may g c =
     let m = c.args.self.now in
     let a = c.args.cpu in
     let h = history m in
@@ -67,7 +67,7 @@ speculate-requires-in-Granted-clause-legal g c =
     let act : speculate_at (word_at id.slot h) id (is_among a (callers id h)) ≡ Granted =
     sym (speculate_reads h a id c.word_of-word.result c.is_mine-mine.result c.word_of-word.ensures c.is_mine-mine.ensures) ∙ (sym c.speculate_at-act.ensures ∙ c.in-Granted.is) in
     let is : cpu_step shape m.config a h me f ≡ spoken_at shape m.config a h me id r = rw other (rw act refl) in
-    step_legal shape (state_of m) c.requires.stands.coherent a c.requires.stands.cpu f c.requires.stands.flight _ is
+    may_enter c.requires.stands (step_legal shape (state_of m) c.requires.stands.coherent a c.requires.stands.cpu f c.requires.stands.flight _ is)
 
 pub speculate-requires-in-Granted-clause-word : goal.speculate-requires-in-Granted-clause-word
 speculate-requires-in-Granted-clause-word g c =
@@ -82,8 +82,8 @@ speculate-requires-in-Granted-clause-word g c =
     sym (speculate_reads h a id c.word_of-word.result c.is_mine-mine.result c.word_of-word.ensures c.is_mine-mine.ensures) ∙ (sym c.speculate_at-act.ensures ∙ c.in-Granted.is) in
     c.word_of-word.ensures ∙ word_granted m.config a h id r coherent.legal.0 coherent.rests at.0 act
 
-pub enter_unspoken-requires-clause-legal : goal.enter_unspoken-requires-clause-legal
-enter_unspoken-requires-clause-legal g c =
+pub enter_unspoken-requires-clause-may : goal.enter_unspoken-requires-clause-may
+enter_unspoken-requires-clause-may g c =
     let m = c.args.self.now in
     let a = c.args.cpu in
     let h = history m in
@@ -98,7 +98,7 @@ enter_unspoken-requires-clause-legal g c =
     let act = speculate_at (word_at id.slot h) id (is_among a (callers id h)) in
     let shown : cpu_step shape m.config a h me f ≡ shown_speculate shape m.config a h me id r (word_at id.slot h) act = rw other refl in
     let is = shown_voids shape m.config a h me id r (word_at id.slot h) act (λ e. c.in_default-act.not-Granted (acts ∙ e)) (λ to e. c.in_default-act.not-Attempt to (acts ∙ e)) in
-    step_legal shape (state_of m) c.requires.stands.coherent a c.requires.stands.cpu f c.requires.stands.flight _ (shown ∙ is)
+    may_enter c.requires.stands (step_legal shape (state_of m) c.requires.stands.coherent a c.requires.stands.cpu f c.requires.stands.flight _ (shown ∙ is))
 
 pub returns-in-Attempt-act-clause-makes : goal.returns-in-Attempt-act-clause-makes
 returns-in-Attempt-act-clause-makes g c =

@@ -11,8 +11,8 @@ pub returns-clause-called : goal.returns-clause-called
 returns-clause-called c =
     let o = c.speculation.ensures.does.opens in
     let a = c.speculation.result in
-    let p = c.stands.ensures.steady.list in
-    let was = c.stands.ensures.steady.listed in
+    let p = c.invariant.ensures.steady.list in
+    let was = c.invariant.ensures.steady.listed in
     let now = o.list p was in
     let room = c.requires.unworn in
     let few : calls_of c.args.cpu.now < (config_of c.args.cpu.now).max_calls = omega arith in

@@ -1,6 +1,6 @@
 -- A step of a path offers a record to it, and nothing else is done.
 use Rattle.std.proofs.Common.{◌∙◌, subst}
-use Rattle.dspec_deeds.specs.Told.{id_told}
+use Rattle.dspec_deeds.specs.FateAnswers.{id_given}
 use Rattle.dspec_cpu.specs.Called.{CallsMade, called}
 use Rattle.examples.specs.WatchServing.{OffersAlone, nothing, one_step}
 use Rattle.examples.proofs.watch.serving.handle.Goals as goal
@@ -8,7 +8,7 @@ use Rattle.examples.proofs.watch.serving.handle.Goals as goal
 pub loop-place-init : goal.loop-place-init
 loop-place-init c = (
   c.path-path.ensures.same,
-  subst (λ (x : CallsMade). OffersAlone (id_told c.path-path.result.opening) x (called c.path-path.new.self.cpu.now)) c.path-path.ensures.does.tells nothing,
+  subst (λ (x : CallsMade). OffersAlone (id_given c.path-path.result.opening) x (called c.path-path.new.self.cpu.now)) c.path-path.ensures.does.tells nothing,
 )
 
 pub loop-place-preserved : goal.loop-place-preserved

@@ -11,7 +11,7 @@ loop-round-init c = (refl, none_yet)
 
 pub loop-round-preserved : goal.loop-round-preserved
 loop-round-preserved c =
-    let fails = c.make.ensures.fails ∙ ap (λ n. fails_with c.args.self.now.seed (request_number n c.loop-round.round)) (c.from-worker.ensures ∙ c.number.ensures) in (
+    let fails = c.of.ensures.fails ∙ ap (λ n. fails_with c.args.self.now.seed (request_number n c.loop-round.round)) (c.from-worker.ensures ∙ c.number.ensures) in (
       c.service.ensures.same ∙ (c.handle.ensures.same ∙ c.loop-round.invariant.0),
       one_more (c.loop-round.round + 1) _ _ c.service.result c.loop-round.invariant.1
           (subst (λ (b : Bool). HandlesRequest b (called c.loop-round.lane.cpu.now) (called c.handle.new.lane.cpu.now)) fails c.handle.ensures.handled) c.service.ensures.does.tells refl,
