@@ -26,6 +26,8 @@ pub struct Builder {
     pub(crate) outside: bool,
     pub(crate) enter_and_exit: bool,
     pub(crate) patience: Duration,
+    /// How long a path waits for the consumer, where that has slots to free.
+    pub(crate) freeing: Duration,
     pub(crate) pause: Duration,
     pub(crate) longest_pause: Duration,
     pub(crate) clock: Option<fn() -> u64>,
@@ -42,7 +44,7 @@ impl Default for Builder {
 }
 
 impl Builder {
-    /// Each root span is a path, kept where it failed, panicked or was asked for; 63 of them at once, 8 KiB each; none waits.
+    /// Each root span is a path, kept where it failed, panicked or was asked for; 63 of them at once, 8 KiB each; none waits for another.
     pub fn new() -> Builder {
         let threads = thread::available_parallelism().map_or(4, NonZero::get);
         Builder {
@@ -51,6 +53,7 @@ impl Builder {
             outside: true,
             enter_and_exit: false,
             patience: Duration::ZERO,
+            freeing: Duration::from_millis(20),
             pause: Duration::from_millis(1),
             longest_pause: Duration::from_millis(128),
             clock: None,
@@ -94,7 +97,9 @@ impl Builder {
         self
     }
 
-    /// How long a path may wait at its begin where all that may be open at once are open. Zero, as it is at first: it never waits.
+    /// How long a path may wait at its begin where all that may be open at once are open. Zero, as it is at first: it doesn't wait for another
+    /// path to end. Where paths have ended whose slots the consumer frees as soon as its thread runs, it waits for that, 20 milliseconds at most;
+    /// for a consumer whose sink stands still once.
     pub fn wait_at_most(mut self, patience: Duration) -> Builder {
         self.patience = patience;
         self
@@ -170,6 +175,7 @@ impl Builder {
     /// # Errors
     ///
     /// [`BuildError`]: a size that is out of range, no memory, or no thread.
+    #[must_use = "the layer ends where its guard is dropped: keep it, as in `let (layer, guard) = ..`, not `_`"]
     pub fn build<K: Sink + 'static>(self, sink: K) -> Result<(DspecLayer, Guard<K>), BuildError> {
         let count = self.sessions().0;
         if count as usize > path_id::SESSIONS {

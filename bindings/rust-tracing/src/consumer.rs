@@ -1,7 +1,8 @@
 //! The consumer's thread: it makes the services of all lanes, takes their batches, and puts paths together.
 
+use crate::exit;
 use crate::lanes::{Kept, Told};
-use crate::layer::Core;
+use crate::layer::{Core, DROPPED, FINISHED};
 use crate::otlp::mixed;
 use crate::path_id::PathId;
 use crate::schema::{CLOSE, ENTER, EVENT, EXIT, HEAD, MORE, OPEN, SET};
@@ -9,9 +10,10 @@ use crate::sink::{Kind, Line, Missed, Path, Sink};
 use crate::values::{read, Held};
 use dspec::{Batch, Consumer, Record, Session};
 use std::collections::{HashMap, VecDeque};
+use std::fmt;
 use std::hash::{BuildHasher, RandomState};
 use std::io;
-use std::sync::atomic::{AtomicBool, Ordering};
+use std::sync::atomic::Ordering;
 use std::sync::Arc;
 use std::thread::{self, JoinHandle};
 use tracing_core::{dispatcher, Dispatch, Metadata};
@@ -31,6 +33,8 @@ pub struct Report {
     pub missed: u64,
     /// Those of them that would have been kept.
     pub wanted: u64,
+    /// Paths that were open when the layer ended, and were thrown away. One that failed, was asked for or was slow by then is kept.
+    pub open: u64,
     /// Records of kept paths that had no room among their path's bytes.
     pub cut: u64,
     /// Records of kept paths that had no room in the stream. It is `sum.lost`.
@@ -61,26 +65,34 @@ impl Report {
 }
 
 /// Ends the layer when it is dropped, or by [`Guard::finish`]: what is recorded later is counted as late, and lost.
-#[derive(Debug)]
 #[must_use = "the layer ends where its guard is dropped"]
 pub struct Guard<K: Sink> {
-    stop: Arc<AtomicBool>,
+    core: Arc<Core>,
     thread: Option<JoinHandle<(K, Report)>>,
 }
 
+impl<K: Sink> fmt::Debug for Guard<K> {
+    fn fmt(&self, f: &mut fmt::Formatter<'_>) -> fmt::Result {
+        f.debug_struct("Guard").finish_non_exhaustive()
+    }
+}
+
 impl<K: Sink> Guard<K> {
-    /// Ends the layer, and gives back the sink, which has all that was kept. Paths that are open are thrown away.
+    /// Ends the layer, and gives back the sink, which has all that was kept. A path that is open is decided as if it ended now; one that is kept has
+    /// [`Path::open`].
     ///
     /// # Panics
     ///
     /// Where the sink panicked.
     #[allow(clippy::must_use_candidate)] // what is ended need not be looked at
     pub fn finish(mut self) -> (K, Report) {
-        self.end().expect("the thread is joined once")
+        self.end(FINISHED).expect("the thread is joined once")
     }
 
-    fn end(&mut self) -> Option<(K, Report)> {
-        self.stop.store(true, Ordering::Release);
+    fn end(&mut self, how: u8) -> Option<(K, Report)> {
+        if self.core.runs() {
+            self.core.ended.store(how, Ordering::Release);
+        }
         let thread = self.thread.take()?;
         thread.thread().unpark();
         match thread.join() {
@@ -93,26 +105,35 @@ impl<K: Sink> Guard<K> {
 
 impl<K: Sink> Drop for Guard<K> {
     fn drop(&mut self) {
-        self.end();
+        self.end(DROPPED);
     }
 }
 
 pub(crate) fn start<K: Sink + 'static>(mut sessions: Vec<Session>, core: Arc<Core>, sink: K) -> Result<Guard<K>, crate::BuildError> {
     let consumers = sessions.iter_mut().map(Session::consumer).collect::<Result<_, _>>()?;
-    let stop = Arc::new(AtomicBool::new(false));
-    let told = stop.clone();
+    let ends = core.clone();
     let run = move || {
         let visits = vec![0; core.lanes.count()];
         // The thread is set once, as there is one consumer.
         let _ = core.consumer.set(thread::current());
         let seed = mixed(RandomState::new().hash_one(core.unix));
-        let paths =
-            Paths { core, sink, lines: HashMap::new(), ended: VecDeque::new(), visits, seed, handed: false, report: Report::default() };
+        let paths = Paths {
+            core,
+            sink,
+            lines: HashMap::new(),
+            ended: VecDeque::new(),
+            visits,
+            seed,
+            full: false,
+            handed: false,
+            report: Report::default(),
+        };
         // What a sink traces isn't traced.
-        dispatcher::with_default(&Dispatch::none(), || paths.run(sessions, consumers, &told))
+        dispatcher::with_default(&Dispatch::none(), || paths.run(sessions, consumers))
     };
     let thread = thread::Builder::new().name("dspec".to_owned()).spawn(run)?;
-    Ok(Guard { stop, thread: Some(thread) })
+    exit::watch(&ends);
+    Ok(Guard { core: ends, thread: Some(thread) })
 }
 
 /// A path that was committed, and how often each lane had been visited when the consumer learnt of it.
@@ -137,6 +158,8 @@ struct Paths<K> {
     /// How often each lane was visited.
     visits: Vec<u64>,
     seed: u64,
+    /// Whether the sink was told that a path found no slot.
+    full: bool,
     /// Whether the sink got something since its last flush.
     handed: bool,
     report: Report,
@@ -147,10 +170,10 @@ struct Paths<K> {
 const VISITS: u64 = 3;
 
 impl<K: Sink> Paths<K> {
-    fn run(mut self, sessions: Vec<Session>, mut consumers: Vec<Consumer>, stop: &AtomicBool) -> (K, Report) {
+    fn run(mut self, sessions: Vec<Session>, mut consumers: Vec<Consumer>) -> (K, Report) {
         let (shortest, longest) = (self.core.options.pause, self.core.options.longest_pause);
         let mut rest = shortest;
-        while !stop.load(Ordering::Acquire) {
+        while self.core.runs() {
             self.core.idle.store(false, Ordering::Release);
             let busy = self.round(&mut consumers);
             rest = if busy { shortest } else { (2 * rest).min(longest) };
@@ -159,6 +182,7 @@ impl<K: Sink> Paths<K> {
         }
         let lanes = self.core.lanes.count();
         let core = self.core.clone();
+        core.decide_open();
         let told: Vec<_> = (0..lanes).map(|number| core.lanes.awaited(number).end()).collect();
         for told in told {
             self.told(told);
@@ -181,6 +205,7 @@ impl<K: Sink> Paths<K> {
         self.report.stray = self.lines.values().map(|came| came.records).sum();
         self.report.wanted = self.core.wanted.load(Ordering::Relaxed);
         self.report.missed = self.core.missed.load(Ordering::Relaxed);
+        self.report.open = self.core.unended.load(Ordering::Relaxed);
         self.report.late = self.core.lanes.late.load(Ordering::Relaxed);
         self.report.moved = self.core.lanes.moved.load(Ordering::Relaxed);
         (self.sink, self.report)
@@ -217,11 +242,17 @@ impl<K: Sink> Paths<K> {
             busy |= consumer.clean() > 0;
         }
         self.hand_on(false);
+        if !self.full && self.core.missed.load(Ordering::Relaxed) > 0 {
+            self.full = true;
+            let answer = self.sink.full(self.core.options.open());
+            self.answered(answer);
+        }
         if std::mem::take(&mut self.handed) {
             let answer = self.sink.flush();
             self.answered(answer);
         }
         self.report.rounds += 1;
+        self.core.stuck.store(false, Ordering::Relaxed);
         busy || !self.ended.is_empty() || self.report.taken > taken
     }
 
@@ -275,6 +306,7 @@ impl<K: Sink> Paths<K> {
             begun_unix: self.core.unix.wrapping_add(kept.begun),
             nanoseconds: kept.took,
             why: kept.why,
+            open: kept.open,
             cut: kept.cut,
             lost,
             lines,

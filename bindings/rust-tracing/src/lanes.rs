@@ -28,6 +28,8 @@ pub(crate) struct Kept {
     pub(crate) begun: u64,
     pub(crate) took: u64,
     pub(crate) why: Why,
+    /// Whether it was open where the layer ended.
+    pub(crate) open: bool,
     /// Records that stood in speculative buffers, and those that stand in the stream behind the commit.
     pub(crate) records: u64,
     /// Records that had no room in speculative buffers.

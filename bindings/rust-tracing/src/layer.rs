@@ -9,7 +9,7 @@ use crate::values::{Gathering, Held, Values};
 use dspec::{Cpu, Epid, Error, Opening, Spoken};
 use std::cell::{Cell, RefCell};
 use std::collections::HashMap;
-use std::sync::atomic::{AtomicBool, AtomicU32, AtomicU64, Ordering};
+use std::sync::atomic::{AtomicBool, AtomicU32, AtomicU64, AtomicU8, Ordering};
 use std::sync::{Arc, Mutex, MutexGuard, OnceLock, PoisonError};
 use std::thread::{self, Thread};
 use std::time::{Duration, Instant, SystemTime};
@@ -45,6 +45,9 @@ struct State {
     why: Why,
     /// The first ERROR.
     held: Option<Box<Held>>,
+    /// Of a path without a slot: when it began, and the callsite of its span.
+    begun: u64,
+    callsite: u32,
 }
 
 /// On cache lines of its own.
@@ -57,9 +60,28 @@ struct Slot {
     spans: AtomicU32,
     records: AtomicU64,
     cut: AtomicU64,
+    /// The last path that was opened here, when it began, and the callsite of its span.
+    path: AtomicU64,
+    begun: AtomicU64,
+    callsite: AtomicU32,
 }
 
 impl Slot {
+    fn begins(&self, path: PathId, begun: u64, callsite: u32) {
+        self.begun.store(begun, Ordering::Relaxed);
+        self.callsite.store(callsite, Ordering::Relaxed);
+        self.path.store(path.raw(), Ordering::Release);
+    }
+
+    /// The path that is open here, by its own span.
+    fn open(&self, layer: u32) -> Option<Here> {
+        let closed = locked(&self.state).closed;
+        let path = PathId::from_raw(self.path.load(Ordering::Acquire));
+        let place = Place { path, span: 1, layer };
+        let (begun, callsite) = (self.begun.load(Ordering::Relaxed), self.callsite.load(Ordering::Relaxed));
+        (path > closed).then_some(Here { place, root: true, begun, callsite })
+    }
+
     /// A record of the open path was kept.
     #[inline]
     fn kept(&self) {
@@ -73,6 +95,11 @@ const SPANS: usize = 16;
 /// Locks among which the paths without a slot are divided.
 const PARTS: usize = 16;
 
+/// Where the layer stands: its guard is there, or called `finish`, or was dropped.
+const RUNS: u8 = 0;
+pub(crate) const FINISHED: u8 = 1;
+pub(crate) const DROPPED: u8 = 2;
+
 #[derive(Debug)]
 pub(crate) struct Core {
     pub(crate) lanes: Lanes,
@@ -83,6 +110,14 @@ pub(crate) struct Core {
     pub(crate) wanted: AtomicU64,
     /// Numbers of paths without a slot.
     slotless_paths: AtomicU64,
+    /// Paths with a slot that aren't decided yet.
+    undecided: AtomicU32,
+    /// Whether a path waited for the consumer in vain, and the consumer has made no round since.
+    pub(crate) stuck: AtomicBool,
+    /// Those that were open when the layer ended, and wouldn't have been kept.
+    pub(crate) unended: AtomicU64,
+    /// [`RUNS`], [`FINISHED`] or [`DROPPED`].
+    pub(crate) ended: AtomicU8,
     /// How many paths were opened since the consumer's last round.
     pub(crate) opened: AtomicU32,
     /// Whether the consumer takes a long rest.
@@ -131,13 +166,25 @@ impl Core {
         }
     }
 
+    pub(crate) fn runs(&self) -> bool {
+        self.ended.load(Ordering::Acquire) == RUNS
+    }
+
+    /// How long a path may wait for a slot by now. Where not all slots are of paths that are open, the consumer frees some as soon as its thread
+    /// runs; a consumer that is stuck, in a sink say, is waited for once.
+    fn patience(&self) -> Duration {
+        let all = self.undecided.load(Ordering::Relaxed) >= self.options.open();
+        let waits = !all && !self.stuck.load(Ordering::Relaxed);
+        self.options.patience.max(if waits { self.options.freeing } else { Duration::ZERO })
+    }
+
     /// The identifier of a new path, none where the sessions have ended. Where all slots are taken, it is tried again while there is patience.
-    fn open(&self) -> PathId {
+    fn open(&self, begun: u64, callsite: u32) -> PathId {
         // In time for what is left, the consumer frees the slots of paths that were decided.
         if self.opened.fetch_add(1, Ordering::Relaxed) + 1 == (self.options.open() / 8).max(1) {
             self.wake();
         }
-        let mut begun = None;
+        let mut waits = None;
         loop {
             let first = self.session.load(Ordering::Relaxed);
             for further in 0..self.sessions {
@@ -148,21 +195,26 @@ impl Core {
                     if further > 0 {
                         self.session.store(session, Ordering::Relaxed);
                     }
-                    return PathId::of(session as usize, id);
+                    let path = PathId::of(session as usize, id);
+                    self.undecided.fetch_add(1, Ordering::Relaxed);
+                    self.slots[path.place()].begins(path, begun, callsite);
+                    return path;
                 }
             }
             self.wake();
-            if begun.get_or_insert_with(Instant::now).elapsed() >= self.options.patience {
-                return self.open_without_slot();
+            if waits.get_or_insert_with(Instant::now).elapsed() >= self.patience() {
+                let all = self.undecided.load(Ordering::Relaxed) >= self.options.open();
+                self.stuck.fetch_or(!all, Ordering::Relaxed);
+                return self.open_without_slot(begun, callsite);
             }
             thread::sleep(Duration::from_micros(20));
         }
     }
 
-    fn open_without_slot(&self) -> PathId {
+    fn open_without_slot(&self, begun: u64, callsite: u32) -> PathId {
         self.missed.fetch_add(1, Ordering::Relaxed);
         let path = PathId::without_slot(self.slotless_paths.fetch_add(1, Ordering::Relaxed) + 1);
-        locked(self.part(path)).insert(path, State { path, ..State::default() });
+        locked(self.part(path)).insert(path, State { path, begun, callsite, ..State::default() });
         path
     }
 
@@ -205,19 +257,18 @@ impl Core {
         holds
     }
 
-    /// Nothing is noted of the path from now on. What was.
-    fn close(&self, path: PathId) -> (Why, Option<Box<Held>>) {
+    /// Nothing is noted of the path from now on. What was; none where that was asked before.
+    fn close(&self, path: PathId) -> Option<(Why, Option<Box<Held>>)> {
         if !path.has_slot() {
-            let state = locked(self.part(path)).remove(&path);
-            return (state.map(|state| state.why).unwrap_or_default(), None);
+            return locked(self.part(path)).remove(&path).map(|state| (state.why, None));
         }
         let mut state = locked(&self.slots[path.place()].state);
-        let noted = std::mem::replace(&mut *state, State { path, closed: path, ..State::default() });
-        if noted.path == path {
-            (noted.why, noted.held)
-        } else {
-            (Why::default(), None)
+        if state.closed >= path {
+            return None;
         }
+        let noted = std::mem::replace(&mut *state, State { path, closed: path, ..State::default() });
+        self.undecided.fetch_sub(1, Ordering::Relaxed);
+        Some(if noted.path == path { (noted.why, noted.held) } else { (Why::default(), None) })
     }
 
     /// The number of a new span.
@@ -297,11 +348,26 @@ impl Core {
         }
     }
 
-    /// The path has ended: it is kept or thrown away.
-    fn decide(&self, here: &Here, stamp: u64) {
+    /// The layer ends: each path that is open is kept or thrown away as if it ended now.
+    pub(crate) fn decide_open(&self) {
+        let stamp = self.now();
+        for here in self.slots.iter().filter_map(|slot| slot.open(self.layer)) {
+            self.decide(&here, stamp, true);
+        }
+        for part in &self.slotless {
+            let open: Vec<_> = locked(part).iter().map(|(path, state)| (*path, state.begun, state.callsite)).collect();
+            for (path, begun, callsite) in open {
+                let place = Place { path, span: 1, layer: self.layer };
+                self.decide(&Here { place, root: true, begun, callsite }, stamp, true);
+            }
+        }
+    }
+
+    /// The path has ended, or is open where the layer ends: it is kept or thrown away.
+    fn decide(&self, here: &Here, stamp: u64, open: bool) {
         let Place { path, span, .. } = here.place;
         let took = stamp.saturating_sub(here.begun);
-        let (mut why, held) = self.close(path);
+        let Some((mut why, held)) = self.close(path) else { return };
         why.slow = self.options.slow.is_some_and(|slow| took > nanoseconds(slow));
         let kept = why != Why::default();
         self.lanes.on_one(|lane| {
@@ -318,10 +384,13 @@ impl Core {
             if !kept || behind {
                 lane.discard(path);
                 self.missed.fetch_add(u64::from(kept), Ordering::Relaxed);
+                self.unended.fetch_add(u64::from(open && !kept), Ordering::Relaxed);
                 return;
             }
             // Of a path that is thrown away nobody asks when it ended.
-            self.offer(lane, path, CLOSE, stamp, &[path.raw(), span.into()]);
+            if !open {
+                self.offer(lane, path, CLOSE, stamp, &[path.raw(), span.into()]);
+            }
             let slot = &self.slots[path.place()];
             let (records, cut) = (slot.records.load(Ordering::Relaxed), slot.cut.load(Ordering::Relaxed));
             lane.commit(path);
@@ -334,7 +403,7 @@ impl Core {
                 (!whole).then_some(held)
             });
             let records = records + lane.traced - before;
-            lane.told.kept.push(Kept { path, callsite: here.callsite, begun: here.begun, took, why, records, cut, held });
+            lane.told.kept.push(Kept { path, callsite: here.callsite, begun: here.begun, took, why, open, records, cut, held });
         });
         if kept {
             self.wake_from_rest();
@@ -366,6 +435,10 @@ impl DspecLayer {
             missed: AtomicU64::new(0),
             wanted: AtomicU64::new(0),
             slotless_paths: AtomicU64::new(0),
+            undecided: AtomicU32::new(0),
+            stuck: AtomicBool::new(false),
+            unended: AtomicU64::new(0),
+            ended: AtomicU8::new(RUNS),
             opened: AtomicU32::new(0),
             idle: AtomicBool::new(false),
             consumer: OnceLock::new(),
@@ -451,7 +524,7 @@ where
                 Paths::EveryRoot => parent.span == 0,
                 Paths::Marked => metadata.fields().field("dspec.path").is_some(),
             };
-        let path = if root { core.open() } else { parent.path };
+        let path = if root { core.open(stamp, gathering.values.callsite()) } else { parent.path };
         let place = Place { path, span: core.span(path, root), layer: core.layer };
         if core.records(path) {
             gathering.values.parent(if root { 0 } else { parent.span });
@@ -543,7 +616,7 @@ where
         let Some(here) = taken.or_else(|| self.here_in_registry(&id, &ctx)) else { return };
         let stamp = self.core.now();
         if here.root {
-            self.core.decide(&here, stamp);
+            self.core.decide(&here, stamp, false);
         } else {
             self.core.put(here.place.path, CLOSE, stamp, here.place.span);
         }
@@ -556,7 +629,9 @@ mod tests {
     use crate::{each, Builder, Guard, Sink};
     use std::sync::mpsc::channel;
     use std::sync::Arc;
-    use tracing::{error, info, info_span};
+    use std::thread;
+    use std::time::{Duration, Instant};
+    use tracing::{dispatcher, error, info, info_span};
     use tracing_subscriber::prelude::*;
 
     /// Runs work under a layer, and answers all texts that its tables have then.
@@ -593,15 +668,79 @@ mod tests {
         }
     }
 
+    /// Requests, of which each sixth fails. Each goes through a second thread, on another lane: so its slot is taken until the consumer was there.
+    fn requests(count: u64) {
+        for request in 0..count {
+            let span = info_span!("request", request);
+            thread::scope(|scope| {
+                let subscriber = dispatcher::get_default(Clone::clone);
+                let span = &span;
+                scope.spawn(move || dispatcher::with_default(&subscriber, || span.in_scope(|| info!("in the second thread"))));
+            });
+            span.in_scope(|| if request % 6 == 0 { error!("bad") } else { info!("good") });
+        }
+    }
+
+    /// How many of fifty failing requests are missed, where a path may wait so long for the consumer, to which each kept path costs a millisecond.
+    fn missed_of_fifty(freeing: Duration) -> u64 {
+        let mut builder = Builder::new().lanes(2).paths_at_once(4);
+        builder.freeing = freeing;
+        let (layer, guard) = builder.build(each(|_| thread::sleep(Duration::from_millis(1)))).unwrap();
+        tracing::subscriber::with_default(tracing_subscriber::registry().with(layer), || requests(300));
+        let (_, report) = guard.finish();
+        assert!(report.balances() && report.paths + report.wanted == 50, "{report:?}");
+        report.wanted
+    }
+
+    #[test]
+    fn a_path_waits_for_the_consumer_alone() {
+        assert_eq!(missed_of_fifty(Duration::from_secs(60)), 0);
+        assert!(missed_of_fifty(Duration::ZERO) > 0);
+        // Open paths aren't waited for.
+        let mut builder = Builder::new().paths_at_once(1);
+        builder.freeing = Duration::from_secs(60);
+        let (layer, guard) = builder.build(each(|_| ())).unwrap();
+        let open = [layer.core.open(0, 0), layer.core.open(0, 0)];
+        assert!(open[0].has_slot() && !open[1].has_slot());
+        drop(guard);
+    }
+
+    /// A sink that stands still costs one wait, not one a path.
+    #[test]
+    fn a_consumer_that_is_stuck_is_waited_for_once() {
+        let mut builder = Builder::new().lanes(2).paths_at_once(4);
+        builder.freeing = Duration::from_millis(300);
+        let (go, stands) = channel::<()>();
+        let (send, stood) = channel();
+        let stands = std::sync::Mutex::new(stands);
+        let stand = move |_: &crate::Path| {
+            send.send(()).unwrap();
+            // Nothing is sent.
+            assert!(stands.lock().unwrap().recv().is_err());
+        };
+        let (layer, guard) = builder.build(each(stand)).unwrap();
+        let begun = Instant::now();
+        tracing::subscriber::with_default(tracing_subscriber::registry().with(layer), || {
+            requests(1);
+            stood.recv().unwrap();
+            requests(100);
+        });
+        // Some ninety paths wait where each of them does.
+        assert!(begun.elapsed() < Duration::from_secs(10), "{:?}", begun.elapsed());
+        drop(go);
+        let (_, report) = guard.finish();
+        assert!(report.missed > 50 && report.paths + report.wanted == 18, "{report:?}");
+    }
+
     #[test]
     fn a_note_of_a_decided_path_is_refused() {
         let (layer, guard) = Builder::new().build(each(|_| ())).unwrap();
         let core = Arc::clone(&layer.core);
-        for path in [core.open(), core.open_without_slot()] {
+        for path in [core.open(0, 0), core.open_without_slot(0, 0)] {
             assert!(core.note(path, |state| state.why.failed = true));
-            assert!(core.close(path).0.failed);
+            assert!(core.close(path).unwrap().0.failed);
             assert!(!core.note(path, |state| state.why.failed = true));
-            assert!(!core.close(path).0.failed);
+            assert!(core.close(path).is_none());
         }
         drop(guard);
     }

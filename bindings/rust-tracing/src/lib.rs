@@ -2,8 +2,8 @@
 //!
 //! A span that is a *path* (each root span, or each with a field `dspec.path`) is recorded with all that happens inside it, at every level and on any
 //! thread. When it closes it is kept if it failed (an event of level ERROR in it), was slow, panicked, or was asked for ([`keep`], or a field
-//! `dspec.keep = true`). Else it is thrown away, and no byte of it gets to a [`Sink`]. One thread, the consumer's, hands on what is kept. No traced
-//! thread waits for it, and each record is accounted for in the [`Report`].
+//! `dspec.keep = true`). Else it is thrown away, and no byte of it gets to a [`Sink`]. One thread, the consumer's, hands on what is kept. No record
+//! waits for it, and each is accounted for in the [`Report`].
 //!
 //! ```
 //! use tracing_dspec::{Builder, Text};
@@ -49,6 +49,7 @@ mod callsites;
 mod chrome;
 mod consumer;
 mod ctf;
+mod exit;
 mod json;
 mod lanes;
 mod layer;

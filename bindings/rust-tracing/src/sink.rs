@@ -185,6 +185,8 @@ pub struct Path {
     pub nanoseconds: u64,
     /// Why it was kept.
     pub why: Why,
+    /// Whether it was open still when the layer ended: it goes as far as it had come by then.
+    pub open: bool,
     /// Records that had no room among the path's bytes.
     pub cut: u64,
     /// Records that had no room in the stream when the path was committed.
@@ -304,6 +306,17 @@ pub trait Sink: Send {
         Ok(())
     }
 
+    /// As many paths are open at once as may be, and one more wasn't recorded. It is told once, with their number; a span that is never
+    /// closed holds its place for good.
+    ///
+    /// # Errors
+    ///
+    /// As [`Sink::path`].
+    fn full(&mut self, open: u32) -> io::Result<()> {
+        let _ = open;
+        Ok(())
+    }
+
     /// Behind each round in which something was handed on, and at the end.
     ///
     /// # Errors
@@ -364,6 +377,9 @@ macro_rules! sinks_of_tuple {
             }
             fn missed(&mut self, missed: &Missed) -> io::Result<()> {
                 in_turn!($(self.$place.missed(missed)),*)
+            }
+            fn full(&mut self, open: u32) -> io::Result<()> {
+                in_turn!($(self.$place.full(open)),*)
             }
             fn flush(&mut self) -> io::Result<()> {
                 in_turn!($(self.$place.flush()),*)

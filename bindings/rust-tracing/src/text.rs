@@ -1,6 +1,7 @@
 use crate::sink::{Kind, Line, Missed, Path, Sink};
 use std::collections::HashMap;
 use std::io::{self, Write};
+use tracing_core::Level;
 
 /// Prints paths as text, a line each thing that happened: microseconds since the path began, what, its fields, and the lane.
 #[derive(Debug)]
@@ -10,12 +11,12 @@ pub struct Text<W> {
 }
 
 impl<W: Write + Send> Text<W> {
-    /// Prints kept paths, and a line for each that was missed.
+    /// Prints kept paths, a line for each that was missed, and each event of level ERROR outside of paths, with its microseconds of the layer's clock.
     pub fn new(out: W) -> Text<W> {
         Text { out, outside: false }
     }
 
-    /// Prints what happened outside of paths too; its microseconds are of the layer's clock.
+    /// Prints all that happened outside of paths.
     #[must_use]
     pub fn with_outside(mut self) -> Text<W> {
         self.outside = true;
@@ -57,7 +58,8 @@ impl<W: Write + Send> Text<W> {
 impl<W: Write + Send> Sink for Text<W> {
     fn path(&mut self, path: &Path) -> io::Result<()> {
         let took = path.nanoseconds;
-        writeln!(self.out, "{} {} took {}.{:03} us: {}", path.name(), path.id, took / 1000, took % 1000, path.why)?;
+        let open = if path.open { ", open still" } else { "" };
+        writeln!(self.out, "{} {} took {}.{:03} us: {}{open}", path.name(), path.id, took / 1000, took % 1000, path.why)?;
         let mut depths = HashMap::from([(0, 0)]);
         for line in &path.lines {
             let depth = match line.kind {
@@ -78,7 +80,8 @@ impl<W: Write + Send> Sink for Text<W> {
     }
 
     fn outside(&mut self, line: &Line) -> io::Result<()> {
-        if self.outside {
+        let failure = line.kind == Kind::Event && line.metadata.is_some_and(|metadata| *metadata.level() == Level::ERROR);
+        if self.outside || failure {
             self.line(line, 0, 0)?;
         }
         Ok(())
@@ -87,6 +90,10 @@ impl<W: Write + Send> Sink for Text<W> {
     fn missed(&mut self, missed: &Missed) -> io::Result<()> {
         let (name, took) = (missed.metadata.map_or("?", |metadata| metadata.name()), missed.nanoseconds);
         writeln!(self.out, "{name} missed, no path was free, took {}.{:03} us: {}", took / 1000, took % 1000, missed.why)
+    }
+
+    fn full(&mut self, open: u32) -> io::Result<()> {
+        writeln!(self.out, "{open} paths are open, as many as may be: others aren't recorded until one of them ends (told once)")
     }
 
     fn flush(&mut self) -> io::Result<()> {

@@ -117,6 +117,39 @@ fn ten_thousand_requests_in_sixteen_sessions() {
     runs("requests, 1008 at once", || ten_thousand(1008));
 }
 
+/// Each fifth of these requests fails. They come as fast as they can, but no more are open at once than may be: each is kept, or, where the consumer got no
+/// processor for so long, told as missed.
+fn starved(threads: u64, lanes: u32, at_once: u32) -> String {
+    const REQUESTS: u64 = 400;
+    let (dispatch, guard) = made(Builder::new().lanes(lanes).paths_at_once(at_once));
+    thread::scope(|scope| {
+        for thread in 0..threads {
+            let dispatch = dispatch.clone();
+            scope.spawn(move || {
+                let _default = tracing::dispatcher::set_default(&dispatch);
+                for number in 0..REQUESTS / threads {
+                    let request = threads * number + thread;
+                    info_span!(parent: None, "request", request).in_scope(|| {
+                        (0..3u64).for_each(|step| info!(step, "stepped"));
+                        if number % 5 == 0 {
+                            error!("failed");
+                        }
+                    });
+                }
+            });
+        }
+    });
+    let (all, report) = finished(guard);
+    assert_eq!(requests(&all.paths).len() as u64 + report.wanted, REQUESTS / 5);
+    counts(&all.paths, &report)
+}
+
+#[test]
+fn requests_as_fast_as_they_come() {
+    runs("one at a time, 8 at once", || starved(1, 8, 8));
+    runs("eight threads over three lanes, 10 at once", || starved(8, 3, 10));
+}
+
 /// More paths open than there are slots, and none waits: each that failed is kept, or told as missed.
 fn more_than_slots() -> String {
     const REQUESTS: u64 = 4000;

@@ -264,7 +264,7 @@ fn behind_the_end() {
         let open = info_span!("request", request = 1u64);
         open.in_scope(|| error!("bad"));
         let (all, report) = finished(guard);
-        assert_eq!((all.paths.len(), report.sum.held), (0, 1));
+        assert_eq!((all.paths.len(), report.sum.held), (1, 0));
         open.in_scope(|| info!("late"));
         drop(open);
         info_span!("request", request = 2u64).in_scope(|| error!("bad"));

@@ -65,6 +65,7 @@ mod error;
 mod handle;
 mod path;
 mod probe;
+mod process;
 mod raw;
 mod schema;
 mod session;
@@ -81,6 +82,8 @@ pub use ctf_names::{CtfIdentity, CtfNames};
 pub use error::Error;
 pub use path::Path;
 pub use probe::{Field, Fields, Probe};
+#[doc(hidden)]
+pub use process::at_exit;
 pub use schema::{Schema, Width};
 pub use session::{Config, NotHome, Policy, Session};
 
