@@ -34,12 +34,12 @@ function unparameterised(text, at, level, letter) {
     return text
 }
 
-# Prints a paragraph of a list in lines of at most 120 bytes; a word is never split.
+# Prints a paragraph of a list in lines of at most 100 bytes; a word is never split.
 function put(first, rest, text, count, words, i, line) {
     count = split(text, words, " ")
     line = first
     for (i = 1; i <= count; i++) {
-        if (length(line) + length(words[i]) > 120 && line != first && line != rest) { print line; line = rest }
+        if (length(line) + length(words[i]) > 100 && line != first && line != rest) { print line; line = rest }
         line = line (line == first || line == rest ? "" : " ") words[i]
     }
     print line
