@@ -12,7 +12,8 @@ const MAGIC: u32 = 0xc1fc_1fc1;
 /// Writes a folder of the Common Trace Format, version 1.8, which babeltrace2 and Trace Compass open. By time: a stamp is in nanoseconds, and readers
 /// tell it as the time of day.
 ///
-/// The folder has a text `metadata` and files `stream_0`, `stream_1`, .. The packets of a file rise in time, and a path is one packet. So a path goes
+/// The folder has a text `metadata` and files `stream_0`, `stream_1`, .. The packets of a file rise in time, and a path has packets of its own, each a
+/// page of 4,096 bytes, so that a process that is killed leaves whole packets; an event that is longer has as many pages as it needs. A path goes
 /// to the file whose last stamp is the greatest not above the path's first; where there is none, to a new file. 64 paths that overlap have files; one
 /// more is not written, which is a failure of [`Sink::path`].
 ///
@@ -137,30 +138,37 @@ impl Ctf {
         let first = events.first().map_or(path.begun, |event| event.stamp.min(path.begun));
         let last = events.last().map_or(first, |event| event.stamp.max(first));
         self.offset.get_or_insert(path.begun_unix.wrapping_sub(path.begun).cast_signed());
-        let mut bytes = Vec::new();
-        self.put_path(&mut bytes, path, first);
+        let mut pieces = vec![(first, self.path_event(path, first))];
         for event in &events {
             let number = self.classes.number(event);
-            put_event(&mut bytes, path, number, event);
+            pieces.push((event.stamp.max(first), event_bytes(path, number, event)));
         }
         self.tell()?;
         let uuid = self.uuid;
         let row = self.row(first)?;
         let row = &mut self.rows[row];
         let discarded = row.discarded + path.cut + path.lost;
-        row.append(&packet(uuid, first, last, discarded, &bytes)).map_err(|error| of(&row.place, &error))?;
+        // Readers tell how many were discarded since the packet before, so a file that begins with such a packet has one without events in front.
+        let mut packets = Vec::new();
+        if row.length == 0 && discarded > 0 {
+            put_packet(&mut packets, uuid, 0, &[(first, Vec::new())]);
+        }
+        put_packets(&mut packets, uuid, discarded, &pieces);
+        row.append(&packets).map_err(|error| of(&row.place, &error))?;
         row.last = last;
         row.discarded = discarded;
         Ok(())
     }
 
-    fn put_path(&self, bytes: &mut Vec<u8>, path: &Path, stamp: u64) {
-        put_header(bytes, path, PATH, stamp, 1, 0);
-        put_text(bytes, path.name());
-        put_text(bytes, &path.why.to_string());
+    fn path_event(&self, path: &Path, stamp: u64) -> Vec<u8> {
+        let mut bytes = Vec::new();
+        put_header(&mut bytes, path, PATH, stamp, 1, 0);
+        put_text(&mut bytes, path.name());
+        put_text(&mut bytes, &path.why.to_string());
         for count in [path.nanoseconds, path.cut, path.lost, self.missed, self.unwritten] {
             bytes.extend(count.to_le_bytes());
         }
+        bytes
     }
 }
 
@@ -187,19 +195,19 @@ impl Sink for Ctf {
 }
 
 impl Row {
-    /// Writes a packet, whole or not at all.
-    fn append(&mut self, packet: &[u8]) -> io::Result<()> {
+    /// Writes packets, whole or not at all.
+    fn append(&mut self, packets: &[u8]) -> io::Result<()> {
         if self.torn {
             self.cut_back()?;
         }
-        if let Err(error) = self.file.write_all(packet) {
+        if let Err(error) = self.file.write_all(packets) {
             self.torn = true;
             return match self.cut_back() {
                 Ok(()) => Err(error),
                 Err(stays) => Err(io::Error::new(error.kind(), format!("{error}; and a part of a packet stays: {stays}"))),
             };
         }
-        self.length += packet.len() as u64;
+        self.length += packets.len() as u64;
         Ok(())
     }
 
@@ -268,18 +276,41 @@ fn last_of_each<'p>(values: &[(&'static str, &'p Value)]) -> Vec<(&'static str, 
     values.iter().enumerate().filter(alone).map(|(_, value)| *value).collect()
 }
 
-fn packet(uuid: [u8; 16], first: u64, last: u64, discarded: u64, events: &[u8]) -> Vec<u8> {
-    const FRONT: usize = 4 + 16 + 4 + 5 * 8;
-    let mut bytes = Vec::with_capacity(FRONT + events.len());
-    bytes.extend(MAGIC.to_le_bytes());
-    bytes.extend(uuid);
-    bytes.extend(0u32.to_le_bytes());
-    let bits = 8 * (FRONT + events.len()) as u64;
-    for word in [first, last, bits, bits, discarded] {
-        bytes.extend(word.to_le_bytes());
+/// How many bytes stand before a packet's events.
+const FRONT: usize = 4 + 16 + 4 + 5 * 8;
+
+/// A page of a file. A write that a kill cuts off is cut off behind a whole page, so a packet that is one page is there or not.
+const PAGE: usize = 4096;
+
+/// Adds a packet of these events, each with its stamp, and zeros up to the end of its last page.
+fn put_packet(out: &mut Vec<u8>, uuid: [u8; 16], discarded: u64, events: &[(u64, Vec<u8>)]) {
+    let content = FRONT + events.iter().map(|event| event.1.len()).sum::<usize>();
+    let end = out.len() + content.next_multiple_of(PAGE);
+    out.extend(MAGIC.to_le_bytes());
+    out.extend(uuid);
+    out.extend(0u32.to_le_bytes());
+    let stamp = |event: Option<&(u64, Vec<u8>)>| event.map_or(0, |event| event.0);
+    for word in [stamp(events.first()), stamp(events.last()), 8 * content as u64, 8 * (end - out.len() + 24) as u64, discarded] {
+        out.extend(word.to_le_bytes());
     }
-    bytes.extend(events);
-    bytes
+    for event in events {
+        out.extend(&event.1);
+    }
+    out.resize(end, 0);
+}
+
+/// Adds packets of a page each that have these events; an event that is longer than a page has a packet of its own.
+fn put_packets(out: &mut Vec<u8>, uuid: [u8; 16], discarded: u64, mut events: &[(u64, Vec<u8>)]) {
+    while !events.is_empty() {
+        let mut size = FRONT;
+        let fit = events.iter().take_while(|event| {
+            size += event.1.len();
+            size <= PAGE
+        });
+        let (packet, rest) = events.split_at(fit.count().max(1));
+        put_packet(out, uuid, discarded, packet);
+        events = rest;
+    }
 }
 
 fn put_header(bytes: &mut Vec<u8>, path: &Path, class: u32, stamp: u64, span: u32, lane: u32) {
@@ -290,8 +321,9 @@ fn put_header(bytes: &mut Vec<u8>, path: &Path, class: u32, stamp: u64, span: u3
     bytes.extend(lane.to_le_bytes());
 }
 
-fn put_event(bytes: &mut Vec<u8>, path: &Path, class: u32, event: &Event<'_>) {
-    put_header(bytes, path, class, event.stamp, event.span, event.lane);
+fn event_bytes(path: &Path, class: u32, event: &Event<'_>) -> Vec<u8> {
+    let mut bytes = Vec::new();
+    put_header(&mut bytes, path, class, event.stamp, event.span, event.lane);
     if event.kind == Kind::Open {
         bytes.extend(event.parent.to_le_bytes());
     }
@@ -304,9 +336,10 @@ fn put_event(bytes: &mut Vec<u8>, path: &Path, class: u32, event: &Event<'_>) {
             Value::I64(value) => bytes.extend(value.to_le_bytes()),
             Value::Bool(value) => bytes.push(u8::from(*value)),
             Value::F64(value) => bytes.extend(value.to_le_bytes()),
-            Value::Text(..) => put_text(bytes, &value.to_string()),
+            Value::Text(..) => put_text(&mut bytes, &value.to_string()),
         }
     }
+    bytes
 }
 
 fn put_text(bytes: &mut Vec<u8>, text: &str) {

@@ -166,7 +166,8 @@ fn read(folder: &FilePath) -> Trace {
     let mut files = BTreeMap::new();
     for entry in fs::read_dir(folder).unwrap() {
         let name = entry.unwrap().file_name().into_string().unwrap();
-        if name == "metadata" {
+        // A kill may leave the text that was to become the metadata; readers pass over hidden files.
+        if name == "metadata" || name == ".metadata" {
             continue;
         }
         assert!(name.starts_with("stream_"), "{name}");
@@ -186,10 +187,13 @@ fn packets(mut bytes: &[u8], uuid: &str, classes: &[Class]) -> Vec<Packet> {
         let of_packet: String = taken::<16>(&mut bytes).iter().map(|byte| format!("{byte:02x}")).collect();
         assert_eq!((of_packet.as_str(), half(&mut bytes)), (uuid, 0));
         let [begin, end, content, size, discarded] = [(); 5].map(|()| word(&mut bytes));
-        assert_eq!(content, size);
-        assert!(size % 8 == 0 && begin >= last);
-        let mut rest = &bytes[..usize::try_from(size / 8).unwrap() - (whole - bytes.len())];
-        bytes = &bytes[rest.len()..];
+        // Whole pages: events, and zeros behind them.
+        assert!(content % 8 == 0 && content <= size && size % (8 * 4096) == 0 && begin >= last);
+        let front = whole - bytes.len();
+        let (packet, behind) = bytes.split_at(usize::try_from(size / 8).unwrap() - front);
+        let (mut rest, zeros) = packet.split_at(usize::try_from(content / 8).unwrap() - front);
+        assert!(zeros.len() < 4096 && zeros.iter().all(|byte| *byte == 0));
+        bytes = behind;
         let mut events = Vec::new();
         last = begin;
         while !rest.is_empty() {
@@ -201,7 +205,7 @@ fn packets(mut bytes: &[u8], uuid: &str, classes: &[Class]) -> Vec<Packet> {
             let (context, fields) = (values(&class.context), values(&class.fields));
             events.push(Event { name: class.name.clone(), loglevel: class.loglevel.clone(), stamp, path, span, lane, context, fields });
         }
-        assert_eq!((events[0].stamp, last), (begin, end));
+        assert_eq!((events.first().map_or(begin, |event: &Event| event.stamp), last), (begin, end));
         assert!(packets.last().is_none_or(|before| before.discarded <= discarded));
         packets.push(Packet { discarded, events });
     }
@@ -398,7 +402,9 @@ fn a_cut_path_behind_a_missed_one() {
         });
     });
     let trace = read(&folder);
-    let packet = &trace.files["stream_0"][0];
+    // Readers tell the difference of two packets: so one that tells none stands before it.
+    let [before, packet] = &trace.files["stream_0"][..] else { panic!("{trace:?}") };
+    assert_eq!((before.discarded, before.events.len()), (0, 0));
     let (head, last) = (&packet.events[0], packet.events.last().unwrap());
     same(&packet.events.iter().collect::<Vec<_>>(), &all.paths[0]);
     assert!(report.cut >= 19 && packet.discarded == report.cut, "{report:?}");
@@ -467,6 +473,7 @@ fn a_folder_with_something_in_it_is_refused() {
 }
 
 const LIMITED: &str = "TRACING_DSPEC_CTF_LIMITED";
+const KILLED: &str = "TRACING_DSPEC_CTF_KILLED";
 
 /// Runs a test of this file again, with a limit on the size of files, in units of 512 bytes; what it prints.
 fn again(test: &str, units: u32, folder: &FilePath) -> String {
@@ -503,9 +510,45 @@ fn below_a_limit() {
 #[test]
 fn a_failed_write_leaves_whole_packets() {
     let folder = folder("limited");
-    let out = again("below_a_limit", 32, &folder);
+    let out = again("below_a_limit", 162, &folder);
     assert!(out.contains("packets below the limit") && out.contains("test result: ok. 1 passed"), "{out}");
     fs::remove_dir_all(folder).unwrap();
+}
+
+/// What `a_kill_leaves_whole_packets` runs, until it is killed.
+#[test]
+fn until_it_is_killed() {
+    let Some(folder) = env::var_os(KILLED) else { return };
+    let (layer, _guard) = Builder::new().build(Ctf::create(folder).unwrap()).unwrap();
+    tracing::subscriber::with_default(tracing_subscriber::registry().with(layer), || loop {
+        info_span!("request").in_scope(|| {
+            (0..60u64).for_each(|step| info!(step, text = "a text of some length, so that paths are longer than a page", "stepped"));
+            error!("bad");
+        });
+    });
+}
+
+/// A process that is killed at any moment leaves whole packets, of which each file can be read.
+#[test]
+fn a_kill_leaves_whole_packets() {
+    let mut packets = 0;
+    for kill in 0..20u64 {
+        let folder = folder("killed");
+        let mut writer = Command::new(env::current_exe().unwrap());
+        writer.args(["--exact", "until_it_is_killed", "--nocapture"]).env(KILLED, &folder).stdout(std::process::Stdio::null());
+        let mut writer = writer.spawn().unwrap();
+        let begun = std::time::Instant::now();
+        while !folder.join("stream_0").exists() && begun.elapsed().as_secs() < 30 {
+            std::thread::yield_now();
+        }
+        std::thread::sleep(std::time::Duration::from_micros(3000 + 317 * kill));
+        writer.kill().unwrap();
+        writer.wait().unwrap();
+        let trace = read(&folder);
+        packets += trace.files.values().map(Vec::len).sum::<usize>();
+        fs::remove_dir_all(folder).unwrap();
+    }
+    assert!(packets > 20, "{packets}");
 }
 
 /// What `metadata_that_can_not_grow` runs again.
