@@ -421,7 +421,10 @@ public:
     const dspec_loss &last() const noexcept { return folder_->last; }
     /* How many records weren't written so far. */
     std::uint64_t lost() const noexcept { return folder_->lost ? folder_->first.records : 0; }
-    /* Tells what isn't told yet, and closes the files: whether the whole trace is written. No batch is taken behind it. */
+    /* Behind the session's end: writes what was left of each CPU, tells what else its reports count as dropped, specdropped or lost, and closes the files;
+     * whether the whole trace is written. No batch is taken behind it. */
+    bool close(closed &ended) noexcept { return dspec_folder_close(folder_.get(), &layout_, ended.get()); }
+    /* For a trace that no session's end stands behind: tells what isn't told yet, and closes the files. */
     bool end() noexcept { return dspec_folder_end(folder_.get()); }
 };
 
