@@ -82,7 +82,7 @@ DSPEC_INLINE int dspec_folder_write(int file, const uint8_t *bytes, size_t len) 
         if (count < 0) return errno;
         if (count == 0) return EIO;
         bytes += count;
-        len -= (size_t)count;
+        len -= DSPEC_AS(size_t, count);
     }
     return 0;
 }
@@ -92,7 +92,7 @@ DSPEC_INLINE int dspec_folder_write(int file, const uint8_t *bytes, size_t len) 
 DSPEC_INLINE int dspec_folder_keeps(int file, uint64_t size, size_t len) DSPEC_NOEXCEPT {
 #ifdef __linux__
     const int keep_size = 1;
-    while (fallocate(file, keep_size, (off_t)size, (off_t)len + DSPEC_FOLDER_KEPT) != 0) {
+    while (fallocate(file, keep_size, DSPEC_AS(off_t, size), DSPEC_AS(off_t, len) + DSPEC_FOLDER_KEPT) != 0) {
         if (errno == EINTR) continue;
         return errno == ENOSPC || errno == EDQUOT ? errno : 0;
     }
@@ -108,7 +108,7 @@ DSPEC_INLINE int dspec_folder_keeps(int file, uint64_t size, size_t len) DSPEC_N
 DSPEC_INLINE int dspec_folder_open(dspec_folder *folder, const char *name) DSPEC_NOEXCEPT {
     char path[4200];
     int len = snprintf(path, sizeof path, "%s/%s", folder->path, name);
-    if (len < 0 || (size_t)len >= sizeof path) {
+    if (len < 0 || DSPEC_AS(size_t, len) >= sizeof path) {
         errno = ENAMETOOLONG;
         return -1;
     }
@@ -119,12 +119,12 @@ DSPEC_INLINE int dspec_folder_open(dspec_folder *folder, const char *name) DSPEC
 DSPEC_INLINE void dspec_folder_removes(dspec_folder *folder, const char *name) DSPEC_NOEXCEPT {
     char path[4200];
     int len = snprintf(path, sizeof path, "%s/%s", folder->path, name);
-    if (len > 0 && (size_t)len < sizeof path) unlink(path);
+    if (len > 0 && DSPEC_AS(size_t, len) < sizeof path) unlink(path);
 }
 
 /* The name of a CPU's file. */
 DSPEC_INLINE void dspec_folder_name(char name[32], uint32_t cpu, size_t file) DSPEC_NOEXCEPT {
-    snprintf(name, 32, "cpu_%u_%u", (unsigned)cpu, (unsigned)file);
+    snprintf(name, 32, "cpu_%u_%u", DSPEC_AS(unsigned, cpu), DSPEC_AS(unsigned, file));
 }
 
 /* Opens a CPU's file, where it isn't open: 0 or the errno. */
@@ -151,7 +151,7 @@ DSPEC_INLINE int dspec_folder_file(dspec_folder *folder, const char *name, const
 
 /* Makes room for so many bytes. */
 DSPEC_INLINE bool dspec_folder_grows(dspec_folder *folder, size_t size) DSPEC_NOEXCEPT {
-    uint8_t *room = (uint8_t *)realloc(folder->room, size);
+    uint8_t *room = DSPEC_AS(uint8_t *, realloc(folder->room, size));
     if (room == NULL) return false;
     folder->room = room;
     folder->size = size;
@@ -168,7 +168,7 @@ DSPEC_INLINE int dspec_folder_adds(dspec_folder *folder, uint32_t cpu, const dsp
     code = dspec_folder_write(*file - 1, folder->room, packet->size);
     if (code == 0) {
         *size += packet->size;
-    } else if (ftruncate(*file - 1, (off_t)*size) != 0) {
+    } else if (ftruncate(*file - 1, DSPEC_AS(off_t, *size)) != 0) {
         close(*file - 1);
         *file = -1;
     } else if (packet->file == 0) {
@@ -185,7 +185,7 @@ DSPEC_INLINE int dspec_folder_closes(dspec_folder *folder, uint32_t cpu, size_t 
     int code = 0;
     folder->files[cpu][file] = 0;
     if (opened <= 0) return 0;
-    if (ftruncate(opened - 1, (off_t)size) != 0) code = errno;
+    if (ftruncate(opened - 1, DSPEC_AS(off_t, size)) != 0) code = errno;
     if (close(opened - 1) != 0) code = errno;
     if (size > 0) return code;
     dspec_folder_name(name, cpu, file);
