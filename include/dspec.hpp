@@ -397,7 +397,7 @@ public:
 /* Why no trace was begun. */
 struct trace_error : std::runtime_error {
     dspec_loss loss;
-    explicit trace_error(const dspec_loss &why) : std::runtime_error(why.code != 0 ? strerror(why.code) : dspec_status_text(why.status)), loss(why) {}
+    explicit trace_error(dspec_folder &folder) : std::runtime_error(dspec_folder_why(&folder)), loss(folder.last) {}
 };
 
 /* A trace in a folder, which is written while a session runs (dspec_ctf.h). Where the value ends, the files are closed. */
@@ -414,7 +414,7 @@ class trace_folder {
 public:
     /* Makes the folder and writes the metadata; throws trace_error. The CPUs are as many as the session has. */
     trace_folder(const char *path, schema &of, std::uint32_t cpus, const dspec_identity &identity, const names &called) : folder_(new dspec_folder{}), layout_(of.layout()) {
-        if (!dspec_folder_begin(folder_.get(), path, of.get(), cpus, &identity, called.get())) throw trace_error(folder_->last);
+        if (!dspec_folder_begin(folder_.get(), path, of.get(), cpus, &identity, called.get())) throw trace_error(*folder_);
     }
     /* Writes a batch; where it answers false, `last` says what of it isn't written, and why. */
     bool take(const dspec_batch &batch) noexcept { return dspec_folder_take(folder_.get(), &layout_, &batch); }

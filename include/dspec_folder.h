@@ -41,6 +41,8 @@ typedef struct dspec_loss {
     uint32_t cpu;        /* of cpu_N_K the N, and the K; of `metadata` both are 0 */
     size_t file;
     uint64_t records;    /* how many records weren't written */
+    dspec_text name;     /* where the status is DSPEC_BAD_NAME the first such name, */
+    const char *why;     /* and why it isn't allowed; else NULL */
 } dspec_loss;
 
 /* A folder of files. */
@@ -56,6 +58,7 @@ typedef struct dspec_folder {
     bool lost;                                             /* whether anything was */
     bool ending;                                           /* whether the last packets are written, for which room is kept */
     char path[4096];
+    char words[512];                                       /* of dspec_folder_why */
 } dspec_folder;
 
 /* Notes a loss, and answers false. */
@@ -65,6 +68,7 @@ DSPEC_INLINE bool dspec_folder_loses(dspec_folder *folder, dspec_status status, 
     folder->last.cpu = cpu;
     folder->last.file = file;
     folder->last.records = records;
+    folder->last.why = NULL;
     if (!folder->lost) {
         folder->first = folder->last;
     } else {
@@ -241,7 +245,22 @@ DSPEC_INLINE bool dspec_folder_begin(dspec_folder *folder, const char *path, dsp
     free(folder->room);
     folder->room = NULL;
     folder->cpus = 0;
-    return dspec_folder_loses(folder, status, code, 0, 0, 0);
+    dspec_folder_loses(folder, status, code, 0, 0, 0);
+    if (status == DSPEC_BAD_NAME) {
+        size_t at = 0;
+        folder->last.why = dspec_names_refused(names, &at);
+        folder->last.name = names->texts[at];
+    }
+    return false;
+}
+
+/* Why the last call answered false, in words: the system's, or the library's, or which name isn't allowed and why. They stay until the next call. */
+DSPEC_INLINE const char *dspec_folder_why(dspec_folder *folder) DSPEC_NOEXCEPT {
+    const dspec_loss *last = &folder->last;
+    if (last->code != 0) return strerror(last->code);
+    if (last->why == NULL) return dspec_status_text(last->status);
+    snprintf(folder->words, sizeof folder->words, "%.*s: %s", DSPEC_AS(int, last->name.len), last->name.bytes, last->why);
+    return folder->words;
 }
 
 /* Gives up what wasn't written of the batch that is open. */

@@ -78,10 +78,9 @@ static void *work(void *of) {
 }
 
 /* Says what the last batch lost; the server goes on. */
-static void tell(const dspec_folder *folder) {
+static void tell(dspec_folder *folder) {
     const dspec_loss *loss = &folder->last;
-    fprintf(stderr, "ctf: cpu_%" PRIu32 "_%zu: %s: %" PRIu64 " records aren't written\n", loss->cpu, loss->file,
-            loss->code ? strerror(loss->code) : dspec_status_text(loss->status), loss->records);
+    fprintf(stderr, "ctf: cpu_%" PRIu32 "_%zu: %s: %" PRIu64 " records aren't written\n", loss->cpu, loss->file, dspec_folder_why(folder), loss->records);
 }
 
 /* One round of the consumer: what has come of each worker goes into the trace. */
@@ -163,7 +162,7 @@ int main(int argc, char **argv) {
     reply_name(&names);
     identify(&identity, host);
     if (!dspec_folder_begin(&folder, argv[1], &schema, WORKERS, &identity, &names)) {
-        fprintf(stderr, "ctf: %s: %s\n", argv[1], folder.last.code ? strerror(folder.last.code) : dspec_status_text(folder.last.status));
+        fprintf(stderr, "ctf: %s: %s\n", argv[1], dspec_folder_why(&folder));
         return 1;
     }
 

@@ -49,6 +49,23 @@ static void whole_to_its_end(const std::string &folder) {
     CHECK(bytes.size() > 64 + 32 && bytes.find(std::string("\3\0\0\0\0\0\0\0\0\0\0\0", 12), 64) != std::string::npos);
 }
 
+/* A name that isn't allowed is told, and why. */
+static void names_told(const std::string &folder) {
+    const dspec_identity identity{{3}, {}, false, 7, 1000, 0, 0, {"here", 4}, {"cpp", 3}};
+    dspec::schema schema;
+    schema.stamp();
+    dspec::names names;
+    names.add(schema.enable<std::uint32_t>(), "step", {"struct"});
+    std::string told;
+    try {
+        dspec::trace_folder trace(folder.c_str(), schema, 1, identity, names);
+    } catch (const dspec::trace_error &e) {
+        told = e.what();
+        CHECK(e.loss.status == DSPEC_BAD_NAME);
+    }
+    CHECK(told == "struct: a word that the trace's metadata keeps for itself");
+}
+
 int main(int argc, char **argv) {
     if (argc != 2) return 2;
     const std::string folder = argv[1];
@@ -80,6 +97,7 @@ int main(int argc, char **argv) {
     CHECK(text.find("\t\tfloating_point { exp_dig = 11; mant_dig = 53; align = 8; } of;\n") != std::string::npos);
     /* A packet of 68 bytes and two events, of 4 + 8 + 4 + 1 and of 4 + 8 + 8. */
     CHECK(read(folder + "/cpu_0_0").size() == 68 + 17 + 20);
+    names_told(folder + ".names");
     int code = 0;
     try {
         dspec::trace_folder again(folder.c_str(), schema, 1, identity, names);

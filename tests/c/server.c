@@ -97,7 +97,7 @@ static void start_trace(dspec_folder *folder, const char *path, dspec_schema *sc
     finish_name(&names);
     heartbeat_name(&names);
     if (dspec_folder_begin(folder, path, schema, WORKERS, &identity, &names)) return;
-    fprintf(stderr, "server: %s: %s\n", path, folder->last.code ? strerror(folder->last.code) : dspec_status_text(folder->last.status));
+    fprintf(stderr, "server: %s: %s\n", path, dspec_folder_why(folder));
     exit(1);
 }
 
