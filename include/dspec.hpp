@@ -172,13 +172,31 @@ struct decided {
     std::uint32_t records;
 };
 
-/* One CPU's calls. Where the value ends, the CPU goes home. */
+/* One CPU's calls. Where the value ends, the CPU goes home, and the paths that are still open on it are thrown away. A value that is moved takes its open paths
+ * with it: they go on on the value that holds the CPU then. */
 class cpu : public detail::owned<dspec_cpu> {
+    friend class path;
+    path *paths_ = nullptr; /* those that are open on this value, one behind another */
+
+    void takes_paths_of(cpu &other) noexcept;
+    void ends_paths() noexcept;
+
     template <field... Fields> static std::array<std::uint64_t, sizeof...(Fields) + 1> row(Fields... values) noexcept {
         return {detail::bits(values)..., 0};
     }
 
 public:
+    cpu() = default;
+    cpu(cpu &&other) noexcept : owned(std::move(other)) { takes_paths_of(other); }
+    cpu &operator=(cpu &&other) noexcept {
+        if (this == &other) return *this;
+        ends_paths();
+        owned::operator=(std::move(other));
+        takes_paths_of(other);
+        return *this;
+    }
+    ~cpu() { ends_paths(); }
+
     template <field... Fields> dspec_status trace(probe<Fields...> of, std::type_identity_t<Fields>... values) noexcept {
         return trace_at(of, 0, values...);
     }
@@ -226,24 +244,47 @@ public:
         return told;
     }
 
-    /* A path on this CPU, which has to outlive it. */
+    /* A path on this CPU. */
     [[nodiscard]] path open() noexcept;
 };
 
 /* A speculation on the CPU that opened it, which is thrown away where its scope ends undecided: by an early return, or an exception. Where
- * none could be opened, `opened` says why, and its steps are counted as void. */
+ * none could be opened, `opened` says why, and its steps are counted as void. It is on its CPU's thread, as that value is. */
 class path {
-    cpu *on_;
+    friend class cpu;
+    cpu *on_ = nullptr; /* none once it was decided or moved, or its CPU's value has ended */
     std::uint64_t id_ = 0;
     dspec_status opened_;
+    path *next_ = nullptr, *before_ = nullptr; /* among those that are open on the same value */
+
+    void enter(cpu *on) noexcept {
+        on_ = on;
+        next_ = on->paths_;
+        before_ = nullptr;
+        if (next_) next_->before_ = this;
+        on->paths_ = this;
+    }
+    /* Leaves its CPU, and says which that was. */
+    cpu *leave() noexcept {
+        cpu *on = std::exchange(on_, nullptr);
+        if (!on) return on;
+        if (next_) next_->before_ = before_;
+        if (before_) before_->next_ = next_;
+        else on->paths_ = next_;
+        return on;
+    }
+    void end() noexcept {
+        cpu *on = leave();
+        if (on && opened_ == DSPEC_OK) on->discard(id_);
+    }
 
 public:
-    explicit path(cpu &on) noexcept : on_(&on), opened_(dspec_speculation(on.get(), &id_)) {}
-    path(path &&other) noexcept : on_(std::exchange(other.on_, nullptr)), id_(other.id_), opened_(other.opened_) {}
-    path &operator=(path &&) = delete;
-    ~path() {
-        if (on_ && opened_ == DSPEC_OK) on_->discard(id_);
+    explicit path(cpu &on) noexcept : opened_(dspec_speculation(on.get(), &id_)) { enter(&on); }
+    path(path &&other) noexcept : id_(other.id_), opened_(other.opened_) {
+        if (cpu *on = other.leave()) enter(on);
     }
+    path &operator=(path &&) = delete;
+    ~path() { end(); }
 
     dspec_status opened() const noexcept { return opened_; }
     /* For `speculate` on other CPUs. */
@@ -259,18 +300,29 @@ public:
     /* How many of its records this CPU had no room for. */
     std::uint32_t dropped() noexcept { return on_ ? on_->dropped_in(id_) : 0; }
 
-    /* Each decides once; behind it, and behind a move, the path takes no step and no decision: DSPEC_VOID. */
+    /* Each decides once; behind it, behind a move, and where its CPU's value has ended, the path takes no step and no decision: DSPEC_VOID. */
     decided commit() noexcept {
-        cpu *on = std::exchange(on_, nullptr);
+        cpu *on = leave();
         return on ? on->commit(id_) : decided{DSPEC_VOID, 0};
     }
     decided discard() noexcept {
-        cpu *on = std::exchange(on_, nullptr);
+        cpu *on = leave();
         return on ? on->discard(id_) : decided{DSPEC_VOID, 0};
     }
 };
 
 inline path cpu::open() noexcept { return path(*this); }
+
+inline void cpu::takes_paths_of(cpu &other) noexcept {
+    while (path *one = other.paths_) {
+        one->leave();
+        one->enter(this);
+    }
+}
+
+inline void cpu::ends_paths() noexcept {
+    while (paths_) paths_->end();
+}
 
 /* The consumer's calls. Where the value ends, the consumer goes home. */
 class consumer : public detail::owned<dspec_consumer> {
