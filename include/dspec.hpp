@@ -273,10 +273,6 @@ class path {
         else on->paths_ = next_;
         return on;
     }
-    void end() noexcept {
-        cpu *on = leave();
-        if (on && opened_ == DSPEC_OK) on->discard(id_);
-    }
 
 public:
     explicit path(cpu &on) noexcept : opened_(dspec_speculation(on.get(), &id_)) { enter(&on); }
@@ -284,7 +280,10 @@ public:
         if (cpu *on = other.leave()) enter(on);
     }
     path &operator=(path &&) = delete;
-    ~path() { end(); }
+    ~path() {
+        cpu *on = leave();
+        if (on && opened_ == DSPEC_OK) on->discard(id_);
+    }
 
     dspec_status opened() const noexcept { return opened_; }
     /* For `speculate` on other CPUs. */
@@ -313,15 +312,17 @@ public:
 
 inline path cpu::open() noexcept { return path(*this); }
 
+/* A vector that grows promises the compiler that nothing but the values' own names reaches them meanwhile, so neither goes through a path's `on_`. */
 inline void cpu::takes_paths_of(cpu &other) noexcept {
-    while (path *one = other.paths_) {
-        one->leave();
-        one->enter(this);
-    }
+    paths_ = std::exchange(other.paths_, nullptr);
+    for (path *one = paths_; one; one = one->next_) one->on_ = this;
 }
 
 inline void cpu::ends_paths() noexcept {
-    while (paths_) paths_->end();
+    for (path *one = std::exchange(paths_, nullptr); one; one = one->next_) {
+        one->on_ = nullptr;
+        if (one->opened_ == DSPEC_OK) discard(one->id_);
+    }
 }
 
 /* The consumer's calls. Where the value ends, the consumer goes home. */

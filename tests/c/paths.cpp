@@ -214,6 +214,36 @@ void moving() {
     CHECK(closed.report(1).accepted == 0 && closed.report(1).discarded == 1 && closed.report(1).held == 0);
 }
 
+/* Paths in a vector that grows, on CPUs in one that grows. */
+void many_moving() {
+    world w;
+    dspec_config many = config;
+    many.cpus = 9;
+    many.nspec = 20;
+    many.specsize = 256;
+    dspec::session session(many, w.schema);
+    {
+        std::vector<dspec::cpu> cpus;
+        std::vector<dspec::path> paths;
+        for (std::uint32_t n = 0; n < 9; n++) {
+            cpus.push_back(session.cpu_of(n));
+            paths.push_back(cpus.front().open());
+            paths.push_back(cpus.back().open());
+            for (dspec::path &one : paths) CHECK(one.record(w.of_one, n) == DSPEC_OK);
+        }
+        std::uint32_t kept = 0;
+        while (paths.size() > 4) {
+            kept += paths.back().commit().records;
+            paths.pop_back();
+        }
+        CHECK(kept == 2 * (1 + 2 + 3 + 4 + 5 + 6 + 7));
+    }
+    dspec::closed closed = session.finish();
+    std::uint64_t discarded = 0;
+    for (std::uint32_t n = 0; n < 9; n++) discarded += closed.report(n).discarded;
+    CHECK(discarded == 2 * (8 + 9));
+}
+
 /* All that is out, but a CPU that is parked; then with one CPU elsewhere; then a consumer that was moved away, and more CPUs than there are. */
 void closing() {
     world w;
@@ -269,6 +299,7 @@ int main() {
     batches();
     parking();
     moving();
+    many_moving();
     closing();
     refusals();
     std::printf("%d passed, %d failed\n", passed, failed);
