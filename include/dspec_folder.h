@@ -207,8 +207,8 @@ DSPEC_INLINE int dspec_folder_first_files(dspec_folder *folder) DSPEC_NOEXCEPT {
     return code;
 }
 
-/* Begins a trace in a folder, which is made where it isn't there, and may have no trace yet. The CPUs are those of the session. names may
- * be NULL: events and fields are numbered then. Where it answers false, nothing is to be ended. */
+/* Begins a trace in a folder, which is made where it isn't there, and may have no trace yet. The CPUs are those of the session, 1 to 64, and each gets its first
+ * file. names may be NULL: events and fields are numbered then. Where it answers false, nothing is to be ended, and no file is left. */
 DSPEC_INLINE bool dspec_folder_begin(dspec_folder *folder, const char *path, dspec_schema *schema, uint32_t cpus, const dspec_identity *identity,
                                      const dspec_names *names) DSPEC_NOEXCEPT {
     static dspec_names none; /* no names */
