@@ -56,7 +56,7 @@ typedef struct dspec_folder {
     dspec_loss last;                                       /* what the last call lost, where it answered false */
     dspec_loss first;                                      /* what was lost first, with the records of all losses */
     bool lost;                                             /* whether anything was */
-    bool ending;                                           /* whether the last packets are written, for which room is kept */
+    bool ending;                                           /* whether the last packets are being written, for which room is kept */
     char path[4096];
     char words[512];                                       /* of dspec_folder_why */
 } dspec_folder;
@@ -207,6 +207,22 @@ DSPEC_INLINE int dspec_folder_first_files(dspec_folder *folder) DSPEC_NOEXCEPT {
     return code;
 }
 
+/* Lets go what a trace has that isn't begun, with the files that are its own, notes why, and answers false. */
+DSPEC_INLINE bool dspec_folder_fails(dspec_folder *folder, dspec_status status, int code, const dspec_names *names) DSPEC_NOEXCEPT {
+    size_t at = 0;
+    for (uint32_t cpu = 0; cpu < folder->cpus; cpu++) {
+        dspec_folder_closes(folder, cpu, 0);
+        dspec_ctf_drop(&folder->ctf[cpu]);
+    }
+    free(folder->room);
+    folder->room = NULL;
+    folder->cpus = 0;
+    dspec_folder_loses(folder, status, code, 0, 0, 0);
+    if (status == DSPEC_BAD_NAME) folder->last.why = dspec_names_refused(names, &at);
+    if (folder->last.why != NULL) folder->last.name = names->texts[at];
+    return false;
+}
+
 /* Begins a trace in a folder, which is made where it isn't there, and may have no trace yet. The CPUs are those of the session, 1 to 64, and each gets its first
  * file. names may be NULL: events and fields are numbered then. Where it answers false, nothing is to be ended, and no file is left. */
 DSPEC_INLINE bool dspec_folder_begin(dspec_folder *folder, const char *path, dspec_schema *schema, uint32_t cpus, const dspec_identity *identity,
@@ -238,20 +254,7 @@ DSPEC_INLINE bool dspec_folder_begin(dspec_folder *folder, const char *path, dsp
         if (code == 0) return true;
         dspec_folder_removes(folder, "metadata");
     }
-    for (uint32_t cpu = 0; cpu < folder->cpus; cpu++) {
-        dspec_folder_closes(folder, cpu, 0);
-        dspec_ctf_drop(&folder->ctf[cpu]);
-    }
-    free(folder->room);
-    folder->room = NULL;
-    folder->cpus = 0;
-    dspec_folder_loses(folder, status, code, 0, 0, 0);
-    if (status == DSPEC_BAD_NAME) {
-        size_t at = 0;
-        folder->last.why = dspec_names_refused(names, &at);
-        folder->last.name = names->texts[at];
-    }
-    return false;
+    return dspec_folder_fails(folder, status, code, names);
 }
 
 /* Why the last call answered false, in words: the system's, or the library's, or which name isn't allowed and why. They stay until the next call. */
