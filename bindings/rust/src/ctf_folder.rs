@@ -11,6 +11,8 @@ use std::path::{Path, PathBuf};
 pub enum LossCause {
     /// What the library answered.
     Library(Error),
+    /// It was [`Error::Name`], of this name.
+    Name(String),
     /// What the system answered.
     System(io::Error),
 }
@@ -34,11 +36,7 @@ impl fmt::Display for CtfLoss {
         if let Some(file) = self.file {
             write!(f, "_{file}")?;
         }
-        match &self.cause {
-            LossCause::Library(error) => write!(f, ": {error}")?,
-            LossCause::System(error) => write!(f, ": {error}")?,
-        }
-        write!(f, "; {} records weren't written", self.records)
+        write!(f, ": {}; {} records weren't written", self.cause, self.records)
     }
 }
 
@@ -139,7 +137,10 @@ impl CtfFolder {
         if !(1..=64).contains(&cpus) {
             return Err(LossCause::Library(Error::Cpus));
         }
-        let text = names.metadata(schema, identity).map_err(LossCause::Library)?;
+        let text = names.metadata(schema, identity).map_err(|error| match names.refused() {
+            Some(name) if error == Error::Name => LossCause::Name(name.to_owned()),
+            _ => LossCause::Library(error),
+        })?;
         let files = (0..cpus).map(|cpu| CtfPackets::new(schema, identity, cpu).map(|packets| (packets, Vec::new())));
         let cpus = files.collect::<Result<Vec<_>, _>>().map_err(LossCause::Library)?;
         fs::create_dir_all(path).map_err(LossCause::System)?;
@@ -273,6 +274,7 @@ fn write_all(
 impl fmt::Display for LossCause {
     fn fmt(&self, f: &mut fmt::Formatter<'_>) -> fmt::Result {
         match self {
+            LossCause::Name(name) => write!(f, "the name `{name}` isn't allowed, or stands there twice"),
             LossCause::Library(error) => error.fmt(f),
             LossCause::System(error) => error.fmt(f),
         }

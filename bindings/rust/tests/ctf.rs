@@ -162,6 +162,29 @@ fn a_folder_in_which_something_stands() {
 }
 
 #[test]
+fn names_that_are_refused() {
+    let (schema, step) = schema();
+    let path = fresh("names");
+    let mut named = CtfNames::new();
+    named.add(step, "step", &["struct"]);
+    let refused = CtfFolder::begin(&path, &schema, 1, &identity(), &named).unwrap_err();
+    assert_eq!(refused.to_string(), "the name `struct` isn't allowed, or stands there twice");
+    assert!(!path.exists());
+    let two = Schema::new().unwrap().probe::<(u32, u32)>().unwrap();
+    let refuses = |all: [&[&str]; 2]| {
+        let mut names = CtfNames::new();
+        for one in all {
+            names.add(two, one[0], &one[1..]);
+        }
+        names.refused().map(str::to_owned)
+    };
+    assert_eq!(refuses([&["one", "first", "second"], &["other", "first", "one"]]), None);
+    assert_eq!(refuses([&["one", "first", "first"], &["other", "a", "b"]]).as_deref(), Some("first"));
+    assert_eq!(refuses([&["one", "a", "b"], &["one", "a", "b"]]).as_deref(), Some("one"));
+    assert_eq!(refuses([&["one", "a", "2nd"], &["event", "a", "b"]]).as_deref(), Some("2nd"));
+}
+
+#[test]
 fn a_folder_of_no_cpus() {
     let (schema, _) = schema();
     let path = fresh("none");
