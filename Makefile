@@ -120,11 +120,11 @@ lib:
 c-check: lib
 	@sh tests/c/run
 
-# The archive, the headers, a pkg-config file and manual pages to PREFIX, behind DESTDIR; with SHARED=1 the shared object too, with
-# PROGRAMS=1 specplay and specview, proved; with TRY=1 an unproved archive.
+# The archive, the headers, a pkg-config file and a manual page to PREFIX, behind DESTDIR; with SHARED=1 the shared object too, with
+# PROGRAMS=1 specplay and specview; all proved, or with TRY=1 by trial builds.
 install: lib
-	@[ "$(PROGRAMS)" != 1 ] || for program in specplay specview; do (cd "crates/$$program" && rt run < /dev/null > /dev/null) || exit 1; done
-	@DESTDIR="$(DESTDIR)" SHARED="$(SHARED)" PROGRAMS="$(PROGRAMS)" sh tools/c_lib install build "$(PREFIX)"
+	@[ "$(PROGRAMS)" != 1 ] || TRY="$(TRY)" sh tools/c_lib programs
+	@DESTDIR="$(DESTDIR)" SHARED="$(SHARED)" PROGRAMS="$(PROGRAMS)" TRY="$(TRY)" sh tools/c_lib install build "$(PREFIX)"
 
 uninstall:
 	@DESTDIR="$(DESTDIR)" sh tools/c_lib uninstall "$(PREFIX)"

@@ -43,7 +43,7 @@
 #define DSPEC_VERSION_MINOR 1
 #define DSPEC_VERSION_PATCH 0
 #define DSPEC_VERSION_STRING "0.1.0"
-#define DSPEC_VERSION (((uint32_t)DSPEC_VERSION_MAJOR << 16) | ((uint32_t)DSPEC_VERSION_MINOR << 8) | (uint32_t)DSPEC_VERSION_PATCH)
+#define DSPEC_VERSION (DSPEC_VERSION_MAJOR * 65536u + DSPEC_VERSION_MINOR * 256u + DSPEC_VERSION_PATCH)
 
 /* The ranges of a configuration, and the limits of a schema. */
 #define DSPEC_MAX_CPUS 64u
@@ -54,14 +54,16 @@
 #define DSPEC_MAX_FIELDS 8u
 #define DSPEC_MAX_ENABLINGS 64u
 
-/* No call throws. In C++ an inline function is one for the whole program; in C each file has its own. */
+/* No call throws. In C++ an inline function is one for the whole program; in C each file has its own. A conversion is spelled as each language has it. */
 #ifdef __cplusplus
 #define DSPEC_NOEXCEPT noexcept
 #define DSPEC_INLINE inline
+#define DSPEC_AS(TYPE, VALUE) static_cast<TYPE>(VALUE)
 extern "C" {
 #else
 #define DSPEC_NOEXCEPT
 #define DSPEC_INLINE static inline
+#define DSPEC_AS(TYPE, VALUE) ((TYPE)(VALUE))
 #endif
 
 typedef enum dspec_status {
@@ -389,8 +391,8 @@ DSPEC_INLINE const char *dspec_status_text(dspec_status status) DSPEC_NOEXCEPT {
     case DSPEC_UNAVAILABLE: return "unavailable";
     case DSPEC_BUSY: return "busy";
     case DSPEC_LOST: return "lost";
+    default: return "unknown status";
     }
-    return "unknown status";
 }
 
 #ifndef __cplusplus

@@ -172,13 +172,31 @@ struct decided {
     std::uint32_t records;
 };
 
-/* One CPU's calls. Where the value ends, the CPU goes home. */
+/* One CPU's calls. Where the value ends, the CPU goes home, and the paths that are still open on it are thrown away. A value that is moved takes its open paths
+ * with it: they go on on the value that holds the CPU then. */
 class cpu : public detail::owned<dspec_cpu> {
+    friend class path;
+    path *paths_ = nullptr; /* those that are open on this value, one behind another */
+
+    void takes_paths_of(cpu &other) noexcept;
+    void ends_paths() noexcept;
+
     template <field... Fields> static std::array<std::uint64_t, sizeof...(Fields) + 1> row(Fields... values) noexcept {
         return {detail::bits(values)..., 0};
     }
 
 public:
+    cpu() = default;
+    cpu(cpu &&other) noexcept : owned(std::move(other)) { takes_paths_of(other); }
+    cpu &operator=(cpu &&other) noexcept {
+        if (this == &other) return *this;
+        ends_paths();
+        owned::operator=(std::move(other));
+        takes_paths_of(other);
+        return *this;
+    }
+    ~cpu() { ends_paths(); }
+
     template <field... Fields> dspec_status trace(probe<Fields...> of, std::type_identity_t<Fields>... values) noexcept {
         return trace_at(of, 0, values...);
     }
@@ -226,23 +244,45 @@ public:
         return told;
     }
 
-    /* A path on this CPU, which has to outlive it. */
+    /* A path on this CPU. */
     [[nodiscard]] path open() noexcept;
 };
 
 /* A speculation on the CPU that opened it, which is thrown away where its scope ends undecided: by an early return, or an exception. Where
- * none could be opened, `opened` says why, and its steps are counted as void. */
+ * none could be opened, `opened` says why, and its steps are counted as void. It is on its CPU's thread, as that value is. */
 class path {
-    cpu *on_;
+    friend class cpu;
+    cpu *on_ = nullptr; /* none once it was decided or moved, or its CPU's value has ended */
     std::uint64_t id_ = 0;
     dspec_status opened_;
+    path *next_ = nullptr, *before_ = nullptr; /* among those that are open on the same value */
+
+    void enter(cpu *on) noexcept {
+        on_ = on;
+        next_ = on->paths_;
+        before_ = nullptr;
+        if (next_) next_->before_ = this;
+        on->paths_ = this;
+    }
+    /* Leaves its CPU, and says which that was. */
+    cpu *leave() noexcept {
+        cpu *on = std::exchange(on_, nullptr);
+        if (!on) return on;
+        if (next_) next_->before_ = before_;
+        if (before_) before_->next_ = next_;
+        else on->paths_ = next_;
+        return on;
+    }
 
 public:
-    explicit path(cpu &on) noexcept : on_(&on), opened_(dspec_speculation(on.get(), &id_)) {}
-    path(path &&other) noexcept : on_(std::exchange(other.on_, nullptr)), id_(other.id_), opened_(other.opened_) {}
+    explicit path(cpu &on) noexcept : opened_(dspec_speculation(on.get(), &id_)) { enter(&on); }
+    path(path &&other) noexcept : id_(other.id_), opened_(other.opened_) {
+        if (cpu *on = other.leave()) enter(on);
+    }
     path &operator=(path &&) = delete;
     ~path() {
-        if (on_ && opened_ == DSPEC_OK) on_->discard(id_);
+        cpu *on = leave();
+        if (on && opened_ == DSPEC_OK) on->discard(id_);
     }
 
     dspec_status opened() const noexcept { return opened_; }
@@ -259,18 +299,31 @@ public:
     /* How many of its records this CPU had no room for. */
     std::uint32_t dropped() noexcept { return on_ ? on_->dropped_in(id_) : 0; }
 
-    /* Each decides once; behind it, and behind a move, the path takes no step and no decision: DSPEC_VOID. */
+    /* Each decides once; behind it, behind a move, and where its CPU's value has ended, the path takes no step and no decision: DSPEC_VOID. */
     decided commit() noexcept {
-        cpu *on = std::exchange(on_, nullptr);
+        cpu *on = leave();
         return on ? on->commit(id_) : decided{DSPEC_VOID, 0};
     }
     decided discard() noexcept {
-        cpu *on = std::exchange(on_, nullptr);
+        cpu *on = leave();
         return on ? on->discard(id_) : decided{DSPEC_VOID, 0};
     }
 };
 
 inline path cpu::open() noexcept { return path(*this); }
+
+/* A vector that grows promises the compiler that nothing but the values' own names reaches them meanwhile, so neither goes through a path's `on_`. */
+inline void cpu::takes_paths_of(cpu &other) noexcept {
+    paths_ = std::exchange(other.paths_, nullptr);
+    for (path *one = paths_; one; one = one->next_) one->on_ = this;
+}
+
+inline void cpu::ends_paths() noexcept {
+    for (path *one = std::exchange(paths_, nullptr); one; one = one->next_) {
+        one->on_ = nullptr;
+        if (one->opened_ == DSPEC_OK) discard(one->id_);
+    }
+}
 
 /* The consumer's calls. Where the value ends, the consumer goes home. */
 class consumer : public detail::owned<dspec_consumer> {
@@ -397,7 +450,7 @@ public:
 /* Why no trace was begun. */
 struct trace_error : std::runtime_error {
     dspec_loss loss;
-    explicit trace_error(const dspec_loss &why) : std::runtime_error(why.code != 0 ? strerror(why.code) : dspec_status_text(why.status)), loss(why) {}
+    explicit trace_error(dspec_folder &folder) : std::runtime_error(dspec_folder_why(&folder)), loss(folder.last) {}
 };
 
 /* A trace in a folder, which is written while a session runs (dspec_ctf.h). Where the value ends, the files are closed. */
@@ -414,14 +467,17 @@ class trace_folder {
 public:
     /* Makes the folder and writes the metadata; throws trace_error. The CPUs are as many as the session has. */
     trace_folder(const char *path, schema &of, std::uint32_t cpus, const dspec_identity &identity, const names &called) : folder_(new dspec_folder{}), layout_(of.layout()) {
-        if (!dspec_folder_begin(folder_.get(), path, of.get(), cpus, &identity, called.get())) throw trace_error(folder_->last);
+        if (!dspec_folder_begin(folder_.get(), path, of.get(), cpus, &identity, called.get())) throw trace_error(*folder_);
     }
     /* Writes a batch; where it answers false, `last` says what of it isn't written, and why. */
     bool take(const dspec_batch &batch) noexcept { return dspec_folder_take(folder_.get(), &layout_, &batch); }
     const dspec_loss &last() const noexcept { return folder_->last; }
     /* How many records weren't written so far. */
     std::uint64_t lost() const noexcept { return folder_->lost ? folder_->first.records : 0; }
-    /* Tells what isn't told yet, and closes the files: whether the whole trace is written. No batch is taken behind it. */
+    /* Behind the session's end: writes what was left of each CPU, tells what else its reports count as dropped, specdropped or lost, and closes the files;
+     * whether the whole trace is written. No batch is taken behind it. */
+    bool close(closed &ended) noexcept { return dspec_folder_close(folder_.get(), &layout_, ended.get()); }
+    /* For a trace that no session's end stands behind: tells what isn't told yet, and closes the files. */
     bool end() noexcept { return dspec_folder_end(folder_.get()); }
 };
 

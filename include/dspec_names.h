@@ -25,24 +25,26 @@ typedef struct dspec_text {
  * first. The texts stay the caller's. `over` says that there was no room for one: a schema has at most 64 events of 8 fields. */
 typedef struct dspec_names {
     dspec_text texts[DSPEC_MAX_ENABLINGS * (DSPEC_MAX_FIELDS + 1)];
+    bool events[DSPEC_MAX_ENABLINGS * (DSPEC_MAX_FIELDS + 1)]; /* whether the text is an event's */
     uint8_t kinds[DSPEC_MAX_ENABLINGS * DSPEC_MAX_FIELDS];
     size_t count;
     size_t kind_count;
     bool over;
 } dspec_names;
 
-DSPEC_INLINE void dspec_names_text(dspec_names *names, const char *text) DSPEC_NOEXCEPT {
+DSPEC_INLINE void dspec_names_text(dspec_names *names, const char *text, bool is_event) DSPEC_NOEXCEPT {
     if (names->count == sizeof names->texts / sizeof names->texts[0]) {
         names->over = true;
         return;
     }
     names->texts[names->count].bytes = text;
     names->texts[names->count].len = strlen(text);
+    names->events[names->count] = is_event;
     names->count++;
 }
 
 /* Adds the next event. */
-DSPEC_INLINE void dspec_names_event(dspec_names *names, const char *event) DSPEC_NOEXCEPT { dspec_names_text(names, event); }
+DSPEC_INLINE void dspec_names_event(dspec_names *names, const char *event) DSPEC_NOEXCEPT { dspec_names_text(names, event, true); }
 
 /* Adds the next field of the event that was added last. */
 DSPEC_INLINE void dspec_names_field(dspec_names *names, const char *field, uint8_t kind) DSPEC_NOEXCEPT {
@@ -52,7 +54,56 @@ DSPEC_INLINE void dspec_names_field(dspec_names *names, const char *field, uint8
     }
     names->kinds[names->kind_count] = kind;
     names->kind_count++;
-    dspec_names_text(names, field);
+    dspec_names_text(names, field, false);
+}
+
+DSPEC_INLINE bool dspec_text_is(const dspec_text *one, const dspec_text *other) DSPEC_NOEXCEPT {
+    return one->len == other->len && memcmp(one->bytes, other->bytes, one->len) == 0;
+}
+
+/* Whether the language of a trace's metadata keeps this word for itself. */
+DSPEC_INLINE bool dspec_word_is_reserved(const dspec_text *word) DSPEC_NOEXCEPT {
+    static const char *const reserved[] = {
+        "align", "callsite", "const", "char", "clock", "double", "enum", "env", "event", "floating_point", "float", "integer", "int", "long",
+        "short", "signed", "stream", "string", "struct", "trace", "typealias", "typedef", "unsigned", "variant", "void", "_Bool", "_Complex", "_Imaginary",
+    };
+    for (size_t i = 0; i < sizeof reserved / sizeof reserved[0]; i++)
+        if (strlen(reserved[i]) == word->len && memcmp(reserved[i], word->bytes, word->len) == 0) return true;
+    return false;
+}
+
+DSPEC_INLINE bool dspec_word_is_identifier(const dspec_text *word) DSPEC_NOEXCEPT {
+    for (size_t i = 0; i < word->len; i++) {
+        char letter = word->bytes[i];
+        bool is_letter = (letter >= 'a' && letter <= 'z') || (letter >= 'A' && letter <= 'Z') || letter == '_';
+        if (!is_letter && (i == 0 || letter < '0' || letter > '9')) return false;
+    }
+    return word->len > 0;
+}
+
+/* Why the name at a place isn't allowed, as a static text; NULL where it is. */
+DSPEC_INLINE const char *dspec_name_refused(const dspec_names *names, size_t at) DSPEC_NOEXCEPT {
+    const dspec_text *name = &names->texts[at];
+    if (name->len > 255) return "longer than 255 bytes";
+    if (!dspec_word_is_identifier(name)) return "not a letter or an underscore and then letters, digits and underscores";
+    if (dspec_word_is_reserved(name)) return "a word that the trace's metadata keeps for itself";
+    for (size_t i = at; i > 0; i--) {
+        if (names->events[i - 1] == names->events[at] && dspec_text_is(&names->texts[i - 1], name)) return "the name of another event, or of another field of this one";
+        if (names->events[i - 1] && !names->events[at]) return NULL;
+    }
+    return NULL;
+}
+
+/* The place of the first name that the metadata of a trace can't have, and why, as a static text; NULL where it can have all. What dspec_ctf_metadata
+ * refuses as DSPEC_BAD_NAME is told so. */
+DSPEC_INLINE const char *dspec_names_refused(const dspec_names *names, size_t *at) DSPEC_NOEXCEPT {
+    for (size_t i = 0; i < names->count; i++) {
+        const char *why = dspec_name_refused(names, i);
+        if (why == NULL) continue;
+        *at = i;
+        return why;
+    }
+    return NULL;
 }
 
 #ifdef __cplusplus

@@ -48,7 +48,7 @@ DSPEC_INLINE dspec_status dspec_layout_enable(dspec_layout *layout, dspec_schema
     dspec_status status = dspec_schema_enable(schema, widths, n, epid);
     if (status != DSPEC_OK) return status;
     for (size_t i = 0; i < n; i++) layout->of[*epid - 1].widths[i] = widths[i];
-    layout->of[*epid - 1].fields = (uint8_t)n;
+    layout->of[*epid - 1].fields = DSPEC_AS(uint8_t, n);
     layout->enablings = *epid;
     return status;
 }
@@ -72,7 +72,7 @@ DSPEC_INLINE dspec_reading dspec_read(const dspec_layout *layout, const uint8_t 
     if (start == len) return DSPEC_READ_ALL;
     if (start % 8 == 4 && len - start >= 4 && dspec_number_at(bytes + start, 4) == 0) start += 4;
     if (len - start < end) return DSPEC_READ_WRONG;
-    one.epid = (uint32_t)dspec_number_at(bytes + start, 4);
+    one.epid = DSPEC_AS(uint32_t, dspec_number_at(bytes + start, 4));
     if (one.epid == 0 || one.epid > layout->enablings) return DSPEC_READ_WRONG;
     if (layout->stamped) one.stamp = dspec_number_at(bytes + start + 4, 8);
     one.fields = layout->of[one.epid - 1].fields;

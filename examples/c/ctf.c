@@ -78,10 +78,9 @@ static void *work(void *of) {
 }
 
 /* Says what the last batch lost; the server goes on. */
-static void tell(const dspec_folder *folder) {
+static void tell(dspec_folder *folder) {
     const dspec_loss *loss = &folder->last;
-    fprintf(stderr, "ctf: cpu_%" PRIu32 "_%zu: %s: %" PRIu64 " records aren't written\n", loss->cpu, loss->file,
-            loss->code ? strerror(loss->code) : dspec_status_text(loss->status), loss->records);
+    fprintf(stderr, "ctf: cpu_%" PRIu32 "_%zu: %s: %" PRIu64 " records aren't written\n", loss->cpu, loss->file, dspec_folder_why(folder), loss->records);
 }
 
 /* One round of the consumer: what has come of each worker goes into the trace. */
@@ -120,14 +119,15 @@ static void identify(dspec_identity *identity, char host[256]) {
     identity->name = (dspec_text){ "ctf", 3 };
 }
 
-/* What was left of a worker goes into the trace too; how many records it accepted. */
-static uint64_t rest(dspec_closed *closed, dspec_folder *folder, const dspec_layout *layout, uint32_t cpu) {
-    dspec_batch batch;
+/* How many records the workers accepted. */
+static uint64_t accepted_by(dspec_closed *closed) {
     dspec_report report;
-    for (int last = 0; last < 2; last++)
-        if (dspec_rest(closed, cpu, last, &batch) == DSPEC_OK && !dspec_folder_take(folder, layout, &batch)) tell(folder);
-    OK(dspec_closed_report(closed, cpu, &report));
-    return report.accepted;
+    uint64_t sum = 0;
+    for (uint32_t cpu = 0; cpu < WORKERS; cpu++) {
+        OK(dspec_closed_report(closed, cpu, &report));
+        sum += report.accepted;
+    }
+    return sum;
 }
 
 int main(int argc, char **argv) {
@@ -140,7 +140,7 @@ int main(int argc, char **argv) {
     dspec_closed closed = DSPEC_EMPTY;
     dspec_layout layout = { .stamped = true };
     dspec_identity identity;
-    uint64_t accepted = 0;
+    dspec_cpu *cpus[WORKERS];
     char host[256];
     const dspec_config config = {
         .cpus = WORKERS, .nspec = 8, .bufsize = 65536, .specsize = 1024,
@@ -162,7 +162,7 @@ int main(int argc, char **argv) {
     reply_name(&names);
     identify(&identity, host);
     if (!dspec_folder_begin(&folder, argv[1], &schema, WORKERS, &identity, &names)) {
-        fprintf(stderr, "ctf: %s: %s\n", argv[1], folder.last.code ? strerror(folder.last.code) : dspec_status_text(folder.last.status));
+        fprintf(stderr, "ctf: %s: %s\n", argv[1], dspec_folder_why(&folder));
         return 1;
     }
 
@@ -170,20 +170,16 @@ int main(int argc, char **argv) {
     OK(dspec_consumer_of(&session, &consumer));
     for (uint32_t number = 0; number < WORKERS; number++) {
         workers[number].number = number;
-        OK(dspec_cpu_of(&session, number, &workers[number].cpu));
+        cpus[number] = &workers[number].cpu;
+        OK(dspec_cpu_of(&session, number, cpus[number]));
         if (pthread_create(&workers[number].thread, NULL, work, &workers[number]) != 0) return 1;
     }
     while (atomic_load(&done) < WORKERS) consume(&consumer, &folder, &layout);
-    for (uint32_t number = 0; number < WORKERS; number++) {
-        pthread_join(workers[number].thread, NULL);
-        OK(dspec_cpu_home(&workers[number].cpu));
-    }
-    OK(dspec_consumer_home(&consumer));
-    OK(dspec_finish(&session, &closed));
-    for (uint32_t cpu = 0; cpu < WORKERS; cpu++) accepted += rest(&closed, &folder, &layout, cpu);
+    for (uint32_t number = 0; number < WORKERS; number++) pthread_join(workers[number].thread, NULL);
+    OK(dspec_close(&session, cpus, WORKERS, &consumer, &closed));
+    bool whole = dspec_folder_close(&folder, &layout, &closed);
+    printf("accepted %" PRIu64 ", not written %" PRIu64 "\n", accepted_by(&closed), whole ? 0 : folder.first.records);
     dspec_closed_drop(&closed);
     dspec_schema_drop(&schema);
-    bool whole = dspec_folder_end(&folder);
-    printf("accepted %" PRIu64 ", not written %" PRIu64 "\n", accepted, whole ? 0 : folder.first.records);
     return 0;
 }

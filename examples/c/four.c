@@ -133,10 +133,10 @@ static void read_record(reading *r, const dspec_record *one) {
 
 static void read_batch(reading *r, const dspec_batch *batch) {
     dspec_record one;
-    dspec_reading reading;
+    dspec_reading status;
     size_t at = 0;
-    while ((reading = dspec_read(&known, batch->bytes, batch->len, &at, &one)) == DSPEC_READ) read_record(r, &one);
-    if (reading != DSPEC_READ_ALL) wrong("a batch that isn't records");
+    while ((status = dspec_read(&known, batch->bytes, batch->len, &at, &one)) == DSPEC_READ) read_record(r, &one);
+    if (status != DSPEC_READ_ALL) wrong("a batch that isn't records");
     r->drops += batch->drops;
 }
 

@@ -33,7 +33,7 @@ static void let_go(whole *w) {
 /* So many records on each CPU: 1 on the first, 2 on the second, 3 on the third. */
 static void record(whole *w) {
     for (int i = 0; i < 3; i++) {
-        for (int n = 0; n <= i; n++) ANSWERS(DSPEC_TRACE(&w->cpus[i], 1, n), DSPEC_OK);
+        for (uint64_t n = 0; n <= (uint64_t)i; n++) ANSWERS(DSPEC_TRACE(&w->cpus[i], 1, n), DSPEC_OK);
     }
 }
 

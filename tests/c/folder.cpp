@@ -25,6 +25,47 @@ static std::string read(const std::string &path) {
     return {std::istreambuf_iterator<char>(file), {}};
 }
 
+/* What was left of the session, and what speculative buffers dropped, is in the trace once that is closed. */
+static void whole_to_its_end(const std::string &folder) {
+    const dspec_identity identity{{2}, {}, false, 7, 1000, 0, 0, {"here", 4}, {"cpp", 3}};
+    constexpr dspec_config config{1, 1, 64, 32, DSPEC_MAX_ISSUES, DSPEC_MAX_CALLS, DSPEC_POLICY_SWITCH};
+    dspec::schema schema;
+    schema.stamp();
+    auto step = schema.enable<std::uint32_t>();
+    dspec::trace_folder trace(folder.c_str(), schema, 1, identity, dspec::names());
+    dspec::session session(config, schema);
+    {
+        dspec::cpu cpu = session.cpu_of(0);
+        dspec::path path = cpu.open();
+        for (std::uint32_t number = 0; number < 5; number++) path.record_at(step, number, number);
+        CHECK(path.commit().records == 2);
+    }
+    dspec::closed none;
+    CHECK(!trace.close(none) && trace.last().status == DSPEC_BAD_HANDLE);
+    dspec::closed closed = session.finish();
+    CHECK(closed.report(0).specdropped == 3 && trace.close(closed));
+    /* Two events of 4 + 8 + 4 bytes, and behind them a packet that tells three as missed. */
+    const std::string bytes = read(folder + "/cpu_0_0");
+    CHECK(bytes.size() > 64 + 32 && bytes.find(std::string("\3\0\0\0\0\0\0\0\0\0\0\0", 12), 64) != std::string::npos);
+}
+
+/* A name that isn't allowed is told, and why. */
+static void names_told(const std::string &folder) {
+    const dspec_identity identity{{3}, {}, false, 7, 1000, 0, 0, {"here", 4}, {"cpp", 3}};
+    dspec::schema schema;
+    schema.stamp();
+    dspec::names names;
+    names.add(schema.enable<std::uint32_t>(), "step", {"struct"});
+    std::string told;
+    try {
+        dspec::trace_folder trace(folder.c_str(), schema, 1, identity, names);
+    } catch (const dspec::trace_error &e) {
+        told = e.what();
+        CHECK(e.loss.status == DSPEC_BAD_NAME);
+    }
+    CHECK(told == "struct: a word that the trace's metadata keeps for itself");
+}
+
 int main(int argc, char **argv) {
     if (argc != 2) return 2;
     const std::string folder = argv[1];
@@ -50,11 +91,13 @@ int main(int argc, char **argv) {
         CHECK(well && trace.lost() == 0);
         CHECK(!trace.take(dspec_batch{nullptr, 0, 0, 1}) && trace.last().status == DSPEC_NO_SUCH_CPU);
     }
+    whole_to_its_end(folder + ".whole");
     const std::string text = read(folder + "/metadata");
     CHECK(text.find("\t\tinteger { size = 32; align = 8; signed = true; } number;\n\t\tuint8_t last;\n") != std::string::npos);
     CHECK(text.find("\t\tfloating_point { exp_dig = 11; mant_dig = 53; align = 8; } of;\n") != std::string::npos);
     /* A packet of 68 bytes and two events, of 4 + 8 + 4 + 1 and of 4 + 8 + 8. */
     CHECK(read(folder + "/cpu_0_0").size() == 68 + 17 + 20);
+    names_told(folder + ".names");
     int code = 0;
     try {
         dspec::trace_folder again(folder.c_str(), schema, 1, identity, names);

@@ -179,6 +179,71 @@ void parking() {
     CHECK(session.finish().report(0).accepted == 5);
 }
 
+/* A CPU's value is moved under paths that are open on it: they go on, on the value that holds the CPU then. */
+void moving() {
+    world w;
+    dspec_config two = config;
+    two.cpus = 2;
+    two.nspec = 3;
+    dspec::session session(two, w.schema);
+    {
+        std::vector<dspec::cpu> cpus;
+        cpus.reserve(1);
+        cpus.push_back(session.cpu_of(0));
+        dspec::path first = cpus[0].open(), second = cpus[0].open(), third = cpus[0].open();
+        CHECK(first.record(w.of_one, 1) == DSPEC_OK);
+        CHECK(second.discard().status == DSPEC_OK);
+        const dspec::cpu *before = &cpus[0];
+        cpus.push_back(session.cpu_of(1));
+        CHECK(&cpus[0] != before);
+        CHECK(first.record(w.of_one, 2) == DSPEC_OK && third.record(w.of_one, 3) == DSPEC_OK);
+        dspec::cpu moved = std::move(cpus[0]);
+        const auto [status, records] = first.commit();
+        CHECK(status == DSPEC_OK && records == 2);
+        CHECK(cpus[0].open().opened() == DSPEC_BAD_HANDLE && moved.report().accepted == 2);
+        dspec::path other = cpus[1].open();
+        CHECK(other.record(w.of_one, 4) == DSPEC_OK);
+        cpus[1] = std::move(moved);
+        CHECK(other.record(w.of_one, 5) == DSPEC_VOID && other.commit().status == DSPEC_VOID);
+        CHECK(third.record(w.of_one, 6) == DSPEC_OK);
+        cpus.clear();
+        CHECK(third.record(w.of_one, 7) == DSPEC_VOID && third.commit().status == DSPEC_VOID);
+    }
+    dspec::closed closed = session.finish();
+    CHECK(closed.report(0).accepted == 2 && closed.report(0).discarded == 2 && closed.report(0).held == 0);
+    CHECK(closed.report(1).accepted == 0 && closed.report(1).discarded == 1 && closed.report(1).held == 0);
+}
+
+/* Paths in a vector that grows, on CPUs in one that grows. */
+void many_moving() {
+    world w;
+    dspec_config many = config;
+    many.cpus = 9;
+    many.nspec = 20;
+    many.specsize = 256;
+    dspec::session session(many, w.schema);
+    {
+        std::vector<dspec::cpu> cpus;
+        std::vector<dspec::path> paths;
+        for (std::uint32_t n = 0; n < 9; n++) {
+            cpus.push_back(session.cpu_of(n));
+            paths.push_back(cpus.front().open());
+            paths.push_back(cpus.back().open());
+            for (dspec::path &one : paths) CHECK(one.record(w.of_one, n) == DSPEC_OK);
+        }
+        std::uint32_t kept = 0;
+        while (paths.size() > 4) {
+            kept += paths.back().commit().records;
+            paths.pop_back();
+        }
+        CHECK(kept == 2 * (1 + 2 + 3 + 4 + 5 + 6 + 7));
+    }
+    dspec::closed closed = session.finish();
+    std::uint64_t discarded = 0;
+    for (std::uint32_t n = 0; n < 9; n++) discarded += closed.report(n).discarded;
+    CHECK(discarded == 2 * (8 + 9));
+}
+
 /* All that is out, but a CPU that is parked; then with one CPU elsewhere; then a consumer that was moved away, and more CPUs than there are. */
 void closing() {
     world w;
@@ -233,6 +298,8 @@ int main() {
     paths();
     batches();
     parking();
+    moving();
+    many_moving();
     closing();
     refusals();
     std::printf("%d passed, %d failed\n", passed, failed);

@@ -124,6 +124,7 @@ static void let_go(account *a, block *b) {
         a->own.lost += b->count;
         a->own.drops++;
         break;
+    default: abort();
     }
     b->count = 0;
 }

@@ -66,7 +66,7 @@ static void schema_calls(sequence *s) {
     uint8_t widths[9];
     uint32_t n = one_in(&s->dice, 12) ? 9 : below(&s->dice, 4), epid = MAGIC, due_epid = MAGIC;
     bool own;
-    for (uint32_t i = 0; i < 9; i++) widths[i] = one_in(&s->dice, 16) ? (uint8_t)draw(&s->dice) : (uint8_t)(1u << below(&s->dice, 4));
+    for (uint32_t i = 0; i < 9; i++) widths[i] = (uint8_t)(one_in(&s->dice, 16) ? draw(&s->dice) : UINT64_C(1) << below(&s->dice, 4));
     dspec_schema *h = maybe_wrong(s, &s->schema, &own);
     if (one_in(&s->dice, 16)) {
         bool held = h->held && own;

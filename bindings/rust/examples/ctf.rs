@@ -81,14 +81,11 @@ fn main() -> Result<(), Box<dyn Error>> {
     }
     drop(consumer);
     let closed = session.finish()?;
+    let unwritten = folder.close(&closed);
     let mut accepted = 0;
     for cpu in 0..WORKERS {
-        let rest = closed.rest(cpu)?;
-        for batch in rest.untaken.iter().chain([&rest.last]) {
-            write(&mut folder, batch);
-        }
         accepted += closed.report(cpu)?.accepted;
     }
-    println!("accepted {accepted}, not written {}", folder.end());
+    println!("accepted {accepted}, not written {unwritten}");
     Ok(())
 }

@@ -78,6 +78,8 @@ fn uuid_of(text: &str) -> Option<[u8; 16]> {
 #[derive(Clone, Debug, Default)]
 pub struct CtfNames {
     texts: Vec<String>,
+    /// At which places the names of events stand.
+    events: Vec<usize>,
     kinds: Vec<u8>,
 }
 
@@ -90,9 +92,29 @@ impl CtfNames {
 
     /// Adds the name of the next probe and those of its fields.
     pub fn add<F: Fields>(&mut self, _probe: Probe<F>, event: &str, fields: &[&str]) {
+        self.events.push(self.texts.len());
         self.texts.push(event.to_owned());
         self.texts.extend(fields.iter().map(|&field| field.to_owned()));
         self.kinds.extend(F::KINDS);
+    }
+
+    /// The first name that a trace can't have, for which [`CtfNames::metadata`] answers [`Error::Name`]: it isn't a letter or an underscore and then
+    /// letters, digits and underscores, 255 at most; or the metadata keeps it for itself, as `event` or `struct`; or another event has it, or another field
+    /// of its event.
+    #[must_use]
+    pub fn refused(&self) -> Option<&str> {
+        let mut places = 0..self.texts.len();
+        places.find(|&place| self.stands_before(place) || is_refused(&self.texts[place])).map(|place| self.texts[place].as_str())
+    }
+
+    /// Whether the name at a place is that of an event before, or of a field before of the same event.
+    fn stands_before(&self, place: usize) -> bool {
+        let name = &self.texts[place];
+        let before = self.events.iter().take_while(|&&event| event < place);
+        if self.events.contains(&place) {
+            return before.into_iter().any(|&event| &self.texts[event] == name);
+        }
+        before.last().is_some_and(|&event| self.texts[event + 1..place].contains(name))
     }
 
     /// The text of the file `metadata` of a trace of this schema.
@@ -142,6 +164,28 @@ impl CtfNames {
             Err(error) => Err(Put::Refused(error)),
         }
     }
+}
+
+/// Whether a trace can't have this name, as the library says of one event that is called so.
+fn is_refused(name: &str) -> bool {
+    let of_one_event = || {
+        let mut schema = Schema::new()?;
+        schema.stamp();
+        schema.enable(&[])?;
+        let identity = CtfIdentity {
+            uuid: [1; 16],
+            host: "here".to_owned(),
+            name: "names".to_owned(),
+            pid: 0,
+            hertz: 1,
+            seconds: 0,
+            ticks: 0,
+            clock: None,
+        };
+        let names = CtfNames { texts: vec![name.to_owned()], events: vec![0], kinds: Vec::new() };
+        names.metadata(&schema, &identity)
+    };
+    of_one_event() == Err(Error::Name)
 }
 
 /// Why no text was put.

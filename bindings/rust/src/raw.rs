@@ -1,4 +1,4 @@
-//! The calls and types of `dspec.h`.
+//! The calls and types of `dspec.h`; and one of the system's.
 
 use crate::Report;
 use std::ffi::c_void;
@@ -154,4 +154,18 @@ extern "C" {
     pub(crate) fn dspec_ctf_put(ctf: *mut Words, room: *mut u8, size: usize, packet: *mut Packet) -> Status;
     pub(crate) fn dspec_ctf_lose(ctf: *mut Words, records: *mut u64) -> Status;
     pub(crate) fn dspec_ctf_miss(ctf: *mut Words, count: u64) -> Status;
+}
+
+/// Keeps room for a file, whose size stays with this mode.
+#[cfg(target_os = "linux")]
+pub(crate) const KEEP_SIZE: i32 = 1;
+/// The system's numbers for a full disk, and for a quota that is used up.
+#[cfg(target_os = "linux")]
+pub(crate) const NO_SPACE: i32 = 28;
+#[cfg(target_os = "linux")]
+pub(crate) const NO_QUOTA: i32 = 122;
+
+#[cfg(target_os = "linux")]
+extern "C" {
+    pub(crate) fn fallocate(file: i32, mode: i32, from: i64, bytes: i64) -> i32;
 }

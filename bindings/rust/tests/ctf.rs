@@ -138,19 +138,58 @@ fn metadata_and_its_refusals() {
 fn a_folder_in_which_something_stands() {
     let (schema, step) = schema();
     let path = fresh("folder");
-    let mut folder = CtfFolder::begin(&path, &schema, 1, &identity(), &CtfNames::new()).unwrap();
-    let again = CtfFolder::begin(&path, &schema, 1, &identity(), &CtfNames::new());
-    assert!(matches!(again, Err(LossCause::System(error)) if error.kind() == std::io::ErrorKind::AlreadyExists));
+    let begin = || CtfFolder::begin(&path, &schema, 1, &identity(), &CtfNames::new());
+    let refused = || matches!(begin(), Err(LossCause::System(error)) if error.kind() == std::io::ErrorKind::AlreadyExists);
+    fs::create_dir_all(&path).unwrap();
     fs::write(path.join("cpu_0_0"), b"mine").unwrap();
-    let closed = traced(&schema, step, 48, &[10, 20, 5]);
-    let loss = folder.take(&closed.rest(0).unwrap().last).unwrap_err();
-    assert!(loss.cpu == 0 && loss.file == Some(0) && loss.records == 3 && matches!(loss.cause, LossCause::System(_)), "{loss}");
+    assert!(refused() && !path.join("metadata").exists());
     assert_eq!(fs::read(path.join("cpu_0_0")).unwrap(), b"mine");
     fs::remove_file(path.join("cpu_0_0")).unwrap();
+    let mut folder = begin().unwrap();
+    assert!(refused() && path.join("metadata").exists());
+    fs::write(path.join("cpu_0_1"), b"mine").unwrap();
+    let closed = traced(&schema, step, 48, &[10, 20, 5]);
+    let loss = folder.take(&closed.rest(0).unwrap().last).unwrap_err();
+    assert!(loss.cpu == 0 && loss.file == Some(1) && loss.records == 1 && matches!(loss.cause, LossCause::System(_)), "{loss}");
+    assert_eq!(fs::read(path.join("cpu_0_1")).unwrap(), b"mine");
     let closed = traced(&schema, step, 16, &[40]);
     folder.take(&closed.rest(0).unwrap().last).unwrap();
-    assert_eq!((folder.lost(), folder.end()), (3, 3));
-    let due = [packet(0, 0, 0, &[]), packet(0, 0, 5, &[]), packet(40, 40, 5, &[40])].concat();
-    assert_eq!(fs::read(path.join("cpu_0_0")).unwrap(), due);
+    assert_eq!((folder.lost(), folder.end()), (1, 1));
+    let first = [packet(0, 0, 0, &[]), packet(0, 0, 1, &[]), packet(10, 20, 1, &[10, 20])].concat();
+    let second = [packet(20, 20, 1, &[]), packet(20, 20, 3, &[]), packet(40, 40, 3, &[40])].concat();
+    assert_eq!(fs::read(path.join("cpu_0_0")).unwrap(), [first, second].concat());
     fs::remove_dir_all(&path).unwrap();
+}
+
+#[test]
+fn names_that_are_refused() {
+    let (schema, step) = schema();
+    let path = fresh("names");
+    let mut named = CtfNames::new();
+    named.add(step, "step", &["struct"]);
+    let refused = CtfFolder::begin(&path, &schema, 1, &identity(), &named).unwrap_err();
+    assert_eq!(refused.to_string(), "the name `struct` isn't allowed, or stands there twice");
+    assert!(!path.exists());
+    let two = Schema::new().unwrap().probe::<(u32, u32)>().unwrap();
+    let refuses = |all: [&[&str]; 2]| {
+        let mut names = CtfNames::new();
+        for one in all {
+            names.add(two, one[0], &one[1..]);
+        }
+        names.refused().map(str::to_owned)
+    };
+    assert_eq!(refuses([&["one", "first", "second"], &["other", "first", "one"]]), None);
+    assert_eq!(refuses([&["one", "first", "first"], &["other", "a", "b"]]).as_deref(), Some("first"));
+    assert_eq!(refuses([&["one", "a", "b"], &["one", "a", "b"]]).as_deref(), Some("one"));
+    assert_eq!(refuses([&["one", "a", "2nd"], &["event", "a", "b"]]).as_deref(), Some("2nd"));
+}
+
+#[test]
+fn a_folder_of_no_cpus() {
+    let (schema, _) = schema();
+    let path = fresh("none");
+    for cpus in [0, 65] {
+        let refused = CtfFolder::begin(&path, &schema, cpus, &identity(), &CtfNames::new());
+        assert!(matches!(refused, Err(LossCause::Library(Error::Cpus))) && !path.exists());
+    }
 }
