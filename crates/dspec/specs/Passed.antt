@@ -58,6 +58,10 @@ module _ {K : Type 0} (gets : K → Batch → K → Type 0) where
   GotAll k [] l = k ≡ l
   GotAll k (x ∷ xs) l = (m : K) × gets k x.batch m × GotAll m xs l
 
+  -- the sink is there, and got these batches
+  abbrev pub GotThere : K → List Passed → Option K → Type 0
+  GotThere k xs new = (l : K) × (new ≡ Some l) × GotAll k xs l
+
   -- the consumer took batches, and the sink got those that it took of each CPU, in their order; of deeds its seat entered Releases alone
   pub record PassesOn (words : Words) (x : Consuming) (k : K) (y : Consuming) (l : K) : Type 0 where
     pub stays : Stays words x y

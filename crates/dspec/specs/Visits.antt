@@ -1,4 +1,4 @@
--- Serves proofs. What the consumer does in one of its rounds while a session is traced.
+-- Serves proofs. What the consumer does in its rounds while a session is traced.
 use Rattle.std.specs.Prelude.{ℕ, ◌≡◌, ◌<◌, ◌+◌, ◌⊎◌}
 use Rattle.dspec_ring.specs.declared.batch.Batch.{Batch}
 use Rattle.dspec_session_core.specs.Asking.{Asked}
@@ -31,3 +31,8 @@ module _ {K : Type 0} (gets : K → Batch → K → Type 0) where
     pub released : ℕ
     pub cleans : Cleaned released (view_of visited) (view_of y)
     pub ends : y.ends ≡ visited.ends
+
+  -- some rounds, one behind the other
+  pub data MakesRounds (count : ℕ) (x : Consuming) (k : K) : Consuming → K → Type 0 where
+    no_rounds : MakesRounds count x k x k
+    rounds_more : {y : Consuming} {l : K} (z : Consuming) (m : K) → MakesRounds count x k y l → MakesRound count y l z m → MakesRounds count x k z m

@@ -1,4 +1,5 @@
-ghost use Rattle.dspec.specs.Passed.{GetsIfThere};
+ghost use Rattle.std.specs.Prelude.{◌≡◌, List, None, Option, Some};
+ghost use Rattle.dspec.specs.Passed.{GetsIfThere, GotAll, GotThere, Passed};
 
 use crate::work::Sink;
 use dspec_record::Schema;
@@ -45,3 +46,11 @@ impl<S: Schema, K: Sink<S>> Sink<S> for Option<K> {
         }
     }
 }
+
+/// What follows of a sink that may be left out, over all batches of a session: one that is there is there behind them, and got each; one
+/// that was left out stays so.
+pub fn sink_stays<S: Schema, K: Sink<S>>(_schema: &S)
+    ensures there { (k : K) (passed : List Passed) (new : Option K) → GotAll (GetsIfThere (K.gets _schema.now)) (Some k) passed new
+        → GotThere (K.gets _schema.now) k passed new }
+    ensures left_out { (passed : List Passed) (new : Option K) → GotAll (GetsIfThere (K.gets _schema.now)) None passed new → new ≡ None }
+{}

@@ -21,7 +21,7 @@
 //! | `work.rt`, `running.rt` | `Work`; `Sink`, whose ghost relation `gets` says what a batch makes of it; `trace`; the consumer's round, and what is passed on at the close |
 //! | `serving_on.rt` | a work that has returned: its lane serves until all works have |
 //! | `worker.rt`, `workers.rt`, `stop.rt` | `Worker`, with a state of its own; `trace_workers`, which pairs CPUs and workers, lends each pair to a thread and takes them apart again; `Stop` |
-//! | `record_sink.rt`, `both.rt` | sinks: all records kept; two sinks that get the same; one that may be left out |
+//! | `record_sink.rt`, `both.rt` | sinks: all records kept; two sinks that get the same; one that may be left out, and the law of it |
 //! | `closing.rt`, `each_closed.rt` | `closed_cpu`, `closed_cpus` (`specs/ClosedCpus`: what is left of which CPU, in order) |
 //! | `specs/`: Lanes, Lent | `place_of`, which lane it is: all that a program says of its worker; what the threads are lent, and return |
 //! | `specs/`: Walks, Counts | what steps do to a path; what the system's clock counts |
@@ -53,7 +53,7 @@ mod worker;
 mod workers;
 
 pub use bad_record::BadRecord;
-pub use both::Both;
+pub use both::{Both, sink_stays};
 pub use clock::Clock;
 pub use closing::{ClosedCpu, closed_cpu, closed_cpus};
 pub use dspec_buffer::{ReadFault, Reading, Records, read_all, read_prefix};

@@ -5,7 +5,7 @@ ghost use Rattle.dspec_deeds.specs.Ranges.{start_fault};
 ghost use Rattle.dspec_cpu.specs.Called.{called};
 ghost use Rattle.dspec_cpu.specs.Lists.{number_in, schema_of, words_of};
 ghost use Rattle.dspec_cpu.specs.Standing.{IsCallable, identity};
-ghost use Rattle.dspec_session_core.specs.Consumers.{IsConsumerOf};
+ghost use Rattle.dspec_session_core.specs.Consumers.{IsConsumerOf, set_up_of};
 ghost use Rattle.dspec_session_core.specs.declared.left.Left.{Left};
 ghost use Rattle.dspec_session_core.specs.Leaving.{AllSteady};
 ghost use Rattle.dspec_session_core.specs.Sessions.{IsSession};
@@ -13,7 +13,7 @@ ghost use Rattle.dspec.specs.Lent.{AllCallable, AllReturned};
 ghost use Rattle.dspec.specs.Passed.{GotAll, HasListsWith, PassesOn, rests_passed};
 ghost use Rattle.dspec.specs.Serving.{ThenServed};
 ghost use Rattle.dspec.specs.Traced.{IsTracedWith};
-ghost use Rattle.dspec.specs.Visits.{MakesRound, VisitsOne};
+ghost use Rattle.dspec.specs.Visits.{MakesRound, MakesRounds, VisitsOne};
 
 use crate::lane::Lane;
 use crate::serving_on::WorkCounts;
@@ -97,7 +97,7 @@ pub fn visit_all<K: Sink<Enablings>>(
     consumer.clean(shared);
 }
 
-/// Rounds until the work is over.
+/// Rounds until the work is over, each of which visits so many CPUs.
 pub(crate) fn drain<K: Sink<Enablings>>(
     consumer: Consumer,
     shared: &Shared,
@@ -107,7 +107,8 @@ pub(crate) fn drain<K: Sink<Enablings>>(
     over: &AtomicU64,
 ) -> (Consumer, K)
     requires { IsConsumerOf (words_of shared.now) consumer }
-    ensures { PassesOn (K.gets schema.now) (words_of shared.now) consumer sink result.0 result.1 }
+    ensures passes { PassesOn (K.gets schema.now) (words_of shared.now) consumer sink result.0 result.1 }
+    ensures rounds { MakesRounds (K.gets schema.now) count consumer sink result.0 result.1 }
 {
     let (mut consumer, mut sink) = (consumer, sink);
     for _ in 0..u64::MAX {
@@ -129,11 +130,13 @@ fn run<R: Threads + Sync, W: Work<Enablings>, K: Sink<Enablings>>(
     work: &W,
     sink: K,
 ) -> (Session<Enablings>, K)
-    requires { IsSession schema.now session }
+    requires session { IsSession schema.now session }
+    requires count { count ≡ (set_up_of session.consumer).cpus }
     ensures lent { IsSession schema.now result.0 }
     ensures words { result.0.shared ≡ session.shared }
     ensures returned { AllReturned (λ s. ThenServed (W.does s work.now)) session.cpus.items result.0.cpus.items }
     ensures passes { PassesOn (K.gets schema.now) (words_of session.shared) session.consumer sink result.0.consumer result.1 }
+    ensures rounds { MakesRounds (K.gets schema.now) (set_up_of session.consumer).cpus session.consumer sink result.0.consumer result.1 }
 {
     let over = AtomicU64::new(0);
     let flag = &over;
@@ -147,7 +150,7 @@ fn run<R: Threads + Sync, W: Work<Enablings>, K: Sink<Enablings>>(
         rt,
         move || -> (Consumer, K)
             requires { IsConsumerOf (words_of words.now) consumer }
-            ensures { PassesOn (K.gets schema.entry.now) (words_of words.entry.now) consumer sink result.0 result.1 }
+            ensures { PassesOn (K.gets schema.entry.now) (words_of words.entry.now) consumer sink result.0 result.1 × MakesRounds (K.gets schema.entry.now) count consumer sink result.0 result.1 }
         { drain(consumer, words, schema, count, sink, flag) },
         move || -> Vec<Cpu<Enablings>>
             requires { IsSync R.row × AllCallable words.now cpus.items }

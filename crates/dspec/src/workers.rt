@@ -5,12 +5,13 @@ ghost use Rattle.dspec_deeds.specs.Ranges.{start_fault};
 ghost use Rattle.dspec_cpu.specs.Called.{called};
 ghost use Rattle.dspec_cpu.specs.Lists.{number_in, schema_of, words_of};
 ghost use Rattle.dspec_cpu.specs.Standing.{IsCallable, identity};
-ghost use Rattle.dspec_session_core.specs.Consumers.{IsConsumerOf};
+ghost use Rattle.dspec_session_core.specs.Consumers.{IsConsumerOf, set_up_of};
 ghost use Rattle.dspec_session_core.specs.Sessions.{IsSession};
 ghost use Rattle.dspec.specs.Lent.{AllCallable, AllReturned};
 ghost use Rattle.dspec.specs.Passed.{HasListsWith, PassesOn};
 ghost use Rattle.dspec.specs.Serving.{ThenServed};
 ghost use Rattle.dspec.specs.Traced.{IsTracedWith};
+ghost use Rattle.dspec.specs.Visits.{MakesRounds};
 ghost use Rattle.dspec.specs.Workers.{AllNumbered, AllWorked, WorkedBy, WorkedOne, cpus_of, with_cpus, workers_of};
 
 use crate::lane::Lane;
@@ -146,11 +147,13 @@ fn run_workers<R: Threads + Sync, W: Worker<Enablings>, K: Sink<Enablings>>(
     sink: K,
 ) -> (Session<Enablings>, Vec<W>, K)
     requires session { IsSession schema.now session }
+    requires cpus { count ≡ (set_up_of session.consumer).cpus }
     requires count { length workers.items ≡ length session.cpus.items }
     requires room { (room.items ≡ []) × (length session.cpus.items ≤ vec_capacity room) }
     ensures lent { IsSession schema.now result.0 × (result.0.shared ≡ session.shared) × (length result.1.items ≡ length workers.items) }
     ensures returned { AllReturned (λ s. ThenServed (WorkedBy (W.does s) workers.items result.1.items)) session.cpus.items result.0.cpus.items }
     ensures passes { PassesOn (K.gets schema.now) (words_of session.shared) session.consumer sink result.0.consumer result.2 }
+    ensures rounds { MakesRounds (K.gets schema.now) (set_up_of session.consumer).cpus session.consumer sink result.0.consumer result.2 }
 {
     let over = AtomicU64::new(0);
     let flag = &over;
@@ -164,7 +167,7 @@ fn run_workers<R: Threads + Sync, W: Worker<Enablings>, K: Sink<Enablings>>(
         rt,
         move || -> (Consumer, K)
             requires { IsConsumerOf (words_of words.now) consumer }
-            ensures { PassesOn (K.gets schema.entry.now) (words_of words.entry.now) consumer sink result.0 result.1 }
+            ensures { PassesOn (K.gets schema.entry.now) (words_of words.entry.now) consumer sink result.0 result.1 × MakesRounds (K.gets schema.entry.now) count consumer sink result.0 result.1 }
         { drain(consumer, words, schema, count, sink, flag) },
         move || -> (Vec<Cpu<Enablings>>, Vec<W>)
             requires { IsSync R.row × AllCallable words.now cpus.items × AllNumbered cpus.items × (length workers.items ≡ length cpus.items) × (room.items ≡ []) × (length cpus.items ≤ vec_capacity room) }

@@ -1,15 +1,15 @@
 -- A verdict more is said to one lane, and done behind others.
-use Rattle.std.proofs.Common.{◌≡◌, ℕ, ◌+◌, ◌<◌, Bool, true, false, List, [], ◌∷◌, ◌++◌, length, refl, ap, ◌∙◌, subst, arith, append_assoc, get_or}
-use Rattle.std.specs.Prelude.{MatchBool, slice_set, option_map}
-use Rattle.std.proofs.lemmas.List.{map-set, length-append}
-use Rattle.std.proofs.lemmas.Option.{slice_get-map, slice_get_read}
+use Rattle.std.proofs.Common.{◌≡◌, ℕ, ◌+◌, ◌<◌, ◌≤◌, Bool, true, false, List, [], ◌∷◌, ◌++◌, length, map, refl, sym, ap, ◌∙◌, subst, arith, append_assoc, get_or}
+use Rattle.std.specs.Prelude.{MatchBool, slice_get, slice_set, option_map, Some}
+use Rattle.std.proofs.lemmas.List.{map-set, length-append, length-map}
+use Rattle.std.proofs.lemmas.Option.{slice_get-map, slice_get_read, slice_get_within}
 use Rattle.std.proofs.Math.Seq.{map-set_same}
 use Rattle.dspec_record.specs.declared.schema.Schema.{Ghosts}
 use Rattle.dspec_word.specs.SpecId.{Speculation}
 use Rattle.dspec_deeds.specs.declared.deed.Deed.{Deed}
 use Rattle.dspec_cpu.specs.declared.cpu.Cpu.{Cpu}
 use Rattle.dspec.specs.declared.lane.Lane.{Lane}
-use Rattle.dspec_threads.specs.Said.{SaysTo, said_by, said_to_each}
+use Rattle.dspec_threads.specs.Said.{SaysTo, SaysWithin, room_of_lane, rooms_of_lanes, said_by, said_to_each}
 use Rattle.dspec_threads.specs.Settled.{DoesVerdict, DoesVerdicts, SettlesNext}
 use Rattle.dspec_threads.specs.declared.saying.Sayer.{Sayer}
 use Rattle.dspec_threads.specs.declared.verdict.Verdict.{Verdict}
@@ -41,3 +41,28 @@ module _ {J : Type 0} where
       )
   said_to_one ss i s t v false lt is said =
       let f : Sayer J → List Verdict = said_by in map-set_same f ss i t s (said ∙ ap f is)
+
+  within : (ss : List (Sayer J)) (i : ℕ) (s t : Sayer J) (a : Bool) (r : ℕ) → room_of_lane s ≡ r
+      → MatchBool a (room_of_lane s ≤ room_of_lane t + 1) (room_of_lane s ≡ 0)
+      → MatchBool a ((n : ℕ) × (rooms_of_lanes (slice_set ss i t) ≡ slice_set (rooms_of_lanes ss) i n) × (r ≤ n + 1)) (r ≡ 0)
+  within ss i s t true r same room =
+      let f : Sayer J → ℕ = room_of_lane in
+      (f t, map-set f ss i t, subst (λ n. n ≤ f t + 1) same room)
+  within ss i s t false r same room = sym same ∙ room
+
+  -- a lane that is there was told, and has one place less at the most; or it has none
+  pub said_within : (ss : List (Sayer J)) (i : ℕ) (s t : Sayer J) (a : Bool) → i < length ss → s ≡ get_or ss i s
+      → MatchBool a (room_of_lane s ≤ room_of_lane t + 1) (room_of_lane s ≡ 0) → SaysWithin i a ss (slice_set ss i t)
+  said_within ss i s t a lt is room r at =
+      let f : Sayer J → ℕ = room_of_lane in
+      let there : slice_get (map f ss) i ≡ Some (f s) = slice_get-map f ss i ∙ ap (option_map f) (slice_get_read ss (length ss) i s refl lt is) in
+      let same : f s ≡ r = cc (there, at) in
+      within ss i s t a r same room
+
+  -- there is no such lane
+  pub no_lane : (ss : List (Sayer J)) (i : ℕ) → length ss ≤ i → SaysWithin i false ss ss
+  no_lane ss i over r at =
+      let within = slice_get_within (rooms_of_lanes ss) i r at in
+      let f : Sayer J → ℕ = room_of_lane in
+      let same = length-map ss f in
+      absurd (omega arith)

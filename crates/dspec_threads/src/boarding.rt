@@ -1,7 +1,7 @@
 ghost use Rattle.std.specs.Prelude.{◌≡◌, [], IfOk, length, replicate};
 ghost use Rattle.dspec.specs.Lanes.{place_of};
-ghost use Rattle.dspec_threads.specs.Said.{SaysTo, said_to_each};
-ghost use Rattle.dspec_threads.specs.Settled.{SettlesSome};
+ghost use Rattle.dspec_threads.specs.Said.{SaysTo, SaysWithin, rooms_of_lanes, said_into_each, said_to_each};
+ghost use Rattle.dspec_threads.specs.Settled.{SettlesSome, settled_from_each};
 
 use crate::judging::Judging;
 use crate::saying::Sayer;
@@ -11,6 +11,7 @@ use dspec::{Handed, Lane};
 use dspec_cpu::{Cpu, Listed};
 use dspec_record::Schema;
 use std::alloc::{AllocError, Global};
+use std::snapshot::Snapshot;
 use std::sync::Mutex;
 
 /// What the consumer has: it says verdicts. A sink holds it.
@@ -22,7 +23,26 @@ pub struct Judge<J: Judging> {
 /// What the lanes share: they settle what was said. A work holds it by reference.
 #[derive(Drop)]
 pub struct Verdicts<J: Judging> {
-    settlers: Vec<Mutex<Settler<J>>>,
+    settlers: Vec<Locked<J>>,
+}
+
+// What settles for a lane. No clause sees what is under a lock, but that it is such a one: `began` says which was put there.
+#[derive(Drop)]
+pub(crate) struct Locked<J: Judging> {
+    began: Snapshot<Settler<J>>,
+    settler: Mutex<Settler<J>>,
+}
+
+impl<J: Judging> Locked<J> {
+    // Under a lock.
+    fn of(settler: Settler<J>) -> Locked<J>
+        ensures { result.began.value ≡ settler }
+    {
+        Locked {
+            began: Snapshot::of(&settler),
+            settler: Mutex::new(settler),
+        }
+    }
 }
 
 /// Both ends of a board for so many lanes, each with room for so many verdicts that wait. Takes all memory that it will need.
@@ -31,14 +51,16 @@ pub fn board<J: Judging>(
     lanes: u32,
     room: usize,
 ) -> Result<(Judge<J>, Verdicts<J>), AllocError>
+    ensures ends { IfOk result (λ r. settled_from_each r.1.settlers.items ≡ said_into_each r.0.sayers.items) }
     ensures judge { IfOk result (λ r. said_to_each r.0.sayers.items ≡ replicate lanes []) }
+    ensures rooms { IfOk result (λ r. rooms_of_lanes r.0.sayers.items ≡ replicate lanes room) }
     ensures lanes { IfOk result (λ r. length r.1.settlers.items ≡ lanes) }
 {
     let (mut sayers, mut settlers) = (Vec::new(alloc), Vec::new(alloc));
     for _ in 0..lanes {
         let (sayer, settler) = pair(alloc, room)?;
         sayers.push(sayer)?;
-        settlers.push(Mutex::new(settler))?;
+        settlers.push(Locked::of(settler))?;
     }
     Ok((Judge { sayers }, Verdicts { settlers }))
 }
@@ -49,7 +71,8 @@ impl<J: Judging> Judge<J> {
     /// there is no such lane.
     pub fn say(&mut self, lane: u32, path: Handed, keep: bool) -> bool
         requires { J.may path.id keep }
-        ensures { SaysTo lane (record { path = path; keep = keep }) result self.old.sayers.items self.new.sayers.items }
+        ensures says { SaysTo lane (record { path = path; keep = keep }) result self.old.sayers.items self.new.sayers.items }
+        ensures room { SaysWithin lane result self.old.sayers.items self.new.sayers.items }
     {
         let index = lane as usize;
         if index >= self.sayers.len() {
@@ -67,10 +90,10 @@ impl<J: Judging> Verdicts<J> {
         ensures same { place_of lane.new ≡ place_of lane.old }
         ensures does { SettlesSome ⟦<Cpu<S> as Listed>⟧.has_list J.may result lane.old lane.new }
     {
-        let Some(settler) = self.settlers.get(lane.number() as usize) else {
+        let Some(locked) = self.settlers.get(lane.number() as usize) else {
             return 0;
         };
-        let Some(mut settler) = settler.try_lock() else {
+        let Some(mut settler) = locked.settler.try_lock() else {
             return 0;
         };
         settler.settle(lane)

@@ -1,6 +1,7 @@
-ghost use Rattle.std.specs.Prelude.{◌≡◌, ◌++◌, [], ◌∷◌, List, IfOk, MatchOption, MatchResult, length};
+ghost use Rattle.std.specs.Prelude.{◌≡◌, ◌≤◌, ◌+◌, ◌++◌, [], ◌∷◌, List, IfNone, IfOk, IfSome, MatchOption, MatchResult, length};
+ghost use mathlib.Core.List.{IsPrefix};
 ghost use Rattle.dspec.specs.declared.handing.Handed.{Handed};
-ghost use Rattle.dspec_threads.specs.Belts.{given_by, given_onto, handed_of, taken_by, taken_from_belt};
+ghost use Rattle.dspec_threads.specs.Belts.{coming_to, given_by, given_onto, handed_of, room_of_belt, taken_by, taken_from_belt};
 
 use dspec::{Handed, Path};
 use rtrb::{Consumer, Producer, RingBuffer};
@@ -23,6 +24,7 @@ pub struct Taker {
 pub fn belt(alloc: Global, room: usize) -> Result<(Giver, Taker), AllocError>
     ensures ends { IfOk result (λ r. taken_from_belt r.1 ≡ given_onto r.0) }
     ensures unused { IfOk result (λ r. (given_by r.0 ≡ []) × (taken_by r.1 ≡ [])) }
+    ensures room { IfOk result (λ r. room_of_belt r.0 ≡ room) }
 {
     let (going, coming) = RingBuffer::<Handed>::new(alloc, room)?;
     Ok((Giver { going }, Taker { coming }))
@@ -35,6 +37,7 @@ impl Giver {
     pub fn give(&mut self, path: Path) -> Result<(), Path>
         ensures belt { given_onto self.new ≡ given_onto self.old }
         ensures given { MatchResult result (λ _. given_by self.new ≡ given_by self.old ++ handed_of path ∷ []) (λ back. (back ≡ path) × (given_by self.new ≡ given_by self.old)) }
+        ensures room { MatchResult result (λ _. room_of_belt self.old ≤ room_of_belt self.new + 1) (λ _. room_of_belt self.old ≡ 0) }
     {
         if self.going.is_full() {
             return Err(path);
@@ -51,6 +54,8 @@ impl Taker {
     pub fn take(&mut self) -> Option<Path>
         ensures belt { taken_from_belt self.new ≡ taken_from_belt self.old }
         ensures taken { MatchOption result (taken_by self.new ≡ taken_by self.old) (λ path. taken_by self.new ≡ taken_by self.old ++ handed_of path ∷ []) }
+        ensures next { IfSome result (λ path. IsPrefix (coming_to self.old) (handed_of path ∷ coming_to self.new)) }
+        ensures empty { IfNone result (coming_to self.old ≡ []) }
     {
         match self.coming.pop() {
             Ok(handed) => Some(Path::take(handed)),

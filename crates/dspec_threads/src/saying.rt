@@ -1,5 +1,5 @@
-ghost use Rattle.std.specs.Prelude.{◌≡◌, ◌++◌, [], ◌∷◌, MatchBool};
-ghost use Rattle.dspec_threads.specs.Said.{said_by, said_into};
+ghost use Rattle.std.specs.Prelude.{◌≡◌, ◌≤◌, ◌+◌, ◌++◌, [], ◌∷◌, MatchBool};
+ghost use Rattle.dspec_threads.specs.Said.{room_of_lane, said_by, said_into};
 
 use crate::judging::{Judging, Said};
 use crate::verdict::Verdict;
@@ -19,6 +19,7 @@ impl<J: Judging> Sayer<J> {
         requires { J.may verdict.path.id verdict.keep }
         ensures ring { said_into self.new ≡ said_into self.old }
         ensures said { MatchBool result (said_by self.new ≡ said_by self.old ++ verdict ∷ []) (said_by self.new ≡ said_by self.old) }
+        ensures room { MatchBool result (room_of_lane self.old ≤ room_of_lane self.new + 1) (room_of_lane self.old ≡ 0) }
     {
         self.going.push(verdict).is_ok()
     }

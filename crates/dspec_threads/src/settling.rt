@@ -1,6 +1,6 @@
 ghost use Rattle.std.specs.Prelude.{◌≡◌, ℕ, ◌++◌, [], List, length, IfOk};
 ghost use Rattle.dspec.specs.Lanes.{place_of};
-ghost use Rattle.dspec_threads.specs.Said.{said_by, said_into};
+ghost use Rattle.dspec_threads.specs.Said.{room_of_lane, said_by, said_into};
 ghost use Rattle.dspec_threads.specs.Settled.{DoesVerdict, SettlesNext, settled_by, settled_from};
 ghost use Rattle.dspec_threads.specs.declared.verdict.Verdict.{Verdict};
 
@@ -65,6 +65,7 @@ impl<J: Judging> Settler<J> {
 pub fn pair<J: Judging>(alloc: Global, room: usize) -> Result<(Sayer<J>, Settler<J>), AllocError>
     ensures ends { IfOk result (λ r. settled_from r.1 ≡ said_into r.0) }
     ensures unused { IfOk result (λ r. (said_by r.0 ≡ []) × (settled_by r.1 ≡ [])) }
+    ensures room { IfOk result (λ r. room_of_lane r.0 ≡ room) }
 {
     let (going, coming) = RingBuffer::<Verdict>::with_protocol::<Global, Said<J>>(alloc, room)?;
     Ok((Sayer { going }, Settler { coming }))

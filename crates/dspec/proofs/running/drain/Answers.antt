@@ -1,10 +1,17 @@
 use Rattle.dspec_cpu.specs.Lists.{words_of}
+use Rattle.dspec.specs.Visits.{no_rounds, rounds_more}
 use Rattle.dspec.proofs.Passing.{passes_both, passes_nothing}
 use Rattle.dspec.proofs.running.drain.Goals as goal
 
 pub loop-init : goal.loop-init
-loop-init g c = passes_nothing (g.K.Sink.gets c.args.schema.now) (words_of c.args.shared.now) c.args.consumer c.args.sink c.requires
+loop-init g c = (
+  passes_nothing (g.K.Sink.gets c.args.schema.now) (words_of c.args.shared.now) c.args.consumer c.args.sink c.requires,
+  no_rounds,
+)
 
 pub loop-preserved : goal.loop-preserved
-loop-preserved g c = passes_both (g.K.Sink.gets c.args.schema.now) (words_of c.args.shared.now) c.args.consumer c.loop.consumer c.visit_all.new.consumer
-    c.args.sink c.loop.sink c.visit_all.new.sink c.loop.invariant c.visit_all.ensures.passes
+loop-preserved g c = (
+  passes_both (g.K.Sink.gets c.args.schema.now) (words_of c.args.shared.now) c.args.consumer c.loop.consumer c.visit_all.new.consumer
+      c.args.sink c.loop.sink c.visit_all.new.sink c.loop.invariant.0 c.visit_all.ensures.passes,
+  rounds_more c.visit_all.new.consumer c.visit_all.new.sink c.loop.invariant.1 c.visit_all.ensures.round,
+)

@@ -1,4 +1,4 @@
-use Rattle.std.proofs.Common.{ap, ◌∙◌, subst}
+use Rattle.std.proofs.Common.{ap, sym, ◌∙◌, subst}
 use Rattle.dspec_record.specs.EnablingRows.{EnabledRows}
 use Rattle.dspec_record.specs.Schemas.{enabled, table_shape, table_accepts, table_text}
 use Rattle.dspec_deeds.specs.declared.config.Config.{Config}
@@ -15,6 +15,9 @@ use Rattle.dspec.specs.Serving.{ThenServed}
 use Rattle.dspec.proofs.Returning.{worked}
 use Rattle.dspec.proofs.Tracing.{fresh_none, listed, traced}
 use Rattle.dspec.proofs.running.trace.Goals as goal
+
+pub run-session-requires-clause-count : goal.run-session-requires-clause-count
+run-session-requires-clause-count g c = λ κs outlives. sym (ap (λ (v : View). v.config.cpus) c.in_ok-session.ensures.consumer.0)
 
 pub returns-clause-traced : goal.returns-clause-traced
 returns-clause-traced g c =

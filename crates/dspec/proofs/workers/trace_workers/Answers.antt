@@ -1,4 +1,4 @@
-use Rattle.std.proofs.Common.{◌≡◌, length, rules, ap, ◌∙◌, subst}
+use Rattle.std.proofs.Common.{◌≡◌, length, rules, ap, sym, ◌∙◌, subst}
 use Rattle.dspec_record.specs.EnablingRows.{EnabledRows}
 use Rattle.dspec_record.specs.Schemas.{enabled, table_shape, table_accepts, table_text}
 use Rattle.dspec_deeds.specs.declared.config.Config.{Config}
@@ -16,6 +16,9 @@ use Rattle.dspec.specs.Workers.{WorkedBy, with_cpus}
 use Rattle.dspec.proofs.Returning.{worked}
 use Rattle.dspec.proofs.Tracing.{fresh_none, listed, traced}
 use Rattle.dspec.proofs.workers.trace_workers.Goals as goal
+
+pub run_workers-session-requires-clause-cpus : goal.run_workers-session-requires-clause-cpus
+run_workers-session-requires-clause-cpus g c = λ κs outlives. sym (ap (λ (v : View). v.config.cpus) c.in_ok-session.ensures.consumer.0)
 
 pub returns-clause-traced : goal.returns-clause-traced
 returns-clause-traced g c =
