@@ -3,12 +3,14 @@
    folder ATTACK_FOLDER behind that write, under the names of the files that a trace has. `replace` moves the folder away, with `.moved`
    behind its name, and puts an empty one in its place. `full` lets that write take half of its bytes, and fails all later ones; `stuck`
    fails to cut a file too; `gap` takes half of it and fails the two behind it. `room` removes ATTACK_VICTIM behind that write, whether it was
-   taken or not. ATTACK_TOLD names a file that is made then.
+   taken or not. ATTACK_TOLD names a file that is made then. `grows` waits for no write: each file that is opened to be changed gets one
+   byte more before it is.
 
    As a program, `attack FOLDER VICTIM` waits for FOLDER/metadata, puts links there, and prints how many. */
 #define _GNU_SOURCE
 #include <errno.h>
 #include <fcntl.h>
+#include <stdarg.h>
 #include <stdio.h>
 #include <stdlib.h>
 #include <string.h>
@@ -94,6 +96,22 @@ ssize_t write(int file, const void *bytes, size_t count) {
     attack();
     if (attacks("room")) return write_and_make_room(file, bytes, count);
     return syscall(SYS_write, file, bytes, full || attacks("gap") ? count / 2 : count);
+}
+
+/* Puts a byte behind a file. */
+static void grow(const char *path) {
+    int file = (int)syscall(SYS_openat, AT_FDCWD, path, O_WRONLY | O_APPEND);
+    syscall(SYS_write, file, "", 1);
+    syscall(SYS_close, file);
+}
+
+int open(const char *path, int how, ...) {
+    va_list more;
+    va_start(more, how);
+    mode_t mode = how & O_CREAT ? va_arg(more, mode_t) : 0;
+    va_end(more);
+    if (attacks("grows") && (how & O_ACCMODE) == O_WRONLY && !(how & O_CREAT)) grow(path);
+    return (int)syscall(SYS_openat, AT_FDCWD, path, how, mode);
 }
 
 int ftruncate(int file, off_t size) {

@@ -7,5 +7,6 @@ mod OneStream
 mod Spreading
 mod Rising
 mod Texts
+mod Filling
 mod Sample
 mod InMemory

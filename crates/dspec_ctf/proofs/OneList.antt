@@ -86,20 +86,22 @@ events-same e (r ∷ rs) (q ∷ qs) of_r of_q is =
     (λ i. parts.0 i ∷ rest i)
 
 -- what stands before the events is as long, whatever it tells
-pub length-front : (uuid : List ℕ) (span other : Option (ℕ × ℕ)) (size missed cpu size' missed' cpu' : ℕ) → length (span_bytes span) ≡ length (span_bytes other)
-    → length (front_bytes uuid span size missed cpu) ≡ length (front_bytes uuid other size' missed' cpu')
+pub length-front : (uuid : List ℕ) (span other : Option (ℕ × ℕ)) (content size missed cpu content' size' missed' cpu' : ℕ) → length (span_bytes span) ≡ length (span_bytes other)
+    → length (front_bytes uuid span content size missed cpu) ≡ length (front_bytes uuid other content' size' missed' cpu')
 unfolding front_bytes header_bytes context_bytes
-length-front uuid span other size missed cpu size' missed' cpu' alike =
+length-front uuid span other content size missed cpu content' size' missed' cpu' alike =
     let h : List ℕ = header_bytes uuid in
-    let c : List ℕ = context_bytes (8 * size) missed cpu in
-    let c' : List ℕ = context_bytes (8 * size') missed' cpu' in
+    let c : List ℕ = context_bytes (8 * content) (8 * size) missed cpu in
+    let c' : List ℕ = context_bytes (8 * content') (8 * size') missed' cpu' in
     let same : length c ≡ length c' = refl in
     omega (arith, alike, same, length-append h (span_bytes span ++ c), length-append (span_bytes span) c, length-append h (span_bytes other ++ c'), length-append (span_bytes other) c')
 
 pub packet-same : (e : EnabledRows) (uuid : List ℕ) (missed cpu missed' cpu' : ℕ) (rs qs : List Record) → All (Accepts e) rs → All (Accepts e) qs
     → packet uuid e missed cpu rs ≡ packet uuid e missed' cpu' qs → rs ≡ qs
 packet-same e uuid missed cpu missed' cpu' rs qs of_r of_q is =
-    let a : List ℕ = front_bytes uuid None (52 + length (events e rs)) missed cpu in
-    let b : List ℕ = front_bytes uuid None (52 + length (events e qs)) missed' cpu' in
-    let long : length a ≡ length b = length-front uuid None None (52 + length (events e rs)) missed cpu (52 + length (events e qs)) missed' cpu' refl in
+    let n : ℕ = 52 + length (events e rs) in
+    let n' : ℕ = 52 + length (events e qs) in
+    let a : List ℕ = front_bytes uuid None n n missed cpu in
+    let b : List ℕ = front_bytes uuid None n' n' missed' cpu' in
+    let long : length a ≡ length b = length-front uuid None None n n missed cpu n' n' missed' cpu' refl in
     events-same e rs qs of_r of_q (append-same a b (events e rs) (events e qs) long is).1

@@ -36,7 +36,7 @@ values-few : (o : Option (List Field)) (vs : List ℕ) → IsTrue (option_map_or
 values-few None vs h = absurd (cc)
 values-few (Some gs) vs h = row-few gs vs (leb (length gs) 8) refl h
 
-accepted-small : (e : EnabledRows) (r : Record) → Accepts e r → length (event e r) ≤ 76
+pub accepted-small : (e : EnabledRows) (r : Record) → Accepts e r → length (event e r) ≤ 76
 accepted-small e r of_r =
     let parts : IsAccepted e.header r (enabled e.rows r.epid) = accepted-parts e.header (enabled e.rows) r of_r in
     event_small e r (values-few (enabling_of e.rows r.epid) r.values parts.values)
@@ -46,20 +46,20 @@ events-small e [] of_r = omega arith
 events-small e (r ∷ rs) of_r =
     omega (arith, length-append (event e r) (events e rs), accepted-small e r (All-head (Accepts e) r rs of_r), events-small e rs (All-tail (Accepts e) r rs of_r))
 
--- a packet's size is known from its front
-size-same : (uuid : List ℕ) (p q : ℕ × ℕ) (size missed cpu size' missed' cpu' : ℕ) → size < 2 ^ 60 → size' < 2 ^ 60
-    → front_bytes uuid (Some p) size missed cpu ≡ front_bytes uuid (Some q) size' missed' cpu' → size ≡ size'
+-- up to where a packet's events go is known from its front
+pub content-same : (uuid : List ℕ) (p q : Option (ℕ × ℕ)) (content size missed cpu content' size' missed' cpu' : ℕ) → length (span_bytes p) ≡ length (span_bytes q) → content < 2 ^ 60
+    → content' < 2 ^ 60 → front_bytes uuid p content size missed cpu ≡ front_bytes uuid q content' size' missed' cpu' → content ≡ content'
 unfolding front_bytes header_bytes context_bytes
-size-same uuid p q size missed cpu size' missed' cpu' low low' is =
+content-same uuid p q content size missed cpu content' size' missed' cpu' alike low low' is =
     let h : List ℕ = header_bytes uuid in
-    let c : List ℕ = context_bytes (8 * size) missed cpu in
-    let c' : List ℕ = context_bytes (8 * size') missed' cpu' in
-    let first = append-same h h (span_bytes (Some p) ++ c) (span_bytes (Some q) ++ c') refl is in
-    let second = append-same (span_bytes (Some p)) (span_bytes (Some q)) c c' refl first.1 in
-    let third = append-same (little_endian 8 (8 * size)) (little_endian 8 (8 * size'))
+    let c : List ℕ = context_bytes (8 * content) (8 * size) missed cpu in
+    let c' : List ℕ = context_bytes (8 * content') (8 * size') missed' cpu' in
+    let first = append-same h h (span_bytes p ++ c) (span_bytes q ++ c') refl is in
+    let second = append-same (span_bytes p) (span_bytes q) c c' alike first.1 in
+    let third = append-same (little_endian 8 (8 * content)) (little_endian 8 (8 * content'))
     (little_endian 8 (8 * size) ++ (little_endian 8 missed ++ little_endian 4 cpu))
     (little_endian 8 (8 * size') ++ (little_endian 8 missed' ++ little_endian 4 cpu')) refl second.1 in
-    let bits : 8 * size ≡ 8 * size' = little_endian-same Eight (8 * size) (8 * size') (omega (arith, low)) (omega (arith, low')) third.0 in
+    let bits : 8 * content ≡ 8 * content' = little_endian-same Eight (8 * content) (8 * content') (omega (arith, low)) (omega (arith, low')) third.0 in
     omega (arith, bits)
 
 -- the records of a packet are known from bytes that begin with it
@@ -68,26 +68,28 @@ timed-same : (uuid : List ℕ) (e : EnabledRows) (missed cpu told missed' cpu' t
 timed-same uuid e missed cpu told missed' cpu' told' ps qs x y of_p of_q few few' is =
     let body : List ℕ = events e ps in
     let body' : List ℕ = events e qs in
-    let a : List ℕ = front_bytes uuid (Some (span_of ps)) (68 + length body) told cpu in
-    let b : List ℕ = front_bytes uuid (Some (span_of qs)) (68 + length body') told' cpu' in
-    let long : length a ≡ length b =
-    length-front uuid (Some (span_of ps)) (Some (span_of qs)) (68 + length body) told cpu (68 + length body') told' cpu' refl in
+    let n : ℕ = 68 + length body in
+    let n' : ℕ = 68 + length body' in
+    let a : List ℕ = front_bytes uuid (Some (span_of ps)) n n told cpu in
+    let b : List ℕ = front_bytes uuid (Some (span_of qs)) n' n' told' cpu' in
+    let long : length a ≡ length b = length-front uuid (Some (span_of ps)) (Some (span_of qs)) n n told cpu n' n' told' cpu' refl in
     let first = append-same a b (body ++ x) (body' ++ y) long (sym (append_assoc a body x) ∙ is ∙ append_assoc b body' y) in
-    let size : 68 + length body ≡ 68 + length body' =
-    size-same uuid (span_of ps) (span_of qs) (68 + length body) told cpu (68 + length body') told' cpu'
+    let size : n ≡ n' =
+    content-same uuid (Some (span_of ps)) (Some (span_of qs)) n n told cpu n' n' told' cpu' refl
     (omega (arith, few, events-small e ps of_p)) (omega (arith, few', events-small e qs of_q)) first.0 in
     let second = append-same body body' x y (omega (arith, size)) first.1 in
     (events-same e ps qs of_p of_q second.0, second.1)
 
 -- what stands before the events isn't nothing
-front-long : (uuid : List ℕ) (span : Option (ℕ × ℕ)) (size missed cpu : ℕ) → 0 < length (front_bytes uuid span size missed cpu)
+front-long : (uuid : List ℕ) (span : Option (ℕ × ℕ)) (content size missed cpu : ℕ) → 0 < length (front_bytes uuid span content size missed cpu)
 unfolding front_bytes header_bytes
-front-long uuid span size missed cpu = omega arith
+front-long uuid span content size missed cpu = omega arith
 
 timed-long : (uuid : List ℕ) (e : EnabledRows) (missed cpu told : ℕ) (ps : List Record) (x : List ℕ) → 0 < length (timed_packet uuid e missed cpu told ps ++ x)
 timed-long uuid e missed cpu told ps x =
-    let front : List ℕ = front_bytes uuid (Some (span_of ps)) (68 + length (events e ps)) told cpu in
-    omega (arith, length-append (front ++ events e ps) x, length-append front (events e ps), front-long uuid (Some (span_of ps)) (68 + length (events e ps)) told cpu)
+    let n : ℕ = 68 + length (events e ps) in
+    let front : List ℕ = front_bytes uuid (Some (span_of ps)) n n told cpu in
+    omega (arith, length-append (front ++ events e ps) x, length-append front (events e ps), front-long uuid (Some (span_of ps)) n n told cpu)
 
 -- a list from this place on is so many records and the list behind them
 rejoin : (d w n : ℕ) (rs : List Record) → n ≡ d + w → drop d rs ≡ take w (drop d rs) ++ drop n rs

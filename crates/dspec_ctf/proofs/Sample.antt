@@ -1,9 +1,11 @@
 -- The definitions at small worked examples.
-use Rattle.std.proofs.Common.{◌≡◌, ◌++◌, [], ◌∷◌, replicate, refl}
+use Rattle.std.proofs.Common.{◌≡◌, ◌++◌, true, false, [], ◌∷◌, replicate, refl}
 use Rattle.dspec_record.specs.EnablingRows.{EnabledRows}
 use Rattle.dspec_record.specs.declared.field.Field.TheVariants.{One, Two, Eight}
 use Rattle.dspec_record.specs.declared.header.Header.TheVariants as header
+use Rattle.dspec_record.specs.Record.{Record}
 use Rattle.dspec_ctf.specs.Packets.{event, packet, header_bytes, context_bytes, front_bytes}
+use Rattle.dspec_ctf.specs.Filled.{filled_around, filled_packet, filled_packets, portions}
 use Rattle.dspec_ctf.specs.ByTime.{packet_count, span_of}
 
 abbrev rows : EnabledRows
@@ -43,3 +45,47 @@ some-missed = refl
 
 first-and-last : span_of (record { epid = 1; stamp = 2; values = [] } ∷ record { epid = 1; stamp = 5; values = [] } ∷ []) ≡ (2, 5)
 first-and-last = refl
+
+-- a packet of a file without events: 52 bytes or 416 bits of 8,192, and zeros
+filled-empty : filled_packets false rows (replicate 16 7) 8 1 [] ≡ header_bytes (replicate 16 7)
+    ++ ((160 ∷ 1 ∷ 0 ∷ 0 ∷ 0 ∷ 0 ∷ 0 ∷ 0 ∷ 0 ∷ 32 ∷ 0 ∷ 0 ∷ 0 ∷ 0 ∷ 0 ∷ 0
+    ∷ 8 ∷ 0 ∷ 0 ∷ 0 ∷ 0 ∷ 0 ∷ 0 ∷ 0 ∷ 1 ∷ 0 ∷ 0 ∷ 0 ∷ []) ++ replicate 972 0)
+unfolding filled_packets filled_packet filled_around front_bytes header_bytes context_bytes
+filled-empty = refl
+
+-- by time one of a record with a stamp and no values: 80 bytes or 640 bits, from stamp 2 to stamp 2
+filled-one : filled_packets true stamped (replicate 16 7) 8 1 (record { epid = 1; stamp = 2; values = [] } ∷ []) ≡ header_bytes (replicate 16 7)
+    ++ ((2 ∷ 0 ∷ 0 ∷ 0 ∷ 0 ∷ 0 ∷ 0 ∷ 0 ∷ 2 ∷ 0 ∷ 0 ∷ 0 ∷ 0 ∷ 0 ∷ 0 ∷ 0
+    ∷ 128 ∷ 2 ∷ 0 ∷ 0 ∷ 0 ∷ 0 ∷ 0 ∷ 0 ∷ 0 ∷ 32 ∷ 0 ∷ 0 ∷ 0 ∷ 0 ∷ 0 ∷ 0
+    ∷ 8 ∷ 0 ∷ 0 ∷ 0 ∷ 0 ∷ 0 ∷ 0 ∷ 0 ∷ 1 ∷ 0 ∷ 0 ∷ 0 ∷ 1 ∷ 0 ∷ 0 ∷ 0 ∷ 2 ∷ 0 ∷ 0 ∷ 0 ∷ 0 ∷ 0 ∷ 0 ∷ 0 ∷ []) ++ replicate 944 0)
+unfolding filled_packets filled_packet filled_around front_bytes header_bytes context_bytes
+filled-one = refl
+
+-- records without values, and with two, four and eight of eight bytes
+wide : EnabledRows
+wide = record { header = header.One; rows = [] ∷ replicate 2 Eight ∷ replicate 4 Eight ∷ replicate 8 Eight ∷ [] }
+
+wide-stamped : EnabledRows
+wide-stamped = record { header = header.Two; rows = [] ∷ replicate 2 Eight ∷ replicate 4 Eight ∷ replicate 8 Eight ∷ [] }
+
+bare : Record
+bare = record { epid = 1; stamp = 0; values = [] }
+
+two : Record
+two = record { epid = 2; stamp = 0; values = replicate 2 7 }
+
+four : Record
+four = record { epid = 3; stamp = 0; values = replicate 4 7 }
+
+eight : Record
+eight = record { epid = 4; stamp = 0; values = replicate 8 7 }
+
+-- 52 bytes before the events, 14 events of 68 and one of 20 are 1,024: the next one begins another packet
+full-as-taken : portions false wide (replicate 14 eight ++ two ∷ bare ∷ []) ≡ (replicate 14 eight ++ two ∷ []) ∷ (bare ∷ []) ∷ []
+unfolding wide bare two eight
+full-as-taken = refl
+
+-- so are 68 bytes before the events, 12 events of 76 and one of 44, by time
+full-by-time : portions true wide-stamped (replicate 12 eight ++ four ∷ bare ∷ []) ≡ (replicate 12 eight ++ four ∷ []) ∷ (bare ∷ []) ∷ []
+unfolding wide-stamped bare four eight
+full-by-time = refl

@@ -1,11 +1,13 @@
 -- Cited by calls. What the laws say, each by its name.
-use Rattle.std.specs.Prelude.{◌≡◌, ◌<◌, ◌≤◌, ℕ, List, All, length, map, slice_index, slice_range, zip}
+use Rattle.std.specs.Prelude.{◌≡◌, ◌<◌, ◌≤◌, ◌+◌, ◌*◌, ℕ, Bool, List, All, length, map, slice_index, slice_range, zip}
+use Rattle.std.specs.List.{flat_map}
 use Rattle.std.specs.List.Sorted.{IsNonDecreasingBy}
 use Rattle.dspec_record.specs.EnablingRows.{EnabledRows}
 use Rattle.dspec_record.specs.Record.{Record}
 use Rattle.dspec_ctf.specs.ByTime.{timed_packets}
-use Rattle.dspec_ctf.specs.Packets.{packet}
-use Rattle.dspec_ctf.specs.Rows.{Spreads, of_file, run_files, run_records}
+use Rattle.dspec_ctf.specs.Filled.{filled_packet, filled_packets, filled_size, front_by, portions}
+use Rattle.dspec_ctf.specs.Packets.{events, packet}
+use Rattle.dspec_ctf.specs.Rows.{Spreads, missed_packets, of_file, run_files, run_records}
 use Rattle.dspec_ctf.specs.Streams.{Accepts}
 use Rattle.dspec_ctf.specs.declared.rows.Run.{Run}
 
@@ -19,6 +21,26 @@ module _ (e : EnabledRows) where
   abbrev pub StreamIsOfOneList : Type 0
   StreamIsOfOneList = (uuid : List ℕ) (missed cpu told other : ℕ) (rs qs : List Record) → All (Accepts e) rs → All (Accepts e) qs
       → timed_packets uuid e missed cpu rs ≡ timed_packets uuid e told other qs → rs ≡ qs
+
+  -- the records of the packets of files are all of them, in order, each in one packet
+  abbrev pub PortionsHaveAll : Type 0
+  PortionsHaveAll = (timed : Bool) (rs : List Record) → flat_map (λ portion. portion) (portions timed e rs) ≡ rs
+
+  -- those of each are accepted, and its events go no further than its 1,024 bytes
+  abbrev pub PortionsFit : Type 0
+  PortionsFit = (timed : Bool) (rs : List Record) → All (Accepts e) rs
+      → All (λ portion. All (Accepts e) portion × (front_by timed + length (events e portion) ≤ filled_size)) (portions timed e rs)
+
+  -- and each has 1,024 bytes: what is written at once are whole packets, and each of them lies in one page of its file
+  abbrev pub PacketsAreWhole : Type 0
+  PacketsAreWhole = (timed : Bool) (uuid : List ℕ) (missed cpu : ℕ) (rs : List Record) → length uuid ≡ 16 → All (Accepts e) rs
+      → All (λ portion. length (filled_packet timed e uuid missed cpu portion) ≡ filled_size) (portions timed e rs)
+      × (length (filled_packets timed e uuid missed cpu rs) ≡ filled_size * length (portions timed e rs))
+
+-- so have the two that tell what was missed
+abbrev pub MissedPacketsAreWhole : Type 0
+MissedPacketsAreWhole = (uuid : List ℕ) (before missed cpu : ℕ) (lasts : List ℕ) → length uuid ≡ 16
+    → length (missed_packets uuid before missed cpu lasts) ≡ 2 * filled_size
 
 -- in this file stamps don't fall, nor to before the last stamp that it had
 abbrev pub StampsRise : List ℕ → List Record → List ℕ → ℕ → Type 0

@@ -3,6 +3,7 @@ pub mod Metadata
 pub mod Packets
 pub mod Streams
 pub mod ByTime
+pub mod Filled
 pub mod Rows
 pub mod Laws
 pub mod InMemory

@@ -44,18 +44,19 @@ abbrev pub front_size : Option (ℕ × ℕ) → ℕ
 front_size None = 52
 front_size (Some _) = 68
 
--- a packet's size twice, in bits, then how many events were missed so far, and the CPU
-unfoldable pub context_bytes : ℕ → ℕ → ℕ → List ℕ
-context_bytes bits missed cpu =
-    little_endian 8 bits ++ (little_endian 8 bits ++ (little_endian 8 missed ++ little_endian 4 cpu))
+-- up to where a packet's events go and its own size, in bits, then how many events were missed so far, and the CPU
+unfoldable pub context_bytes : ℕ → ℕ → ℕ → ℕ → List ℕ
+context_bytes content bits missed cpu =
+    little_endian 8 content ++ (little_endian 8 bits ++ (little_endian 8 missed ++ little_endian 4 cpu))
 
--- what stands before the events of a packet of so many bytes
-unfoldable pub front_bytes : List ℕ → Option (ℕ × ℕ) → ℕ → ℕ → ℕ → List ℕ
-front_bytes uuid span size missed cpu = header_bytes uuid ++ (span_bytes span ++ context_bytes (8 * size) missed cpu)
+-- what stands before the events of a packet of so many bytes, whose events end behind so many of them
+unfoldable pub front_bytes : List ℕ → Option (ℕ × ℕ) → ℕ → ℕ → ℕ → ℕ → List ℕ
+front_bytes uuid span content size missed cpu = header_bytes uuid ++ (span_bytes span ++ context_bytes (8 * content) (8 * size) missed cpu)
 
--- a packet around the bytes of its events
+-- a packet around the bytes of its events, with which it ends
 abbrev pub packet_around : List ℕ → Option (ℕ × ℕ) → ℕ → ℕ → List ℕ → List ℕ
-packet_around uuid span missed cpu body = front_bytes uuid span (front_size span + length body) missed cpu ++ body
+packet_around uuid span missed cpu body =
+    front_bytes uuid span (front_size span + length body) (front_size span + length body) missed cpu ++ body
 
 -- a packet of these records, as they were taken
 abbrev pub packet : List ℕ → EnabledRows → ℕ → ℕ → List Record → List ℕ

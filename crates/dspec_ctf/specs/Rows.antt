@@ -1,11 +1,10 @@
 -- Cited by calls. A CPU's files in a trace by time that is written while it runs: which file each record goes to. What is known of a
 -- CPU's files is a list: of each, by its number, the stamp of its last event.
-use Rattle.std.specs.Prelude.{◌≡◌, ◌≢◌, ◌<◌, ◌≤◌, ◌-◌, ◌==◌, ◌⊎◌, ℕ, List, [], ◌∷◌, ◌++◌, Option, Some, None, length, map, replicate}
+use Rattle.std.specs.Prelude.{true, ◌≡◌, ◌≢◌, ◌<◌, ◌≤◌, ◌-◌, ◌==◌, ◌⊎◌, ℕ, List, [], ◌∷◌, ◌++◌, Option, Some, None, length, map, replicate}
 use Rattle.std.specs.Prelude.{slice_get, slice_index, slice_range, slice_set, filter, zip, if◌then◌else◌}
 use Rattle.dspec_record.specs.Record.{Record}
 use Rattle.dspec_record.specs.EnablingRows.{EnabledRows}
-use Rattle.dspec_ctf.specs.Packets.{events, packet_around}
-use Rattle.dspec_ctf.specs.ByTime.{span_of}
+use Rattle.dspec_ctf.specs.Filled.{filled_around, filled_packets}
 use Rattle.dspec_ctf.specs.declared.rows.Run.{Run}
 use Rattle.dspec_ctf.specs.declared.stream.PacketFault.{PacketFault}
 use Rattle.dspec_ctf.specs.declared.stream.PacketFault.TheVariants.{Text, Missed, TooLong, Clock, Memory}
@@ -89,9 +88,9 @@ abbrev pub told_by : ℕ → ℕ → ℕ
 told_by file missed = if file == 0 then missed else 0
 
 module _ (uuid : List ℕ) (e : EnabledRows) (missed cpu : ℕ) where
-  -- a file's packet of these records, with the stamps of the first and of the last
+  -- a file's packets of these records, each with the stamps of its first and of its last
   abbrev pub run_packet : ℕ → List Record → List ℕ
-  run_packet file rs = packet_around uuid (Some (span_of rs)) (told_by file missed) cpu (events e rs)
+  run_packet file rs = filled_packets true e uuid (told_by file missed) cpu rs
 
   -- the packets of runs from a place on, each with the number of its file
   abbrev pub run_packets : List Record → ℕ → List Run → List (ℕ × List ℕ)
@@ -100,7 +99,7 @@ module _ (uuid : List ℕ) (e : EnabledRows) (missed cpu : ℕ) where
 
 -- a packet without events at this stamp
 abbrev pub silent_packet : List ℕ → ℕ → ℕ → ℕ → List ℕ
-silent_packet uuid missed cpu stamp = packet_around uuid (Some (stamp, stamp)) missed cpu []
+silent_packet uuid missed cpu stamp = filled_around uuid (Some (stamp, stamp)) missed cpu []
 
 -- Two packets of a CPU's first file, without events, at its last stamp, or at 0 where it has none: what was missed before, and what
 -- was missed by now. Tools tell the difference of two packets.

@@ -2,7 +2,7 @@
 
 ghost use Rattle.std.specs.Prelude.{◌≤◌, ◌++◌, ℕ, List, length};
 ghost use Rattle.dspec_record.specs.Record.{Record};
-ghost use Rattle.dspec_ctf.specs.Laws.{AreFiled, HaveAllBetween, PacketIsOfOneList, StampsRise, StreamIsOfOneList};
+ghost use Rattle.dspec_ctf.specs.Laws.{AreFiled, HaveAllBetween, MissedPacketsAreWhole, PacketIsOfOneList, PacketsAreWhole, PortionsFit, PortionsHaveAll, StampsRise, StreamIsOfOneList};
 ghost use Rattle.dspec_ctf.specs.Rows.{AreRuns, Spreads};
 ghost use Rattle.dspec_ctf.specs.declared.rows.Run.{Run};
 
@@ -16,6 +16,15 @@ pub fn one_packet(_enablings: &Enablings)
 /// Bytes are the packets by time of one list of records at most.
 pub fn one_stream(_enablings: &Enablings)
     ensures { StreamIsOfOneList _enablings.now }
+{}
+
+/// The packets of files have all records, in order, each in one packet whose 1,024 bytes its events don't leave. What is written at once are whole packets,
+/// each of 1,024 bytes: so no packet of a file lies in two of its pages.
+pub fn packets_are_whole(_enablings: &Enablings)
+    ensures records { PortionsHaveAll _enablings.now }
+    ensures fit { PortionsFit _enablings.now }
+    ensures sizes { PacketsAreWhole _enablings.now }
+    ensures missed { MissedPacketsAreWhole }
 {}
 
 /// In each file of a CPU stamps don't fall, nor to before the last stamp that it had.

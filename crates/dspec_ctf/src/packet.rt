@@ -42,7 +42,11 @@ fn put_values(out: &mut Vec<u8>, fields: &[Field], values: &[u64]) -> Result<(),
 
 /// Adds a record as an event, without the gaps that it has in a buffer. It has 76 bytes at most.
 #[tactic(auto, using(crate::proofs::Sizes::event_small), unfolding(crate::specs::Packets::event))]
-fn put_event(out: &mut Vec<u8>, enablings: &Enablings, rec: &Rec) -> Result<(), AllocError>
+pub(crate) fn put_event(
+    out: &mut Vec<u8>,
+    enablings: &Enablings,
+    rec: &Rec,
+) -> Result<(), AllocError>
     ensures bytes { OnOk result (out.new.items ≡ out.old.items ++ event enablings.now rec.now) }
     ensures small { length (event enablings.now rec.now) ≤ 76 }
 {
@@ -120,36 +124,50 @@ fn put_span(out: &mut Vec<u8>, span: Option<(u64, u64)>) -> Result<(), AllocErro
     put_number(out, Field::Eight, end)
 }
 
-/// Adds a packet's size, twice, how many events were missed so far, and the CPU.
+/// Adds up to where a packet's events go and its own size, in bits, how many events were missed so far, and the CPU.
 #[tactic(auto, unfolding(crate::specs::Packets::context_bytes))]
-fn put_context(out: &mut Vec<u8>, bits: u64, missed: u64, cpu: u32) -> Result<(), AllocError>
-    ensures { OnOk result (out.new.items ≡ out.old.items ++ context_bytes bits missed cpu) }
+fn put_context(
+    out: &mut Vec<u8>,
+    content: u64,
+    bits: u64,
+    missed: u64,
+    cpu: u32,
+) -> Result<(), AllocError>
+    ensures { OnOk result (out.new.items ≡ out.old.items ++ context_bytes content bits missed cpu) }
 {
-    put_number(out, Field::Eight, bits)?;
+    put_number(out, Field::Eight, content)?;
     put_number(out, Field::Eight, bits)?;
     put_number(out, Field::Eight, missed)?;
     put_number(out, Field::Four, u64::from(cpu))
 }
 
-/// Adds what stands before the events of a packet of so many bytes.
+/// Up to where a packet's events go, and how many bytes it has.
+#[derive(Clone, Copy)]
+pub(crate) struct Sizes {
+    pub content: u64,
+    pub size: u64,
+}
+
+/// Adds what stands before the events of a packet of these sizes.
 #[tactic(auto, unfolding(crate::specs::Packets::front_bytes))]
-fn put_front(
+pub(crate) fn put_front(
     out: &mut Vec<u8>,
     uuid: &[u8; 16],
     span: Option<(u64, u64)>,
-    size: u64,
+    sizes: Sizes,
     missed: u64,
     cpu: u32,
 ) -> Result<(), AllocError>
-    requires { size < 2 ^ 61 }
-    ensures { OnOk result (out.new.items ≡ out.old.items ++ front_bytes uuid.now span size missed cpu) }
+    requires content { sizes.content < 2 ^ 61 }
+    requires size { sizes.size < 2 ^ 61 }
+    ensures { OnOk result (out.new.items ≡ out.old.items ++ front_bytes uuid.now span sizes.content sizes.size missed cpu) }
 {
     put_header(out, uuid)?;
     put_span(out, span)?;
-    put_context(out, 8 * size, missed, cpu)
+    put_context(out, 8 * sizes.content, 8 * sizes.size, missed, cpu)
 }
 
-/// Adds the packet around the bytes of its events. It tells the first stamp and the last in a trace by time.
+/// Adds the packet around the bytes of its events, with which it ends. It tells the first stamp and the last in a trace by time.
 pub(crate) fn put_around(
     out: &mut Vec<u8>,
     uuid: &[u8; 16],
@@ -162,6 +180,10 @@ pub(crate) fn put_around(
     ensures { OnOk result (out.new.items ≡ out.old.items ++ packet_around uuid.now span missed cpu body.now) }
 {
     let size = front_size(span) + body.len() as u64;
-    put_front(out, uuid, span, size, missed, cpu)?;
+    let sizes = Sizes {
+        content: size,
+        size,
+    };
+    put_front(out, uuid, span, sizes, missed, cpu)?;
     out.extend_from_slice(body)
 }

@@ -8,9 +8,8 @@ ghost use Rattle.dspec_ctf.specs.Packets.{events};
 ghost use Rattle.dspec_ctf.specs.Streams.{Accepts, IsText, IsTooLong, HasNoRecords};
 ghost use Rattle.dspec_ctf.specs.Rows.{IsFoundOf, missed_packets, run_packet, silent_packet};
 
-use crate::by_time::{add_records, span_of};
-use crate::packet::{put_around, put_events};
-use crate::records::whole_packet;
+use crate::by_time::add_records;
+use crate::filled::{put_filled, put_filled_around};
 use crate::stream::{PacketFault, Stream};
 use dspec_buffer::read_all;
 use dspec_record::{Enablings, Rec};
@@ -182,7 +181,7 @@ pub fn records_of(
     Ok(recs)
 }
 
-/// Adds a packet without events.
+/// Adds a packet without events, of 1,024 bytes.
 fn put_silent(
     out: &mut Vec<u8>,
     stream: &Stream<'_>,
@@ -191,7 +190,7 @@ fn put_silent(
 ) -> Result<(), AllocError>
     ensures { OnOk result (out.new.items ≡ out.old.items ++ silent_packet stream.now.uuid missed stream.now.cpu stamp) }
 {
-    put_around(
+    put_filled_around(
         out,
         &stream.uuid,
         Some((stamp, stamp)),
@@ -202,8 +201,8 @@ fn put_silent(
 }
 
 impl<'a> Stream<'a> {
-    /// The packet of a run's records for that file, with the stamps of the first and of the last. In the CPU's first file it tells
-    /// `missed`, in the others none. A fault is `TooLong` or `Memory`.
+    /// The packets of a run's records for that file, of 1,024 bytes each, with the stamps of the first and of the last of each. In the CPU's first file they tell
+    /// `missed`, in the others none. A fault is `Memory`, never `TooLong`.
     pub fn run_packet(
         &self,
         alloc: Global,
@@ -215,13 +214,14 @@ impl<'a> Stream<'a> {
             (λ bytes. bytes.items ≡ run_packet self.now.uuid self.now.enablings.now self.now.missed self.now.cpu file records.now) }
         ensures fault { IfErr result (IsTooLong (events self.now.enablings.now records.now)) }
     {
-        let mut body = Vec::new(alloc);
-        put_events(&mut body, self.enablings, records)?;
-        let told = if file == 0 { self.missed } else { 0 };
-        whole_packet(alloc, self, Some(span_of(records)), told, &body)
+        let missed = if file == 0 { self.missed } else { 0 };
+        let stream = Stream { missed, ..*self };
+        let mut bytes = Vec::new(alloc);
+        put_filled(alloc, &mut bytes, &stream, true, records)?;
+        Ok(bytes)
     }
 
-    /// Two packets for the CPU's first file that tell what was missed since so many were: they have no events, and stand at the last
+    /// Two packets of 1,024 bytes for the CPU's first file that tell what was missed since so many were: they have no events, and stand at the last
     /// stamp of that file, or at 0 where it has none.
     pub fn missed_packets(
         &self,

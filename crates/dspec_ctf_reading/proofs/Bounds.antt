@@ -1,11 +1,11 @@
 -- Each event and each packet takes some bytes: so the number that shows that reading ends changes nothing, from the number of bytes on.
-use Rattle.std.proofs.Common.{◌≡◌, ◌≤◌, ◌<◌, ◌+◌, ◌-◌, ◌*◌, ◌/◌, ◌%◌, ◌&&◌, ◌==◌, ℕ, zero, suc, Bool, true, false, cond, leb, IsTrue, List, [], ◌∷◌, length, take, drop, Option}
+use Rattle.std.proofs.Common.{◌≡◌, ◌≤◌, ◌<◌, ◌+◌, ◌-◌, ◌*◌, ◌/◌, ◌==◌, ℕ, zero, suc, Bool, true, false, cond, leb, List, [], ◌∷◌, length, take, drop, Option}
 use Rattle.std.proofs.Common.{Some, None, option_map, refl, ap, arith, length-drop}
 use Rattle.std.specs.Prelude.{option_and_then}
-use Rattle.std.proofs.lemmas.Bool.{leb-true}
 use Rattle.dspec_ctf_reading.specs.Reading.{FieldLayout, EventLayout, Layout, PacketRead, FrontRead, Part, then_read, read_number, read_bytes, read_stamp, read_span, find_event, read_payload}
 use Rattle.dspec_ctf_reading.specs.Reading.{read_event_body, read_event, read_events_within, read_events, read_this, read_header, read_counts, read_front, sizes_agree}
 use Rattle.dspec_ctf_reading.specs.Reading.{with_events, read_body, read_packet, read_packets_within, read_file}
+use Rattle.dspec_ctf_reading.proofs.Agreeing.{Agrees, agrees}
 
 -- behind the part, if there is one, there are so many bytes at most
 unfoldable pub Leaves : {A : Type 0} → ℕ → Part A → Type 0
@@ -134,20 +134,10 @@ body-leaves : (layout : Layout) (bytes : List ℕ) (front : FrontRead) (rest : L
 unfolding Leaves
 body-leaves layout bytes front rest few = go (sizes_agree front (length bytes - length rest) (length bytes)) refl
   where
-    both : (a b : Bool) → IsTrue (a && b) → IsTrue b
-    both true b h = h
-    both false b h = absurd (cc)
-
-    first : (a b : Bool) → IsTrue (a && b) → IsTrue a
-    first true b h = refl
-    first false b h = absurd (cc)
-
-    ends : IsTrue (sizes_agree front (length bytes - length rest) (length bytes)) → length bytes - length rest ≤ front.packet_size / 8
+    ends : sizes_agree front (length bytes - length rest) (length bytes) ≡ true → length bytes - length rest ≤ front.packet_size / 8
     ends h =
-        let sizes : Bool = leb (length bytes - length rest) (front.packet_size / 8) && leb (front.packet_size / 8) (length bytes) in
-        leb-true (length bytes - length rest) (front.packet_size / 8)
-        (first (leb (length bytes - length rest) (front.packet_size / 8)) (leb (front.packet_size / 8) (length bytes))
-        (both (front.packet_size % 8 == 0) sizes (both (front.content_size == front.packet_size) (front.packet_size % 8 == 0 && sizes) h)))
+        let are : Agrees front (length bytes - length rest) (length bytes) = agrees front (length bytes - length rest) (length bytes) h in
+        omega (arith, are.low, are.within)
 
     there : (o : Option PacketRead) → length bytes - length rest ≤ front.packet_size / 8 → Leaves (length bytes - 4) (option_map (λ packet. (packet, drop (front.packet_size / 8) bytes)) o)
     there None far = tt
@@ -155,8 +145,8 @@ body-leaves layout bytes front rest few = go (sizes_agree front (length bytes - 
 
     go : (b : Bool) → sizes_agree front (length bytes - length rest) (length bytes) ≡ b
         → Leaves {A = PacketRead} (length bytes - 4) (cond b (option_map (λ packet. (packet, drop (front.packet_size / 8) bytes))
-        (with_events layout front (take (front.packet_size / 8 - (length bytes - length rest)) rest))) None)
-    go true is = there (with_events layout front (take (front.packet_size / 8 - (length bytes - length rest)) rest)) (ends is)
+        (with_events layout front (take (front.content_size / 8 - (length bytes - length rest)) rest))) None)
+    go true is = there (with_events layout front (take (front.content_size / 8 - (length bytes - length rest)) rest)) (ends is)
     go false is = tt
 
 pub front-leaves : (timed : Bool) (bytes : List ℕ) → Leaves (length bytes - 4) (read_front timed bytes)

@@ -1,11 +1,11 @@
 -- Events and their values, one behind another, as loops read them.
-use Rattle.std.proofs.Common.{◌≡◌, ◌≤◌, ◌<◌, ◌+◌, ◌-◌, ◌==◌, ℕ, zero, suc, Bool, true, false, cond, List, [], ◌∷◌, ◌++◌, map, length, take, drop, get_or, Option, Some, None, option_map}
-use Rattle.std.proofs.Common.{refl, ap, sym, ◌∙◌, subst, arith, append_assoc, add-one}
+use Rattle.std.proofs.Common.{◌≡◌, ◌<◌, ◌+◌, ◌==◌, ℕ, zero, suc, true, false, cond, List, [], ◌∷◌, ◌++◌, map, length, drop, get_or, Option, Some, None, option_map}
+use Rattle.std.proofs.Common.{refl, ap, sym, ◌∙◌, arith, append_assoc, add-one}
 use Rattle.std.specs.Prelude.{option_and_then}
 use Rattle.std.specs.List.{zip}
 use Rattle.std.proofs.lemmas.List.{map-append, append-nil, get_or-map, length-map}
 use Rattle.dspec_record.specs.Layout.{width}
-use Rattle.dspec_ctf_reading.specs.Reading.{Part, then_read, read_number, find_event, read_payload, read_event, read_events, Layout, EventLayout, EventRead}
+use Rattle.dspec_ctf_reading.specs.Reading.{Part, then_read, read_number, find_event, read_payload, read_event, read_events, Layout, EventRead}
 use Rattle.dspec_ctf_reading.proofs.Bounds.{events-on-bytes}
 use Rattle.dspec_ctf_reading.specs.declared.told.FieldText.{FieldText}
 use Rattle.dspec_ctf_reading.specs.declared.told.EventText.{EventText}

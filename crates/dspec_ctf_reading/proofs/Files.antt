@@ -1,5 +1,5 @@
 -- Files of packets that were written one behind another.
-use Rattle.std.proofs.Common.{◌≡◌, ◌<◌, ◌^◌, ◌++◌, ℕ, zero, suc, Bool, true, IsTrue, List, [], ◌∷◌, length, map, Option, Some, option_map, refl, ap, sym, ◌∙◌, arith, All}
+use Rattle.std.proofs.Common.{◌≡◌, ◌≤◌, ◌<◌, ◌+◌, ◌-◌, ◌^◌, ◌++◌, ℕ, zero, suc, Bool, true, IsTrue, List, [], ◌∷◌, length, map, replicate, Option, Some, option_map, refl, ap, sym, ◌∙◌, arith, All}
 use Rattle.std.specs.Prelude.{slice_get, option_and_then}
 use Rattle.std.specs.Option.{option_map_or}
 use Rattle.std.specs.List.{flat_map}
@@ -13,20 +13,21 @@ use Rattle.dspec_record.specs.EnablingRows.{EnabledRows}
 use Rattle.dspec_record.specs.Laws.Tables.{IsAccepted, accepted-parts}
 use Rattle.dspec_record.specs.declared.header.Header.{Header}
 use Rattle.dspec_record.specs.declared.header.Header.TheVariants as header
-use Rattle.dspec_ctf.specs.Packets.{events, header_bytes, front_bytes, packet_around}
+use Rattle.dspec_ctf.specs.Packets.{events, header_bytes, front_size, front_bytes, packet_around}
+use Rattle.dspec_ctf.specs.Filled.{filled_around, filled_size}
 use Rattle.dspec_ctf.specs.Streams.{Accepts}
 use Rattle.dspec_ctf.specs.ByTime.{span_of}
 use Rattle.dspec_ctf_reading.specs.Reading.{Layout, EventRead, PacketRead, read_packet, read_file, events_of}
 use Rattle.dspec_ctf_reading.specs.Layouts.{Naming, layout_by, packet_read}
 use Rattle.dspec_ctf_reading.proofs.Bounds.{packets-on-bytes}
 use Rattle.dspec_ctf_reading.proofs.EventsRead.{HasStamps}
-use Rattle.dspec_ctf_reading.proofs.PacketsRead.{HasSpan, packet-back}
+use Rattle.dspec_ctf_reading.proofs.PacketsRead.{HasSpan, packet-back, filled-back}
 use Rattle.dspec_ctf_reading.proofs.Joining.{join}
 
 -- a packet is a file
-around-some : (uuid : List ℕ) (span : Option (ℕ × ℕ)) (missed cpu : ℕ) (body : List ℕ) → 0 < length (packet_around uuid span missed cpu body)
+front-some : (uuid : List ℕ) (span : Option (ℕ × ℕ)) (content size missed cpu : ℕ) (more : List ℕ) → 0 < length (front_bytes uuid span content size missed cpu ++ more)
 unfolding front_bytes header_bytes
-around-some uuid span missed cpu body = omega arith
+front-some uuid span content size missed cpu more = omega arith
 
 one-read : (layout : Layout) (bytes : List ℕ) (p : PacketRead) → 0 < length bytes → read_packet layout bytes ≡ Some (p, []) → read_file layout bytes ≡ Some (p ∷ [])
 one-read layout bytes p some is =
@@ -60,8 +61,20 @@ module _ (called : Naming) (timed : Bool) (e : EnabledRows) (has : HasStamps tim
       → read_file (layout_by called timed e) (packet_around uuid span missed cpu (events e rs)) ≡ Some (packet_read called timed e uuid span missed cpu rs ∷ [])
   packet-read uuid span missed cpu rs long ends few small low of_rs =
       let bytes : List ℕ = packet_around uuid span missed cpu (events e rs) in
-      one-read (layout_by called timed e) bytes (packet_read called timed e uuid span missed cpu rs) (around-some uuid span missed cpu (events e rs))
+      let size : ℕ = front_size span + length (events e rs) in
+      one-read (layout_by called timed e) bytes (packet_read called timed e uuid span missed cpu rs) (front-some uuid span size size missed cpu (events e rs))
       (ap (read_packet (layout_by called timed e)) (sym (append-nil bytes)) ∙ packet-back called timed e has uuid span missed cpu rs [] long ends few small low of_rs)
+
+  pub filled-read : (uuid : List ℕ) (span : Option (ℕ × ℕ)) (missed cpu : ℕ) (rs : List Record) → length uuid ≡ 16 → HasSpan timed span → missed < 2 ^ 64 → cpu < 2 ^ 32
+      → front_size span + length (events e rs) ≤ filled_size → All (Accepts e) rs
+      → read_file (layout_by called timed e) (filled_around uuid span missed cpu (events e rs)) ≡ Some (packet_read called timed e uuid span missed cpu rs ∷ [])
+  unfolding filled_around
+  filled-read uuid span missed cpu rs long ends few small fits of_rs =
+      let bytes : List ℕ = filled_around uuid span missed cpu (events e rs) in
+      let content : ℕ = front_size span + length (events e rs) in
+      one-read (layout_by called timed e) bytes (packet_read called timed e uuid span missed cpu rs)
+      (front-some uuid span content filled_size missed cpu (events e rs ++ replicate (filled_size - content) 0))
+      (ap (read_packet (layout_by called timed e)) (sym (append-nil bytes)) ∙ filled-back called timed e has uuid span missed cpu rs [] long ends few small fits of_rs)
 
 -- stamps of accepted records have 64 bits
 stamp-low : (h : Header) (stamp : ℕ) → IsTrue (stamp_fits h stamp) → stamp < 2 ^ 64

@@ -1,3 +1,4 @@
+pub mod Counting
 pub mod Rows
 pub mod Checking
 pub mod Splitting

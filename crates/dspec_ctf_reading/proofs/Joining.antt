@@ -1,11 +1,12 @@
 -- What a file has isn't changed by what is written behind it.
-use Rattle.std.proofs.Common.{◌≡◌, ◌≤◌, ◌+◌, ◌-◌, ◌*◌, ◌/◌, ◌%◌, ◌==◌, ◌++◌, ℕ, zero, suc, Bool, true, false, cond, leb, List, [], ◌∷◌, length, take, drop, Option, Some, None}
+use Rattle.std.proofs.Common.{◌≡◌, ◌≤◌, ◌+◌, ◌-◌, ◌*◌, ◌/◌, ◌==◌, ◌++◌, ℕ, zero, suc, Bool, true, false, cond, leb, List, [], ◌∷◌, length, take, drop, Option, Some, None}
 use Rattle.std.proofs.Common.{option_map, refl, ap, sym, subst, ◌∙◌, arith, length-append}
 use Rattle.std.specs.Prelude.{option_and_then}
-use Rattle.std.proofs.lemmas.Bool.{leb-true, le-leb, and_from, and_parts, cond-true}
+use Rattle.std.proofs.lemmas.Bool.{leb-true, le-leb, cond-true}
 use Rattle.std.proofs.lemmas.List.{take-append-le, drop-append-le}
 use Rattle.dspec_ctf_reading.specs.Reading.{Layout, PacketRead, FrontRead, Part, then_read, read_number, read_bytes, read_span}
 use Rattle.dspec_ctf_reading.specs.Reading.{read_this, read_header, read_counts, read_front, sizes_agree, with_events, read_body, read_packet, read_file}
+use Rattle.dspec_ctf_reading.proofs.Agreeing.{Agrees, agree, agrees}
 use Rattle.dspec_ctf_reading.proofs.Bounds.{Leaves, front-leaves, packet-leaves, packets-on}
 
 module _ (more : List ℕ) where
@@ -91,19 +92,6 @@ module _ (more : List ℕ) where
       counts-keeps uuid span rest))
 
   -- sizes that agree with a file agree with a longer one
-  record Agrees (front : FrontRead) (read there : ℕ) : Type 0 where
-    same : (front.content_size == front.packet_size) ≡ true
-    whole : (front.packet_size % 8 == 0) ≡ true
-    low : read ≤ front.packet_size / 8
-    high : front.packet_size / 8 ≤ there
-
-  agrees : (front : FrontRead) (read there : ℕ) → sizes_agree front read there ≡ true → Agrees front read there
-  agrees front read there is =
-      let first = and_parts (front.content_size == front.packet_size) _ is in
-      let second = and_parts (front.packet_size % 8 == 0) _ first.1 in
-      let third = and_parts (leb read (front.packet_size / 8)) (leb (front.packet_size / 8) there) second.1 in
-      record { same = first.0; whole = second.0; low = leb-true read (front.packet_size / 8) third.0; high = leb-true (front.packet_size / 8) there third.1 }
-
   body-keeps : (layout : Layout) (bytes : List ℕ) (front : FrontRead) (rest : List ℕ) → length rest ≤ length bytes
       → Keeps (read_body layout bytes front rest) (read_body layout (bytes ++ more) front (rest ++ more))
   unfolding Keeps
@@ -114,6 +102,9 @@ module _ (more : List ℕ) where
 
       end : ℕ
       end = front.packet_size / 8
+
+      content : ℕ
+      content = front.content_size / 8
 
       read' : ℕ
       read' = length (bytes ++ more) - length (rest ++ more)
@@ -127,23 +118,27 @@ module _ (more : List ℕ) where
       there (Some packet) high = ap (λ past. Some (packet, past)) (drop-append-le end bytes more high)
 
       go : (b : Bool) → sizes_agree front read (length bytes) ≡ b
-          → Keeps (cond b (option_map (λ packet. (packet, drop end bytes)) (with_events layout front (take (end - read) rest))) None)
+          → Keeps (cond b (option_map (λ packet. (packet, drop end bytes)) (with_events layout front (take (content - read) rest))) None)
           (read_body layout (bytes ++ more) front (rest ++ more))
       go true is =
           let are : Agrees front read (length bytes) = agrees front read (length bytes) is in
-          let few : end - read ≤ length rest = omega (arith, are.high, within) in
-          let body : take (end - read') (rest ++ more) ≡ take (end - read) rest = ap (λ n. take (end - n) (rest ++ more)) same ∙ take-append-le (end - read) rest more few in
+          let few : content - read ≤ length rest = omega (arith, are.within, are.high, within) in
+          let body : take (content - read') (rest ++ more) ≡ take (content - read) rest =
+          ap (λ n. take (content - n) (rest ++ more)) same ∙ take-append-le (content - read) rest more few in
           let holds : sizes_agree front read' (length (bytes ++ more)) ≡ true =
-          and_from (front.content_size == front.packet_size) _ are.same (
-          and_from (front.packet_size % 8 == 0) _ are.whole (
-          and_from (leb read' end) (leb end (length (bytes ++ more))) (le-leb read' end (omega (arith, same, are.low)))
-          (le-leb end (length (bytes ++ more)) (omega (arith, are.high, length-append bytes more))))) in
-          let known : read_body layout (bytes ++ more) front (rest ++ more) ≡ option_map (λ packet. (packet, drop end (bytes ++ more))) (with_events layout front (take (end - read) rest)) =
+          agree front read' (length (bytes ++ more)) (record {
+            content_whole = are.content_whole;
+            packet_whole = are.packet_whole;
+            low = omega (arith, same, are.low);
+            within = are.within;
+            high = omega (arith, are.high, length-append bytes more);
+          }) in
+          let known : read_body layout (bytes ++ more) front (rest ++ more) ≡ option_map (λ packet. (packet, drop end (bytes ++ more))) (with_events layout front (take (content - read) rest)) =
           cond-true (sizes_agree front read' (length (bytes ++ more)))
-          (option_map (λ packet. (packet, drop end (bytes ++ more))) (with_events layout front (take (end - read') (rest ++ more)))) None holds
+          (option_map (λ packet. (packet, drop end (bytes ++ more))) (with_events layout front (take (content - read') (rest ++ more)))) None holds
           ∙ ap (λ part. option_map (λ packet. (packet, drop end (bytes ++ more))) (with_events layout front part)) body in
-          subst (λ other. Keeps (option_map (λ packet. (packet, drop end bytes)) (with_events layout front (take (end - read) rest))) other) (sym known)
-          (there (with_events layout front (take (end - read) rest)) are.high)
+          subst (λ other. Keeps (option_map (λ packet. (packet, drop end bytes)) (with_events layout front (take (content - read) rest))) other) (sym known)
+          (there (with_events layout front (take (content - read) rest)) are.high)
       go false is = tt
 
   packet-keeps : (layout : Layout) (bytes : List ℕ) → Keeps (read_packet layout bytes) (read_packet layout (bytes ++ more))

@@ -1,3 +1,4 @@
+pub mod Agreeing
 pub mod Bounds
 pub mod Joining
 pub mod NumbersRead
@@ -5,6 +6,7 @@ pub mod EventsRead
 pub mod PacketsRead
 pub mod Sizes
 pub mod Files
+pub mod FilledRead
 pub mod Timed
 pub mod Live
 pub mod Named

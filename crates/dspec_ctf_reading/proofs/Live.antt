@@ -1,25 +1,26 @@
 -- A CPU's file while it runs: the packets of the runs that go to it.
-use Rattle.std.proofs.Common.{◌≡◌, ◌≤◌, ◌<◌, ◌-◌, ◌^◌, ◌++◌, ◌==◌, ℕ, zero, suc, Bool, true, false, cond, List, [], ◌∷◌, length, map, take, drop, replicate, Option, Some, refl}
-use Rattle.std.proofs.Common.{ap, sym, ◌∙◌, arith, append_assoc, length-append, All}
+use Rattle.std.proofs.Common.{◌≡◌, ◌≤◌, ◌<◌, ◌-◌, ◌^◌, ◌++◌, ◌==◌, ℕ, zero, suc, Bool, true, false, cond, List, [], ◌∷◌, length, map, drop, replicate, Option, Some, refl}
+use Rattle.std.proofs.Common.{ap, sym, subst, ◌∙◌, arith, All}
 use Rattle.std.specs.Prelude.{filter, zip, slice_index, slice_range}
 use Rattle.std.specs.List.{flat_map}
 use Rattle.std.proofs.lemmas.Bool.{eqb-true}
-use Rattle.std.proofs.lemmas.List.{map-append, take-append-drop, length-take-le, length-drop}
-use Rattle.std.proofs.lemmas.List.Elements.{All-take, All-drop, All-nil, All-cons}
+use Rattle.std.proofs.lemmas.Grind.{flat_map-append}
+use Rattle.std.proofs.lemmas.List.{map-append, length-take-le, length-drop}
+use Rattle.std.proofs.lemmas.List.Elements.{All-append, All-take, All-drop, All-nil, All-cons}
 use Rattle.dspec_record.specs.Record.{Record}
 use Rattle.dspec_record.specs.EnablingRows.{EnabledRows}
-use Rattle.dspec_ctf.specs.Packets.{event, events, packet_around}
+use Rattle.dspec_ctf.specs.Filled.{filled_around}
 use Rattle.dspec_ctf.specs.Streams.{Accepts}
-use Rattle.dspec_ctf.specs.ByTime.{span_of}
 use Rattle.dspec_ctf.specs.Rows.{AreRuns, of_file, run_records, run_files, told_by, run_packet, run_packets, missed_packets}
 use Rattle.dspec_ctf.specs.declared.rows.Run.{Run}
-use Rattle.dspec_ctf_reading.specs.Reading.{Layout, PacketRead, read_file}
+use Rattle.dspec_ctf_reading.specs.Reading.{Layout, PacketRead, events_of, read_file}
 use Rattle.dspec_ctf_reading.specs.Layouts.{Naming, event_read, layout_by, packet_read}
 use Rattle.dspec_ctf_reading.specs.Files.{FileTells, PartTells, file_bytes}
 use Rattle.dspec_ctf_reading.proofs.EventsRead.{HasStamps}
 use Rattle.dspec_ctf_reading.proofs.PacketsRead.{HasSpan}
 use Rattle.dspec_ctf_reading.proofs.Joining.{join}
-use Rattle.dspec_ctf_reading.proofs.Files.{packet-read, span-low}
+use Rattle.dspec_ctf_reading.proofs.Files.{filled-read}
+use Rattle.dspec_ctf_reading.proofs.FilledRead.{filled-tells}
 
 -- records of a run that goes to this file, before others; and of one that doesn't
 of-same : (file f k : ℕ) (xs : List Record) (fs : List ℕ) (ys : List Record) → length xs ≡ k → (f == file) ≡ true → of_file file (replicate k f ++ fs) (xs ++ ys) ≡ xs ++ of_file file fs ys
@@ -38,36 +39,17 @@ of-other file f (suc k) (x ∷ xs) fs ys long other =
     let rest : List (ℕ × Record) = filter (λ p. p.0 == file) (zip (replicate k f ++ fs) (xs ++ ys)) in
     ap (λ b. map (λ p. p.1) (cond b ((f, x) ∷ rest) rest)) other ∙ of-other file f k xs fs ys (omega (arith, long)) other
 
--- a part of records has no more bytes than all of them
-events-split : (e : EnabledRows) (xs ys : List Record) → events e (xs ++ ys) ≡ events e xs ++ events e ys
-events-split e [] ys = refl
-events-split e (x ∷ xs) ys = ap (λ more. event e x ++ more) (events-split e xs ys) ∙ sym (append_assoc (event e x) (events e xs) (events e ys))
-
-take-small : (e : EnabledRows) (n : ℕ) (rs : List Record) → length (events e (take n rs)) ≤ length (events e rs)
-take-small e n rs =
-    let whole : events e rs ≡ events e (take n rs) ++ events e (drop n rs) = ap (events e) (sym (take-append-drop n rs)) ∙ events-split e (take n rs) (drop n rs) in
-    omega (arith, ap length whole, length-append (events e (take n rs)) (events e (drop n rs)))
-
-drop-small : (e : EnabledRows) (n : ℕ) (rs : List Record) → length (events e (drop n rs)) ≤ length (events e rs)
-drop-small e n rs =
-    let whole : events e rs ≡ events e (take n rs) ++ events e (drop n rs) = ap (events e) (sym (take-append-drop n rs)) ∙ events-split e (take n rs) (drop n rs) in
-    omega (arith, ap length whole, length-append (events e (take n rs)) (events e (drop n rs)))
-
 told-low : (b : Bool) (missed : ℕ) → missed < 2 ^ 64 → cond b missed 0 < 2 ^ 64
 told-low true missed low = low
 told-low false missed low = omega arith
 
-module _ (called : Naming) (e : EnabledRows) (has : HasStamps true e.header) (uuid : List ℕ) (missed cpu : ℕ) (long : length uuid ≡ 16) (low : missed < 2 ^ 64) (small : cpu < 2 ^ 32) where
-  -- a run's packet, as it is read
-  run_read : ℕ → List Record → PacketRead
-  run_read file rs = packet_read called true e uuid (Some (span_of rs)) (told_by file missed) cpu rs
+module _ (called : Naming) (e : EnabledRows) (has : HasStamps true e.header) (uuid : List ℕ) (missed cpu : ℕ)
+    (long : length uuid ≡ 16) (low : missed < 2 ^ 64) (small : cpu < 2 ^ 32) where
+  run-back : (file : ℕ) (rs : List Record) → All (Accepts e) rs
+      → PartTells (layout_by called true e) uuid cpu (run_packet uuid e missed cpu file rs) (map (event_read called true e) rs) (told_by file missed)
+  run-back file rs of_rs = filled-tells called true e has uuid cpu long small (told_by file missed) rs (told-low (file == 0) missed low) of_rs
 
-  run-back : (file : ℕ) (rs : List Record) → length (events e rs) < 2 ^ 60 → All (Accepts e) rs
-      → read_file (layout_by called true e) (run_packet uuid e missed cpu file rs) ≡ Some (run_read file rs ∷ [])
-  unfolding run_read
-  run-back file rs few of_rs = packet-read called true e has uuid (Some (span_of rs)) (told_by file missed) cpu rs long (span-low e rs of_rs) (told-low (file == 0) missed low) small few of_rs
-
-  module _ (rs : List Record) (few : length (events e rs) < 2 ^ 60) (of_rs : All (Accepts e) rs) (file : ℕ) where
+  module _ (rs : List Record) (of_rs : All (Accepts e) rs) (file : ℕ) where
     -- what is read of the runs from a place on
     From : ℕ → List Run → Type 0
     From from runs = PartTells (layout_by called true e) uuid cpu (file_bytes file (run_packets uuid e missed cpu rs from runs))
@@ -76,14 +58,11 @@ module _ (called : Naming) (e : EnabledRows) (has : HasStamps true e.header) (uu
     slice-of : (from to : ℕ) → All (Accepts e) (slice_range rs from to)
     slice-of from to = All-take (Accepts e) (to - from) (drop from rs) (All-drop (Accepts e) from rs of_rs)
 
-    slice-small : (from to : ℕ) → length (events e (slice_range rs from to)) < 2 ^ 60
-    slice-small from to = omega (arith, few, take-small e (to - from) (drop from rs), drop-small e from rs)
-
     slice-long : (from to : ℕ) → from < to → to ≤ length rs → length (slice_range rs from to) ≡ to - from
     slice-long from to some within = length-take-le (to - from) (drop from rs) (omega (arith, some, within, length-drop from rs))
 
     step : (from : ℕ) (run : Run) (runs : List Run) → from < run.end → run.end ≤ length rs → From run.end runs → From from (run ∷ runs)
-    unfolding From run_read
+    unfolding From
     step from run runs some within rest = go (run.file == file) refl
       where
         part : List Record
@@ -108,16 +87,19 @@ module _ (called : Naming) (e : EnabledRows) (has : HasStamps true e.header) (uu
         go true is =
             let same : run.file ≡ file = eqb-true run.file file is in
             let bytes : file_bytes file (mine ∷ others) ≡ mine.1 ++ file_bytes file others = ap (λ b. flat_map (λ p. p.1) (cond b (mine ∷ kept) kept)) is in
+            let first : PartTells (layout_by called true e) uuid cpu mine.1 (map (event_read called true e) part) (told_by run.file missed) =
+            run-back run.file part (slice-of from run.end) in
             record {
-              packets = run_read run.file part ∷ rest.packets;
+              packets = first.packets ++ rest.packets;
               read = ap (read_file (layout_by called true e)) bytes
-                  ∙ join (layout_by called true e) (length mine.1) mine.1 (file_bytes file others) (run_read run.file part ∷ []) rest.packets (omega arith)
-                  (run-back run.file part (slice-small from run.end) (slice-of from run.end)) rest.read;
-              has = ap (λ more. map (event_read called true e) part ++ more) rest.has
+                  ∙ join (layout_by called true e) (length mine.1) mine.1 (file_bytes file others) first.packets rest.packets (omega arith) first.read rest.read;
+              has = flat_map-append (λ p. p.events) first.packets rest.packets
+                  ∙ ap (λ front. front ++ events_of rest.packets) first.has
+                  ∙ ap (λ more. map (event_read called true e) part ++ more) rest.has
                   ∙ sym (map-append (event_read called true e) part (of_file file later_files later))
                   ∙ ap (map (event_read called true e)) (sym (of-same file run.file (run.end - from) part later_files later (slice-long from run.end some within) is));
-              whose = All-cons (λ p. (p.uuid ≡ uuid) × (p.cpu ≡ cpu) × (p.discarded ≡ told_by file missed)) (run_read run.file part) rest.packets
-                  (refl, refl, ap (λ f. told_by f missed) same) rest.whose;
+              whose = All-append (λ p. (p.uuid ≡ uuid) × (p.cpu ≡ cpu) × (p.discarded ≡ told_by file missed)) first.packets rest.packets
+                  (subst (λ f. All (λ p. (p.uuid ≡ uuid) × (p.cpu ≡ cpu) × (p.discarded ≡ told_by f missed)) first.packets) same first.whose) rest.whose;
             }
         go false is =
             let bytes : file_bytes file (mine ∷ others) ≡ file_bytes file others = ap (λ b. flat_map (λ p. p.1) (cond b (mine ∷ kept) kept)) is in
@@ -152,11 +134,11 @@ missed-back called e has uuid before missed cpu lasts long low high small at =
     let layout : Layout = layout_by called true e in
     let first : PacketRead = packet_read called true e uuid span before cpu [] in
     let second : PacketRead = packet_read called true e uuid span missed cpu [] in
-    let one : (n : ℕ) → n < 2 ^ 64 → read_file layout (packet_around uuid span n cpu []) ≡ Some (packet_read called true e uuid span n cpu [] ∷ []) =
-    λ n fits. packet-read called true e has uuid span n cpu [] long (both-low (slice_index lasts 0) at) fits small (omega arith) (All-nil (Accepts e)) in
+    let one : (n : ℕ) → n < 2 ^ 64 → read_file layout (filled_around uuid span n cpu []) ≡ Some (packet_read called true e uuid span n cpu [] ∷ []) =
+    λ n fits. filled-read called true e has uuid span n cpu [] long (both-low (slice_index lasts 0) at) fits small (omega arith) (All-nil (Accepts e)) in
     record {
       packets = first ∷ second ∷ [];
-      read = join layout (length (packet_around uuid span before cpu [])) (packet_around uuid span before cpu []) (packet_around uuid span missed cpu []) (first ∷ []) (second ∷ []) (omega arith)
+      read = join layout (length (filled_around uuid span before cpu [])) (filled_around uuid span before cpu []) (filled_around uuid span missed cpu []) (first ∷ []) (second ∷ []) (omega arith)
           (one before low) (one missed high);
       has = refl;
       misses = refl;

@@ -16,8 +16,8 @@ module _ (layout : Layout) (bytes : List ℕ) where
   go_on split = option_and_then (λ s. option_map (λ packet. (packet, s.behind)) (with_events layout s.front s.body)) split
 
   test-split : (front : FrontRead) (rest : List ℕ) (agree : Bool)
-      → cond agree (option_map (λ packet. (packet, drop (front.packet_size / 8) bytes)) (with_events layout front (take (front.packet_size / 8 - (length bytes - length rest)) rest))) None
-      ≡ go_on (cond agree (Some (record { front = front; body = take (front.packet_size / 8 - (length bytes - length rest)) rest; behind = drop (front.packet_size / 8) bytes })) None)
+      → cond agree (option_map (λ packet. (packet, drop (front.packet_size / 8) bytes)) (with_events layout front (take (front.content_size / 8 - (length bytes - length rest)) rest))) None
+      ≡ go_on (cond agree (Some (record { front = front; body = take (front.content_size / 8 - (length bytes - length rest)) rest; behind = drop (front.packet_size / 8) bytes })) None)
   unfolding go_on
   test-split front rest true = refl
   test-split front rest false = refl

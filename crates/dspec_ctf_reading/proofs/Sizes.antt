@@ -32,7 +32,7 @@ values-small (f ∷ fs) [] = omega arith
 values-small (f ∷ fs) (v ∷ vs) =
     omega (arith, length-append (little_endian (width f) v) (values_bytes fs vs), length-little_endian f v, narrow f, values-small fs vs)
 
-event-small : (e : EnabledRows) (r : Record) → Accepts e r → length (event e r) ≤ 76
+pub event-small : (e : EnabledRows) (r : Record) → Accepts e r → length (event e r) ≤ 76
 event-small e r of_r =
     let parts : IsAccepted e.header r (enabled e.rows r.epid) = accepted-parts e.header (enabled e.rows) r of_r in
     let known : IsKnown e r.epid r.values = is-known e r.epid r.values parts.values in

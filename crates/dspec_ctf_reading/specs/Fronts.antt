@@ -1,4 +1,5 @@
--- Cited by calls. A packet split into its front, the bytes of its events and what is behind it, before any event is read.
+-- Cited by calls. A packet split into its front, the bytes of its events and what is behind it, before any event is read. What fills it up behind its
+-- events is left out.
 use Rattle.std.specs.Prelude.{ℕ, ◌-◌, ◌/◌, Bool, List, length, take, drop, Option, Some, None, if◌then◌else◌}
 use Rattle.std.specs.Option.{option_and_then}
 use Rattle.dspec_ctf_reading.specs.Reading.{FrontRead, read_front, sizes_agree}
@@ -24,7 +25,7 @@ pub record PacketSplit : Type 0 where
 abbrev pub split_behind : List ℕ → FrontRead → List ℕ → Option PacketSplit
 split_behind bytes front rest =
     if sizes_agree front (length bytes - length rest) (length bytes)
-    then Some (record { front = front; body = take (front.packet_size / 8 - (length bytes - length rest)) rest; behind = drop (front.packet_size / 8) bytes })
+    then Some (record { front = front; body = take (front.content_size / 8 - (length bytes - length rest)) rest; behind = drop (front.packet_size / 8) bytes })
     else None
 
 abbrev pub split_packet : Bool → List ℕ → Option PacketSplit

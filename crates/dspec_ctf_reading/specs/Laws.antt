@@ -1,5 +1,5 @@
 -- Cited by calls. What the laws say, each by its name.
-use Rattle.std.specs.Prelude.{◌≡◌, ◌<◌, ◌^◌, ◌++◌, ◌∷◌, [], ℕ, All, List, map, length, slice_index, Option, Some, None}
+use Rattle.std.specs.Prelude.{◌≡◌, ◌<◌, ◌^◌, ◌++◌, ◌∷◌, [], ℕ, true, false, All, List, map, length, slice_index, Option, Some, None}
 use Rattle.std.specs.Option.{option_map, option_and_then}
 use Rattle.std.specs.List.{flat_map}
 use Rattle.dspec_record.specs.Record.{Record}
@@ -8,6 +8,7 @@ use Rattle.dspec_record.specs.declared.header.Header.{Header}
 use Rattle.dspec_record.specs.declared.header.Header.TheVariants as header
 use Rattle.dspec_probe.specs.declared.probes.ProbeNames.{ProbeNames}
 use Rattle.dspec_ctf.specs.Packets.{events, packet, packet_around}
+use Rattle.dspec_ctf.specs.Filled.{filled_packets, portions, span_by}
 use Rattle.dspec_ctf.specs.Streams.{Accepts}
 use Rattle.dspec_ctf.specs.ByTime.{timed_packets}
 use Rattle.dspec_ctf.specs.Rows.{AreRuns, missed_packets, of_file, run_files, run_packets, run_records, told_by}
@@ -17,10 +18,10 @@ use Rattle.dspec_ctf.specs.declared.form.Form.TheVariants.{AsTaken, ByTime}
 use Rattle.dspec_ctf.specs.declared.names.Names.{Names}
 use Rattle.dspec_ctf.specs.declared.origin.Origin.{Origin}
 use Rattle.dspec_ctf.specs.declared.rows.Run.{Run}
-use Rattle.dspec_ctf_reading.specs.Reading.{Layout, EventRead, PacketRead, read_packet, with_events}
+use Rattle.dspec_ctf_reading.specs.Reading.{Layout, EventRead, PacketRead, read_packet, read_file, with_events}
 use Rattle.dspec_ctf_reading.specs.ReadingMetadata.{read_metadata}
 use Rattle.dspec_ctf_reading.specs.Fronts.{PacketSplit}
-use Rattle.dspec_ctf_reading.specs.Layouts.{layout_of, event_of, packet_of}
+use Rattle.dspec_ctf_reading.specs.Layouts.{layout_of, event_of, packet_of, is_timed}
 use Rattle.dspec_ctf_reading.specs.Files.{FileTells, PartTells, file_bytes, last_missed}
 
 -- what was read first, and behind it the others, which this reading gives of the rest
@@ -65,11 +66,26 @@ module _ (e : EnabledRows) (names : Names) where
       → read_packet (layout_of e names (ByTime frequency)) (packet_around uuid (Some span) missed cpu (events e rs) ++ rest)
       ≡ Some (packet_of e names (ByTime frequency) uuid (Some span) missed cpu rs, rest)
 
+  -- the packets of 1,024 bytes of these records are read as the records that each has, between the stamps of its first and of its last by time, and each
+  -- tells what was missed
+  abbrev pub FilledPacketsReadBack : Form → Type 0
+  FilledPacketsReadBack form = (uuid : List ℕ) (missed cpu : ℕ) (rs : List Record) → (is_timed form ≡ true → e.header ≡ header.Two)
+      → length uuid ≡ 16 → missed < 2 ^ 64 → cpu < 2 ^ 32 → All (Accepts e) rs
+      → read_file (layout_of e names form) (filled_packets (is_timed form) e uuid missed cpu rs)
+      ≡ Some (map (λ part. packet_of e names form uuid (span_by (is_timed form) part) missed cpu part) (portions (is_timed form) e rs))
+
   -- a file of batches as they were taken tells all their records in order, and what was missed up to the last
   abbrev pub TakenFilesReadBack : Type 0
   TakenFilesReadBack = (uuid : List ℕ) (cpu : ℕ) (batches : List (ℕ × List Record)) → length uuid ≡ 16 → cpu < 2 ^ 32
       → All (λ b. (b.0 < 2 ^ 64) × (length (events e b.1) < 2 ^ 60) × All (Accepts e) b.1) batches
       → FileTells (layout_of e names AsTaken) uuid cpu (flat_map (λ b. packet uuid e b.0 cpu b.1) batches)
+      (map (event_of e names AsTaken) (flat_map (λ b. b.1) batches)) (last_missed batches)
+
+  -- so does one in whose packets of 1,024 bytes they are
+  abbrev pub FilledFilesReadBack : Type 0
+  FilledFilesReadBack = (uuid : List ℕ) (cpu : ℕ) (batches : List (ℕ × List Record)) → length uuid ≡ 16 → cpu < 2 ^ 32
+      → All (λ b. (b.0 < 2 ^ 64) × All (Accepts e) b.1) batches
+      → FileTells (layout_of e names AsTaken) uuid cpu (flat_map (λ b. filled_packets false e uuid b.0 cpu b.1) batches)
       (map (event_of e names AsTaken) (flat_map (λ b. b.1) batches)) (last_missed batches)
 
   -- a file of records by time tells them in order, and what was missed
@@ -81,8 +97,7 @@ module _ (e : EnabledRows) (names : Names) where
   -- the packets of a batch's runs tell in each file the records that go to it, in order, and in the first alone what was missed
   abbrev pub RunsReadBack : Type 0
   RunsReadBack = (frequency : ℕ) (uuid : List ℕ) (missed cpu : ℕ) (rs : List Record) (file : ℕ) (lasts new : List ℕ) (from to : ℕ) (runs : List Run)
-      → e.header ≡ header.Two → length uuid ≡ 16 → missed < 2 ^ 64 → cpu < 2 ^ 32
-      → length (events e rs) < 2 ^ 60 → All (Accepts e) rs → AreRuns lasts rs from runs to new
+      → e.header ≡ header.Two → length uuid ≡ 16 → missed < 2 ^ 64 → cpu < 2 ^ 32 → All (Accepts e) rs → AreRuns lasts rs from runs to new
       → PartTells (layout_of e names (ByTime frequency)) uuid cpu (file_bytes file (run_packets uuid e missed cpu rs from runs))
       (map (event_of e names (ByTime frequency)) (of_file file (run_files from runs) (run_records rs from runs))) (told_by file missed)
 

@@ -1,9 +1,9 @@
 -- Cited by calls. What a fault of a packet says of its bytes.
-use Rattle.std.specs.Prelude.{◌≡◌, ◌≢◌, ◌<◌, ◌-◌, ◌/◌, ◌%◌, ℕ, Bool, List, length, drop, Option, IfSome, IsSomeAnd, MatchOption}
+use Rattle.std.specs.Prelude.{◌≡◌, ◌≢◌, ◌<◌, ◌-◌, ◌/◌, ◌%◌, ℕ, Bool, List, length, drop, IfSome, IsSomeAnd, MatchOption}
 use Rattle.dspec_ctf_reading.specs.Reading.{Layout, FrontRead, read_number, read_front}
 use Rattle.dspec_ctf_reading.specs.Fronts.{split_packet}
 use Rattle.dspec_ctf_reading.specs.declared.fault.PacketReadFault.{PacketReadFault}
-use Rattle.dspec_ctf_reading.specs.declared.fault.PacketReadFault.TheVariants.{Cut, Magic, Stream, SizesDiffer, WithinByte, BeforeEvents, BehindFile}
+use Rattle.dspec_ctf_reading.specs.declared.fault.PacketReadFault.TheVariants.{Cut, Magic, Stream, ContentWithinByte, PacketWithinByte, BeforeEvents, BehindPacket, BehindFile}
 use Rattle.dspec_ctf_reading.specs.declared.fault.PacketFault.{PacketFault}
 use Rattle.dspec_ctf_reading.specs.declared.fault.PacketFault.TheVariants.{Packet, Events}
 use Rattle.dspec_ctf_reading.specs.Faults.{EventsDue}
@@ -17,9 +17,10 @@ FrontDue bytes _ = ⊥
 
 -- Of a front whose sizes don't agree, of which so many bytes were read, in a file of so many bytes.
 abbrev pub SizesDue : FrontRead → ℕ → ℕ → PacketReadFault → Type 0
-SizesDue front read there (SizesDiffer content packet) = (front.content_size ≡ content) × (front.packet_size ≡ packet) × (content ≢ packet)
-SizesDue front read there (WithinByte size) = (front.packet_size ≡ size) × (size % 8 ≢ 0)
-SizesDue front read there (BeforeEvents size) = (front.packet_size ≡ size) × (size / 8 < read)
+SizesDue front read there (ContentWithinByte size) = (front.content_size ≡ size) × (size % 8 ≢ 0)
+SizesDue front read there (PacketWithinByte size) = (front.packet_size ≡ size) × (size % 8 ≢ 0)
+SizesDue front read there (BeforeEvents size) = (front.content_size ≡ size) × (size / 8 < read)
+SizesDue front read there (BehindPacket content packet) = (front.content_size ≡ content) × (front.packet_size ≡ packet) × (packet < content)
 SizesDue front read there (BehindFile size) = (front.packet_size ≡ size) × (there < size / 8)
 SizesDue front read there _ = ⊥
 

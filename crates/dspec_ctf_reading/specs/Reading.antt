@@ -1,5 +1,6 @@
 -- Cited by calls. What the bytes of a trace's files say, in the Common Trace Format, version 1.8, by what its metadata tells of them. Numbers are
--- little-endian, nothing stands between two parts, and a packet has no bytes behind its events. What is none of this is refused.
+-- little-endian, and nothing stands between two parts. A packet may be longer than what it has: the bytes behind its events say nothing, whatever they
+-- are. What is none of this is refused.
 use Rattle.std.specs.Prelude.{ℕ, zero, suc, ◌+◌, ◌-◌, ◌*◌, ◌/◌, ◌%◌, ◌==◌, nat_le, Bool, true, false, ◌&&◌, List, [], ◌∷◌, length, take, drop, Option, Some, None, if◌then◌else◌}
 use Rattle.std.specs.Option.{option_map, option_and_then}
 use Rattle.std.specs.List.{flat_map}
@@ -128,7 +129,7 @@ read_header bytes =
     then_read (read_this 4 3254525889 bytes) (λ _ rest.
     then_read (read_bytes 16 rest) (λ uuid rest. option_map (λ p. (uuid, p.1)) (read_this 4 0 rest)))
 
--- behind the stamps: the size of what the packet has, its own size, how many events were missed so far, and the CPU
+-- behind the stamps: the size of what the packet has, its front and its events, its own size, how many events were missed so far, and the CPU
 abbrev pub read_counts : List ℕ → Option (ℕ × ℕ) → List ℕ → Part FrontRead
 read_counts uuid span bytes =
     then_read (read_number 8 bytes) (λ content_size rest.
@@ -142,12 +143,13 @@ abbrev pub read_front : Bool → List ℕ → Part FrontRead
 read_front timed bytes =
     then_read (read_header bytes) (λ uuid rest. then_read (read_span timed rest) (λ span rest. read_counts uuid span rest))
 
--- The two sizes are the same, of whole bytes, and end no earlier than what was read of the packet, so many bytes, and no later than the file, which
--- has so many.
+-- Both sizes are of whole bytes. The content ends no earlier than what was read of the packet, so many bytes, and no later than the packet; the packet
+-- ends no later than the file, which has so many.
 abbrev pub sizes_agree : FrontRead → ℕ → ℕ → Bool
 sizes_agree front read there =
-    front.content_size == front.packet_size
-    && (front.packet_size % 8 == 0 && (nat_le read (front.packet_size / 8) && nat_le (front.packet_size / 8) there))
+    front.content_size % 8 == 0
+    && (front.packet_size % 8 == 0
+    && (nat_le read (front.content_size / 8) && (nat_le front.content_size front.packet_size && nat_le (front.packet_size / 8) there)))
 
 -- the packet whose events fill these bytes
 abbrev pub with_events : Layout → FrontRead → List ℕ → Option PacketRead
@@ -155,12 +157,13 @@ with_events layout front body =
     option_map (λ events. record { uuid = front.uuid; cpu = front.cpu; discarded = front.discarded; span = front.span; events = events })
     (read_events layout body)
 
--- A packet: its front, then events up to its size. All bytes are given besides those behind the front, for the sizes.
+-- A packet: its front, then events up to the end of its content. What is behind them up to its own end is passed over. All bytes are given besides
+-- those behind the front, for the sizes.
 abbrev pub read_body : Layout → List ℕ → FrontRead → List ℕ → Part PacketRead
 read_body layout bytes front rest =
     if sizes_agree front (length bytes - length rest) (length bytes)
     then option_map (λ packet. (packet, drop (front.packet_size / 8) bytes))
-    (with_events layout front (take (front.packet_size / 8 - (length bytes - length rest)) rest))
+    (with_events layout front (take (front.content_size / 8 - (length bytes - length rest)) rest))
     else None
 
 abbrev pub read_packet : Layout → List ℕ → Part PacketRead

@@ -33,6 +33,10 @@ sample_events = 1 ∷ 0 ∷ 0 ∷ 0 ∷ 2 ∷ 0 ∷ 0 ∷ 0 ∷ 7 ∷ 0 ∷ 0 �
 abbrev pub sample_bytes : List ℕ
 sample_bytes = sample_header ++ (sample_context ++ sample_events)
 
+-- the same, filled up by two bytes to 616 bits
+abbrev pub filled_bytes : List ℕ
+filled_bytes = slice_set sample_bytes 32 104 ++ 193 ∷ 0 ∷ []
+
 -- the same with both sizes of these two bytes, the lower first
 abbrev pub sized : ℕ → ℕ → List ℕ
 sized low high = slice_set (slice_set (slice_set (slice_set sample_bytes 24 low) 25 high) 32 low) 33 high

@@ -1,5 +1,5 @@
 -- Cited by calls. What was read in code, in the words of the definitions of reading.
-use Rattle.std.specs.Prelude.{◌≡◌, ◌<◌, ℕ, List, [], length, map, slice_index_or, is_some}
+use Rattle.std.specs.Prelude.{◌≡◌, ◌<◌, ◌+◌, ◌==◌, ℕ, List, [], ◌∷◌, length, map, slice_index_or, is_some, if◌then◌else◌}
 use Rattle.std.specs.List.{zip}
 use Rattle.dspec_record.specs.Layout.{width}
 use Rattle.dspec_ctf_reading.specs.Reading.{FieldLayout, EventLayout, Layout, EventRead}
@@ -43,9 +43,16 @@ as_read layout event = record {
   values = zip (names_of (text_at layout.events event.place).fields) event.values.items;
 }
 
--- there is a text at its place, and it has a value for each field
+-- where the layout of the events with this number stands: the first that has it
+abbrev pub first_place : ℕ → List EventLayout → ℕ
+first_place id [] = 0
+first_place id (event ∷ events) = if event.id == id then 0 else 1 + first_place id events
+
+-- there is a text at its place, the first of its number, and it has a value for each field
 abbrev pub Fits : Layout → Event → Type 0
-Fits layout event = (event.place < length layout.events) × (length event.values.items ≡ length (text_at layout.events event.place).fields)
+Fits layout event =
+    (event.place < length layout.events) × (length event.values.items ≡ length (text_at layout.events event.place).fields)
+    × (first_place (text_at layout.events event.place).id layout.events ≡ event.place)
 
 -- ---- packets
 

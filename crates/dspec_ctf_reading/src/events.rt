@@ -4,7 +4,7 @@ ghost use Rattle.std.specs.Prelude.{◌≡◌, ◌≤◌, ◌<◌, length, map, 
 ghost use Rattle.std.specs.List.{zip};
 ghost use Rattle.std.specs.Option.{option_map};
 ghost use Rattle.dspec_ctf_reading.specs.Reading.{find_event, read_event as event_from, read_event_body, read_events as events_from, read_payload};
-ghost use Rattle.dspec_ctf_reading.specs.Told.{Fits, told_event, as_read, told_field, told_layout, names_of, text_at};
+ghost use Rattle.dspec_ctf_reading.specs.Told.{Fits, told_event, as_read, told_field, told_layout, names_of, first_place, text_at};
 ghost use Rattle.dspec_ctf_reading.specs.Faults.{EventDue, EventsDue, HasKnown, IsCutOrMemory, is_event_fault};
 
 use crate::fault::{EventFault, EventsFault};
@@ -27,6 +27,7 @@ pub struct Event {
 fn find<'m, 't>(events: &'m [EventText<'t>], id: u32) -> Option<(usize, &'m EventText<'t>)>
     ensures found { MatchOption result (find_event id (map told_event events.now) ≡ None) (λ p. find_event id (map told_event events.now) ≡ Some (told_event p.1.now)) }
     ensures place { IfSome result (λ p. (p.0 < length events.now) × (text_at (map told_event events.now) p.0 ≡ told_event p.1.now)) }
+    ensures first { IfSome result (λ p. first_place p.1.now.id (map told_event events.now) ≡ p.0) }
 {
     for (place, event) in events.iter().enumerate() {
         if event.id == u64::from(id) {
@@ -43,6 +44,7 @@ fn heading<'m, 't, 'b>(
 ) -> Result<(usize, &'m EventText<'t>, &'b [u8]), EventFault>
     ensures read { IfOk result (λ p. event_from (told_layout metadata.now) bytes.now ≡ read_event_body (told_layout metadata.now).timed (told_event p.1.now) p.2.now) }
     ensures place { IfOk result (λ p. (p.0 < length metadata.now.events.items) × (text_at (told_layout metadata.now).events p.0 ≡ told_event p.1.now)) }
+    ensures first { IfOk result (λ p. first_place p.1.now.id (told_layout metadata.now).events ≡ p.0) }
     ensures known { IfOk result (λ p. HasKnown (told_layout metadata.now) bytes.now) }
     ensures shorter { IfOk result (λ p. length p.2.now < length bytes.now) }
     ensures fault { IfErr result (λ fault. EventDue (told_layout metadata.now) bytes.now fault) }

@@ -125,7 +125,8 @@ pub struct EventsFault {
     pub fault: EventFault,
 }
 
-/// Why bytes don't begin with a packet. Sizes are in bits, and those that are told are the packet's own.
+/// Why bytes don't begin with a packet. Sizes are in bits, from the packet's first on: that of its content, which ends with its events, and
+/// its own.
 #[derive(Debug, Clone, Copy, PartialEq, Eq, Error)]
 pub enum PacketReadFault {
     /// The bytes end before what stands before a packet's events does.
@@ -137,17 +138,20 @@ pub enum PacketReadFault {
     /// The packet is of a stream that no trace of ours has.
     #[error("there is no stream {0}")]
     Stream(u32),
-    /// The size of what the packet has isn't its own size.
-    #[error("the content has {content} bits, the packet {packet}")]
-    SizesDiffer { content: u64, packet: u64 },
-    /// The size isn't of whole bytes.
-    #[error("a size of {0} bits ends within a byte")]
-    WithinByte(u64),
-    /// The packet ends before its events begin.
-    #[error("a size of {0} bits ends before the events")]
+    /// The size of the content isn't of whole bytes.
+    #[error("content of {0} bits ends within a byte")]
+    ContentWithinByte(u64),
+    /// Nor is the packet's own.
+    #[error("a packet of {0} bits ends within a byte")]
+    PacketWithinByte(u64),
+    /// The content ends before the events begin.
+    #[error("content of {0} bits ends before the events")]
     BeforeEvents(u64),
+    /// The content ends behind the packet.
+    #[error("content of {content} bits ends behind its packet of {packet}")]
+    BehindPacket { content: u64, packet: u64 },
     /// The packet ends behind the bytes.
-    #[error("a size of {0} bits ends behind the file")]
+    #[error("a packet of {0} bits ends behind the file")]
     BehindFile(u64),
 }
 

@@ -14,7 +14,7 @@ pub struct Front {
     pub span: Option<(u64, u64)>,
     /// In bits, from its first byte to the end of its last event.
     pub content_size: u64,
-    /// In bits, its own.
+    /// In bits, its own: its content, and what fills it up.
     pub packet_size: u64,
     /// How many events were missed on its CPU so far.
     pub discarded: u64,
@@ -27,7 +27,7 @@ pub struct Front {
 pub struct Packet<'b> {
     /// What it tells before its events.
     pub front: Front,
-    /// The bytes of its events.
+    /// The bytes of its events, up to the end of its content.
     pub body: &'b [u8],
     /// The bytes behind it.
     pub behind: &'b [u8],
@@ -108,24 +108,27 @@ pub fn read_front(timed: bool, bytes: &[u8]) -> Option<(Front, &[u8])>
     counts_at(uuid, span, rest)
 }
 
-/// The packet with which these bytes begin: its front, and the bytes of its events up to its end. None where they begin with no front, and
-/// where its sizes don't agree with each other and with the bytes.
+/// The packet with which these bytes begin: its front, and the bytes of its events up to the end of its content. What fills it up behind
+/// them is passed over. None where the bytes begin with no front, and where its sizes don't agree with each other and with the bytes.
 pub fn split_packet(timed: bool, bytes: &[u8]) -> Option<Packet<'_>>
     ensures { option_map (λ p. record { front = front_of p.front; body = p.body.now; behind = p.behind.now }) result ≡ packet_split timed bytes.now }
 {
     let (front, rest) = read_front(timed, bytes)?;
     let read = bytes.len() - rest.len();
-    if front.content_size != front.packet_size || front.packet_size % 8 != 0 {
+    if front.content_size % 8 != 0 || front.packet_size % 8 != 0 {
         return None;
     }
-    let end = front.packet_size / 8;
-    if end < (read as u64) || (bytes.len() as u64) < end {
+    let (content, end) = (front.content_size / 8, front.packet_size / 8);
+    if content < (read as u64)
+        || front.packet_size < front.content_size
+        || (bytes.len() as u64) < end
+    {
         return None;
     }
-    let end = end as usize;
+    let (content, end) = (content as usize, end as usize);
     Some(Packet {
         front,
-        body: &rest[..end - read],
+        body: &rest[..content - read],
         behind: &bytes[end..],
     })
 }

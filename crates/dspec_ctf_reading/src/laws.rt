@@ -14,11 +14,11 @@ ghost use Rattle.dspec_ctf_reading.specs.Reading.{Layout, PacketRead, read_packe
 ghost use Rattle.dspec_ctf_reading.specs.Fronts.{split_packet};
 ghost use Rattle.dspec_ctf_reading.specs.Layouts.{event_of, given_for};
 ghost use Rattle.dspec_ctf_reading.specs.Laws.{IsCalledBy, IsReadAs, IsReadAsTaken, MetadataTells, MissedReadsBack, RunsReadBack, then_others, with_its_events};
-ghost use Rattle.dspec_ctf_reading.specs.Laws.{TakenFilesReadBack, TakenPacketsReadBack, TimedFilesReadBack, TimedPacketsReadBack};
+ghost use Rattle.dspec_ctf_reading.specs.Laws.{FilledFilesReadBack, FilledPacketsReadBack, TakenFilesReadBack, TakenPacketsReadBack, TimedFilesReadBack, TimedPacketsReadBack};
 ghost use Rattle.dspec_ctf_reading.specs.ToldNumbers.{HasNumbers};
 ghost use Rattle.dspec_ctf_reading.specs.ReadingMetadata.{read_field, read_metadata, read_type};
 ghost use Rattle.dspec_ctf_reading.specs.SampleMetadata.{timed_text, timed_text_layout, taken_text, taken_text_layout};
-ghost use Rattle.dspec_ctf_reading.specs.Sample.{sample_layout, sample_bytes, sample_packet, sized, stamped_bytes, stamped_packet};
+ghost use Rattle.dspec_ctf_reading.specs.Sample.{sample_layout, sample_bytes, sample_packet, filled_bytes, sized, stamped_bytes, stamped_packet};
 
 /// The number that shows that reading comes to an end changes nothing, from the number of bytes on.
 pub fn bound_is_enough()
@@ -43,28 +43,30 @@ pub fn files_join()
         → read_file layout (a ++ b) ≡ Some (ps ++ qs) }
 {}
 
-/// Two packets by hand say what they were made to say, alone and one behind another.
+/// Two packets by hand say what they were made to say, alone and one behind another; and one that is filled up says the same.
 pub fn worked_packets()
     ensures taken { read_packet (sample_layout false) sample_bytes ≡ Some (sample_packet, []) }
     ensures timed { read_packet (sample_layout true) (stamped_bytes ++ 255 ∷ []) ≡ Some (stamped_packet, 255 ∷ []) }
     ensures file { read_file (sample_layout false) (sample_bytes ++ sample_bytes) ≡ Some (sample_packet ∷ sample_packet ∷ []) }
+    ensures filled { read_file (sample_layout false) (filled_bytes ++ sample_bytes) ≡ Some (sample_packet ∷ sample_packet ∷ []) }
 {}
 
 /// What is no packet is refused: bytes that are cut short, that begin late or are of a trace of the other form; another magic number, another
-/// stream; sizes that differ, that end within a byte, before the events or behind the file; an event that nobody knows, and one that is cut.
+/// stream; content that ends within a byte, before the events or behind its packet; a packet that ends within a byte or behind the file; an
+/// event that nobody knows, and one that is cut.
 pub fn worked_refusals()
     ensures short { read_packet (sample_layout false) (take 74 sample_bytes) ≡ None }
     ensures late { read_packet (sample_layout false) (drop 1 sample_bytes) ≡ None }
     ensures other_form { read_packet (sample_layout true) sample_bytes ≡ None }
     ensures magic { read_packet (sample_layout false) (slice_set sample_bytes 0 192) ≡ None }
     ensures stream { read_packet (sample_layout false) (slice_set sample_bytes 20 1) ≡ None }
-    ensures content { read_packet (sample_layout false) (slice_set sample_bytes 24 80) ≡ None }
-    ensures size { read_packet (sample_layout false) (slice_set sample_bytes 32 96) ≡ None }
-    ensures within_a_byte { read_packet (sample_layout false) (sized 89 2) ≡ None }
+    ensures content_within_a_byte { read_packet (sample_layout false) (slice_set filled_bytes 24 89) ≡ None }
+    ensures packet_within_a_byte { read_packet (sample_layout false) (slice_set filled_bytes 32 105) ≡ None }
     ensures before_the_events { read_packet (sample_layout false) (sized 152 1) ≡ None }
+    ensures behind_the_packet { read_packet (sample_layout false) (slice_set sample_bytes 24 120 ++ 1 ∷ 0 ∷ 0 ∷ 0 ∷ []) ≡ None }
     ensures behind_the_file { read_packet (sample_layout false) (sized 96 2) ≡ None }
     ensures event { read_packet (sample_layout false) (slice_set sample_bytes 52 4) ≡ None }
-    ensures cut { read_packet (sample_layout false) (sized 80 2) ≡ None }
+    ensures cut { read_packet (sample_layout false) (slice_set sample_bytes 24 80) ≡ None }
     ensures rest { read_file (sample_layout false) (sample_bytes ++ 193 ∷ []) ≡ None }
 {}
 
@@ -73,6 +75,11 @@ pub fn worked_refusals()
 pub fn packet_reads_back()
     ensures taken { (e : EnabledRows) (names : Names) → TakenPacketsReadBack e names }
     ensures timed { (e : EnabledRows) (names : Names) → TimedPacketsReadBack e names }
+{}
+
+/// What is read of the packets of 1,024 bytes of records, in a trace of either form, is those records, each packet's behind another's.
+pub fn filled_packets_read_back()
+    ensures { (e : EnabledRows) (names : Names) (form : Form) → FilledPacketsReadBack e names form }
 {}
 
 /// An event that is read of a record has its EPID, its stamp, and its values in order; the stamp is the first value where the trace has no
@@ -95,12 +102,13 @@ pub fn timed_file_reads_back()
     ensures { (e : EnabledRows) (names : Names) → TimedFilesReadBack e names }
 {}
 
-/// What a batch adds to a CPU's files while it runs: each file tells those of the records that go to it, in order, and the first alone what
-/// was missed. Two packets without events tell what was missed where no records come. What is added to a file is read behind what it has
-/// (`files_join`).
+/// What a batch adds to a CPU's files while it runs. By time each file tells those of the records that go to it, in order, and the first alone
+/// what was missed; two packets without events tell what was missed where no records come. As taken the CPU's file tells all records of its
+/// batches in order, and what was missed up to the last. What is added to a file is read behind what it has (`files_join`).
 pub fn live_file_reads_back()
     ensures runs { (e : EnabledRows) (names : Names) → RunsReadBack e names }
     ensures missed { (e : EnabledRows) (names : Names) → MissedReadsBack e names }
+    ensures taken { (e : EnabledRows) (names : Names) → FilledFilesReadBack e names }
 {}
 
 /// Two texts of metadata by hand tell their layouts.

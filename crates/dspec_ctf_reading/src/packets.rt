@@ -53,17 +53,20 @@ fn size_fault(front: &Front, read: usize, there: usize) -> PacketReadFault
     requires { sizes_agree (front_of front.now) read there ≡ false }
     ensures { SizesDue (front_of front.now) read there result }
 {
-    if front.content_size != front.packet_size {
-        return PacketReadFault::SizesDiffer {
+    if front.content_size % 8 != 0 {
+        return PacketReadFault::ContentWithinByte(front.content_size);
+    }
+    if front.packet_size % 8 != 0 {
+        return PacketReadFault::PacketWithinByte(front.packet_size);
+    }
+    if front.content_size / 8 < read as u64 {
+        return PacketReadFault::BeforeEvents(front.content_size);
+    }
+    if front.packet_size < front.content_size {
+        return PacketReadFault::BehindPacket {
             content: front.content_size,
             packet: front.packet_size,
         };
-    }
-    if front.packet_size % 8 != 0 {
-        return PacketReadFault::WithinByte(front.packet_size);
-    }
-    if front.packet_size / 8 < read as u64 {
-        return PacketReadFault::BeforeEvents(front.packet_size);
     }
     PacketReadFault::BehindFile(front.packet_size)
 }

@@ -4,8 +4,8 @@ use std::alloc::Global;
 use std::marker::Model;
 
 /// The files of one CPU in a trace by time that is written while it runs, for a program that writes them itself. Each batch of the CPU is opened, and
-/// then its packets are put into the caller's memory, one a call, until there is none. A packet goes whole to the end of the file that it
-/// names; where it can't be written, `lose` says so before the next call. The CPU's records go to files, 64 at most, of which each has stamps that don't fall
+/// then its packets are put into the caller's memory, those of one write a call, until there is none. They go whole to the end of the file that is named with them, so that each of
+/// their 1,024 bytes lies in one page of the file and a kill leaves whole packets; where they can't be written, `lose` says so before the next call. The CPU's records go to files, 64 at most, of which each has stamps that don't fall
 /// (`Rows`). It has the records of one batch in memory.
 #[derive(Drop)]
 pub struct CpuPackets {

@@ -14,7 +14,7 @@ pub enum PutFault {
     /// The next packet has so many bytes, for which there is no room.
     #[error("a packet of {0} bytes has no room")]
     TooSmall(usize),
-    /// There is none of the next records: that is `Clock`, `TooLong` or `Memory`.
+    /// There is none of the next records: that is `Clock` or `Memory`.
     #[error("{0}")]
     Packet(PacketFault),
 }

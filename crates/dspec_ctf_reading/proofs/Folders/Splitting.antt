@@ -1,11 +1,11 @@
 -- A packet that is split off leaves fewer bytes, those from its end on.
-use Rattle.std.proofs.Common.{◌≡◌, ◌≤◌, ◌<◌, ◌+◌, ◌-◌, ◌/◌, ◌%◌, ◌==◌, ◌++◌, ℕ, Bool, true, false, cond, List, [], ◌∷◌, length, take, drop, Some, None}
-use Rattle.std.proofs.Common.{leb, refl, ap, sym, ◌∙◌, arith, length-drop}
+use Rattle.std.proofs.Common.{◌≡◌, ◌≤◌, ◌<◌, ◌+◌, ◌-◌, ◌/◌, ◌++◌, ℕ, Bool, true, false, cond, List, [], ◌∷◌, length, take, drop, Some, None}
+use Rattle.std.proofs.Common.{refl, ap, sym, ◌∙◌, arith, length-drop}
 use Rattle.std.specs.Prelude.{option_and_then}
-use Rattle.std.proofs.lemmas.Bool.{leb-true, and_parts}
 use Rattle.std.proofs.lemmas.List.{drop-drop}
 use Rattle.dspec_ctf_reading.specs.Reading.{FrontRead, Part, read_front, sizes_agree}
 use Rattle.dspec_ctf_reading.specs.Fronts.{PacketSplit, split_behind, split_packet}
+use Rattle.dspec_ctf_reading.proofs.Agreeing.{Agrees, agrees}
 use Rattle.dspec_ctf_reading.proofs.Bounds.{Leaves, front-leaves}
 use Rattle.dspec_ctf_reading.specs.Folders.Whole.{SplitsInto, AreWholeBefore}
 
@@ -26,17 +26,13 @@ go-split bytes front rest s few some is = go (sizes_agree front read (length byt
     end = front.packet_size / 8
 
     split : PacketSplit
-    split = record { front = front; body = take (end - read) rest; behind = drop end bytes }
+    split = record { front = front; body = take (front.content_size / 8 - read) rest; behind = drop end bytes }
 
     go : (b : Bool) → sizes_agree front read (length bytes) ≡ b → cond b (Some split) None ≡ Some s → Left bytes s.behind
     go true agree same =
-        let first = and_parts (front.content_size == front.packet_size) _ agree in
-        let second = and_parts (front.packet_size % 8 == 0) _ first.1 in
-        let third = and_parts (leb read end) (leb end (length bytes)) second.1 in
-        let low : read ≤ end = leb-true read end third.0 in
-        let high : end ≤ length bytes = leb-true end (length bytes) third.1 in
+        let are : Agrees front read (length bytes) = agrees front read (length bytes) agree in
         let this : split ≡ s = cc in
-        record { end = end; some = omega (arith, low, few, some); within = high; is = sym (ap (λ p. p.behind) this) }
+        record { end = end; some = omega (arith, are.low, are.within, few, some); within = are.high; is = sym (ap (λ p. p.behind) this) }
     go false agree same = absurd (cc)
 
 pub left : (timed : Bool) (bytes : List ℕ) (s : PacketSplit) → split_packet timed bytes ≡ Some s → Left bytes s.behind

@@ -1,7 +1,13 @@
 //! How many events there are.
 
+ghost use Rattle.std.specs.Prelude.{◌≡◌, ◌+◌, ◌==◌, ℕ, [], IsTrue, IsSomeAnd, OnOk, length, slice_index};
+ghost use Rattle.std.specs.List.{cons_option, count_by, filter_map, sum};
+ghost use Rattle.dspec_ctf_reading.specs.Reading.{read_file};
+ghost use Rattle.dspec_ctf_reading.specs.Told.{told_layout};
+ghost use Rattle.dspec_ctf_reading.specs.Folders.Counts.{CountsPacket, CountsPackets, BeginsFile, span_from, up_to_64};
+
 use super::fault::{FileFault, Wrong};
-use super::packet::read_packet;
+use super::packet::{ReadPacket, read_packet};
 use crate::{Event, Metadata};
 use std::alloc::{AllocError, Global};
 
@@ -36,39 +42,79 @@ impl CpuCounts {
     }
 
     /// How many events of all kinds.
-    pub fn total(&self) -> u64 {
+    pub fn total(&self) -> u64
+        ensures { result ≡ up_to_64 (sum self.now.events.items) }
+    {
         let mut total = 0u64;
         for count in &self.events {
             total = total.saturating_add(*count);
         }
         total
     }
+}
 
-    /// Widens the span by the stamps of these events.
-    fn widen(&mut self, events: &[Event]) {
-        for event in events {
-            if let Some(stamp) = event.stamp {
-                self.span = match self.span {
-                    Some((least, greatest)) => Some((least.min(stamp), greatest.max(stamp))),
-                    None => Some((stamp, stamp)),
-                };
-            }
-        }
+/// Begins another file; answers how many packets there are already, and how many events were missed.
+fn begin_file(counts: &mut CpuCounts) -> (u64, u64)
+    ensures before { result ≡ (counts.old.packets, counts.old.missed) }
+    ensures begun { BeginsFile counts.old counts.new }
+{
+    counts.files = counts.files.saturating_add(1);
+    (counts.packets, counts.missed)
+}
+
+/// The span, widened by a stamp where there is one.
+fn with_stamp(span: Option<(u64, u64)>, stamp: Option<u64>) -> Option<(u64, u64)>
+    ensures { result ≡ span_from span (cons_option stamp []) }
+{
+    let Some(stamp) = stamp else {
+        return span;
+    };
+    match span {
+        Some((least, greatest)) => Some((least.min(stamp), greatest.max(stamp))),
+        None => Some((stamp, stamp)),
     }
+}
+
+/// The span, widened by the stamps of these events.
+fn widened(before: Option<(u64, u64)>, events: &[Event]) -> Option<(u64, u64)>
+    ensures { result ≡ span_from before (filter_map (λ e. e.stamp) events.now) }
+{
+    let mut span = before;
+    for event in events {
+        span = with_stamp(span, event.stamp);
+    }
+    span
 }
 
 /// Adds these events to the counts, each to the one at its place. False where there is none at its place, or where it would go past 64
 /// bits.
-pub fn count_events(counts: &mut [u64], events: &[Event]) -> bool {
+pub fn count_events(counts: &mut [u64], events: &[Event]) -> bool
+    ensures counted { IsTrue result → (place : ℕ) → slice_index counts.new place ≡ slice_index counts.old place + count_by (λ e. e.place == place) events.now }
+    ensures kinds { length counts.new ≡ length counts.old }
+{
     for event in events {
-        let Some(count) = counts.get_mut(event.place) else {
+        let place = event.place;
+        if place >= counts.len() {
+            return false;
+        }
+        let Some(more) = counts[place].checked_add(1) else {
             return false;
         };
-        let Some(more) = count.checked_add(1) else {
-            return false;
-        };
-        *count = more;
+        counts[place] = more;
     }
+    true
+}
+
+/// Adds what a packet has, before whose file so many events were missed. False where a count would go past 64 bits.
+fn count_packet(counts: &mut CpuCounts, before: u64, packet: &ReadPacket<'_>) -> bool
+    ensures { IsTrue result → CountsPacket before packet.now counts.old counts.new }
+{
+    if !count_events(&mut counts.events, packet.events.as_slice()) {
+        return false;
+    }
+    counts.span = widened(counts.span, packet.events.as_slice());
+    counts.packets = counts.packets.saturating_add(1);
+    counts.missed = before.saturating_add(packet.front.discarded);
     true
 }
 
@@ -78,24 +124,20 @@ pub fn count_file(
     metadata: &Metadata<'_>,
     bytes: &[u8],
     counts: &mut CpuCounts,
-) -> Result<(), FileFault> {
+) -> Result<(), FileFault>
+    ensures added { OnOk result (IsSomeAnd (read_file (told_layout metadata.now) bytes.now) (λ packets. CountsPackets (told_layout metadata.now) packets counts.old counts.new)) }
+{
     let mut rest = bytes;
-    let mut missed = 0u64;
-    counts.files = counts.files.saturating_add(1);
+    let (_, before) = begin_file(counts);
     while !rest.is_empty() {
         let at = bytes.len().saturating_sub(rest.len());
         let packet = read_packet(alloc, metadata, at, rest)?;
-        if !count_events(&mut counts.events, packet.events.as_slice()) {
+        if !count_packet(counts, before, &packet) {
             return Err(FileFault {
                 at,
                 wrong: Wrong::TooMuch,
             });
         }
-        counts.widen(packet.events.as_slice());
-        counts.packets = counts.packets.saturating_add(1);
-        let before = counts.missed.saturating_sub(missed);
-        missed = packet.front.discarded;
-        counts.missed = before.saturating_add(missed);
         rest = packet.behind;
     }
     Ok(())

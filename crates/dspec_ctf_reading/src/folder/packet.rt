@@ -1,8 +1,8 @@
 //! A file, packet by packet.
 
-ghost use Rattle.std.specs.Prelude.{◌≡◌, ◌<◌, IfErr, IfOk, IsTrue, None, Some, length};
+ghost use Rattle.std.specs.Prelude.{◌≡◌, ◌<◌, All, IfErr, IfOk, IsTrue, None, Some, length};
 ghost use Rattle.dspec_ctf_reading.specs.Reading.{read_packet as packet_from};
-ghost use Rattle.dspec_ctf_reading.specs.Told.{told_layout};
+ghost use Rattle.dspec_ctf_reading.specs.Told.{Fits, told_layout};
 ghost use Rattle.dspec_ctf_reading.specs.Folders.Checks.{is_of_bytes, packet_as_read};
 
 use super::fault::{FileFault, Wrong};
@@ -31,6 +31,7 @@ pub fn read_packet<'b>(
 ) -> Result<ReadPacket<'b>, FileFault>
     ensures read { IfOk result (λ packet. packet_from (told_layout metadata.now) bytes.now ≡ Some (packet_as_read (told_layout metadata.now) packet, packet.behind.now)) }
     ensures none { IfErr result (λ fault. IsTrue (is_of_bytes fault.wrong) → packet_from (told_layout metadata.now) bytes.now ≡ None) }
+    ensures fit { IfOk result (λ packet. All (Fits (told_layout metadata.now)) packet.events.items) }
     ensures shorter { IfOk result (λ packet. length packet.behind.now < length bytes.now) }
 {
     let packet = match next_packet(metadata.clock.is_some(), bytes) {
@@ -42,11 +43,8 @@ pub fn read_packet<'b>(
             });
         }
     };
-    let front_size = bytes
-        .len()
-        .saturating_sub(packet.behind.len())
-        .saturating_sub(packet.body.len());
-    let body_at = at.saturating_add(front_size);
+    let content = (packet.front.content_size / 8) as usize;
+    let body_at = at.saturating_add(content.saturating_sub(packet.body.len()));
     match read_events(alloc, metadata, packet.body) {
         Ok(events) => Ok(ReadPacket {
             front: packet.front,

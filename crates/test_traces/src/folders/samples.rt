@@ -10,7 +10,7 @@ pub const CLOCK: ClockText<'static> = ClockText {
 };
 
 /// A field of these numbers.
-fn field(alloc: Global, name: &'static str, width: Field, kind: Kind) -> FieldText<'static> {
+pub fn field(alloc: Global, name: &'static str, width: Field, kind: Kind) -> FieldText<'static> {
     FieldText {
         name,
         width,

@@ -1,10 +1,11 @@
 //! What happened, by time, in words and in Chrome's Trace Event form.
-use super::samples::{FILE, metadata};
+use super::samples::{FILE, field, metadata};
 use crate::same::same;
 use dspec_ctf_reading::folder::{
     Base, Track, What, chrome_event, chrome_missed, chrome_name, event_text, marks_of, missed_text,
     sort_by_time,
 };
+use dspec_ctf_reading::{EventText, Field, Kind};
 use std::test::Fail;
 
 /// The row of all events here.
@@ -79,6 +80,39 @@ fn chrome(rt: HostRuntime) -> Result<(), Fail> {
         &rt,
         chrome_name(alloc, TRACK, "process_name", "a\"b\\c\n")?.as_str(),
         "{\"ph\":\"M\",\"pid\":1,\"tid\":2,\"name\":\"process_name\",\"args\":{\"name\":\"a\\\"b\\\\c\\n\"}}",
+    );
+    Ok(())
+}
+
+/// Infinite floats, of eight bytes and of four, below and above.
+#[test]
+fn chrome_infinities(rt: HostRuntime) -> Result<(), Fail> {
+    let alloc = rt.alloc();
+    let mut fields = Vec::new(alloc);
+    for (name, width) in [
+        ("a", Field::Eight),
+        ("b", Field::Eight),
+        ("c", Field::Four),
+        ("d", Field::Four),
+    ] {
+        fields.push(field(alloc, name, width, Kind::Float))?;
+    }
+    let step = EventText {
+        id: 1,
+        name: "step",
+        fields,
+    };
+    let values = [
+        0xFFF0_0000_0000_0000,
+        0x7FF0_0000_0000_0000,
+        0xFF80_0000,
+        0x7F80_0000,
+    ];
+    let event = chrome_event(alloc, TRACK, &step, 7, &values)?;
+    same(
+        &rt,
+        event.as_str(),
+        "{\"ph\":\"i\",\"s\":\"t\",\"pid\":1,\"tid\":2,\"ts\":0.007,\"name\":\"step\",\"args\":{\"a\":\"-inf\",\"b\":\"inf\",\"c\":\"-inf\",\"d\":\"inf\"}}",
     );
     Ok(())
 }

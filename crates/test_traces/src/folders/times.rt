@@ -49,6 +49,11 @@ fn times_of_stamps(rt: HostRuntime) -> Result<(), Fail> {
     same(&rt, nanoseconds(&none, Base::Clock, 1), None);
     same(&rt, base_of(&[CLOCK, CLOCK]), Some(Base::Epoch));
     same(&rt, base_of(&[thirds, thirds]), Some(Base::Clock));
+    let halves = ClockText {
+        frequency: 2,
+        ..thirds
+    };
+    same(&rt, base_of(&[thirds, halves]), None);
     same(&rt, base_of(&[thirds, CLOCK]), None);
     same(&rt, base_of(&[none]), Some(Base::Clock));
     same(&rt, base_of(&[none, none]), None);

@@ -28,7 +28,8 @@ fn text_of(alloc: Global, stamps: &[u64]) -> Result<Vec<u8>, AllocError> {
     Ok(bytes)
 }
 
-/// The packet of those records of CPU 3 as the format has it: of the trace, of the first stamp and the last, its size twice in bits, what was missed.
+/// The packet of those records of CPU 3 as the format has it: of the trace, of the first stamp and the last, up to where its events go and its own size,
+/// both in bits, what was missed; and zeros behind its events, up to 1,024 bytes.
 fn packet_of(
     alloc: Global,
     span: (u64, u64),
@@ -43,10 +44,11 @@ fn packet_of(
     add_number(&mut bytes, 8, span.0)?;
     add_number(&mut bytes, 8, span.1)?;
     add_number(&mut bytes, 8, bits)?;
-    add_number(&mut bytes, 8, bits)?;
+    add_number(&mut bytes, 8, 8192)?;
     add_number(&mut bytes, 8, missed)?;
     add_number(&mut bytes, 4, 3)?;
     bytes.extend_from_slice(&text_of(alloc, stamps)?)?;
+    bytes.resize(1024, 0)?;
     Ok(bytes)
 }
 
@@ -60,7 +62,7 @@ fn files_of(alloc: Global) -> Result<CpuPackets, Fail> {
 
 /// The next packet, and its bytes.
 fn next_of(alloc: Global, files: &mut CpuPackets) -> Result<(Option<Packet>, Vec<u8>), Fail> {
-    let mut room = Vec::from_elem(alloc, 0u8, 4096)?;
+    let mut room = Vec::from_elem(alloc, 7u8, 4096)?;
     match files.put(&mut room) {
         Ok(packet) => {
             let size = packet.map_or(0, |packet| packet.size);
@@ -155,18 +157,34 @@ fn missed_is_told_first(rt: HostRuntime) -> Result<(), Fail> {
 fn room_that_is_too_small(rt: HostRuntime) -> Result<(), Fail> {
     let alloc = rt.alloc();
     let mut files = opened(&rt, alloc, 0, &[1, 2])?;
-    let mut room = [7u8; 99];
-    same(&rt, files.put(&mut room), Err(PutFault::TooSmall(100)));
-    same(&rt, room == [7u8; 99], true);
-    let mut room = [7u8; 100];
+    let mut room = [7u8; 1023];
+    same(&rt, files.put(&mut room), Err(PutFault::TooSmall(1024)));
+    same(&rt, room == [7u8; 1023], true);
+    let mut room = [7u8; 1024];
     let packet = Packet {
         file: 0,
-        size: 100,
+        size: 1024,
         records: 2,
     };
     same(&rt, files.put(&mut room), Ok(Some(packet)));
     let wanted = packet_of(alloc, (1, 2), 0, &[1, 2])?;
     same(&rt, room.as_slice() == wanted.as_slice(), true);
+    Ok(())
+}
+
+/// Sixty records of 16 bytes have no room in one packet: 68 bytes and 59 of them are 1,012.
+#[test]
+fn run_of_two_packets(rt: HostRuntime) -> Result<(), Fail> {
+    let alloc = rt.alloc();
+    let mut stamps = Vec::new(alloc);
+    for stamp in 1..61u64 {
+        stamps.push(stamp)?;
+    }
+    let mut files = opened(&rt, alloc, 0, &stamps)?;
+    let mut wanted = packet_of(alloc, (1, 59), 0, &stamps[..59])?;
+    wanted.extend_from_slice(&packet_of(alloc, (60, 60), 0, &stamps[59..])?)?;
+    is_next(&rt, alloc, &mut files, 0, 60, &wanted)?;
+    same(&rt, next_of(alloc, &mut files)?.0, None);
     Ok(())
 }
 
@@ -219,7 +237,7 @@ fn one_file_too_many(rt: HostRuntime) -> Result<(), Fail> {
         let packet = next_of(alloc, &mut files)?.0;
         same(&rt, packet.map_or(99, |packet| packet.file), file);
     }
-    let mut room = [0u8; 100];
+    let mut room = [0u8; 1024];
     let fault = PutFault::Packet(PacketFault::Clock(64));
     same(&rt, files.put(&mut room), Err(fault));
     same(&rt, files.lose(), 1);

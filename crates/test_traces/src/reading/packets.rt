@@ -111,17 +111,58 @@ fn refused_fronts(rt: HostRuntime) -> Result<(), Fail> {
 
 #[test]
 fn refused_sizes(rt: HostRuntime) {
-    let differ = PacketReadFault::SizesDiffer {
-        content: 592,
-        packet: 600,
-    };
-    refused(&rt, 24, 80, differ);
-    let found = next_packet(false, &sized(89, 2)).err();
-    same(&rt, found, Some(PacketReadFault::WithinByte(601)));
+    refused(&rt, 24, 87, PacketReadFault::ContentWithinByte(599));
+    refused(&rt, 32, 89, PacketReadFault::PacketWithinByte(601));
     let found = next_packet(false, &sized(152, 1)).err();
     same(&rt, found, Some(PacketReadFault::BeforeEvents(408)));
+    let behind = PacketReadFault::BehindPacket {
+        content: 608,
+        packet: 600,
+    };
+    refused(&rt, 24, 96, behind);
     let found = next_packet(false, &sized(96, 2)).err();
     same(&rt, found, Some(PacketReadFault::BehindFile(608)));
+}
+
+#[test]
+fn told_sizes(rt: HostRuntime) -> Result<(), Fail> {
+    let behind = PacketReadFault::BehindPacket {
+        content: 608,
+        packet: 600,
+    };
+    let mut text = format!(in rt.alloc(); "{behind}\n")?;
+    write!(text, "{}\n", PacketReadFault::ContentWithinByte(599))?;
+    write!(text, "{}\n", PacketReadFault::PacketWithinByte(601))?;
+    write!(text, "{}\n", PacketReadFault::BeforeEvents(408))?;
+    write!(text, "{}\n", PacketReadFault::BehindFile(608))?;
+    same(
+        &rt,
+        text.as_str(),
+        "content of 608 bits ends behind its packet of 600\ncontent of 599 bits ends within a byte\na packet of 601 bits ends within a byte\ncontent of 408 bits ends before the events\na packet of 608 bits ends behind the file\n",
+    );
+    Ok(())
+}
+
+/// The same packet filled up by five bytes, to 640 bits, and one byte behind it.
+fn filled() -> [u8; 81] {
+    let mut bytes = [0xC1; 81];
+    bytes[..75].copy_from_slice(&PACKET);
+    bytes[32] = 128;
+    bytes
+}
+
+#[test]
+fn filled_packets(rt: HostRuntime) -> Result<(), Fail> {
+    let text = three_texts(&rt)?;
+    let metadata = read_metadata(rt.alloc(), text.as_bytes())?;
+    let bytes = filled();
+    let packet = check_packet(&metadata, &bytes)?;
+    same(&rt, packet.body == &PACKET[52..], true);
+    same(&rt, packet.behind, &bytes[80..]);
+    same(&rt, check_events(&metadata, packet.body)?, 3);
+    let found = next_packet(false, &bytes[..79]).err();
+    same(&rt, found, Some(PacketReadFault::BehindFile(640)));
+    Ok(())
 }
 
 #[test]

@@ -1,6 +1,6 @@
 use Rattle.std.proofs.Common.{rules, arith, ◌≡◌, ◌<◌, ◌∙◌, sym, None, length}
 use Rattle.std.specs.Prelude.{IsTrue}
-use Rattle.dspec_ctf_reading.specs.ReadingMetadata.{read_event_text, read_event_texts}
+use Rattle.dspec_ctf_reading.specs.ReadingMetadata.{read_event_texts}
 use Rattle.dspec_ctf_reading.specs.Parts.{is_unread}
 use Rattle.dspec_ctf_reading.specs.Told.{told_event}
 use Rattle.dspec_ctf_reading.proofs.LoopLemmas.{texts-on, texts-stop, some-left}

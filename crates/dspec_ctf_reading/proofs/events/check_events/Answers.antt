@@ -1,8 +1,7 @@
-use Rattle.std.proofs.Common.{rules, arith, ◌≡◌, ◌<◌, ◌∙◌, sym, Some, length, option_map}
+use Rattle.std.proofs.Common.{rules, arith, ◌≡◌, ◌<◌, Some, length, option_map}
 use Rattle.dspec_ctf_reading.specs.Reading.{read_event, read_events}
 use Rattle.dspec_ctf_reading.specs.Told.{told_layout}
 use Rattle.dspec_ctf_reading.proofs.EventLemmas.{behind-one-more, count-more}
-use Rattle.dspec_ctf_reading.proofs.LoopLemmas.{some-left}
 use Rattle.dspec_ctf_reading.proofs.events.check_events.Goals as goal
 
 pub loop-rest-preserved : goal.loop-rest-preserved

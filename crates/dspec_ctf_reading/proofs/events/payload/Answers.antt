@@ -1,4 +1,4 @@
-use Rattle.std.proofs.Common.{rules, arith, length, map}
+use Rattle.std.proofs.Common.{rules, arith, map}
 use Rattle.std.proofs.lemmas.Grind.{common_steps}
 use Rattle.dspec_ctf_reading.specs.Reading.{read_payload}
 use Rattle.dspec_ctf_reading.specs.Told.{told_field}

@@ -1,5 +1,4 @@
-use Rattle.std.proofs.Common.{arith, ◌≡◌, ◌≤◌, ◌<◌, ◌^◌, ◌+◌, ◌*◌, ◌-◌, ℕ, drop, get_or, length}
-use Rattle.dspec_ctf_reading.specs.ReadingMetadata.{digits_number}
+use Rattle.std.proofs.Common.{arith, ◌≤◌, ◌<◌, ◌^◌, ◌+◌, ◌*◌, ◌-◌, ℕ, drop, get_or, length}
 use Rattle.dspec_ctf_reading.proofs.ScanLemmas.{digits_number-step, digits_number-grows}
 use Rattle.dspec_ctf_reading.proofs.scan.number_of.Goals as goal
 

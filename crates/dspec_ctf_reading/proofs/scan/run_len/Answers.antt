@@ -1,4 +1,4 @@
-use Rattle.std.proofs.Common.{rules, arith, length, take, drop, get_or, ◌≡◌, ◌<◌, false}
+use Rattle.std.proofs.Common.{rules, arith, length}
 use Rattle.std.proofs.lemmas.Grind.{common_steps}
 use Rattle.dspec_ctf_reading.specs.Parts.{test_of}
 use Rattle.dspec_ctf_reading.proofs.ScanLemmas.{run-ends}

@@ -1,4 +1,4 @@
-use Rattle.std.proofs.Common.{◌≡◌, ℕ, List, Option, Some, rules, ap, ◌∙◌, option_map}
+use Rattle.std.proofs.Common.{◌≡◌, ℕ, List, Option, Some, None, rules, ap, ◌∙◌, option_map}
 use Rattle.std.specs.Prelude.{option_and_then}
 use Rattle.dspec_ctf_reading.specs.Reading.{Layout, Part, FrontRead, EventRead, PacketRead, with_events}
 use Rattle.dspec_ctf_reading.specs.Fronts.{PacketSplit, front_of, split_packet}
@@ -25,6 +25,13 @@ returns-in-Ok-read_events-clause-read c =
     let split : split_packet layout.timed c.args.bytes.now ≡ Some (told_packet c.in-Ok.packet) = ap (λ t. split_packet t c.args.bytes.now) timed ∙ c.in-Ok.ensures.read in
     packet-split layout c.args.bytes.now ∙ ap (of_split layout) split
     ∙ ap (λ events. beside c.in-Ok.packet.behind.now (whole (front_of c.in-Ok.packet.front) events)) c.in-Ok-read_events.ensures.read
+
+pub returns-in-Err-clause-none : goal.returns-in-Err-clause-none
+returns-in-Err-clause-none c = λ _.
+    let layout : Layout = told_layout c.args.metadata.now in
+    let timed : layout.timed ≡ c.is_some.result = search rules in
+    let none : split_packet layout.timed c.args.bytes.now ≡ None = ap (λ t. split_packet t c.args.bytes.now) timed ∙ c.in-Err.ensures.none in
+    packet-split layout c.args.bytes.now ∙ ap (of_split layout) none
 
 pub returns-in-Ok-read_events-clause-shorter : goal.returns-in-Ok-read_events-clause-shorter
 returns-in-Ok-read_events-clause-shorter c = shorter _ _ (left _ _ _ c.in-Ok.ensures.read)

@@ -1,0 +1,59 @@
+-- Cited by calls. The packets of files that are written while a session runs. Each has 1,024 bytes: a write that is cut off where a page of the
+-- file ends leaves whole packets.
+use Rattle.std.specs.Prelude.{ℕ, ◌≡◌, ◌+◌, ◌-◌, Bool, true, false, nat_le, List, [], ◌∷◌, ◌++◌, length, replicate, Option, Some, None, if◌then◌else◌}
+use Rattle.std.specs.List.{flat_map}
+use Rattle.dspec_record.specs.Record.{Record}
+use Rattle.dspec_record.specs.EnablingRows.{EnabledRows}
+use Rattle.dspec_ctf.specs.Packets.{event, events, front_bytes, front_size}
+use Rattle.dspec_ctf.specs.Streams.{IsText}
+use Rattle.dspec_ctf.specs.ByTime.{span_of}
+
+-- how many bytes each of these packets has
+abbrev pub filled_size : ℕ
+filled_size = 1024
+
+-- a packet of that size around the bytes of its events, with zeros behind them
+unfoldable pub filled_around : List ℕ → Option (ℕ × ℕ) → ℕ → ℕ → List ℕ → List ℕ
+filled_around uuid span missed cpu body =
+    front_bytes uuid span (front_size span + length body) filled_size missed cpu ++ (body ++ replicate (filled_size - (front_size span + length body)) 0)
+
+-- by time a packet has the stamps of its first event and of its last
+abbrev pub span_by : Bool → List Record → Option (ℕ × ℕ)
+span_by true rs = Some (span_of rs)
+span_by false rs = None
+
+-- so many bytes stand before its events
+abbrev pub front_by : Bool → ℕ
+front_by true = 68
+front_by false = 52
+
+module _ (timed : Bool) (e : EnabledRows) where
+  -- a packet that has these records takes another
+  abbrev pub takes_another : List Record → Record → Bool
+  takes_another held r = nat_le (front_by timed + (length (events e held) + length (event e r))) filled_size
+
+  -- The records of each packet, where the first of them has these already: it takes those that come as long as they fit, and then the next packet
+  -- begins.
+  abbrev pub portions_from : List Record → List Record → List (List Record)
+  portions_from held [] = held ∷ []
+  portions_from held (r ∷ rs) = if takes_another held r then portions_from (held ++ r ∷ []) rs else held ∷ portions_from (r ∷ []) rs
+
+  -- the records of each packet, of all these records; where there is none, one packet without events
+  abbrev pub portions : List Record → List (List Record)
+  portions rs = portions_from [] rs
+
+  module _ (uuid : List ℕ) (missed cpu : ℕ) where
+    -- a packet of these records
+    unfoldable pub filled_packet : List Record → List ℕ
+    filled_packet rs = filled_around uuid (span_by timed rs) missed cpu (events e rs)
+
+    -- the packets of all these records, one behind another
+    unfoldable pub filled_packets : List Record → List ℕ
+    filled_packets rs = flat_map filled_packet (portions rs)
+
+module _ (e : EnabledRows) where
+  -- the bytes are the packets of the records of this text, as they were taken
+  pub record AreFilledOf (uuid : List ℕ) (missed cpu : ℕ) (text bytes : List ℕ) : Type 0 where
+    pub read : List Record
+    pub is_text : IsText e text read
+    pub bytes_are : bytes ≡ filled_packets false e uuid missed cpu read

@@ -1,0 +1,133 @@
+-- What is counted of packets, one behind another.
+use Rattle.std.proofs.Common.{◌≡◌, ◌<◌, ◌+◌, ◌^◌, ◌==◌, ◌++◌, ℕ, cond, List, [], ◌∷◌, length, map, take, get_or, Option, Some, None, option_map, refl, ap, sym, ◌∙◌, arith, All}
+use Rattle.std.proofs.Common.{append_assoc, length-append}
+use Rattle.std.specs.Prelude.{min, max, option_and_then, slice_index}
+use Rattle.std.specs.List.{cons_option, count_by, filter_map}
+use Rattle.std.proofs.lemmas.Grind.{flat_map-append}
+use Rattle.std.proofs.lemmas.List.{append-nil, take_more}
+use Rattle.std.proofs.lemmas.List.Sums.{fold-append, sum_by-append, sum_by-cons}
+use Rattle.std.proofs.lemmas.List.Elements.{All-head, All-tail, filter_map-append}
+use Rattle.dspec_ctf_reading.specs.Reading.{Layout, EventRead, PacketRead, read_packet, read_file, events_of, loss_of}
+use Rattle.dspec_ctf_reading.specs.Told.{Fits, as_read, first_place}
+use Rattle.dspec_ctf_reading.specs.declared.events.Event.{Event}
+use Rattle.dspec_ctf_reading.specs.declared.folder.packet.ReadPacket.{ReadPacket}
+use Rattle.dspec_ctf_reading.specs.declared.folder.counts.CpuCounts.{CpuCounts}
+use Rattle.dspec_ctf_reading.specs.Folders.Checks.{packet_as_read}
+use Rattle.dspec_ctf_reading.specs.Folders.Counts.{CountsPacket, CountsPackets, BeginsFile, span_from, up_to_64}
+use Rattle.dspec_ctf_reading.proofs.Bounds.{packets-on-bytes}
+
+-- events in memory have the stamps that are read, and stand at the places of the texts that their numbers have
+stamps-read : (layout : Layout) (events : List Event) → filter_map (λ e. e.stamp) (map (as_read layout) events) ≡ filter_map (λ e. e.stamp) events
+stamps-read layout [] = refl
+stamps-read layout (e ∷ events) = ap (cons_option e.stamp) (stamps-read layout events)
+
+counts-read : (layout : Layout) (place : ℕ) (events : List Event) → All (Fits layout) events
+    → count_by (λ e. first_place e.id layout.events == place) (map (as_read layout) events) ≡ count_by (λ e. e.place == place) events
+counts-read layout place [] fit = refl
+counts-read layout place (e ∷ events) fit =
+    let of_e : Fits layout e = All-head (Fits layout) e events fit in
+    let more : List EventRead = map (as_read layout) events in
+    sum_by-cons (λ e. cond (first_place e.id layout.events == place) 1 0) (as_read layout e) more
+    ∙ ap (λ n. cond (n == place) 1 0 + count_by (λ e. first_place e.id layout.events == place) more) of_e.2
+    ∙ ap (λ n. cond (e.place == place) 1 0 + n) (counts-read layout place events (All-tail (Fits layout) e events fit))
+    ∙ sym (sum_by-cons (λ e. cond (e.place == place) 1 0) e events)
+
+-- a span that is widened twice
+span-join : (span : Option (ℕ × ℕ)) (xs ys : List ℕ) → span_from (span_from span xs) ys ≡ span_from span (xs ++ ys)
+span-join None [] ys = refl
+span-join None (x ∷ xs) ys = λ i. Some (sym (fold-append min x xs ys) i, sym (fold-append max x xs ys) i)
+span-join (Some span) xs ys = λ i. Some (sym (fold-append min span.0 xs ys) i, sym (fold-append max span.1 xs ys) i)
+
+pub span-more : (span : Option (ℕ × ℕ)) (i : ℕ) (events : List Event) (e : Event) → i < length events → e ≡ get_or events i e
+    → span_from (span_from span (filter_map (λ e. e.stamp) (take i events))) (cons_option e.stamp []) ≡ span_from span (filter_map (λ e. e.stamp) (take (i + 1) events))
+span-more span i events e below is =
+    let some : take (i + 1) events ≡ take i events ++ e ∷ [] = take_more events i e below ∙ ap (λ x. take i events ++ x ∷ []) (sym is) in
+    span-join span (filter_map (λ e. e.stamp) (take i events)) (cons_option e.stamp [])
+    ∙ ap (span_from span) (sym (ap (filter_map (λ e. e.stamp)) some ∙ filter_map-append (λ e. e.stamp) (take i events) (e ∷ [])))
+
+pub span-none : (span : Option (ℕ × ℕ)) → span ≡ span_from span []
+span-none None = refl
+span-none (Some span) = refl
+
+-- what one packet more says was missed
+loss-push : (ps : List PacketRead) (p : PacketRead) → loss_of (ps ++ p ∷ []) ≡ p.discarded
+loss-push [] p = refl
+loss-push (q ∷ []) p = refl
+loss-push (q ∷ other ∷ ps) p = loss-push (other ∷ ps) p
+
+-- no packet of the file was read yet
+adds-none : (layout : Layout) (old new : CpuCounts) → old.packets < 2 ^ 64 → old.missed < 2 ^ 64 → BeginsFile old new → CountsPackets layout [] old new
+adds-none layout old new few low begun = record {
+  cpu = begun.cpu;
+  files = begun.files;
+  packets_are = omega (arith, begun.packets, few);
+  missed = omega (arith, begun.missed, low);
+  kinds = ap (λ v. length v.items) begun.events;
+  events = λ place. ap (λ v. slice_index v.items place) begun.events ∙ omega arith;
+  span = begun.span ∙ span-none old.span;
+}
+
+-- one more
+adds-more : (layout : Layout) (ps : List PacketRead) (p : ReadPacket) (old mid new : CpuCounts) → CountsPackets layout ps old mid → All (Fits layout) p.events.items
+    → CountsPacket old.missed p mid new → CountsPackets layout (ps ++ packet_as_read layout p ∷ []) old new
+adds-more layout ps p old mid new adds fit more =
+    let read : PacketRead = packet_as_read layout p in
+    let all : events_of (ps ++ read ∷ []) ≡ events_of ps ++ read.events =
+    flat_map-append (λ packet. packet.events) ps (read ∷ []) ∙ ap (λ more. events_of ps ++ more) (append-nil read.events) in
+    let longer : length (ps ++ read ∷ []) ≡ length ps + 1 = length-append ps (read ∷ []) in
+    record {
+      cpu = more.cpu ∙ adds.cpu;
+      files = more.files ∙ adds.files;
+      packets_are = omega (arith, more.packets, adds.packets_are, longer);
+      missed = more.missed ∙ ap (λ n. up_to_64 (old.missed + n)) (sym (loss-push ps read));
+      kinds = more.kinds ∙ adds.kinds;
+      events = λ place.
+          let count : List EventRead → ℕ = λ es. count_by (λ e. first_place e.id layout.events == place) es in
+          let parts : count (events_of (ps ++ read ∷ [])) ≡ count (events_of ps) + count read.events =
+          ap count all ∙ sum_by-append (λ e. cond (first_place e.id layout.events == place) 1 0) (events_of ps) read.events in
+          omega (arith, more.events place, adds.events place, parts, counts-read layout place p.events.items fit);
+      span = more.span
+          ∙ ap (λ s. span_from s (filter_map (λ e. e.stamp) p.events.items)) adds.span
+          ∙ span-join old.span (filter_map (λ e. e.stamp) (events_of ps)) (filter_map (λ e. e.stamp) p.events.items)
+          ∙ ap (λ stamps. span_from old.span (filter_map (λ e. e.stamp) (events_of ps) ++ stamps)) (sym (stamps-read layout p.events.items))
+          ∙ ap (span_from old.span) (sym (filter_map-append (λ e. e.stamp) (events_of ps) read.events))
+          ∙ ap (λ es. span_from old.span (filter_map (λ e. e.stamp) es)) (sym all);
+    }
+
+-- the packets of a file up to these bytes were counted
+pub record CountedTo (layout : Layout) (bytes rest : List ℕ) (old new : CpuCounts) : Type 0 where
+  pub packets : List PacketRead
+  pub goes_on : read_file layout bytes ≡ option_map (λ more. packets ++ more) (read_file layout rest)
+  pub adds : CountsPackets layout packets old new
+
+none-before : (o : Option (List PacketRead)) → o ≡ option_map (λ more. [] ++ more) o
+none-before None = refl
+none-before (Some ps) = refl
+
+pub counted-begin : (layout : Layout) (bytes : List ℕ) (old new : CpuCounts) → old.packets < 2 ^ 64 → old.missed < 2 ^ 64 → BeginsFile old new → CountedTo layout bytes bytes old new
+counted-begin layout bytes old new few low begun = record { packets = []; goes_on = none-before (read_file layout bytes); adds = adds-none layout old new few low begun }
+
+one-more : (ps : List PacketRead) (p : PacketRead) (o : Option (List PacketRead)) → option_map (λ more. ps ++ more) (option_map (λ more. p ∷ more) o) ≡ option_map (λ more. (ps ++ p ∷ []) ++ more) o
+one-more ps p None = refl
+one-more ps p (Some more) = ap Some (sym (append_assoc ps (p ∷ []) more))
+
+pub counted-more : (layout : Layout) (bytes rest behind : List ℕ) (p : ReadPacket) (old mid new : CpuCounts) → 0 < length rest → CountedTo layout bytes rest old mid
+    → read_packet layout rest ≡ Some (packet_as_read layout p, behind) → All (Fits layout) p.events.items → CountsPacket old.missed p mid new → CountedTo layout bytes behind old new
+counted-more layout bytes rest behind p old mid new some counted is fit more = record {
+  packets = counted.packets ++ packet_as_read layout p ∷ [];
+  goes_on = counted.goes_on
+      ∙ ap (option_map (λ more. counted.packets ++ more)) (packets-on-bytes layout rest some
+      ∙ ap (λ part. option_and_then (λ q. option_map (λ packets. q.0 ∷ packets) (read_file layout q.1)) part) is)
+      ∙ one-more counted.packets (packet_as_read layout p) (read_file layout behind);
+  adds = adds-more layout counted.packets p old mid new counted.adds fit more;
+}
+
+pub record Counted (layout : Layout) (bytes : List ℕ) (old new : CpuCounts) : Type 0 where
+  pub packets : List PacketRead
+  pub read : read_file layout bytes ≡ Some packets
+  pub adds : CountsPackets layout packets old new
+
+pub counted-end : (layout : Layout) (bytes rest : List ℕ) (old new : CpuCounts) → length rest ≡ 0 → CountedTo layout bytes rest old new → Counted layout bytes old new
+counted-end layout bytes [] old new none counted =
+    record { packets = counted.packets; read = counted.goes_on ∙ ap Some (append-nil counted.packets); adds = counted.adds }
+counted-end layout bytes (b ∷ rest) old new none counted = absurd (omega (arith, none))
