@@ -38,7 +38,7 @@ static bytes text(const uint64_t *stamps, size_t count) {
     return made;
 }
 
-/* The packet of those of CPU 3, as the format has it. */
+/* The packet of those of CPU 3, as the format has it: zeros behind its events, up to 1,024 bytes. */
 static void packet(bytes *to, uint64_t begin, uint64_t end, uint64_t missed, const uint64_t *stamps, size_t count) {
     uint64_t bits = 8 * (68 + 16 * count);
     bytes events = text(stamps, count);
@@ -49,11 +49,11 @@ static void packet(bytes *to, uint64_t begin, uint64_t end, uint64_t missed, con
     add(to, begin, 8);
     add(to, end, 8);
     add(to, bits, 8);
-    add(to, bits, 8);
+    add(to, 8 * 1024, 8);
     add(to, missed, 8);
     add(to, 3, 4);
     memcpy(to->of + to->len, events.of, events.len);
-    to->len += events.len;
+    to->len += 1024 - 68;
 }
 
 static dspec_status open_with(dspec_ctf *ctf, uint64_t drops, const uint64_t *stamps, size_t count) {
@@ -81,7 +81,7 @@ static void runs_of_a_batch(void) {
     MUST(dspec_ctf_new(&schema, &identity, 3, &ctf));
     MUST(open_with(&ctf, 0, stamps, 6));
     ANSWERS(dspec_ctf_put(&ctf, room, sizeof room, &put), DSPEC_TOO_SMALL);
-    CHECK(put.file == 1 && put.size == 100 && put.records == 3 && room[0] == 0);
+    CHECK(put.file == 1 && put.size == 1024 && put.records == 3 && room[0] == 0);
     is_next(&ctf, 0, 2, &first);
     is_next(&ctf, 1, 2, &second);
     is_next(&ctf, 0, 2, &third);
@@ -117,7 +117,7 @@ static void what_is_lost_is_told(void) {
 /* The stamps 64, 63, .. 1 have a file each, and 0 would have one more. */
 static void one_file_too_many(void) {
     uint64_t stamps[65], records = 99;
-    uint8_t room[84];
+    uint8_t room[1024];
     dspec_packet put;
     dspec_ctf ctf = DSPEC_EMPTY;
     for (size_t i = 0; i < 65; i++) stamps[i] = 64 - i;
@@ -125,7 +125,7 @@ static void one_file_too_many(void) {
     MUST(open_with(&ctf, 0, stamps, 65));
     for (size_t file = 0; file < DSPEC_CTF_MAX_FILES; file++) {
         MUST(dspec_ctf_put(&ctf, room, sizeof room, &put));
-        CHECK(put.file == file && put.records == 1 && put.size == 84);
+        CHECK(put.file == file && put.records == 1 && put.size == 1024);
     }
     ANSWERS(dspec_ctf_put(&ctf, room, sizeof room, &put), DSPEC_BAD_CLOCK);
     ANSWERS(dspec_ctf_lose(&ctf, &records), DSPEC_OK);
@@ -229,7 +229,7 @@ static void has(const char *folder, const char *name, const bytes *due) {
     fclose(file);
 }
 
-/* A file that may have no more than 150 bytes: the packet that goes past them is cut off, and its records are told as missed once there is room. */
+/* A file that may have no more than 1,100 bytes: the packet that goes past them is cut off, and its records are told as missed once there is room. */
 static void writes_that_fail(const char *path) {
     static dspec_folder folder, second;
     const uint64_t first[] = { 10, 20 }, lost[] = { 30, 40, 35 }, last[] = { 50 };
@@ -240,7 +240,7 @@ static void writes_that_fail(const char *path) {
     limit(RLIM_INFINITY);
     CHECK(dspec_folder_begin(&folder, path, &schema, 4, &identity, NULL));
     CHECK(!dspec_folder_begin(&second, path, &schema, 4, &identity, NULL) && second.last.code == EEXIST);
-    limit(150);
+    limit(1100);
     CHECK(takes(&folder, 0, first, 2));
     CHECK(!takes(&folder, 0, lost, 3));
     CHECK(folder.last.status == DSPEC_OK && folder.last.code == EFBIG && folder.last.cpu == 3 && folder.last.file == 0 && folder.last.records == 3);

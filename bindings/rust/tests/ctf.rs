@@ -9,13 +9,13 @@ fn identity() -> CtfIdentity {
     CtfIdentity { uuid, host: "here".into(), name: "server".into(), pid: 77, hertz: 1000, seconds: 5, ticks: 6, clock: None }
 }
 
-/// A packet of CPU 0 with these stamps, whose records have their stamps as values.
+/// A packet of CPU 0 with these stamps, whose records have their stamps as values: zeros behind them, up to 1,024 bytes.
 fn packet(begin: u64, end: u64, missed: u64, stamps: &[u32]) -> Vec<u8> {
     let bits = 8 * (68 + 16 * stamps.len() as u64);
     let mut bytes = 0xC1FC_1FC1_u32.to_le_bytes().to_vec();
     bytes.extend(identity().uuid);
     bytes.extend([0; 4]);
-    for number in [begin, end, bits, bits, missed] {
+    for number in [begin, end, bits, 8 * 1024, missed] {
         bytes.extend(number.to_le_bytes());
     }
     bytes.extend([0; 4]);
@@ -24,6 +24,7 @@ fn packet(begin: u64, end: u64, missed: u64, stamps: &[u32]) -> Vec<u8> {
         bytes.extend(u64::from(stamp).to_le_bytes());
         bytes.extend(stamp.to_le_bytes());
     }
+    bytes.resize(1024, 0);
     bytes
 }
 
@@ -83,8 +84,10 @@ fn a_packet_larger_than_the_room() {
     let mut packets = CtfPackets::new(&schema, &identity(), 0).unwrap();
     packets.open(&closed.rest(0).unwrap().last).unwrap();
     assert_eq!(packets.put().unwrap().unwrap().records, 0);
+    // 68 bytes and 59 records of 16 are 1,012.
     let stamps: Vec<u32> = (1..=1000).collect();
-    assert_eq!(packets.put().unwrap().unwrap().bytes, packet(1, 1000, 1, &stamps));
+    let due = stamps.chunks(59).flat_map(|part| packet(part[0].into(), part[part.len() - 1].into(), 1, part));
+    assert_eq!(packets.put().unwrap().unwrap().bytes, due.collect::<Vec<u8>>());
 }
 
 #[test]

@@ -31,21 +31,20 @@ fn put_zeros(out: &mut Vec<u8>, count: usize) -> Result<(), AllocError>
 #[tactic(auto, unfolding(crate::specs::Filled::filled_around))]
 pub(crate) fn put_filled_around(
     out: &mut Vec<u8>,
-    uuid: &[u8; 16],
+    stream: &Stream<'_>,
     span: Option<(u64, u64)>,
-    missed: u64,
-    cpu: u32,
     body: &[u8],
 ) -> Result<(), AllocError>
     requires fits { front_size span + length body.now ≤ filled_size }
-    ensures { OnOk result (out.new.items ≡ out.old.items ++ filled_around uuid.now span missed cpu body.now) }
+    ensures { OnOk result (out.new.items ≡ out.old.items
+        ++ filled_around stream.now.uuid span stream.now.missed stream.now.cpu body.now) }
 {
     let content = front_size(span) as usize + body.len();
     let sizes = Sizes {
         content: content as u64,
         size: PACKET_SIZE as u64,
     };
-    put_front(out, uuid, span, sizes, missed, cpu)?;
+    put_front(out, &stream.uuid, span, sizes, stream.missed, stream.cpu)?;
     out.extend_from_slice(body)?;
     put_zeros(out, PACKET_SIZE - content)
 }
@@ -79,8 +78,7 @@ fn put_packet(
     ensures { OnOk result (out.new.items ≡ out.old.items
         ++ filled_packet timed stream.now.enablings.now stream.now.uuid stream.now.missed stream.now.cpu recs.now) }
 {
-    let span = span_by(timed, recs);
-    put_filled_around(out, &stream.uuid, span, stream.missed, stream.cpu, body)
+    put_filled_around(out, stream, span_by(timed, recs), body)
 }
 
 /// Adds the packets of these records, each of which takes records as long as they fit. Without records it is one packet.
@@ -123,8 +121,8 @@ impl<'a> Stream<'a> {
         ensures packets { IfOk result
             (λ bytes. AreFilledOf self.old.enablings.now self.old.uuid (self.old.missed + drops) self.old.cpu text.now bytes.items) }
         ensures counted { OnOk result (self.new.missed ≡ self.old.missed + drops) }
-        ensures same { (self.new.uuid ≡ self.old.uuid) × (self.new.enablings ≡ self.old.enablings) × (self.new.cpu ≡ self.old.cpu) }
         ensures fault { IfErr result (λ fault. HasNoPacket self.old.enablings.now self.old.missed drops text.now fault) }
+        ensures same { (self.new.uuid ≡ self.old.uuid) × (self.new.enablings ≡ self.old.enablings) × (self.new.cpu ≡ self.old.cpu) }
         ensures refused { OnErr result (self.new ≡ self.old) }
     {
         let Some(missed) = self.missed.checked_add(drops) else {

@@ -182,22 +182,11 @@ pub fn records_of(
 }
 
 /// Adds a packet without events, of 1,024 bytes.
-fn put_silent(
-    out: &mut Vec<u8>,
-    stream: &Stream<'_>,
-    missed: u64,
-    stamp: u64,
-) -> Result<(), AllocError>
-    ensures { OnOk result (out.new.items ≡ out.old.items ++ silent_packet stream.now.uuid missed stream.now.cpu stamp) }
+fn put_silent(out: &mut Vec<u8>, stream: &Stream<'_>, stamp: u64) -> Result<(), AllocError>
+    ensures { OnOk result (out.new.items ≡ out.old.items
+        ++ silent_packet stream.now.uuid stream.now.missed stream.now.cpu stamp) }
 {
-    put_filled_around(
-        out,
-        &stream.uuid,
-        Some((stamp, stamp)),
-        missed,
-        stream.cpu,
-        &[],
-    )
+    put_filled_around(out, stream, Some((stamp, stamp)), &[])
 }
 
 impl<'a> Stream<'a> {
@@ -234,8 +223,12 @@ impl<'a> Stream<'a> {
     {
         let stamp = rows.first_stamp();
         let mut bytes = Vec::new(alloc);
-        put_silent(&mut bytes, self, before, stamp)?;
-        put_silent(&mut bytes, self, self.missed, stamp)?;
+        let then = Stream {
+            missed: before,
+            ..*self
+        };
+        put_silent(&mut bytes, &then, stamp)?;
+        put_silent(&mut bytes, self, stamp)?;
         Ok(bytes)
     }
 }

@@ -181,8 +181,9 @@ fn run_of_two_packets(rt: HostRuntime) -> Result<(), Fail> {
         stamps.push(stamp)?;
     }
     let mut files = opened(&rt, alloc, 0, &stamps)?;
-    let mut wanted = packet_of(alloc, (1, 59), 0, &stamps[..59])?;
-    wanted.extend_from_slice(&packet_of(alloc, (60, 60), 0, &stamps[59..])?)?;
+    let first = stamps.get(..59).unwrap_or(&[]);
+    let mut wanted = packet_of(alloc, (1, 59), 0, first)?;
+    wanted.extend_from_slice(&packet_of(alloc, (60, 60), 0, &[60])?)?;
     is_next(&rt, alloc, &mut files, 0, 60, &wanted)?;
     same(&rt, next_of(alloc, &mut files)?.0, None);
     Ok(())

@@ -59,7 +59,8 @@ fn packets_of_batches(rt: HostRuntime) -> Result<(), Fail> {
 fn full_packets(rt: HostRuntime) -> Result<(), Fail> {
     let enablings = three_enablings()?;
     let text = text_of(rt.alloc(), 244)?;
-    let packets = stream_of(&enablings).batch_packets(rt.alloc(), 9, &text[..972])?;
+    let full = text.get(..972).unwrap_or(&[]);
+    let packets = stream_of(&enablings).batch_packets(rt.alloc(), 9, full)?;
     let mut wanted = packet_of(rt.alloc(), 9, 243)?;
     same(&rt, packets.as_slice() == wanted.as_slice(), true);
     let packets = stream_of(&enablings).batch_packets(rt.alloc(), 9, &text)?;
