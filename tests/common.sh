@@ -65,8 +65,8 @@ runs() {
     status=$?
 }
 
-# Runs a command that reads, writes or grows memory with that refused: the first, the second, .. (growth, read, write), or one and all
-# behind it (growths). Keeps what `runs` keeps; false where there was none to refuse: refused KIND NUMBER COMMAND ..
+# Runs a command that reads, writes, grows memory or makes threads with that refused: the first, the second, .. (growth, read, write), or one
+# and all behind it (growths, threads). Keeps what `runs` keeps; false where there was none to refuse: refused KIND NUMBER COMMAND ..
 refused() {
     kind=$1
     number=$2

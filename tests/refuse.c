@@ -1,6 +1,7 @@
 /* Loaded in front of a program's C library (LD_PRELOAD): refuses one growth of memory, or fails one read or one write, so that
    what a program then answers is seen without another build of it. REFUSE_KIND says what: `growth`, `growths` (that one and
-   all later ones), `read` or `write`; a `yield` is only told, since it can't be refused. REFUSE_AT is its number, counted from 1.
+   all later ones), `read`, `write` or `threads` (that one and all later ones); a `yield` is only told, since it can't be refused.
+   REFUSE_AT is its number, counted from 1.
    REFUSE_TOLD names a file that is made once anything was refused; where it isn't made, there was none left to refuse. Where REFUSE_BYTES is set, each read gives one
    byte and each write takes one. The toolchain's own compiler compiles it (`tests/refuse`); that has no headers, so this file
    declares what it calls. */
@@ -17,8 +18,10 @@ extern int strcmp(const char *one, const char *other);
 extern unsigned long strtoul(const char *text, char **end, int base);
 extern int creat(const char *path, unsigned mode);
 extern int close(int file);
+extern void *dlsym(void *library, const char *name);
 
-enum { NO_MEMORY = 12, INPUT_OUTPUT = 5 };
+enum { NO_MEMORY = 12, INPUT_OUTPUT = 5, TRY_AGAIN = 11 };
+typedef int (*create)(unsigned long *thread, const void *attributes, void *(*begin)(void *), void *argument);
 
 static const char *kind = "";
 static unsigned long at;
@@ -27,6 +30,7 @@ static unsigned long growths;
 static unsigned long reads;
 static unsigned long writes;
 static unsigned long yields;
+static unsigned long threads;
 
 __attribute__((constructor)) static void begin(void) {
     const char *number = getenv("REFUSE_AT");
@@ -37,7 +41,7 @@ __attribute__((constructor)) static void begin(void) {
 
 static int refuses(const char *this_kind, unsigned long number) {
     const char *told = getenv("REFUSE_TOLD");
-    int is_due = strcmp(kind, "growths") == 0 ? number >= at : number == at;
+    int is_due = strcmp(kind, "growths") == 0 || strcmp(kind, "threads") == 0 ? number >= at : number == at;
     if (strcmp(kind, this_kind) != 0 || !is_due) {
         return 0;
     }
@@ -86,4 +90,13 @@ long write(int file, const void *bytes, size count) {
 int sched_yield(void) {
     refuses("yield", __atomic_add_fetch(&yields, 1, __ATOMIC_SEQ_CST));
     return __sched_yield();
+}
+
+/* The library's own, which stands behind this one. */
+int pthread_create(unsigned long *thread, const void *attributes, void *(*begin)(void *), void *argument) {
+    create own = (create)dlsym((void *)-1, "pthread_create");
+    if (refuses("threads", __atomic_add_fetch(&threads, 1, __ATOMIC_SEQ_CST))) {
+        return TRY_AGAIN;
+    }
+    return own(thread, attributes, begin, argument);
 }

@@ -1,5 +1,11 @@
 -- Cited by calls. How what the player and a session told of a schedule compares.
-use Rattle.std.specs.Prelude.{◌≡◌, string_bytes}
+use Rattle.std.specs.Prelude.{◌≡◌, string_bytes, None, Option}
+use Rattle.dspec_replay.specs.Replayed.{IsDue, accepted_in, schedule_refusal}
+use Rattle.dspec_replay.specs.declared.session_fault.SessionFault.{SessionFault}
+use Rattle.dspec_replay.specs.declared.session_fault.SessionFault.TheVariants.{Play}
+use Rattle.dspec_schedule.specs.Reading.{header_of}
+use Rattle.dspec_schedule.specs.Schedules.{plan_of}
+use Rattle.dspec_schedule.specs.declared.schedule.Schedule.{Schedule}
 use Rattle.fuzz.specs.declared.comparing.Told.{Told}
 use Rattle.fuzz.specs.declared.comparing.Told.TheVariants.{Printed, Refused, CantGoOn}
 
@@ -12,3 +18,13 @@ IsAlike a b = ⊥
 abbrev pub IsRefusedAlike : Told → Told → Type 0
 IsRefusedAlike (Refused f) (Refused h) = f ≡ h
 IsRefusedAlike a b = ⊥
+
+-- why a session doesn't play a schedule, if it doesn't
+abbrev pub session_refusal : Schedule → Option SessionFault
+session_refusal s = schedule_refusal (accepted_in s.enablings (header_of (plan_of s))) s.config s.turns.items
+
+-- a session that this is due of printed something only where nothing is; else it is told why it doesn't play
+abbrev pub IsToldBySession : Option SessionFault → Told → Type 0
+IsToldBySession due (Printed x) = due ≡ None
+IsToldBySession due (Refused f) = IsDue due (Play f)
+IsToldBySession due (CantGoOn h) = IsDue due h

@@ -1,7 +1,7 @@
 //! What the player and a session make of a schedule.
 
-ghost use Rattle.std.specs.Prelude.{◌≡◌};
-ghost use Rattle.fuzz.specs.Comparing.{IsAlike, IsRefusedAlike};
+ghost use Rattle.std.specs.Prelude.{◌≡◌, IfOk};
+ghost use Rattle.fuzz.specs.Comparing.{IsAlike, IsRefusedAlike, IsToldBySession, session_refusal};
 
 use crate::encoding::encoded;
 use crate::sample::Sample;
@@ -60,7 +60,9 @@ fn player_told(alloc: Global, sample: &Sample) -> Result<Told, AllocError> {
 }
 
 /// What a session makes of a schedule, with the bytes of its batches.
-fn session_told(alloc: Global, schedule: &Schedule) -> Result<Told, AllocError> {
+fn session_told(alloc: Global, schedule: &Schedule) -> Result<Told, AllocError>
+    ensures { IfOk result (λ told. IsToldBySession (session_refusal schedule.now) told) }
+{
     match replay_schedule(alloc, schedule) {
         Ok(replayed) => {
             let text = printed_with_bytes(alloc, schedule.header(), &replayed)?;
@@ -73,7 +75,9 @@ fn session_told(alloc: Global, schedule: &Schedule) -> Result<Told, AllocError> 
 }
 
 /// What each of the two makes of a schedule, the player's in front.
-pub fn both_told(alloc: Global, sample: &Sample) -> Result<(Told, Told), AllocError> {
+pub fn both_told(alloc: Global, sample: &Sample) -> Result<(Told, Told), AllocError>
+    ensures { IfOk result (λ told. IsToldBySession (session_refusal sample.now.schedule) told.1) }
+{
     let player = player_told(alloc, sample)?;
     let session = session_told(alloc, &sample.schedule)?;
     Ok((player, session))

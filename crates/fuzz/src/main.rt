@@ -1,7 +1,8 @@
 //! `fuzz SEED COUNT` plays so many random schedules of whole calls, each by the player and on a session, and compares what both
 //! print, or how both refuse it; what is printed has the bytes of each batch and of what is left, which an encoder of this program
 //! makes of the player's deeds (`encoding`). At the first difference it takes turns out of the schedule while the difference stays, prints
-//! what is left, with what each of the two made of it, and ends with status 1. The last line counts.
+//! what is left, with what each of the two made of it, and ends with status 1. The last line counts. `fuzz made` plays a schedule that is
+//! made up, at which both have to differ.
 //!
 //! `fuzz threads FIRST COUNT` makes random calls on running threads: for each of COUNT seeds from FIRST on, a session of two to eight
 //! CPUs, each in a thread of its own, whose workers share identifiers, while the consumer makes its own calls in another. Once a
@@ -16,8 +17,8 @@
 //! | File | What is in it |
 //! |---|---|
 //! | `schedules.rt`, `options.rt` | schedules: what the words ask, plays and comparisons, statuses |
-//! | `making.rt`, `records.rt`, `sample.rt` | configurations, schemas, turns (identifiers are guessed); records, a few of them none of the schema |
-//! | `comparing.rt`, `encoding.rt`, `shortening.rt`, `writing.rt`, `tally.rt` | what both make of a schedule; the bytes of the player's deeds; turns taken out while both differ; a schedule as text. `specs/Comparing`: when both told the same |
+//! | `making.rt`, `records.rt`, `sample.rt`, `made.rt` | configurations, schemas, turns (identifiers are guessed); records, a few of them none of the schema; the schedule that is made up |
+//! | `comparing.rt`, `encoding.rt`, `shortening.rt`, `writing.rt`, `tally.rt` | what both make of a schedule; the bytes of the player's deeds; turns taken out while both differ; a schedule as text. `specs/Comparing`: when both told the same, and what a session tells |
 //! | `threads.rt`, `arguments.rt`, `fault.rt` | threads: what the words ask, seed after seed; statuses |
 //! | `planning.rt`, `choosing.rt`, `sharing.rt`, `working.rt` | what a seed chooses; the calls of a CPU; the board that threads share; a worker |
 //! | `taken.rt`, `consuming.rt`, `racing.rt`, `running.rt`, `telling.rt` | the consumer and what it took; the threads; a session from start to end. `specs/Lent`: what the threads are lent and give back |
@@ -29,6 +30,7 @@ mod comparing;
 mod consuming;
 mod encoding;
 mod fault;
+mod made;
 mod making;
 mod options;
 mod planning;

@@ -5,7 +5,7 @@ use dspec_command::{Asked, CommandFault, asked_of};
 use std::alloc::{AllocError, Global};
 
 /// How the program is called.
-const USAGE: &str = "fuzz SEED COUNT, fuzz threads made, fuzz threads FIRST COUNT";
+const USAGE: &str = "fuzz SEED COUNT, fuzz made, fuzz threads made, fuzz threads FIRST COUNT";
 
 /// What a run is asked for by its arguments.
 #[derive(Debug, Clone, Copy, PartialEq, Eq)]
@@ -21,6 +21,8 @@ pub struct Options {
 pub enum Ask {
     /// To play random schedules.
     Play(Options),
+    /// To play the schedule that is made up.
+    Made,
     /// To print this text, which was asked for by `--help`.
     Text(String),
 }
@@ -30,11 +32,9 @@ fn command<'a>(alloc: Global) -> Result<Command<'a>, AllocError> {
     let seed = Arg::new(alloc, "seed")
         .value_name("SEED")
         .required(true)
-        .value_parser(clap::value_parser!(u64))
-        .help("what the random numbers begin with");
+        .help("what the random numbers begin with; or `made`, for a schedule that is made up");
     let count = Arg::new(alloc, "count")
         .value_name("COUNT")
-        .required(true)
         .value_parser(clap::value_parser!(u32))
         .help("how many schedules are played");
     Command::new(alloc, "fuzz")
@@ -45,19 +45,24 @@ fn command<'a>(alloc: Global) -> Result<Command<'a>, AllocError> {
         .arg(count)
 }
 
-/// What was found in the words.
-fn options_in(found: &ArgMatches<'_>) -> Option<Options> {
-    Some(Options {
-        seed: found.get_one::<u64>("seed")?,
-        count: found.get_one::<u32>("count")?,
-    })
+/// What is asked for by what was found in the words, if it is anything.
+fn ask_found(found: &ArgMatches<'_>) -> Option<Ask> {
+    let first = found.get_str("seed")?;
+    match found.get_one::<u32>("count") {
+        Some(count) => Some(Ask::Play(Options {
+            seed: first.parse::<u64>().ok()?,
+            count,
+        })),
+        None if first == "made" => Some(Ask::Made),
+        None => None,
+    }
 }
 
 /// What these words ask for, the first of which is the program's name.
 pub fn ask_of<'a>(alloc: Global, words: &'a [String]) -> Result<Ask, CommandFault<'a>> {
     match asked_of(alloc, command(alloc)?, USAGE, words)? {
-        Asked::Found(found) => match options_in(&found) {
-            Some(options) => Ok(Ask::Play(options)),
+        Asked::Found(found) => match ask_found(&found) {
+            Some(ask) => Ok(ask),
             None => Err(CommandFault::Usage(USAGE)),
         },
         Asked::Text(text) => Ok(Ask::Text(text)),

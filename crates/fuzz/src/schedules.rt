@@ -1,6 +1,7 @@
 //! Random schedules of whole calls, played by the player and on a session.
 
 use crate::comparing::{Verdict, both_told, verdict_of};
+use crate::made::made;
 use crate::making::sample;
 use crate::options::{Ask, Options, ask_of};
 use crate::sample::Sample;
@@ -11,26 +12,46 @@ use dspec_command::{CommandFault, output_fault, print_text};
 use dspec_samples::Dice;
 use std::alloc::{AllocError, Global};
 
+/// Plays a schedule by both, counts it, and gives it, shortened, where they differ.
+fn play_both(
+    alloc: Global,
+    tally: &mut Tally,
+    sample: Sample,
+) -> Result<Option<Sample>, AllocError> {
+    let (player, session) = both_told(alloc, &sample)?;
+    let verdict = verdict_of(&player, &session);
+    tally.count(verdict, sample.schedule.turns.len() as u64);
+    if verdict != Verdict::Differ {
+        return Ok(None);
+    }
+    let mut sample = sample;
+    shorten(alloc, &mut sample)?;
+    Ok(Some(sample))
+}
+
 /// Plays random schedules until both players differ, and gives the counts and the schedule at which they do, shortened.
 fn play_all(alloc: Global, options: Options) -> Result<(Tally, Option<Sample>), AllocError> {
     let mut dice = Dice::new(options.seed);
     let mut tally = Tally::default();
     for _ in 0..options.count {
-        let mut sample = sample(alloc, &mut dice)?;
-        let (player, session) = both_told(alloc, &sample)?;
-        let verdict = verdict_of(&player, &session);
-        tally.count(verdict, sample.schedule.turns.len() as u64);
-        if verdict == Verdict::Differ {
-            shorten(alloc, &mut sample)?;
-            return Ok((tally, Some(sample)));
+        let sample = sample(alloc, &mut dice)?;
+        if let Some(found) = play_both(alloc, &mut tally, sample)? {
+            return Ok((tally, Some(found)));
         }
     }
     Ok((tally, None))
 }
 
-/// Plays, and prints the difference, where there is one, and the counts. Says whether there was none.
-fn play_options<'a>(rt: &HostRuntime, options: Options) -> Result<bool, CommandFault<'a>> {
-    let (tally, found) = play_all(rt.alloc(), options)?;
+/// Plays the one that is made up.
+fn play_made(alloc: Global) -> Result<(Tally, Option<Sample>), AllocError> {
+    let mut tally = Tally::default();
+    let found = play_both(alloc, &mut tally, made(alloc)?)?;
+    Ok((tally, found))
+}
+
+/// Prints the difference, where there is one, and the counts. Says whether there was none.
+fn tell<'a>(rt: &HostRuntime, played: (Tally, Option<Sample>)) -> Result<bool, CommandFault<'a>> {
+    let (tally, found) = played;
     if let Some(sample) = &found {
         let (player, session) = both_told(rt.alloc(), sample)?;
         let text = difference(rt.alloc(), sample, &player, &session)?;
@@ -47,12 +68,13 @@ pub fn compare_schedules<'a>(
     rt: &HostRuntime,
     words: &'a [String],
 ) -> Result<bool, CommandFault<'a>> {
-    let options = match ask_of(rt.alloc(), words)? {
-        Ask::Play(options) => options,
+    let played = match ask_of(rt.alloc(), words)? {
+        Ask::Play(options) => play_all(rt.alloc(), options)?,
+        Ask::Made => play_made(rt.alloc())?,
         Ask::Text(text) => {
             print_text(rt, text.as_str())?;
             return Ok(true);
         }
     };
-    play_options(rt, options)
+    tell(rt, played)
 }

@@ -40,11 +40,22 @@ fn nanoseconds_are_counted(rt: HostRuntime) -> Result<(), Fail> {
     Ok(())
 }
 
+/// How often the machine's clock is read until it has moved.
+const MOST_READINGS: u32 = 10_000_000;
+
 #[test]
 fn machine_is_read(rt: HostRuntime) -> Result<(), Fail> {
     let clock = SystemClock::start(&rt)?;
     let first = clock.stamp();
-    let second = clock.stamp();
-    assert!(rt; first <= second);
+    let mut last = first;
+    for _ in 0..MOST_READINGS {
+        let next = clock.stamp();
+        assert!(rt; last <= next);
+        last = next;
+        if first < last {
+            break;
+        }
+    }
+    assert!(rt; first < last);
     Ok(())
 }

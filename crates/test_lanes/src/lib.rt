@@ -7,7 +7,7 @@
 //! | `refusals` | dspec: why there is no session, and what is told where records weren't kept |
 //! | `folders`, `timed_folders`, `losses`, `endings` | dspec_ctf_sink in memory: what a session writes, what is lost where a write is refused, what the end tells |
 //! | `disk` | dspec_ctf_sink on the system's disk |
-//! | `verdicts` | dspec_threads |
+//! | `verdicts`, `boards` | dspec_threads |
 //! | `belts`, `barriers` | dspec_threads |
 //! | `clocks` | dspec |
 //! | `lanes_out` | dspec_threads |
@@ -19,6 +19,8 @@
 mod barriers;
 #[cfg(test)]
 mod belts;
+#[cfg(test)]
+mod boards;
 #[cfg(test)]
 mod clocks;
 #[cfg(test)]

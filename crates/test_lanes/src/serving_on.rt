@@ -1,13 +1,15 @@
 //! Of three lanes one returns at once. It goes on serving, so that over two slots the others get as many paths as they ask for; of each
-//! two one is without records, so that its slot waits for all lanes.
+//! two one is without records, so that its slot waits for all lanes. So do 63 of 64 lanes for the first. Works that go one after another
+//! end, since none waits for one that hasn't begun.
 ghost use Rattle.std.specs.Prelude.{◌≡◌};
 ghost use Rattle.dspec.specs.Lanes.{place_of};
 
 use crate::handing::schema;
 use dspec::{
-    Config, Decided, Enablings, Lane, RecordSink, Spoken, Work, Worker, closed_cpus, trace,
-    trace_workers,
+    Batch, Clock, Config, Decided, Enablings, Lane, RecordSink, Sink, Spoken, SystemClock, Work,
+    Worker, closed_cpus, trace, trace_workers,
 };
+use std::process::Abort;
 use std::sync::atomic::{AtomicU64, Ordering};
 use std::test::Fail;
 use std::thread;
@@ -134,5 +136,116 @@ fn worker_that_returned_serves(rt: HostRuntime) -> Result<(), Fail> {
     };
     assert!(rt; due.load(Ordering::SeqCst) == 600 && workers.len() == 3);
     assert!(rt; kept.records()?.len() == 600);
+    Ok(())
+}
+
+/// How many paths the first of 64 lanes opens, one after another over one slot.
+const PATHS_OF_MANY: u64 = 4;
+
+/// After how many nanoseconds a session that goes on is given up: a lane that isn't counted would be waited for without end.
+const MOST_NANOSECONDS: u64 = 40_000_000_000;
+
+/// Ends the test where the session goes on for so long.
+#[derive(Drop)]
+struct Watches<'a, R: Abort> {
+    rt: &'a R,
+    clock: &'a SystemClock<'a>,
+}
+
+impl<R: Abort + Sync> Sink<Enablings> for Watches<'_, R> {
+    fn batch(&mut self, _schema: &Enablings, _batch: &Batch) {
+        let is_in_time = self.clock.stamp() < MOST_NANOSECONDS;
+        assert!(self.rt; is_in_time, "a lane serves on and on");
+    }
+}
+
+/// The first of many lanes opens paths and throws them away, which all others have to hear of; those have nothing to do.
+#[derive(Drop)]
+struct FirstOfMany {
+    opened: u64,
+}
+
+impl Worker<Enablings> for FirstOfMany {
+    fn work(&mut self, lane: &mut Lane<'_, Enablings>) {
+        if lane.number() != 0 {
+            return;
+        }
+        for _ask in 0..u64::MAX {
+            let path = lane.path();
+            if path.opening().id().raw() != 0 {
+                self.opened = self.opened.wrapping_add(1);
+            }
+            path.discard(lane);
+            if self.opened == PATHS_OF_MANY {
+                break;
+            }
+            lane.service();
+            thread::yield_now();
+        }
+    }
+}
+
+#[test]
+fn last_of_many_workers_serves(rt: HostRuntime) -> Result<(), Fail> {
+    let mut workers = Vec::new(rt.alloc());
+    for _ in 0..64 {
+        assert!(rt; workers.push(FirstOfMany { opened: 0 }).is_ok());
+    }
+    let config = Config::of(64, 1, 64, 64);
+    let clock = SystemClock::start(&rt)?;
+    let sink = Watches {
+        rt: &rt,
+        clock: &clock,
+    };
+    let Ok((_closed, workers, _sink)) = trace_workers(
+        &rt,
+        rt.alloc(),
+        &config,
+        schema()?,
+        workers,
+        sink,
+    ) else {
+        return Err("no session".into());
+    };
+    assert!(rt; workers.first().map(|worker| worker.opened) == Some(PATHS_OF_MANY));
+    Ok(())
+}
+
+/// How many services a lane makes at the most while another work hasn't begun.
+const MOST_SERVICES: u64 = 1 << 20;
+
+/// Ends the test where a lane goes on serving behind those: each batch is of one service.
+#[derive(Drop)]
+struct Counts<'a, R: Abort> {
+    rt: &'a R,
+    batches: u64,
+}
+
+impl<R: Abort + Sync> Sink<Enablings> for Counts<'_, R> {
+    fn batch(&mut self, _schema: &Enablings, _batch: &Batch) {
+        self.batches = self.batches.saturating_add(1);
+        let is_within = self.batches < MOST_SERVICES + 16;
+        assert!(self.rt; is_within, "a lane serves on and on");
+    }
+}
+
+/// It has nothing to do.
+#[derive(Drop)]
+struct Idle;
+
+impl Work<Enablings> for Idle {
+    fn work(&self, _lane: &mut Lane<'_, Enablings>) {}
+}
+
+/// `tests/running-threads` runs it where one thread more can be made: there both works are in one.
+#[test]
+fn works_go_one_after_another(rt: HostRuntime) -> Result<(), Fail> {
+    let config = Config::of(2, 1, 64, 64);
+    let sink = Counts {
+        rt: &rt,
+        batches: 0,
+    };
+    let ended = trace(&rt, rt.alloc(), &config, schema()?, &Idle, sink).is_ok();
+    assert!(rt; ended);
     Ok(())
 }

@@ -73,7 +73,7 @@ fn no_workers_are_no_session(rt: HostRuntime) -> Result<(), Fail> {
 }
 
 /// How often a worker looks whether it is stopped.
-const MOST_LOOKS: u32 = 10_000_000;
+const MOST_LOOKS: u32 = 3_000_000;
 
 /// It records until it is stopped, and says whether it was.
 #[derive(Drop)]
@@ -143,5 +143,16 @@ fn stop_of_a_sink_is_heeded(rt: HostRuntime) -> Result<(), Fail> {
     };
     assert!(rt; sink.batches >= 3 && stop.is_set());
     assert!(rt; workers.iter().all(|worker| worker.was_stopped));
+    Ok(())
+}
+
+#[test]
+fn stop_that_is_set_stays_set(rt: HostRuntime) -> Result<(), Fail> {
+    let stop = Stop::new();
+    assert!(rt; !stop.is_set());
+    stop.set();
+    assert!(rt; stop.is_set());
+    stop.set();
+    assert!(rt; stop.is_set());
     Ok(())
 }

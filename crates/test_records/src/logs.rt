@@ -3,7 +3,7 @@ use crate::same::same;
 use dspec_samples::{Damage, Kind, Number, found};
 use std::alloc::AllocError;
 
-const FINDINGS: [(Damage, Option<Kind>); 16] = [
+const FINDINGS: [(Damage, Option<Kind>); 32] = [
     (Damage::Nothing, None),
     (Damage::BlockTwice, Some(Kind::Twice)),
     (Damage::TraceMissing, Some(Kind::TraceMissing)),
@@ -20,6 +20,22 @@ const FINDINGS: [(Damage, Option<Kind>); 16] = [
     (Damage::GivenTwice, Some(Kind::GivenTwice)),
     (Damage::OpenBehindItsEnd, Some(Kind::Revived)),
     (Damage::VoidUndecided, Some(Kind::VoidUndecided)),
+    (Damage::LogTorn, Some(Kind::LogMissing)),
+    (Damage::GiveBackRefused, Some(Kind::GiveBackRefused)),
+    (Damage::BatchUnreadable, Some(Kind::Unreadable)),
+    (Damage::BatchOfAnotherCpu, Some(Kind::OtherCpu)),
+    (Damage::RecordOfNoCall, Some(Kind::Unknown)),
+    (Damage::DroppedThere, Some(Kind::NotKept)),
+    (Damage::LostThere, Some(Kind::LostButThere)),
+    (Damage::BlockOfOneMissing, Some(Kind::BlockMissing)),
+    (Damage::DropsTooMany, Some(Kind::AllDrops)),
+    (Damage::SlotTooHigh, Some(Kind::NoSuchSlot)),
+    (Damage::NeverGiven, Some(Kind::NeverGiven)),
+    (Damage::GoesOnStopped, Some(Kind::AfterStop)),
+    (Damage::NotWorn, Some(Kind::Worn)),
+    (Damage::KeptBehindFull, Some(Kind::AfterFull)),
+    (Damage::BlockMiscounted, Some(Kind::BlockCount)),
+    (Damage::SettledTooMany, Some(Kind::Settled)),
 ];
 
 #[test]

@@ -7,8 +7,11 @@ use std::test::Fail;
 use std::thread;
 use std::thread::Threads;
 
-/// How often the work looks for a pause before it gives up.
-const MOST_LOOKS: u32 = 100_000_000;
+/// How often a work looks for a pause before it gives up, with a yield behind each look.
+const MOST_LOOKS: u32 = 3_000_000;
+
+/// How many services a work makes before it gives up, with no yield between them.
+const MOST_SERVICES: u32 = 100_000_000;
 
 /// Counts the pauses.
 #[derive(Drop)]
@@ -82,7 +85,7 @@ struct Spins<'a> {
 impl<'a> Work<Enablings> for Spins<'a> {
     fn work(&self, lane: &mut Lane<'_, Enablings>) {
         let mut sealed = 0u32;
-        for _look in 0..MOST_LOOKS {
+        for _service in 0..MOST_SERVICES {
             sealed = sealed.saturating_add(u32::from(lane.service().sealed));
             if sealed == SWITCHES {
                 self.done.fetch_add(1, Ordering::SeqCst);
