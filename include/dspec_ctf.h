@@ -9,6 +9,9 @@
  * committed speculation stand where it was committed, but those of each file are. Tools put the files together by time. What a CPU missed is told by its file cpu_N_0:
  * what its batches dropped, and what wasn't written.
  *
+ * Each packet of the format has 1,024 bytes: its events, and zeros behind them. Where all that is put goes to the ends of its files, one write each, a packet lies in one page of its
+ * file, and a program that is killed in a write leaves whole packets.
+ *
  *     for each batch of a CPU:       dspec_ctf_batch(&ctf, &batch)
  *     until DSPEC_NO_PACKET:         dspec_ctf_put(&ctf, room, size, &packet), and its bytes to the end of file packet.file
  *     where they can't be written:   dspec_ctf_lose(&ctf, &records), and the next batch
@@ -49,10 +52,10 @@ typedef struct dspec_identity {
     dspec_text name;   /* the name of the program */
 } dspec_identity;
 
-/* A packet in the caller's memory. */
+/* What is written at once, in the caller's memory: a packet, or several one behind another. */
 typedef struct dspec_packet {
     size_t file;    /* the number of the CPU's file to whose end it goes */
-    size_t size;    /* how many bytes it has */
+    size_t size;    /* how many bytes it has: 1,024 for each packet of the format */
     size_t records; /* how many records are in it; none where it tells what was missed */
 } dspec_packet;
 
@@ -78,10 +81,10 @@ DSPEC_INLINE dspec_status dspec_ctf_batch(dspec_ctf *ctf, const dspec_batch *bat
     return dspec_ctf_open(ctf, batch->cpu, batch->drops, batch->bytes, batch->len);
 }
 
-/* Puts the next packet of the batch into a room of so many bytes. What the CPU missed comes first, where that isn't told yet. The packet that was put before counts as
+/* Puts the next packet of the batch into a room of so many bytes: what goes to one file in one write. What the CPU missed comes first, in two packets of the format, where that isn't told yet. The packet that was put before counts as
  * written from then on. Takes memory for the packet, and gives it back.
  * DSPEC_OK. DSPEC_NO_PACKET: none is left. DSPEC_TOO_SMALL: packet->size says how many bytes are needed; the call with so many puts that packet.
- * DSPEC_BAD_CLOCK, DSPEC_TOO_LONG: the rest of the batch has no packets, and dspec_ctf_lose gives it up. DSPEC_NO_MEMORY. DSPEC_BAD_HANDLE. */
+ * DSPEC_BAD_CLOCK: the rest of the batch has no packets, and dspec_ctf_lose gives it up. DSPEC_NO_MEMORY. DSPEC_BAD_HANDLE. */
 dspec_status dspec_ctf_put(dspec_ctf *ctf, uint8_t *room, size_t size, dspec_packet *packet) DSPEC_NOEXCEPT;
 
 /* Says that the packet that was put last wasn't written, and that those behind it won't be: its records and the rest of the batch are missed, and so many

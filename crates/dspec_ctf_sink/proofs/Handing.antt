@@ -3,7 +3,7 @@ use Rattle.std.proofs.Common.{◌≡◌, ℕ, ◌+◌, ◌∙◌, ap, inr, List,
 use Rattle.std.specs.Prelude.{slice_get, slice_set, Option, Some, None}
 use Rattle.dspec_record.specs.EnablingRows.{EnabledRows}
 use Rattle.dspec_ring.specs.declared.batch.Batch.{Batch}
-use Rattle.dspec_ctf.specs.Streams.{IsPacketOf}
+use Rattle.dspec_ctf.specs.Filled.{AreFilledOf}
 use Rattle.dspec_ctf_sink.specs.Losses.{lost_more, missed_more}
 use Rattle.dspec_ctf_sink.specs.Writes.{FileWrite, Refuses, Takes}
 use Rattle.dspec_ctf_sink.specs.Writing.{AddsPacket, CountsLost, IsBatchFault, IsNextPacket, LosesPacket, Tracing, cpu_name, whole_loss}
@@ -15,18 +15,18 @@ abbrev pub tracing : List ℕ → List ℕ → List ℕ → Option (List FileWri
 tracing uuid missed told written lost last = record { uuid = uuid; missed = missed; told = told; written = written; lost = lost; last = last }
 
 module _ (e : EnabledRows) (uuid missed told : List ℕ) (was is : Option (List FileWrite)) (lost last : Option Loss) (old : Tracing) (b : Batch) where
-  next : (before total : ℕ) (bytes packet : List ℕ) → slice_get missed b.cpu ≡ Some before → total ≡ before + b.drops → IsPacketOf e uuid (before + b.drops) b.cpu b.buffer.text packet
+  next : (before total : ℕ) (bytes packet : List ℕ) → slice_get missed b.cpu ≡ Some before → total ≡ before + b.drops → AreFilledOf e uuid (before + b.drops) b.cpu b.buffer.text packet
       → bytes ≡ packet → IsNextPacket e (tracing uuid missed told was lost last) b total bytes
   next before total bytes packet there sum is_packet same = record {
     before = before;
     there = there;
     missed_is = sum;
-    packet_is = subst (λ n. IsPacketOf e uuid n b.cpu b.buffer.text bytes) (sym sum) (subst (λ xs. IsPacketOf e uuid (before + b.drops) b.cpu b.buffer.text xs) (sym same) is_packet);
+    packet_is = subst (λ n. AreFilledOf e uuid n b.cpu b.buffer.text bytes) (sym sum) (subst (λ xs. AreFilledOf e uuid (before + b.drops) b.cpu b.buffer.text xs) (sym same) is_packet);
   }
 
   -- and taken
   pub adds : (before total : ℕ) (name bytes packet : List ℕ) → tracing uuid missed told was lost last ≡ old → slice_get missed b.cpu ≡ Some before → total ≡ before + b.drops
-      → IsPacketOf e uuid (before + b.drops) b.cpu b.buffer.text packet → bytes ≡ packet → name ≡ cpu_name b.cpu → Takes was name bytes is
+      → AreFilledOf e uuid (before + b.drops) b.cpu b.buffer.text packet → bytes ≡ packet → name ≡ cpu_name b.cpu → Takes was name bytes is
       → AddsPacket e old b (tracing uuid (slice_set missed b.cpu total) (slice_set told b.cpu total) is lost None)
   adds before total name bytes packet view there sum is_packet same named takes =
       subst (λ o. AddsPacket e o b (tracing uuid (slice_set missed b.cpu total) (slice_set told b.cpu total) is lost None)) view
@@ -43,7 +43,7 @@ module _ (e : EnabledRows) (uuid missed told : List ℕ) (was is : Option (List 
 
   -- or refused
   pub refuses : (before total : ℕ) (name bytes packet : List ℕ) (why : FolderFault) → tracing uuid missed told was lost last ≡ old → slice_get missed b.cpu ≡ Some before → total ≡ before + b.drops
-      → IsPacketOf e uuid (before + b.drops) b.cpu b.buffer.text packet → bytes ≡ packet → name ≡ cpu_name b.cpu → Refuses was name bytes is why
+      → AreFilledOf e uuid (before + b.drops) b.cpu b.buffer.text packet → bytes ≡ packet → name ≡ cpu_name b.cpu → Refuses was name bytes is why
       → IsBatchFault e old b is why
   refuses before total name bytes packet why view there sum is_packet same named refused =
       subst (λ o. IsBatchFault e o b is why) view

@@ -7,7 +7,8 @@ use Rattle.dspec_ctf.specs.declared.names.Names.{Names}
 use Rattle.dspec_ctf.specs.declared.origin.Origin.{Origin}
 use Rattle.dspec_ctf.specs.Metadata.{origin_text}
 use Rattle.dspec_ctf.specs.Names.{origin_fault}
-use Rattle.dspec_ctf.specs.Streams.{HasNoPacket, IsPacketOf}
+use Rattle.dspec_ctf.specs.Filled.{AreFilledOf}
+use Rattle.dspec_ctf.specs.Streams.{HasNoPacket}
 use Rattle.dspec_ctf.specs.declared.fault.MetadataFault.TheVariants as metadata
 use Rattle.dspec_ctf_sink.specs.Losses.{HasSoManyRecords, lost_more, missed_more}
 use Rattle.dspec_ctf_sink.specs.Writes.{FileWrite, Refuses, Takes}
@@ -48,14 +49,14 @@ IsBeginFault written origin e names old fault = RefusesMetadata written origin e
 abbrev pub cpu_name : ℕ → List ℕ
 cpu_name c = codes "cpu_" ++ decimal c
 
--- the bytes are the packet of this batch, behind those of its CPU that came before; and so many events it missed then
+-- the bytes are the packets of this batch, behind those of its CPU that came before; and so many events it missed then
 pub record IsNextPacket (e : EnabledRows) (old : Tracing) (b : Batch) (missed : ℕ) (bytes : List ℕ) : Type 0 where
   pub before : ℕ
   pub there : slice_get old.missed b.cpu ≡ Some before
   pub missed_is : missed ≡ before + b.drops
-  pub packet_is : IsPacketOf e old.uuid missed b.cpu b.buffer.text bytes
+  pub packet_is : AreFilledOf e old.uuid missed b.cpu b.buffer.text bytes
 
--- the place took the batch's packet, and what its CPU missed is counted
+-- the place took the batch's packets, and what its CPU missed is counted
 pub record AddsPacket (e : EnabledRows) (old : Tracing) (b : Batch) (new : Tracing) : Type 0 where
   pub total : ℕ
   pub bytes : List ℕ
@@ -66,7 +67,7 @@ pub record AddsPacket (e : EnabledRows) (old : Tracing) (b : Batch) (new : Traci
   pub lost : new.lost ≡ old.lost
   pub last : new.last ≡ None
 
--- the place refused the batch's packet for that, behind which it was asked for these writes
+-- the place refused the batch's packets for that, behind which it was asked for these writes
 pub record RefusesPacket (e : EnabledRows) (old : Tracing) (b : Batch) (written : Option (List FileWrite)) (fault : FolderFault) : Type 0 where
   pub total : ℕ
   pub bytes : List ℕ
@@ -84,7 +85,7 @@ HasNone e old b Read = ⊥
 HasNone e old b NotEmpty = ⊥
 HasNone e old b (Metadata fault) = ⊥
 
--- Why a batch isn't written: it has no packet, or memory was wanting, and the place wasn't asked; or the place refused its packet.
+-- Why a batch isn't written: it has no packet, or memory was wanting, and the place wasn't asked; or the place refused its packets.
 abbrev pub IsBatchFault : EnabledRows → Tracing → Batch → Option (List FileWrite) → FolderFault → Type 0
 IsBatchFault e old b written fault = (HasNone e old b fault × (written ≡ old.written)) ⊎ RefusesPacket e old b written fault
 
@@ -111,7 +112,7 @@ pub record LosesPacket (e : EnabledRows) (old : Tracing) (b : Batch) (new : Trac
 abbrev pub IsNothing : Tracing → Batch → Type 0
 IsNothing old b = (b.buffer.text ≡ []) × (b.drops ≡ 0) × (slice_get old.missed b.cpu ≡ slice_get old.told b.cpu)
 
--- What a batch makes of the trace. Where there is nothing to write, nothing; else the place takes its packet, which tells all that was missed on its
+-- What a batch makes of the trace. Where there is nothing to write, nothing; else the place takes its packets, each of which tells all that was missed on its
 -- CPU so far, or what the batch has is counted as missed.
 pub record GetsPacket (e : EnabledRows) (old : Tracing) (b : Batch) (new : Tracing) : Type 0 where
   pub uuid : new.uuid ≡ old.uuid

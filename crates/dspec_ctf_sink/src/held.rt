@@ -1,6 +1,8 @@
 //! A file that is held open, and has whole writes alone.
 
-ghost use Rattle.std.specs.Prelude.{ℕ, ◌≤◌, ◌-◌, length, take, drop, IfErr, IfOk, OnErr, OnOk};
+ghost use Rattle.std.specs.Prelude.{ℕ, ◌≤◌, ◌≢◌, ◌-◌, length, take, drop, IfErr, IfOk, OnErr, OnOk};
+ghost use Rattle.std.specs.IoError.{error_kind};
+ghost use Rattle.std.specs.declared.io.ErrorKind.TheVariants.{Interrupted};
 ghost use Rattle.std.specs.Io.KnownBytes.{Appends, Keeps};
 ghost use Rattle.dspec_ctf_sink.specs.Held.{IsCut, IsLong, LeavesBytes};
 
@@ -21,12 +23,13 @@ pub(crate) trait Cuttable: Write {
         ensures kept { OnErr result (Keeps (Self.contents self.old) (Self.contents self.new)) };
 }
 
-/// Writes some of the bytes from a place on, and tells up to where they are written then.
+/// Writes some of the bytes from a place on, and tells up to where they are written then. A write that was interrupted wrote none, and is no fault.
 fn write_from<W: Write>(file: &mut W, bytes: &[u8], from: usize) -> io::Result<usize>
     requires { from ≤ length bytes.now }
     ensures within { IfOk result (λ to. (from ≤ to) × (to ≤ length bytes.now)) }
     ensures written { IfOk result (λ to. Appends (W.contents file.old) (W.contents file.new) (take (to - from) (drop from bytes.now))) }
     ensures kept { OnErr result (Keeps (W.contents file.old) (W.contents file.new)) }
+    ensures uninterrupted { IfErr result (λ fault. error_kind fault ≢ Interrupted) }
 {
     match file.write(&bytes[from..]) {
         Ok(0) => Err(io::Error::from(io::ErrorKind::WriteZero)),
@@ -40,6 +43,7 @@ fn write_from<W: Write>(file: &mut W, bytes: &[u8], from: usize) -> io::Result<u
 fn write_whole<W: Write>(file: &mut W, bytes: &[u8]) -> io::Result<()>
     ensures written { OnOk result (Appends (W.contents file.old) (W.contents file.new) bytes.now) }
     ensures begun { (n : ℕ) × Appends (W.contents file.old) (W.contents file.new) (take n bytes.now) }
+    ensures uninterrupted { IfErr result (λ fault. error_kind fault ≢ Interrupted) }
 {
     let mut at = 0;
     for _ in 0..u64::MAX {

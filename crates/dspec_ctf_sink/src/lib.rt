@@ -1,6 +1,6 @@
 //! A sink that writes a trace folder of the Common Trace Format while a session runs, so that other tools open what was kept.
 //!
-//! A folder has the file `metadata` and one file a CPU, `cpu_0`, `cpu_1`, ..; each batch becomes one packet, and that one write, as
+//! A folder has the file `metadata` and one file a CPU, `cpu_0`, `cpu_1`, ..; each batch becomes packets, and those one write, as
 //! it comes, so that memory doesn't grow with the trace. What a call adds to a folder stands in `specs/Writing.antt`. Stands on
 //! `dspec` and `dspec_ctf`.
 //!
@@ -10,15 +10,15 @@
 //! | `held.rt` | `HeldFile`: a file that is held open and has whole writes alone; what a failed write left is cut off |
 //! | `counted.rt` | `CountedFile`, a file of the system: the only calls that write it and cut it, and what their answers tell of its bytes |
 //! | `told.rt`, `asked.rt` | `Told` and `Asked`: what was answered of a file, and what a folder was asked for, for clauses alone; they have no bytes, and their two bodies each are proved by hand |
-//! | `tracing.rt`, `fault.rt` | `TraceFolder`, the sink: metadata first, then a packet a batch, one write each; what a refused write loses is counted, and the next batch is tried |
+//! | `tracing.rt`, `fault.rt` | `TraceFolder`, the sink: metadata first, then the packets of each batch, one write; what a refused write loses is counted, and the next batch is tried |
 //! | `losing.rt`, `telling.rt`, `laws.rt` | `Loss` and `Lossy`, which tell what wasn't written; `Telling`, a sink whose losses are printed while it runs; the law that nothing is lost uncounted |
-//! | `timed.rt` | `TimedFolder`, the sink by time: several files for each CPU, a packet for each run of a batch's records |
+//! | `timed.rt` | `TimedFolder`, the sink by time: several files for each CPU, packets for each run of a batch's records, one write |
 //! | `ending.rt` | `tell_untold`: what reports count as lost beyond what batches told (`specs/Ending`, `proofs/OneMore`) |
 //! | `identity.rt` | `Identity`: a uuid of the system's random bytes, the machine's name, the process's number |
 //! | `specs/`: Writes, Writing, Timed, Faults, Held | a write and its answer, and what writes leave of a file; what a call adds or loses; the same by time; which faults a place has; what a file has behind a write, and a folder's files of all that it was asked for |
 //! | `specs/`: Answered, Asked | one answer more, one write more |
 //! | `specs/`: Losses, Accounts | what is kept of losses; that records in packets and what is counted add up |
-//! | `proofs/` | Handing (a packet is handed to the place), Following (runs behind one another), Cutting (bytes behind others, cut off again), Batching, Counting, Timely and Accounting (what a batch adds, counts and loses), Written and Tying (files have what the folder was asked for), Walks (a step of the proofs by hand) |
+//! | `proofs/` | Handing (packets are handed to the place), Following (runs behind one another), Cutting (bytes behind others, cut off again), Batching, Counting, Timely and Accounting (what a batch adds, counts and loses), Written and Tying (files have what the folder was asked for), Walks (a step of the proofs by hand) |
 #![tactic(auto)]
 
 mod asked;

@@ -19,10 +19,10 @@ const MOST_CPUS: usize = 64;
 
 /// A sink that writes a trace by time while a session runs. The file `cpu_N_K` has some of CPU N's records, with stamps that don't
 /// fall: each record goes to the file that it carries on (`Rows`), and tools merge the files. Records of a batch that stand one behind
-/// another and go to one file are a packet, and that is one write. What a CPU missed is told by its file `cpu_N_0`, as soon as the batch
-/// that tells it is taken. Where a packet can't be written, the rest of its batch is lost, and counted: with the next batch of that CPU it is told
-/// as missed. What the last batch lost is told by `last_loss`, and what was lost in all by `finish`. It takes memory for the records of one
-/// batch, and one packet, at a time.
+/// another and go to one file are packets, and those are one write. Each packet has 1,024 bytes, so a write that a kill cuts off leaves whole packets.
+/// What a CPU missed is told by its file `cpu_N_0`, as soon as the batch that tells it is taken. Where packets can't be written, the rest of their batch is
+/// lost, and counted: with the next batch of that CPU it is told as missed. What the last batch lost is told by `last_loss`, and what was lost in all by
+/// `finish`. It takes memory for the records of one batch, and the packets of one run, at a time.
 #[derive(Drop)]
 pub struct TimedFolder<F: Folder> {
     alloc: Global,

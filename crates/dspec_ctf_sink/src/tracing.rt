@@ -12,10 +12,11 @@ use std::marker::Model;
 /// The most CPUs of a session.
 const MOST_CPUS: usize = 64;
 
-/// A sink that writes a trace as taken: each batch as one packet behind those before it in the file of its CPU, by one write. A batch
-/// without records and drops adds nothing, unless its CPU missed something that no packet tells yet. A batch that can't be written is
-/// counted: the next packet of its CPU that is written tells its records, and the drops that it carried, as missed. What the last batch lost
-/// is told by `last_loss`, and what was lost in all by `finish`. It takes memory for one packet at a time.
+/// A sink that writes a trace as taken: each batch as packets behind those before it in the file of its CPU, by one write. Each packet has 1,024 bytes, so
+/// a write that a kill cuts off leaves whole packets. A batch without records and drops adds nothing, unless its CPU missed something that no packet
+/// tells yet. A batch that can't be written is counted: the next packet of its CPU that is written tells its records, and the drops that it carried, as
+/// missed. What the last batch lost is told by `last_loss`, and what was lost in all by `finish`. It takes memory for the records of one batch, and its
+/// packets, at a time.
 #[derive(Drop)]
 pub struct TraceFolder<F: Folder> {
     alloc: Global,
@@ -100,14 +101,14 @@ impl<F: Folder> TraceFolder<F> {
             cpu,
             missed: *missed,
         };
-        let packet = match stream.packet(self.alloc, batch.drops, batch.buffer.bytes()) {
-            Ok(packet) => packet,
+        let packets = match stream.batch_packets(self.alloc, batch.drops, batch.buffer.bytes()) {
+            Ok(packets) => packets,
             Err(fault) => return Err(FolderFault::Packet { cpu, fault }),
         };
         let name = format!(in self.alloc; "cpu_{cpu}")?;
         if let Err(fault) = self
             .folder
-            .add(self.alloc, name.as_str(), packet.as_slice())
+            .add(self.alloc, name.as_str(), packets.as_slice())
         {
             return Err(fault);
         }

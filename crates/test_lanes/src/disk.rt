@@ -1,5 +1,5 @@
 //! A trace folder of the system: what its files have, and what isn't written to.
-use dspec_ctf_sink::{Folder, FolderFault, SystemFolder};
+use dspec_ctf_sink::{Folder, FolderFault, Identity, SystemFolder};
 use std::os::unix::fs::symlink;
 use std::test::Fail;
 use std::{fs, process};
@@ -110,5 +110,14 @@ fn whole_writes_alone(rt: HostRuntime) -> Result<(), Fail> {
     }
     assert!(rt; has(&rt, path.as_str(), "cpu_0", due.as_str())?);
     fs::remove_dir_all(&rt, path.as_str())?;
+    Ok(())
+}
+
+/// Each reading of who a process is has a uuid of its own, which isn't zeros.
+#[test]
+fn a_uuid_is_one_trace_s_alone(rt: HostRuntime) -> Result<(), Fail> {
+    let (one, other) = (Identity::of_system(&rt)?, Identity::of_system(&rt)?);
+    let (first, second) = (one.origin("one").uuid, other.origin("other").uuid);
+    assert!(rt; first != [0; 16] && first != second);
     Ok(())
 }

@@ -109,8 +109,8 @@ fn lost_of(ended: Option<Result<(), Loss>>) -> Option<(FolderFault, u64)> {
 
 #[test]
 fn a_packet_a_batch(rt: HostRuntime) -> Result<(), Fail> {
-    assert!(rt; written(&rt, rt.alloc(), 1, 10) == (Some(Ok(())), 2, 57));
-    assert!(rt; written(&rt, rt.alloc(), 2, 10) == (Some(Ok(())), 3, 114));
+    assert!(rt; written(&rt, rt.alloc(), 1, 10) == (Some(Ok(())), 2, 1024));
+    assert!(rt; written(&rt, rt.alloc(), 2, 10) == (Some(Ok(())), 3, 2048));
     Ok(())
 }
 
@@ -123,7 +123,7 @@ fn a_refused_write_is_told(rt: HostRuntime) -> Result<(), Fail> {
     assert!(rt; writes >= 3 && bytes == 0);
     assert!(rt; lost_of(ended) == Some((FolderFault::Write(5), 2)));
     let (ended, writes, bytes) = written(&rt, rt.alloc(), 2, 2);
-    assert!(rt; writes >= 3 && bytes == 57);
+    assert!(rt; writes >= 3 && bytes == 1024);
     assert!(rt; lost_of(ended) == Some((FolderFault::Write(5), 1)));
     Ok(())
 }

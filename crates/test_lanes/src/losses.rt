@@ -63,15 +63,9 @@ impl<'a> Folder for Flaky<'a> {
         if number < 64 && self.refused & (1 << number) != 0 {
             return Err(FolderFault::Write(FULL));
         }
-        // Two packets without events stand in one write where they tell what was missed.
-        let place = usize::from(self.place);
-        let silent = place + 12;
-        let place = if bytes.len() == 2 * silent {
-            silent + place
-        } else {
-            place
-        };
-        let missed = number_at(bytes, place);
+        // Packets of one write stand one behind another, of 1,024 bytes each.
+        let last = bytes.len().saturating_sub(1024);
+        let missed = number_at(&bytes[last..], usize::from(self.place));
         self.seen.missed.store(missed, Ordering::SeqCst);
         Ok(())
     }

@@ -107,14 +107,14 @@ fn ended<R: Threads + Sync>(
 }
 
 /// The stamps are 10, 5, 15, 20 in the order of the trace, and a fifth record has no room: the first file has 10, 15 and 20, in two
-/// packets, behind the two that tell of what was missed; the second has 5.
+/// packets, behind the two that tell of what was missed; the second has 5. Each packet has 1,024 bytes.
 #[test]
 fn a_file_a_row(rt: HostRuntime) -> Result<(), Fail> {
     let sizes = Sizes::new();
     let ended = ended(&rt, rt.alloc(), &sizes, 100);
     assert!(rt; ended == Some(Ok(())));
-    assert!(rt; sizes.of(1) == 136 + (68 + 16) + (68 + 2 * 16));
-    assert!(rt; sizes.of(2) == 68 + 16);
+    assert!(rt; sizes.of(1) == 4 * 1024);
+    assert!(rt; sizes.of(2) == 1024);
     assert!(rt; sizes.of(3) == 0);
     Ok(())
 }
@@ -132,6 +132,6 @@ fn a_refused_row(rt: HostRuntime) -> Result<(), Fail> {
     };
     assert!(rt; ended == Some(Err(loss)));
     assert!(rt; sizes.writes.load(Ordering::SeqCst) >= 4);
-    assert!(rt; sizes.of(1) == 136 + (68 + 16));
+    assert!(rt; sizes.of(1) == 3 * 1024);
     Ok(())
 }
