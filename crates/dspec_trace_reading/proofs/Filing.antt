@@ -9,7 +9,6 @@ use Rattle.std.proofs.lemmas.List.Elements.{All-append, All-cons, All-nil}
 use Rattle.dspec_record.specs.Record.{Record}
 use Rattle.dspec_record.specs.EnablingRows.{EnabledRows}
 use Rattle.dspec_record.specs.declared.header.Header.TheVariants as header
-use Rattle.dspec_ctf.specs.Packets.{events}
 use Rattle.dspec_ctf.specs.Rows.{missed_packets, of_file, run_files, run_packets, told_by}
 use Rattle.dspec_ctf.specs.Streams.{Accepts}
 use Rattle.dspec_ctf.specs.declared.form.Form.TheVariants.{ByTime}
@@ -99,9 +98,9 @@ module _ (laws : FilesLaws) (uuid : List ℕ) (e : EnabledRows) (names : Names) 
       }
 
   -- the packets of a batch's runs: its records stand behind those of the stream
-  pub add : (mid new : Option (List FileWrite)) (lasts after : List ℕ) (missed : ℕ) (stream read : List Record) → missed < 2 ^ 64 → length (events e read) < 2 ^ 60 → All (Accepts e) read
+  pub add : (mid new : Option (List FileWrite)) (lasts after : List ℕ) (missed : ℕ) (stream read : List Record) → missed < 2 ^ 64 → All (Accepts e) read
       → Filed uuid e names hertz c mid lasts missed stream → AddsAll uuid e missed c read 0 lasts mid after new → Filed uuid e names hertz c new after missed (stream ++ read)
-  add mid new lasts after missed stream read small short accepted f adds =
+  add mid new lasts after missed stream read small accepted f adds =
       let parts = shared laws.have_all laws.runs_have lasts read adds.runs after f.few f.first (stamps_low e read accepted) adds.are_runs in
       let ps : List (ℕ × List ℕ) = run_packets uuid e missed c read 0 adds.runs in
       let more : List ℕ = run_files 0 adds.runs in
@@ -116,7 +115,7 @@ module _ (laws : FilesLaws) (uuid : List ℕ) (e : EnabledRows) (names : Names) 
         tells = λ file is.
             let part : PartTells (layout_of e names (ByTime hertz)) uuid c (file_bytes file ps) (map (event_of e names (ByTime hertz)) (of_file file more read)) (told_by file missed) =
             subst (λ rs. PartTells (layout_of e names (ByTime hertz)) uuid c (file_bytes file ps) (map (event_of e names (ByTime hertz)) (of_file file more rs)) (told_by file missed)) parts.records
-            (laws.runs e names hertz uuid missed c read file lasts after 0 (length read) adds.runs stamped long small (omega (arith, low)) short accepted adds.are_runs) in
+            (laws.runs e names hertz uuid missed c read file lasts after 0 (length read) adds.runs stamped long small (omega (arith, low)) accepted adds.are_runs) in
             let split : map (event_of e names (ByTime hertz)) (of_file file f.files stream) ++ map (event_of e names (ByTime hertz)) (of_file file more read)
             ≡ map (event_of e names (ByTime hertz)) (of_file file (f.files ++ more) (stream ++ read)) =
             sym (ap (map (event_of e names (ByTime hertz))) (of_more file f.files more stream read f.each)

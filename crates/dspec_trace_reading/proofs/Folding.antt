@@ -18,13 +18,13 @@ use Rattle.dspec_buffer.proofs.Walks.{reads_back}
 use Rattle.dspec_ring.specs.declared.batch.Batch.{Batch}
 use Rattle.dspec_session_core.specs.Closing.{HoldInOrder}
 use Rattle.dspec.specs.Passed.{Passed, GotAll, passed_from}
-use Rattle.dspec_ctf.specs.Packets.{events, packet}
+use Rattle.dspec_ctf.specs.Filled.{filled_packets}
 use Rattle.dspec_ctf.specs.Streams.{Accepts, IsText}
 use Rattle.dspec_ctf_sink.specs.Accounts.{missed_on}
 use Rattle.dspec_ctf_sink.specs.Writes.{FileWrite, brought_to, file_of}
 use Rattle.dspec_ctf_sink.specs.Writing.{AddsPacket, GetsPacket, IsNothing, Tracing, cpu_name}
 use Rattle.dspec_ctf_sink.proofs.Written.{brought_elsewhere, brought_whole, file_of_more}
-use Rattle.dspec_trace_reading.specs.AsTaken.{AreShort, HaveNumbers, drops_carried}
+use Rattle.dspec_trace_reading.specs.AsTaken.{HaveNumbers, drops_carried}
 use Rattle.dspec_trace_reading.proofs.Naming.{names_differ, not_metadata}
 use Rattle.dspec_trace_reading.proofs.Asking.{came_whole, few, missed_before, missed_elsewhere, missed_here, stays_wide, took, unlost}
 
@@ -80,14 +80,14 @@ module _ (e : EnabledRows) where
   module _ (uuid : List ℕ) (c : ℕ) (low : c < 64) where
     -- a packet tells no more than the trace missed in the end, and its events can be read
     abbrev pub Fits : Tracing → ℕ × List Record → Type 0
-    Fits new p = (p.0 ≤ missed_on new c) × (length (events e p.1) < 2 ^ 60) × All (Accepts e) p.1
+    Fits new p = (p.0 ≤ missed_on new c) × All (Accepts e) p.1
 
     -- the packets that a CPU's batches brought to its file, of these records
     pub record Brought (old new : Tracing) (bs : List Batch) (rs : List Record) (was : List FileWrite) : Type 0 where
       pub packets : List (ℕ × List Record)
       pub writes : List FileWrite
       pub asked : new.written ≡ Some writes
-      pub bytes : file_of (cpu_name c) writes ≡ file_of (cpu_name c) was ++ flat_map (λ p. packet uuid e p.0 c p.1) packets
+      pub bytes : file_of (cpu_name c) writes ≡ file_of (cpu_name c) was ++ flat_map (λ p. filled_packets false e uuid p.0 c p.1) packets
       pub has : flat_map (λ p. p.1) packets ≡ rs
       pub counted : missed_on new c ≡ missed_on old c + drops_carried bs
       pub told : last_from (missed_on old c) packets ≡ missed_on new c
@@ -100,7 +100,7 @@ module _ (e : EnabledRows) where
       packets = b.packets;
       writes = b.writes;
       asked = b.asked;
-      bytes = b.bytes ∙ ap (λ xs. xs ++ flat_map (λ p. packet uuid e p.0 c p.1) b.packets) file;
+      bytes = b.bytes ∙ ap (λ xs. xs ++ flat_map (λ p. filled_packets false e uuid p.0 c p.1) b.packets) file;
       has = b.has ∙ sym same;
       counted = b.counted ∙ ap (λ n. n + drops_carried bs) missed ∙ ap (λ n. missed_on old c + n) (sym drops);
       told = ap (λ n. last_from n b.packets) (sym missed) ∙ b.told;
@@ -109,54 +109,55 @@ module _ (e : EnabledRows) where
 
     -- a call that brought it a packet
     brings : (old mid new : Tracing) (one : Batch) (bs : List Batch) (rs read rest : List Record) (total : ℕ) (was next : List FileWrite)
-        → file_of (cpu_name c) next ≡ file_of (cpu_name c) was ++ packet uuid e total c read → missed_on mid c ≡ total → total ≡ missed_on old c + one.drops
-        → length (events e read) < 2 ^ 60 → All (Accepts e) read → rs ≡ read ++ rest → Brought mid new bs rest next → Brought old new (one ∷ bs) rs was
-    brings old mid new one bs rs read rest total was next file missed sum small accepted same b = record {
+        → file_of (cpu_name c) next ≡ file_of (cpu_name c) was ++ filled_packets false e uuid total c read → missed_on mid c ≡ total → total ≡ missed_on old c + one.drops
+        → All (Accepts e) read → rs ≡ read ++ rest → Brought mid new bs rest next → Brought old new (one ∷ bs) rs was
+    brings old mid new one bs rs read rest total was next file missed sum accepted same b = record {
       packets = (total, read) ∷ b.packets;
       writes = b.writes;
       asked = b.asked;
-      bytes = b.bytes ∙ ap (λ xs. xs ++ flat_map (λ p. packet uuid e p.0 c p.1) b.packets) file
-          ∙ append_assoc (file_of (cpu_name c) was) (packet uuid e total c read) (flat_map (λ p. packet uuid e p.0 c p.1) b.packets);
+      bytes = b.bytes ∙ ap (λ xs. xs ++ flat_map (λ p. filled_packets false e uuid p.0 c p.1) b.packets) file
+          ∙ append_assoc (file_of (cpu_name c) was) (filled_packets false e uuid total c read) (flat_map (λ p. filled_packets false e uuid p.0 c p.1) b.packets);
       has = ap (λ xs. read ++ xs) b.has ∙ sym same;
       counted = omega (arith, b.counted, missed, sum);
       told = ap (λ n. last_from n b.packets) (sym missed) ∙ b.told;
-      each = All-cons (Fits new) (total, read) b.packets (omega (arith, b.counted, missed), small, accepted) b.each;
+      each = All-cons (Fits new) (total, read) b.packets (omega (arith, b.counted, missed), accepted) b.each;
     }
 
     after : (old mid new : Tracing) (x : Passed) (xs : List Passed) (was : List FileWrite) (rs : List Record) → old.uuid ≡ uuid → length old.missed ≡ 64 → old.written ≡ Some was
-        → x.batch.cpu ≡ x.from → ((read : List Record) → IsText e x.batch.buffer.text read → length (events e read) < 2 ^ 60)
+        → x.batch.cpu ≡ x.from
         → ((next : List FileWrite) (more : List Record) → length mid.missed ≡ 64 → mid.written ≡ Some next → Holds (passed_from c xs) more → Brought mid new (passed_from c xs) more next)
         → (IsNothing old x.batch × (mid ≡ record old { last = None })) ⊎ AddsPacket e old x.batch mid → (q : Bool) → (x.from == c) ≡ q
         → Holds (if q then x.batch ∷ passed_from c xs else passed_from c xs) rs → Brought old new (if q then x.batch ∷ passed_from c xs else passed_from c xs) rs was
-    after old mid new x xs was rs u wide asked own short more_brought (inl nothing) false is holds =
+    after old mid new x xs was rs u wide asked own more_brought (inl nothing) false is holds =
         skips old mid new (passed_from c xs) (passed_from c xs) rs rs was was refl (ap (λ (t : Tracing). missed_on t c) nothing.1) refl refl
         (more_brought was rs (ap (λ (t : Tracing). length t.missed) nothing.1 ∙ wide) (ap (λ (t : Tracing). t.written) nothing.1 ∙ asked) holds)
-    after old mid new x xs was rs u wide asked own short more_brought (inl nothing) true is (ps, more, has, sum, holds) =
+    after old mid new x xs was rs u wide asked own more_brought (inl nothing) true is (ps, more, has, sum, holds) =
         let empty : [] ≡ reverse (records ps) = one_text x.batch ps [] has nothing.0.0 in
         skips old mid new (passed_from c xs) (x.batch ∷ passed_from c xs) rs more was was refl (ap (λ (t : Tracing). missed_on t c) nothing.1) (omega (arith, nothing.0.1))
         (sum ∙ ap (λ ys. ys ++ more) (sym empty))
         (more_brought was more (ap (λ (t : Tracing). length t.missed) nothing.1 ∙ wide) (ap (λ (t : Tracing). t.written) nothing.1 ∙ asked) holds)
-    after old mid new x xs was rs u wide asked own short more_brought (inr adds) false is holds =
+    after old mid new x xs was rs u wide asked own more_brought (inr adds) false is holds =
         let w : FileWrite = record { name = cpu_name x.batch.cpu; bytes = adds.bytes; refused = None } in
         let apart : x.batch.cpu ≢ c = λ s. eqb-false x.from c is (sym own ∙ s) in
         let other : brought_to (cpu_name c) w ≡ [] = brought_elsewhere (cpu_name c) w (names_differ x.batch.cpu c (few e old mid x.batch adds wide) low apart) in
         skips old mid new (passed_from c xs) (passed_from c xs) rs rs was (was ++ w ∷ [])
         (file_of_more (cpu_name c) was w ∙ ap (λ ys. file_of (cpu_name c) was ++ ys) other ∙ append-nil (file_of (cpu_name c) was)) (missed_elsewhere e old mid x.batch adds wide c apart) refl refl
         (more_brought (was ++ w ∷ []) rs (stays_wide e old mid x.batch adds wide) (took old.written mid.written was (cpu_name x.batch.cpu) adds.bytes asked adds.written) holds)
-    after old mid new x xs was rs u wide asked own short more_brought (inr adds) true is (ps, more, has, sum, holds) =
+    after old mid new x xs was rs u wide asked own more_brought (inr adds) true is (ps, more, has, sum, holds) =
         let w : FileWrite = record { name = cpu_name x.batch.cpu; bytes = adds.bytes; refused = None } in
         let p = adds.packet_is.packet_is in
         let here : x.batch.cpu ≡ c = own ∙ eqb-true x.from c is in
-        let bytes : adds.bytes ≡ packet uuid e adds.total c p.read = p.bytes_are ∙ ap (λ n. packet old.uuid e adds.total n p.read) here ∙ ap (λ id. packet id e adds.total c p.read) u in
+        let bytes : adds.bytes ≡ filled_packets false e uuid adds.total c p.read =
+        p.bytes_are ∙ ap (λ n. filled_packets false e old.uuid adds.total n p.read) here ∙ ap (λ id. filled_packets false e id adds.total c p.read) u in
         brings old mid new x.batch (passed_from c xs) rs p.read more adds.total was (was ++ w ∷ [])
         (file_of_more (cpu_name c) was w ∙ ap (λ ys. file_of (cpu_name c) was ++ ys) (brought_whole (cpu_name x.batch.cpu) (cpu_name c) adds.bytes (ap cpu_name here) ∙ bytes))
-        (missed_here e old mid x.batch adds wide c here) (missed_before e old mid x.batch adds wide c here) (short p.read p.is_text) (all_accepted p.read 0 x.batch.buffer.text p.is_text)
+        (missed_here e old mid x.batch adds wide c here) (missed_before e old mid x.batch adds wide c here) (all_accepted p.read 0 x.batch.buffer.text p.is_text)
         (sum ∙ ap (λ ys. ys ++ more) (sym (one_text x.batch ps p.read has p.is_text)))
         (more_brought (was ++ w ∷ []) more (stays_wide e old mid x.batch adds wide) (took old.written mid.written was (cpu_name x.batch.cpu) adds.bytes asked adds.written) holds)
 
     pub brought : (bs : List Passed) (old new : Tracing) (was : List FileWrite) (rs : List Record) → GotAll (GetsPacket e) old bs new → new.lost ≡ None → old.uuid ≡ uuid
-        → length old.missed ≡ 64 → old.written ≡ Some was → HaveNumbers bs → AreShort e bs → Holds (passed_from c bs) rs → Brought old new (passed_from c bs) rs was
-    brought [] old new was rs got none u wide asked own short hold = subst (λ t. Brought old t [] rs was) got (record {
+        → length old.missed ≡ 64 → old.written ≡ Some was → HaveNumbers bs → Holds (passed_from c bs) rs → Brought old new (passed_from c bs) rs was
+    brought [] old new was rs got none u wide asked own hold = subst (λ t. Brought old t [] rs was) got (record {
       packets = [];
       writes = was;
       asked = asked;
@@ -166,7 +167,7 @@ module _ (e : EnabledRows) where
       told = refl;
       each = All-nil (Fits old);
     })
-    brought (x ∷ xs) old new was rs (mid, gets, rest) none u wide asked (own, owns) (short, shorts) hold =
-        after old mid new x xs was rs u wide asked own short
-        (λ next more still there holds. brought xs mid new next more rest none (gets.uuid ∙ u) still there owns shorts holds)
+    brought (x ∷ xs) old new was rs (mid, gets, rest) none u wide asked (own, owns) hold =
+        after old mid new x xs was rs u wide asked own
+        (λ next more still there holds. brought xs mid new next more rest none (gets.uuid ∙ u) still there owns holds)
         (came_whole e old mid x.batch gets (unlost e xs mid new rest none)) (x.from == c) refl hold

@@ -13,13 +13,13 @@ use Rattle.dspec_buffer.specs.Stored.{HasPieces}
 use Rattle.dspec_buffer.proofs.Walks.{reads_back}
 use Rattle.dspec_ring.specs.declared.batch.Batch.{Batch}
 use Rattle.dspec.specs.Passed.{Passed, GotAll, passed_from}
-use Rattle.dspec_ctf.specs.Packets.{events, packet}
+use Rattle.dspec_ctf.specs.Filled.{filled_packets}
 use Rattle.dspec_ctf.specs.Streams.{Accepts, IsText}
 use Rattle.dspec_ctf_sink.specs.Accounts.{missed_on}
 use Rattle.dspec_ctf_sink.specs.Writes.{FileWrite, brought_to, file_of}
 use Rattle.dspec_ctf_sink.specs.Writing.{AddsPacket, GetsPacket, IsNothing, LosesPacket, Tracing, cpu_name}
 use Rattle.dspec_ctf_sink.proofs.Written.{brought_elsewhere, brought_whole, file_of_more}
-use Rattle.dspec_trace_reading.specs.AsTaken.{AreKept, AreShort, HaveNumbers, drops_carried, told_on}
+use Rattle.dspec_trace_reading.specs.AsTaken.{AreKept, HaveNumbers, drops_carried, told_on}
 use Rattle.dspec_trace_reading.proofs.Naming.{names_differ, not_metadata}
 use Rattle.dspec_trace_reading.proofs.Asking.{few, missed_before, missed_elsewhere, missed_here, stays_wide, took}
 use Rattle.dspec_trace_reading.proofs.Losing.{files_stay, others_missed, own_missed, still_wide}
@@ -54,7 +54,7 @@ module _ (e : EnabledRows) where
 
   module _ (uuid : List ℕ) (c : ℕ) (low : c < 64) where
     abbrev pub Told : Tracing → ℕ × List Record → Type 0
-    Told new p = (p.0 ≤ missed_on new c) × (length (events e p.1) < 2 ^ 60) × All (Accepts e) p.1
+    Told new p = (p.0 ≤ missed_on new c) × All (Accepts e) p.1
 
     -- the packets that were taken of a CPU's batches, and how many records were lost
     pub record Kept (old new : Tracing) (bs : List Batch) (was : List FileWrite) : Type 0 where
@@ -62,7 +62,7 @@ module _ (e : EnabledRows) where
       pub lost : ℕ
       pub writes : List FileWrite
       pub asked : new.written ≡ Some writes
-      pub bytes : file_of (cpu_name c) writes ≡ file_of (cpu_name c) was ++ flat_map (λ p. packet uuid e p.0 c p.1) packets
+      pub bytes : file_of (cpu_name c) writes ≡ file_of (cpu_name c) was ++ flat_map (λ p. filled_packets false e uuid p.0 c p.1) packets
       pub are_kept : AreKept e bs (flat_map (λ p. p.1) packets) lost
       pub counted : missed_on new c ≡ missed_on old c + drops_carried bs + lost
       pub told : last_from (told_on old c) packets ≡ told_on new c
@@ -76,7 +76,7 @@ module _ (e : EnabledRows) where
       lost = k.lost;
       writes = k.writes;
       asked = k.asked;
-      bytes = k.bytes ∙ ap (λ xs. xs ++ flat_map (λ p. packet uuid e p.0 c p.1) k.packets) file;
+      bytes = k.bytes ∙ ap (λ xs. xs ++ flat_map (λ p. filled_packets false e uuid p.0 c p.1) k.packets) file;
       are_kept = k.are_kept;
       counted = omega (arith, k.counted, missed);
       told = ap (λ n. last_from n k.packets) (sym told) ∙ k.told;
@@ -92,7 +92,7 @@ module _ (e : EnabledRows) where
       lost = length rs + k.lost;
       writes = k.writes;
       asked = k.asked;
-      bytes = k.bytes ∙ ap (λ xs. xs ++ flat_map (λ p. packet uuid e p.0 c p.1) k.packets) file;
+      bytes = k.bytes ∙ ap (λ xs. xs ++ flat_map (λ p. filled_packets false e uuid p.0 c p.1) k.packets) file;
       are_kept = (rs, flat_map (λ p. p.1) k.packets, k.lost, text, k.are_kept, inr (refl, refl));
       counted = omega (arith, k.counted, missed);
       told = ap (λ n. last_from n k.packets) (sym told) ∙ k.told;
@@ -101,35 +101,35 @@ module _ (e : EnabledRows) where
 
     -- one of its own whose packet was taken
     keeps_one : (old mid new : Tracing) (b : Batch) (bs : List Batch) (read : List Record) (total : ℕ) (was next : List FileWrite) → IsText e b.buffer.text read
-        → file_of (cpu_name c) next ≡ file_of (cpu_name c) was ++ packet uuid e total c read → missed_on mid c ≡ total → total ≡ missed_on old c + b.drops → told_on mid c ≡ total
-        → length (events e read) < 2 ^ 60 → Kept mid new bs next → Kept old new (b ∷ bs) was
-    keeps_one old mid new b bs read total was next text file missed sum told small k = record {
+        → file_of (cpu_name c) next ≡ file_of (cpu_name c) was ++ filled_packets false e uuid total c read → missed_on mid c ≡ total → total ≡ missed_on old c + b.drops → told_on mid c ≡ total
+        → Kept mid new bs next → Kept old new (b ∷ bs) was
+    keeps_one old mid new b bs read total was next text file missed sum told k = record {
       packets = (total, read) ∷ k.packets;
       lost = k.lost;
       writes = k.writes;
       asked = k.asked;
-      bytes = k.bytes ∙ ap (λ xs. xs ++ flat_map (λ p. packet uuid e p.0 c p.1) k.packets) file
-          ∙ append_assoc (file_of (cpu_name c) was) (packet uuid e total c read) (flat_map (λ p. packet uuid e p.0 c p.1) k.packets);
+      bytes = k.bytes ∙ ap (λ xs. xs ++ flat_map (λ p. filled_packets false e uuid p.0 c p.1) k.packets) file
+          ∙ append_assoc (file_of (cpu_name c) was) (filled_packets false e uuid total c read) (flat_map (λ p. filled_packets false e uuid p.0 c p.1) k.packets);
       are_kept = (read, flat_map (λ p. p.1) k.packets, k.lost, text, k.are_kept, inl (refl, refl));
       counted = omega (arith, k.counted, missed, sum);
       told = ap (λ n. last_from n k.packets) (sym told) ∙ k.told;
-      each = All-cons (Told new) (total, read) k.packets (omega (arith, k.counted, missed), small, all_accepted e read 0 b.buffer.text text) k.each;
+      each = All-cons (Told new) (total, read) k.packets (omega (arith, k.counted, missed), all_accepted e read 0 b.buffer.text text) k.each;
     }
 
     next_kept : (old mid new : Tracing) (x : Passed) (xs : List Passed) (was : List FileWrite) (rs : List Record) → old.uuid ≡ uuid → length old.missed ≡ 64 → length old.told ≡ 64
-        → old.written ≡ Some was → missed_on new c + 1 < 2 ^ 64 → x.batch.cpu ≡ x.from → ((read : List Record) → IsText e x.batch.buffer.text read → length (events e read) < 2 ^ 60)
+        → old.written ≡ Some was → missed_on new c + 1 < 2 ^ 64 → x.batch.cpu ≡ x.from
         → ((next : List FileWrite) (more : List Record) → length mid.missed ≡ 64 → length mid.told ≡ 64 → mid.written ≡ Some next → Holds e (passed_from c xs) more
         → Kept mid new (passed_from c xs) next)
         → Came e old x.batch mid → (q : Bool) → (x.from == c) ≡ q
         → Holds e (if q then x.batch ∷ passed_from c xs else passed_from c xs) rs → Kept old new (if q then x.batch ∷ passed_from c xs else passed_from c xs) was
-    next_kept old mid new x xs was rs u wide broad asked small own short more_kept (inl nothing) false is holds =
+    next_kept old mid new x xs was rs u wide broad asked small own more_kept (inl nothing) false is holds =
         passes old mid new (passed_from c xs) was was refl (ap (λ (t : Tracing). missed_on t c) nothing.1) (ap (λ (t : Tracing). told_on t c) nothing.1)
         (more_kept was rs (ap (λ (t : Tracing). length t.missed) nothing.1 ∙ wide) (ap (λ (t : Tracing). length t.told) nothing.1 ∙ broad) (ap (λ (t : Tracing). t.written) nothing.1 ∙ asked) holds)
-    next_kept old mid new x xs was rs u wide broad asked small own short more_kept (inl nothing) true is (ps, more, has, sum, holds) =
+    next_kept old mid new x xs was rs u wide broad asked small own more_kept (inl nothing) true is (ps, more, has, sum, holds) =
         let same : missed_on mid c ≡ missed_on old c = ap (λ (t : Tracing). missed_on t c) nothing.1 in
         loses_one old mid new x.batch (passed_from c xs) [] was was nothing.0.0 refl (omega (arith, same, nothing.0.1)) (ap (λ (t : Tracing). told_on t c) nothing.1)
         (more_kept was more (ap (λ (t : Tracing). length t.missed) nothing.1 ∙ wide) (ap (λ (t : Tracing). length t.told) nothing.1 ∙ broad) (ap (λ (t : Tracing). t.written) nothing.1 ∙ asked) holds)
-    next_kept old mid new x xs was rs u wide broad asked small own short more_kept (inr (some, inl adds)) false is holds =
+    next_kept old mid new x xs was rs u wide broad asked small own more_kept (inr (some, inl adds)) false is holds =
         let w : FileWrite = record { name = cpu_name x.batch.cpu; bytes = adds.bytes; refused = None } in
         let apart : x.batch.cpu ≢ c = λ s. eqb-false x.from c is (sym own ∙ s) in
         let other : brought_to (cpu_name c) w ≡ [] = brought_elsewhere (cpu_name c) w (names_differ x.batch.cpu c (few e old mid x.batch adds wide) low apart) in
@@ -138,26 +138,26 @@ module _ (e : EnabledRows) where
         (ap (λ (ns : List ℕ). slice_index ns c) adds.told ∙ get_or-set_other old.told x.batch.cpu c adds.total 0 (λ s. apart (sym s)))
         (more_kept (was ++ w ∷ []) rs (stays_wide e old mid x.batch adds wide) (ap length adds.told ∙ length-set old.told x.batch.cpu adds.total ∙ broad)
         (took old.written mid.written was (cpu_name x.batch.cpu) adds.bytes asked adds.written) holds)
-    next_kept old mid new x xs was rs u wide broad asked small own short more_kept (inr (some, inl adds)) true is (ps, more, has, sum, holds) =
+    next_kept old mid new x xs was rs u wide broad asked small own more_kept (inr (some, inl adds)) true is (ps, more, has, sum, holds) =
         let w : FileWrite = record { name = cpu_name x.batch.cpu; bytes = adds.bytes; refused = None } in
         let p = adds.packet_is.packet_is in
         let here : x.batch.cpu ≡ c = own ∙ eqb-true x.from c is in
         let there : x.batch.cpu < length old.told = omega (arith, low, here, broad) in
-        let bytes : adds.bytes ≡ packet uuid e adds.total c p.read = p.bytes_are ∙ ap (λ n. packet old.uuid e adds.total n p.read) here ∙ ap (λ id. packet id e adds.total c p.read) u in
+        let bytes : adds.bytes ≡ filled_packets false e uuid adds.total c p.read =
+        p.bytes_are ∙ ap (λ n. filled_packets false e old.uuid adds.total n p.read) here ∙ ap (λ id. filled_packets false e id adds.total c p.read) u in
         keeps_one old mid new x.batch (passed_from c xs) p.read adds.total was (was ++ w ∷ []) p.is_text
         (file_of_more (cpu_name c) was w ∙ ap (λ ys. file_of (cpu_name c) was ++ ys) (brought_whole (cpu_name x.batch.cpu) (cpu_name c) adds.bytes (ap cpu_name here) ∙ bytes))
         (missed_here e old mid x.batch adds wide c here) (missed_before e old mid x.batch adds wide c here)
         (subst (λ n. slice_index mid.told n ≡ adds.total) here (ap (λ (ns : List ℕ). slice_index ns x.batch.cpu) adds.told ∙ get_or-set_same old.told x.batch.cpu adds.total 0 there))
-        (short p.read p.is_text)
         (more_kept (was ++ w ∷ []) more (stays_wide e old mid x.batch adds wide) (ap length adds.told ∙ length-set old.told x.batch.cpu adds.total ∙ broad)
         (took old.written mid.written was (cpu_name x.batch.cpu) adds.bytes asked adds.written) holds)
-    next_kept old mid new x xs was rs u wide broad asked small own short more_kept (inr (some, inr loses)) false is holds =
+    next_kept old mid new x xs was rs u wide broad asked small own more_kept (inr (some, inr loses)) false is holds =
         let kept = files_stay e old mid x.batch was asked loses in
         let apart : x.batch.cpu ≢ c = λ s. eqb-false x.from c is (sym own ∙ s) in
         passes old mid new (passed_from c xs) was kept.0 (kept.1.1 (cpu_name c)) (others_missed e old mid x.batch loses wide c apart)
         (ap (λ (ns : List ℕ). slice_index ns c) loses.counted.told)
         (more_kept kept.0 rs (still_wide e old mid x.batch loses wide) (ap length loses.counted.told ∙ broad) kept.1.0 holds)
-    next_kept old mid new x xs was rs u wide broad asked small own short more_kept (inr (some, inr loses)) true is (ps, more, has, sum, holds) =
+    next_kept old mid new x xs was rs u wide broad asked small own more_kept (inr (some, inr loses)) true is (ps, more, has, sum, holds) =
         let kept = files_stay e old mid x.batch was asked loses in
         let here : x.batch.cpu ≡ c = own ∙ eqb-true x.from c is in
         let later : Kept mid new (passed_from c xs) kept.0 =
@@ -168,8 +168,8 @@ module _ (e : EnabledRows) where
         (ap (λ (ns : List ℕ). slice_index ns c) loses.counted.told) later
 
     pub all_kept : (bs : List Passed) (old new : Tracing) (was : List FileWrite) (rs : List Record) → GotAll (GetsPacket e) old bs new → old.uuid ≡ uuid → length old.missed ≡ 64
-        → length old.told ≡ 64 → old.written ≡ Some was → missed_on new c + 1 < 2 ^ 64 → HaveNumbers bs → AreShort e bs → Holds e (passed_from c bs) rs → Kept old new (passed_from c bs) was
-    all_kept [] old new was rs got u wide broad asked small own short hold = subst (λ t. Kept old t [] was) got (record {
+        → length old.told ≡ 64 → old.written ≡ Some was → missed_on new c + 1 < 2 ^ 64 → HaveNumbers bs → Holds e (passed_from c bs) rs → Kept old new (passed_from c bs) was
+    all_kept [] old new was rs got u wide broad asked small own hold = subst (λ t. Kept old t [] was) got (record {
       packets = [];
       lost = 0;
       writes = was;
@@ -180,7 +180,7 @@ module _ (e : EnabledRows) where
       told = refl;
       each = All-nil (Told old);
     })
-    all_kept (x ∷ xs) old new was rs (mid, gets, rest) u wide broad asked small (own, owns) (short, shorts) hold =
-        next_kept old mid new x xs was rs u wide broad asked small own short
-        (λ next more still large there holds. all_kept xs mid new next more rest (gets.uuid ∙ u) still large there small owns shorts holds)
+    all_kept (x ∷ xs) old new was rs (mid, gets, rest) u wide broad asked small (own, owns) hold =
+        next_kept old mid new x xs was rs u wide broad asked small own
+        (λ next more still large there holds. all_kept xs mid new next more rest (gets.uuid ∙ u) still large there small owns holds)
         gets.came (x.from == c) refl hold

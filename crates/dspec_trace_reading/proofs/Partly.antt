@@ -1,12 +1,12 @@
 -- A folder that was written as batches were taken, of which some may be lost, and what is read of it.
-use Rattle.std.proofs.Common.{◌≡◌, ◌<◌, ◌+◌, ◌^◌, ℕ, List, [], ◌∷◌, ◌++◌, Some, sym, ap, ◌∙◌, subst, arith, length, map, slice_get, All}
+use Rattle.std.proofs.Common.{◌≡◌, ◌<◌, ◌+◌, ◌^◌, ℕ, List, [], ◌∷◌, ◌++◌, false, Some, sym, ap, ◌∙◌, subst, arith, length, map, slice_get, All}
 use Rattle.std.specs.List.{flat_map}
 use Rattle.std.proofs.lemmas.List.Elements.{All-weaker}
 use Rattle.dspec_record.specs.Record.{Record}
 use Rattle.dspec_record.specs.EnablingRows.{EnabledRows}
 use Rattle.dspec_session_core.specs.declared.left.Left.{Left}
 use Rattle.dspec.specs.Passed.{Passed, GotAll, passed_from}
-use Rattle.dspec_ctf.specs.Packets.{events, packet}
+use Rattle.dspec_ctf.specs.Filled.{filled_packets}
 use Rattle.dspec_ctf.specs.Streams.{Accepts}
 use Rattle.dspec_ctf.specs.declared.form.Form.TheVariants.{AsTaken}
 use Rattle.dspec_ctf.specs.declared.names.Names.{Names}
@@ -18,7 +18,7 @@ use Rattle.dspec_ctf_reading.specs.ToldNumbers.{HasNumbers}
 use Rattle.dspec_ctf_sink.specs.Accounts.{missed_on}
 use Rattle.dspec_ctf_sink.specs.Writes.{file_of}
 use Rattle.dspec_ctf_sink.specs.Writing.{GetsPacket, IsBegun, Tracing, cpu_name}
-use Rattle.dspec_trace_reading.specs.AsTaken.{AreShort, HaveNumbers, ReadsAllKept, ReadsKept, told_on}
+use Rattle.dspec_trace_reading.specs.AsTaken.{HaveNumbers, ReadsAllKept, ReadsKept, told_on}
 use Rattle.dspec_trace_reading.proofs.Begun.{asked, first, metadata_is, none_missed, none_told, nothing_yet}
 use Rattle.dspec_trace_reading.proofs.Folding.{Holds, Stays, last_from}
 use Rattle.dspec_trace_reading.proofs.Keeping.{Kept, Told, all_kept, metadata_kept}
@@ -29,18 +29,18 @@ module _ (metadata_law : MetadataReads) (files_law : FilesRead) (origin : Origin
   pub all_writes : Stays e ended (first origin e names ∷ [])
   all_writes = metadata_kept e passed begun ended (first origin e names ∷ []) got (asked origin e names begun is)
 
-  module _ (c : ℕ) (low : c < 64) (rs : List Record) (long : length origin.uuid ≡ 16) (small : missed_on ended c + 1 < 2 ^ 64) (own : HaveNumbers passed) (short : AreShort e passed)
+  module _ (c : ℕ) (low : c < 64) (rs : List Record) (long : length origin.uuid ≡ 16) (small : missed_on ended c + 1 < 2 ^ 64) (own : HaveNumbers passed)
       (hold : Holds e (passed_from c passed) rs) where
     kept : Kept e origin.uuid c low begun ended (passed_from c passed) (first origin e names ∷ [])
     kept =
-        all_kept e origin.uuid c low passed begun ended (first origin e names ∷ []) rs got is.uuid_is (ap length is.missed) (ap length is.told) (asked origin e names begun is) small own short hold
+        all_kept e origin.uuid c low passed begun ended (first origin e names ∷ []) rs got is.uuid_is (ap length is.missed) (ap length is.told) (asked origin e names begun is) small own hold
 
-    tells_kept : FileTells (layout_of e names AsTaken) origin.uuid c (flat_map (λ p. packet origin.uuid e p.0 c p.1) kept.packets)
+    tells_kept : FileTells (layout_of e names AsTaken) origin.uuid c (flat_map (λ p. filled_packets false e origin.uuid p.0 c p.1) kept.packets)
         (map (event_of e names AsTaken) (flat_map (λ p. p.1) kept.packets)) (last_missed kept.packets)
     tells_kept =
         files_law e names origin.uuid c kept.packets long (omega (arith, low))
-        (All-weaker (Told e origin.uuid c low ended) (λ p. (p.0 < 2 ^ 64) × (length (events e p.1) < 2 ^ 60) × All (Accepts e) p.1)
-        (λ p h. (omega (arith, h.0, small), h.1, h.2)) kept.packets kept.each)
+        (All-weaker (Told e origin.uuid c low ended) (λ p. (p.0 < 2 ^ 64) × All (Accepts e) p.1)
+        (λ p h. (omega (arith, h.0, small), h.1)) kept.packets kept.each)
 
     told_is : last_missed kept.packets ≡ told_on ended c
     told_is = last_same kept.packets ∙ ap (λ n. last_from n kept.packets) (sym (none_told origin e names begun is c)) ∙ kept.told
@@ -52,8 +52,8 @@ module _ (metadata_law : MetadataReads) (files_law : FilesRead) (origin : Origin
 
     pub stream_kept : ReadsKept origin.uuid e names c (passed_from c passed) (file_of (cpu_name c) all_writes.0) ended
     stream_kept =
-        let bytes : file_of (cpu_name c) all_writes.0 ≡ flat_map (λ p. packet origin.uuid e p.0 c p.1) kept.packets =
-        ap (λ ws. file_of (cpu_name c) ws) same_writes ∙ kept.bytes ∙ ap (λ xs. xs ++ flat_map (λ p. packet origin.uuid e p.0 c p.1) kept.packets) (nothing_yet origin e names c) in
+        let bytes : file_of (cpu_name c) all_writes.0 ≡ flat_map (λ p. filled_packets false e origin.uuid p.0 c p.1) kept.packets =
+        ap (λ ws. file_of (cpu_name c) ws) same_writes ∙ kept.bytes ∙ ap (λ xs. xs ++ flat_map (λ p. filled_packets false e origin.uuid p.0 c p.1) kept.packets) (nothing_yet origin e names c) in
         record {
           kept = flat_map (λ p. p.1) kept.packets;
           lost = kept.lost;
@@ -66,12 +66,12 @@ module _ (metadata_law : MetadataReads) (files_law : FilesRead) (origin : Origin
         }
 
   pub reads_kept : (left : List Left) (seen : (c : ℕ) (l : Left) → slice_get left c ≡ Some l → List Record) → length origin.uuid ≡ 16 → HasNumbers origin AsTaken e names
-      → ((c : ℕ) → missed_on ended c + 1 < 2 ^ 64) → HaveNumbers passed → AreShort e passed
+      → ((c : ℕ) → missed_on ended c + 1 < 2 ^ 64) → HaveNumbers passed
       → ((c : ℕ) (l : Left) (there : slice_get left c ≡ Some l) → Holds e (passed_from c passed) (seen c l there))
       → ReadsAllKept origin.uuid e names left (λ c. passed_from c passed) ended
-  reads_kept left seen long numbers small own short holds = record {
+  reads_kept left seen long numbers small own holds = record {
     writes = all_writes.0;
     asked = all_writes.1.0;
     metadata = ap read_metadata (all_writes.1.1 ∙ metadata_is origin e names) ∙ metadata_law origin AsTaken e names is.allowed numbers;
-    streams = λ c l low there. stream_kept c low (seen c l there) long (small c) own short (holds c l there);
+    streams = λ c l low there. stream_kept c low (seen c l there) long (small c) own (holds c l there);
   }

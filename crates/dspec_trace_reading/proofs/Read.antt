@@ -32,16 +32,16 @@ module _ (e : EnabledRows) (does : ℕ → CallsMade → CallsMade → Type 0) w
         subst (λ bs. Holds e bs (t.promised.each c l there).seen) (append_assoc (t.taken c) (waiting l.rest) (l.last ∷ []) ∙ sym (t.whole c l there)) (t.promised.each c l there).hold
 
   pub taken_read : MetadataReads → FilesRead → TakenIsRead e does
-  taken_read metadata files origin names k begun ended left is t h none long numbers small short =
+  taken_read metadata files origin names k begun ended left is t h none long numbers small =
       reads_back metadata files origin e names begun ended is t.passed t.got none left (λ c l there. (t.promised.each c l there).seen) long numbers small
-      (numbered _ k begun left ended t h) short (held _ k begun left ended t)
+      (numbered _ k begun left ended t h) (held _ k begun left ended t)
 
   pub kept_read : MetadataReads → FilesRead → KeptIsRead e does
-  kept_read metadata files origin names k begun ended left is t h long numbers small short =
+  kept_read metadata files origin names k begun ended left is t h long numbers small =
       reads_kept metadata files origin e names begun ended is t.passed t.got left (λ c l there. (t.promised.each c l there).seen) long numbers small
-      (numbered _ k begun left ended t h) short (held _ k begun left ended t)
+      (numbered _ k begun left ended t h) (held _ k begun left ended t)
 
   pub timed_read : MetadataReads → FilesLaws → TimedIsRead e does
-  timed_read metadata laws origin hertz names k begun ended left is t h none long numbers small short =
+  timed_read metadata laws origin hertz names k begun ended left is t h none long numbers small =
       reads_by_time metadata laws origin hertz e names begun ended is t.passed t.got none left (λ c l there. (t.promised.each c l there).seen) long numbers small
-      (numbered _ k begun left ended t h) short (held _ k begun left ended t)
+      (numbered _ k begun left ended t h) (held _ k begun left ended t)

@@ -8,7 +8,6 @@ use Rattle.dspec_record.specs.EnablingRows.{EnabledRows}
 use Rattle.dspec_record.specs.declared.header.Header.TheVariants as header
 use Rattle.dspec_ring.specs.declared.batch.Batch.{Batch}
 use Rattle.dspec.specs.Passed.{Passed, GotAll, passed_from}
-use Rattle.dspec_ctf.specs.Packets.{events}
 use Rattle.dspec_ctf.specs.Rows.{of_file, told_by}
 use Rattle.dspec_ctf.specs.Streams.{IsText}
 use Rattle.dspec_ctf.specs.declared.form.Form.TheVariants.{ByTime}
@@ -17,7 +16,7 @@ use Rattle.dspec_ctf_reading.specs.Files.{FileTells}
 use Rattle.dspec_ctf_reading.specs.Layouts.{event_of, layout_of}
 use Rattle.dspec_ctf_sink.specs.Timed.{AddsAll, AddsBatch, GetsRuns, TellsMissed, TimedTracing, row_name}
 use Rattle.dspec_ctf_sink.specs.Writes.{FileWrite, file_of}
-use Rattle.dspec_trace_reading.specs.AsTaken.{AreShort, HaveNumbers, drops_carried}
+use Rattle.dspec_trace_reading.specs.AsTaken.{HaveNumbers, drops_carried}
 use Rattle.dspec_trace_reading.specs.ByTime.{missed_by_time}
 use Rattle.dspec_trace_reading.proofs.Filing.{Filed, FilesLaws, add, tell}
 use Rattle.dspec_trace_reading.proofs.Folding.{Holds, all_accepted, one_text}
@@ -91,9 +90,9 @@ module _ (laws : FilesLaws) (uuid : List ℕ) (e : EnabledRows) (names : Names) 
 
   -- a batch of the CPU brings its records behind those of the stream
   goes_on : (old new : TimedTracing) (b : Batch) (adds : AddsBatch e old b new) (stream : List Record) → old.uuid ≡ uuid → b.cpu ≡ c → missed_by_time new c < 2 ^ 64
-      → ((read : List Record) → IsText e b.buffer.text read → length (events e read) < 2 ^ 60) → Stands uuid e names hertz c old stream
+      → Stands uuid e names hertz c old stream
       → Stands uuid e names hertz c new (stream ++ adds.added.read)
-  goes_on old new b adds stream u here small short s =
+  goes_on old new b adds stream u here small s =
       let missed : ℕ = adds.before + b.drops in
       let read : List Record = adds.added.read in
       let missed_is : missed_by_time new c ≡ missed = subst (λ n. missed_by_time new n ≡ missed) here (missed_here e old new b adds) in
@@ -117,7 +116,7 @@ module _ (laws : FilesLaws) (uuid : List ℕ) (e : EnabledRows) (names : Names) 
       (omega (arith, small, missed_is)) first tells in
       let more : Filed uuid e names hertz c adds.after.written adds.after.lasts missed (stream ++ read) =
       add laws uuid e names hertz c low long stamped adds.added.mid adds.after.written adds.files.lasts adds.after.lasts missed stream read (omega (arith, small, missed_is))
-      (short read adds.added.is_text) (all_accepted e read 0 b.buffer.text adds.added.is_text) told all in
+      (all_accepted e read 0 b.buffer.text adds.added.is_text) told all in
       record {
         told = told_is ∙ sym missed_is;
         filed = subst (λ o. Filed uuid e names hertz c o (lasts_of new c) (missed_by_time new c) (stream ++ read)) (sym adds.changes.written)
@@ -126,26 +125,26 @@ module _ (laws : FilesLaws) (uuid : List ℕ) (e : EnabledRows) (names : Names) 
       }
 
   one : (old mid new : TimedTracing) (x : Passed) (xs : List Passed) (adds : AddsBatch e old x.batch mid) (stream rest : List Record) → old.uuid ≡ uuid → length old.missed ≡ 64
-      → x.batch.cpu ≡ x.from → missed_by_time mid c < 2 ^ 64 → ((read : List Record) → IsText e x.batch.buffer.text read → length (events e read) < 2 ^ 60)
+      → x.batch.cpu ≡ x.from → missed_by_time mid c < 2 ^ 64
       → ((so_far more : List Record) → Holds e (passed_from c xs) more → Stands uuid e names hertz c mid so_far → Stands uuid e names hertz c new (so_far ++ more))
       → Stands uuid e names hertz c old stream → (q : Bool) → (x.from == c) ≡ q
       → Holds e (if q then x.batch ∷ passed_from c xs else passed_from c xs) rest → Stands uuid e names hertz c new (stream ++ rest)
-  one old mid new x xs adds stream rest u wide own small short on s false is holds =
+  one old mid new x xs adds stream rest u wide own small on s false is holds =
       on stream rest holds (passes old mid x.batch adds stream wide (λ same. eqb-false x.from c is (sym own ∙ same)) s)
-  one old mid new x xs adds stream rest u wide own small short on s true is (ps, more, has, sum, holds) =
+  one old mid new x xs adds stream rest u wide own small on s true is (ps, more, has, sum, holds) =
       let read : List Record = adds.added.read in
       let whole : rest ≡ read ++ more = sum ∙ ap (λ ys. ys ++ more) (sym (one_text e x.batch ps read has adds.added.is_text)) in
       subst (λ rs. Stands uuid e names hertz c new (stream ++ rs)) (sym whole)
       (subst (λ rs. Stands uuid e names hertz c new rs) (append_assoc stream read more)
-      (on (stream ++ read) more holds (goes_on old mid x.batch adds stream u (own ∙ eqb-true x.from c is) small short s)))
+      (on (stream ++ read) more holds (goes_on old mid x.batch adds stream u (own ∙ eqb-true x.from c is) small s)))
 
   pub folded : (bs : List Passed) (old new : TimedTracing) (stream rest : List Record) → GotAll (GetsRuns e) old bs new → new.lost ≡ None → old.uuid ≡ uuid → length old.missed ≡ 64
-      → missed_by_time new c < 2 ^ 64 → HaveNumbers bs → AreShort e bs → Holds e (passed_from c bs) rest
+      → missed_by_time new c < 2 ^ 64 → HaveNumbers bs → Holds e (passed_from c bs) rest
       → Stands uuid e names hertz c old stream → Stands uuid e names hertz c new (stream ++ rest)
-  folded [] old new stream rest got none u wide small own short hold s =
+  folded [] old new stream rest got none u wide small own hold s =
       subst (λ t. Stands uuid e names hertz c t (stream ++ rest)) got (subst (λ rs. Stands uuid e names hertz c old rs) (sym (ap (λ ys. stream ++ ys) hold ∙ append-nil stream)) s)
-  folded (x ∷ xs) old new stream rest (mid, gets, after) none u wide small (own, owns) (short, shorts) hold s =
+  folded (x ∷ xs) old new stream rest (mid, gets, after) none u wide small (own, owns) hold s =
       let adds = came e old mid x.batch gets (none_before e xs mid new after none) in
       let below : missed_by_time mid c < 2 ^ 64 = omega (arith, counted e c xs mid new after none owns, small) in
-      one old mid new x xs adds stream rest u wide own below short
-      (λ so_far more holds so. folded xs mid new so_far more after none (gets.uuid ∙ u) (stays_wide e old mid x.batch adds wide) small owns shorts holds so) s (x.from == c) refl hold
+      one old mid new x xs adds stream rest u wide own below
+      (λ so_far more holds so. folded xs mid new so_far more after none (gets.uuid ∙ u) (stays_wide e old mid x.batch adds wide) small owns holds so) s (x.from == c) refl hold

@@ -14,7 +14,7 @@ use Rattle.dspec_ctf_reading.specs.ReadingMetadata.{read_metadata}
 use Rattle.dspec_ctf_reading.specs.ToldNumbers.{HasNumbers}
 use Rattle.dspec_ctf_sink.specs.Timed.{GetsRuns, IsTimedBegun, TimedTracing, row_name}
 use Rattle.dspec_ctf_sink.specs.Writes.{file_of}
-use Rattle.dspec_trace_reading.specs.AsTaken.{AreShort, HaveNumbers, drops_carried}
+use Rattle.dspec_trace_reading.specs.AsTaken.{HaveNumbers, drops_carried}
 use Rattle.dspec_trace_reading.specs.ByTime.{ReadsByTime, ReadsFiles, missed_by_time}
 use Rattle.dspec_trace_reading.proofs.Filing.{FilesLaws}
 use Rattle.dspec_trace_reading.proofs.Folding.{Holds}
@@ -27,11 +27,11 @@ module _ (metadata_law : MetadataReads) (laws : FilesLaws) (origin : Origin) (he
   all : TimedStays e ended (timed_first origin hertz e names ∷ [])
   all = metadata_stays e passed begun ended (timed_first origin hertz e names ∷ []) got none (asked origin hertz e names begun is)
 
-  module _ (c : ℕ) (low : c < 64) (rs : List Record) (long : length origin.uuid ≡ 16) (small : missed_by_time ended c < 2 ^ 64) (own : HaveNumbers passed) (short : AreShort e passed)
+  module _ (c : ℕ) (low : c < 64) (rs : List Record) (long : length origin.uuid ≡ 16) (small : missed_by_time ended c < 2 ^ 64) (own : HaveNumbers passed)
       (hold : Holds e (passed_from c passed) rs) where
     stands : Stands origin.uuid e names hertz c ended rs
     stands =
-        folded laws origin.uuid e names hertz c low long (stamped origin hertz e names is.allowed) passed begun ended [] rs got none is.uuid_is (ap length is.missed) small own short hold
+        folded laws origin.uuid e names hertz c low long (stamped origin hertz e names is.allowed) passed begun ended [] rs got none is.uuid_is (ap length is.missed) small own hold
         (begins origin hertz e names begun is origin.uuid c)
 
     missed_is : missed_by_time ended c ≡ drops_carried (passed_from c passed)
@@ -56,12 +56,12 @@ module _ (metadata_law : MetadataReads) (laws : FilesLaws) (origin : Origin) (he
     }
 
   pub reads_by_time : (left : List Left) (seen : (c : ℕ) (l : Left) → slice_get left c ≡ Some l → List Record) → length origin.uuid ≡ 16 → HasNumbers origin (ByTime hertz) e names
-      → ((c : ℕ) → missed_by_time ended c < 2 ^ 64) → HaveNumbers passed → AreShort e passed
+      → ((c : ℕ) → missed_by_time ended c < 2 ^ 64) → HaveNumbers passed
       → ((c : ℕ) (l : Left) (there : slice_get left c ≡ Some l) → Holds e (passed_from c passed) (seen c l there))
       → ReadsByTime origin.uuid e names hertz left seen (λ c. passed_from c passed) ended.written
-  reads_by_time left seen long numbers small own short holds = record {
+  reads_by_time left seen long numbers small own holds = record {
     writes = all.0;
     asked = all.1.0;
     metadata = ap read_metadata (all.1.1 ∙ metadata_is origin hertz e names) ∙ metadata_law origin (ByTime hertz) e names is.allowed numbers;
-    streams = λ c l low there. files_read c low (seen c l there) long (small c) own short (holds c l there);
+    streams = λ c l low there. files_read c low (seen c l there) long (small c) own (holds c l there);
   }

@@ -1,12 +1,12 @@
 -- A folder that was written as batches were taken, and what is read of it.
-use Rattle.std.proofs.Common.{◌≡◌, ◌<◌, ◌^◌, ℕ, List, [], ◌∷◌, ◌++◌, Some, None, refl, sym, ap, ◌∙◌, subst, arith, length, map, slice_get, codes, All}
+use Rattle.std.proofs.Common.{◌≡◌, ◌<◌, ◌^◌, ℕ, List, [], ◌∷◌, ◌++◌, false, Some, None, refl, sym, ap, ◌∙◌, subst, arith, length, map, slice_get, codes, All}
 use Rattle.std.specs.List.{flat_map}
 use Rattle.std.proofs.lemmas.List.Elements.{All-weaker}
 use Rattle.dspec_record.specs.Record.{Record}
 use Rattle.dspec_record.specs.EnablingRows.{EnabledRows}
 use Rattle.dspec_session_core.specs.declared.left.Left.{Left}
 use Rattle.dspec.specs.Passed.{Passed, GotAll, passed_from}
-use Rattle.dspec_ctf.specs.Packets.{events, packet}
+use Rattle.dspec_ctf.specs.Filled.{filled_packets}
 use Rattle.dspec_ctf.specs.Streams.{Accepts}
 use Rattle.dspec_ctf.specs.Names.{origin_fault}
 use Rattle.dspec_ctf.specs.declared.form.Form.{Form}
@@ -14,14 +14,14 @@ use Rattle.dspec_ctf.specs.declared.form.Form.TheVariants.{AsTaken}
 use Rattle.dspec_ctf.specs.declared.names.Names.{Names}
 use Rattle.dspec_ctf.specs.declared.origin.Origin.{Origin}
 use Rattle.dspec_ctf_reading.specs.Files.{FileTells, last_missed}
-use Rattle.dspec_ctf_reading.specs.Laws.{MetadataTells, TakenFilesReadBack}
+use Rattle.dspec_ctf_reading.specs.Laws.{MetadataTells, FilledFilesReadBack}
 use Rattle.dspec_ctf_reading.specs.Layouts.{event_of, layout_of}
 use Rattle.dspec_ctf_reading.specs.ReadingMetadata.{read_metadata}
 use Rattle.dspec_ctf_reading.specs.ToldNumbers.{HasNumbers}
 use Rattle.dspec_ctf_sink.specs.Accounts.{missed_on}
 use Rattle.dspec_ctf_sink.specs.Writes.{file_of}
 use Rattle.dspec_ctf_sink.specs.Writing.{GetsPacket, IsBegun, Tracing, cpu_name}
-use Rattle.dspec_trace_reading.specs.AsTaken.{AreShort, HaveNumbers, ReadsBack, drops_carried}
+use Rattle.dspec_trace_reading.specs.AsTaken.{HaveNumbers, ReadsBack, drops_carried}
 use Rattle.dspec_trace_reading.proofs.Begun.{asked, first, metadata_is, none_missed, nothing_yet}
 use Rattle.dspec_trace_reading.proofs.Folding.{Brought, Fits, Holds, Stays, brought, last_from, metadata_stays}
 
@@ -39,7 +39,7 @@ MetadataReads = (origin : Origin) (form : Form) (e : EnabledRows) (names : Names
     → MetadataTells origin form e names
 
 abbrev pub FilesRead : Type 0
-FilesRead = (e : EnabledRows) (names : Names) → TakenFilesReadBack e names
+FilesRead = (e : EnabledRows) (names : Names) → FilledFilesReadBack e names
 
 module _ (metadata_law : MetadataReads) (files_law : FilesRead) (origin : Origin) (e : EnabledRows) (names : Names) (begun ended : Tracing)
     (is : IsBegun origin e names (Some []) begun) (passed : List Passed) (got : GotAll (GetsPacket e) begun passed ended)
@@ -52,17 +52,17 @@ module _ (metadata_law : MetadataReads) (files_law : FilesRead) (origin : Origin
       ap read_metadata (all.1.1 ∙ metadata_is origin e names)
       ∙ metadata_law origin AsTaken e names is.allowed numbers
 
-  module _ (c : ℕ) (low : c < 64) (rs : List Record) (long : length origin.uuid ≡ 16) (small : missed_on ended c < 2 ^ 64) (own : HaveNumbers passed) (short : AreShort e passed)
+  module _ (c : ℕ) (low : c < 64) (rs : List Record) (long : length origin.uuid ≡ 16) (small : missed_on ended c < 2 ^ 64) (own : HaveNumbers passed)
       (hold : Holds e (passed_from c passed) rs) where
     one : Brought e origin.uuid c low begun ended (passed_from c passed) rs (first origin e names ∷ [])
-    one = brought e origin.uuid c low passed begun ended (first origin e names ∷ []) rs got none is.uuid_is (ap length is.missed) (asked origin e names begun is) own short hold
+    one = brought e origin.uuid c low passed begun ended (first origin e names ∷ []) rs got none is.uuid_is (ap length is.missed) (asked origin e names begun is) own hold
 
-    tells : FileTells (layout_of e names AsTaken) origin.uuid c (flat_map (λ p. packet origin.uuid e p.0 c p.1) one.packets)
+    tells : FileTells (layout_of e names AsTaken) origin.uuid c (flat_map (λ p. filled_packets false e origin.uuid p.0 c p.1) one.packets)
         (map (event_of e names AsTaken) (flat_map (λ p. p.1) one.packets)) (last_missed one.packets)
     tells =
         files_law e names origin.uuid c one.packets long (omega (arith, low))
-        (All-weaker (Fits e origin.uuid c low ended) (λ p. (p.0 < 2 ^ 64) × (length (events e p.1) < 2 ^ 60) × All (Accepts e) p.1)
-        (λ p h. (omega (arith, h.0, small), h.1, h.2)) one.packets one.each)
+        (All-weaker (Fits e origin.uuid c low ended) (λ p. (p.0 < 2 ^ 64) × All (Accepts e) p.1)
+        (λ p h. (omega (arith, h.0, small), h.1)) one.packets one.each)
 
     missed_is : last_missed one.packets ≡ drops_carried (passed_from c passed)
     missed_is =
@@ -76,19 +76,19 @@ module _ (metadata_law : MetadataReads) (files_law : FilesRead) (origin : Origin
 
     pub stream_read : FileTells (layout_of e names AsTaken) origin.uuid c (file_of (cpu_name c) all.0) (map (event_of e names AsTaken) rs) (drops_carried (passed_from c passed))
     stream_read =
-        let bytes : file_of (cpu_name c) all.0 ≡ flat_map (λ p. packet origin.uuid e p.0 c p.1) one.packets =
-        ap (λ ws. file_of (cpu_name c) ws) writes_same ∙ one.bytes ∙ ap (λ xs. xs ++ flat_map (λ p. packet origin.uuid e p.0 c p.1) one.packets) (nothing_yet origin e names c) in
+        let bytes : file_of (cpu_name c) all.0 ≡ flat_map (λ p. filled_packets false e origin.uuid p.0 c p.1) one.packets =
+        ap (λ ws. file_of (cpu_name c) ws) writes_same ∙ one.bytes ∙ ap (λ xs. xs ++ flat_map (λ p. filled_packets false e origin.uuid p.0 c p.1) one.packets) (nothing_yet origin e names c) in
         subst (λ n. FileTells (layout_of e names AsTaken) origin.uuid c (file_of (cpu_name c) all.0) (map (event_of e names AsTaken) rs) n) missed_is
         (subst (λ xs. FileTells (layout_of e names AsTaken) origin.uuid c (file_of (cpu_name c) all.0) (map (event_of e names AsTaken) xs) (last_missed one.packets)) one.has
         (subst (λ xs. FileTells (layout_of e names AsTaken) origin.uuid c xs (map (event_of e names AsTaken) (flat_map (λ p. p.1) one.packets)) (last_missed one.packets)) (sym bytes) tells))
 
   pub reads_back : (left : List Left) (seen : (c : ℕ) (l : Left) → slice_get left c ≡ Some l → List Record) → length origin.uuid ≡ 16 → HasNumbers origin AsTaken e names
-      → ((c : ℕ) → missed_on ended c < 2 ^ 64) → HaveNumbers passed → AreShort e passed
+      → ((c : ℕ) → missed_on ended c < 2 ^ 64) → HaveNumbers passed
       → ((c : ℕ) (l : Left) (there : slice_get left c ≡ Some l) → Holds e (passed_from c passed) (seen c l there))
       → ReadsBack origin.uuid e names left seen (λ c. passed_from c passed) ended.written
-  reads_back left seen long numbers small own short holds = record {
+  reads_back left seen long numbers small own holds = record {
     writes = all.0;
     asked = all.1.0;
     metadata = metadata_read numbers;
-    streams = λ c l low there. stream_read c low (seen c l there) long (small c) own short (holds c l there);
+    streams = λ c l low there. stream_read c low (seen c l there) long (small c) own (holds c l there);
   }

@@ -1,12 +1,11 @@
 -- Cited by calls. What is read of a folder that was written as a session's batches were taken.
-use Rattle.std.specs.Prelude.{ℕ, ◌≡◌, ◌<◌, ◌+◌, ◌^◌, ◌⊎◌, slice_index, List, [], ◌∷◌, ◌++◌, length, map, slice_get, codes, Option, Some}
+use Rattle.std.specs.Prelude.{ℕ, ◌≡◌, ◌<◌, ◌+◌, ◌⊎◌, slice_index, List, [], ◌∷◌, ◌++◌, length, map, slice_get, codes, Option, Some}
 use Rattle.std.specs.List.{AllByRecursion}
 use Rattle.dspec_record.specs.Record.{Record}
 use Rattle.dspec_record.specs.EnablingRows.{EnabledRows}
 use Rattle.dspec_ring.specs.declared.batch.Batch.{Batch}
 use Rattle.dspec_session_core.specs.declared.left.Left.{Left}
 use Rattle.dspec.specs.Passed.{Passed}
-use Rattle.dspec_ctf.specs.Packets.{events}
 use Rattle.dspec_ctf.specs.Streams.{IsText}
 use Rattle.dspec_ctf.specs.declared.form.Form.TheVariants.{AsTaken}
 use Rattle.dspec_ctf.specs.declared.names.Names.{Names}
@@ -25,10 +24,6 @@ drops_carried (b ∷ bs) = b.drops + drops_carried bs
 -- each batch has the number of the CPU that it came from
 abbrev pub HaveNumbers : List Passed → Type 0
 HaveNumbers passed = AllByRecursion (λ (x : Passed). x.batch.cpu ≡ x.from) passed
-
--- no batch has records whose events take 2^60 bytes, since 64 bits tell a packet's size in bits
-abbrev pub AreShort : EnabledRows → List Passed → Type 0
-AreShort e passed = AllByRecursion (λ (x : Passed). (rs : List Record) → IsText e x.batch.buffer.text rs → length (events e rs) < 2 ^ 60) passed
 
 -- It is known what the folder was asked for. What that leaves of the file `metadata` is read as the layout of these enablings and names; and
 -- what it leaves of a CPU's file, by that layout, as the events of exactly the records that came out of that CPU, in order, of this trace and

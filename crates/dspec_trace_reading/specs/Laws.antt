@@ -15,7 +15,7 @@ use Rattle.dspec_ctf_reading.specs.ToldNumbers.{HasNumbers}
 use Rattle.dspec_ctf_sink.specs.Accounts.{missed_on}
 use Rattle.dspec_ctf_sink.specs.Timed.{GetsRuns, IsTimedBegun, TimedTracing}
 use Rattle.dspec_ctf_sink.specs.Writing.{GetsPacket, IsBegun, Tracing}
-use Rattle.dspec_trace_reading.specs.AsTaken.{AreShort, ReadsAllKept, ReadsBack}
+use Rattle.dspec_trace_reading.specs.AsTaken.{ReadsAllKept, ReadsBack}
 use Rattle.dspec_trace_reading.specs.ByTime.{ReadsByTime, missed_by_time}
 
 module _ (e : EnabledRows) (does : ℕ → CallsMade → CallsMade → Type 0) where
@@ -33,19 +33,19 @@ module _ (e : EnabledRows) (does : ℕ → CallsMade → CallsMade → Type 0) w
   abbrev pub TakenIsRead : Type 0
   TakenIsRead = (origin : Origin) (names : Names) (k : Config) (begun ended : Tracing) (left : List Left) → IsBegun origin e names (Some []) begun
       → (t : TracedBy (GetsPacket e) k begun left ended) → ListedBy (GetsPacket e) k begun left ended → ended.lost ≡ None
-      → length origin.uuid ≡ 16 → HasNumbers origin AsTaken e names → ((c : ℕ) → missed_on ended c < 2 ^ 64) → AreShort e t.passed
+      → length origin.uuid ≡ 16 → HasNumbers origin AsTaken e names → ((c : ℕ) → missed_on ended c < 2 ^ 64)
       → ReadsBack origin.uuid e names left (λ c l there. (t.promised.each c l there).seen) (λ c. passed_from c t.passed) ended.written
 
   -- Some of it may have been lost: the folder is read as each CPU's stream without the batches that were.
   abbrev pub KeptIsRead : Type 0
   KeptIsRead = (origin : Origin) (names : Names) (k : Config) (begun ended : Tracing) (left : List Left) → IsBegun origin e names (Some []) begun
       → (t : TracedBy (GetsPacket e) k begun left ended) → ListedBy (GetsPacket e) k begun left ended
-      → length origin.uuid ≡ 16 → HasNumbers origin AsTaken e names → ((c : ℕ) → missed_on ended c + 1 < 2 ^ 64) → AreShort e t.passed
+      → length origin.uuid ≡ 16 → HasNumbers origin AsTaken e names → ((c : ℕ) → missed_on ended c + 1 < 2 ^ 64)
       → ReadsAllKept origin.uuid e names left (λ c. passed_from c t.passed) ended
 
   -- It was traced into a folder that began empty, by time, and nothing was lost: the folder is read as each CPU's stream, shared out to its files.
   abbrev pub TimedIsRead : Type 0
   TimedIsRead = (origin : Origin) (hertz : ℕ) (names : Names) (k : Config) (begun ended : TimedTracing) (left : List Left) → IsTimedBegun origin hertz e names (Some []) begun
       → (t : TracedBy (GetsRuns e) k begun left ended) → ListedBy (GetsRuns e) k begun left ended → ended.lost ≡ None
-      → length origin.uuid ≡ 16 → HasNumbers origin (ByTime hertz) e names → ((c : ℕ) → missed_by_time ended c < 2 ^ 64) → AreShort e t.passed
+      → length origin.uuid ≡ 16 → HasNumbers origin (ByTime hertz) e names → ((c : ℕ) → missed_by_time ended c < 2 ^ 64)
       → ReadsByTime origin.uuid e names hertz left (λ c l there. (t.promised.each c l there).seen) (λ c. passed_from c t.passed) ended.written

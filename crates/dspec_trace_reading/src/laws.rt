@@ -7,9 +7,7 @@ ghost use Rattle.dspec_trace_reading.specs.Laws.{KeptIsRead, TakenIsRead, TimedI
 
 use dspec::{Enablings, Work, Worker};
 use dspec_ctf::laws::{files_have_all, runs_have_all};
-use dspec_ctf_reading::laws::{
-    files_join, live_file_reads_back, metadata_reads_back, taken_file_reads_back,
-};
+use dspec_ctf_reading::laws::{files_join, live_file_reads_back, metadata_reads_back};
 
 /// A session was traced into a folder that began empty, as its batches were taken. Where nothing was lost, the folder is read as what the
 /// page promises of each CPU: its stream, all of it, in order, and how many it dropped. Where some couldn't be written, it is read as that
@@ -19,7 +17,7 @@ pub fn trace_reads_back<W: Work<Enablings>>(_schema: &Enablings, _work: &W)
     ensures kept { KeptIsRead _schema.now (ThenServed (W.does _schema.now _work.now)) }
 {
     metadata_reads_back();
-    taken_file_reads_back();
+    live_file_reads_back();
 }
 
 /// The same by time, where nothing was lost. Each record of a CPU's stream is in one of its files, in order, and no other is; the first file
@@ -41,7 +39,6 @@ pub fn workers_read_back<W: Worker<Enablings>>(_schema: &Enablings)
     ensures timed { (workers back : List W) → TimedIsRead _schema.now (ThenServed (WorkedBy (W.does _schema.now) workers back)) }
 {
     metadata_reads_back();
-    taken_file_reads_back();
     live_file_reads_back();
     files_join();
     files_have_all();

@@ -3,8 +3,8 @@ use Rattle.dspec_trace_reading.proofs.laws.workers_read_back.Goals as goal
 
 pub returns : goal.returns
 returns g c = record {
-  taken = λ workers back. taken_read c.args._schema.now _ c.metadata_reads_back.ensures c.taken_file_reads_back.ensures;
-  kept = λ workers back. kept_read c.args._schema.now _ c.metadata_reads_back.ensures c.taken_file_reads_back.ensures;
+  taken = λ workers back. taken_read c.args._schema.now _ c.metadata_reads_back.ensures c.live_file_reads_back.ensures.taken;
+  kept = λ workers back. kept_read c.args._schema.now _ c.metadata_reads_back.ensures c.live_file_reads_back.ensures.taken;
   timed = λ workers back. timed_read c.args._schema.now _ c.metadata_reads_back.ensures (record {
     join = c.files_join.ensures;
     runs = c.live_file_reads_back.ensures.runs;
