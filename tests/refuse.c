@@ -1,7 +1,7 @@
 /* Loaded in front of a program's C library (LD_PRELOAD): refuses one growth of memory, or fails one read or one write, so that
    what a program then answers is seen without another build of it. REFUSE_KIND says what: `growth`, `growths` (that one and
    all later ones), `read`, `write` or `threads` (that one and all later ones); a `yield` is only told, since it can't be refused.
-   REFUSE_AT is its number, counted from 1.
+   REFUSE_AT is its number, counted from 1. `interrupts` has each second write interrupted by a signal, so to say.
    REFUSE_TOLD names a file that is made once anything was refused; where it isn't made, there was none left to refuse. Where REFUSE_BYTES is set, each read gives one
    byte and each write takes one. The toolchain's own compiler compiles it (`tests/refuse`); that has no headers, so this file
    declares what it calls. */
@@ -20,7 +20,7 @@ extern int creat(const char *path, unsigned mode);
 extern int close(int file);
 extern void *dlsym(void *library, const char *name);
 
-enum { NO_MEMORY = 12, INPUT_OUTPUT = 5, TRY_AGAIN = 11 };
+enum { INTERRUPTED = 4, INPUT_OUTPUT = 5, TRY_AGAIN = 11, NO_MEMORY = 12 };
 typedef int (*create)(unsigned long *thread, const void *attributes, void *(*begin)(void *), void *argument);
 
 static const char *kind = "";
@@ -81,6 +81,10 @@ long write(int file, const void *bytes, size count) {
     writes++;
     if (refuses("write", writes)) {
         *__errno_location() = INPUT_OUTPUT;
+        return -1;
+    }
+    if (writes % 2 == 1 && strcmp(kind, "interrupts") == 0) {
+        *__errno_location() = INTERRUPTED;
         return -1;
     }
     return __write(file, bytes, by_bytes && count > 1 ? 1 : count);
