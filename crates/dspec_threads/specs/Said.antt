@@ -28,10 +28,7 @@ SaysTo {J} lane v a old new = MatchBool a
     ((s : List Verdict) × (slice_get (said_to_each old) lane ≡ Some s) × (said_to_each new ≡ slice_set (said_to_each old) lane (s ++ v ∷ [])))
     (said_to_each new ≡ said_to_each old)
 
--- which ring is each lane's, and how many verdicts each has room for
-abbrev pub said_into_each : {J : Type 0} → List (Sayer J) → List Ring
-said_into_each ss = map said_into ss
-
+-- how many verdicts each lane has room for
 abbrev pub rooms_of_lanes : {J : Type 0} → List (Sayer J) → List ℕ
 rooms_of_lanes ss = map room_of_lane ss
 

@@ -1,5 +1,5 @@
 -- Cited by calls. What was settled on a lane.
-use Rattle.std.specs.Prelude.{ℕ, ◌≡◌, Bool, List, [], ◌∷◌, ◌++◌, length, map, if◌then◌else◌}
+use Rattle.std.specs.Prelude.{ℕ, ◌≡◌, Bool, List, [], ◌∷◌, ◌++◌, length, if◌then◌else◌}
 use Rattle.dspec_record.specs.declared.schema.Schema.{Ghosts}
 use Rattle.dspec_word.specs.SpecId.{Speculation}
 use Rattle.dspec_deeds.specs.declared.calls.Decided.{Decided}
@@ -12,7 +12,6 @@ use Rattle.dspec_ring.specs.Known.{Ring}
 use Rattle.dspec.specs.declared.lane.Lane.{Lane}
 use Rattle.dspec.specs.LaneCalls.{DecisionOn}
 use Rattle.dspec.specs.Lanes.{place_of}
-use Rattle.dspec_threads.specs.declared.boarding.Locked.{Locked}
 use Rattle.dspec_threads.specs.declared.settling.Settler.{Settler}
 use Rattle.dspec_threads.specs.declared.verdict.Verdict.{Verdict}
 
@@ -23,10 +22,6 @@ settled_by s = received s.coming
 -- out of which ring
 abbrev pub settled_from : {J : Type 0} → Settler J → Ring
 settled_from s = popped_from s.coming
-
--- out of which ring what is under each lane's lock settles, by what was put there
-abbrev pub settled_from_each : {J : Type 0} → List (Locked J) → List Ring
-settled_from_each {J} ls = map (λ (l : Locked J). settled_from l.began.value) ls
 
 module _ {S : Type 0} {g : Ghosts S} (has : Cpu S → List Deed → Type 0) where
   -- the path of a verdict was decided as it says, by one call on the lane

@@ -1,7 +1,7 @@
 ghost use Rattle.std.specs.Prelude.{◌≡◌, [], IfOk, length, replicate};
 ghost use Rattle.dspec.specs.Lanes.{place_of};
-ghost use Rattle.dspec_threads.specs.Said.{SaysTo, SaysWithin, rooms_of_lanes, said_into_each, said_to_each};
-ghost use Rattle.dspec_threads.specs.Settled.{SettlesSome, settled_from_each};
+ghost use Rattle.dspec_threads.specs.Said.{SaysTo, SaysWithin, rooms_of_lanes, said_to_each};
+ghost use Rattle.dspec_threads.specs.Settled.{SettlesSome};
 
 use crate::judging::Judging;
 use crate::saying::Sayer;
@@ -11,7 +11,6 @@ use dspec::{Handed, Lane};
 use dspec_cpu::{Cpu, Listed};
 use dspec_record::Schema;
 use std::alloc::{AllocError, Global};
-use std::snapshot::Snapshot;
 use std::sync::Mutex;
 
 /// What the consumer has: it says verdicts. A sink holds it.
@@ -23,26 +22,7 @@ pub struct Judge<J: Judging> {
 /// What the lanes share: they settle what was said. A work holds it by reference.
 #[derive(Drop)]
 pub struct Verdicts<J: Judging> {
-    settlers: Vec<Locked<J>>,
-}
-
-// What settles for a lane. No clause sees what is under a lock, but that it is such a one: `began` says which was put there.
-#[derive(Drop)]
-pub(crate) struct Locked<J: Judging> {
-    began: Snapshot<Settler<J>>,
-    settler: Mutex<Settler<J>>,
-}
-
-impl<J: Judging> Locked<J> {
-    // Under a lock.
-    fn of(settler: Settler<J>) -> Locked<J>
-        ensures { result.began.value ≡ settler }
-    {
-        Locked {
-            began: Snapshot::of(&settler),
-            settler: Mutex::new(settler),
-        }
-    }
+    settlers: Vec<Mutex<Settler<J>>>,
 }
 
 /// Both ends of a board for so many lanes, each with room for so many verdicts that wait. Takes all memory that it will need.
@@ -51,7 +31,6 @@ pub fn board<J: Judging>(
     lanes: u32,
     room: usize,
 ) -> Result<(Judge<J>, Verdicts<J>), AllocError>
-    ensures ends { IfOk result (λ r. settled_from_each r.1.settlers.items ≡ said_into_each r.0.sayers.items) }
     ensures judge { IfOk result (λ r. said_to_each r.0.sayers.items ≡ replicate lanes []) }
     ensures rooms { IfOk result (λ r. rooms_of_lanes r.0.sayers.items ≡ replicate lanes room) }
     ensures lanes { IfOk result (λ r. length r.1.settlers.items ≡ lanes) }
@@ -60,7 +39,7 @@ pub fn board<J: Judging>(
     for _ in 0..lanes {
         let (sayer, settler) = pair(alloc, room)?;
         sayers.push(sayer)?;
-        settlers.push(Locked::of(settler))?;
+        settlers.push(Mutex::new(settler))?;
     }
     Ok((Judge { sayers }, Verdicts { settlers }))
 }
@@ -90,10 +69,10 @@ impl<J: Judging> Verdicts<J> {
         ensures same { place_of lane.new ≡ place_of lane.old }
         ensures does { SettlesSome ⟦<Cpu<S> as Listed>⟧.has_list J.may result lane.old lane.new }
     {
-        let Some(locked) = self.settlers.get(lane.number() as usize) else {
+        let Some(settler) = self.settlers.get(lane.number() as usize) else {
             return 0;
         };
-        let Some(mut settler) = locked.settler.try_lock() else {
+        let Some(mut settler) = settler.try_lock() else {
             return 0;
         };
         settler.settle(lane)

@@ -160,7 +160,10 @@ fn filled_packets(rt: HostRuntime) -> Result<(), Fail> {
     same(&rt, packet.body == &PACKET[52..], true);
     same(&rt, packet.behind, &bytes[80..]);
     same(&rt, check_events(&metadata, packet.body)?, 3);
-    let found = next_packet(false, &bytes[..79]).err();
+    let Some(short) = bytes.get(..79) else {
+        return Err("80 bytes and more".into());
+    };
+    let found = next_packet(false, short).err();
     same(&rt, found, Some(PacketReadFault::BehindFile(640)));
     Ok(())
 }

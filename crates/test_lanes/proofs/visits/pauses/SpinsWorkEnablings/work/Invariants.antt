@@ -3,5 +3,5 @@ use Rattle.std.proofs.Common.{◌≡◌}
 use Rattle.dspec.specs.Lanes.{place_of}
 use Rattle.test_lanes.proofs.visits.pauses.SpinsWorkEnablings.work.Given as goal
 
-abbrev pub invariant-loop-look : goal.invariant-loop-look
-invariant-loop-look l = place_of l.lane ≡ place_of l.fn.lane
+abbrev pub invariant-loop-service : goal.invariant-loop-service
+invariant-loop-service l = place_of l.lane ≡ place_of l.fn.lane
