@@ -95,8 +95,10 @@ int main(int argc, char **argv) {
     const std::string text = read(folder + "/metadata");
     CHECK(text.find("\t\tinteger { size = 32; align = 8; signed = true; } number;\n\t\tuint8_t last;\n") != std::string::npos);
     CHECK(text.find("\t\tfloating_point { exp_dig = 11; mant_dig = 53; align = 8; } of;\n") != std::string::npos);
-    /* A packet of 68 bytes and two events, of 4 + 8 + 4 + 1 and of 4 + 8 + 8. */
-    CHECK(read(folder + "/cpu_0_0").size() == 68 + 17 + 20);
+    /* A packet: 68 bytes before two events, of 4 + 8 + 4 + 1 and of 4 + 8 + 8, and then zeros. Its content is told in bits. */
+    const std::string bytes = read(folder + "/cpu_0_0");
+    const unsigned content = 8 * (68 + 17 + 20);
+    CHECK(bytes.size() == 1024 && bytes[40] == static_cast<char>(content & 0xff) && bytes[41] == static_cast<char>(content >> 8));
     names_told(folder + ".names");
     int code = 0;
     try {

@@ -171,7 +171,7 @@ static void trace(void) {
     ASK(dspec_ctf_open(&ctf, 0, 0, batch, sizeof batch), &nothing);
     for (size_t file = 0; file < 2; file++) {
         ASK(dspec_ctf_put(&ctf, room, sizeof room, &packet), &nothing);
-        if (packet.file != file || packet.records != 1 || packet.size != 84 || room[80] != 7 - file) fail("a packet", DSPEC_OK);
+        if (packet.file != file || packet.records != 1 || packet.size != 1024 || room[80] != 7 - file) fail("a packet", DSPEC_OK);
     }
     if (dspec_ctf_put(&ctf, room, sizeof room, &packet) != DSPEC_NO_PACKET) fail("the end of a batch", DSPEC_OK);
 }
