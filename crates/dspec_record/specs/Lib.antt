@@ -7,6 +7,7 @@ pub mod RecordText
 pub mod Writing
 pub mod Reading
 pub mod Schemas
+pub mod Packing
 pub mod EnablingFields
 pub mod EnablingRows
 pub mod Laws

@@ -61,8 +61,8 @@ impl<'a> Recorded for BorrowedRec<'a> {
     }
 
     #[inline(always)]
-    fn values(&self) -> &[u64] {
-        self.values
+    fn values(&self) -> Option<&[u64]> {
+        Some(self.values)
     }
 
     #[inline(always)]

@@ -131,7 +131,32 @@ pub(crate) fn put_record<R: Recorded>(
     requires exact { length out.old ≡ (layout header fields.now).size }
     ensures { out.new ≡ record_text header fields.now (R.as_record rec) }
 {
-    let values = rec.values();
+    match rec.values() {
+        Some(values) => put_values(header, fields, places, rec, values, out),
+        None => {
+            let copy = rec.to_rec();
+            put_values(header, fields, places, &copy, copy.values(), out);
+        }
+    }
+}
+
+/// As `put_record`, where the record's values stand as numbers.
+#[inline(always)]
+fn put_values<R: Recorded>(
+    header: Header,
+    fields: &[Field],
+    places: &[u8],
+    rec: R,
+    values: &[u64],
+    out: &mut [u8],
+)
+    requires few { length fields.now ≤ 8 }
+    requires places { places.now ≡ field_places 4 fields.now }
+    requires values { values.now ≡ (R.as_record rec).values }
+    requires fit { IsTrue (fits fields.now (R.as_record rec).values) }
+    requires exact { length out.old ≡ (layout header fields.now).size }
+    ensures { out.new ≡ record_text header fields.now (R.as_record rec) }
+{
     let wide = has_wide_front(header, values);
     let mut end = put_header::<R, BySlices>(header, rec, wide, out);
     let moved = header.stamp_size();

@@ -38,8 +38,13 @@ impl Schema for Enablings {
     }
 
     fn accepts_recorded<R: Recorded>(&self, rec: R) -> bool {
-        self.borrowed(rec.epid(), rec.stamp(), rec.values())
-            .is_some()
+        let Some(values) = rec.values() else {
+            let copy = rec.to_rec();
+            return self
+                .borrowed(copy.epid(), copy.stamp(), copy.values())
+                .is_some();
+        };
+        self.borrowed(rec.epid(), rec.stamp(), values).is_some()
     }
 
     #[inline(always)]

@@ -1,7 +1,8 @@
-ghost use Rattle.std.specs.Prelude.{◌≡◌, ◌≤◌, length, Option, is_some, IfSome};
+ghost use Rattle.std.specs.Prelude.{◌≡◌, ◌≤◌, None, length, take, Option, is_some, is_none, IfSome};
 ghost use Rattle.std.specs.Option.{option_map};
 ghost use Rattle.dspec_record.specs.Record.{Record};
-ghost use Rattle.dspec_record.specs.LaidOut.{Laid, text_over};
+ghost use Rattle.dspec_record.specs.LaidOut.{Laid};
+ghost use Rattle.dspec_record.specs.Layout.{rounded_up};
 
 use crate::{Rec, Shape};
 
@@ -22,10 +23,10 @@ pub trait Recorded: Copy {
     fn stamp(&self) -> u64
         ensures { result ≡ (as_record self.now).stamp };
 
-    /// The values, in the order of the fields.
-    fn values(&self) -> &[u64]
-        ensures values { result.now ≡ (as_record self.now).values }
-        ensures few { length result.now ≤ 8 };
+    /// The values, in the order of the fields, where they stand as numbers; None where it knows its text itself.
+    fn values(&self) -> Option<&[u64]>
+        ensures values { IfSome result (λ v. v.now ≡ (as_record self.now).values × length v.now ≤ 8) }
+        ensures due { is_some result ≡ is_none (laid_as self.now) };
 
     /// A copy that holds its values.
     fn to_rec(&self) -> Rec
@@ -35,16 +36,16 @@ pub trait Recorded: Copy {
     fn laid_shape(&self) -> Option<Shape>
         ensures { result ≡ option_map (λ laid. laid.shape) (laid_as self.now) };
 
-    /// Writes its text into a slice of exactly its size, where it knows that itself; else answers false and writes nothing.
+    /// Writes its text over the first bytes, where it knows that itself, in whole words of eight bytes: the slice has room for
+    /// these. Else answers false and writes nothing.
     fn put_laid(&self, out: &mut [u8]) -> bool
-        requires exact { IfSome (laid_as self.now) (λ laid. length out.old ≡ length laid.text) }
+        requires room { IfSome (laid_as self.now) (λ laid. rounded_up (length laid.text) 8 ≤ length out.old) }
         ensures due { result ≡ is_some (laid_as self.now) }
-        ensures put { out.new ≡ text_over (laid_as self.now) out.old };
+        ensures put { IfSome (laid_as self.now) (λ laid. take (length laid.text) out.new ≡ laid.text) }
+        ensures nothing { laid_as self.now ≡ None → out.new ≡ out.old };
 }
 
 impl<'a> Recorded for &'a Rec {
-    ghost use Rattle.std.specs.Prelude.{None};
-
     ghost as_record = { λ r. r.now };
 
     ghost laid_as = { λ _. None };
@@ -62,9 +63,9 @@ impl<'a> Recorded for &'a Rec {
     }
 
     #[inline(always)]
-    fn values(&self) -> &[u64] {
+    fn values(&self) -> Option<&[u64]> {
         let rec: &Rec = *self;
-        rec.values()
+        Some(rec.values())
     }
 
     #[inline(always)]

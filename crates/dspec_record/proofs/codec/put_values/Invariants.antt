@@ -2,7 +2,7 @@ use Rattle.std.proofs.Common.{drop}
 use Rattle.dspec_record.specs.RecordText.{record_text}
 use Rattle.dspec_record.proofs.Writing.{IsWriting}
 use Rattle.dspec_record.proofs.Places.{IsPlaced}
-use Rattle.dspec_record.proofs.codec.put_record.Given as goal
+use Rattle.dspec_record.proofs.codec.put_values.Given as goal
 
 abbrev pub invariant-loop-i : goal.invariant-loop-i
 invariant-loop-i g l =

@@ -13,12 +13,12 @@ use Rattle.dspec_record.proofs.Writing.{IsWriting, IsWriting-start, IsWriting-ro
 use Rattle.dspec_record.specs.declared.field.Field.{Field}
 use Rattle.dspec_record.specs.declared.header.Header.{Header}
 use Rattle.dspec_record.specs.declared.field.Field.TheVariants.{One}
-use Rattle.dspec_record.proofs.codec.put_record.Goals as goal
+use Rattle.dspec_record.proofs.codec.put_values.Goals as goal
 
 pub put_header-end-requires-clause-wide : goal.put_header-end-requires-clause-wide
 put_header-end-requires-clause-wide g c =
-    let same : length c.args.fields.now ≡ length c.values-values.result.now =
-    fits-length c.args.fields.now (g.R.Recorded.as_record c.args.rec).values c.requires.fit ∙ sym (ap length c.values-values.ensures.values) in
+    let same : length c.args.fields.now ≡ length c.args.values.now =
+    fits-length c.args.fields.now (g.R.Recorded.as_record c.args.rec).values c.requires.fit ∙ sym (ap length c.requires.values) in
     c.has_wide_front-wide.ensures c.args.fields.now same ∙ ap (nat_le 8) (sym c.requires.exact)
 
 pub put_header-end-requires-clause-whole_words : goal.put_header-end-requires-clause-whole_words
@@ -35,13 +35,13 @@ pub bounds-fields-i : goal.bounds-fields-i
 bounds-fields-i g c =
     let same : length c.args.fields.now ≡ length (g.R.Recorded.as_record c.args.rec).values =
     fits-length c.args.fields.now (g.R.Recorded.as_record c.args.rec).values c.requires.fit in
-    omega (arith, same, ap length c.values-values.ensures.values)
+    omega (arith, same, ap length c.requires.values)
 
 pub bounds-places-i : goal.bounds-places-i
 bounds-places-i g c =
     let same : length c.args.fields.now ≡ length (g.R.Recorded.as_record c.args.rec).values =
     fits-length c.args.fields.now (g.R.Recorded.as_record c.args.rec).values c.requires.fit in
-    omega (arith, same, ap length c.values-values.ensures.values, ap length c.requires.places ∙ length-field_places 4 c.args.fields.now)
+    omega (arith, same, ap length c.requires.values, ap length c.requires.places ∙ length-field_places 4 c.args.fields.now)
 
 -- the fields and values that are left begin with this one
 here : (text : List ℕ) (end : ℕ) (out : List ℕ) (i : ℕ) (fs : List Field) (vs : List ℕ) → i < length fs → length fs ≡ length vs → IsWriting text end out (drop i fs) (drop i vs)
@@ -55,7 +55,7 @@ pub put_field-end-requires-clause-place : goal.put_field-end-requires-clause-pla
 put_field-end-requires-clause-place g c =
     let fs : List Field = c.args.fields.now in
     let r : Record = g.R.Recorded.as_record c.args.rec in
-    let many : length fs ≡ length c.values-values.result.now = fits-length fs r.values c.requires.fit ∙ sym (ap length c.values-values.ensures.values) in
+    let many : length fs ≡ length c.args.values.now = fits-length fs r.values c.requires.fit ∙ sym (ap length c.requires.values) in
     let within : c.loop-i.i < length fs = omega (arith, many) in
     IsPlaced-place c.stamp_size-moved.result c.loop-i.end c.loop-i.i fs c.args.places.now within
     (ap length c.requires.places ∙ length-field_places 4 fs) c.loop-i.invariant.1
@@ -66,10 +66,10 @@ put_field-end-requires-clause-room g c =
     let r : Record = g.R.Recorded.as_record c.args.rec in
     let i : ℕ = c.loop-i.i in
     let f : Field = get_or fs i One in
-    let many : length fs ≡ length c.values-values.result.now =
-    fits-length fs r.values c.requires.fit ∙ sym (ap length c.values-values.ensures.values) in
+    let many : length fs ≡ length c.args.values.now =
+    fits-length fs r.values c.requires.fit ∙ sym (ap length c.requires.values) in
     let within : i < length fs = omega (arith, many) in
-    let w = here (record_text c.args.header fs r) c.loop-i.end c.loop-i.out i fs c.values-values.result.now within many c.loop-i.invariant.0 in
+    let w = here (record_text c.args.header fs r) c.loop-i.end c.loop-i.out i fs c.args.values.now within many c.loop-i.invariant.0 in
     let Room : ℕ → Type 0 = λ p. p + width f ≤ length c.loop-i.out in
     subst Room (sym (put_field-end-requires-clause-place g c)) (IsWriting-room _ _ _ _ _ _ w)
 
@@ -83,8 +83,8 @@ loop-i-init g c =
     let start : IsWriting (record_text h fs r) (fields_start h) out fs r.values =
     IsWriting-start h fs r out c.requires.few c.requires.fit c.put_header-end.ensures.put long c.put_header-end.ensures.clear in
     let Values : List ℕ → Type 0 = λ vs. IsWriting (record_text h fs r) (fields_start h) out fs vs in
-    let At : ℕ → Type 0 = λ end. IsWriting (record_text h fs r) end out fs c.values-values.result.now in (
-      subst At (sym c.put_header-end.ensures.end) (subst Values (sym c.values-values.ensures.values) start),
+    let At : ℕ → Type 0 = λ end. IsWriting (record_text h fs r) end out fs c.args.values.now in (
+      subst At (sym c.put_header-end.ensures.end) (subst Values (sym c.requires.values) start),
       IsPlaced-start h c.stamp_size-moved.result c.put_header-end.result fs c.args.places.now c.stamp_size-moved.ensures.moves c.put_header-end.ensures.end c.requires.places,
     )
 
@@ -92,14 +92,14 @@ pub loop-i-preserved : goal.loop-i-preserved
 loop-i-preserved g c =
     let fs : List Field = c.args.fields.now in
     let r : Record = g.R.Recorded.as_record c.args.rec in
-    let vs : List ℕ = c.values-values.result.now in
+    let vs : List ℕ = c.args.values.now in
     let i : ℕ = c.loop-i.i in
     let f : Field = get_or fs i One in
     let v : ℕ = get_or vs i 0 in
     let end : ℕ = c.loop-i.end in
     let out : List ℕ = c.put_field-end.new.out in
     let text : List ℕ = record_text c.args.header fs r in
-    let many : length fs ≡ length vs = fits-length fs r.values c.requires.fit ∙ sym (ap length c.values-values.ensures.values) in
+    let many : length fs ≡ length vs = fits-length fs r.values c.requires.fit ∙ sym (ap length c.requires.values) in
     let within : i < length fs = omega (arith, many) in
     let same : c.put_field-end.result ≡ after end (width f) (width f) = c.put_field-end.ensures.end in
     let Put : ℕ → Type 0 = λ e. take e out ≡ take end c.loop-i.out ++ (gap end (width f) ++ little_endian (width f) v) in
@@ -118,9 +118,9 @@ returns g c =
     let fs : List Field = c.args.fields.now in
     let r : Record = g.R.Recorded.as_record c.args.rec in
     let i : ℕ = c.loop-i.i in
-    let many : length fs ≡ length c.values-values.result.now = fits-length fs r.values c.requires.fit ∙ sym (ap length c.values-values.ensures.values) in
+    let many : length fs ≡ length c.args.values.now = fits-length fs r.values c.requires.fit ∙ sym (ap length c.requires.values) in
     let past : length fs ≤ i = omega (arith, many) in
-    let Left : List Field → Type 0 = λ gs. IsWriting (record_text c.args.header fs r) c.loop-i.end c.loop-i.out gs (drop i c.values-values.result.now) in
-    let done : IsWriting (record_text c.args.header fs r) c.loop-i.end c.loop-i.out [] (drop i c.values-values.result.now) =
+    let Left : List Field → Type 0 = λ gs. IsWriting (record_text c.args.header fs r) c.loop-i.end c.loop-i.out gs (drop i c.args.values.now) in
+    let done : IsWriting (record_text c.args.header fs r) c.loop-i.end c.loop-i.out [] (drop i c.args.values.now) =
     subst Left (drop_all i fs past) c.loop-i.invariant.0 in
     IsWriting-end _ _ _ _ done
