@@ -19,6 +19,7 @@ pub mod Left
 pub mod Insides
 pub mod Taken
 pub mod Laid
+pub mod Overwriting
 pub mod Fitting
 pub mod Keeping
 pub mod Walks

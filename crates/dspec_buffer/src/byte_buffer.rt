@@ -1,17 +1,21 @@
 use crate::TraceBuffer;
 use crate::laying::shape_in;
 use crate::reader::next_of_text;
-use crate::reserving::{pad, place_for, put_behind};
+use crate::reserving::{pad, place_for, place_for_record, put_behind};
 use dspec_record::{Rec, Recorded, Schema, Shape};
 use std::alloc::{AllocError, Global};
 use std::fmt;
 use std::marker::Model;
 
+/// How many bytes there are behind the size: a record may be written in whole words of eight bytes.
+const SLACK: usize = 16;
+
 /// A buffer of bytes, as a consumer reads it: the text of its pieces up to the offset. Bytes behind the offset are
-/// left over from before the last `clear`, and never read.
+/// left over from before, and never read.
 #[derive(Drop)]
 pub struct ByteBuffer {
     bytes: Vec<u8>,
+    size: u32,
     offset: u32,
     count: u32,
 }
@@ -42,7 +46,7 @@ impl ByteBuffer {
     pub fn size(&self) -> u32
         ensures { result ≡ self.now.size }
     {
-        self.bytes.len() as u32
+        self.size
     }
 
     /// How far the pieces reach, in bytes.
@@ -111,7 +115,8 @@ impl<S: Schema> TraceBuffer<S> for ByteBuffer {
 
     fn make(alloc: Global, size: u32) -> Result<Self, AllocError> {
         Ok(ByteBuffer {
-            bytes: vec![in alloc; 0; size as usize]?,
+            bytes: vec![in alloc; 0; size as usize + SLACK]?,
+            size,
             offset: 0,
             count: 0,
         })
@@ -129,7 +134,7 @@ impl<S: Schema> TraceBuffer<S> for ByteBuffer {
     #[inline(always)]
     fn push_recorded<R: Recorded>(&mut self, schema: &S, rec: R) -> bool {
         let Shape { size, align } = shape_in(schema, rec);
-        let Some(place) = place_for(self.offset, self.size(), align, size) else {
+        let Some(place) = place_for_record(self.offset, self.size(), align, size) else {
             return false;
         };
         let end = place + size;

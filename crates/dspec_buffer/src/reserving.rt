@@ -7,6 +7,19 @@ use dspec_record::{Recorded, Schema};
 /// The bytes of a padding word.
 const PADDING: [u8; 4] = [0; 4];
 
+// The first place behind `offset` that is a multiple of the alignment.
+#[inline(always)]
+fn aligned(offset: u32, align: u32) -> u32
+    requires aligned { (align ≡ 4) ⊎ (align ≡ 8) }
+    requires whole_words { offset % 4 ≡ 0 }
+    requires within { offset ≤ 2 ^ 20 }
+    ensures is { result ≡ rounded_up offset align }
+    ensures near { result ≤ offset + 4 }
+{
+    // offsets are whole words: a word of padding comes where the offset has the bit that an alignment of eight forbids
+    offset + (offset & (align - 4))
+}
+
 /// Where a piece stands that is reserved behind `offset`, if it ends within `limit`.
 pub(crate) fn place_for(offset: u32, limit: u32, align: u32, size: u32) -> Option<u32>
     requires aligned { (align ≡ 4) ⊎ (align ≡ 8) }
@@ -15,13 +28,39 @@ pub(crate) fn place_for(offset: u32, limit: u32, align: u32, size: u32) -> Optio
     ensures { MatchOption result (limit < after offset align size)
         (λ place. (place ≡ rounded_up offset align) × (place + size ≤ limit)) }
 {
-    // offsets are whole words: a word of padding comes where the offset has the bit that an alignment of eight forbids
-    let place = offset + (offset & (align - 4));
+    let place = aligned(offset, align);
     if u64::from(place) + u64::from(size) <= u64::from(limit) {
         Some(place)
     } else {
         None
     }
+}
+
+/// As `place_for`, of a record: its size is small.
+#[inline(always)]
+pub(crate) fn place_for_record(offset: u32, limit: u32, align: u32, size: u32) -> Option<u32>
+    requires aligned { (align ≡ 4) ⊎ (align ≡ 8) }
+    requires whole_words { offset % 4 ≡ 0 }
+    requires within { offset ≤ 2 ^ 20 }
+    requires small { size ≤ 128 }
+    ensures { MatchOption result (limit < after offset align size)
+        (λ place. (place ≡ rounded_up offset align) × (place + size ≤ limit)) }
+{
+    let place = aligned(offset, align);
+    if place + size <= limit {
+        Some(place)
+    } else {
+        None
+    }
+}
+
+// Writes a padding word.
+#[inline(always)]
+fn pad_before(bytes: &mut [u8], from: usize)
+    requires within { from + 4 ≤ length bytes.old }
+    ensures { take (from + 4) bytes.new ≡ take from bytes.old ++ replicate 4 0 }
+{
+    bytes[from..from + 4].copy_from_slice(&PADDING);
 }
 
 /// Writes the padding word between `from` and `to`, if there is room for one.
@@ -71,13 +110,14 @@ pub(crate) fn put_behind<S: Schema, R: Recorded>(
     requires laid { IsLaidBy (S.shape_of schema.now) (S.text schema.now) (R.as_record rec) (R.laid_as rec) }
     requires gap { (place ≡ from) ⊎ (place ≡ from + 4) }
     requires end { end ≡ place + length (S.text schema.now (R.as_record rec)) }
-    requires within { end ≤ length bytes.old }
+    requires room { end + 8 ≤ length bytes.old }
     ensures { take end bytes.new ≡ take from bytes.old ++ (replicate (place - from) 0 ++ S.text schema.now (R.as_record rec)) }
 {
-    // a record that knows its shape itself is written in few stores: it needs no call of its own
+    // a record that knows its shape itself is written in few stores: it needs no call of its own, and where there is no padding it
+    // goes over that word
     if rec.laid_shape().is_some() {
-        pad(bytes, from, place);
-        rec.put_laid(&mut bytes[place..end]);
+        pad_before(bytes, from);
+        rec.put_laid(&mut bytes[place..]);
         return;
     }
     if from < place {

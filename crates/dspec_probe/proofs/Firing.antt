@@ -3,7 +3,7 @@ use Rattle.std.proofs.Common.{◌≡◌, ◌≤◌, ◌∙◌, ℕ, List, IsTrue
 use Rattle.std.proofs.lemmas.List.{length-take-le}
 use Rattle.dspec_record.specs.EnablingRows.{EnabledRows}
 use Rattle.dspec_record.specs.LaidOut.{IsSaid}
-use Rattle.dspec_record.specs.Layout.{fields_start, layout}
+use Rattle.dspec_record.specs.Layout.{fields_start, layout, rounded_up}
 use Rattle.dspec_record.specs.Reading.{IsShape}
 use Rattle.dspec_record.specs.Record.{Record}
 use Rattle.dspec_record.specs.RecordText.{record_text, fits}
@@ -28,14 +28,18 @@ said_of_probe h fs r schema few has =
       same_text = table_text-is schema.header (enabled schema.rows) fs r row ∙ ap (λ d. record_text d fs r) has.header;
     }
 
--- the slice is as long as the fields say
-pub size_of_fields : (h k : Header) (fs gs : List Field) (shape : Shape) (r : Record) (out : List ℕ) → k ≡ h → gs ≡ fs → shape ≡ layout k gs → IsTrue (fits fs r.values)
-    → length out ≡ length (record_text h fs r) → shape.size ≡ length out
-size_of_fields h k fs gs shape r out header fields is fit long =
-    ap (λ s. s.size) (is ∙ ap (λ d. layout d gs) header ∙ ap (layout h) fields) ∙ sym (length-record_text h fs r fit) ∙ sym long
+-- the shape is as long as the text
+pub size_of_fields : (h k : Header) (fs gs : List Field) (shape : Shape) (r : Record) → k ≡ h → gs ≡ fs → shape ≡ layout k gs → IsTrue (fits fs r.values)
+    → shape.size ≡ length (record_text h fs r)
+size_of_fields h k fs gs shape r header fields is fit =
+    ap (λ s. s.size) (is ∙ ap (λ d. layout d gs) header ∙ ap (layout h) fields) ∙ sym (length-record_text h fs r fit)
 
-pub length-part : (n : ℕ) (out : List ℕ) → n ≡ length out → length (take n out) ≡ n
-length-part n out same = length-take-le n out (omega arith)
+-- so it is within a slice that has room for the words of the text
+pub size_within : (size : ℕ) (text out : List ℕ) → size ≡ length text → rounded_up (length text) 8 ≤ length out → size ≤ length out
+size_within size text out is room = omega arith
+
+pub length-part : (n : ℕ) (out : List ℕ) → n ≤ length out → length (take n out) ≡ n
+length-part n out within = length-take-le n out within
 
 -- behind the front there is room for just the fields
 pub room_behind : (h : Header) (fs : List Field) (start : ℕ) (bytes : List ℕ) → length fs ≤ 8 → start ≡ fields_start h → length bytes ≡ (layout h fs).size

@@ -1,9 +1,9 @@
 ghost use Rattle.std.specs.Prelude.{◌≡◌, IsTrue};
 ghost use Rattle.dspec_record.specs.RecordText.{fits};
 
-use crate::{Fields, KnownHeader};
+use crate::Fields;
 use dspec_record::laid_out::{laid_shape, put_front};
-use dspec_record::{Rec, Recorded, Shape};
+use dspec_record::{KnownHeader, Rec, Recorded, Shape};
 use std::alloc::AllocError;
 use std::marker::PhantomData;
 
@@ -70,8 +70,8 @@ impl<'a, F: Fields, H: KnownHeader> Recorded for Fired<'a, F, H> {
     }
 
     #[inline(always)]
-    fn values(&self) -> &[u64] {
-        self.rec.values()
+    fn values(&self) -> Option<&[u64]> {
+        None
     }
 
     #[inline(always)]

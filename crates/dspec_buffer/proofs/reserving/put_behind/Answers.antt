@@ -1,6 +1,7 @@
 use Rattle.std.proofs.Common.{◌≡◌, ◌+◌, ◌-◌, ◌++◌, length, take, drop, replicate, sym, ap, ◌∙◌, arith, append_assoc}
 use Rattle.std.proofs.lemmas.Slice.{take-put_mid}
 use Rattle.dspec_buffer.proofs.Laid.{said_room, said_text, knows_both}
+use Rattle.dspec_buffer.proofs.Overwriting.{overwritten}
 use Rattle.dspec_buffer.proofs.reserving.put_behind.Goals as goal
 
 pub returns-else-from-place : goal.returns-else-from-place
@@ -17,8 +18,8 @@ returns-else-from-place g c =
 
 pub put_laid-requires : goal.put_laid-requires
 put_laid-requires g c = record {
-  exact = said_room (g.S.Schema.shape_of c.args.schema.now) (g.S.Schema.text c.args.schema.now) (g.R.Recorded.as_record c.args.rec) (g.R.Recorded.laid_as c.args.rec)
-      (take (c.args.end - c.args.place) (drop c.args.place c.pad.new.bytes)) c.requires.laid (omega (arith, c.requires.end, c.requires.within));
+  room = said_room (g.S.Schema.shape_of c.args.schema.now) (g.S.Schema.text c.args.schema.now) (g.R.Recorded.as_record c.args.rec) (g.R.Recorded.laid_as c.args.rec)
+      (length (take (length c.pad_before.new.bytes - c.args.place) (drop c.args.place c.pad_before.new.bytes))) c.requires.laid (omega (arith, c.requires.end, c.requires.room));
 }
 
 pub returns-then-is_some : goal.returns-then-is_some
@@ -27,11 +28,7 @@ returns-then-is_some g c =
     let place = c.args.place in
     let text = g.S.Schema.text c.args.schema.now (g.R.Recorded.as_record c.args.rec) in
     let knows = knows_both (g.R.Recorded.laid_as c.args.rec) c.laid_shape.result c.laid_shape.ensures (sym c.is_some.ensures ∙ c.if-is_some.true) in
-    let put : c.put_laid.new.out ≡ text
-    = c.put_laid.ensures.put ∙ said_text (g.S.Schema.shape_of c.args.schema.now) (g.S.Schema.text c.args.schema.now) (g.R.Recorded.as_record c.args.rec)
-    (g.R.Recorded.laid_as c.args.rec) (take (c.args.end - place) (drop place c.pad.new.bytes)) c.requires.laid knows in
-    let long : c.args.end ≡ place + length c.put_laid.new.out = c.requires.end ∙ ap (λ z. place + length z) (sym put) in
-    take-put_mid place (c.args.end - place) c.pad.new.bytes c.put_laid.new.out c.args.end long (omega arith)
-    ∙ ap (λ z. z ++ c.put_laid.new.out) c.pad.ensures
-    ∙ append_assoc (take from c.args.bytes.now) (replicate (place - from) 0) c.put_laid.new.out
-    ∙ ap (λ z. take from c.args.bytes.now ++ (replicate (place - from) 0 ++ z)) put
+    let put : take (length text) c.put_laid.new.out ≡ text
+    = said_text (g.S.Schema.shape_of c.args.schema.now) (g.S.Schema.text c.args.schema.now) (g.R.Recorded.as_record c.args.rec)
+    (g.R.Recorded.laid_as c.args.rec) c.put_laid.new.out c.requires.laid knows c.put_laid.ensures.put in
+    overwritten from place c.args.end (length c.pad_before.new.bytes - place) c.args.bytes.now c.pad_before.new.bytes c.put_laid.new.out text c.requires.gap c.requires.end (omega (arith, c.requires.gap, c.requires.end, c.requires.room)) (omega (arith, c.requires.end, c.requires.room)) (omega (arith, c.requires.end, c.requires.room)) c.pad_before.ensures put

@@ -7,11 +7,17 @@ use Rattle.dspec_buffer.proofs.Fitting.{refuses, admits, placed, laid_whole}
 use Rattle.dspec_buffer.proofs.Keeping.{offset_is, fits_says, shape_says, kept, accepted_alone}
 use Rattle.dspec_buffer.proofs.byte_buffer.ByteBufferTraceBuffer.push_recorded.Goals as goal
 
-pub place_for-requires-clause-aligned : goal.place_for-requires-clause-aligned
-place_for-requires-clause-aligned g c =
+pub place_for_record-requires-clause-aligned : goal.place_for_record-requires-clause-aligned
+place_for_record-requires-clause-aligned g c =
     let s = c.args.schema.now in
     let shape : Shape = c.shape_in-size.result in
     (g.met.S.Schema.shapes_fit s (g.R.Recorded.as_record c.args.rec).epid shape (sym c.shape_in-size.ensures)).aligned
+
+pub place_for_record-requires-clause-small : goal.place_for_record-requires-clause-small
+place_for_record-requires-clause-small g c =
+    let s = c.args.schema.now in
+    let shape : Shape = c.shape_in-size.result in
+    (g.met.S.Schema.shapes_fit s (g.R.Recorded.as_record c.args.rec).epid shape (sym c.shape_in-size.ensures)).bounded
 
 pub put_behind-requires-clause-gap : goal.put_behind-requires-clause-gap
 put_behind-requires-clause-gap g c =
@@ -57,7 +63,7 @@ invariant_of-self g c =
     let size = ap (λ b. b.size) c.self.view_is in
     let within = c.in-Some.ensures.1 in
     let counted = c.self.invariant.counted in
-    record { within = omega arith; words = p.words; bounded = c.self.invariant.bounded; counted = omega arith }
+    record { within = omega arith; words = p.words; bounded = c.self.invariant.bounded; slack = c.self.invariant.slack; counted = omega arith }
 
 pub returns-clause-answer : goal.returns-clause-answer
 returns-clause-answer g c = λ ps h.

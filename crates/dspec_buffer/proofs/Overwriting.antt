@@ -1,0 +1,29 @@
+-- A padding word that is always written, and a text over it where there is no padding.
+use Rattle.std.proofs.Common.{◌≡◌, ◌≤◌, ◌⊎◌, inl, inr, ◌+◌, ◌-◌, ◌++◌, ℕ, List, length, take, drop, replicate, refl, sym, ap, ◌∙◌, arith, append_assoc, append-nil}
+use Rattle.std.proofs.lemmas.List.{take-take, take_at, take_all, length-take-le, length-append, take-append-le}
+use lib.Seq.{take-append-add}
+use borrow.Rule.Slice.PartMut.{put_mid}
+
+-- up to the place stand the bytes before, and the padding where there is some
+up_to : (from place : ℕ) (bytes new : List ℕ) → (place ≡ from) ⊎ (place ≡ from + 4) → from ≤ length bytes → take (from + 4) new ≡ take from bytes ++ replicate 4 0
+    → take place new ≡ take from bytes ++ replicate (place - from) 0
+up_to from place bytes new (inl here) within put =
+    let none : 0 ≡ place - from = omega (arith, here) in
+    let front : length (take from bytes) ≡ from = length-take-le from bytes within in
+    ap (λ z. take z new) here ∙ sym (take-take from (from + 4) new (omega arith)) ∙ ap (take from) put
+    ∙ take_at (take from bytes) (replicate 4 0) from front ∙ sym (append-nil (take from bytes)) ∙ ap (λ z. take from bytes ++ replicate z 0) none
+up_to from place bytes new (inr behind) within put =
+    let four : 4 ≡ place - from = omega (arith, behind) in
+    ap (λ z. take z new) behind ∙ put ∙ ap (λ z. take from bytes ++ replicate z 0) four
+
+pub overwritten : (from place end k : ℕ) (bytes new out text : List ℕ) → (place ≡ from) ⊎ (place ≡ from + 4) → end ≡ place + length text → from ≤ length bytes → place ≤ length new
+    → length text ≤ length out → take (from + 4) new ≡ take from bytes ++ replicate 4 0 → take (length text) out ≡ text
+    → take end (put_mid place k new out) ≡ take from bytes ++ (replicate (place - from) 0 ++ text)
+overwritten from place end k bytes new out text gap is within inside short padded put =
+    let rest : List ℕ = drop k (drop place new) in
+    let front : length (take place new) ≡ place = length-take-le place new inside in
+    let far : end ≡ length (take place new) + length text = omega (arith, is, front) in
+    ap (λ z. take z (take place new ++ (out ++ rest))) far ∙ take-append-add (take place new) (out ++ rest) (length text)
+    ∙ ap (λ z. take place new ++ z) (take-append-le (length text) out rest short ∙ put)
+    ∙ ap (λ z. z ++ text) (up_to from place bytes new gap within padded)
+    ∙ append_assoc (take from bytes) (replicate (place - from) 0) text
