@@ -9,3 +9,8 @@ pub mod Fronts
 pub mod ReadsBack
 pub mod Gets
 pub mod WideFronts
+pub mod LittleEndian
+pub mod Cutting
+pub mod Masking
+pub mod Storing
+pub mod Claiming

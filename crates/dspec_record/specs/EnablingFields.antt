@@ -1,6 +1,7 @@
 -- Cited by calls. How an `Enabling` holds a list of fields.
 use Rattle.std.specs.Prelude.{◌≡◌, ◌≤◌, ◌-◌, ◌++◌, ℕ, List, length, map, take, drop, replicate}
 use Rattle.dspec_record.specs.Layout.{limit, field_places, layout}
+use Rattle.dspec_record.specs.Packing.{words_in, words_of, mask_number}
 use Rattle.dspec_record.specs.declared.field.Field.{Field}
 use Rattle.dspec_record.specs.declared.field.Field.TheVariants.{One}
 use Rattle.dspec_record.specs.declared.header.Header.TheVariants as header
@@ -17,8 +18,12 @@ padded_places fs = field_places 4 fs ++ replicate (8 - length fs) 0
 abbrev pub padded_limits : List Field → List ℕ
 padded_limits fs = map limit fs ++ replicate (8 - length fs) 0
 
+-- which bits of nine words are bits of these fields
+abbrev pub masks_for : List Field → List ℕ
+masks_for fs = words_of 9 (mask_number 4 fs)
+
 -- there are eight fields, and those behind the list hold one value; shape and places are the list's layout without a stamp, and
--- the limits are those of the fields
+-- the limits, the number of words and their masks are those of the fields
 pub record IsLaidOut (a : Inside) : Type 0 where
   pub eight : length a.fields ≡ 8
   pub few : a.len ≤ 8
@@ -26,6 +31,8 @@ pub record IsLaidOut (a : Inside) : Type 0 where
   pub shape : a.shape ≡ layout header.One (take a.len a.fields)
   pub places : a.places ≡ padded_places (take a.len a.fields)
   pub limits : a.limits ≡ padded_limits (take a.len a.fields)
+  pub words : a.words ≡ words_in (take a.len a.fields)
+  pub masks : a.masks ≡ masks_for (take a.len a.fields)
 
 abbrev pub inside_of : List Field → Inside
 inside_of fs = record {
@@ -34,4 +41,6 @@ inside_of fs = record {
   shape = layout header.One fs;
   places = padded_places fs;
   limits = padded_limits fs;
+  words = words_in fs;
+  masks = masks_for fs;
 }

@@ -10,4 +10,6 @@ pub mod Schemas
 pub mod Packing
 pub mod EnablingFields
 pub mod EnablingRows
+pub mod FirstWords
+pub mod PackedFields
 pub mod Laws

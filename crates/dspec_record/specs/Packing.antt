@@ -1,6 +1,6 @@
--- Believed. A record whose text its caller packed into words of eight bytes: which record it is, what the caller claims of it, and
--- which bits of the words count.
-use Rattle.std.specs.Prelude.{◌≡◌, ℕ, zero, suc, ◌+◌, ◌*◌, ◌/◌, ◌%◌, ◌^◌, ◌==◌, ◌&&◌, nat_lt, Bool, List, [], ◌∷◌, length, take, Option, Some, None, option_and_then, if◌then◌else◌}
+-- Believed. A record as the words of its text, of eight bytes each: what record they stand for, and which of their bits count.
+use Rattle.std.specs.Prelude.{◌≡◌, ℕ, zero, suc, ◌+◌, ◌*◌, ◌/◌, ◌%◌, ◌^◌, ◌==◌, ◌&&◌, nat_lt, List, [], ◌∷◌, ◌++◌, length, take, Option, Some, None, option_and_then, if◌then◌else◌}
+use Rattle.std.specs.Int.RustNames.{bit_and}
 use Rattle.dspec_record.specs.Record.{Record}
 use Rattle.dspec_record.specs.Layout.{width, limit, rounded_up, after, layout}
 use Rattle.dspec_record.specs.RecordText.{little_endian, record_text}
@@ -8,15 +8,16 @@ use Rattle.dspec_record.specs.Schemas.{enabling_of}
 use Rattle.dspec_record.specs.declared.field.Field.{Field}
 use Rattle.dspec_record.specs.declared.header.Header.TheVariants as header
 
--- words of eight bytes as one number, the first lowest
+-- a list of words of eight bytes as one number, the first lowest
 abbrev pub number_of_words : List ℕ → ℕ
 number_of_words [] = 0
 number_of_words (w ∷ ws) = w + 2 ^ 64 * number_of_words ws
 
--- the value of each field: the number from the field's place on, cut at its width
+-- the value of each field: the number from the field's place on, cut at the field's width; both in bytes
 abbrev pub cuts : ℕ → List Field → ℕ → List ℕ
 cuts start [] n = []
-cuts start (f ∷ fs) n = n / 256 ^ rounded_up start (width f) % 256 ^ width f ∷ cuts (after start (width f) (width f)) fs n
+cuts start (f ∷ fs) n =
+    n / 256 ^ rounded_up start (width f) % 256 ^ width f ∷ cuts (after start (width f) (width f)) fs n
 
 -- the record that these words stand for: its fields are cut out of them, each at its place without a stamp
 abbrev pub packed_record : ℕ → ℕ → List Field → List ℕ → Record
@@ -27,7 +28,7 @@ abbrev pub words_in : List Field → ℕ
 words_in [] = 0
 words_in (f ∷ fs) = ((layout header.One (f ∷ fs)).size + 7) / 8
 
--- how many bytes each field has, four bits a field, the first field lowest
+-- the widths of the fields in one number, four bits each, the first lowest
 abbrev pub signature_of : List Field → ℕ
 signature_of [] = 0
 signature_of (f ∷ fs) = width f + 16 * signature_of fs
@@ -36,24 +37,39 @@ signature_of (f ∷ fs) = width f + 16 * signature_of fs
 abbrev pub claim_of : ℕ → List Field → ℕ
 claim_of epid fs = epid + 2 ^ 32 * signature_of fs
 
--- the claim is of this EPID with these fields, and they are laid in so many words, of which there is one at least
-abbrev pub is_claimed : ℕ → ℕ → List Field → Bool
-is_claimed claim n fs = (claim_of (claim % 2 ^ 32) fs == claim) && ((words_in fs == n) && nat_lt 0 n)
+-- these fields, if this claim and this number of words are theirs
+abbrev pub claimed_by : ℕ → ℕ → List Field → Option (List Field)
+claimed_by claim n fs =
+    if (claim_of (claim % 2 ^ 32) fs == claim) && ((words_in fs == n) && nat_lt 0 n) then Some fs else None
 
 -- the fields that a claim of so many words is true of, if it is
 abbrev pub claimed : List (List Field) → ℕ → ℕ → Option (List Field)
-claimed rows claim n = option_and_then (λ fs. if is_claimed claim n fs then Some fs else None) (enabling_of rows (claim % 2 ^ 32))
+claimed rows claim n = option_and_then (claimed_by claim n) (enabling_of rows (claim % 2 ^ 32))
 
 -- which bits of the words are bits of fields: a number
 abbrev pub mask_number : ℕ → List Field → ℕ
 mask_number start [] = 0
-mask_number start (f ∷ fs) = limit f * 256 ^ rounded_up start (width f) + mask_number (after start (width f) (width f)) fs
+mask_number start (f ∷ fs) =
+    limit f * 256 ^ rounded_up start (width f) + mask_number (after start (width f) (width f)) fs
 
 -- the first so many words of a number
 abbrev pub words_of : ℕ → ℕ → List ℕ
 words_of zero n = []
 words_of (suc k) n = n % 2 ^ 64 ∷ words_of k (n / 2 ^ 64)
 
+-- each word with the mask at its place; no words behind the last mask
+abbrev pub masked_words : List ℕ → List ℕ → List ℕ
+masked_words [] ms = []
+masked_words (w ∷ ws) [] = []
+masked_words (w ∷ ws) (m ∷ ms) = bit_and w m ∷ masked_words ws ms
+
+-- the bytes of these words, of each the lowest first
+abbrev pub words_text : List ℕ → List ℕ
+words_text [] = []
+words_text (w ∷ ws) = little_endian 8 w ++ words_text ws
+
 -- the words hold nothing but fields: as far as the record's text reaches, their bytes are that text with EPID 0
 abbrev pub IsClean : List Field → List ℕ → Type 0
-IsClean fs ws = take (layout header.One fs).size (little_endian (8 * length ws) (number_of_words ws)) ≡ record_text header.One fs (packed_record 0 0 fs ws)
+IsClean fs ws =
+    take (layout header.One fs).size (little_endian (8 * length ws) (number_of_words ws))
+    ≡ record_text header.One fs (packed_record 0 0 fs ws)

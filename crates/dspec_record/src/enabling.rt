@@ -1,4 +1,5 @@
 use crate::layout::{layout_of, limits_of, places_of};
+use crate::packing::{claim_for, masks_of, words_for};
 use crate::{Field, Header, Shape};
 use std::error::Error;
 use std::fmt;
@@ -6,6 +7,9 @@ use std::marker::Model;
 
 /// The most fields that an enabling has.
 pub(crate) const MAX_FIELDS: usize = 8;
+
+/// The most words of eight bytes that the text of a record has without a stamp.
+pub(crate) const MAX_WORDS: usize = 9;
 
 /// The most enablings that there are.
 const MAX_ENABLINGS: usize = 64;
@@ -30,8 +34,8 @@ impl fmt::Display for SchemaFault {
     }
 }
 
-/// The fields of one enabling, with their layout, the place of each without a stamp and the greatest value of each, which are
-/// worked out once.
+/// The fields of one enabling, with their layout, the place of each without a stamp, the greatest value of each, how many words
+/// their text has and the mask of each word, which are worked out once.
 #[derive(Debug, Clone, Copy, PartialEq, Eq)]
 pub(crate) struct Enabling {
     fields: [Field; MAX_FIELDS],
@@ -39,6 +43,8 @@ pub(crate) struct Enabling {
     shape: Shape,
     places: [u8; MAX_FIELDS],
     limits: [u64; MAX_FIELDS],
+    words: u32,
+    masks: [u64; MAX_WORDS],
 }
 
 impl Model for Enabling {
@@ -60,8 +66,9 @@ impl Model for Enabling {
 }
 
 impl Enabling {
-    ghost use Rattle.std.specs.Prelude.{◌≡◌, ◌≤◌, ◌+◌, length, map};
+    ghost use Rattle.std.specs.Prelude.{◌≡◌, ◌≤◌, ◌+◌, length, map, take};
     ghost use Rattle.dspec_record.specs.Layout.{limit, field_places, fields_start, layout};
+    ghost use Rattle.dspec_record.specs.Packing.{words_in, words_of, mask_number};
 
     fn of(fields: &[Field]) -> Enabling
         requires { length fields.now ≤ 8 }
@@ -75,6 +82,8 @@ impl Enabling {
             shape: layout_of(Header::One, fields),
             places: places_of(fields),
             limits: limits_of(fields),
+            words: words_for(fields),
+            masks: masks_of(fields),
         }
     }
 
@@ -101,6 +110,39 @@ impl Enabling {
         &self.limits[..self.len as usize]
     }
 
+    /// The fields in eight places, so that they can be copied by one store.
+    #[inline(always)]
+    pub(crate) fn held(&self) -> [Field; MAX_FIELDS]
+        ensures { take (length self.now) result ≡ self.now }
+    {
+        self.fields
+    }
+
+    /// How many fields there are.
+    #[inline(always)]
+    pub(crate) fn len(&self) -> u32
+        ensures many { result ≡ length self.now }
+        ensures few { result ≤ 8 }
+    {
+        self.len
+    }
+
+    /// How many words of eight bytes the text has without a stamp; 0 where there is no field.
+    #[inline(always)]
+    pub(crate) fn words(&self) -> u32
+        ensures { result ≡ words_in self.now }
+    {
+        self.words
+    }
+
+    /// Which bits of each of these words are bits of fields.
+    #[inline(always)]
+    pub(crate) fn masks(&self) -> &[u64; MAX_WORDS]
+        ensures { result.now ≡ words_of 9 (mask_number 4 self.now) }
+    {
+        &self.masks
+    }
+
     /// The layout behind this header, whose stamp has so many bytes: it moves each field by them, and no gap changes.
     #[inline(always)]
     pub(crate) fn shape(&self, _header: Header, stamp: u32) -> Shape
@@ -117,12 +159,14 @@ impl Enabling {
 }
 
 /// Enabled probes: which fields the records of an EPID have, and the header of them all. EPIDs are 1, 2, .. in the
-/// order of `enable`; there are at most 64 enablings of at most eight fields. How many bytes the header's stamp has is kept.
+/// order of `enable`; there are at most 64 enablings of at most eight fields. How many bytes the header's stamp has is kept,
+/// and the claim that is true of each enabling.
 #[derive(Debug, Clone, Copy, PartialEq, Eq)]
 pub struct Enablings {
     header: Header,
     stamp: u32,
     rows: [Enabling; MAX_ENABLINGS],
+    claims: [u64; MAX_ENABLINGS],
     count: u32,
 }
 
@@ -147,6 +191,7 @@ impl Enablings {
     ghost use Rattle.std.specs.Prelude.{◌≡◌, ◌≤◌, ◌<◌, ◌+◌, ◌-◌, ◌++◌, ◌∷◌, ◌↔◌, [], length, Some, IsSome, option_copied, IfOk, OnErr};
     ghost use Rattle.dspec_record.specs.Layout.{fields_start};
     ghost use Rattle.dspec_record.specs.Schemas.{enabling_of};
+    ghost use Rattle.dspec_record.specs.Packing.{claimed};
 
     /// No enabling; records have no stamp.
     pub fn new() -> Enablings
@@ -156,6 +201,7 @@ impl Enablings {
             header: Header::One,
             stamp: 0,
             rows: [Enabling::of(&[]); MAX_ENABLINGS],
+            claims: [0; MAX_ENABLINGS],
             count: 0,
         }
     }
@@ -178,6 +224,7 @@ impl Enablings {
         }
         self.rows[place] = Enabling::of(fields);
         self.count += 1;
+        self.claims[place] = claim_for(self.count, fields);
         Ok(self.count)
     }
 
@@ -235,6 +282,20 @@ impl Enablings {
             return None;
         }
         Some(self.row(epid))
+    }
+
+    /// The enabling that this claim and this number of words are of, if there is one.
+    #[inline(always)]
+    pub(crate) fn claimed_row(&self, claim: u64, count: usize) -> Option<&Enabling>
+        ensures { option_copied result ≡ claimed self.now.rows claim count }
+    {
+        let place = (claim.wrapping_sub(1) % MAX_ENABLINGS as u64) as usize;
+        let row = &self.rows[place];
+        // where nothing is enabled there are no words
+        if self.claims[place] != claim || row.words() as usize != count || count == 0 {
+            return None;
+        }
+        Some(row)
     }
 
     /// The enabling with this EPID, which is one of them.

@@ -18,7 +18,7 @@ inside_of-fields_of a p =
     let len : length (take a.len a.fields) ≡ a.len = length-take-le a.len a.fields few in
     let fields : fields_of a ++ replicate (8 - length (fields_of a)) One ≡ a.fields =
     padded_list a.fields a.len 8 One p.eight p.few p.rest in
-    λ i. record { fields = fields i; len = len i; shape = sym p.shape i; places = sym p.places i; limits = sym p.limits i }
+    λ i. record { fields = fields i; len = len i; shape = sym p.shape i; places = sym p.places i; limits = sym p.limits i; words = sym p.words i; masks = sym p.masks i }
 
 pub inside_of-rows_of : (a : all.Inside) → IsFilled a → filled.inside_of (rows_of a) ≡ a
 inside_of-rows_of a p =
@@ -28,4 +28,4 @@ inside_of-rows_of a p =
     let rows : take a.count a.rows ++ replicate (64 - length (take a.count a.rows)) none ≡ a.rows =
     padded_list a.rows a.count 64 none p.places p.few p.rest in
     let stamp : fields_start a.header - 4 ≡ a.stamp = omega (arith, p.stamp) in
-    λ i. record { header = a.header; stamp = stamp i; rows = rows i; count = len i }
+    λ i. record { header = a.header; stamp = stamp i; rows = rows i; claims = sym p.claims i; count = len i }

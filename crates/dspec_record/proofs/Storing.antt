@@ -1,0 +1,117 @@
+-- The bytes of clean words where they are stored with an EPID, and behind it a stamp, in place of the zeros before the fields.
+use Rattle.std.proofs.Common.{◌≡◌, ◌≤◌, ◌<◌, ◌+◌, ◌-◌, ◌*◌, ◌/◌, ◌%◌, ◌^◌, ◌++◌, ℕ, suc, All, List, [], ◌∷◌, length, take, get_or, refl, sym, ◌∙◌, ap, arith}
+use Rattle.std.proofs.Math.Nat.{div-add-mod'}
+use Rattle.std.proofs.Math.Seq.{take-append-add}
+use Rattle.std.proofs.lemmas.List.Elements.{All-head, All-tail}
+use Rattle.dspec_record.specs.Record.{Record}
+use Rattle.dspec_record.specs.Layout.{rounded_up, fields_end, layout}
+use Rattle.dspec_record.specs.RecordText.{little_endian, fields_text, record_text}
+use Rattle.dspec_record.specs.Packing.{number_of_words, cuts, packed_record, words_text, IsClean}
+use Rattle.dspec_record.specs.Laws.Layouts.{rounded_up-ge, fields_end-ge}
+use Rattle.dspec_record.specs.Laws.Texts.{append-same}
+use Rattle.dspec_record.proofs.LittleEndian.{little_endian-append, little_endian-parts}
+use Rattle.dspec_record.proofs.Cutting.{moved}
+use Rattle.dspec_record.specs.declared.field.Field.{Field}
+use Rattle.dspec_record.specs.declared.field.Field.TheVariants.{Four}
+use Rattle.dspec_record.specs.declared.header.Header.TheVariants as header
+
+-- words stored one behind the other are their number's bytes
+pub words_text-little_endian : (ws : List ℕ) → All (λ w. w < 2 ^ 64) ws → words_text ws ≡ little_endian (8 * length ws) (number_of_words ws)
+words_text-little_endian [] small = refl
+words_text-little_endian (w ∷ ws) small =
+    let P : ℕ → Type 0 = λ x. x < 2 ^ 64 in
+    let n : ℕ = number_of_words ws in
+    let count : 8 + 8 * length ws ≡ 8 * length (w ∷ ws) = omega arith in
+    let turned : n * 256 ^ 8 + w ≡ w + 2 ^ 64 * n = omega arith in
+    ap (λ t. little_endian 8 w ++ t) (words_text-little_endian ws (All-tail P w ws small))
+    ∙ sym (little_endian-parts 8 (8 * length ws) n w (All-head P w ws small))
+    ∙ ap (little_endian (8 + 8 * length ws)) turned
+    ∙ ap (λ k. little_endian k (w + 2 ^ 64 * n)) count
+
+-- the first four bytes and what stands behind them, of clean words
+record CleanParts (fs : List Field) (ws : List ℕ) (left : ℕ) : Type 0 where
+  zeros : little_endian 4 (number_of_words ws) ≡ little_endian 4 0
+  fields : take ((layout header.One fs).size - 4) (little_endian left (number_of_words ws / 256 ^ 4)) ≡ fields_text 4 fs (cuts 4 fs (number_of_words ws))
+
+size-from_four : (fs : List Field) → (layout header.One fs).size ≡ 4 + ((layout header.One fs).size - 4)
+size-from_four fs = omega (arith, fields_end-ge 4 fs, rounded_up-ge Four (fields_end 4 fs))
+
+-- what is taken of four bytes and others behind them
+take-behind_four : (size : ℕ) (x : ℕ) (t : List ℕ) → size ≡ 4 + (size - 4) → take size (little_endian 4 x ++ t) ≡ little_endian 4 x ++ take (size - 4) t
+take-behind_four size x t is =
+    ap (λ k. take k (little_endian 4 x ++ t)) is ∙ take-append-add (little_endian 4 x) t (size - 4)
+
+clean-parts : (fs : List Field) (ws : List ℕ) (left : ℕ) → 8 * length ws ≡ 4 + left → IsClean fs ws → CleanParts fs ws left
+clean-parts fs ws left count clean =
+    let n : ℕ = number_of_words ws in
+    let size : ℕ = (layout header.One fs).size in
+    let cut : little_endian (8 * length ws) n ≡ little_endian 4 n ++ little_endian left (n / 256 ^ 4) =
+    ap (λ k. little_endian k n) count ∙ little_endian-append 4 left n in
+    let both = append-same (little_endian 4 n) (little_endian 4 0) (take (size - 4) (little_endian left (n / 256 ^ 4))) (fields_text 4 fs (cuts 4 fs n)) refl (
+    sym (take-behind_four size n (little_endian left (n / 256 ^ 4)) (size-from_four fs)) ∙ ap (take size) (sym cut) ∙ clean) in
+    record { zeros = both.0; fields = both.1 }
+
+zero-low : (n : ℕ) → little_endian 4 n ≡ little_endian 4 0 → n % 2 ^ 32 ≡ 0
+zero-low n is =
+    let at0 : n % 256 ≡ 0 = ap (λ bs. get_or bs 0 0) is in
+    let at1 : n / 256 ^ 1 % 256 ≡ 0 = ap (λ bs. get_or bs 1 0) is in
+    let at2 : n / 256 ^ 2 % 256 ≡ 0 = ap (λ bs. get_or bs 2 0) is in
+    let at3 : n / 256 ^ 3 % 256 ≡ 0 = ap (λ bs. get_or bs 3 0) is in
+    omega (arith, at0, at1, at2, at3)
+
+-- the first four bytes of clean words are zero
+pub clean-first : (fs : List Field) (w : ℕ) (rest : List ℕ) → IsClean fs (w ∷ rest) → w % 2 ^ 32 ≡ 0
+clean-first fs w rest clean =
+    let n : ℕ = number_of_words rest in
+    let low : (w + 2 ^ 64 * n) % 2 ^ 32 ≡ 0 = zero-low (w + 2 ^ 64 * n) (clean-parts fs (w ∷ rest) (4 + 8 * length rest) (omega arith) clean).zeros in
+    omega (arith, low)
+
+-- with a number of four bytes in their place
+first-stored : (fs : List Field) (w first : ℕ) (rest : List ℕ) → w < 2 ^ 64 → first < 2 ^ 32 → IsClean fs (w ∷ rest)
+    → take (layout header.One fs).size (little_endian 8 (w + first) ++ little_endian (8 * length rest) (number_of_words rest))
+    ≡ little_endian 4 first ++ fields_text 4 fs (cuts 4 fs (number_of_words (w ∷ rest)))
+first-stored fs w first rest small fits clean =
+    let size : ℕ = (layout header.One fs).size in
+    let n : ℕ = number_of_words rest in
+    let all : ℕ = w + 2 ^ 64 * n in
+    let left : ℕ = 4 + 8 * length rest in
+    let parts : CleanParts fs (w ∷ rest) left = clean-parts fs (w ∷ rest) left (omega arith) clean in
+    let none : w % 2 ^ 32 ≡ 0 = clean-first fs w rest clean in
+    let below : w + first < 256 ^ 8 = omega (arith, none) in
+    let count : 8 + 8 * length rest ≡ 4 + left = omega arith in
+    let same : n * 256 ^ 8 + (w + first) ≡ all / 256 ^ 4 * 256 ^ 4 + first = omega (arith, none) in
+    let bytes : little_endian 8 (w + first) ++ little_endian (8 * length rest) n ≡ little_endian 4 first ++ little_endian left (all / 256 ^ 4) =
+    sym (little_endian-parts 8 (8 * length rest) n (w + first) below)
+    ∙ ap (little_endian (8 + 8 * length rest)) same
+    ∙ ap (λ k. little_endian k (all / 256 ^ 4 * 256 ^ 4 + first)) count
+    ∙ little_endian-parts 4 left (all / 256 ^ 4) first fits in
+    ap (take size) bytes
+    ∙ take-behind_four size first (little_endian left (all / 256 ^ 4)) (size-from_four fs)
+    ∙ ap (λ t. little_endian 4 first ++ t) parts.fields
+
+-- the first word is stored with the EPID
+pub stored : (epid : ℕ) (fs : List Field) (w : ℕ) (rest : List ℕ) → w < 2 ^ 64 → epid < 2 ^ 32 → IsClean fs (w ∷ rest)
+    → take (layout header.One fs).size (little_endian 8 (w + epid) ++ little_endian (8 * length rest) (number_of_words rest))
+    ≡ record_text header.One fs (packed_record epid 0 fs (w ∷ rest))
+stored epid fs w rest small fits clean = first-stored fs w epid rest small fits clean
+
+-- with a stamp, a word of EPID and the stamp's low half is stored, and the first word with its high half
+pub stored-stamped : (epid stamp : ℕ) (fs : List Field) (w : ℕ) (rest : List ℕ) → w < 2 ^ 64 → epid < 2 ^ 32 → stamp < 2 ^ 64 → IsClean fs (w ∷ rest)
+    → take ((layout header.One fs).size + 8) (little_endian 8 (epid + 2 ^ 32 * (stamp % 2 ^ 32)) ++ (little_endian 8 (w + stamp / 2 ^ 32) ++ little_endian (8 * length rest) (number_of_words rest)))
+    ≡ record_text header.Two fs (packed_record epid stamp fs (w ∷ rest))
+stored-stamped epid stamp fs w rest small fits stamp_fits clean =
+    let size : ℕ = (layout header.One fs).size in
+    let low : ℕ = stamp % 2 ^ 32 in
+    let high : ℕ = stamp / 2 ^ 32 in
+    let values : List ℕ = cuts 4 fs (number_of_words (w ∷ rest)) in
+    let first : ℕ = epid + 2 ^ 32 * low in
+    let behind : List ℕ = little_endian 8 (w + high) ++ little_endian (8 * length rest) (number_of_words rest) in
+    let count : size + 8 ≡ 8 + size = omega arith in
+    let turned : first ≡ low * 256 ^ 4 + epid = omega arith in
+    let header_word : little_endian 8 first ≡ little_endian 4 epid ++ little_endian 4 low =
+    ap (little_endian 8) turned ∙ little_endian-parts 4 4 low epid fits in
+    ap (λ k. take k (little_endian 8 first ++ behind)) count
+    ∙ take-append-add (little_endian 8 first) behind size
+    ∙ ap (λ t. little_endian 8 first ++ t) (first-stored fs w high rest small (omega arith) clean)
+    ∙ ap (λ t. t ++ (little_endian 4 high ++ fields_text 4 fs values)) header_word
+    ∙ ap (λ t. (little_endian 4 epid ++ little_endian 4 low) ++ (little_endian 4 high ++ t)) (sym (moved fs values))

@@ -1,0 +1,225 @@
+ghost use Rattle.std.specs.Prelude.{◌≡◌, ◌≤◌, ◌<◌, ◌+◌, ◌*◌, ◌^◌, ◌++◌, length, take};
+ghost use Rattle.dspec_record.specs.Layout.{layout};
+ghost use Rattle.dspec_record.specs.RecordText.{little_endian};
+ghost use Rattle.dspec_record.specs.Packing.{words_in, masked_words, words_text, IsClean};
+ghost use Rattle.dspec_record.specs.declared.header.Header.TheVariants.{One};
+
+use crate::codec::{fits_header, read_record};
+use crate::enabling::{Enabling, MAX_FIELDS, MAX_WORDS};
+use crate::{Enablings, Field, Header, KnownHeader, Rec, Recorded, Schema, Shape};
+use std::alloc::AllocError;
+use std::marker::PhantomData;
+
+/// How many numbers half a word holds.
+const HALF: u64 = 1 << 32;
+
+/// The most bytes that the text of a record has without a stamp.
+const MAX_TEXT: usize = 8 * MAX_WORDS;
+
+/// A record whose text its caller packed into words of eight bytes: they are stored as they are, so that no field is looked at.
+/// What is no field is cleared from them; EPID and stamp stand beside.
+pub struct Packed<H: KnownHeader> {
+    epid: u32,
+    stamp: u64,
+    fields: [Field; MAX_FIELDS],
+    len: u32,
+    shape: Shape,
+    count: usize,
+    words: [u64; MAX_WORDS],
+    header: PhantomData<H>,
+    ghost few: { len ≤ 8 },
+    ghost laid: { shape ≡ layout One (take len fields) },
+    ghost some: { 0 < count },
+    ghost many: { count ≡ words_in (take len fields) },
+    ghost clean: { IsClean (take len fields) (take count words) },
+}
+
+impl<H: KnownHeader> Copy for Packed<H> {}
+
+impl<H: KnownHeader> Clone for Packed<H> {
+    fn clone(&self) -> Result<Packed<H>, AllocError> {
+        Ok(Packed {
+            epid: self.epid,
+            stamp: self.stamp,
+            fields: self.fields,
+            len: self.len,
+            shape: self.shape,
+            count: self.count,
+            words: self.words,
+            header: PhantomData,
+        })
+    }
+}
+
+impl Enablings {
+    ghost use Rattle.std.specs.Prelude.{◌≡◌, ◌↔◌, ◌%◌, ◌^◌, IsTrue, length, IfSome, IsSome};
+    ghost use Rattle.dspec_record.specs.LaidOut.{IsLaidBy};
+    ghost use Rattle.dspec_record.specs.Packing.{claimed, packed_record};
+    ghost use Rattle.dspec_record.specs.PackedFields.{packed_of, laid_of};
+    ghost use Rattle.dspec_record.specs.RecordText.{stamp_fits};
+
+    /// The record of the claimed EPID with this stamp, whose fields stand in these words. None where the claim is true of no
+    /// enabling, the number of words is another than its fields have, or the enablings have another header. Bits that are of
+    /// no field count for nothing.
+    #[inline(always)]
+    pub fn packed<H: KnownHeader>(&self, claim: u64, stamp: u64, words: &[u64]) -> Option<Packed<H>>
+        ensures due { IsSome result ↔ ((self.now.header ≡ H.header_is) × IsTrue (stamp_fits H.header_is stamp)
+            × IsSome (claimed self.now.rows claim (length words.now))) }
+        ensures holds { IfSome result (λ p. IfSome (claimed self.now.rows claim (length words.now))
+            (λ fs. packed_of p ≡ packed_record (claim % 2 ^ 32) stamp fs words.now)) }
+        ensures accepted { IfSome result (λ p. IsTrue (⟦<Enablings as Schema>⟧.accepted self.now (packed_of p))) }
+        ensures laid { IfSome result (λ p. IsLaidBy (⟦<Enablings as Schema>⟧.shape_of self.now)
+            (⟦<Enablings as Schema>⟧.text self.now) (packed_of p) (laid_of H.header_is p)) }
+    {
+        let row = self.claimed_row(claim, words.len())?;
+        if self.header() != H::header() || !fits_header(H::header(), stamp) {
+            return None;
+        }
+        Some(Packed::of((claim % HALF) as u32, stamp, row, words))
+    }
+}
+
+impl<H: KnownHeader> Packed<H> {
+    ghost use Rattle.std.specs.Prelude.{◌≡◌, ◌≤◌, ◌<◌, ◌+◌, ◌*◌, ◌^◌, ◌++◌, length, take};
+    ghost use Rattle.dspec_record.specs.FirstWords.{with_low};
+    ghost use Rattle.dspec_record.specs.Packing.{words_in, words_text, packed_record};
+    ghost use Rattle.dspec_record.specs.PackedFields.{packed_fields, packed_words, packed_of};
+
+    #[inline(always)]
+    fn of(epid: u32, stamp: u64, row: &Enabling, words: &[u64]) -> Packed<H>
+        requires some { 0 < length words.now }
+        requires many { length words.now ≡ words_in row.now }
+        ensures fields { packed_fields result ≡ row.now }
+        ensures holds { packed_of result ≡ packed_record epid stamp row.now words.now }
+    {
+        Packed {
+            epid,
+            stamp,
+            fields: row.held(),
+            len: row.len(),
+            shape: shape_of_words(row, words.len()),
+            count: words.len(),
+            words: masked(words, row.masks()),
+            header: PhantomData,
+        }
+    }
+
+    /// Writes the words at `at`, the first with this number in the place of its zeros.
+    #[inline(always)]
+    fn put_at(&self, low: u64, at: usize, out: &mut [u8])
+        requires low { low < 2 ^ 32 }
+        requires room { at + 8 * self.now.count ≤ length out.old }
+        ensures put { take (at + 8 * self.now.count) out.new ≡ take at out.old ++ words_text (with_low low (packed_words self.now)) }
+    {
+        put_word(self.words[0] + low, at, out);
+        put_words(&self.words[1..self.count], at + 8, out);
+    }
+
+    /// The record, read out of its text without a stamp.
+    fn read(&self) -> Rec
+        ensures { result ≡ packed_of self.now }
+    {
+        let mut text = [0; MAX_TEXT];
+        self.put_at(u64::from(self.epid), 0, &mut text);
+        let fields = &self.fields[..self.len as usize];
+        let size = self.shape.size as usize;
+        let Some(rec) = read_record(Header::One, fields, self.epid, &text[..size]) else {
+            unreachable!()
+        };
+        Rec::few(self.epid, self.stamp, rec.values())
+    }
+}
+
+/// The shape of records of this enabling, whose text has so many words without a stamp.
+#[inline(always)]
+fn shape_of_words(row: &Enabling, count: usize) -> Shape
+    requires many { count ≡ words_in row.now }
+    ensures { result ≡ layout One row.now }
+{
+    // one word has one shape: where the caller knows the number of words nothing is looked up
+    if count == 1 {
+        return Shape { size: 8, align: 4 };
+    }
+    row.shape(Header::One, 0)
+}
+
+/// The words without the bits that the masks don't have.
+#[inline(always)]
+fn masked(words: &[u64], masks: &[u64; MAX_WORDS]) -> [u64; MAX_WORDS]
+    requires { length words.now ≤ 9 }
+    ensures { take (length words.now) result ≡ masked_words words.now masks.now }
+{
+    let mut kept = [0; MAX_WORDS];
+    for i in 0..words.len() {
+        kept[i] = words[i] & masks[i];
+    }
+    kept
+}
+
+/// Writes a word of eight bytes at `at`.
+#[inline(always)]
+fn put_word(word: u64, at: usize, out: &mut [u8])
+    requires { at + 8 ≤ length out.old }
+    ensures { take (at + 8) out.new ≡ take at out.old ++ little_endian 8 word }
+{
+    *out[at..].first_chunk_mut::<8>().unwrap() = word.to_le_bytes();
+}
+
+/// Writes words one behind the other, the first at `at`.
+#[inline(always)]
+fn put_words(words: &[u64], at: usize, out: &mut [u8])
+    requires { at + 8 * length words.now ≤ length out.old }
+    ensures { take (at + 8 * length words.now) out.new ≡ take at out.old ++ words_text words.now }
+{
+    for i in 0..words.len() {
+        put_word(words[i], at + i * 8, out);
+    }
+}
+
+impl<'a, H: KnownHeader> Recorded for &'a Packed<H> {
+    ghost use Rattle.dspec_record.specs.PackedFields.{packed_of, laid_of};
+
+    ghost as_record = { λ p. packed_of p.now };
+
+    ghost laid_as = { λ p. laid_of H.header_is p.now };
+
+    #[inline(always)]
+    fn epid(&self) -> u32 {
+        self.epid
+    }
+
+    #[inline(always)]
+    fn stamp(&self) -> u64 {
+        self.stamp
+    }
+
+    #[inline(always)]
+    fn values(&self) -> Option<&[u64]> {
+        None
+    }
+
+    fn to_rec(&self) -> Rec {
+        self.read()
+    }
+
+    #[inline(always)]
+    fn laid_shape(&self) -> Option<Shape> {
+        Some(Shape {
+            size: self.shape.size + H::header().stamp_size() as u32,
+            align: self.shape.align,
+        })
+    }
+
+    #[inline(always)]
+    fn put_laid(&self, out: &mut [u8]) -> bool {
+        let epid = u64::from(self.epid);
+        match H::header() {
+            Header::One => self.put_at(epid, 0, out),
+            Header::Two => {
+                put_word(epid + self.stamp % HALF * HALF, 0, out);
+                self.put_at(self.stamp / HALF, 8, out);
+            }
+        }
+        true
+    }
+}
