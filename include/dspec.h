@@ -219,10 +219,17 @@ dspec_status dspec_tend(dspec_session *session, uint64_t *settled) DSPEC_NOEXCEP
  * DSPEC_WORN. DSPEC_BAD_RECORD: it was counted as refused, and nothing else was done. DSPEC_BAD_HANDLE: nothing was done. */
 dspec_status dspec_trace(dspec_cpu *cpu, uint32_t epid, uint64_t stamp, const uint64_t *values, size_t n) DSPEC_NOEXCEPT;
 
-/* As dspec_trace, for a caller that knows the record's fields when it is compiled, and says them by their signature: how many bytes
- * each has, four bits a field, the first field lowest (0x48 is a field of 8 bytes and one of 4). Where the EPID has other fields, or isn't
- * enabled, it is DSPEC_BAD_RECORD, and counted as refused. dspec_probe.h declares probes whose records are traced so. */
-dspec_status dspec_fire(dspec_cpu *cpu, uint32_t signature, uint32_t epid, uint64_t stamp, const uint64_t *values, size_t n) DSPEC_NOEXCEPT;
+/* Traces the record whose text is these words: what a program packs that knows the record's fields when it is compiled. Behind four bytes
+ * for the EPID stands each field at the next multiple of its width, the lowest byte first; a word is eight of these bytes, the first the
+ * lowest. What stands in the EPID's place and between fields counts for nothing, and so no value is refused. claim is the EPID, and above
+ * 32 bits how many bytes each field has, four bits a field, the first field lowest: (uint64_t)0x48 << 32 | epid is of a field of 8 bytes
+ * and one of 4, whose words are three. Where the EPID has other fields, or isn't enabled, or there are more or fewer words than its fields
+ * take, it is DSPEC_BAD_RECORD, and counted as refused; so is a record of no fields. dspec_probe.h declares probes whose records are put so.
+ * Else as dspec_trace. */
+dspec_status dspec_put_1(dspec_cpu *cpu, uint64_t claim, uint64_t stamp, uint64_t w0) DSPEC_NOEXCEPT;
+dspec_status dspec_put_2(dspec_cpu *cpu, uint64_t claim, uint64_t stamp, uint64_t w0, uint64_t w1) DSPEC_NOEXCEPT;
+dspec_status dspec_put_3(dspec_cpu *cpu, uint64_t claim, uint64_t stamp, uint64_t w0, uint64_t w1, uint64_t w2) DSPEC_NOEXCEPT;
+dspec_status dspec_put(dspec_cpu *cpu, uint64_t claim, uint64_t stamp, const uint64_t *words, size_t n) DSPEC_NOEXCEPT;
 
 /* Opens a speculation; its identifier goes to any CPU of the session, as a number.
  * DSPEC_OK. DSPEC_UNAVAILABLE, DSPEC_BUSY (clean, then try again), DSPEC_STOPPED, DSPEC_WORN: counted, and none was given.
@@ -234,8 +241,11 @@ dspec_status dspec_speculation(dspec_cpu *cpu, uint64_t *id) DSPEC_NOEXCEPT;
  * DSPEC_BAD_RECORD: it was counted as refused, and nothing else was done. DSPEC_BAD_HANDLE: nothing was done. */
 dspec_status dspec_speculate(dspec_cpu *cpu, uint64_t id, uint32_t epid, uint64_t stamp, const uint64_t *values, size_t n) DSPEC_NOEXCEPT;
 
-/* As dspec_speculate, for a caller that says the record's fields by their signature, as of dspec_fire. */
-dspec_status dspec_fire_in(dspec_cpu *cpu, uint64_t id, uint32_t signature, uint32_t epid, uint64_t stamp, const uint64_t *values, size_t n) DSPEC_NOEXCEPT;
+/* As dspec_speculate, of the record whose text is these words, as dspec_put_1 has them. */
+dspec_status dspec_put_in_1(dspec_cpu *cpu, uint64_t id, uint64_t claim, uint64_t stamp, uint64_t w0) DSPEC_NOEXCEPT;
+dspec_status dspec_put_in_2(dspec_cpu *cpu, uint64_t id, uint64_t claim, uint64_t stamp, uint64_t w0, uint64_t w1) DSPEC_NOEXCEPT;
+dspec_status dspec_put_in_3(dspec_cpu *cpu, uint64_t id, uint64_t claim, uint64_t stamp, uint64_t w0, uint64_t w1, uint64_t w2) DSPEC_NOEXCEPT;
+dspec_status dspec_put_in(dspec_cpu *cpu, uint64_t id, uint64_t claim, uint64_t stamp, const uint64_t *words, size_t n) DSPEC_NOEXCEPT;
 
 /* Commits a speculation: this CPU's records of it go to its principal buffer, all or none; the other CPUs do the same with theirs
  * at their next service. count is the number of this CPU's records, and is written at DSPEC_OK and DSPEC_LOST.

@@ -68,6 +68,27 @@ template <typename... Fields> constexpr std::uint32_t signature() noexcept {
     return word;
 }
 
+/* The text of a record in words, each field at the next multiple of its width behind the EPID's four bytes. */
+template <typename... Fields> struct packed {
+    std::uint64_t words[9] = {};
+    std::size_t end = 4;
+
+    constexpr explicit packed(Fields... values) noexcept { (put(values), ...); }
+    /* How many words there are: known by the fields. */
+    static constexpr std::size_t count() noexcept {
+        std::size_t at = 4;
+        ((at = (at + sizeof(Fields) - 1) / sizeof(Fields) * sizeof(Fields) + sizeof(Fields)), ...);
+        return (at + 7) / 8;
+    }
+
+private:
+    template <typename T> constexpr void put(T value) noexcept {
+        end = (end + sizeof(T) - 1) / sizeof(T) * sizeof(T);
+        words[end / 8] |= bits(value) << 8 * (end % 8);
+        end += sizeof(T);
+    }
+};
+
 /* Owns a handle of one kind. */
 template <typename Handle> class owned {
     Handle handle_ = DSPEC_EMPTY;
@@ -94,10 +115,13 @@ public:
 template <field... Fields> struct probe {
     static_assert(sizeof...(Fields) <= DSPEC_MAX_FIELDS, "a record has at most eight fields");
     static constexpr std::size_t fields = sizeof...(Fields);
-    /* How many bytes each field has, as dspec_fire wants it. */
+    /* How many bytes each field has, four bits a field, the first lowest. */
     static constexpr std::uint32_t signature = detail::signature<Fields...>();
 
     std::uint32_t epid = 0; /* 0 of a probe that wasn't enabled, whose records are DSPEC_BAD_RECORD */
+
+    /* What its records claim, as dspec_put wants it. */
+    std::uint64_t claim() const noexcept { return std::uint64_t{signature} << 32 | epid; }
 
     /* The values of a record of this probe; none of another's. */
     std::optional<std::tuple<Fields...>> read(const dspec_record &record) const noexcept {
@@ -181,8 +205,27 @@ class cpu : public detail::owned<dspec_cpu> {
     void takes_paths_of(cpu &other) noexcept;
     void ends_paths() noexcept;
 
-    template <field... Fields> static std::array<std::uint64_t, sizeof...(Fields) + 1> row(Fields... values) noexcept {
-        return {detail::bits(values)..., 0};
+    template <field... Fields> dspec_status put(probe<Fields...> of, std::uint64_t stamp, Fields... values) noexcept {
+        using packed = detail::packed<Fields...>;
+        if constexpr (sizeof...(Fields) == 0) return dspec_trace(get(), of.epid, stamp, nullptr, 0);
+        else {
+            const packed text{values...};
+            if constexpr (packed::count() == 1) return dspec_put_1(get(), of.claim(), stamp, text.words[0]);
+            else if constexpr (packed::count() == 2) return dspec_put_2(get(), of.claim(), stamp, text.words[0], text.words[1]);
+            else if constexpr (packed::count() == 3) return dspec_put_3(get(), of.claim(), stamp, text.words[0], text.words[1], text.words[2]);
+            else return dspec_put(get(), of.claim(), stamp, text.words, packed::count());
+        }
+    }
+    template <field... Fields> dspec_status put_in(std::uint64_t id, probe<Fields...> of, std::uint64_t stamp, Fields... values) noexcept {
+        using packed = detail::packed<Fields...>;
+        if constexpr (sizeof...(Fields) == 0) return dspec_speculate(get(), id, of.epid, stamp, nullptr, 0);
+        else {
+            const packed text{values...};
+            if constexpr (packed::count() == 1) return dspec_put_in_1(get(), id, of.claim(), stamp, text.words[0]);
+            else if constexpr (packed::count() == 2) return dspec_put_in_2(get(), id, of.claim(), stamp, text.words[0], text.words[1]);
+            else if constexpr (packed::count() == 3) return dspec_put_in_3(get(), id, of.claim(), stamp, text.words[0], text.words[1], text.words[2]);
+            else return dspec_put_in(get(), id, of.claim(), stamp, text.words, packed::count());
+        }
     }
 
 public:
@@ -201,14 +244,14 @@ public:
         return trace_at(of, 0, values...);
     }
     template <field... Fields> dspec_status trace_at(probe<Fields...> of, std::uint64_t stamp, std::type_identity_t<Fields>... values) noexcept {
-        return dspec_fire(get(), of.signature, of.epid, stamp, row<Fields...>(values...).data(), sizeof...(Fields));
+        return put<Fields...>(of, stamp, values...);
     }
     template <field... Fields> dspec_status speculate(std::uint64_t id, probe<Fields...> of, std::type_identity_t<Fields>... values) noexcept {
         return speculate_at(id, of, 0, values...);
     }
     template <field... Fields>
     dspec_status speculate_at(std::uint64_t id, probe<Fields...> of, std::uint64_t stamp, std::type_identity_t<Fields>... values) noexcept {
-        return dspec_fire_in(get(), id, of.signature, of.epid, stamp, row<Fields...>(values...).data(), sizeof...(Fields));
+        return put_in<Fields...>(id, of, stamp, values...);
     }
     decided commit(std::uint64_t id) noexcept {
         decided told{DSPEC_OK, 0};

@@ -7,8 +7,8 @@
  *
  *     query_probe q;                                              the probe; all zeros until it is enabled
  *     query_enable(&q, &layout, &schema)                          answers as dspec_layout_enable
- *     query_trace(&q, &cpu, stamp, request, micros)               answers as dspec_fire
- *     query_speculate(&q, &cpu, id, stamp, request, micros)       answers as dspec_fire_in
+ *     query_trace(&q, &cpu, stamp, request, micros)               answers as dspec_put
+ *     query_speculate(&q, &cpu, id, stamp, request, micros)       answers as dspec_put_in
  *     query_values v; query_read(&q, &record, &v)                 whether the record is one of q; its values are in v.request, v.micros
  *     query_name(&names)                                          adds its name and those of its fields, for the metadata of a trace
  *
@@ -78,46 +78,65 @@ static inline void dspec_bool_of(void *value, const uint64_t *bits, size_t width
 #define DSPEC_PROBE_ARGUMENT_(AT, TYPE, NAME) , TYPE NAME
 #define DSPEC_PROBE_WIDTH_(AT, TYPE, NAME) sizeof(TYPE),
 #define DSPEC_PROBE_SIGN_(AT, TYPE, NAME) | (uint32_t)sizeof(TYPE) << 4 * AT
-#define DSPEC_PROBE_BITS_(AT, TYPE, NAME) dspec_bits_of(&NAME, sizeof NAME),
+/* Each field at its place behind the EPID's four bytes. A union with the struct was tried: gcc 12 makes narrow stores of it and one wide load. */
+#define DSPEC_PROBE_PACK_(AT, TYPE, NAME)                                                      \
+    dspec_end_ = (dspec_end_ + sizeof(TYPE) - 1) / sizeof(TYPE) * sizeof(TYPE);                \
+    dspec_words_[dspec_end_ / 8] |= dspec_bits_of(&NAME, sizeof NAME) << 8 * (dspec_end_ % 8); \
+    dspec_end_ += sizeof(TYPE);
 #define DSPEC_PROBE_BACK_(AT, TYPE, NAME) \
     _Generic(dspec_values_->NAME, bool: dspec_bool_of, default: dspec_value_of)(&dspec_values_->NAME, &dspec_record_->values[AT], sizeof(TYPE));
 #define DSPEC_PROBE_KIND_(AT, TYPE, NAME) dspec_names_field(dspec_names_, #NAME, DSPEC_KIND_OF(TYPE));
 #define DSPEC_PROBE_ASSERT_(AT, TYPE, NAME) \
     static_assert(sizeof(TYPE) == 1 || sizeof(TYPE) == 2 || sizeof(TYPE) == 4 || sizeof(TYPE) == 8, "a field has 1, 2, 4 or 8 bytes");
 
-#define DSPEC_PROBE(PROBE, ...)                                                                                                                        \
-    typedef struct PROBE##_probe {                                                                                                                     \
-        uint32_t epid;                                                                                                                                 \
-    } PROBE##_probe;                                                                                                                                   \
-    typedef struct PROBE##_values {                                                                                                                    \
-        DSPEC_PROBE_EACH_(DSPEC_PROBE_FIELD_, __VA_ARGS__)                                                                                             \
-    } PROBE##_values;                                                                                                                                  \
-    DSPEC_PROBE_CALL_ dspec_status PROBE##_enable(PROBE##_probe *dspec_probe_, dspec_layout *dspec_layout_, dspec_schema *dspec_schema_) {             \
-        static const uint8_t dspec_widths_[] = { DSPEC_PROBE_EACH_(DSPEC_PROBE_WIDTH_, __VA_ARGS__) };                                                 \
-        DSPEC_PROBE_EACH_(DSPEC_PROBE_ASSERT_, __VA_ARGS__)                                                                                            \
-        return dspec_layout_enable(dspec_layout_, dspec_schema_, dspec_widths_, sizeof dspec_widths_, &dspec_probe_->epid);                            \
-    }                                                                                                                                                  \
-    DSPEC_PROBE_CALL_ dspec_status PROBE##_trace(const PROBE##_probe *dspec_probe_, dspec_cpu *dspec_cpu_,                                             \
-                                             uint64_t dspec_stamp_ DSPEC_PROBE_EACH_(DSPEC_PROBE_ARGUMENT_, __VA_ARGS__)) {                            \
-        const uint64_t dspec_bits_[] = { DSPEC_PROBE_EACH_(DSPEC_PROBE_BITS_, __VA_ARGS__) };                                                          \
-        return dspec_fire(dspec_cpu_, 0 DSPEC_PROBE_EACH_(DSPEC_PROBE_SIGN_, __VA_ARGS__), dspec_probe_->epid, dspec_stamp_, dspec_bits_,              \
-                          sizeof dspec_bits_ / sizeof dspec_bits_[0]);                                                                                 \
-    }                                                                                                                                                  \
-    DSPEC_PROBE_CALL_ dspec_status PROBE##_speculate(const PROBE##_probe *dspec_probe_, dspec_cpu *dspec_cpu_, uint64_t dspec_id_,                     \
-                                                 uint64_t dspec_stamp_ DSPEC_PROBE_EACH_(DSPEC_PROBE_ARGUMENT_, __VA_ARGS__)) {                        \
-        const uint64_t dspec_bits_[] = { DSPEC_PROBE_EACH_(DSPEC_PROBE_BITS_, __VA_ARGS__) };                                                          \
-        return dspec_fire_in(dspec_cpu_, dspec_id_, 0 DSPEC_PROBE_EACH_(DSPEC_PROBE_SIGN_, __VA_ARGS__), dspec_probe_->epid, dspec_stamp_,             \
-                             dspec_bits_, sizeof dspec_bits_ / sizeof dspec_bits_[0]);                                                                 \
-    }                                                                                                                                                  \
-    DSPEC_PROBE_CALL_ bool PROBE##_read(const PROBE##_probe *dspec_probe_, const dspec_record *dspec_record_, PROBE##_values *dspec_values_) {         \
-        if (dspec_record_->epid != dspec_probe_->epid) return false;                                                                                   \
-        DSPEC_PROBE_EACH_(DSPEC_PROBE_BACK_, __VA_ARGS__)                                                                                              \
-        return true;                                                                                                                                   \
-    }                                                                                                                                                  \
-    DSPEC_PROBE_CALL_ void PROBE##_name(dspec_names *dspec_names_) {                                                                                   \
-        dspec_names_event(dspec_names_, #PROBE);                                                                                                       \
-        DSPEC_PROBE_EACH_(DSPEC_PROBE_KIND_, __VA_ARGS__)                                                                                              \
-    }                                                                                                                                                  \
-    static_assert(sizeof(PROBE##_probe) == 4, "a probe is its EPID")
+#define DSPEC_PROBE(PROBE, ...)                                                                                                                          \
+    typedef struct PROBE##_probe {                                                                                                                       \
+        uint32_t epid, fields;                                                                                                                           \
+    } PROBE##_probe;                                                                                                                                     \
+    typedef struct PROBE##_values {                                                                                                                      \
+        DSPEC_PROBE_EACH_(DSPEC_PROBE_FIELD_, __VA_ARGS__)                                                                                               \
+    } PROBE##_values;                                                                                                                                    \
+    DSPEC_PROBE_CALL_ dspec_status PROBE##_enable(PROBE##_probe *dspec_probe_, dspec_layout *dspec_layout_, dspec_schema *dspec_schema_) {               \
+        static const uint8_t dspec_widths_[] = { DSPEC_PROBE_EACH_(DSPEC_PROBE_WIDTH_, __VA_ARGS__) };                                                   \
+        DSPEC_PROBE_EACH_(DSPEC_PROBE_ASSERT_, __VA_ARGS__)                                                                                              \
+        dspec_probe_->fields = 0 DSPEC_PROBE_EACH_(DSPEC_PROBE_SIGN_, __VA_ARGS__);                                                                      \
+        return dspec_layout_enable(dspec_layout_, dspec_schema_, dspec_widths_, sizeof dspec_widths_, &dspec_probe_->epid);                              \
+    }                                                                                                                                                    \
+    DSPEC_PROBE_CALL_ dspec_status PROBE##_trace(const PROBE##_probe *dspec_probe_, dspec_cpu *dspec_cpu_, uint64_t dspec_stamp_                         \
+                                             DSPEC_PROBE_EACH_(DSPEC_PROBE_ARGUMENT_, __VA_ARGS__)) {                                                    \
+        const uint64_t dspec_claim_ = (uint64_t)dspec_probe_->fields << 32 | dspec_probe_->epid;                                                         \
+        uint64_t dspec_words_[9] = { 0 };                                                                                                                \
+        size_t dspec_end_ = 4;                                                                                                                           \
+        DSPEC_PROBE_EACH_(DSPEC_PROBE_PACK_, __VA_ARGS__)                                                                                                \
+        switch ((dspec_end_ + 7) / 8) {                                                                                                                  \
+        case 1: return dspec_put_1(dspec_cpu_, dspec_claim_, dspec_stamp_, dspec_words_[0]);                                                             \
+        case 2: return dspec_put_2(dspec_cpu_, dspec_claim_, dspec_stamp_, dspec_words_[0], dspec_words_[1]);                                            \
+        case 3: return dspec_put_3(dspec_cpu_, dspec_claim_, dspec_stamp_, dspec_words_[0], dspec_words_[1], dspec_words_[2]);                           \
+        default: return dspec_put(dspec_cpu_, dspec_claim_, dspec_stamp_, dspec_words_, (dspec_end_ + 7) / 8);                                           \
+        }                                                                                                                                                \
+    }                                                                                                                                                    \
+    DSPEC_PROBE_CALL_ dspec_status PROBE##_speculate(const PROBE##_probe *dspec_probe_, dspec_cpu *dspec_cpu_, uint64_t dspec_id_, uint64_t dspec_stamp_ \
+                                             DSPEC_PROBE_EACH_(DSPEC_PROBE_ARGUMENT_, __VA_ARGS__)) {                                                    \
+        const uint64_t dspec_claim_ = (uint64_t)dspec_probe_->fields << 32 | dspec_probe_->epid;                                                         \
+        uint64_t dspec_words_[9] = { 0 };                                                                                                                \
+        size_t dspec_end_ = 4;                                                                                                                           \
+        DSPEC_PROBE_EACH_(DSPEC_PROBE_PACK_, __VA_ARGS__)                                                                                                \
+        switch ((dspec_end_ + 7) / 8) {                                                                                                                  \
+        case 1: return dspec_put_in_1(dspec_cpu_, dspec_id_, dspec_claim_, dspec_stamp_, dspec_words_[0]);                                               \
+        case 2: return dspec_put_in_2(dspec_cpu_, dspec_id_, dspec_claim_, dspec_stamp_, dspec_words_[0], dspec_words_[1]);                              \
+        case 3: return dspec_put_in_3(dspec_cpu_, dspec_id_, dspec_claim_, dspec_stamp_, dspec_words_[0], dspec_words_[1], dspec_words_[2]);             \
+        default: return dspec_put_in(dspec_cpu_, dspec_id_, dspec_claim_, dspec_stamp_, dspec_words_, (dspec_end_ + 7) / 8);                             \
+        }                                                                                                                                                \
+    }                                                                                                                                                    \
+    DSPEC_PROBE_CALL_ bool PROBE##_read(const PROBE##_probe *dspec_probe_, const dspec_record *dspec_record_, PROBE##_values *dspec_values_) {           \
+        if (dspec_record_->epid != dspec_probe_->epid) return false;                                                                                     \
+        DSPEC_PROBE_EACH_(DSPEC_PROBE_BACK_, __VA_ARGS__)                                                                                                \
+        return true;                                                                                                                                     \
+    }                                                                                                                                                    \
+    DSPEC_PROBE_CALL_ void PROBE##_name(dspec_names *dspec_names_) {                                                                                     \
+        dspec_names_event(dspec_names_, #PROBE);                                                                                                         \
+        DSPEC_PROBE_EACH_(DSPEC_PROBE_KIND_, __VA_ARGS__)                                                                                                \
+    }                                                                                                                                                    \
+    static_assert(sizeof(PROBE##_probe) == 8, "a probe is its EPID and its fields' widths")
 
 #endif

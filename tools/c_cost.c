@@ -75,12 +75,12 @@ static long committed(lane *l, long number) {
 
 /* The probes have the EPID of the record that was enabled. */
 __attribute__((noinline)) static dspec_status fire_8(lane *l, uint32_t a) {
-    const narrow_probe probe = { l->epid };
+    const narrow_probe probe = { l->epid, 0x4 };
     return narrow_trace(&probe, &l->cpu, 0, a);
 }
 
 __attribute__((noinline)) static dspec_status fire_24(lane *l, uint8_t a, uint16_t b, uint32_t c, uint64_t d) {
-    const wide_probe probe = { l->epid };
+    const wide_probe probe = { l->epid, 0x8421 };
     return wide_trace(&probe, &l->cpu, 0, a, b, c, d);
 }
 
@@ -91,12 +91,12 @@ static long fired(lane *l, long number) {
 }
 
 __attribute__((noinline)) static dspec_status walk_8(lane *l, uint32_t a) {
-    const narrow_probe probe = { l->epid };
+    const narrow_probe probe = { l->epid, 0x4 };
     return narrow_speculate(&probe, &l->cpu, l->id, 0, a);
 }
 
 __attribute__((noinline)) static dspec_status walk_24(lane *l, uint8_t a, uint16_t b, uint32_t c, uint64_t d) {
-    const wide_probe probe = { l->epid };
+    const wide_probe probe = { l->epid, 0x8421 };
     return wide_speculate(&probe, &l->cpu, l->id, 0, a, b, c, d);
 }
 

@@ -24,8 +24,15 @@ static dspec_status call_consumer_of(void *h, outs *o) { return dspec_consumer_o
 static dspec_status call_trace(void *h, outs *o) { return (void)o, dspec_trace(h, 1, 0, (const uint64_t[]){ 7 }, 1); }
 static dspec_status call_speculation(void *h, outs *o) { return dspec_speculation(h, &o->id); }
 static dspec_status call_speculate(void *h, outs *o) { return (void)o, dspec_speculate(h, 1, 1, 0, (const uint64_t[]){ 7 }, 1); }
-static dspec_status call_fire(void *h, outs *o) { return (void)o, dspec_fire(h, 4, 1, 0, (const uint64_t[]){ 7 }, 1); }
-static dspec_status call_fire_in(void *h, outs *o) { return (void)o, dspec_fire_in(h, 1, 4, 1, 0, (const uint64_t[]){ 7 }, 1); }
+#define CLAIM ((uint64_t)4 << 32 | 1) /* EPID 1, of one field of four bytes */
+static dspec_status call_put_1(void *h, outs *o) { return (void)o, dspec_put_1(h, CLAIM, 0, 7); }
+static dspec_status call_put_2(void *h, outs *o) { return (void)o, dspec_put_2(h, CLAIM, 0, 7, 7); }
+static dspec_status call_put_3(void *h, outs *o) { return (void)o, dspec_put_3(h, CLAIM, 0, 7, 7, 7); }
+static dspec_status call_put(void *h, outs *o) { return (void)o, dspec_put(h, CLAIM, 0, (const uint64_t[]){ 7 }, 1); }
+static dspec_status call_put_in_1(void *h, outs *o) { return (void)o, dspec_put_in_1(h, 1, CLAIM, 0, 7); }
+static dspec_status call_put_in_2(void *h, outs *o) { return (void)o, dspec_put_in_2(h, 1, CLAIM, 0, 7, 7); }
+static dspec_status call_put_in_3(void *h, outs *o) { return (void)o, dspec_put_in_3(h, 1, CLAIM, 0, 7, 7, 7); }
+static dspec_status call_put_in(void *h, outs *o) { return (void)o, dspec_put_in(h, 1, CLAIM, 0, (const uint64_t[]){ 7 }, 1); }
 static dspec_status call_commit(void *h, outs *o) { return dspec_commit(h, 1, &o->number); }
 static dspec_status call_discard(void *h, outs *o) { return dspec_discard(h, 1, &o->number); }
 static dspec_status call_service(void *h, outs *o) { return dspec_service(h, &o->flag, &o->number); }
@@ -54,7 +61,9 @@ static const struct row {
     { "schema_enable", SCHEMA, call_enable }, { "schema_stamp", SCHEMA, call_stamp }, { "start", SCHEMA, call_start },
     { "cpu_of", SESSION, call_cpu_of }, { "consumer_of", SESSION, call_consumer_of }, { "tend", SESSION, call_tend }, { "finish", SESSION, call_finish },
     { "trace", CPU, call_trace }, { "speculation", CPU, call_speculation }, { "speculate", CPU, call_speculate },
-    { "fire", CPU, call_fire }, { "fire_in", CPU, call_fire_in }, { "commit", CPU, call_commit }, { "discard", CPU, call_discard }, { "service", CPU, call_service },
+    { "put_1", CPU, call_put_1 }, { "put_2", CPU, call_put_2 }, { "put_3", CPU, call_put_3 }, { "put", CPU, call_put },
+    { "put_in_1", CPU, call_put_in_1 }, { "put_in_2", CPU, call_put_in_2 }, { "put_in_3", CPU, call_put_in_3 }, { "put_in", CPU, call_put_in },
+    { "commit", CPU, call_commit }, { "discard", CPU, call_discard }, { "service", CPU, call_service },
     { "dropped_in", CPU, call_dropped_in }, { "cpu_report", CPU, call_cpu_report }, { "cpu_home", CPU, call_cpu_home },
     { "ask", CONSUMER, call_ask }, { "take", CONSUMER, call_take }, { "give_back", CONSUMER, call_give_back },
     { "clean", CONSUMER, call_clean }, { "waiting_for", CONSUMER, call_waiting_for }, { "stop", CONSUMER, call_stop }, { "consumer_home", CONSUMER, call_consumer_home },

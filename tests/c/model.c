@@ -25,6 +25,16 @@ uint32_t model_signature(const model_schema *schema, uint32_t epid) {
     return word;
 }
 
+size_t model_words(const model_schema *schema, uint32_t epid) {
+    uint32_t end = 4;
+    if (epid == 0 || epid > schema->enablings || schema->fields[epid - 1] == 0) return 0;
+    for (uint32_t f = 0; f < schema->fields[epid - 1]; f++) {
+        uint32_t width = schema->widths[epid - 1][f];
+        end = (end + width - 1) / width * width + width;
+    }
+    return (end + 7) / 8;
+}
+
 static bool is_size(uint32_t bytes) { return bytes >= 8 && bytes <= 1048576 && bytes % 8 == 0; }
 
 dspec_status model_ranges(const dspec_config *config) {
@@ -157,9 +167,24 @@ dspec_status model_trace(model *m, uint32_t cpu, uint32_t epid, uint64_t stamp, 
     return DSPEC_OK;
 }
 
-dspec_status model_fire(model *m, uint32_t cpu, uint32_t signature, uint32_t epid, uint64_t stamp, const uint64_t *values, size_t n) {
-    if (signature != model_signature(&m->schema, epid)) return refused(&m->cpus[cpu]);
-    return model_trace(m, cpu, epid, stamp, values, n);
+/* The values of a claim's words, or false where it isn't true of an EPID of the schema. */
+static bool unpack(const model *m, uint64_t claim, const uint64_t *words, size_t n, uint64_t *values) {
+    uint32_t epid = (uint32_t)claim, end = 4;
+    if (n == 0 || n != model_words(&m->schema, epid) || claim >> 32 != model_signature(&m->schema, epid)) return false;
+    for (uint32_t f = 0; f < m->schema.fields[epid - 1]; f++) {
+        uint32_t width = m->schema.widths[epid - 1][f];
+        end = (end + width - 1) / width * width;
+        values[f] = 0;
+        for (uint32_t b = width; b > 0; b--) values[f] = values[f] << 8 | (words[(end + b - 1) / 8] >> 8 * ((end + b - 1) % 8) & 0xff);
+        end += width;
+    }
+    return true;
+}
+
+dspec_status model_put(model *m, uint32_t cpu, uint64_t claim, uint64_t stamp, const uint64_t *words, size_t n) {
+    uint64_t values[8];
+    if (!unpack(m, claim, words, n, values)) return refused(&m->cpus[cpu]);
+    return model_trace(m, cpu, (uint32_t)claim, stamp, values, m->schema.fields[(uint32_t)claim - 1]);
 }
 
 dspec_status model_speculation(model *m, uint32_t cpu, uint64_t *id) {
@@ -221,9 +246,10 @@ dspec_status model_speculate(model *m, uint32_t cpu, uint64_t id, uint32_t epid,
     return DSPEC_OK;
 }
 
-dspec_status model_fire_in(model *m, uint32_t cpu, uint64_t id, uint32_t signature, uint32_t epid, uint64_t stamp, const uint64_t *values, size_t n) {
-    if (signature != model_signature(&m->schema, epid)) return refused(&m->cpus[cpu]);
-    return model_speculate(m, cpu, id, epid, stamp, values, n);
+dspec_status model_put_in(model *m, uint32_t cpu, uint64_t id, uint64_t claim, uint64_t stamp, const uint64_t *words, size_t n) {
+    uint64_t values[8];
+    if (!unpack(m, claim, words, n, values)) return refused(&m->cpus[cpu]);
+    return model_speculate(m, cpu, id, (uint32_t)claim, stamp, values, m->schema.fields[(uint32_t)claim - 1]);
 }
 
 /* Takes a CPU's block of a slot's speculation to its principal buffer, or throws it away: false where it was lost. */

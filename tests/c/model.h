@@ -63,8 +63,10 @@ void model_start(model *m, const dspec_config *config, const model_schema *schem
 void model_free(model *m);
 
 dspec_status model_trace(model *m, uint32_t cpu, uint32_t epid, uint64_t stamp, const uint64_t *values, size_t n);
-dspec_status model_fire(model *m, uint32_t cpu, uint32_t signature, uint32_t epid, uint64_t stamp, const uint64_t *values, size_t n);
-dspec_status model_fire_in(model *m, uint32_t cpu, uint64_t id, uint32_t signature, uint32_t epid, uint64_t stamp, const uint64_t *values, size_t n);
+/* How many words the text of an EPID's record has; 0 of one that has no fields or isn't enabled. */
+size_t model_words(const model_schema *schema, uint32_t epid);
+dspec_status model_put(model *m, uint32_t cpu, uint64_t claim, uint64_t stamp, const uint64_t *words, size_t n);
+dspec_status model_put_in(model *m, uint32_t cpu, uint64_t id, uint64_t claim, uint64_t stamp, const uint64_t *words, size_t n);
 dspec_status model_speculation(model *m, uint32_t cpu, uint64_t *id);
 dspec_status model_speculate(model *m, uint32_t cpu, uint64_t id, uint32_t epid, uint64_t stamp, const uint64_t *values, size_t n);
 dspec_status model_commit(model *m, uint32_t cpu, uint64_t id, uint32_t *count);

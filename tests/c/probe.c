@@ -1,5 +1,5 @@
 /* Typed probes of C: a record's values come back as they were handed in, by their types; negative numbers and floats keep their bits; and a
- * probe reads its own records alone. What is fired has the bytes of what is traced, and a probe of another schema has no record. */
+ * probe reads its own records alone. What is put has the bytes of what is traced, and a probe of another schema has no record. */
 #include "check.h"
 #include "dspec_probe.h"
 
@@ -106,15 +106,17 @@ static void refusals(void) {
     dspec_closed_drop(&l.closed);
 }
 
+#define CLAIM(FIELDS, EPID) ((uint64_t)(FIELDS) << 32 | (EPID))
+
 /* A probe of another schema has no record, whichever of its fields is another; each is counted as refused, and nothing else is done. */
 static void other_schema(void) {
     lane l;
     dspec_batch batch;
     dspec_report report;
-    const word_probe narrower = { 3 };
-    const pair_probe longer = { 3 };
-    const single_probe of_narrow = { 1 }, behind = { 4 }, far = { UINT32_MAX };
-    const mixed_probe none = { 0 };
+    const word_probe narrower = { 3, 0x4 };
+    const pair_probe longer = { 3, 0x88 };
+    const single_probe of_narrow = { 1, 0x8 }, behind = { 4, 0x8 }, far = { UINT32_MAX, 0x8 };
+    const mixed_probe none = { 0, 0x48 };
     start(&l, false);
     ANSWERS(word_trace(&narrower, &l.cpu, 0, 1), DSPEC_BAD_RECORD);
     ANSWERS(pair_trace(&longer, &l.cpu, 0, 1, 2), DSPEC_BAD_RECORD);
@@ -125,12 +127,16 @@ static void other_schema(void) {
     ANSWERS(word_speculate(&narrower, &l.cpu, 1, 0, 1), DSPEC_BAD_RECORD);
     MUST(dspec_cpu_report(&l.cpu, &report));
     CHECK(report.offered == 0 && report.refused == 7);
-    ANSWERS(dspec_fire(&l.cpu, 0x8, 3, 0, (const uint64_t[]){ 1, 2 }, 2), DSPEC_BAD_RECORD);
-    ANSWERS(dspec_fire(&l.cpu, 0x8, 3, 0, NULL, 0), DSPEC_BAD_RECORD);
-    ANSWERS(dspec_fire(&l.cpu, 0x211, 1, 0, (const uint64_t[]){ 256, 0, 0 }, 3), DSPEC_BAD_RECORD);
-    ANSWERS(dspec_fire(&l.cpu, 0x211, 1, 0, (const uint64_t[]){ 255, 1, 65535 }, 3), DSPEC_OK);
+    ANSWERS(dspec_put(&l.cpu, CLAIM(0x8, 3), 0, (const uint64_t[]){ 0, 1, 2 }, 3), DSPEC_BAD_RECORD);
+    ANSWERS(dspec_put(&l.cpu, CLAIM(0x8, 3), 0, NULL, 0), DSPEC_BAD_RECORD);
+    ANSWERS(dspec_put_1(&l.cpu, CLAIM(0x8, 3), 0, 1), DSPEC_BAD_RECORD);
+    ANSWERS(dspec_put_2(&l.cpu, CLAIM(0x8, 3) | 1 << 8, 0, 0, 1), DSPEC_BAD_RECORD);
+    ANSWERS(dspec_put_1(&l.cpu, 0, 0, 1), DSPEC_BAD_RECORD);
+    ANSWERS(dspec_put(&l.cpu, 0, 0, NULL, 0), DSPEC_BAD_RECORD);
+    /* what stands in the EPID's place and in the gap behind b counts for nothing */
+    ANSWERS(dspec_put_1(&l.cpu, CLAIM(0x211, 1), 0, UINT64_C(0xffff01fffffffff)), DSPEC_OK);
     MUST(dspec_cpu_report(&l.cpu, &report));
-    CHECK(report.offered == 1 && report.refused == 10);
+    CHECK(report.offered == 1 && report.refused == 13);
     end(&l, &batch);
     dspec_closed_drop(&l.closed);
 }
@@ -158,14 +164,19 @@ static void same_bytes(bool stamped) {
     for (uint32_t c = 0; c < 2; c++) MUST(dspec_cpu_of(&session, c, &cpus[c]));
     for (int c = 0; c < 2; c++) MUST(dspec_speculation(&cpus[c], &ids[c]));
     for (uint32_t i = 0; i < 6; i++) {
-        uint32_t word = 0;
+        uint32_t fields = 0;
+        uint64_t words[9] = { 0 };
+        size_t end = 4;
         for (size_t f = 0; f < counts[i]; f++) {
-            word |= (uint32_t)widths[i][f] << 4 * f;
+            fields |= (uint32_t)widths[i][f] << 4 * f;
             values[f] = most[widths[i][f]] - f;
+            end = (end + widths[i][f] - 1) / widths[i][f] * widths[i][f];
+            words[end / 8] |= values[f] << 8 * (end % 8);
+            end += widths[i][f];
         }
-        ANSWERS(dspec_fire(&cpus[0], word, i + 1, stamp, values, counts[i]), DSPEC_OK);
+        ANSWERS(dspec_put(&cpus[0], CLAIM(fields, i + 1), stamp, words, (end + 7) / 8), DSPEC_OK);
         ANSWERS(dspec_trace(&cpus[1], i + 1, stamp, values, counts[i]), DSPEC_OK);
-        ANSWERS(dspec_fire_in(&cpus[0], ids[0], word, i + 1, stamp, values, counts[i]), DSPEC_OK);
+        ANSWERS(dspec_put_in(&cpus[0], ids[0], CLAIM(fields, i + 1), stamp, words, (end + 7) / 8), DSPEC_OK);
         ANSWERS(dspec_speculate(&cpus[1], ids[1], i + 1, stamp, values, counts[i]), DSPEC_OK);
     }
     for (int c = 0; c < 2; c++) MUST(dspec_commit(&cpus[c], ids[c], &copied));
@@ -180,7 +191,7 @@ static void same_bytes(bool stamped) {
 
 /* What a bool reads of a number that isn't 0 or 1. */
 static void odd_bool(void) {
-    narrow_probe probe = { 4 };
+    narrow_probe probe = { 4, 0x211 };
     narrow_values n = { 0 };
     const dspec_record one = { .epid = 4, .values = { 0xff, 2, 3 }, .fields = 3 };
     CHECK(narrow_read(&probe, &one, &n) && n.a == -1 && n.b == true && n.c == 3);

@@ -174,22 +174,42 @@ static void ask_dropped(sequence *s, dspec_cpu *h, uint32_t cpu, bool held, uint
     expect(s, count == (held ? model_dropped_in(&s->m, cpu, id) : MAGIC), "another count of dropped records");
 }
 
-/* Mostly the one of the EPID's fields, and else one a little off. */
-static uint32_t draw_signature(sequence *s, uint32_t epid) {
-    uint32_t due = model_signature(&s->m.schema, epid);
-    return one_in(&s->dice, 6) ? due ^ UINT32_C(1) << below(&s->dice, 32) : due;
+/* Words of any bits, mostly as many as the EPID's fields take, and a claim that is mostly true of it. */
+typedef struct packed {
+    uint64_t claim, words[10];
+    size_t n;
+} packed;
+
+static packed draw_packed(sequence *s, uint32_t epid) {
+    packed p = { .claim = (uint64_t)model_signature(&s->m.schema, epid) << 32 | epid, .n = model_words(&s->m.schema, epid) };
+    if (one_in(&s->dice, 8)) p.claim ^= UINT64_C(1) << below(&s->dice, 64);
+    if (one_in(&s->dice, 8)) p.n = below(&s->dice, 11);
+    for (size_t i = 0; i < 10; i++) p.words[i] = draw(&s->dice) >> below(&s->dice, 64);
+    return p;
 }
 
-static void fire(sequence *s, dspec_cpu *h, uint32_t cpu, bool held, const drawn *r) {
-    uint32_t word = draw_signature(s, r->epid);
-    dspec_status got = dspec_fire(h, word, r->epid, r->stamp, r->values, r->n);
-    answers(s, "fire", got, held ? model_fire(&s->m, cpu, word, r->epid, r->stamp, r->values, r->n) : DSPEC_BAD_HANDLE);
+static void put(sequence *s, dspec_cpu *h, uint32_t cpu, bool held, const drawn *r) {
+    packed p = draw_packed(s, r->epid);
+    dspec_status got;
+    switch (one_in(&s->dice, 2) ? 0 : p.n) {
+    case 1: got = dspec_put_1(h, p.claim, r->stamp, p.words[0]); break;
+    case 2: got = dspec_put_2(h, p.claim, r->stamp, p.words[0], p.words[1]); break;
+    case 3: got = dspec_put_3(h, p.claim, r->stamp, p.words[0], p.words[1], p.words[2]); break;
+    default: got = dspec_put(h, p.claim, r->stamp, p.n == 0 ? NULL : p.words, p.n);
+    }
+    answers(s, "put", got, held ? model_put(&s->m, cpu, p.claim, r->stamp, p.words, p.n) : DSPEC_BAD_HANDLE);
 }
 
-static void fire_in(sequence *s, dspec_cpu *h, uint32_t cpu, bool held, uint64_t id, const drawn *r) {
-    uint32_t word = draw_signature(s, r->epid);
-    dspec_status got = dspec_fire_in(h, id, word, r->epid, r->stamp, r->values, r->n);
-    answers(s, "fire_in", got, held ? model_fire_in(&s->m, cpu, id, word, r->epid, r->stamp, r->values, r->n) : DSPEC_BAD_HANDLE);
+static void put_in(sequence *s, dspec_cpu *h, uint32_t cpu, bool held, uint64_t id, const drawn *r) {
+    packed p = draw_packed(s, r->epid);
+    dspec_status got;
+    switch (one_in(&s->dice, 2) ? 0 : p.n) {
+    case 1: got = dspec_put_in_1(h, id, p.claim, r->stamp, p.words[0]); break;
+    case 2: got = dspec_put_in_2(h, id, p.claim, r->stamp, p.words[0], p.words[1]); break;
+    case 3: got = dspec_put_in_3(h, id, p.claim, r->stamp, p.words[0], p.words[1], p.words[2]); break;
+    default: got = dspec_put_in(h, id, p.claim, r->stamp, p.n == 0 ? NULL : p.words, p.n);
+    }
+    answers(s, "put_in", got, held ? model_put_in(&s->m, cpu, id, p.claim, r->stamp, p.words, p.n) : DSPEC_BAD_HANDLE);
 }
 
 static void cpu_calls(sequence *s) {
@@ -213,8 +233,8 @@ static void cpu_calls(sequence *s) {
     case 7: decide(s, h, cpu, held, true); break;
     case 8: decide(s, h, cpu, held, false); break;
     case 12: ask_dropped(s, h, cpu, held, id); break;
-    case 13: case 14: fire(s, h, cpu, held, &r); break;
-    case 15: case 16: fire_in(s, h, cpu, held, id, &r); break;
+    case 13: case 14: put(s, h, cpu, held, &r); break;
+    case 15: case 16: put_in(s, h, cpu, held, id, &r); break;
     default: service(s, h, cpu, held); break;
     }
 }

@@ -51,11 +51,19 @@ impl Cpu {
         traced(unsafe { raw::dspec_trace(self.handle.at(), epid.raw(), stamp, values.as_ptr(), values.len()) })
     }
 
-    /// Traces a record whose fields are those of this signature.
+    /// Traces the record of this claim whose text is these words.
     #[inline]
-    pub(crate) fn fire(&mut self, signature: u32, epid: Epid, stamp: u64, values: &[u64]) -> Result<Traced, Error> {
+    pub(crate) fn put(&mut self, claim: u64, stamp: u64, words: &[u64]) -> Result<Traced, Error> {
+        let cpu = self.handle.at();
         // SAFETY: as in `trace`.
-        traced(unsafe { raw::dspec_fire(self.handle.at(), signature, epid.raw(), stamp, values.as_ptr(), values.len()) })
+        traced(unsafe {
+            match *words {
+                [w0] => raw::dspec_put_1(cpu, claim, stamp, w0),
+                [w0, w1] => raw::dspec_put_2(cpu, claim, stamp, w0, w1),
+                [w0, w1, w2] => raw::dspec_put_3(cpu, claim, stamp, w0, w1, w2),
+                _ => raw::dspec_put(cpu, claim, stamp, words.as_ptr(), words.len()),
+            }
+        })
     }
 
     /// Opens a speculation that is decided when it is dropped at the latest.
@@ -88,11 +96,19 @@ impl Cpu {
         spoken(unsafe { raw::dspec_speculate(self.handle.at(), id.raw(), epid.raw(), stamp, values.as_ptr(), values.len()) })
     }
 
-    /// Offers a record whose fields are those of this signature to a speculation.
+    /// Offers the record of this claim whose text is these words to a speculation.
     #[inline]
-    pub(crate) fn fire_in(&mut self, id: SpecId, signature: u32, epid: Epid, stamp: u64, values: &[u64]) -> Result<Spoken, Error> {
+    pub(crate) fn put_in(&mut self, id: SpecId, claim: u64, stamp: u64, words: &[u64]) -> Result<Spoken, Error> {
+        let (cpu, id) = (self.handle.at(), id.raw());
         // SAFETY: as in `trace`.
-        spoken(unsafe { raw::dspec_fire_in(self.handle.at(), id.raw(), signature, epid.raw(), stamp, values.as_ptr(), values.len()) })
+        spoken(unsafe {
+            match *words {
+                [w0] => raw::dspec_put_in_1(cpu, id, claim, stamp, w0),
+                [w0, w1] => raw::dspec_put_in_2(cpu, id, claim, stamp, w0, w1),
+                [w0, w1, w2] => raw::dspec_put_in_3(cpu, id, claim, stamp, w0, w1, w2),
+                _ => raw::dspec_put_in(cpu, id, claim, stamp, words.as_ptr(), words.len()),
+            }
+        })
     }
 
     /// Commits a speculation: its records get into the principal buffers, each CPU's at once or not at all.

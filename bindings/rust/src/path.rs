@@ -40,9 +40,10 @@ impl<'a> Path<'a> {
         self.cpu.speculate(self.id(), epid, stamp, values)
     }
 
-    /// Offers a record whose fields are those of this signature to it.
-    pub(crate) fn fire(&mut self, signature: u32, epid: Epid, stamp: u64, values: &[u64]) -> Result<Spoken, Error> {
-        self.cpu.fire_in(self.id(), signature, epid, stamp, values)
+    /// Offers the record of this claim whose text is these words to it.
+    #[inline]
+    pub(crate) fn put(&mut self, claim: u64, stamp: u64, words: &[u64]) -> Result<Spoken, Error> {
+        self.cpu.put_in(self.id(), claim, stamp, words)
     }
 
     /// How many of its records its CPU had no room for: where there are any, its end is cut.

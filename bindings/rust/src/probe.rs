@@ -110,6 +110,20 @@ const fn signature(widths: &[Width]) -> u32 {
     word
 }
 
+/// The text of a record in words, and how many these are: each field at the next multiple of its width behind the EPID's four bytes.
+#[inline]
+fn packed<F: Fields>(values: F) -> ([u64; 9], usize) {
+    let row = values.row();
+    let (mut words, mut end) = ([0; 9], 4);
+    for (value, width) in row.iter().zip(F::WIDTHS) {
+        let width = *width as usize;
+        end = (end + width - 1) / width * width;
+        words[end / 8] |= value << (8 * (end % 8));
+        end += width;
+    }
+    (words, (end + 7) / 8)
+}
+
 impl<F> Clone for Probe<F> {
     fn clone(&self) -> Self {
         *self
@@ -126,6 +140,12 @@ impl<F: Fields> Probe<F> {
         Probe { epid, fields: PhantomData }
     }
 
+    /// What its records claim: the EPID, and above 32 bits the widths of the fields.
+    #[inline]
+    fn claim(self) -> u64 {
+        u64::from(Self::SIGNATURE) << 32 | u64::from(self.epid.raw())
+    }
+
     /// Its EPID.
     #[must_use]
     pub fn epid(self) -> Epid {
@@ -137,8 +157,13 @@ impl<F: Fields> Probe<F> {
     /// # Errors
     ///
     /// [`Error::BadRecord`] alone.
+    #[inline]
     pub fn trace(self, cpu: &mut Cpu, stamp: u64, values: F) -> Result<Traced, Error> {
-        cpu.fire(Self::SIGNATURE, self.epid, stamp, &values.row()[..F::WIDTHS.len()])
+        if F::WIDTHS.is_empty() {
+            return cpu.trace(self.epid, stamp, &[]);
+        }
+        let (words, count) = packed(values);
+        cpu.put(self.claim(), stamp, &words[..count])
     }
 
     /// Offers a record of these values to a speculation.
@@ -146,8 +171,13 @@ impl<F: Fields> Probe<F> {
     /// # Errors
     ///
     /// [`Error::BadRecord`] alone.
+    #[inline]
     pub fn speculate(self, cpu: &mut Cpu, id: SpecId, stamp: u64, values: F) -> Result<Spoken, Error> {
-        cpu.fire_in(id, Self::SIGNATURE, self.epid, stamp, &values.row()[..F::WIDTHS.len()])
+        if F::WIDTHS.is_empty() {
+            return cpu.speculate(id, self.epid, stamp, &[]);
+        }
+        let (words, count) = packed(values);
+        cpu.put_in(id, self.claim(), stamp, &words[..count])
     }
 
     /// Offers a record of these values to a path.
@@ -155,8 +185,13 @@ impl<F: Fields> Probe<F> {
     /// # Errors
     ///
     /// [`Error::BadRecord`] alone.
+    #[inline]
     pub fn record_in(self, path: &mut Path<'_>, stamp: u64, values: F) -> Result<Spoken, Error> {
-        path.fire(Self::SIGNATURE, self.epid, stamp, &values.row()[..F::WIDTHS.len()])
+        if F::WIDTHS.is_empty() {
+            return path.record(self.epid, stamp, &[]);
+        }
+        let (words, count) = packed(values);
+        path.put(self.claim(), stamp, &words[..count])
     }
 
     /// The values of a record of this probe; none of another's.

@@ -116,10 +116,16 @@ extern "C" {
     pub(crate) fn dspec_close(session: *mut Words, cpus: *const *mut Words, count: usize, consumer: *mut Words, closed: *mut Words) -> Status;
 
     pub(crate) fn dspec_trace(cpu: *mut Words, epid: u32, stamp: u64, values: *const u64, n: usize) -> Status;
-    pub(crate) fn dspec_fire(cpu: *mut Words, signature: u32, epid: u32, stamp: u64, values: *const u64, n: usize) -> Status;
+    pub(crate) fn dspec_put_1(cpu: *mut Words, claim: u64, stamp: u64, w0: u64) -> Status;
+    pub(crate) fn dspec_put_2(cpu: *mut Words, claim: u64, stamp: u64, w0: u64, w1: u64) -> Status;
+    pub(crate) fn dspec_put_3(cpu: *mut Words, claim: u64, stamp: u64, w0: u64, w1: u64, w2: u64) -> Status;
+    pub(crate) fn dspec_put(cpu: *mut Words, claim: u64, stamp: u64, words: *const u64, n: usize) -> Status;
     pub(crate) fn dspec_speculation(cpu: *mut Words, id: *mut u64) -> Status;
     pub(crate) fn dspec_speculate(cpu: *mut Words, id: u64, epid: u32, stamp: u64, values: *const u64, n: usize) -> Status;
-    pub(crate) fn dspec_fire_in(cpu: *mut Words, id: u64, signature: u32, epid: u32, stamp: u64, values: *const u64, n: usize) -> Status;
+    pub(crate) fn dspec_put_in_1(cpu: *mut Words, id: u64, claim: u64, stamp: u64, w0: u64) -> Status;
+    pub(crate) fn dspec_put_in_2(cpu: *mut Words, id: u64, claim: u64, stamp: u64, w0: u64, w1: u64) -> Status;
+    pub(crate) fn dspec_put_in_3(cpu: *mut Words, id: u64, claim: u64, stamp: u64, w0: u64, w1: u64, w2: u64) -> Status;
+    pub(crate) fn dspec_put_in(cpu: *mut Words, id: u64, claim: u64, stamp: u64, words: *const u64, n: usize) -> Status;
     pub(crate) fn dspec_commit(cpu: *mut Words, id: u64, count: *mut u32) -> Status;
     pub(crate) fn dspec_discard(cpu: *mut Words, id: u64, count: *mut u32) -> Status;
     pub(crate) fn dspec_service(cpu: *mut Words, sealed: *mut bool, settled: *mut u32) -> Status;

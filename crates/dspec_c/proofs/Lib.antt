@@ -11,8 +11,6 @@ pub mod Handing
 pub mod Homes
 pub mod Looking
 mod Options
-pub mod Shapes
-pub mod Signing
 pub mod Taken
 mod Tends
 mod Values

@@ -1,8 +1,11 @@
 -- Cited by calls. The calls on a CPU's handle: each did what the library's call says of its answer.
-use Rattle.std.specs.Prelude.{ℕ, ◌≡◌, ◌<◌, ◌+◌, ◌-◌, ◌^◌, min, Bool, true, false, List, Option, None, is_none, MatchBool, ⊤}
+use Rattle.std.specs.Prelude.{ℕ, ◌≡◌, ◌<◌, ◌+◌, ◌-◌, ◌%◌, ◌^◌, min, Bool, true, false, List, length, Option, None, is_none, is_some, IfNone, IfSome, ⊤, if◌then◌else◌}
+use Rattle.std.specs.Option.{option_map}
 use Rattle.dspec_word.specs.SpecId.{Speculation, id_number}
 use Rattle.dspec_record.specs.Record.{Record}
 use Rattle.dspec_record.specs.EnablingRows.{EnabledRows}
+use Rattle.dspec_record.specs.Packing.{claimed, packed_record}
+use Rattle.dspec_record.specs.RecordText.{stamp_fits}
 use Rattle.dspec_record.specs.Schemas.{enabled, table_accepts}
 use Rattle.dspec_deeds.specs.declared.calls.Decided.{Decided}
 use Rattle.dspec_deeds.specs.declared.calls.Opening.{Opening}
@@ -17,13 +20,12 @@ use Rattle.dspec_promise.specs.Promise.{By, commit, discard}
 use Rattle.dspec_cpu.specs.declared.cpu.Cpu.{Cpu}
 use Rattle.dspec_cpu.specs.Dropped.{drops_told}
 use Rattle.dspec_cpu.specs.Lists.{config_of, number_in, schema_of, worn_of}
-use Rattle.dspec_cpu.specs.OneCall.{OpensOne, DecidesOne, ServesOnce, RecordsValues, OffersValues}
+use Rattle.dspec_cpu.specs.OneCall.{OpensOne, DecidesOne, ServesOnce, RecordsValues, OffersValues, SpeculatesOne, TracesOne}
 use Rattle.dspec_cpu.specs.Standing.{identity}
 use Rattle.dspec_session_core.specs.Sessions.{Has}
 use Rattle.dspec_c.specs.Answered.{Answered, AnsweredWith}
 use Rattle.dspec_c.specs.Homes.{CpuSide}
 use Rattle.dspec_c.specs.Shows.{TellsReport}
-use Rattle.dspec_c.specs.Signatures.{signs}
 use Rattle.dspec_c.specs.Statuses.{bad_handle, decided_number, decided_status, opened_number, opening_status, spoken_status, traced_status}
 use Rattle.dspec_c.specs.declared.held.Held.{Held}
 use Rattle.dspec_c.specs.declared.held.Held.TheVariants as held
@@ -43,17 +45,24 @@ pub record Offered (id : Speculation) (epid stamp : ℕ) (values : List ℕ) (a 
   pub same : identity new ≡ identity old
   pub does : OffersValues Has accepts_at id epid stamp values a old new
 
--- what is done with a record whose EPID has the fields of this word, and nothing is where it has others
-abbrev pub IfSigned : {A : Type 0} → ℕ → ℕ → Option A → (Cpu EnabledRows → Cpu EnabledRows → Type 0) → Cpu EnabledRows → Cpu EnabledRows → Type 0
-IfSigned word epid a did old new = MatchBool (signs word (enabled (schema_of old).rows epid)) (did old new) ((a ≡ None) × (new ≡ old))
+-- the record that a claim's words stand for, where it is true of an enabling of so many words, and the stamp is one that records have
+abbrev pub put_record : EnabledRows → ℕ → ℕ → List ℕ → Option Record
+put_record e claim stamp ws =
+    if stamp_fits e.header stamp then option_map (λ fs. packed_record (claim % 2 ^ 32) stamp fs ws) (claimed e.rows claim (length ws)) else None
 
--- `Cpu::record`, by one who tells the EPID's fields
-abbrev pub Fired : ℕ → ℕ → ℕ → List ℕ → Option Traced → Cpu EnabledRows → Cpu EnabledRows → Type 0
-Fired word epid stamp values a = IfSigned word epid a (Recorded epid stamp values a)
+-- that record was traced; where there is none, there is no answer, and nothing was done
+pub record Put (claim stamp : ℕ) (ws : List ℕ) (a : Option Traced) (old new : Cpu EnabledRows) : Type 0 where
+  pub same : identity new ≡ identity old
+  pub due : is_some a ≡ is_some (put_record (schema_of old) claim stamp ws)
+  pub refused : IfNone a (new ≡ old)
+  pub one : IfSome a (λ t. IfSome (put_record (schema_of old) claim stamp ws) (λ r. TracesOne Has r t old new))
 
--- `Cpu::offer`, by one who tells the EPID's fields
-abbrev pub FiredIn : Speculation → ℕ → ℕ → ℕ → List ℕ → Option Spoken → Cpu EnabledRows → Cpu EnabledRows → Type 0
-FiredIn id word epid stamp values a = IfSigned word epid a (Offered id epid stamp values a)
+-- that record was offered to a speculation; where there is none, there is no answer, and nothing was done
+pub record PutIn (id : Speculation) (claim stamp : ℕ) (ws : List ℕ) (a : Option Spoken) (old new : Cpu EnabledRows) : Type 0 where
+  pub same : identity new ≡ identity old
+  pub due : is_some a ≡ is_some (put_record (schema_of old) claim stamp ws)
+  pub refused : IfNone a (new ≡ old)
+  pub one : IfSome a (λ s. IfSome (put_record (schema_of old) claim stamp ws) (λ r. SpeculatesOne Has id r s old new))
 
 -- `Cpu::speculation`
 pub record Opened (a : Opening) (old new : Cpu EnabledRows) : Type 0 where
@@ -104,9 +113,9 @@ abbrev pub TraceAnswers : ℕ → ℕ → List ℕ → Held → ℕ → Held →
 TraceAnswers epid stamp values was status now =
     OnCpu (λ old new. Answered traced_status (λ a. OnSide (is_none a) (Recorded epid stamp values a) old new) status) ⊤ was status now
 
-abbrev pub FireAnswers : ℕ → ℕ → ℕ → List ℕ → Held → ℕ → Held → Type 0
-FireAnswers word epid stamp values was status now =
-    OnCpu (λ old new. Answered traced_status (λ a. OnSide (is_none a) (Fired word epid stamp values a) old new) status) ⊤ was status now
+abbrev pub PutAnswers : ℕ → ℕ → List ℕ → Held → ℕ → Held → Type 0
+PutAnswers claim stamp ws was status now =
+    OnCpu (λ old new. Answered traced_status (λ a. OnSide (is_none a) (Put claim stamp ws a) old new) status) ⊤ was status now
 
 abbrev pub SpeculationAnswers : Held → ℕ → ℕ → ℕ → Held → Type 0
 SpeculationAnswers was status before id now =
@@ -116,9 +125,9 @@ abbrev pub SpeculateAnswers : ℕ → ℕ → ℕ → List ℕ → Held → ℕ 
 SpeculateAnswers number epid stamp values was status now =
     OnCpu (λ old new. (id : Speculation) × Names number id × Answered spoken_status (λ a. OnSide (is_none a) (Offered id epid stamp values a) old new) status) ⊤ was status now
 
-abbrev pub FireInAnswers : ℕ → ℕ → ℕ → ℕ → List ℕ → Held → ℕ → Held → Type 0
-FireInAnswers number word epid stamp values was status now =
-    OnCpu (λ old new. (id : Speculation) × Names number id × Answered spoken_status (λ a. OnSide (is_none a) (FiredIn id word epid stamp values a) old new) status) ⊤ was status now
+abbrev pub PutInAnswers : ℕ → ℕ → ℕ → List ℕ → Held → ℕ → Held → Type 0
+PutInAnswers number claim stamp ws was status now =
+    OnCpu (λ old new. (id : Speculation) × Names number id × Answered spoken_status (λ a. OnSide (is_none a) (PutIn id claim stamp ws a) old new) status) ⊤ was status now
 
 abbrev pub DecideAnswers : By → ℕ → Held → ℕ → ℕ → ℕ → Held → Type 0
 DecideAnswers b number was status before count now =

@@ -5,6 +5,7 @@ pub mod Configs
 pub mod ConsumerCalls
 pub mod ConsumerHomes
 pub mod CpuCalls
+pub mod Puts
 pub mod CtfCalls
 pub mod CtfStatuses
 pub mod Handles
@@ -13,7 +14,6 @@ pub mod Lending
 pub mod Seals
 pub mod SessionCalls
 pub mod Shows
-pub mod Signatures
 pub mod Statuses
 pub mod Tending
 pub mod Whole

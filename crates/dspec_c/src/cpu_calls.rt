@@ -2,15 +2,14 @@
 
 ghost use Rattle.std.specs.Prelude.{◌≡◌};
 ghost use Rattle.dspec_c.specs.Handles.{held_in, is_full};
-ghost use Rattle.dspec_c.specs.CpuCalls.{CommitAnswers, DiscardAnswers, DroppedInAnswers, FireAnswers, FireInAnswers, ReportAnswers, ServiceAnswers, SpeculateAnswers, SpeculationAnswers, TraceAnswers};
+ghost use Rattle.dspec_c.specs.CpuCalls.{CommitAnswers, DiscardAnswers, DroppedInAnswers, ReportAnswers, ServiceAnswers, SpeculateAnswers, SpeculationAnswers, TraceAnswers};
 
 use crate::handle::Handle;
 use crate::held_calls::{
-    held_commit, held_discard, held_dropped_in, held_fire, held_fire_in, held_report, held_service,
+    held_commit, held_discard, held_dropped_in, held_report, held_service,
     held_speculate, held_speculation, held_trace,
 };
 use crate::reports::CReport;
-use crate::signatures::Claim;
 use crate::statuses::{BAD_HANDLE, bad_handle};
 
 /// Traces a record.
@@ -23,51 +22,6 @@ pub extern "C" fn dspec_trace(cpu: &mut Handle, epid: u32, stamp: u64, values: &
         return bad_handle();
     }
     held_trace(cpu.lend(), epid, stamp, values)
-}
-
-/// Traces a record of an EPID whose fields the caller tells by their signature.
-#[unsafe(no_mangle)]
-pub extern "C" fn dspec_fire(
-    cpu: &mut Handle,
-    signature: u32,
-    epid: u32,
-    stamp: u64,
-    values: &[u64],
-) -> u32
-    ensures answers { FireAnswers signature epid stamp values.now (held_in cpu.old) result (held_in cpu.new) }
-    ensures stays { is_full cpu.new ≡ is_full cpu.old }
-{
-    if !cpu.is_held() {
-        return bad_handle();
-    }
-    let claim = Claim {
-        epid,
-        word: signature,
-    };
-    held_fire(cpu.lend(), claim, stamp, values)
-}
-
-/// Offers such a record to a speculation.
-#[unsafe(no_mangle)]
-pub extern "C" fn dspec_fire_in(
-    cpu: &mut Handle,
-    id: u64,
-    signature: u32,
-    epid: u32,
-    stamp: u64,
-    values: &[u64],
-) -> u32
-    ensures answers { FireInAnswers id signature epid stamp values.now (held_in cpu.old) result (held_in cpu.new) }
-    ensures stays { is_full cpu.new ≡ is_full cpu.old }
-{
-    if !cpu.is_held() {
-        return bad_handle();
-    }
-    let claim = Claim {
-        epid,
-        word: signature,
-    };
-    held_fire_in(cpu.lend(), id, claim, stamp, values)
 }
 
 /// Opens a speculation.

@@ -1,10 +1,9 @@
 //! The calls of a CPU, on what a handle holds.
 
-ghost use Rattle.dspec_c.specs.CpuCalls.{CommitAnswers, DiscardAnswers, DroppedInAnswers, FireAnswers, FireInAnswers, ReportAnswers, ServiceAnswers, SpeculateAnswers, SpeculationAnswers, TraceAnswers};
+ghost use Rattle.dspec_c.specs.CpuCalls.{CommitAnswers, DiscardAnswers, DroppedInAnswers, PutAnswers, PutInAnswers, ReportAnswers, ServiceAnswers, SpeculateAnswers, SpeculationAnswers, TraceAnswers};
 
 use crate::held::Held;
 use crate::reports::CReport;
-use crate::signatures::Claim;
 use crate::statuses::{BAD_HANDLE, OK, bad_handle, of_decided, of_opening, of_spoken, of_traced};
 use dspec_word::SpecId;
 
@@ -19,21 +18,21 @@ pub fn held_trace(held: &mut Held, epid: u32, stamp: u64, values: &[u64]) -> u32
 }
 
 #[inline(always)]
-pub fn held_fire(held: &mut Held, claim: Claim, stamp: u64, values: &[u64]) -> u32
-    ensures { FireAnswers claim.word claim.epid stamp values.now held.old result held.new }
+pub fn held_put(held: &mut Held, claim: u64, stamp: u64, words: &[u64]) -> u32
+    ensures { PutAnswers claim stamp words.now held.old result held.new }
 {
     match held {
-        Held::Cpu(side) => of_traced(side.fire(claim, stamp, values)),
+        Held::Cpu(side) => of_traced(side.put(claim, stamp, words)),
         _ => bad_handle(),
     }
 }
 
 #[inline(always)]
-pub fn held_fire_in(held: &mut Held, id: u64, claim: Claim, stamp: u64, values: &[u64]) -> u32
-    ensures { FireInAnswers id claim.word claim.epid stamp values.now held.old result held.new }
+pub fn held_put_in(held: &mut Held, id: u64, claim: u64, stamp: u64, words: &[u64]) -> u32
+    ensures { PutInAnswers id claim stamp words.now held.old result held.new }
 {
     match held {
-        Held::Cpu(side) => of_spoken(side.fire_in(SpecId::from_raw(id), claim, stamp, values)),
+        Held::Cpu(side) => of_spoken(side.put_in(SpecId::from_raw(id), claim, stamp, words)),
         _ => bad_handle(),
     }
 }

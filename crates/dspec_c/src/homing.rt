@@ -1,6 +1,5 @@
-use crate::firing;
 use crate::home_cpu::HomeCpu;
-use crate::signatures::{EPIDS, epid_words};
+use crate::recording;
 use dspec_cpu::{Cpu, Shared};
 use dspec_deeds::{Decided, Opening, Report, Served, Spoken, Traced};
 use dspec_record::Enablings;
@@ -43,12 +42,10 @@ impl Protocol<Homing> for HomeRule {
 impl Homing {
     ghost use Rattle.std.specs.Prelude.{◌≡◌, true, false, is_none};
     ghost use Rattle.std.specs.Arc.{arc_value};
-    ghost use Rattle.dspec_cpu.specs.Lists.{schema_of};
     ghost use Rattle.dspec_cpu.specs.Standing.{IsCallable};
-    ghost use Rattle.dspec_c.specs.Signatures.{AreSigned};
     ghost use Rattle.dspec_promise.specs.Promise.{commit, discard};
     ghost use Rattle.dspec_c.specs.Homes.{IsSameSide, at_home};
-    ghost use Rattle.dspec_c.specs.CpuCalls.{DecidedAs, Drops, Offered, OnSide, Opened, Recorded, Reports, ServicedSo, one_refused};
+    ghost use Rattle.dspec_c.specs.CpuCalls.{DecidedAs, Drops, Offered, OnSide, Opened, Put, PutIn, Recorded, Reports, ServicedSo, one_refused};
 
     pub fn of(shared: Arc<Shared, Global>, home: HomeCpu) -> Homing
         requires { IsCallable (arc_value shared) home.cpu }
@@ -68,20 +65,20 @@ impl Homing {
         ensures same { IsSameSide self.old self.new }
         ensures did { OnSide (is_none result) (Recorded epid stamp values.now result) self.old self.new }
     {
-        let Some(answer) = firing::trace(&mut *self.cpu, &*self.shared, epid, stamp, values) else {
+        let Some(answer) = recording::trace(&mut *self.cpu, &*self.shared, epid, stamp, values) else {
             self.refuse();
             return None;
         };
         Some(answer)
     }
 
-    /// As `trace`, by a fire.
+    /// The record that these words stand for, traced. None: the claim isn't true of the schema, and the record is counted as refused.
     #[inline(always)]
-    pub fn fire(&mut self, epid: u32, stamp: u64, values: &[u64]) -> Option<Traced>
+    pub fn put(&mut self, claim: u64, stamp: u64, words: &[u64]) -> Option<Traced>
         ensures same { IsSameSide self.old self.new }
-        ensures did { OnSide (is_none result) (Recorded epid stamp values.now result) self.old self.new }
+        ensures did { OnSide (is_none result) (Put claim stamp words.now result) self.old self.new }
     {
-        let Some(answer) = firing::fire(&mut *self.cpu, &*self.shared, epid, stamp, values) else {
+        let Some(answer) = recording::put(&mut *self.cpu, &*self.shared, claim, stamp, words) else {
             self.refuse();
             return None;
         };
@@ -101,7 +98,7 @@ impl Homing {
         ensures same { IsSameSide self.old self.new }
         ensures did { OnSide (is_none result) (Offered id epid stamp values.now result) self.old self.new }
     {
-        let Some(answer) = firing::offer(&mut *self.cpu, id, &*self.shared, epid, stamp, values)
+        let Some(answer) = recording::offer(&mut *self.cpu, id, &*self.shared, epid, stamp, values)
         else {
             self.refuse();
             return None;
@@ -109,13 +106,14 @@ impl Homing {
         Some(answer)
     }
 
-    /// As `offer`, by a fire.
+    /// The record that these words stand for, offered to a speculation. None: the claim isn't true of the schema, and the record is
+    /// counted as refused.
     #[inline(always)]
-    pub fn fire_in(&mut self, id: SpecId, epid: u32, stamp: u64, values: &[u64]) -> Option<Spoken>
+    pub fn put_in(&mut self, id: SpecId, claim: u64, stamp: u64, words: &[u64]) -> Option<Spoken>
         ensures same { IsSameSide self.old self.new }
-        ensures did { OnSide (is_none result) (Offered id epid stamp values.now result) self.old self.new }
+        ensures did { OnSide (is_none result) (PutIn id claim stamp words.now result) self.old self.new }
     {
-        let Some(answer) = firing::fire_in(&mut *self.cpu, id, &*self.shared, epid, stamp, values)
+        let Some(answer) = recording::put_in(&mut *self.cpu, id, &*self.shared, claim, stamp, words)
         else {
             self.refuse();
             return None;
@@ -132,13 +130,6 @@ impl Homing {
         ensures refused { self.new.refused ≡ one_refused true self.old.refused }
     {
         self.refused = self.refused.saturating_add(1);
-    }
-
-    /// The word of each EPID.
-    pub fn epid_words(&self) -> [u32; EPIDS]
-        ensures { AreSigned (schema_of self.now.cpu).rows result }
-    {
-        epid_words(self.cpu.schema())
     }
 
     pub fn speculation(&mut self) -> Opening

@@ -9,10 +9,10 @@
 //! | `tending.rt` | the services of CPUs that are at their places (`specs/Tending`) |
 //! | `closing.rt` | the end in one call (`specs/Closing`, `proofs/AllHome`) |
 //! | `statuses.rt`, `configs.rt`, `reports.rt`, `batches.rt` | what crosses |
-//! | `schema_calls.rt`, `session_calls.rt`, `cpu_calls.rt`, `consumer_calls.rt`, `home_calls.rt`, `rest_calls.rt` | the exports |
+//! | `schema_calls.rt`, `session_calls.rt`, `cpu_calls.rt`, `put_calls.rt`, `consumer_calls.rt`, `home_calls.rt`, `rest_calls.rt` | the exports |
 //! | `held_calls.rt`, `held_consumer_calls.rt` | the calls of a CPU and of the consumer on what a handle holds, by cases |
 //! | `ctf_calls.rt`, `ctf_statuses.rt` | the exports of a trace that C writes, and what they answer (`specs/CtfCalls`, `specs/CtfStatuses`) |
-//! | `signatures.rt`, `firing.rt` | the fields of an EPID in one word (`specs/Signatures`); a record by its EPID and values, traced or fired: each stands whole in its export, since what is fired has a type of its own |
+//! | `recording.rt` | a record by its EPID and values, or by a claim and the words of its text (`specs/Puts`: by a header that is known) |
 //! | `specs/`: Homes, Statuses, Shows, Handles, Lending | that a call leaves the same CPU of the same session; which number an answer is, and what goes out; what C reads, field by field; which handles are full, and of what; what lending keeps |
 //! | `specs/`: Answered, CpuCalls, ConsumerCalls | what a status and an out parameter tell of an answer; what each call of a CPU and of the consumer did, by what its handle held before and after |
 //! | `specs/`: SessionCalls, Widths, Configs, ClosedCalls | the same of schemas, sessions and what is left; fields by their widths; a configuration in C's memory |
@@ -36,7 +36,6 @@ mod cpu_place;
 mod ctf_calls;
 mod ctf_statuses;
 mod ended;
-mod firing;
 mod gather;
 mod handle;
 mod held;
@@ -49,12 +48,13 @@ mod out_consumer;
 mod out_cpu;
 mod parts;
 mod places;
+mod put_calls;
+mod recording;
 mod reports;
 mod rest_calls;
 mod schema_calls;
 mod seal;
 mod session_calls;
-mod signatures;
 mod statuses;
 mod tending;
 mod under_way;

@@ -1,86 +1,59 @@
 use crate::homing::{HomeRule, Homing};
-use crate::signatures::{Claim, EPIDS};
 use dspec_deeds::{Decided, Opening, Report, Served, Spoken, Traced};
 use dspec_word::SpecId;
 use rtrb::Producer;
 use std::alloc::Global;
 use std::marker::Model;
 
-/// A CPU that was handed out, with its way home, on which there is room for it, and the word of each EPID of its schema. It can't be let
-/// go: `go_home` is the one way to be rid of it.
+/// A CPU that was handed out, with its way home, on which there is room for it. It can't be let go: `go_home` is the one way to be rid
+/// of it.
 pub struct OutCpu {
     way: Producer<Homing, Global, HomeRule>,
     homing: Homing,
-    words: [u32; EPIDS],
 }
 
 impl Model for OutCpu {
     ghost use Rattle.std.specs.Prelude.{◌<◌};
     ghost use Rattle.rtrb.specs.Ring.{known_free, sent};
-    ghost use Rattle.dspec_cpu.specs.Lists.{schema_of};
     ghost use Rattle.dspec_c.specs.Homes.{IsOut, CpuSide};
-    ghost use Rattle.dspec_c.specs.Signatures.{AreSigned};
 
     ghost Value = { CpuSide };
 
     ghost view = { λ s. s.homing };
 
-    ghost invariant = { λ s. IsOut (sent s.way) s.homing × (0 < known_free s.way) × AreSigned (schema_of s.homing.cpu).rows s.words };
+    ghost invariant = { λ s. IsOut (sent s.way) s.homing × (0 < known_free s.way) };
 }
 
 impl OutCpu {
-    ghost use Rattle.std.specs.Prelude.{◌≡◌, ◌<◌, false, is_none, MatchBool};
-    ghost use Rattle.dspec_record.specs.Schemas.{enabled};
+    ghost use Rattle.std.specs.Prelude.{◌≡◌, ◌<◌, false, is_none};
     ghost use Rattle.rtrb.specs.Ring.{known_free, sent};
     ghost use Rattle.dspec_promise.specs.Promise.{commit, discard};
-    ghost use Rattle.dspec_cpu.specs.Lists.{schema_of};
     ghost use Rattle.dspec_c.specs.Homes.{HasGone, IsOut};
-    ghost use Rattle.dspec_c.specs.Signatures.{signs, word_of};
-    ghost use Rattle.dspec_c.specs.CpuCalls.{DecidedAs, Drops, Fired, FiredIn, Offered, OnSide, Opened, Recorded, Reports, ServicedSo};
+    ghost use Rattle.dspec_c.specs.CpuCalls.{DecidedAs, Drops, Offered, OnSide, Opened, Put, PutIn, Recorded, Reports, ServicedSo};
 
     pub fn of(way: Producer<Homing, Global, HomeRule>, homing: Homing) -> OutCpu
         requires out { IsOut (sent way) homing }
         requires room { 0 < known_free way }
         ensures { result ≡ homing }
     {
-        let words = homing.epid_words();
-        OutCpu { way, homing, words }
+        OutCpu { way, homing }
     }
 
-    // Whether the EPID has the fields that are said.
+    /// The record that these words stand for, traced. None: the claim isn't true of the schema, and the record is counted as refused.
     #[inline(always)]
-    fn signs(&self, claim: Claim) -> bool
-        ensures { MatchBool result (word_of (enabled (schema_of self.now.cpu).rows claim.epid) ≡ claim.word)
-            (signs claim.word (enabled (schema_of self.now.cpu).rows claim.epid) ≡ false) }
+    pub fn put(&mut self, claim: u64, stamp: u64, words: &[u64]) -> Option<Traced>
+        ensures did { OnSide (is_none result) (Put claim stamp words.now result) self.old self.new }
     {
-        let at = claim.epid as usize;
-        at < EPIDS && self.words[at] == claim.word
+        self.homing.put(claim, stamp, words)
     }
 
-    /// As `trace`, by one who says which fields the EPID has. None: it has others, or it isn't a record of the schema, and is counted as
-    /// refused.
+    /// The record that these words stand for, offered to a speculation. None: the claim isn't true of the schema, and the record is
+    /// counted as refused.
     #[inline(always)]
-    pub fn fire(&mut self, of: Claim, stamp: u64, values: &[u64]) -> Option<Traced>
-        ensures did { OnSide (is_none result) (Fired of.word of.epid stamp values.now result) self.old self.new }
+    pub fn put_in(&mut self, id: SpecId, claim: u64, stamp: u64, words: &[u64]) -> Option<Spoken>
+        ensures did { OnSide (is_none result) (PutIn id claim stamp words.now result) self.old self.new }
     {
-        if !self.signs(of) {
-            self.homing.refuse();
-            return None;
-        }
-        self.homing.fire(of.epid, stamp, values)
-    }
-
-    /// As `offer`, by one who says which fields the EPID has. None: it has others, or it isn't a record of the schema, and is counted as
-    /// refused.
-    #[inline(always)]
-    pub fn fire_in(&mut self, id: SpecId, of: Claim, stamp: u64, values: &[u64]) -> Option<Spoken>
-        ensures did { OnSide (is_none result) (FiredIn id of.word of.epid stamp values.now result) self.old self.new }
-    {
-        if !self.signs(of) {
-            self.homing.refuse();
-            return None;
-        }
-        self.homing.fire_in(id, of.epid, stamp, values)
+        self.homing.put_in(id, claim, stamp, words)
     }
 
     /// None: it isn't a record of the schema, and is counted as refused.
@@ -147,11 +120,7 @@ impl OutCpu {
     pub fn go_home(self) -> Producer<Homing, Global, HomeRule>
         ensures { HasGone self (sent result) }
     {
-        let OutCpu {
-            way,
-            homing,
-            words: _,
-        } = self;
+        let OutCpu { way, homing } = self;
         let mut way = way;
         way.push_reserved(homing);
         way

@@ -2,15 +2,15 @@ use Rattle.std.proofs.Common.{refl}
 use Rattle.std.specs.Prelude.{is_none, ⊤}
 use Rattle.dspec_word.specs.SpecId.{Speculation}
 use Rattle.dspec_c.specs.Answered.{Answered}
-use Rattle.dspec_c.specs.CpuCalls.{FiredIn, Names, OnSide}
+use Rattle.dspec_c.specs.CpuCalls.{PutIn, Names, OnSide}
 use Rattle.dspec_c.specs.Statuses.{spoken_status}
 use Rattle.dspec_c.proofs.Calls.{on_cpu}
-use Rattle.dspec_c.proofs.held_calls.held_fire_in.Goals as goal
+use Rattle.dspec_c.proofs.held_calls.held_put_in.Goals as goal
 
 pub returns-in-Cpu : goal.returns-in-Cpu
 returns-in-Cpu c = on_cpu (λ old new. (id : Speculation) × Names c.args.id id
-    × Answered spoken_status (λ a. OnSide (is_none a) (FiredIn id c.args.claim.word c.args.claim.epid c.args.stamp c.args.values.now a) old new) c.of_spoken.result) ⊤ _ _ _ _ _ c.in-Cpu.is refl (
+    × Answered spoken_status (λ a. OnSide (is_none a) (PutIn id c.args.claim c.args.stamp c.args.words.now a) old new) c.of_spoken.result) ⊤ _ _ _ _ _ c.in-Cpu.is refl (
       c.from_raw.result,
       record { numbered = c.from_raw.ensures.number; slot = c.from_raw.ensures.slot },
-      record { answer = c.fire_in.result; numbered = c.of_spoken.ensures; done = c.fire_in.ensures.did },
+      record { answer = c.put_in.result; numbered = c.of_spoken.ensures; done = c.put_in.ensures.did },
     )

@@ -1,0 +1,39 @@
+-- Serves proofs. A record of words, where records have a header that is known when the library is compiled.
+use Rattle.std.specs.Prelude.{ℕ, ◌≡◌, ◌%◌, ◌^◌, Bool, true, false, List, length, Option, None, is_some, IfNone, IfSome, if◌then◌else◌}
+use Rattle.std.specs.Option.{option_map}
+use Rattle.dspec_word.specs.SpecId.{Speculation}
+use Rattle.dspec_record.specs.Record.{Record}
+use Rattle.dspec_record.specs.EnablingRows.{EnabledRows}
+use Rattle.dspec_record.specs.Packing.{claimed, packed_record}
+use Rattle.dspec_record.specs.RecordText.{stamp_fits}
+use Rattle.dspec_record.specs.declared.header.Header.{Header}
+use Rattle.dspec_record.specs.declared.header.Header.TheVariants as header
+use Rattle.dspec_deeds.specs.declared.calls.Spoken.{Spoken}
+use Rattle.dspec_deeds.specs.declared.calls.Traced.{Traced}
+use Rattle.dspec_cpu.specs.declared.cpu.Cpu.{Cpu}
+use Rattle.dspec_cpu.specs.Lists.{schema_of}
+use Rattle.dspec_cpu.specs.OneCall.{SpeculatesOne, TracesOne}
+use Rattle.dspec_cpu.specs.Standing.{identity}
+use Rattle.dspec_session_core.specs.Sessions.{Has}
+
+abbrev pub is_header : Header → Header → Bool
+is_header header.One header.One = true
+is_header header.Two header.Two = true
+is_header h k = false
+
+-- the record, where records have this header
+abbrev pub record_as : Header → EnabledRows → ℕ → ℕ → List ℕ → Option Record
+record_as h e claim stamp ws =
+    if is_header h e.header then (if stamp_fits h stamp then option_map (λ fs. packed_record (claim % 2 ^ 32) stamp fs ws) (claimed e.rows claim (length ws)) else None) else None
+
+pub record PutAs (h : Header) (claim stamp : ℕ) (ws : List ℕ) (a : Option Traced) (old new : Cpu EnabledRows) : Type 0 where
+  pub same : identity new ≡ identity old
+  pub due : is_some a ≡ is_some (record_as h (schema_of old) claim stamp ws)
+  pub refused : IfNone a (new ≡ old)
+  pub one : IfSome a (λ t. IfSome (record_as h (schema_of old) claim stamp ws) (λ r. TracesOne Has r t old new))
+
+pub record PutInAs (h : Header) (id : Speculation) (claim stamp : ℕ) (ws : List ℕ) (a : Option Spoken) (old new : Cpu EnabledRows) : Type 0 where
+  pub same : identity new ≡ identity old
+  pub due : is_some a ≡ is_some (record_as h (schema_of old) claim stamp ws)
+  pub refused : IfNone a (new ≡ old)
+  pub one : IfSome a (λ s. IfSome (record_as h (schema_of old) claim stamp ws) (λ r. SpeculatesOne Has id r s old new))

@@ -1,0 +1,134 @@
+//! The exports of a record by the words of its text: a claim is the record's EPID, and above 32 bits the widths of its fields, four bits
+//! each. As many words as fit registers have an export of their own.
+
+ghost use Rattle.std.specs.Prelude.{◌≡◌, ◌∷◌, []};
+ghost use Rattle.dspec_c.specs.Handles.{held_in, is_full};
+ghost use Rattle.dspec_c.specs.CpuCalls.{PutAnswers, PutInAnswers};
+
+use crate::handle::Handle;
+use crate::held_calls::{held_put, held_put_in};
+use crate::statuses::bad_handle;
+
+/// Traces the record of a claim whose text is one word.
+#[unsafe(no_mangle)]
+pub extern "C" fn dspec_put_1(cpu: &mut Handle, claim: u64, stamp: u64, w0: u64) -> u32
+    ensures answers { PutAnswers claim stamp (w0 ∷ []) (held_in cpu.old) result (held_in cpu.new) }
+    ensures stays { is_full cpu.new ≡ is_full cpu.old }
+{
+    if !cpu.is_held() {
+        return bad_handle();
+    }
+    held_put(cpu.lend(), claim, stamp, &[w0])
+}
+
+/// Traces the record of a claim whose text is two words.
+#[unsafe(no_mangle)]
+pub extern "C" fn dspec_put_2(cpu: &mut Handle, claim: u64, stamp: u64, w0: u64, w1: u64) -> u32
+    ensures answers { PutAnswers claim stamp (w0 ∷ w1 ∷ []) (held_in cpu.old) result (held_in cpu.new) }
+    ensures stays { is_full cpu.new ≡ is_full cpu.old }
+{
+    if !cpu.is_held() {
+        return bad_handle();
+    }
+    held_put(cpu.lend(), claim, stamp, &[w0, w1])
+}
+
+/// Traces the record of a claim whose text is three words.
+#[unsafe(no_mangle)]
+pub extern "C" fn dspec_put_3(
+    cpu: &mut Handle,
+    claim: u64,
+    stamp: u64,
+    w0: u64,
+    w1: u64,
+    w2: u64,
+) -> u32
+    ensures answers { PutAnswers claim stamp (w0 ∷ w1 ∷ w2 ∷ []) (held_in cpu.old) result (held_in cpu.new) }
+    ensures stays { is_full cpu.new ≡ is_full cpu.old }
+{
+    if !cpu.is_held() {
+        return bad_handle();
+    }
+    held_put(cpu.lend(), claim, stamp, &[w0, w1, w2])
+}
+
+/// Traces the record of a claim whose text is so many words.
+#[unsafe(no_mangle)]
+pub extern "C" fn dspec_put(cpu: &mut Handle, claim: u64, stamp: u64, words: &[u64]) -> u32
+    ensures answers { PutAnswers claim stamp words.now (held_in cpu.old) result (held_in cpu.new) }
+    ensures stays { is_full cpu.new ≡ is_full cpu.old }
+{
+    if !cpu.is_held() {
+        return bad_handle();
+    }
+    held_put(cpu.lend(), claim, stamp, words)
+}
+
+/// Offers the record of a claim whose text is one word, to a speculation.
+#[unsafe(no_mangle)]
+pub extern "C" fn dspec_put_in_1(cpu: &mut Handle, id: u64, claim: u64, stamp: u64, w0: u64) -> u32
+    ensures answers { PutInAnswers id claim stamp (w0 ∷ []) (held_in cpu.old) result (held_in cpu.new) }
+    ensures stays { is_full cpu.new ≡ is_full cpu.old }
+{
+    if !cpu.is_held() {
+        return bad_handle();
+    }
+    held_put_in(cpu.lend(), id, claim, stamp, &[w0])
+}
+
+/// Offers the record of a claim whose text is two words, to a speculation.
+#[unsafe(no_mangle)]
+pub extern "C" fn dspec_put_in_2(
+    cpu: &mut Handle,
+    id: u64,
+    claim: u64,
+    stamp: u64,
+    w0: u64,
+    w1: u64,
+) -> u32
+    ensures answers { PutInAnswers id claim stamp (w0 ∷ w1 ∷ []) (held_in cpu.old) result (held_in cpu.new) }
+    ensures stays { is_full cpu.new ≡ is_full cpu.old }
+{
+    if !cpu.is_held() {
+        return bad_handle();
+    }
+    held_put_in(cpu.lend(), id, claim, stamp, &[w0, w1])
+}
+
+/// Offers the record of a claim whose text is three words, to a speculation.
+#[unsafe(no_mangle)]
+pub extern "C" fn dspec_put_in_3(
+    cpu: &mut Handle,
+    id: u64,
+    claim: u64,
+    stamp: u64,
+    w0: u64,
+    w1: u64,
+    w2: u64,
+) -> u32
+    ensures answers { PutInAnswers id claim stamp (w0 ∷ w1 ∷ w2 ∷ []) (held_in cpu.old) result (held_in cpu.new) }
+    ensures stays { is_full cpu.new ≡ is_full cpu.old }
+{
+    if !cpu.is_held() {
+        return bad_handle();
+    }
+    held_put_in(cpu.lend(), id, claim, stamp, &[w0, w1, w2])
+}
+
+/// Offers the record of a claim whose text is so many words, to a speculation.
+#[unsafe(no_mangle)]
+pub extern "C" fn dspec_put_in(
+    cpu: &mut Handle,
+    id: u64,
+    claim: u64,
+    stamp: u64,
+    words: &[u64],
+) -> u32
+    ensures answers { PutInAnswers id claim stamp words.now (held_in cpu.old) result (held_in cpu.new) }
+    ensures stays { is_full cpu.new ≡ is_full cpu.old }
+{
+    if !cpu.is_held() {
+        return bad_handle();
+    }
+    held_put_in(cpu.lend(), id, claim, stamp, words)
+}

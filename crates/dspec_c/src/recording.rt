@@ -1,0 +1,115 @@
+//! A record by its EPID and its values, or by a claim and the words of its text, on a CPU.
+
+ghost use Rattle.std.specs.Prelude.{◌≡◌};
+ghost use Rattle.dspec_cpu.specs.Standing.{IsCallable};
+ghost use Rattle.dspec_c.specs.CpuCalls.{Offered, Put, PutIn, Recorded};
+ghost use Rattle.dspec_c.specs.Puts.{PutAs, PutInAs};
+
+use dspec_cpu::{Cpu, Shared};
+use dspec_deeds::{Spoken, Traced};
+use dspec_record::{Enablings, KnownHeader, Schema, Stamped, Unstamped};
+use dspec_word::SpecId;
+
+/// Traces the record with these values. None: the schema doesn't accept it.
+#[inline(always)]
+pub fn trace(
+    cpu: &mut Cpu<Enablings>,
+    shared: &Shared,
+    epid: u32,
+    stamp: u64,
+    values: &[u64],
+) -> Option<Traced>
+    requires of { IsCallable shared.now cpu.old }
+    ensures { Recorded epid stamp values.now result cpu.old cpu.new }
+{
+    let rec = cpu.schema().borrowed(epid, stamp, values)?;
+    Some(cpu.trace_recorded(shared, rec))
+}
+
+/// Offers the record with these values to a speculation. None: the schema doesn't accept it.
+#[inline(always)]
+pub fn offer(
+    cpu: &mut Cpu<Enablings>,
+    id: SpecId,
+    shared: &Shared,
+    epid: u32,
+    stamp: u64,
+    values: &[u64],
+) -> Option<Spoken>
+    requires of { IsCallable shared.now cpu.old }
+    ensures { Offered id epid stamp values.now result cpu.old cpu.new }
+{
+    let rec = cpu.schema().borrowed(epid, stamp, values)?;
+    Some(cpu.speculate_recorded(shared, id, rec))
+}
+
+// Traces the record that these words stand for, where records have this header.
+#[inline(always)]
+fn put_as<H: KnownHeader>(
+    cpu: &mut Cpu<Enablings>,
+    shared: &Shared,
+    claim: u64,
+    stamp: u64,
+    words: &[u64],
+) -> Option<Traced>
+    requires of { IsCallable shared.now cpu.old }
+    ensures { PutAs H.header_is claim stamp words.now result cpu.old cpu.new }
+{
+    let rec = cpu.schema().packed::<H>(claim, stamp, words)?;
+    Some(cpu.trace_recorded(shared, &rec))
+}
+
+// Offers the record that these words stand for to a speculation, where records have this header.
+#[inline(always)]
+fn put_in_as<H: KnownHeader>(
+    cpu: &mut Cpu<Enablings>,
+    id: SpecId,
+    shared: &Shared,
+    claim: u64,
+    stamp: u64,
+    words: &[u64],
+) -> Option<Spoken>
+    requires of { IsCallable shared.now cpu.old }
+    ensures { PutInAs H.header_is id claim stamp words.now result cpu.old cpu.new }
+{
+    let rec = cpu.schema().packed::<H>(claim, stamp, words)?;
+    Some(cpu.speculate_recorded(shared, id, &rec))
+}
+
+/// Traces the record that these words stand for. None: the claim isn't true of the schema. Each header has code of its own, which asks
+/// for it once.
+#[inline(always)]
+pub fn put(
+    cpu: &mut Cpu<Enablings>,
+    shared: &Shared,
+    claim: u64,
+    stamp: u64,
+    words: &[u64],
+) -> Option<Traced>
+    requires of { IsCallable shared.now cpu.old }
+    ensures { Put claim stamp words.now result cpu.old cpu.new }
+{
+    match put_as::<Unstamped>(cpu, shared, claim, stamp, words) {
+        Some(answer) => Some(answer),
+        None => put_as::<Stamped>(cpu, shared, claim, stamp, words),
+    }
+}
+
+/// Offers the record that these words stand for to a speculation. None: the claim isn't true of the schema.
+#[inline(always)]
+pub fn put_in(
+    cpu: &mut Cpu<Enablings>,
+    id: SpecId,
+    shared: &Shared,
+    claim: u64,
+    stamp: u64,
+    words: &[u64],
+) -> Option<Spoken>
+    requires of { IsCallable shared.now cpu.old }
+    ensures { PutIn id claim stamp words.now result cpu.old cpu.new }
+{
+    match put_in_as::<Unstamped>(cpu, id, shared, claim, stamp, words) {
+        Some(answer) => Some(answer),
+        None => put_in_as::<Stamped>(cpu, id, shared, claim, stamp, words),
+    }
+}
