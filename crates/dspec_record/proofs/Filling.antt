@@ -2,9 +2,9 @@
 use Rattle.std.proofs.Common.{◌≡◌, ◌≤◌, ◌<◌, ◌-◌, ◌+◌, ◌++◌, ℕ, List, [], ◌∷◌, length, take, drop, set, replicate, refl, sym, ◌∙◌, ap, subst, arith}
 use Rattle.std.proofs.lemmas.List.{length-append, length-drop, length-set, length-take-le, take_more_set, take_at, drop_at, drop-replicate, length-replicate, drop-drop, drop-set-lt}
 use Rattle.dspec_record.specs.Layout.{layout}
-use Rattle.dspec_record.specs.EnablingFields.{IsLaidOut, padded_places, padded_limits, masks_for}
-use Rattle.dspec_record.specs.Packing.{words_in, claim_of}
-use Rattle.dspec_record.specs.EnablingRows.{IsFilled, padded_claims}
+use Rattle.dspec_record.specs.EnablingFields.{IsLaidOut, padded_places, padded_limits}
+use Rattle.dspec_record.specs.Packing.{words_in, claim_of, padded_claims, masks_for}
+use Rattle.dspec_record.specs.EnablingRows.{IsFilled}
 use Rattle.dspec_record.proofs.Claiming.{claims-push}
 use Rattle.dspec_record.specs.declared.field.Field.{Field}
 use Rattle.dspec_record.specs.declared.field.Field.TheVariants.{One}

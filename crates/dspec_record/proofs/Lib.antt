@@ -12,5 +12,10 @@ pub mod WideFronts
 pub mod LittleEndian
 pub mod Cutting
 pub mod Masking
-pub mod Storing
+pub mod MakingMasks
 pub mod Claiming
+pub mod OneWord
+pub mod PackingSample
+pub mod Storing
+pub mod Signing
+pub mod PackedRecords

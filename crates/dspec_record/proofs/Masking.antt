@@ -9,8 +9,7 @@ use Rattle.std.specs.Int.RustNames.{bit_and}
 use Rattle.dspec_record.specs.Record.{Record}
 use Rattle.dspec_record.specs.Layout.{width, limit, rounded_up, after, fields_end, layout}
 use Rattle.dspec_record.specs.RecordText.{little_endian, fields_text, fits}
-use Rattle.dspec_record.specs.Packing.{number_of_words, cuts, packed_record, words_in, mask_number, words_of, masked_words, IsClean}
-use Rattle.dspec_record.specs.EnablingFields.{masks_for}
+use Rattle.dspec_record.specs.Packing.{number_of_words, cuts, packed_record, words_in, mask_number, words_of, masks_for, masked_words, IsClean}
 use Rattle.dspec_record.specs.Laws.Layouts.{rounded_up-ge, fields_end-ge, fields_end-le}
 use Rattle.dspec_record.proofs.LittleEndian.{pow_pos256, pow-add256, div-more, shifted-back, little_endian-parts, take-little_endian}
 use Rattle.dspec_record.proofs.Cutting.{packed, cuts_fit, cuts-packed, packed-text, packed-below}
@@ -78,7 +77,7 @@ number_of_words-masked (w ∷ ws) (m ∷ ms) small masks few =
 
 -- ---- masks
 
-pow256 : (k : ℕ) → 256 ^ k ≡ 2 ^ (8 * k)
+pub pow256 : (k : ℕ) → 256 ^ k ≡ 2 ^ (8 * k)
 pow256 zero = refl
 pow256 (suc k) =
     let bits : 8 * k + 8 ≡ 8 * suc k = omega arith in
@@ -182,13 +181,13 @@ pub words_in-most : (fs : List Field) → length fs ≤ 8 → words_in fs ≤ 9
 words_in-most [] few = omega arith
 words_in-most (f ∷ fs) few = let within : fields_end 4 (f ∷ fs) ≤ 72 = ends-within (f ∷ fs) few in omega (arith, within)
 
+pub words_in-some : (fs : List Field) → 0 < length fs → ((layout header.One fs).size + 7) / 8 ≡ words_in fs
+words_in-some [] some = absurd (omega arith)
+words_in-some (f ∷ fs) some = refl
+
 pub size-in-words : (fs : List Field) → 0 < words_in fs → (layout header.One fs).size ≤ 8 * words_in fs
 size-in-words [] some = absurd (omega arith)
 size-in-words (f ∷ fs) some = omega arith
-
-
-
-
 
 few-words : (fs : List Field) (ws : List ℕ) → length fs ≤ 8 → length ws ≡ words_in fs → length ws ≤ length (masks_for fs)
 few-words fs ws few count = omega (arith, words_in-most fs few, length-words_of 9 (mask_number 4 fs))

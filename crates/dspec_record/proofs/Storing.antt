@@ -1,13 +1,14 @@
 -- The bytes of clean words where they are stored with an EPID, and behind it a stamp, in place of the zeros before the fields.
 use Rattle.std.proofs.Common.{◌≡◌, ◌≤◌, ◌<◌, ◌+◌, ◌-◌, ◌*◌, ◌/◌, ◌%◌, ◌^◌, ◌++◌, ℕ, suc, All, List, [], ◌∷◌, length, take, get_or, refl, sym, ◌∙◌, ap, arith}
 use Rattle.std.proofs.Math.Nat.{div-add-mod'}
-use Rattle.std.proofs.Math.Seq.{take-append-add}
+use Rattle.std.proofs.Math.Seq.{take-append-add, take-take}
+use Rattle.std.proofs.lemmas.List.{length-append, append_assoc, append-nil, take_more}
 use Rattle.std.proofs.lemmas.List.Elements.{All-head, All-tail}
 use Rattle.dspec_record.specs.Record.{Record}
 use Rattle.dspec_record.specs.Layout.{rounded_up, fields_end, layout}
 use Rattle.dspec_record.specs.RecordText.{little_endian, fields_text, record_text}
 use Rattle.dspec_record.specs.Packing.{number_of_words, cuts, packed_record, words_text, IsClean}
-use Rattle.dspec_record.specs.Laws.Layouts.{rounded_up-ge, fields_end-ge}
+use Rattle.dspec_record.specs.Laws.Layouts.{rounded_up-ge, fields_end-ge, size-stamped}
 use Rattle.dspec_record.specs.Laws.Texts.{append-same}
 use Rattle.dspec_record.proofs.LittleEndian.{little_endian-append, little_endian-parts}
 use Rattle.dspec_record.proofs.Cutting.{moved}
@@ -115,3 +116,46 @@ stored-stamped epid stamp fs w rest small fits stamp_fits clean =
     ∙ ap (λ t. little_endian 8 first ++ t) (first-stored fs w high rest small (omega arith) clean)
     ∙ ap (λ t. t ++ (little_endian 4 high ++ fields_text 4 fs values)) header_word
     ∙ ap (λ t. (little_endian 4 epid ++ little_endian 4 low) ++ (little_endian 4 high ++ t)) (sym (moved fs values))
+
+-- ---- word by word
+
+pub length-words_text : (ws : List ℕ) → length (words_text ws) ≡ 8 * length ws
+length-words_text [] = refl
+length-words_text (w ∷ ws) =
+    let rest : length (words_text ws) ≡ 8 * length ws = length-words_text ws in
+    omega (arith, length-append (little_endian 8 w) (words_text ws), rest)
+
+pub words_text-more : (ws : List ℕ) (i : ℕ) → i < length ws → words_text (take (i + 1) ws) ≡ words_text (take i ws) ++ little_endian 8 (get_or ws i 0)
+words_text-more ws i within = ap words_text (take_more ws i 0 within) ∙ appended (take i ws) (get_or ws i 0)
+  where
+    appended : (us : List ℕ) (u : ℕ) → words_text (us ++ u ∷ []) ≡ words_text us ++ little_endian 8 u
+    appended [] u = append-nil (little_endian 8 u)
+    appended (x ∷ us) u =
+        ap (λ t. little_endian 8 x ++ t) (appended us u) ∙ sym (append_assoc (little_endian 8 x) (words_text us) (little_endian 8 u))
+
+-- `stored` and `stored-stamped` of words that are stored one by one
+pub stored-words : (epid : ℕ) (fs : List Field) (w : ℕ) (rest : List ℕ) → All (λ x. x < 2 ^ 64) (w ∷ rest) → epid < 2 ^ 32 → IsClean fs (w ∷ rest)
+    → take (layout header.One fs).size (little_endian 8 (w + epid) ++ words_text rest) ≡ record_text header.One fs (packed_record epid 0 fs (w ∷ rest))
+stored-words epid fs w rest small fits clean =
+    let P : ℕ → Type 0 = λ x. x < 2 ^ 64 in
+    ap (λ t. take (layout header.One fs).size (little_endian 8 (w + epid) ++ t)) (words_text-little_endian rest (All-tail P w rest small))
+    ∙ stored epid fs w rest (All-head P w rest small) fits clean
+
+pub stored-stamped-words : (epid stamp : ℕ) (fs : List Field) (w : ℕ) (rest : List ℕ) → All (λ x. x < 2 ^ 64) (w ∷ rest) → epid < 2 ^ 32 → stamp < 2 ^ 64 → IsClean fs (w ∷ rest)
+    → take (layout header.Two fs).size (little_endian 8 (epid + 2 ^ 32 * (stamp % 2 ^ 32)) ++ (little_endian 8 (w + stamp / 2 ^ 32) ++ words_text rest))
+    ≡ record_text header.Two fs (packed_record epid stamp fs (w ∷ rest))
+stored-stamped-words epid stamp fs w rest small fits stamp_fits clean =
+    let P : ℕ → Type 0 = λ x. x < 2 ^ 64 in
+    let first : List ℕ = little_endian 8 (epid + 2 ^ 32 * (stamp % 2 ^ 32)) in
+    let second : List ℕ = little_endian 8 (w + stamp / 2 ^ 32) in
+    ap (λ k. take k (first ++ (second ++ words_text rest))) (size-stamped fs)
+    ∙ ap (λ t. take ((layout header.One fs).size + 8) (first ++ (second ++ t))) (words_text-little_endian rest (All-tail P w rest small))
+    ∙ stored-stamped epid stamp fs w rest (All-head P w rest small) fits stamp_fits clean
+
+-- the sums of a first word and what it is stored with lose no bit
+pub first-fits : (fs : List Field) (w first : ℕ) (rest : List ℕ) → w < 2 ^ 64 → first < 2 ^ 32 → IsClean fs (w ∷ rest) → w + first < 2 ^ 64
+first-fits fs w first rest small fits clean = omega (arith, clean-first fs w rest clean)
+
+-- bytes that begin with all words begin with the text that these begin with
+pub begins : (out bytes text : List ℕ) (n size : ℕ) → take n out ≡ bytes → size ≤ n → take size bytes ≡ text → take size out ≡ text
+begins out bytes text n size is short has = sym (take-take size n out short) ∙ ap (take size) is ∙ has

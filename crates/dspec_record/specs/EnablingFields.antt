@@ -1,7 +1,7 @@
 -- Cited by calls. How an `Enabling` holds a list of fields.
 use Rattle.std.specs.Prelude.{◌≡◌, ◌≤◌, ◌-◌, ◌++◌, ℕ, List, length, map, take, drop, replicate}
 use Rattle.dspec_record.specs.Layout.{limit, field_places, layout}
-use Rattle.dspec_record.specs.Packing.{words_in, words_of, mask_number}
+use Rattle.dspec_record.specs.Packing.{words_in, masks_for}
 use Rattle.dspec_record.specs.declared.field.Field.{Field}
 use Rattle.dspec_record.specs.declared.field.Field.TheVariants.{One}
 use Rattle.dspec_record.specs.declared.header.Header.TheVariants as header
@@ -17,10 +17,6 @@ padded_places fs = field_places 4 fs ++ replicate (8 - length fs) 0
 -- the greatest value of each field, in eight places, of which those of no field hold zero
 abbrev pub padded_limits : List Field → List ℕ
 padded_limits fs = map limit fs ++ replicate (8 - length fs) 0
-
--- which bits of nine words are bits of these fields
-abbrev pub masks_for : List Field → List ℕ
-masks_for fs = words_of 9 (mask_number 4 fs)
 
 -- there are eight fields, and those behind the list hold one value; shape and places are the list's layout without a stamp, and
 -- the limits, the number of words and their masks are those of the fields

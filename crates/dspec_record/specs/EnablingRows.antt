@@ -1,7 +1,7 @@
 -- Believed. Enablings as contracts see them, and how `Enablings` holds them.
-use Rattle.std.specs.Prelude.{◌≡◌, ◌≤◌, ◌+◌, ◌-◌, ◌++◌, ℕ, List, [], ◌∷◌, length, take, drop, replicate}
+use Rattle.std.specs.Prelude.{◌≡◌, ◌≤◌, ◌+◌, ◌-◌, ◌++◌, List, [], length, take, drop, replicate}
 use Rattle.dspec_record.specs.Layout.{fields_start}
-use Rattle.dspec_record.specs.Packing.{claim_of}
+use Rattle.dspec_record.specs.Packing.{padded_claims}
 use Rattle.dspec_record.specs.declared.field.Field.{Field}
 use Rattle.dspec_record.specs.declared.header.Header.{Header}
 use Rattle.dspec_record.specs.declared.enabling.Enablings.TheInside.{Inside}
@@ -13,15 +13,6 @@ pub record EnabledRows : Type 0 where
 
 abbrev pub rows_of : Inside → EnabledRows
 rows_of a = record { header = a.header; rows = take a.count a.rows }
-
--- the claims that are true of these rows, of which the first has this EPID
-abbrev pub claims_from : ℕ → List (List Field) → List ℕ
-claims_from epid [] = []
-claims_from epid (fs ∷ rows) = claim_of epid fs ∷ claims_from (epid + 1) rows
-
--- in 64 places, of which those of no row hold zero
-abbrev pub padded_claims : List (List Field) → List ℕ
-padded_claims rows = claims_from 1 rows ++ replicate (64 - length rows) 0
 
 -- there are 64 places, and those behind the enablings have no fields; the stamp is what moves the fields from where they begin without
 pub record IsFilled (a : Inside) : Type 0 where

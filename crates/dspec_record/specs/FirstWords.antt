@@ -3,4 +3,4 @@ use Rattle.std.specs.Prelude.{ℕ, ◌+◌, List, [], ◌∷◌}
 
 abbrev pub with_low : ℕ → List ℕ → List ℕ
 with_low low [] = []
-with_low low (w ∷ ws) = w + low ∷ ws
+with_low low (w ∷ ws) = (w + low) ∷ ws

@@ -1,6 +1,6 @@
 -- Cited by calls. A packed record as contracts see it: the record that its words stand for, and what it says itself of its shape and
 -- its bytes.
-use Rattle.std.specs.Prelude.{ℕ, ◌+◌, List, [], ◌∷◌, take, Option, Some}
+use Rattle.std.specs.Prelude.{ℕ, List, take, Option, Some}
 use Rattle.dspec_record.specs.Record.{Record}
 use Rattle.dspec_record.specs.LaidOut.{Laid}
 use Rattle.dspec_record.specs.Layout.{layout}
@@ -8,17 +8,18 @@ use Rattle.dspec_record.specs.Packing.{packed_record}
 use Rattle.dspec_record.specs.RecordText.{record_text}
 use Rattle.dspec_record.specs.declared.field.Field.{Field}
 use Rattle.dspec_record.specs.declared.header.Header.{Header}
+use Rattle.dspec_record.specs.declared.known_header.KnownHeader.{Ghosts}
 use Rattle.dspec_record.specs.declared.packed.Packed.{Packed}
 
-abbrev pub packed_fields : {H : Type 0} → Packed H → List Field
+abbrev pub packed_fields : {H : Type 0} {g : Ghosts H} → Packed H g → List Field
 packed_fields p = take p.len p.fields
 
 -- those that hold the text
-abbrev pub packed_words : {H : Type 0} → Packed H → List ℕ
+abbrev pub packed_words : {H : Type 0} {g : Ghosts H} → Packed H g → List ℕ
 packed_words p = take p.count p.words
 
-abbrev pub packed_of : {H : Type 0} → Packed H → Record
+abbrev pub packed_of : {H : Type 0} {g : Ghosts H} → Packed H g → Record
 packed_of p = packed_record p.epid p.stamp (packed_fields p) (packed_words p)
 
-abbrev pub laid_of : {H : Type 0} → Header → Packed H → Option Laid
+abbrev pub laid_of : {H : Type 0} {g : Ghosts H} → Header → Packed H g → Option Laid
 laid_of h p = Some (record { shape = layout h (packed_fields p); text = record_text h (packed_fields p) (packed_of p) })

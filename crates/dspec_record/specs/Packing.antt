@@ -1,5 +1,5 @@
 -- Believed. A record as the words of its text, of eight bytes each: what record they stand for, and which of their bits count.
-use Rattle.std.specs.Prelude.{◌≡◌, ℕ, zero, suc, ◌+◌, ◌*◌, ◌/◌, ◌%◌, ◌^◌, ◌==◌, ◌&&◌, nat_lt, List, [], ◌∷◌, ◌++◌, length, take, Option, Some, None, option_and_then, if◌then◌else◌}
+use Rattle.std.specs.Prelude.{◌≡◌, ℕ, zero, suc, ◌+◌, ◌-◌, ◌*◌, ◌/◌, ◌%◌, ◌^◌, ◌==◌, ◌&&◌, nat_lt, List, [], ◌∷◌, ◌++◌, length, take, replicate, Option, Some, None, option_and_then, if◌then◌else◌}
 use Rattle.std.specs.Int.RustNames.{bit_and}
 use Rattle.dspec_record.specs.Record.{Record}
 use Rattle.dspec_record.specs.Layout.{width, limit, rounded_up, after, layout}
@@ -46,6 +46,15 @@ claimed_by claim n fs =
 abbrev pub claimed : List (List Field) → ℕ → ℕ → Option (List Field)
 claimed rows claim n = option_and_then (claimed_by claim n) (enabling_of rows (claim % 2 ^ 32))
 
+-- the claims that are true of these fields, where the first have this EPID
+abbrev pub claims_from : ℕ → List (List Field) → List ℕ
+claims_from epid [] = []
+claims_from epid (fs ∷ rows) = claim_of epid fs ∷ claims_from (epid + 1) rows
+
+-- those of enablings, in 64 places, of which those of no enabling hold zero
+abbrev pub padded_claims : List (List Field) → List ℕ
+padded_claims rows = claims_from 1 rows ++ replicate (64 - length rows) 0
+
 -- which bits of the words are bits of fields: a number
 abbrev pub mask_number : ℕ → List Field → ℕ
 mask_number start [] = 0
@@ -56,6 +65,10 @@ mask_number start (f ∷ fs) =
 abbrev pub words_of : ℕ → ℕ → List ℕ
 words_of zero n = []
 words_of (suc k) n = n % 2 ^ 64 ∷ words_of k (n / 2 ^ 64)
+
+-- which bits of nine words, as many as there can be, are bits of these fields
+abbrev pub masks_for : List Field → List ℕ
+masks_for fs = words_of 9 (mask_number 4 fs)
 
 -- each word with the mask at its place; no words behind the last mask
 abbrev pub masked_words : List ℕ → List ℕ → List ℕ

@@ -68,7 +68,7 @@ impl Model for Enabling {
 impl Enabling {
     ghost use Rattle.std.specs.Prelude.{◌≡◌, ◌≤◌, ◌+◌, length, map, take};
     ghost use Rattle.dspec_record.specs.Layout.{limit, field_places, fields_start, layout};
-    ghost use Rattle.dspec_record.specs.Packing.{words_in, words_of, mask_number};
+    ghost use Rattle.dspec_record.specs.Packing.{words_in, masks_for};
 
     fn of(fields: &[Field]) -> Enabling
         requires { length fields.now ≤ 8 }
@@ -138,7 +138,7 @@ impl Enabling {
     /// Which bits of each of these words are bits of fields.
     #[inline(always)]
     pub(crate) fn masks(&self) -> &[u64; MAX_WORDS]
-        ensures { result.now ≡ words_of 9 (mask_number 4 self.now) }
+        ensures { result.now ≡ masks_for self.now }
     {
         &self.masks
     }

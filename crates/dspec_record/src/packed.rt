@@ -1,4 +1,5 @@
-ghost use Rattle.std.specs.Prelude.{◌≡◌, ◌≤◌, ◌<◌, ◌+◌, ◌*◌, ◌^◌, ◌++◌, length, take};
+ghost use Rattle.std.specs.Prelude.{◌≡◌, ◌≤◌, ◌<◌, ◌+◌, ◌*◌, ◌%◌, ◌^◌, ◌++◌, All, length, take, drop, slice_index_or};
+ghost use Rattle.dspec_record.specs.FirstWords.{with_low};
 ghost use Rattle.dspec_record.specs.Layout.{layout};
 ghost use Rattle.dspec_record.specs.RecordText.{little_endian};
 ghost use Rattle.dspec_record.specs.Packing.{words_in, masked_words, words_text, IsClean};
@@ -31,6 +32,7 @@ pub struct Packed<H: KnownHeader> {
     ghost laid: { shape ≡ layout One (take len fields) },
     ghost some: { 0 < count },
     ghost many: { count ≡ words_in (take len fields) },
+    ghost nine: { length words ≡ 9 },
     ghost clean: { IsClean (take len fields) (take count words) },
 }
 
@@ -80,9 +82,8 @@ impl Enablings {
 }
 
 impl<H: KnownHeader> Packed<H> {
-    ghost use Rattle.std.specs.Prelude.{◌≡◌, ◌≤◌, ◌<◌, ◌+◌, ◌*◌, ◌^◌, ◌++◌, length, take};
-    ghost use Rattle.dspec_record.specs.FirstWords.{with_low};
-    ghost use Rattle.dspec_record.specs.Packing.{words_in, words_text, packed_record};
+    ghost use Rattle.std.specs.Prelude.{◌≡◌, ◌≤◌, ◌<◌, ◌%◌, ◌^◌, length, slice_index_or};
+    ghost use Rattle.dspec_record.specs.Packing.{words_in, packed_record};
     ghost use Rattle.dspec_record.specs.PackedFields.{packed_fields, packed_words, packed_of};
 
     #[inline(always)]
@@ -91,6 +92,7 @@ impl<H: KnownHeader> Packed<H> {
         requires many { length words.now ≡ words_in row.now }
         ensures fields { packed_fields result ≡ row.now }
         ensures holds { packed_of result ≡ packed_record epid stamp row.now words.now }
+        ensures few { length row.now ≤ 8 }
     {
         Packed {
             epid,
@@ -104,15 +106,14 @@ impl<H: KnownHeader> Packed<H> {
         }
     }
 
-    /// Writes the words at `at`, the first with this number in the place of its zeros.
+    /// The words that hold the text, of which the first has zeros in its lower half.
     #[inline(always)]
-    fn put_at(&self, low: u64, at: usize, out: &mut [u8])
-        requires low { low < 2 ^ 32 }
-        requires room { at + 8 * self.now.count ≤ length out.old }
-        ensures put { take (at + 8 * self.now.count) out.new ≡ take at out.old ++ words_text (with_low low (packed_words self.now)) }
+    fn words(&self) -> &[u64]
+        ensures words { result.now ≡ packed_words self.now }
+        ensures many { length result.now ≡ self.now.count }
+        ensures zeros { slice_index_or result.now 0 0 % 2 ^ 32 ≡ 0 }
     {
-        put_word(self.words[0] + low, at, out);
-        put_words(&self.words[1..self.count], at + 8, out);
+        &self.words[..self.count]
     }
 
     /// The record, read out of its text without a stamp.
@@ -120,7 +121,7 @@ impl<H: KnownHeader> Packed<H> {
         ensures { result ≡ packed_of self.now }
     {
         let mut text = [0; MAX_TEXT];
-        self.put_at(u64::from(self.epid), 0, &mut text);
+        put_from(self.words(), u64::from(self.epid), 0, &mut text);
         let fields = &self.fields[..self.len as usize];
         let size = self.shape.size as usize;
         let Some(rec) = read_record(Header::One, fields, self.epid, &text[..size]) else {
@@ -147,7 +148,8 @@ fn shape_of_words(row: &Enabling, count: usize) -> Shape
 #[inline(always)]
 fn masked(words: &[u64], masks: &[u64; MAX_WORDS]) -> [u64; MAX_WORDS]
     requires { length words.now ≤ 9 }
-    ensures { take (length words.now) result ≡ masked_words words.now masks.now }
+    ensures masked { take (length words.now) result ≡ masked_words words.now masks.now }
+    ensures nine { length result ≡ 9 }
 {
     let mut kept = [0; MAX_WORDS];
     for i in 0..words.len() {
@@ -156,13 +158,37 @@ fn masked(words: &[u64], masks: &[u64; MAX_WORDS]) -> [u64; MAX_WORDS]
     kept
 }
 
+/// Writes a word of eight bytes over the first bytes.
+#[inline(always)]
+fn put_first(word: u64, out: &mut [u8])
+    requires { 8 ≤ length out.old }
+    ensures { out.new ≡ little_endian 8 word ++ drop 8 out.old }
+{
+    // an array's bytes are one store, and nothing asks how long the slice is
+    *out.first_chunk_mut::<8>().unwrap() = word.to_le_bytes();
+}
+
 /// Writes a word of eight bytes at `at`.
 #[inline(always)]
 fn put_word(word: u64, at: usize, out: &mut [u8])
     requires { at + 8 ≤ length out.old }
     ensures { take (at + 8) out.new ≡ take at out.old ++ little_endian 8 word }
 {
-    *out[at..].first_chunk_mut::<8>().unwrap() = word.to_le_bytes();
+    put_first(word, &mut out[at..]);
+}
+
+/// Writes words one behind the other, the first at `at` and with this number in the place of its zeros.
+#[inline(always)]
+fn put_from(words: &[u64], low: u64, at: usize, out: &mut [u8])
+    requires some { 0 < length words.now }
+    requires zeros { slice_index_or words.now 0 0 % 2 ^ 32 ≡ 0 }
+    requires low { low < 2 ^ 32 }
+    requires room { at + 8 * length words.now ≤ length out.old }
+    ensures put { take (at + 8 * length words.now) out.new ≡ take at out.old ++ words_text (with_low low words.now) }
+    ensures small { All (λ w. w < 2 ^ 64) words.now }
+{
+    put_word(words[0] + low, at, out);
+    put_words(&words[1..], at + 8, out);
 }
 
 /// Writes words one behind the other, the first at `at`.
@@ -214,10 +240,10 @@ impl<'a, H: KnownHeader> Recorded for &'a Packed<H> {
     fn put_laid(&self, out: &mut [u8]) -> bool {
         let epid = u64::from(self.epid);
         match H::header() {
-            Header::One => self.put_at(epid, 0, out),
+            Header::One => put_from(self.words(), epid, 0, out),
             Header::Two => {
                 put_word(epid + self.stamp % HALF * HALF, 0, out);
-                self.put_at(self.stamp / HALF, 8, out);
+                put_from(self.words(), self.stamp / HALF, 8, out);
             }
         }
         true

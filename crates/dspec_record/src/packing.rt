@@ -2,7 +2,7 @@
 //! of their bits count.
 
 ghost use Rattle.std.specs.Prelude.{◌≡◌, ◌≤◌, ◌<◌, ◌^◌, length};
-ghost use Rattle.dspec_record.specs.Packing.{signature_of, claim_of, words_in, words_of, mask_number};
+ghost use Rattle.dspec_record.specs.Packing.{signature_of, claim_of, words_in, masks_for};
 
 use crate::enabling::MAX_WORDS;
 use crate::layout::layout_of;
@@ -44,7 +44,7 @@ pub(crate) fn words_for(fields: &[Field]) -> u32
 /// Which bits of the words are bits of these fields.
 pub(crate) fn masks_of(fields: &[Field]) -> [u64; MAX_WORDS]
     requires { length fields.now ≤ 8 }
-    ensures { result ≡ words_of 9 (mask_number 4 fields.now) }
+    ensures { result ≡ masks_for fields.now }
 {
     let mut masks = [0; MAX_WORDS];
     let mut end = Header::One.fields_start();
