@@ -19,3 +19,4 @@ pub mod PackingSample
 pub mod Storing
 pub mod Signing
 pub mod PackedRecords
+pub mod PackedClaims

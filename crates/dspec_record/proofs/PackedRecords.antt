@@ -109,6 +109,41 @@ text-of_stamped epid stamp size n first fs (w ∷ rest) out some long many small
     ∙ ap (λ x. take (layout header.Two fs).size (little_endian 8 x ++ behind)) is
     ∙ stored-stamped-words epid stamp fs w rest small fits stamp_fits clean)
 
+-- the same of what is written of a packed record, whose words are handed out as a slice
+pub text-put : (epid stamp low n size : ℕ) (fs : List Field) (ws held out : List ℕ) → low ≡ epid → low < 2 ^ 32 → held ≡ ws → length held ≡ n → 0 < n → n ≡ words_in fs
+    → All (λ w. w < 2 ^ 64) held → IsClean fs ws → size ≡ (layout header.One fs).size → take (0 + 8 * length held) out ≡ words_text (with_low low held)
+    → take size out ≡ record_text header.One fs (packed_record epid stamp fs ws)
+text-put epid stamp low n size fs ws held out is half same many some count small clean at put =
+    let Small : List ℕ → Type 0 = λ us. All (λ w. w < 2 ^ 64) us in
+    let all : 8 * n ≡ 0 + 8 * length held = omega (arith, many) in
+    text-of_words epid stamp size n fs ws out some (ap length (sym same) ∙ many) count (subst Small same small) (omega (arith, is, half)) clean at
+    (ap (λ k. take k out) all ∙ put ∙ ap (λ l. words_text (with_low l held)) is ∙ ap (λ us. words_text (with_low epid us)) same)
+
+pub text-put_one : (h : Header) (epid stamp low n : ℕ) (fs : List Field) (ws held out : List ℕ) → header.One ≡ h → low ≡ epid → low < 2 ^ 32 → held ≡ ws → length held ≡ n → 0 < n
+    → n ≡ words_in fs → All (λ w. w < 2 ^ 64) held → IsClean fs ws → take (0 + 8 * length held) out ≡ words_text (with_low low held)
+    → take (length (record_text h fs (packed_record epid stamp fs ws))) out ≡ record_text h fs (packed_record epid stamp fs ws)
+text-put_one h epid stamp low n fs ws held out one is half same many some count small clean put =
+    let r : Record = packed_record epid stamp fs ws in
+    let Done : Header → Type 0 = λ k. take (length (record_text k fs r)) out ≡ record_text k fs r in
+    subst Done one (text-put epid stamp low n (length (record_text header.One fs r)) fs ws held out is half same many some count small clean (size-of_text header.One epid stamp fs ws) put)
+
+pub text-put_two : (h : Header) (epid stamp word id low n : ℕ) (fs : List Field) (ws held begun out : List ℕ) → header.Two ≡ h → word ≡ id + stamp % 2 ^ 32 * 2 ^ 32 → id ≡ epid → id < 2 ^ 32
+    → low ≡ stamp / 2 ^ 32 → low < 2 ^ 32 → held ≡ ws → length held ≡ n → 0 < n → n ≡ words_in fs → All (λ w. w < 2 ^ 64) held → IsClean fs ws
+    → take 8 begun ≡ little_endian 8 word → take (8 + 8 * length held) out ≡ take 8 begun ++ words_text (with_low low held)
+    → take (length (record_text h fs (packed_record epid stamp fs ws))) out ≡ record_text h fs (packed_record epid stamp fs ws)
+text-put_two h epid stamp word id low n fs ws held begun out two is epid_is half low_is low_half same many some count small clean first put =
+    let r : Record = packed_record epid stamp fs ws in
+    let Done : Header → Type 0 = λ k. take (length (record_text k fs r)) out ≡ record_text k fs r in
+    let Small : List ℕ → Type 0 = λ us. All (λ w. w < 2 ^ 64) us in
+    let all : 8 + 8 * n ≡ 8 + 8 * length held = omega (arith, many) in
+    let turned : word ≡ epid + 2 ^ 32 * (stamp % 2 ^ 32) = omega (arith, is, epid_is) in
+    subst Done two (
+    text-of_stamped epid stamp (length (record_text header.Two fs r)) n word fs ws out some (ap length (sym same) ∙ many) count (subst Small same small) (omega (arith, epid_is, half))
+    (omega (arith, low_is, low_half)) clean (size-of_text header.Two epid stamp fs ws) turned
+    (ap (λ k. take k out) all ∙ put ∙ ap (λ t. t ++ words_text (with_low low held)) first
+    ∙ ap (λ l. little_endian 8 word ++ words_text (with_low l held)) low_is
+    ∙ ap (λ us. little_endian 8 word ++ words_text (with_low (stamp / 2 ^ 32) us)) same))
+
 -- whole words have room for the text, and no more room than it rounds up to
 pub rounds-up : (fs : List Field) (n : ℕ) → 0 < n → n ≡ words_in fs → rounded_up (layout header.One fs).size 8 ≡ 8 * n
 rounds-up [] n some is = absurd (omega arith)

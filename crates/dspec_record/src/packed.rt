@@ -106,6 +106,15 @@ impl<H: KnownHeader> Packed<H> {
         }
     }
 
+    /// The EPID as it stands in a word.
+    #[inline(always)]
+    fn epid_word(&self) -> u64
+        ensures same { result ≡ self.now.epid }
+        ensures half { result < 2 ^ 32 }
+    {
+        u64::from(self.epid)
+    }
+
     /// The words that hold the text, of which the first has zeros in its lower half.
     #[inline(always)]
     fn words(&self) -> &[u64]
@@ -121,7 +130,7 @@ impl<H: KnownHeader> Packed<H> {
         ensures { result ≡ packed_of self.now }
     {
         let mut text = [0; MAX_TEXT];
-        put_from(self.words(), u64::from(self.epid), 0, &mut text);
+        put_from(self.words(), self.epid_word(), 0, &mut text);
         let fields = &self.fields[..self.len as usize];
         let size = self.shape.size as usize;
         let Some(rec) = read_record(Header::One, fields, self.epid, &text[..size]) else {
@@ -186,6 +195,7 @@ fn put_from(words: &[u64], low: u64, at: usize, out: &mut [u8])
     requires room { at + 8 * length words.now ≤ length out.old }
     ensures put { take (at + 8 * length words.now) out.new ≡ take at out.old ++ words_text (with_low low words.now) }
     ensures small { All (λ w. w < 2 ^ 64) words.now }
+    ensures low { low < 2 ^ 32 }
 {
     put_word(words[0] + low, at, out);
     put_words(&words[1..], at + 8, out);
@@ -238,7 +248,7 @@ impl<'a, H: KnownHeader> Recorded for &'a Packed<H> {
 
     #[inline(always)]
     fn put_laid(&self, out: &mut [u8]) -> bool {
-        let epid = u64::from(self.epid);
+        let epid = self.epid_word();
         match H::header() {
             Header::One => put_from(self.words(), epid, 0, out),
             Header::Two => {

@@ -6,8 +6,8 @@ use Rattle.dspec_record.proofs.Masking.{words_in-most}
 use Rattle.dspec_record.proofs.PackedRecords.{few-taken, first-zeros}
 use Rattle.dspec_record.proofs.packed.Packed.words.Goals as goal
 
-pub slice_bounds-result-end : goal.slice_bounds-result-end
-slice_bounds-result-end g c = omega (arith, c.args.self.now.many, words_in-most (packed_fields c.args.self.now) (few-taken c.args.self.now.len c.args.self.now.fields c.args.self.now.few))
+pub shared_ref_as_front-result : goal.shared_ref_as_front-result
+shared_ref_as_front-result g c = omega (arith, c.args.self.now.many, words_in-most (packed_fields c.args.self.now) (few-taken c.args.self.now.len c.args.self.now.fields c.args.self.now.few))
 
 pub returns-clause-many : goal.returns-clause-many
 returns-clause-many g c =
