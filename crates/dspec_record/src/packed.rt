@@ -74,7 +74,7 @@ impl Enablings {
             (⟦<Enablings as Schema>⟧.text self.now) (packed_of p) (laid_of H.header_is p)) }
     {
         let row = self.claimed_row(claim, words.len())?;
-        if self.header() != H::header() || !fits_header(H::header(), stamp) {
+        if !self.header().is(H::header()) || !fits_header(H::header(), stamp) {
             return None;
         }
         Some(Packed::of((claim % HALF) as u32, stamp, row, words))
