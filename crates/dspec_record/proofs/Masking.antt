@@ -189,8 +189,12 @@ pub size-in-words : (fs : List Field) → 0 < words_in fs → (layout header.One
 size-in-words [] some = absurd (omega arith)
 size-in-words (f ∷ fs) some = omega arith
 
+pub masks_for-is : (fs : List Field) → masks_for fs ≡ words_of 9 (mask_number 4 fs)
+unfolding masks_for
+masks_for-is fs = refl
+
 few-words : (fs : List Field) (ws : List ℕ) → length fs ≤ 8 → length ws ≡ words_in fs → length ws ≤ length (masks_for fs)
-few-words fs ws few count = omega (arith, words_in-most fs few, length-words_of 9 (mask_number 4 fs))
+few-words fs ws few count = omega (arith, words_in-most fs few, ap length (masks_for-is fs) ∙ length-words_of 9 (mask_number 4 fs))
 
 number-masked : (fs : List Field) (ws : List ℕ) → length fs ≤ 8 → All (λ w. w < 2 ^ 64) ws → length ws ≡ words_in fs
     → number_of_words (masked_words ws (masks_for fs)) ≡ packed 4 fs (cuts 4 fs (number_of_words ws)) * 256 ^ 4
@@ -198,9 +202,10 @@ number-masked fs ws few small count =
     let n : ℕ = number_of_words ws in
     let m : ℕ = packed 4 fs (map limit fs) in
     let mask : number_of_words (masks_for fs) ≡ m * 256 ^ 4 =
-    number_of_words-words_of 9 (mask_number 4 fs) (mask_number-below fs few) ∙ mask_number-packed 4 fs in
+    ap number_of_words (masks_for-is fs) ∙ number_of_words-words_of 9 (mask_number 4 fs) (mask_number-below fs few) ∙ mask_number-packed 4 fs in
     let above : AboveMask (256 ^ 4) = and-above 4 in
-    number_of_words-masked ws (masks_for fs) small (All-words_of 9 (mask_number 4 fs)) (few-words fs ws few count)
+    let Small : List ℕ → Type 0 = λ ms. All (λ w. w < 2 ^ 64) ms in
+    number_of_words-masked ws (masks_for fs) small (subst Small (sym (masks_for-is fs)) (All-words_of 9 (mask_number 4 fs))) (few-words fs ws few count)
     ∙ ap (bit_and n) mask ∙ above n m ∙ ap (λ x. x * 256 ^ 4) (masked 4 fs n)
 
 cuts-masked : (fs : List Field) (ws : List ℕ) → length fs ≤ 8 → All (λ w. w < 2 ^ 64) ws → length ws ≡ words_in fs

@@ -67,7 +67,7 @@ words_of zero n = []
 words_of (suc k) n = n % 2 ^ 64 ∷ words_of k (n / 2 ^ 64)
 
 -- which bits of nine words, as many as there can be, are bits of these fields
-abbrev pub masks_for : List Field → List ℕ
+unfoldable pub masks_for : List Field → List ℕ
 masks_for fs = words_of 9 (mask_number 4 fs)
 
 -- each word with the mask at its place; no words behind the last mask
