@@ -1,5 +1,5 @@
 -- A stamp makes the text longer by its own eight bytes, and moves no alignment.
-use Rattle.std.proofs.Common.{◌≡◌, ◌+◌, ℕ, List, Some, length, sym, ◌∙◌, ap, arith}
+use Rattle.std.proofs.Common.{◌≡◌, ◌+◌, ℕ, List, Some, sym, ◌∙◌, ap, arith}
 use Rattle.dspec_record.specs.Layout.{fields_start, layout}
 use Rattle.dspec_record.specs.PackedFields.{packed_fields}
 use Rattle.dspec_record.specs.Laws.Layouts.{layout-IsShape, size-moved}
