@@ -1,5 +1,6 @@
 -- A claim: of which EPID and which fields it is true, and where these stand.
-use Rattle.std.proofs.Common.{◌≡◌, ◌≤◌, ◌<◌, ◌+◌, ◌-◌, ◌*◌, ◌/◌, ◌%◌, ◌^◌, ◌&&◌, ◌==◌, nat_lt, ◌++◌, ℕ, zero, suc, Bool, true, false, cond, IsTrue, List, [], ◌∷◌, length, take, drop, set, replicate, get_or, slice_get, inl, inr, Option, Some, None, option_and_then, refl, sym, ◌∙◌, ap, subst, arith}
+use Rattle.std.proofs.Common.{◌≡◌, ◌≤◌, ◌<◌, ◌+◌, ◌-◌, ◌*◌, ◌%◌, ◌^◌, ◌&&◌, ◌==◌, nat_lt, ◌++◌, ℕ, zero, suc, Bool, true, false, cond, IsTrue, List}
+use Rattle.std.proofs.Common.{[], ◌∷◌, length, take, drop, set, replicate, get_or, slice_get, inl, inr, Option, Some, None, option_and_then, refl, sym, ◌∙◌, ap, subst, arith}
 use Rattle.std.proofs.Math.Nat.{pow-suc, pow-le-pow_right}
 use Rattle.std.proofs.lemmas.Bool.{eqb-true, eq-eqb, ltb-true, lt-ltb, cases_lt}
 use Rattle.std.proofs.lemmas.List.{append_assoc, length-append, length-take-le, get_or_append_left, get_or-take, get_or-drop, set_at}
@@ -61,7 +62,8 @@ tested : (b : Bool) (gs fs : List Field) → cond b (Some gs) None ≡ Some fs �
 tested true gs fs is = let same : gs ≡ fs = cc in (refl, same)
 tested false gs fs is = absurd (cc)
 
-of_row : (rows : List (List Field)) (claim n e : ℕ) (o : Option (List Field)) (fs : List Field) → claim % 2 ^ 32 ≡ e → enabling_of rows e ≡ o → option_and_then (claimed_by claim n) o ≡ Some fs → IsClaimed rows claim n fs
+of_row : (rows : List (List Field)) (claim n e : ℕ) (o : Option (List Field)) (fs : List Field) → claim % 2 ^ 32 ≡ e → enabling_of rows e ≡ o
+    → option_and_then (claimed_by claim n) o ≡ Some fs → IsClaimed rows claim n fs
 of_row rows claim n e None fs epid row is = absurd (cc)
 of_row rows claim n zero (Some gs) fs epid row is = absurd (cc)
 of_row rows claim n (suc place) (Some gs) fs epid row is =

@@ -17,6 +17,7 @@ pub mod Claiming
 pub mod OneWord
 pub mod PackingSample
 pub mod Storing
+pub mod CutWords
 pub mod Signing
 pub mod PackedRecords
 pub mod PackedClaims

@@ -1,36 +1,37 @@
 -- The masks of fields while they are made, field by field.
-use Rattle.std.proofs.Common.{◌≡◌, ◌≤◌, ◌<◌, ◌+◌, ◌-◌, ◌*◌, ◌/◌, ◌%◌, ◌^◌, ℕ, zero, suc, List, [], ◌∷◌, length, get_or, drop, set, replicate, refl, sym, ◌∙◌, ap, subst, arith}
-use Rattle.std.proofs.Math.Nat.{mod-lt, mod-eq_of_lt, mul_assoc, le_trans, lt_of_lt_of_le, pow-le-pow_right, mul-lt-mul_of_pos_right}
-use Rattle.std.proofs.lemmas.Nat.{pow_pos, pow-add, shr_below, shr-shr, mul-add-lt}
+use Rattle.std.proofs.Common.{◌≡◌, ◌≤◌, ◌<◌, ◌+◌, ◌*◌, ◌/◌, ◌%◌, ◌^◌, ℕ, zero, suc, List, ◌∷◌, length, get_or, drop, set, replicate, refl, sym, ◌∙◌, ap, subst, arith}
+use Rattle.std.proofs.Math.Nat.{mul_assoc, pow-le-pow_right}
+use Rattle.std.proofs.lemmas.Nat.{pow-add, shr_below, shr-shr, mul-add-lt}
 use Rattle.std.proofs.lemmas.List.{drop_more, drop_all}
 use Rattle.dspec_record.specs.Layout.{width, limit, rounded_up, after}
-use Rattle.dspec_record.specs.Packing.{mask_number, words_of}
+use Rattle.dspec_record.specs.Packing.{mask_number, words_of_number}
 use Rattle.dspec_record.specs.Laws.Layouts.{rounded_up-ge}
 use Rattle.dspec_record.proofs.LittleEndian.{pow_pos256, pow-add256}
-use Rattle.dspec_record.proofs.Masking.{pow256, length-words_of}
+use Rattle.dspec_record.proofs.Masking.{pow256, length-words_of_number}
 use Rattle.dspec_record.specs.declared.field.Field.{Field}
 use Rattle.dspec_record.specs.declared.field.Field.TheVariants.{One, Two, Four, Eight}
 
 -- a number is added to one word, which holds the sum
-words_of-add : (k j n x : ℕ) → j < k → get_or (words_of k n) j 0 + x < 2 ^ 64 → words_of k (n + x * 2 ^ (64 * j)) ≡ set (words_of k n) j (get_or (words_of k n) j 0 + x)
-words_of-add zero j n x within holds = absurd (omega arith)
-words_of-add (suc k) zero n x within holds =
+words_of_number-add : (k j n x : ℕ) → j < k → get_or (words_of_number k n) j 0 + x < 2 ^ 64
+    → words_of_number k (n + x * 2 ^ (64 * j)) ≡ set (words_of_number k n) j (get_or (words_of_number k n) j 0 + x)
+words_of_number-add zero j n x within holds = absurd (omega arith)
+words_of_number-add (suc k) zero n x within holds =
     let first : (n + x * 2 ^ (64 * 0)) % 2 ^ 64 ≡ n % 2 ^ 64 + x = omega (arith, holds) in
     let rest : (n + x * 2 ^ (64 * 0)) / 2 ^ 64 ≡ n / 2 ^ 64 = omega (arith, holds) in
-    λ i. first i ∷ words_of k (rest i)
-words_of-add (suc k) (suc j) n x within holds =
+    λ i. first i ∷ words_of_number k (rest i)
+words_of_number-add (suc k) (suc j) n x within holds =
     let q : ℕ = x * 2 ^ (64 * j) in
     let bits : 64 * suc j ≡ 64 * j + 64 = omega arith in
     let moved : x * 2 ^ (64 * suc j) ≡ q * 2 ^ 64 =
     ap (λ b. x * 2 ^ b) bits ∙ ap (λ p. x * p) (pow-add 2 (64 * j) 64) ∙ sym (mul_assoc x (2 ^ (64 * j)) (2 ^ 64)) in
     let first : (n + x * 2 ^ (64 * suc j)) % 2 ^ 64 ≡ n % 2 ^ 64 = omega (arith, moved) in
     let left : (n + x * 2 ^ (64 * suc j)) / 2 ^ 64 ≡ n / 2 ^ 64 + q = omega (arith, moved) in
-    let rest : words_of k ((n + x * 2 ^ (64 * suc j)) / 2 ^ 64) ≡ set (words_of k (n / 2 ^ 64)) j (get_or (words_of k (n / 2 ^ 64)) j 0 + x) =
-    ap (words_of k) left ∙ words_of-add k j (n / 2 ^ 64) x (omega arith) holds in
+    let rest : words_of_number k ((n + x * 2 ^ (64 * suc j)) / 2 ^ 64) ≡ set (words_of_number k (n / 2 ^ 64)) j (get_or (words_of_number k (n / 2 ^ 64)) j 0 + x) =
+    ap (words_of_number k) left ∙ words_of_number-add k j (n / 2 ^ 64) x (omega arith) holds in
     λ i. first i ∷ rest i
 
 -- a word is no greater than what is left of the number at its place
-word-le : (k j n : ℕ) → get_or (words_of k n) j 0 ≤ n / 2 ^ (64 * j)
+word-le : (k j n : ℕ) → get_or (words_of_number k n) j 0 ≤ n / 2 ^ (64 * j)
 word-le zero j n = omega arith
 word-le (suc k) zero n = omega arith
 word-le (suc k) (suc j) n =
@@ -60,7 +61,7 @@ place-near Eight end = omega arith
 -- the masks of the first `i` fields, which end at `end`
 pub record AreMasked (i end : ℕ) (masks : List ℕ) (fs : List Field) : Type 0 where
   pub so_far : ℕ
-  pub masks_are : masks ≡ words_of 9 so_far
+  pub masks_are : masks ≡ words_of_number 9 so_far
   pub whole : so_far + mask_number end (drop i fs) ≡ mask_number 4 fs
   pub below : so_far < 256 ^ end
   pub near : rounded_up end 8 ≤ 8 + 8 * i
@@ -69,7 +70,7 @@ pub AreMasked-start : (fs : List Field) → AreMasked 0 4 (replicate 9 0) fs
 AreMasked-start fs = record { so_far = 0; masks_are = refl; whole = omega arith; below = omega arith; near = omega arith }
 
 pub length-AreMasked : (i end : ℕ) (masks : List ℕ) (fs : List Field) → AreMasked i end masks fs → length masks ≡ 9
-length-AreMasked i end masks fs is = ap length is.masks_are ∙ length-words_of 9 is.so_far
+length-AreMasked i end masks fs is = ap length is.masks_are ∙ length-words_of_number 9 is.so_far
 
 -- a field's place is in one of the nine words
 pub AreMasked-place : (i end place : ℕ) (masks : List ℕ) (fs : List Field) → i < length fs → length fs ≤ 8 → AreMasked i end masks fs → place ≡ rounded_up end (width (get_or fs i One)) → place / 8 < 9
@@ -85,7 +86,7 @@ AreMasked-place i end place masks fs within few is at =
 
 -- with this field's mask its word still holds the sum
 sum-fits : (f : Field) (end n place : ℕ) → n < 256 ^ end → place ≡ rounded_up end (width f)
-    → get_or (words_of 9 n) (place / 8) 0 + limit f * 2 ^ (place % 8 * 8) < 2 ^ 64
+    → get_or (words_of_number 9 n) (place / 8) 0 + limit f * 2 ^ (place % 8 * 8) < 2 ^ 64
 sum-fits f end n place below at =
     let bits : ℕ = place % 8 * 8 in
     let high : ℕ = 64 * (place / 8) in
@@ -94,10 +95,10 @@ sum-fits f end n place below at =
     let all_bits : 8 * place ≡ bits + high = omega arith in
     let split : 256 ^ place ≡ 2 ^ (bits + high) = pow256 place ∙ ap (λ b. 2 ^ b) all_bits in
     let left : n / 2 ^ high < 2 ^ bits = shr_below n bits high (omega (arith, below, up, split)) in
-    let old : get_or (words_of 9 n) (place / 8) 0 < 2 ^ bits = omega (arith, word-le 9 (place / 8) n, left) in
+    let old : get_or (words_of_number 9 n) (place / 8) 0 < 2 ^ bits = omega (arith, word-le 9 (place / 8) n, left) in
     let most : limit f < 256 ^ width f = omega (arith, pow_pos256 (width f)) in
-    let sum : limit f * 2 ^ bits + get_or (words_of 9 n) (place / 8) 0 < 2 ^ bits * 256 ^ width f =
-    mul-add-lt (limit f) (2 ^ bits) (get_or (words_of 9 n) (place / 8) 0) (256 ^ width f) most old in
+    let sum : limit f * 2 ^ bits + get_or (words_of_number 9 n) (place / 8) 0 < 2 ^ bits * 256 ^ width f =
+    mul-add-lt (limit f) (2 ^ bits) (get_or (words_of_number 9 n) (place / 8) 0) (256 ^ width f) most old in
     let wide : 2 ^ bits * 256 ^ width f ≡ 2 ^ (bits + 8 * width f) =
     ap (λ p. 2 ^ bits * p) (pow256 (width f)) ∙ sym (pow-add 2 bits (8 * width f)) in
     let inside : place % 8 + width f ≤ 8 = subst (λ p. p % 8 + width f ≤ 8) (sym at) (within-word f end) in
@@ -129,10 +130,10 @@ AreMasked-next i end place masks fs within few is at =
     let added : x * 2 ^ (64 * j) ≡ limit f * 256 ^ place =
     mul_assoc (limit f) (2 ^ (place % 8 * 8)) (2 ^ (64 * j))
     ∙ ap (λ p. limit f * p) (sym (pow-add 2 (place % 8 * 8) (64 * j)) ∙ ap (λ b. 2 ^ b) all_bits ∙ sym (pow256 place)) in
-    let words : set masks j (get_or masks j 0 + x) ≡ words_of 9 (n + limit f * 256 ^ place) =
+    let words : set masks j (get_or masks j 0 + x) ≡ words_of_number 9 (n + limit f * 256 ^ place) =
     ap (λ ms. set ms j (get_or ms j 0 + x)) is.masks_are
-    ∙ sym (words_of-add 9 j n x room (sum-fits f end n place is.below at))
-    ∙ ap (λ y. words_of 9 (n + y)) added in
+    ∙ sym (words_of_number-add 9 j n x room (sum-fits f end n place is.below at))
+    ∙ ap (λ y. words_of_number 9 (n + y)) added in
     let more : mask_number end (drop i fs) ≡ limit f * 256 ^ rounded_up end (width f) + mask_number (after end (width f) (width f)) (drop (i + 1) fs) =
     ap (mask_number end) (drop_more fs i One within) in
     let here : limit f * 256 ^ rounded_up end (width f) ≡ limit f * 256 ^ place = ap (λ p. limit f * 256 ^ p) (sym at) in
@@ -153,8 +154,8 @@ AreMasked-next i end place masks fs within few is at =
     }
 
 -- behind the last field they are whole
-pub AreMasked-end : (i end : ℕ) (masks : List ℕ) (fs : List Field) → length fs ≤ i → AreMasked i end masks fs → masks ≡ words_of 9 (mask_number 4 fs)
+pub AreMasked-end : (i end : ℕ) (masks : List ℕ) (fs : List Field) → length fs ≤ i → AreMasked i end masks fs → masks ≡ words_of_number 9 (mask_number 4 fs)
 AreMasked-end i end masks fs past is =
     let none : mask_number end (drop i fs) ≡ 0 = ap (mask_number end) (drop_all i fs past) in
     let all : is.so_far ≡ mask_number 4 fs = omega (arith, is.whole, none) in
-    is.masks_are ∙ ap (words_of 9) all
+    is.masks_are ∙ ap (words_of_number 9) all

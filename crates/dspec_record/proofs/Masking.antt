@@ -1,42 +1,41 @@
 -- Words of which a mask has cleared what is no field: they are clean, and stand for the same record.
-use Rattle.std.proofs.Common.{◌≡◌, ◌≤◌, ◌<◌, ◌+◌, ◌-◌, ◌*◌, ◌/◌, ◌%◌, ◌^◌, ◌&&◌, ◌++◌, ℕ, zero, suc, IsTrue, All, List, [], ◌∷◌, length, map, take, get_or, refl, sym, ◌∙◌, ap, ap₂, subst, arith}
-use Rattle.std.proofs.Math.Nat.{div-add-mod', mod-lt, mod-mod, mul_assoc, mul_comm, add-mul, pow-suc, mul-lt-mul_of_pos_right, pow-le-pow_right}
-use Rattle.std.proofs.lemmas.Nat.{pow_pos, and_block, and_mask, and_comm, and_le_l, pow-add, shr_below}
+use Rattle.std.proofs.Common.{◌≡◌, ◌≤◌, ◌<◌, ◌+◌, ◌-◌, ◌*◌, ◌/◌, ◌%◌, ◌^◌, ◌&&◌, ◌++◌, ℕ, zero, suc, IsTrue, All, List, [], ◌∷◌, length, map, get_or, refl, sym, ◌∙◌, ap, ap₂, subst, arith}
+use Rattle.std.proofs.Math.Nat.{div-add-mod', mod-lt, mod-mod, mul_assoc, add-mul, pow-suc, mul-lt-mul_of_pos_right, pow-le-pow_right}
+use Rattle.std.proofs.lemmas.Nat.{pow_pos, and_block, and_mask, and_comm, pow-add, shr_below}
 use Rattle.std.proofs.lemmas.Bool.{lt-ltb}
 use Rattle.std.proofs.lemmas.List.{ext_get_or}
 use Rattle.std.proofs.lemmas.List.Elements.{All-nil, All-cons, All-head, All-tail}
 use Rattle.std.specs.Int.RustNames.{bit_and}
-use Rattle.dspec_record.specs.Record.{Record}
 use Rattle.dspec_record.specs.Layout.{width, limit, rounded_up, after, fields_end, layout}
 use Rattle.dspec_record.specs.RecordText.{little_endian, fields_text, fits}
-use Rattle.dspec_record.specs.Packing.{number_of_words, cuts, packed_record, words_in, mask_number, words_of, masks_for, masked_words, IsClean}
+use Rattle.dspec_record.specs.Packing.{number_of_words, cuts, packed_record, words_in, mask_number, words_of_number, masks_for, masked_words, IsClean}
 use Rattle.dspec_record.specs.Laws.Layouts.{rounded_up-ge, fields_end-ge, fields_end-le}
 use Rattle.dspec_record.proofs.LittleEndian.{pow_pos256, pow-add256, div-more, shifted-back, little_endian-parts, take-little_endian}
 use Rattle.dspec_record.proofs.Cutting.{packed, cuts_fit, cuts-packed, packed-text, packed-below}
 use Rattle.dspec_record.specs.declared.field.Field.{Field}
-use Rattle.dspec_record.specs.declared.field.Field.TheVariants.{One, Two, Four, Eight}
+use Rattle.dspec_record.specs.declared.field.Field.TheVariants.{Four}
 use Rattle.dspec_record.specs.declared.header.Header.TheVariants as header
 
 -- ---- words
 
 -- the words of a number are that number
-pub number_of_words-words_of : (k n : ℕ) → n < 2 ^ (64 * k) → number_of_words (words_of k n) ≡ n
-number_of_words-words_of zero n below = omega arith
-number_of_words-words_of (suc k) n below =
+pub number_of_words-words_of_number : (k n : ℕ) → n < 2 ^ (64 * k) → number_of_words (words_of_number k n) ≡ n
+number_of_words-words_of_number zero n below = omega arith
+number_of_words-words_of_number (suc k) n below =
     let bits : 64 * suc k ≡ 64 * k + 64 = omega arith in
     let Below : ℕ → Type 0 = λ b. n < 2 ^ b in
     let less : n / 2 ^ 64 < 2 ^ (64 * k) = shr_below n (64 * k) 64 (subst Below bits below) in
-    let rest : number_of_words (words_of k (n / 2 ^ 64)) ≡ n / 2 ^ 64 = number_of_words-words_of k (n / 2 ^ 64) less in
+    let rest : number_of_words (words_of_number k (n / 2 ^ 64)) ≡ n / 2 ^ 64 = number_of_words-words_of_number k (n / 2 ^ 64) less in
     omega (arith, rest)
 
-pub length-words_of : (k n : ℕ) → length (words_of k n) ≡ k
-length-words_of zero n = refl
-length-words_of (suc k) n = ap suc (length-words_of k (n / 2 ^ 64))
+pub length-words_of_number : (k n : ℕ) → length (words_of_number k n) ≡ k
+length-words_of_number zero n = refl
+length-words_of_number (suc k) n = ap suc (length-words_of_number k (n / 2 ^ 64))
 
-pub All-words_of : (k n : ℕ) → All (λ w. w < 2 ^ 64) (words_of k n)
-All-words_of zero n = All-nil (λ w. w < 2 ^ 64)
-All-words_of (suc k) n =
-    All-cons (λ w. w < 2 ^ 64) (n % 2 ^ 64) (words_of k (n / 2 ^ 64)) (mod-lt n (pow_pos 64)) (All-words_of k (n / 2 ^ 64))
+pub All-words_of_number : (k n : ℕ) → All (λ w. w < 2 ^ 64) (words_of_number k n)
+All-words_of_number zero n = All-nil (λ w. w < 2 ^ 64)
+All-words_of_number (suc k) n =
+    All-cons (λ w. w < 2 ^ 64) (n % 2 ^ 64) (words_of_number k (n / 2 ^ 64)) (mod-lt n (pow_pos 64)) (All-words_of_number k (n / 2 ^ 64))
 
 pub length-masked_words : (ws ms : List ℕ) → length ws ≤ length ms → length (masked_words ws ms) ≡ length ws
 length-masked_words [] ms few = refl
@@ -50,7 +49,8 @@ get_or-masked_words (w ∷ ws) (m ∷ ms) zero few within = refl
 get_or-masked_words (w ∷ ws) (m ∷ ms) (suc i) few within = get_or-masked_words ws ms i (omega arith) (omega arith)
 
 -- each word is known by its place
-pub masked_words-is : (ws ms zs : List ℕ) → length ws ≤ length ms → length zs ≡ length ws → ((i : ℕ) → i < length ws → get_or zs i 0 ≡ bit_and (get_or ws i 0) (get_or ms i 0)) → zs ≡ masked_words ws ms
+pub masked_words-is : (ws ms zs : List ℕ) → length ws ≤ length ms → length zs ≡ length ws
+    → ((i : ℕ) → i < length ws → get_or zs i 0 ≡ bit_and (get_or ws i 0) (get_or ms i 0)) → zs ≡ masked_words ws ms
 masked_words-is ws ms zs few many each =
     ext_get_or 0 zs (masked_words ws ms) (many ∙ sym (length-masked_words ws ms few)) (
     λ i within. each i (omega (arith, many)) ∙ sym (get_or-masked_words ws ms i few (omega (arith, many))))
@@ -163,7 +163,7 @@ mask_number-packed start (f ∷ fs) =
     ∙ sym (mul_assoc here (256 ^ hole) (256 ^ start))
 
 -- eight fields end within nine words
-ends-within : (fs : List Field) → length fs ≤ 8 → fields_end 4 fs ≤ 72
+pub ends-within : (fs : List Field) → length fs ≤ 8 → fields_end 4 fs ≤ 72
 ends-within fs few = omega (arith, fields_end-le 4 fs)
 
 pub mask_number-below : (fs : List Field) → length fs ≤ 8 → mask_number 4 fs < 2 ^ (64 * 9)
@@ -189,8 +189,12 @@ pub size-in-words : (fs : List Field) → 0 < words_in fs → (layout header.One
 size-in-words [] some = absurd (omega arith)
 size-in-words (f ∷ fs) some = omega arith
 
+pub masks_for-is : (fs : List Field) → masks_for fs ≡ words_of_number 9 (mask_number 4 fs)
+unfolding masks_for
+masks_for-is fs = refl
+
 few-words : (fs : List Field) (ws : List ℕ) → length fs ≤ 8 → length ws ≡ words_in fs → length ws ≤ length (masks_for fs)
-few-words fs ws few count = omega (arith, words_in-most fs few, length-words_of 9 (mask_number 4 fs))
+few-words fs ws few count = omega (arith, words_in-most fs few, ap length (masks_for-is fs) ∙ length-words_of_number 9 (mask_number 4 fs))
 
 number-masked : (fs : List Field) (ws : List ℕ) → length fs ≤ 8 → All (λ w. w < 2 ^ 64) ws → length ws ≡ words_in fs
     → number_of_words (masked_words ws (masks_for fs)) ≡ packed 4 fs (cuts 4 fs (number_of_words ws)) * 256 ^ 4
@@ -198,9 +202,10 @@ number-masked fs ws few small count =
     let n : ℕ = number_of_words ws in
     let m : ℕ = packed 4 fs (map limit fs) in
     let mask : number_of_words (masks_for fs) ≡ m * 256 ^ 4 =
-    number_of_words-words_of 9 (mask_number 4 fs) (mask_number-below fs few) ∙ mask_number-packed 4 fs in
+    ap number_of_words (masks_for-is fs) ∙ number_of_words-words_of_number 9 (mask_number 4 fs) (mask_number-below fs few) ∙ mask_number-packed 4 fs in
     let above : AboveMask (256 ^ 4) = and-above 4 in
-    number_of_words-masked ws (masks_for fs) small (All-words_of 9 (mask_number 4 fs)) (few-words fs ws few count)
+    let Small : List ℕ → Type 0 = λ ms. All (λ w. w < 2 ^ 64) ms in
+    number_of_words-masked ws (masks_for fs) small (subst Small (sym (masks_for-is fs)) (All-words_of_number 9 (mask_number 4 fs))) (few-words fs ws few count)
     ∙ ap (bit_and n) mask ∙ above n m ∙ ap (λ x. x * 256 ^ 4) (masked 4 fs n)
 
 cuts-masked : (fs : List Field) (ws : List ℕ) → length fs ≤ 8 → All (λ w. w < 2 ^ 64) ws → length ws ≡ words_in fs

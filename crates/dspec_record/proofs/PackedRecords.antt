@@ -1,21 +1,21 @@
 -- A packed record while it is made and while it is written: the masked words, the words in their places, and the text that they begin with.
-use Rattle.std.proofs.Common.{◌≡◌, ◌≢◌, ◌≤◌, ◌<◌, ◌+◌, ◌*◌, ◌/◌, ◌%◌, ◌^◌, ◌++◌, ◌⊎◌, inl, inr, ℕ, suc, zero, All, IsTrue, List, [], ◌∷◌, length, take, drop, get_or, set, refl, sym, ◌∙◌, ap, subst, arith}
+use Rattle.std.proofs.Common.{◌≡◌, ◌≤◌, ◌<◌, ◌+◌, ◌*◌, ◌/◌, ◌%◌, ◌^◌, ◌++◌, ◌⊎◌, inl, inr, ℕ, suc, zero, All, List, [], ◌∷◌, length, take, drop, get_or, set, sym, ◌∙◌, ap, subst, arith}
 use Rattle.std.proofs.lemmas.List.{length-take-le, length-append, get_or-take, get_or-set_same, get_or-set_other, take_at, append_assoc}
 use Rattle.std.proofs.lemmas.Bool.{cases_lt}
 use Rattle.std.specs.Int.RustNames.{bit_and}
 use Rattle.dspec_record.specs.FirstWords.{with_low}
 use Rattle.dspec_record.specs.Layout.{rounded_up, layout}
 use Rattle.dspec_record.specs.Record.{Record}
-use Rattle.dspec_record.specs.RecordText.{little_endian, record_text, stamp_fits, fits, IsRead}
-use Rattle.dspec_record.specs.Packing.{number_of_words, packed_record, words_in, words_text, masked_words, IsClean}
+use Rattle.dspec_record.specs.RecordText.{little_endian, record_text}
+use Rattle.dspec_record.specs.Packing.{number_of_words, packed_record, words_in, bytes_of_words, masked_words, IsClean}
 use Rattle.dspec_record.specs.Laws.Layouts.{size-stamped}
-use Rattle.dspec_record.specs.Laws.Texts.{length-record_text, record_text-same}
+use Rattle.dspec_record.specs.Laws.Texts.{length-record_text}
 use Rattle.dspec_record.specs.declared.field.Field.{Field}
 use Rattle.dspec_record.specs.declared.header.Header.{Header}
 use Rattle.dspec_record.specs.declared.header.Header.TheVariants as header
 use Rattle.dspec_record.proofs.Cutting.{cuts_fit}
 use Rattle.dspec_record.proofs.Masking.{masked_words-is, size-in-words}
-use Rattle.dspec_record.proofs.Storing.{words_text-more, stored-words, stored-stamped-words, clean-first, begins}
+use Rattle.dspec_record.proofs.Storing.{bytes_of_words-more, stored-words, stored-stamped-words, clean-first, begins}
 
 -- one word more is masked
 pub masked-more : (ws ms kept : List ℕ) (i : ℕ) → i < length kept → ((k : ℕ) → k < i → get_or kept k 0 ≡ bit_and (get_or ws k 0) (get_or ms k 0))
@@ -47,27 +47,27 @@ word-put at out bytes rest room long =
 -- one word more
 pub words-put : (at i place end : ℕ) (ws initial out new : List ℕ) → i < length ws → place ≡ at + 8 * i → end ≡ at + 8 * (i + 1)
     → take (place + 8) new ≡ take place out ++ little_endian 8 (get_or ws i 0)
-    → take (at + 8 * i) out ≡ take at initial ++ words_text (take i ws)
-    → take end new ≡ take at initial ++ words_text (take (i + 1) ws)
+    → take (at + 8 * i) out ≡ take at initial ++ bytes_of_words (take i ws)
+    → take end new ≡ take at initial ++ bytes_of_words (take (i + 1) ws)
 words-put at i place end ws initial out new within at_word at_end put so_far =
     let behind : end ≡ place + 8 = omega arith in
     ap (λ k. take k new) behind ∙ put
     ∙ ap (λ k. take k out ++ little_endian 8 (get_or ws i 0)) at_word
     ∙ ap (λ t. t ++ little_endian 8 (get_or ws i 0)) so_far
-    ∙ append_assoc (take at initial) (words_text (take i ws)) (little_endian 8 (get_or ws i 0))
-    ∙ ap (λ t. take at initial ++ t) (sym (words_text-more ws i within))
+    ∙ append_assoc (take at initial) (bytes_of_words (take i ws)) (little_endian 8 (get_or ws i 0))
+    ∙ ap (λ t. take at initial ++ t) (sym (bytes_of_words-more ws i within))
 
 -- the first word, and the others behind it
 pub all-put : (at low : ℕ) (ws out first new : List ℕ) → 0 < length ws
     → take (at + 8) first ≡ take at out ++ little_endian 8 (get_or ws 0 0 + low)
-    → take (at + 8 + 8 * length (drop 1 ws)) new ≡ take (at + 8) first ++ words_text (drop 1 ws)
-    → take (at + 8 * length ws) new ≡ take at out ++ words_text (with_low low ws)
+    → take (at + 8 + 8 * length (drop 1 ws)) new ≡ take (at + 8) first ++ bytes_of_words (drop 1 ws)
+    → take (at + 8 * length ws) new ≡ take at out ++ bytes_of_words (with_low low ws)
 all-put at low [] out first new some one others = absurd (omega arith)
 all-put at low (w ∷ ws) out first new some one others =
     let behind : at + 8 * length (w ∷ ws) ≡ at + 8 + 8 * length ws = omega arith in
     ap (λ k. take k new) behind ∙ others
-    ∙ ap (λ t. t ++ words_text ws) one
-    ∙ append_assoc (take at out) (little_endian 8 (w + low)) (words_text ws)
+    ∙ ap (λ t. t ++ bytes_of_words ws) one
+    ∙ append_assoc (take at out) (little_endian 8 (w + low)) (bytes_of_words ws)
 
 -- the lower half of the first of clean words is zero
 pub first-zeros : (fs : List Field) (ws : List ℕ) → 0 < length ws → IsClean fs ws → get_or ws 0 0 % 2 ^ 32 ≡ 0
@@ -87,22 +87,22 @@ size-of_text h epid stamp fs ws = length-record_text h fs (packed_record epid st
 
 -- what is written where there is no stamp
 pub text-of_words : (epid stamp size n : ℕ) (fs : List Field) (ws out : List ℕ) → 0 < n → length ws ≡ n → n ≡ words_in fs → All (λ w. w < 2 ^ 64) ws → epid < 2 ^ 32 → IsClean fs ws
-    → size ≡ (layout header.One fs).size → take (8 * n) out ≡ words_text (with_low epid ws)
+    → size ≡ (layout header.One fs).size → take (8 * n) out ≡ bytes_of_words (with_low epid ws)
     → take size out ≡ record_text header.One fs (packed_record epid stamp fs ws)
 text-of_words epid stamp size n fs [] out some long many small fits clean at put = absurd (omega arith)
 text-of_words epid stamp size n fs (w ∷ rest) out some long many small fits clean at put =
     let room : size ≤ 8 * n = omega (arith, at, many, size-in-words fs (omega arith)) in
-    begins out (little_endian 8 (w + epid) ++ words_text rest) (record_text header.One fs (packed_record epid stamp fs (w ∷ rest))) (8 * n) size put room
-    (ap (λ k. take k (little_endian 8 (w + epid) ++ words_text rest)) at ∙ stored-words epid fs w rest small fits clean)
+    begins out (little_endian 8 (w + epid) ++ bytes_of_words rest) (record_text header.One fs (packed_record epid stamp fs (w ∷ rest))) (8 * n) size put room
+    (ap (λ k. take k (little_endian 8 (w + epid) ++ bytes_of_words rest)) at ∙ stored-words epid fs w rest small fits clean)
 
 -- and where there is one
 pub text-of_stamped : (epid stamp size n first : ℕ) (fs : List Field) (ws out : List ℕ) → 0 < n → length ws ≡ n → n ≡ words_in fs → All (λ w. w < 2 ^ 64) ws → epid < 2 ^ 32 → stamp < 2 ^ 64
     → IsClean fs ws → size ≡ (layout header.Two fs).size → first ≡ epid + 2 ^ 32 * (stamp % 2 ^ 32)
-    → take (8 + 8 * n) out ≡ little_endian 8 first ++ words_text (with_low (stamp / 2 ^ 32) ws)
+    → take (8 + 8 * n) out ≡ little_endian 8 first ++ bytes_of_words (with_low (stamp / 2 ^ 32) ws)
     → take size out ≡ record_text header.Two fs (packed_record epid stamp fs ws)
 text-of_stamped epid stamp size n first fs [] out some long many small fits stamp_fits clean at is put = absurd (omega arith)
 text-of_stamped epid stamp size n first fs (w ∷ rest) out some long many small fits stamp_fits clean at is put =
-    let behind : List ℕ = little_endian 8 (w + stamp / 2 ^ 32) ++ words_text rest in
+    let behind : List ℕ = little_endian 8 (w + stamp / 2 ^ 32) ++ bytes_of_words rest in
     let room : size ≤ 8 + 8 * n = omega (arith, at, many, size-stamped fs, size-in-words fs (omega arith)) in
     begins out (little_endian 8 first ++ behind) (record_text header.Two fs (packed_record epid stamp fs (w ∷ rest))) (8 + 8 * n) size put room
     (ap (λ k. take k (little_endian 8 first ++ behind)) at
@@ -111,16 +111,16 @@ text-of_stamped epid stamp size n first fs (w ∷ rest) out some long many small
 
 -- the same of what is written of a packed record, whose words are handed out as a slice
 pub text-put : (epid stamp low n size : ℕ) (fs : List Field) (ws held out : List ℕ) → low ≡ epid → low < 2 ^ 32 → held ≡ ws → length held ≡ n → 0 < n → n ≡ words_in fs
-    → All (λ w. w < 2 ^ 64) held → IsClean fs ws → size ≡ (layout header.One fs).size → take (0 + 8 * length held) out ≡ words_text (with_low low held)
+    → All (λ w. w < 2 ^ 64) held → IsClean fs ws → size ≡ (layout header.One fs).size → take (0 + 8 * length held) out ≡ bytes_of_words (with_low low held)
     → take size out ≡ record_text header.One fs (packed_record epid stamp fs ws)
 text-put epid stamp low n size fs ws held out is half same many some count small clean at put =
     let Small : List ℕ → Type 0 = λ us. All (λ w. w < 2 ^ 64) us in
     let all : 8 * n ≡ 0 + 8 * length held = omega (arith, many) in
     text-of_words epid stamp size n fs ws out some (ap length (sym same) ∙ many) count (subst Small same small) (omega (arith, is, half)) clean at
-    (ap (λ k. take k out) all ∙ put ∙ ap (λ l. words_text (with_low l held)) is ∙ ap (λ us. words_text (with_low epid us)) same)
+    (ap (λ k. take k out) all ∙ put ∙ ap (λ l. bytes_of_words (with_low l held)) is ∙ ap (λ us. bytes_of_words (with_low epid us)) same)
 
 pub text-put_one : (h : Header) (epid stamp low n : ℕ) (fs : List Field) (ws held out : List ℕ) → header.One ≡ h → low ≡ epid → low < 2 ^ 32 → held ≡ ws → length held ≡ n → 0 < n
-    → n ≡ words_in fs → All (λ w. w < 2 ^ 64) held → IsClean fs ws → take (0 + 8 * length held) out ≡ words_text (with_low low held)
+    → n ≡ words_in fs → All (λ w. w < 2 ^ 64) held → IsClean fs ws → take (0 + 8 * length held) out ≡ bytes_of_words (with_low low held)
     → take (length (record_text h fs (packed_record epid stamp fs ws))) out ≡ record_text h fs (packed_record epid stamp fs ws)
 text-put_one h epid stamp low n fs ws held out one is half same many some count small clean put =
     let r : Record = packed_record epid stamp fs ws in
@@ -129,7 +129,7 @@ text-put_one h epid stamp low n fs ws held out one is half same many some count 
 
 pub text-put_two : (h : Header) (epid stamp word id low n : ℕ) (fs : List Field) (ws held begun out : List ℕ) → header.Two ≡ h → word ≡ id + stamp % 2 ^ 32 * 2 ^ 32 → id ≡ epid → id < 2 ^ 32
     → low ≡ stamp / 2 ^ 32 → low < 2 ^ 32 → held ≡ ws → length held ≡ n → 0 < n → n ≡ words_in fs → All (λ w. w < 2 ^ 64) held → IsClean fs ws
-    → take 8 begun ≡ little_endian 8 word → take (8 + 8 * length held) out ≡ take 8 begun ++ words_text (with_low low held)
+    → take 8 begun ≡ little_endian 8 word → take (8 + 8 * length held) out ≡ take 8 begun ++ bytes_of_words (with_low low held)
     → take (length (record_text h fs (packed_record epid stamp fs ws))) out ≡ record_text h fs (packed_record epid stamp fs ws)
 text-put_two h epid stamp word id low n fs ws held begun out two is epid_is half low_is low_half same many some count small clean first put =
     let r : Record = packed_record epid stamp fs ws in
@@ -140,9 +140,9 @@ text-put_two h epid stamp word id low n fs ws held begun out two is epid_is half
     subst Done two (
     text-of_stamped epid stamp (length (record_text header.Two fs r)) n word fs ws out some (ap length (sym same) ∙ many) count (subst Small same small) (omega (arith, epid_is, half))
     (omega (arith, low_is, low_half)) clean (size-of_text header.Two epid stamp fs ws) turned
-    (ap (λ k. take k out) all ∙ put ∙ ap (λ t. t ++ words_text (with_low low held)) first
-    ∙ ap (λ l. little_endian 8 word ++ words_text (with_low l held)) low_is
-    ∙ ap (λ us. little_endian 8 word ++ words_text (with_low (stamp / 2 ^ 32) us)) same))
+    (ap (λ k. take k out) all ∙ put ∙ ap (λ t. t ++ bytes_of_words (with_low low held)) first
+    ∙ ap (λ l. little_endian 8 word ++ bytes_of_words (with_low l held)) low_is
+    ∙ ap (λ us. little_endian 8 word ++ bytes_of_words (with_low (stamp / 2 ^ 32) us)) same))
 
 -- whole words have room for the text, and no more room than it rounds up to
 pub rounds-up : (fs : List Field) (n : ℕ) → 0 < n → n ≡ words_in fs → rounded_up (layout header.One fs).size 8 ≡ 8 * n
@@ -161,18 +161,3 @@ room-of_two h fs size room n is at enough some many =
     let Size : Header → Type 0 = λ k. size ≡ (layout k fs).size in
     let own : size ≡ (layout header.Two fs).size = subst Size (sym is) at in
     omega (arith, own, size-stamped fs, enough, rounds-up fs n some many)
-
--- a record that is read out of the text is the one that the words stand for
-pub read-same : (epid stamp : ℕ) (fs : List Field) (ws text : List ℕ) (r : Record) → text ≡ record_text header.One fs (packed_record epid stamp fs ws) → IsRead header.One fs epid text r
-    → record { epid = epid; stamp = stamp; values = r.values } ≡ packed_record epid stamp fs ws
-read-same epid stamp fs ws text r is read =
-    let none : List ℕ = [] in
-    let q : Record = packed_record epid 0 fs ws in
-    let same : r ≡ q = record_text-same header.One fs r q none none read.epid_is read.stamp_fit refl read.fit (cuts_fit 4 fs (number_of_words ws)) (ap (λ t. t ++ none) (read.text_is ∙ is)) in
-    let values : r.values ≡ q.values = ap (λ p. p.values) same in
-    λ i. record { epid = epid; stamp = stamp; values = values i }
-
--- and it can be read
-pub read-due : (epid : ℕ) (fs : List Field) (ws text : List ℕ) → ((r : Record) → IsTrue (stamp_fits header.One r.stamp) → IsTrue (fits fs r.values) → text ≢ record_text header.One fs r)
-    → text ≢ record_text header.One fs (packed_record epid 0 fs ws)
-read-due epid fs ws text unread is = unread (packed_record epid 0 fs ws) refl (cuts_fit 4 fs (number_of_words ws)) is

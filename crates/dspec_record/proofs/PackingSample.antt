@@ -1,9 +1,7 @@
 -- Records as words at a few small ones: a field of four bytes, and one byte with eight behind it.
-use Rattle.std.proofs.Common.{◌≡◌, ◌+◌, ◌-◌, ◌*◌, ◌^◌, ℕ, List, [], ◌∷◌, ◌++◌, Option, Some, None, take, refl}
-use Rattle.dspec_record.specs.Record.{Record}
-use Rattle.dspec_record.specs.Layout.{layout}
+use Rattle.std.proofs.Common.{◌≡◌, ◌+◌, ◌-◌, ◌*◌, ◌^◌, List, [], ◌∷◌, ◌++◌, Some, None, refl}
 use Rattle.dspec_record.specs.RecordText.{little_endian, record_text}
-use Rattle.dspec_record.specs.Packing.{packed_record, words_in, claim_of, claimed, mask_number, words_of, masked_words, IsClean}
+use Rattle.dspec_record.specs.Packing.{packed_record, words_in, claim_of, claimed, mask_number, words_of_number, masked_words, IsClean}
 use Rattle.dspec_record.specs.declared.field.Field.{Field}
 use Rattle.dspec_record.specs.declared.field.Field.TheVariants.{One, Four, Eight}
 use Rattle.dspec_record.specs.declared.header.Header.TheVariants as header
@@ -25,11 +23,11 @@ wide_values = refl
 wide_words : words_in wide ≡ 2
 wide_words = refl
 
-wide_masks : words_of 2 (mask_number 4 wide) ≡ 255 * 2 ^ 32 ∷ (2 ^ 64 - 1) ∷ []
+wide_masks : words_of_number 2 (mask_number 4 wide) ≡ 255 * 2 ^ 32 ∷ (2 ^ 64 - 1) ∷ []
 wide_masks = refl
 
 -- the EPID's bytes and the gap are cleared
-wide_masked : masked_words ((2 ^ 64 - 1) ∷ 11 ∷ []) (words_of 9 (mask_number 4 wide)) ≡ 255 * 2 ^ 32 ∷ 11 ∷ []
+wide_masked : masked_words ((2 ^ 64 - 1) ∷ 11 ∷ []) (words_of_number 9 (mask_number 4 wide)) ≡ 255 * 2 ^ 32 ∷ 11 ∷ []
 wide_masked = refl
 
 wide_clean : IsClean wide (7 * 2 ^ 32 ∷ 11 ∷ [])

@@ -1,13 +1,11 @@
 -- The bytes of clean words where they are stored with an EPID, and behind it a stamp, in place of the zeros before the fields.
-use Rattle.std.proofs.Common.{◌≡◌, ◌≤◌, ◌<◌, ◌+◌, ◌-◌, ◌*◌, ◌/◌, ◌%◌, ◌^◌, ◌++◌, ℕ, suc, All, List, [], ◌∷◌, length, take, get_or, refl, sym, ◌∙◌, ap, arith}
-use Rattle.std.proofs.Math.Nat.{div-add-mod'}
+use Rattle.std.proofs.Common.{◌≡◌, ◌≤◌, ◌<◌, ◌+◌, ◌-◌, ◌*◌, ◌/◌, ◌%◌, ◌^◌, ◌++◌, ℕ, All, List, [], ◌∷◌, length, take, get_or, refl, sym, ◌∙◌, ap, arith}
 use Rattle.std.proofs.Math.Seq.{take-append-add, take-take}
 use Rattle.std.proofs.lemmas.List.{length-append, append_assoc, append-nil, take_more}
 use Rattle.std.proofs.lemmas.List.Elements.{All-head, All-tail}
-use Rattle.dspec_record.specs.Record.{Record}
-use Rattle.dspec_record.specs.Layout.{rounded_up, fields_end, layout}
+use Rattle.dspec_record.specs.Layout.{fields_end, layout}
 use Rattle.dspec_record.specs.RecordText.{little_endian, fields_text, record_text}
-use Rattle.dspec_record.specs.Packing.{number_of_words, cuts, packed_record, words_text, IsClean}
+use Rattle.dspec_record.specs.Packing.{number_of_words, cuts, packed_record, bytes_of_words, IsClean}
 use Rattle.dspec_record.specs.Laws.Layouts.{rounded_up-ge, fields_end-ge, size-stamped}
 use Rattle.dspec_record.specs.Laws.Texts.{append-same}
 use Rattle.dspec_record.proofs.LittleEndian.{little_endian-append, little_endian-parts}
@@ -17,14 +15,14 @@ use Rattle.dspec_record.specs.declared.field.Field.TheVariants.{Four}
 use Rattle.dspec_record.specs.declared.header.Header.TheVariants as header
 
 -- words stored one behind the other are their number's bytes
-pub words_text-little_endian : (ws : List ℕ) → All (λ w. w < 2 ^ 64) ws → words_text ws ≡ little_endian (8 * length ws) (number_of_words ws)
-words_text-little_endian [] small = refl
-words_text-little_endian (w ∷ ws) small =
+pub bytes_of_words-little_endian : (ws : List ℕ) → All (λ w. w < 2 ^ 64) ws → bytes_of_words ws ≡ little_endian (8 * length ws) (number_of_words ws)
+bytes_of_words-little_endian [] small = refl
+bytes_of_words-little_endian (w ∷ ws) small =
     let P : ℕ → Type 0 = λ x. x < 2 ^ 64 in
     let n : ℕ = number_of_words ws in
     let count : 8 + 8 * length ws ≡ 8 * length (w ∷ ws) = omega arith in
     let turned : n * 256 ^ 8 + w ≡ w + 2 ^ 64 * n = omega arith in
-    ap (λ t. little_endian 8 w ++ t) (words_text-little_endian ws (All-tail P w ws small))
+    ap (λ t. little_endian 8 w ++ t) (bytes_of_words-little_endian ws (All-tail P w ws small))
     ∙ sym (little_endian-parts 8 (8 * length ws) n w (All-head P w ws small))
     ∙ ap (little_endian (8 + 8 * length ws)) turned
     ∙ ap (λ k. little_endian k (w + 2 ^ 64 * n)) count
@@ -119,37 +117,37 @@ stored-stamped epid stamp fs w rest small fits stamp_fits clean =
 
 -- ---- word by word
 
-pub length-words_text : (ws : List ℕ) → length (words_text ws) ≡ 8 * length ws
-length-words_text [] = refl
-length-words_text (w ∷ ws) =
-    let rest : length (words_text ws) ≡ 8 * length ws = length-words_text ws in
-    omega (arith, length-append (little_endian 8 w) (words_text ws), rest)
+pub length-bytes_of_words : (ws : List ℕ) → length (bytes_of_words ws) ≡ 8 * length ws
+length-bytes_of_words [] = refl
+length-bytes_of_words (w ∷ ws) =
+    let rest : length (bytes_of_words ws) ≡ 8 * length ws = length-bytes_of_words ws in
+    omega (arith, length-append (little_endian 8 w) (bytes_of_words ws), rest)
 
-pub words_text-more : (ws : List ℕ) (i : ℕ) → i < length ws → words_text (take (i + 1) ws) ≡ words_text (take i ws) ++ little_endian 8 (get_or ws i 0)
-words_text-more ws i within = ap words_text (take_more ws i 0 within) ∙ appended (take i ws) (get_or ws i 0)
+pub bytes_of_words-more : (ws : List ℕ) (i : ℕ) → i < length ws → bytes_of_words (take (i + 1) ws) ≡ bytes_of_words (take i ws) ++ little_endian 8 (get_or ws i 0)
+bytes_of_words-more ws i within = ap bytes_of_words (take_more ws i 0 within) ∙ appended (take i ws) (get_or ws i 0)
   where
-    appended : (us : List ℕ) (u : ℕ) → words_text (us ++ u ∷ []) ≡ words_text us ++ little_endian 8 u
+    appended : (us : List ℕ) (u : ℕ) → bytes_of_words (us ++ u ∷ []) ≡ bytes_of_words us ++ little_endian 8 u
     appended [] u = append-nil (little_endian 8 u)
     appended (x ∷ us) u =
-        ap (λ t. little_endian 8 x ++ t) (appended us u) ∙ sym (append_assoc (little_endian 8 x) (words_text us) (little_endian 8 u))
+        ap (λ t. little_endian 8 x ++ t) (appended us u) ∙ sym (append_assoc (little_endian 8 x) (bytes_of_words us) (little_endian 8 u))
 
 -- `stored` and `stored-stamped` of words that are stored one by one
 pub stored-words : (epid : ℕ) (fs : List Field) (w : ℕ) (rest : List ℕ) → All (λ x. x < 2 ^ 64) (w ∷ rest) → epid < 2 ^ 32 → IsClean fs (w ∷ rest)
-    → take (layout header.One fs).size (little_endian 8 (w + epid) ++ words_text rest) ≡ record_text header.One fs (packed_record epid 0 fs (w ∷ rest))
+    → take (layout header.One fs).size (little_endian 8 (w + epid) ++ bytes_of_words rest) ≡ record_text header.One fs (packed_record epid 0 fs (w ∷ rest))
 stored-words epid fs w rest small fits clean =
     let P : ℕ → Type 0 = λ x. x < 2 ^ 64 in
-    ap (λ t. take (layout header.One fs).size (little_endian 8 (w + epid) ++ t)) (words_text-little_endian rest (All-tail P w rest small))
+    ap (λ t. take (layout header.One fs).size (little_endian 8 (w + epid) ++ t)) (bytes_of_words-little_endian rest (All-tail P w rest small))
     ∙ stored epid fs w rest (All-head P w rest small) fits clean
 
 pub stored-stamped-words : (epid stamp : ℕ) (fs : List Field) (w : ℕ) (rest : List ℕ) → All (λ x. x < 2 ^ 64) (w ∷ rest) → epid < 2 ^ 32 → stamp < 2 ^ 64 → IsClean fs (w ∷ rest)
-    → take (layout header.Two fs).size (little_endian 8 (epid + 2 ^ 32 * (stamp % 2 ^ 32)) ++ (little_endian 8 (w + stamp / 2 ^ 32) ++ words_text rest))
+    → take (layout header.Two fs).size (little_endian 8 (epid + 2 ^ 32 * (stamp % 2 ^ 32)) ++ (little_endian 8 (w + stamp / 2 ^ 32) ++ bytes_of_words rest))
     ≡ record_text header.Two fs (packed_record epid stamp fs (w ∷ rest))
 stored-stamped-words epid stamp fs w rest small fits stamp_fits clean =
     let P : ℕ → Type 0 = λ x. x < 2 ^ 64 in
     let first : List ℕ = little_endian 8 (epid + 2 ^ 32 * (stamp % 2 ^ 32)) in
     let second : List ℕ = little_endian 8 (w + stamp / 2 ^ 32) in
-    ap (λ k. take k (first ++ (second ++ words_text rest))) (size-stamped fs)
-    ∙ ap (λ t. take ((layout header.One fs).size + 8) (first ++ (second ++ t))) (words_text-little_endian rest (All-tail P w rest small))
+    ap (λ k. take k (first ++ (second ++ bytes_of_words rest))) (size-stamped fs)
+    ∙ ap (λ t. take ((layout header.One fs).size + 8) (first ++ (second ++ t))) (bytes_of_words-little_endian rest (All-tail P w rest small))
     ∙ stored-stamped epid stamp fs w rest (All-head P w rest small) fits stamp_fits clean
 
 -- the sums of a first word and what it is stored with lose no bit

@@ -1,4 +1,4 @@
--- Believed. A record as the words of its text, of eight bytes each: what record they stand for, and which of their bits count.
+-- Cited by calls. A record as the words of its text, of eight bytes each: what record they stand for, and which of their bits count.
 use Rattle.std.specs.Prelude.{◌≡◌, ℕ, zero, suc, ◌+◌, ◌-◌, ◌*◌, ◌/◌, ◌%◌, ◌^◌, ◌==◌, ◌&&◌, nat_lt, List, [], ◌∷◌, ◌++◌, length, take, replicate, Option, Some, None, option_and_then, if◌then◌else◌}
 use Rattle.std.specs.Int.RustNames.{bit_and}
 use Rattle.dspec_record.specs.Record.{Record}
@@ -62,13 +62,13 @@ mask_number start (f ∷ fs) =
     limit f * 256 ^ rounded_up start (width f) + mask_number (after start (width f) (width f)) fs
 
 -- the first so many words of a number
-abbrev pub words_of : ℕ → ℕ → List ℕ
-words_of zero n = []
-words_of (suc k) n = n % 2 ^ 64 ∷ words_of k (n / 2 ^ 64)
+abbrev pub words_of_number : ℕ → ℕ → List ℕ
+words_of_number zero n = []
+words_of_number (suc k) n = n % 2 ^ 64 ∷ words_of_number k (n / 2 ^ 64)
 
 -- which bits of nine words, as many as there can be, are bits of these fields
-abbrev pub masks_for : List Field → List ℕ
-masks_for fs = words_of 9 (mask_number 4 fs)
+unfoldable pub masks_for : List Field → List ℕ
+masks_for fs = words_of_number 9 (mask_number 4 fs)
 
 -- each word with the mask at its place; no words behind the last mask
 abbrev pub masked_words : List ℕ → List ℕ → List ℕ
@@ -77,9 +77,9 @@ masked_words (w ∷ ws) [] = []
 masked_words (w ∷ ws) (m ∷ ms) = bit_and w m ∷ masked_words ws ms
 
 -- the bytes of these words, of each the lowest first
-abbrev pub words_text : List ℕ → List ℕ
-words_text [] = []
-words_text (w ∷ ws) = little_endian 8 w ++ words_text ws
+abbrev pub bytes_of_words : List ℕ → List ℕ
+bytes_of_words [] = []
+bytes_of_words (w ∷ ws) = little_endian 8 w ++ bytes_of_words ws
 
 -- the words hold nothing but fields: as far as the record's text reaches, their bytes are that text with EPID 0
 abbrev pub IsClean : List Field → List ℕ → Type 0

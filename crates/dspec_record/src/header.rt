@@ -1,4 +1,4 @@
-ghost use Rattle.std.specs.Prelude.{◌≡◌, ◌≤◌, ◌+◌};
+ghost use Rattle.std.specs.Prelude.{◌≡◌, ◌≤◌, ◌+◌, ◌↔◌, IsTrue};
 ghost use Rattle.dspec_record.specs.Layout.{fields_start};
 
 /// What stands before the fields of a record. The bytes don't say which header it is: the schema does.
@@ -20,6 +20,14 @@ impl Header {
             Header::One => 4,
             Header::Two => 12,
         }
+    }
+
+    /// Whether it is this one.
+    #[inline(always)]
+    pub(crate) fn is(self, other: Header) -> bool
+        ensures { IsTrue result ↔ (self ≡ other) }
+    {
+        self == other
     }
 
     /// How much of it is the stamp, in bytes: by so much it moves each field.

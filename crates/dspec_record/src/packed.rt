@@ -2,10 +2,10 @@ ghost use Rattle.std.specs.Prelude.{◌≡◌, ◌≤◌, ◌<◌, ◌+◌, ◌*
 ghost use Rattle.dspec_record.specs.FirstWords.{with_low};
 ghost use Rattle.dspec_record.specs.Layout.{layout};
 ghost use Rattle.dspec_record.specs.RecordText.{little_endian};
-ghost use Rattle.dspec_record.specs.Packing.{words_in, masked_words, words_text, IsClean};
+ghost use Rattle.dspec_record.specs.Packing.{words_in, masked_words, bytes_of_words, packed_record, IsClean};
 ghost use Rattle.dspec_record.specs.declared.header.Header.TheVariants.{One};
 
-use crate::codec::{fits_header, read_record};
+use crate::codec::fits_header;
 use crate::enabling::{Enabling, MAX_FIELDS, MAX_WORDS};
 use crate::{Enablings, Field, Header, KnownHeader, Rec, Recorded, Schema, Shape};
 use std::alloc::AllocError;
@@ -13,9 +13,6 @@ use std::marker::PhantomData;
 
 /// How many numbers half a word holds.
 const HALF: u64 = 1 << 32;
-
-/// The most bytes that the text of a record has without a stamp.
-const MAX_TEXT: usize = 8 * MAX_WORDS;
 
 /// A record whose text its caller packed into words of eight bytes: they are stored as they are, so that no field is looked at.
 /// What is no field is cleared from them; EPID and stamp stand beside.
@@ -74,7 +71,7 @@ impl Enablings {
             (⟦<Enablings as Schema>⟧.text self.now) (packed_of p) (laid_of H.header_is p)) }
     {
         let row = self.claimed_row(claim, words.len())?;
-        if self.header() != H::header() || !fits_header(H::header(), stamp) {
+        if !self.header().is(H::header()) || !fits_header(H::header(), stamp) {
             return None;
         }
         Some(Packed::of((claim % HALF) as u32, stamp, row, words))
@@ -124,20 +121,24 @@ impl<H: KnownHeader> Packed<H> {
     {
         &self.words[..self.count]
     }
+}
 
-    /// The record, read out of its text without a stamp.
-    fn read(&self) -> Rec
-        ensures { result ≡ packed_of self.now }
-    {
-        let mut text = [0; MAX_TEXT];
-        put_from(self.words(), self.epid_word(), 0, &mut text);
-        let fields = &self.fields[..self.len as usize];
-        let size = self.shape.size as usize;
-        let Some(rec) = read_record(Header::One, fields, self.epid, &text[..size]) else {
-            unreachable!()
-        };
-        Rec::few(self.epid, self.stamp, rec.values())
+/// The record with these fields, each cut out of its word.
+#[inline(always)]
+fn unpacked(epid: u32, stamp: u64, fields: &[Field], words: &[u64]) -> Rec
+    requires few { length fields.now ≤ 8 }
+    requires many { length words.now ≡ words_in fields.now }
+    ensures { result ≡ packed_record epid stamp fields.now words.now }
+{
+    let mut rec = Rec::bare(epid, stamp);
+    let mut end = Header::One.fields_start();
+    for i in 0..fields.len() {
+        let field = fields[i];
+        let place = field.place(end);
+        rec.add((words[place / 8] >> (place % 8 * 8) as u32) & field.limit());
+        end = place + field.width();
     }
+    rec
 }
 
 /// The shape of records of this enabling, whose text has so many words without a stamp.
@@ -193,7 +194,7 @@ fn put_from(words: &[u64], low: u64, at: usize, out: &mut [u8])
     requires zeros { slice_index_or words.now 0 0 % 2 ^ 32 ≡ 0 }
     requires low { low < 2 ^ 32 }
     requires room { at + 8 * length words.now ≤ length out.old }
-    ensures put { take (at + 8 * length words.now) out.new ≡ take at out.old ++ words_text (with_low low words.now) }
+    ensures put { take (at + 8 * length words.now) out.new ≡ take at out.old ++ bytes_of_words (with_low low words.now) }
     ensures small { All (λ w. w < 2 ^ 64) words.now }
     ensures low { low < 2 ^ 32 }
 {
@@ -205,7 +206,7 @@ fn put_from(words: &[u64], low: u64, at: usize, out: &mut [u8])
 #[inline(always)]
 fn put_words(words: &[u64], at: usize, out: &mut [u8])
     requires { at + 8 * length words.now ≤ length out.old }
-    ensures { take (at + 8 * length words.now) out.new ≡ take at out.old ++ words_text words.now }
+    ensures { take (at + 8 * length words.now) out.new ≡ take at out.old ++ bytes_of_words words.now }
 {
     for i in 0..words.len() {
         put_word(words[i], at + i * 8, out);
@@ -234,8 +235,15 @@ impl<'a, H: KnownHeader> Recorded for &'a Packed<H> {
         None
     }
 
+    // where nothing asks for the copy, no code is left of it
+    #[inline(always)]
     fn to_rec(&self) -> Rec {
-        self.read()
+        unpacked(
+            self.epid,
+            self.stamp,
+            &self.fields[..self.len as usize],
+            self.words(),
+        )
     }
 
     #[inline(always)]

@@ -1,10 +1,11 @@
 -- The mask of each field is added to its word.
-use Rattle.std.proofs.Common.{◌≡◌, ◌≤◌, ◌<◌, ◌+◌, ◌*◌, ◌/◌, ◌%◌, ◌^◌, ℕ, List, length, get_or, set, sym, ◌∙◌, ap, subst, arith}
+use Rattle.std.proofs.Common.{◌≡◌, ◌+◌, ◌*◌, ◌/◌, ◌%◌, ◌^◌, ℕ, List, get_or, set, sym, ◌∙◌, ap, subst, arith}
 use Rattle.std.proofs.Math.Nat.{mod-eq_of_lt}
 use Rattle.dspec_record.specs.Layout.{width, limit, rounded_up}
 use Rattle.dspec_record.specs.declared.field.Field.{Field}
 use Rattle.dspec_record.specs.declared.field.Field.TheVariants.{One}
-use Rattle.dspec_record.proofs.MakingMasks.{AreMasked, AreMasked-shifted, AreMasked-room, AreMasked-next}
+use Rattle.dspec_record.proofs.MakingMasks.{AreMasked, AreMasked-shifted, AreMasked-room, AreMasked-next, AreMasked-end}
+use Rattle.dspec_record.proofs.Masking.{masks_for-is}
 use Rattle.dspec_record.proofs.packing.masks_of.Goals as goal
 
 -- what is added: the shift loses no bit
@@ -29,3 +30,7 @@ loop-field-preserved c =
     let Wide : ℕ → Type 0 = λ w. AreMasked (i + 1) (place + w) (set masks (place / 8) (get_or masks (place / 8) 0 + limit f * 2 ^ (place % 8 * 8))) fs in
     let Added : ℕ → Type 0 = λ n. AreMasked (i + 1) (place + c.width.result) (set masks (place / 8) (get_or masks (place / 8) 0 + n)) fs in
     subst Added (sym (shifted f c.loop-field.end place c.limit.result c.limit.ensures c.place-place.ensures)) (subst Wide (sym c.width.ensures) next)
+
+pub returns : goal.returns
+returns c =
+    AreMasked-end c.loop-field.field-index c.loop-field.end c.loop-field.masks c.args.fields.now (omega arith) c.loop-field.invariant ∙ sym (masks_for-is c.args.fields.now)

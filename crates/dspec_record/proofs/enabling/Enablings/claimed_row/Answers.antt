@@ -1,5 +1,5 @@
 -- Where the claim is true of a row, it is the row at the place that is looked at.
-use Rattle.std.proofs.Common.{◌≡◌, ◌≢◌, ◌≤◌, ◌<◌, ◌+◌, ◌-◌, ◌%◌, ◌^◌, ℕ, zero, suc, List, [], length, get_or, take, drop, replicate, Option, Some, None, refl, sym, ◌∙◌, ap, arith}
+use Rattle.std.proofs.Common.{◌≡◌, ◌<◌, ◌+◌, ◌-◌, ◌%◌, ◌^◌, ℕ, zero, suc, List, [], get_or, take, Option, Some, None, refl, sym, ◌∙◌, ap, arith}
 use Rattle.std.proofs.lemmas.List.{get_or_default}
 use Rattle.dspec_record.specs.EnablingRows.{IsFilled}
 use Rattle.dspec_record.specs.Packing.{claimed, words_in}
@@ -38,9 +38,9 @@ returns-then-self-place c =
     let none : None ≡ claimed (take a.count a.rows) claim n =
     untrue a claim n c.self.invariant c.ranges.claim.fits
     (elim c.then-self-place.branch [
-      then-self-place-via-then-self-place w ↦ λ is words some. w.if-self-place.true is
+      | then-self-place-via-then-self-place w ↦ λ is words some. w.if-self-place.true is
       | then-self-place-via-else-self-place+then-words-count w ↦
-      λ is words some. w.if-words-count.true (w.words.ensures ∙ ap words_in (row-at a claim c.index-self-place.result c.self.invariant) ∙ words)
+          λ is words some. w.if-words-count.true (w.words.ensures ∙ ap words_in (row-at a claim c.index-self-place.result c.self.invariant) ∙ words)
       | then-self-place-via-else-self-place+else-words-count+then-count-eq0 w ↦ λ is words some. absurd (omega (arith, some, w.if-count-eq0.true))
     ]) (claimed (take a.count a.rows) claim n) refl in
     none ∙ ap (λ e. claimed e.rows claim n) c.self.view_is

@@ -1,11 +1,10 @@
 -- The claimed row is the record's, and the header the enablings' own.
-use Rattle.std.proofs.Common.{rules, ◌≡◌, IsTrue, ℕ, List, length, Some, sym, ◌∙◌, ap, subst, arith}
-use Rattle.dspec_record.specs.PackedFields.{packed_fields, packed_words, packed_of}
+use Rattle.std.proofs.Common.{◌≡◌, IsTrue, List, length, Some, sym, ◌∙◌, ap, subst}
+use Rattle.dspec_record.specs.PackedFields.{packed_fields, packed_of}
 use Rattle.dspec_record.specs.Packing.{claimed}
 use Rattle.dspec_record.specs.Record.{Record}
 use Rattle.dspec_record.specs.RecordText.{stamp_fits}
 use Rattle.dspec_record.specs.Schemas.{enabled, table_accepts}
-use Rattle.dspec_record.specs.declared.header.Header.{Header}
 use Rattle.dspec_record.specs.declared.field.Field.{Field}
 use Rattle.dspec_record.proofs.PackedClaims.{claimed-enabled, claimed-accepted, laid-enabled}
 use Rattle.dspec_record.proofs.enabling.Enablings.packed.Goals as goal
@@ -14,8 +13,8 @@ pub returns-clause-accepted : goal.returns-clause-accepted
 returns-clause-accepted g c =
     let rows : List (List Field) = c.args.self.now.rows in
     let row : Some c.in_ok-row.row.now ≡ claimed rows c.args.claim (length c.args.words.now) = c.in_ok-row.ensures in
-    let same : c.header.result ≡ c.header-2.result = c.if-ne.ensures in
-    let fit : IsTrue (stamp_fits c.args.self.now.header c.args.stamp) = ap (λ h. stamp_fits h c.args.stamp) (sym c.header.ensures ∙ same ∙ c.header-2.ensures ∙ sym c.header-else-ne.ensures) ∙ sym c.fits_header.ensures ∙ c.if-not-fits_header.false in
+    let same : c.header.result ≡ c.header-2.result = c.is.ensures.0 c.if-not-is.false in
+    let fit : IsTrue (stamp_fits c.args.self.now.header c.args.stamp) = ap (λ h. stamp_fits h c.args.stamp) (sym c.header.ensures ∙ same ∙ c.header-2.ensures ∙ sym c.header-else-not-is.ensures) ∙ sym c.fits_header.ensures ∙ c.if-not-fits_header.false in
     let Accepted : Record → Type 0 = λ r. IsTrue (table_accepts c.args.self.now.header (enabled rows) r) in
     subst Accepted (sym c.of.ensures.holds) (
     claimed-accepted c.args.self.now.header rows c.args.claim c.args.stamp (length c.args.words.now) c.in_ok-row.row.now c.args.words.now (sym row) c.of.ensures.few fit)
@@ -24,7 +23,7 @@ pub returns-clause-laid : goal.returns-clause-laid
 returns-clause-laid g c =
     let rows : List (List Field) = c.args.self.now.rows in
     let row : Some c.in_ok-row.row.now ≡ claimed rows c.args.claim (length c.args.words.now) = c.in_ok-row.ensures in
-    let same : c.header.result ≡ c.header-2.result = c.ne.ensures in
+    let same : c.header.result ≡ c.header-2.result = c.is.ensures.0 c.if-not-is.false in
     let r : Record = packed_of c.of.result in
     let own : enabled rows r.epid ≡ Some (packed_fields c.of.result) =
     ap (λ q. enabled rows q.epid) c.of.ensures.holds ∙ claimed-enabled rows c.args.claim (length c.args.words.now) c.in_ok-row.row.now (sym row) c.of.ensures.few ∙ ap Some (sym c.of.ensures.fields) in

@@ -1,5 +1,5 @@
 -- There are nine words at most.
-use Rattle.std.proofs.Common.{◌≡◌, ◌≤◌, ◌<◌, ℕ, length, take, arith}
+use Rattle.std.proofs.Common.{◌≡◌, length, arith}
 use Rattle.std.proofs.lemmas.List.{length-take-le}
 use Rattle.dspec_record.specs.PackedFields.{packed_fields, packed_words}
 use Rattle.dspec_record.proofs.Masking.{words_in-most}

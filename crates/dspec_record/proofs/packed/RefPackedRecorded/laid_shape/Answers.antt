@@ -1,5 +1,5 @@
 -- A stamp makes the text longer by its own eight bytes, and moves no alignment.
-use Rattle.std.proofs.Common.{◌≡◌, ◌+◌, ℕ, List, Some, length, sym, ◌∙◌, ap, arith}
+use Rattle.std.proofs.Common.{◌≡◌, ◌+◌, ℕ, List, Some, sym, ◌∙◌, ap, arith}
 use Rattle.dspec_record.specs.Layout.{fields_start, layout}
 use Rattle.dspec_record.specs.PackedFields.{packed_fields}
 use Rattle.dspec_record.specs.Laws.Layouts.{layout-IsShape, size-moved}
@@ -10,7 +10,7 @@ use Rattle.dspec_record.proofs.PackedRecords.{few-taken}
 use Rattle.dspec_record.proofs.packed.RefPackedRecorded.laid_shape.Goals as goal
 
 pub overflow_add-result : goal.overflow_add-result
-overflow_add-result g c = 
+overflow_add-result g c =
     let shape = layout-IsShape One (packed_fields c.args.self.now.now) (few-taken c.args.self.now.now.len c.args.self.now.now.fields c.args.self.now.now.few) in
     record { fits = omega (arith, ap (λ s. s.size) c.args.self.now.now.laid, shape.bounded, c.stamp_size.ensures.few) }
 

@@ -1,5 +1,5 @@
 -- The words are stored as the text of the header that there is.
-use Rattle.std.proofs.Common.{◌≡◌, ℕ, List, length, refl, sym, ◌∙◌, arith}
+use Rattle.std.proofs.Common.{List, length, refl, sym, ◌∙◌, arith}
 use Rattle.dspec_record.specs.PackedFields.{packed_fields, packed_words}
 use Rattle.dspec_record.specs.declared.field.Field.{Field}
 use Rattle.dspec_record.specs.declared.header.Header.{Header}
