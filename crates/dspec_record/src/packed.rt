@@ -221,8 +221,8 @@ impl<'a, H: KnownHeader> Recorded for &'a Packed<H> {
     ghost laid_as = { λ p. laid_of H.header_is p.now };
 
     #[inline(always)]
-    fn epid(&self) -> u32 {
-        self.epid
+    fn values(&self) -> Option<&[u64]> {
+        None
     }
 
     #[inline(always)]
@@ -231,8 +231,8 @@ impl<'a, H: KnownHeader> Recorded for &'a Packed<H> {
     }
 
     #[inline(always)]
-    fn values(&self) -> Option<&[u64]> {
-        None
+    fn epid(&self) -> u32 {
+        self.epid
     }
 
     // where nothing asks for the copy, no code is left of it
