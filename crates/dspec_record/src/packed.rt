@@ -221,11 +221,6 @@ impl<'a, H: KnownHeader> Recorded for &'a Packed<H> {
     ghost laid_as = { λ p. laid_of H.header_is p.now };
 
     #[inline(always)]
-    fn values(&self) -> Option<&[u64]> {
-        None
-    }
-
-    #[inline(always)]
     fn stamp(&self) -> u64 {
         self.stamp
     }
@@ -233,6 +228,11 @@ impl<'a, H: KnownHeader> Recorded for &'a Packed<H> {
     #[inline(always)]
     fn epid(&self) -> u32 {
         self.epid
+    }
+
+    #[inline(always)]
+    fn values(&self) -> Option<&[u64]> {
+        None
     }
 
     // where nothing asks for the copy, no code is left of it
