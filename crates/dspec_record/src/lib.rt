@@ -11,13 +11,15 @@
 //! | File | What is in it |
 //! |---|---|
 //! | `header.rt`, `field.rt`, `record.rt` | `Header`; `Field` and `Shape`; `Rec`, into which a reader puts a record field by field (`bare`, `add`) |
-//! | `recorded.rt`, `borrowed.rt` | the trait `Recorded`: what can be traced as a record, a reference to a `Rec` or a `BorrowedRec`, whose values stand elsewhere |
+//! | `recorded.rt`, `borrowed.rt` | the trait `Recorded`: what can be traced as a record, a reference to a `Rec`, a `BorrowedRec`, whose values stand elsewhere, or a reference to a `Packed` |
+//! | `packed.rt`, `packing.rt`, `known_header.rt` | `Packed`: a record whose text its caller packed into words of eight bytes, and what is worked out once of an enabling for it; headers that are known when a program is compiled |
 //! | `schema.rt`, `laws.rt` | the trait `Schema`; what follows from its laws over every schema |
-//! | `enabling.rt`, `enabled.rt` | `Enablings`. An enabling keeps its layout, each field's place, without a stamp (with one each size is eight more), and each field's greatest value; all of them how many bytes a stamp has |
+//! | `enabling.rt`, `enabled.rt` | `Enablings`. An enabling keeps its layout, each field's place, without a stamp (with one each size is eight more), each field's greatest value, and which bits of its words are bits of fields; all of them how many bytes a stamp has, and the claim that is true of each |
 //! | `default_action.rt`, `stamped_action.rt` | the schemas without fields |
 //! | `layout.rt`, `codec.rt` | places and greatest values of fields, writing and reading |
 //! | `specs/`: Record, EnablingRows | a record as contracts see it: EPID, stamp, list of values; enablings as their header and rows of fields |
 //! | `specs/`: Layout, RecordText, Reading | where fields stand; the bytes; what reading answers |
+//! | `specs/`: Packing | which record words stand for, what is claimed of it, which bits count |
 //! | `specs/`: Writing | a value is written as the most of its 8, 4, 2 bytes or 1 that there is room for, so that the zeros of the gap behind it come with it |
 #![tactic(auto)]
 

@@ -221,13 +221,13 @@ impl<'a, H: KnownHeader> Recorded for &'a Packed<H> {
     ghost laid_as = { λ p. laid_of H.header_is p.now };
 
     #[inline(always)]
-    fn epid(&self) -> u32 {
-        self.epid
+    fn stamp(&self) -> u64 {
+        self.stamp
     }
 
     #[inline(always)]
-    fn stamp(&self) -> u64 {
-        self.stamp
+    fn epid(&self) -> u32 {
+        self.epid
     }
 
     #[inline(always)]

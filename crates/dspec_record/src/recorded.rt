@@ -6,8 +6,8 @@ ghost use Rattle.dspec_record.specs.Layout.{rounded_up};
 
 use crate::{Rec, Shape};
 
-/// What can be traced as a record: a reference to a `Rec`, or a record whose values stand elsewhere. What takes either is built
-/// once for each, so that neither pays for the other.
+/// What can be traced as a record: a reference to a `Rec`, a record whose values stand elsewhere, or one whose text is packed.
+/// What takes them is built once for each, so that none pays for another.
 pub trait Recorded: Copy {
     /// The record that it is.
     ghost as_record: { Self → Record };

@@ -16,7 +16,8 @@ place-place-requires c =
 
 pub bounds-words-place : goal.bounds-words-place
 bounds-words-place c =
-    omega (arith, c.requires.many, c.place-place.ensures, AreCut-place c.loop-i.i c.loop-i.end c.loop-i.rec.values c.args.fields.now (number_of_words c.args.words.now) c.loop-i-test.true c.loop-i.invariant.cut)
+    let inside = AreCut-place c.loop-i.i c.loop-i.end c.loop-i.rec.values c.args.fields.now (number_of_words c.args.words.now) c.loop-i-test.true c.loop-i.invariant.cut in
+    omega (arith, c.requires.many, c.place-place.ensures, inside)
 
 pub overflow_add-end : goal.overflow_add-end
 overflow_add-end c =

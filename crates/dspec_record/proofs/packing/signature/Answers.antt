@@ -4,11 +4,12 @@ use Rattle.dspec_record.specs.Layout.{width}
 use Rattle.dspec_record.specs.declared.field.Field.{Field}
 use Rattle.dspec_record.specs.declared.field.Field.TheVariants.{One}
 use Rattle.dspec_record.specs.Packing.{signature_of}
-use Rattle.dspec_record.proofs.Signing.{signature-below, signature-more}
+use Rattle.dspec_record.proofs.Claiming.{signature_of-fits}
+use Rattle.dspec_record.proofs.Signing.{signature-more}
 use Rattle.dspec_record.proofs.packing.signature.Goals as goal
 
-below : (fs : List Field) (rest : ℕ) → length fs ≤ 8 → signature_of (drop rest fs) < 16 ^ 8
-below fs rest few = let long : length (drop rest fs) ≡ length fs - rest = length-drop rest fs in signature-below 8 (drop rest fs) (omega (arith, long))
+below : (fs : List Field) (rest : ℕ) → length fs ≤ 8 → signature_of (drop rest fs) < 2 ^ 32
+below fs rest few = let long : length (drop rest fs) ≡ length fs - rest = length-drop rest fs in signature_of-fits (drop rest fs) (omega (arith, long))
 
 word-more : (fs : List Field) (rest word wide : ℕ) → 0 < rest → rest ≤ length fs → word ≡ signature_of (drop rest fs) → wide ≡ width (get_or fs (rest - 1) One)
     → word * 16 + wide ≡ signature_of (drop (rest - 1) fs)
@@ -18,7 +19,7 @@ pub overflow_mul-word : goal.overflow_mul-word
 overflow_mul-word c =
     let fs : List Field = c.args.fields.now in
     let rest : ℕ = c.loop-rest.rest in
-    let small : signature_of (drop (rest - 1) fs) < 16 ^ 8 = below fs (rest - 1) c.requires in
+    let small : signature_of (drop (rest - 1) fs) < 2 ^ 32 = below fs (rest - 1) c.requires in
     let more : c.loop-rest.word * 16 + width (get_or fs (rest - 1) One) ≡ signature_of (drop (rest - 1) fs) =
     word-more fs rest c.loop-rest.word _ c.loop-rest-test.true c.loop-rest.invariant.within c.loop-rest.invariant.word (λ i. width (get_or fs (rest - 1) One)) in
     omega (arith, small, more)
@@ -27,7 +28,7 @@ pub overflow_add-word : goal.overflow_add-word
 overflow_add-word c =
     let fs : List Field = c.args.fields.now in
     let rest : ℕ = c.loop-rest.rest in
-    let small : signature_of (drop (rest - 1) fs) < 16 ^ 8 = below fs (rest - 1) c.requires in
+    let small : signature_of (drop (rest - 1) fs) < 2 ^ 32 = below fs (rest - 1) c.requires in
     let more : c.loop-rest.word * 16 + c.width.result ≡ signature_of (drop (rest - 1) fs) =
     word-more fs rest c.loop-rest.word c.width.result c.loop-rest-test.true c.loop-rest.invariant.within c.loop-rest.invariant.word c.width.ensures in
     omega (arith, small, more)

@@ -6,7 +6,9 @@ use Rattle.dspec_record.specs.Packing.{claimed, words_in}
 use Rattle.dspec_record.specs.declared.field.Field.{Field}
 use Rattle.dspec_record.specs.declared.enabling.Enablings.TheInside.{Inside}
 use Rattle.dspec_record.proofs.Claiming.{claimed-some, claimed-place}
-use Rattle.dspec_record.proofs.enabling.Enablings.claimed_row.Goals.{then-self-place-via-then-self-place, then-self-place-via-else-self-place+then-words-count, then-self-place-via-else-self-place+else-words-count+then-count-eq0}
+use Rattle.dspec_record.proofs.enabling.Enablings.claimed_row.Goals.{then-self-place-via-then-self-place}
+use Rattle.dspec_record.proofs.enabling.Enablings.claimed_row.Goals.{then-self-place-via-else-self-place+then-words-count}
+use Rattle.dspec_record.proofs.enabling.Enablings.claimed_row.Goals.{then-self-place-via-else-self-place+else-words-count+then-count-eq0}
 use Rattle.dspec_record.proofs.enabling.Enablings.claimed_row.Goals as goal
 
 abbrev place_of : ℕ → ℕ

@@ -14,7 +14,9 @@ returns-clause-accepted g c =
     let rows : List (List Field) = c.args.self.now.rows in
     let row : Some c.in_ok-row.row.now ≡ claimed rows c.args.claim (length c.args.words.now) = c.in_ok-row.ensures in
     let same : c.header.result ≡ c.header-2.result = c.is.ensures.0 c.if-not-is.false in
-    let fit : IsTrue (stamp_fits c.args.self.now.header c.args.stamp) = ap (λ h. stamp_fits h c.args.stamp) (sym c.header.ensures ∙ same ∙ c.header-2.ensures ∙ sym c.header-else-not-is.ensures) ∙ sym c.fits_header.ensures ∙ c.if-not-fits_header.false in
+    let own : c.args.self.now.header ≡ c.header-else-not-is.result = sym c.header.ensures ∙ same ∙ c.header-2.ensures ∙ sym c.header-else-not-is.ensures in
+    let fit : IsTrue (stamp_fits c.args.self.now.header c.args.stamp) =
+    ap (λ h. stamp_fits h c.args.stamp) own ∙ sym c.fits_header.ensures ∙ c.if-not-fits_header.false in
     let Accepted : Record → Type 0 = λ r. IsTrue (table_accepts c.args.self.now.header (enabled rows) r) in
     subst Accepted (sym c.of.ensures.holds) (
     claimed-accepted c.args.self.now.header rows c.args.claim c.args.stamp (length c.args.words.now) c.in_ok-row.row.now c.args.words.now (sym row) c.of.ensures.few fit)
