@@ -10,8 +10,6 @@ use dspec_deeds::{DecideFate, Opening, Report, SpeculateFate, TraceFate};
 pub struct Counts {
     /// Records of the calls of trace and speculate that were not worn.
     pub offered: u64,
-    /// Records in the principal buffers, a committed block's with it.
-    pub accepted: u64,
     /// Records of trace with no room.
     pub dropped: u64,
     /// Records of speculate with no room.
@@ -24,6 +22,9 @@ pub struct Counts {
     pub void: u64,
     /// Events, not records: each refusal of a principal buffer, of a record or of a block.
     pub drops: u64,
+    /// Records in the principal buffers, a committed block's with it. It stands apart from those offered: as neighbours the two would be
+    /// counted by wide loads and stores, which are more of them.
+    pub accepted: u64,
     /// Calls of speculation that were given no slot, where none waited to be released.
     pub unavailable: u64,
     /// Calls of speculation that were given no slot, where one waited to be released.

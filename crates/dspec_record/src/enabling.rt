@@ -113,7 +113,8 @@ impl Enabling {
     /// The fields in eight places, so that they can be copied by one store.
     #[inline(always)]
     pub(crate) fn held(&self) -> [Field; MAX_FIELDS]
-        ensures { take (length self.now) result ≡ self.now }
+        ensures fields { take (length self.now) result ≡ self.now }
+        ensures eight { length result ≡ 8 }
     {
         self.fields
     }

@@ -29,6 +29,7 @@ pub struct Packed<H: KnownHeader> {
     ghost laid: { shape ≡ layout One (take len fields) },
     ghost some: { 0 < count },
     ghost many: { count ≡ words_in (take len fields) },
+    ghost eight: { length fields ≡ 8 },
     ghost nine: { length words ≡ 9 },
     ghost clean: { IsClean (take len fields) (take count words) },
 }
@@ -235,14 +236,16 @@ impl<'a, H: KnownHeader> Recorded for &'a Packed<H> {
         None
     }
 
-    // where nothing asks for the copy, no code is left of it
+    // where nothing asks for the copy, no code is left of it: its loop goes over copies, so that words that are written need no place
+    // in memory
     #[inline(always)]
     fn to_rec(&self) -> Rec {
+        let (fields, words) = (self.fields, self.words);
         unpacked(
             self.epid,
             self.stamp,
-            &self.fields[..self.len as usize],
-            self.words(),
+            &fields[..self.len as usize],
+            &words[..self.count],
         )
     }
 

@@ -23,7 +23,7 @@ invariant_of-result g c =
     let row : List Field = c.args.row.now in
     let words : List ℕ = c.args.words.now in
     let few : length row ≤ 8 = omega (arith, c.len.ensures.many, c.len.ensures.few) in
-    let fields : take c.len.result c.held.result ≡ row = held c.len.result c.held.result row c.len.ensures.many c.held.ensures in
+    let fields : take c.len.result c.held.result ≡ row = held c.len.result c.held.result row c.len.ensures.many c.held.ensures.fields in
     let kept : take (length words) c.masked.result ≡ masked_words words (masks_for row) =
     masked-is words c.masks.result.now c.masked.result row c.masks.ensures c.masked.ensures.masked in
     let small : All (λ w. w < 2 ^ 64) words = All-from_get_or (λ w. w < 2 ^ 64) words 0 (λ i within. (c.type_inv.words i).fits) in
@@ -34,19 +34,20 @@ invariant_of-result g c =
       laid = c.shape_of_words.ensures ∙ ap (layout header.One) (sym fields);
       some = c.requires.some;
       many = c.requires.many ∙ ap words_in (sym fields);
+      eight = c.held.ensures.eight;
       nine = c.masked.ensures.nine;
       clean = subst Fields (sym fields) (subst Words (sym kept) (masked-clean row words few small c.requires.many c.requires.some));
     }
 
 pub returns-clause-fields : goal.returns-clause-fields
-returns-clause-fields g c = held c.len.result c.held.result c.args.row.now c.len.ensures.many c.held.ensures
+returns-clause-fields g c = held c.len.result c.held.result c.args.row.now c.len.ensures.many c.held.ensures.fields
 
 pub returns-clause-holds : goal.returns-clause-holds
 returns-clause-holds g c =
     let row : List Field = c.args.row.now in
     let words : List ℕ = c.args.words.now in
     let few : length row ≤ 8 = omega (arith, c.len.ensures.many, c.len.ensures.few) in
-    let fields : take c.len.result c.held.result ≡ row = held c.len.result c.held.result row c.len.ensures.many c.held.ensures in
+    let fields : take c.len.result c.held.result ≡ row = held c.len.result c.held.result row c.len.ensures.many c.held.ensures.fields in
     let kept : take (length words) c.masked.result ≡ masked_words words (masks_for row) =
     masked-is words c.masks.result.now c.masked.result row c.masks.ensures c.masked.ensures.masked in
     let small : All (λ w. w < 2 ^ 64) words = All-from_get_or (λ w. w < 2 ^ 64) words 0 (λ i within. (c.type_inv.words i).fits) in
