@@ -29,9 +29,6 @@ signature_of-fits fs few =
     let most : 16 ^ length fs ≤ 16 ^ 8 = pow-le-pow_right (omega arith) few in
     omega (arith, signature-below fs, most)
 
-pub claim_of-fits : (epid : ℕ) (fs : List Field) → epid < 2 ^ 32 → length fs ≤ 8 → claim_of epid fs < 2 ^ 64
-claim_of-fits epid fs small few = omega (arith, signature_of-fits fs few)
-
 -- a claim tells its EPID
 pub claim_of-epid : (epid : ℕ) (fs : List Field) → epid < 2 ^ 32 → claim_of epid fs % 2 ^ 32 ≡ epid
 claim_of-epid epid fs small = omega arith

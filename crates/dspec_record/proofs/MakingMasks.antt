@@ -7,7 +7,7 @@ use Rattle.dspec_record.specs.Layout.{width, limit, rounded_up, after}
 use Rattle.dspec_record.specs.Packing.{mask_number, words_of_number}
 use Rattle.dspec_record.specs.Laws.Layouts.{rounded_up-ge}
 use Rattle.dspec_record.proofs.LittleEndian.{pow_pos256, pow-add256}
-use Rattle.dspec_record.proofs.Masking.{pow256, length-words_of_number}
+use Rattle.dspec_record.proofs.Masking.{pow256}
 use Rattle.dspec_record.specs.declared.field.Field.{Field}
 use Rattle.dspec_record.specs.declared.field.Field.TheVariants.{One, Two, Four, Eight}
 
@@ -68,9 +68,6 @@ pub record AreMasked (i end : ℕ) (masks : List ℕ) (fs : List Field) : Type 0
 
 pub AreMasked-start : (fs : List Field) → AreMasked 0 4 (replicate 9 0) fs
 AreMasked-start fs = record { so_far = 0; masks_are = refl; whole = omega arith; below = omega arith; near = omega arith }
-
-pub length-AreMasked : (i end : ℕ) (masks : List ℕ) (fs : List Field) → AreMasked i end masks fs → length masks ≡ 9
-length-AreMasked i end masks fs is = ap length is.masks_are ∙ length-words_of_number 9 is.so_far
 
 -- a field's place is in one of the nine words
 pub AreMasked-place : (i end place : ℕ) (masks : List ℕ) (fs : List Field) → i < length fs → length fs ≤ 8 → AreMasked i end masks fs → place ≡ rounded_up end (width (get_or fs i One)) → place / 8 < 9

@@ -181,10 +181,6 @@ pub words_in-most : (fs : List Field) → length fs ≤ 8 → words_in fs ≤ 9
 words_in-most [] few = omega arith
 words_in-most (f ∷ fs) few = let within : fields_end 4 (f ∷ fs) ≤ 72 = ends-within (f ∷ fs) few in omega (arith, within)
 
-pub words_in-some : (fs : List Field) → 0 < length fs → ((layout header.One fs).size + 7) / 8 ≡ words_in fs
-words_in-some [] some = absurd (omega arith)
-words_in-some (f ∷ fs) some = refl
-
 pub size-in-words : (fs : List Field) → 0 < words_in fs → (layout header.One fs).size ≤ 8 * words_in fs
 size-in-words [] some = absurd (omega arith)
 size-in-words (f ∷ fs) some = omega arith

@@ -150,10 +150,6 @@ stored-stamped-words epid stamp fs w rest small fits stamp_fits clean =
     ∙ ap (λ t. take ((layout header.One fs).size + 8) (first ++ (second ++ t))) (bytes_of_words-little_endian rest (All-tail P w rest small))
     ∙ stored-stamped epid stamp fs w rest (All-head P w rest small) fits stamp_fits clean
 
--- the sums of a first word and what it is stored with lose no bit
-pub first-fits : (fs : List Field) (w first : ℕ) (rest : List ℕ) → w < 2 ^ 64 → first < 2 ^ 32 → IsClean fs (w ∷ rest) → w + first < 2 ^ 64
-first-fits fs w first rest small fits clean = omega (arith, clean-first fs w rest clean)
-
 -- bytes that begin with all words begin with the text that these begin with
 pub begins : (out bytes text : List ℕ) (n size : ℕ) → take n out ≡ bytes → size ≤ n → take size bytes ≡ text → take size out ≡ text
 begins out bytes text n size is short has = sym (take-take size n out short) ∙ ap (take size) is ∙ has
