@@ -59,8 +59,8 @@ impl Enablings {
     ghost use Rattle.dspec_record.specs.RecordText.{stamp_fits};
 
     /// The record of the claimed EPID with this stamp, whose fields stand in these words. None where the claim is true of no
-    /// enabling, the number of words is another than its fields have, or the enablings have another header. Bits that are of
-    /// no field count for nothing.
+    /// enabling, the number of words is another than its fields have, the enablings have another header, or it has no stamp and
+    /// one is given that isn't 0. Bits that are of no field count for nothing.
     #[inline(always)]
     pub fn packed<H: KnownHeader>(&self, claim: u64, stamp: u64, words: &[u64]) -> Option<Packed<H>>
         ensures due { IsSome result ↔ ((self.now.header ≡ H.header_is) × IsTrue (stamp_fits H.header_is stamp)
