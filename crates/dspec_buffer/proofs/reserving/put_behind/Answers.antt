@@ -31,4 +31,6 @@ returns-then-is_some g c =
     let put : take (length text) c.put_laid.new.out ≡ text
     = said_text (g.S.Schema.shape_of c.args.schema.now) (g.S.Schema.text c.args.schema.now) (g.R.Recorded.as_record c.args.rec)
     (g.R.Recorded.laid_as c.args.rec) c.put_laid.new.out c.requires.laid knows c.put_laid.ensures.put in
-    overwritten from place c.args.end (length c.pad_before.new.bytes - place) c.args.bytes.now c.pad_before.new.bytes c.put_laid.new.out text c.requires.gap c.requires.end (omega (arith, c.requires.gap, c.requires.end, c.requires.room)) (omega (arith, c.requires.end, c.requires.room)) (omega (arith, c.requires.end, c.requires.room)) c.pad_before.ensures put
+    overwritten from place c.args.end (length c.pad_before.new.bytes - place) c.args.bytes.now c.pad_before.new.bytes c.put_laid.new.out text
+    c.requires.gap c.requires.end (omega (arith, c.requires.gap, c.requires.end, c.requires.room)) (omega (arith, c.requires.end, c.requires.room))
+    (omega (arith, c.requires.end, c.requires.room)) c.pad_before.ensures put

@@ -14,7 +14,8 @@ slice_bounds-unpacked-end g c = sym (length-take-le c.args.self.now.now.len c.ar
 
 pub slice_bounds-words-end : goal.slice_bounds-words-end
 slice_bounds-words-end g c =
-    omega (arith, c.args.self.now.now.many, c.args.self.now.now.nine, words_in-most (packed_fields c.args.self.now.now) (few-taken c.args.self.now.now.len c.args.self.now.now.fields c.args.self.now.now.few))
+    let few = words_in-most (packed_fields c.args.self.now.now) (few-taken c.args.self.now.now.len c.args.self.now.now.fields c.args.self.now.now.few) in
+    omega (arith, c.args.self.now.now.many, c.args.self.now.now.nine, few)
 
 pub slice_bounds-unpacked-end-2 : goal.slice_bounds-unpacked-end-2
 slice_bounds-unpacked-end-2 g c =
