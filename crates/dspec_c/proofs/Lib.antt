@@ -10,6 +10,7 @@ pub mod Finishing
 pub mod Handing
 pub mod Homes
 pub mod Looking
+pub mod Putting
 mod Options
 pub mod Taken
 mod Tends
