@@ -11,6 +11,7 @@
 //! | `counted.rt` | `CountedFile`, a file of the system: the only calls that write it and cut it, and what their answers tell of its bytes |
 //! | `told.rt`, `asked.rt` | `Told` and `Asked`: what was answered of a file, and what a folder was asked for, for clauses alone; they have no bytes, and their two bodies each are proved by hand |
 //! | `tracing.rt`, `fault.rt` | `TraceFolder`, the sink: metadata first, then the packets of each batch, one write; what a refused write loses is counted, and the next batch is tried |
+//! | `next.rt` | the packets of a batch, with one in front that tells of none missed where some are told first |
 //! | `losing.rt`, `telling.rt`, `laws.rt` | `Loss` and `Lossy`, which tell what wasn't written; `Telling`, a sink whose losses are printed while it runs; the law that nothing is lost uncounted |
 //! | `timed.rt` | `TimedFolder`, the sink by time: several files for each CPU, packets for each run of a batch's records, one write |
 //! | `ending.rt` | `tell_untold`: what reports count as lost beyond what batches told (`specs/Ending`, `proofs/OneMore`) |
@@ -18,7 +19,7 @@
 //! | `specs/`: Writes, Writing, Timed, Faults, Held | a write and its answer, and what writes leave of a file; what a call adds or loses; the same by time; which faults a place has; what a file has behind a write, and a folder's files of all that it was asked for |
 //! | `specs/`: Answered, Asked | one answer more, one write more |
 //! | `specs/`: Losses, Accounts | what is kept of losses; that records in packets and what is counted add up |
-//! | `proofs/` | Handing (packets are handed to the place), Following (runs behind one another), Cutting (bytes behind others, cut off again), Batching, Counting, Timely and Accounting (what a batch adds, counts and loses), Written and Tying (files have what the folder was asked for), Walks (a step of the proofs by hand) |
+//! | `proofs/` | Handing (packets are handed to the place), Following (runs behind one another), Cutting (bytes behind others, cut off again), Silent (an empty text has packets), Batching, Counting, Timely and Accounting (what a batch adds, counts and loses), Written and Tying (files have what the folder was asked for), Walks (a step of the proofs by hand) |
 #![tactic(auto)]
 
 mod asked;
@@ -30,6 +31,7 @@ mod held;
 mod identity;
 pub mod laws;
 mod losing;
+mod next;
 mod system;
 mod telling;
 mod timed;
