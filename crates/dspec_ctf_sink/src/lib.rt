@@ -7,6 +7,7 @@
 //! | File | What is in it |
 //! |---|---|
 //! | `folder.rt`, `system.rt` | `Folder`, a place that takes writes, with a ghost list of them and their answers; `SystemFolder`, one of the system, which has to be empty; it and its files are held open |
+//! | `room.rt` | `Room`: room that is kept on the disk for a trace's last packets |
 //! | `held.rt` | `HeldFile`: a file that is held open and has whole writes alone; what a failed write left is cut off |
 //! | `counted.rt` | `CountedFile`, a file of the system: the only calls that write it and cut it, and what their answers tell of its bytes |
 //! | `told.rt`, `asked.rt` | `Told` and `Asked`: what was answered of a file, and what a folder was asked for, for clauses alone; they have no bytes, and their two bodies each are proved by hand |
@@ -32,6 +33,7 @@ mod identity;
 pub mod laws;
 mod losing;
 mod next;
+mod room;
 mod system;
 mod telling;
 mod timed;
@@ -47,6 +49,7 @@ pub use fault::FolderFault;
 pub use folder::Folder;
 pub use identity::Identity;
 pub use losing::{Loss, Lossy};
+pub use room::Room;
 pub use system::SystemFolder;
 pub use telling::Telling;
 pub use timed::TimedFolder;
