@@ -8,12 +8,17 @@ use Rattle.dspec_record.specs.EnablingRows.{EnabledRows}
 use Rattle.dspec_ring.specs.declared.batch.Batch.{Batch}
 use Rattle.dspec_ctf.specs.Streams.{IsText}
 use Rattle.dspec_ctf_sink.specs.Losses.{HasSoManyRecords, capped}
-use Rattle.dspec_ctf_sink.specs.Writing.{AddsPacket, GetsPacket, IsNothing, LosesPacket, Tracing}
+use Rattle.dspec_ctf_sink.specs.Writing.{AddsPacket, AreNextOf, GetsPacket, IsNothing, LosesPacket, Tracing}
 use Rattle.dspec_ctf_sink.specs.Accounts.{Accounts, missed_on}
 
 -- what fits isn't capped
 pub capped_below : (n : ℕ) → n < 2 ^ 64 → capped n ≡ n
 capped_below n below = omega arith
+
+-- the next packets are those of a text
+text_of : (e : EnabledRows) (uuid : List ℕ) (missed cpu told : ℕ) (text bytes : List ℕ) → AreNextOf e uuid missed cpu text told bytes → (rs : List Record) × IsText e text rs
+text_of e uuid missed cpu told text bytes (inl (first, behind)) = (behind.are_packets.read, behind.are_packets.is_text)
+text_of e uuid missed cpu told text bytes (inr (later, are)) = (are.read, are.is_text)
 
 module _ (e : EnabledRows) (old new : Tracing) (b : Batch) (there : b.cpu < length old.missed) where
   changed : (n : ℕ) → new.missed ≡ slice_set old.missed b.cpu n → missed_on new b.cpu ≡ n
@@ -39,10 +44,11 @@ module _ (e : EnabledRows) (old new : Tracing) (b : Batch) (there : b.cpu < leng
       let now : missed_on new b.cpu ≡ adds.total = changed adds.total adds.missed in
       let was : missed_on old b.cpu ≡ adds.packet_is.before = get_or_from_slice_get old.missed b.cpu adds.packet_is.before 0 adds.packet_is.there in
       let sum : adds.total ≡ adds.packet_is.before + b.drops = adds.packet_is.missed_is in
+      let read = text_of e old.uuid adds.total b.cpu (slice_index old.told b.cpu) b.buffer.text adds.bytes adds.packet_is.packet_is in
       record {
-        read = adds.packet_is.packet_is.read;
-        is_text = adds.packet_is.packet_is.is_text;
-        packed = length adds.packet_is.packet_is.read;
+        read = read.0;
+        is_text = read.1;
+        packed = length read.0;
         packed_is = inl (adds, refl);
         sum = omega (arith, now, was, sum);
         others = other adds.total adds.missed;

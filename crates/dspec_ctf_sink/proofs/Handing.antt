@@ -1,12 +1,11 @@
 -- A batch's packet is handed to the place, or counted.
 use Rattle.std.proofs.Common.{◌≡◌, ℕ, ◌+◌, ◌∙◌, ap, inr, List, refl, sym, subst}
-use Rattle.std.specs.Prelude.{slice_get, slice_set, Option, Some, None}
+use Rattle.std.specs.Prelude.{slice_get, slice_index, slice_set, Option, Some, None}
 use Rattle.dspec_record.specs.EnablingRows.{EnabledRows}
 use Rattle.dspec_ring.specs.declared.batch.Batch.{Batch}
-use Rattle.dspec_ctf.specs.Filled.{AreFilledOf}
 use Rattle.dspec_ctf_sink.specs.Losses.{lost_more, missed_more}
 use Rattle.dspec_ctf_sink.specs.Writes.{FileWrite, Refuses, Takes}
-use Rattle.dspec_ctf_sink.specs.Writing.{AddsPacket, CountsLost, IsBatchFault, IsNextPacket, LosesPacket, Tracing, cpu_name, whole_loss}
+use Rattle.dspec_ctf_sink.specs.Writing.{AddsPacket, AreNextOf, CountsLost, IsBatchFault, IsNextPacket, LosesPacket, Tracing, cpu_name, whole_loss}
 use Rattle.dspec_ctf_sink.specs.declared.fault.FolderFault.{FolderFault}
 use Rattle.dspec_ctf_sink.specs.declared.losing.Loss.{Loss}
 
@@ -15,18 +14,21 @@ abbrev pub tracing : List ℕ → List ℕ → List ℕ → Option (List FileWri
 tracing uuid missed told written lost last = record { uuid = uuid; missed = missed; told = told; written = written; lost = lost; last = last }
 
 module _ (e : EnabledRows) (uuid missed told : List ℕ) (was is : Option (List FileWrite)) (lost last : Option Loss) (old : Tracing) (b : Batch) where
-  next : (before total : ℕ) (bytes packet : List ℕ) → slice_get missed b.cpu ≡ Some before → total ≡ before + b.drops → AreFilledOf e uuid (before + b.drops) b.cpu b.buffer.text packet
+  abbrev pub IsNext : ℕ → List ℕ → Type 0
+  IsNext n bytes = AreNextOf e uuid n b.cpu b.buffer.text (slice_index told b.cpu) bytes
+
+  next : (before total : ℕ) (bytes packet : List ℕ) → slice_get missed b.cpu ≡ Some before → total ≡ before + b.drops → IsNext (before + b.drops) packet
       → bytes ≡ packet → IsNextPacket e (tracing uuid missed told was lost last) b total bytes
   next before total bytes packet there sum is_packet same = record {
     before = before;
     there = there;
     missed_is = sum;
-    packet_is = subst (λ n. AreFilledOf e uuid n b.cpu b.buffer.text bytes) (sym sum) (subst (λ xs. AreFilledOf e uuid (before + b.drops) b.cpu b.buffer.text xs) (sym same) is_packet);
+    packet_is = subst (λ n. IsNext n bytes) (sym sum) (subst (λ xs. IsNext (before + b.drops) xs) (sym same) is_packet);
   }
 
   -- and taken
   pub adds : (before total : ℕ) (name bytes packet : List ℕ) → tracing uuid missed told was lost last ≡ old → slice_get missed b.cpu ≡ Some before → total ≡ before + b.drops
-      → AreFilledOf e uuid (before + b.drops) b.cpu b.buffer.text packet → bytes ≡ packet → name ≡ cpu_name b.cpu → Takes was name bytes is
+      → IsNext (before + b.drops) packet → bytes ≡ packet → name ≡ cpu_name b.cpu → Takes was name bytes is
       → AddsPacket e old b (tracing uuid (slice_set missed b.cpu total) (slice_set told b.cpu total) is lost None)
   adds before total name bytes packet view there sum is_packet same named takes =
       subst (λ o. AddsPacket e o b (tracing uuid (slice_set missed b.cpu total) (slice_set told b.cpu total) is lost None)) view
@@ -43,7 +45,7 @@ module _ (e : EnabledRows) (uuid missed told : List ℕ) (was is : Option (List 
 
   -- or refused
   pub refuses : (before total : ℕ) (name bytes packet : List ℕ) (why : FolderFault) → tracing uuid missed told was lost last ≡ old → slice_get missed b.cpu ≡ Some before → total ≡ before + b.drops
-      → AreFilledOf e uuid (before + b.drops) b.cpu b.buffer.text packet → bytes ≡ packet → name ≡ cpu_name b.cpu → Refuses was name bytes is why
+      → IsNext (before + b.drops) packet → bytes ≡ packet → name ≡ cpu_name b.cpu → Refuses was name bytes is why
       → IsBatchFault e old b is why
   refuses before total name bytes packet why view there sum is_packet same named refused =
       subst (λ o. IsBatchFault e o b is why) view

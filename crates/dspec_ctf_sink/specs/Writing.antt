@@ -1,5 +1,5 @@
 -- Cited by calls. What is written into a trace folder.
-use Rattle.std.specs.Prelude.{ℕ, ◌≡◌, ◌+◌, List, [], ◌++◌, ◌⊎◌, Option, Some, None, codes, decimal, replicate, slice_get, slice_set}
+use Rattle.std.specs.Prelude.{ℕ, ◌≡◌, ◌≢◌, ◌+◌, false, List, [], ◌++◌, ◌⊎◌, Option, Some, None, codes, decimal, replicate, slice_get, slice_index, slice_set}
 use Rattle.dspec_record.specs.EnablingRows.{EnabledRows}
 use Rattle.dspec_ring.specs.declared.batch.Batch.{Batch}
 use Rattle.dspec_ctf.specs.declared.form.Form.TheVariants.{AsTaken}
@@ -7,7 +7,7 @@ use Rattle.dspec_ctf.specs.declared.names.Names.{Names}
 use Rattle.dspec_ctf.specs.declared.origin.Origin.{Origin}
 use Rattle.dspec_ctf.specs.Metadata.{origin_text}
 use Rattle.dspec_ctf.specs.Names.{origin_fault}
-use Rattle.dspec_ctf.specs.Filled.{AreFilledOf}
+use Rattle.dspec_ctf.specs.Filled.{AreFilledOf, filled_packets}
 use Rattle.dspec_ctf.specs.Streams.{HasNoPacket}
 use Rattle.dspec_ctf.specs.declared.fault.MetadataFault.TheVariants as metadata
 use Rattle.dspec_ctf_sink.specs.Losses.{HasSoManyRecords, lost_more, missed_more}
@@ -49,12 +49,28 @@ IsBeginFault written origin e names old fault = RefusesMetadata written origin e
 abbrev pub cpu_name : ℕ → List ℕ
 cpu_name c = codes "cpu_" ++ decimal c
 
--- the bytes are the packets of this batch, behind those of its CPU that came before; and so many events it missed then
+-- a file that told of so many missed events tells of some for the first time, where it tells of so many now
+abbrev pub TellsFirst : ℕ → ℕ → Type 0
+TellsFirst told missed = (told ≡ 0) × (missed ≢ 0)
+
+module _ (e : EnabledRows) (uuid : List ℕ) (missed cpu : ℕ) (text : List ℕ) where
+  -- the bytes are the packet of no records, which tells of none missed, and the packets of this text behind it
+  pub record AreBehindSilent (bytes : List ℕ) : Type 0 where
+    pub packets : List ℕ
+    pub are_packets : AreFilledOf e uuid missed cpu text packets
+    pub bytes_are : bytes ≡ filled_packets false e uuid 0 cpu [] ++ packets
+
+  -- The bytes are the next packets of a file that told of so many missed events: those of this text. Tools tell by how much more a packet tells than
+  -- the one before it, so where missed events are told first, a packet that tells of none stands in front.
+  abbrev pub AreNextOf : ℕ → List ℕ → Type 0
+  AreNextOf told bytes = (TellsFirst told missed × AreBehindSilent bytes) ⊎ ((TellsFirst told missed → ⊥) × AreFilledOf e uuid missed cpu text bytes)
+
+-- the bytes are the next packets of the batch's CPU; and so many events it missed then
 pub record IsNextPacket (e : EnabledRows) (old : Tracing) (b : Batch) (missed : ℕ) (bytes : List ℕ) : Type 0 where
   pub before : ℕ
   pub there : slice_get old.missed b.cpu ≡ Some before
   pub missed_is : missed ≡ before + b.drops
-  pub packet_is : AreFilledOf e old.uuid missed b.cpu b.buffer.text bytes
+  pub packet_is : AreNextOf e old.uuid missed b.cpu b.buffer.text (slice_index old.told b.cpu) bytes
 
 -- the place took the batch's packets, and what its CPU missed is counted
 pub record AddsPacket (e : EnabledRows) (old : Tracing) (b : Batch) (new : Tracing) : Type 0 where

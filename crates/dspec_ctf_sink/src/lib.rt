@@ -7,10 +7,12 @@
 //! | File | What is in it |
 //! |---|---|
 //! | `folder.rt`, `system.rt` | `Folder`, a place that takes writes, with a ghost list of them and their answers; `SystemFolder`, one of the system, which has to be empty; it and its files are held open |
+//! | `room.rt` | `Room`: room that is kept on the disk for a trace's last packets |
 //! | `held.rt` | `HeldFile`: a file that is held open and has whole writes alone; what a failed write left is cut off |
 //! | `counted.rt` | `CountedFile`, a file of the system: the only calls that write it and cut it, and what their answers tell of its bytes |
 //! | `told.rt`, `asked.rt` | `Told` and `Asked`: what was answered of a file, and what a folder was asked for, for clauses alone; they have no bytes, and their two bodies each are proved by hand |
 //! | `tracing.rt`, `fault.rt` | `TraceFolder`, the sink: metadata first, then the packets of each batch, one write; what a refused write loses is counted, and the next batch is tried |
+//! | `next.rt` | the packets of a batch, with one in front that tells of none missed where some are told first |
 //! | `losing.rt`, `telling.rt`, `laws.rt` | `Loss` and `Lossy`, which tell what wasn't written; `Telling`, a sink whose losses are printed while it runs; the law that nothing is lost uncounted |
 //! | `timed.rt` | `TimedFolder`, the sink by time: several files for each CPU, packets for each run of a batch's records, one write |
 //! | `ending.rt` | `tell_untold`: what reports count as lost beyond what batches told (`specs/Ending`, `proofs/OneMore`) |
@@ -18,7 +20,7 @@
 //! | `specs/`: Writes, Writing, Timed, Faults, Held | a write and its answer, and what writes leave of a file; what a call adds or loses; the same by time; which faults a place has; what a file has behind a write, and a folder's files of all that it was asked for |
 //! | `specs/`: Answered, Asked | one answer more, one write more |
 //! | `specs/`: Losses, Accounts | what is kept of losses; that records in packets and what is counted add up |
-//! | `proofs/` | Handing (packets are handed to the place), Following (runs behind one another), Cutting (bytes behind others, cut off again), Batching, Counting, Timely and Accounting (what a batch adds, counts and loses), Written and Tying (files have what the folder was asked for), Walks (a step of the proofs by hand) |
+//! | `proofs/` | Handing (packets are handed to the place), Following (runs behind one another), Cutting (bytes behind others, cut off again), Silent (an empty text has packets), Batching, Counting, Timely and Accounting (what a batch adds, counts and loses), Written and Tying (files have what the folder was asked for), Walks (a step of the proofs by hand) |
 #![tactic(auto)]
 
 mod asked;
@@ -30,6 +32,8 @@ mod held;
 mod identity;
 pub mod laws;
 mod losing;
+mod next;
+mod room;
 mod system;
 mod telling;
 mod timed;
@@ -45,6 +49,7 @@ pub use fault::FolderFault;
 pub use folder::Folder;
 pub use identity::Identity;
 pub use losing::{Loss, Lossy};
+pub use room::Room;
 pub use system::SystemFolder;
 pub use telling::Telling;
 pub use timed::TimedFolder;

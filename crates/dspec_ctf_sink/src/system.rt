@@ -18,8 +18,8 @@ use std::{fs, io};
 /// into the folder or in its place is never written to. It needs `/proc`.
 #[derive(Drop)]
 pub struct SystemFolder<'a> {
-    host: &'a HostRuntime,
-    folder: File,
+    pub(crate) host: &'a HostRuntime,
+    pub(crate) folder: File,
     files: Vec<HeldFile<CountedFile>>,
     asked: Asked,
     ghost tied: { ∥ FilesHave files.items asked.writes ∥₁ },
@@ -49,7 +49,7 @@ impl<'a> SystemFolder<'a> {
 }
 
 /// Opens a folder, to hold it. Of anything else, as a pipe, that is a fault, since behind a slash only a folder is opened.
-fn open_folder(rt: &HostRuntime, path: &str) -> Result<File, FolderFault>
+pub(crate) fn open_folder(rt: &HostRuntime, path: &str) -> Result<File, FolderFault>
     ensures { IfErr result IsFolderFault }
 {
     let path = format!(in rt.alloc(); "{path}/")?;
@@ -60,7 +60,7 @@ fn open_folder(rt: &HostRuntime, path: &str) -> Result<File, FolderFault>
 }
 
 /// The path of a file in the folder that is open under this number, wherever that folder is by now.
-fn path_in(alloc: Global, number: RawFd, name: &str) -> Result<String, AllocError>
+pub(crate) fn path_in(alloc: Global, number: RawFd, name: &str) -> Result<String, AllocError>
     ensures { IfOk result (λ path. string_bytes path ≡ path_in number name.now) }
 {
     format!(in alloc; "/proc/self/fd/{number}/{name}")
@@ -100,8 +100,9 @@ fn new_file() -> OpenOptions
 }
 
 /// Makes the file of that path.
-fn make_file(rt: &HostRuntime, path: &str) -> Result<File, FolderFault>
-    ensures { IfErr result IsWriteFault }
+pub(crate) fn make_file(rt: &HostRuntime, path: &str) -> Result<File, FolderFault>
+    ensures write { IfErr result IsWriteFault }
+    ensures folder { IfErr result IsFolderFault }
 {
     match new_file().open(rt, path) {
         Ok(file) => Ok(file),

@@ -4,6 +4,7 @@ ghost use Rattle.dspec_ctf_sink.specs.Writing.{AddsPacket, CountsLost, GetsPacke
 use crate::fault::FolderFault;
 use crate::folder::Folder;
 use crate::losing::{Loss, Lossy, ended_by, miss, records_in, with_loss};
+use crate::next::next_packets;
 use dspec::{Batch, Enablings, Sink};
 use dspec_ctf::{Form, Names, Origin, Stream, metadata_from};
 use std::alloc::Global;
@@ -14,9 +15,10 @@ const MOST_CPUS: usize = 64;
 
 /// A sink that writes a trace as taken: each batch as packets behind those before it in the file of its CPU, by one write. Each packet has 1,024 bytes, so
 /// a write that a kill cuts off leaves whole packets. A batch without records and drops adds nothing, unless its CPU missed something that no packet
-/// tells yet. A batch that can't be written is counted: the next packet of its CPU that is written tells its records, and the drops that it carried, as
-/// missed. What the last batch lost is told by `last_loss`, and what was lost in all by `finish`. It takes memory for the records of one batch, and its
-/// packets, at a time.
+/// tells yet. Tools tell by how much more a packet tells as missed than the one before it, so where a CPU's file tells some for the first time, a packet that
+/// tells none stands in front. A batch that can't be written is counted: the next packet of its CPU that is written tells its records, and the drops that it
+/// carried, as missed. What the last batch lost is told by `last_loss`, and what was lost in all by `finish`. It takes memory for the records of one batch,
+/// and its packets, at a time.
 #[derive(Drop)]
 pub struct TraceFolder<F: Folder> {
     alloc: Global,
@@ -82,7 +84,7 @@ impl<F: Folder> TraceFolder<F> {
         })
     }
 
-    // Adds the packet of a batch.
+    // Adds the packets of a batch.
     fn add(&mut self, schema: &Enablings, batch: &Batch) -> Result<(), FolderFault>
         ensures uuid { self.new.uuid ≡ self.old.uuid }
         ensures added { OnOk result (AddsPacket schema.now self.old batch.now self.new) }
@@ -101,7 +103,8 @@ impl<F: Folder> TraceFolder<F> {
             cpu,
             missed: *missed,
         };
-        let packets = match stream.batch_packets(self.alloc, batch.drops, batch.buffer.bytes()) {
+        let told = self.told[cpu as usize];
+        let packets = match next_packets(self.alloc, &mut stream, told, batch) {
             Ok(packets) => packets,
             Err(fault) => return Err(FolderFault::Packet { cpu, fault }),
         };

@@ -1,6 +1,6 @@
 -- What all batches of a session bring to one CPU's file, where nothing is lost.
 use Rattle.std.proofs.Common.{◌≡◌, ◌≢◌, ◌<◌, ◌≤◌, ◌+◌, ◌^◌, ◌==◌, ℕ, Bool, true, false, if◌then◌else◌, ◌⊎◌, inl, inr, List}
-use Rattle.std.proofs.Common.{[], ◌∷◌, ◌++◌, Some, None, refl, sym, ap, ◌∙◌, subst, arith, length, reverse, All, codes, append_assoc}
+use Rattle.std.proofs.Common.{[], ◌∷◌, ◌++◌, Some, None, refl, sym, ap, ◌∙◌, subst, arith, length, reverse, All, codes, append_assoc, slice_index}
 use Rattle.std.specs.List.{flat_map}
 use Rattle.std.proofs.lemmas.List.{append-nil}
 use Rattle.std.proofs.lemmas.List.Elements.{All-cons, All-nil}
@@ -22,7 +22,7 @@ use Rattle.dspec_ctf.specs.Filled.{filled_packets}
 use Rattle.dspec_ctf.specs.Streams.{Accepts, IsText}
 use Rattle.dspec_ctf_sink.specs.Accounts.{missed_on}
 use Rattle.dspec_ctf_sink.specs.Writes.{FileWrite, brought_to, file_of}
-use Rattle.dspec_ctf_sink.specs.Writing.{AddsPacket, GetsPacket, IsNothing, Tracing, cpu_name}
+use Rattle.dspec_ctf_sink.specs.Writing.{AddsPacket, AreNextOf, GetsPacket, IsNothing, Tracing, cpu_name}
 use Rattle.dspec_ctf_sink.proofs.Written.{brought_elsewhere, brought_whole, file_of_more}
 use Rattle.dspec_trace_reading.specs.AsTaken.{HaveNumbers, drops_carried}
 use Rattle.dspec_trace_reading.proofs.Naming.{names_differ, not_metadata}
@@ -123,6 +123,40 @@ module _ (e : EnabledRows) where
       each = All-cons (Fits new) (total, read) b.packets (omega (arith, b.counted, missed), accepted) b.each;
     }
 
+    -- the same behind a packet of no records, which tells of none missed
+    brings_first : (old mid new : Tracing) (one : Batch) (bs : List Batch) (rs read rest : List Record) (total : ℕ) (was next : List FileWrite)
+        → file_of (cpu_name c) next ≡ file_of (cpu_name c) was ++ (filled_packets false e uuid 0 c [] ++ filled_packets false e uuid total c read) → missed_on mid c ≡ total
+        → total ≡ missed_on old c + one.drops → All (Accepts e) read → rs ≡ read ++ rest → Brought mid new bs rest next → Brought old new (one ∷ bs) rs was
+    brings_first old mid new one bs rs read rest total was next file missed sum accepted same b =
+        let later : List ℕ = flat_map (λ p. filled_packets false e uuid p.0 c p.1) b.packets in
+        let silent : List ℕ = filled_packets false e uuid 0 c [] in
+        let own : List ℕ = filled_packets false e uuid total c read in
+        record {
+          packets = (0, []) ∷ (total, read) ∷ b.packets;
+          writes = b.writes;
+          asked = b.asked;
+          bytes = b.bytes ∙ ap (λ xs. xs ++ later) file ∙ append_assoc (file_of (cpu_name c) was) (silent ++ own) later
+              ∙ ap (λ xs. file_of (cpu_name c) was ++ xs) (append_assoc silent own later);
+          has = ap (λ xs. read ++ xs) b.has ∙ sym same;
+          counted = omega (arith, b.counted, missed, sum);
+          told = ap (λ n. last_from n b.packets) (sym missed) ∙ b.told;
+          each = All-cons (Fits new) (0, []) ((total, read) ∷ b.packets) (omega arith, All-nil (Accepts e))
+              (All-cons (Fits new) (total, read) b.packets (omega (arith, b.counted, missed), accepted) b.each);
+        }
+
+    -- the next packets of its file, of one text
+    brings_next : (old mid new : Tracing) (one : Batch) (bs : List Batch) (rs rest : List Record) (total told : ℕ) (bytes : List ℕ) (was next : List FileWrite)
+        → file_of (cpu_name c) next ≡ file_of (cpu_name c) was ++ bytes → AreNextOf e uuid total c one.buffer.text told bytes → missed_on mid c ≡ total
+        → total ≡ missed_on old c + one.drops → ((read : List Record) → IsText e one.buffer.text read → rs ≡ read ++ rest) → Brought mid new bs rest next
+        → Brought old new (one ∷ bs) rs was
+    brings_next old mid new one bs rs rest total told bytes was next file (inl (first, p)) missed sum same b =
+        brings_first old mid new one bs rs p.are_packets.read rest total was next
+        (file ∙ ap (λ xs. file_of (cpu_name c) was ++ xs) (p.bytes_are ∙ ap (λ xs. filled_packets false e uuid 0 c [] ++ xs) p.are_packets.bytes_are)) missed sum
+        (all_accepted p.are_packets.read 0 one.buffer.text p.are_packets.is_text) (same p.are_packets.read p.are_packets.is_text) b
+    brings_next old mid new one bs rs rest total told bytes was next file (inr (later, p)) missed sum same b =
+        brings old mid new one bs rs p.read rest total was next (file ∙ ap (λ xs. file_of (cpu_name c) was ++ xs) p.bytes_are) missed sum
+        (all_accepted p.read 0 one.buffer.text p.is_text) (same p.read p.is_text) b
+
     after : (old mid new : Tracing) (x : Passed) (xs : List Passed) (was : List FileWrite) (rs : List Record) → old.uuid ≡ uuid → length old.missed ≡ 64 → old.written ≡ Some was
         → x.batch.cpu ≡ x.from
         → ((next : List FileWrite) (more : List Record) → length mid.missed ≡ 64 → mid.written ≡ Some next → Holds (passed_from c xs) more → Brought mid new (passed_from c xs) more next)
@@ -145,14 +179,15 @@ module _ (e : EnabledRows) where
         (more_brought (was ++ w ∷ []) rs (stays_wide e old mid x.batch adds wide) (took old.written mid.written was (cpu_name x.batch.cpu) adds.bytes asked adds.written) holds)
     after old mid new x xs was rs u wide asked own more_brought (inr adds) true is (ps, more, has, sum, holds) =
         let w : FileWrite = record { name = cpu_name x.batch.cpu; bytes = adds.bytes; refused = None } in
-        let p = adds.packet_is.packet_is in
         let here : x.batch.cpu ≡ c = own ∙ eqb-true x.from c is in
-        let bytes : adds.bytes ≡ filled_packets false e uuid adds.total c p.read =
-        p.bytes_are ∙ ap (λ n. filled_packets false e old.uuid adds.total n p.read) here ∙ ap (λ id. filled_packets false e id adds.total c p.read) u in
-        brings old mid new x.batch (passed_from c xs) rs p.read more adds.total was (was ++ w ∷ [])
-        (file_of_more (cpu_name c) was w ∙ ap (λ ys. file_of (cpu_name c) was ++ ys) (brought_whole (cpu_name x.batch.cpu) (cpu_name c) adds.bytes (ap cpu_name here) ∙ bytes))
-        (missed_here e old mid x.batch adds wide c here) (missed_before e old mid x.batch adds wide c here) (all_accepted p.read 0 x.batch.buffer.text p.is_text)
-        (sum ∙ ap (λ ys. ys ++ more) (sym (one_text x.batch ps p.read has p.is_text)))
+        let told : ℕ = slice_index old.told x.batch.cpu in
+        let packets : AreNextOf e uuid adds.total c x.batch.buffer.text told adds.bytes =
+        subst (λ id. AreNextOf e id adds.total c x.batch.buffer.text told adds.bytes) u
+        (subst (λ n. AreNextOf e old.uuid adds.total n x.batch.buffer.text told adds.bytes) here adds.packet_is.packet_is) in
+        brings_next old mid new x.batch (passed_from c xs) rs more adds.total told adds.bytes was (was ++ w ∷ [])
+        (file_of_more (cpu_name c) was w ∙ ap (λ ys. file_of (cpu_name c) was ++ ys) (brought_whole (cpu_name x.batch.cpu) (cpu_name c) adds.bytes (ap cpu_name here))) packets
+        (missed_here e old mid x.batch adds wide c here) (missed_before e old mid x.batch adds wide c here)
+        (λ read text. sum ∙ ap (λ ys. ys ++ more) (sym (one_text x.batch ps read has text)))
         (more_brought (was ++ w ∷ []) more (stays_wide e old mid x.batch adds wide) (took old.written mid.written was (cpu_name x.batch.cpu) adds.bytes asked adds.written) holds)
 
     pub brought : (bs : List Passed) (old new : Tracing) (was : List FileWrite) (rs : List Record) → GotAll (GetsPacket e) old bs new → new.lost ≡ None → old.uuid ≡ uuid

@@ -17,7 +17,7 @@ use Rattle.dspec_ctf.specs.Filled.{filled_packets}
 use Rattle.dspec_ctf.specs.Streams.{Accepts, IsText}
 use Rattle.dspec_ctf_sink.specs.Accounts.{missed_on}
 use Rattle.dspec_ctf_sink.specs.Writes.{FileWrite, brought_to, file_of}
-use Rattle.dspec_ctf_sink.specs.Writing.{AddsPacket, GetsPacket, IsNothing, LosesPacket, Tracing, cpu_name}
+use Rattle.dspec_ctf_sink.specs.Writing.{AddsPacket, AreNextOf, GetsPacket, IsNothing, LosesPacket, Tracing, cpu_name}
 use Rattle.dspec_ctf_sink.proofs.Written.{brought_elsewhere, brought_whole, file_of_more}
 use Rattle.dspec_trace_reading.specs.AsTaken.{AreKept, HaveNumbers, drops_carried, told_on}
 use Rattle.dspec_trace_reading.proofs.Naming.{names_differ, not_metadata}
@@ -116,6 +116,38 @@ module _ (e : EnabledRows) where
       each = All-cons (Told new) (total, read) k.packets (omega (arith, k.counted, missed), all_accepted e read 0 b.buffer.text text) k.each;
     }
 
+    -- the same behind a packet of no records, which tells of none missed
+    keeps_first : (old mid new : Tracing) (b : Batch) (bs : List Batch) (read : List Record) (total : ℕ) (was next : List FileWrite) → IsText e b.buffer.text read
+        → file_of (cpu_name c) next ≡ file_of (cpu_name c) was ++ (filled_packets false e uuid 0 c [] ++ filled_packets false e uuid total c read) → missed_on mid c ≡ total
+        → total ≡ missed_on old c + b.drops → told_on mid c ≡ total → Kept mid new bs next → Kept old new (b ∷ bs) was
+    keeps_first old mid new b bs read total was next text file missed sum told k =
+        let later : List ℕ = flat_map (λ p. filled_packets false e uuid p.0 c p.1) k.packets in
+        let silent : List ℕ = filled_packets false e uuid 0 c [] in
+        let own : List ℕ = filled_packets false e uuid total c read in
+        record {
+          packets = (0, []) ∷ (total, read) ∷ k.packets;
+          lost = k.lost;
+          writes = k.writes;
+          asked = k.asked;
+          bytes = k.bytes ∙ ap (λ xs. xs ++ later) file ∙ append_assoc (file_of (cpu_name c) was) (silent ++ own) later
+              ∙ ap (λ xs. file_of (cpu_name c) was ++ xs) (append_assoc silent own later);
+          are_kept = (read, flat_map (λ p. p.1) k.packets, k.lost, text, k.are_kept, inl (refl, refl));
+          counted = omega (arith, k.counted, missed, sum);
+          told = ap (λ n. last_from n k.packets) (sym told) ∙ k.told;
+          each = All-cons (Told new) (0, []) ((total, read) ∷ k.packets) (omega arith, All-nil (Accepts e))
+              (All-cons (Told new) (total, read) k.packets (omega (arith, k.counted, missed), all_accepted e read 0 b.buffer.text text) k.each);
+        }
+
+    -- the next packets of its file
+    keeps_next : (old mid new : Tracing) (b : Batch) (bs : List Batch) (total before : ℕ) (bytes : List ℕ) (was next : List FileWrite)
+        → AreNextOf e uuid total c b.buffer.text before bytes → file_of (cpu_name c) next ≡ file_of (cpu_name c) was ++ bytes → missed_on mid c ≡ total
+        → total ≡ missed_on old c + b.drops → told_on mid c ≡ total → Kept mid new bs next → Kept old new (b ∷ bs) was
+    keeps_next old mid new b bs total before bytes was next (inl (first, p)) file missed sum told k =
+        keeps_first old mid new b bs p.are_packets.read total was next p.are_packets.is_text
+        (file ∙ ap (λ xs. file_of (cpu_name c) was ++ xs) (p.bytes_are ∙ ap (λ xs. filled_packets false e uuid 0 c [] ++ xs) p.are_packets.bytes_are)) missed sum told k
+    keeps_next old mid new b bs total before bytes was next (inr (later, p)) file missed sum told k =
+        keeps_one old mid new b bs p.read total was next p.is_text (file ∙ ap (λ xs. file_of (cpu_name c) was ++ xs) p.bytes_are) missed sum told k
+
     next_kept : (old mid new : Tracing) (x : Passed) (xs : List Passed) (was : List FileWrite) (rs : List Record) → old.uuid ≡ uuid → length old.missed ≡ 64 → length old.told ≡ 64
         → old.written ≡ Some was → missed_on new c + 1 < 2 ^ 64 → x.batch.cpu ≡ x.from
         → ((next : List FileWrite) (more : List Record) → length mid.missed ≡ 64 → length mid.told ≡ 64 → mid.written ≡ Some next → Holds e (passed_from c xs) more
@@ -140,13 +172,14 @@ module _ (e : EnabledRows) where
         (took old.written mid.written was (cpu_name x.batch.cpu) adds.bytes asked adds.written) holds)
     next_kept old mid new x xs was rs u wide broad asked small own more_kept (inr (some, inl adds)) true is (ps, more, has, sum, holds) =
         let w : FileWrite = record { name = cpu_name x.batch.cpu; bytes = adds.bytes; refused = None } in
-        let p = adds.packet_is.packet_is in
         let here : x.batch.cpu ≡ c = own ∙ eqb-true x.from c is in
         let there : x.batch.cpu < length old.told = omega (arith, low, here, broad) in
-        let bytes : adds.bytes ≡ filled_packets false e uuid adds.total c p.read =
-        p.bytes_are ∙ ap (λ n. filled_packets false e old.uuid adds.total n p.read) here ∙ ap (λ id. filled_packets false e id adds.total c p.read) u in
-        keeps_one old mid new x.batch (passed_from c xs) p.read adds.total was (was ++ w ∷ []) p.is_text
-        (file_of_more (cpu_name c) was w ∙ ap (λ ys. file_of (cpu_name c) was ++ ys) (brought_whole (cpu_name x.batch.cpu) (cpu_name c) adds.bytes (ap cpu_name here) ∙ bytes))
+        let before : ℕ = slice_index old.told x.batch.cpu in
+        let packets : AreNextOf e uuid adds.total c x.batch.buffer.text before adds.bytes =
+        subst (λ id. AreNextOf e id adds.total c x.batch.buffer.text before adds.bytes) u
+        (subst (λ n. AreNextOf e old.uuid adds.total n x.batch.buffer.text before adds.bytes) here adds.packet_is.packet_is) in
+        keeps_next old mid new x.batch (passed_from c xs) adds.total before adds.bytes was (was ++ w ∷ []) packets
+        (file_of_more (cpu_name c) was w ∙ ap (λ ys. file_of (cpu_name c) was ++ ys) (brought_whole (cpu_name x.batch.cpu) (cpu_name c) adds.bytes (ap cpu_name here)))
         (missed_here e old mid x.batch adds wide c here) (missed_before e old mid x.batch adds wide c here)
         (subst (λ n. slice_index mid.told n ≡ adds.total) here (ap (λ (ns : List ℕ). slice_index ns x.batch.cpu) adds.told ∙ get_or-set_same old.told x.batch.cpu adds.total 0 there))
         (more_kept (was ++ w ∷ []) more (stays_wide e old mid x.batch adds wide) (ap length adds.told ∙ length-set old.told x.batch.cpu adds.total ∙ broad)

@@ -113,6 +113,24 @@ fn whole_writes_alone(rt: HostRuntime) -> Result<(), Fail> {
     Ok(())
 }
 
+/// Room is a hidden file of a page for each CPU, which is gone where it was given back; it is kept once at a time, and files are written beside it.
+#[test]
+fn room_is_given_back(rt: HostRuntime) -> Result<(), Fail> {
+    let path = free_path(&rt, "room_is_given_back")?;
+    let mut folder = SystemFolder::new(&rt, path.as_str())?;
+    let hidden = format!(in rt.alloc(); "{path}/.room")?;
+    let room = folder.keep_room(2)?;
+    assert!(rt; fs::metadata(&rt, hidden.as_str())?.len() == 8192);
+    let refused = folder.keep_room(1).err();
+    assert!(rt; refused == Some(FolderFault::Write(THERE)));
+    folder.add(rt.alloc(), "cpu_0", b"bytes")?;
+    room.give_back()?;
+    assert!(rt; fs::metadata(&rt, hidden.as_str()).is_err());
+    assert!(rt; has(&rt, path.as_str(), "cpu_0", "bytes")?);
+    fs::remove_dir_all(&rt, path.as_str())?;
+    Ok(())
+}
+
 /// Each reading of who a process is has a uuid of its own, which isn't zeros.
 #[test]
 fn a_uuid_is_one_trace_s_alone(rt: HostRuntime) -> Result<(), Fail> {

@@ -5,7 +5,7 @@
 //! | `paths`, `handing`, `visits`, `workers` | dspec: two lanes and what a sink gets, paths that are handed on, what the consumer owes the CPUs while they work, workers with a state |
 //! | `serving_on` | dspec: a work that has returned takes no slot from the others |
 //! | `refusals` | dspec: why there is no session, and what is told where records weren't kept |
-//! | `folders`, `timed_folders`, `losses`, `endings` | dspec_ctf_sink in memory: what a session writes, what is lost where a write is refused, what the end tells |
+//! | `folders`, `timed_folders`, `losses`, `endings`, `differences` | dspec_ctf_sink in memory: what a session writes, what is lost where a write is refused, what the end tells, what tools tell as missed |
 //! | `disk` | dspec_ctf_sink on the system's disk |
 //! | `verdicts`, `boards` | dspec_threads |
 //! | `belts`, `barriers` | dspec_threads |
@@ -23,6 +23,8 @@ mod belts;
 mod boards;
 #[cfg(test)]
 mod clocks;
+#[cfg(test)]
+mod differences;
 #[cfg(test)]
 mod disk;
 #[cfg(test)]

@@ -45,7 +45,7 @@ pub(crate) struct Flaky<'a> {
 }
 
 /// The number of eight bytes from a place on; 0 where there are none.
-fn number_at(bytes: &[u8], place: usize) -> u64 {
+pub(crate) fn number_at(bytes: &[u8], place: usize) -> u64 {
     let number = bytes.get(place..);
     match number.and_then(|rest| rest.first_chunk::<8>()) {
         Some(eight) => u64::from_le_bytes(*eight),
@@ -72,7 +72,7 @@ impl<'a> Folder for Flaky<'a> {
 }
 
 /// A batch of records with these stamps.
-fn batch<R: Abort + AllocGlobal>(
+pub(crate) fn batch<R: Abort + AllocGlobal>(
     rt: &R,
     schema: &Enablings,
     cpu: u32,
