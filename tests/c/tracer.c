@@ -9,6 +9,7 @@
 #include <fcntl.h>
 #include <inttypes.h>
 #include <pthread.h>
+#include <semaphore.h>
 #include <setjmp.h>
 #include <signal.h>
 #include <stdatomic.h>
@@ -214,31 +215,33 @@ static void *sleeper(void *unused) {
 
 /* Paths that go over two threads, by turns. */
 static dspec_path passed;
-static atomic_int turn;
+static sem_t there, here;
 
 static void *other_half(void *unused) {
-    while (true) {
-        while (turn != 1)
-            if (!goes_on) return unused;
+    while (sem_wait(&there) == 0 && goes_on) {
         query_in(&passed, 1, 1);
-        turn = 2;
+        sem_post(&here);
     }
+    return unused;
 }
 
 static int mode_sleep(void) {
+    sem_init(&there, 0, 0);
+    sem_init(&here, 0, 0);
     begin();
     run_threads(3, sleeper);
     pthread_create(&threads[3], NULL, other_half, NULL);
     for (uint32_t i = 0; i < 1000; i++) {
         passed = dspec_path_begin(&tracer);
         query_in(&passed, 1, 0);
-        turn = 1;
-        while (turn != 2) {}
+        sem_post(&there);
+        sem_wait(&here);
         if (query_in(&passed, 1, 2) == DSPEC_OK) requests++;
         dspec_path_drop(&passed);
         usleep(500);
     }
     goes_on = false;
+    sem_post(&there);
     pthread_join(threads[3], NULL);
     return end(&tracer);
 }
@@ -272,7 +275,7 @@ static int mode_full(void) {
     begin();
     for (uint64_t i = 0; i < 100000; i++) {
         tick_now(&tracer, i);
-        if (i % 1000 == 0) usleep(2000);
+        if (i % 1000 == 0 || i < 10) usleep(i < 10 ? 15000 : 2000);
     }
     return end(&tracer);
 }
