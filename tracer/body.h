@@ -22,8 +22,11 @@
 typedef struct dspec_tracer_body body;
 typedef struct dspec_tracer_lane lane;
 
-/* Of a lane's state: five bits, and above them how many paths are on it, and 1 more where it is a thread's own. */
-enum { HELD = 1, GONE = 2, SERVE = 4, IDLE = 8, SHARED = 16, USER = 32 };
+/* Of a lane's state: six bits, and above them how many paths are on it, and 1 more where it is a thread's own. WANTED has threads that share a lane hold back, so that the consumer gets
+ * its turn. */
+enum { HELD = 1, GONE = 2, SERVE = 4, IDLE = 8, SHARED = 16, WANTED = 32, USER = 64 };
+/* With one of these a thread doesn't get into a call on its own lane without a closer look. */
+enum { LOOK = HELD | GONE | IDLE | SHARED | WANTED };
 /* Within these bounds the consumer waits for a lane, in microseconds: in a round for none. */
 enum { TAKE_US = 20000, CLOSE_US = 5000000 };
 enum { MAX_OPEN = 64, MAX_CRASHES = 16 };
@@ -40,7 +43,7 @@ typedef struct open_path {
 
 struct dspec_tracer_lane {
     APART uint32_t inside; /* the thread whose lane it is, is in a call; no other writes it */
-    uint32_t number;
+    uint32_t number, slot;
     body *of;
     dspec_cpu cpu;
     uint64_t kept, thrown;
@@ -88,11 +91,11 @@ typedef struct seat {
     uint32_t run; /* of the tracer; another's is stale */
     uint32_t token, thread;
     uint32_t open; /* paths that it began on its lane and hasn't ended */
-    uint32_t hint; /* the lane that it had last */
+    lane *last;    /* the one that it had last */
     bool busy;     /* in the middle of the tracer, where a signal's handler may come */
     bool locked;   /* whether it is in its call by the lane's lock */
     lane *lane;    /* its own, or NULL */
-} seat;
+} __attribute__((aligned(64))) seat;
 
 typedef struct here {
     seat seats[DSPEC_MAX_TRACERS];
@@ -102,8 +105,7 @@ typedef struct here {
 /* A handler may look at it: it stands where the thread's memory is, and is never made at its first use. */
 extern __thread here dspec_here __attribute__((tls_model("initial-exec")));
 
-dspec_status seat_take(body *of, seat **me); /* this thread's, made where it isn't there; else counted: DSPEC_BUSY in a handler, DSPEC_STOPPED where the tracer is down */
-void seat_leave(seat *me);
+dspec_status seat_take(body *of, seat **me); /* makes it where it isn't there; else counted: DSPEC_BUSY in a handler, DSPEC_STOPPED where the tracer is down */
 void threads_begin(void);  /* once a process */
 void threads_in_child(void);
 void stack_on(void);
@@ -111,8 +113,7 @@ void stack_off(void);
 
 /* ---- lane.c: into a call and out of it. ---- */
 
-bool lane_enter(seat *me, lane *on);
-void lane_leave(seat *me, lane *on);
+bool lane_enter_slowly(seat *me, lane *on);
 lane *lane_for_path(body *of, seat *me); /* one more path is on it; NULL where none has room */
 lane *lane_for_record(body *of, seat *me);
 void lane_path_off(seat *me, lane *on, bool own);
@@ -179,6 +180,72 @@ static inline uint32_t state_set(lane *on, uint32_t bits) { return __atomic_fetc
 static inline uint32_t state_clear(lane *on, uint32_t bits) { return __atomic_fetch_and(&on->state, ~bits, __ATOMIC_SEQ_CST); }
 static inline bool state_becomes(lane *on, uint32_t *was, uint32_t is) {
     return __atomic_compare_exchange_n(&on->state, was, is, false, __ATOMIC_SEQ_CST, __ATOMIC_SEQ_CST);
+}
+
+#define LIKELY(IS) __builtin_expect(!!(IS), 1)
+#define RARELY __attribute__((noinline, cold))
+
+/* ---- What each record does: into the tracer, into a call on a lane, out of both. ---- */
+
+/* A commit takes some 3,600 bytes of stack (docs/C.md). */
+enum { STACK_OF_A_CALL = 6144 };
+
+static inline seat *seat_at(uint32_t slot) {
+    seat *me = &dspec_here.seats[slot];
+    __asm__("" : "+r"(me)); /* where it stands is found once a record */
+    return me;
+}
+
+/* A stack that ends here ends before the call, where a crash can still keep the path, and not in the middle of it. */
+static inline void reach_down(void) {
+#if defined(__x86_64__)
+    __asm__ volatile("testb $0, %c0(%%rsp)" : : "i"(-STACK_OF_A_CALL) : "cc");
+#else
+    (void)*(volatile const char *)((const char *)__builtin_frame_address(0) - STACK_OF_A_CALL);
+#endif
+}
+
+/* Whether the thread isn't in the middle of the tracer already, as a handler's may be. */
+static inline bool seat_enter(seat *me) {
+    reach_down();
+    if (!LIKELY(!me->busy)) return false;
+    me->busy = true;
+    __atomic_signal_fence(__ATOMIC_SEQ_CST);
+    return true;
+}
+
+static inline void seat_leave(seat *me) {
+    __atomic_signal_fence(__ATOMIC_SEQ_CST);
+    me->busy = false;
+}
+
+/* Into a call on the thread's own lane, where nobody wants it: whether it is in. */
+static inline bool lane_enter_alone(lane *on) {
+    __atomic_store_n(&on->inside, 1, __ATOMIC_RELAXED);
+    __atomic_signal_fence(__ATOMIC_SEQ_CST);
+    if (LIKELY(!(__atomic_load_n(&on->state, __ATOMIC_ACQUIRE) & LOOK))) return true;
+    __atomic_store_n(&on->inside, 0, __ATOMIC_RELEASE);
+    return false;
+}
+
+static inline void lane_leave_alone(lane *on) { __atomic_store_n(&on->inside, 0, __ATOMIC_RELEASE); }
+
+static inline bool lane_enter(seat *me, lane *on) {
+    me->locked = false;
+    return (LIKELY(on == me->lane) && lane_enter_alone(on)) || lane_enter_slowly(me, on);
+}
+
+/* Into a call on a lane that nobody is on, by its lock: whether it is in. */
+static inline bool lane_enter_free(lane *on) {
+    uint32_t state = LOAD(&on->state);
+    return LIKELY((state & ~(uint32_t)SERVE) == 0) && state_becomes(on, &state, state | HELD);
+}
+
+static inline void lane_leave_locked(lane *on) { state_clear(on, HELD); }
+
+static inline void lane_leave(seat *me, lane *on) {
+    if (me->locked) lane_leave_locked(on);
+    else lane_leave_alone(on);
 }
 
 #endif

@@ -108,9 +108,9 @@ static uint64_t lanes_with(const body *of, uint32_t token) {
     return found;
 }
 
-/* Keeps and writes the open paths of a thread, or with 0 of all. stuck: how many lanes it couldn't have. */
+/* Keeps and writes the open paths of a thread, or with 0 of all. stuck: how many lanes it couldn't have, in half of the time that a handler waits. */
 static uint32_t save_paths(body *of, uint32_t token, uint32_t *stuck) {
-    uint64_t which = lanes_with(of, token), got = lanes_take(of, which, 0, TAKE_US);
+    uint64_t which = lanes_with(of, token), got = lanes_take(of, which, 0, (uint64_t)of->options.crash_ms * 500);
     uint32_t kept = 0;
     for (uint32_t i = 0; i < of->count; i++)
         if (got >> i & 1) kept += keep_paths(of, &of->lanes[i], token);

@@ -50,7 +50,7 @@ static bool is_left(const lane *on) {
 static bool enter_alone(lane *on, uint32_t state) {
     if (state & IDLE) state_clear(on, IDLE); /* the consumer has to look again */
     __atomic_exchange_n(&on->inside, 1, __ATOMIC_SEQ_CST);
-    if (!(state_of(on) & (HELD | GONE | IDLE | SHARED))) return true;
+    if (!(state_of(on) & LOOK)) return true;
     __atomic_store_n(&on->inside, 0, __ATOMIC_RELEASE);
     return false;
 }
@@ -64,14 +64,14 @@ static bool enter_locked(lane *on, uint32_t state) {
     return false;
 }
 
-static bool enter_slowly(seat *me, lane *on) {
+bool lane_enter_slowly(seat *me, lane *on) {
     for (unsigned tries = 0; tries < MOST_WAITS; tries++) {
         uint32_t state = state_of(on);
         if (state & GONE) {
             ADD(&on->of->late, 1);
             return false;
         }
-        if (state & HELD) {
+        if (state & (HELD | WANTED)) {
             wait_a_little(tries);
             continue;
         }
@@ -82,34 +82,23 @@ static bool enter_slowly(seat *me, lane *on) {
     return false;
 }
 
-bool lane_enter(seat *me, lane *on) {
-    if (on == me->lane) {
-        me->locked = false;
-        __atomic_store_n(&on->inside, 1, __ATOMIC_RELAXED);
-        __atomic_signal_fence(__ATOMIC_SEQ_CST);
-        if (!(__atomic_load_n(&on->state, __ATOMIC_ACQUIRE) & (HELD | GONE | IDLE | SHARED))) return true;
-        __atomic_store_n(&on->inside, 0, __ATOMIC_RELEASE);
-    }
-    return enter_slowly(me, on);
-}
-
-void lane_leave(seat *me, lane *on) {
-    if (me->locked) state_clear(on, HELD);
-    else __atomic_store_n(&on->inside, 0, __ATOMIC_RELEASE);
-}
-
 /* ---- Which lane. ---- */
+
+/* The lane so many behind the one that the thread had last. */
+static lane *lane_behind(body *of, const seat *me, uint32_t many) {
+    uint32_t at = me->last->number + many;
+    return &of->lanes[at < of->count ? at : at - of->count];
+}
 
 /* Makes a lane that nobody is on the thread's own, the one that it had last before others. users: its own claim, and that of a path where it is for one. */
 static lane *claim(body *of, seat *me, uint32_t users) {
     for (uint32_t i = 0; i < of->count; i++) {
-        uint32_t at = me->hint + i < of->count ? me->hint + i : me->hint + i - of->count;
-        lane *on = &of->lanes[at];
+        lane *on = lane_behind(of, me, i);
         uint32_t state = LOAD(&on->state);
         while (state < USER && !(state & GONE)) {
             uint32_t is = (of->locked ? state : state & ~(uint32_t)SHARED) + users * USER;
             if (!state_becomes(on, &state, is)) continue;
-            me->hint = at;
+            me->last = on;
             me->lane = on;
             return on;
         }
@@ -150,13 +139,12 @@ lane *lane_for_record(body *of, seat *me) {
     lane *on = me->lane;
     if (on != NULL || (of->by_thread && (on = claim(of, me, 1)) != NULL)) return on;
     for (uint32_t i = 0; i < of->count; i++) {
-        uint32_t at = me->hint + i < of->count ? me->hint + i : me->hint + i - of->count;
-        uint32_t state = LOAD(&of->lanes[at].state);
-        if (state >= USER || state & HELD) continue;
-        me->hint = at;
-        return &of->lanes[at];
+        uint32_t state;
+        on = lane_behind(of, me, i);
+        state = LOAD(&on->state);
+        if (state < USER && !(state & (HELD | WANTED))) return me->last = on;
     }
-    return &of->lanes[me->hint];
+    return me->last;
 }
 
 /* ---- The consumer. ---- */
@@ -184,17 +172,25 @@ static uint64_t left_of(body *of, uint64_t held, uint32_t bits, uint64_t until) 
     return left;
 }
 
+/* Tries to have the lock of these lanes: which ones it has. */
+static uint64_t hold(body *of, uint64_t which, uint32_t bits) {
+    uint64_t held = 0;
+    for (uint32_t i = 0; i < of->count; i++)
+        if (which >> i & 1 && !(state_set(&of->lanes[i], HELD | WANTED | bits) & HELD)) held |= UINT64_C(1) << i;
+    return held;
+}
+
 uint64_t lanes_take(body *of, uint64_t which, uint32_t bits, uint64_t wait_us) {
     const uint64_t until = wait_us == 0 ? 0 : micros() + wait_us;
     uint64_t got = 0;
-    for (unsigned tries = 0;; tries++) {
-        uint64_t held = 0;
-        for (uint32_t i = 0; i < of->count; i++)
-            if ((which & ~got) >> i & 1 && !(state_set(&of->lanes[i], HELD | bits) & HELD)) held |= UINT64_C(1) << i;
+    for (unsigned tries = 0; got != which; tries++) {
+        uint64_t held = hold(of, which & ~got, bits);
         if (held != 0) got |= left_of(of, held, bits, until);
         if (got == which || micros() >= until) break;
         wait_a_little(tries);
     }
+    for (uint32_t i = 0; i < of->count; i++)
+        if (which >> i & 1) state_clear(&of->lanes[i], WANTED);
     return got;
 }
 

@@ -11,14 +11,21 @@ uint64_t dspec_tracer_now(void) {
 
 static body *body_of(const dspec_tracer *tracer) { return __atomic_load_n(&tracer->body, __ATOMIC_ACQUIRE); }
 
-static uint32_t epid_in(const body *of, const dspec_event *event) { return LOAD(&event->epids[of->slot]); }
+/* A path is over with a token that no thread has, so that its next call takes a closer look. */
+static void is_over(dspec_path *path) {
+    path->over = true;
+    path->token = UINT32_MAX;
+}
 
-/* What the consumer asked for, where this thread comes by: so it never waits for the consumer. */
-static void serve_if_asked(lane *on) {
+RARELY static void serve(lane *on) {
     bool is_empty;
-    if (!(LOAD(&on->state) & SERVE)) return;
     state_clear(on, SERVE);
     lane_serve(on, &is_empty);
+}
+
+/* What the consumer asked for, where this thread comes by: so it never waits for the consumer. */
+static inline void serve_if_asked(lane *on) {
+    if (!LIKELY(!(LOAD(&on->state) & SERVE))) serve(on);
 }
 
 /* Each 64th that finds no room wakes the consumer, whose round makes some. */
@@ -68,7 +75,7 @@ static dspec_status begin(body *of, seat *me, dspec_path *path) {
         }
         lane_path_off(me, on, own);
     }
-    path->over = true;
+    is_over(path);
     if (!LOAD(&of->up)) return DSPEC_STOPPED;
     ADD(&of->no_slot, 1);
     wants_room(of);
@@ -80,61 +87,103 @@ static dspec_status adopt(seat *me, dspec_path *path) {
     lane *on = path->lane;
     open_path *one = &on->open[path->place];
     if (!lane_enter(me, on)) return DSPEC_STOPPED;
-    path->over = one->id != path->id;
-    if (!path->over) STORE(&one->token, me->token);
+    bool open = one->id == path->id;
+    if (open) STORE(&one->token, me->token);
     lane_leave(me, on);
     path->token = me->token;
-    return path->over ? DSPEC_VOID : DSPEC_OK;
+    if (open) return DSPEC_OK;
+    is_over(path);
+    return DSPEC_VOID;
 }
 
-/* Has the path open on this thread, whose seat is taken. */
-static dspec_status ready(body *of, seat *me, dspec_path *path) {
-    if (path->lane == NULL) return begin(of, me, path);
-    return path->token == me->token ? DSPEC_OK : adopt(me, path);
-}
-
-/* A record into a path that is open on this thread. */
-static dspec_status offer(seat *me, dspec_path *path, const dspec_event *event, uint32_t signature, const uint64_t *values, size_t n) {
-    lane *on = path->lane;
+/* Has the path open on this thread, and the thread in the tracer. */
+static dspec_status ready(dspec_path *path, seat **me) {
+    body *of = path->lane != NULL ? path->lane->of : body_of(path->tracer);
     dspec_status status;
-    if (!lane_enter(me, on)) return DSPEC_STOPPED;
-    status = dspec_fire_in(&on->cpu, path->id, signature, epid_in(on->of, event), dspec_tracer_now(), values, n);
-    lane_leave(me, on);
+    if (path->over || of == NULL) return path->lane != NULL ? DSPEC_VOID : DSPEC_UNAVAILABLE;
+    if ((status = seat_take(of, me)) != DSPEC_OK) return status;
+    if (path->lane == NULL) status = begin(of, *me, path);
+    else if (path->token != (*me)->token) status = adopt(*me, path);
+    if (status != DSPEC_OK) seat_leave(*me);
     return status;
 }
 
-dspec_status dspec_path_fire(dspec_path *path, const dspec_event *event, uint32_t signature, const uint64_t *values, size_t n) {
-    body *of = path->lane != NULL ? path->lane->of : body_of(path->tracer);
+RARELY static dspec_status fire_slowly(dspec_path *path, const dspec_event *event, uint32_t signature, const uint64_t *values, size_t n) {
     seat *me;
-    dspec_status status;
-    if (path->over || of == NULL) return path->lane != NULL ? DSPEC_VOID : DSPEC_UNAVAILABLE;
-    if ((status = seat_take(of, &me)) != DSPEC_OK) return status;
-    status = ready(of, me, path);
-    if (status == DSPEC_OK) status = offer(me, path, event, signature, values, n);
+    dspec_status status = ready(path, &me);
+    if (status != DSPEC_OK) return status;
+    lane *on = path->lane;
+    status = DSPEC_STOPPED;
+    if (lane_enter(me, on)) {
+        status = dspec_fire_in(&on->cpu, path->id, signature, LOAD(&event->epids[on->slot]), dspec_tracer_now(), values, n);
+        lane_leave(me, on);
+    }
     seat_leave(me);
     return status;
 }
 
+/* A path that is open on its thread's own lane is what takes no closer look. */
+dspec_status dspec_path_fire(dspec_path *path, const dspec_event *event, uint32_t signature, const uint64_t *values, size_t n) {
+    lane *on = path->lane;
+    if (LIKELY(on != NULL)) {
+        seat *me = seat_at(on->slot);
+        if (LIKELY(path->token == me->token && on == me->lane) && seat_enter(me)) {
+            if (LIKELY(lane_enter_alone(on))) {
+                dspec_status status = dspec_fire_in(&on->cpu, path->id, signature, LOAD(&event->epids[on->slot]), dspec_tracer_now(), values, n);
+                lane_leave_alone(on);
+                seat_leave(me);
+                return status;
+            }
+            seat_leave(me);
+        }
+    }
+    return fire_slowly(path, event, signature, values, n);
+}
+
 /* A record that is in no path. */
-static dspec_status record(body *of, seat *me, const dspec_event *event, uint32_t signature, const uint64_t *values, size_t n) {
+RARELY static dspec_status record_slowly(body *of, const dspec_event *event, uint32_t signature, const uint64_t *values, size_t n) {
+    seat *me;
+    dspec_status status = seat_take(of, &me);
+    if (status != DSPEC_OK) return status;
     lane *on = lane_for_record(of, me);
-    dspec_status status;
-    if (!lane_enter(me, on)) return DSPEC_STOPPED;
-    status = dspec_fire(&on->cpu, signature, epid_in(of, event), dspec_tracer_now(), values, n);
-    serve_if_asked(on);
-    lane_leave(me, on);
-    if (status == DSPEC_DROPPED) wants_room(of);
+    status = DSPEC_STOPPED;
+    if (lane_enter(me, on)) {
+        status = dspec_fire(&on->cpu, signature, LOAD(&event->epids[on->slot]), dspec_tracer_now(), values, n);
+        serve_if_asked(on);
+        lane_leave(me, on);
+    }
+    seat_leave(me);
     return status;
+}
+
+/* Into a call for a record that is in no path: the thread's own lane, or the one that it had last, where nobody is on that. */
+static inline bool enter_for_record(seat *me, lane *on) { return LIKELY(on == me->lane) ? lane_enter_alone(on) : me->lane == NULL && lane_enter_free(on); }
+
+static inline void leave_record(seat *me, lane *on) {
+    if (on == me->lane) lane_leave_alone(on);
+    else lane_leave_locked(on);
+    seat_leave(me);
+}
+
+static inline dspec_status record(body *of, const dspec_event *event, uint32_t signature, const uint64_t *values, size_t n) {
+    seat *me = seat_at(of->slot);
+    if (LIKELY(me->run == of->run) && seat_enter(me)) {
+        lane *on = me->last;
+        if (LIKELY(enter_for_record(me, on))) {
+            dspec_status status = dspec_fire(&on->cpu, signature, LOAD(&event->epids[on->slot]), dspec_tracer_now(), values, n);
+            serve_if_asked(on);
+            leave_record(me, on);
+            return status;
+        }
+        seat_leave(me);
+    }
+    return record_slowly(of, event, signature, values, n);
 }
 
 dspec_status dspec_tracer_fire(dspec_tracer *tracer, const dspec_event *event, uint32_t signature, const uint64_t *values, size_t n) {
     body *of = body_of(tracer);
-    seat *me;
-    dspec_status status;
-    if (of == NULL) return DSPEC_UNAVAILABLE;
-    if ((status = seat_take(of, &me)) != DSPEC_OK) return status;
-    status = record(of, me, event, signature, values, n);
-    seat_leave(me);
+    dspec_status status = LIKELY(of != NULL) ? record(of, event, signature, values, n) : DSPEC_UNAVAILABLE;
+    if (!LIKELY(status != DSPEC_DROPPED)) wants_room(of);
     return status;
 }
 
@@ -155,7 +204,7 @@ static bool end(seat *me, dspec_path *path, bool keep) {
     lane *on = path->lane;
     open_path *one = &on->open[path->place];
     bool done;
-    path->over = true;
+    is_over(path);
     if (!lane_enter(me, on)) return false;
     done = decide(on, one, keep);
     STORE(&one->id, 0);
@@ -167,11 +216,10 @@ static bool end(seat *me, dspec_path *path, bool keep) {
 }
 
 static bool ends(dspec_path *path, bool keep) {
-    body *of = path->lane->of;
     seat *me;
     bool done;
-    if (path->over || seat_take(of, &me) != DSPEC_OK) return false;
-    done = ready(of, me, path) == DSPEC_OK && end(me, path, keep);
+    if (ready(path, &me) != DSPEC_OK) return false;
+    done = end(me, path, keep);
     seat_leave(me);
     return done;
 }
@@ -180,7 +228,7 @@ bool dspec_path_keep(dspec_path *path) { return path->lane != NULL && ends(path,
 
 bool dspec_path_drop(dspec_path *path) {
     if (path->lane != NULL) return ends(path, false);
-    path->over = true;
+    is_over(path);
     return true;
 }
 

@@ -186,6 +186,7 @@ static bool start(dspec_tracer *tracer, const char *folder, const dspec_tracer_o
     of = body_new(&all, events_of(events));
     if (of == NULL) return fail(tracer, "the tracer", dspec_status_text(DSPEC_NO_MEMORY));
     of->slot = slot;
+    for (uint32_t i = 0; i <= of->count; i++) of->lanes[i].slot = slot;
     of->run = ++runs;
     of->up = 1;
     if (!make(tracer, of, folder, events)) {

@@ -5,8 +5,7 @@
 #include <sys/syscall.h>
 #include <unistd.h>
 
-/* A commit takes some 3,600 bytes of stack (docs/C.md). */
-enum { STACK_SIZE = 65536, GUARD_SIZE = 4096, STACK_OF_A_CALL = 6144 };
+enum { STACK_SIZE = 65536, GUARD_SIZE = 4096 };
 
 __thread here dspec_here __attribute__((tls_model("initial-exec")));
 
@@ -66,7 +65,7 @@ static void attach(body *of, seat *me) {
     memset(me, 0, sizeof *me);
     me->token = __atomic_add_fetch(&tokens, 1, __ATOMIC_RELAXED);
     me->thread = (uint32_t)syscall(SYS_gettid);
-    me->hint = me->token % of->count;
+    me->last = &of->lanes[me->token % of->count];
     if (!of->options.no_crash) stack_on();
     if (has_key) pthread_setspecific(key, &dspec_here);
     ADD(&of->threads, 1);
@@ -75,27 +74,15 @@ static void attach(body *of, seat *me) {
 }
 
 dspec_status seat_take(body *of, seat **me) {
-    seat *mine = &dspec_here.seats[of->slot];
-    /* A stack that ends here ends before the call, where a crash can still keep the path, and not in the middle of it. */
-    (void)*(volatile const char *)((const char *)__builtin_frame_address(0) - STACK_OF_A_CALL);
-    if (mine->run != of->run) {
+    *me = seat_at(of->slot);
+    if ((*me)->run != of->run) {
         if (!LOAD(&of->up)) {
             ADD(&of->late, 1);
             return DSPEC_STOPPED;
         }
-        attach(of, mine);
+        attach(of, *me);
     }
-    if (mine->busy) {
-        ADD(&of->nested, 1);
-        return DSPEC_BUSY;
-    }
-    mine->busy = true;
-    __atomic_signal_fence(__ATOMIC_SEQ_CST);
-    *me = mine;
-    return DSPEC_OK;
-}
-
-void seat_leave(seat *me) {
-    __atomic_signal_fence(__ATOMIC_SEQ_CST);
-    me->busy = false;
+    if (seat_enter(*me)) return DSPEC_OK;
+    ADD(&of->nested, 1);
+    return DSPEC_BUSY;
 }
