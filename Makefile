@@ -120,7 +120,7 @@ lib:
 c-check: lib
 	@sh tests/c/run
 
-# The archive, the headers, a pkg-config file and a manual page to PREFIX, behind DESTDIR; with SHARED=1 the shared object too, with
+# The archive, the headers, a pkg-config file and manual pages to PREFIX, behind DESTDIR; with SHARED=1 the shared object too, with
 # PROGRAMS=1 specplay and specview; all proved, or with TRY=1 by trial builds.
 install: lib
 	@[ "$(PROGRAMS)" != 1 ] || TRY="$(TRY)" sh tools/c_lib programs

@@ -89,6 +89,13 @@ private:
     }
 };
 
+/* What numbers of a type mean, as a trace's metadata says it. */
+template <field T> constexpr std::uint8_t kind() noexcept {
+    if constexpr (std::floating_point<T>) return DSPEC_KIND_FLOAT;
+    else if constexpr (std::integral<T> && !std::same_as<T, bool>) return std::is_signed_v<T> ? DSPEC_KIND_SIGNED : DSPEC_KIND_UNSIGNED;
+    else return DSPEC_KIND_UNSIGNED;
+}
+
 /* Owns a handle of one kind. */
 template <typename Handle> class owned {
     Handle handle_ = DSPEC_EMPTY;
@@ -472,16 +479,10 @@ public:
 class names {
     dspec_names names_{};
 
-    template <field T> static constexpr std::uint8_t kind() noexcept {
-        if constexpr (std::floating_point<T>) return DSPEC_KIND_FLOAT;
-        else if constexpr (std::integral<T> && !std::same_as<T, bool>) return std::is_signed_v<T> ? DSPEC_KIND_SIGNED : DSPEC_KIND_UNSIGNED;
-        else return DSPEC_KIND_UNSIGNED;
-    }
-
 public:
     /* Adds the next probe's, and as many fields' as it has. */
     template <field... Fields> names &add(probe<Fields...>, const char *event, std::initializer_list<const char *> fields) noexcept {
-        static constexpr std::array<std::uint8_t, sizeof...(Fields) + 1> kinds{kind<Fields>()..., 0};
+        static constexpr std::array<std::uint8_t, sizeof...(Fields) + 1> kinds{detail::kind<Fields>()..., 0};
         std::size_t at = 0;
         dspec_names_event(&names_, event);
         for (const char *field : fields) dspec_names_field(&names_, field, at < sizeof...(Fields) ? kinds[at++] : kinds.back());

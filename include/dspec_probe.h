@@ -89,6 +89,11 @@ static inline void dspec_bool_of(void *value, const uint64_t *bits, size_t width
 #define DSPEC_PROBE_ASSERT_(AT, TYPE, NAME) \
     static_assert(sizeof(TYPE) == 1 || sizeof(TYPE) == 2 || sizeof(TYPE) == 4 || sizeof(TYPE) == 8, "a field has 1, 2, 4 or 8 bytes");
 
+/* What a header over this one declares of each probe; dspec_tracer.h does. */
+#ifndef DSPEC_PROBE_MORE_
+#define DSPEC_PROBE_MORE_(PROBE, ...)
+#endif
+
 #define DSPEC_PROBE(PROBE, ...)                                                                                                                          \
     typedef struct PROBE##_probe {                                                                                                                       \
         uint32_t epid, fields;                                                                                                                           \
@@ -137,6 +142,7 @@ static inline void dspec_bool_of(void *value, const uint64_t *bits, size_t width
         dspec_names_event(dspec_names_, #PROBE);                                                                                                         \
         DSPEC_PROBE_EACH_(DSPEC_PROBE_KIND_, __VA_ARGS__)                                                                                                \
     }                                                                                                                                                    \
+    DSPEC_PROBE_MORE_(PROBE, __VA_ARGS__)                                                                                                                \
     static_assert(sizeof(PROBE##_probe) == 8, "a probe is its EPID and its fields' widths")
 
 #endif

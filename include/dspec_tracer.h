@@ -1,0 +1,259 @@
+/* dspec_tracer.h: a tracer in a box, for C11 and C++17 on Linux: lanes for any number of threads, a consumer's thread, a trace in a folder, and the paths of
+ * a thread that crashes. C++ has dspec_tracer.hpp over it. The calls that it makes of dspec.h are proved; what is told here was tested, and isn't proved.
+ *
+ *     DSPEC_PROBE(query, uint64_t, request, uint32_t, micros);      as of dspec_probe.h, in a header too: one probe for all files of a program
+ *
+ *     dspec_tracer_start(&tracer, "folder", NULL, DSPEC_PROBES(query))
+ *     dspec_path path = dspec_path_begin(&tracer);                  on any thread
+ *     query_in(&path, request, micros);
+ *     failed ? dspec_path_keep(&path) : dspec_path_drop(&path);
+ *     query_now(&tracer, request, micros);                          a record that is kept whatever comes
+ *     dspec_tracer_stop(&tracer, &report)
+ *
+ * THREADS. Any number, and none says that it begins or ends. A lane is a session of one CPU; a path takes a free one, and where none is free it shares one by
+ * the lane's lock. A path is in one call at a time and may go to another thread between two; one whose thread ends before another has recorded to it is thrown away.
+ * A thread that records waits only for another that is in a call on the same lane, and for a second at the most.
+ *
+ * CRASHES. SIGSEGV, SIGBUS, SIGFPE, SIGILL and SIGABRT of a thread of this process: its open paths are kept and written, with an event `dspec_crash`, and then what
+ * would have come of the signal comes. The handler makes no call of the library; the consumer's thread does, and the handler waits for it, crash_ms at the most. A stack that overflows is seen
+ * too, on a stack for handlers that each thread gets with its first record. A thread that crashes in the middle of a call loses that lane's open paths. A signal of these that another
+ * process sends keeps all open paths. SIGTERM, SIGINT and SIGHUP, where nobody handles them, and exit stop the tracer, and the signal ends the process then. SIGKILL, _exit and
+ * quick_exit lose what wasn't written yet: what the last period_ms brought, and all open paths. A handler that the program installs later has to call the one that it found.
+ * A signal's handler may record; where it comes in the middle of a record of the same thread, its own is refused and counted.
+ *
+ * FORK. The child's tracer is down, and it leaves the folder alone; it may start another.
+ *
+ * WHAT ISN'T HERE. A commit that waits for room instead of losing its records; memory that outlives the process; the last records of a path that has too many.
+ */
+#ifndef DSPEC_TRACER_H
+#define DSPEC_TRACER_H
+
+#include "dspec.h"
+
+#ifndef __cplusplus
+#include "dspec_probe.h"
+#endif
+
+#ifdef __cplusplus
+extern "C" {
+#endif
+
+/* The most lanes of a tracer, and the most tracers that are up in a process at a time. */
+#define DSPEC_MAX_LANES 63u
+#define DSPEC_MAX_TRACERS 8u
+
+/* Zeros are the defaults. */
+typedef struct dspec_tracer_options {
+    uint32_t lanes;      /* 16; 1 to DSPEC_MAX_LANES */
+    uint32_t paths;      /* 32: how many are open on a lane at a time; 1 to 63 */
+    uint32_t bufsize;    /* 65536: bytes of a principal buffer, of which each lane has two */
+    uint32_t specsize;   /* 4096: bytes of a path, not above bufsize; each lane has `paths` times so many */
+    uint32_t period_ms;  /* 10: the consumer's sleep between two rounds */
+    uint32_t crash_ms;   /* 500: how long a crash waits until its paths are written */
+    bool by_thread;      /* a lane is a thread's until that ends; else a path's until that is decided */
+    bool no_crash;       /* SIGSEGV and its like are left alone, and there is no event `dspec_crash` */
+    bool no_term;        /* SIGTERM and its like are left alone */
+    bool keep_all;       /* a crash keeps the open paths of all threads */
+    bool keep_open;      /* stop, exit and SIGTERM keep what is undecided; else it is thrown away */
+    bool no_membarrier;  /* each call takes its lane by an exchange, as where the system has no membarrier(2): some nanoseconds more */
+} dspec_tracer_options;
+
+/* What came of all lanes. */
+typedef struct dspec_tracer_report {
+    uint64_t accepted, dropped, specdropped, lost, discarded, void_, refused; /* records, as of dspec_report */
+    uint64_t kept, thrown;      /* paths that were decided so */
+    uint64_t undecided;         /* paths that the stop decided */
+    uint64_t crash_paths;       /* paths that crashes kept */
+    uint64_t no_slot;           /* paths for which no lane had a slot; their records were in no count above */
+    uint64_t nested;            /* calls of a signal's handler in the middle of the tracer, refused */
+    uint64_t late;              /* calls behind the stop, refused */
+    uint64_t waited;            /* calls that gave up waiting for a lane */
+    uint64_t threads;           /* that recorded */
+    uint64_t stuck_lanes;       /* whose thread was in a call for longer than the stop waited, or crashed in one: what they had isn't written */
+    uint64_t not_written;       /* records that the folder misses */
+    int code;                   /* the errno of the first loss, or 0 */
+    char why[128];              /* the first loss in words, or empty */
+} dspec_tracer_report;
+
+/* All zeros until it is started; it stays where it is, and outlives each thread that records, as a static one does. Nobody writes to it. */
+typedef struct dspec_tracer {
+    struct dspec_tracer_body *body;
+    char why[256]; /* why the last start answered false */
+} dspec_tracer;
+
+/* A path. Nothing is taken before its first record: one without any costs nothing. Nobody writes to the fields. */
+typedef struct dspec_path {
+    dspec_tracer *tracer;
+    struct dspec_tracer_lane *lane; /* NULL until the first record */
+    uint64_t id;                    /* its speculation */
+    uint32_t token;                 /* of the thread that recorded last */
+    uint16_t place;                 /* among the open paths of its lane */
+    bool over;                      /* decided, or refused */
+} dspec_path;
+
+/* An event of a program, by the EPID that it has in each tracer. */
+typedef struct dspec_event {
+    uint32_t epids[DSPEC_MAX_TRACERS];
+} dspec_event;
+
+/* What a tracer wants of an event: its name, and of its n fields their names, widths in bytes and kinds (dspec_names.h). */
+typedef struct dspec_enabling {
+    dspec_event *event;
+    const char *name;
+    const char *const *fields;
+    const uint8_t *widths;
+    const uint8_t *kinds;
+    size_t n;
+} dspec_enabling;
+
+/* Starts a tracer into a folder, which is made where it isn't there and may have no trace yet. options may be NULL. events ends with NULL: at most 64, and 63 beside
+ * `dspec_crash`. An event or a field that has a word which the trace's metadata keeps for itself (dspec_names.h) gets an underscore in front. Takes memory and makes a thread.
+ * Whether it is up; else tracer->why says why not, and all is as it was, but for a folder that was made. */
+bool dspec_tracer_start(dspec_tracer *tracer, const char *folder, const dspec_tracer_options *options, const dspec_enabling *const *events) DSPEC_NOEXCEPT;
+
+/* Stops a tracer beside whatever its threads do, writes all, and says what came of it; report may be NULL. A second time the same. A tracer is started once: it
+ * starts again only behind dspec_tracer_drop.
+ * Whether all was written that was accepted, and each lane came home; false of a tracer that is another process's or was never started. */
+bool dspec_tracer_stop(dspec_tracer *tracer, dspec_tracer_report *report) DSPEC_NOEXCEPT;
+
+/* Stops a tracer, and gives back what stays of it so that late calls find it down: no thread makes a call with it any more, nor with a path of it. */
+void dspec_tracer_drop(dspec_tracer *tracer) DSPEC_NOEXCEPT;
+
+/* Has what was kept until now written into the folder, and waits for it, timeout_ms at the most: whether it is there. */
+bool dspec_tracer_flush(dspec_tracer *tracer, uint32_t timeout_ms) DSPEC_NOEXCEPT;
+
+/* A path begins. */
+DSPEC_INLINE dspec_path dspec_path_begin(dspec_tracer *tracer) DSPEC_NOEXCEPT {
+    dspec_path path = { tracer, NULL, 0, 0, 0, false };
+    return path;
+}
+
+/* The end of a path. Keep answers whether its records are on their way to the folder: false where there was no slot, no room or none at all, and behind a stop. Drop answers
+ * whether none of them is. */
+bool dspec_path_keep(dspec_path *path) DSPEC_NOEXCEPT;
+bool dspec_path_drop(dspec_path *path) DSPEC_NOEXCEPT;
+
+/* What query_in and query_now call: a record of an event whose fields have these widths, four bits each, the first lowest, and whose text is these n words (dspec_put), with the
+ * time as its stamp. As dspec_put_in and dspec_put. DSPEC_UNAVAILABLE: there is no slot, or no lane. DSPEC_STOPPED: the tracer is down. DSPEC_BUSY: in a signal's handler, in the middle of another call. DSPEC_VOID: the path is
+ * decided. */
+dspec_status dspec_path_put(dspec_path *path, const dspec_event *event, uint32_t fields, const uint64_t *words, size_t n) DSPEC_NOEXCEPT;
+dspec_status dspec_tracer_put(dspec_tracer *tracer, const dspec_event *event, uint32_t fields, const uint64_t *words, size_t n) DSPEC_NOEXCEPT;
+
+/* The stamps' clock: nanoseconds of the system's monotonic one. */
+uint64_t dspec_tracer_now(void) DSPEC_NOEXCEPT;
+
+#ifdef __cplusplus
+} /* extern "C" */
+#else
+
+#define DSPEC_PROBE_TEXT_(AT, TYPE, NAME) #NAME,
+#define DSPEC_PROBE_KINDS_(AT, TYPE, NAME) DSPEC_KIND_OF(TYPE),
+
+/* What DSPEC_PROBE declares beside the rest, where this header stands before it: the event, which is one for all files, and the two functions. */
+#undef DSPEC_PROBE_MORE_
+#define DSPEC_PROBE_MORE_(PROBE, ...)                                                                                                                  \
+    __attribute__((weak)) dspec_event dspec_event_of_##PROBE;                                                                                          \
+    static const char *const dspec_fields_of_##PROBE[] = { DSPEC_PROBE_EACH_(DSPEC_PROBE_TEXT_, __VA_ARGS__) };                                        \
+    static const uint8_t dspec_widths_of_##PROBE[] = { DSPEC_PROBE_EACH_(DSPEC_PROBE_WIDTH_, __VA_ARGS__) };                                           \
+    static const uint8_t dspec_kinds_of_##PROBE[] = { DSPEC_PROBE_EACH_(DSPEC_PROBE_KINDS_, __VA_ARGS__) };                                            \
+    __attribute__((unused)) static const dspec_enabling dspec_enabling_of_##PROBE = {                                                                  \
+        &dspec_event_of_##PROBE, #PROBE, dspec_fields_of_##PROBE, dspec_widths_of_##PROBE, dspec_kinds_of_##PROBE, sizeof dspec_widths_of_##PROBE      \
+    };                                                                                                                                                 \
+    DSPEC_PROBE_CALL_ dspec_status PROBE##_in(dspec_path *dspec_path_ DSPEC_PROBE_EACH_(DSPEC_PROBE_ARGUMENT_, __VA_ARGS__)) {                         \
+        uint64_t dspec_words_[9] = { 0 };                                                                                                              \
+        size_t dspec_end_ = 4;                                                                                                                         \
+        DSPEC_PROBE_EACH_(DSPEC_PROBE_PACK_, __VA_ARGS__)                                                                                              \
+        return dspec_path_put(dspec_path_, &dspec_event_of_##PROBE, 0 DSPEC_PROBE_EACH_(DSPEC_PROBE_SIGN_, __VA_ARGS__), dspec_words_,                 \
+                              (dspec_end_ + 7) / 8);                                                                                                   \
+    }                                                                                                                                                  \
+    DSPEC_PROBE_CALL_ dspec_status PROBE##_now(dspec_tracer *dspec_tracer_ DSPEC_PROBE_EACH_(DSPEC_PROBE_ARGUMENT_, __VA_ARGS__)) {                    \
+        uint64_t dspec_words_[9] = { 0 };                                                                                                              \
+        size_t dspec_end_ = 4;                                                                                                                         \
+        DSPEC_PROBE_EACH_(DSPEC_PROBE_PACK_, __VA_ARGS__)                                                                                              \
+        return dspec_tracer_put(dspec_tracer_, &dspec_event_of_##PROBE, 0 DSPEC_PROBE_EACH_(DSPEC_PROBE_SIGN_, __VA_ARGS__), dspec_words_,             \
+                                (dspec_end_ + 7) / 8);                                                                                                 \
+    }
+
+/* The events of so many probes, at most 64, for dspec_tracer_start: DSPEC_PROBES(query, reply). */
+#define DSPEC_PROBES(...) ((const dspec_enabling *const[]){ DSPEC_PROBES_PICK_(__VA_ARGS__, DSPEC_PROBES_64_, DSPEC_PROBES_63_, DSPEC_PROBES_62_, DSPEC_PROBES_61_, DSPEC_PROBES_60_, DSPEC_PROBES_59_, \
+                            DSPEC_PROBES_58_, DSPEC_PROBES_57_, DSPEC_PROBES_56_, DSPEC_PROBES_55_, DSPEC_PROBES_54_, DSPEC_PROBES_53_, \
+                            DSPEC_PROBES_52_, DSPEC_PROBES_51_, DSPEC_PROBES_50_, DSPEC_PROBES_49_, DSPEC_PROBES_48_, DSPEC_PROBES_47_, \
+                            DSPEC_PROBES_46_, DSPEC_PROBES_45_, DSPEC_PROBES_44_, DSPEC_PROBES_43_, DSPEC_PROBES_42_, DSPEC_PROBES_41_, \
+                            DSPEC_PROBES_40_, DSPEC_PROBES_39_, DSPEC_PROBES_38_, DSPEC_PROBES_37_, DSPEC_PROBES_36_, DSPEC_PROBES_35_, \
+                            DSPEC_PROBES_34_, DSPEC_PROBES_33_, DSPEC_PROBES_32_, DSPEC_PROBES_31_, DSPEC_PROBES_30_, DSPEC_PROBES_29_, \
+                            DSPEC_PROBES_28_, DSPEC_PROBES_27_, DSPEC_PROBES_26_, DSPEC_PROBES_25_, DSPEC_PROBES_24_, DSPEC_PROBES_23_, \
+                            DSPEC_PROBES_22_, DSPEC_PROBES_21_, DSPEC_PROBES_20_, DSPEC_PROBES_19_, DSPEC_PROBES_18_, DSPEC_PROBES_17_, \
+                            DSPEC_PROBES_16_, DSPEC_PROBES_15_, DSPEC_PROBES_14_, DSPEC_PROBES_13_, DSPEC_PROBES_12_, DSPEC_PROBES_11_, \
+                            DSPEC_PROBES_10_, DSPEC_PROBES_9_, DSPEC_PROBES_8_, DSPEC_PROBES_7_, DSPEC_PROBES_6_, DSPEC_PROBES_5_, DSPEC_PROBES_4_, \
+                            DSPEC_PROBES_3_, DSPEC_PROBES_2_, DSPEC_PROBES_1_, 0)(__VA_ARGS__) NULL })
+#define DSPEC_PROBES_PICK_(A1, A2, A3, A4, A5, A6, A7, A8, A9, A10, A11, A12, A13, A14, A15, A16, A17, A18, A19, A20, A21, A22, A23, A24, A25, A26, \
+                            A27, A28, A29, A30, A31, A32, A33, A34, A35, A36, A37, A38, A39, A40, A41, A42, A43, A44, A45, A46, A47, A48, A49, A50, \
+                            A51, A52, A53, A54, A55, A56, A57, A58, A59, A60, A61, A62, A63, A64, \
+                            EACH, ...) EACH
+#define DSPEC_PROBES_1_(P) &dspec_enabling_of_##P,
+#define DSPEC_PROBES_2_(P, ...) &dspec_enabling_of_##P, DSPEC_PROBES_1_(__VA_ARGS__)
+#define DSPEC_PROBES_3_(P, ...) &dspec_enabling_of_##P, DSPEC_PROBES_2_(__VA_ARGS__)
+#define DSPEC_PROBES_4_(P, ...) &dspec_enabling_of_##P, DSPEC_PROBES_3_(__VA_ARGS__)
+#define DSPEC_PROBES_5_(P, ...) &dspec_enabling_of_##P, DSPEC_PROBES_4_(__VA_ARGS__)
+#define DSPEC_PROBES_6_(P, ...) &dspec_enabling_of_##P, DSPEC_PROBES_5_(__VA_ARGS__)
+#define DSPEC_PROBES_7_(P, ...) &dspec_enabling_of_##P, DSPEC_PROBES_6_(__VA_ARGS__)
+#define DSPEC_PROBES_8_(P, ...) &dspec_enabling_of_##P, DSPEC_PROBES_7_(__VA_ARGS__)
+#define DSPEC_PROBES_9_(P, ...) &dspec_enabling_of_##P, DSPEC_PROBES_8_(__VA_ARGS__)
+#define DSPEC_PROBES_10_(P, ...) &dspec_enabling_of_##P, DSPEC_PROBES_9_(__VA_ARGS__)
+#define DSPEC_PROBES_11_(P, ...) &dspec_enabling_of_##P, DSPEC_PROBES_10_(__VA_ARGS__)
+#define DSPEC_PROBES_12_(P, ...) &dspec_enabling_of_##P, DSPEC_PROBES_11_(__VA_ARGS__)
+#define DSPEC_PROBES_13_(P, ...) &dspec_enabling_of_##P, DSPEC_PROBES_12_(__VA_ARGS__)
+#define DSPEC_PROBES_14_(P, ...) &dspec_enabling_of_##P, DSPEC_PROBES_13_(__VA_ARGS__)
+#define DSPEC_PROBES_15_(P, ...) &dspec_enabling_of_##P, DSPEC_PROBES_14_(__VA_ARGS__)
+#define DSPEC_PROBES_16_(P, ...) &dspec_enabling_of_##P, DSPEC_PROBES_15_(__VA_ARGS__)
+#define DSPEC_PROBES_17_(P, ...) &dspec_enabling_of_##P, DSPEC_PROBES_16_(__VA_ARGS__)
+#define DSPEC_PROBES_18_(P, ...) &dspec_enabling_of_##P, DSPEC_PROBES_17_(__VA_ARGS__)
+#define DSPEC_PROBES_19_(P, ...) &dspec_enabling_of_##P, DSPEC_PROBES_18_(__VA_ARGS__)
+#define DSPEC_PROBES_20_(P, ...) &dspec_enabling_of_##P, DSPEC_PROBES_19_(__VA_ARGS__)
+#define DSPEC_PROBES_21_(P, ...) &dspec_enabling_of_##P, DSPEC_PROBES_20_(__VA_ARGS__)
+#define DSPEC_PROBES_22_(P, ...) &dspec_enabling_of_##P, DSPEC_PROBES_21_(__VA_ARGS__)
+#define DSPEC_PROBES_23_(P, ...) &dspec_enabling_of_##P, DSPEC_PROBES_22_(__VA_ARGS__)
+#define DSPEC_PROBES_24_(P, ...) &dspec_enabling_of_##P, DSPEC_PROBES_23_(__VA_ARGS__)
+#define DSPEC_PROBES_25_(P, ...) &dspec_enabling_of_##P, DSPEC_PROBES_24_(__VA_ARGS__)
+#define DSPEC_PROBES_26_(P, ...) &dspec_enabling_of_##P, DSPEC_PROBES_25_(__VA_ARGS__)
+#define DSPEC_PROBES_27_(P, ...) &dspec_enabling_of_##P, DSPEC_PROBES_26_(__VA_ARGS__)
+#define DSPEC_PROBES_28_(P, ...) &dspec_enabling_of_##P, DSPEC_PROBES_27_(__VA_ARGS__)
+#define DSPEC_PROBES_29_(P, ...) &dspec_enabling_of_##P, DSPEC_PROBES_28_(__VA_ARGS__)
+#define DSPEC_PROBES_30_(P, ...) &dspec_enabling_of_##P, DSPEC_PROBES_29_(__VA_ARGS__)
+#define DSPEC_PROBES_31_(P, ...) &dspec_enabling_of_##P, DSPEC_PROBES_30_(__VA_ARGS__)
+#define DSPEC_PROBES_32_(P, ...) &dspec_enabling_of_##P, DSPEC_PROBES_31_(__VA_ARGS__)
+#define DSPEC_PROBES_33_(P, ...) &dspec_enabling_of_##P, DSPEC_PROBES_32_(__VA_ARGS__)
+#define DSPEC_PROBES_34_(P, ...) &dspec_enabling_of_##P, DSPEC_PROBES_33_(__VA_ARGS__)
+#define DSPEC_PROBES_35_(P, ...) &dspec_enabling_of_##P, DSPEC_PROBES_34_(__VA_ARGS__)
+#define DSPEC_PROBES_36_(P, ...) &dspec_enabling_of_##P, DSPEC_PROBES_35_(__VA_ARGS__)
+#define DSPEC_PROBES_37_(P, ...) &dspec_enabling_of_##P, DSPEC_PROBES_36_(__VA_ARGS__)
+#define DSPEC_PROBES_38_(P, ...) &dspec_enabling_of_##P, DSPEC_PROBES_37_(__VA_ARGS__)
+#define DSPEC_PROBES_39_(P, ...) &dspec_enabling_of_##P, DSPEC_PROBES_38_(__VA_ARGS__)
+#define DSPEC_PROBES_40_(P, ...) &dspec_enabling_of_##P, DSPEC_PROBES_39_(__VA_ARGS__)
+#define DSPEC_PROBES_41_(P, ...) &dspec_enabling_of_##P, DSPEC_PROBES_40_(__VA_ARGS__)
+#define DSPEC_PROBES_42_(P, ...) &dspec_enabling_of_##P, DSPEC_PROBES_41_(__VA_ARGS__)
+#define DSPEC_PROBES_43_(P, ...) &dspec_enabling_of_##P, DSPEC_PROBES_42_(__VA_ARGS__)
+#define DSPEC_PROBES_44_(P, ...) &dspec_enabling_of_##P, DSPEC_PROBES_43_(__VA_ARGS__)
+#define DSPEC_PROBES_45_(P, ...) &dspec_enabling_of_##P, DSPEC_PROBES_44_(__VA_ARGS__)
+#define DSPEC_PROBES_46_(P, ...) &dspec_enabling_of_##P, DSPEC_PROBES_45_(__VA_ARGS__)
+#define DSPEC_PROBES_47_(P, ...) &dspec_enabling_of_##P, DSPEC_PROBES_46_(__VA_ARGS__)
+#define DSPEC_PROBES_48_(P, ...) &dspec_enabling_of_##P, DSPEC_PROBES_47_(__VA_ARGS__)
+#define DSPEC_PROBES_49_(P, ...) &dspec_enabling_of_##P, DSPEC_PROBES_48_(__VA_ARGS__)
+#define DSPEC_PROBES_50_(P, ...) &dspec_enabling_of_##P, DSPEC_PROBES_49_(__VA_ARGS__)
+#define DSPEC_PROBES_51_(P, ...) &dspec_enabling_of_##P, DSPEC_PROBES_50_(__VA_ARGS__)
+#define DSPEC_PROBES_52_(P, ...) &dspec_enabling_of_##P, DSPEC_PROBES_51_(__VA_ARGS__)
+#define DSPEC_PROBES_53_(P, ...) &dspec_enabling_of_##P, DSPEC_PROBES_52_(__VA_ARGS__)
+#define DSPEC_PROBES_54_(P, ...) &dspec_enabling_of_##P, DSPEC_PROBES_53_(__VA_ARGS__)
+#define DSPEC_PROBES_55_(P, ...) &dspec_enabling_of_##P, DSPEC_PROBES_54_(__VA_ARGS__)
+#define DSPEC_PROBES_56_(P, ...) &dspec_enabling_of_##P, DSPEC_PROBES_55_(__VA_ARGS__)
+#define DSPEC_PROBES_57_(P, ...) &dspec_enabling_of_##P, DSPEC_PROBES_56_(__VA_ARGS__)
+#define DSPEC_PROBES_58_(P, ...) &dspec_enabling_of_##P, DSPEC_PROBES_57_(__VA_ARGS__)
+#define DSPEC_PROBES_59_(P, ...) &dspec_enabling_of_##P, DSPEC_PROBES_58_(__VA_ARGS__)
+#define DSPEC_PROBES_60_(P, ...) &dspec_enabling_of_##P, DSPEC_PROBES_59_(__VA_ARGS__)
+#define DSPEC_PROBES_61_(P, ...) &dspec_enabling_of_##P, DSPEC_PROBES_60_(__VA_ARGS__)
+#define DSPEC_PROBES_62_(P, ...) &dspec_enabling_of_##P, DSPEC_PROBES_61_(__VA_ARGS__)
+#define DSPEC_PROBES_63_(P, ...) &dspec_enabling_of_##P, DSPEC_PROBES_62_(__VA_ARGS__)
+#define DSPEC_PROBES_64_(P, ...) &dspec_enabling_of_##P, DSPEC_PROBES_63_(__VA_ARGS__)
+
+#endif
+#endif

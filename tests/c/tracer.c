@@ -1,0 +1,468 @@
+/* What tests/c/tracer plays and looks at: a made-up server over a tracer, which crashes, is killed, forks, or ends in some way.
+ *
+ *     tracer FOLDER MODE [WORD ..] [OPTION=NUMBER ..]
+ *
+ * A request has five records; one in a hundred is kept. What stop tells is printed in a line. */
+#define _GNU_SOURCE
+#include "dspec_tracer.h"
+
+#include <fcntl.h>
+#include <inttypes.h>
+#include <pthread.h>
+#include <semaphore.h>
+#include <setjmp.h>
+#include <signal.h>
+#include <stdatomic.h>
+#include <stdio.h>
+#include <stdlib.h>
+#include <sys/mman.h>
+#include <sys/resource.h>
+#include <sys/time.h>
+#include <sys/wait.h>
+#include <unistd.h>
+
+DSPEC_PROBE(query, uint64_t, request, uint32_t, step);
+DSPEC_PROBE(tick, uint64_t, number);
+
+enum { STEPS = 5, CRASH_STEP = 3, MOST_THREADS = 1000 };
+
+static dspec_tracer tracer;
+static dspec_tracer_options options;
+static const char *folder;
+static _Atomic uint64_t requests;
+static _Atomic bool goes_on = true;
+static pthread_t threads[MOST_THREADS];
+static int *volatile nowhere;
+static volatile int zero, endless = 1 << 30;
+
+/* Of a crash. */
+static const char *kind = "";
+static uint64_t crash_at = UINT64_MAX;
+static bool storm;
+static uint64_t crashed_at;
+
+/* How many paths were kept, where a file is named for it: it outlives the process. */
+static _Atomic uint64_t *told;
+
+static bool is(const char *one, const char *other) { return strcmp(one, other) == 0; }
+
+static void fail(const char *what) {
+    printf("%s\n", what);
+    exit(3);
+}
+
+/* ---- Crashes. ---- */
+
+__attribute__((noinline)) static int deep(int at) {
+    volatile char room[512];
+    room[at % 512] = (char)at;
+    return at < endless ? deep(at + 1) + room[(at * 7) % 512] : 0;
+}
+
+/* A recursion that records at each level, so that the stack may end in the middle of the tracer. */
+__attribute__((noinline)) static int deep_recording(dspec_path *path, uint64_t request, int at) {
+    volatile char room[512];
+    room[at % 512] = (char)at;
+    if (at < 60) query_in(path, request, CRASH_STEP);
+    else tick_now(&tracer, 1);
+    return at < endless ? deep_recording(path, request, at + 1) + room[(at * 7) % 512] : 0;
+}
+
+/* malloc's own abort, of a heap that was written over, in the middle of its lock. */
+static void smash_heap(void) {
+    char *volatile one = malloc(2000), *other = malloc(2000), *third = malloc(2000);
+    memset(one, 0x41, 2000 + (size_t)zero + 64);
+    free(other);
+    free(one);
+    free(third);
+    for (size_t i = 0; i < 100; i++) free(malloc(3000 + 100 * i));
+    abort();
+}
+
+static void crash(dspec_path *path, uint64_t request) {
+    char line[64];
+    int len = snprintf(line, sizeof line, "crash %" PRIu64 "\n", request);
+    crashed_at = dspec_tracer_now();
+    if (write(1, line, (size_t)len) != len) _exit(9);
+    if (is(kind, "segv")) *nowhere = 1;
+    if (is(kind, "fpe")) zero = 100 / zero;
+    if (is(kind, "ill")) __builtin_trap();
+    if (is(kind, "bus")) raise(SIGBUS);
+    if (is(kind, "stack")) zero = deep(0);
+    if (is(kind, "recording")) zero = deep_recording(path, request, 0);
+    if (is(kind, "heap")) smash_heap();
+    abort();
+}
+
+/* ---- The server. ---- */
+
+static void spin(unsigned count) {
+    for (volatile unsigned i = 0; i < count; i++) {}
+}
+
+static void one_request(uint64_t request) {
+    dspec_path path = dspec_path_begin(&tracer);
+    for (uint32_t step = 0; step < STEPS; step++) {
+        if (step == CRASH_STEP && (request == crash_at || (storm && request > crash_at))) crash(&path, request);
+        query_in(&path, request, step);
+        spin(50);
+    }
+    if (request % 100 != 13) dspec_path_drop(&path);
+    else if (dspec_path_keep(&path) && told != NULL) atomic_fetch_add(told, 1);
+}
+
+static void *serve(void *unused) {
+    while (atomic_load_explicit(&goes_on, memory_order_relaxed)) one_request(atomic_fetch_add(&requests, 1) + 1);
+    return unused;
+}
+
+static void *serve_once(void *unused) {
+    one_request(atomic_fetch_add(&requests, 1) + 1);
+    return unused;
+}
+
+static void start_in(dspec_tracer *one, const char *where) {
+    if (!dspec_tracer_start(one, where, &options, DSPEC_PROBES(query, tick))) fail(one->why);
+}
+
+static void begin(void) { start_in(&tracer, folder); }
+
+static void run_threads(size_t count, void *(*body)(void *)) {
+    for (size_t i = 0; i < count; i++)
+        if (pthread_create(&threads[i], NULL, body, NULL) != 0) fail("no thread is made");
+}
+
+static void join_threads(size_t count) {
+    for (size_t i = 0; i < count; i++) pthread_join(threads[i], NULL);
+}
+
+static int end(dspec_tracer *one) {
+    dspec_tracer_report r;
+    bool whole = dspec_tracer_stop(one, &r);
+    printf("whole=%d accepted=%" PRIu64 " dropped=%" PRIu64 " specdropped=%" PRIu64 " lost=%" PRIu64 " discarded=%" PRIu64 " void=%" PRIu64 " refused=%" PRIu64, whole, r.accepted,
+           r.dropped, r.specdropped, r.lost, r.discarded, r.void_, r.refused);
+    printf(" kept=%" PRIu64 " thrown=%" PRIu64 " undecided=%" PRIu64 " crash_paths=%" PRIu64 " no_slot=%" PRIu64 " nested=%" PRIu64 " late=%" PRIu64 " waited=%" PRIu64, r.kept, r.thrown,
+           r.undecided, r.crash_paths, r.no_slot, r.nested, r.late, r.waited);
+    printf(" threads=%" PRIu64 " stuck=%" PRIu64 " not_written=%" PRIu64 " requests=%" PRIu64 " why=%s\n", r.threads, r.stuck_lanes, r.not_written, (uint64_t)requests, r.why);
+    return whole ? 0 : 4;
+}
+
+/* ---- Modes. ---- */
+
+/* Four threads, until one of them crashes or somebody ends the process. */
+static int mode_serve(void) {
+    begin();
+    run_threads(4, serve);
+    join_threads(4);
+    return 2;
+}
+
+static int mode_main(void) {
+    begin();
+    serve(NULL);
+    return 2;
+}
+
+static size_t number = 8;
+
+static int mode_churn(void) {
+    begin();
+    for (size_t made = 0; made < 1000; made += number) {
+        run_threads(number, serve_once);
+        join_threads(number);
+    }
+    return end(&tracer);
+}
+
+static void *crowded(void *unused) {
+    for (int i = 0; i < 100; i++) {
+        one_request(atomic_fetch_add(&requests, 1) + 1);
+        usleep(500);
+    }
+    return unused;
+}
+
+static void *waiting(void *unused) {
+    for (int i = 0; i < 50; i++) {
+        uint64_t request = atomic_fetch_add(&requests, 1) + 1;
+        dspec_path path = dspec_path_begin(&tracer);
+        query_in(&path, request, 0);
+        usleep(500);
+        if (request % 100 == 13) for (uint32_t step = 1; step < STEPS; step++) query_in(&path, request, step);
+        request % 100 == 13 ? dspec_path_keep(&path) : dspec_path_drop(&path);
+        usleep(2000);
+    }
+    return unused;
+}
+
+static int run_all(void *(*body)(void *)) {
+    begin();
+    run_threads(number, body);
+    join_threads(number);
+    return end(&tracer);
+}
+
+static int mode_crowd(void) { return run_all(crowded); }
+static int mode_waiting(void) { return run_all(waiting); }
+
+static void *sleeper(void *unused) {
+    dspec_path path = dspec_path_begin(&tracer);
+    query_in(&path, 1, 0);
+    dspec_path_drop(&path);
+    sleep(1000);
+    return unused;
+}
+
+/* Paths that go over two threads, by turns. */
+static dspec_path passed;
+static sem_t there, here;
+
+static void *other_half(void *unused) {
+    while (sem_wait(&there) == 0 && goes_on) {
+        query_in(&passed, 1, 1);
+        sem_post(&here);
+    }
+    return unused;
+}
+
+static int mode_sleep(void) {
+    sem_init(&there, 0, 0);
+    sem_init(&here, 0, 0);
+    begin();
+    run_threads(3, sleeper);
+    pthread_create(&threads[3], NULL, other_half, NULL);
+    for (uint32_t i = 0; i < 1000; i++) {
+        passed = dspec_path_begin(&tracer);
+        query_in(&passed, 1, 0);
+        sem_post(&there);
+        sem_wait(&here);
+        if (query_in(&passed, 1, 2) == DSPEC_OK) requests++;
+        dspec_path_drop(&passed);
+        usleep(500);
+    }
+    goes_on = false;
+    sem_post(&there);
+    pthread_join(threads[3], NULL);
+    return end(&tracer);
+}
+
+/* A stop, or an exit, beside threads that run. */
+static int mode_stop(void) {
+    int status;
+    begin();
+    run_threads(4, serve);
+    usleep((unsigned)number);
+    status = end(&tracer);
+    usleep(2000);
+    goes_on = false;
+    join_threads(4);
+    return status;
+}
+
+static int mode_exit(void) {
+    begin();
+    run_threads(4, serve);
+    usleep((unsigned)number);
+    exit(0);
+}
+
+/* More records than there is room for on the disk, or below a limit on files. */
+static int mode_full(void) {
+    if (is(kind, "limit")) {
+        const struct rlimit limit = { 20000, 20000 };
+        if (setrlimit(RLIMIT_FSIZE, &limit) != 0) fail("no limit on files");
+    }
+    begin();
+    for (uint64_t i = 0; i < 100000; i++) {
+        tick_now(&tracer, i);
+        if (i % 1000 == 0 || i < 10) usleep(i < 10 ? 15000 : 2000);
+    }
+    return end(&tracer);
+}
+
+/* All paths are kept, faster than the consumer comes. */
+static int mode_lost(void) {
+    begin();
+    for (uint64_t i = 0; i < 20000; i++) {
+        dspec_path path = dspec_path_begin(&tracer);
+        for (uint32_t step = 0; step < STEPS; step++) query_in(&path, 13, step);
+        requests += dspec_path_keep(&path);
+    }
+    return end(&tracer);
+}
+
+static int child(void) {
+    static dspec_tracer own;
+    char where[4096];
+    dspec_path path = dspec_path_begin(&tracer);
+    bool refused = query_in(&path, 99, 0) != DSPEC_OK && tick_now(&tracer, 99) != DSPEC_OK && !dspec_path_keep(&path) && !dspec_tracer_stop(&tracer, NULL);
+    if (!refused) fail("the child's tracer is up");
+    if (is(kind, "crash")) abort();
+    snprintf(where, sizeof where, "%s.child", folder);
+    start_in(&own, where);
+    tick_now(&own, 7);
+    return end(&own);
+}
+
+static int mode_fork(void) {
+    int status, of_child;
+    begin();
+    run_threads(4, serve);
+    usleep(5000);
+    fflush(stdout);
+    pid_t pid = fork();
+    if (pid == 0) exit(child());
+    waitpid(pid, &of_child, 0);
+    printf("child %x\n", (unsigned)of_child);
+    status = end(&tracer);
+    goes_on = false;
+    join_threads(4);
+    return status;
+}
+
+static void own_handler(int signal) {
+    char line[64];
+    int len = snprintf(line, sizeof line, "handler %" PRIu64 " us\n", (dspec_tracer_now() - crashed_at) / 1000);
+    if (write(1, line, (size_t)len) != len) _exit(9);
+    _exit(50 + signal);
+}
+
+/* A program's own handler comes behind the tracer's. */
+static int mode_handler(void) {
+    signal(SIGSEGV, own_handler);
+    return mode_main();
+}
+
+static sigjmp_buf back;
+static void jump(int signal) { siglongjmp(back, signal); }
+
+/* A program that lives on after its faults. */
+static int mode_recover(void) {
+    signal(SIGSEGV, jump);
+    begin();
+    for (uint64_t i = 0; i < 20; i++) {
+        dspec_path path = dspec_path_begin(&tracer);
+        query_in(&path, i, 0);
+        if (sigsetjmp(back, 1) == 0) *nowhere = 1;
+        if (query_in(&path, i, 1) != DSPEC_VOID) fail("a path that a crash kept goes on");
+        if (!(i % 2 == 0 ? dspec_path_keep(&path) : !dspec_path_drop(&path))) fail("a path that a crash kept was thrown away");
+        path = dspec_path_begin(&tracer);
+        query_in(&path, 1000 + i, 0);
+        if (!dspec_path_drop(&path)) fail("no path behind a crash");
+    }
+    return end(&tracer);
+}
+
+static void on_alarm(int signal) {
+    (void)signal;
+    tick_now(&tracer, 1);
+}
+
+/* A handler that records, in the middle of the tracer too. */
+static int mode_nested(void) {
+    const struct sigaction action = { .sa_handler = on_alarm, .sa_flags = SA_RESTART };
+    const struct itimerval often = { { 0, 200 }, { 0, 200 } };
+    begin();
+    sigaction(SIGALRM, &action, NULL);
+    setitimer(ITIMER_REAL, &often, NULL);
+    for (int i = 0; i < 200000; i++) one_request(atomic_fetch_add(&requests, 1) + 1);
+    signal(SIGALRM, SIG_IGN);
+    return end(&tracer);
+}
+
+/* What the consumer costs beside threads that sleep. */
+static int mode_idle(void) {
+    struct rusage use;
+    begin();
+    run_threads(4, sleeper);
+    sleep((unsigned)number);
+    getrusage(RUSAGE_SELF, &use);
+    printf("idle: %ld us of processor in %zu s, %ld KB\n", (long)((use.ru_utime.tv_sec + use.ru_stime.tv_sec) * 1000000 + use.ru_utime.tv_usec + use.ru_stime.tv_usec), number,
+           use.ru_maxrss);
+    return end(&tracer);
+}
+
+/* Two tracers at once, and one behind another in the same place. */
+static int mode_two(void) {
+    static dspec_tracer other;
+    char where[4096];
+    begin();
+    snprintf(where, sizeof where, "%s.other", folder);
+    if (!dspec_tracer_start(&other, where, NULL, DSPEC_PROBES(tick))) fail(other.why);
+    if (dspec_tracer_start(&other, where, NULL, DSPEC_PROBES(tick))) fail("started twice");
+    for (uint64_t i = 0; i < 100; i++) {
+        dspec_path one = dspec_path_begin(&tracer), two = dspec_path_begin(&other);
+        query_in(&one, 113, (uint32_t)(i % STEPS));
+        tick_in(&two, i);
+        if (query_in(&two, i, 0) != DSPEC_BAD_RECORD) fail("a record of a probe that isn't enabled there");
+        tick_now(&other, 1000 + i);
+        if (i % 2 == 0) dspec_path_keep(&two);
+        else dspec_path_drop(&two);
+        if (i < STEPS) dspec_path_keep(&one);
+        else dspec_path_drop(&one);
+    }
+    if (end(&other) != 0) return 5;
+    dspec_tracer_drop(&other);
+    snprintf(where, sizeof where, "%s.again", folder);
+    start_in(&other, where);
+    tick_now(&other, 7);
+    if (end(&other) != 0) return 5;
+    dspec_tracer_drop(&other);
+    return end(&tracer);
+}
+
+/* What was kept until a flush is in the folder when the process is killed behind it. */
+static int mode_flush(void) {
+    options.period_ms = 100000;
+    begin();
+    for (uint32_t step = 0; step < STEPS; step++) {
+        dspec_path path = dspec_path_begin(&tracer);
+        query_in(&path, 13, step);
+        dspec_path_keep(&path);
+    }
+    if (!dspec_tracer_flush(&tracer, 5000)) fail("no flush");
+    return raise(SIGKILL);
+}
+
+static const struct {
+    const char *name;
+    int (*run)(void);
+} modes[] = {
+    { "serve", mode_serve }, { "main", mode_main }, { "churn", mode_churn }, { "crowd", mode_crowd }, { "waiting", mode_waiting }, { "sleep", mode_sleep },
+    { "stop", mode_stop }, { "exit", mode_exit }, { "full", mode_full }, { "lost", mode_lost }, { "fork", mode_fork }, { "handler", mode_handler },
+    { "recover", mode_recover }, { "nested", mode_nested }, { "idle", mode_idle }, { "two", mode_two }, { "flush", mode_flush },
+};
+
+static void option(const char *word) {
+    const char *value = strchr(word, '=') + 1;
+    const uint32_t given = (uint32_t)strtoul(value, NULL, 10);
+    if (strncmp(word, "lanes=", 6) == 0) options.lanes = given;
+    if (strncmp(word, "paths=", 6) == 0) options.paths = given;
+    if (strncmp(word, "bufsize=", 8) == 0) options.bufsize = given;
+    if (strncmp(word, "by_thread=", 10) == 0) options.by_thread = given != 0;
+    if (strncmp(word, "exchange=", 9) == 0) options.no_membarrier = given != 0;
+    if (strncmp(word, "keep_all=", 9) == 0) options.keep_all = given != 0;
+    if (strncmp(word, "keep_open=", 10) == 0) options.keep_open = given != 0;
+    if (strncmp(word, "at=", 3) == 0) crash_at = strtoull(value, NULL, 10);
+    if (strncmp(word, "storm=", 6) == 0) storm = given != 0;
+    if (strncmp(word, "number=", 7) == 0) number = given;
+}
+
+static void tell_into(const char *name) {
+    int file = open(name, O_RDWR | O_CREAT | O_TRUNC, 0600);
+    if (file < 0 || ftruncate(file, sizeof *told) != 0) fail("no file for what is told");
+    told = mmap(NULL, sizeof *told, PROT_READ | PROT_WRITE, MAP_SHARED, file, 0);
+}
+
+int main(int argc, char **argv) {
+    if (argc < 3) return 2;
+    folder = argv[1];
+    for (int i = 3; i < argc; i++) {
+        if (strncmp(argv[i], "told=", 5) == 0) tell_into(argv[i] + 5);
+        else if (strchr(argv[i], '=') != NULL) option(argv[i]);
+        else kind = argv[i];
+    }
+    for (size_t i = 0; i < sizeof modes / sizeof modes[0]; i++)
+        if (is(modes[i].name, argv[2])) return modes[i].run();
+    return 2;
+}

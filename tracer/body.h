@@ -1,0 +1,251 @@
+/* body.h: what a tracer is made of; of include/dspec_tracer.h, and seen by its own files alone.
+ *
+ * A lane's state is one word. HELD is its lock: the consumer has the lane between two calls of its thread, or a thread that shares it is in a call. A lane that nobody shares
+ * belongs to one thread, which takes no lock: it sets `inside`, looks at the state, and makes its call. Whoever else wants the lane sets HELD, has every processor come to an order by
+ * membarrier(2), and waits until `inside` is 0; so the order is paid where it is rarely needed. SHARED says that all take the lock, that thread too.
+ */
+#ifndef DSPEC_TRACER_BODY_H
+#define DSPEC_TRACER_BODY_H
+
+#ifndef _GNU_SOURCE
+#define _GNU_SOURCE
+#endif
+
+#include "dspec_ctf.h"
+#include "dspec_tracer.h"
+
+#include <pthread.h>
+#include <signal.h>
+
+#pragma GCC visibility push(hidden)
+
+typedef struct dspec_tracer_body body;
+typedef struct dspec_tracer_lane lane;
+
+/* Of a lane's state: six bits, and above them how many paths are on it, and 1 more where it is a thread's own. WANTED has threads that share a lane hold back, so that the consumer gets
+ * its turn. */
+enum { HELD = 1, GONE = 2, SERVE = 4, IDLE = 8, SHARED = 16, WANTED = 32, USER = 64 };
+/* With one of these a thread doesn't get into a call on its own lane without a closer look. */
+enum { LOOK = HELD | GONE | IDLE | SHARED | WANTED };
+/* Within these bounds the consumer waits for a lane, in microseconds: in a round for none. */
+enum { TAKE_US = 20000, CLOSE_US = 5000000 };
+enum { MAX_OPEN = 64, MAX_CRASHES = 16 };
+enum { CACHE_LINES = 128 };
+
+#define APART __attribute__((aligned(CACHE_LINES)))
+
+/* An open path, written by whoever has the lane. */
+typedef struct open_path {
+    uint64_t id;    /* 0: none */
+    uint32_t token; /* of the thread that recorded last */
+    bool saved;     /* a crash has kept it */
+} open_path;
+
+struct dspec_tracer_lane {
+    APART uint32_t inside; /* the thread whose lane it is, is in a call; no other writes it */
+    uint32_t number, slot;
+    body *of;
+    dspec_cpu cpu;
+    uint64_t kept, thrown;
+    APART uint32_t state;
+    APART open_path open[MAX_OPEN];
+    dspec_session session;
+    dspec_consumer consumer;
+};
+
+/* What a handler tells the consumer of a thread that crashed. */
+typedef enum crash_state { CRASH_FREE = 0, CRASH_FILLING = 1, CRASH_READY = 2 } crash_state;
+typedef struct crash {
+    uint32_t state, serial;
+    int32_t signal, code;
+    uint64_t address, at;
+    uint32_t token, thread;
+} crash;
+
+struct dspec_tracer_body {
+    uint32_t slot; /* among the process's tracers */
+    uint32_t run;  /* which no other tracer of the process has or had */
+    uint32_t count;
+    bool by_thread, locked;
+    uint32_t up;
+    pid_t pid;
+    dspec_tracer_options options;
+    const dspec_enabling **events;
+    dspec_layout layout;
+    dspec_schema schema;
+    dspec_folder folder;
+    dspec_tracer_report report;
+    pthread_t thread;
+    int bell; /* an eventfd that wakes the consumer */
+    bool whole, joined;
+    uint32_t epid_of_crash;
+    crash crashes[MAX_CRASHES];
+    APART uint32_t stop, asked, served, deferring, deferred;
+    APART uint64_t no_slot, no_room, nested, late, waited, threads;
+    lane lanes[]; /* `count`, and one more of the consumer's own */
+};
+
+/* ---- thread.c: what a thread has in each tracer. ---- */
+
+typedef struct seat {
+    uint32_t run; /* of the tracer; another's is stale */
+    uint32_t token, thread;
+    uint32_t open; /* paths that it began on its lane and hasn't ended */
+    lane *last;    /* the one that it had last */
+    bool busy;     /* in the middle of the tracer, where a signal's handler may come */
+    bool locked;   /* whether it is in its call by the lane's lock */
+    lane *lane;    /* its own, or NULL */
+} __attribute__((aligned(64))) seat;
+
+typedef struct here {
+    seat seats[DSPEC_MAX_TRACERS];
+    void *stack;
+    bool consumer;
+} here;
+/* A handler may look at it: it stands where the thread's memory is, and is never made at its first use. */
+extern __thread here dspec_here __attribute__((tls_model("initial-exec")));
+
+dspec_status seat_take(body *of, seat **me); /* makes it where it isn't there; else counted: DSPEC_BUSY in a handler, DSPEC_STOPPED where the tracer is down */
+void threads_begin(void);  /* once a process */
+void threads_in_child(void);
+void stack_on(void);
+void stack_off(void);
+
+/* ---- lane.c: into a call and out of it. ---- */
+
+bool lane_enter_slowly(seat *me, lane *on);
+lane *lane_for_path(body *of, seat *me); /* one more path is on it; NULL where none has room */
+lane *lane_for_record(body *of, seat *me);
+void lane_path_off(seat *me, lane *on, bool own);
+uint64_t lanes_take(body *of, uint64_t which, uint32_t bits, uint64_t wait_us); /* the consumer's: which it got */
+void lanes_release(body *of, uint64_t which, uint32_t set);
+bool barrier_is_there(void);
+
+/* ---- path.c ---- */
+
+void path_ends_with_thread(body *of, seat *me);
+
+/* ---- session.c: what a lane has of the library. ---- */
+
+dspec_status lane_start(lane *on, const dspec_tracer_options *options, dspec_schema *schema);
+void lane_ask(lane *on);
+void lane_serve(lane *on, bool *is_empty);
+void lane_write(body *of, lane *on);
+void lane_empty(body *of, lane *on); /* both buffers; the caller has the lane */
+void lane_clean(lane *on);
+bool lane_end(body *of, lane *on);
+void lane_drop(lane *on);
+
+/* ---- consumer.c ---- */
+
+void *consumer_runs(void *of);
+void consumer_wakes(body *of);
+bool consumer_served(body *of, uint32_t ticket, uint32_t timeout_ms);
+
+/* ---- signals.c ---- */
+
+void signals_hook(const dspec_tracer_options *options);
+void signals_unhook(const dspec_tracer_options *options);
+void signals_end(int signal); /* does what the signal would have done; the last tracer that it closes ends the process */
+bool signal_is_crash(int signal);
+
+/* ---- start.c ---- */
+
+body *tracer_at(uint32_t slot); /* the tracer that is up there; a handler may call it */
+void tracers_lock(void);        /* none begins or ends meanwhile */
+void tracers_unlock(void);
+
+/* ---- identity.c ---- */
+
+struct naming;
+typedef struct whose {
+    dspec_identity identity;
+    char host[256], name[256];
+} whose;
+bool identify(whose *of);
+dspec_status enable_all(body *of, const dspec_enabling *const *events, struct naming *naming);
+struct naming *naming_new(void);
+const dspec_names *naming_names(const struct naming *naming);
+
+#pragma GCC visibility pop
+
+/* ---- Words that several threads use. ---- */
+
+#define LOAD(AT) __atomic_load_n((AT), __ATOMIC_RELAXED)
+#define STORE(AT, VALUE) __atomic_store_n((AT), (VALUE), __ATOMIC_RELAXED)
+#define ADD(AT, N) __atomic_fetch_add((AT), (N), __ATOMIC_RELAXED)
+
+static inline uint32_t state_of(const lane *on) { return __atomic_load_n(&on->state, __ATOMIC_SEQ_CST); }
+static inline uint32_t state_set(lane *on, uint32_t bits) { return __atomic_fetch_or(&on->state, bits, __ATOMIC_SEQ_CST); }
+static inline uint32_t state_clear(lane *on, uint32_t bits) { return __atomic_fetch_and(&on->state, ~bits, __ATOMIC_SEQ_CST); }
+static inline bool state_becomes(lane *on, uint32_t *was, uint32_t is) {
+    return __atomic_compare_exchange_n(&on->state, was, is, false, __ATOMIC_SEQ_CST, __ATOMIC_SEQ_CST);
+}
+
+#define LIKELY(IS) __builtin_expect(!!(IS), 1)
+#define RARELY __attribute__((noinline, cold))
+
+/* ---- What each record does: into the tracer, into a call on a lane, out of both. ---- */
+
+/* A commit takes some 3,600 bytes of stack (docs/C.md). */
+enum { STACK_OF_A_CALL = 6144 };
+
+static inline seat *seat_at(uint32_t slot) {
+    seat *me = &dspec_here.seats[slot];
+    __asm__("" : "+r"(me)); /* where it stands is found once a record */
+    return me;
+}
+
+/* A stack that ends here ends before the call, where a crash can still keep the path, and not in the middle of it. */
+static inline void reach_down(void) {
+#if defined(__x86_64__)
+    __asm__ volatile("testb $0, %c0(%%rsp)" : : "i"(-STACK_OF_A_CALL) : "cc");
+#else
+    (void)*(volatile const char *)((const char *)__builtin_frame_address(0) - STACK_OF_A_CALL);
+#endif
+}
+
+/* Whether the thread isn't in the middle of the tracer already, as a handler's may be. */
+static inline bool seat_enter(seat *me) {
+    reach_down();
+    if (!LIKELY(!me->busy)) return false;
+    me->busy = true;
+    __atomic_signal_fence(__ATOMIC_SEQ_CST);
+    return true;
+}
+
+static inline void seat_leave(seat *me) {
+    __atomic_signal_fence(__ATOMIC_SEQ_CST);
+    me->busy = false;
+}
+
+/* Into a call on the thread's own lane, where nobody wants it: whether it is in. */
+static inline bool lane_enter_alone(lane *on) {
+    __atomic_store_n(&on->inside, 1, __ATOMIC_RELAXED);
+    __atomic_signal_fence(__ATOMIC_SEQ_CST);
+    if (LIKELY(!(__atomic_load_n(&on->state, __ATOMIC_ACQUIRE) & LOOK))) return true;
+    __atomic_store_n(&on->inside, 0, __ATOMIC_RELEASE);
+    return false;
+}
+
+static inline void lane_leave_alone(lane *on) { __atomic_store_n(&on->inside, 0, __ATOMIC_RELEASE); }
+
+static inline bool lane_enter(seat *me, lane *on) {
+    me->locked = false;
+    return (LIKELY(on == me->lane) && lane_enter_alone(on)) || lane_enter_slowly(me, on);
+}
+
+/* Into a call on a lane that nobody is on, by its lock: whether it is in. */
+static inline bool lane_enter_free(lane *on) {
+    uint32_t state = LOAD(&on->state);
+    return LIKELY((state & ~(uint32_t)SERVE) == 0) && state_becomes(on, &state, state | HELD);
+}
+
+static inline void lane_leave_locked(lane *on) { state_clear(on, HELD); }
+
+static inline void lane_leave(seat *me, lane *on) {
+    if (me->locked) lane_leave_locked(on);
+    else lane_leave_alone(on);
+}
+
+#endif

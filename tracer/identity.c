@@ -1,0 +1,102 @@
+/* identity.c: whose trace it is, and what its events are called. */
+#include "body.h"
+
+#include <errno.h>
+#include <sys/random.h>
+#include <time.h>
+#include <unistd.h>
+
+#define HERTZ UINT64_C(1000000000)
+
+/* A text that the metadata may show. */
+static dspec_text shown(char *text) {
+    size_t len;
+    if (text[0] == 0) strcpy(text, "unknown");
+    len = strlen(text);
+    for (size_t i = 0; i < len; i++)
+        if (text[i] < 32 || text[i] > 126 || text[i] == '"' || text[i] == '\\') text[i] = '_';
+    return (dspec_text){ text, len };
+}
+
+static uint64_t nanos(clockid_t clock) {
+    struct timespec at;
+    clock_gettime(clock, &at);
+    return (uint64_t)at.tv_sec * HERTZ + (uint64_t)at.tv_nsec;
+}
+
+bool identify(whose *of) {
+    dspec_identity *identity = &of->identity;
+    uint64_t before, real, after, began;
+    if (getrandom(identity->uuid, sizeof identity->uuid, 0) != (ssize_t)sizeof identity->uuid) return false;
+    /* A random uuid says of itself that it is one. */
+    identity->uuid[6] = (uint8_t)((identity->uuid[6] & 15) | 64);
+    identity->uuid[8] = (uint8_t)((identity->uuid[8] & 63) | 128);
+    if (gethostname(of->host, sizeof of->host - 1) != 0) of->host[0] = 0;
+    snprintf(of->name, sizeof of->name, "%s", program_invocation_short_name);
+    before = nanos(CLOCK_MONOTONIC);
+    real = nanos(CLOCK_REALTIME);
+    after = nanos(CLOCK_MONOTONIC);
+    began = real - (before + after) / 2;
+    identity->pid = (uint32_t)getpid();
+    identity->hertz = HERTZ;
+    identity->seconds = began / HERTZ;
+    identity->ticks = began % HERTZ;
+    identity->host = shown(of->host);
+    identity->name = shown(of->name);
+    return true;
+}
+
+/* ---- Names. ---- */
+
+enum { MOST_NAMES = DSPEC_MAX_ENABLINGS * (DSPEC_MAX_FIELDS + 1), MOST_ESCAPED = 32 };
+
+struct naming {
+    dspec_names names;
+    char escaped[MOST_NAMES][MOST_ESCAPED];
+    size_t count;
+};
+
+struct naming *naming_new(void) { return calloc(1, sizeof(struct naming)); }
+
+const dspec_names *naming_names(const struct naming *naming) { return &naming->names; }
+
+/* A word that the metadata keeps for itself gets an underscore in front, which readers of the format take off a field's name again. */
+static const char *escaped(struct naming *naming, const char *name) {
+    const dspec_text text = { name, strlen(name) };
+    if (!dspec_word_is_reserved(&text) || naming->count == MOST_NAMES) return name;
+    snprintf(naming->escaped[naming->count], MOST_ESCAPED, "_%s", name);
+    return naming->escaped[naming->count++];
+}
+
+static dspec_status enable(body *of, const dspec_enabling *one, uint32_t *epid, struct naming *naming) {
+    dspec_status status = dspec_layout_enable(&of->layout, &of->schema, one->widths, one->n, epid);
+    if (status != DSPEC_OK) return status;
+    dspec_names_event(&naming->names, escaped(naming, one->name));
+    for (size_t i = 0; i < one->n; i++) dspec_names_field(&naming->names, escaped(naming, one->fields[i]), one->kinds[i]);
+    return DSPEC_OK;
+}
+
+/* The tracer's own event, of its own lane. */
+static dspec_status enable_crash(body *of, struct naming *naming) {
+    static const char *const fields[] = { "signal", "code", "address", "thread", "paths", "stuck" };
+    static const uint8_t widths[] = { 4, 4, 8, 4, 4, 4 };
+    static const uint8_t kinds[] = { DSPEC_KIND_SIGNED, DSPEC_KIND_SIGNED, DSPEC_KIND_UNSIGNED, DSPEC_KIND_UNSIGNED, DSPEC_KIND_UNSIGNED, DSPEC_KIND_UNSIGNED };
+    const dspec_enabling own = { NULL, "dspec_crash", fields, widths, kinds, sizeof widths };
+    return enable(of, &own, &of->epid_of_crash, naming);
+}
+
+/* The events that the tracer was handed, each with its EPID in this tracer. */
+dspec_status enable_all(body *of, const dspec_enabling *const *events, struct naming *naming) {
+    dspec_status status = dspec_schema_new(&of->schema);
+    if (status == DSPEC_OK) status = dspec_schema_stamp(&of->schema);
+    of->layout.stamped = true;
+    for (size_t i = 0; status == DSPEC_OK && events[i] != NULL; i++) {
+        uint32_t epid = 0;
+        status = enable(of, events[i], &epid, naming);
+        if (status != DSPEC_OK) break;
+        of->events[i] = events[i];
+        STORE(&events[i]->event->epids[of->slot], epid);
+    }
+    if (status == DSPEC_OK && !of->options.no_crash) status = enable_crash(of, naming);
+    return status;
+}

@@ -1,0 +1,203 @@
+/* lane.c: how a thread gets into a call on a lane and out of it, and how the consumer gets between two calls. */
+#include "body.h"
+
+#include <linux/membarrier.h>
+#include <poll.h>
+#include <sys/syscall.h>
+#include <unistd.h>
+
+enum { SPINS = 100, MOST_WAITS = SPINS + 1000 };
+
+bool barrier_is_there(void) {
+    long known = syscall(SYS_membarrier, MEMBARRIER_CMD_QUERY, 0, 0);
+    if (known < 0 || (known & MEMBARRIER_CMD_PRIVATE_EXPEDITED) == 0) return false;
+    return syscall(SYS_membarrier, MEMBARRIER_CMD_REGISTER_PRIVATE_EXPEDITED, 0, 0) == 0;
+}
+
+/* Whether each thread of the process has come to an order with what this one did before. */
+static bool barrier(const body *of) {
+    return of->locked || syscall(SYS_membarrier, MEMBARRIER_CMD_PRIVATE_EXPEDITED, 0, 0) == 0;
+}
+
+/* Who is waited for may be off its processor, which a thread that spins would keep from it. */
+static void wait_a_little(unsigned tries) {
+    if (tries < SPINS) {
+#if defined(__x86_64__)
+        __builtin_ia32_pause();
+#endif
+    } else {
+        poll(NULL, 0, 1);
+    }
+}
+
+static bool is_inside(const lane *on) { return __atomic_load_n(&on->inside, __ATOMIC_ACQUIRE) != 0; }
+
+/* Whether the thread whose lane this is has left its call; the caller has set HELD. */
+static bool is_left(const lane *on) {
+    unsigned tries = 0;
+    while (!barrier(on->of)) {
+        if (++tries > MOST_WAITS) return false;
+        wait_a_little(tries);
+    }
+    for (; is_inside(on); tries++) {
+        if (tries > MOST_WAITS) return false;
+        wait_a_little(tries);
+    }
+    return true;
+}
+
+/* Into a call on the thread's own lane, once more: whether nobody was in the way. */
+static bool enter_alone(lane *on, uint32_t state) {
+    if (state & IDLE) state_clear(on, IDLE); /* the consumer has to look again */
+    __atomic_exchange_n(&on->inside, 1, __ATOMIC_SEQ_CST);
+    if (!(state_of(on) & LOOK)) return true;
+    __atomic_store_n(&on->inside, 0, __ATOMIC_RELEASE);
+    return false;
+}
+
+/* Into a call by the lane's lock: whether it was free. Where the lane was one thread's alone, that one takes the lock from now on. */
+static bool enter_locked(lane *on, uint32_t state) {
+    bool was_alone = state >= USER && !(state & SHARED);
+    if (!state_becomes(on, &state, (state & ~(uint32_t)IDLE) | HELD | (was_alone ? SHARED : 0u))) return false;
+    if (!was_alone || is_left(on)) return true;
+    state_clear(on, HELD | SHARED);
+    return false;
+}
+
+bool lane_enter_slowly(seat *me, lane *on) {
+    for (unsigned tries = 0; tries < MOST_WAITS; tries++) {
+        uint32_t state = state_of(on);
+        if (state & GONE) {
+            ADD(&on->of->late, 1);
+            return false;
+        }
+        if (state & (HELD | WANTED)) {
+            wait_a_little(tries);
+            continue;
+        }
+        me->locked = on != me->lane || state & SHARED;
+        if (me->locked ? enter_locked(on, state) : enter_alone(on, state)) return true;
+    }
+    ADD(&on->of->waited, 1);
+    return false;
+}
+
+/* ---- Which lane. ---- */
+
+/* The lane so many behind the one that the thread had last. */
+static lane *lane_behind(body *of, const seat *me, uint32_t many) {
+    uint32_t at = me->last->number + many;
+    return &of->lanes[at < of->count ? at : at - of->count];
+}
+
+/* Makes a lane that nobody is on the thread's own, the one that it had last before others. users: its own claim, and that of a path where it is for one. */
+static lane *claim(body *of, seat *me, uint32_t users) {
+    for (uint32_t i = 0; i < of->count; i++) {
+        lane *on = lane_behind(of, me, i);
+        uint32_t state = LOAD(&on->state);
+        while (state < USER && !(state & GONE)) {
+            uint32_t is = (of->locked ? state : state & ~(uint32_t)SHARED) + users * USER;
+            if (!state_becomes(on, &state, is)) continue;
+            me->last = on;
+            me->lane = on;
+            return on;
+        }
+    }
+    return NULL;
+}
+
+/* The lane that the fewest are on. */
+static lane *least(body *of) {
+    lane *found = &of->lanes[0];
+    for (uint32_t i = 1; i < of->count; i++)
+        if (LOAD(&of->lanes[i].state) / USER < LOAD(&found->state) / USER) found = &of->lanes[i];
+    return found;
+}
+
+static bool has_room(const body *of, const lane *on) { return LOAD(&on->state) / USER <= of->options.paths; }
+
+lane *lane_for_path(body *of, seat *me) {
+    lane *on = me->lane;
+    if (on == NULL && (on = claim(of, me, 2)) != NULL) return on;
+    if (on == NULL || !has_room(of, on)) on = least(of);
+    if (!has_room(of, on)) return NULL;
+    __atomic_fetch_add(&on->state, USER, __ATOMIC_SEQ_CST);
+    return on;
+}
+
+/* A path of a thread's own lane is over: with the last one the lane is nobody's. own: whether the thread began the path there. */
+void lane_path_off(seat *me, lane *on, bool own) {
+    uint32_t users = 1;
+    if (own && --me->open == 0 && !on->of->by_thread) {
+        me->lane = NULL;
+        users = 2;
+    }
+    __atomic_fetch_sub(&on->state, users * USER, __ATOMIC_SEQ_CST);
+}
+
+lane *lane_for_record(body *of, seat *me) {
+    lane *on = me->lane;
+    if (on != NULL || (of->by_thread && (on = claim(of, me, 1)) != NULL)) return on;
+    for (uint32_t i = 0; i < of->count; i++) {
+        uint32_t state;
+        on = lane_behind(of, me, i);
+        state = LOAD(&on->state);
+        if (state < USER && !(state & (HELD | WANTED))) return me->last = on;
+    }
+    return me->last;
+}
+
+/* ---- The consumer. ---- */
+
+static uint64_t micros(void) { return dspec_tracer_now() / 1000; }
+
+/* Lets go a lane that wasn't left in time. What is gone stays so, and no thread gets in. */
+static void give_up(lane *on, uint32_t bits) {
+    if (!(bits & GONE)) state_clear(on, HELD);
+}
+
+/* Of the lanes whose lock the consumer has just taken, those whose thread is in no call. */
+static uint64_t left_of(body *of, uint64_t held, uint32_t bits, uint64_t until) {
+    uint64_t left = 0;
+    bool ordered;
+    unsigned tries = 0;
+    while (!(ordered = barrier(of)) && micros() < until) wait_a_little(tries++);
+    for (uint32_t i = 0; i < of->count; i++) {
+        lane *on = &of->lanes[i];
+        if (!(held >> i & 1)) continue;
+        while (ordered && is_inside(on) && micros() < until) wait_a_little(tries++);
+        if (ordered && !is_inside(on)) left |= UINT64_C(1) << i;
+        else give_up(on, bits);
+    }
+    return left;
+}
+
+/* Tries to have the lock of these lanes: which ones it has. */
+static uint64_t hold(body *of, uint64_t which, uint32_t bits) {
+    uint64_t held = 0;
+    for (uint32_t i = 0; i < of->count; i++)
+        if (which >> i & 1 && !(state_set(&of->lanes[i], HELD | WANTED | bits) & HELD)) held |= UINT64_C(1) << i;
+    return held;
+}
+
+uint64_t lanes_take(body *of, uint64_t which, uint32_t bits, uint64_t wait_us) {
+    const uint64_t until = wait_us == 0 ? 0 : micros() + wait_us;
+    uint64_t got = 0;
+    for (unsigned tries = 0; got != which; tries++) {
+        uint64_t held = hold(of, which & ~got, bits);
+        if (held != 0) got |= left_of(of, held, bits, until);
+        if (got == which || micros() >= until) break;
+        wait_a_little(tries);
+    }
+    for (uint32_t i = 0; i < of->count; i++)
+        if (which >> i & 1) state_clear(&of->lanes[i], WANTED);
+    return got;
+}
+
+void lanes_release(body *of, uint64_t which, uint32_t set) {
+    for (uint32_t i = 0; i < of->count; i++) {
+        if (!(which >> i & 1)) continue;
+        if (set != 0) state_set(&of->lanes[i], set);
+        state_clear(&of->lanes[i], HELD | SERVE);
+    }
+}

@@ -1,0 +1,83 @@
+/* session.c: what a lane has of the library: a session of one CPU. No decision waits for another lane then, each lane has slots of its own, and a lane that is lost takes no
+ * other with it. All that the tracer calls of a session but records and decisions is called here. */
+#include "body.h"
+
+dspec_status lane_start(lane *on, const dspec_tracer_options *options, dspec_schema *schema) {
+    const dspec_config config = {
+        .cpus = 1, .nspec = options->paths, .bufsize = options->bufsize, .specsize = options->specsize,
+        .max_issues = DSPEC_MAX_ISSUES, .max_calls = DSPEC_MAX_CALLS, .policy = DSPEC_POLICY_SWITCH,
+    };
+    dspec_status status = dspec_start(&config, schema, &on->session);
+    if (status == DSPEC_OK) status = dspec_consumer_of(&on->session, &on->consumer);
+    if (status == DSPEC_OK) status = dspec_cpu_of(&on->session, 0, &on->cpu);
+    return status;
+}
+
+void lane_drop(lane *on) {
+    dspec_cpu_drop(&on->cpu);
+    dspec_consumer_drop(&on->consumer);
+    dspec_session_drop(&on->session);
+}
+
+void lane_ask(lane *on) { dspec_ask(&on->consumer, 0); }
+
+/* is_empty: whether all that it had is on its way. What a service settles comes behind the switch, and is in the buffer that was just begun. */
+void lane_serve(lane *on, bool *is_empty) {
+    bool sealed = false;
+    uint32_t settled = 0;
+    dspec_service(&on->cpu, &sealed, &settled);
+    *is_empty = sealed && settled == 0;
+}
+
+void lane_write(body *of, lane *on) {
+    dspec_batch batch;
+    if (dspec_take(&on->consumer, 0, &batch) != DSPEC_OK) return;
+    batch.cpu = on->number;
+    if (batch.len > 0 || batch.drops > 0) dspec_folder_take(&of->folder, &of->layout, &batch);
+    dspec_give_back(&on->consumer, 0);
+}
+
+/* Twice: with one buffer sealed the other may be full. */
+void lane_empty(body *of, lane *on) {
+    for (int buffer = 0; buffer < 2; buffer++) {
+        bool is_empty;
+        lane_ask(on);
+        lane_serve(on, &is_empty);
+        lane_write(of, on);
+    }
+}
+
+void lane_clean(lane *on) {
+    uint32_t released;
+    dspec_clean(&on->consumer, &released);
+}
+
+static void add(dspec_tracer_report *sum, const dspec_report *one) {
+    sum->accepted += one->accepted;
+    sum->dropped += one->dropped;
+    sum->specdropped += one->specdropped;
+    sum->lost += one->lost;
+    sum->discarded += one->discarded;
+    sum->void_ += one->void_;
+    sum->refused += one->refused;
+}
+
+/* The end of a lane that no thread is in: whether its session ended. */
+bool lane_end(body *of, lane *on) {
+    dspec_cpu *const cpus[] = { &on->cpu };
+    dspec_closed closed = DSPEC_EMPTY;
+    dspec_report report;
+    dspec_batch batch;
+    if (dspec_close(&on->session, cpus, 1, &on->consumer, &closed) != DSPEC_OK) return false;
+    for (int last = 0; last < 2; last++) {
+        if (dspec_rest(&closed, 0, last == 1, &batch) != DSPEC_OK) continue;
+        batch.cpu = on->number;
+        dspec_folder_take(&of->folder, &of->layout, &batch);
+    }
+    if (dspec_closed_report(&closed, 0, &report) == DSPEC_OK) {
+        dspec_ctf_miss(&of->folder.ctf[on->number], dspec_folder_untold(&report));
+        add(&of->report, &report);
+    }
+    dspec_closed_drop(&closed);
+    return true;
+}

@@ -1,0 +1,88 @@
+/* thread.c: what a thread has in each tracer, from its first record to its end, and a stack for handlers. */
+#include "body.h"
+
+#include <sys/mman.h>
+#include <sys/syscall.h>
+#include <unistd.h>
+
+enum { STACK_SIZE = 65536, GUARD_SIZE = 4096 };
+
+__thread here dspec_here __attribute__((tls_model("initial-exec")));
+
+static pthread_key_t key;
+static bool has_key;
+static uint32_t tokens;
+
+/* A stack that overflowed has no room for a handler, so a thread that has no other stack for that gets one. */
+void stack_on(void) {
+    stack_t now, ours;
+    if (dspec_here.stack != NULL || sigaltstack(NULL, &now) != 0 || !(now.ss_flags & SS_DISABLE)) return;
+    char *at = mmap(NULL, STACK_SIZE + GUARD_SIZE, PROT_READ | PROT_WRITE, MAP_PRIVATE | MAP_ANONYMOUS | MAP_NORESERVE, -1, 0);
+    if (at == MAP_FAILED) return;
+    mprotect(at, GUARD_SIZE, PROT_NONE);
+    ours = (stack_t){ .ss_sp = at + GUARD_SIZE, .ss_size = STACK_SIZE };
+    if (sigaltstack(&ours, NULL) != 0) munmap(at, STACK_SIZE + GUARD_SIZE);
+    else dspec_here.stack = at;
+}
+
+void stack_off(void) {
+    stack_t now;
+    char *at = dspec_here.stack;
+    dspec_here.stack = NULL;
+    if (at == NULL || sigaltstack(NULL, &now) != 0) return;
+    if (now.ss_sp == at + GUARD_SIZE) {
+        const stack_t none = { .ss_flags = SS_DISABLE };
+        if (sigaltstack(&none, NULL) != 0) return;
+    }
+    munmap(at, STACK_SIZE + GUARD_SIZE);
+}
+
+/* The thread ends: what it left undecided is thrown away, and its lanes are others'. */
+static void detach(void *unused) {
+    (void)unused;
+    tracers_lock();
+    for (uint32_t slot = 0; slot < DSPEC_MAX_TRACERS; slot++) {
+        seat *me = &dspec_here.seats[slot];
+        body *of = tracer_at(slot);
+        if (of != NULL && me->run == of->run && LOAD(&of->up)) path_ends_with_thread(of, me);
+        me->run = 0;
+        me->lane = NULL;
+    }
+    tracers_unlock();
+    stack_off();
+}
+
+void threads_begin(void) { has_key = pthread_key_create(&key, detach) == 0; }
+
+/* A library that is unloaded leaves no thread that would call it at its end. */
+__attribute__((destructor)) static void unloaded(void) {
+    if (has_key) pthread_key_delete(key);
+}
+
+void threads_in_child(void) { memset(dspec_here.seats, 0, sizeof dspec_here.seats); }
+
+static void attach(body *of, seat *me) {
+    memset(me, 0, sizeof *me);
+    me->token = __atomic_add_fetch(&tokens, 1, __ATOMIC_RELAXED);
+    me->thread = (uint32_t)syscall(SYS_gettid);
+    me->last = &of->lanes[me->token % of->count];
+    if (!of->options.no_crash) stack_on();
+    if (has_key) pthread_setspecific(key, &dspec_here);
+    ADD(&of->threads, 1);
+    __atomic_signal_fence(__ATOMIC_SEQ_CST);
+    me->run = of->run; /* last, since a handler may come in between */
+}
+
+dspec_status seat_take(body *of, seat **me) {
+    *me = seat_at(of->slot);
+    if ((*me)->run != of->run) {
+        if (!LOAD(&of->up)) {
+            ADD(&of->late, 1);
+            return DSPEC_STOPPED;
+        }
+        attach(of, *me);
+    }
+    if (seat_enter(*me)) return DSPEC_OK;
+    ADD(&of->nested, 1);
+    return DSPEC_BUSY;
+}
