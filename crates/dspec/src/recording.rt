@@ -11,8 +11,8 @@ use crate::lane::Lane;
 use crate::path::Path;
 use dspec_cpu::{Cpu, Listed};
 use dspec_deeds::{Spoken, Traced};
-use dspec_probe::{Fields, Fired, Probe, Stamped, Unstamped};
-use dspec_record::{Enablings, Header};
+use dspec_probe::{Fields, Fired, Probe};
+use dspec_record::{Enablings, Header, Stamped, Unstamped};
 use dspec_word::SpecId;
 
 /// What a probe does on a lane. The lane's schema has to have the probe: `on` asks once, and no call of the lane changes it.
