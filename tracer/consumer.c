@@ -13,13 +13,14 @@ void consumer_wakes(body *of) {
     if (write(of->bell, &one, sizeof one) < 0) errno = saved; /* it is woken already */
 }
 
-/* Waits until what a ticket asked for is done. A handler may call it. */
+/* Waits until what a ticket asked for is done. */
 bool consumer_served(body *of, uint32_t ticket, uint32_t timeout_ms) {
-    for (uint32_t waited = 0; waited <= timeout_ms; waited++) {
-        if ((int32_t)(__atomic_load_n(&of->served, __ATOMIC_ACQUIRE) - ticket) >= 0) return true;
+    const uint64_t began = dspec_tracer_now();
+    while ((int32_t)(__atomic_load_n(&of->served, __ATOMIC_ACQUIRE) - ticket) < 0) {
+        if (dspec_tracer_now() - began >= timeout_ms * UINT64_C(1000000)) return false;
         poll(NULL, 0, 1);
     }
-    return false;
+    return true;
 }
 
 /* Serves lanes that the consumer has: those that have nothing any more. */
@@ -35,7 +36,7 @@ static uint64_t serve_all(body *of, uint64_t which) {
 }
 
 static void write_all(body *of, uint64_t which) {
-    for (uint32_t i = 0; i <= of->count; i++)
+    for (uint32_t i = 0; i < of->count; i++)
         if (which >> i & 1) lane_write(of, &of->lanes[i]);
 }
 

@@ -97,6 +97,7 @@ static bool is_saved(const body *of) {
 
 /* Has the consumers save this thread's paths. It waits for the crashes of other threads too, since the process may end behind this one. */
 static void save_all(int signal, const siginfo_t *info) {
+    const uint64_t began = dspec_tracer_now();
     for (uint32_t slot = 0; slot < DSPEC_MAX_TRACERS; slot++) {
         body *of = tracer_at(slot);
         if (of != NULL && is_wanted(of, true)) post(of, signal, info);
@@ -104,7 +105,7 @@ static void save_all(int signal, const siginfo_t *info) {
     for (uint32_t slot = 0; slot < DSPEC_MAX_TRACERS; slot++) {
         body *of = tracer_at(slot);
         if (of == NULL || !is_wanted(of, true)) continue;
-        for (uint32_t waited = 0; waited < of->options.crash_ms && !is_saved(of); waited++) poll(NULL, 0, 1);
+        while (!is_saved(of) && dspec_tracer_now() - began < of->options.crash_ms * UINT64_C(1000000)) poll(NULL, 0, 1);
     }
 }
 
