@@ -80,7 +80,7 @@ struct dspec_tracer_body {
     bool whole, joined;
     uint32_t epid_of_crash;
     crash crashes[MAX_CRASHES];
-    APART uint32_t stop, asked, served, deferring, deferred;
+    APART uint32_t stop, asked, served, deferring, deferred, ended;
     APART uint64_t no_slot, no_room, nested, late, waited, threads;
     lane lanes[]; /* `count`, and one more of the consumer's own */
 };

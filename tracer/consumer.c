@@ -208,8 +208,19 @@ static bool turn(body *of) {
     }
     if (signal_is_crash((int)deferred)) save_paths(of, 0, &stuck);
     if (stop || deferred != 0) end_all(of);
-    if (deferred != 0) signals_end((int)deferred);
     return stop || deferred != 0;
+}
+
+/* A signal that was left to this thread ends the process now. One whose handler is still at it, as the last turn was made, is waited for. */
+static void end_by_signal(body *of) {
+    uint32_t deferred;
+    __atomic_store_n(&of->ended, 1, __ATOMIC_SEQ_CST);
+    for (int tries = 0; tries < 10; tries++) {
+        if (__atomic_load_n(&of->deferring, __ATOMIC_SEQ_CST) == 0 || __atomic_load_n(&of->deferred, __ATOMIC_SEQ_CST) != 0) break;
+        poll(NULL, 0, 1);
+    }
+    deferred = __atomic_load_n(&of->deferred, __ATOMIC_SEQ_CST);
+    if (deferred != 0) signals_end((int)deferred);
 }
 
 void *consumer_runs(void *of_tracer) {
@@ -220,5 +231,6 @@ void *consumer_runs(void *of_tracer) {
     do {
         if (poll(&bell, 1, (int)of->options.period_ms) > 0 && read(of->bell, &rings, sizeof rings) < 0) continue;
     } while (!turn(of));
+    end_by_signal(of);
     return NULL;
 }

@@ -38,7 +38,9 @@ static void chain(int signal, siginfo_t *info, void *context) {
     }
 }
 
-static bool is_wanted(const body *of, bool is_crash) { return !(is_crash ? of->options.no_crash : of->options.no_term); }
+static bool is_wanted(const body *of, bool is_crash) {
+    return __atomic_load_n(&of->ended, __ATOMIC_SEQ_CST) == 0 && !(is_crash ? of->options.no_crash : of->options.no_term);
+}
 
 /* Leaves a signal to the consumers, since the thread may be in a call and goes on: whether there is one that takes it. All are counted before one is told. */
 static bool defer(int signal, bool is_crash) {
@@ -47,8 +49,10 @@ static bool defer(int signal, bool is_crash) {
     for (uint32_t slot = 0; slot < DSPEC_MAX_TRACERS; slot++) {
         body *of = tracer_at(slot);
         if (of == NULL || !is_wanted(of, is_crash)) continue;
+        bool is_first = __atomic_exchange_n(&of->deferring, 1, __ATOMIC_SEQ_CST) == 0;
+        if (!is_wanted(of, is_crash)) continue; /* it has ended since */
         taken++;
-        if (__atomic_exchange_n(&of->deferring, 1, __ATOMIC_SEQ_CST) == 0) told[count++] = of;
+        if (is_first) told[count++] = of;
     }
     __atomic_fetch_add(&to_end, count, __ATOMIC_SEQ_CST);
     for (uint32_t i = 0; i < count; i++) {
