@@ -80,7 +80,7 @@ struct dspec_tracer_body {
     bool whole, joined;
     uint32_t epid_of_crash;
     crash crashes[MAX_CRASHES];
-    APART uint32_t stop, asked, served, deferring, deferred;
+    APART uint32_t stop, asked, served, deferring, deferred, ended;
     APART uint64_t no_slot, no_room, nested, late, waited, threads;
     lane lanes[]; /* `count`, and one more of the consumer's own */
 };
@@ -95,14 +95,14 @@ typedef struct seat {
     bool busy;     /* in the middle of the tracer, where a signal's handler may come */
     bool locked;   /* whether it is in its call by the lane's lock */
     lane *lane;    /* its own, or NULL */
-} __attribute__((aligned(64))) seat;
+} seat;
 
 typedef struct here {
     seat seats[DSPEC_MAX_TRACERS];
     void *stack;
     bool consumer;
 } here;
-/* A handler may look at it: it stands where the thread's memory is, and is never made at its first use. */
+/* A handler may look at it: it stands where the thread's memory is, and is never made at its first use. That room is scarce where a library is loaded late. */
 extern __thread here dspec_here __attribute__((tls_model("initial-exec")));
 
 dspec_status seat_take(body *of, seat **me); /* makes it where it isn't there; else counted: DSPEC_BUSY in a handler, DSPEC_STOPPED where the tracer is down */
@@ -238,7 +238,7 @@ static inline bool lane_enter(seat *me, lane *on) {
 /* Into a call on a lane that nobody is on, by its lock: whether it is in. */
 static inline bool lane_enter_free(lane *on) {
     uint32_t state = LOAD(&on->state);
-    return LIKELY((state & ~(uint32_t)SERVE) == 0) && state_becomes(on, &state, state | HELD);
+    return LIKELY((state & ~(uint32_t)(SERVE | SHARED)) == 0) && state_becomes(on, &state, state | HELD);
 }
 
 static inline void lane_leave_locked(lane *on) { state_clear(on, HELD); }

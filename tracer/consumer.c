@@ -13,13 +13,14 @@ void consumer_wakes(body *of) {
     if (write(of->bell, &one, sizeof one) < 0) errno = saved; /* it is woken already */
 }
 
-/* Waits until what a ticket asked for is done. A handler may call it. */
+/* Waits until what a ticket asked for is done. */
 bool consumer_served(body *of, uint32_t ticket, uint32_t timeout_ms) {
-    for (uint32_t waited = 0; waited <= timeout_ms; waited++) {
-        if ((int32_t)(__atomic_load_n(&of->served, __ATOMIC_ACQUIRE) - ticket) >= 0) return true;
+    const uint64_t began = dspec_tracer_now();
+    while ((int32_t)(__atomic_load_n(&of->served, __ATOMIC_ACQUIRE) - ticket) < 0) {
+        if (dspec_tracer_now() - began >= timeout_ms * UINT64_C(1000000)) return false;
         poll(NULL, 0, 1);
     }
-    return false;
+    return true;
 }
 
 /* Serves lanes that the consumer has: those that have nothing any more. */
@@ -35,7 +36,7 @@ static uint64_t serve_all(body *of, uint64_t which) {
 }
 
 static void write_all(body *of, uint64_t which) {
-    for (uint32_t i = 0; i <= of->count; i++)
+    for (uint32_t i = 0; i < of->count; i++)
         if (which >> i & 1) lane_write(of, &of->lanes[i]);
 }
 
@@ -207,8 +208,19 @@ static bool turn(body *of) {
     }
     if (signal_is_crash((int)deferred)) save_paths(of, 0, &stuck);
     if (stop || deferred != 0) end_all(of);
-    if (deferred != 0) signals_end((int)deferred);
     return stop || deferred != 0;
+}
+
+/* A signal that was left to this thread ends the process now. One whose handler is still at it, as the last turn was made, is waited for. */
+static void end_by_signal(body *of) {
+    uint32_t deferred;
+    __atomic_store_n(&of->ended, 1, __ATOMIC_SEQ_CST);
+    for (int tries = 0; tries < 10; tries++) {
+        if (__atomic_load_n(&of->deferring, __ATOMIC_SEQ_CST) == 0 || __atomic_load_n(&of->deferred, __ATOMIC_SEQ_CST) != 0) break;
+        poll(NULL, 0, 1);
+    }
+    deferred = __atomic_load_n(&of->deferred, __ATOMIC_SEQ_CST);
+    if (deferred != 0) signals_end((int)deferred);
 }
 
 void *consumer_runs(void *of_tracer) {
@@ -219,5 +231,6 @@ void *consumer_runs(void *of_tracer) {
     do {
         if (poll(&bell, 1, (int)of->options.period_ms) > 0 && read(of->bell, &rings, sizeof rings) < 0) continue;
     } while (!turn(of));
+    end_by_signal(of);
     return NULL;
 }

@@ -38,7 +38,9 @@ static void chain(int signal, siginfo_t *info, void *context) {
     }
 }
 
-static bool is_wanted(const body *of, bool is_crash) { return !(is_crash ? of->options.no_crash : of->options.no_term); }
+static bool is_wanted(const body *of, bool is_crash) {
+    return __atomic_load_n(&of->ended, __ATOMIC_SEQ_CST) == 0 && !(is_crash ? of->options.no_crash : of->options.no_term);
+}
 
 /* Leaves a signal to the consumers, since the thread may be in a call and goes on: whether there is one that takes it. All are counted before one is told. */
 static bool defer(int signal, bool is_crash) {
@@ -47,8 +49,10 @@ static bool defer(int signal, bool is_crash) {
     for (uint32_t slot = 0; slot < DSPEC_MAX_TRACERS; slot++) {
         body *of = tracer_at(slot);
         if (of == NULL || !is_wanted(of, is_crash)) continue;
+        bool is_first = __atomic_exchange_n(&of->deferring, 1, __ATOMIC_SEQ_CST) == 0;
+        if (!is_wanted(of, is_crash)) continue; /* it has ended since */
         taken++;
-        if (__atomic_exchange_n(&of->deferring, 1, __ATOMIC_SEQ_CST) == 0) told[count++] = of;
+        if (is_first) told[count++] = of;
     }
     __atomic_fetch_add(&to_end, count, __ATOMIC_SEQ_CST);
     for (uint32_t i = 0; i < count; i++) {
@@ -97,6 +101,7 @@ static bool is_saved(const body *of) {
 
 /* Has the consumers save this thread's paths. It waits for the crashes of other threads too, since the process may end behind this one. */
 static void save_all(int signal, const siginfo_t *info) {
+    const uint64_t began = dspec_tracer_now();
     for (uint32_t slot = 0; slot < DSPEC_MAX_TRACERS; slot++) {
         body *of = tracer_at(slot);
         if (of != NULL && is_wanted(of, true)) post(of, signal, info);
@@ -104,7 +109,7 @@ static void save_all(int signal, const siginfo_t *info) {
     for (uint32_t slot = 0; slot < DSPEC_MAX_TRACERS; slot++) {
         body *of = tracer_at(slot);
         if (of == NULL || !is_wanted(of, true)) continue;
-        for (uint32_t waited = 0; waited < of->options.crash_ms && !is_saved(of); waited++) poll(NULL, 0, 1);
+        while (!is_saved(of) && dspec_tracer_now() - began < of->options.crash_ms * UINT64_C(1000000)) poll(NULL, 0, 1);
     }
 }
 

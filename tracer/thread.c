@@ -44,9 +44,11 @@ static void detach(void *unused) {
     for (uint32_t slot = 0; slot < DSPEC_MAX_TRACERS; slot++) {
         seat *me = &dspec_here.seats[slot];
         body *of = tracer_at(slot);
-        if (of != NULL && me->run == of->run && LOAD(&of->up)) path_ends_with_thread(of, me);
+        /* One that is in a call still was thrown out of it by a signal's handler: that lane stays as it is. */
+        if (of != NULL && me->run == of->run && LOAD(&of->up) && !me->busy) path_ends_with_thread(of, me);
         me->run = 0;
         me->lane = NULL;
+        me->busy = false;
     }
     tracers_unlock();
     stack_off();
@@ -61,28 +63,29 @@ __attribute__((destructor)) static void unloaded(void) {
 
 void threads_in_child(void) { memset(dspec_here.seats, 0, sizeof dspec_here.seats); }
 
+/* The thread is in the tracer meanwhile, so that no handler comes in between. */
 static void attach(body *of, seat *me) {
-    memset(me, 0, sizeof *me);
+    me->lane = NULL;
+    me->open = 0;
     me->token = __atomic_add_fetch(&tokens, 1, __ATOMIC_RELAXED);
     me->thread = (uint32_t)syscall(SYS_gettid);
     me->last = &of->lanes[me->token % of->count];
     if (!of->options.no_crash) stack_on();
     if (has_key) pthread_setspecific(key, &dspec_here);
     ADD(&of->threads, 1);
-    __atomic_signal_fence(__ATOMIC_SEQ_CST);
-    me->run = of->run; /* last, since a handler may come in between */
+    me->run = of->run;
 }
 
 dspec_status seat_take(body *of, seat **me) {
     *me = seat_at(of->slot);
-    if ((*me)->run != of->run) {
-        if (!LOAD(&of->up)) {
-            ADD(&of->late, 1);
-            return DSPEC_STOPPED;
-        }
-        attach(of, *me);
+    if ((*me)->run != of->run && !LOAD(&of->up)) {
+        ADD(&of->late, 1);
+        return DSPEC_STOPPED;
     }
-    if (seat_enter(*me)) return DSPEC_OK;
-    ADD(&of->nested, 1);
-    return DSPEC_BUSY;
+    if (!seat_enter(*me)) {
+        ADD(&of->nested, 1);
+        return DSPEC_BUSY;
+    }
+    if ((*me)->run != of->run) attach(of, *me);
+    return DSPEC_OK;
 }

@@ -147,6 +147,16 @@ static int end(dspec_tracer *one) {
     return whole ? 0 : 4;
 }
 
+/* A disk that hangs: the linker's --wrap leads each write through here, and those of files wait from then on. */
+static _Atomic bool hangs;
+ssize_t __real_write(int file, const void *bytes, size_t len);
+ssize_t __wrap_write(int file, const void *bytes, size_t len);
+
+ssize_t __wrap_write(int file, const void *bytes, size_t len) {
+    while (hangs && len >= 1024) sleep(1000);
+    return __real_write(file, bytes, len);
+}
+
 /* ---- Modes. ---- */
 
 /* Four threads, until one of them crashes or somebody ends the process. */
@@ -163,12 +173,37 @@ static int mode_main(void) {
     return 2;
 }
 
+/* A crash beside a disk that hangs ends the process all the same. */
+static int mode_hang(void) {
+    begin();
+    one_request(13);
+    hangs = true;
+    serve(NULL);
+    return 2;
+}
+
 static size_t number = 8;
 
 static int mode_churn(void) {
     begin();
     for (size_t made = 0; made < 1000; made += number) {
         run_threads(number, serve_once);
+        join_threads(number);
+    }
+    return end(&tracer);
+}
+
+/* A thread that ends with a path undecided, which is nobody's then. */
+static void *leaves_path(void *unused) {
+    dspec_path path = dspec_path_begin(&tracer);
+    query_in(&path, 1, 0);
+    return unused;
+}
+
+static int mode_left(void) {
+    begin();
+    for (size_t made = 0; made < 200; made += number) {
+        run_threads(number, leaves_path);
         join_threads(number);
     }
     return end(&tracer);
@@ -430,7 +465,7 @@ static const struct {
 } modes[] = {
     { "serve", mode_serve }, { "main", mode_main }, { "churn", mode_churn }, { "crowd", mode_crowd }, { "waiting", mode_waiting }, { "sleep", mode_sleep },
     { "stop", mode_stop }, { "exit", mode_exit }, { "full", mode_full }, { "lost", mode_lost }, { "fork", mode_fork }, { "handler", mode_handler },
-    { "recover", mode_recover }, { "nested", mode_nested }, { "idle", mode_idle }, { "two", mode_two }, { "flush", mode_flush },
+    { "recover", mode_recover }, { "nested", mode_nested }, { "idle", mode_idle }, { "two", mode_two }, { "flush", mode_flush }, { "hang", mode_hang }, { "left", mode_left },
 };
 
 static void option(const char *word) {
