@@ -3,7 +3,7 @@
 //!
 //! | Module | Tests of |
 //! |---|---|
-//! | `records`, `laying`, `stamps` | dspec_record: records and their bytes, records that write themselves, stamps |
+//! | `records`, `laying`, `packed`, `stamps` | dspec_record: records and their bytes, records that write themselves, records as words, stamps |
 //! | `buffers` | dspec_buffer: both buffers, and the reader of a stored text |
 //! | `words` | dspec_word: the rows of its tables, identifiers |
 //! | `texts` | what values of these print |
@@ -23,6 +23,8 @@ mod dice;
 mod laying;
 #[cfg(test)]
 mod logs;
+#[cfg(test)]
+mod packed;
 #[cfg(test)]
 mod probes;
 #[cfg(test)]

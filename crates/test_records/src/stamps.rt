@@ -71,7 +71,7 @@ fn borrowed_bytes(rt: HostRuntime) -> Result<(), Fail> {
     let values = [171, 4660];
     let rec = BorrowedRec::of(3, LONG, &values).ok_or("two values")?;
     same(&rt, (rec.epid(), rec.stamp()), (3, LONG));
-    same(&rt, rec.values(), values.as_slice());
+    same(&rt, rec.values(), Some(values.as_slice()));
     same(&rt, rec.to_rec(), stamped(&rt, 3, LONG, &[171, 4660]));
     let mut out = [0xFF; 16];
     assert!(rt; put_whole(&enablings, rec, &mut out));
