@@ -20,35 +20,35 @@ use Rattle.dspec_c.specs.Puts.{PutAs, PutInAs, is_header, record_as}
 
 header_is : (h k : Header) → IsTrue (is_header h k) → k ≡ h
 header_is header.One header.One is = refl
-header_is header.One header.Two is = absurd is
-header_is header.Two header.One is = absurd is
+header_is header.One header.Two is = absurd (cc)
+header_is header.Two header.One is = absurd (cc)
 header_is header.Two header.Two is = refl
 
 itself : (h : Header) → IsTrue (is_header h h)
-itself header.One = tt
-itself header.Two = tt
+itself header.One = refl
+itself header.Two = refl
 
 is_it : (h k : Header) → k ≡ h → IsTrue (is_header h k)
 is_it h k same = subst (λ (x : Header). IsTrue (is_header h x)) (sym same) (itself h)
 
 none_of : (a b : Bool) (o : Option (List Field)) (f : List Field → Record) → (IsTrue a → IsTrue b → IsSome o → ⊥)
     → false ≡ is_some (if a then (if b then option_map f o else None) else None)
-none_of true true (Some fs) f no = absurd (no tt tt tt)
-none_of true true None f no = refl
-none_of true false o f no = refl
-none_of false b o f no = refl
+none_of true true (Some fs) f wrong = absurd (wrong refl refl refl)
+none_of true true None f wrong = refl
+none_of true false o f wrong = refl
+none_of false b o f wrong = refl
 
 some_of : (a b : Bool) (o : Option (List Field)) (f : List Field → Record) (P : Record → Type 0) (r : Record) → IsTrue a → IsTrue b → IsSome o → IfSome o (λ fs. r ≡ f fs) → P r
     → (true ≡ is_some (if a then (if b then option_map f o else None) else None)) × IfSome (if a then (if b then option_map f o else None) else None) P
 some_of true true (Some fs) f P r at bt ot is p = (refl, subst P is p)
-some_of true true None f P r at bt ot is p = absurd ot
-some_of true false o f P r at bt ot is p = absurd bt
-some_of false b o f P r at bt ot is p = absurd at
+some_of true true None f P r at bt ot is p = absurd (cc)
+some_of true false o f P r at bt ot is p = absurd (cc)
+some_of false b o f P r at bt ot is p = absurd (cc)
 
 pub none_put : (h : Header) (e : EnabledRows) (claim stamp : ℕ) (ws : List ℕ)
     → ((e.header ≡ h) × IsTrue (stamp_fits h stamp) × IsSome (claimed e.rows claim (length ws)) → ⊥) → false ≡ is_some (record_as h e claim stamp ws)
-none_put h e claim stamp ws no =
-    none_of (is_header h e.header) (stamp_fits h stamp) (claimed e.rows claim (length ws)) (λ fs. packed_record (claim % 2 ^ 32) stamp fs ws) (λ a b s. no (header_is h e.header a, b, s))
+none_put h e claim stamp ws wrong =
+    none_of (is_header h e.header) (stamp_fits h stamp) (claimed e.rows claim (length ws)) (λ fs. packed_record (claim % 2 ^ 32) stamp fs ws) (λ a b s. wrong (header_is h e.header a, b, s))
 
 pub some_put : (h : Header) (e : EnabledRows) (claim stamp : ℕ) (ws : List ℕ) (P : Record → Type 0) (r : Record)
     → (e.header ≡ h) × IsTrue (stamp_fits h stamp) × IsSome (claimed e.rows claim (length ws))
