@@ -6,8 +6,8 @@ ghost use Rattle.dspec_c.specs.CpuCalls.{CommitAnswers, DiscardAnswers, DroppedI
 
 use crate::handle::Handle;
 use crate::held_calls::{
-    held_commit, held_discard, held_dropped_in, held_report, held_service,
-    held_speculate, held_speculation, held_trace,
+    held_commit, held_discard, held_dropped_in, held_report, held_service, held_speculate,
+    held_speculation, held_trace,
 };
 use crate::reports::CReport;
 use crate::statuses::{BAD_HANDLE, bad_handle};

@@ -65,7 +65,8 @@ impl Homing {
         ensures same { IsSameSide self.old self.new }
         ensures did { OnSide (is_none result) (Recorded epid stamp values.now result) self.old self.new }
     {
-        let Some(answer) = recording::trace(&mut *self.cpu, &*self.shared, epid, stamp, values) else {
+        let Some(answer) = recording::trace(&mut *self.cpu, &*self.shared, epid, stamp, values)
+        else {
             self.refuse();
             return None;
         };

@@ -33,13 +33,17 @@ fn put<H: KnownHeader>(
 #[test]
 fn one_field(rt: HostRuntime) -> Result<(), Fail> {
     let schema = enabled(&[Field::Four])?;
-    let (rec, shape, out) = put::<Unstamped>(&schema, 4 << 32 | 1, 0, &[5 << 32]).ok_or("a record")?;
+    let (rec, shape, out) = put::<Unstamped>(&schema, 4 << 32 | 1, 0, &[5 << 32]).ok_or(
+        "a record",
+    )?;
     same(&rt, rec, Rec::new(1, &[5]).ok_or("one value")?);
     same(&rt, shape, Shape { size: 8, align: 4 });
     same(&rt, &out[..9], [1, 0, 0, 0, 5, 0, 0, 0, 0xEE].as_slice());
     let schema = schema.stamped();
     let stamp = 7 << 32 | 9;
-    let (rec, shape, out) = put::<Stamped>(&schema, 4 << 32 | 1, stamp, &[5 << 32]).ok_or("a record")?;
+    let (rec, shape, out) = put::<Stamped>(&schema, 4 << 32 | 1, stamp, &[5 << 32]).ok_or(
+        "a record",
+    )?;
     same(&rt, rec, Rec::stamped(1, stamp, &[5]).ok_or("one value")?);
     same(&rt, shape, Shape { size: 16, align: 4 });
     let text = [1, 0, 0, 0, 9, 0, 0, 0, 7, 0, 0, 0, 5, 0, 0, 0, 0xEE];
@@ -81,7 +85,11 @@ fn nine_words(rt: HostRuntime) -> Result<(), Fail> {
     same(&rt, rec.values(), &words[1..]);
     same(&rt, shape, Shape { size: 72, align: 8 });
     same(&rt, &out[8..17], [1, 0, 0, 0, 0, 0, 0, 0, 2].as_slice());
-    same(&rt, &out[64..73], [255, 255, 255, 255, 255, 255, 255, 255, 0xEE].as_slice());
+    same(
+        &rt,
+        &out[64..73],
+        [255, 255, 255, 255, 255, 255, 255, 255, 0xEE].as_slice(),
+    );
     Ok(())
 }
 
@@ -92,7 +100,15 @@ fn refusals(rt: HostRuntime) -> Result<(), Fail> {
     let two = [1 << 32, 2];
     assert!(rt; put::<Unstamped>(&schema, claim, 0, &two).is_some());
     // other fields, another EPID, none, one behind the last, another word below the widths
-    for other in [0x84 << 32 | 1, 0x4 << 32 | 1, 0x44 << 32 | 2, 0x44 << 32, 0x44 << 32 | 3, claim | 256, 0] {
+    for other in [
+        0x84 << 32 | 1,
+        0x4 << 32 | 1,
+        0x44 << 32 | 2,
+        0x44 << 32,
+        0x44 << 32 | 3,
+        claim | 256,
+        0,
+    ] {
         assert!(rt; put::<Unstamped>(&schema, other, 0, &two).is_none());
     }
     assert!(rt; put::<Unstamped>(&schema, claim, 0, &two[..1]).is_none());
