@@ -15,5 +15,6 @@ returns g c =
     let Of : EnabledRows → Type 0 = λ e. (true ≡ is_some (record_as h e c.args.claim c.args.stamp c.args.words.now))
     × IfSome (record_as h e c.args.claim c.args.stamp c.args.words.now) Did in
     let done = subst Of c.schema.ensures
-    (some_put h c.schema.result.now c.args.claim c.args.stamp c.args.words.now Did (packed_of c.in_ok-rec.rec) (c.in_ok-rec.ensures.due.0 refl) c.in_ok-rec.ensures.holds c.trace_recorded.ensures.does) in
+    (some_put h c.schema.result.now c.args.claim c.args.stamp c.args.words.now Did (packed_of c.in_ok-rec.rec)
+    (c.in_ok-rec.ensures.due.0 refl) c.in_ok-rec.ensures.holds c.trace_recorded.ensures.does) in
     record { same = c.trace_recorded.ensures.same; due = done.0; refused = tt; one = done.1 }
