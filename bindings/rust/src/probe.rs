@@ -117,11 +117,11 @@ fn packed<F: Fields>(values: F) -> ([u64; 9], usize) {
     let (mut words, mut end) = ([0; 9], 4);
     for (value, width) in row.iter().zip(F::WIDTHS) {
         let width = *width as usize;
-        end = (end + width - 1) / width * width;
+        end = end.next_multiple_of(width);
         words[end / 8] |= value << (8 * (end % 8));
         end += width;
     }
-    (words, (end + 7) / 8)
+    (words, end.div_ceil(8))
 }
 
 impl<F> Clone for Probe<F> {
