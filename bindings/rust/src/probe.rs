@@ -114,7 +114,7 @@ const fn signature(widths: &[Width]) -> u32 {
 #[inline]
 fn packed<F: Fields>(values: F) -> ([u64; 9], usize) {
     let row = values.row();
-    let (mut words, mut end) = ([0; 9], 4);
+    let (mut words, mut end) = ([0; 9], 4_usize);
     for (value, width) in row.iter().zip(F::WIDTHS) {
         let width = *width as usize;
         end = end.next_multiple_of(width);
