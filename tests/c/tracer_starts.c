@@ -186,7 +186,7 @@ static void folders(void) {
 
 /* Each thing that the system gives, refused in turn. */
 static long each_refused(void) {
-    for (long at = 1;; at++) {
+    for (long at = 1; CHECK(at < 10000); at++) {
         calls = 0;
         refused = 0;
         dspec_tracer tracer = { 0 };
@@ -206,6 +206,7 @@ static long each_refused(void) {
         CHECK(entries(folder) <= 2);
         empty_folder();
     }
+    return 0;
 }
 
 /* As many tracers as can be up. */
