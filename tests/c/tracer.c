@@ -205,8 +205,24 @@ static void *leaves_path(void *unused) {
     return unused;
 }
 
+static dspec_path left;
+
+static void *leaves_it_to_main(void *unused) {
+    left = dspec_path_begin(&tracer);
+    query_in(&left, 1, 0);
+    return unused;
+}
+
+/* Such a path that another thread knows: it is over, and the lane is as it was. */
+static void find_left(void) {
+    run_threads(1, leaves_it_to_main);
+    join_threads(1);
+    if (query_in(&left, 1, 1) != DSPEC_VOID || dspec_path_keep(&left) || dspec_path_drop(&left)) fail("a path whose thread has ended goes on");
+}
+
 static int mode_left(void) {
     begin();
+    for (int i = 0; i < 10; i++) find_left();
     for (size_t made = 0; made < 200; made += number) {
         run_threads(number, leaves_path);
         join_threads(number);
