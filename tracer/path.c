@@ -9,7 +9,8 @@ uint64_t dspec_tracer_now(void) {
     return (uint64_t)at.tv_sec * 1000000000u + (uint64_t)at.tv_nsec;
 }
 
-static body *body_of(const dspec_tracer *tracer) { return __atomic_load_n(&tracer->body, __ATOMIC_ACQUIRE); }
+/* NULL of a tracer that isn't started, and of a path that was never begun. */
+static body *body_of(const dspec_tracer *tracer) { return tracer == NULL ? NULL : __atomic_load_n(&tracer->body, __ATOMIC_ACQUIRE); }
 
 /* A path is over with a token that no thread has, so that its next call takes a closer look. */
 static void is_over(dspec_path *path) {
@@ -205,7 +206,7 @@ static inline dspec_status record(body *of, const dspec_event *event, uint32_t f
 }
 
 dspec_status dspec_tracer_put(dspec_tracer *tracer, const dspec_event *event, uint32_t fields, const uint64_t *words, size_t n) {
-    body *of = body_of(tracer);
+    body *of = __atomic_load_n(&tracer->body, __ATOMIC_ACQUIRE);
     dspec_status status = LIKELY(of != NULL) ? record(of, event, fields, words, n) : DSPEC_UNAVAILABLE;
     if (!LIKELY(status != DSPEC_DROPPED)) wants_room(of);
     return status;

@@ -59,12 +59,17 @@ __attribute__((noinline)) static int deep(int at) {
     return at < endless ? deep(at + 1) + room[(at * 7) % 512] : 0;
 }
 
-/* A recursion that records at each level, so that the stack may end in the middle of the tracer. */
+/* A recursion with a path at each level, which takes more of the stack than the level, so that the stack would end in the middle of the tracer. */
 __attribute__((noinline)) static int deep_recording(dspec_path *path, uint64_t request, int at) {
     volatile char room[512];
     room[at % 512] = (char)at;
-    if (at < 60) query_in(path, request, CRASH_STEP);
-    else tick_now(&tracer, 1);
+    if (at < 60) {
+        query_in(path, request, CRASH_STEP);
+    } else {
+        dspec_path inner = dspec_path_begin(&tracer);
+        query_in(&inner, request, CRASH_STEP);
+        dspec_path_drop(&inner);
+    }
     return at < endless ? deep_recording(path, request, at + 1) + room[(at * 7) % 512] : 0;
 }
 
@@ -200,8 +205,24 @@ static void *leaves_path(void *unused) {
     return unused;
 }
 
+static dspec_path left;
+
+static void *leaves_it_to_main(void *unused) {
+    left = dspec_path_begin(&tracer);
+    query_in(&left, 1, 0);
+    return unused;
+}
+
+/* Such a path that another thread knows: it is over, and the lane is as it was. */
+static void find_left(void) {
+    run_threads(1, leaves_it_to_main);
+    join_threads(1);
+    if (query_in(&left, 1, 1) != DSPEC_VOID || dspec_path_keep(&left) || dspec_path_drop(&left)) fail("a path whose thread has ended goes on");
+}
+
 static int mode_left(void) {
     begin();
+    for (int i = 0; i < 10; i++) find_left();
     for (size_t made = 0; made < 200; made += number) {
         run_threads(number, leaves_path);
         join_threads(number);

@@ -186,7 +186,7 @@ static void folders(void) {
 
 /* Each thing that the system gives, refused in turn. */
 static long each_refused(void) {
-    for (long at = 1;; at++) {
+    for (long at = 1; CHECK(at < 10000); at++) {
         calls = 0;
         refused = 0;
         dspec_tracer tracer = { 0 };
@@ -206,6 +206,7 @@ static long each_refused(void) {
         CHECK(entries(folder) <= 2);
         empty_folder();
     }
+    return 0;
 }
 
 /* As many tracers as can be up. */
@@ -226,9 +227,20 @@ static void many(void) {
     folder = right;
 }
 
+/* A tracer that isn't started, and a path that was never begun: nothing is done. */
+static void nothing(void) {
+    dspec_tracer tracer = { 0 };
+    dspec_path none = { 0 }, path = dspec_path_begin(&tracer);
+    CHECK(p00_in(&none, 1) == DSPEC_UNAVAILABLE && !dspec_path_keep(&none) && dspec_path_drop(&none));
+    CHECK(p00_in(&path, 1) == DSPEC_UNAVAILABLE && !dspec_path_keep(&path) && dspec_path_drop(&path));
+    CHECK(p00_now(&tracer, 1) == DSPEC_UNAVAILABLE && !dspec_tracer_flush(&tracer, 0) && !dspec_tracer_stop(&tracer, NULL));
+    dspec_tracer_drop(&tracer);
+}
+
 int main(int argc, char **argv) {
     if (argc < 2) return 2;
     folder = argv[1];
+    nothing();
     goes_well(NULL, DSPEC_PROBES(p00)); /* the system's own first calls are behind it */
     options();
     probes();
