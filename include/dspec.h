@@ -22,7 +22,8 @@
  * changed, and the call may be made again. No other call takes any. Each call may free.
  *
  * STACK. Measured with the compiler that built this library, on x86-64, with what a thread itself takes: dspec_start,
- * dspec_finish and dspec_close take up to 64 KB of stack, however many CPUs there are, and each other call up to 32 KB.
+ * dspec_finish and dspec_close take up to 128 KB of stack, however many CPUs there are, dspec_schema_new up to 64 KB, and each other
+ * call up to 32 KB.
  *
  * WHAT C OWES. No pointer is NULL, not even that of an array of no elements. Each points to memory of its type, aligned, that
  * nothing else reads or writes during the call; no two pointers of a call point to the same memory. An array has as many elements

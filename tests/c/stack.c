@@ -10,7 +10,7 @@
 #include <pthread.h>
 #include <sys/mman.h>
 
-enum { STACK = 8 << 20, FILLED = 0xa5, MOST = 64 << 10, MOST_OF_OTHERS = 32 << 10 };
+enum { STACK = 8 << 20, FILLED = 0xa5, MOST = 128 << 10, MOST_OF_SCHEMA = 64 << 10, MOST_OF_OTHERS = 32 << 10 };
 
 /* What the measure stands on. */
 static void must(dspec_status status, const char *call) {
@@ -47,9 +47,13 @@ static void cpu_of(void) {
 
 static void consumer_of(void) { HAS_TO(dspec_consumer_of(&session, &consumer)); }
 
-static const uint64_t values[8] = { 1, 2, 3, 4, 5, 6, 7, 8 };
+static const uint64_t values[8] = { 1, 2, 3, 4, 5, 6, 7, 8 }, words[9] = { 0, 1, 2, 3, 4, 5, 6, 7, 8 };
 
 static void trace(void) { HAS_TO(dspec_trace(&cpus[0], 1, 0, values, 8)); }
+
+static void put(void) { HAS_TO(dspec_put(&cpus[0], (uint64_t)0x88888888 << 32 | 1, 0, words, 9)); }
+
+static void put_in(void) { HAS_TO(dspec_put_in(&cpus[0], id, (uint64_t)0x88888888 << 32 | 1, 0, words, 9)); }
 
 static void speculation(void) { HAS_TO(dspec_speculation(&cpus[0], &id)); }
 
@@ -163,10 +167,12 @@ static const struct step {
     void (*make)(void);
     size_t most; /* 0: it is only told */
 } steps[] = {
-    { "dspec_schema_new", schema_new, MOST_OF_OTHERS },   { "dspec_schema_enable", schema_enable, MOST_OF_OTHERS },
+    { "dspec_schema_new", schema_new, MOST_OF_SCHEMA },   { "dspec_schema_enable", schema_enable, MOST_OF_OTHERS },
     { "dspec_start", start, MOST },               { "dspec_cpu_of", cpu_of, MOST_OF_OTHERS },
     { "dspec_consumer_of", consumer_of, MOST_OF_OTHERS }, { "dspec_trace", trace, MOST_OF_OTHERS },
+    { "dspec_put", put, MOST_OF_OTHERS },
     { "dspec_speculation", speculation, MOST_OF_OTHERS }, { "dspec_speculate", speculate, MOST_OF_OTHERS },
+    { "dspec_put_in", put_in, MOST_OF_OTHERS },
     { "dspec_commit", commit, MOST_OF_OTHERS },           { "dspec_ask", ask, MOST_OF_OTHERS },
     { "dspec_service", service, MOST_OF_OTHERS },         { "dspec_take", take, MOST_OF_OTHERS },
     { "dspec_give_back", give_back, MOST_OF_OTHERS },     { "dspec_clean", clean, MOST_OF_OTHERS },
